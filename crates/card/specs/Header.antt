@@ -1,0 +1,19 @@
+-- Document 01, "The card" and rows 1 to 3 of "Refusal by place".
+use mathlib.Core.List.{List}
+use Prim.Native.Nat.{ℕ, _+_, _-_, _*_, _/_, _%_}
+use lib.ListN.{getD}
+use lib.Dec.{eqb, ltb}
+use Rattle.laws.specs.Cases.{pick}
+use Rattle.card.specs.Layout.{leastNodes, greatestNodes}
+
+-- N for a length of 8 + 24 × N words, N 4 to 600; 0 for any other length. "1: length not 8 + 24 × N, N 4 to 600"
+unfoldable pub nodesOfLength : ℕ → ℕ
+nodesOfLength len = pick (ltb len (8 + 24 * leastNodes)) 0 (pick (ltb (8 + 24 * greatestNodes) len) 0 (pick (eqb ((len - 8) % 24) 0) ((len - 8) / 24) 0))
+
+-- word i is v, or the refusal is r
+abbrev pub must : List ℕ → ℕ → ℕ → ℕ → ℕ → ℕ
+must card i v r next = pick (eqb (getD card i 0) v) next r
+
+-- "2: word 0 not 1. 3: words 1, 2, 3 or 5 to 7 not as above"; 0 where neither is due
+unfoldable pub headerRefusal : List ℕ → ℕ → ℕ
+headerRefusal card n = must card 0 1 2 (must card 1 n 3 (must card 2 8 3 (must card 3 24 3 (must card 5 0 3 (must card 6 0 3 (must card 7 0 3 0))))))

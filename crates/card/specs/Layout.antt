@@ -1,0 +1,62 @@
+-- Document 01, "The card": where the words of a node stand and what they mean. A card is a list of words.
+use mathlib.Core.List.{List, [], _∷_, _++_}
+use Prim.Native.Nat.{ℕ, zero, suc, _+_, _-_, _*_}
+use lib.ListN.{length, getD, take, drop}
+use Rattle.laws.specs.Lists.{before-zero, pad}
+
+-- "With N nodes (4 to 600)"
+abbrev pub leastNodes : ℕ
+leastNodes = 4
+
+abbrev pub greatestNodes : ℕ
+greatestNodes = 600
+
+-- "4: number of the root node"
+abbrev pub rootPlace : ℕ
+rootPlace = 4
+
+-- "node m begins at word 8 + 24 × (m − 1)": the place of its word i
+abbrev pub place : ℕ → ℕ → ℕ
+place m i = 8 + 24 * (m - 1) + i
+
+-- word i of node m
+abbrev pub word : List ℕ → ℕ → ℕ → ℕ
+word card m i = getD card (place m i) 0
+
+-- node m, as the part of the card that starts there
+unfoldable pub nodeAt : List ℕ → ℕ → List ℕ
+nodeAt card m = take 24 (drop (8 + 24 * (m - 1)) card)
+
+-- "Its word 0 is the kind: 1 leaf, 2 internal, 3 tagged."
+abbrev pub kindOf : List ℕ → ℕ
+kindOf node = getD node 0 0
+
+-- "words 1 to 11 are key slots, 12 to 22 the values beside them"
+unfoldable pub keyWords : List ℕ → List ℕ
+keyWords node = take 11 (drop 1 node)
+
+unfoldable pub valueWords : List ℕ → List ℕ
+valueWords node = take 11 (drop 12 node)
+
+-- "words 12 to 22 are child numbers, its children being those before the first 0"
+unfoldable pub children : List ℕ → List ℕ
+children node = before-zero (valueWords node)
+
+-- "With c children the routing keys are words 1 to c − 1"
+unfoldable pub routingKeys : List ℕ → List ℕ
+routingKeys node = take (length (children node) - 1) (keyWords node)
+
+-- the pairs of a row of key words and the row of values beside it: "A key word of 0 is an empty slot"
+abbrev pub slot-pairs : List ℕ → List ℕ → List (ℕ × ℕ)
+slot-pairs [] vs = []
+slot-pairs (k ∷ ks) [] = []
+slot-pairs (zero ∷ ks) (v ∷ vs) = slot-pairs ks vs
+slot-pairs (suc k ∷ ks) (v ∷ vs) = (suc k, v) ∷ slot-pairs ks vs
+
+-- the pairs of a leaf, slots rising
+unfoldable pub leafPairs : List ℕ → List (ℕ × ℕ)
+leafPairs node = slot-pairs (keyWords node) (valueWords node)
+
+-- the 24 words of a node: its kind, eleven words of keys, eleven of values or children, and 0; "unused words are 0"
+unfoldable pub nodeImage : ℕ → List ℕ → List ℕ → List ℕ
+nodeImage kind keys values = kind ∷ (pad 11 keys ++ (pad 11 values ++ 0 ∷ []))

@@ -1,0 +1,80 @@
+// A card: its length, its header and its nodes (document 01, "The card").
+ghost use mathlib.Core.Path.{_≡_};
+ghost use Prim.Native.Nat.{_+_, _*_, _≤_};
+ghost use lib.ListN.{length};
+ghost use Rattle.card.specs.Layout.{greatestNodes, nodeAt, children};
+ghost use Rattle.card.specs.Header.{nodesOfLength, headerRefusal};
+
+// "With N nodes (4 to 600)": the only places in code where the two limits stand.
+pub const LEAST_NODES: usize = 4;
+pub const GREATEST_NODES: usize = 600;
+
+// How many nodes a card of so many words has; 0 where no card has that length.
+pub fn nodes_of(length: usize) -> usize
+    ensures { λ r. ⌜ r ≡ nodesOfLength length ⌝ }
+{
+    if length < 8 + 24 * LEAST_NODES {
+        return 0;
+    }
+    if 8 + 24 * GREATEST_NODES < length {
+        return 0;
+    }
+    if (length - 8) % 24 == 0 {
+        (length - 8) / 24
+    } else {
+        0
+    }
+}
+
+// The refusal that words 0 to 3 and 5 to 7 of a card with n nodes are due: 2, 3, or 0 for none.
+pub fn header_refusal(card: &[u32], n: usize) -> u32
+    requires { ⌜ 8 ≤ length (now card) ⌝ }
+    ensures { λ r. ⌜ r ≡ headerRefusal (now (card .entry)) n ⌝ }
+{
+    if card[0] != 1 {
+        return 2;
+    }
+    if card[1] as usize != n {
+        return 3;
+    }
+    if card[2] != 8 {
+        return 3;
+    }
+    if card[3] != 24 {
+        return 3;
+    }
+    if card[5] != 0 {
+        return 3;
+    }
+    if card[6] != 0 {
+        return 3;
+    }
+    if card[7] != 0 {
+        return 3;
+    }
+    0
+}
+
+// Node m: the 24-word part of the card that starts at word 8 + 24 × (m − 1).
+pub fn node_at(card: &[u32], m: usize) -> &[u32]
+    requires { ⌜ (1 ≤ m) × (m ≤ greatestNodes) × (8 + 24 * m ≤ length (now card)) ⌝ }
+    ensures { λ r. ⌜ now r ≡ nodeAt (now (card .entry)) m ⌝ }
+{
+    let at = 8 + 24 * (m - 1);
+    &card[at..at + 24]
+}
+
+// How many children an internal node has: those before the first 0.
+pub fn child_count(node: &[u32]) -> usize
+    requires { ⌜ length (now node) ≡ 24 ⌝ }
+    ensures { λ r. ⌜ r ≡ length (children (now (node .entry))) ⌝ }
+{
+    let mut c: usize = 0;
+    while c < 11 {
+        if node[12 + c] == 0 {
+            return c;
+        }
+        c += 1;
+    }
+    c
+}
