@@ -7,6 +7,7 @@ ghost use Rattle.card.specs.Header.{nodesOfLength, headerRefusal};
 
 // "With N nodes (4 to 600)": the only places in code where the two limits stand.
 pub const LEAST_NODES: usize = 4;
+
 pub const GREATEST_NODES: usize = 600;
 
 // How many nodes a card of so many words has; 0 where no card has that length.

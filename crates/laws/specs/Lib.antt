@@ -1,3 +1,4 @@
 pub mod Cases
 pub mod Totals
 pub mod Lists
+pub mod Digits

@@ -1,0 +1,77 @@
+-- `free_nodes::count` meets its contract: after q words the sum is the count of the first q words' nodes. Assumes nothing.
+use mathlib.Core.Path.{_≡_, ap, _∙_}
+use mathlib.Core.List.{List}
+use Prim.Native.Nat.{ℕ, _*_, _-_, _^_, _≤_, _<_}
+use native.Mathlib.Omega.{arith}
+use mir.Syntax.{w64}
+use mir.Val.{Fits}
+use lib.Count.{ones, ones-le}
+use lib.ListN.{length, take, getD}
+use lib.Seq.{take-all}
+use Rattle.free_nodes.specs.NodeSet.{wordCount, nodesOf, countTrue}
+use Rattle.free_nodes.specs.Words.{count-next-word}
+use borrow.Author.Needs.{needs}
+use Rattle.free_nodes.proofs.count.Statement.{statement}
+use Rattle.free_nodes.proofs.count.Tie as tie
+
+abbrev Inv-loop : tie.InvT-loop
+Inv-loop nodes sum₀ q₀ sum q = (q ≤ wordCount) × (sum ≤ 64 * q) × (sum ≡ countTrue (nodesOf (take q (nodes .words))))
+
+abbrev μ-loop : tie.MeasureT-loop
+μ-loop nodes sum₀ q₀ sum q = wordCount - q
+
+loop-holds : tie.Need-loop-holds Inv-loop μ-loop
+unfolding nodesOf countTrue
+loop-holds c = search needs
+
+mul-sum : tie.Need-mul-sum Inv-loop μ-loop
+mul-sum c = search needs
+
+element-copy-out-sum : tie.Need-element-copy-out-sum Inv-loop μ-loop
+element-copy-out-sum c = search needs
+
+-- the word fits, so its count is at most 64
+word-fits : (c : tie.After-sum Inv-loop μ-loop) → getD (c .before .before .before .args .t1 .words) (c .before .before .loop .q) 0 < 2 ^ 64
+word-fits c = let fit : Fits w64 (getD (c .before .before .before .args .t1 .words) (c .before .before .loop .q) 0) = search needs in fit .fits
+
+few : (c : tie.After-sum Inv-loop μ-loop) → ones (getD (c .before .before .before .args .t1 .words) (c .before .before .loop .q) 0) ≤ 64
+few c = ones-le 64 _ (word-fits c)
+
+cast-sum : tie.Need-cast-sum Inv-loop μ-loop
+cast-sum c = omega (arith, few c)
+
+add-sum : tie.Need-add-sum Inv-loop μ-loop
+add-sum c = omega (arith, few c)
+
+add-q : tie.Need-add-q Inv-loop μ-loop
+add-q c = search needs
+
+loop-less : tie.Need-loop-less Inv-loop μ-loop
+loop-less c = search needs
+
+loop-again : tie.Need-loop-again Inv-loop μ-loop
+loop-again c =
+    let len : length (c .before .before .before .args .t1 .words) ≡ wordCount = search needs in
+    let more = count-next-word (c .before .before .before .args .t1 .words) (c .before .before .loop .q) (omega arith) (word-fits c) in
+    (omega arith, omega (arith, few c), omega arith)
+
+returns : tie.Need-returns Inv-loop μ-loop
+returns c =
+    let len : length (c .before .before .args .t1 .words) ≡ wordCount = search needs in
+    c .before .loop .inv .2 ∙ ap (λ (x : List ℕ). countTrue (nodesOf x)) (take-all (c .before .loop .q) (c .before .before .args .t1 .words) (omega arith))
+
+pub count-spec : {M : Type 1} → statement M
+count-spec =
+    tie.close
+    (tie.spec
+    Inv-loop
+    μ-loop
+    loop-holds
+    mul-sum
+    element-copy-out-sum
+    cast-sum
+    add-sum
+    add-q
+    loop-less
+    loop-again
+    returns)

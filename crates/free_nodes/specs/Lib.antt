@@ -1,0 +1,4 @@
+pub mod NodeSet
+pub mod NodeSetLaws
+pub mod Words
+pub mod Search

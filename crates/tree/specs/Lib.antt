@@ -1,0 +1,12 @@
+pub mod Tree
+pub mod Represent
+pub mod Pairs
+pub mod Splice
+pub mod Violations
+pub mod Counting
+pub mod Replace
+pub mod Cut
+pub mod Sorted
+pub mod Reading
+pub mod WellFormed
+pub mod Path

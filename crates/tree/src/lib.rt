@@ -1,0 +1,1 @@
+// The tree that a card represents: theory only; see specs/.
