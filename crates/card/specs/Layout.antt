@@ -11,6 +11,10 @@ leastNodes = 4
 abbrev pub greatestNodes : ℕ
 greatestNodes = 600
 
+-- "more than 10 internal nodes": the most that a way down may pass
+abbrev pub depthLimit : ℕ
+depthLimit = 10
+
 -- "4: number of the root node"
 abbrev pub rootPlace : ℕ
 rootPlace = 4
@@ -52,6 +56,11 @@ slot-pairs [] vs = []
 slot-pairs (k ∷ ks) [] = []
 slot-pairs (zero ∷ ks) (v ∷ vs) = slot-pairs ks vs
 slot-pairs (suc k ∷ ks) (v ∷ vs) = (suc k, v) ∷ slot-pairs ks vs
+
+-- 1 for a key, 0 for an empty slot
+unfoldable pub isKey : ℕ → ℕ
+isKey zero = 0
+isKey (suc k) = 1
 
 -- the pairs of a leaf, slots rising
 unfoldable pub leafPairs : List ℕ → List (ℕ × ℕ)

@@ -3,10 +3,11 @@ use mathlib.Core.Path.{_≡_, refl, sym, ap, ap₂, _∙_}
 use mathlib.Core.List.{List, [], _∷_, _++_}
 use Prim.Native.Nat.{ℕ, zero, suc, _+_, _-_, _*_, _≤_, _<_}
 use native.Mathlib.Omega.{arith}
-use lib.ListN.{length, getD, take, drop, length-take, length-drop}
-use lib.Seq.{take-take, getD-take, getD-drop, length-take-le, drop-drop, ext-getD}
+use native.Mathlib.Numerals.{add-one}
+use lib.ListN.{length, getD, take, drop, length-take, length-drop, drop-of-length-le}
+use lib.Seq.{take-take, getD-take, getD-drop, length-take-le, drop-cons}
 use Rattle.laws.specs.Lists.{before-zero, before-zero-length, before-zero-take}
-use Rattle.card.specs.Layout.{place, word, nodeAt, keyWords, valueWords, children, routingKeys}
+use Rattle.card.specs.Layout.{place, word, nodeAt, keyWords, valueWords, children, routingKeys, slot-pairs, isKey, leafPairs}
 
 -- the part that the code cuts out is the node
 pub node-part : (card : List ℕ) (m a b : ℕ) → a ≡ 8 + 24 * (m - 1) → b ≡ a + 24 → take (b - a) (drop a card) ≡ nodeAt card m
@@ -73,3 +74,44 @@ children-count node c n h f z =
     until (valueWords node) c (omega (arith, length-valueWords node n))
     (λ k l e. f k l (sym (get-valueWord node k (omega arith)) ∙ e))
     (λ l. get-valueWord node c (omega (arith, length-valueWords node n)) ∙ z (omega (arith, length-valueWords node n)))
+
+-- the pairs of a leaf, counted slot by slot
+pub is-key-le : (k : ℕ) → isKey k ≤ 1
+unfolding isKey
+is-key-le zero = omega arith
+is-key-le (suc k) = omega arith
+
+pub is-key-none : (k : ℕ) → k ≡ 0 → isKey k ≡ 0
+unfolding isKey
+is-key-none zero e = refl
+is-key-none (suc k) e = absurd (omega arith)
+
+pub is-key-some : (k : ℕ) → (k ≡ 0 → ⊥) → isKey k ≡ 1
+unfolding isKey
+is-key-some zero e = absurd (e refl)
+is-key-some (suc k) e = refl
+
+slot-count : (k v : ℕ) (x y : List ℕ) → length (slot-pairs (k ∷ x) (v ∷ y)) ≡ isKey k + length (slot-pairs x y)
+unfolding isKey
+slot-count zero v x y = omega arith
+slot-count (suc k) v x y = omega arith
+
+pub pairs-from : List ℕ → ℕ → ℕ
+pairs-from node i = length (slot-pairs (drop i (keyWords node)) (drop i (valueWords node)))
+
+module _ (node : List ℕ) (len : length node ≡ 24) where
+  pub pairs-start : length (leafPairs node) ≡ pairs-from node 0
+  unfolding leafPairs pairs-from
+  pairs-start = refl
+
+  pub pairs-next : (i : ℕ) → i < 11 → pairs-from node i ≡ isKey (getD node (1 + i) 0) + pairs-from node (i + 1)
+  unfolding pairs-from
+  pairs-next i h =
+      let a = length-keyWords node len in
+      let b = length-valueWords node len in
+      rw (drop-cons (keyWords node) i 0 (omega arith), drop-cons (valueWords node) i 0 (omega arith), add-one i, ← get-keyWord node i h)
+      (slot-count (getD (keyWords node) i 0) (getD (valueWords node) i 0) (drop (suc i) (keyWords node)) (drop (suc i) (valueWords node)))
+
+  pub pairs-end : (i : ℕ) → 11 ≤ i → pairs-from node i ≡ 0
+  unfolding pairs-from
+  pairs-end i h = rw (drop-of-length-le (keyWords node) {i = i} (omega (arith, length-keyWords node len)))

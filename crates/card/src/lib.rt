@@ -2,13 +2,16 @@
 ghost use mathlib.Core.Path.{_≡_};
 ghost use Prim.Native.Nat.{_+_, _*_, _≤_};
 ghost use lib.ListN.{length};
-ghost use Rattle.card.specs.Layout.{greatestNodes, nodeAt, children};
+ghost use Rattle.card.specs.Layout.{greatestNodes, nodeAt, children, isKey, leafPairs};
 ghost use Rattle.card.specs.Header.{nodesOfLength, headerRefusal};
 
 // "With N nodes (4 to 600)": the only places in code where the two limits stand.
 pub const LEAST_NODES: usize = 4;
 
 pub const GREATEST_NODES: usize = 600;
+
+// "more than 10 internal nodes": the only place in code where the depth limit stands.
+pub const DEPTH_LIMIT: usize = 10;
 
 // How many nodes a card of so many words has; 0 where no card has that length.
 pub fn nodes_of(length: usize) -> usize
@@ -78,4 +81,25 @@ pub fn child_count(node: &[u32]) -> usize
         c += 1;
     }
     c
+}
+
+// 1 for a key, 0 for an empty slot.
+fn is_key(word: u32) -> usize
+    ensures { λ r. ⌜ r ≡ isKey word ⌝ }
+{
+    if word == 0 { 0 } else { 1 }
+}
+
+// How many pairs a leaf holds.
+pub fn pair_count(node: &[u32]) -> usize
+    requires { ⌜ length (now node) ≡ 24 ⌝ }
+    ensures { λ r. ⌜ r ≡ length (leafPairs (now (node .entry))) ⌝ }
+{
+    let mut count: usize = 0;
+    let mut i: usize = 0;
+    while i < 11 {
+        count += is_key(node[1 + i]);
+        i += 1;
+    }
+    count
 }

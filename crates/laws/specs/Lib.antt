@@ -2,3 +2,4 @@ pub mod Cases
 pub mod Totals
 pub mod Lists
 pub mod Digits
+pub mod Sorting

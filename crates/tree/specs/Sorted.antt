@@ -1,43 +1,18 @@
 -- Pairs by rising key, and the leaves that hold them.
-use mathlib.Core.Path.{_≡_, refl, ap, _∙_}
-use mathlib.Core.List.{List, [], _∷_, _++_, map}
-use mathlib.Core.Bool.{true, false}
+use mathlib.Core.Path.{_≡_, refl, _∙_}
+use mathlib.Core.List.{List, [], _∷_, _++_}
 use mathlib.Core.Logic.{by-cases}
-use Prim.Native.Nat.{ℕ, zero, suc, _+_, _≤_, _<_}
+use Prim.Native.Nat.{ℕ, zero, suc, _≤_, _<_}
 use native.Mathlib.Omega.{arith}
 use native.Mathlib.Decide.{ℕ-discrete}
-use lib.ListN.{length, getD, take, drop, replicate}
+use lib.ListN.{length, take, drop, replicate}
 use lib.Dec.{ltb}
 use borrow.Author.Tests.{ltb-true, ltb-false, lt-ltb, le-ltb}
 use Rattle.card.specs.Layout.{slot-pairs}
-use Rattle.laws.specs.Cases.{bool-cases, order, pick, elim-pick}
+use Rattle.laws.specs.Cases.{bool-cases, order}
+use Rattle.laws.specs.Sorting.{Pairs, insert-pair, sort, pair-keys, pair-values, key-at, insert-pair-step, sort-nil, sort-cons, total-sort}
 use Rattle.laws.specs.Totals.{indicator-same, indicator-other, indicator-zero, indicator-le, total, total-le}
 use Rattle.tree.specs.Pairs.{has-key, outside, LeafRange}
-
-abbrev pub Pairs : Type 0
-Pairs = List (ℕ × ℕ)
-
-pub insert-pair : ℕ × ℕ → Pairs → Pairs
-insert-pair p [] = p ∷ []
-insert-pair p (q ∷ l) = elim (ltb (p .0) (q .0)) [ true ↦ p ∷ (q ∷ l) | false ↦ q ∷ insert-pair p l ]
-
-pub sort : Pairs → Pairs
-sort [] = []
-sort (p ∷ l) = insert-pair p (sort l)
-
-pub insert-pair-step : (p q : ℕ × ℕ) (l : Pairs) → insert-pair p (q ∷ l) ≡ pick (ltb (p .0) (q .0)) (p ∷ (q ∷ l)) (q ∷ insert-pair p l)
-unfolding insert-pair
-insert-pair-step p q l = elim-pick (ltb (p .0) (q .0)) _ _
-
-pub total-insert : (w : ℕ × ℕ → ℕ) (p : ℕ × ℕ) (l : Pairs) → total w (insert-pair p l) ≡ w p + total w l
-unfolding insert-pair
-total-insert w p [] = refl
-total-insert w p (q ∷ l) = bool-cases (ltb (p .0) (q .0)) (λ e. rw (insert-pair-step, e)) (λ e. rw (insert-pair-step, e) (omega (arith, total-insert w p l)))
-
-pub total-sort : (w : ℕ × ℕ → ℕ) (l : Pairs) → total w (sort l) ≡ total w l
-unfolding sort
-total-sort w [] = refl
-total-sort w (p ∷ l) = total-insert w p (sort l) ∙ ap (λ (n : ℕ). w p + n) (total-sort w l)
 
 -- the test of a range, in and out
 pub outside-none : (lo hi : ℕ) (p : ℕ × ℕ) → lo ≤ p .0 → p .0 < hi → outside lo hi p ≡ 0
@@ -73,16 +48,13 @@ rising-insert lo hi p (q ∷ l) h g n u =
     rw (insert-pair-step, e) (u .0, rising-insert (suc (q .0)) hi p l (omega arith) g (omega arith) (u .1)))
 
 pub rising-sort : (lo hi : ℕ) (l : Pairs) → lo ≤ hi → LeafRange lo hi l → Rising lo hi (sort l)
-unfolding sort
-rising-sort lo hi [] h i = h
+rising-sort lo hi [] h i = rw sort-nil h
 rising-sort lo hi (p ∷ l) h i =
     let o = outside-zero lo hi p (omega (arith, i .inside)) in
-    rising-insert lo hi p (sort l) (o .0) (o .1) (total-sort (has-key (p .0)) l ∙ omega (arith, i .once (p .0), indicator-same (p .0))) (rising-sort lo hi l h (record { inside = omega (arith, i .inside); once = λ k. omega (arith, i .once k) }))
+    rw (sort-cons p l)
+    (rising-insert lo hi p (sort l) (o .0) (o .1) (total-sort (has-key (p .0)) l ∙ omega (arith, i .once (p .0), indicator-same (p .0))) (rising-sort lo hi l h (record { inside = omega (arith, i .inside); once = λ k. omega (arith, i .once k) })))
 
 -- the n first and the others, around the key of the first other
-abbrev pub key-at : ℕ → Pairs → ℕ
-key-at n l = getD l n (0, 0) .0
-
 pub rising-cut : (lo hi n : ℕ) (l : Pairs) → Rising lo hi l → n < length l → Rising lo (key-at n l) (take n l) × Rising (key-at n l) hi (drop n l)
 rising-cut lo hi n [] u h = absurd (omega arith)
 rising-cut lo hi zero (p ∷ l) u h = (u .0, (omega arith, u .1))
@@ -111,13 +83,6 @@ rising-once lo hi k (p ∷ l) u =
 
 pub rising-leaf : (lo hi : ℕ) (l : Pairs) → Rising lo hi l → LeafRange lo hi l
 rising-leaf lo hi l u = record { inside = rising-inside lo hi l u; once = λ k. rising-once lo hi k l u }
-
--- the arrays of a new leaf
-abbrev pub pair-keys : Pairs → List ℕ
-pair-keys l = map (λ p. p .0) l
-
-abbrev pub pair-values : Pairs → List ℕ
-pair-values l = map (λ p. p .1) l
 
 pub slot-pairs-zeros : (n m : ℕ) (vs : List ℕ) → slot-pairs (replicate n 0) vs ≡ []
 slot-pairs-zeros zero m vs = refl

@@ -1,0 +1,5 @@
+pub mod Dump
+pub mod ByteLaws
+pub mod AnswerLaws
+pub mod RoundTrip
+pub mod Examples
