@@ -3,3 +3,4 @@ pub mod Totals
 pub mod Lists
 pub mod Digits
 pub mod Sorting
+pub mod Bits

@@ -2,7 +2,7 @@
 use mathlib.Core.Path.{_≡_, refl, ap, sym}
 use mathlib.Core.List.{List, [], _∷_, _++_, append-assoc, append-nil}
 use mathlib.Core.Bool.{true, false}
-use Prim.Native.Nat.{ℕ, zero, suc, _+_, _<_}
+use Prim.Native.Nat.{ℕ, zero, suc, _+_, _≤_, _<_}
 use native.Mathlib.Omega.{arith}
 use lib.ListN.{length}
 use Rattle.card.specs.Layout.{place}
@@ -87,6 +87,20 @@ range-plug lo hi (down C m g l r) s i =
     let u = range-plug lo hi C (node m g (fill l s r)) i in
     let v = range-splice (u .0) (u .1) l (one s) r (u .2) in
     (v .0, v .1, v .2, λ s′ j. u .3 _ (v .3 (one s′) j))
+
+-- the low end of a part's range is at least that of the whole
+splice-low : (lo hi : ℕ) (l : Left) (f : Forest) (r : Right) (i : AllInRange lo hi (splice l f r)) → lo ≤ range-splice lo hi l f r i .0
+unfolding range-splice
+splice-low lo hi [] f rightmost i = omega arith
+splice-low lo hi [] f (followed k e) i = omega arith
+splice-low lo hi (x ∷ l) f r i = omega (arith, i .1, splice-low (x .1) hi l f r (i .3))
+
+pub plug-low : (lo hi : ℕ) (C : Context) (s : Tree) (i : InRange lo hi (plug C s)) → lo ≤ range-plug lo hi C s i .0
+unfolding range-plug
+plug-low lo hi top s i = omega arith
+plug-low lo hi (down C m g l r) s i =
+    let u = range-plug lo hi C (node m g (fill l s r)) i in
+    omega (arith, plug-low lo hi C (node m g (fill l s r)) i, splice-low (u .0) (u .1) l (one s) r (u .2))
 
 pub height-plug : (h : ℕ) (C : Context) (s : Tree) → Height h (plug C s) → (k : ℕ) × Height k s × ((s′ : Tree) → Height k s′ → Height h (plug C s′))
 height-plug h top s i = (h, i, λ s′ j. j)

@@ -1,0 +1,97 @@
+-- Document 01, "The card", last paragraph, and the row "on the way down" of "Refusal by place".
+use mathlib.Core.Bool.{Bool, true, false, _&&_, _||_, not}
+use mathlib.Core.List.{List, [], _∷_}
+use Prim.Native.Nat.{ℕ, zero, suc, _+_, _-_, _*_}
+use lib.ListN.{length, getD}
+use lib.Dec.{eqb, ltb}
+use Rattle.laws.specs.Cases.{pick}
+use Rattle.card.specs.Layout.{rootPlace, depthLimit, place, nodeAt, kindOf, keyWords, children, routingKeys, leafPairs}
+use Rattle.descent.specs.declared.Slot.{Slot}
+use Rattle.descent.specs.declared.Slot.the-variants.{At, Absent}
+use Rattle.descent.specs.declared.Turn.{Turn}
+use Rattle.descent.specs.declared.Turn.the-variants.{Refused as NoTurn, Leaf as TurnLeaf, Down as TurnDown}
+use Rattle.descent.specs.declared.Way.{Way}
+use Rattle.descent.specs.declared.Way.the-variants.{Refused as NoWay, Leaf as LeafAt}
+use Rattle.descent.specs.declared.Position.{Position}
+use Rattle.descent.specs.declared.Visit.{Visit}
+use Rattle.descent.specs.declared.Visit.the-variants.{Refused as NoVisit, Balanced as VisitBalanced, Violation as VisitViolation, Down as VisitDown}
+use Rattle.descent.specs.declared.Search.{Search}
+use Rattle.descent.specs.declared.Search.the-variants.{Refused as NoSearch, Balanced as SearchBalanced, Violation as SearchViolation}
+
+-- "Going down, a key passes routing keys from the first until one exceeds it, and takes the child there."
+unfoldable pub passed : List ℕ → ℕ → ℕ
+passed [] key = 0
+passed (r ∷ rs) key = pick (ltb key r) 0 (suc (passed rs key))
+
+unfoldable pub childIndex : List ℕ → ℕ → ℕ
+childIndex node key = passed (routingKeys node) key
+
+-- the child's number
+unfoldable pub childFor : List ℕ → ℕ → ℕ
+childFor node key = getD node (12 + childIndex node key) 0
+
+-- the first of the words that is the key, where the first is number i
+unfoldable pub firstEqual : List ℕ → ℕ → ℕ → Slot
+firstEqual [] key i = Absent
+firstEqual (w ∷ ws) key i = pick (eqb w key) (At i) (firstEqual ws key (suc i))
+
+-- "In a leaf it is at the first slot whose key word equals the key."
+unfoldable pub slotOf : List ℕ → ℕ → Slot
+slotOf node key = firstEqual (keyWords node) key 0
+
+-- "9: node number 0 or above N, kind not 1 to 3, no children .."
+unfoldable pub turnInner : List ℕ → ℕ → Turn
+turnInner node key = pick (eqb (length (children node)) 0) NoTurn (TurnDown (childFor node key))
+
+unfoldable pub turnOf : List ℕ → ℕ → Turn
+turnOf node key = pick (eqb (kindOf node) 1) TurnLeaf (pick (eqb (kindOf node) 2 || eqb (kindOf node) 3) (turnInner node key) NoTurn)
+
+unfoldable pub turnAt : List ℕ → ℕ → ℕ → ℕ → Turn
+turnAt card n key m = pick (eqb m 0) NoTurn (pick (ltb n m) NoTurn (turnOf (nodeAt card m) key))
+
+unfoldable pub onTurn : ℕ → ℕ → (ℕ → Way) → Turn → Way
+onTurn m depth next NoTurn = NoWay
+onTurn m depth next TurnLeaf = LeafAt m depth
+onTurn m depth next (TurnDown child) = next child
+
+-- the leaf that a key leads to from node m, past at most so many internal nodes ("or more than 10 internal nodes")
+unfoldable pub leafFor : List ℕ → ℕ → ℕ → ℕ → ℕ → Way
+leafFor card n key zero m = onTurn m (depthLimit - 0) (λ child. NoWay) (turnAt card n key m)
+leafFor card n key (suc levels) m = onTurn m (depthLimit - suc levels) (leafFor card n key levels) (turnAt card n key m)
+
+-- the root: no parent
+unfoldable pub rootPosition : ℕ → Position
+rootPosition root = record { node = root; link = rootPlace; parent = 0; index = 0; above = 0 }
+
+-- the child that a key takes from a node at a position
+unfoldable pub childPosition : List ℕ → ℕ → Position → Position
+childPosition card key p =
+    record {
+      node = childFor (nodeAt card (p .node)) key;
+      link = place (p .node) (12 + childIndex (nodeAt card (p .node)) key);
+      parent = p .node;
+      index = childIndex (nodeAt card (p .node)) key;
+      above = p .link;
+    }
+
+-- A fault is "a tagged node, or a non-root node with fewer than 2 pairs or children": the first on a key's way.
+unfoldable pub visitOf : List ℕ → ℕ → Position → Bool → Visit
+visitOf card key p isRoot =
+    pick (eqb (kindOf (nodeAt card (p .node))) 1) (pick (not isRoot && ltb (length (leafPairs (nodeAt card (p .node)))) 2) VisitViolation VisitBalanced)
+    (pick (not isRoot && eqb (kindOf (nodeAt card (p .node))) 3) VisitViolation
+    (pick (eqb (kindOf (nodeAt card (p .node))) 2 || eqb (kindOf (nodeAt card (p .node))) 3)
+    (pick (eqb (length (children (nodeAt card (p .node)))) 0) NoVisit (pick (not isRoot && ltb (length (children (nodeAt card (p .node)))) 2) VisitViolation (VisitDown (childPosition card key p)))) NoVisit))
+
+unfoldable pub visitAt : List ℕ → ℕ → ℕ → Position → Visit
+visitAt card n key p = pick (eqb (p .node) 0) NoVisit (pick (ltb n (p .node)) NoVisit (visitOf card key p (eqb (p .parent) 0)))
+
+unfoldable pub onVisit : Position → (Position → Search) → Visit → Search
+onVisit p next NoVisit = NoSearch
+onVisit p next VisitBalanced = SearchBalanced
+onVisit p next VisitViolation = SearchViolation p
+onVisit p next (VisitDown q) = next q
+
+-- the first violation on a key's way from a position, past at most so many internal nodes
+unfoldable pub seek : List ℕ → ℕ → ℕ → ℕ → Position → Search
+seek card n key zero p = onVisit p (λ q. NoSearch) (visitAt card n key p)
+seek card n key (suc levels) p = onVisit p (seek card n key levels) (visitAt card n key p)

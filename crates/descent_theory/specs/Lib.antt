@@ -1,0 +1,4 @@
+pub mod Routing
+pub mod Find
+pub mod Ranges
+pub mod Seek
