@@ -20,7 +20,7 @@ use Rattle.tree.specs.Reading.{read-kind, leaf-pairs}
 use Rattle.tree.specs.Represent.{Represents, roots-left, RepresentsContext, link-place, Holds, unplugged}
 use Rattle.tree.specs.Splice.{length-roots-left}
 use Rattle.tree.specs.Tree.{Tree, Forest, root, roots, routing, Left, Right, fill, Context, plug, leaf, node, one, more, rightmost, followed, top, down}
-use Rattle.tree.specs.Violations.{below, few, few-none, few-zero, tag, violations, forest-violations, RootOk, table-violations}
+use Rattle.tree.specs.Violations.{few-below, below, few, few-none, few-zero, tag, violations, forest-violations, RootOk, table-violations}
 use Rattle.descent.specs.declared.Position.{Position}
 use Rattle.descent.specs.declared.Visit.the-variants.{Violation as VisitViolation}
 use Rattle.descent.specs.declared.Search.the-variants.{Balanced as SearchBalanced, Violation as SearchViolation}
@@ -46,9 +46,6 @@ pub width-fill : (l : Left) (s : Tree) (r : Right) → length (roots (fill l s r
 width-fill [] s rightmost = refl
 width-fill [] s (followed x f) = omega arith
 width-fill (a ∷ l) s r = omega (arith, width-fill l s r)
-
-pub few-one : (n : ℕ) → few n ≡ 1 → n < 2
-few-one n e = order n 2 (λ o. o) (λ o. absurd (omega (arith, few-none n o)))
 
 pub child-violations : (key : ℕ) (f : Forest) → violations (child key f) ≤ forest-violations f
 child-violations key (one t) = omega arith
@@ -148,14 +145,14 @@ module _ (c : List ℕ) (n key : ℕ) (len : length c ≡ 8 + 24 * n) where
   visit-violation : (s : Tree) → Represents c s → own-violation s ≡ 1 → (link parent index above : ℕ) → (parent ≡ 0 → ⊥) → visitAt c n key (position (root s) link parent index above) ≡ VisitViolation
   visit-violation (leaf m ks vs) r own link parent index above q =
       visit-part (leaf m ks vs) r link parent index above false (ne-eqb parent 0 q)
-      ∙ visit-few c key (position m link parent index above) (read-kind c m _ _ _ (r .0)) (omega (arith, ap length (leaf-pairs c m ks vs r), few-one (length (slot-pairs ks vs)) own))
+      ∙ visit-few c key (position m link parent index above) (read-kind c m _ _ _ (r .0)) (omega (arith, ap length (leaf-pairs c m ks vs r), few-below (length (slot-pairs ks vs)) own))
   visit-violation (node m true f) r own link parent index above q =
       visit-part (node m true f) r link parent index above false (ne-eqb parent 0 q)
       ∙ visit-tagged c key (position m link parent index above) (read-kind c m _ _ _ (r .0))
   visit-violation (node m false f) r own link parent index above q =
       visit-part (node m false f) r link parent index above false (ne-eqb parent 0 q)
       ∙ visit-one-child c key (position m link parent index above) false (inl (read-kind c m _ _ _ (r .0))) refl
-      (omega (arith, children-on-card c key m false f r, few-one (length (roots f)) (omega arith), routing-roots f))
+      (omega (arith, children-on-card c key m false f r, few-below (length (roots f)) (omega arith), routing-roots f))
 
   -- the search by a key finds the violation on the key's path, where no node above it is one
   pub seek-violation : (levels : ℕ) (C : Context) (s : Tree) → Holds c (plug C s) → below C → OnPath key C → WideAbove C → own-violation s ≡ 1 → depth-of C ≤ levels → seek c n key levels (rootPosition (getD c 4 0)) ≡ SearchViolation (positionOf C s)

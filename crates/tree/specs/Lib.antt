@@ -10,3 +10,4 @@ pub mod Sorted
 pub mod Reading
 pub mod WellFormed
 pub mod Path
+pub mod Lookup

@@ -2,7 +2,7 @@
 use mathlib.Core.Path.{_≡_, refl, ap}
 use mathlib.Core.List.{[], _∷_}
 use mathlib.Core.Bool.{Bool, true, false}
-use Prim.Native.Nat.{ℕ, _+_, _≤_}
+use Prim.Native.Nat.{ℕ, _+_, _≤_, _<_}
 use native.Mathlib.Omega.{arith}
 use lib.ListN.{length, length-append}
 use lib.Dec.{ltb}
@@ -22,6 +22,13 @@ few-none n h = rw (le-ltb n 2 h)
 pub few-zero : (n : ℕ) → few n ≡ 0 → 2 ≤ n
 unfolding few
 few-zero n e = order n 2 (λ o. let z : _≡_ {A = ℕ} 1 0 = rw (lt-ltb n 2 o) at e in absurd (omega arith)) (λ o. o)
+
+pub few-one : (n : ℕ) → n < 2 → few n ≡ 1
+unfolding few
+few-one n h = rw (lt-ltb n 2 h)
+
+pub few-below : (n : ℕ) → few n ≡ 1 → n < 2
+few-below n e = order n 2 (λ o. o) (λ o. absurd (omega (arith, few-none n o)))
 
 abbrev pub tag : Bool → ℕ
 tag true = 1

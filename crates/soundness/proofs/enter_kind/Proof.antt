@@ -1,0 +1,45 @@
+use mathlib.Core.Path.{sym, _∙_}
+use native.Mathlib.Omega.{arith}
+use borrow.Author.Needs.{needs}
+use Rattle.soundness.specs.CheckLaws.{enter-kind-leaf, enter-kind-internal, enter-kind-tagged, enter-kind-none}
+use Rattle.soundness.specs.Check.{entryOf, lookOf, findingsOf}
+use Rattle.soundness.proofs.enter_kind.Statement.{statement}
+use Rattle.soundness.proofs.enter_kind.Tie as tie
+
+shared-slice-read-kind : tie.Need-shared-slice-read-kind
+shared-slice-read-kind c = search needs
+
+enter-leaf-requires : tie.Need-enter-leaf-requires
+enter-leaf-requires c κs = search needs
+
+enter-inner-requires : tie.Need-enter-inner-requires
+enter-inner-requires c κs = search needs
+
+enter-inner-requires-2 : tie.Need-enter-inner-requires-2
+enter-inner-requires-2 c κs = search needs
+
+returns : tie.Need-returns
+returns c = c .enter-leaf .ensures ∙ sym (enter-kind-leaf (c .before .before .before .before .args .node .now) (c .before .before .before .before .args .low) (c .before .before .before .before .args .high) (c .before .before .before .before .args .run) (c .before .before .before .before .args .root) (findingsOf (c .before .before .before .before .args .s)) (omega (arith, c .before .match .keys1)))
+
+returns-2 : tie.Need-returns-2
+returns-2 c = c .enter-inner .ensures ∙ sym (enter-kind-internal (c .before .before .before .before .args .node .now) (c .before .before .before .before .args .low) (c .before .before .before .before .args .high) (c .before .before .before .before .args .run) (c .before .before .before .before .args .root) (findingsOf (c .before .before .before .before .args .s)) (omega (arith, c .before .match .keys2)))
+
+returns-3 : tie.Need-returns-3
+returns-3 c = c .enter-inner2 .ensures ∙ sym (enter-kind-tagged (c .before .before .before .before .args .node .now) (c .before .before .before .before .args .low) (c .before .before .before .before .args .high) (c .before .before .before .before .args .run) (c .before .before .before .before .args .root) (findingsOf (c .before .before .before .before .args .s)) (omega (arith, c .before .match .keys3)))
+
+returns-4 : tie.Need-returns-4
+unfolding entryOf lookOf
+returns-4 c = sym (enter-kind-none (c .before .before .before .args .node .now) (c .before .before .before .args .low) (c .before .before .before .args .high) (c .before .before .before .args .run) (c .before .before .before .args .root) (findingsOf (c .before .before .before .args .s)) (c .match .rest .0 .0 .1) (c .match .rest .0 .1) (c .match .rest .1))
+
+pub enter-kind-spec : {M : Type 1} → statement M
+enter-kind-spec =
+    tie.close
+    (tie.spec
+    shared-slice-read-kind
+    enter-leaf-requires
+    enter-inner-requires
+    enter-inner-requires-2
+    returns
+    returns-2
+    returns-3
+    returns-4)

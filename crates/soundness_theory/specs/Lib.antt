@@ -1,0 +1,11 @@
+pub mod Ranges
+pub mod Depth
+pub mod Found
+pub mod Noted
+pub mod Leaves
+pub mod Entering
+pub mod Parts
+pub mod Shown
+pub mod Passed
+pub mod Facts
+pub mod Soundness

@@ -1,0 +1,1 @@
+// Theory only: the check of `soundness` accepts exactly the sound tables; see specs/.
