@@ -12,6 +12,8 @@ use Rattle.descent.specs.declared.Turn.{Turn}
 use Rattle.descent.specs.declared.Turn.the-variants.{Refused as NoTurn, Leaf as TurnLeaf, Down as TurnDown}
 use Rattle.descent.specs.declared.Way.{Way}
 use Rattle.descent.specs.declared.Way.the-variants.{Refused as NoWay, Leaf as LeafAt}
+use Rattle.descent.specs.declared.Landing.{Landing}
+use Rattle.descent.specs.declared.Landing.the-variants.{Refused as NoLanding, Leaf as LandingAt}
 use Rattle.descent.specs.declared.Position.{Position}
 use Rattle.descent.specs.declared.Visit.{Visit}
 use Rattle.descent.specs.declared.Visit.the-variants.{Refused as NoVisit, Balanced as VisitBalanced, Violation as VisitViolation, Down as VisitDown}
@@ -58,6 +60,21 @@ onTurn m depth next (TurnDown child) = next child
 unfoldable pub leafFor : List ℕ → ℕ → ℕ → ℕ → ℕ → Way
 leafFor card n key zero m = onTurn m (depthLimit - 0) (λ child. NoWay) (turnAt card n key m)
 leafFor card n key (suc levels) m = onTurn m (depthLimit - suc levels) (leafFor card n key levels) (turnAt card n key m)
+
+-- Where an update's key leads: the leaf, the word that links to it, and how many 11-child nodes stand without a break straight
+-- above it (document 01: "Let j be the number of 11-child nodes without a break straight above a full leaf").
+unfoldable pub runBelow : ℕ → ℕ → ℕ
+runBelow c run = pick (eqb c 11) (suc run) 0
+
+unfoldable pub onTurnLanding : ℕ → ℕ → ℕ → (ℕ → Landing) → Turn → Landing
+onTurnLanding m link run next NoTurn = NoLanding
+onTurnLanding m link run next TurnLeaf = LandingAt m link run
+onTurnLanding m link run next (TurnDown child) = next child
+
+unfoldable pub landingFor : List ℕ → ℕ → ℕ → ℕ → ℕ → ℕ → ℕ → Landing
+landingFor card n key zero link run m = onTurnLanding m link run (λ child. NoLanding) (turnAt card n key m)
+landingFor card n key (suc levels) link run m =
+    onTurnLanding m link run (landingFor card n key levels (place m (12 + childIndex (nodeAt card m) key)) (runBelow (length (children (nodeAt card m))) run)) (turnAt card n key m)
 
 -- the root: no parent
 unfoldable pub rootPosition : ℕ → Position

@@ -1,8 +1,8 @@
 -- Laws of the way down, one for each branch of the code: what is left of a search after each word read, and what each
 -- node makes of a key.
-use mathlib.Core.Path.{_≡_, refl, ap, sym, _∙_}
+use mathlib.Core.Path.{_≡_, refl, ap, ap₂, sym, _∙_}
 use mathlib.Core.List.{List, [], _∷_}
-use mathlib.Core.Bool.{Bool, true, false, _&&_, not}
+use mathlib.Core.Bool.{Bool, true, false, _&&_, _||_, not}
 use mathlib.Core.Logic.{_⊎_, inl, inr}
 use Prim.Native.Nat.{ℕ, zero, suc, _+_, _-_, _*_, _≤_, _<_}
 use native.Mathlib.Omega.{arith}
@@ -11,16 +11,17 @@ use lib.ListN.{length, getD, drop, drop-of-length-le}
 use lib.Seq.{drop-cons, getD-take}
 use lib.Dec.{ltb, eqb}
 use borrow.Author.Tests.{lt-ltb, le-ltb, ne-eqb, eq-eqb}
-use Rattle.card.specs.Layout.{nodeAt, kindOf, keyWords, valueWords, children, routingKeys, slot-pairs, leafPairs}
+use Rattle.card.specs.Layout.{place, nodeAt, kindOf, keyWords, valueWords, children, routingKeys, slot-pairs, leafPairs}
 use Rattle.card.specs.NodeLaws.{length-keyWords, length-valueWords, get-keyWord, get-valueWord, children-le, length-routing}
 use Rattle.card.specs.Layout.{depthLimit}
-use Rattle.descent.specs.Descent.{passed, childIndex, childFor, firstEqual, slotOf, turnInner, turnOf, turnAt, onTurn, leafFor, childPosition, visitOf, visitAt, onVisit, seek}
-use Rattle.laws.specs.Cases.{pick}
+use Rattle.descent.specs.Descent.{passed, childIndex, childFor, firstEqual, slotOf, turnInner, turnOf, turnAt, onTurn, leafFor, runBelow, onTurnLanding, landingFor, childPosition, visitOf, visitAt, onVisit, seek}
+use Rattle.laws.specs.Cases.{pick, order}
 use Rattle.laws.specs.Lists.{before-zero}
 use Rattle.descent.specs.declared.Slot.{Slot}
 use Rattle.descent.specs.declared.Slot.the-variants.{At, Absent}
 use Rattle.descent.specs.declared.Turn.the-variants.{Refused as NoTurn, Leaf as TurnLeaf, Down as TurnDown}
 use Rattle.descent.specs.declared.Way.the-variants.{Refused as NoWay, Leaf as LeafAt}
+use Rattle.descent.specs.declared.Landing.the-variants.{Refused as NoLanding, Leaf as LandingAt}
 use Rattle.descent.specs.declared.Position.{Position}
 use Rattle.descent.specs.declared.Visit.the-variants.{Refused as NoVisit, Balanced as VisitBalanced, Violation as VisitViolation, Down as VisitDown}
 use Rattle.descent.specs.declared.Search.the-variants.{Refused as NoSearch, Balanced as SearchBalanced, Violation as SearchViolation}
@@ -213,6 +214,73 @@ module _ (card : List ℕ) (n key m : ℕ) where
   unfolding leafFor onTurn
   way-down zero child e p = absurd (p refl)
   way-down (suc levels) child e p = ap (onTurn m (depthLimit - suc levels) (leafFor card n key levels)) e ∙ ap (λ (x : ℕ). leafFor card n key x child) (let z : levels ≡ suc levels - 1 = omega arith in z)
+
+-- ---- where an update lands
+
+no-turn-down : (child : ℕ) → NoTurn ≡ TurnDown child → ⊥
+no-turn-down child e = let z : _≡_ {A = ℕ} 0 1 = cc in absurd (omega arith)
+
+-- whatever its kind, a node without children leads nowhere
+childless-stays : (leaf inner : Bool) (child : ℕ) → pick leaf TurnLeaf (pick inner NoTurn NoTurn) ≡ TurnDown child → ⊥
+childless-stays true inner child e = let z : _≡_ {A = ℕ} 0 1 = cc in absurd (omega arith)
+childless-stays false true child e = no-turn-down child e
+childless-stays false false child e = no-turn-down child e
+
+down-first-child : (node : List ℕ) (key child : ℕ) → turnOf node key ≡ TurnDown child → getD node 12 0 ≡ 0 → ⊥
+unfolding turnOf turnInner
+down-first-child node key child e z =
+    childless-stays (eqb (kindOf node) 1) (eqb (kindOf node) 2 || eqb (kindOf node) 3) child
+    (rw (eq-eqb (length (children node)) 0 (omega (arith, children-stop node 0 (omega arith) z))) at e)
+
+-- a way goes down only from a node of the card that has a child, so the code may read that node and choose among its children
+pub turn-inside : (card : List ℕ) (n key m child : ℕ) → turnAt card n key m ≡ TurnDown child → (1 ≤ m) × (m ≤ n) × (getD (nodeAt card m) 12 0 ≡ 0 → ⊥)
+turn-inside card n key m child e =
+    order m 1 (λ o. absurd (no-turn-down child (sym (turn-zero card n key m (omega arith)) ∙ e)))
+    (λ from. order n m (λ o. absurd (no-turn-down child (sym (turn-beyond card n key m o) ∙ e)))
+    (λ to. (from, to, down-first-child (nodeAt card m) key child (sym (turn-node card n key m (λ z. omega arith) to) ∙ e))))
+
+-- the run of 11-child nodes grows by a node of eleven children, and any other breaks it
+pub run-on : (c run : ℕ) → c ≡ 11 → runBelow c run ≡ run + 1
+unfolding runBelow
+run-on c run e = rw (eq-eqb c 11 e) (omega arith)
+
+pub run-broken : (c run : ℕ) → (c ≡ 11 → ⊥) → runBelow c run ≡ 0
+unfolding runBelow
+run-broken c run p = rw (ne-eqb c 11 p)
+
+pub run-below-le : (c run : ℕ) → runBelow c run ≤ run + 1
+unfolding runBelow
+run-below-le c run = go (eqb c 11)
+  where
+    go : (b : Bool) → pick b (suc run) 0 ≤ run + 1
+    go true = omega arith
+    go false = omega arith
+
+module _ (card : List ℕ) (n key link run m : ℕ) where
+  pub landing-refused : (levels : ℕ) → turnAt card n key m ≡ NoTurn → landingFor card n key levels link run m ≡ NoLanding
+  unfolding landingFor onTurnLanding
+  landing-refused zero e = ap (onTurnLanding m link run (λ child. NoLanding)) e
+  landing-refused (suc levels) e = ap (onTurnLanding m link run (landingFor card n key levels (place m (12 + childIndex (nodeAt card m) key)) (runBelow (length (children (nodeAt card m))) run))) e
+
+  pub landing-leaf : (levels : ℕ) → turnAt card n key m ≡ TurnLeaf → landingFor card n key levels link run m ≡ LandingAt m link run
+  unfolding landingFor onTurnLanding
+  landing-leaf zero e = ap (onTurnLanding m link run (λ child. NoLanding)) e
+  landing-leaf (suc levels) e = ap (onTurnLanding m link run (landingFor card n key levels (place m (12 + childIndex (nodeAt card m) key)) (runBelow (length (children (nodeAt card m))) run))) e
+
+  pub landing-too-deep : (levels child : ℕ) → turnAt card n key m ≡ TurnDown child → levels ≡ 0 → landingFor card n key levels link run m ≡ NoLanding
+  unfolding landingFor onTurnLanding
+  landing-too-deep zero child e z = ap (onTurnLanding m link run (λ x. NoLanding)) e
+  landing-too-deep (suc levels) child e z = absurd (omega arith)
+
+  -- the node, the number of the child and the run are named as the code holds them
+  pub landing-down : (levels child : ℕ) (node : List ℕ) (i further : ℕ) → turnAt card n key m ≡ TurnDown child → (levels ≡ 0 → ⊥) → node ≡ nodeAt card m → i ≡ childIndex node key → further ≡ runBelow (length (children node)) run
+      → landingFor card n key levels link run m ≡ landingFor card n key (levels - 1) (8 + 24 * (m - 1) + 12 + i) further child
+  unfolding landingFor onTurnLanding
+  landing-down zero child node i further e p at-m at-i at-run = absurd (p refl)
+  landing-down (suc levels) child node i further e p at-m at-i at-run =
+      ap (onTurnLanding m link run (landingFor card n key levels (place m (12 + childIndex (nodeAt card m) key)) (runBelow (length (children (nodeAt card m))) run))) e
+      ∙ rw (at-run, at-i, at-m)
+      (ap₂ (λ (x y : ℕ). landingFor card n key x y (runBelow (length (children (nodeAt card m))) run) child) (let z : levels ≡ suc levels - 1 = omega arith in z) (omega arith))
 
 -- ---- what a node makes of the search for a violation
 

@@ -2,8 +2,8 @@
 ghost use mathlib.Core.Path.{_≡_};
 ghost use Prim.Native.Nat.{_+_, _*_, _≤_};
 ghost use lib.ListN.{length, getD};
-ghost use Rattle.card.specs.Layout.{greatestNodes, depthLimit};
-ghost use Rattle.descent.specs.Descent.{childIndex, slotOf, turnAt, leafFor, visitAt, rootPosition, seek};
+ghost use Rattle.card.specs.Layout.{greatestNodes, depthLimit, rootPlace, children};
+ghost use Rattle.descent.specs.Descent.{childIndex, slotOf, turnAt, leafFor, runBelow, landingFor, visitAt, rootPosition, seek};
 
 // The slot of a key in a leaf.
 pub enum Slot {
@@ -107,6 +107,60 @@ pub fn find_leaf(card: &[u32], n: usize, key: u32, root: usize) -> Way
                 if left == 0 {
                     return Way::Refused;
                 }
+                left -= 1;
+                m = child;
+            }
+        }
+    }
+}
+
+// The leaf that an update's key leads to, the word that links to it, and how many 11-child nodes stand without a break
+// straight above it; or refusal 9.
+pub enum Landing {
+    Refused,
+    Leaf {
+        node: usize,
+        link: usize,
+        run: usize,
+    },
+}
+
+// How many 11-child nodes stand without a break straight above the children of a node.
+fn run_below(node: &[u32], run: usize) -> usize
+    requires { ⌜ (length (now node) ≡ 24) × (run ≤ depthLimit) ⌝ }
+    ensures { λ r. ⌜ r ≡ runBelow (length (children (now (node .entry)))) run ⌝ }
+{
+    if card::child_count(node) == 11 {
+        run + 1
+    } else {
+        0
+    }
+}
+
+pub fn find_landing(card: &[u32], n: usize, key: u32, root: usize) -> Landing
+    requires { ⌜ (length (now card) ≡ 8 + 24 * n) × (n ≤ greatestNodes) ⌝ }
+    ensures { λ r. ⌜ r ≡ landingFor (now (card .entry)) n key depthLimit rootPlace 0 root ⌝ }
+{
+    let mut m = root;
+    let mut link: usize = 4;
+    let mut run: usize = 0;
+    let mut left: usize = card::DEPTH_LIMIT;
+    loop {
+        match turn_at(card, n, key, m) {
+            Turn::Refused => {
+                return Landing::Refused;
+            }
+            Turn::Leaf => {
+                return Landing::Leaf { node: m, link, run };
+            }
+            Turn::Down(child) => {
+                if left == 0 {
+                    return Landing::Refused;
+                }
+                let node = card::node_at(card, m);
+                let i = child_index(node, key);
+                link = 8 + 24 * (m - 1) + 12 + i;
+                run = run_below(node, run);
                 left -= 1;
                 m = child;
             }

@@ -11,3 +11,4 @@ pub mod Reading
 pub mod WellFormed
 pub mod Path
 pub mod Lookup
+pub mod InPlace

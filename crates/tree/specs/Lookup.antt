@@ -57,7 +57,7 @@ counted-found k v (p ∷ l) o h =
     let later : 0 < 0 + total (is-pair k v) l = rw b at h in
     rw b (counted-found k v l (omega arith) (omega arith)))
 
-absent-counted : (k : ℕ) (l : List (ℕ × ℕ)) → lookup k l ≡ none → total (has-key k) l ≡ 0
+pub absent-counted : (k : ℕ) (l : List (ℕ × ℕ)) → lookup k l ≡ none → total (has-key k) l ≡ 0
 absent-counted k [] e = refl
 absent-counted k (p ∷ l) e =
     bool-cases (eqb k (p .0))

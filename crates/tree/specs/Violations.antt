@@ -27,6 +27,9 @@ pub few-one : (n : ℕ) → n < 2 → few n ≡ 1
 unfolding few
 few-one n h = rw (lt-ltb n 2 h)
 
+pub few-le : (n : ℕ) → few n ≤ 1
+few-le n = order n 2 (λ o. omega (arith, few-one n o)) (λ o. omega (arith, few-none n o))
+
 pub few-below : (n : ℕ) → few n ≡ 1 → n < 2
 few-below n e = order n 2 (λ o. o) (λ o. absurd (omega (arith, few-none n o)))
 

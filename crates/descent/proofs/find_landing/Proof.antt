@@ -1,0 +1,151 @@
+use borrow.Author.Needs.{needs}
+use native.Mathlib.Omega.{arith}
+use mathlib.Core.Path.{_≡_, sym, ap, _∙_}
+use mathlib.Core.List.{List}
+use Prim.Native.Nat.{ℕ, _+_, _≤_}
+use lib.ListN.{length, getD}
+use Rattle.card.specs.Layout.{depthLimit, rootPlace, nodeAt, children}
+use Rattle.card.specs.NodeLaws.{length-node}
+use Rattle.descent.specs.Descent.{turnAt, landingFor}
+use Rattle.descent.specs.DescentLaws.{index-le, turn-inside, run-below-le, landing-refused, landing-leaf, landing-too-deep, landing-down}
+use Rattle.descent.specs.declared.Turn.the-variants.{Down as TurnDown}
+use Rattle.descent.proofs.find_landing.Statement.{statement}
+use Rattle.descent.proofs.find_landing.Tie as tie
+use Rattle.descent.proofs.find_landing.Reads as reads
+use Rattle.descent.proofs.find_landing.Lts as lts
+use Rattle.card.proofs.node_at.Reads as node-at-reads
+use Rattle.descent.proofs.child_index.Reads as child-index-reads
+use Rattle.descent.proofs.run_below.Reads as run-below-reads
+use Rattle.descent.proofs.turn_at.Reads as turn-at-reads
+
+-- the run is no longer than the way so far
+abbrev Inv-loop : tie.InvT-loop
+Inv-loop card n key root m₀ link₀ run₀ left₀ m link run left = (run + left ≤ depthLimit) × (landingFor card n key depthLimit rootPlace 0 root ≡ landingFor card n key left link run m)
+
+abbrev μ-loop : tie.MeasureT-loop
+μ-loop card n key root m₀ link₀ run₀ left₀ m link run left = left
+
+-- what the turn at the node was
+down : (c : tie.Else1 Inv-loop μ-loop) → turnAt (c .before .before .before .before .before .before .before .args .card .now) (c .before .before .before .before .before .before .before .args .n) (c .before .before .before .before .before .before .before .args .key) (c .before .before .before .before .before .loop .m) ≡ TurnDown (c .before .before .child .given .0 .0)
+down c = sym (c .before .before .before .before .turn-at .ensures) ∙ c .before .before .child .given .1
+
+-- so the node is on the card and has a child
+inside : (c : tie.Else1 Inv-loop μ-loop) → (1 ≤ c .before .before .before .before .before .loop .m) × (c .before .before .before .before .before .loop .m ≤ c .before .before .before .before .before .before .before .args .n) × (getD (nodeAt (c .before .before .before .before .before .before .before .args .card .now) (c .before .before .before .before .before .loop .m)) 12 0 ≡ 0 → ⊥)
+inside c = turn-inside _ _ _ _ _ (down c)
+
+-- the part that `node_at` handed back has 24 words
+words : (c : tie.After-node-at Inv-loop μ-loop) → length (c .node-at .result .now) ≡ 24
+words c =
+    let on = inside (c .before) in
+    let s = c .before .before .before .before .before .before in
+    ap length (c .node-at .ensures) ∙ length-node (s .before .before .args .card .now) (s .loop .m) (on .0) (omega arith)
+
+less : (c : tie.After-child-index Inv-loop μ-loop) → c .child-index .result ≤ 10
+less c = omega (arith, c .child-index .ensures, index-le (c .before .node-at .result .now) (c .before .before .before .before .before .before .before .before .before .args .key) (words (c .before)))
+
+-- src/lib.rt:148:5
+loop-holds : tie.Need-loop-holds Inv-loop μ-loop
+loop-holds c = search needs
+
+-- src/lib.rt:149:15
+turn-at-requires : tie.Need-turn-at-requires Inv-loop μ-loop
+turn-at-requires c κs = search needs
+
+-- src/lib.rt:151:17
+enum-told : tie.Need-enum-told Inv-loop μ-loop
+enum-told c = search needs
+
+-- src/lib.rt:151:17
+returns : tie.Need-returns Inv-loop μ-loop
+returns c = sym (c .before .before .before .loop .inv .1 ∙ landing-refused _ _ _ _ _ _ _ (sym (c .before .before .turn-at .ensures) ∙ c .enum-told .given .1))
+
+-- src/lib.rt:154:17
+enum-told-2 : tie.Need-enum-told-2 Inv-loop μ-loop
+enum-told-2 c = search needs
+
+-- src/lib.rt:154:17
+returns-2 : tie.Need-returns-2 Inv-loop μ-loop
+returns-2 c = sym (c .before .before .before .loop .inv .1 ∙ landing-leaf _ _ _ _ _ _ _ (sym (c .before .before .turn-at .ensures) ∙ c .enum-told2 .given .1))
+
+-- src/lib.rt:156:24
+enum-known-child : tie.Need-enum-known-child Inv-loop μ-loop
+enum-known-child c = search needs
+
+-- src/lib.rt:158:21
+returns-3 : tie.Need-returns-3 Inv-loop μ-loop
+returns-3 c = sym (c .before .before .before .before .before .loop .inv .1 ∙ landing-too-deep _ _ _ _ _ _ _ _ (sym (c .before .before .before .before .turn-at .ensures) ∙ c .before .before .child .given .1) (c .if1 .taken))
+
+-- src/lib.rt:160:21
+node-at-requires : tie.Need-node-at-requires Inv-loop μ-loop
+node-at-requires c κs = let on = inside c in (on .0, omega arith, omega arith)
+
+-- src/lib.rt:161:21
+child-index-requires : tie.Need-child-index-requires Inv-loop μ-loop
+child-index-requires c κs = (words c, λ e. inside (c .before) .2 (ap (λ (x : List ℕ). getD x 12 0) (sym (c .node-at .ensures)) ∙ e))
+
+-- src/lib.rt:162:34
+sub-link : tie.Need-sub-link Inv-loop μ-loop
+sub-link c = inside (c .before .before) .0
+
+-- src/lib.rt:162:28
+mul-link : tie.Need-mul-link Inv-loop μ-loop
+mul-link c = let on = inside (c .before .before) in omega arith
+
+-- src/lib.rt:162:24
+add-link : tie.Need-add-link Inv-loop μ-loop
+add-link c = let on = inside (c .before .before) in omega arith
+
+-- src/lib.rt:162:24
+add-link-2 : tie.Need-add-link-2 Inv-loop μ-loop
+add-link-2 c = let on = inside (c .before .before) in omega arith
+
+-- src/lib.rt:162:24
+add-link-3 : tie.Need-add-link-3 Inv-loop μ-loop
+add-link-3 c = let on = inside (c .before .before) in omega (arith, less c)
+
+-- src/lib.rt:163:17
+run-below-requires : tie.Need-run-below-requires Inv-loop μ-loop
+run-below-requires c κs = (words (c .before), omega arith)
+
+-- src/lib.rt:164:17
+sub-left : tie.Need-sub-left Inv-loop μ-loop
+sub-left c = search needs
+
+-- src/lib.rt:148:5
+loop-less : tie.Need-loop-less Inv-loop μ-loop
+loop-less c = search needs
+
+-- src/lib.rt:148:5
+loop-again : tie.Need-loop-again Inv-loop μ-loop
+loop-again c =
+    let e = c .before .before .before in (
+      omega (arith, c .run-below .ensures, run-below-le (length (children (c .before .before .node-at .result .now))) (e .before .before .before .before .before .loop .run)),
+      e .before .before .before .before .before .loop .inv .1
+          ∙ landing-down _ _ _ _ _ _ _ _ _ _ _ (down e) (e .if1 .left) (c .before .before .node-at .ensures) (c .before .child-index .ensures) (c .run-below .ensures),
+    )
+
+pub find-landing-spec : {M : Type 1} → statement M
+find-landing-spec =
+    tie.close
+    (tie.spec
+    Inv-loop
+    μ-loop
+    loop-holds
+    turn-at-requires
+    enum-told
+    returns
+    enum-told-2
+    returns-2
+    enum-known-child
+    returns-3
+    node-at-requires
+    child-index-requires
+    sub-link
+    mul-link
+    add-link
+    add-link-2
+    add-link-3
+    run-below-requires
+    sub-left
+    loop-less
+    loop-again)
