@@ -1,0 +1,12 @@
+-- `change::answers::prepared` meets its contract.
+use mathlib.Core.Path.{refl}
+use Rattle.change.specs.Plan.{preparationOf, onOutcome}
+use Rattle.change.proofs.answers.prepared.Statement.{statement}
+use Rattle.change.proofs.answers.prepared.Tie as tie
+
+returns : tie.Need-returns
+unfolding preparationOf onOutcome
+returns c = refl
+
+pub prepared-spec : {M : Type 1} → statement M
+prepared-spec = tie.close (tie.spec returns)

@@ -1,0 +1,77 @@
+-- `change::stores::append_row` meets its contract.
+use mathlib.Core.Path.{_≡_, refl, ap, _∙_}
+use Prim.Native.Nat.{ℕ, _+_, _-_, _≤_}
+use native.Mathlib.Omega.{arith}
+use lib.ListN.{length, take}
+use lib.Seq.{take-all}
+use borrow.Author.Needs.{needs}
+use Rattle.laws.specs.Lists.{pad, length-pad}
+use Rattle.card.specs.Stores.{stores}
+use Rattle.change.specs.Plan.{Extends}
+use Rattle.change.specs.PlanLaws.{extends-none, extends-row}
+use Rattle.change.specs.RowLaws.{length-words}
+use Rattle.change.specs.Rows.{wordsOf}
+use Rattle.change.proofs.stores.append_row.Statement.{statement}
+use Rattle.change.proofs.stores.append_row.Tie as tie
+
+abbrev Inv-loop : tie.InvT-loop
+Inv-loop at words more₀ i₀ more i = (i ≤ 11) × Extends more₀ more i (stores at (take i (pad 11 (wordsOf words))))
+
+abbrev μ-loop : tie.MeasureT-loop
+μ-loop at words more₀ i₀ more i = 11 - i
+
+-- there are at most eleven words
+few : (c : tie.Start Inv-loop μ-loop) → length (wordsOf (c .args .words)) ≤ 11
+few c = let len : length (c .args .words .items) ≡ 12 = search needs in omega (arith, length-words (c .args .words) len (omega arith))
+
+loop-holds : tie.Need-loop-holds Inv-loop μ-loop
+loop-holds c = (omega arith, extends-none (c .args .plan))
+
+add-push-store : tie.Need-add-push-store Inv-loop μ-loop
+add-push-store c = search needs
+
+cast-word-at : tie.Need-cast-word-at Inv-loop μ-loop
+cast-word-at c = search needs
+
+word-at-requires : tie.Need-word-at-requires Inv-loop μ-loop
+word-at-requires c κs = search needs
+
+push-store-requires : tie.Need-push-store-requires Inv-loop μ-loop
+push-store-requires c κs = omega (arith, c .before .before .loop .inv .1 .counted)
+
+add-i : tie.Need-add-i Inv-loop μ-loop
+add-i c = search needs
+
+loop-less : tie.Need-loop-less Inv-loop μ-loop
+loop-less c = search needs
+
+loop-again : tie.Need-loop-again Inv-loop μ-loop
+loop-again c =
+    let s = c .before .before .before .before in
+    let l = c .before .before .before .loop in
+    (omega arith, extends-row (s .args .plan) (l .more) _ (s .args .at) (l .i) (pad 11 (wordsOf (s .args .words))) (wordsOf (s .args .words)) _ refl (few s) (omega arith) (c .before .word-at .ensures) (l .inv .1) (c .push-store .ensures))
+
+returns : tie.Need-returns Inv-loop μ-loop
+returns c =
+    let s = c .before .before in
+    let l = c .before .loop in
+    let e : c .before .loop .i ≡ 11 = omega arith in
+    let whole : take (l .i) (pad 11 (wordsOf (s .args .words))) ≡ pad 11 (wordsOf (s .args .words)) = take-all (l .i) (pad 11 (wordsOf (s .args .words))) (omega (arith, length-pad 11 (wordsOf (s .args .words)) (few s))) in
+    let all : stores (s .args .at) (take (l .i) (pad 11 (wordsOf (s .args .words)))) ≡ stores (s .args .at) (pad 11 (wordsOf (s .args .words))) = ap (stores (s .args .at)) whole in
+    record { counted = l .inv .1 .counted ∙ ap (λ (k : ℕ). s .args .plan .count + k) e; listed = rw all at (l .inv .1 .listed) }
+
+pub append-row-spec : {M : Type 1} → statement M
+append-row-spec =
+    tie.close
+    (tie.spec
+    Inv-loop
+    μ-loop
+    loop-holds
+    add-push-store
+    cast-word-at
+    word-at-requires
+    push-store-requires
+    add-i
+    loop-less
+    loop-again
+    returns)

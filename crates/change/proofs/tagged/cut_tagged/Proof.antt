@@ -1,0 +1,18 @@
+-- `change::tagged::cut_tagged` meets its contract.
+use native.Mathlib.Omega.{arith}
+use borrow.Author.Needs.{needs}
+use Rattle.change.specs.ChangeLaws.{cut-two}
+use Rattle.change.proofs.tagged.cut_tagged.Statement.{statement}
+use Rattle.change.proofs.tagged.cut_tagged.Tie as tie
+
+cast-t2 : tie.Need-cast-t2
+cast-t2 c = search needs
+
+cast-t3 : tie.Need-cast-t3
+cast-t3 c = search needs
+
+returns : tie.Need-returns
+returns c = cut-two (c .before .before .args .p .parent) (c .before .before .args .p .node) (omega (arith, c .before .before .pre .parent-from)) (omega (arith, c .before .before .pre .node-from))
+
+pub cut-tagged-spec : {M : Type 1} → statement M
+cut-tagged-spec = tie.close (tie.spec cast-t2 cast-t3 returns)

@@ -1,0 +1,185 @@
+// Document 01, "The changes": the repair that a fault is due, planned as the stores that a step then makes one by one.
+pub mod answers;
+mod halves;
+mod numbers;
+mod pairs;
+mod siblings;
+mod stores;
+mod tagged;
+mod words;
+
+use answers::balanced;
+use answers::prepared;
+use answers::refused;
+use descent::Position;
+use descent::Search;
+use free_nodes::NodeSet;
+use halves::Pool;
+use halves::split;
+use pairs::no_pairs;
+use pairs::with_leaf;
+use pairs::with_pair;
+use siblings::mend_siblings;
+use stores::no_stores;
+use stores::push_store;
+use tagged::mend_tagged;
+use words::children;
+ghost use mathlib.Core.Path.{_≡_};
+ghost use mathlib.Core.List.{[], _∷_};
+ghost use Prim.Native.Nat.{_+_, _*_, _^_, _≤_, _<_};
+ghost use lib.ListN.{length};
+ghost use Rattle.laws.specs.Sorting.{sort};
+ghost use Rattle.card.specs.Layout.{greatestNodes, place, leafPairs};
+ghost use Rattle.free_nodes.specs.NodeSet.{nodesOf};
+ghost use Rattle.change.specs.Change.{splitLeaf};
+ghost use Rattle.change.specs.Planning.{prepared, giving, first, second, third, isNode, mendUnderfull, mend, nextRepair};
+ghost use Rattle.change.specs.Plan.{preparationOf, Linked, PositionWithin};
+
+// The stores of a change: places of words, and the values that go there. "So a change is at most 73 stores."
+pub struct Plan {
+    pub places: [u32; 73],
+    pub values: [u32; 73],
+    pub count: usize,
+}
+
+pub enum Outcome {
+    Refused,
+    Balanced,
+    Prepared,
+}
+
+// What a step that has no store left to make finds. Where it is refused or finds the tree balanced, the outcome alone counts.
+pub struct Planned {
+    pub outcome: Outcome,
+    pub plan: Plan,
+    pub free: NodeSet,
+    pub last: usize,
+    pub cut: [u32; 3],
+}
+
+// "node m begins at word 8 + 24 × (m − 1)": the place of its word i.
+fn word_place(m: usize, i: usize) -> u32
+    requires { ⌜ (1 ≤ m) × (m ≤ greatestNodes) × (i < 24) ⌝ }
+    ensures { λ r. ⌜ r ≡ place m i ⌝ }
+{
+    (8 + 24 * (m - 1) + i) as u32
+}
+
+// A pair into slot i of leaf m, which is empty: the value and then the key, with which the pair is there.
+pub fn place_pair(m: usize, i: usize, key: u32, value: u32, free: NodeSet, last: usize) -> Planned
+    requires { ⌜ (1 ≤ m) × (m ≤ greatestNodes) × (i < 11) ⌝ }
+    ensures { λ r. ⌜ preparationOf r ≡ prepared ((place m (12 + i), value) ∷ (place m (1 + i), key) ∷ []) (nodesOf (free .words)) last [] ⌝ }
+{
+    let beside = push_store(no_stores(), word_place(m, 12 + i), value);
+    let both = push_store(beside, word_place(m, 1 + i), key);
+    prepared(both, free, last)
+}
+
+// The pair in slot i of leaf m goes: "A key word of 0 is an empty slot".
+pub fn clear_key(m: usize, i: usize, free: NodeSet, last: usize) -> Planned
+    requires { ⌜ (1 ≤ m) × (m ≤ greatestNodes) × (i < 11) ⌝ }
+    ensures { λ r. ⌜ preparationOf r ≡ prepared ((place m (1 + i), 0) ∷ []) (nodesOf (free .words)) last [] ⌝ }
+{
+    let one = push_store(no_stores(), word_place(m, 1 + i), 0);
+    prepared(one, free, last)
+}
+
+// "Leaf full: the 12 pairs go 6 and 6 into two leaves": leaf m, linked from the place, and a pair more.
+pub fn split_leaf(
+    leaf: &[u32],
+    m: usize,
+    link: usize,
+    key: u32,
+    value: u32,
+    free: NodeSet,
+    last: usize,
+) -> Planned
+    requires { ⌜ (length (now leaf) ≡ 24) × (length (leafPairs (now leaf)) ≡ 11) × (1 ≤ m) × (m ≤ greatestNodes) × (link < 2 ^ 32) ⌝ }
+    ensures { λ r. ⌜ preparationOf r ≡ giving 3 (nodesOf (free .words)) last (λ ms. splitLeaf m link (sort ((key, value) ∷ leafPairs (now (leaf .entry)))) (first ms) (second ms) (third ms)) ⌝ }
+{
+    let twelve = with_pair(with_leaf(no_pairs(), leaf), key, value);
+    let keys = twelve.keys;
+    let values = twelve.values;
+    let both = Pool {
+        kind: 1,
+        keys,
+        values,
+    };
+    let cut = [m as u32, 0, 0];
+    split(both, link, cut, free, last)
+}
+
+// A node number that is on a card of n nodes.
+fn is_node(n: usize, m: usize) -> bool
+    ensures { λ r. ⌜ r ≡ isNode n m ⌝ }
+{
+    0 < m && m <= n
+}
+
+// Children j and j + 1 of the parent are siblings; where there is no such pair, or a number is not a node's, the step is refused.
+fn mend_underfull(
+    card: &[u32],
+    n: usize,
+    p: Position,
+    parent: &[u32],
+    j: usize,
+    free: NodeSet,
+    last: usize,
+) -> Planned
+    requires { ⌜ (length (now card) ≡ 8 + 24 * n) × (n ≤ greatestNodes) × Linked p × (length (now parent) ≡ 24) × (j ≤ 11) ⌝ }
+    ensures { λ r. ⌜ preparationOf r ≡ mendUnderfull (now (card .entry)) n p (now (parent .entry)) j (nodesOf (free .words)) last ⌝ }
+{
+    let kids = children(parent);
+    if kids.len() <= j + 1 {
+        return refused(free, last);
+    }
+    let x = kids[j] as usize;
+    let y = kids[j + 1] as usize;
+    if !is_node(n, x) {
+        return refused(free, last);
+    }
+    if !is_node(n, y) {
+        return refused(free, last);
+    }
+    mend_siblings(
+        p,
+        parent,
+        j,
+        card::node_at(card, x),
+        card::node_at(card, y),
+        free,
+        last,
+    )
+}
+
+// The repair of the violation at a position; a parent that is tagged is refused. "Underfull non-root node: sibling is the right one for child 0, else the left one."
+pub fn mend(card: &[u32], n: usize, p: Position, free: NodeSet, last: usize) -> Planned
+    requires { ⌜ PositionWithin (now card) n p ⌝ }
+    ensures { λ r. ⌜ preparationOf r ≡ mend (now (card .entry)) n p (nodesOf (free .words)) last ⌝ }
+{
+    let parent = card::node_at(card, p.parent);
+    if parent[0] != 2 {
+        return refused(free, last);
+    }
+    let node = card::node_at(card, p.node);
+    if node[0] == 3 {
+        return mend_tagged(p, parent, node, free, last);
+    }
+    if p.index == 0 {
+        mend_underfull(card, n, p, parent, 0, free, last)
+    } else {
+        mend_underfull(card, n, p, parent, p.index - 1, free, last)
+    }
+}
+
+// "Repairs go on until balanced": the change that mends the first violation on a key's way.
+pub fn next_repair(card: &[u32], n: usize, key: u32, free: NodeSet, last: usize) -> Planned
+    requires { ⌜ (length (now card) ≡ 8 + 24 * n) × (n ≤ greatestNodes) × (4 ≤ n) ⌝ }
+    ensures { λ r. ⌜ preparationOf r ≡ nextRepair (now (card .entry)) n key (nodesOf (free .words)) last ⌝ }
+{
+    match descent::find_violation(card, n, key, card[4] as usize) {
+        Search::Refused => refused(free, last),
+        Search::Balanced => balanced(free, last),
+        Search::Violation(p) => mend(card, n, p, free, last),
+    }
+}

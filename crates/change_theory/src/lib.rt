@@ -1,0 +1,1 @@
+// Theory only: what each change does to the tree, at every store of its plan; see specs/.
