@@ -1,0 +1,1 @@
+// The starred bench cards of document 01, proved by computation; see specs/.

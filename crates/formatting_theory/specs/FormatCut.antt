@@ -1,0 +1,78 @@
+-- Formatting cut: "Cut before its first store, it leaves the card alone; before its last store, opening refuses with 2." The first
+-- is `format-untouched`. Cut after its last store, opening gives the state that "ready" gives.
+use mathlib.Core.Path.{_≡_, refl, ap, sym, _∙_}
+use mathlib.Core.List.{List}
+use mathlib.Core.Bool.{Bool, true, false}
+use mathlib.Core.Option.{some}
+use mathlib.Core.Logic.{_⊎_, inl, inr, _≢_}
+use Prim.Native.Nat.{ℕ, suc, _≤_, _<_}
+use native.Mathlib.Omega.{arith}
+use lib.ListN.{length, getD}
+use lib.Seq.{ext-getD}
+use borrow.Author.Tests.{le-ltb, ne-eqb}
+use Rattle.card.specs.HeaderLaws.{Sized, sized-nodes, Formatted, formatted-header, wrong-word0}
+use Rattle.change_theory.specs.Exact.{Exact}
+use Rattle.formatting_theory.specs.FormatCard.{formatCard, format-length, format-unfinished}
+use Rattle.formatting_theory.specs.FormatSteps.{freshNodes, freshMemory}
+use Rattle.formatting_theory.specs.FreshTable.{freshTree, FreshTable, format-fresh, fresh-balanced}
+use Rattle.free_nodes.specs.NodeSet.{countTrue}
+use Rattle.laws.specs.Bits.{bit, bit-zero}
+use Rattle.laws.specs.Cases.{order}
+use Rattle.soundness.specs.Check.{Findings, tableCheck}
+use Rattle.soundness_theory.specs.Facts.{Facts}
+use Rattle.soundness_theory.specs.Soundness.{sound-accepted}
+use Rattle.table.specs.Calls.{cardRefusal, noBeginning, openSound, openChecked, openOf}
+use Rattle.table.specs.Memory.{resting}
+use Rattle.tree.specs.Tree.{Tree}
+use Rattle.table.specs.declared.Begun.the-variants.{Idle as OpenedIdle}
+use Rattle.table.specs.declared.Doing.the-variants.{Idle}
+
+-- "2: word 0 not 1"
+unmarked-refused : (card : List ℕ) (n : ℕ) → Sized (length card) n → getD card 0 0 ≢ 1 → openOf card ≡ noBeginning 2
+unfolding openOf cardRefusal
+unmarked-refused card n s wrong = rw (sized-nodes (length card) n s, ne-eqb n 0 (omega (arith, s .least)), wrong-word0 card n wrong)
+
+pub cut-refused : (c : List ℕ) (n made : ℕ) → Sized (length c) n → 1 ≤ made → made ≤ length c → openOf (formatCard n c made) ≡ noBeginning 2
+cut-refused c n made s low high =
+    let u = format-unfinished n c made low high in
+    unmarked-refused (formatCard n c made) n (rw (format-length n c made) s) (omega (arith, u .mark))
+
+-- the free nodes are decided by the tree
+same-bit : (a b : Bool) → bit a ≡ bit b → a ≡ b
+same-bit true true e = refl
+same-bit true false e = absurd (omega arith)
+same-bit false true e = absurd (omega arith)
+same-bit false false e = refl
+
+pub exact-same : (n : ℕ) (a b : List Bool) (t : Tree) → Exact n a t → Exact n b t → a ≡ b
+exact-same n a b t x y = ext-getD false a b (x .size ∙ sym (y .size)) (λ i h. at i)
+  where
+    out : (i : ℕ) → (i ≡ 0) ⊎ (n < i) → getD a i false ≡ getD b i false
+    out i o = x .outside-none i o ∙ sym (y .outside-none i o)
+
+    at : (i : ℕ) → getD a i false ≡ getD b i false
+    at i = order i 1 (λ o. out i (inl (omega arith))) (λ o. order n i (λ p. out i (inr p)) (λ p. same-bit _ _ (omega (arith, x .within i o p, y .within i o p))))
+
+-- opening a card whose table is accepted with no fault
+open-idle : (card : List ℕ) (n h : ℕ) (f : Findings) → Sized (length card) n → Formatted card n → tableCheck card n ≡ some (h, f) → f .violated ≡ false → f .run ≡ 0 → 3 ≤ countTrue (f .free)
+    → openOf card ≡ record { begun = OpenedIdle; memory = resting n (f .free) Idle }
+unfolding openOf cardRefusal openChecked openSound
+open-idle card n h f s formatted accepted faultless no-run room =
+    rw (sized-nodes (length card) n s, ne-eqb n 0 (omega (arith, s .least)), formatted-header card n formatted, accepted, no-run, le-ltb (countTrue (f .free)) 3 room, faultless)
+
+pub fresh-opens : (card : List ℕ) (n : ℕ) → FreshTable card n → openOf card ≡ record { begun = OpenedIdle; memory = freshMemory n }
+fresh-opens card n t =
+    let s = t .sized in
+    opened (sound-accepted card n (s .words) (s .most) freshTree (fresh-balanced card n t .well-formed))
+  where
+    opened : (h : ℕ) × (f : Findings) × (tableCheck card n ≡ some (h, f)) × Facts card n freshTree h f → openOf card ≡ record { begun = OpenedIdle; memory = freshMemory n }
+    opened (h, f, accepted, facts) =
+        let found-exact : Exact n (f .free) freshTree = record { size = facts .free-length; within = facts .free-in; outside-none = facts .free-out } in
+        let e : f .free ≡ freshNodes n = exact-same n (f .free) (freshNodes n) freshTree found-exact (t .exact) in
+        let faultless = bit-zero (f .violated) (facts .violated) in
+        let room : 3 ≤ countTrue (f .free) = rw e (omega (arith, t .room, t .sized .least)) in
+        open-idle card n h f (t .sized) (t .formatted) accepted faultless (facts .no-run faultless) room
+        ∙ ap (λ (free : List Bool). record { begun = OpenedIdle; memory = resting n free Idle }) e
+
+pub format-opens : (c : List ℕ) (n : ℕ) → Sized (length c) n → openOf (formatCard n c (suc (length c))) ≡ record { begun = OpenedIdle; memory = freshMemory n }
+format-opens c n s = fresh-opens (formatCard n c (suc (length c))) n (format-fresh c n s)

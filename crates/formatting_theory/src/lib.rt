@@ -1,0 +1,1 @@
+// Theory only: what formatting leaves at every store; see specs/.

@@ -1,0 +1,116 @@
+-- What an accepted card shows: its header, its table, that it can be opened again; and what a find answers on a table.
+use mathlib.Core.Path.{_≡_, refl, ap, _∙_}
+use mathlib.Core.List.{List}
+use mathlib.Core.Bool.{true, false}
+use mathlib.Core.Option.{Option, none, some}
+use Prim.Native.Nat.{ℕ, _+_, _≤_, _<_}
+use native.Mathlib.Omega.{arith}
+use native.Mathlib.Decide.{ℕ-discrete}
+use lib.ListN.{length, getD}
+use borrow.Author.Tests.{lt-ltb, ne-eqb, eq-eqb}
+use Rattle.card.specs.Header.{nodesOfLength}
+use Rattle.card.specs.HeaderLaws.{Sized, nodes-sized, Formatted, header-formatted}
+use Rattle.card.specs.Layout.{depthLimit, rootPlace, nodeAt}
+use Rattle.change_theory.specs.Plays.{Openable}
+use Rattle.change_theory.specs.Repaired.{settled, violated}
+use Rattle.descent.specs.Descent.{slotOf, leafFor}
+use Rattle.descent_theory.specs.Find.{slotAnswer, find-map}
+use Rattle.free_nodes.specs.NodeSet.{countTrue}
+use Rattle.laws.specs.Bits.{bit-true, bit-false}
+use Rattle.laws.specs.Cases.{bool-cases, order}
+use Rattle.promises.specs.Invariant.{Table}
+use Rattle.promises.specs.Promise.{Accepted, foundBy}
+use Rattle.promises.specs.Reopen.{table-depth-limited, card-accepted, facts-exact}
+use Rattle.soundness.specs.Check.{Findings, tableCheck}
+use Rattle.soundness_theory.specs.Facts.{Facts}
+use Rattle.soundness_theory.specs.Soundness.{accepts-sound, sound-accepted}
+use Rattle.table.specs.Calls.{cardRefusal, foundIn, foundAt, findOf, noBeginning, openSound, openChecked, openOf}
+use Rattle.tree.specs.Pairs.{pairs, lookup}
+use Rattle.tree.specs.Path.{depth-of}
+use Rattle.tree.specs.Tree.{Tree}
+use Rattle.tree.specs.WellFormed.{lowestKey, keyLimit, WellFormed}
+use Rattle.descent.specs.declared.Slot.{Slot}
+use Rattle.descent.specs.declared.Slot.the-variants.{At, Absent as NoSlot}
+use Rattle.table.specs.declared.Found.{Found}
+use Rattle.table.specs.declared.Found.the-variants.{Value as FoundValue, Absent as FoundAbsent, Refused as FoundRefused}
+use Rattle.table.specs.declared.Begun.{Begun}
+use Rattle.table.specs.declared.Begun.the-variants.{Idle as OpenedIdle, Started, Refused as BegunRefused}
+
+refuses : (c : List ℕ) (r : ℕ) → openOf c ≡ noBeginning r → Accepted c → ⊥
+unfolding noBeginning
+refuses c r e a = a .not-refused r (rw e)
+
+pub accepted-card : (c : List ℕ) → Accepted c → (cardRefusal c ≡ 0) × Sized (length c) (nodesOfLength (length c)) × Formatted c (nodesOfLength (length c))
+unfolding openOf cardRefusal
+accepted-card c a = go (ℕ-discrete (cardRefusal c) 0) (ℕ-discrete (nodesOfLength (length c)) 0)
+  where
+    go : Dec (cardRefusal c ≡ 0) → Dec (nodesOfLength (length c) ≡ 0) → (cardRefusal c ≡ 0) × Sized (length c) (nodesOfLength (length c)) × Formatted c (nodesOfLength (length c))
+    go (no d) q = absurd (refuses c (cardRefusal c) (rw (ne-eqb (cardRefusal c) 0 d)) a)
+    go (yes e) (yes z) = let k : _≡_ {A = ℕ} 1 0 = rw (eq-eqb (nodesOfLength (length c)) 0 z) at e in absurd (omega arith)
+    go (yes e) (no d) = (e, nodes-sized (length c) d, header-formatted c (nodesOfLength (length c)) (rw (ne-eqb (nodesOfLength (length c)) 0 d) at e))
+
+open-is : (c : List ℕ) → cardRefusal c ≡ 0 → openOf c ≡ openChecked (nodesOfLength (length c)) (tableCheck c (nodesOfLength (length c)))
+unfolding openOf
+open-is c e = rw e
+
+open-some : (n h : ℕ) (f : Findings) → openChecked n (some (h, f)) ≡ openSound n f
+unfolding openChecked
+open-some n h f = refl
+
+open-few : (n : ℕ) (f : Findings) → countTrue (f .free) < 3 + f .run → openSound n f ≡ noBeginning 5
+unfolding openSound
+open-few n f h = rw (lt-ltb (countTrue (f .free)) (3 + f .run) h)
+
+pub accepted-table : (c : List ℕ) → Accepted c → (t : Tree) × WellFormed c t
+unfolding openChecked
+accepted-table c a = go (tableCheck c (nodesOfLength (length c))) refl
+  where
+    k : (cardRefusal c ≡ 0) × Sized (length c) (nodesOfLength (length c)) × Formatted c (nodesOfLength (length c))
+    k = accepted-card c a
+
+    go : (x : Option (ℕ × Findings)) → tableCheck c (nodesOfLength (length c)) ≡ x → (t : Tree) × WellFormed c t
+    go none e = absurd (refuses c 4 (open-is c (k .0) ∙ rw e) a)
+    go (some r) e = let s = accepts-sound c (nodesOfLength (length c)) (k .1 .words) (k .1 .most) (r .0) (r .1) e in (s .0, s .1)
+
+-- the table of an accepted card can be opened again
+pub accepted-openable : (c : List ℕ) (t : Tree) → Accepted c → WellFormed c t → Openable (nodesOfLength (length c)) t
+accepted-openable c t a w = go (sound-accepted c (nodesOfLength (length c)) (k .1 .words) (k .1 .most) t w)
+  where
+    k : (cardRefusal c ≡ 0) × Sized (length c) (nodesOfLength (length c)) × Formatted c (nodesOfLength (length c))
+    k = accepted-card c a
+
+    go : ((h : ℕ) × (f : Findings) × (tableCheck c (nodesOfLength (length c)) ≡ some (h, f)) × Facts c (nodesOfLength (length c)) t h f) → Openable (nodesOfLength (length c)) t
+    go (h, f, e, x) = bool-cases (f .violated) broken whole
+      where
+        room : 3 + f .run ≤ countTrue (f .free)
+        room = order (countTrue (f .free)) (3 + f .run) (λ o. absurd (refuses c 5 (open-is c (k .0) ∙ ap (openChecked (nodesOfLength (length c))) e ∙ open-some (nodesOfLength (length c)) h f ∙ open-few (nodesOfLength (length c)) f o) a)) (λ o. o)
+
+        broken : f .violated ≡ true → Openable (nodesOfLength (length c)) t
+        broken q =
+            let v = x .violation q in
+            record { free = f .free; exact = facts-exact x; key = f .key; deep = depth-of (v .0 .context); ready = violated (v .0) (omega (arith, x .violated, bit-true (f .violated) q)) (omega (arith, room, v .1)) }
+
+        whole : f .violated ≡ false → Openable (nodesOfLength (length c)) t
+        whole q = record { free = f .free; exact = facts-exact x; key = f .key; deep = 0; ready = settled (omega (arith, x .violated, bit-false (f .violated) q)) (omega (arith, room)) }
+
+-- ---- finds
+
+find-is : (c : List ℕ) (n key : ℕ) → cardRefusal c ≡ 0 → nodesOfLength (length c) ≡ n → 0 < key → findOf c key ≡ foundAt c key (leafFor c n key depthLimit (getD c rootPlace 0))
+unfolding findOf
+find-is c n key e en h = rw (e, en, ne-eqb key 0 (omega arith))
+
+found-is : (words : List ℕ) (s : Slot) → foundIn words s ≡ foundBy (slotAnswer words s)
+unfolding foundIn foundBy slotAnswer
+found-is words (At i) = refl
+found-is words NoSlot = refl
+
+pub find-answers : (c : List ℕ) (n : ℕ) (t : Tree) (key : ℕ) → Table c n t → 0 < key → key < keyLimit → findOf c key ≡ foundBy (lookup key (pairs t))
+unfolding foundAt
+find-answers c n t key b h l =
+    let a = card-accepted (b .sized) (b .header) in
+    let f = find-map c n key (b .sized .words) h depthLimit lowestKey keyLimit t (b .holds .2) (b .sound .range) (omega arith) l (table-depth-limited b) (omega arith) in
+    find-is c n key (a .0) (a .1) h
+    ∙ ap (λ (x : ℕ). foundAt c key (leafFor c n key depthLimit x)) (b .holds .0)
+    ∙ ap (foundAt c key) (f .found)
+    ∙ found-is (nodeAt c (f .number)) (slotOf (nodeAt c (f .number)) key)
+    ∙ ap foundBy (f .answers)

@@ -1,0 +1,149 @@
+-- Opening a card that holds a sound table with enough free nodes succeeds, and hands back the state that the table asks for.
+use mathlib.Core.Path.{_≡_, ap, sym, _∙_}
+use mathlib.Core.List.{List}
+use mathlib.Core.Bool.{true, false}
+use mathlib.Core.Option.{none, some}
+use Prim.Native.Nat.{ℕ, _+_, _*_, _≤_}
+use native.Mathlib.Omega.{arith}
+use lib.ListN.{length}
+use borrow.Author.Tests.{le-ltb, ne-eqb}
+use Rattle.card.specs.Header.{nodesOfLength}
+use Rattle.card.specs.HeaderLaws.{Sized, sized-nodes, Formatted, formatted-header}
+use Rattle.card.specs.Layout.{depthLimit}
+use Rattle.change_theory.specs.Exact.{Exact, exact-same}
+use Rattle.change_theory.specs.Plays.{Openable}
+use Rattle.change_theory.specs.Repaired.{Mendable, settled, violated}
+use Rattle.change_theory.specs.Reserve.{reserve-total}
+use Rattle.descent_theory.specs.Seek.{depth-plug}
+use Rattle.free_nodes.specs.NodeSet.{countTrue}
+use Rattle.laws.specs.Bits.{bit-true, bit-false}
+use Rattle.laws.specs.Cases.{bool-cases}
+use Rattle.promises.specs.Invariant.{Table, Stage, job-repair, no-update, stage-idle, stage-between}
+use Rattle.promises.specs.Ledger.{empty}
+use Rattle.soundness.specs.Check.{Findings, tableCheck}
+use Rattle.soundness_theory.specs.Depth.{well-formed-depth}
+use Rattle.soundness_theory.specs.Facts.{Facts}
+use Rattle.soundness_theory.specs.Ranges.{well-formed-in-range, range-sound}
+use Rattle.soundness_theory.specs.Soundness.{sound-accepted}
+use Rattle.table.specs.Calls.{cardRefusal, openSound, openChecked, openOf}
+use Rattle.table.specs.Memory.{resting}
+use Rattle.tree.specs.Pairs.{depth}
+use Rattle.tree.specs.Path.{depth-of, reserve, Violation}
+use Rattle.tree.specs.Tree.{Tree}
+use Rattle.tree.specs.Violations.{table-violations}
+use Rattle.tree.specs.WellFormed.{lowestKey, keyLimit, WellFormed}
+use Rattle.table.specs.declared.Doing.{Doing}
+use Rattle.table.specs.declared.Doing.the-variants.{Idle, Formatting, Inserting, Deleting, Repairing}
+use Rattle.table.specs.declared.Begun.{Begun}
+use Rattle.table.specs.declared.Begun.the-variants.{Idle as OpenedIdle, Started, Refused as BegunRefused}
+
+-- a sound tree on the card is a well-formed table, and the other way round
+pub table-well-formed : {c : List ℕ} {n : ℕ} {t : Tree} → Table c n t → WellFormed c t
+table-well-formed {c} {n} {t} b =
+    record {
+      holds = b .holds;
+      once = b .sound .once;
+      sound = range-sound lowestKey keyLimit t (b .sound .range);
+      widths = b .sound .widths;
+      level = b .sound .level;
+      few-violations = b .sound .few-violations;
+    }
+
+pub well-formed-table : {c : List ℕ} {n : ℕ} {t : Tree} → Sized (length c) n → Formatted c n → WellFormed c t → Table c n t
+well-formed-table s f w =
+    record {
+      sized = s;
+      header = f;
+      holds = w .holds;
+      sound = record { once = w .once; range = well-formed-in-range w; widths = w .widths; level = w .level; few-violations = w .few-violations };
+    }
+
+-- the way down is never too deep
+pub table-depth-limited : {c : List ℕ} {n : ℕ} {t : Tree} → Table c n t → depth t ≤ depthLimit
+table-depth-limited {c} {n} {t} b = well-formed-depth c n (b .sized .words) t (b .sized .most) (table-well-formed b)
+
+-- no refusal 1, 2 or 3
+pub card-accepted : {c : List ℕ} {n : ℕ} → Sized (length c) n → Formatted c n → (cardRefusal c ≡ 0) × (nodesOfLength (length c) ≡ n)
+unfolding cardRefusal
+card-accepted {c} {n} s f = let e = sized-nodes (length c) n s in (rw (e, ne-eqb n 0 (omega (arith, s .least)), formatted-header c n f), e)
+
+-- opening, by what the check finds
+module _ (c : List ℕ) (n h : ℕ) (f : Findings) (s : Sized (length c) n) (k : Formatted c n) (e : tableCheck c n ≡ some (h, f)) (room : 3 + f .run ≤ countTrue (f .free)) where
+  open-sound : openOf c ≡ openSound n f
+  unfolding openOf openChecked
+  open-sound = let a = card-accepted s k in rw (a .0, a .1, e)
+
+  pub open-repair : f .violated ≡ true → openOf c ≡ record { begun = Started; memory = resting n (f .free) (Repairing (f .key)) }
+  unfolding openSound
+  open-repair v = open-sound ∙ rw (le-ltb (countTrue (f .free)) (3 + f .run) room, v)
+
+  pub open-idle : f .violated ≡ false → openOf c ≡ record { begun = OpenedIdle; memory = resting n (f .free) Idle }
+  unfolding openSound
+  open-idle v = open-sound ∙ rw (le-ltb (countTrue (f .free)) (3 + f .run) room, v)
+
+pub facts-exact : {c : List ℕ} {n h : ℕ} {t : Tree} {f : Findings} → Facts c n t h f → Exact n (f .free) t
+facts-exact x = record { size = x .free-length; within = x .free-in; outside-none = x .free-out }
+
+-- what opening hands back, and that it does not refuse
+pub record Reopened (c : List ℕ) (n : ℕ) (t : Tree) : Type 0 where
+  pub steps : ℕ
+  pub few-steps : steps ≤ 73 * depthLimit + 1
+  pub stage : Stage c n t steps (openOf c .memory) empty none
+  pub accepted : (r : ℕ) → openOf c .begun ≡ BegunRefused r → ⊥
+  pub idle-when-balanced : openOf c .begun ≡ OpenedIdle → table-violations t ≡ 0
+
+-- the violation lies above the depth limit
+violation-deep : (t : Tree) (key : ℕ) (v : Violation t key) → depth-of (v .context) ≤ depth t
+violation-deep t key v = rw (v .is-tree) (omega (arith, depth-plug (v .context) (v .part)))
+
+pub reopened : (c : List ℕ) (n : ℕ) (t : Tree) → Table c n t → Openable n t → Reopened c n t
+unfolding resting
+reopened c n t b o = go (sound-accepted c n (b .sized .words) (b .sized .most) t (table-well-formed b))
+  where
+    count-same : (f : Findings) (h : ℕ) → Facts c n t h f → countTrue (f .free) ≡ countTrue (o .free)
+    count-same f h x = ap countTrue (exact-same n (f .free) (o .free) t (facts-exact x) (o .exact))
+
+    -- the nodes kept are enough, for whichever key leads to the violation
+    room-for : (count : ℕ) → countTrue (o .free) ≡ count → (key : ℕ) (v : Violation t key) → table-violations t ≡ 1 → 3 + reserve (v .context) (v .part) ≤ count
+    room-for count e key v w = at (o .deep) (o .ready)
+      where
+        at : (d : ℕ) → Mendable (o .key) (o .free) t d → 3 + reserve (v .context) (v .part) ≤ count
+        at d (settled z r) = absurd (omega arith)
+        at d (violated v₀ w₀ r) = omega (arith, reserve-total t (o .key) (b .sound .widths) w v₀, reserve-total t key (b .sound .widths) w v)
+
+    room-idle : table-violations t ≡ 0 → 3 ≤ countTrue (o .free)
+    room-idle z = at (o .deep) (o .ready)
+      where
+        at : (d : ℕ) → Mendable (o .key) (o .free) t d → 3 ≤ countTrue (o .free)
+        at d (settled z r) = r
+        at d (violated v₀ w₀ r) = absurd (omega arith)
+
+    go : ((h : ℕ) × (f : Findings) × (tableCheck c n ≡ some (h, f)) × Facts c n t h f) → Reopened c n t
+    go (h, f, e, x) = bool-cases (f .violated) broken whole
+      where
+        broken : f .violated ≡ true → Reopened c n t
+        broken q =
+            let w : table-violations t ≡ 1 = omega (arith, x .violated, bit-true (f .violated) q) in
+            let v = x .violation q in
+            let room : 3 + reserve (v .0 .context) (v .0 .part) ≤ countTrue (f .free) = room-for (countTrue (f .free)) (sym (count-same f h x)) (f .key) (v .0) w in
+            let is = open-repair c n h f (b .sized) (b .header) e (omega (arith, v .1)) q in
+            record {
+              steps = 73 * depth-of (v .0 .context) + 1;
+              few-steps = omega (arith, violation-deep t (f .key) (v .0), x .deep);
+              stage = rw is (stage-between job-repair no-update (depth-of (v .0 .context)) (violated (v .0) w room) (facts-exact x) (omega arith));
+              accepted = λ r z. let y : _≡_ {A = Begun} Started (BegunRefused r) = rw is at z in let k : _≡_ {A = ℕ} 0 1 = cc in omega arith;
+              idle-when-balanced = λ z. let y : _≡_ {A = Begun} Started OpenedIdle = rw is at z in let k : _≡_ {A = ℕ} 0 1 = cc in absurd (omega arith);
+            }
+
+        whole : f .violated ≡ false → Reopened c n t
+        whole q =
+            let z : table-violations t ≡ 0 = omega (arith, x .violated, bit-false (f .violated) q) in
+            let r : f .run ≡ 0 = x .no-run q in
+            let is = open-idle c n h f (b .sized) (b .header) e (omega (arith, room-idle z, count-same f h x)) q in
+            record {
+              steps = 0;
+              few-steps = omega arith;
+              stage = let enough : 3 ≤ countTrue (f .free) = omega (arith, room-idle z, count-same f h x) in rw is (stage-idle z enough (facts-exact x));
+              accepted = λ r k. let y : _≡_ {A = Begun} OpenedIdle (BegunRefused r) = rw is at k in let k : _≡_ {A = ℕ} 0 1 = cc in omega arith;
+              idle-when-balanced = λ k. z;
+            }
