@@ -1,6 +1,28 @@
 // The table: format, open, find, and the steps of what is being done (document 01, "State, steps and free nodes").
+mod formatting;
+mod lookup;
+mod opening;
+mod playing;
+mod states;
+mod steps;
+mod updates;
+
 use change::Plan;
+use descent::Landing;
+use formatting::step_format;
 use free_nodes::NodeSet;
+use lookup::card_refusal;
+use lookup::found_at;
+use opening::open_checked;
+use states::no_beginning;
+use states::resting;
+use steps::step_held;
+use updates::has_room;
+use updates::start_refusal;
+ghost use mathlib.Core.Path.{_≡_};
+ghost use Rattle.table.specs.Memory.{memoryOf};
+ghost use Rattle.table.specs.Calls.{findOf, openOf, formatOf, stepOf, insertOf, deleteOf};
+ghost use Rattle.table.specs.Results.{handedOf, Unchanged, UnchangedStart};
 
 // What is being done: "either idle or holds one call or repair in progress". Formatting counts as a call.
 pub enum Doing {
@@ -58,4 +80,162 @@ pub enum Begun {
 pub struct Beginning {
     pub begun: Begun,
     pub state: State,
+}
+
+// "A find is one call on the card alone; it may come between steps and answers by the map at that moment."
+pub fn find(card: &[u32], key: u32) -> Found
+    ensures { λ r. ⌜ r ≡ findOf (now (card .entry)) key ⌝ }
+{
+    let refusal = card_refusal(card);
+    if refusal != 0 {
+        return Found::Refused(refusal);
+    }
+    if key == 0 {
+        return Found::Refused(6);
+    }
+    found_at(card, card::nodes_of(card.len()), key)
+}
+
+// "Opening stores nothing, works out the free nodes, and hands back an idle state, or one with the repair in progress".
+pub fn open(card: &[u32]) -> Beginning
+    ensures { λ r. ⌜ handedOf r ≡ openOf (now (card .entry)) ⌝ }
+{
+    let refusal = card_refusal(card);
+    if refusal != 0 {
+        return no_beginning(refusal);
+    }
+    open_checked(card, card::nodes_of(card.len()))
+}
+
+// "Formatting needs no earlier state". While it goes on the free nodes are those of the table it makes, whose root is node 1.
+pub fn start_format(card: &[u32]) -> Beginning
+    ensures { λ r. ⌜ handedOf r ≡ formatOf (now (card .entry)) ⌝ }
+{
+    let n = card::nodes_of(card.len());
+    if n == 0 {
+        return no_beginning(1);
+    }
+    let free = free_nodes::without_node(free_nodes::all_nodes(n), 1);
+    let state = resting(n, free, Doing::Formatting { made: 0 });
+    Beginning {
+        begun: Begun::Started,
+        state,
+    }
+}
+
+// "Each step then either stores one word or gives the final answer and makes the state idle."
+pub fn step(card: &mut [u32], s: State) -> Stepped
+    ensures { λ r. ⌜ now (card .exit) ≡ stepOf (now (card .entry)) (memoryOf s) .card ⌝ }
+    ensures { λ r. ⌜ r .answer ≡ stepOf (now (card .entry)) (memoryOf s) .answer ⌝ }
+    ensures { λ r. ⌜ memoryOf (r .state) ≡ stepOf (now (card .entry)) (memoryOf s) .memory ⌝ }
+    ensures { λ r. ⌜ Unchanged s r ⌝ }
+{
+    let n = card::nodes_of(card.len());
+    if n == 0 {
+        return Stepped {
+            answer: Answer::Refused(1),
+            state: s,
+        };
+    }
+    if n != s.nodes {
+        return Stepped {
+            answer: Answer::Refused(1),
+            state: s,
+        };
+    }
+    let doing = s.doing;
+    match doing {
+        Doing::Formatting { made } => step_format(card, s, made),
+        Doing::Idle => step_held(card, s),
+        Doing::Inserting {
+            key: _,
+            value: _,
+            begun: _,
+        } => step_held(card, s),
+        Doing::Deleting {
+            key: _,
+            begun: _,
+            value: _,
+        } => step_held(card, s),
+        Doing::Repairing { key: _ } => step_held(card, s),
+    }
+}
+
+// "Starting an update stores nothing."
+pub fn start_insert(card: &[u32], s: State, key: u32, value: u32) -> Beginning
+    ensures { λ r. ⌜ handedOf r ≡ insertOf (now (card .entry)) (memoryOf s) key value ⌝ }
+    ensures { λ r. ⌜ UnchangedStart s r ⌝ }
+{
+    let refusal = start_refusal(card, s, key);
+    if refusal != 0 {
+        return Beginning {
+            begun: Begun::Refused(refusal),
+            state: s,
+        };
+    }
+    match descent::find_landing(card, s.nodes, key, card[4] as usize) {
+        Landing::Refused => Beginning {
+            begun: Begun::Refused(9),
+            state: s,
+        },
+        Landing::Leaf { node, link: _, run } => {
+            let free = s.free;
+            if !has_room(card::node_at(card, node), key, free, run) {
+                return Beginning {
+                    begun: Begun::Refused(8),
+                    state: s,
+                };
+            }
+            let state = State {
+                doing: Doing::Inserting {
+                    key,
+                    value,
+                    begun: false,
+                },
+                ..s
+            };
+            Beginning {
+                begun: Begun::Started,
+                state,
+            }
+        }
+    }
+}
+
+// "Refusing a delete on a full card" would spoil a bin: a delete needs no free nodes to start.
+pub fn start_delete(card: &[u32], s: State, key: u32) -> Beginning
+    ensures { λ r. ⌜ handedOf r ≡ deleteOf (now (card .entry)) (memoryOf s) key ⌝ }
+    ensures { λ r. ⌜ UnchangedStart s r ⌝ }
+{
+    let refusal = start_refusal(card, s, key);
+    if refusal != 0 {
+        return Beginning {
+            begun: Begun::Refused(refusal),
+            state: s,
+        };
+    }
+    match descent::find_landing(card, s.nodes, key, card[4] as usize) {
+        Landing::Refused => Beginning {
+            begun: Begun::Refused(9),
+            state: s,
+        },
+        Landing::Leaf {
+            node: _,
+            link: _,
+            run: _,
+        } => {
+            let state = State {
+                doing: Doing::Deleting {
+                    key,
+                    begun: false,
+                    value: 0,
+                },
+                ..s
+            };
+            Beginning {
+                begun: Begun::Started,
+                state,
+            }
+        }
+    }
 }

@@ -1,0 +1,14 @@
+-- `table::states::resting` meets its contract.
+use mathlib.Core.Path.{refl}
+use mathlib.Core.List.{zip, zipWith}
+use Rattle.change.specs.Plan.{storesOf}
+use Rattle.table.specs.Memory.{memoryOf, resting}
+use Rattle.table.proofs.states.resting.Statement.{statement}
+use Rattle.table.proofs.states.resting.Tie as tie
+
+returns : tie.Need-returns
+unfolding memoryOf resting storesOf zip zipWith
+returns c = refl
+
+pub resting-spec : {M : Type 1} → statement M
+resting-spec = tie.close (tie.spec returns)
