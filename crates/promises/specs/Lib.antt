@@ -16,3 +16,4 @@ pub mod Starting
 pub mod Accepting
 pub mod PowerLoss
 pub mod Dictionary
+pub mod OpenRefusals

@@ -7,7 +7,7 @@ use Prim.Native.Nat.{ℕ, _+_, _*_, _≤_}
 use native.Mathlib.Omega.{arith}
 use lib.ListN.{length}
 use borrow.Author.Tests.{le-ltb, ne-eqb}
-use Rattle.card.specs.Header.{nodesOfLength}
+use Rattle.card.specs.Header.{nodesOfLength, headerRefusal}
 use Rattle.card.specs.HeaderLaws.{Sized, sized-nodes, Formatted, formatted-header}
 use Rattle.card.specs.Layout.{depthLimit}
 use Rattle.change_theory.specs.Exact.{Exact, exact-same}
@@ -62,24 +62,29 @@ well-formed-table s f w =
 pub table-depth-limited : {c : List ℕ} {n : ℕ} {t : Tree} → Table c n t → depth t ≤ depthLimit
 table-depth-limited {c} {n} {t} b = well-formed-depth c n (b .sized .words) t (b .sized .most) (table-well-formed b)
 
+-- no refusal 1: what is left is the header's
+pub length-accepted : (c : List ℕ) (n : ℕ) → Sized (length c) n → cardRefusal c ≡ headerRefusal c n
+unfolding cardRefusal
+length-accepted c n s = let e = sized-nodes (length c) n s in rw (e, ne-eqb n 0 (omega (arith, s .least)))
+
 -- no refusal 1, 2 or 3
 pub card-accepted : {c : List ℕ} {n : ℕ} → Sized (length c) n → Formatted c n → (cardRefusal c ≡ 0) × (nodesOfLength (length c) ≡ n)
-unfolding cardRefusal
-card-accepted {c} {n} s f = let e = sized-nodes (length c) n s in (rw (e, ne-eqb n 0 (omega (arith, s .least)), formatted-header c n f), e)
+card-accepted {c} {n} s f = (length-accepted c n s ∙ formatted-header c n f, sized-nodes (length c) n s)
 
 -- opening, by what the check finds
-module _ (c : List ℕ) (n h : ℕ) (f : Findings) (s : Sized (length c) n) (k : Formatted c n) (e : tableCheck c n ≡ some (h, f)) (room : 3 + f .run ≤ countTrue (f .free)) where
-  open-sound : openOf c ≡ openSound n f
+module _ (c : List ℕ) (n h : ℕ) (f : Findings) (s : Sized (length c) n) (k : Formatted c n) (e : tableCheck c n ≡ some (h, f)) where
+  pub open-sound : openOf c ≡ openSound n f
   unfolding openOf openChecked
   open-sound = let a = card-accepted s k in rw (a .0, a .1, e)
 
+module _ (c : List ℕ) (n h : ℕ) (f : Findings) (s : Sized (length c) n) (k : Formatted c n) (e : tableCheck c n ≡ some (h, f)) (room : 3 + f .run ≤ countTrue (f .free)) where
   pub open-repair : f .violated ≡ true → openOf c ≡ record { begun = Started; memory = resting n (f .free) (Repairing (f .key)) }
   unfolding openSound
-  open-repair v = open-sound ∙ rw (le-ltb (countTrue (f .free)) (3 + f .run) room, v)
+  open-repair v = open-sound c n h f s k e ∙ rw (le-ltb (countTrue (f .free)) (3 + f .run) room, v)
 
   pub open-idle : f .violated ≡ false → openOf c ≡ record { begun = OpenedIdle; memory = resting n (f .free) Idle }
   unfolding openSound
-  open-idle v = open-sound ∙ rw (le-ltb (countTrue (f .free)) (3 + f .run) room, v)
+  open-idle v = open-sound c n h f s k e ∙ rw (le-ltb (countTrue (f .free)) (3 + f .run) room, v)
 
 pub facts-exact : {c : List ℕ} {n h : ℕ} {t : Tree} {f : Findings} → Facts c n t h f → Exact n (f .free) t
 facts-exact x = record { size = x .free-length; within = x .free-in; outside-none = x .free-out }

@@ -1,0 +1,138 @@
+// What the two test programs share: a row of words that holds any card, and the table's calls on the first words of one.
+// A row has a fixed length, so a function over it needs no proof of a length.
+use table::Beginning;
+use table::Found;
+use table::State;
+use table::Stepped;
+
+// As many words as a card of 601 nodes would have, which is one too many.
+pub const MOST: usize = 14432;
+
+pub type Words = [u32; 14432];
+
+// A word, and 0 past the end.
+pub fn word(words: &Words, i: usize) -> u32 {
+    if i < MOST { words[i] } else { 0 }
+}
+
+// Sets a word; past the end nothing is set.
+pub fn set_word(words: &mut Words, i: usize, value: u32) {
+    if i < MOST {
+        words[i] = value;
+    }
+}
+
+// The first n words of one row into another.
+pub fn copy_words(from: &Words, to: &mut Words, n: usize) {
+    let mut i: usize = 0;
+    while i < n {
+        set_word(to, i, word(from, i));
+        i += 1;
+    }
+}
+
+// All words from a place on become 0.
+pub fn clear_from(words: &mut Words, place: usize) {
+    let mut i = place;
+    while i < MOST {
+        set_word(words, i, 0);
+        i += 1;
+    }
+}
+
+// The first of the first n places where two rows differ; n where there is none.
+pub fn difference(a: &Words, b: &Words, n: usize) -> usize {
+    let mut i: usize = 0;
+    while i < n {
+        if word(a, i) != word(b, i) {
+            return i;
+        }
+        i += 1;
+    }
+    n
+}
+
+// A u32 as a u64.
+pub fn wide(x: u32) -> u64 {
+    x as u64
+}
+
+// The low 32 bits.
+pub fn narrow(x: u64) -> u32 {
+    (x % 4294967296) as u32
+}
+
+// One number more in a hash: h * 31 + x below 2 to the 32nd.
+pub fn hash(h: u64, x: u64) -> u64 {
+    ((h % 4294967296) * 31 + x % 4294967296) % 4294967296
+}
+
+// The first n words in a hash.
+pub fn hash_words(h: u64, words: &Words, n: usize) -> u64 {
+    let mut all = h;
+    let mut i: usize = 0;
+    while i < n {
+        all = hash(all, wide(word(words, i)));
+        i += 1;
+    }
+    all
+}
+
+// The calls, each on the card that the first n words are.
+pub fn find(words: &Words, n: usize, key: u32) -> Found {
+    let all: &[u32] = words;
+    if all.len() < n {
+        return table::find(all, key);
+    }
+    table::find(&all[0..n], key)
+}
+
+pub fn open(words: &Words, n: usize) -> Beginning {
+    let all: &[u32] = words;
+    if all.len() < n {
+        return table::open(all);
+    }
+    table::open(&all[0..n])
+}
+
+pub fn start_format(words: &Words, n: usize) -> Beginning {
+    let all: &[u32] = words;
+    if all.len() < n {
+        return table::start_format(all);
+    }
+    table::start_format(&all[0..n])
+}
+
+pub fn start_insert(words: &Words, n: usize, s: State, key: u32, value: u32) -> Beginning {
+    let all: &[u32] = words;
+    if all.len() < n {
+        return table::start_insert(all, s, key, value);
+    }
+    table::start_insert(&all[0..n], s, key, value)
+}
+
+pub fn start_delete(words: &Words, n: usize, s: State, key: u32) -> Beginning {
+    let all: &[u32] = words;
+    if all.len() < n {
+        return table::start_delete(all, s, key);
+    }
+    table::start_delete(&all[0..n], s, key)
+}
+
+fn step_within(all: &mut [u32], n: usize, s: State) -> Stepped {
+    if all.len() < n {
+        return table::step(all, s);
+    }
+    table::step(&mut all[0..n], s)
+}
+
+pub fn step(words: &mut Words, n: usize, s: State) -> Stepped {
+    step_within(words, n, s)
+}
+
+// The idle state for N = 0: what a refused opening hands back.
+pub fn no_state() -> State {
+    let none = [0u32; 1];
+    let refused = table::open(&none);
+    refused.state
+}

@@ -1,0 +1,91 @@
+use mathlib.Core.Path.{_≡_, ap, sym, _∙_}
+use native.Mathlib.Omega.{arith}
+use lib.ListN.{length, getD}
+use borrow.Author.Tests.{not-true, not-false}
+use Rattle.card.specs.Header.{nodesOfLength}
+use Rattle.card.specs.HeaderLaws.{Sized, nodes-sized}
+use Rattle.card.specs.Layout.{depthLimit, rootPlace}
+use Rattle.soundness.specs.Check.{findingsOf}
+use Rattle.soundness.specs.CheckLaws.{checked-ok, checked-bad}
+use Rattle.listing.specs.Listing.{Listing, listed, listTable, pairsFrom}
+use Rattle.listing.specs.SummaryLaws.{summary-refused, table-none, table-unsound, table-sound, summary-listed}
+use borrow.Author.Needs.{needs}
+use Rattle.listing.proofs.list_table.Statement.{statement}
+use Rattle.listing.proofs.list_table.Tie as tie
+
+sized : (c : tie.Else1) → Sized (length (c .before .before .before .before .args .card .now)) (c .before .nodes-of .result)
+sized c =
+    let e = c .before .nodes-of .ensures in
+    rw e (nodes-sized (length (c .before .before .before .before .args .card .now)) (λ z. c .if1 .left (e ∙ z)))
+
+nodes-of-requires : tie.Need-nodes-of-requires
+nodes-of-requires c κs = search needs
+
+refusing-requires : tie.Need-refusing-requires
+refusing-requires c κs = search needs
+
+returns : tie.Need-returns
+returns c =
+    let s = c .before .before .before .before .before in
+    let q = summary-refused 1 (listTable (s .args .card .now) (nodesOfLength (length (s .args .card .now)))) (s .args .out .now) (table-none (s .args .card .now) (nodesOfLength (length (s .args .card .now))) (sym (c .before .before .nodes-of .ensures) ∙ c .before .if1 .taken)) in
+    (c .refusing .ensures ∙ q .0, q .1)
+
+check-table-requires : tie.Need-check-table-requires
+check-table-requires c κs = (sized c .words, sized c .most)
+
+refusing-requires-2 : tie.Need-refusing-requires-2
+refusing-requires-2 c κs = search needs
+
+returns-2 : tie.Need-returns-2
+returns-2 c =
+    let s = c .before .before .before .before .before .before .before .before in
+    let e = c .before .before .before .before .before .nodes-of .ensures in
+    let k = c .before .before .before .check-table in
+    let none-found = sym (k .ensures) ∙ checked-bad (k .result) (not-true _ (c .before .if2 .taken)) in
+    let q = summary-refused 4 (listTable (s .args .card .now) (nodesOfLength (length (s .args .card .now)))) (s .args .out .now) (ap (listTable (s .args .card .now)) (sym e) ∙ table-unsound (s .args .card .now) (c .before .before .before .before .before .nodes-of .result) (c .before .before .before .before .if1 .left) none-found) in
+    (c .refusing2 .ensures ∙ q .0, q .1)
+
+count-requires : tie.Need-count-requires
+count-requires c κs = search needs
+
+shared-slice-read-root : tie.Need-shared-slice-read-root
+shared-slice-read-root c = omega (arith, sized (c .before .before .before .before .before .before .before) .words)
+
+cast-root : tie.Need-cast-root
+cast-root c = omega (arith, c .shared-slice-known2 .given 4)
+
+collect-requires : tie.Need-collect-requires
+collect-requires c κs = let z = sized (c .before .before .before .before .before .before .before .before) in (z .words, z .most, omega arith)
+
+same-length : tie.Need-same-length
+same-length c = search needs
+
+returns-3 : tie.Need-returns-3
+unfolding findingsOf
+returns-3 c =
+    let s = c .before .before .before .before .before .before .before .before .before .before .before .before .before .before .before in
+    let n = c .before .before .before .before .before .before .before .before .before .before .before .before .nodes-of in
+    let k = c .before .before .before .before .before .before .before .before .before .before .check-table in
+    let found = sym (k .ensures) ∙ checked-ok (k .result) (not-false _ (c .before .before .before .before .before .before .before .before .if2 .left)) in
+    let card = s .args .card .now in
+    let x : Listing = record { nodes = n .result; free = c .before .before .before .before .before .count .result; levels = k .result .height; pairs = pairsFrom depthLimit (s .args .card .now) (n .result) (getD (s .args .card .now) rootPlace 0) } in
+    let is : listTable (s .args .card .now) (nodesOfLength (length (s .args .card .now))) ≡ listed x =
+    ap (listTable card) (sym (n .ensures)) ∙ table-sound card (n .result) (k .result .height) (findingsOf (k .result .survey)) (c .before .before .before .before .before .before .before .before .before .before .before .if1 .left) found ∙ rw (c .before .before .before .before .before .count .ensures) in
+    summary-listed x (listTable card (nodesOfLength (length card))) (s .args .out .now) (c .before .before .collect .result) (c .before .before .collect .last .1 .1 .1 .1 .0) is (c .before .before .collect .ensures .0)
+
+pub list-table-spec : {M : Type 1} → statement M
+list-table-spec =
+    tie.close
+    (tie.spec
+    nodes-of-requires
+    refusing-requires
+    returns
+    check-table-requires
+    refusing-requires-2
+    returns-2
+    count-requires
+    shared-slice-read-root
+    cast-root
+    collect-requires
+    same-length
+    returns-3)

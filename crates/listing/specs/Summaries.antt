@@ -1,0 +1,19 @@
+-- What the answers in code say, in the terms of Listing. These are definitions.
+use mathlib.Core.List.{List}
+use Prim.Native.Nat.{ℕ}
+use Rattle.table.specs.Memory.{memoryOf}
+use Rattle.table.specs.declared.State.{State}
+use Rattle.listing.specs.Listing.{Repaired, Listed, refused, listed, layListed}
+use Rattle.listing.specs.declared.Summary.{Summary}
+
+-- the card and the state that a repair leaves
+unfoldable pub leftBy : List ℕ → State → Repaired
+leftBy card s = record { card = card; memory = memoryOf s }
+
+-- "First line: N, free nodes, internal levels, pairs", with how many words of the lent slice hold pairs
+unfoldable pub summarized : Listed → ℕ → Summary
+summarized (refused r) words = record { refusal = r; nodes = 0; free = 0; levels = 0; words = words }
+summarized (listed l) words = record { refusal = 0; nodes = l .nodes; free = l .free; levels = l .levels; words = words }
+
+unfoldable pub summaryOf : Listed → List ℕ → Summary
+summaryOf l lent = summarized l (layListed l lent .at)

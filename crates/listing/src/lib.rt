@@ -1,0 +1,99 @@
+// What the program `list` prints of a card or a dump (document 01, "Dumps and the list program").
+mod pairs;
+mod repairs;
+
+use pairs::collect;
+use repairs::repair;
+use table::Begun;
+use table::State;
+ghost use mathlib.Core.Path.{_≡_};
+ghost use lib.ListN.{length};
+ghost use Rattle.card.specs.Header.{nodesOfLength};
+ghost use Rattle.table.specs.Memory.{memoryOf};
+ghost use Rattle.listing.specs.Listing.{repairedCard, repairSteps, listTable, listCard, listDump, layListed};
+ghost use Rattle.listing.specs.Summaries.{summaryOf};
+
+// "First line: N, free nodes, internal levels, pairs", or the refusal, which is 0 where there is none. Of the lent slice
+// the first `words` words hold the pairs, key and value.
+pub struct Summary {
+    pub refusal: u32,
+    pub nodes: usize,
+    pub free: usize,
+    pub levels: usize,
+    pub words: usize,
+}
+
+// "Refused, it prints `refused ` and the number only."
+fn refusing(refusal: u32) -> Summary
+    ensures { λ r. ⌜ r ≡ record { refusal = refusal; nodes = 0; free = 0; levels = 0; words = 0 } ⌝ }
+{
+    Summary {
+        refusal,
+        nodes: 0,
+        free: 0,
+        levels: 0,
+        words: 0,
+    }
+}
+
+// The table of a card as it is, checked once more: its height and its free nodes are those that the check finds.
+fn list_table(card: &[u32], out: &mut [u32]) -> Summary
+    ensures { λ r. ⌜ r ≡ summaryOf (listTable (now (card .entry)) (nodesOfLength (length (now (card .entry))))) (now (out .entry)) ⌝ }
+    ensures { λ r. ⌜ now (out .exit) ≡ layListed (listTable (now (card .entry)) (nodesOfLength (length (now (card .entry))))) (now (out .entry)) .words ⌝ }
+{
+    let n = card::nodes_of(card.len());
+    if n == 0 {
+        return refusing(1);
+    }
+    let checked = soundness::check_table(card, n);
+    if !checked.ok {
+        return refusing(4);
+    }
+    let survey = checked.survey;
+    let unreached = survey.free;
+    let free = free_nodes::count(unreached);
+    let root = card[4] as usize;
+    let words = collect(card, n, root, card::DEPTH_LIMIT, out, 0);
+    Summary {
+        refusal: 0,
+        nodes: n,
+        free,
+        levels: checked.height,
+        words,
+    }
+}
+
+// The table of a card that was opened, once its repair is done.
+fn list_repaired(card: &mut [u32], s: State, out: &mut [u32]) -> Summary
+    ensures { λ r. ⌜ r ≡ summaryOf (listTable (repairedCard repairSteps (now (card .entry)) (memoryOf s) .card) (nodesOfLength (length (now (card .entry))))) (now (out .entry)) ⌝ }
+    ensures { λ r. ⌜ now (out .exit) ≡ layListed (listTable (repairedCard repairSteps (now (card .entry)) (memoryOf s) .card) (nodesOfLength (length (now (card .entry))))) (now (out .entry)) .words ⌝ }
+{
+    repair(card, s);
+    list_table(card, out)
+}
+
+// "opens and repairs it in memory": a card.
+pub fn list_card(card: &mut [u32], out: &mut [u32]) -> Summary
+    ensures { λ r. ⌜ r ≡ summaryOf (listCard (now (card .entry))) (now (out .entry)) ⌝ }
+    ensures { λ r. ⌜ now (out .exit) ≡ layListed (listCard (now (card .entry))) (now (out .entry)) .words ⌝ }
+{
+    let opening = table::open(card);
+    let begun = opening.begun;
+    let state = opening.state;
+    match begun {
+        Begun::Refused(refusal) => refusing(refusal),
+        Begun::Idle => list_repaired(card, state, out),
+        Begun::Started => list_repaired(card, state, out),
+    }
+}
+
+// A dump, read into a lent slice.
+pub fn list_dump(bytes: &[u8], card: &mut [u32], out: &mut [u32]) -> Summary
+    ensures { λ r. ⌜ r ≡ summaryOf (listDump (now (bytes .entry)) (length (now (card .entry)))) (now (out .entry)) ⌝ }
+    ensures { λ r. ⌜ now (out .exit) ≡ layListed (listDump (now (bytes .entry)) (length (now (card .entry)))) (now (out .entry)) .words ⌝ }
+{
+    match dump::read_dump(bytes, card) {
+        dump::Answer::Refused(refusal) => refusing(refusal),
+        dump::Answer::Length(size) => list_card(&mut card[..size], out),
+    }
+}

@@ -1,0 +1,4 @@
+pub mod TreePairs
+pub mod Repair
+pub mod Room
+pub mod Right

@@ -1,0 +1,101 @@
+-- The repair of `list` is a run of steps, and leaves a balanced table with the same map.
+use mathlib.Core.Path.{_≡_, refl, ap, sym, _∙_}
+use mathlib.Core.List.{List, []}
+use mathlib.Core.Bool.{true}
+use Prim.Native.Nat.{ℕ, zero, suc, _≤_}
+use native.Mathlib.Omega.{arith}
+use lib.ListN.{length, replicate}
+use lib.Dec.{eqb}
+use Rattle.laws.specs.Cases.{bool-cases}
+use Rattle.card.specs.Header.{nodesOfLength, headerRefusal}
+use Rattle.card.specs.HeaderLaws.{Sized, sized-nodes}
+use Rattle.listing.specs.Listing.{repairedCard}
+use Rattle.promises.specs.Feeding.{kept-ledger}
+use Rattle.promises.specs.Ledger.{ledger, empty}
+use Rattle.promises.specs.Machine.{Event, World, opened, happens, run, step}
+use Rattle.promises.specs.Promise.{Accepted, Words, Quiet, steps-in, MapIs, repairSteps, Ends, from-open}
+use Rattle.promises.specs.PowerLoss.{kept, begins-inv, power-loss}
+use Rattle.table.specs.Calls.{isIdle, stepRefused, stepHeld, stepDoing, stepOf, openOf}
+use Rattle.table.specs.Memory.{Memory}
+use Rattle.table.specs.declared.Doing.{Doing}
+use Rattle.table.specs.declared.Doing.the-variants.{Idle, Formatting, Inserting, Deleting, Repairing}
+use Rattle.tree.specs.Pairs.{pairs}
+use Rattle.tree.specs.Tree.{Tree}
+use Rattle.tree.specs.WellFormed.{WellFormed, Balanced}
+use mathlib.Core.Option.{none}
+
+-- so many steps
+abbrev pub steps : ℕ → List Event
+steps k = replicate k step
+
+-- a step of an idle state changes nothing
+idle-step : (c : List ℕ) (m : Memory) → m .doing ≡ Idle → (stepOf c m .card ≡ c) × (stepOf c m .memory ≡ m)
+unfolding stepOf stepDoing stepHeld stepRefused isIdle
+idle-step c m e =
+    bool-cases (eqb (nodesOfLength (length c)) 0) (λ q. rw q (refl, refl)) (λ q.
+    bool-cases (eqb (nodesOfLength (length c)) (m .nodes)) (λ q₁.
+    bool-cases (eqb (headerRefusal c (m .nodes)) 0) (λ q₂. rw (q, q₁, e, q₂) (refl, refl)) (λ q₂. rw (q, q₁, e, q₂) (refl, refl)))
+    (λ q₁. rw (q, q₁) (refl, refl)))
+
+idle-world : (w : World) → w .memory .doing ≡ Idle → happens step w ≡ w
+unfolding happens
+idle-world w e = let s = idle-step (w .card) (w .memory) e in rw (s .0, s .1)
+
+rests : (k : ℕ) (w : World) → w .memory .doing ≡ Idle → run (steps k) w ≡ w
+unfolding run
+rests zero w e = refl
+rests (suc k) w e = ap (run (steps k)) (idle-world w e) ∙ rests k w e
+
+is-idle : (d : Doing) → isIdle d ≡ true → d ≡ Idle
+unfolding isIdle
+is-idle Idle e = refl
+is-idle (Formatting made) e = let z : _≡_ {A = ℕ} 0 1 = cc in absurd (omega arith)
+is-idle (Inserting key value begun) e = let z : _≡_ {A = ℕ} 0 1 = cc in absurd (omega arith)
+is-idle (Deleting key begun value) e = let z : _≡_ {A = ℕ} 0 1 = cc in absurd (omega arith)
+is-idle (Repairing key) e = let z : _≡_ {A = ℕ} 0 1 = cc in absurd (omega arith)
+
+-- the loop that stops when the state is idle is the run of all the steps
+pub repair-run : (k : ℕ) (c : List ℕ) (m : Memory) → repairedCard k c m .card ≡ run (steps k) (record { card = c; memory = m }) .card
+unfolding repairedCard run happens
+repair-run zero c m = refl
+repair-run (suc k) c m = bool-cases (isIdle (m .doing)) (λ q. rw q (stays q)) (λ q. rw q (repair-run k (stepOf c m .card) (stepOf c m .memory)))
+  where
+    stays : isIdle (m .doing) ≡ true → c ≡ run (steps (suc k)) (record { card = c; memory = m }) .card
+    stays q = ap (λ (w : World). w .card) (sym (rests (suc k) (record { card = c; memory = m }) (is-idle (m .doing) q)))
+
+all-words : (k : ℕ) → Words (steps k)
+all-words zero = tt
+all-words (suc k) = all-words k
+
+all-quiet : (k : ℕ) (w : World) → Quiet (steps k) w
+unfolding Quiet
+all-quiet zero w = tt
+all-quiet (suc k) w = all-quiet k (happens step w)
+
+count-steps : (k : ℕ) → steps-in (steps k) ≡ k
+count-steps zero = refl
+count-steps (suc k) = ap suc (count-steps k)
+
+-- after the repair: a balanced table, with the map that the card had when it was opened
+pub record After (c : List ℕ) (t : Tree) (k : ℕ) : Type 0 where
+  pub table : Tree
+  pub sized : Sized (length (repairedCard k c (openOf c .memory) .card)) (nodesOfLength (length c))
+  pub balanced : Balanced (repairedCard k c (openOf c .memory) .card) table
+  pub map : MapIs table (pairs t)
+
+module _ (c : List ℕ) (t : Tree) (a : Accepted c) (w : WellFormed c t) (k : ℕ) where
+  ends : repairSteps ≤ k → Ends (opened c) (steps k) (pairs t)
+  unfolding run kept-ledger
+  ends h = power-loss (opened c) (pairs t) (from-open c t a w) [] tt .ends (steps k) (all-quiet k (opened c)) (omega (arith, count-steps k))
+
+  size-kept : Sized (length (run (steps k) (opened c) .card)) (nodesOfLength (length c))
+  size-kept =
+      let b = begins-inv (opened c) (pairs t) (from-open c t a w) in
+      let q = kept (b .0) (steps k) repairSteps (opened c) (ledger (pairs t) empty) none (all-words k) (b .1) in
+      rw (sized-nodes (length c) (b .0) (b .1 .table .sized)) (q .1 .table .sized)
+
+  pub repaired : repairSteps ≤ k → After c t k
+  repaired h =
+      let e = ends h in
+      let r = repair-run k c (openOf c .memory) in
+      record { table = e .table; sized = rw r size-kept; balanced = rw r (e .balanced); map = e .map }

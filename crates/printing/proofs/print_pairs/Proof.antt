@@ -1,0 +1,70 @@
+use Prim.Native.Nat.{_-_, _≤_}
+use lib.ListN.{length}
+use borrow.Author.Needs.{needs}
+use Rattle.printing.proofs.print_pairs.Statement.{statement}
+use Rattle.printing.proofs.print_pairs.Tie as tie
+
+abbrev Inv-loop : tie.InvT-loop
+Inv-loop out words i₀ i = i ≤ length out
+
+abbrev μ-loop : tie.MeasureT-loop
+μ-loop out words i₀ i = length out - i
+
+loop-holds : tie.Need-loop-holds Inv-loop μ-loop
+loop-holds c = search needs
+
+add-loop : tie.Need-add-loop Inv-loop μ-loop
+add-loop c = search needs
+
+returns : tie.Need-returns Inv-loop μ-loop
+returns c = search needs
+
+mul-print-pair : tie.Need-mul-print-pair Inv-loop μ-loop
+mul-print-pair c = search needs
+
+shared-slice-read-print-pair : tie.Need-shared-slice-read-print-pair Inv-loop μ-loop
+shared-slice-read-print-pair c = search needs
+
+add-print-pair : tie.Need-add-print-pair Inv-loop μ-loop
+add-print-pair c = search needs
+
+mul-print-pair-2 : tie.Need-mul-print-pair-2 Inv-loop μ-loop
+mul-print-pair-2 c = search needs
+
+shared-slice-read-print-pair-2 : tie.Need-shared-slice-read-print-pair-2 Inv-loop μ-loop
+shared-slice-read-print-pair-2 c = search needs
+
+print-pair-requires : tie.Need-print-pair-requires Inv-loop μ-loop
+print-pair-requires c κs = search needs
+
+add-i : tie.Need-add-i Inv-loop μ-loop
+add-i c = search needs
+
+loop-less : tie.Need-loop-less Inv-loop μ-loop
+loop-less c = search needs
+
+loop-again : tie.Need-loop-again Inv-loop μ-loop
+loop-again c = search needs
+
+returns-2 : tie.Need-returns-2 Inv-loop μ-loop
+returns-2 c = search needs
+
+pub print-pairs-spec : {M : Type 1} → statement M
+print-pairs-spec =
+    tie.close
+    (tie.spec
+    Inv-loop
+    μ-loop
+    loop-holds
+    add-loop
+    returns
+    mul-print-pair
+    shared-slice-read-print-pair
+    add-print-pair
+    mul-print-pair-2
+    shared-slice-read-print-pair-2
+    print-pair-requires
+    add-i
+    loop-less
+    loop-again
+    returns-2)
