@@ -3,7 +3,7 @@
 use mathlib.Core.List.{List, [], _∷_, _++_}
 use mathlib.Core.Option.{Option, none, some}
 use Prim.Native.Nat.{ℕ, zero, suc, _+_, _*_}
-use lib.ListN.{length, getD, set}
+use lib.ListN.{length, getD, drop, set}
 use lib.Dec.{eqb, ltb}
 use Rattle.laws.specs.Cases.{pick}
 use Rattle.card.specs.Layout.{rootPlace, depthLimit, nodeAt, kindOf, children, leafPairs}
@@ -92,6 +92,27 @@ listRead dump (Length size) = listCard (dumpWords size dump)
 -- a dump, read into so many words: "Reading a dump checks 11, 12"
 unfoldable pub listDump : List ℕ → ℕ → Listed
 listDump dump lent = listRead dump (readAnswer dump lent)
+
+-- ---- the words lent afterwards
+
+-- "opens and repairs it in memory"; "A refusal .. stores nothing"
+unfoldable pub leftBegun : List ℕ → Memory → Begun → List ℕ
+leftBegun card m (Refused r) = card
+leftBegun card m Idle = repairedCard repairSteps card m .card
+leftBegun card m Started = repairedCard repairSteps card m .card
+
+-- a card, once it was listed
+unfoldable pub listedCard : List ℕ → List ℕ
+listedCard card = leftBegun card (openOf card .memory) (openOf card .begun)
+
+-- "those of the lent slice beyond it are untouched"
+unfoldable pub leftRead : List ℕ → List ℕ → Answer → List ℕ
+leftRead dump lent (ReadRefused r) = lent
+leftRead dump lent (Length size) = listedCard (dumpWords size dump) ++ drop size lent
+
+-- the words that a dump was read into, once it was listed
+unfoldable pub listedOver : List ℕ → List ℕ → List ℕ
+listedOver dump lent = leftRead dump lent (readAnswer dump (length lent))
 
 -- ---- how the pairs are stored: key, value, key, value .., as many as a lent slice has room for
 

@@ -1,12 +1,12 @@
 -- Laws of the repair and of what is answered: one for each branch of the code.
 use mathlib.Core.Path.{_≡_, refl, ap, _∙_}
-use mathlib.Core.List.{List}
+use mathlib.Core.List.{List, _++_}
 use mathlib.Core.Bool.{true, false}
 use mathlib.Core.Option.{none, some}
 use Prim.Native.Nat.{ℕ, zero, suc, _-_}
 use native.Mathlib.Omega.{arith}
 use lib.ListN.{length, take, drop, getD}
-use lib.Seq.{take-at}
+use lib.Seq.{take-at, drop-at}
 use borrow.Author.Tests.{ne-eqb, eq-eqb}
 use Rattle.card.specs.Header.{nodesOfLength}
 use Rattle.card.specs.Layout.{depthLimit, rootPlace}
@@ -19,7 +19,7 @@ use Rattle.soundness.specs.Check.{Findings, tableCheck}
 use Rattle.table.specs.Calls.{isIdle, openOf, stepOf}
 use Rattle.table.specs.Memory.{Memory}
 use Rattle.table.specs.declared.Begun.the-variants.{Idle, Started, Refused}
-use Rattle.listing.specs.Listing.{repairedCard, repairSteps, Listing, Listed, refused, listed, pairsFrom, listChecked, listTable, listBegun, listCard, listRead, listDump, laid, layPairs, layListed}
+use Rattle.listing.specs.Listing.{repairedCard, repairSteps, Listing, Listed, refused, listed, pairsFrom, listChecked, listTable, listBegun, listCard, listRead, listDump, leftBegun, listedCard, leftRead, listedOver, laid, layPairs, layListed}
 use Rattle.listing.specs.Summaries.{summarized, summaryOf}
 
 -- ---- the repair
@@ -78,6 +78,18 @@ module _ (card : List ℕ) where
   unfolding listCard listBegun
   card-started e = rw e
 
+  pub left-refused : (r : ℕ) → openOf card .begun ≡ Refused r → card ≡ listedCard card
+  unfolding listedCard leftBegun
+  left-refused r e = rw e
+
+  pub left-idle : openOf card .begun ≡ Idle → listedCard card ≡ repairedCard repairSteps card (openOf card .memory) .card
+  unfolding listedCard leftBegun
+  left-idle e = rw e
+
+  pub left-started : openOf card .begun ≡ Started → listedCard card ≡ repairedCard repairSteps card (openOf card .memory) .card
+  unfolding listedCard leftBegun
+  left-started e = rw e
+
 -- ---- a dump
 
 module _ (dump : List ℕ) (lent : ℕ) where
@@ -92,3 +104,17 @@ module _ (dump : List ℕ) (lent : ℕ) where
 -- the card that was read
 pub read-card : (dump words : List ℕ) (size : ℕ) → readAnswer dump (length words) ≡ Length size → take size (readOver dump words) ≡ dumpWords size dump
 read-card dump words size e = ap (take size) (read-words dump words size e) ∙ take-at (dumpWords size dump) (drop size words) size (length-dumpWords size dump)
+
+-- the words lent, by what reading answers
+module _ (dump words : List ℕ) where
+  pub over-refused : (r : ℕ) → readAnswer dump (length words) ≡ ReadRefused r → readOver dump words ≡ listedOver dump words
+  unfolding readOver listedOver leftRead
+  over-refused r e = rw e
+
+  pub over-read : (size : ℕ) → readAnswer dump (length words) ≡ Length size → listedOver dump words ≡ listedCard (dumpWords size dump) ++ drop size words
+  unfolding listedOver leftRead
+  over-read size e = rw e
+
+-- the words beyond the card that was read
+pub read-beyond : (dump words : List ℕ) (size : ℕ) → readAnswer dump (length words) ≡ Length size → drop size (readOver dump words) ≡ drop size words
+read-beyond dump words size e = ap (drop size) (read-words dump words size e) ∙ drop-at (dumpWords size dump) (drop size words) size (length-dumpWords size dump)

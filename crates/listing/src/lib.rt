@@ -10,7 +10,7 @@ ghost use mathlib.Core.Path.{_≡_};
 ghost use lib.ListN.{length};
 ghost use Rattle.card.specs.Header.{nodesOfLength};
 ghost use Rattle.table.specs.Memory.{memoryOf};
-ghost use Rattle.listing.specs.Listing.{repairedCard, repairSteps, listTable, listCard, listDump, layListed};
+ghost use Rattle.listing.specs.Listing.{repairedCard, repairSteps, listTable, listCard, listDump, listedCard, listedOver, layListed};
 ghost use Rattle.listing.specs.Summaries.{summaryOf};
 
 // "First line: N, free nodes, internal levels, pairs", or the refusal, which is 0 where there is none. Of the lent slice
@@ -67,6 +67,7 @@ fn list_table(card: &[u32], out: &mut [u32]) -> Summary
 fn list_repaired(card: &mut [u32], s: State, out: &mut [u32]) -> Summary
     ensures { λ r. ⌜ r ≡ summaryOf (listTable (repairedCard repairSteps (now (card .entry)) (memoryOf s) .card) (nodesOfLength (length (now (card .entry))))) (now (out .entry)) ⌝ }
     ensures { λ r. ⌜ now (out .exit) ≡ layListed (listTable (repairedCard repairSteps (now (card .entry)) (memoryOf s) .card) (nodesOfLength (length (now (card .entry))))) (now (out .entry)) .words ⌝ }
+    ensures { λ r. ⌜ now (card .exit) ≡ repairedCard repairSteps (now (card .entry)) (memoryOf s) .card ⌝ }
 {
     repair(card, s);
     list_table(card, out)
@@ -76,6 +77,7 @@ fn list_repaired(card: &mut [u32], s: State, out: &mut [u32]) -> Summary
 pub fn list_card(card: &mut [u32], out: &mut [u32]) -> Summary
     ensures { λ r. ⌜ r ≡ summaryOf (listCard (now (card .entry))) (now (out .entry)) ⌝ }
     ensures { λ r. ⌜ now (out .exit) ≡ layListed (listCard (now (card .entry))) (now (out .entry)) .words ⌝ }
+    ensures { λ r. ⌜ now (card .exit) ≡ listedCard (now (card .entry)) ⌝ }
 {
     let opening = table::open(card);
     let begun = opening.begun;
@@ -91,6 +93,7 @@ pub fn list_card(card: &mut [u32], out: &mut [u32]) -> Summary
 pub fn list_dump(bytes: &[u8], card: &mut [u32], out: &mut [u32]) -> Summary
     ensures { λ r. ⌜ r ≡ summaryOf (listDump (now (bytes .entry)) (length (now (card .entry)))) (now (out .entry)) ⌝ }
     ensures { λ r. ⌜ now (out .exit) ≡ layListed (listDump (now (bytes .entry)) (length (now (card .entry)))) (now (out .entry)) .words ⌝ }
+    ensures { λ r. ⌜ now (card .exit) ≡ listedOver (now (bytes .entry)) (now (card .entry)) ⌝ }
 {
     match dump::read_dump(bytes, card) {
         dump::Answer::Refused(refusal) => refusing(refusal),

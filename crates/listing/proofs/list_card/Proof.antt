@@ -5,7 +5,7 @@ use Rattle.table.specs.Calls.{Handed}
 use Rattle.table.specs.Results.{handedOf}
 use Rattle.listing.specs.Listing.{repairedCard, repairSteps, Listed, listTable, listCard, layListed}
 use Rattle.listing.specs.Summaries.{summaryOf}
-use Rattle.listing.specs.SummaryLaws.{summary-refused, card-refused, card-idle, card-started}
+use Rattle.listing.specs.SummaryLaws.{summary-refused, card-refused, card-idle, card-started, left-refused, left-idle, left-started}
 use borrow.Author.Needs.{needs}
 use Rattle.listing.proofs.list_card.Statement.{statement}
 use Rattle.listing.proofs.list_card.Tie as tie
@@ -41,7 +41,7 @@ returns c =
     let b = c .before .before .begun in
     let e = ap (λ (h : Handed). h .begun) (sym (c .before .before .before .before .before .«open» .ensures)) ∙ b .given .1 in
     let q = summary-refused (b .given .0 .0) (listCard (s .args .card .now)) (s .args .out .now) (card-refused (s .args .card .now) (b .given .0 .0) e) in
-    (c .refusing .ensures ∙ q .0, q .1)
+    (c .refusing .ensures ∙ q .0, (q .1, left-refused (s .args .card .now) (b .given .0 .0) e))
 
 same-length-2 : tie.Need-same-length-2
 same-length-2 c = search needs
@@ -57,7 +57,7 @@ returns-2 c =
     let k = c .before .before .before .before .list-repaired in
     let e = ap (λ (h : Handed). h .begun) (sym o) ∙ c .before .before .before .before .before .before .before .enum-told .given .1 in
     let is = ap (λ (h : Handed). listTable (repairedCard repairSteps (s .args .card .now) (h .memory) .card) (nodesOfLength (length (s .args .card .now)))) o ∙ sym (card-idle (s .args .card .now) e) in
-    (k .ensures .0 ∙ ap (λ (l : Listed). summaryOf l (s .args .out .now)) is, k .ensures .1 ∙ ap (λ (l : Listed). layListed l (s .args .out .now) .words) is)
+    (k .ensures .0 ∙ ap (λ (l : Listed). summaryOf l (s .args .out .now)) is, (k .ensures .1 .0 ∙ ap (λ (l : Listed). layListed l (s .args .out .now) .words) is, k .ensures .1 .1 ∙ ap (λ (h : Handed). repairedCard repairSteps (s .args .card .now) (h .memory) .card) o ∙ sym (left-idle (s .args .card .now) e)))
 
 same-length-4 : tie.Need-same-length-4
 same-length-4 c = search needs
@@ -73,7 +73,7 @@ returns-3 c =
     let k = c .before .before .before .before .list-repaired2 in
     let e = ap (λ (h : Handed). h .begun) (sym o) ∙ c .before .before .before .before .before .before .before .enum-told2 .given .1 in
     let is = ap (λ (h : Handed). listTable (repairedCard repairSteps (s .args .card .now) (h .memory) .card) (nodesOfLength (length (s .args .card .now)))) o ∙ sym (card-started (s .args .card .now) e) in
-    (k .ensures .0 ∙ ap (λ (l : Listed). summaryOf l (s .args .out .now)) is, k .ensures .1 ∙ ap (λ (l : Listed). layListed l (s .args .out .now) .words) is)
+    (k .ensures .0 ∙ ap (λ (l : Listed). summaryOf l (s .args .out .now)) is, (k .ensures .1 .0 ∙ ap (λ (l : Listed). layListed l (s .args .out .now) .words) is, k .ensures .1 .1 ∙ ap (λ (h : Handed). repairedCard repairSteps (s .args .card .now) (h .memory) .card) o ∙ sym (left-started (s .args .card .now) e)))
 
 pub list-card-spec : {M : Type 1} → statement M
 list-card-spec =

@@ -1,13 +1,13 @@
-use mathlib.Core.Path.{ap, sym, _∙_}
-use mathlib.Core.List.{List}
+use mathlib.Core.Path.{ap, ap₂, sym, _∙_}
+use mathlib.Core.List.{List, _++_}
 use Prim.Native.Nat.{ℕ}
 use native.Mathlib.Omega.{arith}
-use lib.ListN.{length, take}
+use lib.ListN.{length, take, drop}
 use lib.Seq.{length-take-le}
 use Rattle.dump.specs.AnswerLaws.{read-sized}
-use Rattle.listing.specs.Listing.{Listed, listCard, listDump, layListed}
+use Rattle.listing.specs.Listing.{Listed, listCard, listDump, listedCard, layListed}
 use Rattle.listing.specs.Summaries.{summaryOf}
-use Rattle.listing.specs.SummaryLaws.{summary-refused, dump-refused, dump-read, read-card}
+use Rattle.listing.specs.SummaryLaws.{summary-refused, dump-refused, dump-read, read-card, over-refused, over-read, read-beyond}
 use borrow.Author.Needs.{needs}
 use Rattle.listing.proofs.list_dump.Statement.{statement}
 use Rattle.listing.proofs.list_dump.Tie as tie
@@ -48,10 +48,11 @@ returns : tie.Need-returns
 returns c =
     let s = c .before .before .before .before .before .before .before .before .before .before .before in
     let b = c .before .before .refusal in
-    let e = sym (c .before .before .before .before .before .before .read-dump .ensures .0) ∙ b .given .1 in
+    let d = c .before .before .before .before .before .before .read-dump in
+    let e = sym (d .ensures .0) ∙ b .given .1 in
     let lent = length (s .args .card .now) in
     let q = summary-refused (b .given .0 .0) (listDump (s .args .bytes .now) lent) (s .args .out .now) (dump-refused (s .args .bytes .now) lent (b .given .0 .0) e) in
-    (c .refusing .ensures ∙ q .0, q .1)
+    (c .refusing .ensures ∙ q .0, (q .1, d .ensures .1 ∙ over-refused (s .args .bytes .now) (s .args .card .now) (b .given .0 .0) e))
 
 same-length-2 : tie.Need-same-length-2
 same-length-2 c = search needs
@@ -68,7 +69,9 @@ returns-2 c =
     let size = z .0 .0 in
     let e = sym (d .ensures .0) ∙ z .1 in
     let is = ap (λ (l : List ℕ). listCard (take (z .0 .0) l)) (d .ensures .1) ∙ ap listCard (read-card (s .args .bytes .now) (s .args .card .now) size e) ∙ sym (dump-read (s .args .bytes .now) (length (s .args .card .now)) size e) in
-    (k .ensures .0 ∙ ap (λ (l : Listed). summaryOf l (s .args .out .now)) is, k .ensures .1 ∙ ap (λ (l : Listed). layListed l (s .args .out .now) .words) is)
+    let left = k .ensures .1 .1 ∙ ap listedCard (ap (take (z .0 .0)) (d .ensures .1) ∙ read-card (s .args .bytes .now) (s .args .card .now) size e) in
+    let beyond = ap (drop (z .0 .0)) (d .ensures .1) ∙ read-beyond (s .args .bytes .now) (s .args .card .now) size e in
+    (k .ensures .0 ∙ ap (λ (l : Listed). summaryOf l (s .args .out .now)) is, (k .ensures .1 .0 ∙ ap (λ (l : Listed). layListed l (s .args .out .now) .words) is, ap₂ (λ (a b : List ℕ). a ++ b) left beyond ∙ sym (over-read (s .args .bytes .now) (s .args .card .now) size e)))
 
 pub list-dump-spec : {M : Type 1} → statement M
 list-dump-spec =

@@ -24,8 +24,9 @@ returns c =
     let s = c .before .before .before .before .before .before .before .before .before .before .before in
     let r = c .before .before .before .before .before .before .before .repair in
     let k = c .before .before .list-table in
-    let is = ap₂ listTable (ap (λ (x : Repaired). x .card) (r .ensures)) (ap nodesOfLength (r .kept .0)) in
-    (k .ensures .0 ∙ ap (λ (l : Listed). summaryOf l (s .args .out .now)) is, k .ensures .1 ∙ ap (λ (l : Listed). layListed l (s .args .out .now) .words) is)
+    let left = ap (λ (x : Repaired). x .card) (r .ensures) in
+    let is = ap₂ listTable left (ap nodesOfLength (r .kept .0)) in
+    (k .ensures .0 ∙ ap (λ (l : Listed). summaryOf l (s .args .out .now)) is, (k .ensures .1 ∙ ap (λ (l : Listed). layListed l (s .args .out .now) .words) is, left))
 
 pub list-repaired-spec : {M : Type 1} → statement M
 list-repaired-spec =
