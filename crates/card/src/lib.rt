@@ -13,6 +13,9 @@ pub const GREATEST_NODES: usize = 600;
 // "more than 10 internal nodes": the only place in code where the depth limit stands.
 pub const DEPTH_LIMIT: usize = 10;
 
+// "4: number of the root node": the only place in code where it stands.
+pub const ROOT_PLACE: usize = 4;
+
 // How many nodes a card of so many words has; 0 where no card has that length.
 pub fn nodes_of(length: usize) -> usize
     ensures { λ r. ⌜ r ≡ nodesOfLength length ⌝ }

@@ -28,9 +28,6 @@ ghost use Rattle.change.specs.Planning.{giving, first, second, third};
 ghost use Rattle.change.specs.Rows.{wordsOf};
 ghost use Rattle.change.specs.Plan.{Extends, preparationOf, togetherOf, halves, splitUnder, Whole};
 
-// "4: number of the root node"
-pub const ROOT_PLACE: usize = 4;
-
 // What two siblings hold together: for leaves keys and values, for internal nodes routing keys and children.
 pub struct Pool {
     pub kind: u32,
@@ -42,7 +39,7 @@ pub struct Pool {
 fn kind_above(link: usize) -> u32
     ensures { λ r. ⌜ r ≡ kindAbove link ⌝ }
 {
-    if link == ROOT_PLACE { 2 } else { 3 }
+    if link == card::ROOT_PLACE { 2 } else { 3 }
 }
 
 // How many keys the left of two nodes gets where it gets so many values. Of internal nodes the key between them goes up.

@@ -177,7 +177,7 @@ pub fn next_repair(card: &[u32], n: usize, key: u32, free: NodeSet, last: usize)
     requires { ⌜ (length (now card) ≡ 8 + 24 * n) × (n ≤ greatestNodes) × (4 ≤ n) ⌝ }
     ensures { λ r. ⌜ preparationOf r ≡ nextRepair (now (card .entry)) n key (nodesOf (free .words)) last ⌝ }
 {
-    match descent::find_violation(card, n, key, card[4] as usize) {
+    match descent::find_violation(card, n, key, card[card::ROOT_PLACE] as usize) {
         Search::Refused => refused(free, last),
         Search::Balanced => balanced(free, last),
         Search::Violation(p) => mend(card, n, p, free, last),

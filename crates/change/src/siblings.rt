@@ -4,7 +4,6 @@ use crate::Planned;
 use crate::answers::linked;
 use crate::answers::refused;
 use crate::halves::Pool;
-use crate::halves::ROOT_PLACE;
 use crate::halves::append_halves;
 use crate::halves::key_between;
 use crate::numbers::Three;
@@ -158,7 +157,7 @@ fn is_root_of_two(p: Position, parent: &[u32]) -> bool
     requires { ⌜ length (now parent) ≡ 24 ⌝ }
     ensures { λ r. ⌜ r ≡ (eqb (p .above) rootPlace && eqb (length (children (now (parent .entry)))) 2) ⌝ }
 {
-    p.above == ROOT_PLACE && card::child_count(parent) == 2
+    p.above == card::ROOT_PLACE && card::child_count(parent) == 2
 }
 
 // "Together 4 or more: shared out .. Together 3 or fewer: merged"

@@ -9,7 +9,7 @@ ghost use Rattle.free_nodes.specs.NodeSet.{capacity, nodesOf, allNodes, 
 const WORDS: usize = 10;
 
 // How many bits that makes: a node of the set is below it.
-const CAPACITY: usize = WORDS * 64;
+pub const CAPACITY: usize = WORDS * 64;
 
 // Node m is bit m % 64 of word m / 64.
 pub struct NodeSet {

@@ -1,33 +1,11 @@
 // The repair of a card that was opened, in one call (document 01, "State, steps and free nodes").
-use table::Doing;
 use table::State;
+use table::is_idle;
 use table::step;
 ghost use mathlib.Core.Path.{_≡_};
-ghost use Rattle.table.specs.Calls.{isIdle};
 ghost use Rattle.table.specs.Memory.{memoryOf};
 ghost use Rattle.listing.specs.Listing.{repairedCard, repairSteps};
 ghost use Rattle.listing.specs.Summaries.{leftBy};
-
-// Whether nothing is in progress.
-fn is_idle(doing: Doing) -> bool
-    ensures { λ r. ⌜ r ≡ isIdle doing ⌝ }
-{
-    match doing {
-        Doing::Idle => true,
-        Doing::Formatting { made: _ } => false,
-        Doing::Inserting {
-            key: _,
-            value: _,
-            begun: _,
-        } => false,
-        Doing::Deleting {
-            key: _,
-            begun: _,
-            value: _,
-        } => false,
-        Doing::Repairing { key: _ } => false,
-    }
-}
 
 // Steps until the state is idle. A repair takes at most 73 stores for each level, and one step for its answer.
 pub fn repair(card: &mut [u32], s: State) -> State

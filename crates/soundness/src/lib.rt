@@ -465,7 +465,7 @@ pub fn check_table(card: &[u32], n: usize) -> Checked
     node_check(
         card,
         n,
-        card[4] as usize,
+        card[card::ROOT_PLACE] as usize,
         card::DEPTH_LIMIT,
         1,
         4294967296,

@@ -16,6 +16,7 @@ use lookup::found_at;
 use opening::open_checked;
 use states::no_beginning;
 use states::resting;
+pub use steps::is_idle;
 use steps::step_held;
 use updates::has_room;
 use updates::start_refusal;
@@ -173,7 +174,7 @@ pub fn start_insert(card: &[u32], s: State, key: u32, value: u32) -> Beginning
             state: s,
         };
     }
-    match descent::find_landing(card, s.nodes, key, card[4] as usize) {
+    match descent::find_landing(card, s.nodes, key, card[card::ROOT_PLACE] as usize) {
         Landing::Refused => Beginning {
             begun: Begun::Refused(9),
             state: s,
@@ -214,7 +215,7 @@ pub fn start_delete(card: &[u32], s: State, key: u32) -> Beginning
             state: s,
         };
     }
-    match descent::find_landing(card, s.nodes, key, card[4] as usize) {
+    match descent::find_landing(card, s.nodes, key, card[card::ROOT_PLACE] as usize) {
         Landing::Refused => Beginning {
             begun: Begun::Refused(9),
             state: s,

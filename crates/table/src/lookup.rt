@@ -36,7 +36,7 @@ pub fn found_at(card: &[u32], n: usize, key: u32) -> Found
     requires { ⌜ (length (now card) ≡ 8 + 24 * n) × (n ≤ greatestNodes) ⌝ }
     ensures { λ r. ⌜ r ≡ foundAt (now (card .entry)) key (leafFor (now (card .entry)) n key depthLimit (getD (now (card .entry)) rootPlace 0)) ⌝ }
 {
-    match descent::find_leaf(card, n, key, card[4] as usize) {
+    match descent::find_leaf(card, n, key, card[card::ROOT_PLACE] as usize) {
         Way::Refused => Found::Refused(9),
         Way::Leaf { node, depth: _ } => found_in(card::node_at(card, node), key),
     }

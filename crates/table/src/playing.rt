@@ -19,9 +19,6 @@ ghost use Rattle.table.specs.Results.{stepLeft, Unchanged, more};
 // How many stores a plan has room for: "So a change is at most 73 stores."
 const PLAN_SIZE: usize = 73;
 
-// How many bits a set of nodes has: numbers from here on are no nodes.
-const NODE_BITS: usize = 640;
-
 // Whether a store of a plan is still to come after so many. A state may hold any numbers, so both ends are looked at.
 pub fn in_hand(plan: Plan, made: usize) -> bool
     ensures { λ r. ⌜ r ≡ more (drop made (storesOf plan)) ⌝ }
@@ -36,7 +33,7 @@ pub fn in_hand(plan: Plan, made: usize) -> bool
 fn with_one(free: NodeSet, m: usize) -> NodeSet
     ensures { λ r. ⌜ nodesOf (r .words) ≡ set (nodesOf (free .words)) m true ⌝ }
 {
-    if m < NODE_BITS {
+    if m < free_nodes::CAPACITY {
         return free_nodes::with_node(free, m);
     }
     free

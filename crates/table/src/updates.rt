@@ -157,7 +157,7 @@ pub fn first_insert(card: &[u32], s: State, key: u32, value: u32) -> First
     ensures { λ r. ⌜ firstOf r ≡ insertFirst (now (card .entry)) key value (nodesOf (s .free .words)) (s .last) (landing (now (card .entry)) (s .nodes) key) ⌝ }
 {
     let free = s.free;
-    match descent::find_landing(card, s.nodes, key, card[4] as usize) {
+    match descent::find_landing(card, s.nodes, key, card[card::ROOT_PLACE] as usize) {
         Landing::Refused => {
             let doing = Doing::Inserting {
                 key,
@@ -225,7 +225,7 @@ pub fn first_delete(card: &[u32], s: State, key: u32) -> First
     ensures { λ r. ⌜ firstOf r ≡ deleteFirst (now (card .entry)) key (nodesOf (s .free .words)) (s .last) (landing (now (card .entry)) (s .nodes) key) ⌝ }
 {
     let free = s.free;
-    match descent::find_landing(card, s.nodes, key, card[4] as usize) {
+    match descent::find_landing(card, s.nodes, key, card[card::ROOT_PLACE] as usize) {
         Landing::Refused => {
             let doing = Doing::Deleting {
                 key,

@@ -6,7 +6,7 @@ use Prim.Native.Nat.{ℕ, _+_, _≤_}
 use native.Mathlib.Omega.{arith}
 use lib.ListN.{length, set, getD, length-append, length-set}
 use lib.Seq.{set-append-seam, getD-set-same, getD-set-other}
-use Rattle.card.specs.Layout.{place}
+use Rattle.card.specs.Layout.{place, rootPlace}
 use Rattle.card.specs.NodeWords.{NodeWords, node-words-high, Keeps, keeps-node, keeps-head}
 use Rattle.laws.specs.Totals.{indicator, indicator-same}
 use Rattle.tree.specs.Tree.{Tree, Forest, root, roots, routing, node-total, node-totals, Left, Right, fill, Context, plug, left-total, right-total, context-total, leaf, node, one, more, rightmost, followed, top, down}
@@ -50,12 +50,12 @@ routing-right (followed k f) = k ∷ routing f
 
 -- the card holds all of the tree but the hole, and the link to the hole is x
 abbrev pub RepresentsContext : List ℕ → Context → ℕ → Type 0
-RepresentsContext c top x = (getD c 4 0 ≡ x) × (8 ≤ length c)
+RepresentsContext c top x = (getD c rootPlace 0 ≡ x) × (8 ≤ length c)
 RepresentsContext c (down C m g l r) x = NodeWords c m (kind g) (routing-left l ++ routing-right r) (roots-left l ++ x ∷ roots-right r) × RepresentsLeft c l × RepresentsRight c r × RepresentsContext c C m × (length (roots-left l ++ x ∷ roots-right r) ≤ 11)
 
 -- where the link to the hole stands
 abbrev pub link-place : Context → ℕ
-link-place top = 4
+link-place top = rootPlace
 link-place (down C m g l r) = place m (12 + length (roots-left l))
 
 module _ (c c′ : List ℕ) (w : ℕ → ℕ) (keep : Keeps c c′ w) where
@@ -76,7 +76,7 @@ module _ (c c′ : List ℕ) (w : ℕ → ℕ) (keep : Keeps c c′ w) where
   frame-right rightmost d r = tt
   frame-right (followed k f) d r = frames f d r
 
-  pub frame-context : getD c′ 4 0 ≡ getD c 4 0 → length c′ ≡ length c → (C : Context) (x : ℕ) → context-total w C ≡ 0 → RepresentsContext c C x → RepresentsContext c′ C x
+  pub frame-context : getD c′ rootPlace 0 ≡ getD c rootPlace 0 → length c′ ≡ length c → (C : Context) (x : ℕ) → context-total w C ≡ 0 → RepresentsContext c C x → RepresentsContext c′ C x
   frame-context h4 hl top x d r = (h4 ∙ r .0, omega arith)
   frame-context h4 hl (down C m g l r) x d p = (
     keep m _ _ _ (omega arith) (p .0),
@@ -119,7 +119,7 @@ module _ (c : List ℕ) where
   represents-unfill (a ∷ l) t r p = let q = represents-unfill l t r (p .1) in ((p .0, q .0), q .1, q .2)
 
   abbrev pub Holds : Tree → Type 0
-  Holds t = (getD c 4 0 ≡ root t) × (8 ≤ length c) × Represents c t
+  Holds t = (getD c rootPlace 0 ≡ root t) × (8 ≤ length c) × Represents c t
 
   pub plugged : (C : Context) (t : Tree) → RepresentsContext c C (root t) → Represents c t → Holds (plug C t)
   plugged top t p q = (p .0, p .1, q)
