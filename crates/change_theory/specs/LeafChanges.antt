@@ -13,7 +13,7 @@ use borrow.Author.Tests.{lt-ltb, le-ltb}
 use Rattle.card.specs.Layout.{slot-pairs}
 use Rattle.card.specs.Stores.{NewNode, new-node}
 use Rattle.change.specs.Change.{half}
-use Rattle.change_theory.specs.Exchange.{Exchange, exchange-splice, Enough, enough, Remains, remains-enough, OneViolation, copied}
+use Rattle.change_theory.specs.Exchange.{Exchange, exchange-splice, Enough, enough, Remains, remains-enough, OneViolation, copied, half-size}
 use Rattle.change_theory.specs.LeafRows.{newLeaf, slot-keys, slot-pairs-length, new-leaf-pairs, new-leaf-range, new-leaf-settled, length-pair-keys, length-pair-values, new-leaf-represented, twoLeaves, two-leaves-pairs, two-leaves-range, two-leaves-settled, two-leaves-widths}
 use Rattle.change_theory.specs.Parent.{violations-inside}
 use Rattle.change_theory.specs.Rewrite.{SameHeight, Rewrite}
@@ -81,11 +81,6 @@ module _ (ks vs ks′ vs′ : List ℕ) where
 
   pub together-rising : (lo k hi : ℕ) → lo < k → k < hi → LeafRange lo k (slot-pairs ks vs) → LeafRange k hi (slot-pairs ks′ vs′) → Rising lo hi (pairsTogether ks vs ks′ vs′)
   together-rising lo k hi h g u v = rising-sort lo hi (slot-pairs ks vs ++ slot-pairs ks′ vs′) (omega arith) (range-append lo k hi (slot-pairs ks vs) (slot-pairs ks′ vs′) h g u v)
-
--- the larger half of 4 to 12
-half-bounds : (n : ℕ) → 4 ≤ n → n ≤ 12 → (2 ≤ half n) × (half n + 2 ≤ n) × (half n ≤ 6) × (n ≤ half n + 6)
-unfolding half
-half-bounds n h g = (omega arith, omega arith, omega arith, omega arith)
 
 module _ (x : ℕ) (ks vs : List ℕ) (k y : ℕ) (ks′ vs′ : List ℕ) where
   -- shared out: the first n pairs go left
@@ -177,10 +172,10 @@ module _ (l : Left) (x : ℕ) (ks vs : List ℕ) (k y : ℕ) (ks′ vs′ : List
   leaf-share C p a b c h g =
       let ps = pairsTogether ks vs ks′ vs′ in
       let n = half (length ps) in
-      let e = half-bounds (length ps) h g in
+      let e = half-size (length ps) h g in
       let s = size-splice l (leaves x ks vs k y ks′ vs′) (twoLeaves a b n ps) r in
       let least = one-violation .least in
-      leaves-copied C p c (twoLeaves a b n ps) (leafNodes a b n ps) (leaves-share x ks vs k y ks′ vs′ a b n (e .0) (e .1) (omega (arith, e .2)) (omega (arith, e .3))) (two-leaves-settled a b n ps (together-nonzero ks vs ks′ vs′) (e .0) (e .1)) (omega arith) (omega arith) (enough C (length (roots (splice l (twoLeaves a b n ps) r))) (omega arith))
+      leaves-copied C p c (twoLeaves a b n ps) (leafNodes a b n ps) (leaves-share x ks vs k y ks′ vs′ a b n (e .0) (e .1) (omega (arith, e .3)) (omega (arith, e .2))) (two-leaves-settled a b n ps (together-nonzero ks vs ks′ vs′) (e .0) (e .1)) (omega arith) (omega arith) (enough C (length (roots (splice l (twoLeaves a b n ps) r))) (omega arith))
 
   -- "Together 3 or fewer: merged, the parent copied with one child less"
   pub leaf-merge : (C : Context) (p a b : ℕ) → length (pairsTogether ks vs ks′ vs′) ≤ 3 → Remains C (length (roots (splice l (leaves x ks vs k y ks′ vs′) r)))

@@ -11,7 +11,7 @@ use Rattle.change.specs.Planning.{first, second, third}
 use Rattle.change_theory.specs.Exchange.{Remains, OneViolation}
 use Rattle.change_theory.specs.LeafChanges.{leaves, pairsTogether, UnderfullLeaf, leaves-most, leaf-share, leaf-merge, leaf-merge-root}
 use Rattle.change_theory.specs.LeafPlans.{AtSiblings, leaf-share-plan, leaf-merge-plan, leaf-merge-root-plan}
-use Rattle.change_theory.specs.Mending.{StandsAt, Planned}
+use Rattle.change_theory.specs.Mending.{StandsAt, Planned, first-of, two-of, three-of}
 use Rattle.change_theory.specs.Parent.{violations-inside}
 use Rattle.change_theory.specs.Siblings.{siblings}
 use Rattle.laws.specs.Cases.{order}
@@ -22,20 +22,6 @@ use Rattle.tree.specs.Splice.{Height, AllHeight, height-splice, roots-splice}
 use Rattle.tree.specs.Tree.{Tree, Forest, roots, Left, Right, splice, fill, Context, leaf, node, one, more, rightmost, followed, top, down}
 use Rattle.tree.specs.Violations.{few, violations, forest-violations}
 use Rattle.descent.specs.declared.Position.{Position}
-
--- the numbers given, as a list of one, two or three
-first-of : (ms : List ℕ) → length ms ≡ 1 → first ms ∷ [] ≡ ms
-first-of [] e = absurd (omega arith)
-first-of (a ∷ []) e = refl
-first-of (a ∷ b ∷ ms) e = absurd (omega arith)
-
-two-of : (ms : List ℕ) → length ms ≡ 2 → first ms ∷ second ms ∷ [] ≡ ms
-two-of [] e = absurd (omega arith)
-two-of (a ∷ ms) e = ap (λ (l : List ℕ). a ∷ l) (first-of ms (omega arith))
-
-three-of : (ms : List ℕ) → length ms ≡ 3 → first ms ∷ second ms ∷ third ms ∷ [] ≡ ms
-three-of [] e = absurd (omega arith)
-three-of (a ∷ ms) e = ap (λ (l : List ℕ). a ∷ l) (two-of ms (omega arith))
 
 -- Two leaves side by side, of which one is the violation; no node is kept in reserve for what takes their place.
 -- Its nodes, the part they make and the nodes cut out are those of the plan and of its rewrite, so they are not written out again.

@@ -1,23 +1,21 @@
 -- Formatting cut: "Cut before its first store, it leaves the card alone; before its last store, opening refuses with 2." The first
 -- is `format-untouched`. Cut after its last store, opening gives the state that "ready" gives.
-use mathlib.Core.Path.{_≡_, refl, ap, sym, _∙_}
+use mathlib.Core.Path.{_≡_, ap, _∙_}
 use mathlib.Core.List.{List}
 use mathlib.Core.Bool.{Bool, true, false}
 use mathlib.Core.Option.{some}
-use mathlib.Core.Logic.{_⊎_, inl, inr, _≢_}
-use Prim.Native.Nat.{ℕ, suc, _≤_, _<_}
+use mathlib.Core.Logic.{_≢_}
+use Prim.Native.Nat.{ℕ, suc, _≤_}
 use native.Mathlib.Omega.{arith}
 use lib.ListN.{length, getD}
-use lib.Seq.{ext-getD}
 use borrow.Author.Tests.{le-ltb, ne-eqb}
 use Rattle.card.specs.HeaderLaws.{Sized, sized-nodes, Formatted, formatted-header, wrong-word0}
-use Rattle.change_theory.specs.Exact.{Exact}
+use Rattle.change_theory.specs.Exact.{Exact, exact-same}
 use Rattle.formatting_theory.specs.FormatCard.{formatCard, format-length, format-unfinished}
 use Rattle.formatting_theory.specs.FormatSteps.{freshNodes, freshMemory}
 use Rattle.formatting_theory.specs.FreshTable.{freshTree, FreshTable, format-fresh, fresh-balanced}
 use Rattle.free_nodes.specs.NodeSet.{countTrue}
 use Rattle.laws.specs.Bits.{bit, bit-zero}
-use Rattle.laws.specs.Cases.{order}
 use Rattle.soundness.specs.Check.{Findings, tableCheck}
 use Rattle.soundness_theory.specs.Facts.{Facts}
 use Rattle.soundness_theory.specs.Soundness.{sound-accepted}
@@ -36,22 +34,6 @@ pub cut-refused : (c : List ℕ) (n made : ℕ) → Sized (length c) n → 1 ≤
 cut-refused c n made s low high =
     let u = format-unfinished n c made low high in
     unmarked-refused (formatCard n c made) n (rw (format-length n c made) s) (omega (arith, u .mark))
-
--- the free nodes are decided by the tree
-same-bit : (a b : Bool) → bit a ≡ bit b → a ≡ b
-same-bit true true e = refl
-same-bit true false e = absurd (omega arith)
-same-bit false true e = absurd (omega arith)
-same-bit false false e = refl
-
-pub exact-same : (n : ℕ) (a b : List Bool) (t : Tree) → Exact n a t → Exact n b t → a ≡ b
-exact-same n a b t x y = ext-getD false a b (x .size ∙ sym (y .size)) (λ i h. at i)
-  where
-    out : (i : ℕ) → (i ≡ 0) ⊎ (n < i) → getD a i false ≡ getD b i false
-    out i o = x .outside-none i o ∙ sym (y .outside-none i o)
-
-    at : (i : ℕ) → getD a i false ≡ getD b i false
-    at i = order i 1 (λ o. out i (inl (omega arith))) (λ o. order n i (λ p. out i (inr p)) (λ p. same-bit _ _ (omega (arith, x .within i o p, y .within i o p))))
 
 -- opening a card whose table is accepted with no fault
 open-idle : (card : List ℕ) (n h : ℕ) (f : Findings) → Sized (length card) n → Formatted card n → tableCheck card n ≡ some (h, f) → f .violated ≡ false → f .run ≡ 0 → 3 ≤ countTrue (f .free)
