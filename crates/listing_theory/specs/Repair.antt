@@ -5,9 +5,8 @@ use mathlib.Core.Bool.{true}
 use Prim.Native.Nat.{ℕ, zero, suc, _≤_}
 use native.Mathlib.Omega.{arith}
 use lib.ListN.{length, replicate}
-use lib.Dec.{eqb}
 use Rattle.laws.specs.Cases.{bool-cases}
-use Rattle.card.specs.Header.{nodesOfLength, headerRefusal}
+use Rattle.card.specs.Header.{nodesOfLength}
 use Rattle.card.specs.HeaderLaws.{Sized, sized-nodes}
 use Rattle.listing.specs.Listing.{repairedCard}
 use Rattle.promises.specs.Feeding.{kept-ledger}
@@ -15,7 +14,8 @@ use Rattle.promises.specs.Ledger.{ledger, empty}
 use Rattle.promises.specs.Machine.{Event, World, opened, happens, run, step}
 use Rattle.promises.specs.Promise.{Accepted, Words, Quiet, steps-in, MapIs, repairSteps, Ends, from-open}
 use Rattle.promises.specs.PowerLoss.{kept, begins-inv, power-loss}
-use Rattle.table.specs.Calls.{isIdle, stepRefused, stepHeld, stepDoing, stepOf, openOf}
+use Rattle.promises.specs.Steps.{idle-world}
+use Rattle.table.specs.Calls.{isIdle, stepOf, openOf}
 use Rattle.table.specs.Memory.{Memory}
 use Rattle.table.specs.declared.Doing.{Doing}
 use Rattle.table.specs.declared.Doing.the-variants.{Idle, Formatting, Inserting, Deleting, Repairing}
@@ -27,19 +27,6 @@ use mathlib.Core.Option.{none}
 -- so many steps
 abbrev pub steps : ℕ → List Event
 steps k = replicate k step
-
--- a step of an idle state changes nothing
-idle-step : (c : List ℕ) (m : Memory) → m .doing ≡ Idle → (stepOf c m .card ≡ c) × (stepOf c m .memory ≡ m)
-unfolding stepOf stepDoing stepHeld stepRefused isIdle
-idle-step c m e =
-    bool-cases (eqb (nodesOfLength (length c)) 0) (λ q. rw q (refl, refl)) (λ q.
-    bool-cases (eqb (nodesOfLength (length c)) (m .nodes)) (λ q₁.
-    bool-cases (eqb (headerRefusal c (m .nodes)) 0) (λ q₂. rw (q, q₁, e, q₂) (refl, refl)) (λ q₂. rw (q, q₁, e, q₂) (refl, refl)))
-    (λ q₁. rw (q, q₁) (refl, refl)))
-
-idle-world : (w : World) → w .memory .doing ≡ Idle → happens step w ≡ w
-unfolding happens
-idle-world w e = let s = idle-step (w .card) (w .memory) e in rw (s .0, s .1)
 
 rests : (k : ℕ) (w : World) → w .memory .doing ≡ Idle → run (steps k) w ≡ w
 unfolding run

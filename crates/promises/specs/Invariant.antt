@@ -13,6 +13,7 @@ use Rattle.change_theory.specs.Repaired.{Mendable}
 use Rattle.change_theory.specs.Rewritten.{Sound}
 use Rattle.free_nodes.specs.NodeSet.{countTrue}
 use Rattle.promises.specs.Feeding.{leaf-full, dictionary-answer}
+use Rattle.promises.specs.Finishing.{updateStores}
 use Rattle.promises.specs.Ledger.{Update, Hand, Ledger, deciding, put, remove, empty, hand}
 use Rattle.promises.specs.LedgerLaws.{Enters, Same}
 use Rattle.promises.specs.Machine.{World}
@@ -49,7 +50,7 @@ pub data Entered : Option Update → Answer → Hand → Option Answer → Type 
 
 -- the most steps from the start of an update to its final answer: 73 stores for its first change, and 73 for each level
 abbrev pub updateSteps : ℕ
-updateSteps = 73 * 9 + 1
+updateSteps = updateStores + 1
 
 pub data Stage (c : List ℕ) (n : ℕ) (t : Tree) (steps : ℕ) : Memory → Hand → Option Answer → Type 0 where
   stage-idle : {free : List Bool} {last : ℕ} → table-violations t ≡ 0 → 3 ≤ countTrue free → Exact n free t

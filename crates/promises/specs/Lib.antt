@@ -2,6 +2,7 @@ pub mod Machine
 pub mod Ledger
 pub mod Feeding
 pub mod Promise
+pub mod Finishing
 pub mod LedgerLaws
 pub mod Slots
 pub mod LeafAfter
@@ -15,5 +16,8 @@ pub mod Stepping
 pub mod Starting
 pub mod Accepting
 pub mod PowerLoss
+pub mod Finished
 pub mod Dictionary
+pub mod RoomLaws
+pub mod Room
 pub mod OpenRefusals

@@ -28,7 +28,7 @@ use Rattle.promises.specs.Machine.{Event, World, opened, happens, run, f
 use Rattle.promises.specs.Promise.{ToReady, Begins, Words, Quiet, steps-in, Says-ready, foundBy, MapIs, repairSteps, Ends, Kept, ready-now, stored-first, from-format, from-open}
 use Rattle.promises.specs.Reopen.{table-well-formed, well-formed-table, reopened}
 use Rattle.promises.specs.Starting.{same-lookup, kept-insert, kept-delete}
-use Rattle.promises.specs.Stepping.{Right, Moves, kept-step, was-idle, ends-now, goes-further, no-answer, no-call, update-answer, repair-answer}
+use Rattle.promises.specs.Stepping.{Right, right-final, Moves, kept-step, was-idle, ends-now, goes-further}
 use Rattle.table.specs.Calls.{noBeginning, formatOf, isIdle, stepOf, startRefused, started, startLanded, startChecked, startOf, insertOf, deleteOf}
 use Rattle.table.specs.Memory.{Memory, resting}
 use Rattle.table.specs.Updates.{landing, startRoom}
@@ -62,7 +62,7 @@ loosen n few many w b due h i = record { tree = i .tree; table = i .table; opena
     at (stage-between j en deep r x q) = stage-between j en deep r x (omega arith)
     at (stage-within j en p e q) = stage-within j en p e (omega arith)
 
-reopened-inv : (n : ℕ) (c : List ℕ) (t : Tree) (l : List (ℕ × ℕ)) → Table c n t → Openable n t → Same (pairs t) l → Inv n repairSteps (opened c) (ledger l empty) none
+pub reopened-inv : (n : ℕ) (c : List ℕ) (t : Tree) (l : List (ℕ × ℕ)) → Table c n t → Openable n t → Same (pairs t) l → Inv n repairSteps (opened c) (ledger l empty) none
 reopened-inv n c t l b o s = let r = reopened c n t b o in loosen n (r .steps) repairSteps (opened c) (ledger l empty) none (r .few-steps) (record { tree = t; table = b; openable = o; same = s; stage = r .stage })
 
 find-keeps : (n steps : ℕ) (w : World) (b : Ledger) (due : Option Answer) (key : ℕ) → Inv n steps w b due → Inv n steps (happens (find key) w) (feed (fed (find key) w) b) due
@@ -77,8 +77,8 @@ pub kept : (n : ℕ) (es : List Event) (steps : ℕ) (w : World) (b : Ledger) (d
 unfolding run kept-ledger kept-due due-after
 kept n [] steps w b due u i = (steps, i)
 kept n (find key ∷ es) steps w b due u i = kept n es steps (happens (find key) w) (feed (fed (find key) w) b) due u (find-keeps n steps w b due key i)
-kept n (insert key value ∷ es) steps w b due u i = let q = kept-insert n steps w b due i key value (u .0) in kept n es (q .0) (happens (insert key value) w) (feed (fed (insert key value) w) b) (due-after (insert key value) w b due) (u .1) (q .1)
-kept n (delete key ∷ es) steps w b due u i = let q = kept-delete n steps w b due i key (u .0) in kept n es (q .0) (happens (delete key) w) (feed (fed (delete key) w) b) (due-after (delete key) w b due) (u .1) (q .1)
+kept n (insert key value ∷ es) steps w b due u i = let q = kept-insert n steps w b due i key value (u .0) in kept n es (q .0) (happens (insert key value) w) (feed (fed (insert key value) w) b) (due-after (insert key value) w b due) (u .1) (q .2)
+kept n (delete key ∷ es) steps w b due u i = let q = kept-delete n steps w b due i key (u .0) in kept n es (q .0) (happens (delete key) w) (feed (fed (delete key) w) b) (due-after (delete key) w b due) (u .1) (q .2)
 kept n (step ∷ es) steps w b due u i = kept n es steps (happens step w) (feed (fed step w) b) (due-after step w b due) u (kept-step n steps w b due (loosen n steps (suc steps) w b due (omega arith) i) .0)
 kept n (crash ∷ es) steps w b due u i = kept n es repairSteps (happens crash w) (feed (fed crash w) b) none u (crash-keeps n steps w b due i)
 
@@ -136,6 +136,13 @@ begins-inv w l (from-format c v e r) = go (ℕ-discrete (nodesOfLength (length c
         let f = format-fresh c (nodesOfLength (length c)) s in
         (nodesOfLength (length c), rw is (fresh-inv (nodesOfLength (length c)) (formatCard (nodesOfLength (length c)) c (suc (length c))) f))
 
+-- what holds after any list of events
+pub kept-from : (w : World) (l : List (ℕ × ℕ)) → Begins w l → (es : List Event) → Words es → (n : ℕ) × (k : ℕ) × Inv n k (run es w) (kept-ledger es w (ledger l empty)) (kept-due es w (ledger l empty) none)
+kept-from w l s es u =
+    let b = begins-inv w l s in
+    let k = kept (b .0) es repairSteps w (ledger l empty) none u (b .1) in
+    (b .0, k .0, k .1)
+
 -- ---- the promise
 
 start-landed-unchanged : (m : Memory) (doing : Doing) (room : Bool) (x : Landing) (r : ℕ) → startLanded m doing room x .begun ≡ BegunRefused r → startLanded m doing room x .memory ≡ m
@@ -183,15 +190,7 @@ none-due was-refused = refl
 none-due was-final = refl
 none-due goes-on = refl
 
-stored-goes : {d : Type 0} → step-result Stored ≡ was-final → d
-unfolding step-result
-stored-goes q = let k : _≡_ {A = ℕ} 0 1 = cc in absurd (omega arith)
-
-refused-goes : {d : Type 0} (r : ℕ) → step-result (Refused r) ≡ was-final → d
-unfolding step-result
-refused-goes r q = let k : _≡_ {A = ℕ} 0 1 = cc in absurd (omega arith)
-
-after-step : (w : World) → isIdle (stepOf (w .card) (w .memory) .memory .doing) ≡ false → isIdle (happens step w .memory .doing) ≡ false
+pub after-step : (w : World) → isIdle (stepOf (w .card) (w .memory) .memory .doing) ≡ false → isIdle (happens step w .memory .doing) ≡ false
 unfolding happens
 after-step w e = e
 
@@ -207,16 +206,10 @@ repair-step n steps w l i =
     let k = kept-step n steps w (ledger l empty) none i in
     (rw (empty-fed (step-result (stepOf (w .card) (w .memory) .answer)) l, none-due (step-result (stepOf (w .card) (w .memory) .answer))) at (k .0), moves w (k .2) (k .1))
   where
-    ready-of : {a : Answer} {d : Option Answer} → Right a d → d ≡ none → step-result a ≡ was-final → a ≡ Ready
-    ready-of no-answer e q = stored-goes q
-    ready-of (no-call {r}) e q = refused-goes r q
-    ready-of update-answer e q = let k : _≡_ {A = ℕ} 0 1 = cc in absurd (omega arith)
-    ready-of repair-answer e q = refl
-
-    moves : (w : World) → Moves (w .memory) (stepOf (w .card) (w .memory)) → Right (stepOf (w .card) (w .memory) .answer) none → (w .memory .doing ≡ Idle) ⊎ ((stepOf (w .card) (w .memory) .answer ≡ Ready) ⊎ (isIdle (happens step w .memory .doing) ≡ false))
+    moves : (w : World) → Moves (w .card) (w .memory) (stepOf (w .card) (w .memory)) → Right (stepOf (w .card) (w .memory) .answer) none → (w .memory .doing ≡ Idle) ⊎ ((stepOf (w .card) (w .memory) .answer ≡ Ready) ⊎ (isIdle (happens step w .memory .doing) ≡ false))
     moves w (was-idle e) r = inl e
-    moves w (ends-now e) r = inr (inl (ready-of r refl e))
-    moves w (goes-further e) r = inr (inr (after-step w e))
+    moves w (ends-now e same idle) r = inr (inl (right-final r e))
+    moves w (goes-further stored e) r = inr (inr (after-step w e))
 
 same-world : (w : World) (m : Memory) → m ≡ w .memory → _≡_ {A = World} (record { card = w .card; memory = m }) w
 same-world w m e = ap (λ (x : Memory). record { card = w .card; memory = x }) e
@@ -264,7 +257,7 @@ finishes n l (step ∷ qs) (suc steps) w u h i =
 finishes n l (crash ∷ qs) steps w u h i = absurd u
 
 -- the tree's map is the ledger's pairs
-map-is : {n steps : ℕ} {w : World} {b : Ledger} {due : Option Answer} (i : Inv n steps w b due) → MapIs (i .tree) (b .held)
+pub map-is : {n steps : ℕ} {w : World} {b : Ledger} {due : Option Answer} (i : Inv n steps w b due) → MapIs (i .tree) (b .held)
 map-is {b = b} i = record { alike = same-lookup i; as-many = length-total (pairs (i .tree)) ∙ i .same .totals (λ p. 1) ∙ sym (length-total (b .held)) }
 
 -- the run left uncut ends, balanced, with the ledger's pairs
@@ -282,12 +275,10 @@ ends-right n c l i qs q h =
 
 -- DEMAND 3: for every list of calls and steps from a card formatted to "ready" or opened without refusal, wherever power goes
 pub power-loss : (w : World) (l : List (ℕ × ℕ)) → Begins w l → (es : List Event) → Words es → Kept w es (ledger l empty)
-power-loss w l s es u = go (begins-inv w l s)
+power-loss w l s es u = go (kept-from w l s es u)
   where
-    go : ((n : ℕ) × Inv n repairSteps w (ledger l empty) none) → Kept w es (ledger l empty)
-    go (n, i) =
-        let k = kept n es repairSteps w (ledger l empty) none u i in
-        let j = k .1 in
+    go : ((n : ℕ) × (k : ℕ) × Inv n k (run es w) (kept-ledger es w (ledger l empty)) (kept-due es w (ledger l empty) none)) → Kept w es (ledger l empty)
+    go (n, k, j) =
         let r = reopened (run es w .card) n (j .tree) (j .table) (j .openable) in
         let i₁ = reopened-inv n (run es w .card) (j .tree) (kept-ledger es w (ledger l empty) .held) (j .table) (j .openable) (j .same) in
         record {

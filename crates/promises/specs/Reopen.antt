@@ -1,7 +1,7 @@
 -- Opening a card that holds a sound table with enough free nodes succeeds, and hands back the state that the table asks for.
-use mathlib.Core.Path.{_≡_, ap, sym, _∙_}
+use mathlib.Core.Path.{_≡_, refl, ap, sym, _∙_}
 use mathlib.Core.List.{List}
-use mathlib.Core.Bool.{true, false}
+use mathlib.Core.Bool.{Bool, true, false}
 use mathlib.Core.Option.{none, some}
 use Prim.Native.Nat.{ℕ, _+_, _*_, _≤_}
 use native.Mathlib.Omega.{arith}
@@ -25,7 +25,7 @@ use Rattle.soundness_theory.specs.Depth.{well-formed-depth}
 use Rattle.soundness_theory.specs.Facts.{Facts}
 use Rattle.soundness_theory.specs.Ranges.{well-formed-in-range, range-sound}
 use Rattle.soundness_theory.specs.Soundness.{sound-accepted}
-use Rattle.table.specs.Calls.{cardRefusal, openSound, openChecked, openOf}
+use Rattle.table.specs.Calls.{cardRefusal, Handed, openSound, openChecked, openOf, isIdle}
 use Rattle.table.specs.Memory.{resting}
 use Rattle.tree.specs.Pairs.{depth}
 use Rattle.tree.specs.Path.{depth-of, reserve, Violation}
@@ -96,6 +96,11 @@ pub record Reopened (c : List ℕ) (n : ℕ) (t : Tree) : Type 0 where
   pub stage : Stage c n t steps (openOf c .memory) empty none
   pub accepted : (r : ℕ) → openOf c .begun ≡ BegunRefused r → ⊥
   pub idle-when-balanced : openOf c .begun ≡ OpenedIdle → table-violations t ≡ 0
+  pub busy-when-started : openOf c .begun ≡ Started → isIdle (openOf c .memory .doing) ≡ false
+
+repair-busy : (n : ℕ) (free : List Bool) (key : ℕ) → isIdle (resting n free (Repairing key) .doing) ≡ false
+unfolding resting isIdle
+repair-busy n free key = refl
 
 -- the violation lies above the depth limit
 violation-deep : (t : Tree) (key : ℕ) (v : Violation t key) → depth-of (v .context) ≤ depth t
@@ -138,6 +143,7 @@ reopened c n t b o = go (sound-accepted c n (b .sized .words) (b .sized .most) t
               stage = rw is (stage-between job-repair no-update (depth-of (v .0 .context)) (violated (v .0) w room) (facts-exact x) (omega arith));
               accepted = λ r z. let y : _≡_ {A = Begun} Started (BegunRefused r) = rw is at z in let k : _≡_ {A = ℕ} 0 1 = cc in omega arith;
               idle-when-balanced = λ z. let y : _≡_ {A = Begun} Started OpenedIdle = rw is at z in let k : _≡_ {A = ℕ} 0 1 = cc in absurd (omega arith);
+              busy-when-started = λ z. ap (λ (x : Handed). isIdle (x .memory .doing)) is ∙ repair-busy n (f .free) (f .key);
             }
 
         whole : f .violated ≡ false → Reopened c n t
@@ -151,4 +157,5 @@ reopened c n t b o = go (sound-accepted c n (b .sized .words) (b .sized .most) t
               stage = let enough : 3 ≤ countTrue (f .free) = omega (arith, room-idle z, count-same f h x) in rw is (stage-idle z enough (facts-exact x));
               accepted = λ r k. let y : _≡_ {A = Begun} OpenedIdle (BegunRefused r) = rw is at k in let k : _≡_ {A = ℕ} 0 1 = cc in omega arith;
               idle-when-balanced = λ k. z;
+              busy-when-started = λ k. let y : _≡_ {A = Begun} OpenedIdle Started = rw is at k in let k : _≡_ {A = ℕ} 0 1 = cc in absurd (omega arith);
             }

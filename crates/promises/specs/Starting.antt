@@ -12,8 +12,8 @@ use Rattle.card.specs.Header.{nodesOfLength}
 use Rattle.card.specs.HeaderLaws.{Sized, sized-nodes, Formatted, formatted-header}
 use Rattle.card.specs.Layout.{depthLimit, rootPlace}
 use Rattle.change_theory.specs.Exact.{Exact}
-use Rattle.descent.specs.Descent.{passed, landingFor}
-use Rattle.descent_theory.specs.Landing.{LandedAt, landing-found}
+use Rattle.descent.specs.Descent.{landingFor}
+use Rattle.descent_theory.specs.Landing.{landing-found}
 use Rattle.free_nodes.specs.NodeSet.{countTrue}
 use Rattle.laws.specs.Cases.{bool-cases, order, pick}
 use Rattle.promises.specs.Feeding.{begun-result, leaf-full, fed, due-after-start, due-after}
@@ -61,16 +61,16 @@ start-landed : (c : List ℕ) (m : Memory) (key : ℕ) (doing : Doing) (room : L
 unfolding startChecked startLanded
 start-landed c m key doing room number link run e z l = rw (e, ne-eqb key 0 z) (ap (startLanded m doing (room (landing c (m .nodes) key))) l)
 
-idle-true : isIdle Idle ≡ true
+is-idle : {doing : Doing} → doing ≡ Idle → isIdle doing ≡ true
 unfolding isIdle
-idle-true = refl
+is-idle e = rw e
 
 landing-is : (c : List ℕ) (n key : ℕ) {x : Landing} → landingFor c n key depthLimit rootPlace 0 (getD c rootPlace 0) ≡ x → landing c n key ≡ x
 unfolding landing
 landing-is c n key e = e
 
 -- a state is idle, or some work is in progress
-idle-or-busy : {c : List ℕ} {n : ℕ} {t : Tree} {steps : ℕ} {m : Memory} {h : Hand} {due : Option Answer} → Stage c n t steps m h due
+pub idle-or-busy : {c : List ℕ} {n : ℕ} {t : Tree} {steps : ℕ} {m : Memory} {h : Hand} {due : Option Answer} → Stage c n t steps m h due
     → (m .nodes ≡ n) × ((isIdle (m .doing) ≡ false) ⊎ ((free : List Bool) × (last : ℕ) × (m ≡ memory n free last Idle [] []) × (h ≡ empty) × (due ≡ none) × (table-violations t ≡ 0) × (3 ≤ countTrue free) × Exact n free t))
 unfolding isIdle
 idle-or-busy (stage-idle {free} {last} z r x) = (refl, inr (free, last, refl, refl, refl, z, r, x))
@@ -80,13 +80,21 @@ idle-or-busy (stage-first j p en count few) = (refl, inl (job-busy j .not-idle))
 idle-or-busy (stage-between j en deep r x few) = (refl, inl (job-busy j .not-idle))
 idle-or-busy (stage-within j en p e few) = (refl, inl (job-busy j .not-idle))
 
+-- a start that was not refused has work in hand, with so many steps left
+pub record Fresh (g : Handed) (steps : ℕ) : Type 0 where
+  pub steps-left : g .begun ≡ Started → steps ≤ updateSteps
+  pub busy : g .begun ≡ Started → isIdle (g .memory .doing) ≡ false
+
 -- what a start leaves, by the call's beginning
 abbrev Goal : ℕ → World → Ledger → Option Answer → Update → Bool → Handed → Type 0
-Goal n w b due u was-full g = (k : ℕ) × Inv n k (record { card = w .card; memory = g .memory }) (fed-a-start u was-full (begun-result (g .begun)) (b .held) (b .in-hand)) (due-after-start (begun-result (g .begun)) u (b .held) due)
+Goal n w b due u was-full g = (k : ℕ) × Fresh g k × Inv n k (record { card = w .card; memory = g .memory }) (fed-a-start u was-full (begun-result (g .begun)) (b .held) (b .in-hand)) (due-after-start (begun-result (g .begun)) u (b .held) due)
 
 refused-goal : (n steps : ℕ) (w : World) (b : Ledger) (due : Option Answer) (u : Update) (was-full : Bool) (r : ℕ) → Inv n steps w b due → Goal n w b due u was-full (startRefused r (w .memory))
 unfolding startRefused begun-result fed-a-start due-after-start
-refused-goal n steps w b due u was-full r i = (steps, record { tree = i .tree; table = i .table; openable = i .openable; same = i .same; stage = i .stage })
+refused-goal n steps w b due u was-full r i = (steps, record { steps-left = λ e. not-started e; busy = λ e. not-started e }, record { tree = i .tree; table = i .table; openable = i .openable; same = i .same; stage = i .stage })
+  where
+    not-started : {P : Type 0} → _≡_ {A = Begun} (BegunRefused r) Started → P
+    not-started e = let k : _≡_ {A = ℕ} 0 1 = cc in absurd (omega arith)
 
 -- the answer due by the ledger's pairs is that by the tree's
 pub same-lookup : {n steps : ℕ} {w : World} {b : Ledger} {due : Option Answer} (i : Inv n steps w b due) (key : ℕ) → lookup key (pairs (i .tree)) ≡ lookup key (b .held)
@@ -95,47 +103,57 @@ same-lookup {b = b} i key = lookup-same key (pairs (i .tree)) (b .held) (i .same
 -- started: the update is in hand, and its answer by the map is due
 put-started : {steps : ℕ} (n : ℕ) (w : World) (b : Ledger) (due : Option Answer) (i : Inv n steps w b due) (m : Memory) (free : List Bool) (last key value : ℕ) → m ≡ memory n free last Idle [] [] → table-violations (i .tree) ≡ 0 → 3 ≤ countTrue free → Exact n free (i .tree) → lowestKey ≤ key → key < keyLimit
     → startRoom (w .card) key (m .free) (landing (w .card) (m .nodes) key) ≡ true → Goal n w b due (put key value) (leaf-full (w .card) (m .nodes) key) (started m (Inserting key value false))
-unfolding started begun-result fed-a-start due-after-start
+unfolding started begun-result fed-a-start due-after-start isIdle
 put-started n w b due i m free last key value em z r x low high q =
     let q′ : startRoom (w .card) key free (landing (w .card) n key) ≡ true = rw em at q in
     rw (em, ← same-lookup i key)
-    (updateSteps, record { tree = i .tree; table = i .table; openable = i .openable; same = i .same; stage = stage-put z r x low high q′ (omega arith) })
+    (updateSteps, record { steps-left = λ e. omega arith; busy = λ e. refl }, record { tree = i .tree; table = i .table; openable = i .openable; same = i .same; stage = stage-put z r x low high q′ (omega arith) })
 
 remove-started : {steps : ℕ} (n : ℕ) (w : World) (b : Ledger) (due : Option Answer) (i : Inv n steps w b due) (m : Memory) (free : List Bool) (last key : ℕ) → m ≡ memory n free last Idle [] [] → table-violations (i .tree) ≡ 0 → 3 ≤ countTrue free → Exact n free (i .tree) → lowestKey ≤ key → key < keyLimit
     → Goal n w b due (remove key) false (started m (Deleting key false 0))
-unfolding started begun-result fed-a-start due-after-start
+unfolding started begun-result fed-a-start due-after-start isIdle
 remove-started n w b due i m free last key em z r x low high =
     rw (em, ← same-lookup i key)
-    (updateSteps, record { tree = i .tree; table = i .table; openable = i .openable; same = i .same; stage = stage-remove z r x low high (omega arith) })
+    (updateSteps, record { steps-left = λ e. omega arith; busy = λ e. refl }, record { tree = i .tree; table = i .table; openable = i .openable; same = i .same; stage = stage-remove z r x low high (omega arith) })
 
 module _ (n steps : ℕ) (w : World) (b : Ledger) (due : Option Answer) (i : Inv n steps w b due) where
+  nodes-same : w .memory .nodes ≡ n
+  nodes-same = idle-or-busy (i .stage) .0
+
+  -- the leaf that a key leads to
+  pub lands : (key : ℕ) → lowestKey ≤ key → key < keyLimit → (leaf : ℕ) × (link : ℕ) × (above : ℕ) × (landing (w .card) (w .memory .nodes) key ≡ LandingAt leaf link above)
+  lands key low high =
+      let g = landing-found (w .card) n key (i .table .sized .words) lowestKey keyLimit (i .tree) (i .table .holds) (i .table .sound .range) low high (omega arith) (table-depth-limited (i .table)) in
+      (g .number, link-place (g .context), full-run (g .context), rw nodes-same (landing-is (w .card) n key (g .landed)))
+
+  -- the checks 1, 2 and 3 are passed
+  passed : (key : ℕ) (doing : Doing) (room : Landing → Bool) → startOf (w .card) (w .memory) key doing room ≡ startChecked (w .card) (w .memory) key doing room
+  passed key doing room = start-passed (w .card) n (i .table .sized) (i .table .header) (w .memory) key doing room nodes-same
+
+  -- on an idle state nothing but the room decides
+  pub room-decides : (key : ℕ) (doing : Doing) (room : Landing → Bool) → w .memory .doing ≡ Idle → lowestKey ≤ key → key < keyLimit
+      → startOf (w .card) (w .memory) key doing room ≡ pick (room (landing (w .card) (w .memory .nodes) key)) (started (w .memory) doing) (startRefused 8 (w .memory))
+  room-decides key doing room idle low high = let g = lands key low high in passed key doing room ∙ start-landed (w .card) (w .memory) key doing room (g .0) (g .1) (g .2) (is-idle idle) (omega arith) (g .3)
+
   start-with : (key : ℕ) (doing : Doing) (room : Landing → Bool) (u : Update) (was-full : Bool) → key < keyLimit
       → ((free : List Bool) (last : ℕ) → w .memory ≡ memory n free last Idle [] [] → table-violations (i .tree) ≡ 0 → 3 ≤ countTrue free → Exact n free (i .tree) → lowestKey ≤ key → room (landing (w .card) (w .memory .nodes) key) ≡ true → Goal n w b due u was-full (started (w .memory) doing))
       → Goal n w b due u was-full (startOf (w .card) (w .memory) key doing room)
-  start-with key doing room u was-full high begin = go (idle-or-busy (i .stage))
+  start-with key doing room u was-full high begin = go (idle-or-busy (i .stage) .1)
     where
-      passed : w .memory .nodes ≡ n → startOf (w .card) (w .memory) key doing room ≡ startChecked (w .card) (w .memory) key doing room
-      passed e = start-passed (w .card) n (i .table .sized) (i .table .header) (w .memory) key doing room e
-
-      go : (w .memory .nodes ≡ n) × ((isIdle (w .memory .doing) ≡ false) ⊎ ((free : List Bool) × (last : ℕ) × (w .memory ≡ memory n free last Idle [] []) × (b .in-hand ≡ empty) × (due ≡ none) × (table-violations (i .tree) ≡ 0) × (3 ≤ countTrue free) × Exact n free (i .tree)))
+      go : (isIdle (w .memory .doing) ≡ false) ⊎ ((free : List Bool) × (last : ℕ) × (w .memory ≡ memory n free last Idle [] []) × (b .in-hand ≡ empty) × (due ≡ none) × (table-violations (i .tree) ≡ 0) × (3 ≤ countTrue free) × Exact n free (i .tree))
           → Goal n w b due u was-full (startOf (w .card) (w .memory) key doing room)
-      go (e, inl q) = rw (passed e ∙ start-busy (w .card) (w .memory) key doing room q) (refused-goal n steps w b due u was-full 7 i)
-      go (e, inr (free, last, em, eh, ed, z, r, x)) =
+      go (inl q) = rw (passed key doing room ∙ start-busy (w .card) (w .memory) key doing room q) (refused-goal n steps w b due u was-full 7 i)
+      go (inr (free, last, em, eh, ed, z, r, x)) =
           order key 1
-          (λ o. rw (passed e ∙ start-zero (w .card) (w .memory) key doing room is-idle (omega arith)) (refused-goal n steps w b due u was-full 6 i))
-          (λ o. let g = landing-found (w .card) n key (i .table .sized .words) lowestKey keyLimit (i .tree) (i .table .holds) (i .table .sound .range) o high (omega arith) (table-depth-limited (i .table)) in
-          let l : landing (w .card) (w .memory .nodes) key ≡ LandingAt (g .number) (link-place (g .context)) (full-run (g .context)) = ap (λ (y : ℕ). landing (w .card) y key) e ∙ at g in
-          rw (passed e ∙ start-landed (w .card) (w .memory) key doing room (g .number) (link-place (g .context)) (full-run (g .context)) is-idle (omega arith) l)
+          (λ o. rw (passed key doing room ∙ start-zero (w .card) (w .memory) key doing room (is-idle idle) (omega arith)) (refused-goal n steps w b due u was-full 6 i))
+          (λ o. rw (room-decides key doing room idle o high)
           (bool-cases (room (landing (w .card) (w .memory .nodes) key)) (λ q. rw q (begin free last em z r x o q)) (λ q. rw q (refused-goal n steps w b due u was-full 8 i))))
         where
-          is-idle : isIdle (w .memory .doing) ≡ true
-          is-idle = ap (λ (y : Memory). isIdle (y .doing)) em ∙ idle-true
-
-          at : (g : LandedAt (w .card) n key (i .tree)) → landing (w .card) n key ≡ LandingAt (g .number) (link-place (g .context)) (full-run (g .context))
-          at g = landing-is (w .card) n key (g .landed)
+          idle : w .memory .doing ≡ Idle
+          idle = ap (λ (y : Memory). y .doing) em
 
   -- "Starting an update stores nothing."
-  pub kept-insert : (key value : ℕ) → key < keyLimit → (k : ℕ) × Inv n k (happens (insert key value) w) (feed (fed (insert key value) w) b) (due-after (insert key value) w b due)
+  pub kept-insert : (key value : ℕ) → key < keyLimit → (k : ℕ) × Fresh (insertOf (w .card) (w .memory) key value) k × Inv n k (happens (insert key value) w) (feed (fed (insert key value) w) b) (due-after (insert key value) w b due)
   unfolding happens feed fed due-after insertOf
   kept-insert key value high =
       start-with key (Inserting key value false) (startRoom (w .card) key (w .memory .free)) (put key value) (leaf-full (w .card) (w .memory .nodes) key) high begin
@@ -144,7 +162,7 @@ module _ (n steps : ℕ) (w : World) (b : Ledger) (due : Option Answer) (i : Inv
           → startRoom (w .card) key (w .memory .free) (landing (w .card) (w .memory .nodes) key) ≡ true → Goal n w b due (put key value) (leaf-full (w .card) (w .memory .nodes) key) (started (w .memory) (Inserting key value false))
       begin free last em z r x low q = put-started n w b due i (w .memory) free last key value em z r x low high q
 
-  pub kept-delete : (key : ℕ) → key < keyLimit → (k : ℕ) × Inv n k (happens (delete key) w) (feed (fed (delete key) w) b) (due-after (delete key) w b due)
+  pub kept-delete : (key : ℕ) → key < keyLimit → (k : ℕ) × Fresh (deleteOf (w .card) (w .memory) key) k × Inv n k (happens (delete key) w) (feed (fed (delete key) w) b) (due-after (delete key) w b due)
   unfolding happens feed fed due-after deleteOf
   kept-delete key high = start-with key (Deleting key false 0) (λ l. true) (remove key) false high begin
     where

@@ -79,11 +79,12 @@ balanced-depth {c} {n} {t} b z =
     let h = balanced-levels (b .sound .level .0) t (b .sound .level .1) (b .sound .widths) z (omega (arith, size, b .sized .most)) in
     omega (arith, table-depth (b .sound .level .0) t (b .sound .level .1) (b .sound .widths))
 
--- where a step leaves what was being done: it was idle, it ended, or it goes on
-pub data Moves (m : Memory) (s : Step) : Type 0 where
-  was-idle : m .doing ≡ Idle → Moves m s
-  ends-now : step-result (s .answer) ≡ was-final → Moves m s
-  goes-further : isIdle (s .memory .doing) ≡ false → Moves m s
+-- where a step leaves what was being done: it was idle; "Each step then either stores one word or gives the final answer and
+-- makes the state idle."
+pub data Moves (c : List ℕ) (m : Memory) (s : Step) : Type 0 where
+  was-idle : m .doing ≡ Idle → Moves c m s
+  ends-now : step-result (s .answer) ≡ was-final → s .card ≡ c → s .memory .doing ≡ Idle → Moves c m s
+  goes-further : s .answer ≡ Stored → isIdle (s .memory .doing) ≡ false → Moves c m s
 
 -- a store does not change what is being done
 busy-after : {doing : Doing} (n : ℕ) (free : List Bool) (last : ℕ) (z : List Store) (cut : List ℕ) → Busy doing → (rest : List Store) → isIdle (advanced (memory n free last doing z cut) rest .doing) ≡ false
@@ -98,19 +99,31 @@ pub data Right : Answer → Option Answer → Type 0 where
   update-answer : {a : Answer} → Right a (some a)
   repair-answer : Right Ready none
 
+-- the final answer due; that of opening's repair is "ready"
+abbrev pub final-due : Option Answer → Answer
+final-due none = Ready
+final-due (some a) = a
+
+pub right-final : {a : Answer} {due : Option Answer} → Right a due → step-result a ≡ was-final → a ≡ final-due due
+unfolding step-result
+right-final no-answer e = let k : _≡_ {A = ℕ} 0 1 = cc in absurd (omega arith)
+right-final no-call e = let k : _≡_ {A = ℕ} 0 1 = cc in absurd (omega arith)
+right-final update-answer e = refl
+right-final repair-answer e = refl
+
 module _ (n steps : ℕ) (c : List ℕ) (t : Tree) (b : Table c n t) (o : Openable n t) (l : List (ℕ × ℕ)) (same : Same (pairs t) l) where
   -- what a step must leave
   abbrev Goal : Memory → Hand → Option Answer → Type 0
   Goal m h due =
-      Inv n steps (record { card = stepOf c m .card; memory = stepOf c m .memory }) (fed-a-step (step-result (stepOf c m .answer)) l h) (due-after-step (step-result (stepOf c m .answer)) due) × Right (stepOf c m .answer) due × Moves m (stepOf c m)
+      Inv n steps (record { card = stepOf c m .card; memory = stepOf c m .memory }) (fed-a-step (step-result (stepOf c m .answer)) l h) (due-after-step (step-result (stepOf c m .answer)) due) × Right (stepOf c m .answer) due × Moves c m (stepOf c m)
 
   stored-goal : (m m′ : Memory) (c′ : List ℕ) (h : Hand) (due : Option Answer) → stepOf c m ≡ record { answer = Stored; card = c′; memory = m′ } → isIdle (m′ .doing) ≡ false → Inv n steps (record { card = c′; memory = m′ }) (fed-a-step goes-on l h) due → Goal m h due
   unfolding step-result due-after-step
-  stored-goal m m′ c′ h due e busy i = rw e (i, no-answer, goes-further busy)
+  stored-goal m m′ c′ h due e busy i = rw e (i, no-answer, goes-further refl busy)
 
-  final-goal : (m m′ : Memory) (a : Answer) (h : Hand) (due : Option Answer) → stepOf c m ≡ record { answer = a; card = c; memory = m′ } → step-result a ≡ was-final → Inv n steps (record { card = c; memory = m′ }) (fed-a-step was-final l h) none → Right a due → Goal m h due
+  final-goal : (m m′ : Memory) (a : Answer) (h : Hand) (due : Option Answer) → stepOf c m ≡ record { answer = a; card = c; memory = m′ } → m′ .doing ≡ Idle → step-result a ≡ was-final → Inv n steps (record { card = c; memory = m′ }) (fed-a-step was-final l h) none → Right a due → Goal m h due
   unfolding due-after-step
-  final-goal m m′ a h due e f i r = rw (e, f) (i, r, ends-now f)
+  final-goal m m′ a h due e idle f i r = rw (e, f) (i, r, ends-now f refl idle)
 
   -- the state idle again
   idle-inv : (free : List Bool) (last : ℕ) (l′ : List (ℕ × ℕ)) → Same (pairs t) l′ → table-violations t ≡ 0 → 3 ≤ countTrue free → Exact n free t → Inv n steps (record { card = c; memory = memory n free last Idle [] [] }) (ledger l′ empty) none
@@ -121,7 +134,7 @@ module _ (n steps : ℕ) (c : List ℕ) (t : Tree) (b : Table c n t) (o : Openab
   unfolding idled step-result fed-a-step
   ended {doing} {key} {final} {u} {h} {due} free last j en z r x =
       final-goal (memory n free last doing [] []) (memory n free last Idle [] []) final h due
-      (step-repairs c n (b .sized) (b .header) free last j ∙ prepared-ready c (memory n free last doing [] []) doing final (nextRepair c n key free last) (rests c n key t free last b z)) (is-final j) (entered-inv en) (right j en)
+      (step-repairs c n (b .sized) (b .header) free last j ∙ prepared-ready c (memory n free last doing [] []) doing final (nextRepair c n key free last) (rests c n key t free last b z)) refl (is-final j) (entered-inv en) (right j en)
     where
       is-final : {doing : Doing} {key : ℕ} {final : Answer} {u : Option Update} → Job doing key final u → step-result final ≡ was-final
       is-final job-repair = refl
@@ -198,7 +211,7 @@ module _ (n steps : ℕ) (c : List ℕ) (t : Tree) (b : Table c n t) (o : Openab
       let found : lookup key (pairs t) ≡ some (getD (nodeAt c (g .number)) (12 + i) 0) = sym (g .answers) ∙ ap (slotAnswer (nodeAt c (g .number))) e in
       final-goal (memory n free last (Inserting key value false) [] []) (memory n free last Idle [] []) (Value v) (hand (put key value) f 0 false) (some (dictionary-answer (lookup key (pairs t))))
       (step-puts c n (b .sized) (b .header) free last key value ∙ put-held c n key (g .number) (link-place (g .context)) (full-run (g .context)) (landed key g) value free last m i e ∙ prepared-ready c m (Inserting key value true) (Value v) balanced refl)
-      refl
+      refl refl
       (idle-inv free last (entered (put key value) l) (enters-held key value (pairs t) (held-positive key (getD (nodeAt c (g .number)) (12 + i) 0) (pairs t) found) .to l same) z r x)
       (rw found update-answer)
     where
@@ -278,7 +291,7 @@ module _ (n steps : ℕ) (c : List ℕ) (t : Tree) (b : Table c n t) (o : Openab
       let none-there : lookup key (pairs t) ≡ none = sym (g .answers) ∙ ap (slotAnswer (nodeAt c (g .number))) e in
       final-goal (memory n free last (Deleting key false 0) [] []) (memory n free last Idle [] []) Absent (hand (remove key) false 0 false) (some (dictionary-answer (lookup key (pairs t))))
       (step-removes c n (b .sized) (b .header) free last key ∙ remove-absent c n key (g .number) (link-place (g .context)) (full-run (g .context)) (landed key g) 0 free last m e ∙ prepared-ready c m (Deleting key true 0) Absent balanced refl)
-      refl
+      refl refl
       (idle-inv free last (entered (remove key) l) (enters-gone key (pairs t) (absent-counted key (pairs t) none-there) .to l same) z r x)
       (rw none-there update-answer)
 
@@ -382,6 +395,6 @@ module _ (n steps : ℕ) (c : List ℕ) (t : Tree) (b : Table c n t) (o : Openab
       (busy-after n free last (s ∷ rest) cut (job-busy j) rest) (rw (g .1) (repair-stored last steps (s ∷ rest) l b same j (g .2) p e (omega arith)))
 
 -- THE STEP: the invariant is kept, and an answer given is the one due
-pub kept-step : (n steps : ℕ) (w : World) (b : Ledger) (due : Option Answer) → Inv n (suc steps) w b due → Inv n steps (happens step w) (feed (fed step w) b) (due-after step w b due) × Right (stepOf (w .card) (w .memory) .answer) due × Moves (w .memory) (stepOf (w .card) (w .memory))
+pub kept-step : (n steps : ℕ) (w : World) (b : Ledger) (due : Option Answer) → Inv n (suc steps) w b due → Inv n steps (happens step w) (feed (fed step w) b) (due-after step w b due) × Right (stepOf (w .card) (w .memory) .answer) due × Moves (w .card) (w .memory) (stepOf (w .card) (w .memory))
 unfolding happens feed fed due-after
 kept-step n steps w b due i = stage-steps n steps (w .card) (i .tree) (i .table) (i .openable) (b .held) (i .same) (w .memory) (b .in-hand) due (i .stage)

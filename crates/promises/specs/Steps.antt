@@ -6,14 +6,16 @@ use mathlib.Core.Option.{Option}
 use Prim.Native.Nat.{ℕ, _<_}
 use native.Mathlib.Omega.{arith}
 use lib.ListN.{length, set}
+use lib.Dec.{eqb}
 use borrow.Author.Tests.{lt-ltb, ne-eqb, eq-eqb}
-use Rattle.card.specs.Header.{nodesOfLength}
+use Rattle.card.specs.Header.{nodesOfLength, headerRefusal}
 use Rattle.card.specs.HeaderLaws.{Sized, sized-nodes, Formatted, formatted-header}
 use Rattle.card.specs.Stores.{Store}
 use Rattle.change.specs.Planning.{Preparation, nextRepair, balanced, prepared}
-use Rattle.laws.specs.Cases.{pick}
+use Rattle.laws.specs.Cases.{bool-cases, pick}
 use Rattle.promises.specs.Invariant.{Job, job-repair, job-insert, job-delete}
 use Rattle.promises.specs.Ledger.{Update}
+use Rattle.promises.specs.Machine.{World, happens, step}
 use Rattle.table.specs.Calls.{stepRefused, stepFinal, stepStore, stepFirst, planning, stepPrepared, stepRepair, stepBegin, stepPlan, stepWork, isIdle, stepHeld, stepDoing, stepOf}
 use Rattle.table.specs.Memory.{Memory, idled, advanced}
 use Rattle.table.specs.Updates.{landing, insertFirst, deleteFirst}
@@ -109,3 +111,16 @@ pub step-removes : (c : List ℕ) (n : ℕ) → Sized (length c) n → Formatted
     → stepOf c (memory n free last (Deleting key false 0) [] []) ≡ stepBegin c (memory n free last (Deleting key false 0) [] []) (deleteFirst c key free last (landing c n key))
 unfolding stepPlan
 step-removes c n s f free last key = step-plans c n s f free last (Deleting key false 0) (remove-busy key 0) []
+
+-- a step of an idle state is refused and changes nothing, whatever the card
+pub idle-refused : (c : List ℕ) (m : Memory) → m .doing ≡ Idle → (r : ℕ) × (stepOf c m ≡ stepRefused r c m)
+unfolding stepOf stepDoing stepHeld isIdle
+idle-refused c m e =
+    bool-cases (eqb (nodesOfLength (length c)) 0) (λ q. rw q (1, refl)) (λ q.
+    bool-cases (eqb (nodesOfLength (length c)) (m .nodes)) (λ q₁.
+    bool-cases (eqb (headerRefusal c (m .nodes)) 0) (λ q₂. rw (q, q₁, e, q₂) (10, refl)) (λ q₂. rw (q, q₁, e, q₂) (headerRefusal c (m .nodes), refl)))
+    (λ q₁. rw (q, q₁) (1, refl)))
+
+pub idle-world : (w : World) → w .memory .doing ≡ Idle → happens step w ≡ w
+unfolding happens stepRefused
+idle-world w e = rw (idle-refused (w .card) (w .memory) e .1)
