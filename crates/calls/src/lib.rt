@@ -1,4 +1,4 @@
-// What the two test programs share: a row of words that holds any card, and the table's calls on the first words of one.
+// What the test programs share: a row of words that holds any card, and the table's calls on the first words of one.
 // A row has a fixed length, so a function over it needs no proof of a length.
 use table::Beginning;
 use table::Found;
@@ -60,22 +60,6 @@ pub fn wide(x: u32) -> u64 {
 // The low 32 bits.
 pub fn narrow(x: u64) -> u32 {
     (x % 4294967296) as u32
-}
-
-// One number more in a hash: h * 31 + x below 2 to the 32nd.
-pub fn hash(h: u64, x: u64) -> u64 {
-    ((h % 4294967296) * 31 + x % 4294967296) % 4294967296
-}
-
-// The first n words in a hash.
-pub fn hash_words(h: u64, words: &Words, n: usize) -> u64 {
-    let mut all = h;
-    let mut i: usize = 0;
-    while i < n {
-        all = hash(all, wide(word(words, i)));
-        i += 1;
-    }
-    all
 }
 
 // The calls, each on the card that the first n words are.

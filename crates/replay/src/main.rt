@@ -1,81 +1,32 @@
 // Replays the traces of /work/shared/vectors: standard input is a stream of calls that tools/make_replay.py wrote, and for each
-// trace this prints its number and a hash of all results and of the card at each of the trace's CRC lines.
+// trace this prints its number and a hash of all results.
+mod crc;
+mod dumps;
+mod stream;
+
+use calls::MOST;
 use calls::Words;
 use calls::copy_words;
-use calls::hash;
-use calls::hash_words;
 use calls::narrow;
 use calls::set_word;
 use calls::wide;
 use calls::word;
+use change::Plan;
+use dumps::Bytes;
+use dumps::dump_turn;
+use stream::HASH;
+use stream::LENGTH;
+use stream::MORE;
+use stream::STORES;
+use stream::TRACE;
+use stream::feed;
+use stream::feed_two;
+use stream::next_number;
 use table::Answer;
 use table::Begun;
+use table::Doing;
 use table::Found;
 use table::State;
-
-// What is kept from call to call, as places in one row of numbers.
-const GOT: usize = 0;
-
-const AT: usize = 1;
-
-const HASH: usize = 2;
-
-const TRACE: usize = 3;
-
-const LENGTH: usize = 4;
-
-const STORES: usize = 5;
-
-const MORE: usize = 6;
-
-fn wide_byte(b: u8) -> u64 {
-    b as u64
-}
-
-// The next byte of the input, and 0 past its end.
-fn next_byte(input: &mut [u8; 4096], row: &mut [u64; 8]) -> u64 {
-    if row[GOT] <= row[AT] {
-        row[GOT] = io::read_full(0, input) as u64;
-        row[AT] = 0;
-    }
-    let at = row[AT] as usize;
-    if row[GOT] <= row[AT] {
-        return 0;
-    }
-    row[AT] = (row[AT] % 4096) + 1;
-    if at < 4096 { wide_byte(input[at]) } else { 0 }
-}
-
-// The next number: groups of 7 bits, the low ones first, 128 added to each byte but the last.
-fn next_number(input: &mut [u8; 4096], row: &mut [u64; 8]) -> u64 {
-    let a = next_byte(input, row);
-    if a < 128 {
-        return a;
-    }
-    let b = next_byte(input, row);
-    if b < 128 {
-        return a % 128 + b * 128;
-    }
-    let c = next_byte(input, row);
-    if c < 128 {
-        return a % 128 + (b % 128) * 128 + c * 16384;
-    }
-    let d = next_byte(input, row);
-    if d < 128 {
-        return a % 128 + (b % 128) * 128 + (c % 128) * 16384 + d * 2097152;
-    }
-    let e = next_byte(input, row);
-    a % 128 + (b % 128) * 128 + (c % 128) * 16384 + (d % 128) * 2097152 + (e % 16) * 268435456
-}
-
-fn feed(row: &mut [u64; 8], x: u64) {
-    row[HASH] = hash(row[HASH], x);
-}
-
-fn feed_two(row: &mut [u64; 8], x: u64, y: u64) {
-    feed(row, x);
-    feed(row, y);
-}
 
 // What a start of an update or of formatting answered.
 fn feed_start(row: &mut [u64; 8], begun: Begun) {
@@ -103,22 +54,62 @@ fn feed_found(row: &mut [u64; 8], found: Found) {
     }
 }
 
-// A store: the place and the word, where the word changed; else 0 and 0.
-fn feed_store(card: &Words, n: usize, old: &mut Words, row: &mut [u64; 8]) {
-    row[STORES] = row[STORES] % 4294967296 + 1;
-    feed(row, 10);
-    let i = calls::difference(card, old, n);
-    if i < n {
-        feed_two(row, i as u64, wide(word(card, i)));
-        set_word(old, i, word(card, i));
-    } else {
-        feed_two(row, 0, 0);
+// The place of the last store of a plan of which so many were made; past the end of the row where there is none.
+fn planned_place(plan: Plan, made: usize) -> usize {
+    if made == 0 {
+        return MOST;
+    }
+    if 73 < made {
+        return MOST;
+    }
+    plan.places[made - 1] as usize
+}
+
+// The place of the last of so many stores of formatting: "0 in word 0, then every word from 1 to the last in rising order ..,
+// then 1 in word 0".
+fn formatted_place(n: usize, made: usize) -> usize {
+    if made == 0 {
+        return MOST;
+    }
+    if n < made {
+        return 0;
+    }
+    made - 1
+}
+
+// The place of the store that a step made, by the state that it handed back: a store of the word that is there already does not
+// show on the card.
+fn stored_place(s: State, n: usize) -> usize {
+    let plan = s.plan;
+    let doing = s.doing;
+    match doing {
+        Doing::Formatting { made } => formatted_place(n, made),
+        Doing::Idle => MOST,
+        Doing::Inserting {
+            key: _,
+            value: _,
+            begun: _,
+        } => planned_place(plan, s.made),
+        Doing::Deleting {
+            key: _,
+            begun: _,
+            value: _,
+        } => planned_place(plan, s.made),
+        Doing::Repairing { key: _ } => planned_place(plan, s.made),
     }
 }
 
-fn feed_answer(card: &Words, n: usize, old: &mut Words, row: &mut [u64; 8], answer: Answer) {
+// A store: the place and the word, which `old` then has as well.
+fn feed_store(card: &Words, old: &mut Words, row: &mut [u64; 8], place: usize) {
+    row[STORES] = row[STORES] % 4294967296 + 1;
+    feed(row, 10);
+    feed_two(row, place as u64, wide(word(card, place)));
+    set_word(old, place, word(card, place));
+}
+
+fn feed_answer(card: &Words, old: &mut Words, row: &mut [u64; 8], answer: Answer, place: usize) {
     match answer {
-        Answer::Stored => feed_store(card, n, old, row),
+        Answer::Stored => feed_store(card, old, row, place),
         Answer::Ready => feed(row, 9),
         Answer::Absent => feed(row, 8),
         Answer::Value(v) => feed_two(row, 7, wide(v)),
@@ -126,11 +117,23 @@ fn feed_answer(card: &Words, n: usize, old: &mut Words, row: &mut [u64; 8], answ
     }
 }
 
+// Whether the card differs from `old`: 0 where it does not, so that a step changed no word but the one it stored.
+fn feed_difference(card: &Words, n: usize, old: &Words, row: &mut [u64; 8]) {
+    let i = calls::difference(card, old, n);
+    if i < n {
+        feed(row, 1);
+    } else {
+        feed(row, 0);
+    }
+}
+
 fn one_step(card: &mut Words, n: usize, old: &mut Words, row: &mut [u64; 8], s: State) -> State {
     let stepped = calls::step(card, n, s);
     let answer = stepped.answer;
-    feed_answer(card, n, old, row, answer);
-    stepped.state
+    let state = stepped.state;
+    feed_answer(card, old, row, answer, stored_place(state, n));
+    feed_difference(card, n, old, row);
+    state
 }
 
 // A run of steps; `old` is the card before each.
@@ -143,15 +146,12 @@ fn steps(
     s: State,
 ) -> State {
     copy_words(card, old, n);
-    row[STORES] = 0;
     let mut state = s;
     let mut left = count;
     while left > 0 {
         state = one_step(card, n, old, row, state);
         left -= 1;
     }
-    let stores = row[STORES];
-    feed(row, stores);
     state
 }
 
@@ -216,10 +216,18 @@ fn call(
     steps(card, n, old, row, first, s)
 }
 
-// The words of the card in hand, hashed.
+// The CRC of the card in hand.
 fn feed_card(words: &Words, row: &mut [u64; 8]) {
-    let all = hash_words(row[HASH], words, row[LENGTH] as usize);
-    row[HASH] = all;
+    let n = row[LENGTH] as usize;
+    feed(row, wide(crc::of_words(words, n)));
+}
+
+// The end of a trace.
+fn feed_end(words: &Words, row: &mut [u64; 8]) {
+    feed_card(words, row);
+    let stores = row[STORES];
+    feed(row, stores);
+    print_trace(row);
 }
 
 // Some zeros and some words from a place on, set from outside.
@@ -247,6 +255,7 @@ fn new_card(words: &mut Words, input: &mut [u8; 4096], row: &mut [u64; 8]) {
     let n = next_number(input, row);
     row[LENGTH] = 8 + 24 * (n % 65536);
     row[HASH] = 0;
+    row[STORES] = 0;
     row[TRACE] = row[TRACE] % 65536 + 1;
 }
 
@@ -270,10 +279,7 @@ fn outside(
         2 => set_words(words, input, row),
         3 => poke(words, input, row),
         5 => feed_card(words, row),
-        6 => {
-            feed_card(words, row);
-            print_trace(row);
-        }
+        6 => feed_end(words, row),
         _ => {}
     }
     if kind == 1 || kind == 4 {
@@ -287,6 +293,7 @@ fn turn(
     words: &mut Words,
     other: &mut Words,
     old: &mut Words,
+    bytes: &mut Bytes,
     input: &mut [u8; 4096],
     row: &mut [u64; 8],
     s: State,
@@ -299,15 +306,18 @@ fn turn(
     if kind < 7 {
         return outside(words, input, row, kind, s);
     }
+    if kind > 13 {
+        dump_turn(words, bytes, input, row, kind);
+        return s;
+    }
+    let n = row[LENGTH] as usize;
     if kind == 7 {
         let length = next_number(input, row);
         let inner = next_number(input, row);
-        let n = row[LENGTH] as usize;
         copy_words(words, other, n);
         calls::clear_from(other, n);
         return call(other, length as usize, old, input, row, inner, s);
     }
-    let n = row[LENGTH] as usize;
     call(words, n, old, input, row, kind, s)
 }
 
@@ -315,6 +325,7 @@ fn run(
     words: &mut Words,
     other: &mut Words,
     old: &mut Words,
+    bytes: &mut Bytes,
     input: &mut [u8; 4096],
     row: &mut [u64; 8],
 ) {
@@ -322,7 +333,7 @@ fn run(
     let mut state = calls::no_state();
     let mut turns: u64 = 1000000;
     while turns > 0 && row[MORE] == 1 {
-        state = turn(words, other, old, input, row, state);
+        state = turn(words, other, old, bytes, input, row, state);
         turns -= 1;
     }
 }
@@ -331,7 +342,15 @@ fn main() {
     let mut words = [0u32; 14432];
     let mut other = [0u32; 14432];
     let mut old = [0u32; 14432];
+    let mut bytes = [0u8; 58368];
     let mut input = [0u8; 4096];
     let mut row = [0u64; 8];
-    run(&mut words, &mut other, &mut old, &mut input, &mut row);
+    run(
+        &mut words,
+        &mut other,
+        &mut old,
+        &mut bytes,
+        &mut input,
+        &mut row,
+    );
 }

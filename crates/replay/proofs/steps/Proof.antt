@@ -12,9 +12,6 @@ abbrev μ-loop : tie.MeasureT-loop
 copy-words-requires : tie.Need-copy-words-requires Inv-loop μ-loop
 copy-words-requires c κs = search needs
 
-element-write-row : tie.Need-element-write-row Inv-loop μ-loop
-element-write-row c = search needs
-
 loop-holds : tie.Need-loop-holds Inv-loop μ-loop
 loop-holds c = search needs
 
@@ -30,12 +27,6 @@ loop-less c = search needs
 loop-again : tie.Need-loop-again Inv-loop μ-loop
 loop-again c = search needs
 
-element-copy-out-stores : tie.Need-element-copy-out-stores Inv-loop μ-loop
-element-copy-out-stores c = search needs
-
-feed-requires : tie.Need-feed-requires Inv-loop μ-loop
-feed-requires c κs = search needs
-
 returns : tie.Need-returns Inv-loop μ-loop
 returns c = search needs
 
@@ -46,12 +37,9 @@ steps-spec =
     Inv-loop
     μ-loop
     copy-words-requires
-    element-write-row
     loop-holds
     one-step-requires
     sub-left
     loop-less
     loop-again
-    element-copy-out-stores
-    feed-requires
     returns)
