@@ -28,6 +28,10 @@ use Rattle.descent.specs.declared.Position.{Position}
 unfoldable pub storesOf : Plan → List Store
 storesOf p = zip (take (p .count) (p .places)) (take (p .count) (p .values))
 
+-- a plan in the rows of places and values that a step lends
+abbrev pub planIn : List ℕ → List ℕ → ℕ → Plan
+planIn places values count = record { places = places; values = values; count = count }
+
 -- so many stores more, and which
 pub record Extends (p r : Plan) (count : ℕ) (more : List Store) : Type 0 where
   pub counted : r .count ≡ p .count + count
@@ -39,8 +43,12 @@ onOutcome Refused change = refused
 onOutcome Balanced change = balanced
 onOutcome Prepared change = change
 
-unfoldable pub preparationOf : Planned → Preparation
-preparationOf r = onOutcome (r .outcome) (prepared (storesOf (r .plan)) (nodesOf (r .free .words)) (r .last) (before-zero (r .cut)))
+unfoldable pub preparationOf : List ℕ → List ℕ → Planned → Preparation
+preparationOf places values r = onOutcome (r .outcome) (prepared (storesOf (planIn places values (r .count))) (nodesOf (r .free .words)) (r .last) (before-zero (r .cut)))
+
+-- what is planned whatever the rows hold
+abbrev pub InAnyRows : Planned → (List ℕ → List ℕ → Preparation) → Type 0
+InAnyRows r planned = (places values : List ℕ) → preparationOf places values r ≡ planned places values
 
 -- the numbers found
 unfoldable pub twoOf : Two → Option (List ℕ)

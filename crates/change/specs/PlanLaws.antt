@@ -9,7 +9,7 @@ use lib.ListN.{length, set, getD, take}
 use lib.Seq.{length-take-le, take-suc, take-suc-set}
 use Rattle.card.specs.Layout.{place, word, nodeImage}
 use Rattle.card.specs.Stores.{Store, stores, NewNode, new-node, node-stores}
-use Rattle.change.specs.Plan.{storesOf, Extends}
+use Rattle.change.specs.Plan.{storesOf, planIn, Extends}
 use Rattle.laws.specs.Lists.{pad, length-pad, getD-pad}
 use Rattle.change.specs.declared.Plan.{Plan}
 
@@ -31,6 +31,11 @@ extends-store p x v lp lv h =
           ∙ ap₂ zip (take-suc-set (p .places) (p .count) x (omega arith)) (take-suc-set (p .values) (p .count) v (omega arith))
           ∙ zip-more (take (p .count) (p .places)) (take (p .count) (p .values)) x v (length-take-le (p .count) (p .places) (omega arith) ∙ sym (length-take-le (p .count) (p .values) (omega arith)));
     }
+
+-- a plan of nothing
+pub none-planned : (places values : List ℕ) → storesOf (planIn places values 0) ≡ []
+unfolding storesOf zip zipWith
+none-planned places values = refl
 
 pub extends-none : (p : Plan) → Extends p p 0 []
 extends-none p = record { counted = omega arith; listed = sym (append-nil (storesOf p)) }

@@ -1,5 +1,4 @@
 // Two nodes that share what there is, "the left one getting the larger half", and what goes above them.
-use crate::Plan;
 use crate::Planned;
 use crate::answers::linked;
 use crate::answers::refused;
@@ -7,7 +6,6 @@ use crate::numbers::Three;
 use crate::numbers::next_three;
 use crate::numbers::without_three;
 use crate::stores::append_node;
-use crate::stores::no_stores;
 use crate::words::Words;
 use crate::words::first_words;
 use crate::words::one_word;
@@ -26,7 +24,7 @@ ghost use Rattle.free_nodes.specs.NodeSet.{capacity, nodesOf};
 ghost use Rattle.change.specs.Change.{kindAbove, half, keyBetween};
 ghost use Rattle.change.specs.Planning.{giving, first, second, third};
 ghost use Rattle.change.specs.Rows.{wordsOf};
-ghost use Rattle.change.specs.Plan.{Extends, preparationOf, togetherOf, halves, splitUnder, Whole};
+ghost use Rattle.change.specs.Plan.{planIn, Extends, preparationOf, togetherOf, halves, splitUnder, Whole};
 
 // What two siblings hold together: for leaves keys and values, for internal nodes routing keys and children.
 pub struct Pool {
@@ -50,29 +48,40 @@ fn left_keys(kind: u32, values: usize) -> usize
     if kind == 1 { values } else { values - 1 }
 }
 
-// The plan and two nodes that share what there is, "the left one getting the larger half".
-pub fn append_halves(plan: Plan, both: Pool, left: usize, right: usize) -> Plan
-    requires { ⌜ (plan .count + 48 ≤ 73) × Whole both × (1 ≤ left) × (left < capacity) × (1 ≤ right) × (right < capacity) ⌝ }
-    ensures { λ r. ⌜ Extends plan r 48 (node-stores (halves (togetherOf both) left right)) ⌝ }
+// Two nodes more, that share what there is, "the left one getting the larger half".
+pub fn append_halves(
+    places: &mut [u32],
+    values: &mut [u32],
+    count: usize,
+    both: Pool,
+    left: usize,
+    right: usize,
+) -> usize
+    requires { ⌜ (count + 48 ≤ 73) × Whole both × (1 ≤ left) × (left < capacity) × (1 ≤ right) × (right < capacity) × (length (now places) ≡ 73) × (length (now values) ≡ 73) ⌝ }
+    ensures { λ r. ⌜ Extends (planIn (now (places .entry)) (now (values .entry)) count) (planIn (now (places .exit)) (now (values .exit)) r) 48 (node-stores (halves (togetherOf both) left right)) ⌝ }
 {
     let kind = both.kind;
     let keys = both.keys;
-    let values = both.values;
-    let count = (values.count + 1) / 2;
-    let taken = left_keys(kind, count);
+    let beside = both.values;
+    let half = (beside.count + 1) / 2;
+    let taken = left_keys(kind, half);
     let more = append_node(
-        plan,
+        places,
+        values,
+        count,
         left,
         kind,
         first_words(keys, taken),
-        first_words(values, count),
+        first_words(beside, half),
     );
     append_node(
+        places,
+        values,
         more,
         right,
         kind,
-        words_after(keys, count),
-        words_after(values, count),
+        words_after(keys, half),
+        words_after(beside, half),
     )
 }
 
@@ -87,16 +96,26 @@ pub fn key_between(both: Pool) -> u32
 }
 
 // Two nodes that share what there is, and one above them with the key between them: "under a tagged node (internal if it is the root)".
-pub fn split(both: Pool, link: usize, cut: [u32; 3], free: NodeSet, last: usize) -> Planned
-    requires { ⌜ Whole both × (link < 2 ^ 32) ⌝ }
-    ensures { λ r. ⌜ preparationOf r ≡ giving 3 (nodesOf (free .words)) last (λ ms. splitUnder link (togetherOf both) (before-zero cut) (first ms) (second ms) (third ms)) ⌝ }
+pub fn split(
+    both: Pool,
+    link: usize,
+    cut: [u32; 3],
+    free: NodeSet,
+    last: usize,
+    places: &mut [u32],
+    values: &mut [u32],
+) -> Planned
+    requires { ⌜ Whole both × (link < 2 ^ 32) × (length (now places) ≡ 73) × (length (now values) ≡ 73) ⌝ }
+    ensures { λ r. ⌜ preparationOf (now (places .exit)) (now (values .exit)) r ≡ giving 3 (nodesOf (free .words)) last (λ ms. splitUnder link (togetherOf both) (before-zero cut) (first ms) (second ms) (third ms)) ⌝ }
 {
     let Three::Nodes(left, right, above) = next_three(free, last) else {
         return refused(free, last);
     };
-    let two = append_halves(no_stores(), both, left, right);
+    let two = append_halves(places, values, 0, both, left, right);
     let key = one_word(key_between(both));
     let three = append_node(
+        places,
+        values,
         two,
         above,
         kind_above(link),
@@ -104,6 +123,8 @@ pub fn split(both: Pool, link: usize, cut: [u32; 3], free: NodeSet, last: usize)
         two_words(left as u32, right as u32),
     );
     linked(
+        places,
+        values,
         three,
         link,
         above,

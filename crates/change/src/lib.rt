@@ -20,7 +20,6 @@ use pairs::no_pairs;
 use pairs::with_leaf;
 use pairs::with_pair;
 use siblings::mend_siblings;
-use stores::no_stores;
 use stores::push_store;
 use tagged::mend_tagged;
 use words::children;
@@ -48,10 +47,12 @@ pub enum Outcome {
     Prepared,
 }
 
-// What a step that has no store left to make finds. Where it is refused or finds the tree balanced, the outcome alone counts.
+// What a step that has no store left to make finds. The stores themselves are in the rows of places and values that the step
+// lends: a plan that went from call to call by value would be copied at each. Where the step is refused or finds the tree
+// balanced, the outcome alone counts.
 pub struct Planned {
     pub outcome: Outcome,
-    pub plan: Plan,
+    pub count: usize,
     pub free: NodeSet,
     pub last: usize,
     pub cut: [u32; 3],
@@ -66,21 +67,37 @@ fn word_place(m: usize, i: usize) -> u32
 }
 
 // A pair into slot i of leaf m, which is empty: the value and then the key, with which the pair is there.
-pub fn place_pair(m: usize, i: usize, key: u32, value: u32, free: NodeSet, last: usize) -> Planned
-    requires { ⌜ (1 ≤ m) × (m ≤ greatestNodes) × (i < 11) ⌝ }
-    ensures { λ r. ⌜ preparationOf r ≡ prepared ((place m (12 + i), value) ∷ (place m (1 + i), key) ∷ []) (nodesOf (free .words)) last [] ⌝ }
+pub fn place_pair(
+    m: usize,
+    i: usize,
+    key: u32,
+    value: u32,
+    free: NodeSet,
+    last: usize,
+    places: &mut [u32],
+    values: &mut [u32],
+) -> Planned
+    requires { ⌜ (1 ≤ m) × (m ≤ greatestNodes) × (i < 11) × (length (now places) ≡ 73) × (length (now values) ≡ 73) ⌝ }
+    ensures { λ r. ⌜ preparationOf (now (places .exit)) (now (values .exit)) r ≡ prepared ((place m (12 + i), value) ∷ (place m (1 + i), key) ∷ []) (nodesOf (free .words)) last [] ⌝ }
 {
-    let beside = push_store(no_stores(), word_place(m, 12 + i), value);
-    let both = push_store(beside, word_place(m, 1 + i), key);
-    prepared(both, free, last)
+    let one = push_store(places, values, 0, word_place(m, 12 + i), value);
+    let two = push_store(places, values, one, word_place(m, 1 + i), key);
+    prepared(two, free, last)
 }
 
 // The pair in slot i of leaf m goes: "A key word of 0 is an empty slot".
-pub fn clear_key(m: usize, i: usize, free: NodeSet, last: usize) -> Planned
-    requires { ⌜ (1 ≤ m) × (m ≤ greatestNodes) × (i < 11) ⌝ }
-    ensures { λ r. ⌜ preparationOf r ≡ prepared ((place m (1 + i), 0) ∷ []) (nodesOf (free .words)) last [] ⌝ }
+pub fn clear_key(
+    m: usize,
+    i: usize,
+    free: NodeSet,
+    last: usize,
+    places: &mut [u32],
+    values: &mut [u32],
+) -> Planned
+    requires { ⌜ (1 ≤ m) × (m ≤ greatestNodes) × (i < 11) × (length (now places) ≡ 73) × (length (now values) ≡ 73) ⌝ }
+    ensures { λ r. ⌜ preparationOf (now (places .exit)) (now (values .exit)) r ≡ prepared ((place m (1 + i), 0) ∷ []) (nodesOf (free .words)) last [] ⌝ }
 {
-    let one = push_store(no_stores(), word_place(m, 1 + i), 0);
+    let one = push_store(places, values, 0, word_place(m, 1 + i), 0);
     prepared(one, free, last)
 }
 
@@ -93,20 +110,22 @@ pub fn split_leaf(
     value: u32,
     free: NodeSet,
     last: usize,
+    places: &mut [u32],
+    values: &mut [u32],
 ) -> Planned
-    requires { ⌜ (length (now leaf) ≡ 24) × (length (leafPairs (now leaf)) ≡ 11) × (1 ≤ m) × (m ≤ greatestNodes) × (link < 2 ^ 32) ⌝ }
-    ensures { λ r. ⌜ preparationOf r ≡ giving 3 (nodesOf (free .words)) last (λ ms. splitLeaf m link (sort ((key, value) ∷ leafPairs (now (leaf .entry)))) (first ms) (second ms) (third ms)) ⌝ }
+    requires { ⌜ (length (now leaf) ≡ 24) × (length (leafPairs (now leaf)) ≡ 11) × (1 ≤ m) × (m ≤ greatestNodes) × (link < 2 ^ 32) × (length (now places) ≡ 73) × (length (now values) ≡ 73) ⌝ }
+    ensures { λ r. ⌜ preparationOf (now (places .exit)) (now (values .exit)) r ≡ giving 3 (nodesOf (free .words)) last (λ ms. splitLeaf m link (sort ((key, value) ∷ leafPairs (now (leaf .entry)))) (first ms) (second ms) (third ms)) ⌝ }
 {
     let twelve = with_pair(with_leaf(no_pairs(), leaf), key, value);
     let keys = twelve.keys;
-    let values = twelve.values;
+    let beside = twelve.values;
     let both = Pool {
         kind: 1,
         keys,
-        values,
+        values: beside,
     };
     let cut = [m as u32, 0, 0];
-    split(both, link, cut, free, last)
+    split(both, link, cut, free, last, places, values)
 }
 
 // A node number that is on a card of n nodes.
@@ -125,9 +144,11 @@ fn mend_underfull(
     j: usize,
     free: NodeSet,
     last: usize,
+    places: &mut [u32],
+    values: &mut [u32],
 ) -> Planned
-    requires { ⌜ (length (now card) ≡ 8 + 24 * n) × (n ≤ greatestNodes) × Linked p × (length (now parent) ≡ 24) × (j ≤ 11) ⌝ }
-    ensures { λ r. ⌜ preparationOf r ≡ mendUnderfull (now (card .entry)) n p (now (parent .entry)) j (nodesOf (free .words)) last ⌝ }
+    requires { ⌜ (length (now card) ≡ 8 + 24 * n) × (n ≤ greatestNodes) × Linked p × (length (now parent) ≡ 24) × (j ≤ 11) × (length (now places) ≡ 73) × (length (now values) ≡ 73) ⌝ }
+    ensures { λ r. ⌜ preparationOf (now (places .exit)) (now (values .exit)) r ≡ mendUnderfull (now (card .entry)) n p (now (parent .entry)) j (nodesOf (free .words)) last ⌝ }
 {
     let kids = children(parent);
     if kids.len() <= j + 1 {
@@ -149,13 +170,23 @@ fn mend_underfull(
         card::node_at(card, y),
         free,
         last,
+        places,
+        values,
     )
 }
 
 // The repair of the violation at a position; a parent that is tagged is refused. "Underfull non-root node: sibling is the right one for child 0, else the left one."
-pub fn mend(card: &[u32], n: usize, p: Position, free: NodeSet, last: usize) -> Planned
-    requires { ⌜ PositionWithin (now card) n p ⌝ }
-    ensures { λ r. ⌜ preparationOf r ≡ mend (now (card .entry)) n p (nodesOf (free .words)) last ⌝ }
+pub fn mend(
+    card: &[u32],
+    n: usize,
+    p: Position,
+    free: NodeSet,
+    last: usize,
+    places: &mut [u32],
+    values: &mut [u32],
+) -> Planned
+    requires { ⌜ PositionWithin (now card) n p × (length (now places) ≡ 73) × (length (now values) ≡ 73) ⌝ }
+    ensures { λ r. ⌜ preparationOf (now (places .exit)) (now (values .exit)) r ≡ mend (now (card .entry)) n p (nodesOf (free .words)) last ⌝ }
 {
     let parent = card::node_at(card, p.parent);
     if parent[0] != 2 {
@@ -163,23 +194,31 @@ pub fn mend(card: &[u32], n: usize, p: Position, free: NodeSet, last: usize) -> 
     }
     let node = card::node_at(card, p.node);
     if node[0] == 3 {
-        return mend_tagged(p, parent, node, free, last);
+        return mend_tagged(p, parent, node, free, last, places, values);
     }
     if p.index == 0 {
-        mend_underfull(card, n, p, parent, 0, free, last)
+        mend_underfull(card, n, p, parent, 0, free, last, places, values)
     } else {
-        mend_underfull(card, n, p, parent, p.index - 1, free, last)
+        mend_underfull(card, n, p, parent, p.index - 1, free, last, places, values)
     }
 }
 
 // "Repairs go on until balanced": the change that mends the first violation on a key's way.
-pub fn next_repair(card: &[u32], n: usize, key: u32, free: NodeSet, last: usize) -> Planned
-    requires { ⌜ (length (now card) ≡ 8 + 24 * n) × (n ≤ greatestNodes) × (4 ≤ n) ⌝ }
-    ensures { λ r. ⌜ preparationOf r ≡ nextRepair (now (card .entry)) n key (nodesOf (free .words)) last ⌝ }
+pub fn next_repair(
+    card: &[u32],
+    n: usize,
+    key: u32,
+    free: NodeSet,
+    last: usize,
+    places: &mut [u32],
+    values: &mut [u32],
+) -> Planned
+    requires { ⌜ (length (now card) ≡ 8 + 24 * n) × (n ≤ greatestNodes) × (4 ≤ n) × (length (now places) ≡ 73) × (length (now values) ≡ 73) ⌝ }
+    ensures { λ r. ⌜ preparationOf (now (places .exit)) (now (values .exit)) r ≡ nextRepair (now (card .entry)) n key (nodesOf (free .words)) last ⌝ }
 {
     match descent::find_violation(card, n, key, card[card::ROOT_PLACE] as usize) {
         Search::Refused => refused(free, last),
         Search::Balanced => balanced(free, last),
-        Search::Violation(p) => mend(card, n, p, free, last),
+        Search::Violation(p) => mend(card, n, p, free, last, places, values),
     }
 }

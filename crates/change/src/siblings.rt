@@ -1,5 +1,4 @@
 // "Underfull non-root node": what it has together with a sibling is shared out or merged, under a new copy of the parent.
-use crate::Plan;
 use crate::Planned;
 use crate::answers::linked;
 use crate::answers::refused;
@@ -15,7 +14,6 @@ use crate::numbers::without_two;
 use crate::pairs::no_pairs;
 use crate::pairs::with_leaf;
 use crate::stores::append_node;
-use crate::stores::no_stores;
 use crate::words::Words;
 use crate::words::append;
 use crate::words::children;
@@ -42,16 +40,25 @@ ghost use Rattle.free_nodes.specs.NodeSet.{capacity, nodesOf};
 ghost use Rattle.change.specs.Change.{leavesTogether, innersTogether, share, merge, mergeRoot};
 ghost use Rattle.change.specs.Planning.{giving, first, second, third, mendTogether, mendSiblings};
 ghost use Rattle.change.specs.Rows.{wordsOf};
-ghost use Rattle.change.specs.Plan.{Extends, preparationOf, togetherOf, copied, Keyed, Whole, Linked};
+ghost use Rattle.change.specs.Plan.{planIn, Extends, preparationOf, togetherOf, copied, Keyed, Whole, Linked};
 
-// The plan and a new copy of the parent, with other keys in the place of routing key j and other children in the place of j and j + 1.
-fn append_parent(plan: Plan, m: usize, parent: &[u32], j: usize, keys: Words, kids: Words) -> Plan
-    requires { ⌜ (plan .count + 24 ≤ 73) × (1 ≤ m) × (m < capacity) × (length (now parent) ≡ 24) × (suc j < length (children (now parent))) × (keys .count ≤ 1) × (kids .count ≤ 2) ⌝ }
-    ensures { λ r. ⌜ Extends plan r 24 (node-stores (copied m (now (parent .entry)) j (wordsOf keys) (wordsOf kids) ∷ [])) ⌝ }
+// A new copy of the parent more, with other keys in the place of routing key j and other children in the place of j and j + 1.
+fn append_parent(
+    places: &mut [u32],
+    values: &mut [u32],
+    count: usize,
+    m: usize,
+    parent: &[u32],
+    j: usize,
+    keys: Words,
+    kids: Words,
+) -> usize
+    requires { ⌜ (count + 24 ≤ 73) × (1 ≤ m) × (m < capacity) × (length (now parent) ≡ 24) × (suc j < length (children (now parent))) × (keys .count ≤ 1) × (kids .count ≤ 2) × (length (now places) ≡ 73) × (length (now values) ≡ 73) ⌝ }
+    ensures { λ r. ⌜ Extends (planIn (now (places .entry)) (now (values .entry)) count) (planIn (now (places .exit)) (now (values .exit)) r) 24 (node-stores (copied m (now (parent .entry)) j (wordsOf keys) (wordsOf kids) ∷ [])) ⌝ }
 {
     let routing = replaced(routing_keys(parent), j, j + 1, keys);
     let under = replaced(children(parent), j, j + 2, kids);
-    append_node(plan, m, 2, routing, under)
+    append_node(places, values, count, m, 2, routing, under)
 }
 
 // The nodes that leave the tree where siblings j and j + 1 are made anew.
@@ -71,16 +78,20 @@ fn share_out(
     both: Pool,
     free: NodeSet,
     last: usize,
+    places: &mut [u32],
+    values: &mut [u32],
 ) -> Planned
-    requires { ⌜ Linked p × (length (now parent) ≡ 24) × (suc j < length (children (now parent))) × Whole both ⌝ }
-    ensures { λ r. ⌜ preparationOf r ≡ giving 3 (nodesOf (free .words)) last (λ ms. share p (now (parent .entry)) j (togetherOf both) (first ms) (second ms) (third ms)) ⌝ }
+    requires { ⌜ Linked p × (length (now parent) ≡ 24) × (suc j < length (children (now parent))) × Whole both × (length (now places) ≡ 73) × (length (now values) ≡ 73) ⌝ }
+    ensures { λ r. ⌜ preparationOf (now (places .exit)) (now (values .exit)) r ≡ giving 3 (nodesOf (free .words)) last (λ ms. share p (now (parent .entry)) j (togetherOf both) (first ms) (second ms) (third ms)) ⌝ }
 {
     let Three::Nodes(left, right, above) = next_three(free, last) else {
         return refused(free, last);
     };
-    let two = append_halves(no_stores(), both, left, right);
+    let two = append_halves(places, values, 0, both, left, right);
     let key = one_word(key_between(both));
     let three = append_parent(
+        places,
+        values,
         two,
         above,
         parent,
@@ -89,6 +100,8 @@ fn share_out(
         two_words(left as u32, right as u32),
     );
     linked(
+        places,
+        values,
         three,
         p.above,
         above,
@@ -105,18 +118,31 @@ fn merge_siblings(
     both: Pool,
     free: NodeSet,
     last: usize,
+    places: &mut [u32],
+    values: &mut [u32],
 ) -> Planned
-    requires { ⌜ Linked p × (length (now parent) ≡ 24) × (suc j < length (children (now parent))) × (both .keys .count ≤ 3) × (both .values .count ≤ 3) ⌝ }
-    ensures { λ r. ⌜ preparationOf r ≡ giving 2 (nodesOf (free .words)) last (λ ms. merge p (now (parent .entry)) j (togetherOf both) (first ms) (second ms)) ⌝ }
+    requires { ⌜ Linked p × (length (now parent) ≡ 24) × (suc j < length (children (now parent))) × (both .keys .count ≤ 3) × (both .values .count ≤ 3) × (length (now places) ≡ 73) × (length (now values) ≡ 73) ⌝ }
+    ensures { λ r. ⌜ preparationOf (now (places .exit)) (now (values .exit)) r ≡ giving 2 (nodesOf (free .words)) last (λ ms. merge p (now (parent .entry)) j (togetherOf both) (first ms) (second ms)) ⌝ }
 {
     let Two::Nodes(merged, above) = next_two(free, last) else {
         return refused(free, last);
     };
     let keys = both.keys;
-    let values = both.values;
-    let one = append_node(no_stores(), merged, both.kind, keys, values);
-    let two = append_parent(one, above, parent, j, no_words(), one_word(merged as u32));
+    let beside = both.values;
+    let one = append_node(places, values, 0, merged, both.kind, keys, beside);
+    let two = append_parent(
+        places,
+        values,
+        one,
+        above,
+        parent,
+        j,
+        no_words(),
+        one_word(merged as u32),
+    );
     linked(
+        places,
+        values,
         two,
         p.above,
         above,
@@ -133,17 +159,21 @@ fn merge_into_root(
     both: Pool,
     free: NodeSet,
     last: usize,
+    places: &mut [u32],
+    values: &mut [u32],
 ) -> Planned
-    requires { ⌜ Linked p × (length (now parent) ≡ 24) × (suc j < length (children (now parent))) × (both .keys .count ≤ 3) × (both .values .count ≤ 3) ⌝ }
-    ensures { λ r. ⌜ preparationOf r ≡ giving 1 (nodesOf (free .words)) last (λ ms. mergeRoot p (now (parent .entry)) j (togetherOf both) (first ms)) ⌝ }
+    requires { ⌜ Linked p × (length (now parent) ≡ 24) × (suc j < length (children (now parent))) × (both .keys .count ≤ 3) × (both .values .count ≤ 3) × (length (now places) ≡ 73) × (length (now values) ≡ 73) ⌝ }
+    ensures { λ r. ⌜ preparationOf (now (places .exit)) (now (values .exit)) r ≡ giving 1 (nodesOf (free .words)) last (λ ms. mergeRoot p (now (parent .entry)) j (togetherOf both) (first ms)) ⌝ }
 {
     let Next::Node(merged) = free_nodes::next_free(free, last) else {
         return refused(free, last);
     };
     let keys = both.keys;
-    let values = both.values;
-    let one = append_node(no_stores(), merged, both.kind, keys, values);
+    let beside = both.values;
+    let one = append_node(places, values, 0, merged, both.kind, keys, beside);
     linked(
+        places,
+        values,
         one,
         p.above,
         merged,
@@ -168,18 +198,20 @@ fn mend_together(
     both: Pool,
     free: NodeSet,
     last: usize,
+    places: &mut [u32],
+    values: &mut [u32],
 ) -> Planned
-    requires { ⌜ Linked p × (length (now parent) ≡ 24) × (suc j < length (children (now parent))) × Keyed both ⌝ }
-    ensures { λ r. ⌜ preparationOf r ≡ mendTogether p (now (parent .entry)) j (togetherOf both) (nodesOf (free .words)) last ⌝ }
+    requires { ⌜ Linked p × (length (now parent) ≡ 24) × (suc j < length (children (now parent))) × Keyed both × (length (now places) ≡ 73) × (length (now values) ≡ 73) ⌝ }
+    ensures { λ r. ⌜ preparationOf (now (places .exit)) (now (values .exit)) r ≡ mendTogether p (now (parent .entry)) j (togetherOf both) (nodesOf (free .words)) last ⌝ }
 {
-    let values = both.values;
-    if 4 <= values.count {
-        return share_out(p, parent, j, both, free, last);
+    let beside = both.values;
+    if 4 <= beside.count {
+        return share_out(p, parent, j, both, free, last, places, values);
     }
     if is_root_of_two(p, parent) {
-        merge_into_root(p, parent, j, both, free, last)
+        merge_into_root(p, parent, j, both, free, last, places, values)
     } else {
-        merge_siblings(p, parent, j, both, free, last)
+        merge_siblings(p, parent, j, both, free, last, places, values)
     }
 }
 
@@ -192,22 +224,24 @@ fn mend_leaves(
     y: &[u32],
     free: NodeSet,
     last: usize,
+    places: &mut [u32],
+    values: &mut [u32],
 ) -> Planned
-    requires { ⌜ Linked p × (length (now parent) ≡ 24) × (suc j < length (children (now parent))) × (length (now x) ≡ 24) × (length (now y) ≡ 24) ⌝ }
-    ensures { λ r. ⌜ preparationOf r ≡ mendTogether p (now (parent .entry)) j (leavesTogether (now (x .entry)) (now (y .entry))) (nodesOf (free .words)) last ⌝ }
+    requires { ⌜ Linked p × (length (now parent) ≡ 24) × (suc j < length (children (now parent))) × (length (now x) ≡ 24) × (length (now y) ≡ 24) × (length (now places) ≡ 73) × (length (now values) ≡ 73) ⌝ }
+    ensures { λ r. ⌜ preparationOf (now (places .exit)) (now (values .exit)) r ≡ mendTogether p (now (parent .entry)) j (leavesTogether (now (x .entry)) (now (y .entry))) (nodesOf (free .words)) last ⌝ }
 {
     if 12 < card::pair_count(x) + card::pair_count(y) {
         return refused(free, last);
     }
     let pairs = with_leaf(with_leaf(no_pairs(), y), x);
     let keys = pairs.keys;
-    let values = pairs.values;
+    let beside = pairs.values;
     let both = Pool {
         kind: 1,
         keys,
-        values,
+        values: beside,
     };
-    mend_together(p, parent, j, both, free, last)
+    mend_together(p, parent, j, both, free, last, places, values)
 }
 
 // Two internal nodes "bring the routing key between them down".
@@ -219,22 +253,24 @@ fn mend_inners(
     y: &[u32],
     free: NodeSet,
     last: usize,
+    places: &mut [u32],
+    values: &mut [u32],
 ) -> Planned
-    requires { ⌜ Linked p × (length (now parent) ≡ 24) × (suc j < length (children (now parent))) × (length (now x) ≡ 24) × (length (now y) ≡ 24) × (0 < length (children (now x))) × (0 < length (children (now y))) ⌝ }
-    ensures { λ r. ⌜ preparationOf r ≡ mendTogether p (now (parent .entry)) j (innersTogether (now (x .entry)) (getD (routingKeys (now (parent .entry))) j 0) (now (y .entry))) (nodesOf (free .words)) last ⌝ }
+    requires { ⌜ Linked p × (length (now parent) ≡ 24) × (suc j < length (children (now parent))) × (length (now x) ≡ 24) × (length (now y) ≡ 24) × (0 < length (children (now x))) × (0 < length (children (now y))) × (length (now places) ≡ 73) × (length (now values) ≡ 73) ⌝ }
+    ensures { λ r. ⌜ preparationOf (now (places .exit)) (now (values .exit)) r ≡ mendTogether p (now (parent .entry)) j (innersTogether (now (x .entry)) (getD (routingKeys (now (parent .entry))) j 0) (now (y .entry))) (nodesOf (free .words)) last ⌝ }
 {
     if 12 < card::child_count(x) + card::child_count(y) {
         return refused(free, last);
     }
     let between = routing_keys(parent);
     let keys = append(push(words_of(routing_keys(x)), between[j]), routing_keys(y));
-    let values = append(words_of(children(x)), children(y));
+    let beside = append(words_of(children(x)), children(y));
     let both = Pool {
         kind: 2,
         keys,
-        values,
+        values: beside,
     };
-    mend_together(p, parent, j, both, free, last)
+    mend_together(p, parent, j, both, free, last, places, values)
 }
 
 fn both_are(x: &[u32], y: &[u32], kind: u32) -> bool
@@ -253,12 +289,14 @@ pub fn mend_siblings(
     y: &[u32],
     free: NodeSet,
     last: usize,
+    places: &mut [u32],
+    values: &mut [u32],
 ) -> Planned
-    requires { ⌜ Linked p × (length (now parent) ≡ 24) × (suc j < length (children (now parent))) × (length (now x) ≡ 24) × (length (now y) ≡ 24) ⌝ }
-    ensures { λ r. ⌜ preparationOf r ≡ mendSiblings p (now (parent .entry)) j (now (x .entry)) (now (y .entry)) (nodesOf (free .words)) last ⌝ }
+    requires { ⌜ Linked p × (length (now parent) ≡ 24) × (suc j < length (children (now parent))) × (length (now x) ≡ 24) × (length (now y) ≡ 24) × (length (now places) ≡ 73) × (length (now values) ≡ 73) ⌝ }
+    ensures { λ r. ⌜ preparationOf (now (places .exit)) (now (values .exit)) r ≡ mendSiblings p (now (parent .entry)) j (now (x .entry)) (now (y .entry)) (nodesOf (free .words)) last ⌝ }
 {
     if both_are(x, y, 1) {
-        return mend_leaves(p, parent, j, x, y, free, last);
+        return mend_leaves(p, parent, j, x, y, free, last, places, values);
     }
     if !both_are(x, y, 2) {
         return refused(free, last);
@@ -269,5 +307,5 @@ pub fn mend_siblings(
     if card::child_count(y) == 0 {
         return refused(free, last);
     }
-    mend_inners(p, parent, j, x, y, free, last)
+    mend_inners(p, parent, j, x, y, free, last, places, values)
 }

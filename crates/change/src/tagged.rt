@@ -5,7 +5,6 @@ use crate::answers::refused;
 use crate::halves::Pool;
 use crate::halves::split;
 use crate::stores::append_node;
-use crate::stores::no_stores;
 use crate::words::Words;
 use crate::words::children;
 use crate::words::replaced;
@@ -35,28 +34,46 @@ fn cut_tagged(p: Position) -> [u32; 3]
 }
 
 // "Parent with 11: the 12 children go 6 and 6 into two internal nodes, the middle key above them in a tagged node"
-fn split_parent(p: Position, keys: Words, kids: Words, free: NodeSet, last: usize) -> Planned
-    requires { ⌜ Linked p × (keys .count ≡ 11) × (kids .count ≡ 12) ⌝ }
-    ensures { λ r. ⌜ preparationOf r ≡ giving 3 (nodesOf (free .words)) last (λ ms. splitParent p (wordsOf keys) (wordsOf kids) (first ms) (second ms) (third ms)) ⌝ }
+fn split_parent(
+    p: Position,
+    keys: Words,
+    kids: Words,
+    free: NodeSet,
+    last: usize,
+    places: &mut [u32],
+    values: &mut [u32],
+) -> Planned
+    requires { ⌜ Linked p × (keys .count ≡ 11) × (kids .count ≡ 12) × (length (now places) ≡ 73) × (length (now values) ≡ 73) ⌝ }
+    ensures { λ r. ⌜ preparationOf (now (places .exit)) (now (values .exit)) r ≡ giving 3 (nodesOf (free .words)) last (λ ms. splitParent p (wordsOf keys) (wordsOf kids) (first ms) (second ms) (third ms)) ⌝ }
 {
     let both = Pool {
         kind: 2,
         keys,
         values: kids,
     };
-    split(both, p.above, cut_tagged(p), free, last)
+    split(both, p.above, cut_tagged(p), free, last, places, values)
 }
 
 // "parent with at most 10 children: a new copy of the parent takes its key and children in"
-fn absorb_tagged(p: Position, keys: Words, kids: Words, free: NodeSet, last: usize) -> Planned
-    requires { ⌜ Linked p × (keys .count ≤ 11) × (kids .count ≤ 11) ⌝ }
-    ensures { λ r. ⌜ preparationOf r ≡ giving 1 (nodesOf (free .words)) last (λ ms. absorb p (wordsOf keys) (wordsOf kids) (first ms)) ⌝ }
+fn absorb_tagged(
+    p: Position,
+    keys: Words,
+    kids: Words,
+    free: NodeSet,
+    last: usize,
+    places: &mut [u32],
+    values: &mut [u32],
+) -> Planned
+    requires { ⌜ Linked p × (keys .count ≤ 11) × (kids .count ≤ 11) × (length (now places) ≡ 73) × (length (now values) ≡ 73) ⌝ }
+    ensures { λ r. ⌜ preparationOf (now (places .exit)) (now (values .exit)) r ≡ giving 1 (nodesOf (free .words)) last (λ ms. absorb p (wordsOf keys) (wordsOf kids) (first ms)) ⌝ }
 {
     let Next::Node(copy) = free_nodes::next_free(free, last) else {
         return refused(free, last);
     };
-    let one = append_node(no_stores(), copy, 2, keys, kids);
+    let one = append_node(places, values, 0, copy, 2, keys, kids);
     linked(
+        places,
+        values,
         one,
         p.above,
         copy,
@@ -88,9 +105,11 @@ pub fn mend_tagged(
     tagged: &[u32],
     free: NodeSet,
     last: usize,
+    places: &mut [u32],
+    values: &mut [u32],
 ) -> Planned
-    requires { ⌜ Linked p × (length (now parent) ≡ 24) × (length (now tagged) ≡ 24) × (p .index < length (children (now parent))) ⌝ }
-    ensures { λ r. ⌜ preparationOf r ≡ mendTagged p (now (parent .entry)) (now (tagged .entry)) (nodesOf (free .words)) last ⌝ }
+    requires { ⌜ Linked p × (length (now parent) ≡ 24) × (length (now tagged) ≡ 24) × (p .index < length (children (now parent))) × (length (now places) ≡ 73) × (length (now values) ≡ 73) ⌝ }
+    ensures { λ r. ⌜ preparationOf (now (places .exit)) (now (values .exit)) r ≡ mendTagged p (now (parent .entry)) (now (tagged .entry)) (nodesOf (free .words)) last ⌝ }
 {
     if card::child_count(tagged) != 2 {
         return refused(free, last);
@@ -98,8 +117,8 @@ pub fn mend_tagged(
     let keys = joined_keys(parent, p.index, tagged);
     let kids = joined_children(parent, p.index, tagged);
     if card::child_count(parent) <= 10 {
-        absorb_tagged(p, keys, kids, free, last)
+        absorb_tagged(p, keys, kids, free, last, places, values)
     } else {
-        split_parent(p, keys, kids, free, last)
+        split_parent(p, keys, kids, free, last, places, values)
     }
 }

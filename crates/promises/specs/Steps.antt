@@ -16,9 +16,9 @@ use Rattle.laws.specs.Cases.{bool-cases, pick}
 use Rattle.promises.specs.Invariant.{Job, job-repair, job-insert, job-delete}
 use Rattle.promises.specs.Ledger.{Update}
 use Rattle.promises.specs.Machine.{World, happens, step}
-use Rattle.table.specs.Calls.{stepRefused, stepFinal, stepStore, stepFirst, planning, stepPrepared, stepRepair, stepBegin, stepPlan, stepWork, isIdle, stepHeld, stepDoing, stepOf}
+use Rattle.table.specs.Calls.{stepRefused, stepFinal, stepStore, stepFirst, planning, stepPrepared, stepBegin, stepPlan, stepWork, isIdle, stepHeld, stepDoing, stepOf}
 use Rattle.table.specs.Memory.{Memory, idled, advanced}
-use Rattle.table.specs.Updates.{landing, insertFirst, deleteFirst}
+use Rattle.table.specs.Updates.{landing, insertFirst, deleteFirst, repairs, nextChange}
 use Rattle.tree.specs.Cut.{cut}
 use Rattle.table.specs.declared.Doing.{Doing}
 use Rattle.table.specs.declared.Doing.the-variants.{Idle, Formatting, Inserting, Deleting, Repairing}
@@ -48,8 +48,8 @@ pub remove-busy : (key value : ℕ) → Busy (Deleting key false value)
 unfolding stepDoing isIdle
 remove-busy key value = record { held = λ c m. refl; not-idle = refl }
 
-job-plan : {doing : Doing} {key : ℕ} {final : Answer} {u : Option Update} → Job doing key final u → (c : List ℕ) (m : Memory) → stepPlan c m doing ≡ stepRepair c m key final
-unfolding stepPlan
+job-plan : {doing : Doing} {key : ℕ} {final : Answer} {u : Option Update} → Job doing key final u → (c : List ℕ) (m : Memory) → stepPlan c m doing ≡ stepPrepared c m doing final (nextRepair c (m .nodes) key (m .free) (m .last))
+unfolding stepPlan stepBegin nextChange repairs
 job-plan job-repair c m = refl
 job-plan job-insert c m = refl
 job-plan job-delete c m = refl
@@ -98,18 +98,17 @@ prepared-first c m doing final p s rest free last cut e h = ap (stepPrepared c m
 -- the next change of a repair
 pub step-repairs : (c : List ℕ) (n : ℕ) → Sized (length c) n → Formatted c n → (free : List Bool) (last : ℕ) {doing : Doing} {key : ℕ} {final : Answer} {u : Option Update} (j : Job doing key final u)
     → stepOf c (memory n free last doing [] []) ≡ stepPrepared c (memory n free last doing [] []) doing final (nextRepair c n key free last)
-unfolding stepRepair
 step-repairs c n s f free last {doing} j = step-plans c n s f free last doing (job-busy j) [] ∙ job-plan j c (memory n free last doing [] [])
 
 -- the first change of an update
 pub step-puts : (c : List ℕ) (n : ℕ) → Sized (length c) n → Formatted c n → (free : List Bool) (last key value : ℕ)
     → stepOf c (memory n free last (Inserting key value false) [] []) ≡ stepBegin c (memory n free last (Inserting key value false) [] []) (insertFirst c key value free last (landing c n key))
-unfolding stepPlan
+unfolding stepPlan nextChange
 step-puts c n s f free last key value = step-plans c n s f free last (Inserting key value false) (put-busy key value) []
 
 pub step-removes : (c : List ℕ) (n : ℕ) → Sized (length c) n → Formatted c n → (free : List Bool) (last key : ℕ)
     → stepOf c (memory n free last (Deleting key false 0) [] []) ≡ stepBegin c (memory n free last (Deleting key false 0) [] []) (deleteFirst c key free last (landing c n key))
-unfolding stepPlan
+unfolding stepPlan nextChange
 step-removes c n s f free last key = step-plans c n s f free last (Deleting key false 0) (remove-busy key 0) []
 
 -- a step of an idle state is refused and changes nothing, whatever the card

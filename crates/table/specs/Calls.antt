@@ -18,8 +18,8 @@ use Rattle.descent.specs.declared.Way.the-variants.{Refused as NoWay, Leaf as L
 use Rattle.descent.specs.declared.Landing.{Landing}
 use Rattle.descent.specs.declared.Landing.the-variants.{Refused as NoLanding, Leaf as LandingAt}
 use Rattle.soundness.specs.Check.{Findings, tableCheck}
-use Rattle.change.specs.Planning.{Preparation, refused, balanced, prepared, nextRepair}
-use Rattle.table.specs.Updates.{FirstChange, landing, insertFirst, deleteFirst, insertReason, Reason, held, slot, full, startRoom}
+use Rattle.change.specs.Planning.{Preparation, refused, balanced, prepared}
+use Rattle.table.specs.Updates.{FirstChange, landing, nextChange, startRoom}
 use Rattle.table.specs.Memory.{Memory, noMemory, resting, idled, advanced, searchStart}
 use Rattle.table.specs.declared.Doing.{Doing}
 use Rattle.table.specs.declared.Doing.the-variants.{Idle, Formatting, Inserting, Deleting, Repairing}
@@ -132,22 +132,12 @@ stepPrepared card m doing final refused = stepRefused 9 card m
 stepPrepared card m doing final balanced = stepFinal final card m
 stepPrepared card m doing final (prepared stores free last cut) = stepFirst card m (planning m doing free last cut) stores
 
--- "Repairs go on until balanced."
-unfoldable pub stepRepair : List ℕ → Memory → ℕ → Answer → Step
-stepRepair card m key final = stepPrepared card m (m .doing) final (nextRepair card (m .nodes) key (m .free) (m .last))
-
--- the first change of an update
+-- the first step of a change
 unfoldable pub stepBegin : List ℕ → Memory → FirstChange → Step
 stepBegin card m f = stepPrepared card m (f .doing) (f .final) (f .preparation)
 
 unfoldable pub stepPlan : List ℕ → Memory → Doing → Step
-stepPlan card m Idle = stepRefused 10 card m
-stepPlan card m (Formatting made) = stepRefused 10 card m
-stepPlan card m (Inserting key value false) = stepBegin card m (insertFirst card key value (m .free) (m .last) (landing card (m .nodes) key))
-stepPlan card m (Inserting key value true) = stepRepair card m key Absent
-stepPlan card m (Deleting key false value) = stepBegin card m (deleteFirst card key (m .free) (m .last) (landing card (m .nodes) key))
-stepPlan card m (Deleting key true value) = stepRepair card m key (Value value)
-stepPlan card m (Repairing key) = stepRepair card m key Ready
+stepPlan card m doing = stepBegin card m (nextChange card (m .nodes) (m .free) (m .last) doing)
 
 -- "10: state idle"; else a store of the change in hand, or the next change
 unfoldable pub stepWork : List ℕ → Memory → List Store → Step

@@ -46,8 +46,13 @@ unfoldable pub more : List Store → Bool
 more [] = false
 more (s ∷ rest) = true
 
-unfoldable pub firstOf : First → FirstChange
-firstOf f = record { doing = f .doing; final = f .answer; preparation = preparationOf (f .planned) }
+-- the next change, its stores being in the rows that the step lends
+unfoldable pub firstOf : List ℕ → List ℕ → First → FirstChange
+firstOf places values f = record { doing = f .doing; final = f .answer; preparation = preparationOf places values (f .planned) }
+
+-- the same whatever the rows hold
+abbrev pub InAnyRows : First → FirstChange → Type 0
+InAnyRows f change = (places values : List ℕ) → firstOf places values f ≡ change
 
 unfoldable pub isSlot : Slot → Bool
 isSlot (At i) = true

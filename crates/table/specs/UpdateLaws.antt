@@ -21,7 +21,7 @@ use Rattle.table.specs.CallLaws.{Inside, landing-inside}
 use Rattle.table.specs.Calls.{Handed, isIdle, startRefused, started, startLanded, startChecked, startOf}
 use Rattle.table.specs.Memory.{Memory}
 use Rattle.table.specs.Results.{isSlot, startRefusal}
-use Rattle.table.specs.Updates.{landing, Reason, emptyReason, reasonIn, insertReason, insertChange, insertFirst, deleteChange, deleteFirst, roomFor, held, slot, full}
+use Rattle.table.specs.Updates.{landing, Reason, emptyReason, reasonIn, insertReason, insertChange, insertFirst, deleteChange, deleteFirst, noChange, repairs, nextChange, roomFor, held, slot, full}
 use Rattle.descent.specs.declared.Slot.{Slot}
 use Rattle.descent.specs.declared.Slot.the-variants.{At, Absent as NoSlot}
 use Rattle.descent.specs.declared.Landing.{Landing}
@@ -29,6 +29,7 @@ use Rattle.descent.specs.declared.Landing.the-variants.{Refused as NoLanding, L
 use Rattle.descent.specs.declared.Turn.{Turn}
 use Rattle.descent.specs.declared.Turn.the-variants.{Refused as NoTurn, Leaf as TurnLeaf, Down as TurnDown}
 use Rattle.table.specs.declared.Doing.{Doing}
+use Rattle.table.specs.declared.Doing.the-variants.{Idle, Formatting, Inserting, Deleting, Repairing}
 use Rattle.table.specs.declared.Answer.the-variants.{Refused}
 use Rattle.table.specs.declared.Begun.{Begun}
 use Rattle.table.specs.declared.Begun.the-variants.{Started, Refused as BegunRefused}
@@ -199,7 +200,7 @@ insert-final-in key value free last m link node (held v) n e = let z : _≡_ {A 
 insert-final-in key value free last m link node (slot i) n e = let z : _≡_ {A = ℕ} 0 1 = cc in omega arith
 insert-final-in key value free last m link node full n e = let z : _≡_ {A = ℕ} 0 1 = cc in omega arith
 
-pub insert-final : (card : List ℕ) (key value : ℕ) (free : List Bool) (last : ℕ) (l : Landing) (n : ℕ) → insertFirst card key value free last l .final ≡ Refused n → ⊥
+insert-final : (card : List ℕ) (key value : ℕ) (free : List Bool) (last : ℕ) (l : Landing) (n : ℕ) → insertFirst card key value free last l .final ≡ Refused n → ⊥
 unfolding insertFirst
 insert-final card key value free last NoLanding n e = let z : _≡_ {A = ℕ} 0 1 = cc in omega arith
 insert-final card key value free last (LandingAt m link run) n e = insert-final-in key value free last m link (nodeAt card m) (insertReason (nodeAt card m) key) n e
@@ -209,10 +210,20 @@ unfolding deleteChange
 delete-final-in key free last m node (At i) n e = let z : _≡_ {A = ℕ} 0 1 = cc in omega arith
 delete-final-in key free last m node NoSlot n e = let z : _≡_ {A = ℕ} 0 1 = cc in omega arith
 
-pub delete-final : (card : List ℕ) (key : ℕ) (free : List Bool) (last : ℕ) (l : Landing) (n : ℕ) → deleteFirst card key free last l .final ≡ Refused n → ⊥
+delete-final : (card : List ℕ) (key : ℕ) (free : List Bool) (last : ℕ) (l : Landing) (n : ℕ) → deleteFirst card key free last l .final ≡ Refused n → ⊥
 unfolding deleteFirst
 delete-final card key free last NoLanding n e = let z : _≡_ {A = ℕ} 0 1 = cc in omega arith
 delete-final card key free last (LandingAt m link run) n e = delete-final-in key free last m (nodeAt card m) (slotOf (nodeAt card m) key) n e
+
+pub next-final : (card : List ℕ) (nodes : ℕ) (free : List Bool) (last : ℕ) (doing : Doing) (n : ℕ) → nextChange card nodes free last doing .final ≡ Refused n → ⊥
+unfolding nextChange repairs noChange
+next-final card nodes free last Idle n e = let z : _≡_ {A = ℕ} 0 1 = cc in omega arith
+next-final card nodes free last (Formatting made) n e = let z : _≡_ {A = ℕ} 0 1 = cc in omega arith
+next-final card nodes free last (Inserting key value false) n e = insert-final card key value free last (landing card nodes key) n e
+next-final card nodes free last (Inserting key value true) n e = let z : _≡_ {A = ℕ} 0 1 = cc in omega arith
+next-final card nodes free last (Deleting key false value) n e = delete-final card key free last (landing card nodes key) n e
+next-final card nodes free last (Deleting key true value) n e = let z : _≡_ {A = ℕ} 0 1 = cc in omega arith
+next-final card nodes free last (Repairing key) n e = let z : _≡_ {A = ℕ} 0 1 = cc in omega arith
 
 -- a leaf was reached, with room or without
 module _ (m : Memory) (doing : Doing) (room : Bool) (node link run : ℕ) where

@@ -13,7 +13,7 @@ use Rattle.descent.specs.declared.Slot.the-variants.{At, Absent as NoSlot}
 use Rattle.descent.specs.declared.Landing.{Landing}
 use Rattle.descent.specs.declared.Landing.the-variants.{Refused as NoLanding, Leaf as LandingAt}
 use Rattle.change.specs.Change.{splitLeaf}
-use Rattle.change.specs.Planning.{Preparation, refused, balanced, prepared, giving, first, second, third}
+use Rattle.change.specs.Planning.{Preparation, refused, balanced, prepared, giving, first, second, third, nextRepair}
 use Rattle.table.specs.declared.Doing.{Doing}
 use Rattle.table.specs.declared.Doing.the-variants.{Idle, Formatting, Inserting, Deleting, Repairing}
 use Rattle.table.specs.declared.Answer.{Answer}
@@ -40,7 +40,7 @@ reasonIn node NoSlot = emptyReason (slotOf node 0)
 unfoldable pub insertReason : List ℕ → ℕ → Reason
 insertReason node key = reasonIn node (slotOf node key)
 
--- the first change of an update, what is then being done, and the final answer where there is nothing to change
+-- the next change of what is being done, what is done from then on, and the final answer where there is nothing to change
 pub record FirstChange : Type 0 where
   pub doing : Doing
   pub final : Answer
@@ -67,6 +67,24 @@ deleteChange key free last m node NoSlot = record { doing = Deleting key true 0;
 unfoldable pub deleteFirst : List ℕ → ℕ → List Bool → ℕ → Landing → FirstChange
 deleteFirst card key free last NoLanding = record { doing = Deleting key true 0; final = Absent; preparation = refused }
 deleteFirst card key free last (LandingAt m link run) = deleteChange key free last m (nodeAt card m) (slotOf (nodeAt card m) key)
+
+-- "Repairs go on until balanced", and then the answer is given
+unfoldable pub repairs : List ℕ → ℕ → ℕ → Doing → Answer → List Bool → ℕ → FirstChange
+repairs card n key doing final free last = record { doing = doing; final = final; preparation = nextRepair card n key free last }
+
+-- idle or formatting, where no step asks for a change
+unfoldable pub noChange : Doing → FirstChange
+noChange doing = record { doing = doing; final = Ready; preparation = refused }
+
+-- the next change of what is being done
+unfoldable pub nextChange : List ℕ → ℕ → List Bool → ℕ → Doing → FirstChange
+nextChange card n free last Idle = noChange Idle
+nextChange card n free last (Formatting made) = noChange (Formatting made)
+nextChange card n free last (Inserting key value false) = insertFirst card key value free last (landing card n key)
+nextChange card n free last (Inserting key value true) = repairs card n key (Inserting key value true) Absent free last
+nextChange card n free last (Deleting key false value) = deleteFirst card key free last (landing card n key)
+nextChange card n free last (Deleting key true value) = repairs card n key (Deleting key true value) (Value value) free last
+nextChange card n free last (Repairing key) = repairs card n key (Repairing key) Ready free last
 
 -- "A splitting insert needs j + 5 free nodes."
 unfoldable pub roomFor : List Bool → ℕ → Reason → Bool

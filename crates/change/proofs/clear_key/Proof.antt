@@ -7,12 +7,9 @@ use Rattle.card.specs.Layout.{place}
 use Rattle.card.specs.Stores.{Store}
 use Rattle.free_nodes.specs.NodeSet.{nodesOf}
 use Rattle.change.specs.Planning.{prepared}
-use Rattle.change.specs.PlanLaws.{planned-store}
+use Rattle.change.specs.PlanLaws.{none-planned, planned-store}
 use Rattle.change.proofs.clear_key.Statement.{statement}
 use Rattle.change.proofs.clear_key.Tie as tie
-
-no-stores-requires : tie.Need-no-stores-requires
-no-stores-requires c κs = search needs
 
 add-word-place : tie.Need-add-word-place
 add-word-place c = search needs
@@ -26,20 +23,27 @@ push-store-requires c κs = search needs
 prepared-requires : tie.Need-prepared-requires
 prepared-requires c κs = search needs
 
+same-length : tie.Need-same-length
+same-length c = search needs
+
+same-length-2 : tie.Need-same-length-2
+same-length-2 c = search needs
+
 returns : tie.Need-returns
 returns c =
-    let s = c .before .before .before .before in
-    c .prepared .ensures
+    let s = c .before .before .before .before .before .before .before .before .before .before .before in
+    c .prepared .ensures _ _
     ∙ ap (λ (l : List Store). prepared l (nodesOf (s .args .free .words)) (s .args .last) [])
-    (planned-store _ _ [] _ 0 (place (s .args .m) (1 + s .args .i)) (c .before .before .before .no-stores .ensures .1) (c .before .before .word-place .ensures) (c .before .push-store .ensures))
+    (planned-store _ _ [] _ 0 (place (s .args .m) (1 + s .args .i)) (none-planned _ _) (c .before .before .before .before .before .before .word-place .ensures) (c .before .before .before .before .before .push-store .ensures))
 
 pub clear-key-spec : {M : Type 1} → statement M
 clear-key-spec =
     tie.close
     (tie.spec
-    no-stores-requires
     add-word-place
     word-place-requires
     push-store-requires
     prepared-requires
+    same-length
+    same-length-2
     returns)

@@ -11,11 +11,11 @@ use Rattle.change.proofs.next_repair.Tie as tie
 
 -- the repair follows from what the search found
 repair : (c : tie.After-find-violation) (found : Search) → c .find-violation .result ≡ found
-    → onSearch (c .before .before .before .args .card .now) (c .before .before .before .args .n) (nodesOf (c .before .before .before .args .free .words)) (c .before .before .before .args .last) found
-    ≡ nextRepair (c .before .before .before .args .card .now) (c .before .before .before .args .n) (c .before .before .before .args .key) (nodesOf (c .before .before .before .args .free .words)) (c .before .before .before .args .last)
+    → onSearch (c .before .before .before .before .before .args .card .now) (c .before .before .before .before .before .args .n) (nodesOf (c .before .before .before .before .before .args .free .words)) (c .before .before .before .before .before .args .last) found
+    ≡ nextRepair (c .before .before .before .before .before .args .card .now) (c .before .before .before .before .before .args .n) (c .before .before .before .before .before .args .key) (nodesOf (c .before .before .before .before .before .args .free .words)) (c .before .before .before .before .before .args .last)
 unfolding nextRepair
 repair c found e =
-    let s = c .before .before .before in
+    let s = c .before .before .before .before .before in
     ap (onSearch (s .args .card .now) (s .args .n) (nodesOf (s .args .free .words)) (s .args .last)) (sym e ∙ c .find-violation .ensures)
 
 shared-slice-read-find-violation : tie.Need-shared-slice-read-find-violation
@@ -44,20 +44,26 @@ enum-known-p c = search needs
 
 mend-requires : tie.Need-mend-requires
 mend-requires c κs =
-    let s = c .before .before .before .before .before .before in
-    position-within (s .args .card .now) (s .args .n) (s .args .key) (s .pre .0) (s .pre .1) _ _ _ (sym (c .before .before .before .find-violation .ensures) ∙ c .before .p .given .1)
+    let s = c .before .before .before .before .before .before .before .before .before .before in
+    (position-within (s .args .card .now) (s .args .n) (s .args .key) (s .pre .0) (s .pre .1) _ _ _ (sym (c .before .before .before .before .before .find-violation .ensures) ∙ c .before .before .before .p .given .1), search needs, search needs)
 
 returns : tie.Need-returns
 unfolding onSearch
-returns c = c .refused .ensures ∙ repair (c .before .before .before) _ (c .before .enum-told .given .1)
+returns c = c .refused .ensures _ _ ∙ repair (c .before .before .before) _ (c .before .enum-told .given .1)
 
 returns-2 : tie.Need-returns-2
 unfolding onSearch
-returns-2 c = c .balanced .ensures ∙ repair (c .before .before .before) _ (c .before .enum-told2 .given .1)
+returns-2 c = c .balanced .ensures _ _ ∙ repair (c .before .before .before) _ (c .before .enum-told2 .given .1)
+
+same-length : tie.Need-same-length
+same-length c = search needs
+
+same-length-2 : tie.Need-same-length-2
+same-length-2 c = search needs
 
 returns-3 : tie.Need-returns-3
 unfolding onSearch
-returns-3 c = c .mend .ensures ∙ repair (c .before .before .before .before) _ (c .before .before .p .given .1)
+returns-3 c = c .before .before .before .before .mend .ensures ∙ repair (c .before .before .before .before .before .before .before .before .before .before) _ (c .before .before .before .before .before .before .before .before .p .given .1)
 
 pub next-repair-spec : {M : Type 1} → statement M
 next-repair-spec =
@@ -74,4 +80,6 @@ next-repair-spec =
     mend-requires
     returns
     returns-2
+    same-length
+    same-length-2
     returns-3)

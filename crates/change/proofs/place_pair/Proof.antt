@@ -7,12 +7,9 @@ use Rattle.card.specs.Layout.{place}
 use Rattle.card.specs.Stores.{Store}
 use Rattle.free_nodes.specs.NodeSet.{nodesOf}
 use Rattle.change.specs.Planning.{prepared}
-use Rattle.change.specs.PlanLaws.{planned-store}
+use Rattle.change.specs.PlanLaws.{none-planned, planned-store}
 use Rattle.change.proofs.place_pair.Statement.{statement}
 use Rattle.change.proofs.place_pair.Tie as tie
-
-no-stores-requires : tie.Need-no-stores-requires
-no-stores-requires c κs = search needs
 
 add-word-place : tie.Need-add-word-place
 add-word-place c = search needs
@@ -35,22 +32,27 @@ push-store-requires-2 c κs = search needs
 prepared-requires : tie.Need-prepared-requires
 prepared-requires c κs = search needs
 
+same-length : tie.Need-same-length
+same-length c = search needs
+
+same-length-2 : tie.Need-same-length-2
+same-length-2 c = search needs
+
 returns : tie.Need-returns
 returns c =
-    let s = c .before .before .before .before .before .before in
+    let s = c .before .before .before .before .before .before .before .before .before .before .before .before .before .before .before .before .before .before .before in
     let m = s .args .m in
     let i = s .args .i in
-    c .prepared .ensures
+    c .prepared .ensures _ _
     ∙ ap (λ (l : List Store). prepared l (nodesOf (s .args .free .words)) (s .args .last) [])
     (planned-store _ _ ((place m (12 + i), s .args .value) ∷ []) _ (s .args .key) (place m (1 + i))
-    (planned-store _ _ [] _ (s .args .value) (place m (12 + i)) (c .before .before .before .before .before .no-stores .ensures .1) (c .before .before .before .before .word-place .ensures) (c .before .before .before .push-store .ensures))
-    (c .before .before .word-place2 .ensures) (c .before .push-store2 .ensures))
+    (planned-store _ _ [] _ (s .args .value) (place m (12 + i)) (none-planned _ _) (c .before .before .before .before .before .before .before .before .before .before .before .before .before .before .word-place .ensures) (c .before .before .before .before .before .before .before .before .before .before .before .before .before .push-store .ensures))
+    (c .before .before .before .before .before .before .word-place2 .ensures) (c .before .before .before .before .before .push-store2 .ensures))
 
 pub place-pair-spec : {M : Type 1} → statement M
 place-pair-spec =
     tie.close
     (tie.spec
-    no-stores-requires
     add-word-place
     word-place-requires
     push-store-requires
@@ -58,4 +60,6 @@ place-pair-spec =
     word-place-requires-2
     push-store-requires-2
     prepared-requires
+    same-length
+    same-length-2
     returns)

@@ -33,21 +33,27 @@ with-leaf-requires c κs = search needs
 with-pair-requires : tie.Need-with-pair-requires
 with-pair-requires c κs = search needs
 
-cast-t15 : tie.Need-cast-t15
-cast-t15 c = search needs
+cast-t17 : tie.Need-cast-t17
+cast-t17 c = search needs
 
 split-requires : tie.Need-split-requires
 split-requires c κs = search needs
 
+same-length : tie.Need-same-length
+same-length c = search needs
+
+same-length-2 : tie.Need-same-length-2
+same-length-2 c = search needs
+
 returns : tie.Need-returns
 returns c =
-    let s = c .before .before .before .before .before .before .before in
+    let s = c .before .before .before .before .before .before .before .before .before .before .before .before .before .before .before in
     let leaf = s .args .leaf .now in
-    let held = c .before .before .before .before .with-leaf .ensures in
-    let none = c .before .before .before .before .before .no-pairs .ensures in
-    c .split .ensures
+    let held = c .before .before .before .before .before .before .before .before .before .before .with-leaf .ensures in
+    let none = c .before .before .before .before .before .before .before .before .before .before .before .no-pairs .ensures in
+    c .before .before .before .before .split .ensures
     ∙ ap (λ (b : Together). giving 3 (nodesOf (s .args .free .words)) (s .args .last) (λ ms. splitUnder (s .args .link) b (before-zero (s .args .m ∷ 0 ∷ 0 ∷ [])) (first ms) (second ms) (third ms)))
-    (leaf-pooled leaf (s .args .key) (s .args .value) _ _ (c .before .before .before .with-pair .result) _ _ (room-keys (c .before .before .before)) (room-values (c .before .before .before)) (omega (arith, held .keys-counted, none .keys-counted, s .pre .1)) none held (c .before .before .before .with-pair .ensures))
+    (leaf-pooled leaf (s .args .key) (s .args .value) _ _ (c .before .before .before .before .before .before .before .before .before .with-pair .result) _ _ (room-keys (c .before .before .before .before .before .before .before .before .before)) (room-values (c .before .before .before .before .before .before .before .before .before)) (omega (arith, held .keys-counted, none .keys-counted, s .pre .1)) none held (c .before .before .before .before .before .before .before .before .before .with-pair .ensures))
     ∙ split-leaf (s .args .m) (s .args .link) (sort ((s .args .key, s .args .value) ∷ leafPairs leaf)) _ _ _ (length-sort ((s .args .key, s .args .value) ∷ leafPairs leaf) ∙ ap suc (s .pre .1)) (cut-one (s .args .m) (s .pre .2))
 
 pub split-leaf-spec : {M : Type 1} → statement M
@@ -57,6 +63,8 @@ split-leaf-spec =
     no-pairs-requires
     with-leaf-requires
     with-pair-requires
-    cast-t15
+    cast-t17
     split-requires
+    same-length
+    same-length-2
     returns)

@@ -5,12 +5,9 @@ use Rattle.change.specs.Plan.{preparationOf, onOutcome}
 use Rattle.change.proofs.answers.balanced.Statement.{statement}
 use Rattle.change.proofs.answers.balanced.Tie as tie
 
-no-stores-requires : tie.Need-no-stores-requires
-no-stores-requires c κs = search needs
-
 returns : tie.Need-returns
 unfolding preparationOf onOutcome
-returns c = refl
+returns c places values = refl
 
 pub balanced-spec : {M : Type 1} → statement M
-balanced-spec = tie.close (tie.spec no-stores-requires returns)
+balanced-spec = tie.close (tie.spec returns)

@@ -19,9 +19,23 @@ cast-push-store-2 c = search needs
 push-store-requires : tie.Need-push-store-requires
 push-store-requires c κs = search needs
 
+same-length : tie.Need-same-length
+same-length c = search needs
+
+same-length-2 : tie.Need-same-length-2
+same-length-2 c = search needs
+
 returns : tie.Need-returns
 unfolding preparationOf onOutcome
-returns c = let s = c .before in ap (λ (x : List Store). prepared x (nodesOf (s .args .free .words)) (s .args .top) (before-zero (s .args .cut))) (c .push-store .ensures .listed)
+returns c = let s = c .before .before .before .before .before .before .before .before .before in ap (λ (x : List Store). prepared x (nodesOf (s .args .free .words)) (s .args .top) (before-zero (s .args .cut))) (c .before .before .before .before .push-store .ensures .listed)
 
 pub linked-spec : {M : Type 1} → statement M
-linked-spec = tie.close (tie.spec cast-push-store cast-push-store-2 push-store-requires returns)
+linked-spec =
+    tie.close
+    (tie.spec
+    cast-push-store
+    cast-push-store-2
+    push-store-requires
+    same-length
+    same-length-2
+    returns)

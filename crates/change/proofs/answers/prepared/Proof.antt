@@ -1,4 +1,5 @@
 -- `change::answers::prepared` meets its contract.
+use borrow.Author.Needs.{needs}
 use mathlib.Core.Path.{refl}
 use Rattle.change.specs.Plan.{preparationOf, onOutcome}
 use Rattle.change.proofs.answers.prepared.Statement.{statement}
@@ -6,7 +7,7 @@ use Rattle.change.proofs.answers.prepared.Tie as tie
 
 returns : tie.Need-returns
 unfolding preparationOf onOutcome
-returns c = refl
+returns c places values = refl
 
 pub prepared-spec : {M : Type 1} → statement M
 prepared-spec = tie.close (tie.spec returns)

@@ -14,8 +14,8 @@ use Rattle.change.proofs.stores.append_node.Tie as tie
 few-keys : (c : tie.Start) → length (wordsOf (c .args .keys)) ≤ 11
 few-keys c = let len : length (c .args .keys .items) ≡ 12 = search needs in omega (arith, length-words (c .args .keys) len (omega arith))
 
-few-values : (c : tie.Start) → length (wordsOf (c .args .values)) ≤ 11
-few-values c = let len : length (c .args .values .items) ≡ 12 = search needs in omega (arith, length-words (c .args .values) len (omega arith))
+few-values : (c : tie.Start) → length (wordsOf (c .args .beside)) ≤ 11
+few-values c = let len : length (c .args .beside .items) ≡ 12 = search needs in omega (arith, length-words (c .args .beside) len (omega arith))
 
 sub-at : tie.Need-sub-at
 sub-at c = search needs
@@ -50,11 +50,17 @@ add-push-store c = search needs
 push-store-requires-2 : tie.Need-push-store-requires-2
 push-store-requires-2 c κs = search needs
 
+same-length : tie.Need-same-length
+same-length c = search needs
+
+same-length-2 : tie.Need-same-length-2
+same-length-2 c = search needs
+
 returns : tie.Need-returns
 returns c =
-    let s = c .before .before .before .before in
-    extends-node _ _ _ _ _ (s .args .m) _ (s .args .kind) (wordsOf (s .args .keys)) (wordsOf (s .args .values)) refl (few-keys s) (few-values s)
-    (c .before .before .before .push-store .ensures) (c .before .before .append-row .ensures) (c .before .append-row2 .ensures) (c .push-store2 .ensures)
+    let s = c .before .before .before .before .before .before .before .before .before .before .before .before .before .before .before .before .before .before .before .before .before .before .before .before .before .before .before .before .before .before in
+    extends-node _ _ _ _ _ (s .args .m) _ (s .args .kind) (wordsOf (s .args .keys)) (wordsOf (s .args .beside)) refl (few-keys s) (few-values s)
+    (c .before .before .before .before .before .before .before .before .before .before .before .before .before .before .before .before .before .before .before .before .before .before .before .before .before .push-store .ensures) (c .before .before .before .before .before .before .before .before .before .before .before .before .before .before .before .before .before .before .append-row .ensures) (c .before .before .before .before .before .before .before .before .before .before .before .append-row2 .ensures) (c .before .before .before .before .push-store2 .ensures)
 
 pub append-node-spec : {M : Type 1} → statement M
 append-node-spec =
@@ -71,4 +77,6 @@ append-node-spec =
     append-row-requires-2
     add-push-store
     push-store-requires-2
+    same-length
+    same-length-2
     returns)

@@ -1,33 +1,43 @@
 -- `change::stores::push_store` meets its contract.
-use mathlib.Core.Path.{_≡_}
-use lib.ListN.{length}
 use borrow.Author.Needs.{needs}
+use Rattle.change.specs.Plan.{planIn}
 use Rattle.change.specs.PlanLaws.{extends-store}
 use Rattle.change.proofs.stores.push_store.Statement.{statement}
 use Rattle.change.proofs.stores.push_store.Tie as tie
 
-mul-more : tie.Need-mul-more
-mul-more c = search needs
+mul-places : tie.Need-mul-places
+mul-places c = search needs
 
-element-write-more : tie.Need-element-write-more
-element-write-more c = search needs
+slice-write-places : tie.Need-slice-write-places
+slice-write-places c = search needs
 
-mul-more-2 : tie.Need-mul-more-2
-mul-more-2 c = search needs
+mul-values : tie.Need-mul-values
+mul-values c = search needs
 
-element-write-more-2 : tie.Need-element-write-more-2
-element-write-more-2 c = search needs
+slice-write-values : tie.Need-slice-write-values
+slice-write-values c = search needs
 
-add-more : tie.Need-add-more
-add-more c = search needs
+add-result : tie.Need-add-result
+add-result c = search needs
+
+same-length : tie.Need-same-length
+same-length c = search needs
+
+same-length-2 : tie.Need-same-length-2
+same-length-2 c = search needs
 
 returns : tie.Need-returns
-returns c =
-    let places : length (c .args .plan .places) ≡ 73 = search needs in
-    let values : length (c .args .plan .values) ≡ 73 = search needs in
-    extends-store (c .args .plan) (c .args .place) (c .args .value) places values (search needs)
+returns c = extends-store (planIn (c .args .places .now) (c .args .values .now) (c .args .count)) (c .args .place) (c .args .value) (c .pre .1) (c .pre .2) (c .pre .0)
 
 pub push-store-spec : {M : Type 1} → statement M
 push-store-spec =
     tie.close
-    (tie.spec mul-more element-write-more mul-more-2 element-write-more-2 add-more returns)
+    (tie.spec
+    mul-places
+    slice-write-places
+    mul-values
+    slice-write-values
+    add-result
+    same-length
+    same-length-2
+    returns)

@@ -19,7 +19,7 @@ refused-requires : tie.Need-refused-requires
 refused-requires c κs = search needs
 
 returns : tie.Need-returns
-returns c = c .refused .ensures ∙ sym (tagged-refused _ _ _ _ _ (λ e. c .before .if1 .taken (c .before .before .child-count .ensures ∙ e)))
+returns c = c .refused .ensures _ _ ∙ sym (tagged-refused _ _ _ _ _ (λ e. c .before .if1 .taken (c .before .before .child-count .ensures ∙ e)))
 
 joined-keys-requires : tie.Need-joined-keys-requires
 joined-keys-requires c κs = search needs
@@ -35,25 +35,37 @@ absorb-tagged-requires c κs = search needs
 
 split-parent-requires : tie.Need-split-parent-requires
 split-parent-requires c κs =
-    let e = c .before .before .before .joined-keys .ensures .counted in
-    let f = c .before .before .joined-children .ensures .counted in
-    let n = c .before .child-count2 .ensures in
-    let few = children-le (c .before .before .before .before .before .before .before .before .args .parent .now) in
-    (c .before .before .before .before .before .before .before .before .pre .0, omega (arith, c .if2 .left), omega (arith, c .if2 .left))
+    let e = c .before .before .before .before .before .joined-keys .ensures .counted in
+    let f = c .before .before .before .before .joined-children .ensures .counted in
+    let n = c .before .before .before .child-count2 .ensures in
+    let few = children-le (c .before .before .before .before .before .before .before .before .before .before .before .before .args .parent .now) in
+    (c .before .before .before .before .before .before .before .before .before .before .before .before .pre .0, omega (arith, c .before .before .if2 .left), omega (arith, c .before .before .if2 .left), search needs, search needs)
+
+same-length : tie.Need-same-length
+same-length c = search needs
+
+same-length-2 : tie.Need-same-length-2
+same-length-2 c = search needs
 
 returns-2 : tie.Need-returns-2
 returns-2 c =
-    let s = c .before .before .before .before .before .before .before .before .before in
-    c .absorb-tagged .ensures
-    ∙ ap₂ (λ (k v : List ℕ). giving 1 (nodesOf (s .args .free .words)) (s .args .last) (λ ms. absorb (s .args .p) k v (first ms))) (c .before .before .before .before .joined-keys .ensures .listed) (c .before .before .before .joined-children .ensures .listed)
-    ∙ sym (tagged-absorbed _ _ _ _ _ (sym (c .before .before .before .before .before .before .child-count .ensures) ∙ c .before .before .before .before .before .if1 .left) (omega (arith, c .before .before .child-count2 .ensures, c .before .if2 .taken)))
+    let s = c .before .before .before .before .before .before .before .before .before .before .before .before .before .before .before .before .before in
+    c .before .before .before .before .absorb-tagged .ensures
+    ∙ ap₂ (λ (k v : List ℕ). giving 1 (nodesOf (s .args .free .words)) (s .args .last) (λ ms. absorb (s .args .p) k v (first ms))) (c .before .before .before .before .before .before .before .before .before .before .joined-keys .ensures .listed) (c .before .before .before .before .before .before .before .before .before .joined-children .ensures .listed)
+    ∙ sym (tagged-absorbed _ _ _ _ _ (sym (c .before .before .before .before .before .before .before .before .before .before .before .before .child-count .ensures) ∙ c .before .before .before .before .before .before .before .before .before .before .before .if1 .left) (omega (arith, c .before .before .before .before .before .before .before .before .child-count2 .ensures, c .before .before .before .before .before .before .before .if2 .taken)))
+
+same-length-3 : tie.Need-same-length-3
+same-length-3 c = search needs
+
+same-length-4 : tie.Need-same-length-4
+same-length-4 c = search needs
 
 returns-3 : tie.Need-returns-3
 returns-3 c =
-    let s = c .before .before .before .before .before .before .before .before .before in
-    c .split-parent .ensures
-    ∙ ap₂ (λ (k v : List ℕ). giving 3 (nodesOf (s .args .free .words)) (s .args .last) (λ ms. splitParent (s .args .p) k v (first ms) (second ms) (third ms))) (c .before .before .before .before .joined-keys .ensures .listed) (c .before .before .before .joined-children .ensures .listed)
-    ∙ sym (tagged-split _ _ _ _ _ (sym (c .before .before .before .before .before .before .child-count .ensures) ∙ c .before .before .before .before .before .if1 .left) (omega (arith, c .before .before .child-count2 .ensures, c .before .if2 .left)))
+    let s = c .before .before .before .before .before .before .before .before .before .before .before .before .before .before .before .before .before in
+    c .before .before .before .before .split-parent .ensures
+    ∙ ap₂ (λ (k v : List ℕ). giving 3 (nodesOf (s .args .free .words)) (s .args .last) (λ ms. splitParent (s .args .p) k v (first ms) (second ms) (third ms))) (c .before .before .before .before .before .before .before .before .before .before .joined-keys .ensures .listed) (c .before .before .before .before .before .before .before .before .before .joined-children .ensures .listed)
+    ∙ sym (tagged-split _ _ _ _ _ (sym (c .before .before .before .before .before .before .before .before .before .before .before .before .child-count .ensures) ∙ c .before .before .before .before .before .before .before .before .before .before .before .if1 .left) (omega (arith, c .before .before .before .before .before .before .before .before .child-count2 .ensures, c .before .before .before .before .before .before .before .if2 .left)))
 
 pub mend-tagged-spec : {M : Type 1} → statement M
 mend-tagged-spec =
@@ -67,5 +79,9 @@ mend-tagged-spec =
     child-count-requires-2
     absorb-tagged-requires
     split-parent-requires
+    same-length
+    same-length-2
     returns-2
+    same-length-3
+    same-length-4
     returns-3)

@@ -20,9 +20,22 @@ cut-tagged-requires c κs = search needs
 split-requires : tie.Need-split-requires
 split-requires c κs = search needs
 
+same-length : tie.Need-same-length
+same-length c = search needs
+
+same-length-2 : tie.Need-same-length-2
+same-length-2 c = search needs
+
 returns : tie.Need-returns
 unfolding togetherOf
-returns c = let s = c .before .before in c .split .ensures ∙ split-parent (s .args .p) (wordsOf (s .args .keys)) (wordsOf (s .args .kids)) _ _ _ (twelve s) (c .before .cut-tagged .ensures)
+returns c = let s = c .before .before .before .before .before .before .before .before .before .before in c .before .before .before .before .split .ensures ∙ split-parent (s .args .p) (wordsOf (s .args .keys)) (wordsOf (s .args .kids)) _ _ _ (twelve s) (c .before .before .before .before .before .before .before .cut-tagged .ensures)
 
 pub split-parent-spec : {M : Type 1} → statement M
-split-parent-spec = tie.close (tie.spec cut-tagged-requires split-requires returns)
+split-parent-spec =
+    tie.close
+    (tie.spec
+    cut-tagged-requires
+    split-requires
+    same-length
+    same-length-2
+    returns)

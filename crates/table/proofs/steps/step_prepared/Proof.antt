@@ -1,11 +1,12 @@
 -- `table::steps::step_prepared` meets its contract.
 use mathlib.Core.Path.{refl, ap, sym, _∙_}
 use mathlib.Core.List.{[]}
-use Rattle.change.specs.Plan.{storesOf, onOutcome, preparationOf}
-use Rattle.change.specs.Planning.{prepared}
+use Prim.Native.Nat.{ℕ}
+use Rattle.change.specs.Plan.{storesOf, planIn, onOutcome, preparationOf}
+use Rattle.change.specs.Planning.{Preparation, prepared}
 use Rattle.free_nodes.specs.NodeSet.{nodesOf}
 use Rattle.laws.specs.Lists.{before-zero}
-use Rattle.table.specs.Calls.{stepRefused, stepFinal, planning, stepPrepared}
+use Rattle.table.specs.Calls.{stepRefused, stepFinal, stepFirst, planning, stepPrepared}
 use Rattle.table.specs.Memory.{Memory, memoryOf}
 use Rattle.table.specs.Results.{stepLeft}
 use Rattle.table.specs.StepLaws.{first-same}
@@ -13,6 +14,10 @@ use Rattle.change.specs.declared.Outcome.{Outcome}
 use borrow.Author.Needs.{needs}
 use Rattle.table.proofs.steps.step_prepared.Statement.{statement}
 use Rattle.table.proofs.steps.step_prepared.Tie as tie
+
+-- the change prepared, with so many stores
+abbrev change : tie.Start → ℕ → Preparation
+change s k = prepared (storesOf (planIn (s .args .plan .places) (s .args .plan .values) k)) (nodesOf (s .args .p .free .words)) (s .args .p .last) (before-zero (s .args .p .cut))
 
 enum-told : tie.Need-enum-told
 enum-told c = search needs
@@ -31,26 +36,29 @@ store-next-requires c κs = search needs
 
 returns : tie.Need-returns
 unfolding stepLeft stepPrepared stepRefused preparationOf onOutcome
-returns c = (ap (λ (o : Outcome). stepPrepared (c .before .before .before .args .card .now) (memoryOf (c .before .before .before .args .s)) (c .before .before .before .args .doing) (c .before .before .before .args .answer) (onOutcome o (prepared (storesOf (c .before .before .before .args .p .plan)) (nodesOf (c .before .before .before .args .p .free .words)) (c .before .before .before .args .p .last) (before-zero (c .before .before .before .args .p .cut))))) (sym (c .enum-told .given .1)), (λ n e. refl))
+returns c = let s = c .before .before .before in (ap (λ (o : Outcome). stepPrepared (s .args .card .now) (memoryOf (s .args .s)) (s .args .doing) (s .args .answer) (onOutcome o (change s (s .args .p .count)))) (sym (c .enum-told .given .1)), (λ n e. refl))
 
 returns-2 : tie.Need-returns-2
 unfolding stepLeft stepPrepared stepFinal preparationOf onOutcome
-returns-2 c = (
-  ap (λ (m : Memory). record { answer = c .before .before .before .before .args .answer; card = c .before .before .before .before .args .card .now; memory = m }) (c .idled .ensures) ∙ ap (λ (o : Outcome). stepPrepared (c .before .before .before .before .args .card .now) (memoryOf (c .before .before .before .before .args .s)) (c .before .before .before .before .args .doing) (c .before .before .before .before .args .answer) (onOutcome o (prepared (storesOf (c .before .before .before .before .args .p .plan)) (nodesOf (c .before .before .before .before .args .p .free .words)) (c .before .before .before .before .args .p .last) (before-zero (c .before .before .before .before .args .p .cut))))) (sym (c .before .enum-told2 .given .1)),
-  (λ n e. absurd (c .before .before .before .before .pre n e)),
-)
+returns-2 c =
+    let s = c .before .before .before .before in (
+      ap (λ (m : Memory). record { answer = s .args .answer; card = s .args .card .now; memory = m }) (c .idled .ensures) ∙ ap (λ (o : Outcome). stepPrepared (s .args .card .now) (memoryOf (s .args .s)) (s .args .doing) (s .args .answer) (onOutcome o (change s (s .args .p .count)))) (sym (c .before .enum-told2 .given .1)),
+      (λ n e. absurd (s .pre .0 n e)),
+    )
 
 same-length : tie.Need-same-length
 same-length c = search needs
 
 returns-3 : tie.Need-returns-3
 unfolding stepPrepared planning memoryOf preparationOf onOutcome
-returns-3 c = (
-  c .before .before .store-next .ensures .0
-      ∙ sym (first-same (c .before .before .before .before .before .before .before .before .before .before .args .card .now) (memoryOf (c .before .before .before .before .before .before .before .before .before .before .args .s)) (record { nodes = c .before .before .before .before .before .before .before .before .before .before .args .s .nodes; free = nodesOf (c .before .before .before .before .before .before .before .before .before .before .args .p .free .words); last = c .before .before .before .before .before .before .before .before .before .before .args .p .last; doing = c .before .before .before .before .before .before .before .before .before .before .args .doing; rest = storesOf (c .before .before .before .before .before .before .before .before .before .before .args .p .plan); cut = before-zero (c .before .before .before .before .before .before .before .before .before .before .args .p .cut) }) [] (storesOf (c .before .before .before .before .before .before .before .before .before .before .args .p .plan)))
-      ∙ ap (λ (o : Outcome). stepPrepared (c .before .before .before .before .before .before .before .before .before .before .args .card .now) (memoryOf (c .before .before .before .before .before .before .before .before .before .before .args .s)) (c .before .before .before .before .before .before .before .before .before .before .args .doing) (c .before .before .before .before .before .before .before .before .before .before .args .answer) (onOutcome o (prepared (storesOf (c .before .before .before .before .before .before .before .before .before .before .args .p .plan)) (nodesOf (c .before .before .before .before .before .before .before .before .before .before .args .p .free .words)) (c .before .before .before .before .before .before .before .before .before .before .args .p .last) (before-zero (c .before .before .before .before .before .before .before .before .before .before .args .p .cut))))) (sym (c .before .before .before .before .before .before .before .enum-told3 .given .1)),
-  c .before .before .store-next .ensures .1,
-)
+returns-3 c =
+    let s = c .before .before .before .before .before .before .before .before .before in (
+      c .before .before .store-next .ensures .0
+          ∙ sym (first-same (s .args .card .now) (memoryOf (s .args .s)) (record { nodes = s .args .s .nodes; free = nodesOf (s .args .p .free .words); last = s .args .p .last; doing = s .args .doing; rest = storesOf (s .args .plan); cut = before-zero (s .args .p .cut) }) [] (storesOf (s .args .plan)))
+          ∙ ap (λ (k : ℕ). stepPrepared (s .args .card .now) (memoryOf (s .args .s)) (s .args .doing) (s .args .answer) (change s k)) (s .pre .1)
+          ∙ ap (λ (o : Outcome). stepPrepared (s .args .card .now) (memoryOf (s .args .s)) (s .args .doing) (s .args .answer) (onOutcome o (change s (s .args .p .count)))) (sym (c .before .before .before .before .before .before .enum-told3 .given .1)),
+      c .before .before .store-next .ensures .1,
+    )
 
 pub step-prepared-spec : {M : Type 1} → statement M
 step-prepared-spec =

@@ -17,9 +17,9 @@ use borrow.Author.Needs.{needs}
 use Rattle.table.proofs.updates.first_insert.Statement.{statement}
 use Rattle.table.proofs.updates.first_insert.Tie as tie
 
-leaf : (c : tie.After-node) → Landed (c .before .before .before .before .before .before .args .s .nodes) (c .node .given .0 .0) (c .node .given .0 .1 .0)
+leaf : (c : tie.After-node) → Landed (c .before .before .before .before .before .before .before .args .n) (c .node .given .0 .0) (c .node .given .0 .1 .0)
 unfolding landing
-leaf c = landed (c .before .before .before .before .before .before .args .card .now) (c .before .before .before .before .before .before .args .s .nodes) (c .before .before .before .before .before .before .args .key) (c .node .given .0 .0) (c .node .given .0 .1 .0) (c .node .given .0 .1 .1 .0) (c .before .before .before .before .before .before .pre) (sym (c .before .before .find-landing .ensures) ∙ c .node .given .1)
+leaf c = landed (c .before .before .before .before .before .before .before .args .card .now) (c .before .before .before .before .before .before .before .args .n) (c .before .before .before .before .before .before .before .args .key) (c .node .given .0 .0) (c .node .given .0 .1 .0) (c .node .given .0 .1 .1 .0) (c .before .before .before .before .before .before .before .pre .0) (sym (c .before .before .find-landing .ensures) ∙ c .node .given .1)
 
 shared-slice-read-find-landing : tie.Need-shared-slice-read-find-landing
 shared-slice-read-find-landing c = search needs
@@ -40,20 +40,26 @@ enum-known-node : tie.Need-enum-known-node
 enum-known-node c = search needs
 
 node-at-requires : tie.Need-node-at-requires
-node-at-requires c κs = let k = leaf (c .before) in let s = c .before .before .before .before .before .before .before .pre in (k .inside .one, omega (arith, k .inside .most, s .most), omega (arith, k .inside .most, s .words))
+node-at-requires c κs = let k = leaf (c .before) in let s = c .before .before .before .before .before .before .before .before .pre .0 in (k .inside .one, omega (arith, k .inside .most, s .most), omega (arith, k .inside .most, s .words))
 
 insert-in-requires : tie.Need-insert-in-requires
-insert-in-requires c κs = let k = leaf (c .before .before) in let s = c .before .before .before .before .before .before .before .before .pre in (ap length (c .node-at .ensures) ∙ length-node (c .before .before .before .before .before .before .before .before .args .card .now) (c .before .before .node .given .0 .0) (k .inside .one) (omega (arith, k .inside .most, s .words)), k .inside .one, omega (arith, k .inside .most, s .most), k .linked)
+insert-in-requires c κs = let k = leaf (c .before .before .before .before) in let s = c .before .before .before .before .before .before .before .before .before .before .before .pre .0 in (ap length (c .before .before .node-at .ensures) ∙ length-node (c .before .before .before .before .before .before .before .before .before .before .before .args .card .now) (c .before .before .before .before .node .given .0 .0) (k .inside .one) (omega (arith, k .inside .most, s .words)), k .inside .one, omega (arith, k .inside .most, s .most), k .linked, search needs, search needs)
 
 returns : tie.Need-returns
 unfolding firstOf insertFirst landing
-returns c = ap (λ (x : Preparation). record { doing = Inserting (c .before .before .before .before .before .before .before .args .key) (c .before .before .before .before .before .before .before .args .value) true; final = Absent; preparation = x }) (c .refused .ensures) ∙ ap (insertFirst (c .before .before .before .before .before .before .before .args .card .now) (c .before .before .before .before .before .before .before .args .key) (c .before .before .before .before .before .before .before .args .value) (nodesOf (c .before .before .before .before .before .before .before .args .s .free .words)) (c .before .before .before .before .before .before .before .args .s .last)) (sym (sym (c .before .before .before .find-landing .ensures) ∙ c .before .enum-told .given .1))
+returns c = ap (λ (x : Preparation). record { doing = Inserting (c .before .before .before .before .before .before .before .before .args .key) (c .before .before .before .before .before .before .before .before .args .value) true; final = Absent; preparation = x }) (c .refused .ensures _ _) ∙ ap (insertFirst (c .before .before .before .before .before .before .before .before .args .card .now) (c .before .before .before .before .before .before .before .before .args .key) (c .before .before .before .before .before .before .before .before .args .value) (nodesOf (c .before .before .before .before .before .before .before .before .args .free .words)) (c .before .before .before .before .before .before .before .before .args .last)) (sym (sym (c .before .before .before .find-landing .ensures) ∙ c .before .enum-told .given .1))
+
+same-length : tie.Need-same-length
+same-length c = search needs
+
+same-length-2 : tie.Need-same-length-2
+same-length-2 c = search needs
 
 returns-2 : tie.Need-returns-2
 unfolding insertFirst landing
 returns-2 c =
-    c .insert-in .ensures ∙ ap (λ (x : List ℕ). insertChange (c .before .before .before .before .before .before .before .before .before .args .key) (c .before .before .before .before .before .before .before .before .before .args .value) (nodesOf (c .before .before .before .before .before .before .before .before .before .args .s .free .words)) (c .before .before .before .before .before .before .before .before .before .args .s .last) (c .before .before .before .node .given .0 .0) (c .before .before .before .node .given .0 .1 .0) x (insertReason x (c .before .before .before .before .before .before .before .before .before .args .key))) (c .before .node-at .ensures)
-    ∙ ap (insertFirst (c .before .before .before .before .before .before .before .before .before .args .card .now) (c .before .before .before .before .before .before .before .before .before .args .key) (c .before .before .before .before .before .before .before .before .before .args .value) (nodesOf (c .before .before .before .before .before .before .before .before .before .args .s .free .words)) (c .before .before .before .before .before .before .before .before .before .args .s .last)) (sym (sym (c .before .before .before .before .before .find-landing .ensures) ∙ c .before .before .before .node .given .1))
+    c .before .before .before .before .insert-in .ensures ∙ ap (λ (x : List ℕ). insertChange (c .before .before .before .before .before .before .before .before .before .before .before .before .before .before .before .before .args .key) (c .before .before .before .before .before .before .before .before .before .before .before .before .before .before .before .before .args .value) (nodesOf (c .before .before .before .before .before .before .before .before .before .before .before .before .before .before .before .before .args .free .words)) (c .before .before .before .before .before .before .before .before .before .before .before .before .before .before .before .before .args .last) (c .before .before .before .before .before .before .before .before .before .node .given .0 .0) (c .before .before .before .before .before .before .before .before .before .node .given .0 .1 .0) x (insertReason x (c .before .before .before .before .before .before .before .before .before .before .before .before .before .before .before .before .args .key))) (c .before .before .before .before .before .before .before .node-at .ensures)
+    ∙ ap (insertFirst (c .before .before .before .before .before .before .before .before .before .before .before .before .before .before .before .before .args .card .now) (c .before .before .before .before .before .before .before .before .before .before .before .before .before .before .before .before .args .key) (c .before .before .before .before .before .before .before .before .before .before .before .before .before .before .before .before .args .value) (nodesOf (c .before .before .before .before .before .before .before .before .before .before .before .before .before .before .before .before .args .free .words)) (c .before .before .before .before .before .before .before .before .before .before .before .before .before .before .before .before .args .last)) (sym (sym (c .before .before .before .before .before .before .before .before .before .before .before .find-landing .ensures) ∙ c .before .before .before .before .before .before .before .before .before .node .given .1))
 
 pub first-insert-spec : {M : Type 1} → statement M
 first-insert-spec =
@@ -68,4 +74,6 @@ first-insert-spec =
     node-at-requires
     insert-in-requires
     returns
+    same-length
+    same-length-2
     returns-2)
