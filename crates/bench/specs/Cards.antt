@@ -4,7 +4,7 @@ use mathlib.Core.Path.{_≡_, refl, ap, _∙_}
 use mathlib.Core.List.{List, [], _∷_, _++_}
 use Prim.Native.Nat.{ℕ, zero, suc, _+_, _*_}
 use lib.ListN.{getD, replicate}
-use Rattle.card.specs.Header.{nodesOfLength, headerRefusal}
+use Rattle.card.specs.Header.{nodesOfLength, headerRefusal, cardRefusal}
 use Rattle.card.specs.Layout.{nodeAt, keyWords, valueWords, children, routingKeys, leafPairs, nodeImage}
 use Rattle.change.specs.Change.{changeStores, kindAbove, splitLeaf, joinedKeys, joinedChildren, absorb, splitParent, leavesTogether, innersTogether, half, leftKeys, keyBetween, share, merge, mergeRoot}
 use Rattle.change.specs.Planning.{numbersFrom, takeNumbers, withoutAll, lastOf, overNumbers, giving, mendTagged, mendTogether, mendSiblings, isNode, mendUnderfull, mend, onSearch, nextRepair, withAll}
@@ -12,7 +12,9 @@ use Rattle.descent.specs.Descent.{passed, childIndex, childFor, firstEqual, slo
 use Rattle.free_nodes.specs.NodeSet.{allNodes, countTrue, firstTrue, firstFrom, orElse, nextFree}
 use Rattle.laws.specs.Sorting.{insert-pair, insert-all, sort, pair-keys}
 use Rattle.soundness.specs.Check.{member, leafSound, unusedZero, lookOf, noted, enterLeaf, innerSound, enterInner, enterKind, enterNode, childrenCheck, childRun, raised, onLook, nodeCheck, tableCheck}
-use Rattle.table.specs.Calls.{cardRefusal, foundIn, foundAt, findOf, Handed, noBeginning, openSound, openChecked, openOf, formatOf, Step, stepRefused, stepFinal, formattedWord, formatStore, formatting, stepFormat, stepStore, stepFirst, planning, stepPrepared, stepBegin, stepPlan, stepWork, isIdle, stepHeld, stepDoing, stepOf, startRefused, started, startLanded, startChecked, startOf, insertOf, deleteOf}
+use Rattle.card.specs.Replies.{Reply, refusal, holds, absent, idle, started as begun}
+use Rattle.table.specs.Answers.{foundReply, stepReply, startReply}
+use Rattle.table.specs.Calls.{foundIn, foundAt, findOf, Handed, noBeginning, openSound, openChecked, openOf, formatOf, Step, stepRefused, stepFinal, formattedWord, formatStore, formatting, stepFormat, stepStore, stepFirst, planning, stepPrepared, stepBegin, stepPlan, stepWork, isIdle, stepHeld, stepDoing, stepOf, startRefused, started, startLanded, startChecked, startOf, insertOf, deleteOf}
 use Rattle.table.specs.Memory.{Memory, noMemory, resting, idled, advanced}
 use Rattle.table.specs.Updates.{landing, emptyReason, reasonIn, insertReason, insertChange, insertFirst, deleteChange, deleteFirst, roomFor, startRoom, repairs, nextChange}
 use Rattle.table.specs.declared.Answer.{Answer}
@@ -67,23 +69,9 @@ unfoldable pub upto : ℕ → Bench → Bench
 upto zero b = b
 upto (suc k) b = insert (suc k) (10 * suc k) (upto k b)
 
--- answers as numbers
-unfoldable pub foundWords : Found → List ℕ
-foundWords (FoundValue v) = 1 ∷ v ∷ []
-foundWords FoundAbsent = 2 ∷ []
-foundWords (FoundRefused r) = 3 ∷ r ∷ []
-
-unfoldable pub answerWords : Answer → List ℕ
-answerWords Stored = 4 ∷ []
-answerWords Ready = 5 ∷ []
-answerWords Absent = 2 ∷ []
-answerWords (Value v) = 1 ∷ v ∷ []
-answerWords (Refused r) = 3 ∷ r ∷ []
-
-unfoldable pub begunWords : Begun → List ℕ
-begunWords OpenedIdle = 6 ∷ []
-begunWords Started = 7 ∷ []
-begunWords (BegunRefused r) = 3 ∷ r ∷ []
+-- an answer's number and value, in a row of the table
+abbrev said : Reply → List ℕ
+said r = r .code ∷ r .value ∷ []
 
 unfoldable pub cardL : Bench
 cardL = fresh 4
@@ -170,15 +158,15 @@ heldL2 =
     }
 
 pub again-B : againB ≡ heldB
-unfolding fresh drive onAnswer insert delete upto steps cardL cardB cardS cardI cardK cardL2 foundWords answerWords begunWords stepOf stepDoing stepFormat formatStore formattedWord formatOf stepFinal nodesOfLength formatting resting idled allNodes headerRefusal stepHeld isIdle stepWork stepPlan stepBegin stepPrepared insertFirst landing landingFor onTurnLanding turnAt turnOf turnInner nodeAt children valueWords keyWords slotOf firstEqual insertReason reasonIn emptyReason insertChange stepFirst stepStore planning advanced repairs nextChange nextRepair onSearch seek onVisit visitAt visitOf rootPosition leafPairs insertOf startOf startChecked startRoom roomFor startLanded started stepRefused startRefused withAll giving overNumbers takeNumbers numbersFrom nextFree firstFrom firstTrue orElse withoutAll lastOf splitLeaf changeStores sort insert-all insert-pair kindAbove nodeImage countTrue childPosition childFor childIndex passed routingKeys runBelow deleteOf deleteFirst deleteChange mend mendTagged mendUnderfull mendSiblings mendTogether isNode share merge mergeRoot leavesTogether innersTogether half leftKeys keyBetween absorb splitParent joinedKeys joinedChildren findOf cardRefusal foundAt leafFor onTurn foundIn noBeginning noMemory openOf openChecked openSound tableCheck nodeCheck onLook enterNode enterKind enterLeaf enterInner innerSound noted lookOf leafSound member unusedZero childrenCheck childRun raised
+unfolding fresh drive onAnswer insert delete upto steps cardL cardB cardS cardI cardK cardL2 foundReply stepReply startReply stepOf stepDoing stepFormat formatStore formattedWord formatOf stepFinal nodesOfLength formatting resting idled allNodes headerRefusal stepHeld isIdle stepWork stepPlan stepBegin stepPrepared insertFirst landing landingFor onTurnLanding turnAt turnOf turnInner nodeAt children valueWords keyWords slotOf firstEqual insertReason reasonIn emptyReason insertChange stepFirst stepStore planning advanced repairs nextChange nextRepair onSearch seek onVisit visitAt visitOf rootPosition leafPairs insertOf startOf startChecked startRoom roomFor startLanded started stepRefused startRefused withAll giving overNumbers takeNumbers numbersFrom nextFree firstFrom firstTrue orElse withoutAll lastOf splitLeaf changeStores sort insert-all insert-pair kindAbove nodeImage countTrue childPosition childFor childIndex passed routingKeys runBelow deleteOf deleteFirst deleteChange mend mendTagged mendUnderfull mendSiblings mendTogether isNode share merge mergeRoot leavesTogether innersTogether half leftKeys keyBetween absorb splitParent joinedKeys joinedChildren findOf cardRefusal foundAt leafFor onTurn foundIn noBeginning noMemory openOf openChecked openSound tableCheck nodeCheck onLook enterNode enterKind enterLeaf enterInner innerSound noted lookOf leafSound member unusedZero childrenCheck childRun raised
 again-B = refl
 
 pub worked-S : cardS ≡ heldS
-unfolding fresh drive onAnswer insert delete upto steps cardL cardB cardS cardI cardK cardL2 foundWords answerWords begunWords stepOf stepDoing stepFormat formatStore formattedWord formatOf stepFinal nodesOfLength formatting resting idled allNodes headerRefusal stepHeld isIdle stepWork stepPlan stepBegin stepPrepared insertFirst landing landingFor onTurnLanding turnAt turnOf turnInner nodeAt children valueWords keyWords slotOf firstEqual insertReason reasonIn emptyReason insertChange stepFirst stepStore planning advanced repairs nextChange nextRepair onSearch seek onVisit visitAt visitOf rootPosition leafPairs insertOf startOf startChecked startRoom roomFor startLanded started stepRefused startRefused withAll giving overNumbers takeNumbers numbersFrom nextFree firstFrom firstTrue orElse withoutAll lastOf splitLeaf changeStores sort insert-all insert-pair kindAbove nodeImage countTrue childPosition childFor childIndex passed routingKeys runBelow deleteOf deleteFirst deleteChange mend mendTagged mendUnderfull mendSiblings mendTogether isNode share merge mergeRoot leavesTogether innersTogether half leftKeys keyBetween absorb splitParent joinedKeys joinedChildren findOf cardRefusal foundAt leafFor onTurn foundIn noBeginning noMemory openOf openChecked openSound tableCheck nodeCheck onLook enterNode enterKind enterLeaf enterInner innerSound noted lookOf leafSound member unusedZero childrenCheck childRun raised
+unfolding fresh drive onAnswer insert delete upto steps cardL cardB cardS cardI cardK cardL2 foundReply stepReply startReply stepOf stepDoing stepFormat formatStore formattedWord formatOf stepFinal nodesOfLength formatting resting idled allNodes headerRefusal stepHeld isIdle stepWork stepPlan stepBegin stepPrepared insertFirst landing landingFor onTurnLanding turnAt turnOf turnInner nodeAt children valueWords keyWords slotOf firstEqual insertReason reasonIn emptyReason insertChange stepFirst stepStore planning advanced repairs nextChange nextRepair onSearch seek onVisit visitAt visitOf rootPosition leafPairs insertOf startOf startChecked startRoom roomFor startLanded started stepRefused startRefused withAll giving overNumbers takeNumbers numbersFrom nextFree firstFrom firstTrue orElse withoutAll lastOf splitLeaf changeStores sort insert-all insert-pair kindAbove nodeImage countTrue childPosition childFor childIndex passed routingKeys runBelow deleteOf deleteFirst deleteChange mend mendTagged mendUnderfull mendSiblings mendTogether isNode share merge mergeRoot leavesTogether innersTogether half leftKeys keyBetween absorb splitParent joinedKeys joinedChildren findOf cardRefusal foundAt leafFor onTurn foundIn noBeginning noMemory openOf openChecked openSound tableCheck nodeCheck onLook enterNode enterKind enterLeaf enterInner innerSound noted lookOf leafSound member unusedZero childrenCheck childRun raised
 worked-S = refl
 
 pub from-S : insert 12 120 heldS ≡ heldI
-unfolding fresh drive onAnswer insert delete upto steps cardL cardB cardS cardI cardK cardL2 foundWords answerWords begunWords stepOf stepDoing stepFormat formatStore formattedWord formatOf stepFinal nodesOfLength formatting resting idled allNodes headerRefusal stepHeld isIdle stepWork stepPlan stepBegin stepPrepared insertFirst landing landingFor onTurnLanding turnAt turnOf turnInner nodeAt children valueWords keyWords slotOf firstEqual insertReason reasonIn emptyReason insertChange stepFirst stepStore planning advanced repairs nextChange nextRepair onSearch seek onVisit visitAt visitOf rootPosition leafPairs insertOf startOf startChecked startRoom roomFor startLanded started stepRefused startRefused withAll giving overNumbers takeNumbers numbersFrom nextFree firstFrom firstTrue orElse withoutAll lastOf splitLeaf changeStores sort insert-all insert-pair kindAbove nodeImage countTrue childPosition childFor childIndex passed routingKeys runBelow deleteOf deleteFirst deleteChange mend mendTagged mendUnderfull mendSiblings mendTogether isNode share merge mergeRoot leavesTogether innersTogether half leftKeys keyBetween absorb splitParent joinedKeys joinedChildren findOf cardRefusal foundAt leafFor onTurn foundIn noBeginning noMemory openOf openChecked openSound tableCheck nodeCheck onLook enterNode enterKind enterLeaf enterInner innerSound noted lookOf leafSound member unusedZero childrenCheck childRun raised
+unfolding fresh drive onAnswer insert delete upto steps cardL cardB cardS cardI cardK cardL2 foundReply stepReply startReply stepOf stepDoing stepFormat formatStore formattedWord formatOf stepFinal nodesOfLength formatting resting idled allNodes headerRefusal stepHeld isIdle stepWork stepPlan stepBegin stepPrepared insertFirst landing landingFor onTurnLanding turnAt turnOf turnInner nodeAt children valueWords keyWords slotOf firstEqual insertReason reasonIn emptyReason insertChange stepFirst stepStore planning advanced repairs nextChange nextRepair onSearch seek onVisit visitAt visitOf rootPosition leafPairs insertOf startOf startChecked startRoom roomFor startLanded started stepRefused startRefused withAll giving overNumbers takeNumbers numbersFrom nextFree firstFrom firstTrue orElse withoutAll lastOf splitLeaf changeStores sort insert-all insert-pair kindAbove nodeImage countTrue childPosition childFor childIndex passed routingKeys runBelow deleteOf deleteFirst deleteChange mend mendTagged mendUnderfull mendSiblings mendTogether isNode share merge mergeRoot leavesTogether innersTogether half leftKeys keyBetween absorb splitParent joinedKeys joinedChildren findOf cardRefusal foundAt leafFor onTurn foundIn noBeginning noMemory openOf openChecked openSound tableCheck nodeCheck onLook enterNode enterKind enterLeaf enterInner innerSound noted lookOf leafSound member unusedZero childrenCheck childRun raised
 from-S = refl
 
 pub worked-I : cardI ≡ heldI
@@ -186,7 +174,7 @@ unfolding cardI
 worked-I = ap (insert 12 120) worked-S ∙ from-S
 
 pub from-I : delete 5 (delete 4 (delete 3 (delete 2 (delete 1 heldI)))) ≡ heldK
-unfolding fresh drive onAnswer insert delete upto steps cardL cardB cardS cardI cardK cardL2 foundWords answerWords begunWords stepOf stepDoing stepFormat formatStore formattedWord formatOf stepFinal nodesOfLength formatting resting idled allNodes headerRefusal stepHeld isIdle stepWork stepPlan stepBegin stepPrepared insertFirst landing landingFor onTurnLanding turnAt turnOf turnInner nodeAt children valueWords keyWords slotOf firstEqual insertReason reasonIn emptyReason insertChange stepFirst stepStore planning advanced repairs nextChange nextRepair onSearch seek onVisit visitAt visitOf rootPosition leafPairs insertOf startOf startChecked startRoom roomFor startLanded started stepRefused startRefused withAll giving overNumbers takeNumbers numbersFrom nextFree firstFrom firstTrue orElse withoutAll lastOf splitLeaf changeStores sort insert-all insert-pair kindAbove nodeImage countTrue childPosition childFor childIndex passed routingKeys runBelow deleteOf deleteFirst deleteChange mend mendTagged mendUnderfull mendSiblings mendTogether isNode share merge mergeRoot leavesTogether innersTogether half leftKeys keyBetween absorb splitParent joinedKeys joinedChildren findOf cardRefusal foundAt leafFor onTurn foundIn noBeginning noMemory openOf openChecked openSound tableCheck nodeCheck onLook enterNode enterKind enterLeaf enterInner innerSound noted lookOf leafSound member unusedZero childrenCheck childRun raised
+unfolding fresh drive onAnswer insert delete upto steps cardL cardB cardS cardI cardK cardL2 foundReply stepReply startReply stepOf stepDoing stepFormat formatStore formattedWord formatOf stepFinal nodesOfLength formatting resting idled allNodes headerRefusal stepHeld isIdle stepWork stepPlan stepBegin stepPrepared insertFirst landing landingFor onTurnLanding turnAt turnOf turnInner nodeAt children valueWords keyWords slotOf firstEqual insertReason reasonIn emptyReason insertChange stepFirst stepStore planning advanced repairs nextChange nextRepair onSearch seek onVisit visitAt visitOf rootPosition leafPairs insertOf startOf startChecked startRoom roomFor startLanded started stepRefused startRefused withAll giving overNumbers takeNumbers numbersFrom nextFree firstFrom firstTrue orElse withoutAll lastOf splitLeaf changeStores sort insert-all insert-pair kindAbove nodeImage countTrue childPosition childFor childIndex passed routingKeys runBelow deleteOf deleteFirst deleteChange mend mendTagged mendUnderfull mendSiblings mendTogether isNode share merge mergeRoot leavesTogether innersTogether half leftKeys keyBetween absorb splitParent joinedKeys joinedChildren findOf cardRefusal foundAt leafFor onTurn foundIn noBeginning noMemory openOf openChecked openSound tableCheck nodeCheck onLook enterNode enterKind enterLeaf enterInner innerSound noted lookOf leafSound member unusedZero childrenCheck childRun raised
 from-I = refl
 
 pub worked-K : cardK ≡ heldK
@@ -194,7 +182,7 @@ unfolding cardK
 worked-K = ap (λ b. delete 5 (delete 4 (delete 3 (delete 2 (delete 1 b))))) worked-I ∙ from-I
 
 pub from-K : delete 9 (delete 10 (delete 8 (delete 7 heldK))) ≡ heldL2
-unfolding fresh drive onAnswer insert delete upto steps cardL cardB cardS cardI cardK cardL2 foundWords answerWords begunWords stepOf stepDoing stepFormat formatStore formattedWord formatOf stepFinal nodesOfLength formatting resting idled allNodes headerRefusal stepHeld isIdle stepWork stepPlan stepBegin stepPrepared insertFirst landing landingFor onTurnLanding turnAt turnOf turnInner nodeAt children valueWords keyWords slotOf firstEqual insertReason reasonIn emptyReason insertChange stepFirst stepStore planning advanced repairs nextChange nextRepair onSearch seek onVisit visitAt visitOf rootPosition leafPairs insertOf startOf startChecked startRoom roomFor startLanded started stepRefused startRefused withAll giving overNumbers takeNumbers numbersFrom nextFree firstFrom firstTrue orElse withoutAll lastOf splitLeaf changeStores sort insert-all insert-pair kindAbove nodeImage countTrue childPosition childFor childIndex passed routingKeys runBelow deleteOf deleteFirst deleteChange mend mendTagged mendUnderfull mendSiblings mendTogether isNode share merge mergeRoot leavesTogether innersTogether half leftKeys keyBetween absorb splitParent joinedKeys joinedChildren findOf cardRefusal foundAt leafFor onTurn foundIn noBeginning noMemory openOf openChecked openSound tableCheck nodeCheck onLook enterNode enterKind enterLeaf enterInner innerSound noted lookOf leafSound member unusedZero childrenCheck childRun raised
+unfolding fresh drive onAnswer insert delete upto steps cardL cardB cardS cardI cardK cardL2 foundReply stepReply startReply stepOf stepDoing stepFormat formatStore formattedWord formatOf stepFinal nodesOfLength formatting resting idled allNodes headerRefusal stepHeld isIdle stepWork stepPlan stepBegin stepPrepared insertFirst landing landingFor onTurnLanding turnAt turnOf turnInner nodeAt children valueWords keyWords slotOf firstEqual insertReason reasonIn emptyReason insertChange stepFirst stepStore planning advanced repairs nextChange nextRepair onSearch seek onVisit visitAt visitOf rootPosition leafPairs insertOf startOf startChecked startRoom roomFor startLanded started stepRefused startRefused withAll giving overNumbers takeNumbers numbersFrom nextFree firstFrom firstTrue orElse withoutAll lastOf splitLeaf changeStores sort insert-all insert-pair kindAbove nodeImage countTrue childPosition childFor childIndex passed routingKeys runBelow deleteOf deleteFirst deleteChange mend mendTagged mendUnderfull mendSiblings mendTogether isNode share merge mergeRoot leavesTogether innersTogether half leftKeys keyBetween absorb splitParent joinedKeys joinedChildren findOf cardRefusal foundAt leafFor onTurn foundIn noBeginning noMemory openOf openChecked openSound tableCheck nodeCheck onLook enterNode enterKind enterLeaf enterInner innerSound noted lookOf leafSound member unusedZero childrenCheck childRun raised
 from-K = refl
 
 pub worked-L2 : cardL2 ≡ heldL2
@@ -203,119 +191,123 @@ worked-L2 = ap (λ b. delete 9 (delete 10 (delete 8 (delete 7 b)))) worked-K ∙
 
 -- A: L, find 7: absent
 unfoldable pub rowA : List ℕ
-rowA = foundWords (findOf (cardL .card) 7)
+rowA = said (foundReply (findOf (cardL .card) 7))
 
-pub rowA-is : rowA ≡ (2 ∷ [])
-unfolding rowA fresh drive onAnswer insert delete upto steps cardL cardB cardS cardI cardK cardL2 foundWords answerWords begunWords stepOf stepDoing stepFormat formatStore formattedWord formatOf stepFinal nodesOfLength formatting resting idled allNodes headerRefusal stepHeld isIdle stepWork stepPlan stepBegin stepPrepared insertFirst landing landingFor onTurnLanding turnAt turnOf turnInner nodeAt children valueWords keyWords slotOf firstEqual insertReason reasonIn emptyReason insertChange stepFirst stepStore planning advanced repairs nextChange nextRepair onSearch seek onVisit visitAt visitOf rootPosition leafPairs insertOf startOf startChecked startRoom roomFor startLanded started stepRefused startRefused withAll giving overNumbers takeNumbers numbersFrom nextFree firstFrom firstTrue orElse withoutAll lastOf splitLeaf changeStores sort insert-all insert-pair kindAbove nodeImage countTrue childPosition childFor childIndex passed routingKeys runBelow deleteOf deleteFirst deleteChange mend mendTagged mendUnderfull mendSiblings mendTogether isNode share merge mergeRoot leavesTogether innersTogether half leftKeys keyBetween absorb splitParent joinedKeys joinedChildren findOf cardRefusal foundAt leafFor onTurn foundIn noBeginning noMemory openOf openChecked openSound tableCheck nodeCheck onLook enterNode enterKind enterLeaf enterInner innerSound noted lookOf leafSound member unusedZero childrenCheck childRun raised
+pub rowA-is : rowA ≡ said absent
+unfolding rowA fresh drive onAnswer insert delete upto steps cardL cardB cardS cardI cardK cardL2 foundReply stepReply startReply stepOf stepDoing stepFormat formatStore formattedWord formatOf stepFinal nodesOfLength formatting resting idled allNodes headerRefusal stepHeld isIdle stepWork stepPlan stepBegin stepPrepared insertFirst landing landingFor onTurnLanding turnAt turnOf turnInner nodeAt children valueWords keyWords slotOf firstEqual insertReason reasonIn emptyReason insertChange stepFirst stepStore planning advanced repairs nextChange nextRepair onSearch seek onVisit visitAt visitOf rootPosition leafPairs insertOf startOf startChecked startRoom roomFor startLanded started stepRefused startRefused withAll giving overNumbers takeNumbers numbersFrom nextFree firstFrom firstTrue orElse withoutAll lastOf splitLeaf changeStores sort insert-all insert-pair kindAbove nodeImage countTrue childPosition childFor childIndex passed routingKeys runBelow deleteOf deleteFirst deleteChange mend mendTagged mendUnderfull mendSiblings mendTogether isNode share merge mergeRoot leavesTogether innersTogether half leftKeys keyBetween absorb splitParent joinedKeys joinedChildren findOf cardRefusal foundAt leafFor onTurn foundIn noBeginning noMemory openOf openChecked openSound tableCheck nodeCheck onLook enterNode enterKind enterLeaf enterInner innerSound noted lookOf leafSound member unusedZero childrenCheck childRun raised
 rowA-is = refl
 
 -- B: L, insert 7: word 20 gets 70, then word 9 gets 7; two stores, absent
 unfoldable pub rowB : List ℕ
-rowB = getD cutB 20 0 ∷ getD cutB 9 0 ∷ getD (cardB .card) 20 0 ∷ getD (cardB .card) 9 0 ∷ cardB .stores ∷ answerWords (cardB .answer)
+rowB = getD cutB 20 0 ∷ getD cutB 9 0 ∷ getD (cardB .card) 20 0 ∷ getD (cardB .card) 9 0 ∷ cardB .stores ∷ said (stepReply (cardB .answer))
 
-pub rowB-is : rowB ≡ (70 ∷ 0 ∷ 70 ∷ 7 ∷ 2 ∷ 2 ∷ [])
-unfolding rowB fresh drive onAnswer insert delete upto steps cardL cardB cardS cardI cardK cardL2 foundWords answerWords begunWords stepOf stepDoing stepFormat formatStore formattedWord formatOf stepFinal nodesOfLength formatting resting idled allNodes headerRefusal stepHeld isIdle stepWork stepPlan stepBegin stepPrepared insertFirst landing landingFor onTurnLanding turnAt turnOf turnInner nodeAt children valueWords keyWords slotOf firstEqual insertReason reasonIn emptyReason insertChange stepFirst stepStore planning advanced repairs nextChange nextRepair onSearch seek onVisit visitAt visitOf rootPosition leafPairs insertOf startOf startChecked startRoom roomFor startLanded started stepRefused startRefused withAll giving overNumbers takeNumbers numbersFrom nextFree firstFrom firstTrue orElse withoutAll lastOf splitLeaf changeStores sort insert-all insert-pair kindAbove nodeImage countTrue childPosition childFor childIndex passed routingKeys runBelow deleteOf deleteFirst deleteChange mend mendTagged mendUnderfull mendSiblings mendTogether isNode share merge mergeRoot leavesTogether innersTogether half leftKeys keyBetween absorb splitParent joinedKeys joinedChildren findOf cardRefusal foundAt leafFor onTurn foundIn noBeginning noMemory openOf openChecked openSound tableCheck nodeCheck onLook enterNode enterKind enterLeaf enterInner innerSound noted lookOf leafSound member unusedZero childrenCheck childRun raised
+pub rowB-is : rowB ≡ (70 ∷ 0 ∷ 70 ∷ 7 ∷ 2 ∷ said absent)
+unfolding rowB fresh drive onAnswer insert delete upto steps cardL cardB cardS cardI cardK cardL2 foundReply stepReply startReply stepOf stepDoing stepFormat formatStore formattedWord formatOf stepFinal nodesOfLength formatting resting idled allNodes headerRefusal stepHeld isIdle stepWork stepPlan stepBegin stepPrepared insertFirst landing landingFor onTurnLanding turnAt turnOf turnInner nodeAt children valueWords keyWords slotOf firstEqual insertReason reasonIn emptyReason insertChange stepFirst stepStore planning advanced repairs nextChange nextRepair onSearch seek onVisit visitAt visitOf rootPosition leafPairs insertOf startOf startChecked startRoom roomFor startLanded started stepRefused startRefused withAll giving overNumbers takeNumbers numbersFrom nextFree firstFrom firstTrue orElse withoutAll lastOf splitLeaf changeStores sort insert-all insert-pair kindAbove nodeImage countTrue childPosition childFor childIndex passed routingKeys runBelow deleteOf deleteFirst deleteChange mend mendTagged mendUnderfull mendSiblings mendTogether isNode share merge mergeRoot leavesTogether innersTogether half leftKeys keyBetween absorb splitParent joinedKeys joinedChildren findOf cardRefusal foundAt leafFor onTurn foundIn noBeginning noMemory openOf openChecked openSound tableCheck nodeCheck onLook enterNode enterKind enterLeaf enterInner innerSound noted lookOf leafSound member unusedZero childrenCheck childRun raised
 rowB-is = refl
 
 -- C: B cut after one store: find 7 absent
 unfoldable pub rowC : List ℕ
-rowC = foundWords (findOf cutB 7)
+rowC = said (foundReply (findOf cutB 7))
 
-pub rowC-is : rowC ≡ (2 ∷ [])
-unfolding rowC fresh drive onAnswer insert delete upto steps cardL cardB cardS cardI cardK cardL2 foundWords answerWords begunWords stepOf stepDoing stepFormat formatStore formattedWord formatOf stepFinal nodesOfLength formatting resting idled allNodes headerRefusal stepHeld isIdle stepWork stepPlan stepBegin stepPrepared insertFirst landing landingFor onTurnLanding turnAt turnOf turnInner nodeAt children valueWords keyWords slotOf firstEqual insertReason reasonIn emptyReason insertChange stepFirst stepStore planning advanced repairs nextChange nextRepair onSearch seek onVisit visitAt visitOf rootPosition leafPairs insertOf startOf startChecked startRoom roomFor startLanded started stepRefused startRefused withAll giving overNumbers takeNumbers numbersFrom nextFree firstFrom firstTrue orElse withoutAll lastOf splitLeaf changeStores sort insert-all insert-pair kindAbove nodeImage countTrue childPosition childFor childIndex passed routingKeys runBelow deleteOf deleteFirst deleteChange mend mendTagged mendUnderfull mendSiblings mendTogether isNode share merge mergeRoot leavesTogether innersTogether half leftKeys keyBetween absorb splitParent joinedKeys joinedChildren findOf cardRefusal foundAt leafFor onTurn foundIn noBeginning noMemory openOf openChecked openSound tableCheck nodeCheck onLook enterNode enterKind enterLeaf enterInner innerSound noted lookOf leafSound member unusedZero childrenCheck childRun raised
-rowC-is = refl
+cutB-absent : foundReply (findOf cutB 7) ≡ absent
+unfolding fresh drive onAnswer insert delete upto steps cardL cardB cardS cardI cardK cardL2 foundReply stepReply startReply stepOf stepDoing stepFormat formatStore formattedWord formatOf stepFinal nodesOfLength formatting resting idled allNodes headerRefusal stepHeld isIdle stepWork stepPlan stepBegin stepPrepared insertFirst landing landingFor onTurnLanding turnAt turnOf turnInner nodeAt children valueWords keyWords slotOf firstEqual insertReason reasonIn emptyReason insertChange stepFirst stepStore planning advanced repairs nextChange nextRepair onSearch seek onVisit visitAt visitOf rootPosition leafPairs insertOf startOf startChecked startRoom roomFor startLanded started stepRefused startRefused withAll giving overNumbers takeNumbers numbersFrom nextFree firstFrom firstTrue orElse withoutAll lastOf splitLeaf changeStores sort insert-all insert-pair kindAbove nodeImage countTrue childPosition childFor childIndex passed routingKeys runBelow deleteOf deleteFirst deleteChange mend mendTagged mendUnderfull mendSiblings mendTogether isNode share merge mergeRoot leavesTogether innersTogether half leftKeys keyBetween absorb splitParent joinedKeys joinedChildren findOf cardRefusal foundAt leafFor onTurn foundIn noBeginning noMemory openOf openChecked openSound tableCheck nodeCheck onLook enterNode enterKind enterLeaf enterInner innerSound noted lookOf leafSound member unusedZero childrenCheck childRun raised
+cutB-absent = refl
+
+pub rowC-is : rowC ≡ said absent
+unfolding rowC
+rowC-is = ap said cutB-absent
 
 -- D: then B whole, insert 7 with 71: answers 70, no store
 unfoldable pub rowD : List ℕ
-rowD = againB .stores ∷ insert 7 71 againB .stores ∷ answerWords (insert 7 71 againB .answer)
+rowD = againB .stores ∷ insert 7 71 againB .stores ∷ said (stepReply (insert 7 71 againB .answer))
 
-pub rowD-held : heldB .stores ∷ insert 7 71 heldB .stores ∷ answerWords (insert 7 71 heldB .answer) ≡ (2 ∷ 0 ∷ 1 ∷ 70 ∷ [])
-unfolding fresh drive onAnswer insert delete upto steps cardL cardB cardS cardI cardK cardL2 foundWords answerWords begunWords stepOf stepDoing stepFormat formatStore formattedWord formatOf stepFinal nodesOfLength formatting resting idled allNodes headerRefusal stepHeld isIdle stepWork stepPlan stepBegin stepPrepared insertFirst landing landingFor onTurnLanding turnAt turnOf turnInner nodeAt children valueWords keyWords slotOf firstEqual insertReason reasonIn emptyReason insertChange stepFirst stepStore planning advanced repairs nextChange nextRepair onSearch seek onVisit visitAt visitOf rootPosition leafPairs insertOf startOf startChecked startRoom roomFor startLanded started stepRefused startRefused withAll giving overNumbers takeNumbers numbersFrom nextFree firstFrom firstTrue orElse withoutAll lastOf splitLeaf changeStores sort insert-all insert-pair kindAbove nodeImage countTrue childPosition childFor childIndex passed routingKeys runBelow deleteOf deleteFirst deleteChange mend mendTagged mendUnderfull mendSiblings mendTogether isNode share merge mergeRoot leavesTogether innersTogether half leftKeys keyBetween absorb splitParent joinedKeys joinedChildren findOf cardRefusal foundAt leafFor onTurn foundIn noBeginning noMemory openOf openChecked openSound tableCheck nodeCheck onLook enterNode enterKind enterLeaf enterInner innerSound noted lookOf leafSound member unusedZero childrenCheck childRun raised
+pub rowD-held : heldB .stores ∷ insert 7 71 heldB .stores ∷ said (stepReply (insert 7 71 heldB .answer)) ≡ (2 ∷ 0 ∷ said (holds 70))
+unfolding fresh drive onAnswer insert delete upto steps cardL cardB cardS cardI cardK cardL2 foundReply stepReply startReply stepOf stepDoing stepFormat formatStore formattedWord formatOf stepFinal nodesOfLength formatting resting idled allNodes headerRefusal stepHeld isIdle stepWork stepPlan stepBegin stepPrepared insertFirst landing landingFor onTurnLanding turnAt turnOf turnInner nodeAt children valueWords keyWords slotOf firstEqual insertReason reasonIn emptyReason insertChange stepFirst stepStore planning advanced repairs nextChange nextRepair onSearch seek onVisit visitAt visitOf rootPosition leafPairs insertOf startOf startChecked startRoom roomFor startLanded started stepRefused startRefused withAll giving overNumbers takeNumbers numbersFrom nextFree firstFrom firstTrue orElse withoutAll lastOf splitLeaf changeStores sort insert-all insert-pair kindAbove nodeImage countTrue childPosition childFor childIndex passed routingKeys runBelow deleteOf deleteFirst deleteChange mend mendTagged mendUnderfull mendSiblings mendTogether isNode share merge mergeRoot leavesTogether innersTogether half leftKeys keyBetween absorb splitParent joinedKeys joinedChildren findOf cardRefusal foundAt leafFor onTurn foundIn noBeginning noMemory openOf openChecked openSound tableCheck nodeCheck onLook enterNode enterKind enterLeaf enterInner innerSound noted lookOf leafSound member unusedZero childrenCheck childRun raised
 rowD-held = refl
 
-pub rowD-is : rowD ≡ (2 ∷ 0 ∷ 1 ∷ 70 ∷ [])
+pub rowD-is : rowD ≡ (2 ∷ 0 ∷ said (holds 70))
 unfolding rowD
-rowD-is = ap (λ b. b .stores ∷ insert 7 71 b .stores ∷ answerWords (insert 7 71 b .answer)) again-B ∙ rowD-held
+rowD-is = ap (λ b. b .stores ∷ insert 7 71 b .stores ∷ said (stepReply (insert 7 71 b .answer))) again-B ∙ rowD-held
 
 -- E: delete 7: word 9 gets 0, answers 70
 unfoldable pub rowE : List ℕ
-rowE = delete 7 cardB .stores ∷ getD (delete 7 cardB .card) 9 0 ∷ answerWords (delete 7 cardB .answer)
+rowE = delete 7 cardB .stores ∷ getD (delete 7 cardB .card) 9 0 ∷ said (stepReply (delete 7 cardB .answer))
 
-pub rowE-is : rowE ≡ (1 ∷ 0 ∷ 1 ∷ 70 ∷ [])
-unfolding rowE fresh drive onAnswer insert delete upto steps cardL cardB cardS cardI cardK cardL2 foundWords answerWords begunWords stepOf stepDoing stepFormat formatStore formattedWord formatOf stepFinal nodesOfLength formatting resting idled allNodes headerRefusal stepHeld isIdle stepWork stepPlan stepBegin stepPrepared insertFirst landing landingFor onTurnLanding turnAt turnOf turnInner nodeAt children valueWords keyWords slotOf firstEqual insertReason reasonIn emptyReason insertChange stepFirst stepStore planning advanced repairs nextChange nextRepair onSearch seek onVisit visitAt visitOf rootPosition leafPairs insertOf startOf startChecked startRoom roomFor startLanded started stepRefused startRefused withAll giving overNumbers takeNumbers numbersFrom nextFree firstFrom firstTrue orElse withoutAll lastOf splitLeaf changeStores sort insert-all insert-pair kindAbove nodeImage countTrue childPosition childFor childIndex passed routingKeys runBelow deleteOf deleteFirst deleteChange mend mendTagged mendUnderfull mendSiblings mendTogether isNode share merge mergeRoot leavesTogether innersTogether half leftKeys keyBetween absorb splitParent joinedKeys joinedChildren findOf cardRefusal foundAt leafFor onTurn foundIn noBeginning noMemory openOf openChecked openSound tableCheck nodeCheck onLook enterNode enterKind enterLeaf enterInner innerSound noted lookOf leafSound member unusedZero childrenCheck childRun raised
+pub rowE-is : rowE ≡ (1 ∷ 0 ∷ said (holds 70))
+unfolding rowE fresh drive onAnswer insert delete upto steps cardL cardB cardS cardI cardK cardL2 foundReply stepReply startReply stepOf stepDoing stepFormat formatStore formattedWord formatOf stepFinal nodesOfLength formatting resting idled allNodes headerRefusal stepHeld isIdle stepWork stepPlan stepBegin stepPrepared insertFirst landing landingFor onTurnLanding turnAt turnOf turnInner nodeAt children valueWords keyWords slotOf firstEqual insertReason reasonIn emptyReason insertChange stepFirst stepStore planning advanced repairs nextChange nextRepair onSearch seek onVisit visitAt visitOf rootPosition leafPairs insertOf startOf startChecked startRoom roomFor startLanded started stepRefused startRefused withAll giving overNumbers takeNumbers numbersFrom nextFree firstFrom firstTrue orElse withoutAll lastOf splitLeaf changeStores sort insert-all insert-pair kindAbove nodeImage countTrue childPosition childFor childIndex passed routingKeys runBelow deleteOf deleteFirst deleteChange mend mendTagged mendUnderfull mendSiblings mendTogether isNode share merge mergeRoot leavesTogether innersTogether half leftKeys keyBetween absorb splitParent joinedKeys joinedChildren findOf cardRefusal foundAt leafFor onTurn foundIn noBeginning noMemory openOf openChecked openSound tableCheck nodeCheck onLook enterNode enterKind enterLeaf enterInner innerSound noted lookOf leafSound member unusedZero childrenCheck childRun raised
 rowE-is = refl
 
 -- F: L, delete 7: absent
 unfoldable pub rowF : List ℕ
-rowF = delete 7 cardL .stores ∷ answerWords (delete 7 cardL .answer)
+rowF = delete 7 cardL .stores ∷ said (stepReply (delete 7 cardL .answer))
 
-pub rowF-is : rowF ≡ (0 ∷ 2 ∷ [])
-unfolding rowF fresh drive onAnswer insert delete upto steps cardL cardB cardS cardI cardK cardL2 foundWords answerWords begunWords stepOf stepDoing stepFormat formatStore formattedWord formatOf stepFinal nodesOfLength formatting resting idled allNodes headerRefusal stepHeld isIdle stepWork stepPlan stepBegin stepPrepared insertFirst landing landingFor onTurnLanding turnAt turnOf turnInner nodeAt children valueWords keyWords slotOf firstEqual insertReason reasonIn emptyReason insertChange stepFirst stepStore planning advanced repairs nextChange nextRepair onSearch seek onVisit visitAt visitOf rootPosition leafPairs insertOf startOf startChecked startRoom roomFor startLanded started stepRefused startRefused withAll giving overNumbers takeNumbers numbersFrom nextFree firstFrom firstTrue orElse withoutAll lastOf splitLeaf changeStores sort insert-all insert-pair kindAbove nodeImage countTrue childPosition childFor childIndex passed routingKeys runBelow deleteOf deleteFirst deleteChange mend mendTagged mendUnderfull mendSiblings mendTogether isNode share merge mergeRoot leavesTogether innersTogether half leftKeys keyBetween absorb splitParent joinedKeys joinedChildren findOf cardRefusal foundAt leafFor onTurn foundIn noBeginning noMemory openOf openChecked openSound tableCheck nodeCheck onLook enterNode enterKind enterLeaf enterInner innerSound noted lookOf leafSound member unusedZero childrenCheck childRun raised
+pub rowF-is : rowF ≡ (0 ∷ said absent)
+unfolding rowF fresh drive onAnswer insert delete upto steps cardL cardB cardS cardI cardK cardL2 foundReply stepReply startReply stepOf stepDoing stepFormat formatStore formattedWord formatOf stepFinal nodesOfLength formatting resting idled allNodes headerRefusal stepHeld isIdle stepWork stepPlan stepBegin stepPrepared insertFirst landing landingFor onTurnLanding turnAt turnOf turnInner nodeAt children valueWords keyWords slotOf firstEqual insertReason reasonIn emptyReason insertChange stepFirst stepStore planning advanced repairs nextChange nextRepair onSearch seek onVisit visitAt visitOf rootPosition leafPairs insertOf startOf startChecked startRoom roomFor startLanded started stepRefused startRefused withAll giving overNumbers takeNumbers numbersFrom nextFree firstFrom firstTrue orElse withoutAll lastOf splitLeaf changeStores sort insert-all insert-pair kindAbove nodeImage countTrue childPosition childFor childIndex passed routingKeys runBelow deleteOf deleteFirst deleteChange mend mendTagged mendUnderfull mendSiblings mendTogether isNode share merge mergeRoot leavesTogether innersTogether half leftKeys keyBetween absorb splitParent joinedKeys joinedChildren findOf cardRefusal foundAt leafFor onTurn foundIn noBeginning noMemory openOf openChecked openSound tableCheck nodeCheck onLook enterNode enterKind enterLeaf enterInner innerSound noted lookOf leafSound member unusedZero childrenCheck childRun raised
 rowF-is = refl
 
 -- G: 104 words may be formatted; 80, 103, 105 are refused 1. 14,408 may; 14,432 not
 unfoldable pub rowG104 : List ℕ
-rowG104 = begunWords (formatOf (replicate 104 0) .begun)
+rowG104 = said (startReply (formatOf (replicate 104 0) .begun))
 
-pub rowG104-is : rowG104 ≡ (7 ∷ [])
-unfolding rowG104 fresh drive onAnswer insert delete upto steps cardL cardB cardS cardI cardK cardL2 foundWords answerWords begunWords stepOf stepDoing stepFormat formatStore formattedWord formatOf stepFinal nodesOfLength formatting resting idled allNodes headerRefusal stepHeld isIdle stepWork stepPlan stepBegin stepPrepared insertFirst landing landingFor onTurnLanding turnAt turnOf turnInner nodeAt children valueWords keyWords slotOf firstEqual insertReason reasonIn emptyReason insertChange stepFirst stepStore planning advanced repairs nextChange nextRepair onSearch seek onVisit visitAt visitOf rootPosition leafPairs insertOf startOf startChecked startRoom roomFor startLanded started stepRefused startRefused withAll giving overNumbers takeNumbers numbersFrom nextFree firstFrom firstTrue orElse withoutAll lastOf splitLeaf changeStores sort insert-all insert-pair kindAbove nodeImage countTrue childPosition childFor childIndex passed routingKeys runBelow deleteOf deleteFirst deleteChange mend mendTagged mendUnderfull mendSiblings mendTogether isNode share merge mergeRoot leavesTogether innersTogether half leftKeys keyBetween absorb splitParent joinedKeys joinedChildren findOf cardRefusal foundAt leafFor onTurn foundIn noBeginning noMemory openOf openChecked openSound tableCheck nodeCheck onLook enterNode enterKind enterLeaf enterInner innerSound noted lookOf leafSound member unusedZero childrenCheck childRun raised
+pub rowG104-is : rowG104 ≡ said begun
+unfolding rowG104 fresh drive onAnswer insert delete upto steps cardL cardB cardS cardI cardK cardL2 foundReply stepReply startReply stepOf stepDoing stepFormat formatStore formattedWord formatOf stepFinal nodesOfLength formatting resting idled allNodes headerRefusal stepHeld isIdle stepWork stepPlan stepBegin stepPrepared insertFirst landing landingFor onTurnLanding turnAt turnOf turnInner nodeAt children valueWords keyWords slotOf firstEqual insertReason reasonIn emptyReason insertChange stepFirst stepStore planning advanced repairs nextChange nextRepair onSearch seek onVisit visitAt visitOf rootPosition leafPairs insertOf startOf startChecked startRoom roomFor startLanded started stepRefused startRefused withAll giving overNumbers takeNumbers numbersFrom nextFree firstFrom firstTrue orElse withoutAll lastOf splitLeaf changeStores sort insert-all insert-pair kindAbove nodeImage countTrue childPosition childFor childIndex passed routingKeys runBelow deleteOf deleteFirst deleteChange mend mendTagged mendUnderfull mendSiblings mendTogether isNode share merge mergeRoot leavesTogether innersTogether half leftKeys keyBetween absorb splitParent joinedKeys joinedChildren findOf cardRefusal foundAt leafFor onTurn foundIn noBeginning noMemory openOf openChecked openSound tableCheck nodeCheck onLook enterNode enterKind enterLeaf enterInner innerSound noted lookOf leafSound member unusedZero childrenCheck childRun raised
 rowG104-is = refl
 
 unfoldable pub rowG80 : List ℕ
-rowG80 = begunWords (formatOf (replicate 80 0) .begun)
+rowG80 = said (startReply (formatOf (replicate 80 0) .begun))
 
-pub rowG80-is : rowG80 ≡ (3 ∷ 1 ∷ [])
-unfolding rowG80 fresh drive onAnswer insert delete upto steps cardL cardB cardS cardI cardK cardL2 foundWords answerWords begunWords stepOf stepDoing stepFormat formatStore formattedWord formatOf stepFinal nodesOfLength formatting resting idled allNodes headerRefusal stepHeld isIdle stepWork stepPlan stepBegin stepPrepared insertFirst landing landingFor onTurnLanding turnAt turnOf turnInner nodeAt children valueWords keyWords slotOf firstEqual insertReason reasonIn emptyReason insertChange stepFirst stepStore planning advanced repairs nextChange nextRepair onSearch seek onVisit visitAt visitOf rootPosition leafPairs insertOf startOf startChecked startRoom roomFor startLanded started stepRefused startRefused withAll giving overNumbers takeNumbers numbersFrom nextFree firstFrom firstTrue orElse withoutAll lastOf splitLeaf changeStores sort insert-all insert-pair kindAbove nodeImage countTrue childPosition childFor childIndex passed routingKeys runBelow deleteOf deleteFirst deleteChange mend mendTagged mendUnderfull mendSiblings mendTogether isNode share merge mergeRoot leavesTogether innersTogether half leftKeys keyBetween absorb splitParent joinedKeys joinedChildren findOf cardRefusal foundAt leafFor onTurn foundIn noBeginning noMemory openOf openChecked openSound tableCheck nodeCheck onLook enterNode enterKind enterLeaf enterInner innerSound noted lookOf leafSound member unusedZero childrenCheck childRun raised
+pub rowG80-is : rowG80 ≡ said (refusal 1)
+unfolding rowG80 fresh drive onAnswer insert delete upto steps cardL cardB cardS cardI cardK cardL2 foundReply stepReply startReply stepOf stepDoing stepFormat formatStore formattedWord formatOf stepFinal nodesOfLength formatting resting idled allNodes headerRefusal stepHeld isIdle stepWork stepPlan stepBegin stepPrepared insertFirst landing landingFor onTurnLanding turnAt turnOf turnInner nodeAt children valueWords keyWords slotOf firstEqual insertReason reasonIn emptyReason insertChange stepFirst stepStore planning advanced repairs nextChange nextRepair onSearch seek onVisit visitAt visitOf rootPosition leafPairs insertOf startOf startChecked startRoom roomFor startLanded started stepRefused startRefused withAll giving overNumbers takeNumbers numbersFrom nextFree firstFrom firstTrue orElse withoutAll lastOf splitLeaf changeStores sort insert-all insert-pair kindAbove nodeImage countTrue childPosition childFor childIndex passed routingKeys runBelow deleteOf deleteFirst deleteChange mend mendTagged mendUnderfull mendSiblings mendTogether isNode share merge mergeRoot leavesTogether innersTogether half leftKeys keyBetween absorb splitParent joinedKeys joinedChildren findOf cardRefusal foundAt leafFor onTurn foundIn noBeginning noMemory openOf openChecked openSound tableCheck nodeCheck onLook enterNode enterKind enterLeaf enterInner innerSound noted lookOf leafSound member unusedZero childrenCheck childRun raised
 rowG80-is = refl
 
 unfoldable pub rowG103 : List ℕ
-rowG103 = begunWords (formatOf (replicate 103 0) .begun)
+rowG103 = said (startReply (formatOf (replicate 103 0) .begun))
 
-pub rowG103-is : rowG103 ≡ (3 ∷ 1 ∷ [])
-unfolding rowG103 fresh drive onAnswer insert delete upto steps cardL cardB cardS cardI cardK cardL2 foundWords answerWords begunWords stepOf stepDoing stepFormat formatStore formattedWord formatOf stepFinal nodesOfLength formatting resting idled allNodes headerRefusal stepHeld isIdle stepWork stepPlan stepBegin stepPrepared insertFirst landing landingFor onTurnLanding turnAt turnOf turnInner nodeAt children valueWords keyWords slotOf firstEqual insertReason reasonIn emptyReason insertChange stepFirst stepStore planning advanced repairs nextChange nextRepair onSearch seek onVisit visitAt visitOf rootPosition leafPairs insertOf startOf startChecked startRoom roomFor startLanded started stepRefused startRefused withAll giving overNumbers takeNumbers numbersFrom nextFree firstFrom firstTrue orElse withoutAll lastOf splitLeaf changeStores sort insert-all insert-pair kindAbove nodeImage countTrue childPosition childFor childIndex passed routingKeys runBelow deleteOf deleteFirst deleteChange mend mendTagged mendUnderfull mendSiblings mendTogether isNode share merge mergeRoot leavesTogether innersTogether half leftKeys keyBetween absorb splitParent joinedKeys joinedChildren findOf cardRefusal foundAt leafFor onTurn foundIn noBeginning noMemory openOf openChecked openSound tableCheck nodeCheck onLook enterNode enterKind enterLeaf enterInner innerSound noted lookOf leafSound member unusedZero childrenCheck childRun raised
+pub rowG103-is : rowG103 ≡ said (refusal 1)
+unfolding rowG103 fresh drive onAnswer insert delete upto steps cardL cardB cardS cardI cardK cardL2 foundReply stepReply startReply stepOf stepDoing stepFormat formatStore formattedWord formatOf stepFinal nodesOfLength formatting resting idled allNodes headerRefusal stepHeld isIdle stepWork stepPlan stepBegin stepPrepared insertFirst landing landingFor onTurnLanding turnAt turnOf turnInner nodeAt children valueWords keyWords slotOf firstEqual insertReason reasonIn emptyReason insertChange stepFirst stepStore planning advanced repairs nextChange nextRepair onSearch seek onVisit visitAt visitOf rootPosition leafPairs insertOf startOf startChecked startRoom roomFor startLanded started stepRefused startRefused withAll giving overNumbers takeNumbers numbersFrom nextFree firstFrom firstTrue orElse withoutAll lastOf splitLeaf changeStores sort insert-all insert-pair kindAbove nodeImage countTrue childPosition childFor childIndex passed routingKeys runBelow deleteOf deleteFirst deleteChange mend mendTagged mendUnderfull mendSiblings mendTogether isNode share merge mergeRoot leavesTogether innersTogether half leftKeys keyBetween absorb splitParent joinedKeys joinedChildren findOf cardRefusal foundAt leafFor onTurn foundIn noBeginning noMemory openOf openChecked openSound tableCheck nodeCheck onLook enterNode enterKind enterLeaf enterInner innerSound noted lookOf leafSound member unusedZero childrenCheck childRun raised
 rowG103-is = refl
 
 unfoldable pub rowG105 : List ℕ
-rowG105 = begunWords (formatOf (replicate 105 0) .begun)
+rowG105 = said (startReply (formatOf (replicate 105 0) .begun))
 
-pub rowG105-is : rowG105 ≡ (3 ∷ 1 ∷ [])
-unfolding rowG105 fresh drive onAnswer insert delete upto steps cardL cardB cardS cardI cardK cardL2 foundWords answerWords begunWords stepOf stepDoing stepFormat formatStore formattedWord formatOf stepFinal nodesOfLength formatting resting idled allNodes headerRefusal stepHeld isIdle stepWork stepPlan stepBegin stepPrepared insertFirst landing landingFor onTurnLanding turnAt turnOf turnInner nodeAt children valueWords keyWords slotOf firstEqual insertReason reasonIn emptyReason insertChange stepFirst stepStore planning advanced repairs nextChange nextRepair onSearch seek onVisit visitAt visitOf rootPosition leafPairs insertOf startOf startChecked startRoom roomFor startLanded started stepRefused startRefused withAll giving overNumbers takeNumbers numbersFrom nextFree firstFrom firstTrue orElse withoutAll lastOf splitLeaf changeStores sort insert-all insert-pair kindAbove nodeImage countTrue childPosition childFor childIndex passed routingKeys runBelow deleteOf deleteFirst deleteChange mend mendTagged mendUnderfull mendSiblings mendTogether isNode share merge mergeRoot leavesTogether innersTogether half leftKeys keyBetween absorb splitParent joinedKeys joinedChildren findOf cardRefusal foundAt leafFor onTurn foundIn noBeginning noMemory openOf openChecked openSound tableCheck nodeCheck onLook enterNode enterKind enterLeaf enterInner innerSound noted lookOf leafSound member unusedZero childrenCheck childRun raised
+pub rowG105-is : rowG105 ≡ said (refusal 1)
+unfolding rowG105 fresh drive onAnswer insert delete upto steps cardL cardB cardS cardI cardK cardL2 foundReply stepReply startReply stepOf stepDoing stepFormat formatStore formattedWord formatOf stepFinal nodesOfLength formatting resting idled allNodes headerRefusal stepHeld isIdle stepWork stepPlan stepBegin stepPrepared insertFirst landing landingFor onTurnLanding turnAt turnOf turnInner nodeAt children valueWords keyWords slotOf firstEqual insertReason reasonIn emptyReason insertChange stepFirst stepStore planning advanced repairs nextChange nextRepair onSearch seek onVisit visitAt visitOf rootPosition leafPairs insertOf startOf startChecked startRoom roomFor startLanded started stepRefused startRefused withAll giving overNumbers takeNumbers numbersFrom nextFree firstFrom firstTrue orElse withoutAll lastOf splitLeaf changeStores sort insert-all insert-pair kindAbove nodeImage countTrue childPosition childFor childIndex passed routingKeys runBelow deleteOf deleteFirst deleteChange mend mendTagged mendUnderfull mendSiblings mendTogether isNode share merge mergeRoot leavesTogether innersTogether half leftKeys keyBetween absorb splitParent joinedKeys joinedChildren findOf cardRefusal foundAt leafFor onTurn foundIn noBeginning noMemory openOf openChecked openSound tableCheck nodeCheck onLook enterNode enterKind enterLeaf enterInner innerSound noted lookOf leafSound member unusedZero childrenCheck childRun raised
 rowG105-is = refl
 
 unfoldable pub rowG14408 : List ℕ
-rowG14408 = begunWords (formatOf (replicate 14408 0) .begun)
+rowG14408 = said (startReply (formatOf (replicate 14408 0) .begun))
 
-pub rowG14408-is : rowG14408 ≡ (7 ∷ [])
-unfolding rowG14408 fresh drive onAnswer insert delete upto steps cardL cardB cardS cardI cardK cardL2 foundWords answerWords begunWords stepOf stepDoing stepFormat formatStore formattedWord formatOf stepFinal nodesOfLength formatting resting idled allNodes headerRefusal stepHeld isIdle stepWork stepPlan stepBegin stepPrepared insertFirst landing landingFor onTurnLanding turnAt turnOf turnInner nodeAt children valueWords keyWords slotOf firstEqual insertReason reasonIn emptyReason insertChange stepFirst stepStore planning advanced repairs nextChange nextRepair onSearch seek onVisit visitAt visitOf rootPosition leafPairs insertOf startOf startChecked startRoom roomFor startLanded started stepRefused startRefused withAll giving overNumbers takeNumbers numbersFrom nextFree firstFrom firstTrue orElse withoutAll lastOf splitLeaf changeStores sort insert-all insert-pair kindAbove nodeImage countTrue childPosition childFor childIndex passed routingKeys runBelow deleteOf deleteFirst deleteChange mend mendTagged mendUnderfull mendSiblings mendTogether isNode share merge mergeRoot leavesTogether innersTogether half leftKeys keyBetween absorb splitParent joinedKeys joinedChildren findOf cardRefusal foundAt leafFor onTurn foundIn noBeginning noMemory openOf openChecked openSound tableCheck nodeCheck onLook enterNode enterKind enterLeaf enterInner innerSound noted lookOf leafSound member unusedZero childrenCheck childRun raised
+pub rowG14408-is : rowG14408 ≡ said begun
+unfolding rowG14408 fresh drive onAnswer insert delete upto steps cardL cardB cardS cardI cardK cardL2 foundReply stepReply startReply stepOf stepDoing stepFormat formatStore formattedWord formatOf stepFinal nodesOfLength formatting resting idled allNodes headerRefusal stepHeld isIdle stepWork stepPlan stepBegin stepPrepared insertFirst landing landingFor onTurnLanding turnAt turnOf turnInner nodeAt children valueWords keyWords slotOf firstEqual insertReason reasonIn emptyReason insertChange stepFirst stepStore planning advanced repairs nextChange nextRepair onSearch seek onVisit visitAt visitOf rootPosition leafPairs insertOf startOf startChecked startRoom roomFor startLanded started stepRefused startRefused withAll giving overNumbers takeNumbers numbersFrom nextFree firstFrom firstTrue orElse withoutAll lastOf splitLeaf changeStores sort insert-all insert-pair kindAbove nodeImage countTrue childPosition childFor childIndex passed routingKeys runBelow deleteOf deleteFirst deleteChange mend mendTagged mendUnderfull mendSiblings mendTogether isNode share merge mergeRoot leavesTogether innersTogether half leftKeys keyBetween absorb splitParent joinedKeys joinedChildren findOf cardRefusal foundAt leafFor onTurn foundIn noBeginning noMemory openOf openChecked openSound tableCheck nodeCheck onLook enterNode enterKind enterLeaf enterInner innerSound noted lookOf leafSound member unusedZero childrenCheck childRun raised
 rowG14408-is = refl
 
 unfoldable pub rowG14432 : List ℕ
-rowG14432 = begunWords (formatOf (replicate 14432 0) .begun)
+rowG14432 = said (startReply (formatOf (replicate 14432 0) .begun))
 
-pub rowG14432-is : rowG14432 ≡ (3 ∷ 1 ∷ [])
-unfolding rowG14432 fresh drive onAnswer insert delete upto steps cardL cardB cardS cardI cardK cardL2 foundWords answerWords begunWords stepOf stepDoing stepFormat formatStore formattedWord formatOf stepFinal nodesOfLength formatting resting idled allNodes headerRefusal stepHeld isIdle stepWork stepPlan stepBegin stepPrepared insertFirst landing landingFor onTurnLanding turnAt turnOf turnInner nodeAt children valueWords keyWords slotOf firstEqual insertReason reasonIn emptyReason insertChange stepFirst stepStore planning advanced repairs nextChange nextRepair onSearch seek onVisit visitAt visitOf rootPosition leafPairs insertOf startOf startChecked startRoom roomFor startLanded started stepRefused startRefused withAll giving overNumbers takeNumbers numbersFrom nextFree firstFrom firstTrue orElse withoutAll lastOf splitLeaf changeStores sort insert-all insert-pair kindAbove nodeImage countTrue childPosition childFor childIndex passed routingKeys runBelow deleteOf deleteFirst deleteChange mend mendTagged mendUnderfull mendSiblings mendTogether isNode share merge mergeRoot leavesTogether innersTogether half leftKeys keyBetween absorb splitParent joinedKeys joinedChildren findOf cardRefusal foundAt leafFor onTurn foundIn noBeginning noMemory openOf openChecked openSound tableCheck nodeCheck onLook enterNode enterKind enterLeaf enterInner innerSound noted lookOf leafSound member unusedZero childrenCheck childRun raised
+pub rowG14432-is : rowG14432 ≡ said (refusal 1)
+unfolding rowG14432 fresh drive onAnswer insert delete upto steps cardL cardB cardS cardI cardK cardL2 foundReply stepReply startReply stepOf stepDoing stepFormat formatStore formattedWord formatOf stepFinal nodesOfLength formatting resting idled allNodes headerRefusal stepHeld isIdle stepWork stepPlan stepBegin stepPrepared insertFirst landing landingFor onTurnLanding turnAt turnOf turnInner nodeAt children valueWords keyWords slotOf firstEqual insertReason reasonIn emptyReason insertChange stepFirst stepStore planning advanced repairs nextChange nextRepair onSearch seek onVisit visitAt visitOf rootPosition leafPairs insertOf startOf startChecked startRoom roomFor startLanded started stepRefused startRefused withAll giving overNumbers takeNumbers numbersFrom nextFree firstFrom firstTrue orElse withoutAll lastOf splitLeaf changeStores sort insert-all insert-pair kindAbove nodeImage countTrue childPosition childFor childIndex passed routingKeys runBelow deleteOf deleteFirst deleteChange mend mendTagged mendUnderfull mendSiblings mendTogether isNode share merge mergeRoot leavesTogether innersTogether half leftKeys keyBetween absorb splitParent joinedKeys joinedChildren findOf cardRefusal foundAt leafFor onTurn foundIn noBeginning noMemory openOf openChecked openSound tableCheck nodeCheck onLook enterNode enterKind enterLeaf enterInner innerSound noted lookOf leafSound member unusedZero childrenCheck childRun raised
 rowG14432-is = refl
 
 -- H: key 0 refused 6; 4,294,967,295 accepted
 unfoldable pub rowHinsert : List ℕ
-rowHinsert = begunWords (insertOf (cardL .card) (cardL .memory) 0 1 .begun)
+rowHinsert = said (startReply (insertOf (cardL .card) (cardL .memory) 0 1 .begun))
 
-pub rowHinsert-is : rowHinsert ≡ (3 ∷ 6 ∷ [])
-unfolding rowHinsert fresh drive onAnswer insert delete upto steps cardL cardB cardS cardI cardK cardL2 foundWords answerWords begunWords stepOf stepDoing stepFormat formatStore formattedWord formatOf stepFinal nodesOfLength formatting resting idled allNodes headerRefusal stepHeld isIdle stepWork stepPlan stepBegin stepPrepared insertFirst landing landingFor onTurnLanding turnAt turnOf turnInner nodeAt children valueWords keyWords slotOf firstEqual insertReason reasonIn emptyReason insertChange stepFirst stepStore planning advanced repairs nextChange nextRepair onSearch seek onVisit visitAt visitOf rootPosition leafPairs insertOf startOf startChecked startRoom roomFor startLanded started stepRefused startRefused withAll giving overNumbers takeNumbers numbersFrom nextFree firstFrom firstTrue orElse withoutAll lastOf splitLeaf changeStores sort insert-all insert-pair kindAbove nodeImage countTrue childPosition childFor childIndex passed routingKeys runBelow deleteOf deleteFirst deleteChange mend mendTagged mendUnderfull mendSiblings mendTogether isNode share merge mergeRoot leavesTogether innersTogether half leftKeys keyBetween absorb splitParent joinedKeys joinedChildren findOf cardRefusal foundAt leafFor onTurn foundIn noBeginning noMemory openOf openChecked openSound tableCheck nodeCheck onLook enterNode enterKind enterLeaf enterInner innerSound noted lookOf leafSound member unusedZero childrenCheck childRun raised
+pub rowHinsert-is : rowHinsert ≡ said (refusal 6)
+unfolding rowHinsert fresh drive onAnswer insert delete upto steps cardL cardB cardS cardI cardK cardL2 foundReply stepReply startReply stepOf stepDoing stepFormat formatStore formattedWord formatOf stepFinal nodesOfLength formatting resting idled allNodes headerRefusal stepHeld isIdle stepWork stepPlan stepBegin stepPrepared insertFirst landing landingFor onTurnLanding turnAt turnOf turnInner nodeAt children valueWords keyWords slotOf firstEqual insertReason reasonIn emptyReason insertChange stepFirst stepStore planning advanced repairs nextChange nextRepair onSearch seek onVisit visitAt visitOf rootPosition leafPairs insertOf startOf startChecked startRoom roomFor startLanded started stepRefused startRefused withAll giving overNumbers takeNumbers numbersFrom nextFree firstFrom firstTrue orElse withoutAll lastOf splitLeaf changeStores sort insert-all insert-pair kindAbove nodeImage countTrue childPosition childFor childIndex passed routingKeys runBelow deleteOf deleteFirst deleteChange mend mendTagged mendUnderfull mendSiblings mendTogether isNode share merge mergeRoot leavesTogether innersTogether half leftKeys keyBetween absorb splitParent joinedKeys joinedChildren findOf cardRefusal foundAt leafFor onTurn foundIn noBeginning noMemory openOf openChecked openSound tableCheck nodeCheck onLook enterNode enterKind enterLeaf enterInner innerSound noted lookOf leafSound member unusedZero childrenCheck childRun raised
 rowHinsert-is = refl
 
 unfoldable pub rowHfind : List ℕ
-rowHfind = foundWords (findOf (cardL .card) 0)
+rowHfind = said (foundReply (findOf (cardL .card) 0))
 
-pub rowHfind-is : rowHfind ≡ (3 ∷ 6 ∷ [])
-unfolding rowHfind fresh drive onAnswer insert delete upto steps cardL cardB cardS cardI cardK cardL2 foundWords answerWords begunWords stepOf stepDoing stepFormat formatStore formattedWord formatOf stepFinal nodesOfLength formatting resting idled allNodes headerRefusal stepHeld isIdle stepWork stepPlan stepBegin stepPrepared insertFirst landing landingFor onTurnLanding turnAt turnOf turnInner nodeAt children valueWords keyWords slotOf firstEqual insertReason reasonIn emptyReason insertChange stepFirst stepStore planning advanced repairs nextChange nextRepair onSearch seek onVisit visitAt visitOf rootPosition leafPairs insertOf startOf startChecked startRoom roomFor startLanded started stepRefused startRefused withAll giving overNumbers takeNumbers numbersFrom nextFree firstFrom firstTrue orElse withoutAll lastOf splitLeaf changeStores sort insert-all insert-pair kindAbove nodeImage countTrue childPosition childFor childIndex passed routingKeys runBelow deleteOf deleteFirst deleteChange mend mendTagged mendUnderfull mendSiblings mendTogether isNode share merge mergeRoot leavesTogether innersTogether half leftKeys keyBetween absorb splitParent joinedKeys joinedChildren findOf cardRefusal foundAt leafFor onTurn foundIn noBeginning noMemory openOf openChecked openSound tableCheck nodeCheck onLook enterNode enterKind enterLeaf enterInner innerSound noted lookOf leafSound member unusedZero childrenCheck childRun raised
+pub rowHfind-is : rowHfind ≡ said (refusal 6)
+unfolding rowHfind fresh drive onAnswer insert delete upto steps cardL cardB cardS cardI cardK cardL2 foundReply stepReply startReply stepOf stepDoing stepFormat formatStore formattedWord formatOf stepFinal nodesOfLength formatting resting idled allNodes headerRefusal stepHeld isIdle stepWork stepPlan stepBegin stepPrepared insertFirst landing landingFor onTurnLanding turnAt turnOf turnInner nodeAt children valueWords keyWords slotOf firstEqual insertReason reasonIn emptyReason insertChange stepFirst stepStore planning advanced repairs nextChange nextRepair onSearch seek onVisit visitAt visitOf rootPosition leafPairs insertOf startOf startChecked startRoom roomFor startLanded started stepRefused startRefused withAll giving overNumbers takeNumbers numbersFrom nextFree firstFrom firstTrue orElse withoutAll lastOf splitLeaf changeStores sort insert-all insert-pair kindAbove nodeImage countTrue childPosition childFor childIndex passed routingKeys runBelow deleteOf deleteFirst deleteChange mend mendTagged mendUnderfull mendSiblings mendTogether isNode share merge mergeRoot leavesTogether innersTogether half leftKeys keyBetween absorb splitParent joinedKeys joinedChildren findOf cardRefusal foundAt leafFor onTurn foundIn noBeginning noMemory openOf openChecked openSound tableCheck nodeCheck onLook enterNode enterKind enterLeaf enterInner innerSound noted lookOf leafSound member unusedZero childrenCheck childRun raised
 rowHfind-is = refl
 
 unfoldable pub rowHgreatest : List ℕ
-rowHgreatest = begunWords (insertOf (cardL .card) (cardL .memory) 4294967295 1 .begun)
+rowHgreatest = said (startReply (insertOf (cardL .card) (cardL .memory) 4294967295 1 .begun))
 
-pub rowHgreatest-is : rowHgreatest ≡ (7 ∷ [])
-unfolding rowHgreatest fresh drive onAnswer insert delete upto steps cardL cardB cardS cardI cardK cardL2 foundWords answerWords begunWords stepOf stepDoing stepFormat formatStore formattedWord formatOf stepFinal nodesOfLength formatting resting idled allNodes headerRefusal stepHeld isIdle stepWork stepPlan stepBegin stepPrepared insertFirst landing landingFor onTurnLanding turnAt turnOf turnInner nodeAt children valueWords keyWords slotOf firstEqual insertReason reasonIn emptyReason insertChange stepFirst stepStore planning advanced repairs nextChange nextRepair onSearch seek onVisit visitAt visitOf rootPosition leafPairs insertOf startOf startChecked startRoom roomFor startLanded started stepRefused startRefused withAll giving overNumbers takeNumbers numbersFrom nextFree firstFrom firstTrue orElse withoutAll lastOf splitLeaf changeStores sort insert-all insert-pair kindAbove nodeImage countTrue childPosition childFor childIndex passed routingKeys runBelow deleteOf deleteFirst deleteChange mend mendTagged mendUnderfull mendSiblings mendTogether isNode share merge mergeRoot leavesTogether innersTogether half leftKeys keyBetween absorb splitParent joinedKeys joinedChildren findOf cardRefusal foundAt leafFor onTurn foundIn noBeginning noMemory openOf openChecked openSound tableCheck nodeCheck onLook enterNode enterKind enterLeaf enterInner innerSound noted lookOf leafSound member unusedZero childrenCheck childRun raised
+pub rowHgreatest-is : rowHgreatest ≡ said begun
+unfolding rowHgreatest fresh drive onAnswer insert delete upto steps cardL cardB cardS cardI cardK cardL2 foundReply stepReply startReply stepOf stepDoing stepFormat formatStore formattedWord formatOf stepFinal nodesOfLength formatting resting idled allNodes headerRefusal stepHeld isIdle stepWork stepPlan stepBegin stepPrepared insertFirst landing landingFor onTurnLanding turnAt turnOf turnInner nodeAt children valueWords keyWords slotOf firstEqual insertReason reasonIn emptyReason insertChange stepFirst stepStore planning advanced repairs nextChange nextRepair onSearch seek onVisit visitAt visitOf rootPosition leafPairs insertOf startOf startChecked startRoom roomFor startLanded started stepRefused startRefused withAll giving overNumbers takeNumbers numbersFrom nextFree firstFrom firstTrue orElse withoutAll lastOf splitLeaf changeStores sort insert-all insert-pair kindAbove nodeImage countTrue childPosition childFor childIndex passed routingKeys runBelow deleteOf deleteFirst deleteChange mend mendTagged mendUnderfull mendSiblings mendTogether isNode share merge mergeRoot leavesTogether innersTogether half leftKeys keyBetween absorb splitParent joinedKeys joinedChildren findOf cardRefusal foundAt leafFor onTurn foundIn noBeginning noMemory openOf openChecked openSound tableCheck nodeCheck onLook enterNode enterKind enterLeaf enterInner innerSound noted lookOf leafSound member unusedZero childrenCheck childRun raised
 rowHgreatest-is = refl
 
 -- I: S, insert 12: 73 stores, leaves 2 and 3, root 4, routing key 7
@@ -323,7 +315,7 @@ unfoldable pub rowI : List ℕ
 rowI = cardI .stores ∷ getD (cardI .card) 4 0 ∷ (children (nodeAt (cardI .card) 4) ++ routingKeys (nodeAt (cardI .card) 4))
 
 pub rowI-held : heldI .stores ∷ getD (heldI .card) 4 0 ∷ (children (nodeAt (heldI .card) 4) ++ routingKeys (nodeAt (heldI .card) 4)) ≡ (73 ∷ 4 ∷ 2 ∷ 3 ∷ 7 ∷ [])
-unfolding fresh drive onAnswer insert delete upto steps cardL cardB cardS cardI cardK cardL2 foundWords answerWords begunWords stepOf stepDoing stepFormat formatStore formattedWord formatOf stepFinal nodesOfLength formatting resting idled allNodes headerRefusal stepHeld isIdle stepWork stepPlan stepBegin stepPrepared insertFirst landing landingFor onTurnLanding turnAt turnOf turnInner nodeAt children valueWords keyWords slotOf firstEqual insertReason reasonIn emptyReason insertChange stepFirst stepStore planning advanced repairs nextChange nextRepair onSearch seek onVisit visitAt visitOf rootPosition leafPairs insertOf startOf startChecked startRoom roomFor startLanded started stepRefused startRefused withAll giving overNumbers takeNumbers numbersFrom nextFree firstFrom firstTrue orElse withoutAll lastOf splitLeaf changeStores sort insert-all insert-pair kindAbove nodeImage countTrue childPosition childFor childIndex passed routingKeys runBelow deleteOf deleteFirst deleteChange mend mendTagged mendUnderfull mendSiblings mendTogether isNode share merge mergeRoot leavesTogether innersTogether half leftKeys keyBetween absorb splitParent joinedKeys joinedChildren findOf cardRefusal foundAt leafFor onTurn foundIn noBeginning noMemory openOf openChecked openSound tableCheck nodeCheck onLook enterNode enterKind enterLeaf enterInner innerSound noted lookOf leafSound member unusedZero childrenCheck childRun raised
+unfolding fresh drive onAnswer insert delete upto steps cardL cardB cardS cardI cardK cardL2 foundReply stepReply startReply stepOf stepDoing stepFormat formatStore formattedWord formatOf stepFinal nodesOfLength formatting resting idled allNodes headerRefusal stepHeld isIdle stepWork stepPlan stepBegin stepPrepared insertFirst landing landingFor onTurnLanding turnAt turnOf turnInner nodeAt children valueWords keyWords slotOf firstEqual insertReason reasonIn emptyReason insertChange stepFirst stepStore planning advanced repairs nextChange nextRepair onSearch seek onVisit visitAt visitOf rootPosition leafPairs insertOf startOf startChecked startRoom roomFor startLanded started stepRefused startRefused withAll giving overNumbers takeNumbers numbersFrom nextFree firstFrom firstTrue orElse withoutAll lastOf splitLeaf changeStores sort insert-all insert-pair kindAbove nodeImage countTrue childPosition childFor childIndex passed routingKeys runBelow deleteOf deleteFirst deleteChange mend mendTagged mendUnderfull mendSiblings mendTogether isNode share merge mergeRoot leavesTogether innersTogether half leftKeys keyBetween absorb splitParent joinedKeys joinedChildren findOf cardRefusal foundAt leafFor onTurn foundIn noBeginning noMemory openOf openChecked openSound tableCheck nodeCheck onLook enterNode enterKind enterLeaf enterInner innerSound noted lookOf leafSound member unusedZero childrenCheck childRun raised
 rowI-held = refl
 
 pub rowI-is : rowI ≡ (73 ∷ 4 ∷ 2 ∷ 3 ∷ 7 ∷ [])
@@ -332,10 +324,10 @@ rowI-is = ap (λ b. b .stores ∷ getD (b .card) 4 0 ∷ (children (nodeAt (b .c
 
 -- J: with N = 5, refused 8
 unfoldable pub rowJ : List ℕ
-rowJ = begunWords (insertOf (upto 11 (fresh 5) .card) (upto 11 (fresh 5) .memory) 12 120 .begun)
+rowJ = said (startReply (insertOf (upto 11 (fresh 5) .card) (upto 11 (fresh 5) .memory) 12 120 .begun))
 
-pub rowJ-is : rowJ ≡ (3 ∷ 8 ∷ [])
-unfolding rowJ fresh drive onAnswer insert delete upto steps cardL cardB cardS cardI cardK cardL2 foundWords answerWords begunWords stepOf stepDoing stepFormat formatStore formattedWord formatOf stepFinal nodesOfLength formatting resting idled allNodes headerRefusal stepHeld isIdle stepWork stepPlan stepBegin stepPrepared insertFirst landing landingFor onTurnLanding turnAt turnOf turnInner nodeAt children valueWords keyWords slotOf firstEqual insertReason reasonIn emptyReason insertChange stepFirst stepStore planning advanced repairs nextChange nextRepair onSearch seek onVisit visitAt visitOf rootPosition leafPairs insertOf startOf startChecked startRoom roomFor startLanded started stepRefused startRefused withAll giving overNumbers takeNumbers numbersFrom nextFree firstFrom firstTrue orElse withoutAll lastOf splitLeaf changeStores sort insert-all insert-pair kindAbove nodeImage countTrue childPosition childFor childIndex passed routingKeys runBelow deleteOf deleteFirst deleteChange mend mendTagged mendUnderfull mendSiblings mendTogether isNode share merge mergeRoot leavesTogether innersTogether half leftKeys keyBetween absorb splitParent joinedKeys joinedChildren findOf cardRefusal foundAt leafFor onTurn foundIn noBeginning noMemory openOf openChecked openSound tableCheck nodeCheck onLook enterNode enterKind enterLeaf enterInner innerSound noted lookOf leafSound member unusedZero childrenCheck childRun raised
+pub rowJ-is : rowJ ≡ said (refusal 8)
+unfolding rowJ fresh drive onAnswer insert delete upto steps cardL cardB cardS cardI cardK cardL2 foundReply stepReply startReply stepOf stepDoing stepFormat formatStore formattedWord formatOf stepFinal nodesOfLength formatting resting idled allNodes headerRefusal stepHeld isIdle stepWork stepPlan stepBegin stepPrepared insertFirst landing landingFor onTurnLanding turnAt turnOf turnInner nodeAt children valueWords keyWords slotOf firstEqual insertReason reasonIn emptyReason insertChange stepFirst stepStore planning advanced repairs nextChange nextRepair onSearch seek onVisit visitAt visitOf rootPosition leafPairs insertOf startOf startChecked startRoom roomFor startLanded started stepRefused startRefused withAll giving overNumbers takeNumbers numbersFrom nextFree firstFrom firstTrue orElse withoutAll lastOf splitLeaf changeStores sort insert-all insert-pair kindAbove nodeImage countTrue childPosition childFor childIndex passed routingKeys runBelow deleteOf deleteFirst deleteChange mend mendTagged mendUnderfull mendSiblings mendTogether isNode share merge mergeRoot leavesTogether innersTogether half leftKeys keyBetween absorb splitParent joinedKeys joinedChildren findOf cardRefusal foundAt leafFor onTurn foundIn noBeginning noMemory openOf openChecked openSound tableCheck nodeCheck onLook enterNode enterKind enterLeaf enterInner innerSound noted lookOf leafSound member unusedZero childrenCheck childRun raised
 rowJ-is = refl
 
 -- K: after I, delete 1 to 5: the last takes 74 stores, leaves 5 (6 to 9) and 6 (10 to 12), root 1, routing key 10
@@ -343,7 +335,7 @@ unfoldable pub rowK : List ℕ
 rowK = cardK .stores ∷ getD (cardK .card) 4 0 ∷ (children (nodeAt (cardK .card) 1) ++ routingKeys (nodeAt (cardK .card) 1))
 
 pub rowK-held : heldK .stores ∷ getD (heldK .card) 4 0 ∷ (children (nodeAt (heldK .card) 1) ++ routingKeys (nodeAt (heldK .card) 1)) ≡ (74 ∷ 1 ∷ 5 ∷ 6 ∷ 10 ∷ [])
-unfolding fresh drive onAnswer insert delete upto steps cardL cardB cardS cardI cardK cardL2 foundWords answerWords begunWords stepOf stepDoing stepFormat formatStore formattedWord formatOf stepFinal nodesOfLength formatting resting idled allNodes headerRefusal stepHeld isIdle stepWork stepPlan stepBegin stepPrepared insertFirst landing landingFor onTurnLanding turnAt turnOf turnInner nodeAt children valueWords keyWords slotOf firstEqual insertReason reasonIn emptyReason insertChange stepFirst stepStore planning advanced repairs nextChange nextRepair onSearch seek onVisit visitAt visitOf rootPosition leafPairs insertOf startOf startChecked startRoom roomFor startLanded started stepRefused startRefused withAll giving overNumbers takeNumbers numbersFrom nextFree firstFrom firstTrue orElse withoutAll lastOf splitLeaf changeStores sort insert-all insert-pair kindAbove nodeImage countTrue childPosition childFor childIndex passed routingKeys runBelow deleteOf deleteFirst deleteChange mend mendTagged mendUnderfull mendSiblings mendTogether isNode share merge mergeRoot leavesTogether innersTogether half leftKeys keyBetween absorb splitParent joinedKeys joinedChildren findOf cardRefusal foundAt leafFor onTurn foundIn noBeginning noMemory openOf openChecked openSound tableCheck nodeCheck onLook enterNode enterKind enterLeaf enterInner innerSound noted lookOf leafSound member unusedZero childrenCheck childRun raised
+unfolding fresh drive onAnswer insert delete upto steps cardL cardB cardS cardI cardK cardL2 foundReply stepReply startReply stepOf stepDoing stepFormat formatStore formattedWord formatOf stepFinal nodesOfLength formatting resting idled allNodes headerRefusal stepHeld isIdle stepWork stepPlan stepBegin stepPrepared insertFirst landing landingFor onTurnLanding turnAt turnOf turnInner nodeAt children valueWords keyWords slotOf firstEqual insertReason reasonIn emptyReason insertChange stepFirst stepStore planning advanced repairs nextChange nextRepair onSearch seek onVisit visitAt visitOf rootPosition leafPairs insertOf startOf startChecked startRoom roomFor startLanded started stepRefused startRefused withAll giving overNumbers takeNumbers numbersFrom nextFree firstFrom firstTrue orElse withoutAll lastOf splitLeaf changeStores sort insert-all insert-pair kindAbove nodeImage countTrue childPosition childFor childIndex passed routingKeys runBelow deleteOf deleteFirst deleteChange mend mendTagged mendUnderfull mendSiblings mendTogether isNode share merge mergeRoot leavesTogether innersTogether half leftKeys keyBetween absorb splitParent joinedKeys joinedChildren findOf cardRefusal foundAt leafFor onTurn foundIn noBeginning noMemory openOf openChecked openSound tableCheck nodeCheck onLook enterNode enterKind enterLeaf enterInner innerSound noted lookOf leafSound member unusedZero childrenCheck childRun raised
 rowK-held = refl
 
 pub rowK-is : rowK ≡ (74 ∷ 1 ∷ 5 ∷ 6 ∷ 10 ∷ [])
@@ -354,7 +346,7 @@ unfoldable pub rowKleft : List ℕ
 rowKleft = pair-keys (leafPairs (nodeAt (cardK .card) 5))
 
 pub rowKleft-held : pair-keys (leafPairs (nodeAt (heldK .card) 5)) ≡ (6 ∷ 7 ∷ 8 ∷ 9 ∷ [])
-unfolding fresh drive onAnswer insert delete upto steps cardL cardB cardS cardI cardK cardL2 foundWords answerWords begunWords stepOf stepDoing stepFormat formatStore formattedWord formatOf stepFinal nodesOfLength formatting resting idled allNodes headerRefusal stepHeld isIdle stepWork stepPlan stepBegin stepPrepared insertFirst landing landingFor onTurnLanding turnAt turnOf turnInner nodeAt children valueWords keyWords slotOf firstEqual insertReason reasonIn emptyReason insertChange stepFirst stepStore planning advanced repairs nextChange nextRepair onSearch seek onVisit visitAt visitOf rootPosition leafPairs insertOf startOf startChecked startRoom roomFor startLanded started stepRefused startRefused withAll giving overNumbers takeNumbers numbersFrom nextFree firstFrom firstTrue orElse withoutAll lastOf splitLeaf changeStores sort insert-all insert-pair kindAbove nodeImage countTrue childPosition childFor childIndex passed routingKeys runBelow deleteOf deleteFirst deleteChange mend mendTagged mendUnderfull mendSiblings mendTogether isNode share merge mergeRoot leavesTogether innersTogether half leftKeys keyBetween absorb splitParent joinedKeys joinedChildren findOf cardRefusal foundAt leafFor onTurn foundIn noBeginning noMemory openOf openChecked openSound tableCheck nodeCheck onLook enterNode enterKind enterLeaf enterInner innerSound noted lookOf leafSound member unusedZero childrenCheck childRun raised
+unfolding fresh drive onAnswer insert delete upto steps cardL cardB cardS cardI cardK cardL2 foundReply stepReply startReply stepOf stepDoing stepFormat formatStore formattedWord formatOf stepFinal nodesOfLength formatting resting idled allNodes headerRefusal stepHeld isIdle stepWork stepPlan stepBegin stepPrepared insertFirst landing landingFor onTurnLanding turnAt turnOf turnInner nodeAt children valueWords keyWords slotOf firstEqual insertReason reasonIn emptyReason insertChange stepFirst stepStore planning advanced repairs nextChange nextRepair onSearch seek onVisit visitAt visitOf rootPosition leafPairs insertOf startOf startChecked startRoom roomFor startLanded started stepRefused startRefused withAll giving overNumbers takeNumbers numbersFrom nextFree firstFrom firstTrue orElse withoutAll lastOf splitLeaf changeStores sort insert-all insert-pair kindAbove nodeImage countTrue childPosition childFor childIndex passed routingKeys runBelow deleteOf deleteFirst deleteChange mend mendTagged mendUnderfull mendSiblings mendTogether isNode share merge mergeRoot leavesTogether innersTogether half leftKeys keyBetween absorb splitParent joinedKeys joinedChildren findOf cardRefusal foundAt leafFor onTurn foundIn noBeginning noMemory openOf openChecked openSound tableCheck nodeCheck onLook enterNode enterKind enterLeaf enterInner innerSound noted lookOf leafSound member unusedZero childrenCheck childRun raised
 rowKleft-held = refl
 
 pub rowKleft-is : rowKleft ≡ (6 ∷ 7 ∷ 8 ∷ 9 ∷ [])
@@ -365,7 +357,7 @@ unfoldable pub rowKright : List ℕ
 rowKright = pair-keys (leafPairs (nodeAt (cardK .card) 6))
 
 pub rowKright-held : pair-keys (leafPairs (nodeAt (heldK .card) 6)) ≡ (10 ∷ 11 ∷ 12 ∷ [])
-unfolding fresh drive onAnswer insert delete upto steps cardL cardB cardS cardI cardK cardL2 foundWords answerWords begunWords stepOf stepDoing stepFormat formatStore formattedWord formatOf stepFinal nodesOfLength formatting resting idled allNodes headerRefusal stepHeld isIdle stepWork stepPlan stepBegin stepPrepared insertFirst landing landingFor onTurnLanding turnAt turnOf turnInner nodeAt children valueWords keyWords slotOf firstEqual insertReason reasonIn emptyReason insertChange stepFirst stepStore planning advanced repairs nextChange nextRepair onSearch seek onVisit visitAt visitOf rootPosition leafPairs insertOf startOf startChecked startRoom roomFor startLanded started stepRefused startRefused withAll giving overNumbers takeNumbers numbersFrom nextFree firstFrom firstTrue orElse withoutAll lastOf splitLeaf changeStores sort insert-all insert-pair kindAbove nodeImage countTrue childPosition childFor childIndex passed routingKeys runBelow deleteOf deleteFirst deleteChange mend mendTagged mendUnderfull mendSiblings mendTogether isNode share merge mergeRoot leavesTogether innersTogether half leftKeys keyBetween absorb splitParent joinedKeys joinedChildren findOf cardRefusal foundAt leafFor onTurn foundIn noBeginning noMemory openOf openChecked openSound tableCheck nodeCheck onLook enterNode enterKind enterLeaf enterInner innerSound noted lookOf leafSound member unusedZero childrenCheck childRun raised
+unfolding fresh drive onAnswer insert delete upto steps cardL cardB cardS cardI cardK cardL2 foundReply stepReply startReply stepOf stepDoing stepFormat formatStore formattedWord formatOf stepFinal nodesOfLength formatting resting idled allNodes headerRefusal stepHeld isIdle stepWork stepPlan stepBegin stepPrepared insertFirst landing landingFor onTurnLanding turnAt turnOf turnInner nodeAt children valueWords keyWords slotOf firstEqual insertReason reasonIn emptyReason insertChange stepFirst stepStore planning advanced repairs nextChange nextRepair onSearch seek onVisit visitAt visitOf rootPosition leafPairs insertOf startOf startChecked startRoom roomFor startLanded started stepRefused startRefused withAll giving overNumbers takeNumbers numbersFrom nextFree firstFrom firstTrue orElse withoutAll lastOf splitLeaf changeStores sort insert-all insert-pair kindAbove nodeImage countTrue childPosition childFor childIndex passed routingKeys runBelow deleteOf deleteFirst deleteChange mend mendTagged mendUnderfull mendSiblings mendTogether isNode share merge mergeRoot leavesTogether innersTogether half leftKeys keyBetween absorb splitParent joinedKeys joinedChildren findOf cardRefusal foundAt leafFor onTurn foundIn noBeginning noMemory openOf openChecked openSound tableCheck nodeCheck onLook enterNode enterKind enterLeaf enterInner innerSound noted lookOf leafSound member unusedZero childrenCheck childRun raised
 rowKright-held = refl
 
 pub rowKright-is : rowKright ≡ (10 ∷ 11 ∷ 12 ∷ [])
@@ -374,21 +366,21 @@ rowKright-is = ap (λ b. pair-keys (leafPairs (nodeAt (b .card) 6))) worked-K �
 
 -- L2: then delete 7, 8, 10, 9: the last takes 26 stores, root is leaf 2 with 6, 11, 12, and 5 nodes are free
 unfoldable pub rowL2 : List ℕ
-rowL2 = cardL2 .stores ∷ getD (cardL2 .card) 4 0 ∷ countTrue (cardL2 .memory .free) ∷ answerWords (cardL2 .answer)
+rowL2 = cardL2 .stores ∷ getD (cardL2 .card) 4 0 ∷ countTrue (cardL2 .memory .free) ∷ said (stepReply (cardL2 .answer))
 
-pub rowL2-held : heldL2 .stores ∷ getD (heldL2 .card) 4 0 ∷ countTrue (heldL2 .memory .free) ∷ answerWords (heldL2 .answer) ≡ (26 ∷ 2 ∷ 5 ∷ 1 ∷ 90 ∷ [])
-unfolding fresh drive onAnswer insert delete upto steps cardL cardB cardS cardI cardK cardL2 foundWords answerWords begunWords stepOf stepDoing stepFormat formatStore formattedWord formatOf stepFinal nodesOfLength formatting resting idled allNodes headerRefusal stepHeld isIdle stepWork stepPlan stepBegin stepPrepared insertFirst landing landingFor onTurnLanding turnAt turnOf turnInner nodeAt children valueWords keyWords slotOf firstEqual insertReason reasonIn emptyReason insertChange stepFirst stepStore planning advanced repairs nextChange nextRepair onSearch seek onVisit visitAt visitOf rootPosition leafPairs insertOf startOf startChecked startRoom roomFor startLanded started stepRefused startRefused withAll giving overNumbers takeNumbers numbersFrom nextFree firstFrom firstTrue orElse withoutAll lastOf splitLeaf changeStores sort insert-all insert-pair kindAbove nodeImage countTrue childPosition childFor childIndex passed routingKeys runBelow deleteOf deleteFirst deleteChange mend mendTagged mendUnderfull mendSiblings mendTogether isNode share merge mergeRoot leavesTogether innersTogether half leftKeys keyBetween absorb splitParent joinedKeys joinedChildren findOf cardRefusal foundAt leafFor onTurn foundIn noBeginning noMemory openOf openChecked openSound tableCheck nodeCheck onLook enterNode enterKind enterLeaf enterInner innerSound noted lookOf leafSound member unusedZero childrenCheck childRun raised
+pub rowL2-held : heldL2 .stores ∷ getD (heldL2 .card) 4 0 ∷ countTrue (heldL2 .memory .free) ∷ said (stepReply (heldL2 .answer)) ≡ (26 ∷ 2 ∷ 5 ∷ said (holds 90))
+unfolding fresh drive onAnswer insert delete upto steps cardL cardB cardS cardI cardK cardL2 foundReply stepReply startReply stepOf stepDoing stepFormat formatStore formattedWord formatOf stepFinal nodesOfLength formatting resting idled allNodes headerRefusal stepHeld isIdle stepWork stepPlan stepBegin stepPrepared insertFirst landing landingFor onTurnLanding turnAt turnOf turnInner nodeAt children valueWords keyWords slotOf firstEqual insertReason reasonIn emptyReason insertChange stepFirst stepStore planning advanced repairs nextChange nextRepair onSearch seek onVisit visitAt visitOf rootPosition leafPairs insertOf startOf startChecked startRoom roomFor startLanded started stepRefused startRefused withAll giving overNumbers takeNumbers numbersFrom nextFree firstFrom firstTrue orElse withoutAll lastOf splitLeaf changeStores sort insert-all insert-pair kindAbove nodeImage countTrue childPosition childFor childIndex passed routingKeys runBelow deleteOf deleteFirst deleteChange mend mendTagged mendUnderfull mendSiblings mendTogether isNode share merge mergeRoot leavesTogether innersTogether half leftKeys keyBetween absorb splitParent joinedKeys joinedChildren findOf cardRefusal foundAt leafFor onTurn foundIn noBeginning noMemory openOf openChecked openSound tableCheck nodeCheck onLook enterNode enterKind enterLeaf enterInner innerSound noted lookOf leafSound member unusedZero childrenCheck childRun raised
 rowL2-held = refl
 
-pub rowL2-is : rowL2 ≡ (26 ∷ 2 ∷ 5 ∷ 1 ∷ 90 ∷ [])
+pub rowL2-is : rowL2 ≡ (26 ∷ 2 ∷ 5 ∷ said (holds 90))
 unfolding rowL2
-rowL2-is = ap (λ b. b .stores ∷ getD (b .card) 4 0 ∷ countTrue (b .memory .free) ∷ answerWords (b .answer)) worked-L2 ∙ rowL2-held
+rowL2-is = ap (λ b. b .stores ∷ getD (b .card) 4 0 ∷ countTrue (b .memory .free) ∷ said (stepReply (b .answer))) worked-L2 ∙ rowL2-held
 
 unfoldable pub rowL2leaf : List ℕ
 rowL2leaf = pair-keys (leafPairs (nodeAt (cardL2 .card) 2))
 
 pub rowL2leaf-held : pair-keys (leafPairs (nodeAt (heldL2 .card) 2)) ≡ (6 ∷ 11 ∷ 12 ∷ [])
-unfolding fresh drive onAnswer insert delete upto steps cardL cardB cardS cardI cardK cardL2 foundWords answerWords begunWords stepOf stepDoing stepFormat formatStore formattedWord formatOf stepFinal nodesOfLength formatting resting idled allNodes headerRefusal stepHeld isIdle stepWork stepPlan stepBegin stepPrepared insertFirst landing landingFor onTurnLanding turnAt turnOf turnInner nodeAt children valueWords keyWords slotOf firstEqual insertReason reasonIn emptyReason insertChange stepFirst stepStore planning advanced repairs nextChange nextRepair onSearch seek onVisit visitAt visitOf rootPosition leafPairs insertOf startOf startChecked startRoom roomFor startLanded started stepRefused startRefused withAll giving overNumbers takeNumbers numbersFrom nextFree firstFrom firstTrue orElse withoutAll lastOf splitLeaf changeStores sort insert-all insert-pair kindAbove nodeImage countTrue childPosition childFor childIndex passed routingKeys runBelow deleteOf deleteFirst deleteChange mend mendTagged mendUnderfull mendSiblings mendTogether isNode share merge mergeRoot leavesTogether innersTogether half leftKeys keyBetween absorb splitParent joinedKeys joinedChildren findOf cardRefusal foundAt leafFor onTurn foundIn noBeginning noMemory openOf openChecked openSound tableCheck nodeCheck onLook enterNode enterKind enterLeaf enterInner innerSound noted lookOf leafSound member unusedZero childrenCheck childRun raised
+unfolding fresh drive onAnswer insert delete upto steps cardL cardB cardS cardI cardK cardL2 foundReply stepReply startReply stepOf stepDoing stepFormat formatStore formattedWord formatOf stepFinal nodesOfLength formatting resting idled allNodes headerRefusal stepHeld isIdle stepWork stepPlan stepBegin stepPrepared insertFirst landing landingFor onTurnLanding turnAt turnOf turnInner nodeAt children valueWords keyWords slotOf firstEqual insertReason reasonIn emptyReason insertChange stepFirst stepStore planning advanced repairs nextChange nextRepair onSearch seek onVisit visitAt visitOf rootPosition leafPairs insertOf startOf startChecked startRoom roomFor startLanded started stepRefused startRefused withAll giving overNumbers takeNumbers numbersFrom nextFree firstFrom firstTrue orElse withoutAll lastOf splitLeaf changeStores sort insert-all insert-pair kindAbove nodeImage countTrue childPosition childFor childIndex passed routingKeys runBelow deleteOf deleteFirst deleteChange mend mendTagged mendUnderfull mendSiblings mendTogether isNode share merge mergeRoot leavesTogether innersTogether half leftKeys keyBetween absorb splitParent joinedKeys joinedChildren findOf cardRefusal foundAt leafFor onTurn foundIn noBeginning noMemory openOf openChecked openSound tableCheck nodeCheck onLook enterNode enterKind enterLeaf enterInner innerSound noted lookOf leafSound member unusedZero childrenCheck childRun raised
 rowL2leaf-held = refl
 
 pub rowL2leaf-is : rowL2leaf ≡ (6 ∷ 11 ∷ 12 ∷ [])
@@ -397,37 +389,37 @@ rowL2leaf-is = ap (λ b. pair-keys (leafPairs (nodeAt (b .card) 2))) worked-L2 �
 
 -- power gone in the middle of I's split: opened idle, 12 absent; after its 73rd store: held
 unfoldable pub rowCutOpened : List ℕ
-rowCutOpened = begunWords (openOf (cutI cardS) .begun)
+rowCutOpened = said (startReply (openOf (cutI cardS) .begun))
 
-pub rowCutOpened-held : begunWords (openOf (cutI heldS) .begun) ≡ (6 ∷ [])
-unfolding fresh drive onAnswer insert delete upto steps cardL cardB cardS cardI cardK cardL2 foundWords answerWords begunWords stepOf stepDoing stepFormat formatStore formattedWord formatOf stepFinal nodesOfLength formatting resting idled allNodes headerRefusal stepHeld isIdle stepWork stepPlan stepBegin stepPrepared insertFirst landing landingFor onTurnLanding turnAt turnOf turnInner nodeAt children valueWords keyWords slotOf firstEqual insertReason reasonIn emptyReason insertChange stepFirst stepStore planning advanced repairs nextChange nextRepair onSearch seek onVisit visitAt visitOf rootPosition leafPairs insertOf startOf startChecked startRoom roomFor startLanded started stepRefused startRefused withAll giving overNumbers takeNumbers numbersFrom nextFree firstFrom firstTrue orElse withoutAll lastOf splitLeaf changeStores sort insert-all insert-pair kindAbove nodeImage countTrue childPosition childFor childIndex passed routingKeys runBelow deleteOf deleteFirst deleteChange mend mendTagged mendUnderfull mendSiblings mendTogether isNode share merge mergeRoot leavesTogether innersTogether half leftKeys keyBetween absorb splitParent joinedKeys joinedChildren findOf cardRefusal foundAt leafFor onTurn foundIn noBeginning noMemory openOf openChecked openSound tableCheck nodeCheck onLook enterNode enterKind enterLeaf enterInner innerSound noted lookOf leafSound member unusedZero childrenCheck childRun raised
+pub rowCutOpened-held : said (startReply (openOf (cutI heldS) .begun)) ≡ said idle
+unfolding fresh drive onAnswer insert delete upto steps cardL cardB cardS cardI cardK cardL2 foundReply stepReply startReply stepOf stepDoing stepFormat formatStore formattedWord formatOf stepFinal nodesOfLength formatting resting idled allNodes headerRefusal stepHeld isIdle stepWork stepPlan stepBegin stepPrepared insertFirst landing landingFor onTurnLanding turnAt turnOf turnInner nodeAt children valueWords keyWords slotOf firstEqual insertReason reasonIn emptyReason insertChange stepFirst stepStore planning advanced repairs nextChange nextRepair onSearch seek onVisit visitAt visitOf rootPosition leafPairs insertOf startOf startChecked startRoom roomFor startLanded started stepRefused startRefused withAll giving overNumbers takeNumbers numbersFrom nextFree firstFrom firstTrue orElse withoutAll lastOf splitLeaf changeStores sort insert-all insert-pair kindAbove nodeImage countTrue childPosition childFor childIndex passed routingKeys runBelow deleteOf deleteFirst deleteChange mend mendTagged mendUnderfull mendSiblings mendTogether isNode share merge mergeRoot leavesTogether innersTogether half leftKeys keyBetween absorb splitParent joinedKeys joinedChildren findOf cardRefusal foundAt leafFor onTurn foundIn noBeginning noMemory openOf openChecked openSound tableCheck nodeCheck onLook enterNode enterKind enterLeaf enterInner innerSound noted lookOf leafSound member unusedZero childrenCheck childRun raised
 rowCutOpened-held = refl
 
-pub rowCutOpened-is : rowCutOpened ≡ (6 ∷ [])
+pub rowCutOpened-is : rowCutOpened ≡ said idle
 unfolding rowCutOpened
-rowCutOpened-is = ap (λ b. begunWords (openOf (cutI b) .begun)) worked-S ∙ rowCutOpened-held
+rowCutOpened-is = ap (λ b. said (startReply (openOf (cutI b) .begun))) worked-S ∙ rowCutOpened-held
 
 unfoldable pub rowCutAbsent : List ℕ
-rowCutAbsent = foundWords (findOf (cutI cardS) 12)
+rowCutAbsent = said (foundReply (findOf (cutI cardS) 12))
 
-pub rowCutAbsent-held : foundWords (findOf (cutI heldS) 12) ≡ (2 ∷ [])
-unfolding fresh drive onAnswer insert delete upto steps cardL cardB cardS cardI cardK cardL2 foundWords answerWords begunWords stepOf stepDoing stepFormat formatStore formattedWord formatOf stepFinal nodesOfLength formatting resting idled allNodes headerRefusal stepHeld isIdle stepWork stepPlan stepBegin stepPrepared insertFirst landing landingFor onTurnLanding turnAt turnOf turnInner nodeAt children valueWords keyWords slotOf firstEqual insertReason reasonIn emptyReason insertChange stepFirst stepStore planning advanced repairs nextChange nextRepair onSearch seek onVisit visitAt visitOf rootPosition leafPairs insertOf startOf startChecked startRoom roomFor startLanded started stepRefused startRefused withAll giving overNumbers takeNumbers numbersFrom nextFree firstFrom firstTrue orElse withoutAll lastOf splitLeaf changeStores sort insert-all insert-pair kindAbove nodeImage countTrue childPosition childFor childIndex passed routingKeys runBelow deleteOf deleteFirst deleteChange mend mendTagged mendUnderfull mendSiblings mendTogether isNode share merge mergeRoot leavesTogether innersTogether half leftKeys keyBetween absorb splitParent joinedKeys joinedChildren findOf cardRefusal foundAt leafFor onTurn foundIn noBeginning noMemory openOf openChecked openSound tableCheck nodeCheck onLook enterNode enterKind enterLeaf enterInner innerSound noted lookOf leafSound member unusedZero childrenCheck childRun raised
+pub rowCutAbsent-held : said (foundReply (findOf (cutI heldS) 12)) ≡ said absent
+unfolding fresh drive onAnswer insert delete upto steps cardL cardB cardS cardI cardK cardL2 foundReply stepReply startReply stepOf stepDoing stepFormat formatStore formattedWord formatOf stepFinal nodesOfLength formatting resting idled allNodes headerRefusal stepHeld isIdle stepWork stepPlan stepBegin stepPrepared insertFirst landing landingFor onTurnLanding turnAt turnOf turnInner nodeAt children valueWords keyWords slotOf firstEqual insertReason reasonIn emptyReason insertChange stepFirst stepStore planning advanced repairs nextChange nextRepair onSearch seek onVisit visitAt visitOf rootPosition leafPairs insertOf startOf startChecked startRoom roomFor startLanded started stepRefused startRefused withAll giving overNumbers takeNumbers numbersFrom nextFree firstFrom firstTrue orElse withoutAll lastOf splitLeaf changeStores sort insert-all insert-pair kindAbove nodeImage countTrue childPosition childFor childIndex passed routingKeys runBelow deleteOf deleteFirst deleteChange mend mendTagged mendUnderfull mendSiblings mendTogether isNode share merge mergeRoot leavesTogether innersTogether half leftKeys keyBetween absorb splitParent joinedKeys joinedChildren findOf cardRefusal foundAt leafFor onTurn foundIn noBeginning noMemory openOf openChecked openSound tableCheck nodeCheck onLook enterNode enterKind enterLeaf enterInner innerSound noted lookOf leafSound member unusedZero childrenCheck childRun raised
 rowCutAbsent-held = refl
 
-pub rowCutAbsent-is : rowCutAbsent ≡ (2 ∷ [])
+pub rowCutAbsent-is : rowCutAbsent ≡ said absent
 unfolding rowCutAbsent
-rowCutAbsent-is = ap (λ b. foundWords (findOf (cutI b) 12)) worked-S ∙ rowCutAbsent-held
+rowCutAbsent-is = ap (λ b. said (foundReply (findOf (cutI b) 12))) worked-S ∙ rowCutAbsent-held
 
 unfoldable pub rowCutHeld : List ℕ
-rowCutHeld = foundWords (findOf (splitI cardS) 12)
+rowCutHeld = said (foundReply (findOf (splitI cardS) 12))
 
-pub rowCutHeld-held : foundWords (findOf (splitI heldS) 12) ≡ (1 ∷ 120 ∷ [])
-unfolding fresh drive onAnswer insert delete upto steps cardL cardB cardS cardI cardK cardL2 foundWords answerWords begunWords stepOf stepDoing stepFormat formatStore formattedWord formatOf stepFinal nodesOfLength formatting resting idled allNodes headerRefusal stepHeld isIdle stepWork stepPlan stepBegin stepPrepared insertFirst landing landingFor onTurnLanding turnAt turnOf turnInner nodeAt children valueWords keyWords slotOf firstEqual insertReason reasonIn emptyReason insertChange stepFirst stepStore planning advanced repairs nextChange nextRepair onSearch seek onVisit visitAt visitOf rootPosition leafPairs insertOf startOf startChecked startRoom roomFor startLanded started stepRefused startRefused withAll giving overNumbers takeNumbers numbersFrom nextFree firstFrom firstTrue orElse withoutAll lastOf splitLeaf changeStores sort insert-all insert-pair kindAbove nodeImage countTrue childPosition childFor childIndex passed routingKeys runBelow deleteOf deleteFirst deleteChange mend mendTagged mendUnderfull mendSiblings mendTogether isNode share merge mergeRoot leavesTogether innersTogether half leftKeys keyBetween absorb splitParent joinedKeys joinedChildren findOf cardRefusal foundAt leafFor onTurn foundIn noBeginning noMemory openOf openChecked openSound tableCheck nodeCheck onLook enterNode enterKind enterLeaf enterInner innerSound noted lookOf leafSound member unusedZero childrenCheck childRun raised
+pub rowCutHeld-held : said (foundReply (findOf (splitI heldS) 12)) ≡ said (holds 120)
+unfolding fresh drive onAnswer insert delete upto steps cardL cardB cardS cardI cardK cardL2 foundReply stepReply startReply stepOf stepDoing stepFormat formatStore formattedWord formatOf stepFinal nodesOfLength formatting resting idled allNodes headerRefusal stepHeld isIdle stepWork stepPlan stepBegin stepPrepared insertFirst landing landingFor onTurnLanding turnAt turnOf turnInner nodeAt children valueWords keyWords slotOf firstEqual insertReason reasonIn emptyReason insertChange stepFirst stepStore planning advanced repairs nextChange nextRepair onSearch seek onVisit visitAt visitOf rootPosition leafPairs insertOf startOf startChecked startRoom roomFor startLanded started stepRefused startRefused withAll giving overNumbers takeNumbers numbersFrom nextFree firstFrom firstTrue orElse withoutAll lastOf splitLeaf changeStores sort insert-all insert-pair kindAbove nodeImage countTrue childPosition childFor childIndex passed routingKeys runBelow deleteOf deleteFirst deleteChange mend mendTagged mendUnderfull mendSiblings mendTogether isNode share merge mergeRoot leavesTogether innersTogether half leftKeys keyBetween absorb splitParent joinedKeys joinedChildren findOf cardRefusal foundAt leafFor onTurn foundIn noBeginning noMemory openOf openChecked openSound tableCheck nodeCheck onLook enterNode enterKind enterLeaf enterInner innerSound noted lookOf leafSound member unusedZero childrenCheck childRun raised
 rowCutHeld-held = refl
 
-pub rowCutHeld-is : rowCutHeld ≡ (1 ∷ 120 ∷ [])
+pub rowCutHeld-is : rowCutHeld ≡ said (holds 120)
 unfolding rowCutHeld
-rowCutHeld-is = ap (λ b. foundWords (findOf (splitI b) 12)) worked-S ∙ rowCutHeld-held
+rowCutHeld-is = ap (λ b. said (foundReply (findOf (splitI b) 12))) worked-S ∙ rowCutHeld-held
 
 -- two rows that are right, one under the other
 beside : {x y : List ℕ} → {xs ys : List (List ℕ)} → x ≡ y → xs ≡ ys → x ∷ xs ≡ y ∷ ys
@@ -436,30 +428,30 @@ beside {y = y} {xs} e es = ap (_∷ xs) e ∙ ap (y ∷_) es
 -- the starred cards, as one table
 pub starred-cards :
     rowA ∷ rowB ∷ rowC ∷ rowD ∷ rowE ∷ rowF ∷ rowG104 ∷ rowG80 ∷ rowG103 ∷ rowG105 ∷ rowG14408 ∷ rowG14432 ∷ rowHinsert ∷ rowHfind ∷ rowHgreatest ∷ rowI ∷ rowJ ∷ rowK ∷ rowKleft ∷ rowKright ∷ rowL2 ∷ rowL2leaf ∷ rowCutOpened ∷ rowCutAbsent ∷ rowCutHeld ∷ []
-    ≡ (2 ∷ [])
-    ∷ (70 ∷ 0 ∷ 70 ∷ 7 ∷ 2 ∷ 2 ∷ [])
-    ∷ (2 ∷ [])
-    ∷ (2 ∷ 0 ∷ 1 ∷ 70 ∷ [])
-    ∷ (1 ∷ 0 ∷ 1 ∷ 70 ∷ [])
-    ∷ (0 ∷ 2 ∷ [])
-    ∷ (7 ∷ [])
-    ∷ (3 ∷ 1 ∷ [])
-    ∷ (3 ∷ 1 ∷ [])
-    ∷ (3 ∷ 1 ∷ [])
-    ∷ (7 ∷ [])
-    ∷ (3 ∷ 1 ∷ [])
-    ∷ (3 ∷ 6 ∷ [])
-    ∷ (3 ∷ 6 ∷ [])
-    ∷ (7 ∷ [])
+    ≡ (said absent)
+    ∷ (70 ∷ 0 ∷ 70 ∷ 7 ∷ 2 ∷ said absent)
+    ∷ (said absent)
+    ∷ (2 ∷ 0 ∷ said (holds 70))
+    ∷ (1 ∷ 0 ∷ said (holds 70))
+    ∷ (0 ∷ said absent)
+    ∷ (said begun)
+    ∷ (said (refusal 1))
+    ∷ (said (refusal 1))
+    ∷ (said (refusal 1))
+    ∷ (said begun)
+    ∷ (said (refusal 1))
+    ∷ (said (refusal 6))
+    ∷ (said (refusal 6))
+    ∷ (said begun)
     ∷ (73 ∷ 4 ∷ 2 ∷ 3 ∷ 7 ∷ [])
-    ∷ (3 ∷ 8 ∷ [])
+    ∷ (said (refusal 8))
     ∷ (74 ∷ 1 ∷ 5 ∷ 6 ∷ 10 ∷ [])
     ∷ (6 ∷ 7 ∷ 8 ∷ 9 ∷ [])
     ∷ (10 ∷ 11 ∷ 12 ∷ [])
-    ∷ (26 ∷ 2 ∷ 5 ∷ 1 ∷ 90 ∷ [])
+    ∷ (26 ∷ 2 ∷ 5 ∷ said (holds 90))
     ∷ (6 ∷ 11 ∷ 12 ∷ [])
-    ∷ (6 ∷ [])
-    ∷ (2 ∷ [])
-    ∷ (1 ∷ 120 ∷ [])
+    ∷ (said idle)
+    ∷ (said absent)
+    ∷ (said (holds 120))
     ∷ []
 starred-cards = beside rowA-is (beside rowB-is (beside rowC-is (beside rowD-is (beside rowE-is (beside rowF-is (beside rowG104-is (beside rowG80-is (beside rowG103-is (beside rowG105-is (beside rowG14408-is (beside rowG14432-is (beside rowHinsert-is (beside rowHfind-is (beside rowHgreatest-is (beside rowI-is (beside rowJ-is (beside rowK-is (beside rowKleft-is (beside rowKright-is (beside rowL2-is (beside rowL2leaf-is (beside rowCutOpened-is (beside rowCutAbsent-is (beside rowCutHeld-is refl))))))))))))))))))))))))

@@ -8,7 +8,7 @@ use Prim.Native.Nat.{ℕ, zero, suc, _+_, _*_, _<_}
 use native.Mathlib.Omega.{arith}
 use lib.ListN.{replicate}
 use Rattle.laws.specs.Cases.{pick, bool-cases}
-use Rattle.card.specs.Header.{nodesOfLength, headerRefusal}
+use Rattle.card.specs.Header.{nodesOfLength, headerRefusal, cardRefusal}
 use Rattle.card.specs.Layout.{nodeAt, keyWords, valueWords, children, routingKeys, leafPairs, nodeImage}
 use Rattle.change.specs.Change.{changeStores, kindAbove, splitLeaf, joinedKeys, joinedChildren, absorb, splitParent, leavesTogether, innersTogether, half, leftKeys, keyBetween, share, merge, mergeRoot}
 use Rattle.change.specs.Planning.{numbersFrom, takeNumbers, withoutAll, lastOf, overNumbers, giving, mendTagged, mendTogether, mendSiblings, isNode, mendUnderfull, mend, onSearch, nextRepair, withAll}
@@ -18,12 +18,14 @@ use Rattle.laws.specs.Sorting.{insert-pair, insert-all, sort}
 use Rattle.soundness.specs.Check.{member, leafSound, unusedZero, lookOf, noted, enterLeaf, innerSound, enterInner, enterKind, enterNode, childrenCheck, childRun, raised, onLook, nodeCheck, tableCheck}
 use Rattle.table.specs.Memory.{noMemory, resting, idled, advanced}
 use Rattle.table.specs.Updates.{landing, emptyReason, reasonIn, insertReason, insertChange, insertFirst, deleteChange, deleteFirst, roomFor, startRoom, repairs, nextChange}
-use Rattle.promises.specs.Feeding.{kept-ledger, fed, leaf-full, full-at, is-none, begun-result, step-result}
+use Rattle.promises.specs.Feeding.{kept-ledger, fed, leaf-full, full-at, is-none, begun-result, step-result, dictionary-answer}
 use Rattle.promises.specs.Ledger.{Ledger, ledger, empty, feed, fed-a-step, fed-a-start, counted, deciding, entered, added, added-unless}
 use Rattle.promises.specs.Machine.{Event, World, happens, run, insert, step, crash}
 use Rattle.promises.specs.PowerLoss.{power-loss}
-use Rattle.promises.specs.Promise.{ToReady, ready-now, stored-first, Begins, from-format, Words, Kept, foundBy}
-use Rattle.table.specs.Calls.{formatOf, stepOf, cardRefusal, foundIn, foundAt, findOf, noBeginning, openSound, openChecked, openOf, stepRefused, stepFinal, formattedWord, formatStore, formatting, stepFormat, stepStore, stepFirst, planning, stepPrepared, stepBegin, stepPlan, stepWork, isIdle, stepHeld, stepDoing, startRefused, started, startLanded, startChecked, startOf, insertOf, deleteOf}
+use Rattle.promises.specs.Promise.{ToReady, ready-now, stored-first, Begins, from-format, Words, Kept}
+use Rattle.card.specs.Replies.{holds, absent}
+use Rattle.table.specs.Answers.{foundReply, stepReply}
+use Rattle.table.specs.Calls.{formatOf, stepOf, foundIn, foundAt, findOf, noBeginning, openSound, openChecked, openOf, stepRefused, stepFinal, formattedWord, formatStore, formatting, stepFormat, stepStore, stepFirst, planning, stepPrepared, stepBegin, stepPlan, stepWork, isIdle, stepHeld, stepDoing, startRefused, started, startLanded, startChecked, startOf, insertOf, deleteOf}
 use Rattle.tree.specs.Pairs.{lookup}
 use Rattle.table.specs.declared.Doing.the-variants.{Idle}
 use Rattle.table.specs.declared.Found.the-variants.{Value as FoundValue, Absent as FoundAbsent}
@@ -123,10 +125,10 @@ pub kept-at-73 : Kept formatted (cut-after 73) (ledger [] empty)
 kept-at-73 = power-loss formatted [] begins (cut-after 73) (omega arith, (omega arith, (omega arith, (omega arith, (omega arith, (omega arith, (omega arith, (omega arith, (omega arith, (omega arith, (omega arith, (omega arith, tt))))))))))))
 
 -- what the promise says of key 12 then
-pub out-at-40 : findOf (run (cut-after 40) formatted .card) 12 ≡ FoundAbsent
-unfolding foundBy
-out-at-40 = kept-at-40 .finds 12 (omega arith) (omega arith) ∙ ap (λ b. foundBy (lookup 12 (b .held))) ledger-at-40
+pub out-at-40 : foundReply (findOf (run (cut-after 40) formatted .card) 12) ≡ absent
+unfolding stepReply dictionary-answer
+out-at-40 = kept-at-40 .finds 12 (omega arith) (omega arith) ∙ ap (λ b. stepReply (dictionary-answer (lookup 12 (b .held)))) ledger-at-40
 
-pub in-at-73 : findOf (run (cut-after 73) formatted .card) 12 ≡ FoundValue 120
-unfolding foundBy
-in-at-73 = kept-at-73 .finds 12 (omega arith) (omega arith) ∙ ap (λ b. foundBy (lookup 12 (b .held))) ledger-at-73
+pub in-at-73 : foundReply (findOf (run (cut-after 73) formatted .card) 12) ≡ holds 120
+unfolding stepReply dictionary-answer
+in-at-73 = kept-at-73 .finds 12 (omega arith) (omega arith) ∙ ap (λ b. stepReply (dictionary-answer (lookup 12 (b .held)))) ledger-at-73

@@ -1,7 +1,7 @@
 -- Document 01, "The card" and rows 1 to 3 of "Refusal by place".
 use mathlib.Core.List.{List}
 use Prim.Native.Nat.{ℕ, _+_, _-_, _*_, _/_, _%_}
-use lib.ListN.{getD}
+use lib.ListN.{length, getD}
 use lib.Dec.{eqb, ltb}
 use Rattle.laws.specs.Cases.{pick}
 use Rattle.card.specs.Layout.{leastNodes, greatestNodes}
@@ -17,3 +17,7 @@ must card i v r next = pick (eqb (getD card i 0) v) next r
 -- "2: word 0 not 1. 3: words 1, 2, 3 or 5 to 7 not as above"; 0 where neither is due
 unfoldable pub headerRefusal : List ℕ → ℕ → ℕ
 headerRefusal card n = must card 0 1 2 (must card 1 n 3 (must card 2 8 3 (must card 3 24 3 (must card 5 0 3 (must card 6 0 3 (must card 7 0 3 0))))))
+
+-- the refusals 1, 2 and 3 of a call on a card, in this order; 0 where none is due
+unfoldable pub cardRefusal : List ℕ → ℕ
+cardRefusal card = pick (eqb (nodesOfLength (length card)) 0) 1 (headerRefusal card (nodesOfLength (length card)))

@@ -10,7 +10,7 @@ use lib.Dec.{eqb, ltb}
 use borrow.Author.Tests.{lt-ltb, le-ltb, eq-eqb, ne-eqb, eqb-true}
 use Rattle.laws.specs.Cases.{pick, bool-cases}
 use Rattle.card.specs.Layout.{leastNodes, greatestNodes}
-use Rattle.card.specs.Header.{nodesOfLength, headerRefusal, must}
+use Rattle.card.specs.Header.{nodesOfLength, headerRefusal, must, cardRefusal}
 
 pub nodes-short : (len : ℕ) → len < 8 + 24 * leastNodes → nodesOfLength len ≡ 0
 unfolding nodesOfLength
@@ -114,3 +114,19 @@ module _ (card : List ℕ) (n : ℕ) where
   pub wrong-word7 : getD card 0 0 ≡ 1 → getD card 1 0 ≡ n → getD card 2 0 ≡ 8 → getD card 3 0 ≡ 24 → getD card 5 0 ≡ 0 → getD card 6 0 ≡ 0 → (getD card 7 0 ≡ 0 → ⊥) → headerRefusal card n ≡ 3
   unfolding headerRefusal
   wrong-word7 h0 h1 h2 h3 h5 h6 wrong = simp (eq-eqb (getD card 0 0) 1 h0, eq-eqb (getD card 1 0) n h1, eq-eqb (getD card 2 0) 8 h2, eq-eqb (getD card 3 0) 24 h3, eq-eqb (getD card 5 0) 0 h5, eq-eqb (getD card 6 0) 0 h6, ne-eqb (getD card 7 0) 0 wrong)
+
+-- refusals 1, 2 and 3
+module _ (card : List ℕ) (n : ℕ) (e : n ≡ nodesOfLength (length card)) where
+  pub card-no-length : n ≡ 0 → cardRefusal card ≡ 1
+  unfolding cardRefusal
+  card-no-length z = simp (eq-eqb (nodesOfLength (length card)) 0 (sym e ∙ z))
+
+  pub card-header : (n ≡ 0 → ⊥) → cardRefusal card ≡ headerRefusal card n
+  unfolding cardRefusal
+  card-header p = simp (ne-eqb (nodesOfLength (length card)) 0 (λ z. p (e ∙ z)), ← e)
+
+  pub sized : (n ≡ 0 → ⊥) → Sized (length card) n
+  sized p = rw e (nodes-sized (length card) (λ z. p (e ∙ z)))
+
+pub card-sized : (card : List ℕ) → cardRefusal card ≡ 0 → nodesOfLength (length card) ≡ 0 → ⊥
+card-sized card r z = let w = sym (card-no-length card (nodesOfLength (length card)) refl z) ∙ r in omega arith

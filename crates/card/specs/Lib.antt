@@ -4,3 +4,4 @@ pub mod HeaderLaws
 pub mod NodeLaws
 pub mod NodeWords
 pub mod Stores
+pub mod Replies

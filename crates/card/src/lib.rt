@@ -3,7 +3,7 @@ ghost use mathlib.Core.Path.{_≡_};
 ghost use Prim.Native.Nat.{_+_, _*_, _≤_};
 ghost use lib.ListN.{length};
 ghost use Rattle.card.specs.Layout.{greatestNodes, nodeAt, children, isKey, leafPairs};
-ghost use Rattle.card.specs.Header.{nodesOfLength, headerRefusal};
+ghost use Rattle.card.specs.Header.{nodesOfLength, headerRefusal, cardRefusal};
 
 // "With N nodes (4 to 600)": the only places in code where the two limits stand.
 pub const LEAST_NODES: usize = 4;
@@ -60,6 +60,17 @@ pub fn header_refusal(card: &[u32], n: usize) -> u32
         return 3;
     }
     0
+}
+
+// The refusals 1, 2 and 3 of a call on a card, in this order; 0 where none is due.
+pub fn card_refusal(card: &[u32]) -> u32
+    ensures { λ r. ⌜ r ≡ cardRefusal (now (card .entry)) ⌝ }
+{
+    let n = nodes_of(card.len());
+    if n == 0 {
+        return 1;
+    }
+    header_refusal(card, n)
 }
 
 // Node m: the 24-word part of the card that starts at word 8 + 24 × (m − 1).

@@ -10,9 +10,9 @@ use borrow.Author.Tests.{lt-ltb, le-ltb, ltb-false, eq-eqb, ne-eqb, eqb-true, no
 use Rattle.laws.specs.Cases.{bool-cases}
 use Rattle.laws.specs.Lists.{all-zero}
 use Rattle.card.specs.Layout.{leastNodes, greatestNodes}
-use Rattle.card.specs.Header.{nodesOfLength, headerRefusal}
-use Rattle.card.specs.HeaderLaws.{Sized, Formatted, nodes-sized, header-formatted}
-use Rattle.dump.specs.Dump.{paddedLength, dumpOf, dumpWords, wordsFor, greatestDump, dumpNodes, faults, any, damaged, cardRefusal, roomFor, stored, readAnswer, readOver, writeAnswer, writeOver}
+use Rattle.card.specs.Header.{nodesOfLength, headerRefusal, cardRefusal}
+use Rattle.card.specs.HeaderLaws.{Sized, Formatted, nodes-sized, header-formatted, card-no-length, card-header}
+use Rattle.dump.specs.Dump.{paddedLength, dumpOf, dumpWords, wordsFor, greatestDump, dumpNodes, faults, any, damaged, roomFor, stored, readAnswer, readOver, writeAnswer, writeOver}
 use Rattle.dump.specs.declared.Answer.{Answer}
 use Rattle.dump.specs.declared.Answer.the-variants.{Length, Refused}
 
@@ -117,14 +117,6 @@ whole-undamaged dump w =
 
 -- ---- refusals 1, 2, 3 and 12
 
-pub no-card : (card : List ℕ) → nodesOfLength (length card) ≡ 0 → cardRefusal card ≡ 1
-unfolding cardRefusal
-no-card card h = simp (eq-eqb _ _ h)
-
-pub of-header : (card : List ℕ) → (nodesOfLength (length card) ≡ 0 → ⊥) → cardRefusal card ≡ headerRefusal card (nodesOfLength (length card))
-unfolding cardRefusal
-of-header card h = simp (ne-eqb (nodesOfLength (length card)) 0 h)
-
 -- a card that is not refused
 pub record Good (card : List ℕ) : Type 0 where
   pub sized : Sized (length card) (nodesOfLength (length card))
@@ -134,8 +126,8 @@ pub good-card : (card : List ℕ) → cardRefusal card ≡ 0 → Good card
 good-card card e = go (ℕ-discrete (nodesOfLength (length card)) 0)
   where
     go : Dec (nodesOfLength (length card) ≡ 0) → Good card
-    go (yes z) = absurd (omega (arith, no-card card z))
-    go (no z) = record { sized = nodes-sized (length card) z; header = header-formatted card _ (sym (of-header card z) ∙ e) }
+    go (yes z) = absurd (omega (arith, card-no-length card _ refl z))
+    go (no z) = record { sized = nodes-sized (length card) z; header = header-formatted card _ (sym (card-header card _ refl z) ∙ e) }
 
 pub room-short : (size lent : ℕ) → lent < size → roomFor size lent ≡ Refused 12
 unfolding roomFor

@@ -8,7 +8,7 @@ use lib.Dec.{eqb, ltb}
 use Rattle.laws.specs.Cases.{pick}
 use Rattle.laws.specs.Lists.{pad, all-zero}
 use Rattle.card.specs.Layout.{leastNodes, greatestNodes}
-use Rattle.card.specs.Header.{nodesOfLength, headerRefusal}
+use Rattle.card.specs.Header.{cardRefusal}
 use Rattle.dump.specs.declared.Answer.{Answer}
 use Rattle.dump.specs.declared.Answer.the-variants.{Length, Refused}
 
@@ -75,10 +75,6 @@ any (t ∷ ts) = t || any ts
 -- refusal 11 is due
 unfoldable pub damaged : List ℕ → Bool
 damaged dump = any (faults dump)
-
--- "1: length not 8 + 24 × N, N 4 to 600", then 2 and 3; 0 where none is due
-unfoldable pub cardRefusal : List ℕ → ℕ
-cardRefusal card = pick (eqb (nodesOfLength (length card)) 0) 1 (headerRefusal card (nodesOfLength (length card)))
 
 -- "The answer is the result's length in words or bytes"; "12: lent slice shorter than the result"
 unfoldable pub roomFor : ℕ → ℕ → Answer

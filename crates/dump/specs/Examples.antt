@@ -5,8 +5,8 @@ use Prim.Native.Nat.{ℕ}
 use lib.ListN.{set}
 use Rattle.laws.specs.Lists.{pad}
 use Rattle.card.specs.Layout.{nodeImage}
-use Rattle.card.specs.Header.{nodesOfLength, headerRefusal}
-use Rattle.dump.specs.Dump.{wordBytes, cardBytes, paddedLength, dumpOf, wordAt, dumpWords, faults, damaged, cardRefusal, roomFor, readAnswer, writeAnswer}
+use Rattle.card.specs.Header.{nodesOfLength, headerRefusal, cardRefusal}
+use Rattle.dump.specs.Dump.{wordBytes, cardBytes, paddedLength, dumpOf, wordAt, dumpWords, faults, damaged, roomFor, readAnswer, writeAnswer}
 use Rattle.dump.specs.declared.Answer.the-variants.{Length, Refused}
 
 -- "words 0 to 4 are 1, 4, 8, 24, 1; word 8 is 1; 9 and 10 are 7, 3; 20 and 21 are 70, 31; others 0"

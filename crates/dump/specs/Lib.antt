@@ -3,3 +3,4 @@ pub mod ByteLaws
 pub mod AnswerLaws
 pub mod RoundTrip
 pub mod Examples
+pub mod Answers

@@ -36,11 +36,7 @@ pub fn write_dump(card: &[u32], bytes: &mut [u8]) -> Answer
     ensures { λ r. ⌜ r ≡ writeAnswer (now (card .entry)) (length (now (bytes .entry))) ⌝ }
     ensures { λ r. ⌜ now (bytes .exit) ≡ writeOver (now (card .entry)) (now (bytes .entry)) ⌝ }
 {
-    let n = card::nodes_of(card.len());
-    if n == 0 {
-        return Answer::Refused(1);
-    }
-    let refusal = card::header_refusal(card, n);
+    let refusal = card::card_refusal(card);
     if refusal != 0 {
         return Answer::Refused(refusal);
     }

@@ -9,6 +9,7 @@ use Prim.Native.Nat.{ℕ, suc, _≤_}
 use native.Mathlib.Omega.{arith}
 use lib.ListN.{length, getD}
 use borrow.Author.Tests.{le-ltb, ne-eqb}
+use Rattle.card.specs.Header.{cardRefusal}
 use Rattle.card.specs.HeaderLaws.{Sized, sized-nodes, Formatted, formatted-header, wrong-word0}
 use Rattle.change_theory.specs.Exact.{Exact, exact-same}
 use Rattle.formatting_theory.specs.FormatCard.{formatCard, format-length, format-unfinished}
@@ -19,7 +20,7 @@ use Rattle.laws.specs.Bits.{bit, bit-zero}
 use Rattle.soundness.specs.Check.{Findings, tableCheck}
 use Rattle.soundness_theory.specs.Facts.{Facts}
 use Rattle.soundness_theory.specs.Soundness.{sound-accepted}
-use Rattle.table.specs.Calls.{cardRefusal, noBeginning, openSound, openChecked, openOf}
+use Rattle.table.specs.Calls.{noBeginning, openSound, openChecked, openOf}
 use Rattle.table.specs.Memory.{resting}
 use Rattle.tree.specs.Tree.{Tree}
 use Rattle.table.specs.declared.Begun.the-variants.{Idle as OpenedIdle}

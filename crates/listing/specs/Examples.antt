@@ -1,13 +1,13 @@
 -- The definitions at work on the input that document 01 gives the list program.
 use mathlib.Core.Path.{_≡_, refl}
 use mathlib.Core.List.{[], _∷_}
-use Rattle.card.specs.Header.{nodesOfLength, headerRefusal}
+use Rattle.card.specs.Header.{nodesOfLength, headerRefusal, cardRefusal}
 use Rattle.card.specs.Layout.{nodeAt, keyWords, valueWords, leafPairs, nodeImage}
 use Rattle.dump.specs.Dump.{wordBytes, cardBytes, paddedLength, dumpOf, wordAt, dumpWords, faults, damaged, roomFor, readAnswer}
 use Rattle.dump.specs.Examples.{example}
 use Rattle.free_nodes.specs.NodeSet.{allNodes, countTrue}
 use Rattle.soundness.specs.Check.{member, leafSound, enterLeaf, enterKind, enterNode, onLook, nodeCheck, tableCheck}
-use Rattle.table.specs.Calls.{cardRefusal, openSound, openChecked, openOf, isIdle}
+use Rattle.table.specs.Calls.{openSound, openChecked, openOf, isIdle}
 use Rattle.table.specs.Memory.{resting}
 use Rattle.listing.specs.Listing.{nodePairs, onCard, pairsFrom, repairedCard, listChecked, listTable, listBegun, listCard, listRead, listDump, listed}
 

@@ -8,7 +8,10 @@ use native.Mathlib.Omega.{arith}
 use native.Mathlib.Decide.{ℕ-discrete}
 use lib.ListN.{length, getD}
 use borrow.Author.Tests.{lt-ltb, ne-eqb, eq-eqb}
-use Rattle.card.specs.Header.{nodesOfLength}
+use Rattle.descent.specs.declared.Way.{Way}
+use Rattle.promises.specs.Feeding.{dictionary-answer}
+use Rattle.table.specs.Answers.{foundReply, stepReply}
+use Rattle.card.specs.Header.{nodesOfLength, cardRefusal}
 use Rattle.card.specs.HeaderLaws.{Sized, nodes-sized, Formatted, header-formatted}
 use Rattle.card.specs.Layout.{depthLimit, rootPlace, nodeAt}
 use Rattle.change_theory.specs.Plays.{Openable}
@@ -19,12 +22,12 @@ use Rattle.free_nodes.specs.NodeSet.{countTrue}
 use Rattle.laws.specs.Bits.{bit-true, bit-false}
 use Rattle.laws.specs.Cases.{bool-cases, order}
 use Rattle.promises.specs.Invariant.{Table}
-use Rattle.promises.specs.Promise.{Accepted, foundBy}
+use Rattle.promises.specs.Promise.{Accepted}
 use Rattle.promises.specs.Reopen.{table-depth-limited, card-accepted, facts-exact}
 use Rattle.soundness.specs.Check.{Findings, tableCheck}
 use Rattle.soundness_theory.specs.Facts.{Facts}
 use Rattle.soundness_theory.specs.Soundness.{accepts-sound, sound-accepted}
-use Rattle.table.specs.Calls.{cardRefusal, foundIn, foundAt, findOf, noBeginning, openSound, openChecked, openOf}
+use Rattle.table.specs.Calls.{foundIn, foundAt, findOf, noBeginning, openSound, openChecked, openOf}
 use Rattle.tree.specs.Pairs.{pairs, lookup}
 use Rattle.tree.specs.Path.{depth-of}
 use Rattle.tree.specs.Tree.{Tree}
@@ -99,18 +102,18 @@ find-is : (c : List ℕ) (n key : ℕ) → cardRefusal c ≡ 0 → nodesOfLength
 unfolding findOf
 find-is c n key e en h = rw (e, en, ne-eqb key 0 (omega arith))
 
-found-is : (words : List ℕ) (s : Slot) → foundIn words s ≡ foundBy (slotAnswer words s)
-unfolding foundIn foundBy slotAnswer
+found-is : (words : List ℕ) (s : Slot) → foundReply (foundIn words s) ≡ stepReply (dictionary-answer (slotAnswer words s))
+unfolding foundIn slotAnswer foundReply stepReply dictionary-answer
 found-is words (At i) = refl
 found-is words NoSlot = refl
 
-pub find-answers : (c : List ℕ) (n : ℕ) (t : Tree) (key : ℕ) → Table c n t → 0 < key → key < keyLimit → findOf c key ≡ foundBy (lookup key (pairs t))
+pub find-answers : (c : List ℕ) (n : ℕ) (t : Tree) (key : ℕ) → Table c n t → 0 < key → key < keyLimit → foundReply (findOf c key) ≡ stepReply (dictionary-answer (lookup key (pairs t)))
 unfolding foundAt
 find-answers c n t key b h l =
     let a = card-accepted (b .sized) (b .header) in
     let f = find-map c n key (b .sized .words) h depthLimit lowestKey keyLimit t (b .holds .2) (b .sound .range) (omega arith) l (table-depth-limited b) (omega arith) in
-    find-is c n key (a .0) (a .1) h
-    ∙ ap (λ (x : ℕ). foundAt c key (leafFor c n key depthLimit x)) (b .holds .0)
-    ∙ ap (foundAt c key) (f .found)
+    ap foundReply (find-is c n key (a .0) (a .1) h)
+    ∙ ap (λ (x : ℕ). foundReply (foundAt c key (leafFor c n key depthLimit x))) (b .holds .0)
+    ∙ ap (λ (x : Way). foundReply (foundAt c key x)) (f .found)
     ∙ found-is (nodeAt c (f .number)) (slotOf (nodeAt c (f .number)) key)
-    ∙ ap foundBy (f .answers)
+    ∙ ap (λ (x : Option ℕ). stepReply (dictionary-answer x)) (f .answers)

@@ -7,6 +7,8 @@ use mathlib.Core.Option.{none}
 use Prim.Native.Nat.{ℕ, suc, _*_, _<_}
 use native.Mathlib.Omega.{arith}
 use lib.ListN.{length}
+use Rattle.table.specs.Answers.{stepReply}
+use Rattle.card.specs.Replies.{ready}
 use Rattle.card.specs.Header.{nodesOfLength}
 use Rattle.card.specs.Layout.{depthLimit}
 use Rattle.promises.specs.Accepting.{accepted-card, accepted-table, accepted-openable}
@@ -41,7 +43,7 @@ module _ (w : World) (l : List (ℕ × ℕ)) (begins : Begins w l) (es : List Ev
 
   -- "an update stores at most 73 × 9 = 657 words"; its final answer is the dictionary's, by the pairs held when it was started
   pub insert-finishes : (key value : ℕ) → key < keyLimit → insertOf (run es w .card) (run es w .memory) key value .begun ≡ Started
-      → Finishes updateStores (dictionary-answer (lookup key (kept-ledger es w (ledger l empty) .held))) (happens (insert key value) (run es w))
+      → Finishes updateStores (stepReply (dictionary-answer (lookup key (kept-ledger es w (ledger l empty) .held)))) (happens (insert key value) (run es w))
   unfolding happens due-after due-after-start begun-result
   insert-finishes key value high e =
       let k = kept-from w l begins es words in
@@ -49,7 +51,7 @@ module _ (w : World) (l : List (ℕ × ℕ)) (begins : Begins w l) (es : List Ev
       rw e at (work-finishes (k .0) (q .0) updateStores (happens (insert key value) (run es w)) _ _ (q .2) (q .1 .busy e) (omega (arith, q .1 .steps-left e)))
 
   pub delete-finishes : (key : ℕ) → key < keyLimit → deleteOf (run es w .card) (run es w .memory) key .begun ≡ Started
-      → Finishes updateStores (dictionary-answer (lookup key (kept-ledger es w (ledger l empty) .held))) (happens (delete key) (run es w))
+      → Finishes updateStores (stepReply (dictionary-answer (lookup key (kept-ledger es w (ledger l empty) .held)))) (happens (delete key) (run es w))
   unfolding happens due-after due-after-start begun-result
   delete-finishes key high e =
       let k = kept-from w l begins es words in
@@ -57,7 +59,8 @@ module _ (w : World) (l : List (ℕ × ℕ)) (begins : Begins w l) (es : List Ev
       rw e at (work-finishes (k .0) (q .0) updateStores (happens (delete key) (run es w)) _ _ (q .2) (q .1 .busy e) (omega (arith, q .1 .steps-left e)))
 
 -- The repair that opening starts, on whatever card, comes to "ready" after at most 73 stores for each level that a way can have.
-pub repair-finishes : (c : List ℕ) → openOf c .begun ≡ Started → Finishes (73 * depthLimit) Ready (opened c)
+pub repair-finishes : (c : List ℕ) → openOf c .begun ≡ Started → Finishes (73 * depthLimit) ready (opened c)
+unfolding stepReply
 repair-finishes c e =
     let a = accepted in
     let q = accepted-card c a in

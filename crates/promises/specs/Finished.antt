@@ -1,12 +1,14 @@
 -- The work in hand finishes, no step of it is refused, and it leaves a balanced table with three free nodes or more: what the
 -- invariant says about every step, put together.
-use mathlib.Core.Path.{_≡_, refl}
+use mathlib.Core.Path.{_≡_, refl, ap}
 use mathlib.Core.List.{List, [], _∷_}
 use mathlib.Core.Bool.{Bool, false}
 use mathlib.Core.Option.{Option, none}
 use mathlib.Core.Logic.{_⊎_, inl, inr}
 use Prim.Native.Nat.{ℕ, zero, suc, _≤_, _<_}
 use native.Mathlib.Omega.{arith}
+use Rattle.table.specs.Answers.{stepReply}
+use Rattle.card.specs.Replies.{Reply}
 use Rattle.change_theory.specs.Exact.{Exact}
 use Rattle.free_nodes.specs.NodeSet.{countTrue}
 use Rattle.promises.specs.Feeding.{step-result, due-after-step, due-after}
@@ -29,7 +31,7 @@ use Rattle.table.specs.declared.Answer.{Answer}
 use Rattle.table.specs.declared.Answer.the-variants.{Stored, Ready, Absent, Value, Refused}
 
 -- so many steps that each store a word, and then one that gives the final answer
-data Counted (final : Answer) : ℕ → World → Type 0 where
+data Counted (final : Reply) : ℕ → World → Type 0 where
   answers-now : {w : World} → step-result (stepOf (w .card) (w .memory) .answer) ≡ was-final → Answers final w → Counted final 0 w
   stores-first : {k : ℕ} {w : World} → stepOf (w .card) (w .memory) .answer ≡ Stored → Counted final k (happens step w) → Counted final (suc k) w
 
@@ -39,16 +41,16 @@ unfolding due-after due-after-step step-result
 stored-due w b due e = rw e
 
 -- the work in hand takes fewer stores than it has steps left
-counted : (n steps : ℕ) (w : World) (b : Ledger) (due : Option Answer) → Inv n steps w b due → isIdle (w .memory .doing) ≡ false → (k : ℕ) × (k < steps) × Counted (final-due due) k w
+counted : (n steps : ℕ) (w : World) (b : Ledger) (due : Option Answer) → Inv n steps w b due → isIdle (w .memory .doing) ≡ false → (k : ℕ) × (k < steps) × Counted (stepReply (final-due due)) k w
 counted n zero w b due i busy = absurd (idle-not-busy (w .memory .doing) (at-rest n 0 w b due refl i .0) busy)
 counted n (suc steps) w b due i busy =
     let q = kept-step n steps w b due i in
     go (q .2) (q .1) (λ s e. counted n steps (happens step w) _ due (rw (stored-due w b due s) at (q .0)) (after-step w e))
   where
     go : Moves (w .card) (w .memory) (stepOf (w .card) (w .memory)) → Right (stepOf (w .card) (w .memory) .answer) due
-        → (stepOf (w .card) (w .memory) .answer ≡ Stored → isIdle (stepOf (w .card) (w .memory) .memory .doing) ≡ false → (k : ℕ) × (k < steps) × Counted (final-due due) k (happens step w)) → (k : ℕ) × (k < suc steps) × Counted (final-due due) k w
+        → (stepOf (w .card) (w .memory) .answer ≡ Stored → isIdle (stepOf (w .card) (w .memory) .memory .doing) ≡ false → (k : ℕ) × (k < steps) × Counted (stepReply (final-due due)) k (happens step w)) → (k : ℕ) × (k < suc steps) × Counted (stepReply (final-due due)) k w
     go (was-idle e) r later = absurd (idle-not-busy (w .memory .doing) e busy)
-    go (ends-now f same idle) r later = (0, omega arith, answers-now f (record { answer = right-final r f; same-card = same; idle = idle }))
+    go (ends-now f same idle) r later = (0, omega arith, answers-now f (record { answer = ap stepReply (right-final r f); same-card = same; idle = idle }))
     go (goes-further s e) r later = let q = later s e in (suc (q .0), omega (arith, q .1), stores-first s (q .2))
 
 refused-stores : (w : World) → w .memory .doing ≡ Idle → stores (stepOf (w .card) (w .memory) .answer) ≡ 0
@@ -65,7 +67,7 @@ stays-idle w e (delete key ∷ qs) u = stays-idle (happens (delete key) w) (rw (
 stays-idle w e (step ∷ qs) u = let q = stays-idle (happens step w) (rw (idle-world w e) e) qs u in (q .0, omega (arith, refused-stores w e, q .1))
 stays-idle w e (crash ∷ qs) u = absurd u
 
-idle-after : {final : Answer} (w : World) → Answers final w → happens step w .memory .doing ≡ Idle
+idle-after : {final : Reply} (w : World) → Answers final w → happens step w .memory .doing ≡ Idle
 unfolding happens
 idle-after w a = a .idle
 
@@ -78,7 +80,7 @@ final-stores (Value v) e = refl
 final-stores (Refused r) e = refl
 
 -- what the count says of a run without a cut that has no more steps, just as many, or more
-module _ {final : Answer} where
+module _ {final : Reply} where
   each : {k : ℕ} {w : World} → Counted final k w → (qs : List Event) → Quiet qs w → steps-in qs ≤ k → stores-in qs w ≡ steps-in qs
   unfolding stores-in stores Quiet
   each c [] u h = refl
@@ -110,7 +112,7 @@ module _ {final : Answer} where
   over (stores-first s c) (step ∷ qs) u h = let q = over c qs u (omega arith) in (q .0, rw s (omega (arith, q .1)))
   over c (crash ∷ qs) u h = absurd u
 
-pub work-finishes : (n steps most : ℕ) (w : World) (b : Ledger) (due : Option Answer) → Inv n steps w b due → isIdle (w .memory .doing) ≡ false → steps ≤ suc most → Finishes most (final-due due) w
+pub work-finishes : (n steps most : ℕ) (w : World) (b : Ledger) (due : Option Answer) → Inv n steps w b due → isIdle (w .memory .doing) ≡ false → steps ≤ suc most → Finishes most (stepReply (final-due due)) w
 work-finishes n steps most w b due i busy h =
     let q = counted n steps w b due i busy in
     record { count = q .0; few-stores = omega (arith, q .1); each-stores = λ qs u f. each (q .2) qs u f; then-answers = λ qs u f. after (q .2) qs u f; then-idle = λ qs u f. over (q .2) qs u f }

@@ -3,6 +3,8 @@
 use mathlib.Core.Path.{_≡_}
 use mathlib.Core.List.{List, [], _∷_}
 use Prim.Native.Nat.{ℕ, _+_, _*_, _≤_, _<_}
+use Rattle.table.specs.Answers.{stepReply}
+use Rattle.card.specs.Replies.{Reply}
 use Rattle.change_theory.specs.Exact.{Exact}
 use Rattle.free_nodes.specs.NodeSet.{countTrue}
 use Rattle.promises.specs.Machine.{Event, World, happens, run, find, insert, delete, step, crash}
@@ -37,15 +39,15 @@ stores-in (step ∷ es) w = stores (stepOf (w .card) (w .memory) .answer) + stor
 stores-in (crash ∷ es) w = stores-in es (happens crash w)
 
 -- the next step stores nothing, "gives the final answer and makes the state idle"
-pub record Answers (final : Answer) (w : World) : Type 0 where
-  pub answer : stepOf (w .card) (w .memory) .answer ≡ final
+pub record Answers (final : Reply) (w : World) : Type 0 where
+  pub answer : stepReply (stepOf (w .card) (w .memory) .answer) ≡ final
   pub same-card : stepOf (w .card) (w .memory) .card ≡ w .card
   pub idle : stepOf (w .card) (w .memory) .memory .doing ≡ Idle
 
 -- "Each step then either stores one word or gives the final answer": the first steps, so many as `count` says, each store one
 -- word, the step after the last store gives the final answer, and steps after that store nothing. It holds of every run without
 -- a cut; finds and refused starts may come between the steps.
-pub record Finishes (most : ℕ) (final : Answer) (w : World) : Type 0 where
+pub record Finishes (most : ℕ) (final : Reply) (w : World) : Type 0 where
   pub count : ℕ
   pub few-stores : count ≤ most
   pub each-stores : (qs : List Event) → Quiet qs w → steps-in qs ≤ count → stores-in qs w ≡ steps-in qs

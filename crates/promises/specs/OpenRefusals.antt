@@ -11,7 +11,8 @@ use native.Mathlib.Decide.{ℕ-discrete}
 use lib.ListN.{length, getD}
 use lib.Dec.{eqb}
 use borrow.Author.Tests.{lt-ltb, le-ltb, eq-eqb, ne-eqb}
-use Rattle.card.specs.Header.{nodesOfLength, headerRefusal, must}
+use Rattle.card.specs.Header.{nodesOfLength, headerRefusal, must, cardRefusal}
+use Rattle.card.specs.Replies.{Reply, refusal}
 use Rattle.card.specs.HeaderLaws.{Sized, nodes-sized, Formatted, header-formatted, formatted-header, wrong-word0}
 use Rattle.change_theory.specs.Exact.{Exact, exact-same}
 use Rattle.change_theory.specs.Reserve.{reserves, all-reserves-none, run-below, reserve-total}
@@ -22,12 +23,23 @@ use Rattle.promises.specs.Reopen.{length-accepted, card-accepted, open-s
 use Rattle.soundness.specs.Check.{Findings, tableCheck}
 use Rattle.soundness_theory.specs.Facts.{Facts}
 use Rattle.soundness_theory.specs.Soundness.{accepts-sound, sound-accepted}
-use Rattle.table.specs.Calls.{cardRefusal, noBeginning, openSound, openChecked, openOf}
+use Rattle.table.specs.Answers.{startReply}
+use Rattle.table.specs.Calls.{noBeginning, openSound, openChecked, openOf}
 use Rattle.tree.specs.Tree.{Tree, roots, leaf, node}
 use Rattle.tree.specs.Violations.{RootOk, table-violations}
 use Rattle.tree.specs.WellFormed.{WellFormed}
 use Rattle.table.specs.declared.Begun.{Begun}
 use Rattle.table.specs.declared.Begun.the-variants.{Idle as OpenedIdle, Started, Refused as BegunRefused}
+
+-- the answer's number is a refusal's exactly when the answer is that refusal: the other answers have numbers from 64 on
+says : (b : Begun) (r : ℕ) → r < 64 → (startReply b ≡ refusal r) ↔ (b ≡ BegunRefused r)
+unfolding startReply
+says OpenedIdle r h = (λ e. absurd (omega (arith, ap (λ (x : Reply). x .code) e)), λ e. let k : _≡_ {A = ℕ} 0 1 = cc in absurd (omega arith))
+says Started r h = (λ e. absurd (omega (arith, ap (λ (x : Reply). x .code) e)), λ e. let k : _≡_ {A = ℕ} 0 1 = cc in absurd (omega arith))
+says (BegunRefused k) r h = (λ e. ap BegunRefused (ap (λ (x : Reply). x .code) e), λ e. ap startReply e)
+
+through : {P : Type 0} (b : Begun) (r : ℕ) → r < 64 → (b ≡ BegunRefused r) ↔ P → (startReply b ≡ refusal r) ↔ P
+through b r h p = (λ e. p .0 (says b r h .0 e), λ q. says b r h .1 (p .1 q))
 
 -- a refusal has one number, and is neither of the other answers
 refused-same : (a b : ℕ) → _≡_ {A = Begun} (BegunRefused a) (BegunRefused b) → a ≡ b
@@ -113,12 +125,10 @@ unfolding cardRefusal
 length-refused c e = rw (eq-eqb (nodesOfLength (length c)) 0 e)
 
 -- "1: length not 8 + 24 × N, N 4 to 600"
-pub refuses-length : (c : List ℕ) → (openOf c .begun ≡ BegunRefused 1) ↔ ((n : ℕ) → Sized (length c) n → ⊥)
+pub refuses-length : (c : List ℕ) → (startReply (openOf c .begun) ≡ refusal 1) ↔ ((n : ℕ) → Sized (length c) n → ⊥)
 refuses-length c =
-    let r = card-refused c 1 (omega arith) (omega arith) in (
-      λ e n s. header-not-one c n (sym (length-accepted c n s) ∙ r .0 e),
-      λ p. go p (ℕ-discrete (nodesOfLength (length c)) 0),
-    )
+    let r = card-refused c 1 (omega arith) (omega arith) in
+    through (openOf c .begun) 1 (omega arith) (λ e n s. header-not-one c n (sym (length-accepted c n s) ∙ r .0 e), λ p. go p (ℕ-discrete (nodesOfLength (length c)) 0))
   where
     go : ((n : ℕ) → Sized (length c) n → ⊥) → Dec (nodesOfLength (length c) ≡ 0) → openOf c .begun ≡ BegunRefused 1
     go p (yes q) = card-refused c 1 (omega arith) (omega arith) .1 (length-refused c q)
@@ -127,15 +137,16 @@ refuses-length c =
 -- past the length
 module _ (c : List ℕ) (n : ℕ) (s : Sized (length c) n) where
   -- "2: word 0 not 1"
-  pub refuses-mark : (openOf c .begun ≡ BegunRefused 2) ↔ (getD c 0 0 ≡ 1 → ⊥)
+  pub refuses-mark : (startReply (openOf c .begun) ≡ refusal 2) ↔ (getD c 0 0 ≡ 1 → ⊥)
   refuses-mark =
       let r = card-refused c 2 (omega arith) (omega arith) in
-      (λ e q. omega (arith, marked-refused c n 2 q (sym (length-accepted c n s) ∙ r .0 e) (omega arith)), λ p. r .1 (length-accepted c n s ∙ wrong-word0 c n p))
+      through (openOf c .begun) 2 (omega arith) (λ e q. omega (arith, marked-refused c n 2 q (sym (length-accepted c n s) ∙ r .0 e) (omega arith)), λ p. r .1 (length-accepted c n s ∙ wrong-word0 c n p))
 
   -- "3: words 1, 2, 3 or 5 to 7 not as above", word 0 being 1
-  pub refuses-header : (openOf c .begun ≡ BegunRefused 3) ↔ ((getD c 0 0 ≡ 1) × (Formatted c n → ⊥))
+  pub refuses-header : (startReply (openOf c .begun) ≡ refusal 3) ↔ ((getD c 0 0 ≡ 1) × (Formatted c n → ⊥))
   refuses-header =
-      let r = card-refused c 3 (omega arith) (omega arith) in (
+      let r = card-refused c 3 (omega arith) (omega arith) in
+      through (openOf c .begun) 3 (omega arith) (
         λ e. let q = sym (length-accepted c n s) ∙ r .0 e in (header-mark c n q, λ f. omega (arith, q, formatted-header c n f)),
         λ p. r .1 (length-accepted c n s ∙ header-not-formatted c n (header-three c n (p .0)) (p .1)),
       )
@@ -162,16 +173,16 @@ module _ (c : List ℕ) (n : ℕ) (s : Sized (length c) n) (h : Formatted c n) w
       go (l, f, q, x) = let z = sound-refused n f 4 (rw (open-sound c n l f s h q) at e) in absurd (omega (arith, z .0))
 
   -- "4: table not sound"
-  pub refuses-unsound : (openOf c .begun ≡ BegunRefused 4) ↔ (((t : Tree) × WellFormed c t) → ⊥)
-  refuses-unsound = (λ e p. not-unsound (p .0) (p .1) e, λ p. go p (tableCheck c n) refl)
+  pub refuses-unsound : (startReply (openOf c .begun) ≡ refusal 4) ↔ (((t : Tree) × WellFormed c t) → ⊥)
+  refuses-unsound = through (openOf c .begun) 4 (omega arith) (λ e p. not-unsound (p .0) (p .1) e, λ p. go p (tableCheck c n) refl)
     where
       go : (((t : Tree) × WellFormed c t) → ⊥) → (x : Option (ℕ × Findings)) → tableCheck c n ≡ x → openOf c .begun ≡ BegunRefused 4
       go p none q = open-unsound c n s h q
       go p (some (l, f)) q = let a = accepts-sound c n (s .words) (s .most) l f q in absurd (p (a .0, a .1))
 
   -- "5: free nodes fewer than 3 plus the 11-child nodes without a break straight above a tagged node"
-  pub refuses-few : (openOf c .begun ≡ BegunRefused 5) ↔ ((t : Tree) × WellFormed c t × (free : List Bool) × Exact n free t × (countTrue free < 3 + reserves 0 t))
-  refuses-few = (λ e. found e (tableCheck c n) refl, λ p. few (p .0) (p .1) (p .2) (p .3) (p .4) (sound-accepted c n (s .words) (s .most) (p .0) (p .1)))
+  pub refuses-few : (startReply (openOf c .begun) ≡ refusal 5) ↔ ((t : Tree) × WellFormed c t × (free : List Bool) × Exact n free t × (countTrue free < 3 + reserves 0 t))
+  refuses-few = through (openOf c .begun) 5 (omega arith) (λ e. found e (tableCheck c n) refl, λ p. few (p .0) (p .1) (p .2) (p .3) (p .4) (sound-accepted c n (s .words) (s .most) (p .0) (p .1)))
     where
       found : openOf c .begun ≡ BegunRefused 5 → (x : Option (ℕ × Findings)) → tableCheck c n ≡ x → (t : Tree) × WellFormed c t × (free : List Bool) × Exact n free t × (countTrue free < 3 + reserves 0 t)
       found e none q = let z : _≡_ {A = ℕ} 4 5 = refused-same 4 5 (sym (open-unsound c n s h q) ∙ e) in absurd (omega arith)

@@ -9,6 +9,8 @@ use native.Mathlib.Omega.{arith}
 use native.Mathlib.Decide.{ℕ-discrete}
 use lib.ListN.{length}
 use lib.Dec.{eqb}
+use Rattle.card.specs.Replies.{ready}
+use Rattle.table.specs.Answers.{stepReply}
 use Rattle.card.specs.Header.{nodesOfLength, headerRefusal}
 use Rattle.card.specs.HeaderLaws.{Sized, nodes-sized}
 use Rattle.change_theory.specs.Plays.{Openable}
@@ -20,12 +22,12 @@ use Rattle.free_nodes.specs.NodeSet.{countTrue}
 use Rattle.laws.specs.Cases.{bool-cases, order}
 use Rattle.laws.specs.Totals.{total}
 use Rattle.promises.specs.Accepting.{accepted-card, accepted-openable, find-answers}
-use Rattle.promises.specs.Feeding.{step-result, fed, kept-ledger, due-after-step, due-after, kept-due}
+use Rattle.promises.specs.Feeding.{step-result, fed, kept-ledger, due-after-step, due-after, kept-due, dictionary-answer}
 use Rattle.promises.specs.Invariant.{Table, Stage, Inv, stage-idle, stage-put, stage-remove, stage-first, stage-between, stage-within}
 use Rattle.promises.specs.Ledger.{Result, Hand, Ledger, ledger, fed-a-step, feed, was-refused, was-final, goes-on, empty}
 use Rattle.promises.specs.LedgerLaws.{Same, same-refl}
 use Rattle.promises.specs.Machine.{Event, World, opened, happens, run, find, insert, delete, step, crash}
-use Rattle.promises.specs.Promise.{ToReady, Begins, Words, Quiet, steps-in, Says-ready, foundBy, MapIs, repairSteps, Ends, Kept, ready-now, stored-first, from-format, from-open}
+use Rattle.promises.specs.Promise.{ToReady, Begins, Words, Quiet, steps-in, Says-ready, MapIs, repairSteps, Ends, Kept, ready-now, stored-first, from-format, from-open}
 use Rattle.promises.specs.Reopen.{table-well-formed, well-formed-table, reopened}
 use Rattle.promises.specs.Starting.{same-lookup, kept-insert, kept-delete}
 use Rattle.promises.specs.Stepping.{Right, right-final, Moves, kept-step, was-idle, ends-now, goes-further}
@@ -227,9 +229,10 @@ unfolding isIdle
 idle-not-busy d e q = let z : _≡_ {A = Bool} true false = rw e at q in let k : _≡_ {A = ℕ} 0 1 = cc in omega arith
 
 still-ends : (w : World) {S : Type 0} → (happens step w .memory .doing ≡ Idle) ⊎ S → (w .memory .doing ≡ Idle) ⊎ ((stepOf (w .card) (w .memory) .answer ≡ Ready) ⊎ (isIdle (happens step w .memory .doing) ≡ false))
-    → (w .memory .doing ≡ Idle) ⊎ ((stepOf (w .card) (w .memory) .answer ≡ Ready) ⊎ S)
+    → (w .memory .doing ≡ Idle) ⊎ ((stepReply (stepOf (w .card) (w .memory) .answer) ≡ ready) ⊎ S)
+unfolding stepReply
 still-ends w q (inl e) = inl e
-still-ends w q (inr (inl e)) = inr (inl e)
+still-ends w q (inr (inl e)) = inr (inl (ap stepReply e))
 still-ends w q (inr (inr e)) = inr (inr (⊎-elim (λ z. absurd (idle-not-busy (happens step w .memory .doing) z e)) (λ z. z) q))
 
 -- a run without a cut comes to rest
@@ -284,5 +287,5 @@ power-loss w l s es u = go (kept-from w l s es u)
         record {
           opens = record { not-refused = r .accepted };
           ends = λ qs q h. ends-right n (run es w .card) (kept-ledger es w (ledger l empty) .held) i₁ qs q h;
-          finds = λ key a b. find-answers (run es w .card) n (j .tree) key (j .table) a b ∙ ap foundBy (same-lookup j key);
+          finds = λ key a b. find-answers (run es w .card) n (j .tree) key (j .table) a b ∙ ap (λ (x : Option ℕ). stepReply (dictionary-answer x)) (same-lookup j key);
         }

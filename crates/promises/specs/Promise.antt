@@ -6,8 +6,10 @@ use mathlib.Core.Option.{Option, none, some}
 use mathlib.Core.Logic.{_⊎_}
 use Prim.Native.Nat.{ℕ, suc, _+_, _*_, _≤_, _<_}
 use lib.ListN.{length}
+use Rattle.table.specs.Answers.{foundReply, stepReply}
+use Rattle.card.specs.Replies.{ready}
 use Rattle.card.specs.Layout.{depthLimit}
-use Rattle.promises.specs.Feeding.{kept-ledger}
+use Rattle.promises.specs.Feeding.{kept-ledger, dictionary-answer}
 use Rattle.promises.specs.Ledger.{Ledger}
 use Rattle.promises.specs.Machine.{Event, World, opened, happens, run, find, insert, delete, step, crash}
 use Rattle.table.specs.Calls.{findOf, openOf, formatOf, stepOf, insertOf, deleteOf}
@@ -70,13 +72,8 @@ Says-ready [] w = ⊥
 Says-ready (find key ∷ es) w = Says-ready es w
 Says-ready (insert key value ∷ es) w = Says-ready es (happens (insert key value) w)
 Says-ready (delete key ∷ es) w = Says-ready es (happens (delete key) w)
-Says-ready (step ∷ es) w = (stepOf (w .card) (w .memory) .answer ≡ Ready) ⊎ Says-ready es (happens step w)
+Says-ready (step ∷ es) w = (stepReply (stepOf (w .card) (w .memory) .answer) ≡ ready) ⊎ Says-ready es (happens step w)
 Says-ready (crash ∷ es) w = Says-ready es (happens crash w)
-
--- what a find must answer, by the map
-unfoldable pub foundBy : Option ℕ → Found
-foundBy none = FoundAbsent
-foundBy (some v) = FoundValue v
 
 -- the tree's map is exactly these pairs: every key answers alike, and there are as many of them
 pub record MapIs (t : Tree) (l : List (ℕ × ℕ)) : Type 0 where
@@ -102,4 +99,4 @@ pub record Kept (w : World) (es : List Event) (b : Ledger) : Type 0 where
   -- the repair, in the first run left uncut, ends; the table is then balanced and its map exactly the book's pairs
   pub ends : (qs : List Event) → Quiet qs (opened (run es w .card)) → repairSteps ≤ steps-in qs → Ends (opened (run es w .card)) qs (kept-ledger es w b .held)
   -- "A find .. may come between steps and answers by the map at that moment."
-  pub finds : (key : ℕ) → 0 < key → key < keyLimit → findOf (run es w .card) key ≡ foundBy (lookup key (kept-ledger es w b .held))
+  pub finds : (key : ℕ) → 0 < key → key < keyLimit → foundReply (findOf (run es w .card) key) ≡ stepReply (dictionary-answer (lookup key (kept-ledger es w b .held)))

@@ -7,7 +7,7 @@ use Prim.Native.Nat.{ℕ, _+_, _*_, _≤_}
 use native.Mathlib.Omega.{arith}
 use lib.ListN.{length}
 use borrow.Author.Tests.{le-ltb, ne-eqb}
-use Rattle.card.specs.Header.{nodesOfLength, headerRefusal}
+use Rattle.card.specs.Header.{nodesOfLength, headerRefusal, cardRefusal}
 use Rattle.card.specs.HeaderLaws.{Sized, sized-nodes, Formatted, formatted-header}
 use Rattle.card.specs.Layout.{depthLimit}
 use Rattle.change_theory.specs.Exact.{Exact, exact-same}
@@ -25,7 +25,7 @@ use Rattle.soundness_theory.specs.Depth.{well-formed-depth}
 use Rattle.soundness_theory.specs.Facts.{Facts}
 use Rattle.soundness_theory.specs.Ranges.{well-formed-in-range, range-sound}
 use Rattle.soundness_theory.specs.Soundness.{sound-accepted}
-use Rattle.table.specs.Calls.{cardRefusal, Handed, openSound, openChecked, openOf, isIdle}
+use Rattle.table.specs.Calls.{Handed, openSound, openChecked, openOf, isIdle}
 use Rattle.table.specs.Memory.{resting}
 use Rattle.tree.specs.Pairs.{depth}
 use Rattle.tree.specs.Path.{depth-of, reserve, Violation}

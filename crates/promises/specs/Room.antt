@@ -4,6 +4,7 @@ use mathlib.Core.Path.{_≡_, ap, _∙_}
 use mathlib.Core.List.{List}
 use mathlib.Core.Bool.{Bool, true, false}
 use Prim.Native.Nat.{ℕ, _+_, _≤_, _<_}
+use Rattle.table.specs.Answers.{stepReply}
 use Rattle.card.specs.Layout.{nodeAt}
 use Rattle.free_nodes.specs.NodeSet.{countTrue}
 use Rattle.laws.specs.Cases.{pick}
@@ -34,10 +35,10 @@ LeadsTo w key leaf j = (link : ℕ) × (landing (w .card) (w .memory .nodes) key
 
 -- the call is started, and finishes with the answer that the dictionary gives by these pairs
 abbrev pub InsertWorks : World → List (ℕ × ℕ) → ℕ → ℕ → Type 0
-InsertWorks w l key value = (insertOf (w .card) (w .memory) key value .begun ≡ Started) × Finishes updateStores (dictionary-answer (lookup key l)) (happens (insert key value) w)
+InsertWorks w l key value = (insertOf (w .card) (w .memory) key value .begun ≡ Started) × Finishes updateStores (stepReply (dictionary-answer (lookup key l))) (happens (insert key value) w)
 
 abbrev pub DeleteWorks : World → List (ℕ × ℕ) → ℕ → Type 0
-DeleteWorks w l key = (deleteOf (w .card) (w .memory) key .begun ≡ Started) × Finishes updateStores (dictionary-answer (lookup key l)) (happens (delete key) w)
+DeleteWorks w l key = (deleteOf (w .card) (w .memory) key .begun ≡ Started) × Finishes updateStores (stepReply (dictionary-answer (lookup key l))) (happens (delete key) w)
 
 module _ (w : World) (l : List (ℕ × ℕ)) (begins : Begins w l) (es : List Event) (words : Words es) where
   -- the leaf that a key leads to, at any moment

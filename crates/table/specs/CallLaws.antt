@@ -6,7 +6,7 @@ use Prim.Native.Nat.{ℕ, zero, suc, _+_, _-_, _≤_, _<_}
 use native.Mathlib.Omega.{arith}
 use lib.ListN.{length, set, getD}
 use borrow.Author.Tests.{lt-ltb, le-ltb, ne-eqb, eq-eqb}
-use Rattle.card.specs.Header.{nodesOfLength, headerRefusal}
+use Rattle.card.specs.Header.{nodesOfLength, headerRefusal, cardRefusal}
 use Rattle.card.specs.HeaderLaws.{Sized, nodes-sized}
 use Rattle.card.specs.Layout.{depthLimit, rootPlace, place, nodeAt, children}
 use Rattle.descent.specs.Descent.{childIndex, turnAt, onTurn, leafFor, runBelow, onTurnLanding, landingFor}
@@ -14,7 +14,7 @@ use Rattle.descent.specs.DescentLaws.{turn-zero, turn-beyond}
 use Rattle.free_nodes.specs.NodeSet.{allNodes, countTrue}
 use Rattle.laws.specs.Cases.{order}
 use Rattle.soundness.specs.Check.{Findings, tableCheck}
-use Rattle.table.specs.Calls.{cardRefusal, foundAt, findOf, noBeginning, openSound, openChecked, openOf, formatOf}
+use Rattle.table.specs.Calls.{foundAt, findOf, noBeginning, openSound, openChecked, openOf, formatOf}
 use Rattle.table.specs.Memory.{resting}
 use Rattle.descent.specs.declared.Turn.{Turn}
 use Rattle.descent.specs.declared.Turn.the-variants.{Refused as NoTurn, Leaf as TurnLeaf, Down as TurnDown}
@@ -23,22 +23,6 @@ use Rattle.descent.specs.declared.Landing.the-variants.{Refused as NoLanding, L
 use Rattle.table.specs.declared.Doing.the-variants.{Idle, Formatting, Repairing}
 use Rattle.table.specs.declared.Found.the-variants.{Refused as FoundRefused}
 use Rattle.table.specs.declared.Begun.the-variants.{Idle as OpenedIdle, Started}
-
--- refusals 1, 2 and 3
-module _ (card : List ℕ) (n : ℕ) (e : n ≡ nodesOfLength (length card)) where
-  pub card-no-length : n ≡ 0 → cardRefusal card ≡ 1
-  unfolding cardRefusal
-  card-no-length z = simp (eq-eqb (nodesOfLength (length card)) 0 (sym e ∙ z))
-
-  pub card-header : (n ≡ 0 → ⊥) → cardRefusal card ≡ headerRefusal card n
-  unfolding cardRefusal
-  card-header p = simp (ne-eqb (nodesOfLength (length card)) 0 (λ z. p (e ∙ z)), ← e)
-
-  pub sized : (n ≡ 0 → ⊥) → Sized (length card) n
-  sized p = rw e (nodes-sized (length card) (λ z. p (e ∙ z)))
-
-pub card-sized : (card : List ℕ) → cardRefusal card ≡ 0 → nodesOfLength (length card) ≡ 0 → ⊥
-card-sized card r z = let w = sym (card-no-length card (nodesOfLength (length card)) refl z) ∙ r in omega arith
 
 -- find
 module _ (card : List ℕ) (key : ℕ) where

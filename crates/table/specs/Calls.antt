@@ -7,7 +7,7 @@ use lib.ListN.{length, getD, set}
 use lib.Dec.{eqb, ltb, leb}
 use Rattle.laws.specs.Cases.{pick}
 use Rattle.card.specs.Layout.{rootPlace, depthLimit, nodeAt}
-use Rattle.card.specs.Header.{nodesOfLength, headerRefusal}
+use Rattle.card.specs.Header.{nodesOfLength, headerRefusal, cardRefusal}
 use Rattle.card.specs.Stores.{Store}
 use Rattle.free_nodes.specs.NodeSet.{allNodes, countTrue}
 use Rattle.descent.specs.Descent.{slotOf, leafFor}
@@ -29,10 +29,6 @@ use Rattle.table.specs.declared.Answer.{Answer}
 use Rattle.table.specs.declared.Answer.the-variants.{Stored, Ready, Absent, Value, Refused}
 use Rattle.table.specs.declared.Begun.{Begun}
 use Rattle.table.specs.declared.Begun.the-variants.{Idle as OpenedIdle, Started, Refused as BegunRefused}
-
--- the refusals 1, 2 and 3 of a call on a card, in this order; 0 where none is due
-unfoldable pub cardRefusal : List ℕ → ℕ
-cardRefusal card = pick (eqb (nodesOfLength (length card)) 0) 1 (headerRefusal card (nodesOfLength (length card)))
 
 -- FIND. "A find is one call on the card alone; it may come between steps and answers by the map at that moment."
 unfoldable pub foundIn : List ℕ → Slot → Found

@@ -5,3 +5,4 @@ pub mod Results
 pub mod CallLaws
 pub mod StepLaws
 pub mod UpdateLaws
+pub mod Answers

@@ -11,7 +11,6 @@ use change::Plan;
 use descent::Landing;
 use formatting::step_format;
 use free_nodes::NodeSet;
-use lookup::card_refusal;
 use lookup::found_at;
 use opening::open_checked;
 use states::no_beginning;
@@ -87,7 +86,7 @@ pub struct Beginning {
 pub fn find(card: &[u32], key: u32) -> Found
     ensures { λ r. ⌜ r ≡ findOf (now (card .entry)) key ⌝ }
 {
-    let refusal = card_refusal(card);
+    let refusal = card::card_refusal(card);
     if refusal != 0 {
         return Found::Refused(refusal);
     }
@@ -101,7 +100,7 @@ pub fn find(card: &[u32], key: u32) -> Found
 pub fn open(card: &[u32]) -> Beginning
     ensures { λ r. ⌜ handedOf r ≡ openOf (now (card .entry)) ⌝ }
 {
-    let refusal = card_refusal(card);
+    let refusal = card::card_refusal(card);
     if refusal != 0 {
         return no_beginning(refusal);
     }

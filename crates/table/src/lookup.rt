@@ -1,24 +1,14 @@
-// The refusals that every call on a card shares, and the look-up of a key.
+// The look-up of a key.
 use crate::Found;
 use descent::Slot;
 use descent::Way;
 ghost use mathlib.Core.Path.{_≡_};
 ghost use Prim.Native.Nat.{_+_, _*_, _≤_};
 ghost use lib.ListN.{length, getD};
+ghost use Rattle.card.specs.Header.{cardRefusal};
 ghost use Rattle.card.specs.Layout.{greatestNodes, depthLimit, rootPlace};
 ghost use Rattle.descent.specs.Descent.{slotOf, leafFor};
-ghost use Rattle.table.specs.Calls.{cardRefusal, foundIn, foundAt};
-
-// The refusals 1, 2 and 3 of a call on a card, in this order; 0 where none is due.
-pub fn card_refusal(card: &[u32]) -> u32
-    ensures { λ r. ⌜ r ≡ cardRefusal (now (card .entry)) ⌝ }
-{
-    let n = card::nodes_of(card.len());
-    if n == 0 {
-        return 1;
-    }
-    card::header_refusal(card, n)
-}
+ghost use Rattle.table.specs.Calls.{foundIn, foundAt};
 
 // The value beside a key in a leaf.
 fn found_in(node: &[u32], key: u32) -> Found

@@ -2,10 +2,10 @@
 use mathlib.Core.Path.{ap, sym, _∙_}
 use Prim.Native.Nat.{ℕ}
 use lib.ListN.{length, getD}
-use Rattle.card.specs.HeaderLaws.{Sized}
+use Rattle.card.specs.HeaderLaws.{Sized, sized, card-sized}
 use Rattle.card.specs.Layout.{depthLimit, rootPlace}
 use Rattle.descent.specs.Descent.{leafFor}
-use Rattle.table.specs.CallLaws.{sized, card-sized, find-refused, find-no-key, find-key}
+use Rattle.table.specs.CallLaws.{find-refused, find-no-key, find-key}
 use Rattle.table.specs.Calls.{foundAt}
 use Rattle.table.specs.declared.Found.the-variants.{Refused as FoundRefused}
 use borrow.Author.Needs.{needs}

@@ -2,9 +2,9 @@
 use mathlib.Core.Path.{ap, sym, _∙_}
 use Prim.Native.Nat.{ℕ}
 use lib.ListN.{length}
-use Rattle.card.specs.HeaderLaws.{Sized}
+use Rattle.card.specs.HeaderLaws.{Sized, sized, card-sized}
 use Rattle.soundness.specs.Check.{tableCheck}
-use Rattle.table.specs.CallLaws.{sized, card-sized, open-refused, open-unrefused}
+use Rattle.table.specs.CallLaws.{open-refused, open-unrefused}
 use Rattle.table.specs.Calls.{noBeginning, openChecked}
 use borrow.Author.Needs.{needs}
 use Rattle.table.proofs.open.Statement.{statement}

@@ -4,7 +4,8 @@ use mathlib.Core.List.{List}
 use mathlib.Core.Bool.{Bool, false}
 use native.Mathlib.Omega.{arith}
 use lib.ListN.{set}
-use Rattle.table.specs.CallLaws.{sized, format-no-length, format-length}
+use Rattle.card.specs.HeaderLaws.{sized}
+use Rattle.table.specs.CallLaws.{format-no-length, format-length}
 use Rattle.table.specs.Memory.{Memory, resting}
 use Rattle.table.specs.Results.{handedOf}
 use Rattle.table.specs.declared.Doing.the-variants.{Formatting}

@@ -1,6 +1,6 @@
 -- `table::step` meets its contract.
 use mathlib.Core.Path.{refl, ap, sym, _∙_}
-use Rattle.table.specs.CallLaws.{sized}
+use Rattle.card.specs.HeaderLaws.{sized}
 use Rattle.table.specs.Calls.{stepRefused, stepDoing, stepOf}
 use Rattle.table.specs.Memory.{memoryOf}
 use Rattle.table.specs.Results.{stepLeft}

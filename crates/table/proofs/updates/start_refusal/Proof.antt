@@ -1,8 +1,8 @@
 -- `table::updates::start_refusal` meets its contract.
 use mathlib.Core.Path.{sym, _∙_}
 use native.Mathlib.Omega.{arith}
+use Rattle.card.specs.HeaderLaws.{sized}
 use Rattle.change.specs.MendLaws.{not-true, not-false}
-use Rattle.table.specs.CallLaws.{sized}
 use Rattle.table.specs.Memory.{memoryOf}
 use Rattle.table.specs.UpdateLaws.{start-no-length, start-other, start-header, start-busy, start-no-key, start-none}
 use borrow.Author.Needs.{needs}

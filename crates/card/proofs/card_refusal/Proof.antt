@@ -1,10 +1,10 @@
--- `table::lookup::card_refusal` meets its contract.
+-- `card::card_refusal` meets its contract.
 use mathlib.Core.Path.{sym, _∙_}
 use native.Mathlib.Omega.{arith}
-use Rattle.table.specs.CallLaws.{card-no-length, card-header, sized}
+use Rattle.card.specs.HeaderLaws.{card-no-length, card-header, sized}
 use borrow.Author.Needs.{needs}
-use Rattle.table.proofs.lookup.card_refusal.Statement.{statement}
-use Rattle.table.proofs.lookup.card_refusal.Tie as tie
+use Rattle.card.proofs.card_refusal.Statement.{statement}
+use Rattle.card.proofs.card_refusal.Tie as tie
 
 nodes-of-requires : tie.Need-nodes-of-requires
 nodes-of-requires c κs = search needs
