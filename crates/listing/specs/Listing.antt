@@ -11,7 +11,7 @@ use Rattle.card.specs.Header.{nodesOfLength}
 use Rattle.free_nodes.specs.NodeSet.{countTrue}
 use Rattle.soundness.specs.Check.{Findings, tableCheck}
 use Rattle.table.specs.Memory.{Memory}
-use Rattle.table.specs.Calls.{isIdle, openOf, stepOf}
+use Rattle.table.specs.Calls.{isIdle, openOf, stepOf, repairSteps}
 use Rattle.table.specs.declared.Begun.{Begun}
 use Rattle.table.specs.declared.Begun.the-variants.{Idle, Started, Refused}
 use Rattle.dump.specs.Dump.{dumpWords, readAnswer}
@@ -49,10 +49,6 @@ pub record Repaired : Type 0 where
 unfoldable pub repairedCard : ℕ → List ℕ → Memory → Repaired
 repairedCard zero card m = record { card = card; memory = m }
 repairedCard (suc k) card m = pick (isIdle (m .doing)) (record { card = card; memory = m }) (repairedCard k (stepOf card m .card) (stepOf card m .memory))
-
--- how many steps a repair takes at most: 73 stores for each level that a way can have, and the final answer
-abbrev pub repairSteps : ℕ
-repairSteps = 73 * depthLimit + 1
 
 -- ---- what is listed
 

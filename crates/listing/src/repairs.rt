@@ -3,8 +3,9 @@ use table::State;
 use table::is_idle;
 use table::step;
 ghost use mathlib.Core.Path.{_≡_};
+ghost use Rattle.table.specs.Calls.{repairSteps};
 ghost use Rattle.table.specs.Memory.{memoryOf};
-ghost use Rattle.listing.specs.Listing.{repairedCard, repairSteps};
+ghost use Rattle.listing.specs.Listing.{repairedCard};
 ghost use Rattle.listing.specs.Summaries.{leftBy};
 
 // Steps until the state is idle. A repair takes at most 73 stores for each level, and one step for its answer.

@@ -12,10 +12,10 @@ use Rattle.listing.specs.Listing.{repairedCard}
 use Rattle.promises.specs.Feeding.{kept-ledger}
 use Rattle.promises.specs.Ledger.{ledger, empty}
 use Rattle.promises.specs.Machine.{Event, World, opened, happens, run, step}
-use Rattle.promises.specs.Promise.{Accepted, Words, Quiet, steps-in, MapIs, repairSteps, Ends, from-open}
+use Rattle.promises.specs.Promise.{Accepted, Words, Quiet, steps-in, MapIs, Ends, from-open}
 use Rattle.promises.specs.PowerLoss.{kept, begins-inv, power-loss}
 use Rattle.promises.specs.Steps.{idle-world}
-use Rattle.table.specs.Calls.{isIdle, stepOf, openOf}
+use Rattle.table.specs.Calls.{isIdle, stepOf, openOf, repairSteps}
 use Rattle.table.specs.Memory.{Memory}
 use Rattle.table.specs.declared.Doing.{Doing}
 use Rattle.table.specs.declared.Doing.the-variants.{Idle, Formatting, Inserting, Deleting, Repairing}

@@ -15,7 +15,7 @@ use Rattle.dump.specs.Dump.{wordsFor, dumpOf, roomFor, readAnswer}
 use Rattle.dump.specs.RoundTrip.{dump-words, dump-nodes, dump-whole}
 use Rattle.dump.specs.declared.Answer.the-variants.{Length}
 use Rattle.free_nodes.specs.NodeSet.{countTrue}
-use Rattle.listing.specs.Listing.{Listing, pairsFrom, repairedCard, repairSteps, listTable, listCard, listDump, refused, listed, laid, layListed}
+use Rattle.listing.specs.Listing.{Listing, pairsFrom, repairedCard, listTable, listCard, listDump, refused, listed, laid, layListed}
 use Rattle.listing.specs.SummaryLaws.{table-sound, card-refused, card-idle, card-started, dump-read}
 use Rattle.listing_theory.specs.Repair.{After, repaired}
 use Rattle.listing_theory.specs.Room.{pairs-le, pairWords, all-laid}
@@ -27,7 +27,7 @@ use Rattle.soundness.specs.Check.{Findings, tableCheck}
 use Rattle.soundness_theory.specs.Depth.{well-formed-size, well-formed-depth}
 use Rattle.soundness_theory.specs.Facts.{Facts}
 use Rattle.soundness_theory.specs.Soundness.{sound-accepted}
-use Rattle.table.specs.Calls.{openOf}
+use Rattle.table.specs.Calls.{openOf, repairSteps}
 use Rattle.table.specs.declared.Begun.{Begun}
 use Rattle.table.specs.declared.Begun.the-variants.{Idle, Started, Refused}
 use Rattle.tree.specs.Pairs.{pairs}

@@ -19,11 +19,11 @@ use Rattle.promises.specs.Ledger.{ledger, empty}
 use Rattle.promises.specs.LedgerLaws.{same-refl}
 use Rattle.promises.specs.Machine.{Event, World, opened, happens, run, insert, delete}
 use Rattle.promises.specs.PowerLoss.{loosen, kept-from, reopened-inv}
-use Rattle.promises.specs.Promise.{Accepted, Begins, Words, repairSteps}
+use Rattle.promises.specs.Promise.{Accepted, Begins, Words}
 use Rattle.promises.specs.Reopen.{well-formed-table, reopened}
 use Rattle.promises.specs.Starting.{kept-insert, kept-delete}
 use Rattle.promises.specs.Stepping.{Right, kept-step}
-use Rattle.table.specs.Calls.{openOf, isIdle, stepOf, insertOf, deleteOf}
+use Rattle.table.specs.Calls.{openOf, isIdle, stepOf, insertOf, deleteOf, repairSteps}
 use Rattle.tree.specs.Pairs.{pairs, lookup}
 use Rattle.tree.specs.WellFormed.{keyLimit}
 use Rattle.table.specs.declared.Answer.{Answer}

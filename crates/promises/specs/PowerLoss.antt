@@ -27,11 +27,11 @@ use Rattle.promises.specs.Invariant.{Table, Stage, Inv, stage-idle, stag
 use Rattle.promises.specs.Ledger.{Result, Hand, Ledger, ledger, fed-a-step, feed, was-refused, was-final, goes-on, empty}
 use Rattle.promises.specs.LedgerLaws.{Same, same-refl}
 use Rattle.promises.specs.Machine.{Event, World, opened, happens, run, find, insert, delete, step, crash}
-use Rattle.promises.specs.Promise.{ToReady, Begins, Words, Quiet, steps-in, Says-ready, MapIs, repairSteps, Ends, Kept, ready-now, stored-first, from-format, from-open}
+use Rattle.promises.specs.Promise.{ToReady, Begins, Words, Quiet, steps-in, Says-ready, MapIs, Ends, Kept, ready-now, stored-first, from-format, from-open}
 use Rattle.promises.specs.Reopen.{table-well-formed, well-formed-table, reopened}
 use Rattle.promises.specs.Starting.{same-lookup, kept-insert, kept-delete}
 use Rattle.promises.specs.Stepping.{Right, right-final, Moves, kept-step, was-idle, ends-now, goes-further}
-use Rattle.table.specs.Calls.{noBeginning, formatOf, isIdle, stepOf, startRefused, started, startLanded, startChecked, startOf, insertOf, deleteOf}
+use Rattle.table.specs.Calls.{noBeginning, formatOf, isIdle, stepOf, startRefused, started, startLanded, startChecked, startOf, insertOf, deleteOf, repairSteps}
 use Rattle.table.specs.Memory.{Memory, resting}
 use Rattle.table.specs.Updates.{landing, startRoom}
 use Rattle.tree.specs.InPlace.{length-total}

@@ -12,7 +12,7 @@ use Rattle.card.specs.Layout.{depthLimit}
 use Rattle.promises.specs.Feeding.{kept-ledger, dictionary-answer}
 use Rattle.promises.specs.Ledger.{Ledger}
 use Rattle.promises.specs.Machine.{Event, World, opened, happens, run, find, insert, delete, step, crash}
-use Rattle.table.specs.Calls.{findOf, openOf, formatOf, stepOf, insertOf, deleteOf}
+use Rattle.table.specs.Calls.{findOf, openOf, formatOf, stepOf, insertOf, deleteOf, repairSteps}
 use Rattle.tree.specs.Pairs.{pairs, lookup}
 use Rattle.tree.specs.Tree.{Tree}
 use Rattle.tree.specs.WellFormed.{keyLimit, WellFormed, Balanced}
@@ -79,10 +79,6 @@ Says-ready (crash ∷ es) w = Says-ready es (happens crash w)
 pub record MapIs (t : Tree) (l : List (ℕ × ℕ)) : Type 0 where
   pub alike : (key : ℕ) → lookup key (pairs t) ≡ lookup key l
   pub as-many : length (pairs t) ≡ length l
-
--- how many steps a repair takes at most: 73 stores for each level that a way can have, and the final answer
-abbrev pub repairSteps : ℕ
-repairSteps = 73 * depthLimit + 1
 
 -- "A repair ends when opening hands back an idle state or, some number of steps on, a step gives ready"
 pub record Ends (w : World) (qs : List Event) (l : List (ℕ × ℕ)) : Type 0 where

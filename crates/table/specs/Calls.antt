@@ -166,6 +166,10 @@ stepOf card m =
     pick (eqb (nodesOfLength (length card)) 0) (stepRefused 1 card m)
     (pick (eqb (nodesOfLength (length card)) (m .nodes)) (stepDoing card m (m .doing)) (stepRefused 1 card m))
 
+-- how many steps a repair takes at most: 73 stores for each level that a way can have, and the final answer
+abbrev pub repairSteps : ℕ
+repairSteps = 73 * depthLimit + 1
+
 -- STARTING AN UPDATE. "Starting an update stores nothing." Refusals 1, 2, 3, 7, 6, 9, and 8 for an insert.
 unfoldable pub startRefused : ℕ → Memory → Handed
 startRefused r m = record { begun = BegunRefused r; memory = m }

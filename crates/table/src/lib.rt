@@ -18,6 +18,7 @@ use states::resting;
 pub use steps::is_idle;
 use steps::step_held;
 use updates::has_room;
+use updates::start_landed;
 use updates::start_refusal;
 ghost use mathlib.Core.Path.{_≡_};
 ghost use Rattle.table.specs.Memory.{memoryOf};
@@ -179,25 +180,17 @@ pub fn start_insert(card: &[u32], s: State, key: u32, value: u32) -> Beginning
             state: s,
         },
         Landing::Leaf { node, link: _, run } => {
-            let free = s.free;
-            if !has_room(card::node_at(card, node), key, free, run) {
-                return Beginning {
-                    begun: Begun::Refused(8),
-                    state: s,
-                };
-            }
-            let state = State {
-                doing: Doing::Inserting {
-                    key,
-                    value,
-                    begun: false,
-                },
-                ..s
+            let doing = Doing::Inserting {
+                key,
+                value,
+                begun: false,
             };
-            Beginning {
-                begun: Begun::Started,
-                state,
-            }
+            let free = s.free;
+            start_landed(
+                s,
+                doing,
+                has_room(card::node_at(card, node), key, free, run),
+            )
         }
     }
 }
@@ -224,18 +217,12 @@ pub fn start_delete(card: &[u32], s: State, key: u32) -> Beginning
             link: _,
             run: _,
         } => {
-            let state = State {
-                doing: Doing::Deleting {
-                    key,
-                    begun: false,
-                    value: 0,
-                },
-                ..s
+            let doing = Doing::Deleting {
+                key,
+                begun: false,
+                value: 0,
             };
-            Beginning {
-                begun: Begun::Started,
-                state,
-            }
+            start_landed(s, doing, true)
         }
     }
 }

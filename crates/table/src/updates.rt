@@ -1,5 +1,7 @@
 // "Insert" and "Delete" of document 01, "The changes": the refusals of starting an update, and its first change.
 use crate::Answer;
+use crate::Beginning;
+use crate::Begun;
 use crate::Doing;
 use crate::State;
 use crate::steps::is_idle;
@@ -16,9 +18,11 @@ ghost use Rattle.card.specs.Layout.{greatestNodes};
 ghost use Rattle.card.specs.HeaderLaws.{Sized};
 ghost use Rattle.free_nodes.specs.NodeSet.{nodesOf};
 ghost use Rattle.descent.specs.Descent.{slotOf};
+ghost use Rattle.laws.specs.Cases.{pick};
+ghost use Rattle.table.specs.Calls.{startRefused, started};
 ghost use Rattle.table.specs.Memory.{memoryOf};
 ghost use Rattle.table.specs.Updates.{landing, emptyReason, insertReason, insertChange, insertFirst, deleteChange, deleteFirst, repairs, noChange, nextChange, roomFor};
-ghost use Rattle.table.specs.Results.{firstOf, InAnyRows, startRefusal, isSlot};
+ghost use Rattle.table.specs.Results.{handedOf, firstOf, InAnyRows, startRefusal, UnchangedStart, isSlot};
 ghost use Rattle.table.specs.declared.Doing.the-variants.{Inserting, Deleting};
 
 // The first change of an update, what is then being done, and the final answer where there is nothing to change.
@@ -80,6 +84,24 @@ pub fn has_room(leaf: &[u32], key: u32, free: NodeSet, run: usize) -> bool
         return false;
     }
     run <= count - 5
+}
+
+// An update whose leaf is found is started where there is room. "8: key absent, leaf full, free nodes fewer than j + 5".
+pub fn start_landed(s: State, doing: Doing, room: bool) -> Beginning
+    ensures { λ r. ⌜ handedOf r ≡ pick room (started (memoryOf s) doing) (startRefused 8 (memoryOf s)) ⌝ }
+    ensures { λ r. ⌜ UnchangedStart s r ⌝ }
+{
+    if room {
+        let state = State { doing, ..s };
+        return Beginning {
+            begun: Begun::Started,
+            state,
+        };
+    }
+    Beginning {
+        begun: Begun::Refused(8),
+        state: s,
+    }
 }
 
 // The pair goes into "the lowest empty slot", or "Leaf full: the 12 pairs go 6 and 6 into two leaves".

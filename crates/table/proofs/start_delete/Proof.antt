@@ -4,6 +4,7 @@ use mathlib.Core.Bool.{true, false}
 use Prim.Native.Nat.{ℕ, _<_}
 use native.Mathlib.Omega.{arith}
 use lib.ListN.{length}
+use Rattle.descent.specs.declared.Landing.{Landing}
 use Rattle.card.specs.HeaderLaws.{Sized}
 use Rattle.table.specs.Calls.{startRefused, started, startLanded, deleteOf}
 use Rattle.table.specs.Memory.{memoryOf}
@@ -41,13 +42,23 @@ enum-told c = search needs
 enum-told-2 : tie.Need-enum-told-2
 enum-told-2 c = search needs
 
+start-landed-requires : tie.Need-start-landed-requires
+start-landed-requires c κs = search needs
+
 returns-2 : tie.Need-returns-2
 unfolding handedOf deleteOf startRefused landing startLanded memoryOf
 returns-2 c = (sym (start-taken (c .before .before .before .before .before .before .before .args .card .now) (memoryOf (c .before .before .before .before .before .before .before .args .s)) (c .before .before .before .before .before .before .before .args .key) (Deleting (c .before .before .before .before .before .before .before .args .key) false 0) (λ l. true) (sym (c .before .before .before .before .before .start-refusal .ensures) ∙ c .before .before .before .before .if1 .left) ∙ ap (startLanded (memoryOf (c .before .before .before .before .before .before .before .args .s)) (Deleting (c .before .before .before .before .before .before .before .args .key) false 0) true) (sym (c .before .before .find-landing .ensures) ∙ c .enum-told .given .1)), (λ n e. refl))
 
 returns-3 : tie.Need-returns-3
-unfolding handedOf deleteOf startRefused landing startLanded memoryOf started
-returns-3 c = (sym (start-taken (c .before .before .before .before .before .before .before .before .before .before .args .card .now) (memoryOf (c .before .before .before .before .before .before .before .before .before .before .args .s)) (c .before .before .before .before .before .before .before .before .before .before .args .key) (Deleting (c .before .before .before .before .before .before .before .before .before .before .args .key) false 0) (λ l. true) (sym (c .before .before .before .before .before .before .before .before .start-refusal .ensures) ∙ c .before .before .before .before .before .before .before .if1 .left) ∙ ap (startLanded (memoryOf (c .before .before .before .before .before .before .before .before .before .before .args .s)) (Deleting (c .before .before .before .before .before .before .before .before .before .before .args .key) false 0) true) (sym (c .before .before .before .before .before .find-landing .ensures) ∙ c .before .before .before .enum-told2 .given .1)), (λ n e. absurd (started-no-refusal n e)))
+unfolding deleteOf startLanded landing memoryOf
+returns-3 c =
+    let s = c .before .before .before .before .before .before .before .before in
+    let doing = Deleting (s .args .key) false 0 in (
+      c .start-landed .ensures .0
+          ∙ sym (start-taken (s .args .card .now) (memoryOf (s .args .s)) (s .args .key) doing (λ l. true) (sym (c .before .before .before .before .before .before .start-refusal .ensures) ∙ c .before .before .before .before .before .if1 .left)
+          ∙ ap (λ (l : Landing). startLanded (memoryOf (s .args .s)) doing true l) (sym (c .before .before .before .find-landing .ensures) ∙ c .before .enum-told2 .given .1)),
+      c .start-landed .ensures .1,
+    )
 
 pub start-delete-spec : {M : Type 1} → statement M
 start-delete-spec =
@@ -60,5 +71,6 @@ start-delete-spec =
     find-landing-requires
     enum-told
     enum-told-2
+    start-landed-requires
     returns-2
     returns-3)

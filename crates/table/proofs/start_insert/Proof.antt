@@ -1,10 +1,11 @@
 -- `table::start_insert` meets its contract.
 use mathlib.Core.Path.{refl, ap, sym, _∙_}
 use mathlib.Core.List.{List}
-use mathlib.Core.Bool.{false}
+use mathlib.Core.Bool.{false, Bool}
 use Prim.Native.Nat.{ℕ, _<_}
 use native.Mathlib.Omega.{arith}
 use lib.ListN.{length, getD}
+use Rattle.laws.specs.Cases.{pick}
 use Rattle.card.specs.HeaderLaws.{Sized}
 use Rattle.card.specs.Layout.{depthLimit, rootPlace}
 use Rattle.card.specs.NodeLaws.{length-node}
@@ -58,17 +59,25 @@ node-at-requires c κs = let k = leaf (c .before .before) in let h = whole (c .b
 has-room-requires : tie.Need-has-room-requires
 has-room-requires c κs = let k = leaf (c .before .before .before) in let h = whole (c .before .before .before .before .before .before .before) in ap length (c .node-at .ensures) ∙ length-node (c .before .before .before .before .before .before .before .before .before .before .args .card .now) (c .before .before .before .node .given .0 .0) (k .one) (omega (arith, k .most, h .words))
 
+start-landed-requires : tie.Need-start-landed-requires
+start-landed-requires c κs = search needs
+
 returns-2 : tie.Need-returns-2
-unfolding handedOf insertOf startRefused landing memoryOf startRoom
-returns-2 c = (sym (start-taken (c .before .before .before .before .before .before .before .before .before .before .before .before .args .card .now) (memoryOf (c .before .before .before .before .before .before .before .before .before .before .before .before .args .s)) (c .before .before .before .before .before .before .before .before .before .before .before .before .args .key) (Inserting (c .before .before .before .before .before .before .before .before .before .before .before .before .args .key) (c .before .before .before .before .before .before .before .before .before .before .before .before .args .value) false) (startRoom (c .before .before .before .before .before .before .before .before .before .before .before .before .args .card .now) (c .before .before .before .before .before .before .before .before .before .before .before .before .args .key) (nodesOf (c .before .before .before .before .before .before .before .before .before .before .before .before .args .s .free .words))) (sym (c .before .before .before .before .before .before .before .before .before .before .start-refusal .ensures) ∙ c .before .before .before .before .before .before .before .before .before .if1 .left) ∙ ap (λ (l : Landing). startLanded (memoryOf (c .before .before .before .before .before .before .before .before .before .before .before .before .args .s)) (Inserting (c .before .before .before .before .before .before .before .before .before .before .before .before .args .key) (c .before .before .before .before .before .before .before .before .before .before .before .before .args .value) false) ((startRoom (c .before .before .before .before .before .before .before .before .before .before .before .before .args .card .now) (c .before .before .before .before .before .before .before .before .before .before .before .before .args .key) (nodesOf (c .before .before .before .before .before .before .before .before .before .before .before .before .args .s .free .words))) l) l) (sym (c .before .before .before .before .before .before .before .find-landing .ensures) ∙ c .before .before .before .before .before .node .given .1) ∙ landed-no-room (memoryOf (c .before .before .before .before .before .before .before .before .before .before .before .before .args .s)) (Inserting (c .before .before .before .before .before .before .before .before .before .before .before .before .args .key) (c .before .before .before .before .before .before .before .before .before .before .before .before .args .value) false) _ (c .before .before .before .before .before .node .given .0 .0) (c .before .before .before .before .before .node .given .0 .1 .0) (c .before .before .before .before .before .node .given .0 .1 .1 .0) (ap (λ (x : List ℕ). roomFor (nodesOf (c .before .before .before .before .before .before .before .before .before .before .before .before .args .s .free .words)) (c .before .before .before .before .before .node .given .0 .1 .1 .0) (insertReason x (c .before .before .before .before .before .before .before .before .before .before .before .before .args .key))) (sym (c .before .before .node-at .ensures)) ∙ sym (c .before .has-room .ensures) ∙ not-true _ (c .if2 .taken))), (λ n e. refl))
+unfolding handedOf insertOf startRefused landing startLanded memoryOf
+returns-2 c = (sym (start-taken (c .before .before .before .before .before .before .before .args .card .now) (memoryOf (c .before .before .before .before .before .before .before .args .s)) (c .before .before .before .before .before .before .before .args .key) (Inserting (c .before .before .before .before .before .before .before .args .key) (c .before .before .before .before .before .before .before .args .value) false) (startRoom (c .before .before .before .before .before .before .before .args .card .now) (c .before .before .before .before .before .before .before .args .key) (nodesOf (c .before .before .before .before .before .before .before .args .s .free .words))) (sym (c .before .before .before .before .before .start-refusal .ensures) ∙ c .before .before .before .before .if1 .left) ∙ ap (λ (l : Landing). startLanded (memoryOf (c .before .before .before .before .before .before .before .args .s)) (Inserting (c .before .before .before .before .before .before .before .args .key) (c .before .before .before .before .before .before .before .args .value) false) ((startRoom (c .before .before .before .before .before .before .before .args .card .now) (c .before .before .before .before .before .before .before .args .key) (nodesOf (c .before .before .before .before .before .before .before .args .s .free .words))) l) l) (sym (c .before .before .find-landing .ensures) ∙ c .enum-told .given .1)), (λ n e. refl))
 
 returns-3 : tie.Need-returns-3
-unfolding handedOf insertOf startRefused landing startLanded memoryOf
-returns-3 c = (sym (start-taken (c .before .before .before .before .before .before .before .args .card .now) (memoryOf (c .before .before .before .before .before .before .before .args .s)) (c .before .before .before .before .before .before .before .args .key) (Inserting (c .before .before .before .before .before .before .before .args .key) (c .before .before .before .before .before .before .before .args .value) false) (startRoom (c .before .before .before .before .before .before .before .args .card .now) (c .before .before .before .before .before .before .before .args .key) (nodesOf (c .before .before .before .before .before .before .before .args .s .free .words))) (sym (c .before .before .before .before .before .start-refusal .ensures) ∙ c .before .before .before .before .if1 .left) ∙ ap (λ (l : Landing). startLanded (memoryOf (c .before .before .before .before .before .before .before .args .s)) (Inserting (c .before .before .before .before .before .before .before .args .key) (c .before .before .before .before .before .before .before .args .value) false) ((startRoom (c .before .before .before .before .before .before .before .args .card .now) (c .before .before .before .before .before .before .before .args .key) (nodesOf (c .before .before .before .before .before .before .before .args .s .free .words))) l) l) (sym (c .before .before .find-landing .ensures) ∙ c .enum-told .given .1)), (λ n e. refl))
-
-returns-4 : tie.Need-returns-4
-unfolding handedOf insertOf started landing memoryOf startRoom
-returns-4 c = (sym (start-taken (c .before .before .before .before .before .before .before .before .before .before .before .before .before .before .before .args .card .now) (memoryOf (c .before .before .before .before .before .before .before .before .before .before .before .before .before .before .before .args .s)) (c .before .before .before .before .before .before .before .before .before .before .before .before .before .before .before .args .key) (Inserting (c .before .before .before .before .before .before .before .before .before .before .before .before .before .before .before .args .key) (c .before .before .before .before .before .before .before .before .before .before .before .before .before .before .before .args .value) false) (startRoom (c .before .before .before .before .before .before .before .before .before .before .before .before .before .before .before .args .card .now) (c .before .before .before .before .before .before .before .before .before .before .before .before .before .before .before .args .key) (nodesOf (c .before .before .before .before .before .before .before .before .before .before .before .before .before .before .before .args .s .free .words))) (sym (c .before .before .before .before .before .before .before .before .before .before .before .before .before .start-refusal .ensures) ∙ c .before .before .before .before .before .before .before .before .before .before .before .before .if1 .left) ∙ ap (λ (l : Landing). startLanded (memoryOf (c .before .before .before .before .before .before .before .before .before .before .before .before .before .before .before .args .s)) (Inserting (c .before .before .before .before .before .before .before .before .before .before .before .before .before .before .before .args .key) (c .before .before .before .before .before .before .before .before .before .before .before .before .before .before .before .args .value) false) ((startRoom (c .before .before .before .before .before .before .before .before .before .before .before .before .before .before .before .args .card .now) (c .before .before .before .before .before .before .before .before .before .before .before .before .before .before .before .args .key) (nodesOf (c .before .before .before .before .before .before .before .before .before .before .before .before .before .before .before .args .s .free .words))) l) l) (sym (c .before .before .before .before .before .before .before .before .before .before .find-landing .ensures) ∙ c .before .before .before .before .before .before .before .before .node .given .1) ∙ landed-room (memoryOf (c .before .before .before .before .before .before .before .before .before .before .before .before .before .before .before .args .s)) (Inserting (c .before .before .before .before .before .before .before .before .before .before .before .before .before .before .before .args .key) (c .before .before .before .before .before .before .before .before .before .before .before .before .before .before .before .args .value) false) _ (c .before .before .before .before .before .before .before .before .node .given .0 .0) (c .before .before .before .before .before .before .before .before .node .given .0 .1 .0) (c .before .before .before .before .before .before .before .before .node .given .0 .1 .1 .0) (ap (λ (x : List ℕ). roomFor (nodesOf (c .before .before .before .before .before .before .before .before .before .before .before .before .before .before .before .args .s .free .words)) (c .before .before .before .before .before .before .before .before .node .given .0 .1 .1 .0) (insertReason x (c .before .before .before .before .before .before .before .before .before .before .before .before .before .before .before .args .key))) (sym (c .before .before .before .before .before .node-at .ensures)) ∙ sym (c .before .before .before .before .has-room .ensures) ∙ not-false _ (c .before .before .before .if2 .left))), (λ n e. absurd (started-no-refusal n e)))
+unfolding insertOf startLanded startRoom landing memoryOf
+returns-3 c =
+    let s = c .before .before .before .before .before .before .before .before .before .before .before .before in
+    let doing = Inserting (s .args .key) (s .args .value) false in
+    let free = nodesOf (s .args .s .free .words) in (
+      c .start-landed .ensures .0
+          ∙ ap (λ (b : Bool). pick b (started (memoryOf (s .args .s)) doing) (startRefused 8 (memoryOf (s .args .s)))) (c .before .has-room .ensures ∙ ap (λ (x : List ℕ). roomFor free (c .before .before .before .before .before .node .given .0 .1 .1 .0) (insertReason x (s .args .key))) (c .before .before .node-at .ensures))
+          ∙ sym (start-taken (s .args .card .now) (memoryOf (s .args .s)) (s .args .key) doing (startRoom (s .args .card .now) (s .args .key) free) (sym (c .before .before .before .before .before .before .before .before .before .before .start-refusal .ensures) ∙ c .before .before .before .before .before .before .before .before .before .if1 .left)
+          ∙ ap (λ (l : Landing). startLanded (memoryOf (s .args .s)) doing (startRoom (s .args .card .now) (s .args .key) free l) l) (sym (c .before .before .before .before .before .before .before .find-landing .ensures) ∙ c .before .before .before .before .before .node .given .1)),
+      c .start-landed .ensures .1,
+    )
 
 pub start-insert-spec : {M : Type 1} → statement M
 start-insert-spec =
@@ -83,6 +92,6 @@ start-insert-spec =
     enum-known-node
     node-at-requires
     has-room-requires
+    start-landed-requires
     returns-2
-    returns-3
-    returns-4)
+    returns-3)

@@ -2,8 +2,9 @@ use mathlib.Core.Path.{_≡_, refl, ap₂, sym, _∙_}
 use Prim.Native.Nat.{_-_}
 use native.Mathlib.Omega.{arith}
 use lib.ListN.{length}
+use Rattle.table.specs.Calls.{repairSteps}
 use Rattle.table.specs.Memory.{memoryOf}
-use Rattle.listing.specs.Listing.{repairedCard, repairSteps}
+use Rattle.listing.specs.Listing.{repairedCard}
 use Rattle.listing.specs.Summaries.{leftBy}
 use Rattle.listing.specs.SummaryLaws.{repair-idle, repair-over, repair-on}
 use borrow.Author.Needs.{needs}
