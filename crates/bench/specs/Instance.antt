@@ -10,27 +10,31 @@ use lib.ListN.{replicate}
 use Rattle.laws.specs.Cases.{pick, bool-cases}
 use Rattle.card.specs.Header.{nodesOfLength, headerRefusal, cardRefusal}
 use Rattle.card.specs.Layout.{nodeAt, keyWords, valueWords, children, routingKeys, leafPairs, nodeImage}
-use Rattle.change.specs.Change.{changeStores, kindAbove, splitLeaf, joinedKeys, joinedChildren, absorb, splitParent, leavesTogether, innersTogether, half, leftKeys, keyBetween, share, merge, mergeRoot}
-use Rattle.change.specs.Planning.{numbersFrom, takeNumbers, withoutAll, lastOf, overNumbers, giving, mendTagged, mendTogether, mendSiblings, isNode, mendUnderfull, mend, onSearch, nextRepair, withAll}
+use Rattle.plans.specs.Change.{changeStores, kindAbove, splitLeaf, joinedKeys, joinedChildren, absorb, splitParent, leavesTogether, innersTogether, half, leftKeys, keyBetween, share, merge, mergeRoot}
+use Rattle.plans.specs.Planning.{numbersFrom, takeNumbers, withoutAll, lastOf, overNumbers, giving, withAll}
+use Rattle.change.specs.Mending.{mendTagged, mendTogether, mendSiblings, isNode, mendUnderfull, mend, onSearch, nextRepair}
 use Rattle.descent.specs.Descent.{passed, childIndex, childFor, firstEqual, slotOf, turnInner, turnOf, turnAt, onTurn, leafFor, runBelow, onTurnLanding, landingFor, rootPosition, childPosition, visitOf, visitAt, onVisit, seek}
 use Rattle.free_nodes.specs.NodeSet.{allNodes, countTrue, firstTrue, firstFrom, orElse, nextFree}
 use Rattle.laws.specs.Sorting.{insert-pair, insert-all, sort}
 use Rattle.soundness.specs.Check.{member, leafSound, unusedZero, lookOf, noted, enterLeaf, innerSound, enterInner, enterKind, enterNode, childrenCheck, childRun, raised, onLook, nodeCheck, tableCheck}
-use Rattle.table.specs.Memory.{noMemory, resting, idled, advanced}
-use Rattle.table.specs.Updates.{landing, emptyReason, reasonIn, insertReason, insertChange, insertFirst, deleteChange, deleteFirst, roomFor, startRoom, repairs, nextChange}
+use Rattle.state.specs.Memory.{noMemory, resting, idled, advanced}
+use Rattle.updates.specs.Updates.{landing, emptyReason, reasonIn, insertReason, insertChange, insertFirst, deleteChange, deleteFirst, roomFor, startRoom, repairs, nextChange}
+use Rattle.table.specs.Answers.{foundReply}
+use Rattle.state.specs.Answers.{stepReply}
+use Rattle.table.specs.Calls.{formatOf, stepOf, foundIn, foundAt, findOf, openSound, openChecked, openOf, planning, stepPrepared, stepBegin, stepPlan, stepWork, stepHeld, stepDoing}
+use Rattle.state.specs.Steps.{noBeginning, stepRefused, stepFinal, formattedWord, formatStore, formatting, stepFormat, stepStore, stepFirst, isIdle}
+use Rattle.updates.specs.Starts.{startRefused, started, startLanded, startChecked, startOf, insertOf, deleteOf}
+use Rattle.state.specs.declared.Doing.the-variants.{Idle}
+use Rattle.table.specs.declared.Found.the-variants.{Value as FoundValue, Absent as FoundAbsent}
+use Rattle.state.specs.declared.Answer.{Answer}
+use Rattle.state.specs.declared.Answer.the-variants.{Stored, Ready, Absent, Value, Refused}
 use Rattle.promises.specs.Feeding.{kept-ledger, fed, leaf-full, full-at, is-none, begun-result, step-result, dictionary-answer}
 use Rattle.promises.specs.Ledger.{Ledger, ledger, empty, feed, fed-a-step, fed-a-start, counted, deciding, entered, added, added-unless}
 use Rattle.promises.specs.Machine.{Event, World, happens, run, insert, step, crash}
 use Rattle.promises.specs.PowerLoss.{power-loss}
 use Rattle.promises.specs.Promise.{ToReady, ready-now, stored-first, Begins, from-format, Words, Kept}
 use Rattle.card.specs.Replies.{holds, absent}
-use Rattle.table.specs.Answers.{foundReply, stepReply}
-use Rattle.table.specs.Calls.{formatOf, stepOf, foundIn, foundAt, findOf, noBeginning, openSound, openChecked, openOf, stepRefused, stepFinal, formattedWord, formatStore, formatting, stepFormat, stepStore, stepFirst, planning, stepPrepared, stepBegin, stepPlan, stepWork, isIdle, stepHeld, stepDoing, startRefused, started, startLanded, startChecked, startOf, insertOf, deleteOf}
 use Rattle.tree.specs.Pairs.{lookup}
-use Rattle.table.specs.declared.Doing.the-variants.{Idle}
-use Rattle.table.specs.declared.Found.the-variants.{Value as FoundValue, Absent as FoundAbsent}
-use Rattle.table.specs.declared.Answer.{Answer}
-use Rattle.table.specs.declared.Answer.the-variants.{Stored, Ready, Absent, Value, Refused}
 
 unfoldable pub is-stored : Answer → Bool
 is-stored Stored = true

@@ -1,11 +1,3 @@
-pub mod Change
-pub mod Planning
-pub mod Rows
-pub mod RowLaws
-pub mod PairLaws
-pub mod Plan
-pub mod PlanLaws
-pub mod NumberLaws
-pub mod ChangeLaws
+pub mod Mending
 pub mod MendLaws
 pub mod Positions

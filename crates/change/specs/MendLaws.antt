@@ -9,17 +9,17 @@ use lib.ListN.{length, getD, length-append, length-map}
 use lib.Dec.{ltb, leb, eqb}
 use borrow.Author.Tests.{ltb-true, lt-ltb, le-ltb, leb-true, le-leb, lt-leb, ne-eqb, eq-eqb}
 use Rattle.card.specs.Layout.{rootPlace, nodeAt, kindOf, children, routingKeys, leafPairs}
-use Rattle.change.specs.Change.{joinedKeys, joinedChildren, absorb, splitParent, Together, leavesTogether, innersTogether, share, merge, mergeRoot}
-use Rattle.change.specs.PairLaws.{insert-all-append, zip-keys, zip-values}
-use Rattle.change.specs.Plan.{togetherOf}
-use Rattle.change.specs.Planning.{giving, first, second, third, mendTagged, mendTogether, mendSiblings, isNode, mendUnderfull, mend, refused}
-use Rattle.change.specs.RowLaws.{length-words, row-then, row-then-part}
-use Rattle.change.specs.Rows.{wordsOf, Row, pairsOf, PairRow}
+use Rattle.plans.specs.Change.{joinedKeys, joinedChildren, absorb, splitParent, Together, leavesTogether, innersTogether, share, merge, mergeRoot}
+use Rattle.plans.specs.PairLaws.{insert-all-append, zip-keys, zip-values}
+use Rattle.plans.specs.Plan.{togetherOf}
+use Rattle.plans.specs.Planning.{giving, first, second, third, refused}
+use Rattle.change.specs.Mending.{mendTagged, mendTogether, mendSiblings, isNode, mendUnderfull, mend}
+use Rattle.plans.specs.RowLaws.{length-words, row-then, row-then-part}
+use Rattle.plans.specs.Rows.{wordsOf, Row, pairsOf, PairRow}
 use Rattle.laws.specs.Cases.{and-true}
 use Rattle.laws.specs.Sorting.{Pairs, insert-pair, insert-all, sort, pair-keys, pair-values, length-sort}
-use Rattle.change.specs.declared.halves.Pool.{Pool}
-use Rattle.change.specs.declared.words.Words.{Words}
-use Rattle.change.specs.declared.pairs.PairWords.{PairWords}
+use Rattle.plans.specs.declared.words.Words.{Words}
+use Rattle.plans.specs.declared.pairs.PairWords.{PairWords}
 use Rattle.descent.specs.declared.Position.{Position}
 
 -- ---- a tagged node
@@ -86,14 +86,6 @@ module _ (p : Position) (parent : List ℕ) (j : ℕ) (x y : List ℕ) (free : L
 -- ---- a node with a sibling
 
 -- `!` in code
-pub not-true : (b : Bool) → not b ≡ true → b ≡ false
-not-true true e = sym e
-not-true false e = refl
-
-pub not-false : (b : Bool) → not b ≡ false → b ≡ true
-not-false true e = refl
-not-false false e = sym e
-
 pub node-numbered : (n m : ℕ) → isNode n m ≡ true → (1 ≤ m) × (m ≤ n)
 unfolding isNode
 node-numbered n m e = let t = and-true (ltb 0 m) (leb m n) e in (ltb-true 0 m (t .0), leb-true m n (t .1))

@@ -9,15 +9,15 @@ use lib.Dec.{ltb, eqb, lit<}
 use borrow.Author.Tests.{ltb-false, eqb-false}
 use Rattle.card.specs.Layout.{greatestNodes, nodeAt, kindOf, children, routingKeys, leafPairs}
 use Rattle.card.specs.NodeLaws.{length-node, children-le, length-routing}
-use Rattle.change.specs.PairLaws.{passed-le}
-use Rattle.change.specs.Plan.{PositionWithin}
+use Rattle.plans.specs.PairLaws.{passed-le}
+use Rattle.plans.specs.Plan.{PositionWithin}
 use Rattle.descent.specs.Descent.{childIndex, rootPosition, childPosition, visitOf, visitAt, onVisit, seek}
 use Rattle.laws.specs.Cases.{pick}
 use Rattle.descent.specs.declared.Position.{Position}
 use Rattle.descent.specs.declared.Visit.{Visit}
 use Rattle.descent.specs.declared.Visit.the-variants.{Refused as NoVisit, Balanced as VisitBalanced, Violation as VisitViolation, Down as VisitDown}
 use Rattle.descent.specs.declared.Search.{Search}
-use Rattle.descent.specs.declared.Search.the-variants.{Refused as NoSearch, Balanced as SearchBalanced, Violation as SearchViolation}
+use Rattle.descent.specs.declared.Search.the-variants.{Refused as NoSearch, Violation as SearchViolation}
 
 -- which of two is picked
 pick-elim : {A P : Type 0} (b : Bool) (x y v : A) → pick b x y ≡ v → (b ≡ true → x ≡ v → P) → (b ≡ false → y ≡ v → P) → P

@@ -1,28 +1,23 @@
 // Document 01, "The changes": the repair that a fault is due, planned as the stores that a step then makes one by one.
-pub mod answers;
-mod halves;
-mod numbers;
-mod pairs;
 mod siblings;
-mod stores;
 mod tagged;
-mod words;
 
-use answers::balanced;
-use answers::prepared;
-use answers::refused;
 use descent::Position;
 use descent::Search;
 use free_nodes::NodeSet;
-use halves::Pool;
-use halves::split;
-use pairs::no_pairs;
-use pairs::with_leaf;
-use pairs::with_pair;
+use plans::Planned;
+use plans::answers::balanced;
+use plans::answers::prepared;
+use plans::answers::refused;
+use plans::halves::Pool;
+use plans::halves::split;
+use plans::pairs::no_pairs;
+use plans::pairs::with_leaf;
+use plans::pairs::with_pair;
+use plans::stores::push_store;
+use plans::words::children;
 use siblings::mend_siblings;
-use stores::push_store;
 use tagged::mend_tagged;
-use words::children;
 ghost use mathlib.Core.Path.{_≡_};
 ghost use mathlib.Core.List.{[], _∷_};
 ghost use Prim.Native.Nat.{_+_, _*_, _^_, _≤_, _<_};
@@ -30,33 +25,10 @@ ghost use lib.ListN.{length};
 ghost use Rattle.laws.specs.Sorting.{sort};
 ghost use Rattle.card.specs.Layout.{greatestNodes, place, leafPairs};
 ghost use Rattle.free_nodes.specs.NodeSet.{nodesOf};
-ghost use Rattle.change.specs.Change.{splitLeaf};
-ghost use Rattle.change.specs.Planning.{prepared, giving, first, second, third, isNode, mendUnderfull, mend, nextRepair};
-ghost use Rattle.change.specs.Plan.{preparationOf, Linked, PositionWithin};
-
-// The stores of a change: places of words, and the values that go there. "So a change is at most 73 stores."
-pub struct Plan {
-    pub places: [u32; 73],
-    pub values: [u32; 73],
-    pub count: usize,
-}
-
-pub enum Outcome {
-    Refused,
-    Balanced,
-    Prepared,
-}
-
-// What a step that has no store left to make finds. The stores themselves are in the rows of places and values that the step
-// lends: a plan that went from call to call by value would be copied at each. Where the step is refused or finds the tree
-// balanced, the outcome alone counts.
-pub struct Planned {
-    pub outcome: Outcome,
-    pub count: usize,
-    pub free: NodeSet,
-    pub last: usize,
-    pub cut: [u32; 3],
-}
+ghost use Rattle.plans.specs.Change.{splitLeaf};
+ghost use Rattle.plans.specs.Planning.{prepared, giving, first, second, third};
+ghost use Rattle.change.specs.Mending.{isNode, mendUnderfull, mend, nextRepair};
+ghost use Rattle.plans.specs.Plan.{preparationOf, Linked, PositionWithin};
 
 // "node m begins at word 8 + 24 × (m − 1)": the place of its word i.
 fn word_place(m: usize, i: usize) -> u32

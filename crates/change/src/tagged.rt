@@ -1,18 +1,18 @@
 // "Tagged node: parent with at most 10 children .. Parent with 11 ..": the parent takes the key and the children of its tagged child in.
-use crate::Planned;
-use crate::answers::linked;
-use crate::answers::refused;
-use crate::halves::Pool;
-use crate::halves::split;
-use crate::stores::append_node;
-use crate::words::Words;
-use crate::words::children;
-use crate::words::replaced;
-use crate::words::routing_keys;
-use crate::words::words_of;
 use descent::Position;
 use free_nodes::Next;
 use free_nodes::NodeSet;
+use plans::Planned;
+use plans::answers::linked;
+use plans::answers::refused;
+use plans::halves::Pool;
+use plans::halves::split;
+use plans::stores::append_node;
+use plans::words::Words;
+use plans::words::children;
+use plans::words::replaced;
+use plans::words::routing_keys;
+use plans::words::words_of;
 ghost use mathlib.Core.Path.{_≡_};
 ghost use mathlib.Core.List.{[], _∷_};
 ghost use Prim.Native.Nat.{_+_, _≤_, _<_};
@@ -20,10 +20,11 @@ ghost use lib.ListN.{length};
 ghost use Rattle.laws.specs.Lists.{before-zero};
 ghost use Rattle.card.specs.Layout.{children};
 ghost use Rattle.free_nodes.specs.NodeSet.{nodesOf};
-ghost use Rattle.change.specs.Change.{absorb, splitParent, joinedKeys, joinedChildren};
-ghost use Rattle.change.specs.Planning.{giving, first, second, third, mendTagged};
-ghost use Rattle.change.specs.Rows.{wordsOf, Row};
-ghost use Rattle.change.specs.Plan.{preparationOf, Linked};
+ghost use Rattle.plans.specs.Change.{absorb, splitParent, joinedKeys, joinedChildren};
+ghost use Rattle.plans.specs.Planning.{giving, first, second, third};
+ghost use Rattle.change.specs.Mending.{mendTagged};
+ghost use Rattle.plans.specs.Rows.{wordsOf, Row};
+ghost use Rattle.plans.specs.Plan.{preparationOf, Linked};
 
 // The nodes that leave the tree with a tagged node.
 fn cut_tagged(p: Position) -> [u32; 3]

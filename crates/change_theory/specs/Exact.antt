@@ -10,7 +10,7 @@ use lib.ListN.{length, set, getD, length-set}
 use lib.Seq.{ext-getD}
 use borrow.Author.Tests.{ne-eqb}
 use Rattle.card.specs.NodeWords.{OnCard}
-use Rattle.change.specs.Planning.{withoutAll, withAll}
+use Rattle.plans.specs.Planning.{withoutAll, withAll}
 use Rattle.change_theory.specs.Numbers.{free-bit, bit-added, Given}
 use Rattle.free_nodes.specs.NodeSet.{capacity, countTrue}
 use Rattle.free_nodes.specs.NodeSetLaws.{count-add}

@@ -8,7 +8,7 @@ use native.Mathlib.Omega.{arith}
 use lib.ListN.{length, getD, take, drop, length-append}
 use lib.Seq.{take-at, drop-at, getD-at}
 use Rattle.card.specs.Stores.{NewNode, new-node, HasWords, AllHaveWords}
-use Rattle.change.specs.Change.{half}
+use Rattle.plans.specs.Change.{half}
 use Rattle.change_theory.specs.Rewrite.{Shape, violations-in, own-in, SameHeight, AllFew, numbers, Rewrite}
 use Rattle.laws.specs.Cases.{order}
 use Rattle.laws.specs.Lists.{drop-past}

@@ -8,8 +8,8 @@ use native.Mathlib.Omega.{arith}
 use lib.ListN.{length}
 use borrow.Author.Tests.{eq-eqb}
 use Rattle.card.specs.Stores.{new-node}
-use Rattle.change.specs.Change.{half}
-use Rattle.change.specs.Planning.{first, second, third}
+use Rattle.plans.specs.Change.{half}
+use Rattle.plans.specs.Planning.{first, second, third}
 use Rattle.change_theory.specs.Exchange.{tagged-in, Remains, OneViolation, together-le, half-size, Parts, parts}
 use Rattle.change_theory.specs.InnerChanges.{inner-pair, new-siblings, parted-nodes, tagged-child, absorb-rewrite, split-rewrite, Underfull, together, share-rewrite, merge-rewrite, merge-root-rewrite}
 use Rattle.change_theory.specs.InnerPlans.{absorb-plan, split-plan, share-plan, merge-plan, merge-root-plan}

@@ -12,7 +12,7 @@ use lib.Dec.{ltb}
 use borrow.Author.Tests.{lt-ltb, le-ltb}
 use Rattle.card.specs.Layout.{slot-pairs}
 use Rattle.card.specs.Stores.{NewNode, new-node}
-use Rattle.change.specs.Change.{half}
+use Rattle.plans.specs.Change.{half}
 use Rattle.change_theory.specs.Exchange.{Exchange, exchange-splice, Enough, enough, Remains, remains-enough, OneViolation, copied, half-size}
 use Rattle.change_theory.specs.LeafRows.{newLeaf, slot-keys, slot-pairs-length, new-leaf-pairs, new-leaf-range, new-leaf-settled, length-pair-keys, length-pair-values, new-leaf-represented, twoLeaves, two-leaves-pairs, two-leaves-range, two-leaves-settled, two-leaves-widths}
 use Rattle.change_theory.specs.Parent.{violations-inside}

@@ -10,8 +10,9 @@ use lib.ListN.{length, getD, take, drop}
 use borrow.Author.Tests.{eq-eqb}
 use Rattle.card.specs.Layout.{nodeAt, kindOf, children, routingKeys, slot-pairs, leafPairs}
 use Rattle.card.specs.Stores.{new-node}
-use Rattle.change.specs.Change.{Together, leavesTogether, half, leftKeys, keyBetween, share, merge, mergeRoot}
-use Rattle.change.specs.Planning.{giving, first, second, third, mendTogether, mendSiblings, mend}
+use Rattle.plans.specs.Change.{Together, leavesTogether, half, leftKeys, keyBetween, share, merge, mergeRoot}
+use Rattle.plans.specs.Planning.{giving, first, second, third}
+use Rattle.change.specs.Mending.{mendTogether, mendSiblings, mend}
 use Rattle.change_theory.specs.Exchange.{Remains}
 use Rattle.change_theory.specs.LeafChanges.{leaves, pairsTogether, leafNode, innerNode}
 use Rattle.change_theory.specs.LeafRows.{newLeaf, length-pair-values, keys-take, values-take, keys-drop, values-drop, key-at-row, twoLeaves}

@@ -7,7 +7,7 @@ use Prim.Native.Nat.{ℕ, zero, suc, _+_, _-_, _*_, _≤_}
 use native.Mathlib.Omega.{arith}
 use lib.ListN.{length, length-append}
 use Rattle.card.specs.Layout.{slot-pairs}
-use Rattle.change.specs.Planning.{first, second, third}
+use Rattle.plans.specs.Planning.{first, second, third}
 use Rattle.change_theory.specs.Exchange.{Remains, OneViolation}
 use Rattle.change_theory.specs.LeafChanges.{leaves, pairsTogether, UnderfullLeaf, leaves-most, leaf-share, leaf-merge, leaf-merge-root}
 use Rattle.change_theory.specs.LeafPlans.{AtSiblings, leaf-share-plan, leaf-merge-plan, leaf-merge-root-plan}

@@ -9,7 +9,7 @@ use native.Mathlib.Decide.{ℕ-discrete}
 use lib.ListN.{length, take, drop, length-take, length-drop}
 use Rattle.card.specs.Layout.{slot-pairs}
 use Rattle.card.specs.Stores.{NewNode, new-node, AllHaveWords}
-use Rattle.change.specs.Change.{splitLeaf}
+use Rattle.plans.specs.Change.{splitLeaf}
 use Rattle.change_theory.specs.Above.{above-height, above-shape, above-settled, above-own}
 use Rattle.change_theory.specs.Exchange.{tagged-in}
 use Rattle.change_theory.specs.LeafChanges.{leafNode}

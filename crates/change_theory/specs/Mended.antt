@@ -11,8 +11,9 @@ use lib.ListN.{length, getD, replicate, length-append}
 use Rattle.card.specs.Layout.{depthLimit, rootPlace, place, nodeImage}
 use Rattle.card.specs.NodeWords.{OnCard}
 use Rattle.card.specs.Stores.{Store, stores, length-node-image, NewNode, node-stores, numbered}
-use Rattle.change.specs.Change.{Change, changeStores}
-use Rattle.change.specs.Planning.{takeNumbers, withoutAll, lastOf, overNumbers, giving, mend, onSearch, nextRepair, withAll, prepared}
+use Rattle.plans.specs.Change.{Change, changeStores}
+use Rattle.plans.specs.Planning.{takeNumbers, withoutAll, lastOf, overNumbers, giving, withAll, prepared}
+use Rattle.change.specs.Mending.{mend, onSearch, nextRepair}
 use Rattle.change_theory.specs.Exact.{Exact, number-outside, exact-after}
 use Rattle.change_theory.specs.Exchange.{OneViolation}
 use Rattle.change_theory.specs.InnerRepairs.{inner-mended}

@@ -12,8 +12,9 @@ use borrow.Author.Tests.{lt-ltb, le-ltb, le-leb, lt-leb, ne-eqb, eq-eqb}
 use Rattle.card.specs.Layout.{rootPlace, nodeAt, kindOf, children}
 use Rattle.card.specs.NodeWords.{OnCard}
 use Rattle.card.specs.Stores.{NewNode}
-use Rattle.change.specs.Change.{Change, kindAbove, Together, share, merge, mergeRoot}
-use Rattle.change.specs.Planning.{giving, first, second, third, mendTagged, mendTogether, mendSiblings, isNode, mendUnderfull, mend}
+use Rattle.plans.specs.Change.{Change, kindAbove, Together, share, merge, mergeRoot}
+use Rattle.plans.specs.Planning.{giving, first, second, third}
+use Rattle.change.specs.Mending.{mendTagged, mendTogether, mendSiblings, isNode, mendUnderfull, mend}
 use Rattle.change_theory.specs.Exchange.{tagged-in, Remains}
 use Rattle.change_theory.specs.Rewrite.{numbers, Rewrite}
 use Rattle.change_theory.specs.Siblings.{first-child, second-child, both-there, two-represented}

@@ -9,7 +9,7 @@ use native.Mathlib.Omega.{arith}
 use native.Mathlib.Decide.{ℕ-discrete}
 use lib.ListN.{length, set, getD, length-set}
 use lib.Seq.{getD-set-same, getD-set-other}
-use Rattle.change.specs.Planning.{numbersFrom, takeNumbers, withoutAll}
+use Rattle.plans.specs.Planning.{numbersFrom, takeNumbers, withoutAll}
 use Rattle.free_nodes.specs.NodeSet.{countTrue, nextFree}
 use Rattle.free_nodes.specs.NodeSetLaws.{next-found, next-exists, count-remove}
 use Rattle.laws.specs.Bits.{bit, bit-true}

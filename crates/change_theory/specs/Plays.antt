@@ -9,7 +9,7 @@ use native.Mathlib.Omega.{arith}
 use lib.ListN.{length, set, length-set}
 use Rattle.card.specs.NodeWords.{OnCard, on-card-set}
 use Rattle.card.specs.Stores.{Store, play, Within, done, also}
-use Rattle.change.specs.Planning.{first, withAll}
+use Rattle.plans.specs.Planning.{first, withAll}
 use Rattle.change_theory.specs.Exact.{Exact}
 use Rattle.change_theory.specs.Repaired.{Mendable, Pending}
 use Rattle.change_theory.specs.Rewritten.{Sound}

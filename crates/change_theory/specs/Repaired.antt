@@ -8,7 +8,8 @@ use Prim.Native.Nat.{ℕ, _+_, _≤_, _<_}
 use lib.ListN.{length, set}
 use Rattle.card.specs.NodeWords.{OnCard}
 use Rattle.card.specs.Stores.{Store, play, stores, Within}
-use Rattle.change.specs.Planning.{nextRepair, withAll, prepared}
+use Rattle.change.specs.Mending.{nextRepair}
+use Rattle.plans.specs.Planning.{withAll, prepared}
 use Rattle.change_theory.specs.Exact.{Exact}
 use Rattle.change_theory.specs.Rewritten.{Sound}
 use Rattle.free_nodes.specs.NodeSet.{countTrue}

@@ -352,17 +352,9 @@ child-position card key p node i e f =
     (omega arith))
 
 -- what a test by `!` tells of the flag
-pub not-true : (b : Bool) → not b ≡ true → b ≡ false
-not-true true e = sym e
-not-true false e = refl
-
 pub not-both : (b : Bool) → not b ≡ false → b ≡ false → ⊥
 not-both true e f = let z : _≡_ {A = ℕ} 0 1 = cc in absurd (omega arith)
 not-both false e f = let z : _≡_ {A = ℕ} 0 1 = cc in absurd (omega arith)
-
-pub not-false : (b : Bool) → not b ≡ false → b ≡ true
-not-false true e = refl
-not-false false e = sym e
 
 -- ---- the search for a violation
 

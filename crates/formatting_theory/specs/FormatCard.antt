@@ -10,7 +10,7 @@ use lib.ListN.{length, set, getD, length-set}
 use lib.Seq.{getD-set-same, getD-set-other}
 use Rattle.card.specs.Stores.{Store}
 use Rattle.formatting_theory.specs.FormatStores.{first-store, rising-store, last-store}
-use Rattle.table.specs.Calls.{formattedWord, formatStore}
+use Rattle.state.specs.Steps.{formattedWord, formatStore}
 
 -- a store, where there is one
 abbrev pub stored : Option Store → List ℕ → List ℕ

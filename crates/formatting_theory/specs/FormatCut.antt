@@ -20,11 +20,12 @@ use Rattle.laws.specs.Bits.{bit, bit-zero}
 use Rattle.soundness.specs.Check.{Findings, tableCheck}
 use Rattle.soundness_theory.specs.Facts.{Facts}
 use Rattle.soundness_theory.specs.Soundness.{sound-accepted}
-use Rattle.table.specs.Calls.{noBeginning, openSound, openChecked, openOf}
-use Rattle.table.specs.Memory.{resting}
+use Rattle.state.specs.Steps.{noBeginning}
+use Rattle.table.specs.Calls.{openSound, openChecked, openOf}
+use Rattle.state.specs.Memory.{resting}
+use Rattle.state.specs.declared.Begun.the-variants.{Idle as OpenedIdle}
+use Rattle.state.specs.declared.Doing.the-variants.{Idle}
 use Rattle.tree.specs.Tree.{Tree}
-use Rattle.table.specs.declared.Begun.the-variants.{Idle as OpenedIdle}
-use Rattle.table.specs.declared.Doing.the-variants.{Idle}
 
 -- "2: word 0 not 1"
 unmarked-refused : (card : List ℕ) (n : ℕ) → Sized (length card) n → getD card 0 0 ≢ 1 → openOf card ≡ noBeginning 2

@@ -14,11 +14,12 @@ use Rattle.card.specs.Stores.{Store}
 use Rattle.formatting_theory.specs.FormatCard.{formatCard, format-untouched, format-next, format-length}
 use Rattle.formatting_theory.specs.FormatStores.{no-store, some-store}
 use Rattle.free_nodes.specs.NodeSet.{allNodes}
-use Rattle.table.specs.Calls.{Handed, noBeginning, formatOf, Step, stepFinal, formatStore, formatting, stepFormat, stepDoing, stepOf}
-use Rattle.table.specs.Memory.{Memory, resting, idled}
-use Rattle.table.specs.declared.Doing.the-variants.{Idle, Formatting}
-use Rattle.table.specs.declared.Answer.the-variants.{Stored, Ready}
-use Rattle.table.specs.declared.Begun.the-variants.{Started}
+use Rattle.state.specs.Steps.{Handed, noBeginning, Step, stepFinal, formatStore, formatting, stepFormat}
+use Rattle.table.specs.Calls.{formatOf, stepDoing, stepOf}
+use Rattle.state.specs.Memory.{Memory, resting, idled}
+use Rattle.state.specs.declared.Doing.the-variants.{Idle, Formatting}
+use Rattle.state.specs.declared.Answer.the-variants.{Stored, Ready}
+use Rattle.state.specs.declared.Begun.the-variants.{Started}
 
 -- "those not reached from the root", which is node 1
 abbrev pub freshNodes : ℕ → List Bool

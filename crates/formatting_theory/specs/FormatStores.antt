@@ -7,7 +7,7 @@ use native.Mathlib.Omega.{arith}
 use borrow.Author.Tests.{lt-ltb, le-ltb, ne-eqb, eq-eqb}
 use Rattle.card.specs.Stores.{Store}
 use Rattle.laws.specs.Cases.{order}
-use Rattle.table.specs.Calls.{formattedWord, formatStore}
+use Rattle.state.specs.Steps.{formattedWord, formatStore}
 
 pub first-store : (n len : ℕ) → formatStore n len 0 ≡ some (0, 0)
 unfolding formatStore

@@ -7,8 +7,9 @@ use Rattle.dump.specs.Dump.{wordBytes, cardBytes, paddedLength, dumpOf, wordAt,
 use Rattle.dump.specs.Examples.{example}
 use Rattle.free_nodes.specs.NodeSet.{allNodes, countTrue}
 use Rattle.soundness.specs.Check.{member, leafSound, enterLeaf, enterKind, enterNode, onLook, nodeCheck, tableCheck}
-use Rattle.table.specs.Calls.{openSound, openChecked, openOf, isIdle}
-use Rattle.table.specs.Memory.{resting}
+use Rattle.table.specs.Calls.{openSound, openChecked, openOf}
+use Rattle.state.specs.Steps.{isIdle}
+use Rattle.state.specs.Memory.{resting}
 use Rattle.listing.specs.Listing.{nodePairs, onCard, pairsFrom, repairedCard, listChecked, listTable, listBegun, listCard, listRead, listDump, listed}
 
 -- "nodes 4 free 3 levels 0 pairs 2", then "7 70" and "3 31"

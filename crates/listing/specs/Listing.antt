@@ -10,10 +10,11 @@ use Rattle.card.specs.Layout.{rootPlace, depthLimit, nodeAt, kindOf, children, 
 use Rattle.card.specs.Header.{nodesOfLength}
 use Rattle.free_nodes.specs.NodeSet.{countTrue}
 use Rattle.soundness.specs.Check.{Findings, tableCheck}
-use Rattle.table.specs.Memory.{Memory}
-use Rattle.table.specs.Calls.{isIdle, openOf, stepOf, repairSteps}
-use Rattle.table.specs.declared.Begun.{Begun}
-use Rattle.table.specs.declared.Begun.the-variants.{Idle, Started, Refused}
+use Rattle.state.specs.Memory.{Memory}
+use Rattle.state.specs.Steps.{isIdle}
+use Rattle.table.specs.Calls.{openOf, stepOf, repairSteps}
+use Rattle.state.specs.declared.Begun.{Begun}
+use Rattle.state.specs.declared.Begun.the-variants.{Idle, Started, Refused}
 use Rattle.dump.specs.Dump.{dumpWords, readAnswer}
 use Rattle.dump.specs.declared.Answer.{Answer}
 use Rattle.dump.specs.declared.Answer.the-variants.{Length, Refused as ReadRefused}

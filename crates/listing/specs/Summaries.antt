@@ -1,8 +1,8 @@
 -- What the answers in code say, in the terms of Listing. These are definitions.
 use mathlib.Core.List.{List}
 use Prim.Native.Nat.{ℕ}
-use Rattle.table.specs.Memory.{memoryOf}
-use Rattle.table.specs.declared.State.{State}
+use Rattle.state.specs.Memory.{memoryOf}
+use Rattle.state.specs.declared.State.{State}
 use Rattle.listing.specs.Listing.{Repaired, Listed, refused, listed, layListed}
 use Rattle.listing.specs.declared.Summary.{Summary}
 

@@ -9,8 +9,8 @@ use table::State;
 ghost use mathlib.Core.Path.{_≡_};
 ghost use lib.ListN.{length};
 ghost use Rattle.table.specs.Calls.{repairSteps};
+ghost use Rattle.state.specs.Memory.{memoryOf};
 ghost use Rattle.card.specs.Header.{nodesOfLength};
-ghost use Rattle.table.specs.Memory.{memoryOf};
 ghost use Rattle.listing.specs.Listing.{repairedCard, listTable, listCard, listDump, listedCard, listedOver, layListed};
 ghost use Rattle.listing.specs.Summaries.{summaryOf};
 

@@ -4,7 +4,7 @@ use table::is_idle;
 use table::step;
 ghost use mathlib.Core.Path.{_≡_};
 ghost use Rattle.table.specs.Calls.{repairSteps};
-ghost use Rattle.table.specs.Memory.{memoryOf};
+ghost use Rattle.state.specs.Memory.{memoryOf};
 ghost use Rattle.listing.specs.Listing.{repairedCard};
 ghost use Rattle.listing.specs.Summaries.{leftBy};
 

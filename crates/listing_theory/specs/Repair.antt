@@ -15,10 +15,11 @@ use Rattle.promises.specs.Machine.{Event, World, opened, happens, run, step}
 use Rattle.promises.specs.Promise.{Accepted, Words, Quiet, steps-in, MapIs, Ends, from-open}
 use Rattle.promises.specs.PowerLoss.{kept, begins-inv, power-loss}
 use Rattle.promises.specs.Steps.{idle-world}
-use Rattle.table.specs.Calls.{isIdle, stepOf, openOf, repairSteps}
-use Rattle.table.specs.Memory.{Memory}
-use Rattle.table.specs.declared.Doing.{Doing}
-use Rattle.table.specs.declared.Doing.the-variants.{Idle, Formatting, Inserting, Deleting, Repairing}
+use Rattle.state.specs.Steps.{isIdle}
+use Rattle.table.specs.Calls.{stepOf, openOf, repairSteps}
+use Rattle.state.specs.Memory.{Memory}
+use Rattle.state.specs.declared.Doing.{Doing}
+use Rattle.state.specs.declared.Doing.the-variants.{Idle, Formatting, Inserting, Deleting, Repairing}
 use Rattle.tree.specs.Pairs.{pairs}
 use Rattle.tree.specs.Tree.{Tree}
 use Rattle.tree.specs.WellFormed.{WellFormed, Balanced}

@@ -28,8 +28,8 @@ use Rattle.soundness_theory.specs.Depth.{well-formed-size, well-formed-depth}
 use Rattle.soundness_theory.specs.Facts.{Facts}
 use Rattle.soundness_theory.specs.Soundness.{sound-accepted}
 use Rattle.table.specs.Calls.{openOf, repairSteps}
-use Rattle.table.specs.declared.Begun.{Begun}
-use Rattle.table.specs.declared.Begun.the-variants.{Idle, Started, Refused}
+use Rattle.state.specs.declared.Begun.{Begun}
+use Rattle.state.specs.declared.Begun.the-variants.{Idle, Started, Refused}
 use Rattle.tree.specs.Pairs.{pairs}
 use Rattle.tree.specs.Splice.{Height}
 use Rattle.tree.specs.Tree.{Tree}

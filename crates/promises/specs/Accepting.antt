@@ -10,7 +10,14 @@ use lib.ListN.{length, getD}
 use borrow.Author.Tests.{lt-ltb, ne-eqb, eq-eqb}
 use Rattle.descent.specs.declared.Way.{Way}
 use Rattle.promises.specs.Feeding.{dictionary-answer}
-use Rattle.table.specs.Answers.{foundReply, stepReply}
+use Rattle.table.specs.Answers.{foundReply}
+use Rattle.state.specs.Answers.{stepReply}
+use Rattle.table.specs.Calls.{foundIn, foundAt, findOf, openSound, openChecked, openOf}
+use Rattle.state.specs.Steps.{noBeginning}
+use Rattle.table.specs.declared.Found.{Found}
+use Rattle.table.specs.declared.Found.the-variants.{Value as FoundValue, Absent as FoundAbsent, Refused as FoundRefused}
+use Rattle.state.specs.declared.Begun.{Begun}
+use Rattle.state.specs.declared.Begun.the-variants.{Idle as OpenedIdle, Started, Refused as BegunRefused}
 use Rattle.card.specs.Header.{nodesOfLength, cardRefusal}
 use Rattle.card.specs.HeaderLaws.{Sized, nodes-sized, Formatted, header-formatted}
 use Rattle.card.specs.Layout.{depthLimit, rootPlace, nodeAt}
@@ -27,17 +34,12 @@ use Rattle.promises.specs.Reopen.{table-depth-limited, card-accepted, fa
 use Rattle.soundness.specs.Check.{Findings, tableCheck}
 use Rattle.soundness_theory.specs.Facts.{Facts}
 use Rattle.soundness_theory.specs.Soundness.{accepts-sound, sound-accepted}
-use Rattle.table.specs.Calls.{foundIn, foundAt, findOf, noBeginning, openSound, openChecked, openOf}
 use Rattle.tree.specs.Pairs.{pairs, lookup}
 use Rattle.tree.specs.Path.{depth-of}
 use Rattle.tree.specs.Tree.{Tree}
 use Rattle.tree.specs.WellFormed.{lowestKey, keyLimit, WellFormed}
 use Rattle.descent.specs.declared.Slot.{Slot}
 use Rattle.descent.specs.declared.Slot.the-variants.{At, Absent as NoSlot}
-use Rattle.table.specs.declared.Found.{Found}
-use Rattle.table.specs.declared.Found.the-variants.{Value as FoundValue, Absent as FoundAbsent, Refused as FoundRefused}
-use Rattle.table.specs.declared.Begun.{Begun}
-use Rattle.table.specs.declared.Begun.the-variants.{Idle as OpenedIdle, Started, Refused as BegunRefused}
 
 refuses : (c : List ℕ) (r : ℕ) → openOf c ≡ noBeginning r → Accepted c → ⊥
 unfolding noBeginning

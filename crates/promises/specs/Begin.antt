@@ -8,8 +8,8 @@ use lib.ListN.{getD}
 use lib.Dec.{ltb}
 use borrow.Author.Tests.{lt-ltb}
 use Rattle.card.specs.Layout.{place, nodeAt, leafPairs}
-use Rattle.change.specs.Change.{splitLeaf}
-use Rattle.change.specs.Planning.{giving, first, second, third, balanced, prepared}
+use Rattle.plans.specs.Change.{splitLeaf}
+use Rattle.plans.specs.Planning.{giving, first, second, third, balanced, prepared}
 use Rattle.descent.specs.Descent.{slotOf}
 use Rattle.free_nodes.specs.NodeSet.{countTrue}
 use Rattle.laws.specs.Cases.{order}
@@ -17,12 +17,12 @@ use Rattle.laws.specs.Sorting.{sort}
 use Rattle.promises.specs.Feeding.{is-none, full-at, leaf-full}
 use Rattle.promises.specs.Machine.{run}
 use Rattle.table.specs.Calls.{stepPrepared, stepBegin}
-use Rattle.table.specs.Memory.{Memory}
-use Rattle.table.specs.Updates.{landing, emptyReason, reasonIn, insertReason, insertChange, insertFirst, deleteChange, deleteFirst, roomFor, startRoom}
-use Rattle.table.specs.declared.Doing.{Doing}
-use Rattle.table.specs.declared.Doing.the-variants.{Idle, Formatting, Inserting, Deleting, Repairing}
-use Rattle.table.specs.declared.Answer.{Answer}
-use Rattle.table.specs.declared.Answer.the-variants.{Stored, Ready, Absent, Value, Refused}
+use Rattle.state.specs.Memory.{Memory}
+use Rattle.updates.specs.Updates.{landing, emptyReason, reasonIn, insertReason, insertChange, insertFirst, deleteChange, deleteFirst, roomFor, startRoom}
+use Rattle.state.specs.declared.Doing.{Doing}
+use Rattle.state.specs.declared.Doing.the-variants.{Idle, Formatting, Inserting, Deleting, Repairing}
+use Rattle.state.specs.declared.Answer.{Answer}
+use Rattle.state.specs.declared.Answer.the-variants.{Stored, Ready, Absent, Value, Refused}
 use Rattle.descent.specs.declared.Slot.{Slot}
 use Rattle.descent.specs.declared.Slot.the-variants.{At, Absent as NoSlot}
 use Rattle.descent.specs.declared.Landing.{Landing}

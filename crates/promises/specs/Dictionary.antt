@@ -7,7 +7,14 @@ use mathlib.Core.Option.{none}
 use Prim.Native.Nat.{ℕ, suc, _*_, _<_}
 use native.Mathlib.Omega.{arith}
 use lib.ListN.{length}
-use Rattle.table.specs.Answers.{stepReply}
+use Rattle.state.specs.Answers.{stepReply}
+use Rattle.table.specs.Calls.{openOf, stepOf, repairSteps}
+use Rattle.state.specs.Steps.{isIdle}
+use Rattle.updates.specs.Starts.{insertOf, deleteOf}
+use Rattle.state.specs.declared.Answer.{Answer}
+use Rattle.state.specs.declared.Answer.the-variants.{Stored, Ready, Absent, Value, Refused}
+use Rattle.state.specs.declared.Begun.{Begun}
+use Rattle.state.specs.declared.Begun.the-variants.{Idle as OpenedIdle, Started, Refused as BegunRefused}
 use Rattle.card.specs.Replies.{ready}
 use Rattle.card.specs.Header.{nodesOfLength}
 use Rattle.card.specs.Layout.{depthLimit}
@@ -23,13 +30,8 @@ use Rattle.promises.specs.Promise.{Accepted, Begins, Words}
 use Rattle.promises.specs.Reopen.{well-formed-table, reopened}
 use Rattle.promises.specs.Starting.{kept-insert, kept-delete}
 use Rattle.promises.specs.Stepping.{Right, kept-step}
-use Rattle.table.specs.Calls.{openOf, isIdle, stepOf, insertOf, deleteOf, repairSteps}
 use Rattle.tree.specs.Pairs.{pairs, lookup}
 use Rattle.tree.specs.WellFormed.{keyLimit}
-use Rattle.table.specs.declared.Answer.{Answer}
-use Rattle.table.specs.declared.Answer.the-variants.{Stored, Ready, Absent, Value, Refused}
-use Rattle.table.specs.declared.Begun.{Begun}
-use Rattle.table.specs.declared.Begun.the-variants.{Idle as OpenedIdle, Started, Refused as BegunRefused}
 
 module _ (w : World) (l : List (ℕ × ℕ)) (begins : Begins w l) (es : List Event) (words : Words es) where
   -- After any list of events, a step that gives a final answer gives the one due: "ready" where opening's repair is in progress,

@@ -7,7 +7,13 @@ use mathlib.Core.Option.{Option, none}
 use mathlib.Core.Logic.{_⊎_, inl, inr}
 use Prim.Native.Nat.{ℕ, zero, suc, _≤_, _<_}
 use native.Mathlib.Omega.{arith}
-use Rattle.table.specs.Answers.{stepReply}
+use Rattle.state.specs.Answers.{stepReply}
+use Rattle.state.specs.Steps.{stepRefused, isIdle}
+use Rattle.table.specs.Calls.{stepOf}
+use Rattle.state.specs.declared.Doing.{Doing}
+use Rattle.state.specs.declared.Doing.the-variants.{Idle, Formatting, Inserting, Deleting, Repairing}
+use Rattle.state.specs.declared.Answer.{Answer}
+use Rattle.state.specs.declared.Answer.the-variants.{Stored, Ready, Absent, Value, Refused}
 use Rattle.card.specs.Replies.{Reply}
 use Rattle.change_theory.specs.Exact.{Exact}
 use Rattle.free_nodes.specs.NodeSet.{countTrue}
@@ -23,12 +29,7 @@ use Rattle.promises.specs.Starting.{idle-or-busy}
 use Rattle.promises.specs.Stepping.{Right, final-due, right-final, Moves, kept-step, was-idle, ends-now, goes-further}
 use Rattle.promises.specs.Steps.{memory, idle-refused, idle-world}
 use Rattle.soundness_theory.specs.Depth.{balanced-levels, nodes-within}
-use Rattle.table.specs.Calls.{stepRefused, isIdle, stepOf}
 use Rattle.tree.specs.Violations.{table-violations}
-use Rattle.table.specs.declared.Doing.{Doing}
-use Rattle.table.specs.declared.Doing.the-variants.{Idle, Formatting, Inserting, Deleting, Repairing}
-use Rattle.table.specs.declared.Answer.{Answer}
-use Rattle.table.specs.declared.Answer.the-variants.{Stored, Ready, Absent, Value, Refused}
 
 -- so many steps that each store a word, and then one that gives the final answer
 data Counted (final : Reply) : ℕ → World → Type 0 where

@@ -3,20 +3,20 @@
 use mathlib.Core.Path.{_≡_}
 use mathlib.Core.List.{List, [], _∷_}
 use Prim.Native.Nat.{ℕ, _+_, _*_, _≤_, _<_}
-use Rattle.table.specs.Answers.{stepReply}
+use Rattle.state.specs.Answers.{stepReply}
+use Rattle.table.specs.Calls.{stepOf}
+use Rattle.state.specs.declared.Doing.{Doing}
+use Rattle.state.specs.declared.Doing.the-variants.{Idle, Formatting, Inserting, Deleting, Repairing}
+use Rattle.state.specs.declared.Answer.{Answer}
+use Rattle.state.specs.declared.Answer.the-variants.{Stored, Ready, Absent, Value, Refused}
 use Rattle.card.specs.Replies.{Reply}
 use Rattle.change_theory.specs.Exact.{Exact}
 use Rattle.free_nodes.specs.NodeSet.{countTrue}
 use Rattle.promises.specs.Machine.{Event, World, happens, run, find, insert, delete, step, crash}
 use Rattle.promises.specs.Promise.{Quiet, steps-in, MapIs}
-use Rattle.table.specs.Calls.{stepOf}
 use Rattle.tree.specs.Splice.{Height}
 use Rattle.tree.specs.Tree.{Tree}
 use Rattle.tree.specs.WellFormed.{Balanced}
-use Rattle.table.specs.declared.Doing.{Doing}
-use Rattle.table.specs.declared.Doing.the-variants.{Idle, Formatting, Inserting, Deleting, Repairing}
-use Rattle.table.specs.declared.Answer.{Answer}
-use Rattle.table.specs.declared.Answer.the-variants.{Stored, Ready, Absent, Value, Refused}
 
 -- "an update stores at most 73 × 9 = 657 words"
 abbrev pub updateStores : ℕ

@@ -11,7 +11,7 @@ use lib.Seq.{getD-set-same}
 use Rattle.card.specs.Layout.{place, slot-pairs}
 use Rattle.card.specs.NodeWords.{OnCard}
 use Rattle.card.specs.Stores.{Store, stores, NewNode, node-stores, numbered}
-use Rattle.change.specs.Planning.{withoutAll, first, second, third, withAll, balanced}
+use Rattle.plans.specs.Planning.{withoutAll, first, second, third, withAll, balanced}
 use Rattle.change_theory.specs.Exact.{Exact, exact-after}
 use Rattle.change_theory.specs.Exchange.{tagged-in}
 use Rattle.change_theory.specs.LeafRows.{twoLeaves}
@@ -30,7 +30,7 @@ use Rattle.laws.specs.Totals.{indicator, indicator-other, indicator-le, total}
 use Rattle.promises.specs.LeafAfter.{LeafAfter, ready-after, on-path, two-pairs, leaf-after}
 use Rattle.promises.specs.Ledger.{Update, put, remove}
 use Rattle.promises.specs.LedgerLaws.{Enters, enters-put, enters-remove}
-use Rattle.table.specs.Updates.{held}
+use Rattle.updates.specs.Updates.{held}
 use Rattle.tree.specs.Cut.{cut}
 use Rattle.tree.specs.InPlace.{value-stored, key-stored, slot-pairs-out, slot-pairs-in, length-total}
 use Rattle.tree.specs.Lookup.{key-once}

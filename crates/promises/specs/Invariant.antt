@@ -17,18 +17,18 @@ use Rattle.promises.specs.Finishing.{updateStores}
 use Rattle.promises.specs.Ledger.{Update, Hand, Ledger, deciding, put, remove, empty, hand}
 use Rattle.promises.specs.LedgerLaws.{Enters, Same}
 use Rattle.promises.specs.Machine.{World}
-use Rattle.table.specs.Memory.{Memory}
-use Rattle.table.specs.Updates.{landing, startRoom}
+use Rattle.state.specs.Memory.{Memory}
+use Rattle.updates.specs.Updates.{landing, startRoom}
+use Rattle.state.specs.declared.Doing.{Doing}
+use Rattle.state.specs.declared.Doing.the-variants.{Idle, Formatting, Inserting, Deleting, Repairing}
+use Rattle.state.specs.declared.Answer.{Answer}
+use Rattle.state.specs.declared.Answer.the-variants.{Stored, Ready, Absent, Value, Refused}
 use Rattle.tree.specs.Cut.{cut}
 use Rattle.tree.specs.Pairs.{pairs, lookup}
 use Rattle.tree.specs.Represent.{Holds}
 use Rattle.tree.specs.Tree.{Tree}
 use Rattle.tree.specs.Violations.{table-violations}
 use Rattle.tree.specs.WellFormed.{lowestKey, keyLimit}
-use Rattle.table.specs.declared.Doing.{Doing}
-use Rattle.table.specs.declared.Doing.the-variants.{Idle, Formatting, Inserting, Deleting, Repairing}
-use Rattle.table.specs.declared.Answer.{Answer}
-use Rattle.table.specs.declared.Answer.the-variants.{Stored, Ready, Absent, Value, Refused}
 
 -- a card with n nodes that holds the tree
 pub record Table (c : List ℕ) (n : ℕ) (t : Tree) : Type 0 where

@@ -11,23 +11,23 @@ use lib.Seq.{getD-set-other}
 use borrow.Author.Tests.{ne-eqb, eq-eqb}
 use Rattle.card.specs.HeaderLaws.{Formatted}
 use Rattle.card.specs.Stores.{Store}
-use Rattle.change.specs.Planning.{withAll}
+use Rattle.plans.specs.Planning.{withAll}
 use Rattle.change_theory.specs.Plays.{Openable, Storable, Plays, Changing, last-store, store-then}
 use Rattle.change_theory.specs.Rewritten.{Sound}
 use Rattle.promises.specs.Invariant.{Table, Job, Entered, Inv, updated, stage-first, stage-between, stage-within}
 use Rattle.promises.specs.Ledger.{Update, Hand, ledger, deciding, counted}
 use Rattle.promises.specs.LedgerLaws.{Enters, Same, same-over, same-back, enters-from}
 use Rattle.promises.specs.Steps.{memory}
-use Rattle.table.specs.Memory.{advanced}
+use Rattle.state.specs.Memory.{advanced}
+use Rattle.state.specs.declared.Doing.{Doing}
+use Rattle.state.specs.declared.Doing.the-variants.{Idle, Formatting, Inserting, Deleting, Repairing}
+use Rattle.state.specs.declared.Answer.{Answer}
+use Rattle.state.specs.declared.Answer.the-variants.{Stored, Ready, Absent, Value, Refused}
 use Rattle.tree.specs.Cut.{cut}
 use Rattle.tree.specs.Pairs.{pairs}
 use Rattle.tree.specs.Represent.{Holds}
 use Rattle.tree.specs.Tree.{Tree}
 use Rattle.tree.specs.Violations.{few}
-use Rattle.table.specs.declared.Doing.{Doing}
-use Rattle.table.specs.declared.Doing.the-variants.{Idle, Formatting, Inserting, Deleting, Repairing}
-use Rattle.table.specs.declared.Answer.{Answer}
-use Rattle.table.specs.declared.Answer.the-variants.{Stored, Ready, Absent, Value, Refused}
 use Rattle.descent.specs.declared.Slot.{Slot}
 use Rattle.descent.specs.declared.Slot.the-variants.{At, Absent as NoSlot}
 use Rattle.descent.specs.declared.Landing.{Landing}

@@ -6,7 +6,7 @@ use Prim.Native.Nat.{ℕ, _+_, _≤_, _<_}
 use native.Mathlib.Omega.{arith}
 use lib.ListN.{length}
 use Rattle.card.specs.Layout.{slot-pairs}
-use Rattle.change.specs.Planning.{balanced}
+use Rattle.plans.specs.Planning.{balanced}
 use Rattle.change_theory.specs.Exact.{Exact}
 use Rattle.change_theory.specs.Parent.{violations-part}
 use Rattle.change_theory.specs.Repaired.{Mendable, settled, violated}

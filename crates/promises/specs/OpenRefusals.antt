@@ -23,13 +23,14 @@ use Rattle.promises.specs.Reopen.{length-accepted, card-accepted, open-s
 use Rattle.soundness.specs.Check.{Findings, tableCheck}
 use Rattle.soundness_theory.specs.Facts.{Facts}
 use Rattle.soundness_theory.specs.Soundness.{accepts-sound, sound-accepted}
-use Rattle.table.specs.Answers.{startReply}
-use Rattle.table.specs.Calls.{noBeginning, openSound, openChecked, openOf}
+use Rattle.state.specs.Answers.{startReply}
+use Rattle.state.specs.Steps.{noBeginning}
+use Rattle.table.specs.Calls.{openSound, openChecked, openOf}
+use Rattle.state.specs.declared.Begun.{Begun}
+use Rattle.state.specs.declared.Begun.the-variants.{Idle as OpenedIdle, Started, Refused as BegunRefused}
 use Rattle.tree.specs.Tree.{Tree, roots, leaf, node}
 use Rattle.tree.specs.Violations.{RootOk, table-violations}
 use Rattle.tree.specs.WellFormed.{WellFormed}
-use Rattle.table.specs.declared.Begun.{Begun}
-use Rattle.table.specs.declared.Begun.the-variants.{Idle as OpenedIdle, Started, Refused as BegunRefused}
 
 -- the answer's number is a refusal's exactly when the answer is that refusal: the other answers have numbers from 64 on
 says : (b : Begun) (r : ℕ) → r < 64 → (startReply b ≡ refusal r) ↔ (b ≡ BegunRefused r)

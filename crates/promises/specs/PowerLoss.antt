@@ -10,7 +10,20 @@ use native.Mathlib.Decide.{ℕ-discrete}
 use lib.ListN.{length}
 use lib.Dec.{eqb}
 use Rattle.card.specs.Replies.{ready}
-use Rattle.table.specs.Answers.{stepReply}
+use Rattle.state.specs.Answers.{stepReply}
+use Rattle.state.specs.Steps.{noBeginning, isIdle}
+use Rattle.table.specs.Calls.{formatOf, stepOf, repairSteps}
+use Rattle.updates.specs.Starts.{startRefused, started, startLanded, startChecked, startOf, insertOf, deleteOf}
+use Rattle.state.specs.Memory.{Memory, resting}
+use Rattle.updates.specs.Updates.{landing, startRoom}
+use Rattle.state.specs.declared.Doing.{Doing}
+use Rattle.state.specs.declared.Doing.the-variants.{Idle, Formatting, Inserting, Deleting, Repairing}
+use Rattle.state.specs.declared.Answer.{Answer}
+use Rattle.state.specs.declared.Answer.the-variants.{Stored, Ready, Absent, Value, Refused}
+use Rattle.table.specs.declared.Found.{Found}
+use Rattle.table.specs.declared.Found.the-variants.{Value as FoundValue, Absent as FoundAbsent, Refused as FoundRefused}
+use Rattle.state.specs.declared.Begun.{Begun}
+use Rattle.state.specs.declared.Begun.the-variants.{Idle as OpenedIdle, Started, Refused as BegunRefused}
 use Rattle.card.specs.Header.{nodesOfLength, headerRefusal}
 use Rattle.card.specs.HeaderLaws.{Sized, nodes-sized}
 use Rattle.change_theory.specs.Plays.{Openable}
@@ -31,21 +44,10 @@ use Rattle.promises.specs.Promise.{ToReady, Begins, Words, Quiet, steps-
 use Rattle.promises.specs.Reopen.{table-well-formed, well-formed-table, reopened}
 use Rattle.promises.specs.Starting.{same-lookup, kept-insert, kept-delete}
 use Rattle.promises.specs.Stepping.{Right, right-final, Moves, kept-step, was-idle, ends-now, goes-further}
-use Rattle.table.specs.Calls.{noBeginning, formatOf, isIdle, stepOf, startRefused, started, startLanded, startChecked, startOf, insertOf, deleteOf, repairSteps}
-use Rattle.table.specs.Memory.{Memory, resting}
-use Rattle.table.specs.Updates.{landing, startRoom}
 use Rattle.tree.specs.InPlace.{length-total}
 use Rattle.tree.specs.Pairs.{pairs}
 use Rattle.tree.specs.Tree.{Tree}
 use Rattle.tree.specs.Violations.{few, table-violations}
-use Rattle.table.specs.declared.Doing.{Doing}
-use Rattle.table.specs.declared.Doing.the-variants.{Idle, Formatting, Inserting, Deleting, Repairing}
-use Rattle.table.specs.declared.Answer.{Answer}
-use Rattle.table.specs.declared.Answer.the-variants.{Stored, Ready, Absent, Value, Refused}
-use Rattle.table.specs.declared.Found.{Found}
-use Rattle.table.specs.declared.Found.the-variants.{Value as FoundValue, Absent as FoundAbsent, Refused as FoundRefused}
-use Rattle.table.specs.declared.Begun.{Begun}
-use Rattle.table.specs.declared.Begun.the-variants.{Idle as OpenedIdle, Started, Refused as BegunRefused}
 use Rattle.descent.specs.declared.Slot.{Slot}
 use Rattle.descent.specs.declared.Slot.the-variants.{At, Absent as NoSlot}
 use Rattle.descent.specs.declared.Landing.{Landing}

@@ -6,24 +6,26 @@ use mathlib.Core.Option.{Option, none, some}
 use mathlib.Core.Logic.{_⊎_}
 use Prim.Native.Nat.{ℕ, suc, _+_, _*_, _≤_, _<_}
 use lib.ListN.{length}
-use Rattle.table.specs.Answers.{foundReply, stepReply}
+use Rattle.table.specs.Answers.{foundReply}
+use Rattle.state.specs.Answers.{stepReply}
+use Rattle.table.specs.Calls.{findOf, openOf, formatOf, stepOf, repairSteps}
+use Rattle.updates.specs.Starts.{insertOf, deleteOf}
+use Rattle.state.specs.declared.Doing.{Doing}
+use Rattle.state.specs.declared.Doing.the-variants.{Idle, Formatting, Inserting, Deleting, Repairing}
+use Rattle.state.specs.declared.Answer.{Answer}
+use Rattle.state.specs.declared.Answer.the-variants.{Stored, Ready, Absent, Value, Refused}
+use Rattle.table.specs.declared.Found.{Found}
+use Rattle.table.specs.declared.Found.the-variants.{Value as FoundValue, Absent as FoundAbsent, Refused as FoundRefused}
+use Rattle.state.specs.declared.Begun.{Begun}
+use Rattle.state.specs.declared.Begun.the-variants.{Idle as OpenedIdle, Started, Refused as BegunRefused}
 use Rattle.card.specs.Replies.{ready}
 use Rattle.card.specs.Layout.{depthLimit}
 use Rattle.promises.specs.Feeding.{kept-ledger, dictionary-answer}
 use Rattle.promises.specs.Ledger.{Ledger}
 use Rattle.promises.specs.Machine.{Event, World, opened, happens, run, find, insert, delete, step, crash}
-use Rattle.table.specs.Calls.{findOf, openOf, formatOf, stepOf, insertOf, deleteOf, repairSteps}
 use Rattle.tree.specs.Pairs.{pairs, lookup}
 use Rattle.tree.specs.Tree.{Tree}
 use Rattle.tree.specs.WellFormed.{keyLimit, WellFormed, Balanced}
-use Rattle.table.specs.declared.Doing.{Doing}
-use Rattle.table.specs.declared.Doing.the-variants.{Idle, Formatting, Inserting, Deleting, Repairing}
-use Rattle.table.specs.declared.Answer.{Answer}
-use Rattle.table.specs.declared.Answer.the-variants.{Stored, Ready, Absent, Value, Refused}
-use Rattle.table.specs.declared.Found.{Found}
-use Rattle.table.specs.declared.Found.the-variants.{Value as FoundValue, Absent as FoundAbsent, Refused as FoundRefused}
-use Rattle.table.specs.declared.Begun.{Begun}
-use Rattle.table.specs.declared.Begun.the-variants.{Idle as OpenedIdle, Started, Refused as BegunRefused}
 
 -- opening does not refuse the card
 pub record Accepted (c : List ℕ) : Type 0 where

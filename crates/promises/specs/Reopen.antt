@@ -25,17 +25,18 @@ use Rattle.soundness_theory.specs.Depth.{well-formed-depth}
 use Rattle.soundness_theory.specs.Facts.{Facts}
 use Rattle.soundness_theory.specs.Ranges.{well-formed-in-range, range-sound}
 use Rattle.soundness_theory.specs.Soundness.{sound-accepted}
-use Rattle.table.specs.Calls.{Handed, openSound, openChecked, openOf, isIdle}
-use Rattle.table.specs.Memory.{resting}
+use Rattle.state.specs.Steps.{Handed, isIdle}
+use Rattle.table.specs.Calls.{openSound, openChecked, openOf}
+use Rattle.state.specs.Memory.{resting}
+use Rattle.state.specs.declared.Doing.{Doing}
+use Rattle.state.specs.declared.Doing.the-variants.{Idle, Formatting, Inserting, Deleting, Repairing}
+use Rattle.state.specs.declared.Begun.{Begun}
+use Rattle.state.specs.declared.Begun.the-variants.{Idle as OpenedIdle, Started, Refused as BegunRefused}
 use Rattle.tree.specs.Pairs.{depth}
 use Rattle.tree.specs.Path.{depth-of, reserve, Violation}
 use Rattle.tree.specs.Tree.{Tree}
 use Rattle.tree.specs.Violations.{table-violations}
 use Rattle.tree.specs.WellFormed.{lowestKey, keyLimit, WellFormed}
-use Rattle.table.specs.declared.Doing.{Doing}
-use Rattle.table.specs.declared.Doing.the-variants.{Idle, Formatting, Inserting, Deleting, Repairing}
-use Rattle.table.specs.declared.Begun.{Begun}
-use Rattle.table.specs.declared.Begun.the-variants.{Idle as OpenedIdle, Started, Refused as BegunRefused}
 
 -- a sound tree on the card is a well-formed table, and the other way round
 pub table-well-formed : {c : List ℕ} {n : ℕ} {t : Tree} → Table c n t → WellFormed c t

@@ -4,7 +4,14 @@ use mathlib.Core.Path.{_≡_, ap, _∙_}
 use mathlib.Core.List.{List}
 use mathlib.Core.Bool.{Bool, true, false}
 use Prim.Native.Nat.{ℕ, _+_, _≤_, _<_}
-use Rattle.table.specs.Answers.{stepReply}
+use Rattle.state.specs.Answers.{stepReply}
+use Rattle.state.specs.Steps.{Handed}
+use Rattle.updates.specs.Starts.{startRefused, started, insertOf, deleteOf}
+use Rattle.updates.specs.Updates.{full, landing, insertReason, startRoom}
+use Rattle.state.specs.declared.Doing.{Doing}
+use Rattle.state.specs.declared.Doing.the-variants.{Idle, Formatting, Inserting, Deleting, Repairing}
+use Rattle.state.specs.declared.Begun.{Begun}
+use Rattle.state.specs.declared.Begun.the-variants.{Idle as OpenedIdle, Started, Refused as BegunRefused}
 use Rattle.card.specs.Layout.{nodeAt}
 use Rattle.free_nodes.specs.NodeSet.{countTrue}
 use Rattle.laws.specs.Cases.{pick}
@@ -18,14 +25,8 @@ use Rattle.promises.specs.PowerLoss.{kept-from}
 use Rattle.promises.specs.Promise.{Begins, Words}
 use Rattle.promises.specs.RoomLaws.{room-at, room-enough, room-short, room-other, begun-started}
 use Rattle.promises.specs.Starting.{lands, room-decides}
-use Rattle.table.specs.Calls.{Handed, startRefused, started, insertOf, deleteOf}
-use Rattle.table.specs.Updates.{full, landing, insertReason, startRoom}
 use Rattle.tree.specs.Pairs.{lookup}
 use Rattle.tree.specs.WellFormed.{lowestKey, keyLimit}
-use Rattle.table.specs.declared.Doing.{Doing}
-use Rattle.table.specs.declared.Doing.the-variants.{Idle, Formatting, Inserting, Deleting, Repairing}
-use Rattle.table.specs.declared.Begun.{Begun}
-use Rattle.table.specs.declared.Begun.the-variants.{Idle as OpenedIdle, Started, Refused as BegunRefused}
 use Rattle.descent.specs.declared.Landing.{Landing}
 use Rattle.descent.specs.declared.Landing.the-variants.{Refused as NoLanding, Leaf as LandingAt}
 

@@ -6,12 +6,12 @@ use Prim.Native.Nat.{ℕ, _+_, _≤_, _<_}
 use borrow.Author.Tests.{lt-ltb, le-ltb}
 use Rattle.card.specs.Layout.{nodeAt}
 use Rattle.free_nodes.specs.NodeSet.{countTrue}
-use Rattle.table.specs.Calls.{started}
-use Rattle.table.specs.Memory.{Memory}
-use Rattle.table.specs.Updates.{Reason, held, slot, full, landing, insertReason, roomFor, startRoom}
-use Rattle.table.specs.declared.Doing.{Doing}
-use Rattle.table.specs.declared.Begun.{Begun}
-use Rattle.table.specs.declared.Begun.the-variants.{Idle as OpenedIdle, Started, Refused as BegunRefused}
+use Rattle.updates.specs.Starts.{started}
+use Rattle.state.specs.Memory.{Memory}
+use Rattle.updates.specs.Updates.{Reason, held, slot, full, landing, insertReason, roomFor, startRoom}
+use Rattle.state.specs.declared.Doing.{Doing}
+use Rattle.state.specs.declared.Begun.{Begun}
+use Rattle.state.specs.declared.Begun.the-variants.{Idle as OpenedIdle, Started, Refused as BegunRefused}
 use Rattle.descent.specs.declared.Landing.{Landing}
 use Rattle.descent.specs.declared.Landing.the-variants.{Refused as NoLanding, Leaf as LandingAt}
 

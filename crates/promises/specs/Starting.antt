@@ -22,9 +22,16 @@ use Rattle.promises.specs.Ledger.{Update, Hand, Ledger, fed-a-start, fee
 use Rattle.promises.specs.Machine.{World, happens, run, insert, delete}
 use Rattle.promises.specs.Reopen.{table-depth-limited}
 use Rattle.promises.specs.Steps.{memory, job-busy}
-use Rattle.table.specs.Calls.{Handed, isIdle, startRefused, started, startLanded, startChecked, startOf, insertOf, deleteOf}
-use Rattle.table.specs.Memory.{Memory}
-use Rattle.table.specs.Updates.{landing, startRoom}
+use Rattle.state.specs.Steps.{Handed, isIdle}
+use Rattle.updates.specs.Starts.{startRefused, started, startLanded, startChecked, startOf, insertOf, deleteOf}
+use Rattle.state.specs.Memory.{Memory}
+use Rattle.updates.specs.Updates.{landing, startRoom}
+use Rattle.state.specs.declared.Doing.{Doing}
+use Rattle.state.specs.declared.Doing.the-variants.{Idle, Formatting, Inserting, Deleting, Repairing}
+use Rattle.state.specs.declared.Answer.{Answer}
+use Rattle.state.specs.declared.Answer.the-variants.{Stored, Ready, Absent, Value, Refused}
+use Rattle.state.specs.declared.Begun.{Begun}
+use Rattle.state.specs.declared.Begun.the-variants.{Idle as OpenedIdle, Started, Refused as BegunRefused}
 use Rattle.tree.specs.Lookup.{key-once, lookup-same}
 use Rattle.tree.specs.Pairs.{pairs, lookup}
 use Rattle.tree.specs.Path.{full-run}
@@ -32,12 +39,6 @@ use Rattle.tree.specs.Represent.{link-place}
 use Rattle.tree.specs.Tree.{Tree}
 use Rattle.tree.specs.Violations.{few, table-violations}
 use Rattle.tree.specs.WellFormed.{lowestKey, keyLimit}
-use Rattle.table.specs.declared.Doing.{Doing}
-use Rattle.table.specs.declared.Doing.the-variants.{Idle, Formatting, Inserting, Deleting, Repairing}
-use Rattle.table.specs.declared.Answer.{Answer}
-use Rattle.table.specs.declared.Answer.the-variants.{Stored, Ready, Absent, Value, Refused}
-use Rattle.table.specs.declared.Begun.{Begun}
-use Rattle.table.specs.declared.Begun.the-variants.{Idle as OpenedIdle, Started, Refused as BegunRefused}
 use Rattle.descent.specs.declared.Landing.{Landing}
 use Rattle.descent.specs.declared.Landing.the-variants.{Refused as NoLanding, Leaf as LandingAt}
 

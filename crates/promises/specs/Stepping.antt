@@ -9,8 +9,9 @@ use native.Mathlib.Omega.{arith}
 use lib.ListN.{length, set, getD, length-append}
 use Rattle.card.specs.Layout.{depthLimit, place, nodeAt, slot-pairs, leafPairs}
 use Rattle.card.specs.Stores.{Store, stores, node-stores}
-use Rattle.change.specs.Change.{splitLeaf}
-use Rattle.change.specs.Planning.{Preparation, takeNumbers, withoutAll, lastOf, giving, first, second, third, onSearch, nextRepair, balanced, prepared}
+use Rattle.plans.specs.Change.{splitLeaf}
+use Rattle.plans.specs.Planning.{Preparation, takeNumbers, withoutAll, lastOf, giving, first, second, third, balanced, prepared}
+use Rattle.change.specs.Mending.{onSearch, nextRepair}
 use Rattle.change_theory.specs.Exact.{Exact}
 use Rattle.change_theory.specs.LeafSplit.{withPair, splitNodes, split-change}
 use Rattle.change_theory.specs.Mended.{giving-some, change-stores, mended}
@@ -41,9 +42,14 @@ use Rattle.promises.specs.Slots.{slot-holds, slots-full}
 use Rattle.promises.specs.Steps.{memory, Busy, job-busy, step-idle, step-stores, prepared-ready, prepared-first, step-repairs, step-puts, step-removes}
 use Rattle.soundness_theory.specs.Depth.{balanced-levels, table-depth, nodes-within}
 use Rattle.soundness_theory.specs.Found.{found}
-use Rattle.table.specs.Calls.{Step, stepRefused, stepPrepared, isIdle, stepOf}
-use Rattle.table.specs.Memory.{Memory, idled, advanced}
-use Rattle.table.specs.Updates.{landing, startRoom}
+use Rattle.state.specs.Steps.{Step, stepRefused, isIdle}
+use Rattle.table.specs.Calls.{stepPrepared, stepOf}
+use Rattle.state.specs.Memory.{Memory, idled, advanced}
+use Rattle.updates.specs.Updates.{landing, startRoom}
+use Rattle.state.specs.declared.Doing.{Doing}
+use Rattle.state.specs.declared.Doing.the-variants.{Idle, Formatting, Inserting, Deleting, Repairing}
+use Rattle.state.specs.declared.Answer.{Answer}
+use Rattle.state.specs.declared.Answer.the-variants.{Stored, Ready, Absent, Value, Refused}
 use Rattle.tree.specs.Cut.{cut}
 use Rattle.tree.specs.Lookup.{absent-counted}
 use Rattle.tree.specs.Pairs.{pairs, lookup, has-key, lookup-none, depth}
@@ -53,10 +59,6 @@ use Rattle.tree.specs.Represent.{link-place, Holds}
 use Rattle.tree.specs.Tree.{Tree, Context, plug, leaf}
 use Rattle.tree.specs.Violations.{few, table-violations}
 use Rattle.tree.specs.WellFormed.{lowestKey, keyLimit}
-use Rattle.table.specs.declared.Doing.{Doing}
-use Rattle.table.specs.declared.Doing.the-variants.{Idle, Formatting, Inserting, Deleting, Repairing}
-use Rattle.table.specs.declared.Answer.{Answer}
-use Rattle.table.specs.declared.Answer.the-variants.{Stored, Ready, Absent, Value, Refused}
 use Rattle.descent.specs.declared.Slot.{Slot}
 use Rattle.descent.specs.declared.Slot.the-variants.{At, Absent as NoSlot}
 use Rattle.descent.specs.declared.Landing.{Landing}

@@ -11,19 +11,21 @@ use borrow.Author.Tests.{lt-ltb, ne-eqb, eq-eqb}
 use Rattle.card.specs.Header.{nodesOfLength, headerRefusal}
 use Rattle.card.specs.HeaderLaws.{Sized, sized-nodes, Formatted, formatted-header}
 use Rattle.card.specs.Stores.{Store}
-use Rattle.change.specs.Planning.{Preparation, nextRepair, balanced, prepared}
+use Rattle.plans.specs.Planning.{Preparation, balanced, prepared}
+use Rattle.change.specs.Mending.{nextRepair}
 use Rattle.laws.specs.Cases.{bool-cases, pick}
 use Rattle.promises.specs.Invariant.{Job, job-repair, job-insert, job-delete}
 use Rattle.promises.specs.Ledger.{Update}
 use Rattle.promises.specs.Machine.{World, happens, step}
-use Rattle.table.specs.Calls.{stepRefused, stepFinal, stepStore, stepFirst, planning, stepPrepared, stepBegin, stepPlan, stepWork, isIdle, stepHeld, stepDoing, stepOf}
-use Rattle.table.specs.Memory.{Memory, idled, advanced}
-use Rattle.table.specs.Updates.{landing, insertFirst, deleteFirst, repairs, nextChange}
+use Rattle.state.specs.Steps.{stepRefused, stepFinal, stepStore, stepFirst, isIdle}
+use Rattle.table.specs.Calls.{planning, stepPrepared, stepBegin, stepPlan, stepWork, stepHeld, stepDoing, stepOf}
+use Rattle.state.specs.Memory.{Memory, idled, advanced}
+use Rattle.updates.specs.Updates.{landing, insertFirst, deleteFirst, repairs, nextChange}
+use Rattle.state.specs.declared.Doing.{Doing}
+use Rattle.state.specs.declared.Doing.the-variants.{Idle, Formatting, Inserting, Deleting, Repairing}
+use Rattle.state.specs.declared.Answer.{Answer}
+use Rattle.state.specs.declared.Answer.the-variants.{Stored, Ready, Absent, Value, Refused}
 use Rattle.tree.specs.Cut.{cut}
-use Rattle.table.specs.declared.Doing.{Doing}
-use Rattle.table.specs.declared.Doing.the-variants.{Idle, Formatting, Inserting, Deleting, Repairing}
-use Rattle.table.specs.declared.Answer.{Answer}
-use Rattle.table.specs.declared.Answer.the-variants.{Stored, Ready, Absent, Value, Refused}
 
 -- the state, field by field
 abbrev pub memory : ℕ → List Bool → ℕ → Doing → List Store → List ℕ → Memory

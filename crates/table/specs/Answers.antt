@@ -1,28 +1,10 @@
 -- Document 01, "When an answer is an enum, a definition states this paper's number and values for each enum case."
-use Rattle.card.specs.Replies.{Reply, refusal, holds, absent, stored, ready, idle, started}
+use Rattle.card.specs.Replies.{Reply, refusal, holds, absent}
 use Rattle.table.specs.declared.Found.{Found}
 use Rattle.table.specs.declared.Found.the-variants.{Value as FoundValue, Absent as FoundAbsent, Refused as FoundRefused}
-use Rattle.table.specs.declared.Answer.{Answer}
-use Rattle.table.specs.declared.Answer.the-variants.{Stored, Ready, Absent, Value, Refused}
-use Rattle.table.specs.declared.Begun.{Begun}
-use Rattle.table.specs.declared.Begun.the-variants.{Idle as OpenedIdle, Started, Refused as BegunRefused}
 
 -- what a find answers
 unfoldable pub foundReply : Found → Reply
 foundReply (FoundValue v) = holds v
 foundReply FoundAbsent = absent
 foundReply (FoundRefused r) = refusal r
-
--- what a step answers
-unfoldable pub stepReply : Answer → Reply
-stepReply Stored = stored
-stepReply Ready = ready
-stepReply Absent = absent
-stepReply (Value v) = holds v
-stepReply (Refused r) = refusal r
-
--- what opening and starting answer
-unfoldable pub startReply : Begun → Reply
-startReply OpenedIdle = idle
-startReply Started = started
-startReply (BegunRefused r) = refusal r

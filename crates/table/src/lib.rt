@@ -1,86 +1,36 @@
 // The table: format, open, find, and the steps of what is being done (document 01, "State, steps and free nodes").
-mod formatting;
 mod lookup;
 mod opening;
-mod playing;
-mod states;
 mod steps;
-mod updates;
 
-use change::Plan;
 use descent::Landing;
-use formatting::step_format;
-use free_nodes::NodeSet;
 use lookup::found_at;
 use opening::open_checked;
-use states::no_beginning;
-use states::resting;
-pub use steps::is_idle;
+pub use state::Answer;
+pub use state::Beginning;
+pub use state::Begun;
+pub use state::Doing;
+pub use state::State;
+pub use state::Stepped;
+pub use state::is_idle;
+use state::no_beginning;
+use state::resting;
+use state::step_format;
 use steps::step_held;
 use updates::has_room;
 use updates::start_landed;
 use updates::start_refusal;
 ghost use mathlib.Core.Path.{_≡_};
-ghost use Rattle.table.specs.Memory.{memoryOf};
-ghost use Rattle.table.specs.Calls.{findOf, openOf, formatOf, stepOf, insertOf, deleteOf};
-ghost use Rattle.table.specs.Results.{handedOf, Unchanged, UnchangedStart};
-
-// What is being done: "either idle or holds one call or repair in progress". Formatting counts as a call.
-pub enum Doing {
-    Idle,
-    // how many stores were made
-    Formatting { made: usize },
-    // the pair to put in, and whether its first change was planned
-    Inserting { key: u32, value: u32, begun: bool },
-    // the key to take out, whether its first change was planned, and the value taken out
-    Deleting { key: u32, begun: bool, value: u32 },
-    // a key that leads to the violation
-    Repairing { key: u32 },
-}
-
-// "The state is held off the card and lost with power: N, the free nodes, the node given last, and what is being done."
-// The stores of the change in hand are the plan's from `made` on; the last of them cuts the nodes of `cut` out.
-pub struct State {
-    pub nodes: usize,
-    pub free: NodeSet,
-    pub last: usize,
-    pub doing: Doing,
-    pub plan: Plan,
-    pub made: usize,
-    pub cut: [u32; 3],
-}
+ghost use Rattle.state.specs.Memory.{memoryOf};
+ghost use Rattle.table.specs.Calls.{findOf, openOf, formatOf, stepOf};
+ghost use Rattle.updates.specs.Starts.{insertOf, deleteOf};
+ghost use Rattle.state.specs.Results.{handedOf, Unchanged, UnchangedStart};
 
 // What a find answers.
 pub enum Found {
     Value(u32),
     Absent,
     Refused(u32),
-}
-
-// What a step answers: a store was made, or the final answer of what was being done, or a refusal.
-pub enum Answer {
-    Stored,
-    Ready,
-    Absent,
-    Value(u32),
-    Refused(u32),
-}
-
-pub struct Stepped {
-    pub answer: Answer,
-    pub state: State,
-}
-
-// What opening and starting to format answer.
-pub enum Begun {
-    Idle,
-    Started,
-    Refused(u32),
-}
-
-pub struct Beginning {
-    pub begun: Begun,
-    pub state: State,
 }
 
 // "A find is one call on the card alone; it may come between steps and answers by the map at that moment."

@@ -1,17 +1,17 @@
 // Opening: "works out the free nodes, and hands back an idle state, or one with the repair in progress".
-use crate::Beginning;
-use crate::Begun;
-use crate::Doing;
-use crate::states::no_beginning;
-use crate::states::resting;
 use soundness::Survey;
+use state::Beginning;
+use state::Begun;
+use state::Doing;
+use state::no_beginning;
+use state::resting;
 ghost use mathlib.Core.Path.{_≡_};
 ghost use Prim.Native.Nat.{_+_, _*_, _≤_};
 ghost use lib.ListN.{length};
 ghost use Rattle.card.specs.Layout.{greatestNodes};
 ghost use Rattle.soundness.specs.Check.{findingsOf, tableCheck};
 ghost use Rattle.table.specs.Calls.{openSound, openChecked};
-ghost use Rattle.table.specs.Results.{handedOf};
+ghost use Rattle.state.specs.Results.{handedOf};
 
 // A sound table is opened. The run may be any number here, so 3 is taken from the free nodes and not added to it.
 fn open_sound(n: usize, found: Survey) -> Beginning

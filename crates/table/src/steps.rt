@@ -1,22 +1,24 @@
 // A step of anything but formatting: a store of the change in hand, or the next change.
-use crate::Answer;
-use crate::Doing;
-use crate::State;
-use crate::Stepped;
-use crate::playing::in_hand;
-use crate::playing::store_next;
-use crate::states::idled;
-use crate::updates::next_change;
-use change::Outcome;
-use change::Plan;
-use change::Planned;
+use plans::Outcome;
+use plans::Plan;
+use plans::Planned;
+use state::Answer;
+use state::Doing;
+use state::State;
+use state::Stepped;
+use state::idled;
+use state::in_hand;
+use state::is_idle;
+use state::store_next;
+use updates::next_change;
 ghost use mathlib.Core.Path.{_≡_};
 ghost use lib.ListN.{length};
 ghost use Rattle.card.specs.HeaderLaws.{Sized};
-ghost use Rattle.change.specs.Plan.{preparationOf};
-ghost use Rattle.table.specs.Memory.{memoryOf};
-ghost use Rattle.table.specs.Calls.{isIdle, stepPrepared, stepPlan, stepHeld};
-ghost use Rattle.table.specs.Results.{stepLeft, Unchanged, Final};
+ghost use Rattle.plans.specs.Plan.{preparationOf};
+ghost use Rattle.state.specs.Memory.{memoryOf};
+ghost use Rattle.state.specs.Steps.{isIdle};
+ghost use Rattle.table.specs.Calls.{stepPrepared, stepPlan, stepHeld};
+ghost use Rattle.state.specs.Results.{stepLeft, Unchanged, Final};
 
 // Where no change is in hand: refused, the final answer, or the first store of the change prepared.
 fn step_prepared(
@@ -55,27 +57,6 @@ fn step_prepared(
             };
             store_next(card, s, planned)
         }
-    }
-}
-
-// Whether nothing is being done.
-pub fn is_idle(doing: Doing) -> bool
-    ensures { λ r. ⌜ r ≡ isIdle doing ⌝ }
-{
-    match doing {
-        Doing::Idle => true,
-        Doing::Formatting { made: _ } => false,
-        Doing::Inserting {
-            key: _,
-            value: _,
-            begun: _,
-        } => false,
-        Doing::Deleting {
-            key: _,
-            begun: _,
-            value: _,
-        } => false,
-        Doing::Repairing { key: _ } => false,
     }
 }
 

@@ -6,8 +6,8 @@ use crate::random;
 use calls::Words;
 use calls::narrow;
 use calls::set_word;
-use change::Plan;
 use free_nodes::NodeSet;
+use plans::Plan;
 use table::Doing;
 use table::State;
 

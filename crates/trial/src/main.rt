@@ -6,7 +6,7 @@ mod cuts;
 mod garbage;
 mod places;
 mod random;
-mod updates;
+mod update_lists;
 
 use calls::Words;
 use calls::copy_words;
@@ -86,16 +86,16 @@ fn turn(
 ) -> State {
     let which = random::below(row, 64);
     if which < 3 {
-        updates::refused_call(card, row, s, which)
+        update_lists::refused_call(card, row, s, which)
     } else if which < 6 {
-        updates::short_card(card, row, s, which)
+        update_lists::short_card(card, row, s, which)
     } else if which < 9 {
         cuts::compare_one(card, keys, values, row);
         s
     } else if row[HAND] == 0 {
-        updates::start(card, keys, values, row, s)
+        update_lists::start(card, keys, values, row, s)
     } else {
-        let state = updates::step(card, keys, values, row, s);
+        let state = update_lists::step(card, keys, values, row, s);
         let chance = row[CHANCE];
         if random::below(row, chance) == 0 {
             let n = row[LENGTH] as usize;

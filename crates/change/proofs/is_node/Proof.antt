@@ -1,7 +1,7 @@
 -- `change::is_node` meets its contract.
 use borrow.Author.Tests.{lt-ltb, le-ltb}
-use Rattle.change.specs.ChangeLaws.{and-second, and-first}
-use Rattle.change.specs.Planning.{isNode}
+use Rattle.plans.specs.ChangeLaws.{and-second, and-first}
+use Rattle.change.specs.Mending.{isNode}
 use Rattle.change.proofs.is_node.Statement.{statement}
 use Rattle.change.proofs.is_node.Tie as tie
 

@@ -8,9 +8,9 @@ use borrow.Author.Needs.{needs}
 use Rattle.card.specs.Layout.{nodeAt, kindOf, children}
 use Rattle.card.specs.NodeLaws.{length-node, children-le}
 use Rattle.free_nodes.specs.NodeSet.{nodesOf}
-use Rattle.change.specs.ChangeLaws.{within-linked}
+use Rattle.plans.specs.ChangeLaws.{within-linked}
 use Rattle.change.specs.MendLaws.{mend-refused, mend-tagged, mend-underfull}
-use Rattle.change.specs.Planning.{mendTagged, mendUnderfull}
+use Rattle.change.specs.Mending.{mendTagged, mendUnderfull}
 use Rattle.change.proofs.mend.Statement.{statement}
 use Rattle.change.proofs.mend.Tie as tie
 

@@ -4,11 +4,12 @@ use mathlib.Core.Path.{sym, ap, ap₂, _∙_}
 use Prim.Native.Nat.{ℕ, _+_}
 use native.Mathlib.Omega.{arith}
 use lib.ListN.{length, getD}
+use borrow.Author.Tests.{not-true, not-false}
 use borrow.Author.Needs.{needs}
 use Rattle.card.specs.NodeLaws.{length-node}
 use Rattle.free_nodes.specs.NodeSet.{nodesOf}
-use Rattle.change.specs.MendLaws.{not-true, not-false, node-numbered, underfull-alone, underfull-left-off, underfull-right-off, underfull-both}
-use Rattle.change.specs.Planning.{mendSiblings}
+use Rattle.change.specs.MendLaws.{node-numbered, underfull-alone, underfull-left-off, underfull-right-off, underfull-both}
+use Rattle.change.specs.Mending.{mendSiblings}
 use Rattle.change.proofs.mend_underfull.Statement.{statement}
 use Rattle.change.proofs.mend_underfull.Tie as tie
 

@@ -9,11 +9,11 @@ use Rattle.laws.specs.Lists.{before-zero}
 use Rattle.laws.specs.Sorting.{sort, length-sort}
 use Rattle.card.specs.Layout.{leafPairs}
 use Rattle.free_nodes.specs.NodeSet.{nodesOf}
-use Rattle.change.specs.Change.{Together}
-use Rattle.change.specs.ChangeLaws.{split-leaf, cut-one}
+use Rattle.plans.specs.Change.{Together}
+use Rattle.plans.specs.ChangeLaws.{split-leaf, cut-one}
 use Rattle.change.specs.MendLaws.{leaf-pooled}
-use Rattle.change.specs.Plan.{splitUnder}
-use Rattle.change.specs.Planning.{giving, first, second, third}
+use Rattle.plans.specs.Plan.{splitUnder}
+use Rattle.plans.specs.Planning.{giving, first, second, third}
 use Rattle.change.proofs.split_leaf.Statement.{statement}
 use Rattle.change.proofs.split_leaf.Tie as tie
 

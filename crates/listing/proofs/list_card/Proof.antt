@@ -1,8 +1,9 @@
 use mathlib.Core.Path.{ap, sym, _∙_}
 use lib.ListN.{length}
 use Rattle.card.specs.Header.{nodesOfLength}
-use Rattle.table.specs.Calls.{Handed, repairSteps}
-use Rattle.table.specs.Results.{handedOf}
+use Rattle.state.specs.Steps.{Handed}
+use Rattle.table.specs.Calls.{repairSteps}
+use Rattle.state.specs.Results.{handedOf}
 use Rattle.listing.specs.Listing.{repairedCard, Listed, listTable, listCard, layListed}
 use Rattle.listing.specs.Summaries.{summaryOf}
 use Rattle.listing.specs.SummaryLaws.{summary-refused, card-refused, card-idle, card-started, left-refused, left-idle, left-started}

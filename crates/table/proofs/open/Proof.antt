@@ -5,7 +5,8 @@ use lib.ListN.{length}
 use Rattle.card.specs.HeaderLaws.{Sized, sized, card-sized}
 use Rattle.soundness.specs.Check.{tableCheck}
 use Rattle.table.specs.CallLaws.{open-refused, open-unrefused}
-use Rattle.table.specs.Calls.{noBeginning, openChecked}
+use Rattle.state.specs.Steps.{noBeginning}
+use Rattle.table.specs.Calls.{openChecked}
 use borrow.Author.Needs.{needs}
 use Rattle.table.proofs.open.Statement.{statement}
 use Rattle.table.proofs.open.Tie as tie

@@ -6,12 +6,12 @@ use native.Mathlib.Omega.{arith}
 use lib.ListN.{length}
 use Rattle.descent.specs.declared.Landing.{Landing}
 use Rattle.card.specs.HeaderLaws.{Sized}
-use Rattle.table.specs.Calls.{startRefused, started, startLanded, deleteOf}
-use Rattle.table.specs.Memory.{memoryOf}
-use Rattle.table.specs.Results.{handedOf}
-use Rattle.table.specs.UpdateLaws.{start-refused, start-taken, start-sized, started-no-refusal}
-use Rattle.table.specs.Updates.{landing}
-use Rattle.table.specs.declared.Doing.the-variants.{Deleting}
+use Rattle.updates.specs.Starts.{startRefused, started, startLanded, deleteOf}
+use Rattle.state.specs.Memory.{memoryOf}
+use Rattle.state.specs.Results.{handedOf}
+use Rattle.updates.specs.UpdateLaws.{start-refused, start-taken, start-sized, started-no-refusal}
+use Rattle.updates.specs.Updates.{landing}
+use Rattle.state.specs.declared.Doing.the-variants.{Deleting}
 use borrow.Author.Needs.{needs}
 use Rattle.table.proofs.start_delete.Statement.{statement}
 use Rattle.table.proofs.start_delete.Tie as tie

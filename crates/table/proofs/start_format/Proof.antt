@@ -6,10 +6,10 @@ use native.Mathlib.Omega.{arith}
 use lib.ListN.{set}
 use Rattle.card.specs.HeaderLaws.{sized}
 use Rattle.table.specs.CallLaws.{format-no-length, format-length}
-use Rattle.table.specs.Memory.{Memory, resting}
-use Rattle.table.specs.Results.{handedOf}
-use Rattle.table.specs.declared.Doing.the-variants.{Formatting}
-use Rattle.table.specs.declared.Begun.the-variants.{Started}
+use Rattle.state.specs.Memory.{Memory, resting}
+use Rattle.state.specs.Results.{handedOf}
+use Rattle.state.specs.declared.Doing.the-variants.{Formatting}
+use Rattle.state.specs.declared.Begun.the-variants.{Started}
 use borrow.Author.Needs.{needs}
 use Rattle.table.proofs.start_format.Statement.{statement}
 use Rattle.table.proofs.start_format.Tie as tie

@@ -5,20 +5,20 @@ use mathlib.Core.Bool.{false, Bool}
 use Prim.Native.Nat.{ℕ, _<_}
 use native.Mathlib.Omega.{arith}
 use lib.ListN.{length, getD}
+use borrow.Author.Tests.{not-true, not-false}
 use Rattle.laws.specs.Cases.{pick}
 use Rattle.card.specs.HeaderLaws.{Sized}
 use Rattle.card.specs.Layout.{depthLimit, rootPlace}
 use Rattle.card.specs.NodeLaws.{length-node}
-use Rattle.change.specs.MendLaws.{not-true, not-false}
 use Rattle.free_nodes.specs.NodeSet.{nodesOf}
-use Rattle.table.specs.CallLaws.{Inside, landing-inside}
-use Rattle.table.specs.Calls.{startRefused, started, startLanded, insertOf}
-use Rattle.table.specs.Memory.{memoryOf}
-use Rattle.table.specs.Results.{handedOf}
-use Rattle.table.specs.UpdateLaws.{start-refused, start-taken, start-sized, landed-room, landed-no-room, started-no-refusal}
-use Rattle.table.specs.Updates.{landing, insertReason, roomFor, startRoom}
+use Rattle.updates.specs.Inside.{Inside, landing-inside}
+use Rattle.updates.specs.Starts.{startRefused, started, startLanded, insertOf}
+use Rattle.state.specs.Memory.{memoryOf}
+use Rattle.state.specs.Results.{handedOf}
+use Rattle.updates.specs.UpdateLaws.{start-refused, start-taken, start-sized, started-no-refusal}
+use Rattle.updates.specs.Updates.{landing, insertReason, roomFor, startRoom}
+use Rattle.state.specs.declared.Doing.the-variants.{Inserting}
 use Rattle.descent.specs.declared.Landing.{Landing}
-use Rattle.table.specs.declared.Doing.the-variants.{Inserting}
 use borrow.Author.Needs.{needs}
 use Rattle.table.proofs.start_insert.Statement.{statement}
 use Rattle.table.proofs.start_insert.Tie as tie

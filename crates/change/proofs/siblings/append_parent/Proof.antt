@@ -6,7 +6,7 @@ use lib.ListN.{length}
 use borrow.Author.Needs.{needs}
 use Rattle.card.specs.Layout.{children}
 use Rattle.card.specs.NodeLaws.{children-le, length-routing}
-use Rattle.change.specs.ChangeLaws.{parent-copied}
+use Rattle.plans.specs.ChangeLaws.{parent-copied}
 use Rattle.change.proofs.siblings.append_parent.Statement.{statement}
 use Rattle.change.proofs.siblings.append_parent.Tie as tie
 

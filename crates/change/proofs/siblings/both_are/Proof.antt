@@ -1,7 +1,7 @@
 -- `change::siblings::both_are` meets its contract.
 use borrow.Author.Needs.{needs}
 use borrow.Author.Tests.{eq-eqb, ne-eqb}
-use Rattle.change.specs.ChangeLaws.{and-second, and-first}
+use Rattle.plans.specs.ChangeLaws.{and-second, and-first}
 use Rattle.change.proofs.siblings.both_are.Statement.{statement}
 use Rattle.change.proofs.siblings.both_are.Tie as tie
 

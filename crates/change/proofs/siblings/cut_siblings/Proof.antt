@@ -4,7 +4,7 @@ use native.Mathlib.Omega.{arith}
 use lib.ListN.{length}
 use borrow.Author.Needs.{needs}
 use Rattle.card.specs.NodeLaws.{children-le}
-use Rattle.change.specs.ChangeLaws.{cut-siblings}
+use Rattle.plans.specs.ChangeLaws.{cut-siblings}
 use Rattle.change.proofs.siblings.cut_siblings.Statement.{statement}
 use Rattle.change.proofs.siblings.cut_siblings.Tie as tie
 

@@ -4,7 +4,7 @@ use Prim.Native.Nat.{ℕ}
 use lib.Dec.{eqb}
 use borrow.Author.Needs.{needs}
 use borrow.Author.Tests.{eq-eqb, ne-eqb}
-use Rattle.change.specs.ChangeLaws.{and-second, and-first}
+use Rattle.plans.specs.ChangeLaws.{and-second, and-first}
 use Rattle.change.proofs.siblings.is_root_of_two.Statement.{statement}
 use Rattle.change.proofs.siblings.is_root_of_two.Tie as tie
 

@@ -7,9 +7,9 @@ use borrow.Author.Needs.{needs}
 use Rattle.card.specs.Layout.{children, routingKeys}
 use Rattle.card.specs.NodeLaws.{children-le, length-routing}
 use Rattle.free_nodes.specs.NodeSet.{nodesOf}
-use Rattle.change.specs.Change.{Together}
+use Rattle.plans.specs.Change.{Together}
 use Rattle.change.specs.MendLaws.{together-many, inners-count, inners-pooled}
-use Rattle.change.specs.Planning.{mendTogether}
+use Rattle.change.specs.Mending.{mendTogether}
 use Rattle.change.proofs.siblings.mend_inners.Statement.{statement}
 use Rattle.change.proofs.siblings.mend_inners.Tie as tie
 

@@ -4,10 +4,10 @@ use native.Mathlib.Omega.{arith}
 use lib.ListN.{length}
 use borrow.Author.Needs.{needs}
 use Rattle.free_nodes.specs.NodeSet.{nodesOf}
-use Rattle.change.specs.Change.{Together}
+use Rattle.plans.specs.Change.{Together}
 use Rattle.change.specs.MendLaws.{together-many, leaves-count, leaves-pooled}
-use Rattle.change.specs.PairLaws.{leaf-few}
-use Rattle.change.specs.Planning.{mendTogether}
+use Rattle.plans.specs.PairLaws.{leaf-few}
+use Rattle.change.specs.Mending.{mendTogether}
 use Rattle.change.proofs.siblings.mend_leaves.Statement.{statement}
 use Rattle.change.proofs.siblings.mend_leaves.Tie as tie
 

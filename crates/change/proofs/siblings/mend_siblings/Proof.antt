@@ -1,8 +1,9 @@
 -- `change::siblings::mend_siblings` meets its contract.
 use mathlib.Core.Path.{sym, _∙_}
 use native.Mathlib.Omega.{arith}
+use borrow.Author.Tests.{not-true, not-false}
 use borrow.Author.Needs.{needs}
-use Rattle.change.specs.MendLaws.{not-true, not-false, siblings-leaves, siblings-mixed, siblings-left-bare, siblings-right-bare, siblings-inners}
+use Rattle.change.specs.MendLaws.{siblings-leaves, siblings-mixed, siblings-left-bare, siblings-right-bare, siblings-inners}
 use Rattle.change.proofs.siblings.mend_siblings.Statement.{statement}
 use Rattle.change.proofs.siblings.mend_siblings.Tie as tie
 

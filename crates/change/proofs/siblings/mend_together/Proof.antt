@@ -3,10 +3,10 @@ use mathlib.Core.Path.{_≡_, sym, _∙_}
 use native.Mathlib.Omega.{arith}
 use lib.ListN.{length}
 use borrow.Author.Needs.{needs}
-use Rattle.change.specs.ChangeLaws.{keys-range}
+use Rattle.plans.specs.ChangeLaws.{keys-range}
 use Rattle.change.specs.MendLaws.{together-shared, together-root, together-merged}
-use Rattle.change.specs.Plan.{togetherOf}
-use Rattle.change.specs.RowLaws.{length-words}
+use Rattle.plans.specs.Plan.{togetherOf}
+use Rattle.plans.specs.RowLaws.{length-words}
 use Rattle.change.proofs.siblings.mend_together.Statement.{statement}
 use Rattle.change.proofs.siblings.mend_together.Tie as tie
 

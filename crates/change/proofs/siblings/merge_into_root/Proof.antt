@@ -6,11 +6,11 @@ use native.Mathlib.Omega.{arith}
 use lib.ListN.{length}
 use borrow.Author.Needs.{needs}
 use Rattle.free_nodes.specs.NodeSet.{wordCount, nodesOf}
-use Rattle.change.specs.ChangeLaws.{planned-root}
-use Rattle.change.specs.NumberLaws.{Given, one-given, take-none, take-one, giving-none}
-use Rattle.change.specs.Plan.{togetherOf}
-use Rattle.change.specs.PlanLaws.{none-planned}
-use Rattle.change.specs.Planning.{takeNumbers}
+use Rattle.plans.specs.ChangeLaws.{planned-root}
+use Rattle.plans.specs.NumberLaws.{Given, one-given, take-none, take-one, giving-none}
+use Rattle.plans.specs.Plan.{togetherOf}
+use Rattle.plans.specs.PlanLaws.{none-planned}
+use Rattle.plans.specs.Planning.{takeNumbers}
 use Rattle.change.proofs.siblings.merge_into_root.Statement.{statement}
 use Rattle.change.proofs.siblings.merge_into_root.Tie as tie
 

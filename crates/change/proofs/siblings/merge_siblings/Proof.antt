@@ -6,11 +6,11 @@ use native.Mathlib.Omega.{arith}
 use lib.ListN.{length}
 use borrow.Author.Needs.{needs}
 use Rattle.free_nodes.specs.NodeSet.{wordCount, nodesOf}
-use Rattle.change.specs.ChangeLaws.{planned-merge}
-use Rattle.change.specs.NumberLaws.{Given, two-given, giving-none}
-use Rattle.change.specs.Plan.{twoOf, togetherOf}
-use Rattle.change.specs.PlanLaws.{none-planned}
-use Rattle.change.specs.Planning.{takeNumbers}
+use Rattle.plans.specs.ChangeLaws.{planned-merge}
+use Rattle.plans.specs.NumberLaws.{Given, two-given, giving-none}
+use Rattle.plans.specs.Plan.{twoOf, togetherOf}
+use Rattle.plans.specs.PlanLaws.{none-planned}
+use Rattle.plans.specs.Planning.{takeNumbers}
 use Rattle.change.proofs.siblings.merge_siblings.Statement.{statement}
 use Rattle.change.proofs.siblings.merge_siblings.Tie as tie
 

@@ -6,11 +6,11 @@ use native.Mathlib.Omega.{arith}
 use lib.ListN.{length}
 use borrow.Author.Needs.{needs}
 use Rattle.free_nodes.specs.NodeSet.{wordCount, nodesOf}
-use Rattle.change.specs.ChangeLaws.{planned-share}
-use Rattle.change.specs.NumberLaws.{Given, three-given, giving-none}
-use Rattle.change.specs.Plan.{threeOf, togetherOf}
-use Rattle.change.specs.PlanLaws.{none-planned}
-use Rattle.change.specs.Planning.{takeNumbers}
+use Rattle.plans.specs.ChangeLaws.{planned-share}
+use Rattle.plans.specs.NumberLaws.{Given, three-given, giving-none}
+use Rattle.plans.specs.Plan.{threeOf, togetherOf}
+use Rattle.plans.specs.PlanLaws.{none-planned}
+use Rattle.plans.specs.Planning.{takeNumbers}
 use Rattle.change.proofs.siblings.share_out.Statement.{statement}
 use Rattle.change.proofs.siblings.share_out.Tie as tie
 

@@ -4,7 +4,7 @@ use native.Mathlib.Omega.{arith}
 use lib.ListN.{length}
 use borrow.Author.Needs.{needs}
 use Rattle.card.specs.NodeLaws.{children-le}
-use Rattle.change.specs.ChangeLaws.{children-joined}
+use Rattle.plans.specs.ChangeLaws.{children-joined}
 use Rattle.change.proofs.tagged.joined_children.Statement.{statement}
 use Rattle.change.proofs.tagged.joined_children.Tie as tie
 

@@ -4,7 +4,7 @@ use native.Mathlib.Omega.{arith}
 use lib.ListN.{length}
 use borrow.Author.Needs.{needs}
 use Rattle.card.specs.NodeLaws.{children-le, length-routing}
-use Rattle.change.specs.ChangeLaws.{keys-joined}
+use Rattle.plans.specs.ChangeLaws.{keys-joined}
 use Rattle.change.proofs.tagged.joined_keys.Statement.{statement}
 use Rattle.change.proofs.tagged.joined_keys.Tie as tie
 

@@ -6,9 +6,9 @@ use native.Mathlib.Omega.{arith}
 use borrow.Author.Needs.{needs}
 use Rattle.card.specs.NodeLaws.{children-le}
 use Rattle.free_nodes.specs.NodeSet.{nodesOf}
-use Rattle.change.specs.Change.{absorb, splitParent}
+use Rattle.plans.specs.Change.{absorb, splitParent}
 use Rattle.change.specs.MendLaws.{tagged-refused, tagged-absorbed, tagged-split}
-use Rattle.change.specs.Planning.{giving, first, second, third}
+use Rattle.plans.specs.Planning.{giving, first, second, third}
 use Rattle.change.proofs.tagged.mend_tagged.Statement.{statement}
 use Rattle.change.proofs.tagged.mend_tagged.Tie as tie
 

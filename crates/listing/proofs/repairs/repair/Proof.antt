@@ -3,7 +3,7 @@ use Prim.Native.Nat.{_-_}
 use native.Mathlib.Omega.{arith}
 use lib.ListN.{length}
 use Rattle.table.specs.Calls.{repairSteps}
-use Rattle.table.specs.Memory.{memoryOf}
+use Rattle.state.specs.Memory.{memoryOf}
 use Rattle.listing.specs.Listing.{repairedCard}
 use Rattle.listing.specs.Summaries.{leftBy}
 use Rattle.listing.specs.SummaryLaws.{repair-idle, repair-over, repair-on}

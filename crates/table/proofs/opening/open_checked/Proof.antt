@@ -1,6 +1,6 @@
 -- `table::opening::open_checked` meets its contract.
 use mathlib.Core.Path.{ap, sym, _∙_}
-use Rattle.change.specs.MendLaws.{not-true, not-false}
+use borrow.Author.Tests.{not-true, not-false}
 use Rattle.soundness.specs.CheckLaws.{checked-ok, checked-bad}
 use Rattle.table.specs.Calls.{openChecked}
 use borrow.Author.Needs.{needs}

@@ -3,9 +3,9 @@ use mathlib.Core.Path.{ap, sym, _∙_}
 use native.Mathlib.Omega.{arith}
 use Rattle.soundness.specs.Check.{findingsOf}
 use Rattle.table.specs.CallLaws.{open-scarce, open-repair, open-idle}
-use Rattle.table.specs.Memory.{Memory}
-use Rattle.table.specs.Results.{handedOf}
-use Rattle.table.specs.declared.Begun.the-variants.{Idle as OpenedIdle, Started}
+use Rattle.state.specs.Memory.{Memory}
+use Rattle.state.specs.Results.{handedOf}
+use Rattle.state.specs.declared.Begun.the-variants.{Idle as OpenedIdle, Started}
 use borrow.Author.Needs.{needs}
 use Rattle.table.proofs.opening.open_sound.Statement.{statement}
 use Rattle.table.proofs.opening.open_sound.Tie as tie

@@ -1,8 +1,8 @@
 -- `table::steps::step_held` meets its contract.
 use mathlib.Core.Path.{refl, sym, _∙_}
-use Rattle.table.specs.Calls.{stepRefused}
-use Rattle.table.specs.Memory.{memoryOf}
-use Rattle.table.specs.Results.{stepLeft}
+use Rattle.state.specs.Steps.{stepRefused}
+use Rattle.state.specs.Memory.{memoryOf}
+use Rattle.state.specs.Results.{stepLeft}
 use Rattle.table.specs.StepLaws.{held-refused, held-idle, held-store, held-plan}
 use borrow.Author.Needs.{needs}
 use Rattle.table.proofs.steps.step_held.Statement.{statement}

@@ -2,10 +2,10 @@
 use mathlib.Core.Path.{refl, ap, sym, _∙_}
 use Rattle.free_nodes.specs.NodeSet.{nodesOf}
 use Rattle.table.specs.Calls.{stepBegin, stepPlan}
-use Rattle.table.specs.Memory.{memoryOf}
-use Rattle.table.specs.Results.{firstOf}
-use Rattle.table.specs.UpdateLaws.{next-final}
-use Rattle.table.specs.Updates.{FirstChange}
+use Rattle.state.specs.Memory.{memoryOf}
+use Rattle.updates.specs.Results.{firstOf}
+use Rattle.updates.specs.UpdateLaws.{next-final}
+use Rattle.updates.specs.Updates.{FirstChange}
 use borrow.Author.Needs.{needs}
 use Rattle.table.proofs.steps.step_plan.Statement.{statement}
 use Rattle.table.proofs.steps.step_plan.Tie as tie

@@ -2,15 +2,16 @@
 use mathlib.Core.Path.{refl, ap, sym, _∙_}
 use mathlib.Core.List.{[]}
 use Prim.Native.Nat.{ℕ}
-use Rattle.change.specs.Plan.{storesOf, planIn, onOutcome, preparationOf}
-use Rattle.change.specs.Planning.{Preparation, prepared}
+use Rattle.plans.specs.Plan.{storesOf, planIn, onOutcome, preparationOf}
+use Rattle.plans.specs.Planning.{Preparation, prepared}
+use Rattle.plans.specs.declared.Outcome.{Outcome}
 use Rattle.free_nodes.specs.NodeSet.{nodesOf}
 use Rattle.laws.specs.Lists.{before-zero}
-use Rattle.table.specs.Calls.{stepRefused, stepFinal, stepFirst, planning, stepPrepared}
-use Rattle.table.specs.Memory.{Memory, memoryOf}
-use Rattle.table.specs.Results.{stepLeft}
-use Rattle.table.specs.StepLaws.{first-same}
-use Rattle.change.specs.declared.Outcome.{Outcome}
+use Rattle.state.specs.Steps.{stepRefused, stepFinal, stepFirst}
+use Rattle.table.specs.Calls.{planning, stepPrepared}
+use Rattle.state.specs.Memory.{Memory, memoryOf}
+use Rattle.state.specs.Results.{stepLeft}
+use Rattle.state.specs.StepLaws.{first-same}
 use borrow.Author.Needs.{needs}
 use Rattle.table.proofs.steps.step_prepared.Statement.{statement}
 use Rattle.table.proofs.steps.step_prepared.Tie as tie

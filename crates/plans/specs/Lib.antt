@@ -1,0 +1,9 @@
+pub mod Change
+pub mod Planning
+pub mod Rows
+pub mod RowLaws
+pub mod PairLaws
+pub mod Plan
+pub mod PlanLaws
+pub mod NumberLaws
+pub mod ChangeLaws

@@ -1,0 +1,115 @@
+-- What the plans, the numbers and the answers in code say, in the terms of Change and Planning. These are definitions.
+use mathlib.Core.Path.{_≡_}
+use mathlib.Core.List.{List, [], _∷_, _++_, zip}
+use mathlib.Core.Option.{Option, none, some}
+use Prim.Native.Nat.{ℕ, suc, _+_, _-_, _*_, _^_, _≤_, _<_}
+use lib.ListN.{length, take, drop}
+use lib.Dec.{eqb}
+use Rattle.card.specs.Layout.{greatestNodes, nodeAt, children, routingKeys}
+use Rattle.card.specs.Stores.{Store, NewNode, new-node}
+use Rattle.plans.specs.Change.{Change, kindAbove, Together, half, leftKeys, keyBetween}
+use Rattle.plans.specs.Planning.{Preparation, refused, balanced, prepared}
+use Rattle.plans.specs.Rows.{wordsOf}
+use Rattle.free_nodes.specs.NodeSet.{nodesOf}
+use Rattle.laws.specs.Cases.{pick}
+use Rattle.laws.specs.Lists.{before-zero}
+use Rattle.plans.specs.declared.Plan.{Plan}
+use Rattle.plans.specs.declared.Planned.{Planned}
+use Rattle.plans.specs.declared.halves.Pool.{Pool}
+use Rattle.plans.specs.declared.Outcome.{Outcome}
+use Rattle.plans.specs.declared.Outcome.the-variants.{Refused, Balanced, Prepared}
+use Rattle.plans.specs.declared.numbers.Two.{Two}
+use Rattle.plans.specs.declared.numbers.Two.the-variants.{Nodes as TwoNodes, Nothing as NoTwo}
+use Rattle.plans.specs.declared.numbers.Three.{Three}
+use Rattle.plans.specs.declared.numbers.Three.the-variants.{Nodes as ThreeNodes, Nothing as NoThree}
+use Rattle.descent.specs.declared.Position.{Position}
+
+-- the stores of a plan: each place with its value
+unfoldable pub storesOf : Plan → List Store
+storesOf p = zip (take (p .count) (p .places)) (take (p .count) (p .values))
+
+-- a plan in the rows of places and values that a step lends
+abbrev pub planIn : List ℕ → List ℕ → ℕ → Plan
+planIn places values count = record { places = places; values = values; count = count }
+
+-- so many stores more, and which
+pub record Extends (p r : Plan) (count : ℕ) (more : List Store) : Type 0 where
+  pub counted : r .count ≡ p .count + count
+  pub listed : storesOf r ≡ storesOf p ++ more
+
+-- what is planned, as the definitions have it
+unfoldable pub onOutcome : Outcome → Preparation → Preparation
+onOutcome Refused change = refused
+onOutcome Balanced change = balanced
+onOutcome Prepared change = change
+
+unfoldable pub preparationOf : List ℕ → List ℕ → Planned → Preparation
+preparationOf places values r = onOutcome (r .outcome) (prepared (storesOf (planIn places values (r .count))) (nodesOf (r .free .words)) (r .last) (before-zero (r .cut)))
+
+-- what is planned whatever the rows hold
+abbrev pub InAnyRows : Planned → (List ℕ → List ℕ → Preparation) → Type 0
+InAnyRows r planned = (places values : List ℕ) → preparationOf places values r ≡ planned places values
+
+-- the numbers found
+unfoldable pub twoOf : Two → Option (List ℕ)
+twoOf (TwoNodes a b) = some (a ∷ b ∷ [])
+twoOf NoTwo = none
+
+unfoldable pub threeOf : Three → Option (List ℕ)
+threeOf (ThreeNodes a b c) = some (a ∷ b ∷ c ∷ [])
+threeOf NoThree = none
+
+-- what siblings hold together
+unfoldable pub togetherOf : Pool → Together
+togetherOf b = record { kind = b .kind; keys = wordsOf (b .keys); values = wordsOf (b .values) }
+
+-- the keys that go with so many values: as many for leaves, one fewer for internal nodes
+pub record Keyed (b : Pool) : Type 0 where
+  pub few : b .values .count ≤ 12
+  pub keyed : b .keys .count ≡ pick (eqb (b .kind) 1) (b .values .count) (b .values .count - 1)
+
+-- enough to share out
+pub record Whole (b : Pool) : Type 0 where
+  pub fits : Keyed b
+  pub enough : 4 ≤ b .values .count
+
+-- the two nodes that share what there is
+unfoldable pub halves : Together → ℕ → ℕ → List NewNode
+halves both a b =
+    new-node a (both .kind) (take (leftKeys both (half (length (both .values)))) (both .keys)) (take (half (length (both .values))) (both .values))
+    ∷ new-node b (both .kind) (drop (half (length (both .values))) (both .keys)) (drop (half (length (both .values))) (both .values))
+    ∷ []
+
+-- a copy of a parent with other keys in the place of routing key j, and other children in the place of j and j + 1
+unfoldable pub copied : ℕ → List ℕ → ℕ → List ℕ → List ℕ → NewNode
+copied m parent j keys kids =
+    new-node m 2 (take j (routingKeys parent) ++ (keys ++ drop (suc j) (routingKeys parent))) (take j (children parent) ++ (kids ++ drop (suc (suc j)) (children parent)))
+
+-- two nodes that share what there is, under a node with the key between them
+unfoldable pub splitUnder : ℕ → Together → List ℕ → ℕ → ℕ → ℕ → Change
+splitUnder link both cut a b c =
+    record {
+      nodes = halves both a b ++ new-node c (kindAbove link) (keyBetween both (half (length (both .values))) ∷ []) (a ∷ b ∷ []) ∷ [];
+      link = link;
+      top = c;
+      cut = cut;
+    }
+
+-- a position's numbers are nodes', and the place of its link fits a plan
+pub record Linked (p : Position) : Type 0 where
+  pub parent-from : 1 ≤ p .parent
+  pub parent-to : p .parent ≤ greatestNodes
+  pub node-from : 1 ≤ p .node
+  pub node-to : p .node ≤ greatestNodes
+  pub link : p .above < 2 ^ 32
+
+-- a position on a card of n nodes that has a parent
+pub record PositionWithin (card : List ℕ) (n : ℕ) (p : Position) : Type 0 where
+  pub size : length card ≡ 8 + 24 * n
+  pub few : n ≤ greatestNodes
+  pub parent-from : 1 ≤ p .parent
+  pub parent-to : p .parent ≤ n
+  pub node-from : 1 ≤ p .node
+  pub node-to : p .node ≤ n
+  pub child : p .index < length (children (nodeAt card (p .parent)))
+  pub link : p .above < 2 ^ 32

@@ -1,0 +1,19 @@
+-- `state::formatting::formatting` meets its contract.
+use mathlib.Core.Path.{refl, ap}
+use Prim.Native.Nat.{ℕ}
+use native.Mathlib.Numerals.{add-one}
+use Rattle.state.specs.Steps.{formatting}
+use Rattle.state.specs.Memory.{memoryOf}
+use borrow.Author.Needs.{needs}
+use Rattle.state.proofs.formatting.formatting.Statement.{statement}
+use Rattle.state.proofs.formatting.formatting.Tie as tie
+
+add-t4 : tie.Need-add-t4
+add-t4 c = search needs
+
+returns : tie.Need-returns
+unfolding memoryOf formatting
+returns c = (refl, ap (λ (x : ℕ). formatting (memoryOf (c .before .before .before .args .s)) x) (add-one (c .before .before .before .args .made)))
+
+pub formatting-spec : {M : Type 1} → statement M
+formatting-spec = tie.close (tie.spec add-t4 returns)

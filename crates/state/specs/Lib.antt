@@ -1,0 +1,5 @@
+pub mod Memory
+pub mod Steps
+pub mod Results
+pub mod StepLaws
+pub mod Answers

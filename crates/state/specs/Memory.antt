@@ -1,0 +1,55 @@
+-- Document 01, "State, steps and free nodes": the state, as a reader sees it.
+use mathlib.Core.Bool.{Bool}
+use mathlib.Core.List.{List, [], _∷_}
+use Prim.Native.Nat.{ℕ}
+use lib.ListN.{drop}
+use Rattle.laws.specs.Lists.{before-zero}
+use Rattle.card.specs.Stores.{Store}
+use Rattle.free_nodes.specs.NodeSet.{nodesOf, allNodes}
+use Rattle.plans.specs.Planning.{withAll}
+use Rattle.plans.specs.Plan.{storesOf}
+use Rattle.state.specs.declared.State.{State}
+use Rattle.state.specs.declared.Doing.{Doing}
+use Rattle.state.specs.declared.Doing.the-variants.{Idle}
+
+-- N, the free nodes, the node given last, what is being done, the stores of the change in hand that are still to come, and
+-- the nodes that the last of them cuts out. Two states that agree in these are one state to every call.
+pub record Memory : Type 0 where
+  pub nodes : ℕ
+  pub free : List Bool
+  pub last : ℕ
+  pub doing : Doing
+  pub rest : List Store
+  pub cut : List ℕ
+
+unfoldable pub memoryOf : State → Memory
+memoryOf s =
+    record {
+      nodes = s .nodes;
+      free = nodesOf (s .free .words);
+      last = s .last;
+      doing = s .doing;
+      rest = drop (s .made) (storesOf (s .plan));
+      cut = before-zero (s .cut);
+    }
+
+-- "after formatting or opening the search starts at node 1": the node taken for given last then
+abbrev pub searchStart : ℕ
+searchStart = 0
+
+-- "Opening or starting to format, refused, hands back an idle state for N = 0"
+unfoldable pub noMemory : Memory
+noMemory = record { nodes = 0; free = allNodes 0; last = searchStart; doing = Idle; rest = []; cut = [] }
+
+-- nothing in hand, or a call or repair with no change planned yet
+unfoldable pub resting : ℕ → List Bool → Doing → Memory
+resting n free doing = record { nodes = n; free = free; last = searchStart; doing = doing; rest = []; cut = [] }
+
+-- the same, idle
+unfoldable pub idled : Memory → Memory
+idled m = record { nodes = m .nodes; free = m .free; last = m .last; doing = Idle; rest = []; cut = [] }
+
+-- one store made, with those of `rest` still to come; "Nodes cut out of the tree are free after the store that cuts them out"
+unfoldable pub advanced : Memory → List Store → Memory
+advanced m [] = record { nodes = m .nodes; free = withAll (m .cut) (m .free); last = m .last; doing = m .doing; rest = []; cut = [] }
+advanced m (s ∷ rest) = record { nodes = m .nodes; free = m .free; last = m .last; doing = m .doing; rest = s ∷ rest; cut = m .cut }

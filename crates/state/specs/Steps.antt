@@ -1,0 +1,72 @@
+-- Document 01: a store of formatting and of the change in hand, and what a step and a start hand back.
+use mathlib.Core.Bool.{Bool, true, false}
+use mathlib.Core.List.{List, [], _∷_}
+use mathlib.Core.Option.{Option, none, some}
+use Prim.Native.Nat.{ℕ, suc, _-_}
+use lib.ListN.{length, set}
+use lib.Dec.{eqb, ltb}
+use Rattle.laws.specs.Cases.{pick}
+use Rattle.card.specs.Stores.{Store}
+use Rattle.state.specs.Memory.{Memory, noMemory, idled, advanced}
+use Rattle.state.specs.declared.Doing.{Doing}
+use Rattle.state.specs.declared.Doing.the-variants.{Idle, Formatting, Inserting, Deleting, Repairing}
+use Rattle.state.specs.declared.Answer.{Answer}
+use Rattle.state.specs.declared.Answer.the-variants.{Stored, Ready, Refused}
+use Rattle.state.specs.declared.Begun.{Begun}
+use Rattle.state.specs.declared.Begun.the-variants.{Refused as BegunRefused}
+
+unfoldable pub isIdle : Doing → Bool
+isIdle Idle = true
+isIdle (Formatting made) = false
+isIdle (Inserting key value begun) = false
+isIdle (Deleting key begun value) = false
+isIdle (Repairing key) = false
+
+-- What opening and starting hand back: the answer and the state.
+pub record Handed : Type 0 where
+  pub begun : Begun
+  pub memory : Memory
+
+unfoldable pub noBeginning : ℕ → Handed
+noBeginning r = record { begun = BegunRefused r; memory = noMemory }
+
+-- What a step leaves: its answer, the card and the state handed back.
+pub record Step : Type 0 where
+  pub answer : Answer
+  pub card : List ℕ
+  pub memory : Memory
+
+-- "A refusal gives its number, stores nothing and hands the state back unchanged."
+unfoldable pub stepRefused : ℕ → List ℕ → Memory → Step
+stepRefused r card m = record { answer = Refused r; card = card; memory = m }
+
+-- "or gives the final answer and makes the state idle"
+unfoldable pub stepFinal : Answer → List ℕ → Memory → Step
+stepFinal a card m = record { answer = a; card = card; memory = idled m }
+
+-- word i of a formatted card with n nodes, but the mark: "root node 1, an empty leaf, all else 0"
+unfoldable pub formattedWord : ℕ → ℕ → ℕ
+formattedWord n i =
+    pick (eqb i 1) n (pick (eqb i 2) 8 (pick (eqb i 3) 24 (pick (eqb i 4) 1 (pick (eqb i 8) 1 0))))
+
+-- "0 in word 0, then every word from 1 to the last in rising order .., then 1 in word 0": the store after so many
+unfoldable pub formatStore : ℕ → ℕ → ℕ → Option Store
+formatStore n len made =
+    pick (eqb made 0) (some (0, 0)) (pick (ltb made len) (some (made, formattedWord n made)) (pick (eqb made len) (some (0, 1)) none))
+
+unfoldable pub formatting : Memory → ℕ → Memory
+formatting m made = record { nodes = m .nodes; free = m .free; last = m .last; doing = Formatting made; rest = m .rest; cut = m .cut }
+
+unfoldable pub stepFormat : List ℕ → Memory → ℕ → Option Store → Step
+stepFormat card m made none = stepFinal Ready card m
+stepFormat card m made (some s) = record { answer = Stored; card = set card (s .0) (s .1); memory = formatting m (suc made) }
+
+-- one store of the change in hand; "or its store is outside the card"
+unfoldable pub stepStore : List ℕ → Memory → Memory → Store → List Store → Step
+stepStore card old m s rest =
+    pick (ltb (s .0) (length card)) (record { answer = Stored; card = set card (s .0) (s .1); memory = advanced m rest }) (stepRefused 9 card old)
+
+-- the first store of a change just planned
+unfoldable pub stepFirst : List ℕ → Memory → Memory → List Store → Step
+stepFirst card old m [] = stepRefused 9 card old
+stepFirst card old m (s ∷ rest) = stepStore card old m s rest

@@ -1,0 +1,107 @@
+// The change in hand, played one store a step.
+use crate::Answer;
+use crate::State;
+use crate::Stepped;
+use free_nodes::NodeSet;
+use plans::Plan;
+ghost use mathlib.Core.Path.{_≡_};
+ghost use Prim.Native.Nat.{_+_, _<_};
+ghost use mathlib.Core.Bool.{true};
+ghost use lib.ListN.{drop, set};
+ghost use Rattle.laws.specs.Lists.{before-zero};
+ghost use Rattle.free_nodes.specs.NodeSet.{nodesOf};
+ghost use Rattle.plans.specs.Planning.{withAll};
+ghost use Rattle.plans.specs.Plan.{storesOf};
+ghost use Rattle.state.specs.Memory.{memoryOf, advanced};
+ghost use Rattle.state.specs.Steps.{stepFirst};
+ghost use Rattle.state.specs.Results.{stepLeft, Unchanged, more};
+
+// How many stores a plan has room for: "So a change is at most 73 stores."
+const PLAN_SIZE: usize = 73;
+
+// Whether a store of a plan is still to come after so many. A state may hold any numbers, so both ends are looked at.
+pub fn in_hand(plan: Plan, made: usize) -> bool
+    ensures { λ r. ⌜ r ≡ more (drop made (storesOf plan)) ⌝ }
+{
+    if PLAN_SIZE <= made {
+        return false;
+    }
+    made < plan.count
+}
+
+// Node m is free. A number that is no node's changes nothing.
+fn with_one(free: NodeSet, m: usize) -> NodeSet
+    ensures { λ r. ⌜ nodesOf (r .words) ≡ set (nodesOf (free .words)) m true ⌝ }
+{
+    if m < free_nodes::CAPACITY {
+        return free_nodes::with_node(free, m);
+    }
+    free
+}
+
+// "Nodes cut out of the tree are free after the store that cuts them out": those before the first 0.
+fn with_cut(free: NodeSet, cut: [u32; 3]) -> NodeSet
+    ensures { λ r. ⌜ nodesOf (r .words) ≡ withAll (before-zero cut) (nodesOf (free .words)) ⌝ }
+{
+    let mut freed = free;
+    let mut i: usize = 0;
+    while i < 3 {
+        let m = cut[i] as usize;
+        if m == 0 {
+            return freed;
+        }
+        freed = with_one(freed, m);
+        i += 1;
+    }
+    freed
+}
+
+// One store more was made; after the last one the nodes that it cut out are free.
+fn advance(s: State) -> State
+    requires { ⌜ s .made < 73 ⌝ }
+    ensures { λ r. ⌜ memoryOf r ≡ advanced (memoryOf s) (drop (s .made + 1) (storesOf (s .plan))) ⌝ }
+{
+    let plan = s.plan;
+    let made = s.made + 1;
+    if in_hand(plan, made) {
+        return State { made, ..s };
+    }
+    let free = s.free;
+    let cut = s.cut;
+    let freed = with_cut(free, cut);
+    State {
+        made,
+        free: freed,
+        cut: [0; 3],
+        ..s
+    }
+}
+
+// The next store of the plan of `planned`; "or its store is outside the card": refused, and `s` is handed back. The place
+// is looked at before the store, so that a refusal stores nothing.
+pub fn store_next(card: &mut [u32], s: State, planned: State) -> Stepped
+    ensures { λ r. ⌜ stepLeft (now (card .exit)) r ≡ stepFirst (now (card .entry)) (memoryOf s) (memoryOf planned) (drop (planned .made) (storesOf (planned .plan))) ⌝ }
+    ensures { λ r. ⌜ Unchanged s r ⌝ }
+{
+    let plan = planned.plan;
+    let made = planned.made;
+    if !in_hand(plan, made) {
+        return Stepped {
+            answer: Answer::Refused(9),
+            state: s,
+        };
+    }
+    let at = plan.places[made] as usize;
+    if card.len() <= at {
+        return Stepped {
+            answer: Answer::Refused(9),
+            state: s,
+        };
+    }
+    card[at] = plan.values[made];
+    let state = advance(planned);
+    Stepped {
+        answer: Answer::Stored,
+        state,
+    }
+}

@@ -1,0 +1,73 @@
+// States and answers that several calls hand back.
+use crate::Beginning;
+use crate::Begun;
+use crate::Doing;
+use crate::State;
+use free_nodes::NodeSet;
+use plans::Plan;
+ghost use mathlib.Core.Path.{_≡_};
+ghost use Rattle.free_nodes.specs.NodeSet.{nodesOf};
+ghost use Rattle.state.specs.Memory.{memoryOf, resting, idled};
+ghost use Rattle.state.specs.Steps.{noBeginning, isIdle};
+ghost use Rattle.state.specs.Results.{handedOf};
+
+// A state with no change planned. "after formatting or opening the search starts at node 1": 0 is the node taken for given last.
+pub fn resting(n: usize, free: NodeSet, doing: Doing) -> State
+    ensures { λ r. ⌜ memoryOf r ≡ resting n (nodesOf (free .words)) doing ⌝ }
+{
+    let plan = Plan {
+        places: [0; 73],
+        values: [0; 73],
+        count: 0,
+    };
+    State {
+        nodes: n,
+        free,
+        last: 0,
+        doing,
+        plan,
+        made: 0,
+        cut: [0; 3],
+    }
+}
+
+// "Opening or starting to format, refused, hands back an idle state for N = 0".
+pub fn no_beginning(refusal: u32) -> Beginning
+    ensures { λ r. ⌜ handedOf r ≡ noBeginning refusal ⌝ }
+{
+    let state = resting(0, free_nodes::all_nodes(0), Doing::Idle);
+    Beginning {
+        begun: Begun::Refused(refusal),
+        state,
+    }
+}
+
+// "or gives the final answer and makes the state idle"
+pub fn idled(s: State) -> State
+    ensures { λ r. ⌜ memoryOf r ≡ idled (memoryOf s) ⌝ }
+{
+    let free = s.free;
+    let t = resting(s.nodes, free, Doing::Idle);
+    State { last: s.last, ..t }
+}
+
+// Whether nothing is being done.
+pub fn is_idle(doing: Doing) -> bool
+    ensures { λ r. ⌜ r ≡ isIdle doing ⌝ }
+{
+    match doing {
+        Doing::Idle => true,
+        Doing::Formatting { made: _ } => false,
+        Doing::Inserting {
+            key: _,
+            value: _,
+            begun: _,
+        } => false,
+        Doing::Deleting {
+            key: _,
+            begun: _,
+            value: _,
+        } => false,
+        Doing::Repairing { key: _ } => false,
+    }
+}

@@ -1,0 +1,5 @@
+pub mod Updates
+pub mod Starts
+pub mod Results
+pub mod Inside
+pub mod UpdateLaws
