@@ -1,0 +1,71 @@
+-- What the exported calls promise, in the terms of table/specs/Calls.antt. These are definitions.
+--
+-- No definition decides the words of places and values that belong to no store still to come. Nor does one decide, where
+-- several words say the same to every later call, which of them stand in the block: the numbers beside what is being done that
+-- it has no use for, the number for idle and the word for true, the counts of stores made and planned once none is to come, and
+-- the words of the nodes cut out after the first 0. What holds of them all: `memoryIn` of the block is what the definition gives.
+use mathlib.Core.Path.{_≡_}
+use mathlib.Core.List.{List}
+use mathlib.Core.Bool.{Bool, true, false}
+use Prim.Native.Nat.{ℕ, _^_, _<_}
+use lib.ListN.{length}
+use Rattle.card.specs.Replies.{Reply}
+use Rattle.state.specs.Answers.{startReply, stepReply}
+use Rattle.state.specs.Steps.{Handed, Step}
+use Rattle.state.specs.declared.Begun.{Begun}
+use Rattle.state.specs.declared.Begun.the-variants.{Idle as OpenedIdle, Started, Refused as BegunRefused}
+use Rattle.state.specs.declared.Answer.{Answer}
+use Rattle.state.specs.declared.Answer.the-variants.{Stored, Ready, Absent, Value, Refused}
+use Rattle.dump.specs.declared.Answer.{Answer as DumpAnswer}
+use Rattle.dump.specs.declared.Answer.the-variants.{Length}
+use Rattle.ration_table.specs.Block.{stateWords, memoryIn}
+use Rattle.ration_table.specs.declared.replies.Reply.{Reply as ReplyWords}
+
+-- the two words of an answer
+abbrev pub replyOf : ReplyWords → Reply
+replyOf r = record { code = r .code; value = r .value }
+
+-- the state block has not 177 words
+abbrev pub noState : Reply
+noState = record { code = 71; value = 0 }
+
+-- opening and starting to format: "refused, hands back an idle state for N = 0" is part of `due`
+pub record OpenCall (before after : List ℕ) (reply : Reply) (due : Handed) : Type 0 where
+  pub answered : length before ≡ stateWords → reply ≡ startReply (due .begun)
+  pub handed : length before ≡ stateWords → memoryIn after ≡ due .memory
+  pub no-state : (length before ≡ stateWords → ⊥) → (reply ≡ noState) × (after ≡ before)
+
+-- starting an update: "A refusal .. hands the state back unchanged", every word of it
+pub record StartCall (before after : List ℕ) (reply : Reply) (due : Handed) : Type 0 where
+  pub opened : OpenCall before after reply due
+  pub unchanged : (r : ℕ) → due .begun ≡ BegunRefused r → after ≡ before
+
+-- a step; that a refusal stores nothing is part of `due`
+pub record StepCall (before after card-before card-after : List ℕ) (reply : Reply) (due : Step) : Type 0 where
+  pub answered : length before ≡ stateWords → reply ≡ stepReply (due .answer)
+  pub stored : length before ≡ stateWords → card-after ≡ due .card
+  pub handed : length before ≡ stateWords → memoryIn after ≡ due .memory
+  pub unchanged : (r : ℕ) → due .answer ≡ Refused r → after ≡ before
+  pub no-state : (length before ≡ stateWords → ⊥) → (reply ≡ noState) × (after ≡ before) × (card-after ≡ card-before)
+
+-- a store made in place leaves all that the step is due to leave; where none was made nothing was touched
+abbrev pub Played : Bool → Step → List ℕ → List ℕ → List ℕ → List ℕ → Type 0
+Played true due card-before card-after before after = due ≡ record { answer = Stored; card = card-after; memory = memoryIn after }
+Played false due card-before card-after before after = (card-after ≡ card-before) × (after ≡ before)
+
+-- whether an answer is a refusal
+unfoldable pub isRefusal : Answer → Bool
+isRefusal Stored = false
+isRefusal Ready = false
+isRefusal Absent = false
+isRefusal (Value v) = false
+isRefusal (Refused r) = true
+
+unfoldable pub isRefusedStart : Begun → Bool
+isRefusedStart OpenedIdle = false
+isRefusedStart Started = false
+isRefusedStart (BegunRefused r) = true
+
+-- the length of a dump's result fits a word
+abbrev pub ShortDump : DumpAnswer → Type 0
+ShortDump answer = (n : ℕ) → answer ≡ Length n → n < 2 ^ 32
