@@ -1,0 +1,60 @@
+// The standard library's map of Rust (btree.rs), measured with the same keys.
+#include "measure.h"
+#include "workload.h"
+
+typedef struct map map;
+map *map_new(void);
+map *map_copy(const map *m);
+void map_free(map *m);
+uint32_t map_find(const map *m, uint32_t key);
+uint32_t map_insert(map *m, uint32_t key, uint32_t value);
+uint32_t map_delete(map *m, uint32_t key);
+
+static void measure(const workload *w)
+{
+    static uint32_t held[MOST_KEYS], absent[MOST_KEYS];
+    for (uint32_t i = 0; i < MOST_KEYS; i++) {
+        held[i] = held_key(w, i);
+        absent[i] = absent_key(w, i);
+    }
+    map *base = map_new();
+    for (uint32_t i = 0; i < w->pairs; i++)
+        map_insert(base, workload_key(i), workload_key(i) + 1);
+    batch_begin();
+    for (uint32_t i = 0; i < MOST_KEYS; i++)
+        CALL(map_find(base, held[i]));
+    batch_end();
+    row_end(w->nodes, "find, key held");
+    batch_begin();
+    for (uint32_t i = 0; i < MOST_KEYS; i++)
+        CALL(map_find(base, absent[i]));
+    batch_end();
+    row_end(w->nodes, "find, key absent");
+    for (uint32_t round = 0; round < w->rounds; round++) {
+        map *m = map_copy(base);
+        batch_begin();
+        for (uint32_t i = 0; i < w->inserts; i++)
+            CALL(map_insert(m, absent[i], 1));
+        batch_end();
+        map_free(m);
+    }
+    row_end(w->nodes, "insert, whole");
+    for (uint32_t round = 0; round < w->rounds; round++) {
+        map *m = map_copy(base);
+        batch_begin();
+        for (uint32_t i = 0; i < w->pairs; i++)
+            CALL(map_delete(m, held[i]));
+        batch_end();
+        map_free(m);
+    }
+    row_end(w->nodes, "delete, whole");
+    map_free(base);
+}
+
+int main(void)
+{
+    measure_the_measuring();
+    for (int i = 0; i < WORKLOADS; i++)
+        measure(&workloads[i]);
+    return 0;
+}

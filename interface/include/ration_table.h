@@ -1,0 +1,271 @@
+/*
+ * The ration table: a dictionary from keys (1 to 4,294,967,295) to values (any 32-bit word) on a card of
+ * 32-bit words that keeps them without power. Power may go after any store; the card then opens with
+ * exactly the pairs that were in, the update in progress wholly in or wholly out.
+ *
+ * Document 01 below is the paper "The ration table: cards, tree and repairs", which decides every store
+ * and every answer.
+ *
+ *
+ * HOW IT IS WORKED
+ *
+ * A card with N nodes, 4 to 600, is an array of exactly 8 + 24 * N words. Beside it stands a state block
+ * of RATION_STATE_WORDS words in ordinary memory, lost with power. Whatever the block holds is for these
+ * calls alone.
+ *
+ *   1. New card: ration_start_format, then ration_step until RATION_READY.
+ *      Card in use: ration_open. RATION_IDLE: go on. RATION_STARTED: a repair is in progress, ration_step
+ *      until RATION_READY.
+ *   2. Update: ration_start_insert or ration_start_delete, then ration_step until the final answer,
+ *      RATION_VALUE or RATION_ABSENT. Each step stores one word, RATION_STORED, or gives the answer. An
+ *      update takes at most 657 stores.
+ *   3. ration_find at any time, also between steps and before opening.
+ *   4. Power was cut, or the block was lost: back to ration_open.
+ *
+ *
+ * WHAT THE CALLER SEES TO
+ *
+ * - Each word stored is on the card before the next call. Where a cache stands before the card, write it
+ *   back after each RATION_STORED. A word is stored whole.
+ * - Between ration_open or ration_start_format and the next one nothing else writes the card or the block,
+ *   and the card keeps the block it was opened with. Otherwise open the card anew.
+ * - Lengths are in elements: words for card, state and words, bytes for dump and bytes.
+ * - Pointers are not NULL, not even with length 0, are aligned for their type (4 bytes for words) and valid
+ *   for the length given.
+ * - What is lent to one call does not overlap: card and state, dump and words, card and bytes.
+ * - No two calls at once on one card or one block. Nothing is shared between calls on different cards with
+ *   different blocks.
+ *
+ *
+ * WHAT THE CALLS SEE TO
+ *
+ * - Every call ends and gives one of the codes below, whatever words the card and the block hold. A step on
+ *   a card and a block that do not belong together makes one store inside the card, answers, or refuses.
+ * - Nothing beyond what is lent is read or written, but for the stack, whose most for each call
+ *   interface/run-benchmarks measures. There is no allocation and no input or output.
+ * - A refusal changes neither card nor block, with one exception: ration_open and ration_start_format,
+ *   refused with 1 to 5, leave in the block an idle state for 0 nodes, which every later call with that
+ *   block refuses with 1.
+ */
+
+#ifndef RATION_TABLE_H
+#define RATION_TABLE_H
+
+#include <stddef.h>
+#include <stdint.h>
+
+#ifdef __cplusplus
+extern "C" {
+#endif
+
+/* Sizes. */
+#define RATION_STATE_WORDS 177 /* the state block, in words */
+#define RATION_LEAST_NODES 4
+#define RATION_MOST_NODES 600
+#define RATION_CARD_WORDS(nodes) (8 + 24 * (nodes)) /* a card, in words */
+#define RATION_MOST_CARD_WORDS 14408                /* a card of 600 nodes */
+#define RATION_DUMP_BYTES(nodes) ((4 * RATION_CARD_WORDS(nodes) + 511) / 512 * 512)
+#define RATION_MOST_DUMP_BYTES 57856 /* a dump of 600 nodes */
+
+/*
+ * The answer of every call. value counts with RATION_VALUE and RATION_LENGTH; with any other code it is 0.
+ */
+typedef struct ration_answer {
+    uint32_t code;
+    uint32_t value;
+} ration_answer;
+
+/* Codes of calls that worked. */
+#define RATION_VALUE 64   /* find: the value held. step: the final answer; the value that was held before */
+#define RATION_ABSENT 65  /* find: the key is not held. step: the final answer; it was not held before */
+#define RATION_STORED 66  /* step: one word was stored; go on stepping */
+#define RATION_READY 67   /* step: the formatting or the repair is done; the state is idle */
+#define RATION_IDLE 68    /* open: nothing is in progress */
+#define RATION_STARTED 69 /* the formatting, the update, or (open) a repair is in progress; now step */
+#define RATION_LENGTH 70  /* read_dump, write_dump: value is the length of the result, in words or bytes */
+
+/*
+ * Refusals: 1 to 12 as document 01 numbers them, and RATION_NO_STATE. Where several are due, the order of
+ * the refusals listed with the call decides.
+ */
+
+/* The length is not 8 + 24 * N with N 4 to 600, or the block is not that of a card of this length.
+   Check the length; open the card with this block. */
+#define RATION_WRONG_LENGTH 1
+
+/* Word 0 is not 1: the card is blank, or a formatting was cut. Format it. */
+#define RATION_NOT_FORMATTED 2
+
+/* Words 1, 2, 3 or 5 to 7 are not those of a card of this length: something else wrote it, or it was cut
+   short. Restore a dump, or format it, which loses what it holds. */
+#define RATION_WRONG_HEADER 3
+
+/* Opening: the tree on the card is not sound: the card is worn or something else wrote it. Restore a dump or
+   format. A cut of power alone never leads here. */
+#define RATION_NOT_SOUND 4
+
+/* Opening: the tree is sound but has too few free nodes for its repair. These calls never leave a card so.
+   ration_find still answers; move the pairs to a larger card. */
+#define RATION_FEW_FREE 5
+
+/* The key is 0, which is no key. */
+#define RATION_KEY_ZERO 6
+
+/* Something is in progress: step to its final answer first. */
+#define RATION_BUSY 7
+
+/* Starting an insert: the key's leaf is full and too few nodes are free to split it. Delete pairs, or move to
+   a larger card. Deletes, and inserts of a key that is held, are never refused so. */
+#define RATION_NO_ROOM 8
+
+/* The way down the tree, or the store that is due, is not one of a sound card, or a node is wanting: the card
+   was changed by something else, or the block is not its own. Open the card anew. */
+#define RATION_BROKEN_WAY 9
+
+/* A step with nothing in progress. */
+#define RATION_NOTHING_TO_STEP 10
+
+/* Reading a dump: its length is 0, not a multiple of 512 or above 57,856, its word 1 is not 4 to 600 or does
+   not fit the length, or a padding byte is not 0. It is no dump, or a damaged one. */
+#define RATION_WRONG_DUMP 11
+
+/* What is lent for the result is too short: lend RATION_CARD_WORDS(N) words or RATION_DUMP_BYTES(N) bytes. */
+#define RATION_TOO_SHORT 12
+
+/* The block has not RATION_STATE_WORDS words. Comes before all others; nothing was read or written. */
+#define RATION_NO_STATE 71
+
+#define RATION_IS_REFUSAL(code) ((code) <= 12 || (code) == RATION_NO_STATE)
+
+/*
+ * Starts to format the card: nothing is stored yet. The formatting takes 8 + 24 * N + 1 steps that store and
+ * one that answers RATION_READY. Cut before its first store the card is as it was; cut between its first and
+ * its last store opening refuses with 2, and the card has to be formatted again.
+ * Answers RATION_STARTED. Refusals: RATION_NO_STATE, 1.
+ */
+ration_answer ration_start_format(const uint32_t *card, size_t card_words, uint32_t *state, size_t state_words);
+
+/*
+ * Opens the card: checks the whole tree and puts the state into the block; stores nothing on the card.
+ * Answers RATION_IDLE, or RATION_STARTED where a cut left something to repair. Its steps may be cut and the
+ * card opened again any number of times.
+ * Refusals, in this order: RATION_NO_STATE, 1, 2, 3, 4, 5.
+ */
+ration_answer ration_open(const uint32_t *card, size_t card_words, uint32_t *state, size_t state_words);
+
+/*
+ * Looks a key up on the card as it is at this moment. Needs no block.
+ * Answers RATION_VALUE or RATION_ABSENT. Refusals, in this order: 1, 2, 3, 6, 9.
+ */
+ration_answer ration_find(const uint32_t *card, size_t card_words, uint32_t key);
+
+/*
+ * Starts to insert a pair: nothing is stored yet. A key that is held keeps its value, which the first step
+ * then answers with RATION_VALUE; to change a value, delete the key and insert it again. Else the final
+ * answer is RATION_ABSENT. The pair is in with the second store, where the leaf is full with the 73rd.
+ * Answers RATION_STARTED. Refusals, in this order: RATION_NO_STATE, 1, 2, 3, 7, 6, 9, 8.
+ */
+ration_answer ration_start_insert(const uint32_t *card, size_t card_words, uint32_t *state, size_t state_words,
+                                  uint32_t key, uint32_t value);
+
+/*
+ * Starts to delete a key: nothing is stored yet. The final answer is RATION_VALUE with the value deleted, or
+ * RATION_ABSENT. The pair is out with the first store.
+ * Answers RATION_STARTED. Refusals, in this order: RATION_NO_STATE, 1, 2, 3, 7, 6, 9.
+ */
+ration_answer ration_start_delete(const uint32_t *card, size_t card_words, uint32_t *state, size_t state_words,
+                                  uint32_t key);
+
+/*
+ * One step of what is in progress: stores one word, RATION_STORED, or gives the final answer and makes the
+ * state idle: RATION_READY of a formatting or a repair, RATION_VALUE or RATION_ABSENT of an update.
+ * Refusals, in this order: RATION_NO_STATE, 1, 2, 3, 10, 9; of a formatting's steps only RATION_NO_STATE
+ * and 1.
+ */
+ration_answer ration_step(uint32_t *card, size_t card_words, uint32_t *state, size_t state_words);
+
+/*
+ * Reads a dump (a card's words as bytes, low byte first, padded with zero bytes to a multiple of 512) into
+ * words. The words lent beyond the result are untouched. Whether the result is a sound card is for
+ * ration_open to say, called with the length that this call answers.
+ * Answers RATION_LENGTH, in words. Refusals, in this order: 11, 12.
+ */
+ration_answer ration_read_dump(const uint8_t *dump, size_t dump_bytes, uint32_t *words, size_t words_lent);
+
+/*
+ * Writes the dump of a card, which may have an update in progress. The bytes lent beyond the result are
+ * untouched.
+ * Answers RATION_LENGTH, in bytes. Refusals, in this order: 1, 2, 3, 12.
+ */
+ration_answer ration_write_dump(const uint32_t *card, size_t card_words, uint8_t *bytes, size_t bytes_lent);
+
+#ifdef __cplusplus
+}
+#endif
+
+/*
+WORKED EXAMPLE (examples/power_cut.c)
+
+// Rations 1 to 18 are put on a card; power goes in the middle of the last one.
+#include <stdint.h>
+#include <stdio.h>
+#include <string.h>
+
+#include "ration_table.h"
+
+#define NODES 12
+#define CARD card, RATION_CARD_WORDS(NODES)
+#define STATE state, RATION_STATE_WORDS
+
+static uint32_t card[RATION_CARD_WORDS(NODES)]; // kept without power
+static uint32_t state[RATION_STATE_WORDS];      // lost with power
+
+// Steps until a step answers something else than a store: the final answer, or a refusal.
+static ration_answer finish(void)
+{
+    ration_answer answer;
+    do
+        answer = ration_step(CARD, STATE);
+    while (answer.code == RATION_STORED);
+    return answer;
+}
+
+int main(void)
+{
+    if (ration_start_format(CARD, STATE).code != RATION_STARTED)
+        return 1;
+    if (finish().code != RATION_READY)
+        return 1;
+
+    for (uint32_t key = 1; key <= 17; key++) {
+        if (ration_start_insert(CARD, STATE, key, 10 * key).code != RATION_STARTED)
+            return 1;
+        if (finish().code != RATION_ABSENT) // the key was not held before
+            return 1;
+    }
+
+    // The insert of 18 splits a leaf (73 stores) and then takes a tagged node in (25 stores).
+    if (ration_start_insert(CARD, STATE, 18, 180).code != RATION_STARTED)
+        return 1;
+    for (int stores = 0; stores < 80; stores++)
+        if (ration_step(CARD, STATE).code != RATION_STORED)
+            return 1;
+
+    memset(state, 0xa5, sizeof state); // power goes: the block may hold anything now
+
+    ration_answer opened = ration_open(CARD, STATE);
+    if (opened.code == RATION_STARTED && finish().code != RATION_READY)
+        return 1;
+    if (opened.code != RATION_STARTED && opened.code != RATION_IDLE)
+        return 1;
+
+    ration_answer found = ration_find(CARD, 18);
+    if (found.code == RATION_VALUE)
+        printf("ration 18: dose record %u\n", (unsigned)found.value);
+    else
+        printf("ration 18: code %u\n", (unsigned)found.code);
+    return found.code == RATION_VALUE && found.value == 180 ? 0 : 1;
+}
+*/
+
+#endif

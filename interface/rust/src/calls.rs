@@ -1,0 +1,159 @@
+//! The calls of `include/ration_table.h` one by one. Each may be made at any time on any card and block and answers or
+//! refuses; [`crate::Table`] puts them in order.
+
+use crate::Refusal;
+
+const STATE_WORDS: usize = 177;
+
+/// The state block. Its words are the table's own.
+#[derive(Clone, PartialEq, Eq)]
+pub struct StateBlock([u32; STATE_WORDS]);
+
+impl StateBlock {
+    /// The idle state for a card of 0 nodes, with which every call is refused until a card is opened or formatted.
+    pub const fn new() -> Self {
+        Self([0; STATE_WORDS])
+    }
+
+    /// Any words: the calls stay total.
+    pub const fn from_words(words: [u32; STATE_WORDS]) -> Self {
+        Self(words)
+    }
+
+    pub fn words(&self) -> &[u32; STATE_WORDS] {
+        &self.0
+    }
+}
+
+impl Default for StateBlock {
+    fn default() -> Self {
+        Self::new()
+    }
+}
+
+#[repr(C)]
+struct Answer {
+    code: u32,
+    value: u32,
+}
+
+const VALUE: u32 = 64;
+const ABSENT: u32 = 65;
+const STORED: u32 = 66;
+const READY: u32 = 67;
+const IDLE: u32 = 68;
+const STARTED: u32 = 69;
+const LENGTH: u32 = 70;
+
+#[link(name = "ration_table", kind = "static")]
+extern "C" {
+    fn ration_start_format(card: *const u32, card_words: usize, state: *mut u32, state_words: usize) -> Answer;
+    fn ration_open(card: *const u32, card_words: usize, state: *mut u32, state_words: usize) -> Answer;
+    fn ration_find(card: *const u32, card_words: usize, key: u32) -> Answer;
+    fn ration_start_insert(
+        card: *const u32,
+        card_words: usize,
+        state: *mut u32,
+        state_words: usize,
+        key: u32,
+        value: u32,
+    ) -> Answer;
+    fn ration_start_delete(
+        card: *const u32,
+        card_words: usize,
+        state: *mut u32,
+        state_words: usize,
+        key: u32,
+    ) -> Answer;
+    fn ration_step(card: *mut u32, card_words: usize, state: *mut u32, state_words: usize) -> Answer;
+    fn ration_read_dump(dump: *const u8, dump_bytes: usize, words: *mut u32, words_lent: usize) -> Answer;
+    fn ration_write_dump(card: *const u32, card_words: usize, bytes: *mut u8, bytes_lent: usize) -> Answer;
+}
+
+// Every unsafe block below lends slices with their lengths: aligned, valid, and not overlapping, since the borrows are
+// Rust's; the calls read and write nothing else.
+
+/// What opening found.
+#[derive(Clone, Copy, Debug, PartialEq, Eq)]
+pub enum Opening {
+    Idle,
+    Repairing,
+}
+
+/// What a step did, or the final answer.
+#[derive(Clone, Copy, Debug, PartialEq, Eq)]
+pub enum Step {
+    /// One word was stored; go on stepping.
+    Stored,
+    /// The formatting or the repair is done.
+    Ready,
+    /// The update is done; its key was held before, with this value.
+    Held(u32),
+    /// The update is done; its key was not held before.
+    Absent,
+}
+
+pub fn start_format(card: &[u32], state: &mut StateBlock) -> Result<(), Refusal> {
+    started(unsafe { ration_start_format(card.as_ptr(), card.len(), state.0.as_mut_ptr(), STATE_WORDS) })
+}
+
+pub fn open(card: &[u32], state: &mut StateBlock) -> Result<Opening, Refusal> {
+    let answer = unsafe { ration_open(card.as_ptr(), card.len(), state.0.as_mut_ptr(), STATE_WORDS) };
+    match answer.code {
+        IDLE => Ok(Opening::Idle),
+        STARTED => Ok(Opening::Repairing),
+        number => Err(Refusal::from_number(number)),
+    }
+}
+
+pub fn find(card: &[u32], key: u32) -> Result<Option<u32>, Refusal> {
+    let answer = unsafe { ration_find(card.as_ptr(), card.len(), key) };
+    match answer.code {
+        VALUE => Ok(Some(answer.value)),
+        ABSENT => Ok(None),
+        number => Err(Refusal::from_number(number)),
+    }
+}
+
+pub fn start_insert(card: &[u32], state: &mut StateBlock, key: u32, value: u32) -> Result<(), Refusal> {
+    started(unsafe { ration_start_insert(card.as_ptr(), card.len(), state.0.as_mut_ptr(), STATE_WORDS, key, value) })
+}
+
+pub fn start_delete(card: &[u32], state: &mut StateBlock, key: u32) -> Result<(), Refusal> {
+    started(unsafe { ration_start_delete(card.as_ptr(), card.len(), state.0.as_mut_ptr(), STATE_WORDS, key) })
+}
+
+pub fn step(card: &mut [u32], state: &mut StateBlock) -> Result<Step, Refusal> {
+    let answer = unsafe { ration_step(card.as_mut_ptr(), card.len(), state.0.as_mut_ptr(), STATE_WORDS) };
+    match answer.code {
+        STORED => Ok(Step::Stored),
+        READY => Ok(Step::Ready),
+        VALUE => Ok(Step::Held(answer.value)),
+        ABSENT => Ok(Step::Absent),
+        number => Err(Refusal::from_number(number)),
+    }
+}
+
+/// Gives the length of the card in words; those lent beyond it are untouched.
+pub fn read_dump(dump: &[u8], words: &mut [u32]) -> Result<usize, Refusal> {
+    length(unsafe { ration_read_dump(dump.as_ptr(), dump.len(), words.as_mut_ptr(), words.len()) })
+}
+
+/// Gives the length of the dump in bytes; those lent beyond it are untouched.
+pub fn write_dump(card: &[u32], bytes: &mut [u8]) -> Result<usize, Refusal> {
+    length(unsafe { ration_write_dump(card.as_ptr(), card.len(), bytes.as_mut_ptr(), bytes.len()) })
+}
+
+fn started(answer: Answer) -> Result<(), Refusal> {
+    match answer.code {
+        STARTED => Ok(()),
+        number => Err(Refusal::from_number(number)),
+    }
+}
+
+fn length(answer: Answer) -> Result<usize, Refusal> {
+    match answer.code {
+        LENGTH => Ok(answer.value as usize),
+        number => Err(Refusal::from_number(number)),
+    }
+}

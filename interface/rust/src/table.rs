@@ -1,0 +1,185 @@
+//! The calls in their order, kept by types.
+
+use core::marker::PhantomData;
+use core::num::NonZeroU32;
+
+use crate::calls::{self, Opening, StateBlock, Step};
+use crate::Refusal;
+
+/// A card that is open and idle. While it lives nothing else can write the card or the block, and an update takes it away
+/// until the final answer:
+///
+/// ```compile_fail,E0382
+/// # use core::num::NonZeroU32;
+/// # use ration_table::Table;
+/// fn two_at_once(table: Table, key: NonZeroU32) {
+///     let first = table.insert(key, 1);
+///     let second = table.delete(key);
+/// }
+/// ```
+#[must_use]
+pub struct Table<'a> {
+    card: &'a mut [u32],
+    state: &'a mut StateBlock,
+}
+
+/// Something in progress on a card, with final answer `A`. It has to be stepped; dropped it is a power cut, after which
+/// the card has to be opened again. A second step needs what the first handed back:
+///
+/// ```compile_fail,E0382
+/// # use ration_table::Update;
+/// fn after_the_answer(update: Update) {
+///     let _ = update.step();
+///     let _ = update.step();
+/// }
+/// ```
+#[must_use = "it has to be stepped to its final answer"]
+pub struct InProgress<'a, A> {
+    table: Table<'a>,
+    answer: PhantomData<A>,
+}
+
+/// An insert or a delete. Its answer is the value that its key had before.
+pub type Update<'a> = InProgress<'a, Option<u32>>;
+
+/// A repair that opening found due. It changes no pair; `find` works as ever.
+pub type Repair<'a> = InProgress<'a, ()>;
+
+/// A formatting. Until it is done `find` is refused with [`Refusal::NotFormatted`].
+pub type Formatting<'a> = InProgress<'a, ()>;
+
+/// What opening hands back.
+#[must_use]
+pub enum Opened<'a> {
+    Idle(Table<'a>),
+    Repairing(Repair<'a>),
+}
+
+/// What a step hands back.
+#[must_use]
+pub enum Progress<'a, A> {
+    /// One word was stored. It has to be on the card before the next step.
+    Stored(InProgress<'a, A>),
+    /// The final answer.
+    Done(Table<'a>, A),
+}
+
+/// A refusal, with what was refused, unchanged.
+#[must_use]
+pub struct Refused<T> {
+    pub unchanged: T,
+    pub refusal: Refusal,
+}
+
+/// The final answers of what can be in progress.
+pub trait FinalAnswer: Sized + sealed::Sealed {
+    #[doc(hidden)]
+    fn of(step: Step) -> Self;
+}
+
+impl FinalAnswer for () {
+    fn of(step: Step) -> Self {
+        match step {
+            Step::Ready => (),
+            _ => unreachable!("formatting and repair end in ready"),
+        }
+    }
+}
+
+impl FinalAnswer for Option<u32> {
+    fn of(step: Step) -> Self {
+        match step {
+            Step::Held(value) => Some(value),
+            Step::Absent => None,
+            _ => unreachable!("an update ends in a value or absent"),
+        }
+    }
+}
+
+mod sealed {
+    pub trait Sealed {}
+    impl Sealed for () {}
+    impl Sealed for Option<u32> {}
+}
+
+impl<'a> Table<'a> {
+    /// Starts to format a card; what it held is lost with the first step.
+    pub fn format(card: &'a mut [u32], state: &'a mut StateBlock) -> Result<Formatting<'a>, Refusal> {
+        calls::start_format(card, state)?;
+        Ok(InProgress::on(Table { card, state }))
+    }
+
+    /// Opens a card, whatever the block holds.
+    pub fn open(card: &'a mut [u32], state: &'a mut StateBlock) -> Result<Opened<'a>, Refusal> {
+        match calls::open(card, state)? {
+            Opening::Idle => Ok(Opened::Idle(Table { card, state })),
+            Opening::Repairing => Ok(Opened::Repairing(InProgress::on(Table { card, state }))),
+        }
+    }
+
+    /// Starts an insert. A key that is held keeps its value, which is then the answer.
+    pub fn insert(self, key: NonZeroU32, value: u32) -> Result<Update<'a>, Refused<Self>> {
+        match calls::start_insert(self.card, self.state, key.get(), value) {
+            Ok(()) => Ok(InProgress::on(self)),
+            Err(refusal) => Err(Refused { unchanged: self, refusal }),
+        }
+    }
+
+    /// Starts a delete.
+    pub fn delete(self, key: NonZeroU32) -> Result<Update<'a>, Refused<Self>> {
+        match calls::start_delete(self.card, self.state, key.get()) {
+            Ok(()) => Ok(InProgress::on(self)),
+            Err(refusal) => Err(Refused { unchanged: self, refusal }),
+        }
+    }
+
+    pub fn find(&self, key: NonZeroU32) -> Result<Option<u32>, Refusal> {
+        calls::find(self.card, key.get())
+    }
+
+    pub fn write_dump(&self, bytes: &mut [u8]) -> Result<usize, Refusal> {
+        calls::write_dump(self.card, bytes)
+    }
+
+    pub fn card(&self) -> &[u32] {
+        self.card
+    }
+}
+
+impl<'a, A: FinalAnswer> InProgress<'a, A> {
+    fn on(table: Table<'a>) -> Self {
+        Self { table, answer: PhantomData }
+    }
+
+    /// Stores one word, or gives the final answer.
+    pub fn step(self) -> Result<Progress<'a, A>, Refused<Self>> {
+        match calls::step(self.table.card, self.table.state) {
+            Ok(Step::Stored) => Ok(Progress::Stored(self)),
+            Ok(last) => Ok(Progress::Done(self.table, A::of(last))),
+            Err(refusal) => Err(Refused { unchanged: self, refusal }),
+        }
+    }
+
+    /// Steps to the final answer, where nothing has to be done between the stores.
+    pub fn finish(mut self) -> Result<(Table<'a>, A), Refused<Self>> {
+        loop {
+            match self.step()? {
+                Progress::Stored(more) => self = more,
+                Progress::Done(table, answer) => return Ok((table, answer)),
+            }
+        }
+    }
+
+    /// Looks a key up as the card is at this moment.
+    pub fn find(&self, key: NonZeroU32) -> Result<Option<u32>, Refusal> {
+        self.table.find(key)
+    }
+
+    pub fn write_dump(&self, bytes: &mut [u8]) -> Result<usize, Refusal> {
+        self.table.write_dump(bytes)
+    }
+
+    pub fn card(&self) -> &[u32] {
+        self.table.card
+    }
+}

@@ -1,0 +1,109 @@
+// The table under test and the hand-written one are given the same calls: every answer and every word of the card agree
+// after each. So on random lists, too, the word that each step stores is compared, as it is in the traces.
+#include <stdbool.h>
+#include <string.h>
+
+#include "builder.h"
+#include "check.h"
+#include "guarded.h"
+#include "hand_written.h"
+#include "parts.h"
+
+typedef struct {
+    desk *desk;
+    uint32_t card[RATION_MOST_CARD_WORDS];
+    uint32_t state[RATION_STATE_WORDS];
+    bool in_progress;
+} pair_of_tables;
+
+static pair_of_tables both;
+static random_stream stream;
+
+static void agree(ration_answer tested, ration_answer hand_written)
+{
+    CHECK(tested.code == hand_written.code && tested.value == hand_written.value, "%u %u and %u %u", tested.code,
+          tested.value, hand_written.code, hand_written.value);
+    CHECK(memcmp(both.card, both.desk->card, 4 * both.desk->words) == 0, "the cards differ");
+    if (tested.code == RATION_STARTED)
+        both.in_progress = true;
+    else if (tested.code != RATION_STORED && !RATION_IS_REFUSAL(tested.code))
+        both.in_progress = false;
+}
+
+static void step(void)
+{
+    agree(desk_step(both.desk), hand_written_step(both.card, both.desk->words, both.state, RATION_STATE_WORDS));
+}
+
+static void cut(void)
+{
+    desk_cut(both.desk);
+    memset(both.state, 0xff, sizeof both.state);
+    agree(desk_open(both.desk), hand_written_open(both.card, both.desk->words, both.state, RATION_STATE_WORDS));
+}
+
+static void start(uint32_t keys, uint32_t insert_percent)
+{
+    uint32_t key = 1 + random_below(&stream, keys), value = random_word(&stream);
+    size_t words = both.desk->words;
+    if (random_percent(&stream, insert_percent))
+        agree(desk_start_insert(both.desk, key, value),
+              hand_written_start_insert(both.card, words, both.state, RATION_STATE_WORDS, key, value));
+    else
+        agree(desk_start_delete(both.desk, key),
+              hand_written_start_delete(both.card, words, both.state, RATION_STATE_WORDS, key));
+}
+
+static void work(uint32_t updates, uint32_t keys)
+{
+    uint32_t insert_percent = 80;
+    for (uint32_t i = 0; i < updates; i++) {
+        if (random_below(&stream, keys) == 0)
+            insert_percent = 100 - insert_percent;
+        start(keys, insert_percent);
+        while (both.in_progress) {
+            if (random_below(&stream, 1000) == 0)
+                cut();
+            else
+                step();
+        }
+    }
+}
+
+static void begin(uint32_t nodes)
+{
+    both.desk = desk_new(8 + 24 * (size_t)nodes, RATION_STATE_WORDS);
+    both.in_progress = false;
+}
+
+void test_agreement(scale s)
+{
+    stream.state = 600;
+    static const uint32_t sizes[] = {4, 5, 6, 12, 60, 600};
+    for (size_t i = 0; i < sizeof sizes / sizeof sizes[0]; i++) {
+        if (sizes[i] == 600 && s.percent < 100)
+            continue;
+        begin(sizes[i]);
+        for (size_t place = 0; place < both.desk->words; place++) {
+            both.card[place] = random_word(&stream);
+            desk_set(both.desk, place, both.card[place]);
+        }
+        agree(desk_start_format(both.desk),
+              hand_written_start_format(both.card, both.desk->words, both.state, RATION_STATE_WORDS));
+        while (both.in_progress)
+            step();
+        work((sizes[i] == 600 ? 40 : 60) * s.percent, 6 * sizes[i]);
+        desk_free(both.desk);
+    }
+    static const struct {
+        uint32_t levels, least, most;
+    } built[] = {{8, 2, 2}, {2, 11, 11}, {4, 3, 4}, {5, 2, 3}};
+    for (size_t i = 0; i < sizeof built / sizeof built[0]; i++) {
+        begin(600);
+        CHECK(build_card(both.card, 600, built[i].levels, built[i].least, built[i].most, &stream) != 0, "card %zu", i);
+        desk_set_card(both.desk, both.card);
+        cut();
+        work(10 * s.percent, 15000);
+        desk_free(both.desk);
+    }
+}

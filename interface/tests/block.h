@@ -1,0 +1,16 @@
+// The few words of the state block that the tests look at or spoil. Users of the table treat it as opaque.
+#ifndef BLOCK_H
+#define BLOCK_H
+
+enum {
+    BLOCK_NODES = 0,
+    BLOCK_DOING = 2, // 1 formatting, 2 inserting, 3 deleting, 4 repairing; anything else is idle
+    BLOCK_MADE = 6,
+    BLOCK_PLANNED = 7,
+    BLOCK_FREE = 11, // node m is bit m % 32 of word 11 + m / 32
+    BLOCK_FREE_WORDS = 20,
+    BLOCK_PLACES = 31,
+    BLOCK_DOINGS = 5
+};
+
+#endif

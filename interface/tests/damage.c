@@ -1,0 +1,218 @@
+// Cards and blocks that no call left so: damaged, garbage, or not belonging together. What document 01 decides is
+// compared with the code due; a step makes one store inside the card, answers, or refuses.
+#include "block.h"
+#include "builder.h"
+#include "check.h"
+#include "due.h"
+#include "garbage.h"
+#include "parts.h"
+#include "reader.h"
+#include "worked.h"
+
+static random_stream stream;
+
+// A word such as stands on cards: small numbers, words near those that are there, or anything.
+static uint32_t likely_word(const desk *d)
+{
+    uint32_t there = d->card[random_below(&stream, (uint32_t)d->words)];
+    switch (random_below(&stream, 6)) {
+    case 0: return 0;
+    case 1: return random_below(&stream, 5);
+    case 2: return random_below(&stream, read_nodes(d->words) + 3);
+    case 3: return there;
+    case 4: return there + random_below(&stream, 3) - 1;
+    default: return random_word(&stream);
+    }
+}
+
+static void check_step(desk *d, bool *ended)
+{
+    uint32_t due = due_step(d);
+    ration_answer a = desk_step(d);
+    if (due != 0)
+        CHECK(a.code == due, "step: %u, due %u", a.code, due);
+    else
+        CHECK(!RATION_IS_REFUSAL(a.code) || a.code == RATION_BROKEN_WAY, "step: %u", a.code);
+    *ended = a.code != RATION_STORED;
+}
+
+// Every call on the card and block as they are.
+static void try_calls(desk *d, uint32_t steps)
+{
+    bool ended = false, decided;
+    for (uint32_t i = 0; i < 3; i++) {
+        uint32_t key = random_percent(&stream, 80) ? likely_word(d) : random_word(&stream);
+        ration_answer found = desk_find(d, key), due = due_find(d, key);
+        CHECK(found.code == due.code && found.value == due.value, "find %u: %u %u, due %u %u", key, found.code,
+              found.value, due.code, due.value);
+    }
+    for (uint32_t i = 0; i < steps && !ended; i++)
+        check_step(d, &ended);
+
+    bool insert = random_percent(&stream, 50);
+    uint32_t key = random_percent(&stream, 90) ? likely_word(d) : 0;
+    uint32_t due = due_start(d, insert, key, &decided);
+    ration_answer a = insert ? desk_start_insert(d, key, 1) : desk_start_delete(d, key);
+    CHECK(!decided || a.code == due, "start: %u, due %u", a.code, due);
+    ended = false;
+    for (uint32_t i = 0; i < steps && !ended; i++)
+        check_step(d, &ended);
+
+    due = due_open(d);
+    a = desk_open(d);
+    CHECK(a.code == due, "open: %u, due %u", a.code, due);
+    if (a.code == RATION_STARTED) {
+        ended = false;
+        for (uint32_t stores = 0; !ended; stores++) {
+            CHECK(stores <= 657, "a repair without end");
+            check_step(d, &ended);
+        }
+        CHECK(due_open(d) == RATION_IDLE, "a sound card was not repaired");
+    }
+}
+
+// One to three words of a card that was sound are changed; most of them where the tree is. The block is the card's own.
+static void damaged_cards(uint32_t nodes, uint32_t levels, uint32_t least, uint32_t most, uint32_t tries)
+{
+    static uint32_t card[RATION_MOST_CARD_WORDS];
+    uint32_t used = build_card(card, nodes, levels, least, most, &stream);
+    CHECK(used != 0, "no card");
+    worked *w = worked_open(nodes, card);
+    worked *damaged = worked_open(nodes, card);
+    for (uint32_t i = 0; i < tries; i++) {
+        // A card in use, often in the middle of an update.
+        uint32_t key = 10 * random_below(&stream, 11 * used);
+        if (w->in_progress == NOTHING && random_percent(&stream, 50))
+            worked_start_insert(w, key + 1 + random_below(&stream, 9), i);
+        else if (w->in_progress == NOTHING)
+            worked_start_delete(w, key);
+        for (uint32_t steps = random_below(&stream, 90); steps > 0 && w->in_progress != NOTHING; steps--)
+            worked_step(w);
+
+        desk_set_card(damaged->desk, w->desk->card);
+        desk_set_state(damaged->desk, w->desk->state);
+        for (uint32_t words = 1 + random_below(&stream, 3); words > 0; words--) {
+            uint32_t place =
+                random_percent(&stream, 10) ? random_below(&stream, 8) : random_below(&stream, 8 + 24 * used);
+            desk_set(damaged->desk, place, likely_word(damaged->desk));
+        }
+        try_calls(damaged->desk, 30);
+    }
+    worked_free(damaged);
+    worked_free(w);
+}
+
+static void set_garbage_card(desk *d, bool header)
+{
+    static uint32_t card[RATION_MOST_CARD_WORDS];
+    make_garbage_card(card, read_nodes(d->words), header, &stream);
+    desk_set_card(d, card);
+}
+
+static void set_garbage_state(desk *d, bool likely)
+{
+    uint32_t state[RATION_STATE_WORDS];
+    make_garbage_state(state, read_nodes(d->words), likely, &stream);
+    desk_set_state(d, state);
+}
+
+static void garbage(uint32_t nodes, uint32_t tries)
+{
+    desk *d = desk_new(8 + 24 * (size_t)nodes, RATION_STATE_WORDS);
+    for (uint32_t i = 0; i < tries; i++) {
+        set_garbage_card(d, random_percent(&stream, 80));
+        set_garbage_state(d, random_percent(&stream, 80));
+        try_calls(d, 40);
+    }
+    desk_free(d);
+}
+
+// The right card with a garbage block, and a garbage card with the right block.
+static void mixed(uint32_t nodes, uint32_t tries)
+{
+    random_stream r = {nodes};
+    static uint32_t card[RATION_MOST_CARD_WORDS];
+    CHECK(build_card(card, nodes, 1, 2, 11, &r) != 0, "no card");
+    desk *d = desk_new(8 + 24 * (size_t)nodes, RATION_STATE_WORDS);
+    for (uint32_t i = 0; i < tries; i++) {
+        desk_set_card(d, card);
+        if (i % 2 == 0) {
+            set_garbage_state(d, true);
+        } else {
+            desk_open(d);
+            set_garbage_card(d, true);
+        }
+        try_calls(d, 200);
+    }
+    desk_free(d);
+}
+
+// Cards whose trees are odd in one place or none, with few free nodes: what opening answers, and where it works, the
+// repair and the updates after it.
+static void odd_cards(uint32_t levels, uint32_t tries)
+{
+    static uint32_t card[RATION_MOST_CARD_WORDS];
+    for (uint32_t i = 0; i < tries; i++) {
+        uint32_t nodes = build_odd_card(card, levels, &stream);
+        if (nodes == 0)
+            continue;
+        desk *d = desk_new(8 + 24 * (size_t)nodes, RATION_STATE_WORDS);
+        desk_set_card(d, card);
+        uint32_t due = due_open(d);
+        CHECK(desk_open(d).code == due, "due %u", due);
+        try_calls(d, 100);
+        desk_free(d);
+        if (RATION_IS_REFUSAL(due))
+            continue;
+        worked *w = worked_open(nodes, card);
+        for (uint32_t updates = 0; updates < 4; updates++) {
+            worked_finish(w);
+            worked_check(w);
+            uint32_t key = 1 + random_below(&stream, 2 * w->book.pairs + 2);
+            if (random_percent(&stream, 50))
+                worked_start_insert(w, key, 1);
+            else
+                worked_start_delete(w, key);
+        }
+        worked_free(w);
+    }
+}
+
+// "more than 10 internal nodes": ten pass, an eleventh is refused.
+static void chains(void)
+{
+    for (uint32_t internal_nodes = 0; internal_nodes < 15; internal_nodes++) {
+        desk *d = desk_new(8 + 24 * 20, RATION_STATE_WORDS);
+        uint32_t card[8 + 24 * 20];
+        build_chain(card, 20, internal_nodes, 7, &stream);
+        desk_set_card(d, card);
+        CHECK(desk_find(d, 7).code == (internal_nodes <= 10 ? RATION_VALUE : RATION_BROKEN_WAY), "%u nodes",
+              internal_nodes);
+        set_garbage_state(d, true);
+        d->state[BLOCK_DOING] = d->state_copy[BLOCK_DOING] = 0;
+        try_calls(d, 10);
+        desk_free(d);
+    }
+}
+
+void test_damage(scale s)
+{
+    stream.state = 12;
+    odd_cards(1, 100 * s.percent);
+    odd_cards(2, 50 * s.percent);
+    odd_cards(3, 20 * s.percent);
+    for (uint32_t i = 0; i < s.percent; i++)
+        chains();
+    damaged_cards(12, 1, 2, 5, 200 * s.percent);
+    damaged_cards(20, 2, 2, 3, 200 * s.percent);
+    damaged_cards(60, 2, 3, 6, 150 * s.percent);
+    damaged_cards(60, 4, 2, 2, 150 * s.percent);
+    damaged_cards(600, 8, 2, 2, 10 * s.percent);
+    garbage(4, 100 * s.percent);
+    garbage(6, 100 * s.percent);
+    garbage(12, 100 * s.percent);
+    garbage(60, 30 * s.percent);
+    garbage(600, 2 * s.percent);
+    mixed(20, 100 * s.percent);
+    mixed(60, 50 * s.percent);
+}

@@ -1,0 +1,249 @@
+#include "guarded.h"
+
+#include <stdbool.h>
+#include <stdlib.h>
+#include <string.h>
+
+#include "block.h"
+#include "check.h"
+
+size_t guard_words = 16;
+uint64_t events;
+uint64_t answered[CALLS][CODES];
+
+static const uint32_t guard = 0x5afe5afe;
+
+static void *get_memory(size_t bytes)
+{
+    void *memory = malloc(bytes == 0 ? 1 : bytes);
+    CHECK(memory != NULL, "no memory");
+    return memory;
+}
+
+// Memory of so many bytes with guards around it.
+static void *guarded_new(size_t bytes)
+{
+    uint32_t *whole = get_memory(bytes + 8 * guard_words);
+    for (size_t i = 0; i < guard_words; i++) {
+        whole[i] = guard;
+        memcpy((char *)(whole + guard_words + i) + bytes, &guard, 4);
+    }
+    return whole + guard_words;
+}
+
+static void check_guards(const void *memory, size_t bytes)
+{
+    for (size_t i = 0; i < guard_words; i++) {
+        CHECK(((const uint32_t *)memory)[-1 - (ptrdiff_t)i] == guard, "a word before what was lent was changed");
+        CHECK(memcmp((const char *)memory + bytes + 4 * i, &guard, 4) == 0, "a word after what was lent was changed");
+    }
+}
+
+static void guarded_free(void *memory) { free((uint32_t *)memory - guard_words); }
+
+desk *desk_new(size_t words, size_t state_words)
+{
+    desk *d = get_memory(sizeof *d);
+    *d = (desk){.words = words, .state_words = state_words};
+    d->card = guarded_new(4 * words);
+    d->state = guarded_new(4 * state_words);
+    d->card_copy = get_memory(4 * words);
+    d->state_copy = get_memory(4 * state_words);
+    memset(d->card, 0, 4 * words);
+    memset(d->state, 0, 4 * state_words);
+    memset(d->card_copy, 0, 4 * words);
+    memset(d->state_copy, 0, 4 * state_words);
+    return d;
+}
+
+void desk_free(desk *d)
+{
+    guarded_free(d->card);
+    guarded_free(d->state);
+    free(d->card_copy);
+    free(d->state_copy);
+    free(d);
+}
+
+void desk_set(desk *d, size_t place, uint32_t word) { d->card[place] = d->card_copy[place] = word; }
+
+void desk_set_card(desk *d, const uint32_t *words)
+{
+    memcpy(d->card, words, 4 * d->words);
+    memcpy(d->card_copy, words, 4 * d->words);
+}
+
+void desk_set_state(desk *d, const uint32_t *words)
+{
+    memcpy(d->state, words, 4 * d->state_words);
+    memcpy(d->state_copy, words, 4 * d->state_words);
+}
+
+void desk_cut(desk *d)
+{
+    for (size_t i = 0; i < d->state_words; i++)
+        d->state[i] = d->state_copy[i] = 0xa5c3a5c3 + (uint32_t)i;
+}
+
+// Counts the answer. It is one of the call's codes or a refusal; value is 0 but with the codes that carry one.
+static void check_answer(int call, ration_answer a)
+{
+    static const uint32_t codes[CALLS][5] = {
+        [START_FORMAT] = {RATION_STARTED},      [OPEN] = {RATION_IDLE, RATION_STARTED},
+        [FIND] = {RATION_VALUE, RATION_ABSENT}, [START_INSERT] = {RATION_STARTED},
+        [START_DELETE] = {RATION_STARTED},      [STEP] = {RATION_STORED, RATION_READY, RATION_VALUE, RATION_ABSENT},
+        [READ_DUMP] = {RATION_LENGTH},          [WRITE_DUMP] = {RATION_LENGTH},
+    };
+    bool known = a.code >= 1 && RATION_IS_REFUSAL(a.code);
+    for (const uint32_t *code = codes[call]; *code != 0; code++)
+        known = known || a.code == *code;
+    CHECK(known, "code %u", a.code);
+    CHECK(a.value == 0 || a.code == RATION_VALUE || a.code == RATION_LENGTH, "code %u with value %u", a.code, a.value);
+    events++;
+    answered[call][a.code]++;
+}
+
+static void check_card_unchanged(const desk *d)
+{
+    check_guards(d->card, 4 * d->words);
+    CHECK(memcmp(d->card, d->card_copy, 4 * d->words) == 0, "the card was changed");
+}
+
+static void check_state_unchanged(const desk *d)
+{
+    check_guards(d->state, 4 * d->state_words);
+    CHECK(memcmp(d->state, d->state_copy, 4 * d->state_words) == 0, "the block was changed");
+}
+
+static void check_state(desk *d, ration_answer a)
+{
+    if (RATION_IS_REFUSAL(a.code))
+        check_state_unchanged(d);
+    check_guards(d->state, 4 * d->state_words);
+    memcpy(d->state_copy, d->state, 4 * d->state_words);
+}
+
+// "Opening or starting to format, refused, hands back an idle state for N = 0".
+static void check_beginning(desk *d, ration_answer a)
+{
+    check_card_unchanged(d);
+    if (a.code == RATION_NO_STATE) {
+        check_state_unchanged(d);
+        return;
+    }
+    check_guards(d->state, 4 * d->state_words);
+    if (RATION_IS_REFUSAL(a.code))
+        CHECK(d->state[BLOCK_NODES] == 0 && d->state[BLOCK_DOING] == 0, "not the idle state for 0 nodes");
+    memcpy(d->state_copy, d->state, 4 * d->state_words);
+}
+
+ration_answer desk_start_format(desk *d)
+{
+    ration_answer a = ration_start_format(d->card, d->words, d->state, d->state_words);
+    check_answer(START_FORMAT, a);
+    check_beginning(d, a);
+    return a;
+}
+
+ration_answer desk_open(desk *d)
+{
+    ration_answer a = ration_open(d->card, d->words, d->state, d->state_words);
+    check_answer(OPEN, a);
+    check_beginning(d, a);
+    return a;
+}
+
+ration_answer desk_find(desk *d, uint32_t key)
+{
+    ration_answer a = ration_find(d->card, d->words, key);
+    check_answer(FIND, a);
+    check_card_unchanged(d);
+    check_state_unchanged(d);
+    return a;
+}
+
+static ration_answer check_start(desk *d, int call, ration_answer a)
+{
+    check_answer(call, a);
+    check_card_unchanged(d);
+    check_state(d, a);
+    return a;
+}
+
+ration_answer desk_start_insert(desk *d, uint32_t key, uint32_t value)
+{
+    return check_start(d, START_INSERT, ration_start_insert(d->card, d->words, d->state, d->state_words, key, value));
+}
+
+ration_answer desk_start_delete(desk *d, uint32_t key)
+{
+    return check_start(d, START_DELETE, ration_start_delete(d->card, d->words, d->state, d->state_words, key));
+}
+
+// One word of the card may differ from the copy; the copy takes it over.
+static void take_store_over(desk *d)
+{
+    size_t i = 0;
+    while (i < d->words && d->card[i] == d->card_copy[i])
+        i++;
+    if (i < d->words)
+        d->card_copy[i] = d->card[i];
+    check_card_unchanged(d);
+}
+
+ration_answer desk_step(desk *d)
+{
+    ration_answer a = ration_step(d->card, d->words, d->state, d->state_words);
+    check_answer(STEP, a);
+    if (a.code == RATION_STORED)
+        take_store_over(d);
+    else
+        check_card_unchanged(d);
+    check_state(d, a);
+    return a;
+}
+
+// What the two dump calls write over; kept until the next of them.
+static void *result_memory(size_t bytes)
+{
+    static void *memory;
+    if (memory != NULL)
+        guarded_free(memory);
+    memory = guarded_new(bytes);
+    return memory;
+}
+
+ration_answer guarded_read_dump(const uint8_t *dump, size_t dump_bytes, size_t words_lent, const uint32_t **result)
+{
+    uint32_t *words = result_memory(4 * words_lent);
+    for (size_t i = 0; i < words_lent; i++)
+        words[i] = 7;
+    uint8_t *exact = get_memory(dump_bytes);
+    memcpy(exact, dump, dump_bytes);
+    ration_answer a = ration_read_dump(exact, dump_bytes, words, words_lent);
+    check_answer(READ_DUMP, a);
+    check_guards(words, 4 * words_lent);
+    CHECK(memcmp(exact, dump, dump_bytes) == 0, "the dump was changed");
+    size_t written = RATION_IS_REFUSAL(a.code) ? 0 : a.value;
+    for (size_t i = written; i < words_lent; i++)
+        CHECK(words[i] == 7, "word %zu beyond the result was changed", i);
+    free(exact);
+    *result = words;
+    return a;
+}
+
+ration_answer desk_write_dump(desk *d, size_t bytes_lent, const uint8_t **result)
+{
+    uint8_t *bytes = result_memory(bytes_lent);
+    memset(bytes, 7, bytes_lent);
+    ration_answer a = ration_write_dump(d->card, d->words, bytes, bytes_lent);
+    check_answer(WRITE_DUMP, a);
+    check_guards(bytes, bytes_lent);
+    check_card_unchanged(d);
+    check_state_unchanged(d);
+    size_t written = RATION_IS_REFUSAL(a.code) ? 0 : a.value;
+    for (size_t i = written; i < bytes_lent; i++)
+        CHECK(bytes[i] == 7, "byte %zu beyond the result was changed", i);
+    *result = bytes;
+    return a;
+}

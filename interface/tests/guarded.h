@@ -1,0 +1,53 @@
+// Every call is made on guarded memory and looked at afterwards: the words around what was lent are as they were,
+// the code is one of that call's, a refusal changed nothing, and only a step that says so stored a word, exactly
+// one and inside the card.
+#ifndef GUARDED_H
+#define GUARDED_H
+
+#include <stddef.h>
+#include <stdint.h>
+
+#include "ration_table.h"
+
+// A card with a state block. The copies hold what the words were after the last call.
+typedef struct {
+    size_t words, state_words;
+    uint32_t *card, *state;
+    uint32_t *card_copy, *state_copy;
+} desk;
+
+// How many words stand on guard on each side. With 0 the memory lent is a heap block of exactly its size, so that a
+// memory checker sees every access beside it.
+extern size_t guard_words;
+
+// All calls made so far, and how often each code was answered.
+enum { START_FORMAT, OPEN, FIND, START_INSERT, START_DELETE, STEP, READ_DUMP, WRITE_DUMP, CALLS };
+enum { CODES = 72 };
+extern uint64_t events;
+extern uint64_t answered[CALLS][CODES];
+
+// A card of 0s with a block of 0s, the idle state for N = 0.
+desk *desk_new(size_t words, size_t state_words);
+void desk_free(desk *d);
+
+// Words written from outside.
+void desk_set(desk *d, size_t place, uint32_t word);
+void desk_set_card(desk *d, const uint32_t *words);
+void desk_set_state(desk *d, const uint32_t *words);
+
+// Power goes: the block holds other words.
+void desk_cut(desk *d);
+
+ration_answer desk_start_format(desk *d);
+ration_answer desk_open(desk *d);
+ration_answer desk_find(desk *d, uint32_t key);
+ration_answer desk_start_insert(desk *d, uint32_t key, uint32_t value);
+ration_answer desk_start_delete(desk *d, uint32_t key);
+ration_answer desk_step(desk *d);
+
+// Reads a dump over words that are each 7 before, or writes one over bytes that are each 7 before. The result
+// stands at *result, of the length lent, until the next of these two calls.
+ration_answer guarded_read_dump(const uint8_t *dump, size_t dump_bytes, size_t words_lent, const uint32_t **result);
+ration_answer desk_write_dump(desk *d, size_t bytes_lent, const uint8_t **result);
+
+#endif

@@ -1,0 +1,118 @@
+// Random lists of calls, refused ones and cuts among them, at several sizes of cards.
+#include "block.h"
+#include "builder.h"
+#include "check.h"
+#include "parts.h"
+#include "worked.h"
+
+// Which keys a list uses, and how it is worked.
+typedef struct {
+    uint32_t nodes;
+    uint32_t events;
+    uint32_t keys;       // how many different ones
+    uint32_t multiplier; // spreads them over all words
+    uint32_t check_every;
+} list_shape;
+
+static uint32_t random_key(const list_shape *l, random_stream *r)
+{
+    static const uint32_t ends[] = {0, 1, 2, UINT32_MAX - 1, UINT32_MAX};
+    if (random_percent(r, 1))
+        return ends[random_below(r, 5)];
+    return (1 + random_below(r, l->keys)) * l->multiplier;
+}
+
+// The dump of a card is read back as the same words.
+static void check_dump(worked *w)
+{
+    const uint8_t *bytes;
+    const uint32_t *words;
+    size_t length = RATION_DUMP_BYTES(read_nodes(w->desk->words));
+    CHECK(desk_write_dump(w->desk, length + 3, &bytes).value == length, "dump's length");
+    static uint8_t dump[RATION_MOST_DUMP_BYTES];
+    for (size_t i = 0; i < length; i++)
+        dump[i] = bytes[i];
+    CHECK(guarded_read_dump(dump, length, w->desk->words, &words).value == w->desk->words, "card's length");
+    for (size_t i = 0; i < w->desk->words; i++)
+        CHECK(words[i] == w->desk->card[i], "word %zu of the dump", i);
+}
+
+static void one_event(worked *w, const list_shape *l, uint32_t insert_percent, random_stream *r)
+{
+    uint32_t dice = random_below(r, 1000), key = random_key(l, r), value = random_word(r);
+    uint32_t steady = w->in_progress == NOTHING ? 300 : 900; // below it the likely call of the moment
+    if (dice < steady && w->in_progress != NOTHING)
+        worked_step(w);
+    else if (dice < steady && random_percent(r, insert_percent))
+        worked_start_insert(w, key, value);
+    else if (dice < steady)
+        worked_start_delete(w, key);
+    else if (dice < 960)
+        worked_find(w, key);
+    else if (dice < 970)
+        worked_start_insert(w, key, value);
+    else if (dice < 980)
+        worked_start_delete(w, key);
+    else if (dice < 990)
+        worked_step(w);
+    else if (dice < 992)
+        worked_cut(w);
+    else if (dice < 993)
+        check_dump(w);
+    else
+        worked_find(w, key);
+}
+
+static void work_list(worked *w, const list_shape *l, random_stream *r)
+{
+    uint32_t insert_percent = 80;
+    for (uint32_t i = 0; i < l->events; i++) {
+        if (random_below(r, l->nodes * 40) == 0)
+            insert_percent = 100 - insert_percent; // growing and shrinking in turn
+        one_event(w, l, insert_percent, r);
+        if (i % l->check_every == 0)
+            worked_check(w);
+    }
+    worked_finish(w);
+    worked_check(w);
+}
+
+void test_lists(scale s)
+{
+    static const list_shape shapes[] = {
+        {4, 60000, 20, 1, 1},
+        {5, 60000, 20, 2654435761u, 1},
+        {6, 120000, 40, 1, 1},
+        {6, 60000, 40, 2654435761u, 1},
+        {12, 200000, 120, 1, 2},
+        {12, 100000, 80, 2654435761u, 2},
+        {60, 300000, 500, 1, 20},
+        {60, 200000, 400, 2654435761u, 20},
+        {600, 150000, 5000, 2654435761u, 500},
+    };
+    for (size_t i = 0; i < sizeof shapes / sizeof shapes[0]; i++) {
+        list_shape l = shapes[i];
+        random_stream r = {1994 + i};
+        if (l.nodes == 600 && s.percent < 100)
+            continue;
+        l.events = l.events / 100 * s.percent;
+        worked *w = worked_format(l.nodes, &r);
+        work_list(w, &l, &r);
+        worked_free(w);
+    }
+
+    // Cards of 600 nodes that are full or deep from the start.
+    static const struct {
+        uint32_t levels, least, most;
+    } built[] = {{8, 2, 2}, {2, 11, 11}, {4, 3, 4}, {3, 7, 7}, {5, 2, 3}};
+    for (size_t i = 0; i < sizeof built / sizeof built[0]; i++) {
+        static uint32_t card[RATION_MOST_CARD_WORDS];
+        random_stream r = {2026 + i};
+        uint32_t used = build_card(card, 600, built[i].levels, built[i].least, built[i].most, &r);
+        CHECK(used != 0, "card %zu", i);
+        list_shape l = {600, 40000 / 100 * s.percent, 30000, 1, 500};
+        worked *w = worked_open(600, card);
+        work_list(w, &l, &r);
+        worked_free(w);
+    }
+}

@@ -1,0 +1,228 @@
+//! Random lists over the types `Table`, `Update` and `Repair`, beside the book, with cuts at random places and, in chosen
+//! lists, after every store.
+
+use std::num::NonZeroU32;
+
+use ration_table::{card_words, dump_bytes, Formatting, Opened, Progress, Refusal, Repair, Table, Update};
+
+use crate::book::{self, Book};
+use crate::guarded::{take_store_over, Guarded, GuardedState};
+use crate::random::Random;
+use crate::reader;
+
+/// What is being done with an opened card.
+enum Now<'a> {
+    Idle(Table<'a>),
+    Updating(Update<'a>, Option<u32>),
+    Repairing(Repair<'a>),
+}
+
+impl Now<'_> {
+    fn card(&self) -> &[u32] {
+        match self {
+            Now::Idle(table) => table.card(),
+            Now::Updating(update, _) => update.card(),
+            Now::Repairing(repair) => repair.card(),
+        }
+    }
+
+    fn find(&self, key: NonZeroU32) -> Result<Option<u32>, Refusal> {
+        match self {
+            Now::Idle(table) => table.find(key),
+            Now::Updating(update, _) => update.find(key),
+            Now::Repairing(repair) => repair.find(key),
+        }
+    }
+
+    /// The dump is the card's words, low byte first, and zero bytes.
+    fn check_dump(&self) {
+        let mut bytes = vec![7; dump_bytes(self.card().len() / 24)];
+        let length = match self {
+            Now::Idle(table) => table.write_dump(&mut bytes),
+            Now::Updating(update, _) => update.write_dump(&mut bytes),
+            Now::Repairing(repair) => repair.write_dump(&mut bytes),
+        };
+        assert_eq!(length, Ok(bytes.len()));
+        let mut due: Vec<u8> = self.card().iter().flat_map(|word| word.to_le_bytes()).collect();
+        due.resize(bytes.len(), 0);
+        assert!(bytes == due, "another dump");
+    }
+}
+
+pub struct List {
+    pub nodes: usize,
+    pub keys: u32,
+    pub multiplier: u32,
+    pub events: u64,
+    /// Power goes on a copy after every store.
+    pub cut_everywhere: bool,
+}
+
+struct Lists {
+    random: Random,
+    events: u64,
+    cuts: u64,
+}
+
+fn open<'a>(card: &'a mut Guarded, state: &'a mut GuardedState) -> Now<'a> {
+    match Table::open(card.lend(), &mut state.block).expect("opening refused") {
+        Opened::Idle(table) => Now::Idle(table),
+        Opened::Repairing(repair) => Now::Repairing(repair),
+    }
+}
+
+/// The map is the book's; where the table is idle it is balanced.
+fn check(card: &[u32], book: &Book, idle: bool) {
+    let reading = reader::table(card).expect("not sound");
+    assert!(reading.map == book.pairs, "the map is not the book's");
+    assert!(!idle || (reading.faults == 0 && reading.free(card) >= 3), "idle and not balanced");
+}
+
+impl Lists {
+    fn key(&mut self, list: &List) -> NonZeroU32 {
+        let key = match self.random.below(100) {
+            0 => u32::MAX,
+            1 => 1,
+            _ => (1 + self.random.below(list.keys)).wrapping_mul(list.multiplier),
+        };
+        NonZeroU32::new(key).expect("an odd multiplier makes no 0 of these")
+    }
+
+    fn start<'a>(&mut self, table: Table<'a>, book: &mut Book, list: &List, insert_percent: u32) -> Now<'a> {
+        let key = self.key(list);
+        let held = book.pairs.get(&key.get()).copied();
+        let (leaf, run) = reader::landing(table.card(), key.get()).expect("no way down");
+        let full = reader::is_full(leaf);
+        if !self.random.percent(insert_percent) {
+            let Ok(update) = table.delete(key) else { panic!("delete refused") };
+            book.started(book::Update::Delete(key.get()), full);
+            return Now::Updating(update, held);
+        }
+        let free = || reader::table(table.card()).expect("not sound").free(table.card());
+        let room = held.is_some() || !full || free() >= run + 5;
+        let value = self.random.word();
+        match table.insert(key, value) {
+            Ok(update) => {
+                assert!(room, "insert not refused");
+                book.started(book::Update::Insert(key.get(), value), full);
+                Now::Updating(update, held)
+            }
+            Err(refused) => {
+                assert!(!room && refused.refusal == Refusal::NoRoom, "insert refused: {}", refused.refusal);
+                Now::Idle(refused.unchanged)
+            }
+        }
+    }
+
+    fn step<'a>(&mut self, now: Now<'a>, book: &mut Book, list: &List, insert_percent: u32) -> Now<'a> {
+        self.events += 1;
+        match now {
+            Now::Idle(table) => self.start(table, book, list, insert_percent),
+            Now::Updating(update, due) => match update.step() {
+                Ok(Progress::Stored(update)) => {
+                    book.stepped(false);
+                    Now::Updating(update, due)
+                }
+                Ok(Progress::Done(table, answer)) => {
+                    assert_eq!(answer, due, "final answer");
+                    book.stepped(true);
+                    Now::Idle(table)
+                }
+                Err(refused) => panic!("update: {}", refused.refusal),
+            },
+            Now::Repairing(repair) => match repair.step() {
+                Ok(Progress::Stored(repair)) => Now::Repairing(repair),
+                Ok(Progress::Done(table, ())) => Now::Idle(table),
+                Err(refused) => panic!("repair: {}", refused.refusal),
+            },
+        }
+    }
+
+    /// A card whose power has just gone is repaired, with further cuts within the repair.
+    fn recover(&mut self, card: &[u32], book: &Book) {
+        let mut card = Guarded::new(card);
+        let mut state = GuardedState::new();
+        loop {
+            self.cuts += 1;
+            self.events += 1;
+            let mut now = open(&mut card, &mut state);
+            check(now.card(), book, false);
+            while let Now::Repairing(repair) = now {
+                if self.random.below(60) == 0 {
+                    now = Now::Repairing(repair);
+                    break;
+                }
+                self.events += 1;
+                now = match repair.step() {
+                    Ok(Progress::Stored(repair)) => Now::Repairing(repair),
+                    Ok(Progress::Done(table, ())) => Now::Idle(table),
+                    Err(refused) => panic!("repair: {}", refused.refusal),
+                };
+            }
+            if let Now::Idle(table) = now {
+                return check(table.card(), book, true);
+            }
+        }
+    }
+
+    fn work(&mut self, list: &List) {
+        let before: Vec<u32> = (0..card_words(list.nodes)).map(|_| self.random.word()).collect();
+        let mut card = Guarded::new(&before);
+        let mut state = GuardedState::new();
+        let formatting: Formatting = Table::format(card.lend(), &mut state.block).expect("format refused");
+        assert!(formatting.finish().is_ok(), "format refused");
+        let mut copy = card.words().to_vec();
+        let mut book = Book::default();
+        let mut insert_percent = 80;
+        let end = self.events + list.events;
+        while self.events < end {
+            let mut now = open(&mut card, &mut state);
+            check(now.card(), &book, matches!(now, Now::Idle(_)));
+            self.events += 1;
+            while self.events < end && self.random.below(2000) != 0 {
+                if self.random.below(40 * list.nodes as u32) == 0 {
+                    insert_percent = 100 - insert_percent;
+                }
+                if self.random.percent(20) {
+                    let key = self.key(list);
+                    assert_eq!(now.find(key), Ok(book.pairs.get(&key.get()).copied()), "find {key}");
+                    assert!(now.card() == copy, "a find stored");
+                    self.events += 1;
+                }
+                now = self.step(now, &mut book, list, insert_percent);
+                let stored = now.card() != copy;
+                take_store_over(now.card(), &mut copy);
+                if stored && list.cut_everywhere {
+                    let mut cut = book.clone();
+                    cut.cut();
+                    self.recover(&copy, &cut);
+                }
+                if self.random.below(8 * list.nodes as u32) == 0 {
+                    check(now.card(), &book, matches!(now, Now::Idle(_)));
+                    now.check_dump();
+                }
+            }
+            book.cut(); // what is in progress is dropped: power goes
+            self.cuts += 1;
+        }
+    }
+}
+
+pub fn test() -> (u64, u64) {
+    let mut lists = Lists { random: Random(1994), events: 0, cuts: 0 };
+    for (nodes, keys, multiplier, events, cut_everywhere) in [
+        (4, 20, 1, 50_000, false),
+        (5, 20, 2_654_435_761, 50_000, false),
+        (6, 40, 1, 150_000, false),
+        (12, 100, 2_654_435_761, 150_000, false),
+        (60, 500, 1, 200_000, false),
+        (600, 5000, 2_654_435_761, 100_000, false),
+        (4, 14, 1, 20_000, true),
+        (6, 30, 1, 150_000, true),
+        (12, 80, 1, 200_000, true),
+        (60, 300, 1, 200_000, true),
+    ] {
+        lists.work(&List { nodes, keys, multiplier, events, cut_everywhere });
+    }
+    (lists.events, lists.cuts)
+}

@@ -1,0 +1,66 @@
+// Tests a table behind ration_table.h: test_table TRACES [PERCENT [GUARD_WORDS]]. PERCENT below 100 makes fewer random
+// events; GUARD_WORDS 0 leaves the watch over memory to a memory checker.
+#include <stdlib.h>
+
+#include "check.h"
+#include "guarded.h"
+#include "parts.h"
+
+static void print_answers(void)
+{
+    static const char *const calls[CALLS] = {"start_format", "open", "find",      "start_insert",
+                                             "start_delete", "step", "read_dump", "write_dump"};
+    static const char *const worked[] = {"value", "absent", "stored", "ready", "idle", "started", "length", "no state"};
+    for (int call = 0; call < CALLS; call++) {
+        printf("  %-12s", calls[call]);
+        for (int code = 1; code < CODES; code++)
+            if (answered[call][code] != 0 && code < 64)
+                printf(" refused %d: %llu", code, (unsigned long long)answered[call][code]);
+            else if (answered[call][code] != 0)
+                printf(" %s: %llu", worked[code - 64], (unsigned long long)answered[call][code]);
+        printf("\n");
+    }
+}
+
+// Every answer that document 01 gives a call a reason for was seen, so that no check above was about nothing.
+static void check_all_answers_seen(void)
+{
+    static const uint8_t seen[CALLS][13] = {
+        [START_FORMAT] = {1, 69, 71},
+        [OPEN] = {1, 2, 3, 4, 5, 68, 69, 71},
+        [FIND] = {1, 2, 3, 6, 9, 64, 65},
+        [START_INSERT] = {1, 2, 3, 6, 7, 8, 9, 69, 71},
+        [START_DELETE] = {1, 2, 3, 6, 7, 9, 69, 71},
+        [STEP] = {1, 2, 3, 9, 10, 64, 65, 66, 67, 71},
+        [READ_DUMP] = {11, 12, 70},
+        [WRITE_DUMP] = {1, 2, 3, 12, 70},
+    };
+    for (int call = 0; call < CALLS; call++) {
+        uint64_t listed = 0, all = 0;
+        for (int i = 0; seen[call][i] != 0; i++) {
+            CHECK(answered[call][seen[call][i]] > 0, "call %d never answered %d", call, seen[call][i]);
+            listed += answered[call][seen[call][i]];
+        }
+        for (int code = 0; code < CODES; code++)
+            all += answered[call][code];
+        CHECK(listed == all, "call %d answered what is not listed for it", call);
+    }
+}
+
+int main(int count, char **arguments)
+{
+    CHECK(count >= 2, "usage: test_table TRACES [PERCENT [GUARD_WORDS]]");
+    scale s = {count > 2 ? (uint32_t)atoi(arguments[2]) : 100};
+    if (count > 3)
+        guard_words = (size_t)atoi(arguments[3]);
+    test_traces(arguments[1]);
+    test_lengths();
+    test_lists(s);
+    test_cuts(s);
+    test_damage(s);
+    test_agreement(s);
+    check_all_answers_seen();
+    print_answers();
+    printf("C: all right, 93 traces, %llu events\n", (unsigned long long)events);
+    return 0;
+}

@@ -1,0 +1,158 @@
+//! Replays the traces (vectors/FORMAT.md) word for word over the single calls.
+
+use ration_table::calls::{self, Opening, Step};
+use ration_table::{Refusal, StateBlock};
+
+use crate::guarded::{Desk, Guarded};
+
+fn crc(bytes: &[u8]) -> u32 {
+    !bytes.iter().fold(u32::MAX, |crc, &byte| {
+        (0..8).fold(crc ^ u32::from(byte), |crc, _| crc >> 1 ^ if crc & 1 == 1 { 0xedb8_8320 } else { 0 })
+    })
+}
+
+fn crc_of_words(words: &[u32]) -> u32 {
+    let bytes: Vec<u8> = words.iter().flat_map(|word| word.to_le_bytes()).collect();
+    crc(&bytes)
+}
+
+fn number(text: &str) -> u32 {
+    text.parse().unwrap_or_else(|_| panic!("no number: {text}"))
+}
+
+fn free_bits(block: &StateBlock) -> u32 {
+    block.words()[11..31].iter().map(|word| word.count_ones()).sum()
+}
+
+/// An answer in the words of a trace.
+fn refused_or(answer: Result<String, Refusal>) -> String {
+    answer.unwrap_or_else(|refusal| format!("refused {}", refusal.number()))
+}
+
+fn call(desk: &mut Desk, fields: &[&str], result: &str) -> String {
+    let started = |answer: Result<(), Refusal>| refused_or(answer.map(|()| "started".into()));
+    match *fields {
+        ["format"] => started(desk.start_format()),
+        ["insert", key, value] => started(desk.start_insert(number(key), number(value))),
+        ["delete", key] => started(desk.start_delete(number(key))),
+        ["find", key] => refused_or(desk.find(number(key)).map(|found| match found {
+            Some(value) => format!("found {value}"),
+            None => "absent".into(),
+        })),
+        ["open"] => {
+            let answer = desk.open();
+            let free = free_bits(desk.block());
+            refused_or(answer.map(|opening| match opening {
+                Opening::Idle => format!("idle {free}"),
+                Opening::Repairing => format!("repairing {free}"),
+            }))
+        }
+        ["step"] => {
+            let mut before = desk.card().to_vec();
+            refused_or(desk.step().map(|step| match step {
+                Step::Ready => "ready".into(),
+                Step::Held(value) => format!("answer {value}"),
+                Step::Absent => "answer absent".into(),
+                Step::Stored => {
+                    // The card before, with the store that is due, is the card after.
+                    let due: Vec<&str> = result.split(' ').collect();
+                    assert!(due[0] == "store", "stored");
+                    before[number(due[1]) as usize] = number(due[2]);
+                    assert!(desk.card() == before, "another store");
+                    result.into()
+                }
+            }))
+        }
+        _ => panic!("no such call"),
+    }
+}
+
+/// "the first L words, or the card followed by 0s; the card in hand is not changed, the state handed back counts"
+fn call_on(desk: &mut Desk, words: usize, fields: &[&str], result: &str) -> String {
+    let mut other = Desk::new(words);
+    for (place, &word) in desk.card().iter().take(words).enumerate() {
+        other.set(place, word);
+    }
+    other.set_block(desk.block().clone());
+    let answer = call(&mut other, fields, result);
+    desk.set_block(other.block().clone());
+    desk.events += other.events;
+    answer
+}
+
+/// Bytes in hex, a run of z zero bytes as (z); an empty dump as -.
+fn dump(text: &str) -> Vec<u8> {
+    let mut bytes = Vec::new();
+    let mut rest = text.trim_start_matches('-');
+    while !rest.is_empty() {
+        if let Some(run) = rest.strip_prefix('(') {
+            let (zeros, after) = run.split_once(')').unwrap();
+            bytes.resize(bytes.len() + number(zeros) as usize, 0);
+            rest = after;
+        } else {
+            bytes.push(u8::from_str_radix(&rest[..2], 16).unwrap());
+            rest = &rest[2..];
+        }
+    }
+    bytes
+}
+
+pub fn test(text: &str) -> u64 {
+    let (mut traces, mut stores, mut events) = (0, 0, 0);
+    let mut desk = Desk::new(0);
+    let mut bytes = Vec::new();
+    for (line_number, line) in text.lines().enumerate() {
+        let (event, result) = line.split_once(" -> ").unwrap_or((line, ""));
+        let fields: Vec<&str> = event.split(' ').collect();
+        let mut answer = None;
+        match fields[..] {
+            ["trace", _, nodes] => {
+                events += desk.events;
+                desk = Desk::new(8 + 24 * number(nodes) as usize);
+                traces += 1;
+                stores = 0;
+            }
+            ["card", place, ..] => {
+                for (i, word) in fields[2..].iter().enumerate() {
+                    desk.set(number(place) as usize + i, number(word));
+                }
+            }
+            ["poke", place, word] => desk.set(number(place) as usize, number(word)),
+            ["cut"] => desk.set_block(StateBlock::from_words([0xa5c3_a5c3; 177])),
+            ["state0"] => desk.set_block(StateBlock::new()),
+            ["crc", due] => assert_eq!(format!("{:08x}", crc_of_words(desk.card())), due, "line {}", line_number + 1),
+            ["end", due, due_stores] => {
+                assert_eq!(format!("{:08x}", crc_of_words(desk.card())), due, "line {}", line_number + 1);
+                assert_eq!(stores, number(due_stores), "line {}", line_number + 1);
+            }
+            ["dump", hex] => bytes = dump(hex),
+            ["read", lent] => {
+                let mut words = Guarded::new(&vec![7; number(lent) as usize]);
+                let length = calls::read_dump(&bytes, words.lend());
+                let crc = crc_of_words(words.lend());
+                answer = Some(refused_or(length.map(|length| format!("words {length} crc {crc:08x}"))));
+                desk.events += 1;
+            }
+            ["write", lent] => {
+                let mut lent = vec![7; number(lent) as usize];
+                let length = calls::write_dump(desk.card(), &mut lent);
+                answer = Some(refused_or(length.map(|length| format!("bytes {length} crc {:08x}", crc(&lent)))));
+                desk.events += 1;
+            }
+            ["on", words, ref rest @ ..] => {
+                answer = Some(call_on(&mut desk, number(words) as usize, rest, result));
+            }
+            ["list"] | ["#", ..] => {}
+            _ => {
+                let given = call(&mut desk, &fields, result);
+                stores += u32::from(given.starts_with("store "));
+                answer = Some(given);
+            }
+        }
+        if let Some(answer) = answer {
+            assert_eq!(answer, result, "line {}", line_number + 1);
+        }
+    }
+    assert_eq!(traces, 93);
+    events + desk.events
+}
