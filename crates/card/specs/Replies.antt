@@ -37,3 +37,7 @@ started = record { code = 69; value = 0 }
 -- "The answer is the result's length in words or bytes"
 abbrev pub long : ℕ → Reply
 long length = record { code = 70; value = length }
+
+-- the state block lent has another length than a state's words
+abbrev pub noState : Reply
+noState = record { code = 71; value = 0 }

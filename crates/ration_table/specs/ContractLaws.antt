@@ -5,7 +5,7 @@ use mathlib.Core.List.{List}
 use Prim.Native.Nat.{ℕ, _^_, _<_}
 use native.Mathlib.Omega.{arith}
 use lib.ListN.{length}
-use Rattle.card.specs.Replies.{Reply, stored}
+use Rattle.card.specs.Replies.{Reply, stored, noState}
 use Rattle.dump.specs.Dump.{readAnswer, writeAnswer}
 use Rattle.dump.specs.AnswerLaws.{read-sized, write-sized, padded-most, greatest-dump}
 use Rattle.dump.specs.declared.Answer.the-variants.{Length}
@@ -21,9 +21,10 @@ use Rattle.state.specs.declared.Begun.the-variants.{Idle as OpenedIdle, Started
 use Rattle.state.specs.declared.Stepped.{Stepped}
 use Rattle.state.specs.declared.Answer.{Answer}
 use Rattle.state.specs.declared.Answer.the-variants.{Stored, Ready, Absent, Value, Refused}
-use Rattle.ration_table.specs.Block.{stateWords, unpacked, memoryIn, Small, Kept, Words}
+use Rattle.state_block.specs.Block.{stateWords, unpacked, memoryIn, Small, Kept, Words}
 use Rattle.ration_table.specs.HandedBack.{step-small}
-use Rattle.ration_table.specs.Contracts.{noState, OpenCall, StartCall, StepCall, Played, isRefusal, isRefusedStart}
+use Rattle.ration_table.specs.Contracts.{OpenCall, StartCall, StepCall, isRefusal, isRefusedStart}
+use Rattle.block_steps.specs.Playing.{Played}
 
 -- ---- refusals
 

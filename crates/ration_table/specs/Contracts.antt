@@ -9,7 +9,7 @@ use mathlib.Core.List.{List}
 use mathlib.Core.Bool.{Bool, true, false}
 use Prim.Native.Nat.{ℕ, _^_, _<_}
 use lib.ListN.{length}
-use Rattle.card.specs.Replies.{Reply}
+use Rattle.card.specs.Replies.{Reply, noState}
 use Rattle.state.specs.Answers.{startReply, stepReply}
 use Rattle.state.specs.Steps.{Handed, Step}
 use Rattle.state.specs.declared.Begun.{Begun}
@@ -18,16 +18,12 @@ use Rattle.state.specs.declared.Answer.{Answer}
 use Rattle.state.specs.declared.Answer.the-variants.{Stored, Ready, Absent, Value, Refused}
 use Rattle.dump.specs.declared.Answer.{Answer as DumpAnswer}
 use Rattle.dump.specs.declared.Answer.the-variants.{Length}
-use Rattle.ration_table.specs.Block.{stateWords, memoryIn}
+use Rattle.state_block.specs.Block.{stateWords, memoryIn}
 use Rattle.ration_table.specs.declared.replies.Reply.{Reply as ReplyWords}
 
 -- the two words of an answer
 abbrev pub replyOf : ReplyWords → Reply
 replyOf r = record { code = r .code; value = r .value }
-
--- the state block has not 177 words
-abbrev pub noState : Reply
-noState = record { code = 71; value = 0 }
 
 -- opening and starting to format: "refused, hands back an idle state for N = 0" is part of `due`
 pub record OpenCall (before after : List ℕ) (reply : Reply) (due : Handed) : Type 0 where
@@ -47,11 +43,6 @@ pub record StepCall (before after card-before card-after : List ℕ) (reply : Re
   pub handed : length before ≡ stateWords → memoryIn after ≡ due .memory
   pub unchanged : (r : ℕ) → due .answer ≡ Refused r → after ≡ before
   pub no-state : (length before ≡ stateWords → ⊥) → (reply ≡ noState) × (after ≡ before) × (card-after ≡ card-before)
-
--- a store made in place leaves all that the step is due to leave; where none was made nothing was touched
-abbrev pub Played : Bool → Step → List ℕ → List ℕ → List ℕ → List ℕ → Type 0
-Played true due card-before card-after before after = due ≡ record { answer = Stored; card = card-after; memory = memoryIn after }
-Played false due card-before card-after before after = (card-after ≡ card-before) × (after ≡ before)
 
 -- whether an answer is a refusal
 unfoldable pub isRefusal : Answer → Bool

@@ -41,8 +41,8 @@ use Rattle.state.specs.declared.Doing.the-variants.{Idle, Formatting, Inserting
 use Rattle.state.specs.declared.Answer.{Answer}
 use Rattle.state.specs.declared.Answer.the-variants.{Stored, Ready}
 use Rattle.state.specs.declared.Begun.the-variants.{Idle as OpenedIdle, Started}
-use Rattle.ration_table.specs.Block.{word, part, joined, isTrue, doingIn, unpacked, memoryIn, formatted, Small, Words}
-use Rattle.ration_table.specs.Rows.{length-joined}
+use Rattle.state_block.specs.Block.{word, part, joined, isTrue, doingIn, unpacked, memoryIn, formatted, Small, Words}
+use Rattle.state_block.specs.Rows.{length-joined}
 
 -- either of two
 either : {A : Type 0} (P : A → Type 0) (t : Bool) (x y : A) → P x → P y → P (pick t x y)

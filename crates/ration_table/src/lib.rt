@@ -1,10 +1,8 @@
 // The table and its dumps, for C and Rust to call. A card is a lent slice of words; a state is a lent block of words, and any
 // words in it are some state. A block of another length is no state, and nothing is read or written.
-mod playing;
 mod replies;
-mod state_block;
 
-use playing::play;
+use block_steps::play;
 pub use replies::Reply;
 use replies::dump_reply;
 use replies::found_reply;
@@ -27,7 +25,7 @@ ghost use Rattle.table.specs.Calls.{findOf, openOf, formatOf, stepOf};
 ghost use Rattle.updates.specs.Starts.{insertOf, deleteOf};
 ghost use Rattle.state.specs.Results.{handedOf, UnchangedStart};
 ghost use Rattle.state.specs.Memory.{memoryOf};
-ghost use Rattle.ration_table.specs.Block.{stateWords, unpacked, memoryIn, Small};
+ghost use Rattle.state_block.specs.Block.{stateWords, unpacked, memoryIn, Small};
 ghost use Rattle.ration_table.specs.Contracts.{replyOf, OpenCall, StartCall, StepCall};
 
 // "A find is one call on the card alone".

@@ -3,11 +3,11 @@ use table::Answer;
 use table::Begun;
 use table::Found;
 ghost use mathlib.Core.Path.{_≡_};
-ghost use Rattle.card.specs.Replies.{stored};
+ghost use Rattle.card.specs.Replies.{stored, noState};
 ghost use Rattle.table.specs.Answers.{foundReply};
 ghost use Rattle.state.specs.Answers.{stepReply, startReply};
 ghost use Rattle.dump.specs.Answers.{dumpReply};
-ghost use Rattle.ration_table.specs.Contracts.{replyOf, noState, ShortDump, isRefusal, isRefusedStart};
+ghost use Rattle.ration_table.specs.Contracts.{replyOf, ShortDump, isRefusal, isRefusedStart};
 
 #[repr(C)]
 pub struct Reply {

@@ -3,7 +3,6 @@ mod lookup;
 mod opening;
 mod steps;
 
-use descent::Landing;
 use lookup::found_at;
 use opening::open_checked;
 pub use state::Answer;
@@ -17,8 +16,7 @@ use state::no_beginning;
 use state::resting;
 use state::step_format;
 use steps::step_held;
-use updates::has_room;
-use updates::start_landed;
+use updates::begin;
 use updates::start_refusal;
 ghost use mathlib.Core.Path.{_≡_};
 ghost use Rattle.state.specs.Memory.{memoryOf};
@@ -117,32 +115,14 @@ pub fn start_insert(card: &[u32], s: State, key: u32, value: u32) -> Beginning
     ensures { λ r. ⌜ handedOf r ≡ insertOf (now (card .entry)) (memoryOf s) key value ⌝ }
     ensures { λ r. ⌜ UnchangedStart s r ⌝ }
 {
-    let refusal = start_refusal(card, s, key);
-    if refusal != 0 {
-        return Beginning {
-            begun: Begun::Refused(refusal),
-            state: s,
-        };
-    }
-    match descent::find_landing(card, s.nodes, key, card[card::ROOT_PLACE] as usize) {
-        Landing::Refused => Beginning {
-            begun: Begun::Refused(9),
-            state: s,
-        },
-        Landing::Leaf { node, link: _, run } => {
-            let doing = Doing::Inserting {
-                key,
-                value,
-                begun: false,
-            };
-            let free = s.free;
-            start_landed(
-                s,
-                doing,
-                has_room(card::node_at(card, node), key, free, run),
-            )
-        }
-    }
+    let doing = Doing::Inserting {
+        key,
+        value,
+        begun: false,
+    };
+    let held = s.doing;
+    let refusal = start_refusal(card, s.nodes, held, s.free, key, true);
+    begin(s, doing, refusal)
 }
 
 // "Refusing a delete on a full card" would spoil a bin: a delete needs no free nodes to start.
@@ -150,29 +130,12 @@ pub fn start_delete(card: &[u32], s: State, key: u32) -> Beginning
     ensures { λ r. ⌜ handedOf r ≡ deleteOf (now (card .entry)) (memoryOf s) key ⌝ }
     ensures { λ r. ⌜ UnchangedStart s r ⌝ }
 {
-    let refusal = start_refusal(card, s, key);
-    if refusal != 0 {
-        return Beginning {
-            begun: Begun::Refused(refusal),
-            state: s,
-        };
-    }
-    match descent::find_landing(card, s.nodes, key, card[card::ROOT_PLACE] as usize) {
-        Landing::Refused => Beginning {
-            begun: Begun::Refused(9),
-            state: s,
-        },
-        Landing::Leaf {
-            node: _,
-            link: _,
-            run: _,
-        } => {
-            let doing = Doing::Deleting {
-                key,
-                begun: false,
-                value: 0,
-            };
-            start_landed(s, doing, true)
-        }
-    }
+    let doing = Doing::Deleting {
+        key,
+        begun: false,
+        value: 0,
+    };
+    let held = s.doing;
+    let refusal = start_refusal(card, s.nodes, held, s.free, key, false);
+    begin(s, doing, refusal)
 }

@@ -7,8 +7,7 @@ use free_nodes::NodeSet;
 use plans::Planned;
 use plans::answers::balanced;
 use plans::answers::refused;
-pub use starting::has_room;
-pub use starting::start_landed;
+pub use starting::begin;
 pub use starting::start_refusal;
 use state::Answer;
 use state::Doing;
@@ -19,12 +18,8 @@ ghost use Rattle.card.specs.Layout.{greatestNodes};
 ghost use Rattle.card.specs.HeaderLaws.{Sized};
 ghost use Rattle.free_nodes.specs.NodeSet.{nodesOf};
 ghost use Rattle.descent.specs.Descent.{slotOf};
-ghost use Rattle.laws.specs.Cases.{pick};
-ghost use Rattle.updates.specs.Starts.{startRefused, started};
-ghost use Rattle.state.specs.Memory.{memoryOf};
-ghost use Rattle.updates.specs.Updates.{landing, emptyReason, insertReason, insertChange, insertFirst, deleteChange, deleteFirst, repairs, noChange, nextChange, roomFor};
-ghost use Rattle.state.specs.Results.{handedOf, UnchangedStart};
-ghost use Rattle.updates.specs.Results.{firstOf, InAnyRows, startRefusal, isSlot};
+ghost use Rattle.updates.specs.Updates.{landing, emptyReason, insertReason, insertChange, insertFirst, deleteChange, deleteFirst, repairs, noChange, nextChange};
+ghost use Rattle.updates.specs.Results.{firstOf, InAnyRows};
 ghost use Rattle.state.specs.declared.Doing.the-variants.{Inserting, Deleting};
 
 // The first change of an update, what is then being done, and the final answer where there is nothing to change.

@@ -1,4 +1,5 @@
-// The refusals of starting an update, the room it needs, and its start.
+// Starting an update: its refusals, the room it needs, and the state it hands back.
+use descent::Landing;
 use descent::Slot;
 use free_nodes::NodeSet;
 use state::Beginning;
@@ -7,36 +8,32 @@ use state::Doing;
 use state::State;
 use state::is_idle;
 ghost use mathlib.Core.Path.{_≡_};
-ghost use Prim.Native.Nat.{_^_, _≤_, _<_};
+ghost use mathlib.Core.Bool.{true};
 ghost use lib.ListN.{length};
-ghost use Rattle.card.specs.Layout.{greatestNodes};
-ghost use Rattle.card.specs.HeaderLaws.{Sized};
 ghost use Rattle.free_nodes.specs.NodeSet.{nodesOf};
 ghost use Rattle.descent.specs.Descent.{slotOf};
 ghost use Rattle.laws.specs.Cases.{pick};
-ghost use Rattle.updates.specs.Starts.{startRefused, started};
 ghost use Rattle.state.specs.Memory.{memoryOf};
-ghost use Rattle.updates.specs.Updates.{landing, emptyReason, insertReason, insertChange, insertFirst, deleteChange, deleteFirst, repairs, noChange, nextChange, roomFor};
 ghost use Rattle.state.specs.Results.{handedOf, UnchangedStart};
-ghost use Rattle.updates.specs.Results.{firstOf, InAnyRows, startRefusal, isSlot};
-ghost use Rattle.state.specs.declared.Doing.the-variants.{Inserting, Deleting};
+ghost use Rattle.updates.specs.Updates.{insertReason, roomFor};
+ghost use Rattle.updates.specs.Results.{startRefusal, isSlot, roomWhere, dueRefusal, begunBy};
 
-// The refusals 1, 2, 3, 7 and 6 of starting an update, in this order; 0 where none is due.
-pub fn start_refusal(card: &[u32], s: State, key: u32) -> u32
-    ensures { λ r. ⌜ r ≡ startRefusal (now (card .entry)) (memoryOf s) key ⌝ }
+// The refusals 1, 2, 3, 7 and 6 of starting an update, in this order; 0 where none is due. All that is asked of the state are its
+// parts, since a state is large.
+fn early_refusal(card: &[u32], nodes: usize, doing: Doing, key: u32) -> u32
+    ensures { λ r. ⌜ r ≡ startRefusal (now (card .entry)) nodes doing key ⌝ }
 {
     let n = card::nodes_of(card.len());
     if n == 0 {
         return 1;
     }
-    if n != s.nodes {
+    if n != nodes {
         return 1;
     }
     let header = card::header_refusal(card, n);
     if header != 0 {
         return header;
     }
-    let doing = s.doing;
     if !is_idle(doing) {
         return 7;
     }
@@ -58,7 +55,7 @@ fn has_word(leaf: &[u32], word: u32) -> bool
 }
 
 // "A splitting insert needs j + 5 free nodes." The run may be any number here, so 5 is taken from the free nodes.
-pub fn has_room(leaf: &[u32], key: u32, free: NodeSet, run: usize) -> bool
+fn has_room(leaf: &[u32], key: u32, free: NodeSet, run: usize) -> bool
     requires { ⌜ length (now leaf) ≡ 24 ⌝ }
     ensures { λ r. ⌜ r ≡ roomFor (nodesOf (free .words)) run (insertReason (now (leaf .entry)) key) ⌝ }
 {
@@ -75,20 +72,66 @@ pub fn has_room(leaf: &[u32], key: u32, free: NodeSet, run: usize) -> bool
     run <= count - 5
 }
 
-// An update whose leaf is found is started where there is room. "8: key absent, leaf full, free nodes fewer than j + 5".
-pub fn start_landed(s: State, doing: Doing, room: bool) -> Beginning
-    ensures { λ r. ⌜ handedOf r ≡ pick room (started (memoryOf s) doing) (startRefused 8 (memoryOf s)) ⌝ }
+// The same of an update that may split its leaf, or of one that never does and so needs no room.
+fn has_room_where(splits: bool, leaf: &[u32], key: u32, free: NodeSet, run: usize) -> bool
+    requires { ⌜ length (now leaf) ≡ 24 ⌝ }
+    ensures { λ r. ⌜ r ≡ pick splits (roomFor (nodesOf (free .words)) run (insertReason (now (leaf .entry)) key)) true ⌝ }
+{
+    if splits {
+        return has_room(leaf, key, free, run);
+    }
+    true
+}
+
+// "8: key absent, leaf full, free nodes fewer than j + 5", and 0 where that is not so.
+fn room_refusal(room: bool) -> u32
+    ensures { λ r. ⌜ r ≡ pick room 0 8 ⌝ }
+{
+    if room { 0 } else { 8 }
+}
+
+// The refusal that starting an update is due, after those above 9 and 8, or 0: "9: node number 0 or above N, kind not 1 to 3, no
+// children, or more than 10 internal nodes". `splits` says whether the update may split its leaf.
+pub fn start_refusal(
+    card: &[u32],
+    nodes: usize,
+    doing: Doing,
+    free: NodeSet,
+    key: u32,
+    splits: bool,
+) -> u32
+    ensures { λ r. ⌜ r ≡ dueRefusal (now (card .entry)) nodes doing key (roomWhere splits (now (card .entry)) key (nodesOf (free .words))) ⌝ }
+{
+    let early = early_refusal(card, nodes, doing, key);
+    if early != 0 {
+        return early;
+    }
+    match descent::find_landing(card, nodes, key, card[card::ROOT_PLACE] as usize) {
+        Landing::Refused => 9,
+        Landing::Leaf { node, link: _, run } => room_refusal(has_room_where(
+            splits,
+            card::node_at(card, node),
+            key,
+            free,
+            run,
+        )),
+    }
+}
+
+// "Starting an update stores nothing": the state with the update in hand, or as it was where a refusal is due.
+pub fn begin(s: State, doing: Doing, refusal: u32) -> Beginning
+    ensures { λ r. ⌜ handedOf r ≡ begunBy refusal (memoryOf s) doing ⌝ }
     ensures { λ r. ⌜ UnchangedStart s r ⌝ }
 {
-    if room {
-        let state = State { doing, ..s };
+    if refusal != 0 {
         return Beginning {
-            begun: Begun::Started,
-            state,
+            begun: Begun::Refused(refusal),
+            state: s,
         };
     }
+    let state = State { doing, ..s };
     Beginning {
-        begun: Begun::Refused(8),
-        state: s,
+        begun: Begun::Started,
+        state,
     }
 }

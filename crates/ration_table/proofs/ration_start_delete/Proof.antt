@@ -6,7 +6,7 @@ use Rattle.state.specs.Steps.{Handed}
 use Rattle.updates.specs.Starts.{deleteOf}
 use Rattle.state.specs.Memory.{memoryOf}
 use Rattle.state.specs.declared.State.{State}
-use Rattle.ration_table.specs.Block.{memoryIn}
+use Rattle.state_block.specs.Block.{memoryIn}
 use Rattle.ration_table.specs.Contracts.{replyOf, StartCall}
 use Rattle.ration_table.specs.ContractLaws.{start-no-state, small-handed}
 use Rattle.ration_table.specs.HandedBack.{delete-small}

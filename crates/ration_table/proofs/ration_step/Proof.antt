@@ -3,8 +3,8 @@ use mathlib.Core.Path.{subst}
 use mathlib.Core.Bool.{Bool}
 use borrow.Author.Needs.{needs}
 use Rattle.table.specs.Calls.{stepOf}
-use Rattle.ration_table.specs.Block.{memoryIn}
-use Rattle.ration_table.specs.Contracts.{Played}
+use Rattle.state_block.specs.Block.{memoryIn}
+use Rattle.block_steps.specs.Playing.{Played}
 use Rattle.ration_table.specs.ContractLaws.{step-no-state, played-step, not-played}
 use Rattle.ration_table.proofs.ration_step.Statement.{statement}
 use Rattle.ration_table.proofs.ration_step.Tie as tie

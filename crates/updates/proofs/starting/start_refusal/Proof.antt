@@ -1,57 +1,93 @@
 -- `updates::starting::start_refusal` meets its contract.
-use mathlib.Core.Path.{sym, _∙_}
+use mathlib.Core.Path.{ap, sym, _∙_}
+use mathlib.Core.List.{List}
+use mathlib.Core.Bool.{Bool, true}
+use Prim.Native.Nat.{ℕ, _<_}
 use native.Mathlib.Omega.{arith}
-use borrow.Author.Tests.{not-true, not-false}
-use Rattle.card.specs.HeaderLaws.{sized}
-use Rattle.state.specs.Memory.{memoryOf}
-use Rattle.updates.specs.UpdateLaws.{start-no-length, start-other, start-header, start-busy, start-no-key, start-none}
+use lib.ListN.{length}
+use Rattle.laws.specs.Cases.{pick}
+use Rattle.card.specs.HeaderLaws.{Sized}
+use Rattle.card.specs.NodeLaws.{length-node}
+use Rattle.free_nodes.specs.NodeSet.{nodesOf}
+use Rattle.updates.specs.Results.{roomWhere, dueRefusal, landingRefusal}
+use Rattle.updates.specs.UpdateLaws.{start-sized, due-early, due-landing, Landed, landed}
+use Rattle.updates.specs.Updates.{landing, insertReason, roomFor, startRoom}
+use Rattle.descent.specs.declared.Landing.{Landing}
 use borrow.Author.Needs.{needs}
 use Rattle.updates.proofs.starting.start_refusal.Statement.{statement}
 use Rattle.updates.proofs.starting.start_refusal.Tie as tie
 
-nodes-of-requires : tie.Need-nodes-of-requires
-nodes-of-requires c κs = search needs
+whole : (c : tie.Else1) → Sized (length (c .before .before .before .args .card .now)) (c .before .before .before .args .nodes)
+whole c = start-sized (c .before .before .before .args .card .now) (c .before .before .before .args .nodes) (c .before .before .before .args .doing) (c .before .before .before .args .key) (sym (c .before .early-refusal .ensures) ∙ c .if1 .left)
+
+leaf : (c : tie.After-node) → Landed (c .before .before .before .before .before .before .before .args .nodes) (c .node .given .0 .0) (c .node .given .0 .1 .0)
+unfolding landing
+leaf c = landed (c .before .before .before .before .before .before .before .args .card .now) (c .before .before .before .before .before .before .before .args .nodes) (c .before .before .before .before .before .before .before .args .key) (c .node .given .0 .0) (c .node .given .0 .1 .0) (c .node .given .0 .1 .1 .0) (whole (c .before .before .before .before)) (sym (c .before .before .find-landing .ensures) ∙ c .node .given .1)
+
+early-refusal-requires : tie.Need-early-refusal-requires
+early-refusal-requires c κs = search needs
 
 returns : tie.Need-returns
-unfolding memoryOf
-returns c = sym (start-no-length (c .before .before .before .args .card .now) (memoryOf (c .before .before .before .args .s)) (c .before .before .before .args .key) (c .before .nodes-of .result) (c .before .nodes-of .ensures) (c .if1 .taken))
+returns c =
+    c .before .early-refusal .ensures
+    ∙ sym (due-early (c .before .before .before .args .card .now) (c .before .before .before .args .nodes) (c .before .before .before .args .doing) (c .before .before .before .args .key) (roomWhere (c .before .before .before .args .splits) (c .before .before .before .args .card .now) (c .before .before .before .args .key) (nodesOf (c .before .before .before .args .free .words))) (λ z. c .if1 .taken (c .before .early-refusal .ensures ∙ z)))
+
+shared-slice-read-find-landing : tie.Need-shared-slice-read-find-landing
+shared-slice-read-find-landing c = let h = whole (c .before) in let l : 4 < length (c .before .before .before .before .args .card .now) = omega (arith, h .words) in l
+
+cast-find-landing : tie.Need-cast-find-landing
+cast-find-landing c = omega (arith, c .shared-slice-known2 .given 4)
+
+find-landing-requires : tie.Need-find-landing-requires
+find-landing-requires c κs = let h = whole (c .before) in (h .words, h .most)
+
+enum-told : tie.Need-enum-told
+enum-told c = search needs
+
+enum-known-node : tie.Need-enum-known-node
+enum-known-node c = search needs
+
+node-at-requires : tie.Need-node-at-requires
+node-at-requires c κs = let k = leaf (c .before) in let h = whole (c .before .before .before .before .before) in (k .inside .one, omega (arith, k .inside .most, h .most), omega (arith, k .inside .most, h .words))
+
+has-room-where-requires : tie.Need-has-room-where-requires
+has-room-where-requires c κs = let k = leaf (c .before .before) in let h = whole (c .before .before .before .before .before .before) in ap length (c .node-at .ensures) ∙ length-node (c .before .before .before .before .before .before .before .before .before .args .card .now) (c .before .before .node .given .0 .0) (k .inside .one) (omega (arith, k .inside .most, h .words))
+
+room-refusal-requires : tie.Need-room-refusal-requires
+room-refusal-requires c κs = search needs
 
 returns-2 : tie.Need-returns-2
-unfolding memoryOf
-returns-2 c = sym (start-other (c .before .before .before .before .before .args .card .now) (memoryOf (c .before .before .before .before .before .args .s)) (c .before .before .before .before .before .args .key) (c .before .before .before .nodes-of .result) (c .before .before .before .nodes-of .ensures) (c .before .before .if1 .left) (c .if2 .taken))
-
-header-refusal-requires : tie.Need-header-refusal-requires
-header-refusal-requires c κs = let k = sized (c .before .before .before .before .before .args .card .now) _ (c .before .before .before .nodes-of .ensures) (c .before .before .if1 .left) in omega (arith, k .words)
+unfolding landing landingRefusal
+returns-2 c =
+    let room = roomWhere (c .before .before .before .before .before .before .before .args .splits) (c .before .before .before .before .before .before .before .args .card .now) (c .before .before .before .before .before .before .before .args .key) (nodesOf (c .before .before .before .before .before .before .before .args .free .words)) in
+    sym
+    (due-landing (c .before .before .before .before .before .before .before .args .card .now) (c .before .before .before .before .before .before .before .args .nodes) (c .before .before .before .before .before .before .before .args .doing) (c .before .before .before .before .before .before .before .args .key) room (sym (c .before .before .before .before .before .early-refusal .ensures) ∙ c .before .before .before .before .if1 .left)
+    ∙ ap (λ (l : Landing). landingRefusal (room l) l) (sym (c .before .before .find-landing .ensures) ∙ c .enum-told .given .1))
 
 returns-3 : tie.Need-returns-3
-unfolding memoryOf
-returns-3 c = sym (start-header (c .before .before .before .before .before .before .before .args .card .now) (memoryOf (c .before .before .before .before .before .before .before .args .s)) (c .before .before .before .before .before .before .before .args .key) (c .before .before .before .before .before .nodes-of .result) (c .before .before .before .before .before .nodes-of .ensures) (c .before .before .before .before .if1 .left) (c .before .before .if2 .left) (c .before .header-refusal .result) (c .before .header-refusal .ensures) (c .if3 .taken))
-
-is-idle-requires : tie.Need-is-idle-requires
-is-idle-requires c κs = search needs
-
-returns-4 : tie.Need-returns-4
-unfolding memoryOf
-returns-4 c = sym (start-busy (c .before .before .before .before .before .before .before .before .before .args .card .now) (memoryOf (c .before .before .before .before .before .before .before .before .before .args .s)) (c .before .before .before .before .before .before .before .before .before .args .key) (c .before .before .before .before .before .before .before .nodes-of .result) (c .before .before .before .before .before .before .before .nodes-of .ensures) (c .before .before .before .before .before .before .if1 .left) (c .before .before .before .before .if2 .left) (sym (c .before .before .before .header-refusal .ensures) ∙ c .before .before .if3 .left) (sym (c .before .is-idle .ensures) ∙ not-true _ (c .if4 .taken)))
-
-returns-5 : tie.Need-returns-5
-unfolding memoryOf
-returns-5 c = sym (start-no-key (c .before .before .before .before .before .before .before .before .before .before .args .card .now) (memoryOf (c .before .before .before .before .before .before .before .before .before .before .args .s)) (c .before .before .before .before .before .before .before .before .before .before .args .key) (c .before .before .before .before .before .before .before .before .nodes-of .result) (c .before .before .before .before .before .before .before .before .nodes-of .ensures) (c .before .before .before .before .before .before .before .if1 .left) (c .before .before .before .before .before .if2 .left) (sym (c .before .before .before .before .header-refusal .ensures) ∙ c .before .before .before .if3 .left) (sym (c .before .before .is-idle .ensures) ∙ not-false _ (c .before .if4 .left)) (c .if5 .taken))
-
-returns-6 : tie.Need-returns-6
-unfolding memoryOf
-returns-6 c = sym (start-none (c .before .before .before .before .before .before .before .before .before .before .args .card .now) (memoryOf (c .before .before .before .before .before .before .before .before .before .before .args .s)) (c .before .before .before .before .before .before .before .before .before .before .args .key) (c .before .before .before .before .before .before .before .before .nodes-of .result) (c .before .before .before .before .before .before .before .before .nodes-of .ensures) (c .before .before .before .before .before .before .before .if1 .left) (c .before .before .before .before .before .if2 .left) (sym (c .before .before .before .before .header-refusal .ensures) ∙ c .before .before .before .if3 .left) (sym (c .before .before .is-idle .ensures) ∙ not-false _ (c .before .if4 .left)) (c .if5 .left))
+unfolding landing landingRefusal startRoom
+returns-3 c =
+    let free = nodesOf (c .before .before .before .before .before .before .before .before .before .before .before .args .free .words) in
+    let room = roomWhere (c .before .before .before .before .before .before .before .before .before .before .before .args .splits) (c .before .before .before .before .before .before .before .before .before .before .before .args .card .now) (c .before .before .before .before .before .before .before .before .before .before .before .args .key) free in
+    c .room-refusal .ensures
+    ∙ ap (λ (b : Bool). pick b 0 8) (c .before .has-room-where .ensures ∙ ap (λ (x : List ℕ). pick (c .before .before .before .before .before .before .before .before .before .before .before .args .splits) (roomFor free (c .before .before .before .before .node .given .0 .1 .1 .0) (insertReason x (c .before .before .before .before .before .before .before .before .before .before .before .args .key))) true) (c .before .before .node-at .ensures))
+    ∙ sym
+    (due-landing (c .before .before .before .before .before .before .before .before .before .before .before .args .card .now) (c .before .before .before .before .before .before .before .before .before .before .before .args .nodes) (c .before .before .before .before .before .before .before .before .before .before .before .args .doing) (c .before .before .before .before .before .before .before .before .before .before .before .args .key) room (sym (c .before .before .before .before .before .before .before .before .before .early-refusal .ensures) ∙ c .before .before .before .before .before .before .before .before .if1 .left)
+    ∙ ap (λ (l : Landing). landingRefusal (room l) l) (sym (c .before .before .before .before .before .before .find-landing .ensures) ∙ c .before .before .before .before .node .given .1))
 
 pub start-refusal-spec : {M : Type 1} → statement M
 start-refusal-spec =
     tie.close
     (tie.spec
-    nodes-of-requires
+    early-refusal-requires
     returns
+    shared-slice-read-find-landing
+    cast-find-landing
+    find-landing-requires
+    enum-told
+    enum-known-node
+    node-at-requires
+    has-room-where-requires
+    room-refusal-requires
     returns-2
-    header-refusal-requires
-    returns-3
-    is-idle-requires
-    returns-4
-    returns-5
-    returns-6)
+    returns-3)

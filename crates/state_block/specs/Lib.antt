@@ -1,0 +1,4 @@
+pub mod Block
+pub mod Rows
+pub mod RoundTrip
+pub mod InPlace

@@ -1,0 +1,237 @@
+// The state as the 177 words that a caller lends: unpacked for a call, packed after it.
+use free_nodes::NodeSet;
+use plans::Plan;
+use state::Doing;
+use state::State;
+ghost use mathlib.Core.Path.{_≡_};
+ghost use Prim.Native.Nat.{_+_, _/_, _%_, _^_, _≤_, _<_};
+ghost use lib.ListN.{length, set};
+ghost use Rattle.laws.specs.Bits.{bit};
+ghost use Rattle.state_block.specs.Block.{stateWords, joined, doingIn, unpacked, narrow, halves, doingWords, numberWords, packed, Kept};
+
+// The words of a block: N and the node given last; what is being done by its number, and its three numbers; the stores of the
+// plan made and planned; the nodes that the last store cuts out; the free nodes, two words for each of theirs; the plan's
+// places and values.
+pub const NODES: usize = 0;
+
+const LAST: usize = 1;
+
+pub const DOING: usize = 2;
+
+pub const FIRST: usize = 3;
+
+const SECOND: usize = 4;
+
+const THIRD: usize = 5;
+
+pub const MADE: usize = 6;
+
+pub const COUNT: usize = 7;
+
+pub const CUT: usize = 8;
+
+pub const FREE: usize = 11;
+
+pub const PLACES: usize = 31;
+
+pub const VALUES: usize = 104;
+
+// How many words that makes.
+pub const STATE_WORDS: usize = 177;
+
+// The numbers of what is being done; any other number is idle.
+pub const IDLE: u32 = 0;
+
+pub const FORMATTING: u32 = 1;
+
+const INSERTING: u32 = 2;
+
+const DELETING: u32 = 3;
+
+pub const REPAIRING: u32 = 4;
+
+// A word as a number of the machine's own size.
+pub fn wide(word: u32) -> usize
+    ensures { λ r. ⌜ r ≡ word ⌝ }
+{
+    word as usize
+}
+
+// A word as half of a word of the free nodes.
+fn half(word: u32) -> u64
+    ensures { λ r. ⌜ (r ≡ word) × (r < 2 ^ 32) ⌝ }
+{
+    word as u64
+}
+
+// The ten words of the free nodes, "one bit each", from their halves.
+fn join(words: &[u32]) -> NodeSet
+    requires { ⌜ length (now words) ≡ 20 ⌝ }
+    ensures { λ r. ⌜ r .words ≡ joined 10 (now (words .entry)) ⌝ }
+{
+    let mut free = NodeSet { words: [0; 10] };
+    let mut q: usize = 0;
+    while q < 10 {
+        free.words[q] = half(words[2 * q + 1]) * 4294967296 + half(words[2 * q]);
+        q += 1;
+    }
+    free
+}
+
+// "what is being done" by its number and three words.
+fn doing_in(what: u32, a: u32, b: u32, c: u32) -> Doing
+    ensures { λ r. ⌜ r ≡ doingIn what a b c ⌝ }
+{
+    match what {
+        FORMATTING => Doing::Formatting { made: a as usize },
+        INSERTING => Doing::Inserting {
+            key: a,
+            value: b,
+            begun: c != 0,
+        },
+        DELETING => Doing::Deleting {
+            key: a,
+            begun: c != 0,
+            value: b,
+        },
+        REPAIRING => Doing::Repairing { key: a },
+        _ => Doing::Idle,
+    }
+}
+
+// A row of a plan.
+fn row(words: &[u32]) -> [u32; 73]
+    requires { ⌜ length (now words) ≡ 73 ⌝ }
+    ensures { λ r. ⌜ r ≡ now (words .entry) ⌝ }
+{
+    let mut copy: [u32; 73] = [0; 73];
+    let mut i: usize = 0;
+    while i < 73 {
+        copy[i] = words[i];
+        i += 1;
+    }
+    copy
+}
+
+// The state that a block holds, whatever its words are.
+pub fn unpack(block: &[u32]) -> State
+    requires { ⌜ length (now block) ≡ stateWords ⌝ }
+    ensures { λ r. ⌜ r ≡ unpacked (now (block .entry)) ⌝ }
+{
+    let free = join(&block[FREE..PLACES]);
+    let doing = doing_in(block[DOING], block[FIRST], block[SECOND], block[THIRD]);
+    let places = row(&block[PLACES..VALUES]);
+    let values = row(&block[VALUES..STATE_WORDS]);
+    let plan = Plan {
+        places,
+        values,
+        count: wide(block[COUNT]),
+    };
+    State {
+        nodes: wide(block[NODES]),
+        free,
+        last: wide(block[LAST]),
+        doing,
+        plan,
+        made: wide(block[MADE]),
+        cut: [block[CUT], block[CUT + 1], block[CUT + 2]],
+    }
+}
+
+// A number in one word; one that does not fit becomes the greatest that does.
+fn narrow(x: usize) -> u32
+    ensures { λ r. ⌜ r ≡ narrow x ⌝ }
+{
+    if 4294967295 < x {
+        return 4294967295;
+    }
+    x as u32
+}
+
+// 1 for true.
+fn flag(b: bool) -> u32
+    ensures { λ r. ⌜ r ≡ bit b ⌝ }
+{
+    if b { 1 } else { 0 }
+}
+
+// Words 2 to 5: what is being done, and its numbers.
+fn doing_words(doing: Doing) -> [u32; 4]
+    ensures { λ r. ⌜ r ≡ doingWords doing ⌝ }
+{
+    match doing {
+        Doing::Idle => [IDLE, 0, 0, 0],
+        Doing::Formatting { made } => [FORMATTING, narrow(made), 0, 0],
+        Doing::Inserting { key, value, begun } => [INSERTING, key, value, flag(begun)],
+        Doing::Deleting { key, begun, value } => [DELETING, key, value, flag(begun)],
+        Doing::Repairing { key } => [REPAIRING, key, 0, 0],
+    }
+}
+
+// Words 0 to 7.
+fn number_words(nodes: usize, last: usize, doing: Doing, made: usize, count: usize) -> [u32; 8]
+    ensures { λ r. ⌜ r ≡ numberWords nodes last doing made count ⌝ }
+{
+    let d = doing_words(doing);
+    [
+        narrow(nodes),
+        narrow(last),
+        d[0],
+        d[1],
+        d[2],
+        d[3],
+        narrow(made),
+        narrow(count),
+    ]
+}
+
+// The halves of the ten words of the free nodes.
+fn split(words: &mut [u32], free: NodeSet)
+    requires { ⌜ length (now words) ≡ 20 ⌝ }
+    ensures { λ _. ⌜ now (words .exit) ≡ halves (free .words) ⌝ }
+{
+    let mut q: usize = 0;
+    while q < 10 {
+        let word = free.words[q];
+        store_halves(words, 2 * q, word);
+        q += 1;
+    }
+}
+
+fn store_halves(words: &mut [u32], at: usize, word: u64)
+    requires { ⌜ at + 2 ≤ length (now words) ⌝ }
+    ensures { λ _. ⌜ now (words .exit) ≡ set (set (now (words .entry)) at (word % 2 ^ 32)) (at + 1) (word / 2 ^ 32 % 2 ^ 32) ⌝ }
+{
+    words[at] = (word % 4294967296) as u32;
+    words[at + 1] = (word / 4294967296 % 4294967296) as u32;
+}
+
+// The words of one slice into another.
+fn store_words(words: &mut [u32], from: &[u32])
+    requires { ⌜ length (now words) ≡ length (now from) ⌝ }
+    ensures { λ _. ⌜ now (words .exit) ≡ now (from .entry) ⌝ }
+{
+    let mut i: usize = 0;
+    while i < words.len() {
+        words[i] = from[i];
+        i += 1;
+    }
+}
+
+// A state into a block.
+pub fn pack(block: &mut [u32], s: State)
+    requires { ⌜ length (now block) ≡ stateWords ⌝ }
+    ensures { λ _. ⌜ now (block .exit) ≡ packed s ⌝ }
+    ensures { λ _. ⌜ Kept s (now (block .exit)) ⌝ }
+{
+    let doing = s.doing;
+    let cut = s.cut;
+    let free = s.free;
+    let plan = s.plan;
+    let numbers = number_words(s.nodes, s.last, doing, s.made, plan.count);
+    store_words(&mut block[NODES..CUT], &numbers);
+    store_words(&mut block[CUT..FREE], &cut);
+    split(&mut block[FREE..PLACES], free);
+    store_words(&mut block[PLACES..VALUES], &plan.places);
+    store_words(&mut block[VALUES..STATE_WORDS], &plan.values);
+}

@@ -1,0 +1,21 @@
+-- `updates::starting::begin` meets its contract.
+use mathlib.Core.Path.{refl}
+use borrow.Author.Tests.{ne-eqb, eq-eqb}
+use borrow.Author.Needs.{needs}
+use Rattle.state.specs.Memory.{memoryOf}
+use Rattle.state.specs.Results.{handedOf}
+use Rattle.updates.specs.Starts.{startRefused, started}
+use Rattle.updates.specs.UpdateLaws.{started-no-refusal}
+use Rattle.updates.proofs.starting.begin.Statement.{statement}
+use Rattle.updates.proofs.starting.begin.Tie as tie
+
+returns : tie.Need-returns
+unfolding handedOf startRefused
+returns c = (rw (ne-eqb (c .before .args .refusal) 0 (c .if1 .taken)) refl, λ n e. refl)
+
+returns-2 : tie.Need-returns-2
+unfolding handedOf started memoryOf
+returns-2 c = (rw (eq-eqb (c .before .before .before .before .args .refusal) 0 (c .before .before .before .if1 .left)) refl, λ n e. absurd (started-no-refusal n e))
+
+pub begin-spec : {M : Type 1} → statement M
+begin-spec = tie.close (tie.spec returns returns-2)
