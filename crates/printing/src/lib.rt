@@ -2,34 +2,37 @@
 // (document 01, "Dumps and the list program"). The text is made in a row of bytes before it is written, so that the program
 // `replay` compares the very text that `list` prints.
 use listing::Summary;
+ghost use mathlib.Core.Path.{_≡_};
+ghost use mathlib.Core.List.{_++_};
+ghost use Prim.Native.Nat.{_+_, _*_, _/_, _≤_};
+ghost use lib.ListN.{length, drop};
+ghost use Rattle.printing.specs.Text.{decimal as decimalOf, firstLine, pairLine, pairLines, pairsIn, refusalLine, dumpText};
+ghost use Rattle.printing.specs.Filling.{filled, fill};
 
 // Room for the longest text: 6,600 pairs, those of 600 leaves, on lines of at most 22 bytes, and a first line with four numbers
 // of at most 20 digits.
-const MOST: usize = 145308;
-
 pub type Text = [u8; 145308];
 
-// One byte more; past the end nothing is put. Each of these functions answers where the next byte goes.
-fn put_byte(text: &mut Text, at: usize, byte: u8) -> usize {
-    if at < MOST {
-        text[at] = byte;
-        return at + 1;
-    }
-    at
-}
-
-fn put_all(text: &mut Text, at: usize, bytes: &[u8]) -> usize {
+// Puts the bytes into the row from place `at` on. Each of these functions answers where the next byte goes.
+fn put_all(text: &mut [u8], at: usize, bytes: &[u8]) -> usize
+    requires { ⌜ at + length (now bytes) ≤ length (now text) ⌝ }
+    ensures { λ r. ⌜ filled r (now (text .exit)) ≡ fill (now (bytes .entry)) (filled at (now (text .entry))) ⌝ }
+{
     let mut next = at;
     let mut i: usize = 0;
     while i < bytes.len() {
-        next = put_byte(text, next, bytes[i]);
+        text[next] = bytes[i];
+        next += 1;
         i += 1;
     }
     next
 }
 
 // A number after a word and a space.
-fn put_number(text: &mut Text, at: usize, word: &[u8], number: u64) -> usize {
+fn put_number(text: &mut [u8], at: usize, word: &[u8], number: u64) -> usize
+    requires { ⌜ at + length (now word) + length (decimalOf number) ≤ length (now text) ⌝ }
+    ensures { λ r. ⌜ filled r (now (text .exit)) ≡ fill (now (word .entry) ++ decimalOf number) (filled at (now (text .entry))) ⌝ }
+{
     let mut digits = [0u8; 20];
     let k = io::decimal(number, &mut digits);
     let next = put_all(text, at, word);
@@ -37,7 +40,11 @@ fn put_number(text: &mut Text, at: usize, word: &[u8], number: u64) -> usize {
 }
 
 // "First line: N, free nodes, internal levels, pairs."
-fn put_summary(text: &mut Text, s: Summary) -> usize {
+fn put_summary(text: &mut [u8], s: Summary) -> usize
+    requires { ⌜ 108 ≤ length (now text) ⌝ }
+    ensures { λ r. ⌜ filled r (now (text .exit)) ≡ fill (firstLine (s .nodes) (s .free) (s .levels) (s .words / 2)) (filled 0 (now (text .entry))) ⌝ }
+    ensures { λ r. ⌜ r ≤ 108 ⌝ }
+{
     let nodes = put_number(text, 0, b"nodes ", s.nodes as u64);
     let free = put_number(text, nodes, b" free ", s.free as u64);
     let levels = put_number(text, free, b" levels ", s.levels as u64);
@@ -46,35 +53,46 @@ fn put_summary(text: &mut Text, s: Summary) -> usize {
 }
 
 // "Every line ends with one line feed."
-fn put_pair(text: &mut Text, at: usize, key: u32, value: u32) -> usize {
+fn put_pair(text: &mut [u8], at: usize, key: u32, value: u32) -> usize
+    requires { ⌜ at + 22 ≤ length (now text) ⌝ }
+    ensures { λ r. ⌜ filled r (now (text .exit)) ≡ fill (pairLine key value) (filled at (now (text .entry))) ⌝ }
+{
     let first = put_number(text, at, b"", key as u64);
     let second = put_number(text, first, b" ", value as u64);
     put_all(text, second, b"\n")
 }
 
-// "Then key and value": the pairs in the first `words` words of the slice.
-fn put_pairs(text: &mut Text, at: usize, out: &[u32], words: usize) -> usize {
+// "Then key and value": the pairs in the words.
+fn put_pairs(text: &mut [u8], at: usize, words: &[u32]) -> usize
+    requires { ⌜ at + 11 * length (now words) ≤ length (now text) ⌝ }
+    ensures { λ r. ⌜ filled r (now (text .exit)) ≡ fill (pairLines (pairsIn (now (words .entry)))) (filled at (now (text .entry))) ⌝ }
+    ensures { λ r. ⌜ r ≤ length (now (text .entry)) ⌝ }
+{
     let mut next = at;
     let mut i: usize = 0;
-    while i + 1 < out.len() {
-        if words <= i {
-            return next;
-        }
-        next = put_pair(text, next, out[i], out[i + 1]);
+    while i + 1 < words.len() {
+        next = put_pair(text, next, words[i], words[i + 1]);
         i += 2;
     }
     next
 }
 
 // "Refused, it prints `refused ` and the number only."
-fn put_refusal(text: &mut Text, refusal: u32) -> usize {
+fn put_refusal(text: &mut [u8], refusal: u32) -> usize
+    requires { ⌜ 19 ≤ length (now text) ⌝ }
+    ensures { λ r. ⌜ filled r (now (text .exit)) ≡ fill (refusalLine refusal) (filled 0 (now (text .entry))) ⌝ }
+    ensures { λ r. ⌜ r ≤ length (now (text .entry)) ⌝ }
+{
     let next = put_number(text, 0, b"refused ", refusal as u64);
     put_all(text, next, b"\n")
 }
 
 // What `list` prints for a dump, from the start of the row on; the answer is how many bytes it is. The words are those of 600
 // nodes, and the pairs those of 600 leaves.
-pub fn list_text(dump: &[u8], text: &mut Text) -> usize {
+pub fn list_text(dump: &[u8], text: &mut Text) -> usize
+    ensures { λ r. ⌜ r ≡ length (dumpText (now (dump .entry))) ⌝ }
+    ensures { λ r. ⌜ now (text .exit) ≡ dumpText (now (dump .entry)) ++ drop (length (dumpText (now (dump .entry)))) (now (text .entry)) ⌝ }
+{
     let mut card = [0u32; 14408];
     let mut out = [0u32; 13200];
     let s = listing::list_dump(dump, &mut card, &mut out);
@@ -82,7 +100,8 @@ pub fn list_text(dump: &[u8], text: &mut Text) -> usize {
         return put_refusal(text, s.refusal);
     }
     let first = put_summary(text, s);
-    put_pairs(text, first, &out, s.words)
+    let words = s.words;
+    put_pairs(text, first, &out[..words])
 }
 
 // Writes the first n bytes of the row.

@@ -1,0 +1,5 @@
+pub mod Text
+pub mod Filling
+pub mod DecimalLaws
+pub mod FillingLaws
+pub mod TextLaws
