@@ -38,7 +38,8 @@ from-fewest (suc more) k n h low high =
     let s : suc k - 1 ≡ k = omega arith in
     from-fewest more (suc k) n (omega arith) (λ x. rw s g) (rw e at high)))
 
-count-fewest : (n : ℕ) → Fewest 10 1 n (digitCount n)
+-- no zero in front
+pub count-fewest : (n : ℕ) → Fewest 10 1 n (digitCount n)
 unfolding digitCount
 count-fewest n = from-fewest n 1 n (omega arith) (λ x. absurd (omega arith)) (omega (arith, power-above n, power-le n (1 + n) (omega arith)))
 

@@ -13,7 +13,7 @@ unfolding fill
 fill-append [] b f = refl
 fill-append (x ∷ a) b f = fill-append a b (filled (suc (f .at)) (set (f .row) (f .at) x))
 
-pub fill-at : (bytes : List ℕ) (f : Filled) → fill bytes f .at ≡ f .at + length bytes
+fill-at : (bytes : List ℕ) (f : Filled) → fill bytes f .at ≡ f .at + length bytes
 unfolding fill
 fill-at [] f = omega arith
 fill-at (x ∷ bytes) f = omega (arith, fill-at bytes (filled (suc (f .at)) (set (f .row) (f .at) x)))

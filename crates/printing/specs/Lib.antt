@@ -3,3 +3,4 @@ pub mod Filling
 pub mod DecimalLaws
 pub mod FillingLaws
 pub mod TextLaws
+pub mod Examples

@@ -1,17 +1,20 @@
 -- THE TEXT THAT `list` PRINTS, byte by byte (document 01, "Dumps and the list program").
 use mathlib.Core.List.{List, [], _∷_, _++_}
-use Prim.Native.Nat.{ℕ, zero, suc, _^_}
+use Prim.Native.Nat.{ℕ, zero, suc, _*_, _^_}
 use lib.ListN.{length, take, replicate}
 use lib.Dec.{eqb, ltb}
 use Rattle.io.specs.Digits.{digits}
 use Rattle.laws.specs.Cases.{pick}
+use Rattle.card.specs.Layout.{greatestNodes}
+use Rattle.dump.specs.Dump.{wordsFor}
 use Rattle.listing.specs.Listing.{Listed, refused, listed, listDump, layListed}
 use Rattle.listing.specs.Summaries.{summaryOf}
 use Rattle.listing.specs.declared.Summary.{Summary}
 
 -- ---- a number in decimal
 
--- the least number of digits, from k on, that hold n; the first number bounds the search
+-- the least number of digits, from k on, that hold n; the first number bounds the search, and n is enough (DecimalLaws,
+-- `count-fewest`)
 unfoldable pub digitsFrom : ℕ → ℕ → ℕ → ℕ
 digitsFrom zero k n = k
 digitsFrom (suc more) k n = pick (ltb n (10 ^ k)) k (digitsFrom more (suc k) n)
@@ -92,10 +95,10 @@ told s words =
 
 -- the words that the card and the pairs of a dump are read into: those of 600 nodes, and key and value of 11 pairs for each
 abbrev pub cardRoom : ℕ
-cardRoom = 14408
+cardRoom = wordsFor greatestNodes
 
 abbrev pub pairRoom : ℕ
-pairRoom = 13200
+pairRoom = 22 * greatestNodes
 
 abbrev pub zeros : ℕ → List ℕ
 zeros n = replicate n 0

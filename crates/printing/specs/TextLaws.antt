@@ -1,4 +1,4 @@
--- Laws of the text: where a number ends, how many pairs there are, and a turn of the loop over them.
+-- Laws of the text: where a number ends, a turn of the loop over the pairs, and what `listing::list_dump` hands over.
 use mathlib.Core.Path.{_≡_, refl, ap, ap₂, _∙_}
 use mathlib.Core.List.{List, [], _∷_, _++_}
 use Prim.Native.Nat.{ℕ, suc, _+_, _/_, _^_, _≤_, _<_}
@@ -28,13 +28,13 @@ pair-short key value k v =
 
 -- ---- the pairs in a slice of words
 
-pub pairs-next : (words : List ℕ) (i : ℕ) → i + 1 < length words → pairsIn (drop i words) ≡ (getD words i 0, getD words (i + 1) 0) ∷ pairsIn (drop (i + 2) words)
+pairs-next : (words : List ℕ) (i : ℕ) → i + 1 < length words → pairsIn (drop i words) ≡ (getD words i 0, getD words (i + 1) 0) ∷ pairsIn (drop (i + 2) words)
 unfolding pairsIn
 pairs-next words i h =
     let e : i + 2 ≡ suc (suc i) = omega arith in
     rw (drop-cons words i 0 (omega arith), drop-cons words (suc i) 0 (omega arith), add-one i, e)
 
-pub pairs-end : (words : List ℕ) (i : ℕ) → length words ≤ i + 1 → pairsIn (drop i words) ≡ []
+pairs-end : (words : List ℕ) (i : ℕ) → length words ≤ i + 1 → pairsIn (drop i words) ≡ []
 unfolding pairsIn
 pairs-end words i h = few (drop i words) (omega (arith, length-drop i words))
   where
@@ -53,7 +53,7 @@ pub lines-end : (words : List ℕ) (i at : ℕ) (row : List ℕ) → length word
 unfolding pairLines fill
 lines-end words i at row h = rw (pairs-end words i h)
 
-pub count-pairs : (words : List ℕ) → length (pairsIn words) ≡ length words / 2
+count-pairs : (words : List ℕ) → length (pairsIn words) ≡ length words / 2
 unfolding pairsIn
 count-pairs [] = omega arith
 count-pairs (key ∷ []) = omega arith
@@ -70,7 +70,7 @@ pair-length p l =
 
 pair-within : (p : ℕ × ℕ) (l : Laid) → l .at ≤ length (l .words) → layPair p l .at ≤ length (layPair p l .words)
 unfolding layPair
-pair-within p l h = rw (pair-length p l) (inside)
+pair-within p l h = rw (pair-length p l) inside
   where
     inside : layPair p l .at ≤ length (l .words)
     inside = order (l .at + 1) (length (l .words)) (λ k. rw (lt-ltb (l .at + 1) (length (l .words)) k) (omega arith)) (λ k. rw (le-ltb (l .at + 1) (length (l .words)) k) h)
