@@ -59,6 +59,7 @@ def main():
         goals = 'target/goals/%s/Rattle.%s.proofs/proofs/%s/Lts.antt' % (crate, crate, function)
         proof = 'crates/%s/proofs/%s/Proof.antt' % (crate, function)
         text = open(proof, encoding='utf-8').read()
-        open(proof, 'w', encoding='utf-8').write(rewrite(text, *places(goals)))
+        text = rewrite(text, *places(goals))
+        open(proof, 'w', encoding='utf-8').write(text)
 
 main()

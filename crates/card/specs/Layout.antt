@@ -19,6 +19,13 @@ depthLimit = 10
 abbrev pub rootPlace : ℕ
 rootPlace = 4
 
+-- "Keys are 1 to 4,294,967,295": "the root's [range] is all keys", from its low end, included, to its high end, excluded
+abbrev pub lowestKey : ℕ
+lowestKey = 1
+
+abbrev pub keyLimit : ℕ
+keyLimit = 4294967296
+
 -- "node m begins at word 8 + 24 × (m − 1)": the place of its word i
 abbrev pub place : ℕ → ℕ → ℕ
 place m i = 8 + 24 * (m - 1) + i

@@ -5,7 +5,7 @@ use mathlib.Core.Bool.{Bool, true, false}
 use Prim.Native.Nat.{ℕ, _+_, _≤_, _<_}
 use native.Mathlib.Omega.{arith}
 use lib.ListN.{length}
-use Rattle.card.specs.Layout.{slot-pairs}
+use Rattle.card.specs.Layout.{lowestKey, keyLimit, slot-pairs}
 use Rattle.card.specs.Stores.{NewNode}
 use Rattle.change_theory.specs.LeafSplit.{Growth}
 use Rattle.change_theory.specs.Parent.{violations-part}
@@ -18,7 +18,6 @@ use Rattle.tree.specs.Pairs.{LeafRange, InRange}
 use Rattle.tree.specs.Splice.{Height}
 use Rattle.tree.specs.Tree.{Tree, node-total, fill, Context, plug, total-plug, leaf, node, top, down}
 use Rattle.tree.specs.Violations.{below, few-le, RootOk, table-violations}
-use Rattle.tree.specs.WellFormed.{lowestKey, keyLimit}
 
 pub record Reshape (C : Context) (o s : Tree) (key : ℕ) (nodes : List NewNode) (out : List ℕ) : Type 0 where
   pub range : (a b : ℕ) → a ≤ key → key < b → InRange a b o → InRange a b s

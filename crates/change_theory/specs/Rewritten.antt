@@ -5,6 +5,7 @@ use mathlib.Core.Bool.{Bool, true, false}
 use Prim.Native.Nat.{ℕ, _+_, _≤_, _<_}
 use native.Mathlib.Omega.{arith}
 use lib.ListN.{length, set, take}
+use Rattle.card.specs.Layout.{lowestKey, keyLimit}
 use Rattle.card.specs.NodeWords.{OnCard}
 use Rattle.card.specs.Stores.{play, Within, keeps-play, NewNode, node-stores, numbered, AllFitCard, Distinct, AllHaveWords, within-node-stores, nodes-written}
 use Rattle.change_theory.specs.Rewrite.{Shape, violations-in, own-in, SameHeight, AllFew, numbers, Rewrite}
@@ -17,7 +18,6 @@ use Rattle.tree.specs.Represent.{Represents, link-place, frame, Holds, unplugge
 use Rattle.tree.specs.Splice.{Height, range-plug, plug-low, height-plug, pairs-plug}
 use Rattle.tree.specs.Tree.{Tree, Forest, root, roots, node-total, node-totals, Left, Right, fill, Context, plug, total-plug, leaf, node, one, more, top, down}
 use Rattle.tree.specs.Violations.{few, Widths, AllWidths, RootOk, table-violations, widths-splice, size-splice, violations-plug}
-use Rattle.tree.specs.WellFormed.{lowestKey, keyLimit}
 
 -- what makes a tree sound, apart from the card: strict ranges, each node once, widths, equal depth, at most one violation
 pub record Sound (t : Tree) : Type 0 where

@@ -1,2 +1,3 @@
 pub mod Descent
 pub mod DescentLaws
+pub mod Inside

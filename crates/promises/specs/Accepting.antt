@@ -20,7 +20,7 @@ use Rattle.state.specs.declared.Begun.{Begun}
 use Rattle.state.specs.declared.Begun.the-variants.{Idle as OpenedIdle, Started, Refused as BegunRefused}
 use Rattle.card.specs.Header.{nodesOfLength, cardRefusal}
 use Rattle.card.specs.HeaderLaws.{Sized, nodes-sized, Formatted, header-formatted}
-use Rattle.card.specs.Layout.{depthLimit, rootPlace, nodeAt}
+use Rattle.card.specs.Layout.{lowestKey, keyLimit, depthLimit, rootPlace, nodeAt}
 use Rattle.change_theory.specs.Plays.{Openable}
 use Rattle.change_theory.specs.Repaired.{settled, violated}
 use Rattle.descent.specs.Descent.{slotOf, leafFor}
@@ -37,7 +37,7 @@ use Rattle.soundness_theory.specs.Soundness.{accepts-sound, sound-accepted}
 use Rattle.tree.specs.Pairs.{pairs, lookup}
 use Rattle.tree.specs.Path.{depth-of}
 use Rattle.tree.specs.Tree.{Tree}
-use Rattle.tree.specs.WellFormed.{lowestKey, keyLimit, WellFormed}
+use Rattle.tree.specs.WellFormed.{WellFormed}
 use Rattle.descent.specs.declared.Slot.{Slot}
 use Rattle.descent.specs.declared.Slot.the-variants.{At, Absent as NoSlot}
 

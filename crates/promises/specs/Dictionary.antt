@@ -17,7 +17,7 @@ use Rattle.state.specs.declared.Begun.{Begun}
 use Rattle.state.specs.declared.Begun.the-variants.{Idle as OpenedIdle, Started, Refused as BegunRefused}
 use Rattle.card.specs.Replies.{ready}
 use Rattle.card.specs.Header.{nodesOfLength}
-use Rattle.card.specs.Layout.{depthLimit}
+use Rattle.card.specs.Layout.{keyLimit, depthLimit}
 use Rattle.promises.specs.Accepting.{accepted-card, accepted-table, accepted-openable}
 use Rattle.promises.specs.Feeding.{begun-result, kept-ledger, dictionary-answer, due-after-start, due-after, kept-due}
 use Rattle.promises.specs.Finished.{work-finishes, work-not-refused}
@@ -31,7 +31,6 @@ use Rattle.promises.specs.Reopen.{well-formed-table, reopened}
 use Rattle.promises.specs.Starting.{kept-insert, kept-delete}
 use Rattle.promises.specs.Stepping.{Right, kept-step}
 use Rattle.tree.specs.Pairs.{pairs, lookup}
-use Rattle.tree.specs.WellFormed.{keyLimit}
 
 module _ (w : World) (l : List (ℕ × ℕ)) (begins : Begins w l) (es : List Event) (words : Words es) where
   -- After any list of events, a step that gives a final answer gives the one due: "ready" where opening's repair is in progress,

@@ -8,7 +8,7 @@ use native.Mathlib.Omega.{arith}
 use native.Mathlib.Decide.{ℕ-discrete}
 use lib.ListN.{length, set, getD, length-append, length-set}
 use lib.Seq.{getD-set-same}
-use Rattle.card.specs.Layout.{place, slot-pairs}
+use Rattle.card.specs.Layout.{lowestKey, keyLimit, place, slot-pairs}
 use Rattle.card.specs.NodeWords.{OnCard}
 use Rattle.card.specs.Stores.{Store, stores, NewNode, node-stores, numbered}
 use Rattle.plans.specs.Planning.{withoutAll, first, second, third, withAll, balanced}
@@ -41,7 +41,6 @@ use Rattle.tree.specs.Sorted.{outside-none}
 use Rattle.tree.specs.Splice.{pairs-plug}
 use Rattle.tree.specs.Tree.{Tree, node-total, Context, plug, total-plug, leaf, node}
 use Rattle.tree.specs.Violations.{below, table-violations}
-use Rattle.tree.specs.WellFormed.{lowestKey, keyLimit}
 
 -- a part's pairs are among those of the whole
 pub pairs-part : (w : ℕ × ℕ → ℕ) (C : Context) (s : Tree) → total w (pairs s) ≤ total w (pairs (plug C s))

@@ -5,6 +5,7 @@ use mathlib.Core.Bool.{Bool, true, false}
 use mathlib.Core.Option.{Option, none, some}
 use Prim.Native.Nat.{ℕ, suc, _+_, _*_, _≤_, _<_}
 use lib.ListN.{length}
+use Rattle.card.specs.Layout.{lowestKey, keyLimit}
 use Rattle.card.specs.HeaderLaws.{Sized, Formatted}
 use Rattle.card.specs.Stores.{Store}
 use Rattle.change_theory.specs.Exact.{Exact}
@@ -28,7 +29,6 @@ use Rattle.tree.specs.Pairs.{pairs, lookup}
 use Rattle.tree.specs.Represent.{Holds}
 use Rattle.tree.specs.Tree.{Tree}
 use Rattle.tree.specs.Violations.{table-violations}
-use Rattle.tree.specs.WellFormed.{lowestKey, keyLimit}
 
 -- a card with n nodes that holds the tree
 pub record Table (c : List ℕ) (n : ℕ) (t : Tree) : Type 0 where

@@ -5,7 +5,7 @@ use mathlib.Core.Bool.{Bool}
 use Prim.Native.Nat.{ℕ, _+_, _≤_, _<_}
 use native.Mathlib.Omega.{arith}
 use lib.ListN.{length}
-use Rattle.card.specs.Layout.{slot-pairs}
+use Rattle.card.specs.Layout.{lowestKey, keyLimit, slot-pairs}
 use Rattle.plans.specs.Planning.{balanced}
 use Rattle.change_theory.specs.Exact.{Exact}
 use Rattle.change_theory.specs.Parent.{violations-part}
@@ -21,7 +21,6 @@ use Rattle.tree.specs.Pairs.{LeafRange}
 use Rattle.tree.specs.Path.{OnPath, depth-of, own-violation, reserve}
 use Rattle.tree.specs.Tree.{Tree, node-total, Context, plug, total-plug, leaf, top, down}
 use Rattle.tree.specs.Violations.{below, few, few-zero, table-violations}
-use Rattle.tree.specs.WellFormed.{lowestKey, keyLimit}
 
 -- what holds of the table with the changed leaf
 pub record LeafAfter (n key : ℕ) (free : List Bool) (C : Context) (s : Tree) : Type 0 where

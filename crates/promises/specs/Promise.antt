@@ -19,13 +19,13 @@ use Rattle.table.specs.declared.Found.the-variants.{Value as FoundValue, Absent
 use Rattle.state.specs.declared.Begun.{Begun}
 use Rattle.state.specs.declared.Begun.the-variants.{Idle as OpenedIdle, Started, Refused as BegunRefused}
 use Rattle.card.specs.Replies.{ready}
-use Rattle.card.specs.Layout.{depthLimit}
+use Rattle.card.specs.Layout.{keyLimit, depthLimit}
 use Rattle.promises.specs.Feeding.{kept-ledger, dictionary-answer}
 use Rattle.promises.specs.Ledger.{Ledger}
 use Rattle.promises.specs.Machine.{Event, World, opened, happens, run, find, insert, delete, step, crash}
 use Rattle.tree.specs.Pairs.{pairs, lookup}
 use Rattle.tree.specs.Tree.{Tree}
-use Rattle.tree.specs.WellFormed.{keyLimit, WellFormed, Balanced}
+use Rattle.tree.specs.WellFormed.{WellFormed, Balanced}
 
 -- opening does not refuse the card
 pub record Accepted (c : List ℕ) : Type 0 where

@@ -9,7 +9,7 @@ use lib.ListN.{length}
 use borrow.Author.Tests.{le-ltb, ne-eqb}
 use Rattle.card.specs.Header.{nodesOfLength, headerRefusal, cardRefusal}
 use Rattle.card.specs.HeaderLaws.{Sized, sized-nodes, Formatted, formatted-header}
-use Rattle.card.specs.Layout.{depthLimit}
+use Rattle.card.specs.Layout.{lowestKey, keyLimit, depthLimit}
 use Rattle.change_theory.specs.Exact.{Exact, exact-same}
 use Rattle.change_theory.specs.Plays.{Openable}
 use Rattle.change_theory.specs.Repaired.{Mendable, settled, violated}
@@ -36,7 +36,7 @@ use Rattle.tree.specs.Pairs.{depth}
 use Rattle.tree.specs.Path.{depth-of, reserve, Violation}
 use Rattle.tree.specs.Tree.{Tree}
 use Rattle.tree.specs.Violations.{table-violations}
-use Rattle.tree.specs.WellFormed.{lowestKey, keyLimit, WellFormed}
+use Rattle.tree.specs.WellFormed.{WellFormed}
 
 -- a sound tree on the card is a well-formed table, and the other way round
 pub table-well-formed : {c : List ℕ} {n : ℕ} {t : Tree} → Table c n t → WellFormed c t

@@ -12,7 +12,7 @@ use Rattle.state.specs.declared.Doing.{Doing}
 use Rattle.state.specs.declared.Doing.the-variants.{Idle, Formatting, Inserting, Deleting, Repairing}
 use Rattle.state.specs.declared.Begun.{Begun}
 use Rattle.state.specs.declared.Begun.the-variants.{Idle as OpenedIdle, Started, Refused as BegunRefused}
-use Rattle.card.specs.Layout.{nodeAt}
+use Rattle.card.specs.Layout.{lowestKey, keyLimit, nodeAt}
 use Rattle.free_nodes.specs.NodeSet.{countTrue}
 use Rattle.laws.specs.Cases.{pick}
 use Rattle.promises.specs.Dictionary.{insert-finishes, delete-finishes}
@@ -26,7 +26,6 @@ use Rattle.promises.specs.Promise.{Begins, Words}
 use Rattle.promises.specs.RoomLaws.{room-at, room-enough, room-short, room-other, begun-started}
 use Rattle.promises.specs.Starting.{lands, room-decides}
 use Rattle.tree.specs.Pairs.{lookup}
-use Rattle.tree.specs.WellFormed.{lowestKey, keyLimit}
 use Rattle.descent.specs.declared.Landing.{Landing}
 use Rattle.descent.specs.declared.Landing.the-variants.{Refused as NoLanding, Leaf as LandingAt}
 

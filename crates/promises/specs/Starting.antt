@@ -10,7 +10,7 @@ use lib.ListN.{length, getD}
 use borrow.Author.Tests.{ne-eqb, eq-eqb}
 use Rattle.card.specs.Header.{nodesOfLength}
 use Rattle.card.specs.HeaderLaws.{Sized, sized-nodes, Formatted, formatted-header}
-use Rattle.card.specs.Layout.{depthLimit, rootPlace}
+use Rattle.card.specs.Layout.{lowestKey, keyLimit, depthLimit, rootPlace}
 use Rattle.change_theory.specs.Exact.{Exact}
 use Rattle.descent.specs.Descent.{landingFor}
 use Rattle.descent_theory.specs.Landing.{landing-found}
@@ -38,7 +38,6 @@ use Rattle.tree.specs.Path.{full-run}
 use Rattle.tree.specs.Represent.{link-place}
 use Rattle.tree.specs.Tree.{Tree}
 use Rattle.tree.specs.Violations.{few, table-violations}
-use Rattle.tree.specs.WellFormed.{lowestKey, keyLimit}
 use Rattle.descent.specs.declared.Landing.{Landing}
 use Rattle.descent.specs.declared.Landing.the-variants.{Refused as NoLanding, Leaf as LandingAt}
 

@@ -7,7 +7,7 @@ use mathlib.Core.Logic.{inl}
 use Prim.Native.Nat.{ℕ, suc, _+_, _*_, _≤_, _<_}
 use native.Mathlib.Omega.{arith}
 use lib.ListN.{length, set, getD, length-append}
-use Rattle.card.specs.Layout.{depthLimit, place, nodeAt, slot-pairs, leafPairs}
+use Rattle.card.specs.Layout.{lowestKey, keyLimit, depthLimit, place, nodeAt, slot-pairs, leafPairs}
 use Rattle.card.specs.Stores.{Store, stores, node-stores}
 use Rattle.plans.specs.Change.{splitLeaf}
 use Rattle.plans.specs.Planning.{Preparation, takeNumbers, withoutAll, lastOf, giving, first, second, third, balanced, prepared}
@@ -58,7 +58,6 @@ use Rattle.tree.specs.Reading.{read-length, leaf-keys, leaf-pairs}
 use Rattle.tree.specs.Represent.{link-place, Holds}
 use Rattle.tree.specs.Tree.{Tree, Context, plug, leaf}
 use Rattle.tree.specs.Violations.{few, table-violations}
-use Rattle.tree.specs.WellFormed.{lowestKey, keyLimit}
 use Rattle.descent.specs.declared.Slot.{Slot}
 use Rattle.descent.specs.declared.Slot.the-variants.{At, Absent as NoSlot}
 use Rattle.descent.specs.declared.Landing.{Landing}

@@ -7,7 +7,7 @@ use lib.ListN.{length, getD, set}
 use lib.Dec.{eqb, ltb, leb}
 use Rattle.laws.specs.Cases.{pick, guard, bind}
 use Rattle.laws.specs.Lists.{zero-after}
-use Rattle.card.specs.Layout.{rootPlace, depthLimit, nodeAt, kindOf, keyWords, valueWords, children, routingKeys, leafPairs}
+use Rattle.card.specs.Layout.{lowestKey, keyLimit, rootPlace, depthLimit, nodeAt, kindOf, keyWords, valueWords, children, routingKeys, leafPairs}
 use Rattle.free_nodes.specs.NodeSet.{nodesOf, allNodes}
 use Rattle.soundness.specs.declared.Survey.{Survey}
 use Rattle.soundness.specs.declared.Checked.{Checked}
@@ -128,4 +128,4 @@ nodeCheck (suc levels) card n run isRoot low high m f =
 
 -- the whole table, from its root: "the root's is all keys"
 unfoldable pub tableCheck : List ℕ → ℕ → Option (ℕ × Findings)
-tableCheck card n = nodeCheck depthLimit card n 0 true 1 4294967296 (getD card rootPlace 0) (record { free = allNodes n; violated = false; key = 0; run = 0 })
+tableCheck card n = nodeCheck depthLimit card n 0 true lowestKey keyLimit (getD card rootPlace 0) (record { free = allNodes n; violated = false; key = 0; run = 0 })

@@ -7,7 +7,7 @@ use mathlib.Core.Logic.{_⊎_, inl, inr, _≢_}
 use Prim.Native.Nat.{ℕ, suc, _+_, _*_, _≤_, _<_}
 use native.Mathlib.Omega.{arith}
 use lib.ListN.{length, getD}
-use Rattle.card.specs.Layout.{greatestNodes, depthLimit, rootPlace}
+use Rattle.card.specs.Layout.{lowestKey, keyLimit, greatestNodes, depthLimit, rootPlace}
 use Rattle.free_nodes.specs.NodeSet.{capacity, allNodes}
 use Rattle.free_nodes.specs.NodeSetLaws.{all-zero, length-all, all-get, all-above}
 use Rattle.laws.specs.Bits.{bit, bit-le, bit-zero}
@@ -25,7 +25,7 @@ use Rattle.tree.specs.Path.{reserve, Violation}
 use Rattle.tree.specs.Splice.{Height}
 use Rattle.tree.specs.Tree.{Tree, Forest, root, node-total, node-totals, leaf, node, one, more}
 use Rattle.tree.specs.Violations.{table-violations}
-use Rattle.tree.specs.WellFormed.{lowestKey, keyLimit, WellFormed}
+use Rattle.tree.specs.WellFormed.{WellFormed}
 
 pub record Facts (c : List ℕ) (n : ℕ) (t : Tree) (h : ℕ) (f : Findings) : Type 0 where
   -- the height that the check gives back

@@ -9,13 +9,13 @@ use native.Mathlib.Omega.{arith}
 use lib.ListN.{length}
 use lib.Dec.{ltb}
 use borrow.Author.Tests.{ltb-true, ltb-false, lt-ltb, le-ltb}
-use Rattle.card.specs.Layout.{slot-pairs}
+use Rattle.card.specs.Layout.{lowestKey, keyLimit, slot-pairs}
 use Rattle.laws.specs.Cases.{pick}
 use Rattle.laws.specs.Totals.{total}
 use Rattle.tree.specs.Pairs.{outside, InRange, AllInRange}
 use Rattle.tree.specs.Tree.{Tree, Forest, routing, leaf, node, one, more}
 use Rattle.tree.specs.Violations.{Widths, AllWidths, RootOk}
-use Rattle.tree.specs.WellFormed.{lowestKey, keyLimit, RisingKeys, KeysWithin, SoundIn, SoundChildren, WellFormed}
+use Rattle.tree.specs.WellFormed.{RisingKeys, KeysWithin, SoundIn, SoundChildren, WellFormed}
 
 -- a key inside the range, by the count of keys outside it and by the two ends
 pub inside-bounds : (lo hi : ℕ) (p : ℕ × ℕ) → outside lo hi p ≡ 0 → (lo ≤ p .0) × (p .0 < hi)

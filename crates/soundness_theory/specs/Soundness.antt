@@ -6,14 +6,14 @@ use mathlib.Core.Option.{some}
 use mathlib.Core.Logic.{_↔_}
 use Prim.Native.Nat.{ℕ, _+_, _*_, _≤_}
 use lib.ListN.{length, getD}
-use Rattle.card.specs.Layout.{greatestNodes, depthLimit, rootPlace}
+use Rattle.card.specs.Layout.{lowestKey, keyLimit, greatestNodes, depthLimit, rootPlace}
 use Rattle.soundness.specs.Check.{Findings, nodeCheck, tableCheck}
 use Rattle.soundness_theory.specs.Facts.{Facts, start, SoundTable, sound-facts, well-formed-part, part-well-formed}
 use Rattle.soundness_theory.specs.Found.{found}
 use Rattle.soundness_theory.specs.Passed.{check-passes}
 use Rattle.soundness_theory.specs.Shown.{check-shown}
 use Rattle.tree.specs.Tree.{Tree, root}
-use Rattle.tree.specs.WellFormed.{lowestKey, keyLimit, WellFormed}
+use Rattle.tree.specs.WellFormed.{WellFormed}
 
 table-step : (c : List ℕ) (n : ℕ) → tableCheck c n ≡ nodeCheck depthLimit c n 0 true lowestKey keyLimit (getD c rootPlace 0) (start n)
 unfolding tableCheck

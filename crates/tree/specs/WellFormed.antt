@@ -1,11 +1,11 @@
 -- Document 01, "A sound table": a sound table is here a well-formed one, a fault a violation.
--- The keys of a table are 1 to 4,294,967,295; a range runs from its low end, included, to its high end, excluded.
+-- A range runs from its low end, included, to its high end, excluded.
 use mathlib.Core.Path.{_≡_}
 use mathlib.Core.List.{List, [], _∷_}
 use mathlib.Core.Option.{none}
 use Prim.Native.Nat.{ℕ, _≤_, _<_}
 use lib.Dec.{ltb}
-use Rattle.card.specs.Layout.{slot-pairs}
+use Rattle.card.specs.Layout.{lowestKey, keyLimit, slot-pairs}
 use Rattle.laws.specs.Cases.{pick}
 use Rattle.laws.specs.Totals.{indicator, total}
 use Rattle.tree.specs.Pairs.{LeafRange}
@@ -13,12 +13,6 @@ use Rattle.tree.specs.Represent.{Holds}
 use Rattle.tree.specs.Splice.{Height}
 use Rattle.tree.specs.Tree.{Tree, Forest, routing, node-total, leaf, node, one, more}
 use Rattle.tree.specs.Violations.{RootOk, table-violations}
-
-abbrev pub lowestKey : ℕ
-lowestKey = 1
-
-abbrev pub keyLimit : ℕ
-keyLimit = 4294967296
 
 -- "its routing keys rise strictly"
 abbrev pub RisingKeys : List ℕ → Type 0

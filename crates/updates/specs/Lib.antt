@@ -1,5 +1,4 @@
 pub mod Updates
 pub mod Starts
 pub mod Results
-pub mod Inside
 pub mod UpdateLaws

@@ -17,7 +17,7 @@ use Rattle.descent.specs.Descent.{childIndex, firstEqual, slotOf, turnAt, runBe
 use Rattle.descent.specs.DescentLaws.{index-le, turn-inside}
 use Rattle.free_nodes.specs.NodeSet.{countTrue}
 use Rattle.laws.specs.Cases.{order, pick}
-use Rattle.updates.specs.Inside.{Inside, landing-inside}
+use Rattle.descent.specs.Inside.{Inside, landing-inside}
 use Rattle.state.specs.Steps.{Handed, isIdle}
 use Rattle.updates.specs.Starts.{startRefused, started, startLanded, startChecked, startOf}
 use Rattle.state.specs.Memory.{Memory}

@@ -7,7 +7,7 @@ use lib.ListN.{length, getD}
 use Rattle.card.specs.Layout.{depthLimit, rootPlace}
 use Rattle.card.specs.NodeLaws.{length-node}
 use Rattle.descent.specs.Descent.{slotOf}
-use Rattle.updates.specs.Inside.{Inside, leaf-inside}
+use Rattle.descent.specs.Inside.{Inside, leaf-inside}
 use Rattle.table.specs.Calls.{foundIn, foundAt}
 use borrow.Author.Needs.{needs}
 use Rattle.table.proofs.lookup.found_at.Statement.{statement}
