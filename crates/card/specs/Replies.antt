@@ -41,3 +41,10 @@ long length = record { code = 70; value = length }
 -- the state block lent has another length than a state's words
 abbrev pub noState : Reply
 noState = record { code = 71; value = 0 }
+
+-- document 02, W-201: a pair, whose key stands beside this answer, and "none"
+abbrev pub next : ℕ → Reply
+next value = record { code = 72; value = value }
+
+abbrev pub nothing : Reply
+nothing = record { code = 73; value = 0 }

@@ -21,3 +21,4 @@ pub mod Dictionary
 pub mod RoomLaws
 pub mod Room
 pub mod OpenRefusals
+pub mod NextPair

@@ -1,0 +1,10 @@
+pub mod IsNext
+pub mod Lookups
+pub mod LeastAbove
+pub mod AnyCard
+pub mod ChildRange
+pub mod LeafOf
+pub mod Next
+pub mod TotalsAbove
+pub mod Walk
+pub mod SortedWalk
