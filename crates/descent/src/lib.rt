@@ -142,7 +142,7 @@ pub fn find_landing(card: &[u32], n: usize, key: u32, root: usize) -> Landing
     ensures { λ r. ⌜ r ≡ landingFor (now (card .entry)) n key depthLimit rootPlace 0 root ⌝ }
 {
     let mut m = root;
-    let mut link: usize = 4;
+    let mut link: usize = card::ROOT_PLACE;
     let mut run: usize = 0;
     let mut left: usize = card::DEPTH_LIMIT;
     loop {
@@ -247,7 +247,7 @@ pub fn find_violation(card: &[u32], n: usize, key: u32, root: usize) -> Search
 {
     let mut p = Position {
         node: root,
-        link: 4,
+        link: card::ROOT_PLACE,
         parent: 0,
         index: 0,
         above: 0,
