@@ -7,19 +7,15 @@ use native.Mathlib.Numerals.{add-one}
 use native.Mathlib.Omega.{arith}
 use lib.ListN.{length, getD, take, drop, set, replicate, length-drop, drop-of-length-le}
 use lib.Seq.{drop-cons, drop-drop, drop-append-add, getD-drop, set-at, append-snoc, sets-eq, length-take-le, take-suc, take-all, take-at, drop-at}
-use borrow.Author.Tests.{eq-eqb, ne-eqb}
+use borrow.Author.Tests.{eq-eqb}
 use Rattle.laws.specs.Lists.{pad, all-zero}
 use Rattle.dump.specs.Dump.{wordBytes, cardBytes, wordAt, dumpWords}
 
 -- ---- the padding's test
 
--- a byte that is not 0 decides it, and after a 0 the rest does
-module _ (dump : List ℕ) (i : ℕ) (inside : i < length dump) where
-  pub nonzero-here : (getD dump i 0 ≡ 0 → ⊥) → all-zero (drop i dump) ≡ false
-  nonzero-here h = rw (drop-cons dump i 0 inside, ne-eqb (getD dump i 0) 0 h)
-
-  pub zero-here : getD dump i 0 ≡ 0 → all-zero (drop i dump) ≡ all-zero (drop (i + 1) dump)
-  zero-here h = rw (add-one i, drop-cons dump i 0 inside, eq-eqb (getD dump i 0) 0 h)
+-- after a 0 the rest decides it
+pub zero-here : (dump : List ℕ) (i : ℕ) → i < length dump → getD dump i 0 ≡ 0 → all-zero (drop i dump) ≡ all-zero (drop (i + 1) dump)
+zero-here dump i inside h = rw (add-one i, drop-cons dump i 0 inside, eq-eqb (getD dump i 0) 0 h)
 
 pub no-bytes : (dump : List ℕ) (i : ℕ) → length dump ≤ i → all-zero (drop i dump) ≡ true
 no-bytes dump i h = rw (drop-of-length-le dump {i = i} h)

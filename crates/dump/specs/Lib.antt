@@ -1,5 +1,6 @@
 pub mod Dump
 pub mod ByteLaws
+pub mod Padding
 pub mod AnswerLaws
 pub mod RoundTrip
 pub mod Examples

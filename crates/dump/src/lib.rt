@@ -3,10 +3,11 @@ use card::GREATEST_NODES;
 use card::LEAST_NODES;
 ghost use mathlib.Core.Path.{_≡_};
 ghost use mathlib.Core.List.{_++_};
-ghost use Prim.Native.Nat.{_+_, _*_, _≤_, _<_};
+ghost use Prim.Native.Nat.{_+_, _*_, _%_, _≤_, _<_};
 ghost use lib.ListN.{length, take, drop, replicate};
 ghost use Rattle.laws.specs.Lists.{all-zero};
 ghost use Rattle.card.specs.Layout.{greatestNodes};
+ghost use Rattle.dump.specs.Padding.{eightAt};
 ghost use Rattle.dump.specs.Dump.{wordBytes, cardBytes, paddedLength, dumpOf, wordAt, dumpWords, wordsFor, damaged, readAnswer, readOver, writeAnswer, writeOver};
 
 // "The answer is the result's length in words or bytes", or the refusal's number.
@@ -81,24 +82,49 @@ fn is_damaged(dump: &[u8]) -> bool
     if padded_length(words) != dump.len() {
         return true;
     }
-    if padding_is_zero(dump, 4 * words) {
+    if padding_is_zero(dump, words / 2) {
         return false;
     }
     true
 }
 
-// Whether all bytes from `from` on are 0.
+// Whether all bytes from number 8 × `from` on are 0, eight bytes at a time (document 02, W-202).
 fn padding_is_zero(dump: &[u8], from: usize) -> bool
-    ensures { λ r. ⌜ r ≡ all-zero (drop from (now (dump .entry))) ⌝ }
+    requires { ⌜ length (now dump) % 8 ≡ 0 ⌝ }
+    ensures { λ r. ⌜ r ≡ all-zero (drop (8 * from) (now (dump .entry))) ⌝ }
 {
-    let mut i = from;
-    while i < dump.len() {
-        if dump[i] != 0 {
+    let eights = dump.len() / 8;
+    let mut k = from;
+    while k < eights {
+        if eight_at(dump, k) != 0 {
             return false;
         }
-        i += 1;
+        k += 1;
     }
     true
+}
+
+// A byte as a 64-bit number; its bound is what lets eight of them make one.
+fn long(byte: u8) -> u64
+    ensures { λ r. ⌜ (r ≡ byte) × (r < 256) ⌝ }
+{
+    byte as u64
+}
+
+// Eight bytes of a dump, those from number 8 × k on, as one 64-bit number: 0 exactly when all eight are.
+fn eight_at(dump: &[u8], k: usize) -> u64
+    requires { ⌜ 8 * k + 8 ≤ length (now dump) ⌝ }
+    ensures { λ r. ⌜ r ≡ eightAt (now (dump .entry)) k ⌝ }
+{
+    let at = 8 * k;
+    long(dump[at])
+        + 256 * long(dump[at + 1])
+        + 65536 * long(dump[at + 2])
+        + 16777216 * long(dump[at + 3])
+        + 4294967296 * long(dump[at + 4])
+        + 1099511627776 * long(dump[at + 5])
+        + 281474976710656 * long(dump[at + 6])
+        + 72057594037927936 * long(dump[at + 7])
 }
 
 // A byte as a word; its bound is what lets four of them make one.

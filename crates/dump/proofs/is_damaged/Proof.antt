@@ -6,6 +6,7 @@ use borrow.Author.Needs.{needs}
 use Rattle.laws.specs.Lists.{all-zero}
 use Rattle.dump.specs.Dump.{paddedLength, wordsFor, dumpNodes}
 use Rattle.dump.specs.AnswerLaws.{damaged-empty, damaged-odd, damaged-long, damaged-few, damaged-many, damaged-length, damaged-padding, whole-undamaged}
+use Rattle.dump.specs.Padding.{padding-start}
 use Rattle.dump.proofs.is_damaged.Statement.{statement}
 use Rattle.dump.proofs.is_damaged.Tie as tie
 
@@ -14,7 +15,10 @@ padded : (c : tie.After-padded-length2) → paddedLength (wordsFor (dumpNodes (c
 padded c = ap (λ (k : ℕ). paddedLength (wordsFor k)) (sym (c .before .before .before .word-at .ensures)) ∙ sym (c .padded-length2 .ensures)
 
 zeros : (c : tie.After-padding-is-zero) → all-zero (drop (4 * wordsFor (dumpNodes (c .before .before .before .before .before .before .before .before .before .before .before .args .dump .now))) (c .before .before .before .before .before .before .before .before .before .before .before .args .dump .now)) ≡ c .padding-is-zero .result
-zeros c = ap (λ (k : ℕ). all-zero (drop (4 * wordsFor k) (c .before .before .before .before .before .before .before .before .before .before .before .args .dump .now))) (sym (c .before .before .before .before .before .word-at .ensures)) ∙ sym (c .padding-is-zero .ensures)
+zeros c =
+    ap (λ (k : ℕ). all-zero (drop (4 * wordsFor k) (c .before .before .before .before .before .before .before .before .before .before .before .args .dump .now))) (sym (c .before .before .before .before .before .word-at .ensures))
+    ∙ ap (λ (i : ℕ). all-zero (drop i (c .before .before .before .before .before .before .before .before .before .before .before .args .dump .now))) (sym (padding-start (c .before .before .before .before .before .word-at .result)))
+    ∙ sym (c .padding-is-zero .ensures)
 
 returns : tie.Need-returns
 returns c = sym (damaged-empty _ (c .if1 .taken))
@@ -58,11 +62,8 @@ padded-length-requires-2 c κs = search needs
 returns-6 : tie.Need-returns-6
 returns-6 c = sym (damaged-length _ (λ e. c .if6 .taken (sym (padded (c .before)) ∙ e)))
 
-mul-padding-is-zero : tie.Need-mul-padding-is-zero
-mul-padding-is-zero c = search needs
-
 padding-is-zero-requires : tie.Need-padding-is-zero-requires
-padding-is-zero-requires c κs = search needs
+padding-is-zero-requires c κs = omega (arith, c .before .before .before .before .before .before .before .if2 .left)
 
 returns-7 : tie.Need-returns-7
 returns-7 c =
@@ -94,7 +95,6 @@ is-damaged-spec =
     add-words
     padded-length-requires-2
     returns-6
-    mul-padding-is-zero
     padding-is-zero-requires
     returns-7
     returns-8)
