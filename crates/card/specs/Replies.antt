@@ -48,3 +48,7 @@ next value = record { code = 72; value = value }
 
 abbrev pub nothing : Reply
 nothing = record { code = 73; value = 0 }
+
+-- document 02, W-213: there is a record
+abbrev pub fetched : Reply
+fetched = record { code = 74; value = 0 }

@@ -1,0 +1,57 @@
+// Records fetched from a block of bytes by ration number (document 02, W-213), and why there is none.
+use records::Fetched;
+
+// A card of 4 nodes whose one leaf holds rations 1 to 6, their offsets beside them.
+fn card_of_six() -> [u32; 104] {
+    let mut card = [0u32; 104];
+    card[0] = 1;
+    card[1] = 4;
+    card[2] = 8;
+    card[3] = 24;
+    card[4] = 1;
+    card[8] = 1;
+    card[9] = 1;
+    card[10] = 2;
+    card[11] = 3;
+    card[12] = 4;
+    card[13] = 5;
+    card[14] = 6;
+    card[20] = 0;
+    card[21] = 5;
+    card[22] = 12;
+    card[23] = 13;
+    card[24] = 16;
+    card[25] = 4294967295;
+    card
+}
+
+// What there is for a ration.
+fn say(card: &[u32; 104], key: u32, block: &[u8]) {
+    io::write_all(1, b"ration ");
+    io::print_decimal(1, key as u64);
+    match records::is_fetched(card, key, block) {
+        Fetched::Found => {
+            io::write_all(1, b": ");
+            io::write_all(1, records::fetch_record(card, key, block));
+        }
+        Fetched::Absent => {
+            io::write_all(1, b": absent");
+        }
+        Fetched::Refused(refusal) => {
+            io::write_all(1, b": refused ");
+            io::print_decimal(1, refusal as u64);
+        }
+    }
+    io::write_all(1, b"\n");
+}
+
+// Two records, a length 0, and a length that runs past the end.
+fn main() {
+    let card = card_of_six();
+    let block = b"\x04mash\x06grower\x00\x09ab";
+    let mut key: u32 = 0;
+    while key < 8 {
+        say(&card, key, block);
+        key += 1;
+    }
+}
