@@ -1,5 +1,6 @@
 -- DEMAND 2 over the lists of demand 3, "On a table formatted or opened by these calls and worked by them alone": every update
--- gives the answer of the paper's dictionary after at most 657 stores, no step of it is refused, and opening's repair ends too.
+-- gives the answer of the paper's dictionary after at most 657 stores, and at most 73 × (h + 1) on a table of h levels; no step of
+-- it is refused, and opening's repair ends too.
 use mathlib.Core.Path.{_≡_}
 use mathlib.Core.List.{List}
 use mathlib.Core.Bool.{false}
@@ -11,17 +12,19 @@ use Rattle.state.specs.Answers.{stepReply}
 use Rattle.table.specs.Calls.{openOf, stepOf, repairSteps}
 use Rattle.state.specs.Steps.{isIdle}
 use Rattle.updates.specs.Starts.{insertOf, deleteOf}
+use Rattle.state.specs.declared.Doing.{Doing}
+use Rattle.state.specs.declared.Doing.the-variants.{Idle, Formatting, Inserting, Deleting, Repairing}
 use Rattle.state.specs.declared.Answer.{Answer}
 use Rattle.state.specs.declared.Answer.the-variants.{Stored, Ready, Absent, Value, Refused}
 use Rattle.state.specs.declared.Begun.{Begun}
 use Rattle.state.specs.declared.Begun.the-variants.{Idle as OpenedIdle, Started, Refused as BegunRefused}
-use Rattle.card.specs.Replies.{ready}
+use Rattle.card.specs.Replies.{Reply, ready}
 use Rattle.card.specs.Header.{nodesOfLength}
 use Rattle.card.specs.Layout.{keyLimit, depthLimit}
 use Rattle.promises.specs.Accepting.{accepted-card, accepted-table, accepted-openable}
 use Rattle.promises.specs.Feeding.{begun-result, kept-ledger, dictionary-answer, due-after-start, due-after, kept-due}
-use Rattle.promises.specs.Finished.{work-finishes, work-not-refused}
-use Rattle.promises.specs.Finishing.{updateStores, Finishes}
+use Rattle.promises.specs.Finished.{work-finishes, finishes-within, work-not-refused, inv-rests}
+use Rattle.promises.specs.Finishing.{updateStores, updateStoresAt, Finishes}
 use Rattle.promises.specs.Ledger.{ledger, empty}
 use Rattle.promises.specs.LedgerLaws.{same-refl}
 use Rattle.promises.specs.Machine.{Event, World, opened, happens, run, insert, delete}
@@ -31,6 +34,9 @@ use Rattle.promises.specs.Reopen.{well-formed-table, reopened}
 use Rattle.promises.specs.Starting.{kept-insert, kept-delete}
 use Rattle.promises.specs.Stepping.{Right, kept-step}
 use Rattle.tree.specs.Pairs.{pairs, lookup}
+use Rattle.tree.specs.Splice.{Height}
+use Rattle.tree.specs.Tree.{Tree}
+use Rattle.tree.specs.WellFormed.{WellFormed}
 
 module _ (w : World) (l : List (ℕ × ℕ)) (begins : Begins w l) (es : List Event) (words : Words es) where
   -- After any list of events, a step that gives a final answer gives the one due: "ready" where opening's repair is in progress,
@@ -42,22 +48,46 @@ module _ (w : World) (l : List (ℕ × ℕ)) (begins : Begins w l) (es : List Ev
   pub steps-not-refused : isIdle (run es w .memory .doing) ≡ false → (r : ℕ) → stepOf (run es w .card) (run es w .memory) .answer ≡ Refused r → ⊥
   steps-not-refused busy r = let k = kept-from w l begins es words in work-not-refused (k .0) (k .1) (run es w) _ _ (k .2) busy r
 
-  -- "an update stores at most 73 × 9 = 657 words"; its final answer is the dictionary's, by the pairs held when it was started
+  -- an insert or a delete that is started, by the tree t that the card's words then represent and the number h of its internal
+  -- levels: "73 × (h + 1) stores, h being the depth when the call began" (document 02, W-214). The final answer is the
+  -- dictionary's, by the pairs held when it was started.
+  module _ (t : Tree) (sound : WellFormed (run es w .card) t) (h : ℕ) (level : Height h t) where
+    pub insert-finishes-by-depth : (key value : ℕ) → key < keyLimit → insertOf (run es w .card) (run es w .memory) key value .begun ≡ Started
+        → Finishes (updateStoresAt h) (stepReply (dictionary-answer (lookup key (kept-ledger es w (ledger l empty) .held)))) (happens (insert key value) (run es w))
+    unfolding happens due-after due-after-start begun-result
+    insert-finishes-by-depth key value high e =
+        let k = kept-from w l begins es words in
+        let q = kept-insert (k .0) (k .1) (run es w) (kept-ledger es w (ledger l empty)) (kept-due es w (ledger l empty) none) (k .2) key value high in
+        rw e at (work-finishes (k .0) (q .0) (updateStoresAt h) (happens (insert key value) (run es w)) _ _ (q .2) (q .1 .busy e) (omega (arith, q .1 .steps-left e t sound h level)))
+
+    pub delete-finishes-by-depth : (key : ℕ) → key < keyLimit → deleteOf (run es w .card) (run es w .memory) key .begun ≡ Started
+        → Finishes (updateStoresAt h) (stepReply (dictionary-answer (lookup key (kept-ledger es w (ledger l empty) .held)))) (happens (delete key) (run es w))
+    unfolding happens due-after due-after-start begun-result
+    delete-finishes-by-depth key high e =
+        let k = kept-from w l begins es words in
+        let q = kept-delete (k .0) (k .1) (run es w) (kept-ledger es w (ledger l empty)) (kept-due es w (ledger l empty) none) (k .2) key high in
+        rw e at (work-finishes (k .0) (q .0) (updateStoresAt h) (happens (delete key) (run es w)) _ _ (q .2) (q .1 .busy e) (omega (arith, q .1 .steps-left e t sound h level)))
+
+  -- "With 600 nodes a balanced tree has at most 8 internal levels"
+  within-bound : {final : Reply} {v : World} → run es w .memory .doing ≡ Idle → ((t : Tree) → WellFormed (run es w .card) t → (h : ℕ) → Height h t → Finishes (updateStoresAt h) final v) → Finishes updateStores final v
+  within-bound idle by-depth =
+      let k = kept-from w l begins es words in
+      let r = inv-rests (k .0) (k .1) (run es w) _ _ (k .2) idle in
+      let level = r .balanced .well-formed .level in
+      finishes-within (updateStoresAt (level .0)) updateStores (omega (arith, r .levels (level .0) (level .1))) (by-depth (r .table) (r .balanced .well-formed) (level .0) (level .1))
+
+  -- "an update stores at most 73 × 9 = 657 words"
   pub insert-finishes : (key value : ℕ) → key < keyLimit → insertOf (run es w .card) (run es w .memory) key value .begun ≡ Started
       → Finishes updateStores (stepReply (dictionary-answer (lookup key (kept-ledger es w (ledger l empty) .held)))) (happens (insert key value) (run es w))
-  unfolding happens due-after due-after-start begun-result
   insert-finishes key value high e =
       let k = kept-from w l begins es words in
-      let q = kept-insert (k .0) (k .1) (run es w) (kept-ledger es w (ledger l empty)) (kept-due es w (ledger l empty) none) (k .2) key value high in
-      rw e at (work-finishes (k .0) (q .0) updateStores (happens (insert key value) (run es w)) _ _ (q .2) (q .1 .busy e) (omega (arith, q .1 .steps-left e)))
+      within-bound (kept-insert (k .0) (k .1) (run es w) _ _ (k .2) key value high .1 .idle-before e) (λ t sound h level. insert-finishes-by-depth t sound h level key value high e)
 
   pub delete-finishes : (key : ℕ) → key < keyLimit → deleteOf (run es w .card) (run es w .memory) key .begun ≡ Started
       → Finishes updateStores (stepReply (dictionary-answer (lookup key (kept-ledger es w (ledger l empty) .held)))) (happens (delete key) (run es w))
-  unfolding happens due-after due-after-start begun-result
   delete-finishes key high e =
       let k = kept-from w l begins es words in
-      let q = kept-delete (k .0) (k .1) (run es w) (kept-ledger es w (ledger l empty)) (kept-due es w (ledger l empty) none) (k .2) key high in
-      rw e at (work-finishes (k .0) (q .0) updateStores (happens (delete key) (run es w)) _ _ (q .2) (q .1 .busy e) (omega (arith, q .1 .steps-left e)))
+      within-bound (kept-delete (k .0) (k .1) (run es w) _ _ (k .2) key high .1 .idle-before e) (λ t sound h level. delete-finishes-by-depth t sound h level key high e)
 
 -- The repair that opening starts, on whatever card, comes to "ready" after at most 73 stores for each level that a way can have.
 pub repair-finishes : (c : List ℕ) → openOf c .begun ≡ Started → Finishes (73 * depthLimit) ready (opened c)

@@ -118,6 +118,9 @@ work-finishes n steps most w b due i busy h =
     let q = counted n steps w b due i busy in
     record { count = q .0; few-stores = omega (arith, q .1); each-stores = λ qs u f. each (q .2) qs u f; then-answers = λ qs u f. after (q .2) qs u f; then-idle = λ qs u f. over (q .2) qs u f }
 
+pub finishes-within : {final : Reply} {w : World} (few many : ℕ) → few ≤ many → Finishes few final w → Finishes many final w
+finishes-within few many h f = record { count = f .count; few-stores = omega (arith, f .few-stores); each-stores = f .each-stores; then-answers = f .then-answers; then-idle = f .then-idle }
+
 refused-not-final : (r : ℕ) → step-result (Refused r) ≡ was-final → ⊥
 unfolding step-result
 refused-not-final r e = let k : _≡_ {A = ℕ} 0 1 = cc in omega arith

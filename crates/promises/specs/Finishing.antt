@@ -22,6 +22,10 @@ use Rattle.tree.specs.WellFormed.{Balanced}
 abbrev pub updateStores : ℕ
 updateStores = 73 * 9
 
+-- document 02, W-214: "the update bound then reads 73 × (h + 1) stores, h being the depth when the call began"
+abbrev pub updateStoresAt : ℕ → ℕ
+updateStoresAt h = 73 * (h + 1)
+
 -- how many steps of the events store a word
 unfoldable pub stores : Answer → ℕ
 stores Stored = 1

@@ -14,7 +14,7 @@ use Rattle.change_theory.specs.Repaired.{Mendable}
 use Rattle.change_theory.specs.Rewritten.{Sound}
 use Rattle.free_nodes.specs.NodeSet.{countTrue}
 use Rattle.promises.specs.Feeding.{leaf-full, dictionary-answer}
-use Rattle.promises.specs.Finishing.{updateStores}
+use Rattle.promises.specs.Finishing.{updateStoresAt}
 use Rattle.promises.specs.Ledger.{Update, Hand, Ledger, deciding, put, remove, empty, hand}
 use Rattle.promises.specs.LedgerLaws.{Enters, Same}
 use Rattle.promises.specs.Machine.{World}
@@ -27,6 +27,7 @@ use Rattle.state.specs.declared.Answer.the-variants.{Stored, Ready, Absent, Val
 use Rattle.tree.specs.Cut.{cut}
 use Rattle.tree.specs.Pairs.{pairs, lookup}
 use Rattle.tree.specs.Represent.{Holds}
+use Rattle.tree.specs.Splice.{Height}
 use Rattle.tree.specs.Tree.{Tree}
 use Rattle.tree.specs.Violations.{table-violations}
 
@@ -48,17 +49,19 @@ pub data Entered : Option Update → Answer → Hand → Option Answer → Type 
   no-update : {final : Answer} → Entered none final empty none
   updated : {u : Update} {final : Answer} {f : Bool} {k : ℕ} → Entered (some u) final (hand u f k true) (some final)
 
--- the most steps from the start of an update to its final answer: 73 stores for its first change, and 73 for each level
-abbrev pub updateSteps : ℕ
-updateSteps = updateStores + 1
+-- steps enough from the start of an update of the tree to its final answer: 73 stores for its first change, 73 for each level
+pub record UpdateSteps (t : Tree) (steps : ℕ) : Type 0 where
+  pub height : ℕ
+  pub level : Height height t
+  pub enough : updateStoresAt height + 1 ≤ steps
 
 pub data Stage (c : List ℕ) (n : ℕ) (t : Tree) (steps : ℕ) : Memory → Hand → Option Answer → Type 0 where
   stage-idle : {free : List Bool} {last : ℕ} → table-violations t ≡ 0 → 3 ≤ countTrue free → Exact n free t
       → Stage c n t steps (record { nodes = n; free = free; last = last; doing = Idle; rest = []; cut = [] }) empty none
   -- started: nothing is planned yet
-  stage-put : {free : List Bool} {last key value : ℕ} → table-violations t ≡ 0 → 3 ≤ countTrue free → Exact n free t → lowestKey ≤ key → key < keyLimit → startRoom c key free (landing c n key) ≡ true → updateSteps ≤ steps
+  stage-put : {free : List Bool} {last key value : ℕ} → table-violations t ≡ 0 → 3 ≤ countTrue free → Exact n free t → lowestKey ≤ key → key < keyLimit → startRoom c key free (landing c n key) ≡ true → UpdateSteps t steps
       → Stage c n t steps (record { nodes = n; free = free; last = last; doing = Inserting key value false; rest = []; cut = [] }) (hand (put key value) (leaf-full c n key) 0 false) (some (dictionary-answer (lookup key (pairs t))))
-  stage-remove : {free : List Bool} {last key : ℕ} → table-violations t ≡ 0 → 3 ≤ countTrue free → Exact n free t → lowestKey ≤ key → key < keyLimit → updateSteps ≤ steps
+  stage-remove : {free : List Bool} {last key : ℕ} → table-violations t ≡ 0 → 3 ≤ countTrue free → Exact n free t → lowestKey ≤ key → key < keyLimit → UpdateSteps t steps
       → Stage c n t steps (record { nodes = n; free = free; last = last; doing = Deleting key false 0; rest = []; cut = [] }) (hand (remove key) false 0 false) (some (dictionary-answer (lookup key (pairs t))))
   -- the first change of an update, whose last store enters it
   stage-first : {free : List Bool} {last key : ℕ} {doing : Doing} {final : Answer} {u : Update} {f : Bool} {k : ℕ} {cut : List ℕ} {s : Store} {rest : List Store} → Job doing key final (some u) → (p : Changing c n key t (s ∷ rest) free cut) → Enters u (pairs t) (pairs (p .next))

@@ -20,5 +20,6 @@ pub mod Finished
 pub mod Dictionary
 pub mod RoomLaws
 pub mod Room
+pub mod Rations
 pub mod OpenRefusals
 pub mod NextPair

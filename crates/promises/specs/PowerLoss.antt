@@ -36,7 +36,7 @@ use Rattle.laws.specs.Cases.{bool-cases, order}
 use Rattle.laws.specs.Totals.{total}
 use Rattle.promises.specs.Accepting.{accepted-card, accepted-openable, find-answers}
 use Rattle.promises.specs.Feeding.{step-result, fed, kept-ledger, due-after-step, due-after, kept-due, dictionary-answer}
-use Rattle.promises.specs.Invariant.{Table, Stage, Inv, stage-idle, stage-put, stage-remove, stage-first, stage-between, stage-within}
+use Rattle.promises.specs.Invariant.{Table, UpdateSteps, Stage, Inv, stage-idle, stage-put, stage-remove, stage-first, stage-between, stage-within}
 use Rattle.promises.specs.Ledger.{Result, Hand, Ledger, ledger, fed-a-step, feed, was-refused, was-final, goes-on, empty}
 use Rattle.promises.specs.LedgerLaws.{Same, same-refl}
 use Rattle.promises.specs.Machine.{Event, World, opened, happens, run, find, insert, delete, step, crash}
@@ -58,10 +58,13 @@ use Rattle.descent.specs.declared.Landing.the-variants.{Refused as NoLanding, L
 pub loosen : (n few many : ℕ) (w : World) (b : Ledger) (due : Option Answer) → few ≤ many → Inv n few w b due → Inv n many w b due
 loosen n few many w b due h i = record { tree = i .tree; table = i .table; openable = i .openable; same = i .same; stage = at (i .stage) }
   where
+    more : UpdateSteps (i .tree) few → UpdateSteps (i .tree) many
+    more q = record { height = q .height; level = q .level; enough = omega (arith, q .enough) }
+
     at : {m : Memory} {x : Hand} {d : Option Answer} → Stage (w .card) n (i .tree) few m x d → Stage (w .card) n (i .tree) many m x d
     at (stage-idle z r x) = stage-idle z r x
-    at (stage-put z r x low high room q) = stage-put z r x low high room (omega arith)
-    at (stage-remove z r x low high q) = stage-remove z r x low high (omega arith)
+    at (stage-put z r x low high room q) = stage-put z r x low high room (more q)
+    at (stage-remove z r x low high q) = stage-remove z r x low high (more q)
     at (stage-first {f = f} {k = k} j p en count q) = stage-first {f = f} {k = k} j p en count (omega arith)
     at (stage-between j en deep r x q) = stage-between j en deep r x (omega arith)
     at (stage-within j en p e q) = stage-within j en p e (omega arith)

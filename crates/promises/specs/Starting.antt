@@ -4,7 +4,7 @@ use mathlib.Core.List.{List, []}
 use mathlib.Core.Bool.{Bool, true, false}
 use mathlib.Core.Option.{Option, none}
 use mathlib.Core.Logic.{_⊎_, inl, inr}
-use Prim.Native.Nat.{ℕ, _≤_, _<_}
+use Prim.Native.Nat.{ℕ, _+_, _≤_, _<_}
 use native.Mathlib.Omega.{arith}
 use lib.ListN.{length, getD}
 use borrow.Author.Tests.{ne-eqb, eq-eqb}
@@ -17,11 +17,13 @@ use Rattle.descent_theory.specs.Landing.{landing-found}
 use Rattle.free_nodes.specs.NodeSet.{countTrue}
 use Rattle.laws.specs.Cases.{bool-cases, order, pick}
 use Rattle.promises.specs.Feeding.{begun-result, leaf-full, fed, due-after-start, due-after}
-use Rattle.promises.specs.Invariant.{updateSteps, Stage, Inv, stage-idle, stage-put, stage-remove, stage-first, stage-between, stage-within}
+use Rattle.promises.specs.Finishing.{updateStoresAt}
+use Rattle.promises.specs.Invariant.{UpdateSteps, Stage, Inv, stage-idle, stage-put, stage-remove, stage-first, stage-between, stage-within}
 use Rattle.promises.specs.Ledger.{Update, Hand, Ledger, fed-a-start, feed, put, remove, empty}
 use Rattle.promises.specs.Machine.{World, happens, run, insert, delete}
-use Rattle.promises.specs.Reopen.{table-depth-limited}
+use Rattle.promises.specs.Reopen.{table-well-formed, table-depth-limited}
 use Rattle.promises.specs.Steps.{memory, job-busy}
+use Rattle.soundness_theory.specs.Level.{same-height}
 use Rattle.state.specs.Steps.{Handed, isIdle}
 use Rattle.updates.specs.Starts.{startRefused, started, startLanded, startChecked, startOf, insertOf, deleteOf}
 use Rattle.state.specs.Memory.{Memory}
@@ -36,8 +38,10 @@ use Rattle.tree.specs.Lookup.{key-once, lookup-same}
 use Rattle.tree.specs.Pairs.{pairs, lookup}
 use Rattle.tree.specs.Path.{full-run}
 use Rattle.tree.specs.Represent.{link-place}
+use Rattle.tree.specs.Splice.{Height}
 use Rattle.tree.specs.Tree.{Tree}
 use Rattle.tree.specs.Violations.{few, table-violations}
+use Rattle.tree.specs.WellFormed.{WellFormed}
 use Rattle.descent.specs.declared.Landing.{Landing}
 use Rattle.descent.specs.declared.Landing.the-variants.{Refused as NoLanding, Leaf as LandingAt}
 
@@ -80,18 +84,19 @@ idle-or-busy (stage-first j p en count few) = (refl, inl (job-busy j .not-idle))
 idle-or-busy (stage-between j en deep r x few) = (refl, inl (job-busy j .not-idle))
 idle-or-busy (stage-within j en p e few) = (refl, inl (job-busy j .not-idle))
 
--- a start that was not refused has work in hand, with so many steps left
-pub record Fresh (g : Handed) (steps : ℕ) : Type 0 where
-  pub steps-left : g .begun ≡ Started → steps ≤ updateSteps
+-- a start that was not refused: the state was idle, and work is in hand, with so many steps left as the table's depth asks for
+pub record Fresh (c : List ℕ) (m : Memory) (g : Handed) (steps : ℕ) : Type 0 where
+  pub idle-before : g .begun ≡ Started → m .doing ≡ Idle
+  pub steps-left : g .begun ≡ Started → (t : Tree) → WellFormed c t → (h : ℕ) → Height h t → steps ≤ updateStoresAt h + 1
   pub busy : g .begun ≡ Started → isIdle (g .memory .doing) ≡ false
 
 -- what a start leaves, by the call's beginning
 abbrev Goal : ℕ → World → Ledger → Option Answer → Update → Bool → Handed → Type 0
-Goal n w b due u was-full g = (k : ℕ) × Fresh g k × Inv n k (record { card = w .card; memory = g .memory }) (fed-a-start u was-full (begun-result (g .begun)) (b .held) (b .in-hand)) (due-after-start (begun-result (g .begun)) u (b .held) due)
+Goal n w b due u was-full g = (k : ℕ) × Fresh (w .card) (w .memory) g k × Inv n k (record { card = w .card; memory = g .memory }) (fed-a-start u was-full (begun-result (g .begun)) (b .held) (b .in-hand)) (due-after-start (begun-result (g .begun)) u (b .held) due)
 
 refused-goal : (n steps : ℕ) (w : World) (b : Ledger) (due : Option Answer) (u : Update) (was-full : Bool) (r : ℕ) → Inv n steps w b due → Goal n w b due u was-full (startRefused r (w .memory))
 unfolding startRefused begun-result fed-a-start due-after-start
-refused-goal n steps w b due u was-full r i = (steps, record { steps-left = λ e. not-started e; busy = λ e. not-started e }, record { tree = i .tree; table = i .table; openable = i .openable; same = i .same; stage = i .stage })
+refused-goal n steps w b due u was-full r i = (steps, record { idle-before = λ e. not-started e; steps-left = λ e. not-started e; busy = λ e. not-started e }, record { tree = i .tree; table = i .table; openable = i .openable; same = i .same; stage = i .stage })
   where
     not-started : {P : Type 0} → _≡_ {A = Begun} (BegunRefused r) Started → P
     not-started e = let k : _≡_ {A = ℕ} 0 1 = cc in absurd (omega arith)
@@ -100,21 +105,33 @@ refused-goal n steps w b due u was-full r i = (steps, record { steps-left = λ e
 pub same-lookup : {n steps : ℕ} {w : World} {b : Ledger} {due : Option Answer} (i : Inv n steps w b due) (key : ℕ) → lookup key (pairs (i .tree)) ≡ lookup key (b .held)
 same-lookup {b = b} i key = lookup-same key (pairs (i .tree)) (b .held) (i .same .totals) (key-once lowestKey keyLimit key (i .tree) (i .table .sound .range))
 
+-- how many steps an update of the table may take. "h being the depth when the call began" (document 02, W-214) is that of every
+-- tree that the card's words represent.
+module _ {n steps : ℕ} {w : World} {b : Ledger} {due : Option Answer} (i : Inv n steps w b due) where
+  abbrev most-steps : ℕ
+  most-steps = updateStoresAt (i .table .sound .level .0) + 1
+
+  enough-steps : UpdateSteps (i .tree) most-steps
+  enough-steps = record { height = i .table .sound .level .0; level = i .table .sound .level .1; enough = omega arith }
+
+  steps-by-depth : (t : Tree) → WellFormed (w .card) t → (h : ℕ) → Height h t → most-steps ≤ updateStoresAt h + 1
+  steps-by-depth t v h j = omega (arith, same-height (w .card) n (i .table .sized .words) (i .table .sized .most) (i .tree) t (table-well-formed (i .table)) v (i .table .sound .level .0) h (i .table .sound .level .1) j)
+
 -- started: the update is in hand, and its answer by the map is due
-put-started : {steps : ℕ} (n : ℕ) (w : World) (b : Ledger) (due : Option Answer) (i : Inv n steps w b due) (m : Memory) (free : List Bool) (last key value : ℕ) → m ≡ memory n free last Idle [] [] → table-violations (i .tree) ≡ 0 → 3 ≤ countTrue free → Exact n free (i .tree) → lowestKey ≤ key → key < keyLimit
-    → startRoom (w .card) key (m .free) (landing (w .card) (m .nodes) key) ≡ true → Goal n w b due (put key value) (leaf-full (w .card) (m .nodes) key) (started m (Inserting key value false))
+put-started : {steps : ℕ} (n : ℕ) (w : World) (b : Ledger) (due : Option Answer) (i : Inv n steps w b due) (free : List Bool) (last key value : ℕ) → w .memory ≡ memory n free last Idle [] [] → table-violations (i .tree) ≡ 0 → 3 ≤ countTrue free → Exact n free (i .tree) → lowestKey ≤ key → key < keyLimit
+    → startRoom (w .card) key (w .memory .free) (landing (w .card) (w .memory .nodes) key) ≡ true → Goal n w b due (put key value) (leaf-full (w .card) (w .memory .nodes) key) (started (w .memory) (Inserting key value false))
 unfolding started begun-result fed-a-start due-after-start isIdle
-put-started n w b due i m free last key value em z r x low high q =
+put-started n w b due i free last key value em z r x low high q =
     let q′ : startRoom (w .card) key free (landing (w .card) n key) ≡ true = rw em at q in
     rw (em, ← same-lookup i key)
-    (updateSteps, record { steps-left = λ e. omega arith; busy = λ e. refl }, record { tree = i .tree; table = i .table; openable = i .openable; same = i .same; stage = stage-put z r x low high q′ (omega arith) })
+    (most-steps i, record { idle-before = λ e. refl; steps-left = λ e. steps-by-depth i; busy = λ e. refl }, record { tree = i .tree; table = i .table; openable = i .openable; same = i .same; stage = stage-put z r x low high q′ (enough-steps i) })
 
-remove-started : {steps : ℕ} (n : ℕ) (w : World) (b : Ledger) (due : Option Answer) (i : Inv n steps w b due) (m : Memory) (free : List Bool) (last key : ℕ) → m ≡ memory n free last Idle [] [] → table-violations (i .tree) ≡ 0 → 3 ≤ countTrue free → Exact n free (i .tree) → lowestKey ≤ key → key < keyLimit
-    → Goal n w b due (remove key) false (started m (Deleting key false 0))
+remove-started : {steps : ℕ} (n : ℕ) (w : World) (b : Ledger) (due : Option Answer) (i : Inv n steps w b due) (free : List Bool) (last key : ℕ) → w .memory ≡ memory n free last Idle [] [] → table-violations (i .tree) ≡ 0 → 3 ≤ countTrue free → Exact n free (i .tree) → lowestKey ≤ key → key < keyLimit
+    → Goal n w b due (remove key) false (started (w .memory) (Deleting key false 0))
 unfolding started begun-result fed-a-start due-after-start isIdle
-remove-started n w b due i m free last key em z r x low high =
+remove-started n w b due i free last key em z r x low high =
     rw (em, ← same-lookup i key)
-    (updateSteps, record { steps-left = λ e. omega arith; busy = λ e. refl }, record { tree = i .tree; table = i .table; openable = i .openable; same = i .same; stage = stage-remove z r x low high (omega arith) })
+    (most-steps i, record { idle-before = λ e. refl; steps-left = λ e. steps-by-depth i; busy = λ e. refl }, record { tree = i .tree; table = i .table; openable = i .openable; same = i .same; stage = stage-remove z r x low high (enough-steps i) })
 
 module _ (n steps : ℕ) (w : World) (b : Ledger) (due : Option Answer) (i : Inv n steps w b due) where
   nodes-same : w .memory .nodes ≡ n
@@ -153,18 +170,18 @@ module _ (n steps : ℕ) (w : World) (b : Ledger) (due : Option Answer) (i : Inv
           idle = ap (λ (y : Memory). y .doing) em
 
   -- "Starting an update stores nothing."
-  pub kept-insert : (key value : ℕ) → key < keyLimit → (k : ℕ) × Fresh (insertOf (w .card) (w .memory) key value) k × Inv n k (happens (insert key value) w) (feed (fed (insert key value) w) b) (due-after (insert key value) w b due)
+  pub kept-insert : (key value : ℕ) → key < keyLimit → (k : ℕ) × Fresh (w .card) (w .memory) (insertOf (w .card) (w .memory) key value) k × Inv n k (happens (insert key value) w) (feed (fed (insert key value) w) b) (due-after (insert key value) w b due)
   unfolding happens feed fed due-after insertOf
   kept-insert key value high =
       start-with key (Inserting key value false) (startRoom (w .card) key (w .memory .free)) (put key value) (leaf-full (w .card) (w .memory .nodes) key) high begin
     where
       begin : (free : List Bool) (last : ℕ) → w .memory ≡ memory n free last Idle [] [] → table-violations (i .tree) ≡ 0 → 3 ≤ countTrue free → Exact n free (i .tree) → lowestKey ≤ key
           → startRoom (w .card) key (w .memory .free) (landing (w .card) (w .memory .nodes) key) ≡ true → Goal n w b due (put key value) (leaf-full (w .card) (w .memory .nodes) key) (started (w .memory) (Inserting key value false))
-      begin free last em z r x low q = put-started n w b due i (w .memory) free last key value em z r x low high q
+      begin free last em z r x low q = put-started n w b due i free last key value em z r x low high q
 
-  pub kept-delete : (key : ℕ) → key < keyLimit → (k : ℕ) × Fresh (deleteOf (w .card) (w .memory) key) k × Inv n k (happens (delete key) w) (feed (fed (delete key) w) b) (due-after (delete key) w b due)
+  pub kept-delete : (key : ℕ) → key < keyLimit → (k : ℕ) × Fresh (w .card) (w .memory) (deleteOf (w .card) (w .memory) key) k × Inv n k (happens (delete key) w) (feed (fed (delete key) w) b) (due-after (delete key) w b due)
   unfolding happens feed fed due-after deleteOf
   kept-delete key high = start-with key (Deleting key false 0) (λ l. true) (remove key) false high begin
     where
       begin : (free : List Bool) (last : ℕ) → w .memory ≡ memory n free last Idle [] [] → table-violations (i .tree) ≡ 0 → 3 ≤ countTrue free → Exact n free (i .tree) → lowestKey ≤ key → true ≡ true → Goal n w b due (remove key) false (started (w .memory) (Deleting key false 0))
-      begin free last em z r x low q = remove-started n w b due i (w .memory) free last key em z r x low high
+      begin free last em z r x low q = remove-started n w b due i free last key em z r x low high

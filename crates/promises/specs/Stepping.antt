@@ -32,7 +32,7 @@ use Rattle.laws.specs.Totals.{total}
 use Rattle.promises.specs.Begin.{put-held, put-slot, put-full, remove-held, remove-absent, room-full, flag-slot, flag-full}
 use Rattle.promises.specs.Feeding.{step-result, leaf-full, fed, dictionary-answer, due-after-step, due-after}
 use Rattle.promises.specs.FirstChanges.{slot-changing, slot-level, slot-enters, delete-changing, delete-level, delete-enters, split-changing, split-level, split-enters, split-count, First}
-use Rattle.promises.specs.Invariant.{Table, Job, Entered, updateSteps, Stage, Inv, job-repair, job-insert, job-delete, no-update, updated, stage-idle, stage-put, stage-remove, stage-first, stage-between, stage-within}
+use Rattle.promises.specs.Invariant.{Table, Job, Entered, UpdateSteps, Stage, Inv, job-repair, job-insert, job-delete, no-update, updated, stage-idle, stage-put, stage-remove, stage-first, stage-between, stage-within}
 use Rattle.promises.specs.Kept.{first-storable, repair-stored, update-stored}
 use Rattle.promises.specs.Ledger.{Update, Hand, Ledger, ledger, entered, deciding, counted, fed-a-step, feed, put, remove, was-final, goes-on, empty, hand}
 use Rattle.promises.specs.LedgerLaws.{Enters, Same, enters-held, enters-gone}
@@ -40,7 +40,7 @@ use Rattle.promises.specs.Machine.{World, happens, step}
 use Rattle.promises.specs.Reopen.{table-depth-limited}
 use Rattle.promises.specs.Slots.{slot-holds, slots-full}
 use Rattle.promises.specs.Steps.{memory, Busy, job-busy, step-idle, step-stores, prepared-ready, prepared-first, step-repairs, step-puts, step-removes}
-use Rattle.soundness_theory.specs.Depth.{balanced-levels, table-depth, nodes-within}
+use Rattle.soundness_theory.specs.Depth.{table-depth}
 use Rattle.soundness_theory.specs.Found.{found}
 use Rattle.state.specs.Steps.{Step, stepRefused, isIdle}
 use Rattle.table.specs.Calls.{stepPrepared, stepOf}
@@ -72,13 +72,6 @@ mends c n key t free last b x v single room = mended c n key t free last (b .siz
 rests : (c : List ℕ) (n key : ℕ) (t : Tree) (free : List Bool) (last : ℕ) → Table c n t → table-violations t ≡ 0 → nextRepair c n key free last ≡ balanced
 unfolding nextRepair onSearch
 rests c n key t free last b z = ap (onSearch c n free last) (seek-balanced c n key (b .sized .words) depthLimit t (b .holds) (b .sound .widths) z (table-depth-limited b))
-
--- "With 600 nodes a balanced tree has at most 8 internal levels"
-balanced-depth : {c : List ℕ} {n : ℕ} {t : Tree} → Table c n t → table-violations t ≡ 0 → depth t ≤ 8
-balanced-depth {c} {n} {t} b z =
-    let size = nodes-within c n (b .sized .words) t (b .holds .2) (b .sound .once) in
-    let h = balanced-levels (b .sound .level .0) t (b .sound .level .1) (b .sound .widths) z (omega (arith, size, b .sized .most)) in
-    omega (arith, table-depth (b .sound .level .0) t (b .sound .level .1) (b .sound .widths))
 
 -- where a step leaves what was being done: it was idle; "Each step then either stores one word or gives the final answer and
 -- makes the state idle."
@@ -195,12 +188,12 @@ module _ (n steps : ℕ) (c : List ℕ) (t : Tree) (b : Table c n t) (o : Openab
   unfolding landing
   landed key g = g .landed
 
-  -- the way to it is short where the table is balanced
-  way-short : (key : ℕ) (g : LandedAt c n key t) → table-violations t ≡ 0 → depth-of (g .context) ≤ 8
-  way-short key g z =
-      let d = balanced-depth b z in
+  -- the way to it is no longer than a balanced table is high, so that the steps are enough
+  way-short : (key : ℕ) (g : LandedAt c n key t) → table-violations t ≡ 0 → UpdateSteps t (suc steps) → 73 + 73 * depth-of (g .context) ≤ steps
+  way-short key g z few =
+      let d = table-depth (few .height) t (few .level) (b .sound .widths) in
       let e : depth (plug (g .context) (leaf (g .number) (g .keys) (g .values))) ≡ depth t = ap depth (g .is-tree) in
-      omega (arith, depth-plug (g .context) (leaf (g .number) (g .keys) (g .values)))
+      omega (arith, depth-plug (g .context) (leaf (g .number) (g .keys) (g .values)), few .enough)
 
   -- "Insert, key held: answers the held value, no store."
   put-answers : (free : List Bool) (last key value i : ℕ) → table-violations t ≡ 0 → 3 ≤ countTrue free → Exact n free t → (g : LandedAt c n key t) → slotOf (nodeAt c (g .number)) key ≡ At i → (f : Bool)
@@ -228,7 +221,7 @@ module _ (n steps : ℕ) (c : List ℕ) (t : Tree) (b : Table c n t) (o : Openab
       (e ∙ prepared-first c m doing final prep s rest free last cut e₁ (first-storable (p .changing .plays) .inside) ∙ rw en) (p .changing) (p .enters) count (omega arith)
 
   -- "With an empty slot: value first, then key, in the lowest empty slot."
-  put-into-slot : (free : List Bool) (last key value i : ℕ) → table-violations t ≡ 0 → 3 ≤ countTrue free → Exact n free t → lowestKey ≤ key → key < keyLimit → updateSteps ≤ suc steps → (g : LandedAt c n key t) → slotOf (nodeAt c (g .number)) key ≡ NoSlot → slotOf (nodeAt c (g .number)) 0 ≡ At i
+  put-into-slot : (free : List Bool) (last key value i : ℕ) → table-violations t ≡ 0 → 3 ≤ countTrue free → Exact n free t → lowestKey ≤ key → key < keyLimit → UpdateSteps t (suc steps) → (g : LandedAt c n key t) → slotOf (nodeAt c (g .number)) key ≡ NoSlot → slotOf (nodeAt c (g .number)) 0 ≡ At i
       → Goal (memory n free last (Inserting key value false) [] []) (hand (put key value) (leaf-full c n key) 0 false) (some (dictionary-answer (lookup key (pairs t))))
   unfolding slotAnswer dictionary-answer deciding
   put-into-slot free last key value i z r x low high few g e e₀ =
@@ -240,7 +233,7 @@ module _ (n steps : ℕ) (c : List ℕ) (t : Tree) (b : Table c n t) (o : Openab
       let flag = flag-slot c n key (g .number) (link-place (g .context)) (full-run (g .context)) (landed key g) i e₀ in
       let none-held = absent-counted key (pairs t) none-there in
       let is = g .is-tree in
-      let way = way-short key g z in
+      let way = way-short key g z few in
       let p : First c n key (plug (g .context) (leaf (g .number) (g .keys) (g .values))) ((place (g .number) (12 + i), value) ∷ (place (g .number) (1 + i), key) ∷ []) free [] (put key value) (depth-of (g .context)) =
       at-slot (g .context) (g .number) (g .keys) (g .values) i (rw is (b .holds)) (rw is (b .sound)) (rw is z) (rw is x) r (g .leads) low high value (s .0) empty-slot (rw is none-held) in
       rw (none-there, flag)
@@ -257,7 +250,7 @@ module _ (n steps : ℕ) (c : List ℕ) (t : Tree) (b : Table c n t) (o : Openab
           }
 
   -- "Delete: key word to 0, answers the value"
-  remove-from-slot : (free : List Bool) (last key i : ℕ) → table-violations t ≡ 0 → 3 ≤ countTrue free → Exact n free t → lowestKey ≤ key → key < keyLimit → updateSteps ≤ suc steps → (g : LandedAt c n key t) → slotOf (nodeAt c (g .number)) key ≡ At i
+  remove-from-slot : (free : List Bool) (last key i : ℕ) → table-violations t ≡ 0 → 3 ≤ countTrue free → Exact n free t → lowestKey ≤ key → key < keyLimit → UpdateSteps t (suc steps) → (g : LandedAt c n key t) → slotOf (nodeAt c (g .number)) key ≡ At i
       → Goal (memory n free last (Deleting key false 0) [] []) (hand (remove key) false 0 false) (some (dictionary-answer (lookup key (pairs t))))
   unfolding slotAnswer dictionary-answer deciding
   remove-from-slot free last key i z r x low high few g e =
@@ -267,7 +260,7 @@ module _ (n steps : ℕ) (c : List ℕ) (t : Tree) (b : Table c n t) (o : Openab
       let s = slot-holds (nodeAt c (g .number)) key i words e in
       let held-slot : getD (g .keys) i 0 ≡ key = ap (λ (q : List ℕ). getD q i 0) (sym (leaf-keys c (g .number) (g .keys) (g .values) (g .on-card))) ∙ s .1 in
       let is = g .is-tree in
-      let way = way-short key g z in
+      let way = way-short key g z few in
       let p : First c n key (plug (g .context) (leaf (g .number) (g .keys) (g .values))) ((place (g .number) (1 + i), 0) ∷ []) free [] (remove key) (depth-of (g .context)) =
       at-slot (g .context) (g .number) (g .keys) (g .values) (rw is (b .holds)) (rw is (b .sound)) (rw is z) (rw is x) r (g .leads) low high (s .0) held-slot in
       rw found
@@ -297,7 +290,7 @@ module _ (n steps : ℕ) (c : List ℕ) (t : Tree) (b : Table c n t) (o : Openab
       (rw none-there update-answer)
 
   -- "Leaf full: the 12 pairs go 6 and 6 into two leaves under a tagged node"
-  put-by-split : (free : List Bool) (last key value : ℕ) → table-violations t ≡ 0 → 3 ≤ countTrue free → Exact n free t → lowestKey ≤ key → key < keyLimit → updateSteps ≤ suc steps → startRoom c key free (landing c n key) ≡ true → (g : LandedAt c n key t)
+  put-by-split : (free : List Bool) (last key value : ℕ) → table-violations t ≡ 0 → 3 ≤ countTrue free → Exact n free t → lowestKey ≤ key → key < keyLimit → UpdateSteps t (suc steps) → startRoom c key free (landing c n key) ≡ true → (g : LandedAt c n key t)
       → slotOf (nodeAt c (g .number)) key ≡ NoSlot → slotOf (nodeAt c (g .number)) 0 ≡ NoSlot
       → Goal (memory n free last (Inserting key value false) [] []) (hand (put key value) (leaf-full c n key) 0 false) (some (dictionary-answer (lookup key (pairs t))))
   unfolding slotAnswer dictionary-answer deciding
@@ -309,7 +302,7 @@ module _ (n steps : ℕ) (c : List ℕ) (t : Tree) (b : Table c n t) (o : Openab
       let none-held = absent-counted key (pairs t) none-there in
       let is = g .is-tree in
       rw (none-there, flag)
-      (go (numbers-given 3 free last (x .outside-none 0 (inl refl)) r) (way-short key g z) eleven spare none-held)
+      (go (numbers-given 3 free last (x .outside-none 0 (inl refl)) r) (way-short key g z few) eleven spare none-held)
     where
       stores : List ℕ → List Store
       stores ms = node-stores (splitNodes (g .context) (first ms) (second ms) (third ms) (withPair key value (g .keys) (g .values))) ++ (link-place (g .context), third ms) ∷ []
@@ -323,7 +316,7 @@ module _ (n steps : ℕ) (c : List ℕ) (t : Tree) (b : Table c n t) (o : Openab
           ∙ giving-some 3 free last _ ms e₁
           ∙ ap (λ (q : List Store). prepared q (withoutAll ms free) (lastOf last ms) (g .number ∷ [])) (change-stores (g .context) _ (third ms) (g .number ∷ []))
 
-      go : ((ms : List ℕ) × (takeNumbers 3 free last ≡ some ms) × (length ms ≡ 3) × Given free ms) → depth-of (g .context) ≤ 8 → length (slot-pairs (g .keys) (g .values)) ≡ 11 → full-run (g .context) + 5 ≤ countTrue free → total (has-key key) (pairs t) ≡ 0
+      go : ((ms : List ℕ) × (takeNumbers 3 free last ≡ some ms) × (length ms ≡ 3) × Given free ms) → 73 + 73 * depth-of (g .context) ≤ steps → length (slot-pairs (g .keys) (g .values)) ≡ 11 → full-run (g .context) + 5 ≤ countTrue free → total (has-key key) (pairs t) ≡ 0
           → Goal (memory n free last (Inserting key value false) [] []) (hand (put key value) true 0 false) (some Absent)
       go (ms, e₁, three, gv) way eleven spare none-held = split (stores ms) refl
         where
@@ -354,7 +347,7 @@ module _ (n steps : ℕ) (c : List ℕ) (t : Tree) (b : Table c n t) (o : Openab
               (planned-as ms e₁ ∙ ap (λ (q : List Store). prepared q (withoutAll ms free) (lastOf last ms) (g .number ∷ [])) q) p₁ l₁ (omega arith)
 
   -- by what its leaf holds
-  put-begins : (free : List Bool) (last key value : ℕ) → table-violations t ≡ 0 → 3 ≤ countTrue free → Exact n free t → lowestKey ≤ key → key < keyLimit → updateSteps ≤ suc steps → startRoom c key free (landing c n key) ≡ true
+  put-begins : (free : List Bool) (last key value : ℕ) → table-violations t ≡ 0 → 3 ≤ countTrue free → Exact n free t → lowestKey ≤ key → key < keyLimit → UpdateSteps t (suc steps) → startRoom c key free (landing c n key) ≡ true
       → Goal (memory n free last (Inserting key value false) [] []) (hand (put key value) (leaf-full c n key) 0 false) (some (dictionary-answer (lookup key (pairs t))))
   put-begins free last key value z r x low high few room = go (lands key low high)
     where
@@ -369,7 +362,7 @@ module _ (n steps : ℕ) (c : List ℕ) (t : Tree) (b : Table c n t) (o : Openab
           at (At i) e = put-answers free last key value i z r x g e (leaf-full c n key)
           at NoSlot e = empty-at (slotOf (nodeAt c (g .number)) 0) refl e
 
-  remove-begins : (free : List Bool) (last key : ℕ) → table-violations t ≡ 0 → 3 ≤ countTrue free → Exact n free t → lowestKey ≤ key → key < keyLimit → updateSteps ≤ suc steps
+  remove-begins : (free : List Bool) (last key : ℕ) → table-violations t ≡ 0 → 3 ≤ countTrue free → Exact n free t → lowestKey ≤ key → key < keyLimit → UpdateSteps t (suc steps)
       → Goal (memory n free last (Deleting key false 0) [] []) (hand (remove key) false 0 false) (some (dictionary-answer (lookup key (pairs t))))
   remove-begins free last key z r x low high few = go (lands key low high)
     where

@@ -1,5 +1,6 @@
 pub mod Ranges
 pub mod Depth
+pub mod Rations
 pub mod Found
 pub mod Noted
 pub mod Leaves
@@ -9,3 +10,4 @@ pub mod Shown
 pub mod Passed
 pub mod Facts
 pub mod Soundness
+pub mod Level
