@@ -175,14 +175,3 @@ nodes-written c (X ∷ Xs) h d =
       keeps-play (within-node-stores (play P c) Xs f) (play P c) (X .number) (X .kind) (X .keys) (X .values) (d .0) (node-words-new (X .kind) (X .keys) (X .values) (h .0 .few-keys) (h .0 .few-values) (X .number) c (h .0 .on)),
       nodes-written (play P c) Xs f (d .1),
     )
-
--- numbers that are there at most once, and fresh numbers beside them
-pub apart-more : (S : ℕ → ℕ) (Xs : List NewNode) → Distinct Xs → ((i : ℕ) → 0 < numbered Xs i → S i ≡ 0) → (i : ℕ) → S i ≤ 1 → S i + numbered Xs i ≤ 1
-apart-more S Xs d z i h = order 0 (numbered Xs i) (λ o. omega (arith, z i o, numbered-le Xs d i)) (λ o. omega arith)
-  where
-    numbered-le : (Xs : List NewNode) → Distinct Xs → (i : ℕ) → numbered Xs i ≤ 1
-    numbered-le [] d i = omega arith
-    numbered-le (X ∷ Xs) d i =
-        by-cases (ℕ-discrete (X .number) i)
-        (λ e. let q : numbered Xs i ≡ 0 = rw e at (d .0) in omega (arith, indicator-le (X .number) i))
-        (λ n. omega (arith, indicator-other (X .number) i n, numbered-le Xs (d .1) i))

@@ -151,12 +151,3 @@ module _ (c : List ℕ) (n key : ℕ) (len : length c ≡ 8 + 24 * n) (pos : 0 <
   -- FIND: the card answers every key by the map of its tree
   pub find-map : (levels lo hi : ℕ) (t : Tree) → Represents c t → InRange lo hi t → lo ≤ key → key < hi → depth t ≤ levels → levels ≤ depthLimit → LeafFound c n key levels top t
   find-map levels lo hi t r i l h d most = find-from levels lo hi top t r i l h d most
-
--- the two answers of a leaf that was found
-pub found-absent : {c : List ℕ} {n key levels : ℕ} {C : Context} {s : Tree} (w : LeafFound c n key levels C s) → slotOf (nodeAt c (w .number)) key ≡ Absent → lookup key (pairs s) ≡ none
-unfolding slotAnswer
-found-absent {c} w e = sym (w .answers) ∙ ap (slotAnswer (nodeAt c (w .number))) e
-
-pub found-present : {c : List ℕ} {n key levels : ℕ} {C : Context} {s : Tree} (w : LeafFound c n key levels C s) (i : ℕ) → slotOf (nodeAt c (w .number)) key ≡ At i → lookup key (pairs s) ≡ some (getD (nodeAt c (w .number)) (12 + i) 0)
-unfolding slotAnswer
-found-present {c} w i e = sym (w .answers) ∙ ap (slotAnswer (nodeAt c (w .number))) e

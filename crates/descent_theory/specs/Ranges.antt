@@ -48,9 +48,6 @@ leads-of-range lo hi low high (suc k) C fits pos l h =
     let one-pair : Tree = leaf 0 (suc k ∷ []) (0 ∷ []) in
     held-leads lo hi (suc k) C one-pair (fits one-pair (rising-leaf low high ((suc k, 0) ∷ []) (l, h))) (omega (arith, indicator-same (suc k)))
 
-pub on-path-of-range : (lo hi low high key : ℕ) (C : Context) → ((s : Tree) → InRange low high s → InRange lo hi (plug C s)) → Untagged C → 0 < key → low ≤ key → key < high → OnPath key C
-on-path-of-range lo hi low high key C fits u pos l h = leads-on-path key C (leads-of-range lo hi low high key C fits pos l h) u
-
 -- the range of a part that a key leads to: the key lies in it, and another part of that range may be put there
 pub record RangeAt (lo hi key : ℕ) (C : Context) (s : Tree) : Type 0 where
   pub low : ℕ

@@ -153,14 +153,8 @@ module _ (n len made : ℕ) where
   format-end h = simp (ne-eqb made 0 (λ z. omega arith), le-ltb made len (omega arith), ne-eqb made len (λ z. omega arith))
 
 -- a final answer is no refusal
-pub final-absent : (n : ℕ) → _≡_ {A = Answer} Absent (Refused n) → ⊥
-final-absent n e = let z : _≡_ {A = ℕ} 0 1 = cc in omega arith
-
 pub final-ready : (n : ℕ) → _≡_ {A = Answer} Ready (Refused n) → ⊥
 final-ready n e = let z : _≡_ {A = ℕ} 0 1 = cc in omega arith
-
-pub final-value : (v n : ℕ) → _≡_ {A = Answer} (Value v) (Refused n) → ⊥
-final-value v n e = let z : _≡_ {A = ℕ} 0 1 = cc in omega arith
 
 pub stored-no-refusal : (n : ℕ) → _≡_ {A = Answer} Stored (Refused n) → ⊥
 stored-no-refusal n e = let z : _≡_ {A = ℕ} 0 1 = cc in omega arith

@@ -82,7 +82,3 @@ mutual
   pub sizes-height : (h : ℕ) (f : Forest) → AllHeight h f → Wides f → (2 ^ suc h ≤ suc (node-totals (λ m. 1) f)) × (2 ≤ length (roots f) → 2 * 2 ^ suc h ≤ 2 + node-totals (λ m. 1) f)
   sizes-height h (one t) i w = (size-height h t i w, λ n. absurd (omega arith))
   sizes-height h (more t k f) i w = let p = size-height h t (i .0) (w .0) in let q = sizes-height h f (i .1) (w .1) .0 in (omega arith, λ n. omega arith)
-
--- with 600 nodes at most 8 internal levels
-pub levels-le : (h : ℕ) (t : Tree) → Height h t → Wide t → node-total (λ m. 1) t ≤ 600 → h ≤ 8
-levels-le h t i w n = order h 9 (λ o. omega arith) (λ o. absurd (omega (arith, size-height h t i w, pow-mono {i = 10} {j = suc h} (omega arith))))

@@ -111,13 +111,3 @@ violations-plug (down (down C m′ g′ l′ r′) m g l r) s s′ b =
   where
     size-same : (l : Left) (s s′ : Tree) (r : Right) → length (roots (fill l s′ r)) ≡ length (roots (fill l s r))
     size-same l s s′ r = omega (arith, size-splice l (one s) (one s′) r)
-
--- a tagged node taken in: one fault less
-pub absorb-faults : (p p′ : ℕ) (g : Bool) (l : Left) (q : ℕ) (a : Tree) (k : ℕ) (b : Tree) (r : Right)
-    → 2 ≤ length (roots (splice l (one (node q true (more a k (one b)))) r))
-    → violations (node p′ g (splice l (more a k (one b)) r)) + 1 ≡ violations (node p g (splice l (one (node q true (more a k (one b)))) r))
-absorb-faults p p′ g l q a k b r h =
-    let o : Forest = one (node q true (more a k (one b))) in
-    let n : Forest = more a k (one b) in
-    let s = size-splice l o n r in
-    omega (arith, violations-splice l o n r, few-none 2 (omega arith), few-none (length (roots (splice l o r))) h, few-none (length (roots (splice l n r))) (omega arith))
