@@ -18,7 +18,7 @@ use Rattle.promises.specs.Feeding.{is-none, full-at, leaf-full}
 use Rattle.promises.specs.Machine.{run}
 use Rattle.table.specs.Calls.{stepPrepared, stepBegin}
 use Rattle.state.specs.Memory.{Memory}
-use Rattle.updates.specs.Updates.{landing, emptyReason, reasonIn, insertReason, insertChange, insertFirst, deleteChange, deleteFirst, roomFor, startRoom}
+use Rattle.updates.specs.Updates.{landing, emptyReason, reasonIn, insertReason, insertChange, deleteChange, roomFor, startRoom, changeIn, changeAt}
 use Rattle.state.specs.declared.Doing.{Doing}
 use Rattle.state.specs.declared.Doing.the-variants.{Idle, Formatting, Inserting, Deleting, Repairing}
 use Rattle.state.specs.declared.Answer.{Answer}
@@ -30,27 +30,27 @@ use Rattle.descent.specs.declared.Landing.the-variants.{Refused as NoLanding, L
 
 module _ (c : List ℕ) (n key : ℕ) (m link run : ℕ) (land : landing c n key ≡ LandingAt m link run) where
   module _ (value : ℕ) (free : List Bool) (last : ℕ) (mem : Memory) where
-    pub put-held : (i : ℕ) → slotOf (nodeAt c m) key ≡ At i → stepBegin c mem (insertFirst c key value free last (landing c n key)) ≡ stepPrepared c mem (Inserting key value true) (Value (getD (nodeAt c m) (12 + i) 0)) balanced
-    unfolding stepBegin insertFirst insertReason reasonIn insertChange
+    pub put-held : (i : ℕ) → slotOf (nodeAt c m) key ≡ At i → stepBegin c mem (changeAt c (Inserting key value false) free last (landing c n key)) ≡ stepPrepared c mem (Inserting key value true) (Value (getD (nodeAt c m) (12 + i) 0)) balanced
+    unfolding stepBegin changeAt changeIn insertReason reasonIn insertChange
     put-held i e = rw (land, e)
 
     pub put-slot : (i : ℕ) → slotOf (nodeAt c m) key ≡ NoSlot → slotOf (nodeAt c m) 0 ≡ At i
-        → stepBegin c mem (insertFirst c key value free last (landing c n key)) ≡ stepPrepared c mem (Inserting key value true) Absent (prepared ((place m (12 + i), value) ∷ (place m (1 + i), key) ∷ []) free last [])
-    unfolding stepBegin insertFirst insertReason reasonIn emptyReason insertChange
+        → stepBegin c mem (changeAt c (Inserting key value false) free last (landing c n key)) ≡ stepPrepared c mem (Inserting key value true) Absent (prepared ((place m (12 + i), value) ∷ (place m (1 + i), key) ∷ []) free last [])
+    unfolding stepBegin changeAt changeIn insertReason reasonIn emptyReason insertChange
     put-slot i e z = rw (land, e, z)
 
     pub put-full : slotOf (nodeAt c m) key ≡ NoSlot → slotOf (nodeAt c m) 0 ≡ NoSlot
-        → stepBegin c mem (insertFirst c key value free last (landing c n key)) ≡ stepPrepared c mem (Inserting key value true) Absent (giving 3 free last (λ ms. splitLeaf m link (sort ((key, value) ∷ leafPairs (nodeAt c m))) (first ms) (second ms) (third ms)))
-    unfolding stepBegin insertFirst insertReason reasonIn emptyReason insertChange
+        → stepBegin c mem (changeAt c (Inserting key value false) free last (landing c n key)) ≡ stepPrepared c mem (Inserting key value true) Absent (giving 3 free last (λ ms. splitLeaf m link (sort ((key, value) ∷ leafPairs (nodeAt c m))) (first ms) (second ms) (third ms)))
+    unfolding stepBegin changeAt changeIn insertReason reasonIn emptyReason insertChange
     put-full e z = rw (land, e, z)
 
     pub remove-held : (i : ℕ) → slotOf (nodeAt c m) key ≡ At i
-        → stepBegin c mem (deleteFirst c key free last (landing c n key)) ≡ stepPrepared c mem (Deleting key true (getD (nodeAt c m) (12 + i) 0)) (Value (getD (nodeAt c m) (12 + i) 0)) (prepared ((place m (1 + i), 0) ∷ []) free last [])
-    unfolding stepBegin deleteFirst deleteChange
+        → stepBegin c mem (changeAt c (Deleting key false 0) free last (landing c n key)) ≡ stepPrepared c mem (Deleting key true (getD (nodeAt c m) (12 + i) 0)) (Value (getD (nodeAt c m) (12 + i) 0)) (prepared ((place m (1 + i), 0) ∷ []) free last [])
+    unfolding stepBegin changeAt changeIn deleteChange
     remove-held i e = rw (land, e)
 
-    pub remove-absent : slotOf (nodeAt c m) key ≡ NoSlot → stepBegin c mem (deleteFirst c key free last (landing c n key)) ≡ stepPrepared c mem (Deleting key true 0) Absent balanced
-    unfolding stepBegin deleteFirst deleteChange
+    pub remove-absent : slotOf (nodeAt c m) key ≡ NoSlot → stepBegin c mem (changeAt c (Deleting key false 0) free last (landing c n key)) ≡ stepPrepared c mem (Deleting key true 0) Absent balanced
+    unfolding stepBegin changeAt changeIn deleteChange
     remove-absent e = rw (land, e)
 
   -- "A splitting insert needs j + 5 free nodes."

@@ -20,7 +20,7 @@ use Rattle.promises.specs.Machine.{World, happens, step}
 use Rattle.state.specs.Steps.{stepRefused, stepFinal, stepStore, stepFirst, isIdle}
 use Rattle.table.specs.Calls.{planning, stepPrepared, stepBegin, stepPlan, stepWork, stepHeld, stepDoing, stepOf}
 use Rattle.state.specs.Memory.{Memory, idled, advanced}
-use Rattle.updates.specs.Updates.{landing, insertFirst, deleteFirst, repairs, nextChange}
+use Rattle.updates.specs.Updates.{landing, repairs, nextChange, changeIn, changeAt}
 use Rattle.state.specs.declared.Doing.{Doing}
 use Rattle.state.specs.declared.Doing.the-variants.{Idle, Formatting, Inserting, Deleting, Repairing}
 use Rattle.state.specs.declared.Answer.{Answer}
@@ -104,12 +104,12 @@ step-repairs c n s f free last {doing} j = step-plans c n s f free last doing (j
 
 -- the first change of an update
 pub step-puts : (c : List ℕ) (n : ℕ) → Sized (length c) n → Formatted c n → (free : List Bool) (last key value : ℕ)
-    → stepOf c (memory n free last (Inserting key value false) [] []) ≡ stepBegin c (memory n free last (Inserting key value false) [] []) (insertFirst c key value free last (landing c n key))
+    → stepOf c (memory n free last (Inserting key value false) [] []) ≡ stepBegin c (memory n free last (Inserting key value false) [] []) (changeAt c (Inserting key value false) free last (landing c n key))
 unfolding stepPlan nextChange
 step-puts c n s f free last key value = step-plans c n s f free last (Inserting key value false) (put-busy key value) []
 
 pub step-removes : (c : List ℕ) (n : ℕ) → Sized (length c) n → Formatted c n → (free : List Bool) (last key : ℕ)
-    → stepOf c (memory n free last (Deleting key false 0) [] []) ≡ stepBegin c (memory n free last (Deleting key false 0) [] []) (deleteFirst c key free last (landing c n key))
+    → stepOf c (memory n free last (Deleting key false 0) [] []) ≡ stepBegin c (memory n free last (Deleting key false 0) [] []) (changeAt c (Deleting key false 0) free last (landing c n key))
 unfolding stepPlan nextChange
 step-removes c n s f free last key = step-plans c n s f free last (Deleting key false 0) (remove-busy key 0) []
 

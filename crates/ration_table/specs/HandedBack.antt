@@ -31,7 +31,7 @@ use Rattle.plans.specs.Planning.{Preparation, refused, balanced, prepared, numb
 use Rattle.change.specs.Mending.{mendTagged, mendTogether, mendSiblings, isNode, mendUnderfull, mend, onSearch, nextRepair}
 use Rattle.soundness.specs.Check.{Findings, tableCheck}
 use Rattle.state.specs.Memory.{Memory, memoryOf, noMemory, resting, idled, advanced}
-use Rattle.updates.specs.Updates.{Reason, held, slot, full, FirstChange, landing, insertReason, insertChange, insertFirst, deleteChange, deleteFirst, repairs, noChange, nextChange, startRoom}
+use Rattle.updates.specs.Updates.{Reason, held, slot, full, FirstChange, landing, insertReason, insertChange, deleteChange, repairs, noChange, nextChange, startRoom, changeIn, changeAt}
 use Rattle.state.specs.Steps.{Handed, Step, noBeginning, stepRefused, stepFinal, formatStore, formatting, stepFormat, stepStore, stepFirst, isIdle}
 use Rattle.table.specs.Calls.{openSound, openChecked, openOf, formatOf, planning, stepPrepared, stepBegin, stepPlan, stepWork, stepHeld, stepDoing, stepOf}
 use Rattle.updates.specs.Starts.{startRefused, started, startLanded, startChecked, startOf, insertOf, deleteOf}
@@ -229,28 +229,27 @@ module _ (free : List Bool) (last : ℕ) (bits : length free ≤ 2 ^ 32) (small 
   low-insert-in key value m link node (slot i) = (small, omega arith)
   low-insert-in key value m link node full = (low-giving 3 _, omega arith)
 
-  low-insert : (card : List ℕ) (key value : ℕ) (l : Landing) → LowFirst (insertFirst card key value free last l)
-  unfolding insertFirst formatted LowFirst LowLast
-  low-insert card key value NoLanding = (tt, omega arith)
-  low-insert card key value (LandingAt m link run) = low-insert-in key value m link (nodeAt card m) (insertReason (nodeAt card m) key)
-
   low-delete-in : (key m : ℕ) (node : List ℕ) (found : Slot) → LowFirst (deleteChange key free last m node found)
   unfolding deleteChange formatted LowFirst LowLast
   low-delete-in key m node (At i) = (small, omega arith)
   low-delete-in key m node NoSlot = (tt, omega arith)
 
-  low-delete : (card : List ℕ) (key : ℕ) (l : Landing) → LowFirst (deleteFirst card key free last l)
-  unfolding deleteFirst formatted LowFirst LowLast
-  low-delete card key NoLanding = (tt, omega arith)
-  low-delete card key (LandingAt m link run) = low-delete-in key m (nodeAt card m) (slotOf (nodeAt card m) key)
+  low-change : (card : List ℕ) (doing : Doing) (l : Landing) → formatted doing < 2 ^ 32 → LowFirst (changeAt card doing free last l)
+  unfolding changeAt changeIn noChange LowFirst LowLast
+  low-change card doing NoLanding h = (tt, h)
+  low-change card Idle (LandingAt m link run) h = (tt, h)
+  low-change card (Formatting made) (LandingAt m link run) h = (tt, h)
+  low-change card (Inserting key value begun) (LandingAt m link run) h = low-insert-in key value m link (nodeAt card m) (insertReason (nodeAt card m) key)
+  low-change card (Deleting key begun value) (LandingAt m link run) h = low-delete-in key m (nodeAt card m) (slotOf (nodeAt card m) key)
+  low-change card (Repairing key) (LandingAt m link run) h = (tt, h)
 
   low-next : (card : List ℕ) (n : ℕ) (doing : Doing) → formatted doing < 2 ^ 32 → LowFirst (nextChange card n free last doing)
   unfolding nextChange repairs noChange LowFirst LowLast
   low-next card n Idle h = (tt, h)
   low-next card n (Formatting made) h = (tt, h)
-  low-next card n (Inserting key value false) h = low-insert card key value (landing card n key)
+  low-next card n (Inserting key value false) h = low-change card (Inserting key value false) (landing card n key) h
   low-next card n (Inserting key value true) h = (low-repair card n key, h)
-  low-next card n (Deleting key false value) h = low-delete card key (landing card n key)
+  low-next card n (Deleting key false value) h = low-change card (Deleting key false value) (landing card n key) h
   low-next card n (Deleting key true value) h = (low-repair card n key, h)
   low-next card n (Repairing key) h = (low-repair card n key, h)
 

@@ -22,7 +22,7 @@ use Rattle.state.specs.Steps.{Handed, isIdle}
 use Rattle.updates.specs.Starts.{startRefused, started, startLanded, startChecked, startOf}
 use Rattle.state.specs.Memory.{Memory}
 use Rattle.updates.specs.Results.{isSlot, startRefusal, landingRefusal, dueRefusal, begunBy}
-use Rattle.updates.specs.Updates.{landing, Reason, emptyReason, reasonIn, insertReason, insertChange, insertFirst, deleteChange, deleteFirst, noChange, repairs, nextChange, roomFor, held, slot, full}
+use Rattle.updates.specs.Updates.{landing, Reason, emptyReason, reasonIn, insertReason, insertChange, deleteChange, noChange, changeIn, changeAt, repairs, nextChange, roomFor, held, slot, full}
 use Rattle.descent.specs.declared.Slot.{Slot}
 use Rattle.descent.specs.declared.Slot.the-variants.{At, Absent as NoSlot}
 use Rattle.descent.specs.declared.Landing.{Landing}
@@ -31,7 +31,7 @@ use Rattle.descent.specs.declared.Turn.{Turn}
 use Rattle.descent.specs.declared.Turn.the-variants.{Refused as NoTurn, Leaf as TurnLeaf, Down as TurnDown}
 use Rattle.state.specs.declared.Doing.{Doing}
 use Rattle.state.specs.declared.Doing.the-variants.{Idle, Formatting, Inserting, Deleting, Repairing}
-use Rattle.state.specs.declared.Answer.the-variants.{Refused}
+use Rattle.state.specs.declared.Answer.the-variants.{Absent, Value, Refused}
 use Rattle.state.specs.declared.Begun.{Begun}
 use Rattle.state.specs.declared.Begun.the-variants.{Started, Refused as BegunRefused}
 
@@ -221,31 +221,43 @@ insert-final-in key value free last m link node (held v) n e = let z : _≡_ {A 
 insert-final-in key value free last m link node (slot i) n e = let z : _≡_ {A = ℕ} 0 1 = cc in omega arith
 insert-final-in key value free last m link node full n e = let z : _≡_ {A = ℕ} 0 1 = cc in omega arith
 
-insert-final : (card : List ℕ) (key value : ℕ) (free : List Bool) (last : ℕ) (l : Landing) (n : ℕ) → insertFirst card key value free last l .final ≡ Refused n → ⊥
-unfolding insertFirst
-insert-final card key value free last NoLanding n e = let z : _≡_ {A = ℕ} 0 1 = cc in omega arith
-insert-final card key value free last (LandingAt m link run) n e = insert-final-in key value free last m link (nodeAt card m) (insertReason (nodeAt card m) key) n e
-
 delete-final-in : (key : ℕ) (free : List Bool) (last m : ℕ) (node : List ℕ) (t : Slot) (n : ℕ) → deleteChange key free last m node t .final ≡ Refused n → ⊥
 unfolding deleteChange
 delete-final-in key free last m node (At i) n e = let z : _≡_ {A = ℕ} 0 1 = cc in omega arith
 delete-final-in key free last m node NoSlot n e = let z : _≡_ {A = ℕ} 0 1 = cc in omega arith
 
-delete-final : (card : List ℕ) (key : ℕ) (free : List Bool) (last : ℕ) (l : Landing) (n : ℕ) → deleteFirst card key free last l .final ≡ Refused n → ⊥
-unfolding deleteFirst
-delete-final card key free last NoLanding n e = let z : _≡_ {A = ℕ} 0 1 = cc in omega arith
-delete-final card key free last (LandingAt m link run) n e = delete-final-in key free last m (nodeAt card m) (slotOf (nodeAt card m) key) n e
+change-final : (card : List ℕ) (doing : Doing) (free : List Bool) (last : ℕ) (l : Landing) (n : ℕ) → changeAt card doing free last l .final ≡ Refused n → ⊥
+unfolding changeAt changeIn noChange
+change-final card doing free last NoLanding n e = let z : _≡_ {A = ℕ} 0 1 = cc in omega arith
+change-final card Idle free last (LandingAt m link run) n e = let z : _≡_ {A = ℕ} 0 1 = cc in omega arith
+change-final card (Formatting made) free last (LandingAt m link run) n e = let z : _≡_ {A = ℕ} 0 1 = cc in omega arith
+change-final card (Inserting key value begun) free last (LandingAt m link run) n e = insert-final-in key value free last m link (nodeAt card m) (insertReason (nodeAt card m) key) n e
+change-final card (Deleting key begun value) free last (LandingAt m link run) n e = delete-final-in key free last m (nodeAt card m) (slotOf (nodeAt card m) key) n e
+change-final card (Repairing key) free last (LandingAt m link run) n e = let z : _≡_ {A = ℕ} 0 1 = cc in omega arith
 
 pub next-final : (card : List ℕ) (nodes : ℕ) (free : List Bool) (last : ℕ) (doing : Doing) (n : ℕ) → nextChange card nodes free last doing .final ≡ Refused n → ⊥
 unfolding nextChange repairs noChange
 next-final card nodes free last Idle n e = let z : _≡_ {A = ℕ} 0 1 = cc in omega arith
 next-final card nodes free last (Formatting made) n e = let z : _≡_ {A = ℕ} 0 1 = cc in omega arith
-next-final card nodes free last (Inserting key value false) n e = insert-final card key value free last (landing card nodes key) n e
+next-final card nodes free last (Inserting key value false) n e = change-final card (Inserting key value false) free last (landing card nodes key) n e
 next-final card nodes free last (Inserting key value true) n e = let z : _≡_ {A = ℕ} 0 1 = cc in omega arith
-next-final card nodes free last (Deleting key false value) n e = delete-final card key free last (landing card nodes key) n e
+next-final card nodes free last (Deleting key false value) n e = change-final card (Deleting key false value) free last (landing card nodes key) n e
 next-final card nodes free last (Deleting key true value) n e = let z : _≡_ {A = ℕ} 0 1 = cc in omega arith
 next-final card nodes free last (Repairing key) n e = let z : _≡_ {A = ℕ} 0 1 = cc in omega arith
 
 -- a start that is no refusal
 pub started-no-refusal : (n : ℕ) → _≡_ {A = Begun} Started (BegunRefused n) → ⊥
 started-no-refusal n e = let z : _≡_ {A = ℕ} 0 1 = cc in omega arith
+
+-- an update's next change: its first, or a repair
+pub next-insert : (card : List ℕ) (n key value : ℕ) (begun : Bool) (free : List Bool) (last : ℕ)
+    → pick begun (repairs card n key (Inserting key value begun) Absent free last) (changeAt card (Inserting key value begun) free last (landing card n key)) ≡ nextChange card n free last (Inserting key value begun)
+unfolding nextChange
+next-insert card n key value true free last = refl
+next-insert card n key value false free last = refl
+
+pub next-delete : (card : List ℕ) (n key value : ℕ) (begun : Bool) (free : List Bool) (last : ℕ)
+    → pick begun (repairs card n key (Deleting key begun value) (Value value) free last) (changeAt card (Deleting key begun value) free last (landing card n key)) ≡ nextChange card n free last (Deleting key begun value)
+unfolding nextChange
+next-delete card n key value true free last = refl
+next-delete card n key value false free last = refl

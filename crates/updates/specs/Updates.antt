@@ -55,35 +55,39 @@ insertChange key value free last m link node (slot i) =
 insertChange key value free last m link node full =
     record { doing = Inserting key value true; final = Absent; preparation = giving 3 free last (λ ms. splitLeaf m link (sort ((key, value) ∷ leafPairs node)) (first ms) (second ms) (third ms)) }
 
-unfoldable pub insertFirst : List ℕ → ℕ → ℕ → List Bool → ℕ → Landing → FirstChange
-insertFirst card key value free last NoLanding = record { doing = Inserting key value true; final = Absent; preparation = refused }
-insertFirst card key value free last (LandingAt m link run) = insertChange key value free last m link (nodeAt card m) (insertReason (nodeAt card m) key)
-
 -- "Delete: key word to 0, answers the value; absent and no store if not held."
 unfoldable pub deleteChange : ℕ → List Bool → ℕ → ℕ → List ℕ → Slot → FirstChange
 deleteChange key free last m node (At i) =
     record { doing = Deleting key true (getD node (12 + i) 0); final = Value (getD node (12 + i) 0); preparation = prepared ((place m (1 + i), 0) ∷ []) free last [] }
 deleteChange key free last m node NoSlot = record { doing = Deleting key true 0; final = Absent; preparation = balanced }
 
-unfoldable pub deleteFirst : List ℕ → ℕ → List Bool → ℕ → Landing → FirstChange
-deleteFirst card key free last NoLanding = record { doing = Deleting key true 0; final = Absent; preparation = refused }
-deleteFirst card key free last (LandingAt m link run) = deleteChange key free last m (nodeAt card m) (slotOf (nodeAt card m) key)
-
 -- "Repairs go on until balanced", and then the answer is given
 unfoldable pub repairs : List ℕ → ℕ → ℕ → Doing → Answer → List Bool → ℕ → FirstChange
 repairs card n key doing final free last = record { doing = doing; final = final; preparation = nextRepair card n key free last }
 
--- idle or formatting, where no step asks for a change
+-- no change can be planned
 unfoldable pub noChange : Doing → FirstChange
 noChange doing = record { doing = doing; final = Ready; preparation = refused }
+
+-- the first change of an update in the leaf that its key leads to; what is no update has none
+unfoldable pub changeIn : Doing → List Bool → ℕ → ℕ → ℕ → List ℕ → FirstChange
+changeIn Idle free last m link node = noChange Idle
+changeIn (Formatting made) free last m link node = noChange (Formatting made)
+changeIn (Inserting key value begun) free last m link node = insertChange key value free last m link node (insertReason node key)
+changeIn (Deleting key begun value) free last m link node = deleteChange key free last m node (slotOf node key)
+changeIn (Repairing key) free last m link node = noChange (Repairing key)
+
+unfoldable pub changeAt : List ℕ → Doing → List Bool → ℕ → Landing → FirstChange
+changeAt card doing free last NoLanding = noChange doing
+changeAt card doing free last (LandingAt m link run) = changeIn doing free last m link (nodeAt card m)
 
 -- the next change of what is being done
 unfoldable pub nextChange : List ℕ → ℕ → List Bool → ℕ → Doing → FirstChange
 nextChange card n free last Idle = noChange Idle
 nextChange card n free last (Formatting made) = noChange (Formatting made)
-nextChange card n free last (Inserting key value false) = insertFirst card key value free last (landing card n key)
+nextChange card n free last (Inserting key value false) = changeAt card (Inserting key value false) free last (landing card n key)
 nextChange card n free last (Inserting key value true) = repairs card n key (Inserting key value true) Absent free last
-nextChange card n free last (Deleting key false value) = deleteFirst card key free last (landing card n key)
+nextChange card n free last (Deleting key false value) = changeAt card (Deleting key false value) free last (landing card n key)
 nextChange card n free last (Deleting key true value) = repairs card n key (Deleting key true value) (Value value) free last
 nextChange card n free last (Repairing key) = repairs card n key (Repairing key) Ready free last
 

@@ -18,9 +18,9 @@ ghost use Rattle.card.specs.Layout.{greatestNodes};
 ghost use Rattle.card.specs.HeaderLaws.{Sized};
 ghost use Rattle.free_nodes.specs.NodeSet.{nodesOf};
 ghost use Rattle.descent.specs.Descent.{slotOf};
-ghost use Rattle.updates.specs.Updates.{landing, emptyReason, insertReason, insertChange, insertFirst, deleteChange, deleteFirst, repairs, noChange, nextChange};
+ghost use Rattle.laws.specs.Cases.{pick};
+ghost use Rattle.updates.specs.Updates.{landing, emptyReason, insertReason, insertChange, deleteChange, repairs, noChange, changeIn, changeAt, nextChange};
 ghost use Rattle.updates.specs.Results.{firstOf, InAnyRows};
-ghost use Rattle.state.specs.declared.Doing.the-variants.{Inserting, Deleting};
 
 // The first change of an update, what is then being done, and the final answer where there is nothing to change.
 pub struct First {
@@ -103,48 +103,6 @@ fn insert_in(
     }
 }
 
-// The first change of an insert.
-fn first_insert(
-    card: &[u32],
-    n: usize,
-    key: u32,
-    value: u32,
-    free: NodeSet,
-    last: usize,
-    places: &mut [u32],
-    values: &mut [u32],
-) -> First
-    requires { ⌜ Sized (length (now card)) n × (length (now places) ≡ 73) × (length (now values) ≡ 73) ⌝ }
-    ensures { λ r. ⌜ firstOf (now (places .exit)) (now (values .exit)) r ≡ insertFirst (now (card .entry)) key value (nodesOf (free .words)) last (landing (now (card .entry)) n key) ⌝ }
-{
-    match descent::find_landing(card, n, key, card[card::ROOT_PLACE] as usize) {
-        Landing::Refused => {
-            let doing = Doing::Inserting {
-                key,
-                value,
-                begun: true,
-            };
-            let planned = refused(free, last);
-            First {
-                doing,
-                answer: Answer::Absent,
-                planned,
-            }
-        }
-        Landing::Leaf { node, link, run: _ } => insert_in(
-            card::node_at(card, node),
-            node,
-            link,
-            key,
-            value,
-            free,
-            last,
-            places,
-            values,
-        ),
-    }
-}
-
 // "Delete: key word to 0, answers the value; absent and no store if not held."
 fn delete_in(
     leaf: &[u32],
@@ -189,41 +147,70 @@ fn delete_in(
     }
 }
 
-// The first change of a delete.
-fn first_delete(
+// Nothing to plan: the tree is not as the change needs it, or nothing is asked for.
+fn no_change(doing: Doing, free: NodeSet, last: usize) -> First
+    ensures { λ r. ⌜ InAnyRows r (noChange doing) ⌝ }
+{
+    let planned = refused(free, last);
+    First {
+        doing,
+        answer: Answer::Ready,
+        planned,
+    }
+}
+
+// The first change of an update in its leaf.
+fn change_in(
+    leaf: &[u32],
+    m: usize,
+    link: usize,
+    doing: Doing,
+    free: NodeSet,
+    last: usize,
+    places: &mut [u32],
+    values: &mut [u32],
+) -> First
+    requires { ⌜ (length (now leaf) ≡ 24) × (1 ≤ m) × (m ≤ greatestNodes) × (link < 2 ^ 32) × (length (now places) ≡ 73) × (length (now values) ≡ 73) ⌝ }
+    ensures { λ r. ⌜ firstOf (now (places .exit)) (now (values .exit)) r ≡ changeIn doing (nodesOf (free .words)) last m link (now (leaf .entry)) ⌝ }
+{
+    match doing {
+        Doing::Idle => no_change(doing, free, last),
+        Doing::Formatting { made: _ } => no_change(doing, free, last),
+        Doing::Inserting {
+            key,
+            value,
+            begun: _,
+        } => insert_in(leaf, m, link, key, value, free, last, places, values),
+        Doing::Deleting {
+            key,
+            begun: _,
+            value: _,
+        } => delete_in(leaf, m, key, free, last, places, values),
+        Doing::Repairing { key: _ } => no_change(doing, free, last),
+    }
+}
+
+// The first change of an update, in the leaf that its key leads to.
+fn change_at(
     card: &[u32],
     n: usize,
     key: u32,
+    doing: Doing,
     free: NodeSet,
     last: usize,
     places: &mut [u32],
     values: &mut [u32],
 ) -> First
     requires { ⌜ Sized (length (now card)) n × (length (now places) ≡ 73) × (length (now values) ≡ 73) ⌝ }
-    ensures { λ r. ⌜ firstOf (now (places .exit)) (now (values .exit)) r ≡ deleteFirst (now (card .entry)) key (nodesOf (free .words)) last (landing (now (card .entry)) n key) ⌝ }
+    ensures { λ r. ⌜ firstOf (now (places .exit)) (now (values .exit)) r ≡ changeAt (now (card .entry)) doing (nodesOf (free .words)) last (landing (now (card .entry)) n key) ⌝ }
 {
     match descent::find_landing(card, n, key, card[card::ROOT_PLACE] as usize) {
-        Landing::Refused => {
-            let doing = Doing::Deleting {
-                key,
-                begun: true,
-                value: 0,
-            };
-            let planned = refused(free, last);
-            First {
-                doing,
-                answer: Answer::Absent,
-                planned,
-            }
-        }
-        Landing::Leaf {
-            node,
-            link: _,
-            run: _,
-        } => delete_in(
+        Landing::Refused => no_change(doing, free, last),
+        Landing::Leaf { node, link, run: _ } => change_in(
             card::node_at(card, node),
             node,
-            key,
+            link,
+            doing,
             free,
             last,
             places,
@@ -255,80 +242,26 @@ fn repair(
     }
 }
 
-// The next change of an insert: its first, or a repair.
-fn next_insert(
+// The next change of an update: its first, or a repair.
+fn next_update(
     card: &[u32],
     n: usize,
     key: u32,
-    value: u32,
     begun: bool,
+    doing: Doing,
+    answer: Answer,
     free: NodeSet,
     last: usize,
     places: &mut [u32],
     values: &mut [u32],
 ) -> First
     requires { ⌜ Sized (length (now card)) n × (length (now places) ≡ 73) × (length (now values) ≡ 73) ⌝ }
-    ensures { λ r. ⌜ firstOf (now (places .exit)) (now (values .exit)) r ≡ nextChange (now (card .entry)) n (nodesOf (free .words)) last (Inserting key value begun) ⌝ }
+    ensures { λ r. ⌜ firstOf (now (places .exit)) (now (values .exit)) r ≡ pick begun (repairs (now (card .entry)) n key doing answer (nodesOf (free .words)) last) (changeAt (now (card .entry)) doing (nodesOf (free .words)) last (landing (now (card .entry)) n key)) ⌝ }
 {
     if begun {
-        let doing = Doing::Inserting { key, value, begun };
-        return repair(
-            card,
-            n,
-            key,
-            doing,
-            Answer::Absent,
-            free,
-            last,
-            places,
-            values,
-        );
+        return repair(card, n, key, doing, answer, free, last, places, values);
     }
-    first_insert(card, n, key, value, free, last, places, values)
-}
-
-// The same of a delete, which answers the value that its first change took out.
-fn next_delete(
-    card: &[u32],
-    n: usize,
-    key: u32,
-    value: u32,
-    begun: bool,
-    free: NodeSet,
-    last: usize,
-    places: &mut [u32],
-    values: &mut [u32],
-) -> First
-    requires { ⌜ Sized (length (now card)) n × (length (now places) ≡ 73) × (length (now values) ≡ 73) ⌝ }
-    ensures { λ r. ⌜ firstOf (now (places .exit)) (now (values .exit)) r ≡ nextChange (now (card .entry)) n (nodesOf (free .words)) last (Deleting key begun value) ⌝ }
-{
-    if begun {
-        let doing = Doing::Deleting { key, begun, value };
-        return repair(
-            card,
-            n,
-            key,
-            doing,
-            Answer::Value(value),
-            free,
-            last,
-            places,
-            values,
-        );
-    }
-    first_delete(card, n, key, free, last, places, values)
-}
-
-// Nothing to plan: no step asks this of a state that is idle or formatting.
-fn no_change(doing: Doing, free: NodeSet, last: usize) -> First
-    ensures { λ r. ⌜ InAnyRows r (noChange doing) ⌝ }
-{
-    let planned = refused(free, last);
-    First {
-        doing,
-        answer: Answer::Ready,
-        planned,
-    }
+    change_at(card, n, key, doing, free, last, places, values)
 }
 
 // The next change of what is being done. It is planned from the parts of the state that it goes by, and not from the state,
@@ -348,17 +281,39 @@ pub fn next_change(
     match doing {
         Doing::Idle => no_change(doing, free, last),
         Doing::Formatting { made: _ } => no_change(doing, free, last),
-        Doing::Inserting { key, value, begun } => {
-            next_insert(card, n, key, value, begun, free, last, places, values)
-        }
-        Doing::Deleting { key, begun, value } => {
-            next_delete(card, n, key, value, begun, free, last, places, values)
-        }
+        Doing::Inserting {
+            key,
+            value: _,
+            begun,
+        } => next_update(
+            card,
+            n,
+            key,
+            begun,
+            doing,
+            Answer::Absent,
+            free,
+            last,
+            places,
+            values,
+        ),
+        Doing::Deleting { key, begun, value } => next_update(
+            card,
+            n,
+            key,
+            begun,
+            doing,
+            Answer::Value(value),
+            free,
+            last,
+            places,
+            values,
+        ),
         Doing::Repairing { key } => repair(
             card,
             n,
             key,
-            Doing::Repairing { key },
+            doing,
             Answer::Ready,
             free,
             last,

@@ -1,6 +1,7 @@
 -- `updates::next_change` meets its contract.
 use mathlib.Core.Path.{ap, sym, _∙_}
 use Rattle.free_nodes.specs.NodeSet.{nodesOf}
+use Rattle.updates.specs.UpdateLaws.{next-insert, next-delete}
 use Rattle.updates.specs.Updates.{noChange, nextChange}
 use borrow.Author.Needs.{needs}
 use Rattle.updates.proofs.next_change.Statement.{statement}
@@ -21,14 +22,14 @@ no-change-requires-2 c κs = search needs
 enum-known-doing : tie.Need-enum-known-doing
 enum-known-doing c = search needs
 
-next-insert-requires : tie.Need-next-insert-requires
-next-insert-requires c κs = search needs
+next-update-requires : tie.Need-next-update-requires
+next-update-requires c κs = search needs
 
 enum-known-doing-2 : tie.Need-enum-known-doing-2
 enum-known-doing-2 c = search needs
 
-next-delete-requires : tie.Need-next-delete-requires
-next-delete-requires c κs = search needs
+next-update-requires-2 : tie.Need-next-update-requires-2
+next-update-requires-2 c κs = search needs
 
 enum-known-doing-3 : tie.Need-enum-known-doing-3
 enum-known-doing-3 c = search needs
@@ -51,7 +52,11 @@ same-length-2 : tie.Need-same-length-2
 same-length-2 c = search needs
 
 returns-3 : tie.Need-returns-3
-returns-3 c = let s = c .before .before .before .before .before .before .before .before .before .before .before .before .before in c .before .before .before .before .next-insert .ensures ∙ sym (ap (nextChange (s .args .card .now) (s .args .n) (nodesOf (s .args .free .words)) (s .args .last)) (c .before .before .before .before .before .before .before .before .doing .given .1))
+returns-3 c =
+    let s = c .before .before .before .before .before .before .before .before .before .before .before .before .before in
+    c .before .before .before .before .next-update .ensures
+    ∙ next-insert (s .args .card .now) (s .args .n) (c .before .before .before .before .before .before .before .before .doing .given .0 .0) (c .before .before .before .before .before .before .before .before .doing .given .0 .1 .0) (c .before .before .before .before .before .before .before .before .doing .given .0 .1 .1 .0) (nodesOf (s .args .free .words)) (s .args .last)
+    ∙ sym (ap (nextChange (s .args .card .now) (s .args .n) (nodesOf (s .args .free .words)) (s .args .last)) (c .before .before .before .before .before .before .before .before .doing .given .1))
 
 same-length-3 : tie.Need-same-length-3
 same-length-3 c = search needs
@@ -60,7 +65,11 @@ same-length-4 : tie.Need-same-length-4
 same-length-4 c = search needs
 
 returns-4 : tie.Need-returns-4
-returns-4 c = let s = c .before .before .before .before .before .before .before .before .before .before .before .before .before in c .before .before .before .before .next-delete .ensures ∙ sym (ap (nextChange (s .args .card .now) (s .args .n) (nodesOf (s .args .free .words)) (s .args .last)) (c .before .before .before .before .before .before .before .before .doing2 .given .1))
+returns-4 c =
+    let s = c .before .before .before .before .before .before .before .before .before .before .before .before .before in
+    c .before .before .before .before .next-update2 .ensures
+    ∙ next-delete (s .args .card .now) (s .args .n) (c .before .before .before .before .before .before .before .before .doing2 .given .0 .0) (c .before .before .before .before .before .before .before .before .doing2 .given .0 .1 .1 .0) (c .before .before .before .before .before .before .before .before .doing2 .given .0 .1 .0) (nodesOf (s .args .free .words)) (s .args .last)
+    ∙ sym (ap (nextChange (s .args .card .now) (s .args .n) (nodesOf (s .args .free .words)) (s .args .last)) (c .before .before .before .before .before .before .before .before .doing2 .given .1))
 
 same-length-5 : tie.Need-same-length-5
 same-length-5 c = search needs
@@ -84,9 +93,9 @@ next-change-spec =
     enum-told-2
     no-change-requires-2
     enum-known-doing
-    next-insert-requires
+    next-update-requires
     enum-known-doing-2
-    next-delete-requires
+    next-update-requires-2
     enum-known-doing-3
     repair-requires
     returns
