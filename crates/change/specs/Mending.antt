@@ -5,12 +5,13 @@ use Prim.Native.Nat.{ℕ, suc, _-_}
 use lib.ListN.{length, getD}
 use lib.Dec.{eqb, ltb, leb}
 use Rattle.laws.specs.Cases.{pick}
-use Rattle.card.specs.Layout.{rootPlace, depthLimit, nodeAt, kindOf, children, routingKeys}
+use Rattle.card.specs.Layout.{rootPlace, depthLimit, nodeAt, kindOf, children}
 use Rattle.descent.specs.Descent.{rootPosition, seek}
 use Rattle.descent.specs.declared.Position.{Position}
 use Rattle.descent.specs.declared.Search.{Search}
 use Rattle.descent.specs.declared.Search.the-variants.{Refused as NoSearch, Balanced as SearchBalanced, Violation as SearchViolation}
-use Rattle.plans.specs.Change.{absorb, splitParent, joinedKeys, joinedChildren, Together, leavesTogether, innersTogether, share, merge, mergeRoot}
+use Rattle.plans.specs.Change.{absorb, splitParent, joinedKeys, joinedChildren}
+use Rattle.siblings.specs.Siblings.{mendSiblings}
 use Rattle.plans.specs.Planning.{Preparation, giving, first, second, third, refused, balanced}
 
 -- "Tagged node: parent with at most 10 children .. Parent with 11 .."; a tagged node without two children is refused
@@ -21,24 +22,6 @@ mendTagged p parent tagged free last =
     (giving 1 free last (λ ms. absorb p (joinedKeys parent (p .index) tagged) (joinedChildren parent (p .index) tagged) (first ms)))
     (giving 3 free last (λ ms. splitParent p (joinedKeys parent (p .index) tagged) (joinedChildren parent (p .index) tagged) (first ms) (second ms) (third ms))))
     refused
-
--- "Together 4 or more: shared out .. Together 3 or fewer: merged .. if that parent is the root with 2 children, the merged
--- node becomes the root"; more than 12 together are refused, which two siblings of which one is underfull never have
-unfoldable pub mendTogether : Position → List ℕ → ℕ → Together → List Bool → ℕ → Preparation
-mendTogether p parent j both free last =
-    pick (ltb 12 (length (both .values))) refused
-    (pick (leb 4 (length (both .values)))
-    (giving 3 free last (λ ms. share p parent j both (first ms) (second ms) (third ms)))
-    (pick (eqb (p .above) rootPlace && eqb (length (children parent)) 2)
-    (giving 1 free last (λ ms. mergeRoot p parent j both (first ms)))
-    (giving 2 free last (λ ms. merge p parent j both (first ms) (second ms)))))
-
--- the siblings x and y must be of one kind, and internal ones must have children
-unfoldable pub mendSiblings : Position → List ℕ → ℕ → List ℕ → List ℕ → List Bool → ℕ → Preparation
-mendSiblings p parent j x y free last =
-    pick (eqb (kindOf x) 1 && eqb (kindOf y) 1) (mendTogether p parent j (leavesTogether x y) free last)
-    (pick ((eqb (kindOf x) 2 && eqb (kindOf y) 2) && (ltb 0 (length (children x)) && ltb 0 (length (children y))))
-    (mendTogether p parent j (innersTogether x (getD (routingKeys parent) j 0) y) free last) refused)
 
 -- a node number that is on a card of n nodes
 unfoldable pub isNode : ℕ → ℕ → Bool

@@ -1,5 +1,4 @@
 // Document 01, "The changes": the repair that a fault is due, planned as the stores that a step then makes one by one.
-mod siblings;
 mod tagged;
 
 use descent::Position;

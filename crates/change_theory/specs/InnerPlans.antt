@@ -11,7 +11,8 @@ use Rattle.card.specs.Layout.{nodeAt, kindOf, children, routingKeys}
 use Rattle.card.specs.Stores.{new-node}
 use Rattle.plans.specs.Change.{joinedKeys, joinedChildren, absorb, splitParent, Together, innersTogether, half, leftKeys, keyBetween, share, merge, mergeRoot}
 use Rattle.plans.specs.Planning.{giving, first, second, third}
-use Rattle.change.specs.Mending.{mendTagged, mendTogether, mendSiblings, mend}
+use Rattle.change.specs.Mending.{mendTagged, mend}
+use Rattle.siblings.specs.Siblings.{mendTogether, mendSiblings}
 use Rattle.change_theory.specs.Exchange.{tagged-in, Remains, OneViolation, together-le, Parts, left-roots, right-roots, right-routing, left-routing, middle-key}
 use Rattle.change_theory.specs.InnerChanges.{inner-pair, new-siblings, parted-nodes, tagged-child, Underfull, together}
 use Rattle.change_theory.specs.Mending.{StandsAt, change-at, giving-same, kind-above, mend-tagged, mend-siblings, share-due, merge-root-due, merge-due}

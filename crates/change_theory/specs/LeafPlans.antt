@@ -12,7 +12,8 @@ use Rattle.card.specs.Layout.{nodeAt, kindOf, children, routingKeys, slot-pairs
 use Rattle.card.specs.Stores.{new-node}
 use Rattle.plans.specs.Change.{Together, leavesTogether, half, leftKeys, keyBetween, share, merge, mergeRoot}
 use Rattle.plans.specs.Planning.{giving, first, second, third}
-use Rattle.change.specs.Mending.{mendTogether, mendSiblings, mend}
+use Rattle.change.specs.Mending.{mend}
+use Rattle.siblings.specs.Siblings.{mendTogether, mendSiblings}
 use Rattle.change_theory.specs.Exchange.{Remains}
 use Rattle.change_theory.specs.LeafChanges.{leaves, pairsTogether, leafNode, innerNode}
 use Rattle.change_theory.specs.LeafRows.{newLeaf, length-pair-values, keys-take, values-take, keys-drop, values-drop, key-at-row, twoLeaves}

@@ -14,7 +14,8 @@ use Rattle.card.specs.NodeWords.{OnCard}
 use Rattle.card.specs.Stores.{NewNode}
 use Rattle.plans.specs.Change.{Change, kindAbove, Together, share, merge, mergeRoot}
 use Rattle.plans.specs.Planning.{giving, first, second, third}
-use Rattle.change.specs.Mending.{mendTagged, mendTogether, mendSiblings, isNode, mendUnderfull, mend}
+use Rattle.change.specs.Mending.{mendTagged, isNode, mendUnderfull, mend}
+use Rattle.siblings.specs.Siblings.{mendTogether, mendSiblings}
 use Rattle.change_theory.specs.Exchange.{tagged-in, Remains}
 use Rattle.change_theory.specs.Rewrite.{numbers, Rewrite}
 use Rattle.change_theory.specs.Siblings.{first-child, second-child, both-there, two-represented}

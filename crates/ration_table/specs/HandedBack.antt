@@ -28,7 +28,8 @@ use Rattle.descent.specs.declared.Landing.{Landing}
 use Rattle.descent.specs.declared.Landing.the-variants.{Refused as NoLanding, Leaf as LandingAt}
 use Rattle.plans.specs.Change.{Change, Together}
 use Rattle.plans.specs.Planning.{Preparation, refused, balanced, prepared, numbersFrom, takeNumbers, lastOf, overNumbers, giving}
-use Rattle.change.specs.Mending.{mendTagged, mendTogether, mendSiblings, isNode, mendUnderfull, mend, onSearch, nextRepair}
+use Rattle.change.specs.Mending.{mendTagged, isNode, mendUnderfull, mend, onSearch, nextRepair}
+use Rattle.siblings.specs.Siblings.{mendTogether, mendSiblings}
 use Rattle.soundness.specs.Check.{Findings, tableCheck}
 use Rattle.state.specs.Memory.{Memory, memoryOf, noMemory, resting, idled, advanced}
 use Rattle.updates.specs.Updates.{Reason, held, slot, full, FirstChange, landing, insertReason, insertChange, deleteChange, repairs, noChange, nextChange, startRoom, changeIn, changeAt}

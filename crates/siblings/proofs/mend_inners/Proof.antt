@@ -1,4 +1,4 @@
--- `change::siblings::mend_inners` meets its contract.
+-- `siblings::mend_inners` meets its contract.
 use mathlib.Core.Path.{_≡_, sym, ap, _∙_}
 use Prim.Native.Nat.{_+_, _-_, _≤_}
 use native.Mathlib.Omega.{arith}
@@ -8,10 +8,10 @@ use Rattle.card.specs.Layout.{children, routingKeys}
 use Rattle.card.specs.NodeLaws.{children-le, length-routing}
 use Rattle.free_nodes.specs.NodeSet.{nodesOf}
 use Rattle.plans.specs.Change.{Together}
-use Rattle.change.specs.MendLaws.{together-many, inners-count, inners-pooled}
-use Rattle.change.specs.Mending.{mendTogether}
-use Rattle.change.proofs.siblings.mend_inners.Statement.{statement}
-use Rattle.change.proofs.siblings.mend_inners.Tie as tie
+use Rattle.siblings.specs.SiblingLaws.{together-many, inners-count, inners-pooled}
+use Rattle.siblings.specs.Siblings.{mendTogether}
+use Rattle.siblings.proofs.mend_inners.Statement.{statement}
+use Rattle.siblings.proofs.mend_inners.Tie as tie
 
 -- how many children the two have, and how many routing keys each
 total : (c : tie.Else1) → length (children (c .before .before .before .before .before .before .before .before .args .x .now)) + length (children (c .before .before .before .before .before .before .before .before .args .y .now)) ≤ 12

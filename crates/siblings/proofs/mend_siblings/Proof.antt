@@ -1,11 +1,11 @@
--- `change::siblings::mend_siblings` meets its contract.
+-- `siblings::mend_siblings` meets its contract.
 use mathlib.Core.Path.{sym, _∙_}
 use native.Mathlib.Omega.{arith}
 use borrow.Author.Tests.{not-true, not-false}
 use borrow.Author.Needs.{needs}
-use Rattle.change.specs.MendLaws.{siblings-leaves, siblings-mixed, siblings-left-bare, siblings-right-bare, siblings-inners}
-use Rattle.change.proofs.siblings.mend_siblings.Statement.{statement}
-use Rattle.change.proofs.siblings.mend_siblings.Tie as tie
+use Rattle.siblings.specs.SiblingLaws.{siblings-leaves, siblings-mixed, siblings-left-bare, siblings-right-bare, siblings-inners}
+use Rattle.siblings.proofs.mend_siblings.Statement.{statement}
+use Rattle.siblings.proofs.mend_siblings.Tie as tie
 
 both-are-requires : tie.Need-both-are-requires
 both-are-requires c κs = search needs

@@ -1,12 +1,12 @@
--- `change::siblings::cut_siblings` meets its contract.
+-- `siblings::cut_siblings` meets its contract.
 use mathlib.Core.Path.{ap}
 use native.Mathlib.Omega.{arith}
 use lib.ListN.{length}
 use borrow.Author.Needs.{needs}
 use Rattle.card.specs.NodeLaws.{children-le}
 use Rattle.plans.specs.ChangeLaws.{cut-siblings}
-use Rattle.change.proofs.siblings.cut_siblings.Statement.{statement}
-use Rattle.change.proofs.siblings.cut_siblings.Tie as tie
+use Rattle.siblings.proofs.cut_siblings.Statement.{statement}
+use Rattle.siblings.proofs.cut_siblings.Tie as tie
 
 children-requires : tie.Need-children-requires
 children-requires c κs = search needs

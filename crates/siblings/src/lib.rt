@@ -39,7 +39,7 @@ ghost use Rattle.card.specs.Stores.{node-stores};
 ghost use Rattle.free_nodes.specs.NodeSet.{capacity, nodesOf};
 ghost use Rattle.plans.specs.Change.{leavesTogether, innersTogether, share, merge, mergeRoot};
 ghost use Rattle.plans.specs.Planning.{giving, first, second, third};
-ghost use Rattle.change.specs.Mending.{mendTogether, mendSiblings};
+ghost use Rattle.siblings.specs.Siblings.{mendTogether, mendSiblings};
 ghost use Rattle.plans.specs.Rows.{wordsOf};
 ghost use Rattle.plans.specs.Plan.{planIn, Extends, preparationOf, togetherOf, copied, Keyed, Whole, Linked};
 

@@ -1,15 +1,15 @@
--- `change::siblings::mend_leaves` meets its contract.
+-- `siblings::mend_leaves` meets its contract.
 use mathlib.Core.Path.{_≡_, sym, ap, _∙_}
 use native.Mathlib.Omega.{arith}
 use lib.ListN.{length}
 use borrow.Author.Needs.{needs}
 use Rattle.free_nodes.specs.NodeSet.{nodesOf}
 use Rattle.plans.specs.Change.{Together}
-use Rattle.change.specs.MendLaws.{together-many, leaves-count, leaves-pooled}
+use Rattle.siblings.specs.SiblingLaws.{together-many, leaves-count, leaves-pooled}
 use Rattle.plans.specs.PairLaws.{leaf-few}
-use Rattle.change.specs.Mending.{mendTogether}
-use Rattle.change.proofs.siblings.mend_leaves.Statement.{statement}
-use Rattle.change.proofs.siblings.mend_leaves.Tie as tie
+use Rattle.siblings.specs.Siblings.{mendTogether}
+use Rattle.siblings.proofs.mend_leaves.Statement.{statement}
+use Rattle.siblings.proofs.mend_leaves.Tie as tie
 
 -- there is room for twelve pairs
 room-keys : (c : tie.After-with-leaf2) → length (c .with-leaf2 .result .keys .items) ≡ 12

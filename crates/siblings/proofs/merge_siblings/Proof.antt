@@ -1,4 +1,4 @@
--- `change::siblings::merge_siblings` meets its contract.
+-- `siblings::merge_siblings` meets its contract.
 use mathlib.Core.List.{[], _∷_}
 use mathlib.Core.Option.{some}
 use mathlib.Core.Path.{_≡_, sym, ap, _∙_}
@@ -11,8 +11,8 @@ use Rattle.plans.specs.NumberLaws.{Given, two-given, giving-none}
 use Rattle.plans.specs.Plan.{twoOf, togetherOf}
 use Rattle.plans.specs.PlanLaws.{none-planned}
 use Rattle.plans.specs.Planning.{takeNumbers}
-use Rattle.change.proofs.siblings.merge_siblings.Statement.{statement}
-use Rattle.change.proofs.siblings.merge_siblings.Tie as tie
+use Rattle.siblings.proofs.merge_siblings.Statement.{statement}
+use Rattle.siblings.proofs.merge_siblings.Tie as tie
 
 -- the numbers found
 numbers : (c : tie.After-known-told) → takeNumbers 2 (nodesOf (c .before .before .before .before .before .before .before .args .free .words)) (c .before .before .before .before .before .before .before .args .last) ≡ some (c .before .merged .given .0 .0 ∷ c .before .merged .given .0 .1 .0 ∷ [])

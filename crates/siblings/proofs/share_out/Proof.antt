@@ -1,4 +1,4 @@
--- `change::siblings::share_out` meets its contract.
+-- `siblings::share_out` meets its contract.
 use mathlib.Core.List.{[], _∷_}
 use mathlib.Core.Option.{some}
 use mathlib.Core.Path.{_≡_, sym, ap, _∙_}
@@ -11,8 +11,8 @@ use Rattle.plans.specs.NumberLaws.{Given, three-given, giving-none}
 use Rattle.plans.specs.Plan.{threeOf, togetherOf}
 use Rattle.plans.specs.PlanLaws.{none-planned}
 use Rattle.plans.specs.Planning.{takeNumbers}
-use Rattle.change.proofs.siblings.share_out.Statement.{statement}
-use Rattle.change.proofs.siblings.share_out.Tie as tie
+use Rattle.siblings.proofs.share_out.Statement.{statement}
+use Rattle.siblings.proofs.share_out.Tie as tie
 
 -- the numbers found
 numbers : (c : tie.After-known-told) → takeNumbers 3 (nodesOf (c .before .before .before .before .before .before .before .args .free .words)) (c .before .before .before .before .before .before .before .args .last) ≡ some (c .before .left .given .0 .0 ∷ c .before .left .given .0 .1 .0 ∷ c .before .left .given .0 .1 .1 .0 ∷ [])

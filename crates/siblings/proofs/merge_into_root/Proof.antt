@@ -1,4 +1,4 @@
--- `change::siblings::merge_into_root` meets its contract.
+-- `siblings::merge_into_root` meets its contract.
 use mathlib.Core.List.{[], _∷_}
 use mathlib.Core.Option.{some}
 use mathlib.Core.Path.{_≡_, sym, _∙_}
@@ -11,8 +11,8 @@ use Rattle.plans.specs.NumberLaws.{Given, one-given, take-none, take-one, givin
 use Rattle.plans.specs.Plan.{togetherOf}
 use Rattle.plans.specs.PlanLaws.{none-planned}
 use Rattle.plans.specs.Planning.{takeNumbers}
-use Rattle.change.proofs.siblings.merge_into_root.Statement.{statement}
-use Rattle.change.proofs.siblings.merge_into_root.Tie as tie
+use Rattle.siblings.proofs.merge_into_root.Statement.{statement}
+use Rattle.siblings.proofs.merge_into_root.Tie as tie
 
 -- the number found
 number : (c : tie.After-known-told) → takeNumbers 1 (nodesOf (c .before .before .before .before .before .before .before .args .free .words)) (c .before .before .before .before .before .before .before .args .last) ≡ some (c .before .merged .given .0 .0 ∷ [])

@@ -1,9 +1,9 @@
--- `change::siblings::both_are` meets its contract.
+-- `siblings::both_are` meets its contract.
 use borrow.Author.Needs.{needs}
 use borrow.Author.Tests.{eq-eqb, ne-eqb}
 use Rattle.plans.specs.ChangeLaws.{and-second, and-first}
-use Rattle.change.proofs.siblings.both_are.Statement.{statement}
-use Rattle.change.proofs.siblings.both_are.Tie as tie
+use Rattle.siblings.proofs.both_are.Statement.{statement}
+use Rattle.siblings.proofs.both_are.Tie as tie
 
 shared-slice-read-if1 : tie.Need-shared-slice-read-if1
 shared-slice-read-if1 c = search needs

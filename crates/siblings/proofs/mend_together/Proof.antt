@@ -1,14 +1,14 @@
--- `change::siblings::mend_together` meets its contract.
+-- `siblings::mend_together` meets its contract.
 use mathlib.Core.Path.{_≡_, sym, _∙_}
 use native.Mathlib.Omega.{arith}
 use lib.ListN.{length}
 use borrow.Author.Needs.{needs}
 use Rattle.plans.specs.ChangeLaws.{keys-range}
-use Rattle.change.specs.MendLaws.{together-shared, together-root, together-merged}
+use Rattle.siblings.specs.SiblingLaws.{together-shared, together-root, together-merged}
 use Rattle.plans.specs.Plan.{togetherOf}
 use Rattle.plans.specs.RowLaws.{length-words}
-use Rattle.change.proofs.siblings.mend_together.Statement.{statement}
-use Rattle.change.proofs.siblings.mend_together.Tie as tie
+use Rattle.siblings.proofs.mend_together.Statement.{statement}
+use Rattle.siblings.proofs.mend_together.Tie as tie
 
 -- how many there are together
 count : (c : tie.Start) → length (togetherOf (c .args .both) .values) ≡ c .args .both .values .count

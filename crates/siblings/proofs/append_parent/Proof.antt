@@ -1,4 +1,4 @@
--- `change::siblings::append_parent` meets its contract.
+-- `siblings::append_parent` meets its contract.
 use mathlib.Core.Path.{_≡_, ap, _∙_}
 use Prim.Native.Nat.{_-_}
 use native.Mathlib.Omega.{arith}
@@ -7,8 +7,8 @@ use borrow.Author.Needs.{needs}
 use Rattle.card.specs.Layout.{children}
 use Rattle.card.specs.NodeLaws.{children-le, length-routing}
 use Rattle.plans.specs.ChangeLaws.{parent-copied}
-use Rattle.change.proofs.siblings.append_parent.Statement.{statement}
-use Rattle.change.proofs.siblings.append_parent.Tie as tie
+use Rattle.siblings.proofs.append_parent.Statement.{statement}
+use Rattle.siblings.proofs.append_parent.Tie as tie
 
 -- how many routing keys the parent has
 routing : (c : tie.After-routing-keys) → length (c .routing-keys .result .now) ≡ length (children (c .before .before .before .before .args .parent .now)) - 1

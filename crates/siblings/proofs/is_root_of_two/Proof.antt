@@ -1,12 +1,12 @@
--- `change::siblings::is_root_of_two` meets its contract.
+-- `siblings::is_root_of_two` meets its contract.
 use mathlib.Core.Path.{ap, _∙_}
 use Prim.Native.Nat.{ℕ}
 use lib.Dec.{eqb}
 use borrow.Author.Needs.{needs}
 use borrow.Author.Tests.{eq-eqb, ne-eqb}
 use Rattle.plans.specs.ChangeLaws.{and-second, and-first}
-use Rattle.change.proofs.siblings.is_root_of_two.Statement.{statement}
-use Rattle.change.proofs.siblings.is_root_of_two.Tie as tie
+use Rattle.siblings.proofs.is_root_of_two.Statement.{statement}
+use Rattle.siblings.proofs.is_root_of_two.Tie as tie
 
 child-count-requires : tie.Need-child-count-requires
 child-count-requires c κs = search needs
