@@ -73,7 +73,7 @@ static void try_dumps(uint32_t nodes)
         try_dump(dump, length, words);
     try_dump(dump, bytes - 1, words);
     try_dump(dump, bytes + 1, words);
-    for (size_t i = 4 * words; i < bytes; i += 37) { // a padding byte that is not 0
+    for (size_t i = 4 * words; i < bytes; i += nodes < 12 ? 1 : 37) { // a padding byte that is not 0
         dump[i] = 1;
         try_dump(dump, bytes, words);
         dump[i] = 0;

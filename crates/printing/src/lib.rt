@@ -112,11 +112,16 @@ fn print_text(text: &Text, n: usize) {
     }
 }
 
+// What the program `list` prints for a dump.
+pub fn print_listing(dump: &[u8]) {
+    let mut text = [0u8; 145308];
+    let n = list_text(dump, &mut text);
+    print_text(&text, n);
+}
+
 // The longest dump has 57,856 bytes, so that a longer input is noticed.
 pub fn list_input() {
     let mut bytes = io::large_buffer();
     let length = io::read_full(0, &mut bytes);
-    let mut text = [0u8; 145308];
-    let n = list_text(&bytes[..length], &mut text);
-    print_text(&text, n);
+    print_listing(&bytes[..length]);
 }

@@ -90,8 +90,8 @@ fn room_refusal(room: bool) -> u32
     if room { 0 } else { 8 }
 }
 
-// The refusal that starting an update is due, after those above 9 and 8, or 0: "9: node number 0 or above N, kind not 1 to 3, no
-// children, or more than 10 internal nodes". `splits` says whether the update may split its leaf.
+// The refusal that starting an update is due, or 0: the early ones, then "9: node number 0 or above N, kind not 1 to 3, no
+// children, or more than 10 internal nodes", then 8. `splits` says whether the update may split its leaf.
 pub fn start_refusal(
     card: &[u32],
     nodes: usize,
