@@ -1,5 +1,7 @@
-// What the test programs share: a row of words that holds any card, and the table's calls on the first words of one.
+// What the test programs share: a row of words that holds any card, the table's calls on the first words of one, and random numbers.
 // A row has a fixed length, so a function over it needs no proof of a length.
+pub mod random;
+
 use table::Beginning;
 use table::Found;
 use table::State;

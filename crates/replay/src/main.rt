@@ -185,6 +185,40 @@ fn delete(card: &Words, n: usize, row: &mut [u64; 8], s: State, key: u32) -> Sta
     started.state
 }
 
+fn find(card: &Words, n: usize, row: &mut [u64; 8], key: u32) {
+    let found = calls::find(card, n, key);
+    feed_found(row, found);
+}
+
+// A start of formatting, or opening.
+fn begin(card: &Words, n: usize, row: &mut [u64; 8], kind: u64) -> State {
+    if kind == 8 {
+        format(card, n, row)
+    } else {
+        open(card, n, row)
+    }
+}
+
+// A find, a start of a delete, or a run of steps, which have one number in the stream.
+fn call_with(
+    card: &mut Words,
+    n: usize,
+    old: &mut Words,
+    row: &mut [u64; 8],
+    kind: u64,
+    number: u64,
+    s: State,
+) -> State {
+    if kind == 10 {
+        find(card, n, row, narrow(number));
+        s
+    } else if kind == 12 {
+        delete(card, n, row, s, narrow(number))
+    } else {
+        steps(card, n, old, row, number, s)
+    }
+}
+
 // A call on the card that the first n words are, by its number in the stream.
 fn call(
     card: &mut Words,
@@ -195,25 +229,15 @@ fn call(
     kind: u64,
     s: State,
 ) -> State {
-    if kind == 8 {
-        return format(card, n, row);
-    }
-    if kind == 9 {
-        return open(card, n, row);
+    if kind < 10 {
+        return begin(card, n, row, kind);
     }
     let first = next_number(input, row);
-    if kind == 10 {
-        feed_found(row, calls::find(card, n, narrow(first)));
-        return s;
-    }
     if kind == 11 {
         let value = next_number(input, row);
         return insert(card, n, row, s, narrow(first), narrow(value));
     }
-    if kind == 12 {
-        return delete(card, n, row, s, narrow(first));
-    }
-    steps(card, n, old, row, first, s)
+    call_with(card, n, old, row, kind, first, s)
 }
 
 // The CRC of the card in hand.
@@ -288,6 +312,40 @@ fn outside(
     s
 }
 
+// A call on a copy of the card that is shorter or longer.
+fn call_on_copy(
+    words: &Words,
+    other: &mut Words,
+    old: &mut Words,
+    input: &mut [u8; 4096],
+    row: &mut [u64; 8],
+    s: State,
+) -> State {
+    let length = next_number(input, row) as usize;
+    let kind = next_number(input, row);
+    let n = row[LENGTH] as usize;
+    copy_words(words, other, n);
+    calls::clear_from(other, n);
+    call(other, length, old, input, row, kind, s)
+}
+
+// A call of the stream.
+fn call_turn(
+    words: &mut Words,
+    other: &mut Words,
+    old: &mut Words,
+    input: &mut [u8; 4096],
+    row: &mut [u64; 8],
+    kind: u64,
+    s: State,
+) -> State {
+    if kind == 7 {
+        call_on_copy(words, other, old, input, row, s)
+    } else {
+        call(words, row[LENGTH] as usize, old, input, row, kind, s)
+    }
+}
+
 // One operation of the stream.
 fn turn(
     words: &mut Words,
@@ -301,24 +359,15 @@ fn turn(
     let kind = next_number(input, row);
     if kind == 0 {
         row[MORE] = 0;
-        return s;
-    }
-    if kind < 7 {
-        return outside(words, input, row, kind, s);
-    }
-    if kind > 13 {
+        s
+    } else if kind < 7 {
+        outside(words, input, row, kind, s)
+    } else if kind > 13 {
         dump_turn(words, bytes, input, row, kind);
-        return s;
+        s
+    } else {
+        call_turn(words, other, old, input, row, kind, s)
     }
-    let n = row[LENGTH] as usize;
-    if kind == 7 {
-        let length = next_number(input, row);
-        let inner = next_number(input, row);
-        copy_words(words, other, n);
-        calls::clear_from(other, n);
-        return call(other, length as usize, old, input, row, inner, s);
-    }
-    call(words, n, old, input, row, kind, s)
 }
 
 fn run(

@@ -1,4 +1,5 @@
-// The book: pairs in two rows, an empty place where the key is 0, and the update in hand with its count of steps.
+// The book: keys in the first half of a row, an empty place where the key is 0, their values in the second half; and the update in
+// hand with its count of steps.
 use crate::places::ENTERED;
 use crate::places::FULL;
 use crate::places::HAND;
@@ -11,11 +12,14 @@ use calls::narrow;
 use calls::set_word;
 use calls::word;
 
+// Where the values begin.
+const HALF: usize = 7216;
+
 // Where of the first n places a key stands, and n where it does not.
-pub fn place_of(keys: &Words, n: usize, key: u32) -> usize {
+pub fn place_of(book: &Words, n: usize, key: u32) -> usize {
     let mut i: usize = 0;
     while i < n {
-        if word(keys, i) == key {
+        if word(book, i) == key {
             return i;
         }
         i += 1;
@@ -23,20 +27,38 @@ pub fn place_of(keys: &Words, n: usize, key: u32) -> usize {
     n
 }
 
-// "Entered, an insert adds its pair unless the key is there; a delete takes its key's pair out."
-fn enter(keys: &mut Words, values: &mut Words, row: &mut [u64; 32]) {
-    let key = narrow(row[KEY]);
-    let value = narrow(row[VALUE]);
-    row[ENTERED] = 1;
-    let n = row[RANGE] as usize;
-    let at = place_of(keys, n, key);
-    if row[HAND] == 1 && at == n {
-        let gap = place_of(keys, n, 0);
-        set_word(keys, gap, key);
-        set_word(values, gap, value);
+// The value beside the key at a place.
+pub fn value_at(book: &Words, place: usize) -> u32 {
+    word(book, HALF + place % HALF)
+}
+
+fn set_pair(book: &mut Words, place: usize, key: u32, value: u32) {
+    set_word(book, place, key);
+    set_word(book, HALF + place % HALF, value);
+}
+
+fn enter_insert(book: &mut Words, n: usize, key: u32, value: u32) {
+    if place_of(book, n, key) == n {
+        let gap = place_of(book, n, 0);
+        set_pair(book, gap, key, value);
     }
-    if row[HAND] == 2 && at < n {
-        set_word(keys, at, 0);
+}
+
+fn enter_delete(book: &mut Words, n: usize, key: u32) {
+    let at = place_of(book, n, key);
+    if at < n {
+        set_word(book, at, 0);
+    }
+}
+
+// "Entered, an insert adds its pair unless the key is there; a delete takes its key's pair out."
+fn enter(book: &mut Words, row: &[u64; 32]) {
+    let key = narrow(row[KEY]);
+    let n = row[RANGE] as usize;
+    if row[HAND] == 1 {
+        enter_insert(book, n, key, narrow(row[VALUE]));
+    } else {
+        enter_delete(book, n, key);
     }
 }
 
@@ -53,10 +75,11 @@ fn deciding_step(row: &[u64; 32]) -> u64 {
 
 // "Its steps that are not refused count one each. The deciding step enters it .. Its final answer enters it if not yet entered, and
 // empties the hand."
-pub fn book_step(keys: &mut Words, values: &mut Words, row: &mut [u64; 32], is_final: bool) {
+pub fn book_step(book: &mut Words, row: &mut [u64; 32], is_final: bool) {
     row[TAKEN] = row[TAKEN] % 4294967296 + 1;
     if row[ENTERED] == 0 && (is_final || row[TAKEN] == deciding_step(row)) {
-        enter(keys, values, row);
+        enter(book, row);
+        row[ENTERED] = 1;
     }
     if is_final {
         row[HAND] = 0;

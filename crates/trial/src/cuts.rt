@@ -1,16 +1,16 @@
 // Cuts: the card is opened anew and repaired, and what it holds is compared with the book.
 use crate::book;
+use crate::keys;
 use crate::places::CALLS;
 use crate::places::CUTS;
 use crate::places::LENGTH;
 use crate::places::MORE;
 use crate::places::RANGE;
 use crate::places::STEPS;
-use crate::places::count;
 use crate::places::wrong_if;
-use crate::random;
 use calls::Words;
-use calls::word;
+use calls::random;
+use calls::random::count;
 use table::Answer;
 use table::Beginning;
 use table::Begun;
@@ -27,42 +27,43 @@ pub fn is_refused(b: Beginning, number: u32) -> bool {
     }
 }
 
-// A find of a key, compared with the book.
-fn compare(card: &Words, keys: &Words, values: &Words, row: &mut [u64; 32], key: u32) {
-    count(row, CALLS);
-    let n = row[LENGTH] as usize;
-    let range = row[RANGE] as usize;
-    let at = book::place_of(keys, range, key);
-    let is_held = at < range;
-    match calls::find(card, n, key) {
-        Found::Value(v) => wrong_if(row, !is_held || v != word(values, at)),
-        Found::Absent => wrong_if(row, is_held),
-        Found::Refused(_) => wrong_if(row, true),
+// Whether what a find answered is not what the book, in which n places are looked at, has for the key.
+fn is_other(book: &Words, n: usize, key: u32, found: Found) -> bool {
+    let at = book::place_of(book, n, key);
+    match found {
+        Found::Value(v) => n <= at || v != book::value_at(book, at),
+        Found::Absent => at < n,
+        Found::Refused(_) => true,
     }
 }
 
-pub fn compare_one(card: &Words, keys: &Words, values: &Words, row: &mut [u64; 32]) {
-    let key = random::key(row);
-    compare(card, keys, values, row, key);
+// A find of a key, compared with the book.
+fn compare(card: &Words, book: &Words, row: &mut [u64; 32], key: u32) {
+    count(row, CALLS);
+    let found = calls::find(card, row[LENGTH] as usize, key);
+    let is_wrong = is_other(book, row[RANGE] as usize, key, found);
+    wrong_if(row, is_wrong);
+}
+
+pub fn compare_one(card: &Words, book: &Words, row: &mut [u64; 32]) {
+    let key = keys::key(row);
+    compare(card, book, row, key);
 }
 
 // Every key of the range, compared with the book.
-fn compare_all(card: &Words, keys: &Words, values: &Words, row: &mut [u64; 32]) {
+fn compare_all(card: &Words, book: &Words, row: &mut [u64; 32]) {
     let mut left = row[RANGE];
     while left > 0 {
-        let key = random::key_of(row, left);
-        compare(card, keys, values, row, key);
+        let key = keys::key_of(row, left);
+        compare(card, book, row, key);
         left -= 1;
     }
 }
 
-// Opens a card that a cut left; MORE says whether there is a repair.
-fn open(card: &Words, row: &mut [u64; 32]) -> State {
+// What opening a card that a cut left handed back; MORE says whether there is a repair.
+fn opened(row: &mut [u64; 32], begun: Begun) {
     count(row, CUTS);
     count(row, CALLS);
-    let n = row[LENGTH] as usize;
-    let opened = calls::open(card, n);
-    let begun = opened.begun;
     match begun {
         Begun::Idle => {
             row[MORE] = 0;
@@ -75,27 +76,18 @@ fn open(card: &Words, row: &mut [u64; 32]) -> State {
             wrong_if(row, true);
         }
     }
-    opened.state
 }
 
-// A step of a repair, or now and then another cut.
-fn repair_step(
-    card: &mut Words,
-    keys: &Words,
-    values: &Words,
-    row: &mut [u64; 32],
-    s: State,
-) -> State {
-    if random::below(row, 100) == 0 {
-        return open(card, row);
-    }
-    if random::below(row, 16) == 0 {
-        compare_one(card, keys, values, row);
-    }
-    let n = row[LENGTH] as usize;
-    let stepped = calls::step(card, n, s);
+fn open(card: &Words, row: &mut [u64; 32]) -> State {
+    let handed = calls::open(card, row[LENGTH] as usize);
+    let begun = handed.begun;
+    opened(row, begun);
+    handed.state
+}
+
+// What a step of a repair answered.
+fn repaired(row: &mut [u64; 32], answer: Answer) {
     count(row, STEPS);
-    let answer = stepped.answer;
     match answer {
         Answer::Stored => {}
         Answer::Ready => {
@@ -105,27 +97,51 @@ fn repair_step(
         Answer::Value(_) => wrong_if(row, true),
         Answer::Refused(_) => wrong_if(row, true),
     }
+}
+
+// A step of a repair, or now and then another cut.
+fn repair_step(card: &mut Words, book: &Words, row: &mut [u64; 32], s: State) -> State {
+    if random::below(row, 100) == 0 {
+        return open(card, row);
+    }
+    if random::below(row, 16) == 0 {
+        compare_one(card, book, row);
+    }
+    let stepped = calls::step(card, row[LENGTH] as usize, s);
+    let answer = stepped.answer;
+    repaired(row, answer);
     stepped.state
 }
 
-// A cut: opening does not refuse, the repair ends, the map is the book's, and the table is balanced: opening hands back an idle state.
-pub fn cut(card: &mut Words, keys: &Words, values: &Words, row: &mut [u64; 32]) -> State {
-    let mut state = open(card, row);
-    let mut left: u64 = 100000;
-    while left > 0 && row[MORE] == 1 {
-        state = repair_step(card, keys, values, row, state);
-        left -= 1;
-    }
-    wrong_if(row, left == 0);
-    compare_all(card, keys, values, row);
-    let n = row[LENGTH] as usize;
-    let again = calls::open(card, n);
+// The table is balanced: opening hands back an idle state.
+fn expect_idle(card: &Words, row: &mut [u64; 32]) {
     count(row, CALLS);
+    let again = calls::open(card, row[LENGTH] as usize);
     let begun = again.begun;
     match begun {
         Begun::Idle => {}
         Begun::Started => wrong_if(row, true),
         Begun::Refused(_) => wrong_if(row, true),
     }
+}
+
+// The repair after a cut, which ends.
+fn repair(card: &mut Words, book: &Words, row: &mut [u64; 32], s: State) -> State {
+    let mut state = s;
+    let mut left: u64 = 100000;
+    while left > 0 && row[MORE] == 1 {
+        state = repair_step(card, book, row, state);
+        left -= 1;
+    }
+    wrong_if(row, left == 0);
+    state
+}
+
+// A cut: opening does not refuse, the repair ends, the map is the book's, and the table is balanced.
+pub fn cut(card: &mut Words, book: &Words, row: &mut [u64; 32]) -> State {
+    let s = open(card, row);
+    let state = repair(card, book, row, s);
+    compare_all(card, book, row);
+    expect_idle(card, row);
     state
 }

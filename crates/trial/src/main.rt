@@ -1,19 +1,20 @@
-// Random calls on cards of several sizes, against the book of document 01 ("The book and the cut"), which is kept in two rows of
-// words, keys and values: answers, refusals and finds between steps; then cuts after steps, with repairs that are cut again; and
-// garbage as cards and states, on which every call has to return. Prints one line of counts.
+// Random calls on cards of several sizes, against the book of document 01 ("The book and the cut"), which is kept in a row of
+// words: answers, refusals and finds between steps; then cuts after steps, with repairs that are cut again.
+// Prints one line of counts.
 mod book;
 mod cuts;
-mod garbage;
+mod keys;
 mod places;
-mod random;
 mod update_lists;
 
 use calls::Words;
 use calls::copy_words;
+use calls::random;
+use calls::random::SEED;
+use calls::random::count;
 use places::CALLS;
 use places::CHANCE;
 use places::CUTS;
-use places::GARBAGE;
 use places::HAND;
 use places::LENGTH;
 use places::MORE;
@@ -21,27 +22,19 @@ use places::NODES;
 use places::RANGE;
 use places::REFUSED;
 use places::SCALE;
-use places::SEED;
 use places::STEPS;
+use places::TURNS;
 use places::WRONG;
-use places::count;
 use places::wrong_if;
 use table::Answer;
 use table::Begun;
 use table::State;
 
-// A step of formatting: the card is not formatted until the last store, and opening says so.
-fn format_step(card: &mut Words, row: &mut [u64; 32], s: State) -> State {
-    let n = row[LENGTH] as usize;
-    let stepped = calls::step(card, n, s);
+// What a step of formatting answered.
+fn formatted(row: &mut [u64; 32], answer: Answer) {
     count(row, STEPS);
-    let answer = stepped.answer;
     match answer {
-        Answer::Stored => {
-            if calls::word(card, 0) == 0 {
-                wrong_if(row, !cuts::is_refused(calls::open(card, n), 2));
-            }
-        }
+        Answer::Stored => {}
         Answer::Ready => {
             row[MORE] = 0;
         }
@@ -49,22 +42,42 @@ fn format_step(card: &mut Words, row: &mut [u64; 32], s: State) -> State {
         Answer::Value(_) => wrong_if(row, true),
         Answer::Refused(_) => wrong_if(row, true),
     }
+}
+
+// A step of formatting: the card is not formatted until the last store, and opening says so.
+fn format_step(card: &mut Words, row: &mut [u64; 32], s: State) -> State {
+    let n = row[LENGTH] as usize;
+    let stepped = calls::step(card, n, s);
+    let answer = stepped.answer;
+    formatted(row, answer);
+    if calls::word(card, 0) == 0 {
+        let is_refused = cuts::is_refused(calls::open(card, n), 2);
+        wrong_if(row, !is_refused);
+    }
     stepped.state
+}
+
+fn is_started(begun: Begun) -> bool {
+    match begun {
+        Begun::Started => true,
+        Begun::Idle => false,
+        Begun::Refused(_) => false,
+    }
+}
+
+// Starts to format the card.
+fn start_format(card: &Words, row: &mut [u64; 32]) -> State {
+    let started = calls::start_format(card, row[LENGTH] as usize);
+    count(row, CALLS);
+    let begun = started.begun;
+    wrong_if(row, !is_started(begun));
+    row[MORE] = 1;
+    started.state
 }
 
 // Formats a card: "8 + 24 × N + 1 stores, then ready".
 fn format(card: &mut Words, row: &mut [u64; 32]) -> State {
-    let n = row[LENGTH] as usize;
-    let started = calls::start_format(card, n);
-    count(row, CALLS);
-    let begun = started.begun;
-    match begun {
-        Begun::Started => {}
-        Begun::Idle => wrong_if(row, true),
-        Begun::Refused(_) => wrong_if(row, true),
-    }
-    row[MORE] = 1;
-    let mut state = started.state;
+    let mut state = start_format(card, row);
     let mut left: u64 = 14410;
     while left > 0 && row[MORE] == 1 {
         state = format_step(card, row, state);
@@ -75,12 +88,51 @@ fn format(card: &mut Words, row: &mut [u64; 32]) -> State {
     state
 }
 
+// A cut of the card as it stands, on a copy.
+fn cut_copy(card: &Words, other: &mut Words, book: &Words, row: &mut [u64; 32]) {
+    copy_words(card, other, row[LENGTH] as usize);
+    cuts::cut(other, book, row);
+}
+
+// Now and then a cut: on a copy, after which the update goes on, or on the card itself.
+fn cut_at_times(
+    card: &mut Words,
+    other: &mut Words,
+    book: &Words,
+    row: &mut [u64; 32],
+    s: State,
+) -> State {
+    let chance = row[CHANCE];
+    if random::below(row, chance) == 0 {
+        cut_copy(card, other, book, row);
+    }
+    if random::below(row, 500) == 0 {
+        row[HAND] = 0;
+        return cuts::cut(card, book, row);
+    }
+    s
+}
+
+// A call that is not refused: a start where there is no update in hand, else a step of it.
+fn start_or_step(
+    card: &mut Words,
+    other: &mut Words,
+    book: &mut Words,
+    row: &mut [u64; 32],
+    s: State,
+) -> State {
+    if row[HAND] == 0 {
+        return update_lists::start(card, book, row, s);
+    }
+    let state = update_lists::step(card, book, row, s);
+    cut_at_times(card, other, book, row, state)
+}
+
 // One call of the list, or a cut.
 fn turn(
     card: &mut Words,
     other: &mut Words,
-    keys: &mut Words,
-    values: &mut Words,
+    book: &mut Words,
     row: &mut [u64; 32],
     s: State,
 ) -> State {
@@ -90,84 +142,55 @@ fn turn(
     } else if which < 6 {
         update_lists::short_card(card, row, s, which)
     } else if which < 9 {
-        cuts::compare_one(card, keys, values, row);
+        cuts::compare_one(card, book, row);
         s
-    } else if row[HAND] == 0 {
-        update_lists::start(card, keys, values, row, s)
     } else {
-        let state = update_lists::step(card, keys, values, row, s);
-        let chance = row[CHANCE];
-        if random::below(row, chance) == 0 {
-            let n = row[LENGTH] as usize;
-            copy_words(card, other, n);
-            cuts::cut(other, keys, values, row);
-        }
-        if random::below(row, 500) == 0 {
-            row[HAND] = 0;
-            return cuts::cut(card, keys, values, row);
-        }
-        state
+        start_or_step(card, other, book, row, s)
     }
 }
 
 // A list of calls on a card that is formatted for it.
-fn list(
-    card: &mut Words,
-    other: &mut Words,
-    keys: &mut Words,
-    values: &mut Words,
-    row: &mut [u64; 32],
-    turns: u64,
-) {
-    calls::clear_from(keys, 0);
+fn list(card: &mut Words, other: &mut Words, book: &mut Words, row: &mut [u64; 32]) {
+    calls::clear_from(book, 0);
     row[HAND] = 0;
     let mut state = format(card, row);
-    let mut left = turns;
+    let mut left = row[TURNS];
     while left > 0 {
-        state = turn(card, other, keys, values, row, state);
+        state = turn(card, other, book, row, state);
         left -= 1;
     }
-    cuts::cut(card, keys, values, row);
+    cuts::cut(card, book, row);
 }
 
 // A list of so many turns at N nodes, with keys from a range, each multiplied by a number, and every so manyeth step tried with a cut.
-fn list_at(
-    words: &mut Words,
-    other: &mut Words,
-    keys: &mut Words,
-    values: &mut Words,
-    row: &mut [u64; 32],
-    n: usize,
-    range: u64,
-    turns: u64,
-) {
-    row[NODES] = n as u64;
-    row[LENGTH] = 8 + 24 * (n as u64 % 601);
+fn set_list(row: &mut [u64; 32], n: u64, range: u64, turns: u64, scale: u64, chance: u64) {
+    row[NODES] = n;
+    row[LENGTH] = 8 + 24 * (n % 601);
     row[RANGE] = range;
-    list(words, other, keys, values, row, turns);
+    row[TURNS] = turns;
+    row[SCALE] = scale;
+    row[CHANCE] = chance;
 }
 
-fn run(
-    words: &mut Words,
-    other: &mut Words,
-    keys: &mut Words,
-    values: &mut Words,
-    row: &mut [u64; 32],
-) {
-    row[SEED] = 1994;
-    row[SCALE] = 1;
-    row[CHANCE] = 1;
-    list_at(words, other, keys, values, row, 4, 14, 8000);
-    list_at(words, other, keys, values, row, 5, 14, 8000);
-    list_at(words, other, keys, values, row, 6, 24, 20000);
-    row[SCALE] = 2654435761;
-    list_at(words, other, keys, values, row, 12, 60, 40000);
-    row[CHANCE] = 8;
-    list_at(words, other, keys, values, row, 60, 320, 50000);
-    row[SCALE] = 1;
-    row[CHANCE] = 400;
-    list_at(words, other, keys, values, row, 600, 3000, 50000);
-    garbage::run(words, row);
+// The lists, counted down.
+fn choose_list(row: &mut [u64; 32], left: u64) {
+    match left {
+        6 => set_list(row, 4, 14, 8000, 1, 1),
+        5 => set_list(row, 5, 14, 8000, 1, 1),
+        4 => set_list(row, 6, 24, 20000, 1, 1),
+        3 => set_list(row, 12, 60, 40000, 2654435761, 1),
+        2 => set_list(row, 60, 320, 50000, 2654435761, 8),
+        _ => set_list(row, 600, 3000, 50000, 1, 400),
+    }
+}
+
+fn lists(words: &mut Words, other: &mut Words, book: &mut Words, row: &mut [u64; 32]) {
+    let mut left: u64 = 6;
+    while left > 0 {
+        choose_list(row, left);
+        list(words, other, book, row);
+        left -= 1;
+    }
 }
 
 fn print_count(name: &[u8], n: u64) {
@@ -175,18 +198,21 @@ fn print_count(name: &[u8], n: u64) {
     io::print_decimal(1, n);
 }
 
-fn main() {
-    let mut words = [0u32; 14432];
-    let mut other = [0u32; 14432];
-    let mut keys = [0u32; 14432];
-    let mut values = [0u32; 14432];
-    let mut row = [0u64; 32];
-    run(&mut words, &mut other, &mut keys, &mut values, &mut row);
+fn print_counts(row: &[u64; 32]) {
     print_count(b"calls ", row[CALLS]);
     print_count(b" steps ", row[STEPS]);
     print_count(b" refused ", row[REFUSED]);
     print_count(b" cuts ", row[CUTS]);
-    print_count(b" garbage ", row[GARBAGE]);
     print_count(b" wrong ", row[WRONG]);
     io::write_all(1, b"\n");
+}
+
+fn main() {
+    let mut words = [0u32; 14432];
+    let mut other = [0u32; 14432];
+    let mut book = [0u32; 14432];
+    let mut row = [0u64; 32];
+    row[SEED] = 1994;
+    lists(&mut words, &mut other, &mut book, &mut row);
+    print_counts(&row);
 }

@@ -1,5 +1,5 @@
-// What is kept from call to call, as places in one row of numbers.
-pub const SEED: usize = 0;
+// What is kept from call to call, as places in one row of numbers; place 0 is that of the random numbers.
+use calls::random::count;
 
 pub const CALLS: usize = 1;
 
@@ -8,8 +8,6 @@ pub const STEPS: usize = 2;
 pub const REFUSED: usize = 3;
 
 pub const CUTS: usize = 4;
-
-pub const GARBAGE: usize = 5;
 
 pub const WRONG: usize = 6;
 
@@ -40,12 +38,8 @@ pub const WAS_HELD: usize = 18;
 pub const HELD: usize = 19;
 // how many words the card has
 pub const LENGTH: usize = 20;
-
-// One more in a count.
-pub fn count(row: &mut [u64; 32], place: usize) {
-    let i = place % 32;
-    row[i] = row[i] % 4294967296 + 1;
-}
+// how many calls the list has
+pub const TURNS: usize = 21;
 
 pub fn wrong_if(row: &mut [u64; 32], is_wrong: bool) {
     if is_wrong {

@@ -1,6 +1,7 @@
 // Starts and steps of updates, each answer compared with the book, and calls that are refused.
 use crate::book;
 use crate::cuts::is_refused;
+use crate::keys;
 use crate::places::CALLS;
 use crate::places::ENTERED;
 use crate::places::FULL;
@@ -15,74 +16,113 @@ use crate::places::STEPS;
 use crate::places::TAKEN;
 use crate::places::VALUE;
 use crate::places::WAS_HELD;
-use crate::places::count;
 use crate::places::wrong_if;
-use crate::random;
 use calls::Words;
 use calls::narrow;
+use calls::random;
+use calls::random::count;
 use calls::wide;
-use calls::word;
 use table::Answer;
-use table::Beginning;
 use table::Begun;
 use table::Found;
 use table::State;
-use table::Stepped;
 
 fn as_number(b: bool) -> u64 {
     if b { 1 } else { 0 }
 }
 
-// A start that has to be refused with a number; the state comes back.
-fn expect_refused(row: &mut [u64; 32], b: Beginning, number: u32) -> State {
+// Whether a step was refused with a number.
+fn is_step_refused(answer: Answer, number: u32) -> bool {
+    match answer {
+        Answer::Refused(r) => r == number,
+        Answer::Stored => false,
+        Answer::Ready => false,
+        Answer::Absent => false,
+        Answer::Value(_) => false,
+    }
+}
+
+fn is_find_refused(found: Found, number: u32) -> bool {
+    match found {
+        Found::Refused(r) => r == number,
+        Found::Value(_) => false,
+        Found::Absent => false,
+    }
+}
+
+// A call that has to be refused.
+fn expect(row: &mut [u64; 32], is_refused: bool) {
     count(row, CALLS);
     count(row, REFUSED);
-    wrong_if(row, !is_refused(b, number));
+    wrong_if(row, !is_refused);
+}
+
+// Each call on the first n words, which has to refuse with a number; the state comes back.
+fn refused_find(card: &Words, n: usize, row: &mut [u64; 32], key: u32, number: u32) {
+    let found = calls::find(card, n, key);
+    expect(row, is_find_refused(found, number));
+}
+
+fn refused_delete(
+    card: &Words,
+    n: usize,
+    row: &mut [u64; 32],
+    s: State,
+    key: u32,
+    number: u32,
+) -> State {
+    let b = calls::start_delete(card, n, s, key);
+    expect(row, is_refused(b, number));
     b.state
 }
 
-fn expect_step_refused(row: &mut [u64; 32], t: Stepped, number: u32) -> State {
-    count(row, CALLS);
-    count(row, REFUSED);
-    let answer = t.answer;
-    match answer {
-        Answer::Refused(r) => wrong_if(row, r != number),
-        Answer::Stored => wrong_if(row, true),
-        Answer::Ready => wrong_if(row, true),
-        Answer::Absent => wrong_if(row, true),
-        Answer::Value(_) => wrong_if(row, true),
-    }
-    t.state
+fn refused_insert(
+    card: &Words,
+    n: usize,
+    row: &mut [u64; 32],
+    s: State,
+    key: u32,
+    number: u32,
+) -> State {
+    let b = calls::start_insert(card, n, s, key, 1);
+    expect(row, is_refused(b, number));
+    b.state
 }
 
-fn expect_find_refused(row: &mut [u64; 32], f: Found, number: u32) {
-    count(row, CALLS);
-    count(row, REFUSED);
-    match f {
-        Found::Refused(r) => wrong_if(row, r != number),
-        Found::Value(_) => wrong_if(row, true),
-        Found::Absent => wrong_if(row, true),
-    }
+fn refused_starts(
+    card: &Words,
+    n: usize,
+    row: &mut [u64; 32],
+    s: State,
+    key: u32,
+    number: u32,
+) -> State {
+    let t = refused_delete(card, n, row, s, key, number);
+    refused_insert(card, n, row, t, key, number)
+}
+
+fn refused_step(card: &mut Words, n: usize, row: &mut [u64; 32], s: State, number: u32) -> State {
+    let t = calls::step(card, n, s);
+    let answer = t.answer;
+    expect(row, is_step_refused(answer, number));
+    t.state
 }
 
 // Key 0 is refused 6, a start that is not idle 7, an idle step 10.
 pub fn refused_call(card: &mut Words, row: &mut [u64; 32], s: State, which: u64) -> State {
     let is_idle = row[HAND] == 0;
     let n = row[LENGTH] as usize;
-    let key = random::key(row);
+    let key = keys::key(row);
     if which == 0 {
-        expect_find_refused(row, calls::find(card, n, 0), 6);
-        return s;
+        refused_find(card, n, row, 0, 6);
+        s
+    } else if is_idle && which == 1 {
+        refused_step(card, n, row, s, 10)
+    } else if is_idle {
+        refused_starts(card, n, row, s, 0, 6)
+    } else {
+        refused_starts(card, n, row, s, key, 7)
     }
-    if is_idle && which == 1 {
-        return expect_step_refused(row, calls::step(card, n, s), 10);
-    }
-    if is_idle {
-        let t = expect_refused(row, calls::start_delete(card, n, s, 0), 6);
-        return expect_refused(row, calls::start_insert(card, n, t, 0, key), 6);
-    }
-    let t = expect_refused(row, calls::start_delete(card, n, s, key), 7);
-    expect_refused(row, calls::start_insert(card, n, t, key, 1), 7)
 }
 
 fn short_length(row: &[u64; 32]) -> usize {
@@ -92,119 +132,134 @@ fn short_length(row: &[u64; 32]) -> usize {
 
 // A card that is a word too short is refused 1.
 pub fn short_card(card: &mut Words, row: &mut [u64; 32], s: State, which: u64) -> State {
-    let key = random::key(row);
+    let key = keys::key(row);
     let n = short_length(row);
     if which == 3 {
-        expect_find_refused(row, calls::find(card, n, key), 1);
-        return s;
+        refused_find(card, n, row, key, 1);
+        s
+    } else if which == 4 {
+        refused_starts(card, n, row, s, key, 1)
+    } else {
+        refused_step(card, n, row, s, 1)
     }
-    if which == 4 {
-        let t = expect_refused(row, calls::start_delete(card, n, s, key), 1);
-        return expect_refused(row, calls::start_insert(card, n, t, key, 1), 1);
-    }
-    expect_step_refused(row, calls::step(card, n, s), 1)
 }
 
 // The book's side of a start.
-fn take_in_hand(card: &Words, keys: &Words, values: &Words, row: &mut [u64; 32], kind: u64) {
-    let key = narrow(row[KEY]);
-    let range = row[RANGE] as usize;
-    let at = book::place_of(keys, range, key);
+fn take_in_hand(book: &Words, row: &mut [u64; 32], kind: u64, is_full: bool) {
+    let n = row[RANGE] as usize;
+    let at = book::place_of(book, n, narrow(row[KEY]));
     row[HAND] = kind;
     row[TAKEN] = 0;
     row[ENTERED] = 0;
-    row[FULL] = as_number(book::is_leaf_full(card, key));
-    row[WAS_HELD] = as_number(at < range);
-    row[HELD] = wide(word(values, at));
+    row[FULL] = as_number(is_full);
+    row[WAS_HELD] = as_number(at < n);
+    row[HELD] = wide(book::value_at(book, at));
 }
 
-// A refused insert: refusal 8, key absent, leaf full. With fewer than 6 nodes there are never 5 free.
-fn refused_insert(card: &Words, keys: &Words, row: &mut [u64; 32], key: u32, refusal: u32) {
-    count(row, REFUSED);
-    let range = row[RANGE] as usize;
-    let at = book::place_of(keys, range, key);
-    wrong_if(
-        row,
-        refusal != 8 || at < range || !book::is_leaf_full(card, key),
-    );
-}
-
-fn started_insert(card: &Words, keys: &Words, values: &Words, row: &mut [u64; 32]) {
-    take_in_hand(card, keys, values, row, 1);
-    let is_split = row[WAS_HELD] == 0 && row[FULL] == 1;
+// An insert that was started: with fewer than 6 nodes there are never 5 free for one that splits.
+fn started_insert(book: &Words, row: &mut [u64; 32], is_full: bool) {
+    take_in_hand(book, row, 1, is_full);
+    let is_split = row[WAS_HELD] == 0 && is_full;
     let is_small = row[NODES] < 6;
     wrong_if(row, is_small && is_split);
 }
 
-// Starts an insert or a delete of a key of the range; for some time more of the one, then more of the other.
-pub fn start(card: &Words, keys: &Words, values: &Words, row: &mut [u64; 32], s: State) -> State {
-    let n = row[LENGTH] as usize;
-    let key = random::key(row);
-    let value = random::word(row);
-    row[KEY] = wide(key);
-    row[VALUE] = wide(value);
-    count(row, CALLS);
-    let mut limit: u64 = 12;
-    if (row[STEPS] / 4096) % 2 == 1 {
-        limit = 4;
-    }
-    if random::below(row, 16) < limit {
-        let b = calls::start_insert(card, n, s, key, value);
-        let begun = b.begun;
-        match begun {
-            Begun::Started => started_insert(card, keys, values, row),
-            Begun::Idle => wrong_if(row, true),
-            Begun::Refused(r) => refused_insert(card, keys, row, key, r),
-        }
-        return b.state;
-    }
-    let b = calls::start_delete(card, n, s, key);
-    let begun = b.begun;
+// A refused insert: refusal 8, key absent, leaf full.
+fn no_room(book: &Words, row: &mut [u64; 32], is_full: bool, refusal: u32) {
+    count(row, REFUSED);
+    let n = row[RANGE] as usize;
+    let at = book::place_of(book, n, narrow(row[KEY]));
+    wrong_if(row, refusal != 8 || at < n || !is_full);
+}
+
+fn insert_begun(book: &Words, row: &mut [u64; 32], is_full: bool, begun: Begun) {
     match begun {
-        Begun::Started => take_in_hand(card, keys, values, row, 2),
+        Begun::Started => started_insert(book, row, is_full),
+        Begun::Idle => wrong_if(row, true),
+        Begun::Refused(r) => no_room(book, row, is_full, r),
+    }
+}
+
+fn delete_begun(book: &Words, row: &mut [u64; 32], is_full: bool, begun: Begun) {
+    match begun {
+        Begun::Started => take_in_hand(book, row, 2, is_full),
         Begun::Idle => wrong_if(row, true),
         Begun::Refused(_) => wrong_if(row, true),
     }
+}
+
+// Starts an insert of the key and value in the row.
+fn insert(card: &Words, book: &Words, row: &mut [u64; 32], s: State) -> State {
+    let key = narrow(row[KEY]);
+    let b = calls::start_insert(card, row[LENGTH] as usize, s, key, narrow(row[VALUE]));
+    let is_full = book::is_leaf_full(card, key);
+    let begun = b.begun;
+    insert_begun(book, row, is_full, begun);
     b.state
 }
 
-// A step of the update in hand: a store, or the final answer, which is by the book as the update began.
-pub fn step(
-    card: &mut Words,
-    keys: &mut Words,
-    values: &mut Words,
-    row: &mut [u64; 32],
-    s: State,
-) -> State {
+fn delete(card: &Words, book: &Words, row: &mut [u64; 32], s: State) -> State {
+    let key = narrow(row[KEY]);
+    let b = calls::start_delete(card, row[LENGTH] as usize, s, key);
+    let is_full = book::is_leaf_full(card, key);
+    let begun = b.begun;
+    delete_begun(book, row, is_full, begun);
+    b.state
+}
+
+// Of 16 starts so many are inserts: for some time more of the one, then more of the other.
+fn inserts_of_sixteen(row: &[u64; 32]) -> u64 {
+    if (row[STEPS] / 4096) % 2 == 1 { 4 } else { 12 }
+}
+
+// Starts an insert or a delete of a key of the range.
+pub fn start(card: &Words, book: &Words, row: &mut [u64; 32], s: State) -> State {
+    row[KEY] = wide(keys::key(row));
+    row[VALUE] = wide(random::word(row));
+    count(row, CALLS);
+    let limit = inserts_of_sixteen(row);
+    if random::below(row, 16) < limit {
+        insert(card, book, row, s)
+    } else {
+        delete(card, book, row, s)
+    }
+}
+
+// Whether a step's answer is not the one due: a store, of which there are at most 657, or the final answer by the book as the update
+// began.
+fn is_wrong(row: &[u64; 32], answer: Answer) -> bool {
+    match answer {
+        Answer::Stored => row[TAKEN] > 656,
+        Answer::Absent => row[WAS_HELD] == 1,
+        Answer::Value(v) => row[WAS_HELD] == 0 || row[HELD] != wide(v),
+        Answer::Ready => true,
+        Answer::Refused(_) => true,
+    }
+}
+
+fn is_store(answer: Answer) -> bool {
+    match answer {
+        Answer::Stored => true,
+        Answer::Absent => false,
+        Answer::Value(_) => false,
+        Answer::Ready => false,
+        Answer::Refused(_) => false,
+    }
+}
+
+// The book's side of a step.
+fn stepped(book: &mut Words, row: &mut [u64; 32], answer: Answer) {
     count(row, CALLS);
     count(row, STEPS);
-    let n = row[LENGTH] as usize;
-    let stepped = calls::step(card, n, s);
-    let answer = stepped.answer;
-    match answer {
-        Answer::Stored => {
-            book::book_step(keys, values, row, false);
-            let is_long = row[TAKEN] > 657;
-            wrong_if(row, is_long);
-        }
-        Answer::Absent => {
-            let was_held = row[WAS_HELD] == 1;
-            wrong_if(row, was_held);
-            book::book_step(keys, values, row, true);
-        }
-        Answer::Value(v) => {
-            let is_other = row[WAS_HELD] == 0 || row[HELD] != wide(v);
-            wrong_if(row, is_other);
-            book::book_step(keys, values, row, true);
-        }
-        Answer::Ready => {
-            wrong_if(row, true);
-            book::book_step(keys, values, row, true);
-        }
-        Answer::Refused(_) => {
-            wrong_if(row, true);
-            row[HAND] = 0;
-        }
-    }
-    stepped.state
+    let wrong = is_wrong(row, answer);
+    wrong_if(row, wrong);
+    book::book_step(book, row, !is_store(answer));
+}
+
+// A step of the update in hand.
+pub fn step(card: &mut Words, book: &mut Words, row: &mut [u64; 32], s: State) -> State {
+    let handed = calls::step(card, row[LENGTH] as usize, s);
+    let answer = handed.answer;
+    stepped(book, row, answer);
+    handed.state
 }

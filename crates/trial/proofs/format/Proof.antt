@@ -4,37 +4,13 @@ use Rattle.trial.proofs.format.Statement.{statement}
 use Rattle.trial.proofs.format.Tie as tie
 
 abbrev Inv-loop : tie.InvT-loop
-Inv-loop card₀ row₀ n state₀ left₀ card row state left = Unit {0}
+Inv-loop card₀ row₀ state₀ left₀ card row state left = Unit {0}
 
 abbrev μ-loop : tie.MeasureT-loop
-μ-loop card₀ row₀ n state₀ left₀ card row state left = left
-
-element-copy-out-n : tie.Need-element-copy-out-n Inv-loop μ-loop
-element-copy-out-n c = search needs
+μ-loop card₀ row₀ state₀ left₀ card row state left = left
 
 start-format-requires : tie.Need-start-format-requires Inv-loop μ-loop
 start-format-requires c κs = search needs
-
-count-requires : tie.Need-count-requires Inv-loop μ-loop
-count-requires c κs = search needs
-
-enum-told : tie.Need-enum-told Inv-loop μ-loop
-enum-told c = search needs
-
-enum-told-2 : tie.Need-enum-told-2 Inv-loop μ-loop
-enum-told-2 c = search needs
-
-wrong-if-requires : tie.Need-wrong-if-requires Inv-loop μ-loop
-wrong-if-requires c κs = search needs
-
-enum-told-3 : tie.Need-enum-told-3 Inv-loop μ-loop
-enum-told-3 c = search needs
-
-wrong-if-requires-2 : tie.Need-wrong-if-requires-2 Inv-loop μ-loop
-wrong-if-requires-2 c κs = search needs
-
-element-write-row : tie.Need-element-write-row Inv-loop μ-loop
-element-write-row c = search needs
 
 loop-holds : tie.Need-loop-holds Inv-loop μ-loop
 loop-holds c = search needs
@@ -63,8 +39,8 @@ add-due c = search needs
 add-wrong-if : tie.Need-add-wrong-if Inv-loop μ-loop
 add-wrong-if c = search needs
 
-wrong-if-requires-3 : tie.Need-wrong-if-requires-3 Inv-loop μ-loop
-wrong-if-requires-3 c κs = search needs
+wrong-if-requires : tie.Need-wrong-if-requires Inv-loop μ-loop
+wrong-if-requires c κs = search needs
 
 returns : tie.Need-returns Inv-loop μ-loop
 returns c = search needs
@@ -75,15 +51,7 @@ format-spec =
     (tie.spec
     Inv-loop
     μ-loop
-    element-copy-out-n
     start-format-requires
-    count-requires
-    enum-told
-    enum-told-2
-    wrong-if-requires
-    enum-told-3
-    wrong-if-requires-2
-    element-write-row
     loop-holds
     element-copy-out-if1
     format-step-requires
@@ -93,5 +61,5 @@ format-spec =
     element-copy-out-due
     add-due
     add-wrong-if
-    wrong-if-requires-3
+    wrong-if-requires
     returns)

@@ -4,11 +4,10 @@ use Rattle.trial.proofs.list.Statement.{statement}
 use Rattle.trial.proofs.list.Tie as tie
 
 abbrev Inv-loop : tie.InvT-loop
-Inv-loop card₀ other₀ keys₀ values₀ row₀ turns state₀ left₀ card other keys values row state left =
-    Unit {0}
+Inv-loop card₀ other₀ book₀ row₀ state₀ left₀ card other book row state left = Unit {0}
 
 abbrev μ-loop : tie.MeasureT-loop
-μ-loop card₀ other₀ keys₀ values₀ row₀ turns state₀ left₀ card other keys values row state left = left
+μ-loop card₀ other₀ book₀ row₀ state₀ left₀ card other book row state left = left
 
 clear-from-requires : tie.Need-clear-from-requires Inv-loop μ-loop
 clear-from-requires c κs = search needs
@@ -18,6 +17,9 @@ element-write-row c = search needs
 
 format-requires : tie.Need-format-requires Inv-loop μ-loop
 format-requires c κs = search needs
+
+element-copy-out-left : tie.Need-element-copy-out-left Inv-loop μ-loop
+element-copy-out-left c = search needs
 
 loop-holds : tie.Need-loop-holds Inv-loop μ-loop
 loop-holds c = search needs
@@ -49,6 +51,7 @@ list-spec =
     clear-from-requires
     element-write-row
     format-requires
+    element-copy-out-left
     loop-holds
     turn-requires
     sub-left

@@ -4,10 +4,10 @@ use Rattle.trial.proofs.cuts.compare_all.Statement.{statement}
 use Rattle.trial.proofs.cuts.compare_all.Tie as tie
 
 abbrev Inv-loop : tie.InvT-loop
-Inv-loop card keys values row₀ left₀ row left = Unit {0}
+Inv-loop card book row₀ left₀ row left = Unit {0}
 
 abbrev μ-loop : tie.MeasureT-loop
-μ-loop card keys values row₀ left₀ row left = left
+μ-loop card book row₀ left₀ row left = left
 
 element-copy-out-left : tie.Need-element-copy-out-left Inv-loop μ-loop
 element-copy-out-left c = search needs

@@ -1,7 +1,7 @@
--- `trial::garbage::run` is safe and ends. Assumes nothing.
+-- `garbage::turns` is safe and ends. Assumes nothing.
 use borrow.Author.Needs.{needs}
-use Rattle.trial.proofs.garbage.run.Statement.{statement}
-use Rattle.trial.proofs.garbage.run.Tie as tie
+use Rattle.garbage.proofs.turns.Statement.{statement}
+use Rattle.garbage.proofs.turns.Tie as tie
 
 abbrev Inv-loop : tie.InvT-loop
 Inv-loop words₀ row₀ left₀ words row left = Unit {0}
@@ -27,7 +27,7 @@ loop-again c = search needs
 returns : tie.Need-returns Inv-loop μ-loop
 returns c = search needs
 
-pub run-spec : {M : Type 1} → statement M
-run-spec =
+pub turns-spec : {M : Type 1} → statement M
+turns-spec =
     tie.close
     (tie.spec Inv-loop μ-loop loop-holds turn-requires sub-left loop-less loop-again returns)

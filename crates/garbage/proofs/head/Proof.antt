@@ -1,7 +1,7 @@
--- `trial::garbage::head` is safe and ends. Assumes nothing.
+-- `garbage::head` is safe and ends. Assumes nothing.
 use borrow.Author.Needs.{needs}
-use Rattle.trial.proofs.garbage.head.Statement.{statement}
-use Rattle.trial.proofs.garbage.head.Tie as tie
+use Rattle.garbage.proofs.head.Statement.{statement}
+use Rattle.garbage.proofs.head.Tie as tie
 
 abbrev Inv-loop : tie.InvT-loop
 Inv-loop card₀ row₀ n root left₀ card row left = Unit {0}

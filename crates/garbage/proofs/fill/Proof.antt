@@ -1,7 +1,7 @@
--- `trial::garbage::fill` is safe and ends. Assumes nothing.
+-- `garbage::fill` is safe and ends. Assumes nothing.
 use borrow.Author.Needs.{needs}
-use Rattle.trial.proofs.garbage.fill.Statement.{statement}
-use Rattle.trial.proofs.garbage.fill.Tie as tie
+use Rattle.garbage.proofs.fill.Statement.{statement}
+use Rattle.garbage.proofs.fill.Tie as tie
 
 abbrev Inv-loop : tie.InvT-loop
 Inv-loop card₀ row₀ n kind left₀ card row left = Unit {0}

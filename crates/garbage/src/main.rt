@@ -1,15 +1,21 @@
-// Garbage: words that are no table, cards of any length, and states that no call handed back. Every call returns.
-use crate::places::GARBAGE;
-use crate::places::LENGTH;
-use crate::places::count;
-use crate::random;
+// Garbage: words that are no table, cards of any length, and states that no call handed back. Every call returns. Prints how many
+// calls there were.
 use calls::Words;
 use calls::narrow;
+use calls::random;
+use calls::random::SEED;
+use calls::random::count;
 use calls::set_word;
 use free_nodes::NodeSet;
 use plans::Plan;
+use table::Beginning;
 use table::Doing;
 use table::State;
+
+// How many words the card has, and the number of calls, as places in one row of numbers.
+const LENGTH: usize = 1;
+
+const CALLS: usize = 2;
 
 fn any_number(row: &mut [u64; 32]) -> usize {
     let small = random::below(row, 4);
@@ -126,41 +132,64 @@ fn walk(card: &mut Words, row: &mut [u64; 32], s: State) {
     let mut left: u64 = 80;
     while left > 0 {
         let stepped = calls::step(card, n, state);
-        count(row, GARBAGE);
+        count(row, CALLS);
         state = stepped.state;
         left -= 1;
     }
 }
 
-// Every call, on a card and states that are garbage.
-fn calls_on(card: &mut Words, row: &mut [u64; 32], nodes: u64) {
-    let n = row[LENGTH] as usize;
-    let key = narrow(any_number(row) as u64);
-    calls::find(card, n, key);
-    count(row, GARBAGE);
+// A call that hands back a state, and steps from there.
+fn walk_from(card: &mut Words, row: &mut [u64; 32], b: Beginning) {
+    count(row, CALLS);
+    walk(card, row, b.state);
+}
+
+fn find_on(card: &Words, row: &mut [u64; 32], key: u32) {
+    calls::find(card, row[LENGTH] as usize, key);
+    count(row, CALLS);
+}
+
+fn open_on(card: &mut Words, row: &mut [u64; 32]) {
+    let b = calls::open(card, row[LENGTH] as usize);
+    walk_from(card, row, b);
+}
+
+fn insert_on(card: &mut Words, row: &mut [u64; 32], s: State, key: u32) {
+    let b = calls::start_insert(card, row[LENGTH] as usize, s, key, 7);
+    walk_from(card, row, b);
+}
+
+fn delete_on(card: &mut Words, row: &mut [u64; 32], s: State, key: u32) {
+    let b = calls::start_delete(card, row[LENGTH] as usize, s, key);
+    walk_from(card, row, b);
+}
+
+fn format_on(card: &mut Words, row: &mut [u64; 32]) {
+    let b = calls::start_format(card, row[LENGTH] as usize);
+    walk_from(card, row, b);
+}
+
+fn updates_on(card: &mut Words, row: &mut [u64; 32], nodes: u64, key: u32) {
     let s = any_state(row, nodes);
-    walk(card, row, s);
-    let opened = calls::open(card, n);
-    count(row, GARBAGE);
-    walk(card, row, opened.state);
-    let t = any_state(row, nodes);
-    let inserting = calls::start_insert(card, n, t, key, 7);
-    count(row, GARBAGE);
-    walk(card, row, inserting.state);
+    insert_on(card, row, s, key);
     let idle = State {
         nodes: nodes as usize,
         doing: Doing::Idle,
-        ..t
+        ..s
     };
-    let inserting_too = calls::start_insert(card, n, idle, key, 7);
-    count(row, GARBAGE);
-    walk(card, row, inserting_too.state);
-    let deleting = calls::start_delete(card, n, idle, key);
-    count(row, GARBAGE);
-    walk(card, row, deleting.state);
-    let formatting = calls::start_format(card, n);
-    count(row, GARBAGE);
-    walk(card, row, formatting.state);
+    insert_on(card, row, idle, key);
+    delete_on(card, row, idle, key);
+}
+
+// Every call, on a card and states that are garbage.
+fn calls_on(card: &mut Words, row: &mut [u64; 32], nodes: u64) {
+    let key = narrow(any_number(row) as u64);
+    find_on(card, row, key);
+    let s = any_state(row, nodes);
+    walk(card, row, s);
+    open_on(card, row);
+    updates_on(card, row, nodes, key);
+    format_on(card, row);
 }
 
 fn turn(card: &mut Words, row: &mut [u64; 32]) {
@@ -180,10 +209,20 @@ fn turn(card: &mut Words, row: &mut [u64; 32]) {
     calls_on(card, row, n);
 }
 
-pub fn run(words: &mut Words, row: &mut [u64; 32]) {
+fn turns(words: &mut Words, row: &mut [u64; 32]) {
     let mut left: u64 = 4000;
     while left > 0 {
         turn(words, row);
         left -= 1;
     }
+}
+
+fn main() {
+    let mut words = [0u32; 14432];
+    let mut row = [0u64; 32];
+    row[SEED] = 1994;
+    turns(&mut words, &mut row);
+    io::write_all(1, b"calls ");
+    io::print_decimal(1, row[CALLS]);
+    io::write_all(1, b"\n");
 }

@@ -1,7 +1,7 @@
--- `trial::garbage::walk` is safe and ends. Assumes nothing.
+-- `garbage::walk` is safe and ends. Assumes nothing.
 use borrow.Author.Needs.{needs}
-use Rattle.trial.proofs.garbage.walk.Statement.{statement}
-use Rattle.trial.proofs.garbage.walk.Tie as tie
+use Rattle.garbage.proofs.walk.Statement.{statement}
+use Rattle.garbage.proofs.walk.Tie as tie
 
 abbrev Inv-loop : tie.InvT-loop
 Inv-loop card₀ row₀ n state₀ left₀ card row state left = Unit {0}
