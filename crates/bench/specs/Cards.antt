@@ -15,9 +15,11 @@ use Rattle.free_nodes.specs.NodeSet.{allNodes, countTrue, firstTrue, firstFrom,
 use Rattle.laws.specs.Sorting.{insert-pair, insert-all, sort, pair-keys}
 use Rattle.soundness.specs.Check.{member, leafSound, unusedZero, lookOf, noted, enterLeaf, innerSound, enterInner, enterKind, enterNode, childrenCheck, childRun, raised, onLook, nodeCheck, tableCheck}
 use Rattle.card.specs.Replies.{Reply, refusal, holds, absent, idle, started as begun}
-use Rattle.table.specs.Answers.{foundReply}
+use Rattle.lookup.specs.Answers.{foundReply}
 use Rattle.state.specs.Answers.{stepReply, startReply}
-use Rattle.table.specs.Calls.{foundIn, foundAt, findOf, openSound, openChecked, openOf, formatOf, planning, stepPrepared, stepBegin, stepPlan, stepWork, stepHeld, stepDoing, stepOf}
+use Rattle.lookup.specs.Find.{foundIn, foundAt, findOf}
+use Rattle.opening.specs.Opening.{openSound, openChecked, openOf}
+use Rattle.table.specs.Calls.{formatOf, planning, stepPrepared, stepBegin, stepPlan, stepWork, stepHeld, stepDoing, stepOf}
 use Rattle.state.specs.Steps.{Handed, noBeginning, Step, stepRefused, stepFinal, formattedWord, formatStore, formatting, stepFormat, stepStore, stepFirst, isIdle}
 use Rattle.updates.specs.Starts.{startRefused, started, startLanded, startChecked, startOf, insertOf, deleteOf}
 use Rattle.state.specs.Memory.{Memory, noMemory, resting, idled, advanced}
@@ -27,8 +29,8 @@ use Rattle.state.specs.declared.Answer.the-variants.{Stored, Ready, Absent, Val
 use Rattle.state.specs.declared.Begun.{Begun}
 use Rattle.state.specs.declared.Begun.the-variants.{Idle as OpenedIdle, Started, Refused as BegunRefused}
 use Rattle.state.specs.declared.Doing.the-variants.{Idle}
-use Rattle.table.specs.declared.Found.{Found}
-use Rattle.table.specs.declared.Found.the-variants.{Value as FoundValue, Absent as FoundAbsent, Refused as FoundRefused}
+use Rattle.lookup.specs.declared.Found.{Found}
+use Rattle.lookup.specs.declared.Found.the-variants.{Value as FoundValue, Absent as FoundAbsent, Refused as FoundRefused}
 
 -- a card being worked, with the stores of its last call counted and that call's final answer
 pub record Bench : Type 0 where

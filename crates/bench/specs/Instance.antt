@@ -20,13 +20,15 @@ use Rattle.laws.specs.Sorting.{insert-pair, insert-all, sort}
 use Rattle.soundness.specs.Check.{member, leafSound, unusedZero, lookOf, noted, enterLeaf, innerSound, enterInner, enterKind, enterNode, childrenCheck, childRun, raised, onLook, nodeCheck, tableCheck}
 use Rattle.state.specs.Memory.{noMemory, resting, idled, advanced}
 use Rattle.updates.specs.Updates.{landing, emptyReason, reasonIn, insertReason, insertChange, changeAt, deleteChange, changeIn, roomFor, startRoom, repairs, nextChange}
-use Rattle.table.specs.Answers.{foundReply}
+use Rattle.lookup.specs.Answers.{foundReply}
 use Rattle.state.specs.Answers.{stepReply}
-use Rattle.table.specs.Calls.{formatOf, stepOf, foundIn, foundAt, findOf, openSound, openChecked, openOf, planning, stepPrepared, stepBegin, stepPlan, stepWork, stepHeld, stepDoing}
+use Rattle.lookup.specs.Find.{foundIn, foundAt, findOf}
+use Rattle.opening.specs.Opening.{openSound, openChecked, openOf}
+use Rattle.table.specs.Calls.{formatOf, stepOf, planning, stepPrepared, stepBegin, stepPlan, stepWork, stepHeld, stepDoing}
 use Rattle.state.specs.Steps.{noBeginning, stepRefused, stepFinal, formattedWord, formatStore, formatting, stepFormat, stepStore, stepFirst, isIdle}
 use Rattle.updates.specs.Starts.{startRefused, started, startLanded, startChecked, startOf, insertOf, deleteOf}
 use Rattle.state.specs.declared.Doing.the-variants.{Idle}
-use Rattle.table.specs.declared.Found.the-variants.{Value as FoundValue, Absent as FoundAbsent}
+use Rattle.lookup.specs.declared.Found.the-variants.{Value as FoundValue, Absent as FoundAbsent}
 use Rattle.state.specs.declared.Answer.{Answer}
 use Rattle.state.specs.declared.Answer.the-variants.{Stored, Ready, Absent, Value, Refused}
 use Rattle.promises.specs.Feeding.{kept-ledger, fed, leaf-full, full-at, is-none, begun-result, step-result, dictionary-answer}

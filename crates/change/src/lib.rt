@@ -147,7 +147,7 @@ fn mend_underfull(
 }
 
 // The repair of the violation at a position; a parent that is tagged is refused. "Underfull non-root node: sibling is the right one for child 0, else the left one."
-pub fn mend(
+fn mend(
     card: &[u32],
     n: usize,
     p: Position,

@@ -186,7 +186,7 @@ pub enum Visit {
     Down(Position),
 }
 
-pub fn visit_node(card: &[u32], n: usize, key: u32, p: Position) -> Visit
+fn visit_node(card: &[u32], n: usize, key: u32, p: Position) -> Visit
     requires { ⌜ (length (now card) ≡ 8 + 24 * n) × (n ≤ greatestNodes) ⌝ }
     ensures { λ r. ⌜ r ≡ visitAt (now (card .entry)) n key p ⌝ }
 {

@@ -21,7 +21,7 @@ use Rattle.soundness.specs.Check.{Findings, tableCheck}
 use Rattle.soundness_theory.specs.Facts.{Facts}
 use Rattle.soundness_theory.specs.Soundness.{sound-accepted}
 use Rattle.state.specs.Steps.{noBeginning}
-use Rattle.table.specs.Calls.{openSound, openChecked, openOf}
+use Rattle.opening.specs.Opening.{openSound, openChecked, openOf}
 use Rattle.state.specs.Memory.{resting}
 use Rattle.state.specs.declared.Begun.the-variants.{Idle as OpenedIdle}
 use Rattle.state.specs.declared.Doing.the-variants.{Idle}

@@ -66,7 +66,7 @@ pub fn all_nodes(n: usize) -> NodeSet
 }
 
 // The first node of the set at or after a. The first word is masked, so that its trailing zeros pass over the nodes before a.
-pub fn first_from(nodes: NodeSet, a: usize) -> Next
+fn first_from(nodes: NodeSet, a: usize) -> Next
     requires { ⌜ a < capacity ⌝ }
     ensures { λ r. ⌜ r ≡ firstFrom (nodesOf (nodes .words)) a ⌝ }
 {

@@ -7,7 +7,7 @@ use Rattle.dump.specs.Dump.{wordBytes, cardBytes, paddedLength, dumpOf, wordAt,
 use Rattle.dump.specs.Examples.{example}
 use Rattle.free_nodes.specs.NodeSet.{allNodes, countTrue}
 use Rattle.soundness.specs.Check.{member, leafSound, enterLeaf, enterKind, enterNode, onLook, nodeCheck, tableCheck}
-use Rattle.table.specs.Calls.{openSound, openChecked, openOf}
+use Rattle.opening.specs.Opening.{openSound, openChecked, openOf}
 use Rattle.state.specs.Steps.{isIdle}
 use Rattle.state.specs.Memory.{resting}
 use Rattle.listing.specs.Listing.{nodePairs, onCard, pairsFrom, repairedCard, listChecked, listTable, listBegun, listCard, listRead, listDump, listed}

@@ -12,7 +12,8 @@ use Rattle.free_nodes.specs.NodeSet.{countTrue}
 use Rattle.soundness.specs.Check.{Findings, tableCheck}
 use Rattle.state.specs.Memory.{Memory}
 use Rattle.state.specs.Steps.{isIdle}
-use Rattle.table.specs.Calls.{openOf, stepOf, repairSteps}
+use Rattle.opening.specs.Opening.{openOf}
+use Rattle.table.specs.Calls.{stepOf, repairSteps}
 use Rattle.state.specs.declared.Begun.{Begun}
 use Rattle.state.specs.declared.Begun.the-variants.{Idle, Started, Refused}
 use Rattle.dump.specs.Dump.{dumpWords, readAnswer}

@@ -17,7 +17,8 @@ use Rattle.dump.specs.declared.Answer.the-variants.{Length, Refused as ReadRefu
 use Rattle.free_nodes.specs.NodeSet.{countTrue}
 use Rattle.soundness.specs.Check.{Findings, tableCheck}
 use Rattle.state.specs.Steps.{isIdle}
-use Rattle.table.specs.Calls.{openOf, stepOf, repairSteps}
+use Rattle.opening.specs.Opening.{openOf}
+use Rattle.table.specs.Calls.{stepOf, repairSteps}
 use Rattle.state.specs.Memory.{Memory}
 use Rattle.state.specs.declared.Begun.the-variants.{Idle, Started, Refused}
 use Rattle.listing.specs.Listing.{repairedCard, Listing, Listed, refused, listed, pairsFrom, listChecked, listTable, listBegun, listCard, listRead, listDump, leftBegun, listedCard, leftRead, listedOver, laid, layPairs, layListed}

@@ -9,7 +9,7 @@ ghost use Rattle.listing.specs.ListingLaws.{laySlot};
 
 // Stores one slot's key and value from word `at` on, and answers where the next pair goes. An empty slot is no pair; nor is
 // a pair stored that the slice has no room for.
-pub fn put_slot(out: &mut [u32], at: usize, key: u32, value: u32) -> usize
+fn put_slot(out: &mut [u32], at: usize, key: u32, value: u32) -> usize
     requires { ⌜ at ≤ length (now out) ⌝ }
     ensures { λ r. ⌜ laid r (now (out .exit)) ≡ laySlot key value (laid at (now (out .entry))) ⌝ }
     ensures { λ r. ⌜ r ≤ length (now (out .entry)) ⌝ }
@@ -26,7 +26,7 @@ pub fn put_slot(out: &mut [u32], at: usize, key: u32, value: u32) -> usize
 }
 
 // Stores the pairs of a leaf, slots rising.
-pub fn put_leaf(node: &[u32], out: &mut [u32], at: usize) -> usize
+fn put_leaf(node: &[u32], out: &mut [u32], at: usize) -> usize
     requires { ⌜ (length (now node) ≡ 24) × (at ≤ length (now out)) ⌝ }
     ensures { λ r. ⌜ laid r (now (out .exit)) ≡ layPairs (leafPairs (now (node .entry))) (laid at (now (out .entry))) ⌝ }
     ensures { λ r. ⌜ r ≤ length (now (out .entry)) ⌝ }

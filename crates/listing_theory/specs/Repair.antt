@@ -16,7 +16,8 @@ use Rattle.promises.specs.Promise.{Accepted, Words, Quiet, steps-in, MapIs, End
 use Rattle.promises.specs.PowerLoss.{kept, begins-inv, power-loss}
 use Rattle.promises.specs.Steps.{idle-world}
 use Rattle.state.specs.Steps.{isIdle}
-use Rattle.table.specs.Calls.{stepOf, openOf, repairSteps}
+use Rattle.opening.specs.Opening.{openOf}
+use Rattle.table.specs.Calls.{stepOf, repairSteps}
 use Rattle.state.specs.Memory.{Memory}
 use Rattle.state.specs.declared.Doing.{Doing}
 use Rattle.state.specs.declared.Doing.the-variants.{Idle, Formatting, Inserting, Deleting, Repairing}

@@ -27,7 +27,8 @@ use Rattle.soundness.specs.Check.{Findings, tableCheck}
 use Rattle.soundness_theory.specs.Depth.{well-formed-size, well-formed-depth}
 use Rattle.soundness_theory.specs.Facts.{Facts}
 use Rattle.soundness_theory.specs.Soundness.{sound-accepted}
-use Rattle.table.specs.Calls.{openOf, repairSteps}
+use Rattle.opening.specs.Opening.{openOf}
+use Rattle.table.specs.Calls.{repairSteps}
 use Rattle.state.specs.declared.Begun.{Begun}
 use Rattle.state.specs.declared.Begun.the-variants.{Idle, Started, Refused}
 use Rattle.tree.specs.Pairs.{pairs}

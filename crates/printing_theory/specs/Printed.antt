@@ -29,7 +29,7 @@ use Rattle.soundness.specs.Check.{Findings, tableCheck}
 use Rattle.state.specs.Steps.{noBeginning}
 use Rattle.state.specs.declared.Begun.{Begun}
 use Rattle.state.specs.declared.Begun.the-variants.{Idle, Started, Refused}
-use Rattle.table.specs.Calls.{openSound, openChecked, openOf}
+use Rattle.opening.specs.Opening.{openSound, openChecked, openOf}
 
 -- ---- a listing that the rows have room for is told whole
 

@@ -10,12 +10,13 @@ use lib.ListN.{length, getD}
 use borrow.Author.Tests.{lt-ltb, ne-eqb, eq-eqb}
 use Rattle.descent.specs.declared.Way.{Way}
 use Rattle.promises.specs.Feeding.{dictionary-answer}
-use Rattle.table.specs.Answers.{foundReply}
+use Rattle.lookup.specs.Answers.{foundReply}
 use Rattle.state.specs.Answers.{stepReply}
-use Rattle.table.specs.Calls.{foundIn, foundAt, findOf, openSound, openChecked, openOf}
+use Rattle.lookup.specs.Find.{foundIn, foundAt, findOf}
+use Rattle.opening.specs.Opening.{openSound, openChecked, openOf}
 use Rattle.state.specs.Steps.{noBeginning}
-use Rattle.table.specs.declared.Found.{Found}
-use Rattle.table.specs.declared.Found.the-variants.{Value as FoundValue, Absent as FoundAbsent, Refused as FoundRefused}
+use Rattle.lookup.specs.declared.Found.{Found}
+use Rattle.lookup.specs.declared.Found.the-variants.{Value as FoundValue, Absent as FoundAbsent, Refused as FoundRefused}
 use Rattle.state.specs.declared.Begun.{Begun}
 use Rattle.state.specs.declared.Begun.the-variants.{Idle as OpenedIdle, Started, Refused as BegunRefused}
 use Rattle.card.specs.Header.{nodesOfLength, cardRefusal}

@@ -9,7 +9,8 @@ use Prim.Native.Nat.{ℕ, suc, _*_, _<_}
 use native.Mathlib.Omega.{arith}
 use lib.ListN.{length}
 use Rattle.state.specs.Answers.{stepReply}
-use Rattle.table.specs.Calls.{openOf, stepOf, repairSteps}
+use Rattle.opening.specs.Opening.{openOf}
+use Rattle.table.specs.Calls.{stepOf, repairSteps}
 use Rattle.state.specs.Steps.{isIdle}
 use Rattle.updates.specs.Starts.{insertOf, deleteOf}
 use Rattle.state.specs.declared.Doing.{Doing}

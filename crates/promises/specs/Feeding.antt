@@ -7,15 +7,16 @@ use Rattle.card.specs.Layout.{nodeAt}
 use Rattle.descent.specs.Descent.{slotOf}
 use Rattle.promises.specs.Ledger.{Update, Result, Fed, Ledger, feed, put, remove, was-refused, was-final, goes-on, fed-find, fed-insert, fed-delete, fed-step, fed-cut}
 use Rattle.promises.specs.Machine.{Event, World, happens, run, find, insert, delete, step, crash}
-use Rattle.table.specs.Calls.{findOf, stepOf}
+use Rattle.lookup.specs.Find.{findOf}
+use Rattle.table.specs.Calls.{stepOf}
 use Rattle.updates.specs.Starts.{insertOf, deleteOf}
 use Rattle.updates.specs.Updates.{landing}
 use Rattle.state.specs.declared.Begun.{Begun}
 use Rattle.state.specs.declared.Begun.the-variants.{Idle as OpenedIdle, Started, Refused as BegunRefused}
 use Rattle.state.specs.declared.Answer.{Answer}
 use Rattle.state.specs.declared.Answer.the-variants.{Stored, Ready, Absent, Value, Refused}
-use Rattle.table.specs.declared.Found.{Found}
-use Rattle.table.specs.declared.Found.the-variants.{Value as FoundValue, Absent as FoundAbsent, Refused as FoundRefused}
+use Rattle.lookup.specs.declared.Found.{Found}
+use Rattle.lookup.specs.declared.Found.the-variants.{Value as FoundValue, Absent as FoundAbsent, Refused as FoundRefused}
 use Rattle.tree.specs.Pairs.{lookup}
 use Rattle.descent.specs.declared.Slot.{Slot}
 use Rattle.descent.specs.declared.Slot.the-variants.{At, Absent as NoSlot}

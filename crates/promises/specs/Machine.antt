@@ -2,15 +2,16 @@
 -- opened anew.
 use mathlib.Core.List.{List, [], _∷_}
 use Prim.Native.Nat.{ℕ}
-use Rattle.table.specs.Calls.{openOf, stepOf}
+use Rattle.opening.specs.Opening.{openOf}
+use Rattle.table.specs.Calls.{stepOf}
 use Rattle.updates.specs.Starts.{insertOf, deleteOf}
 use Rattle.state.specs.Memory.{Memory}
 use Rattle.state.specs.declared.Begun.{Begun}
 use Rattle.state.specs.declared.Begun.the-variants.{Idle as OpenedIdle, Started, Refused as BegunRefused}
 use Rattle.state.specs.declared.Answer.{Answer}
 use Rattle.state.specs.declared.Answer.the-variants.{Stored, Ready, Absent, Value, Refused}
-use Rattle.table.specs.declared.Found.{Found}
-use Rattle.table.specs.declared.Found.the-variants.{Value as FoundValue, Absent as FoundAbsent, Refused as FoundRefused}
+use Rattle.lookup.specs.declared.Found.{Found}
+use Rattle.lookup.specs.declared.Found.the-variants.{Value as FoundValue, Absent as FoundAbsent, Refused as FoundRefused}
 
 pub data Event : Type 0 where
   find : ℕ → Event

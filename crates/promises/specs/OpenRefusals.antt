@@ -25,7 +25,7 @@ use Rattle.soundness_theory.specs.Facts.{Facts}
 use Rattle.soundness_theory.specs.Soundness.{accepts-sound, sound-accepted}
 use Rattle.state.specs.Answers.{startReply}
 use Rattle.state.specs.Steps.{noBeginning}
-use Rattle.table.specs.Calls.{openSound, openChecked, openOf}
+use Rattle.opening.specs.Opening.{openSound, openChecked, openOf}
 use Rattle.state.specs.declared.Begun.{Begun}
 use Rattle.state.specs.declared.Begun.the-variants.{Idle as OpenedIdle, Started, Refused as BegunRefused}
 use Rattle.tree.specs.Tree.{Tree, roots, leaf, node}

@@ -6,16 +6,18 @@ use mathlib.Core.Option.{Option, none, some}
 use mathlib.Core.Logic.{_⊎_}
 use Prim.Native.Nat.{ℕ, suc, _+_, _*_, _≤_, _<_}
 use lib.ListN.{length}
-use Rattle.table.specs.Answers.{foundReply}
+use Rattle.lookup.specs.Answers.{foundReply}
 use Rattle.state.specs.Answers.{stepReply}
-use Rattle.table.specs.Calls.{findOf, openOf, formatOf, stepOf, repairSteps}
+use Rattle.lookup.specs.Find.{findOf}
+use Rattle.opening.specs.Opening.{openOf}
+use Rattle.table.specs.Calls.{formatOf, stepOf, repairSteps}
 use Rattle.updates.specs.Starts.{insertOf, deleteOf}
 use Rattle.state.specs.declared.Doing.{Doing}
 use Rattle.state.specs.declared.Doing.the-variants.{Idle, Formatting, Inserting, Deleting, Repairing}
 use Rattle.state.specs.declared.Answer.{Answer}
 use Rattle.state.specs.declared.Answer.the-variants.{Stored, Ready, Absent, Value, Refused}
-use Rattle.table.specs.declared.Found.{Found}
-use Rattle.table.specs.declared.Found.the-variants.{Value as FoundValue, Absent as FoundAbsent, Refused as FoundRefused}
+use Rattle.lookup.specs.declared.Found.{Found}
+use Rattle.lookup.specs.declared.Found.the-variants.{Value as FoundValue, Absent as FoundAbsent, Refused as FoundRefused}
 use Rattle.state.specs.declared.Begun.{Begun}
 use Rattle.state.specs.declared.Begun.the-variants.{Idle as OpenedIdle, Started, Refused as BegunRefused}
 use Rattle.card.specs.Replies.{ready}

@@ -26,7 +26,7 @@ use Rattle.soundness_theory.specs.Facts.{Facts}
 use Rattle.soundness_theory.specs.Ranges.{well-formed-in-range, range-sound}
 use Rattle.soundness_theory.specs.Soundness.{sound-accepted}
 use Rattle.state.specs.Steps.{Handed, isIdle}
-use Rattle.table.specs.Calls.{openSound, openChecked, openOf}
+use Rattle.opening.specs.Opening.{openSound, openChecked, openOf}
 use Rattle.state.specs.Memory.{resting}
 use Rattle.state.specs.declared.Doing.{Doing}
 use Rattle.state.specs.declared.Doing.the-variants.{Idle, Formatting, Inserting, Deleting, Repairing}

@@ -23,7 +23,8 @@ use Rattle.state.specs.declared.Answer.{Answer}
 use Rattle.state.specs.declared.Answer.the-variants.{Stored, Ready, Absent, Value, Refused}
 use Rattle.state_block.specs.Block.{stateWords, unpacked, memoryIn, Small, Kept, Words}
 use Rattle.ration_table.specs.HandedBack.{step-small}
-use Rattle.ration_table.specs.Contracts.{OpenCall, StartCall, StepCall, isRefusal, isRefusedStart}
+use Rattle.ration_table.specs.Contracts.{OpenCall, StartCall, StepCall}
+use Rattle.replies.specs.ReplyWords.{isRefusal, isRefusedStart}
 use Rattle.block_steps.specs.Playing.{Played}
 
 -- ---- refusals

@@ -1,4 +1,4 @@
--- What the exported calls promise, in the terms of table/specs/Calls.antt. These are definitions.
+-- What the exported calls promise, in the terms of the definitions of the calls. These are definitions.
 --
 -- No definition decides the words of places and values that belong to no store still to come. Nor does one decide, where
 -- several words say the same to every later call, which of them stand in the block: the numbers beside what is being done that
@@ -6,24 +6,14 @@
 -- the words of the nodes cut out after the first 0. What holds of them all: `memoryIn` of the block is what the definition gives.
 use mathlib.Core.Path.{_≡_}
 use mathlib.Core.List.{List}
-use mathlib.Core.Bool.{Bool, true, false}
-use Prim.Native.Nat.{ℕ, _^_, _<_}
+use Prim.Native.Nat.{ℕ}
 use lib.ListN.{length}
 use Rattle.card.specs.Replies.{Reply, noState}
 use Rattle.state.specs.Answers.{startReply, stepReply}
 use Rattle.state.specs.Steps.{Handed, Step}
-use Rattle.state.specs.declared.Begun.{Begun}
-use Rattle.state.specs.declared.Begun.the-variants.{Idle as OpenedIdle, Started, Refused as BegunRefused}
-use Rattle.state.specs.declared.Answer.{Answer}
-use Rattle.state.specs.declared.Answer.the-variants.{Stored, Ready, Absent, Value, Refused}
-use Rattle.dump.specs.declared.Answer.{Answer as DumpAnswer}
-use Rattle.dump.specs.declared.Answer.the-variants.{Length}
+use Rattle.state.specs.declared.Begun.the-variants.{Refused as BegunRefused}
+use Rattle.state.specs.declared.Answer.the-variants.{Refused}
 use Rattle.state_block.specs.Block.{stateWords, memoryIn}
-use Rattle.ration_table.specs.declared.replies.Reply.{Reply as ReplyWords}
-
--- the two words of an answer
-abbrev pub replyOf : ReplyWords → Reply
-replyOf r = record { code = r .code; value = r .value }
 
 -- opening and starting to format: "refused, hands back an idle state for N = 0" is part of `due`
 pub record OpenCall (before after : List ℕ) (reply : Reply) (due : Handed) : Type 0 where
@@ -43,20 +33,3 @@ pub record StepCall (before after card-before card-after : List ℕ) (reply : Re
   pub handed : length before ≡ stateWords → memoryIn after ≡ due .memory
   pub unchanged : (r : ℕ) → due .answer ≡ Refused r → after ≡ before
   pub no-state : (length before ≡ stateWords → ⊥) → (reply ≡ noState) × (after ≡ before) × (card-after ≡ card-before)
-
--- whether an answer is a refusal
-unfoldable pub isRefusal : Answer → Bool
-isRefusal Stored = false
-isRefusal Ready = false
-isRefusal Absent = false
-isRefusal (Value v) = false
-isRefusal (Refused r) = true
-
-unfoldable pub isRefusedStart : Begun → Bool
-isRefusedStart OpenedIdle = false
-isRefusedStart Started = false
-isRefusedStart (BegunRefused r) = true
-
--- the length of a dump's result fits a word
-abbrev pub ShortDump : DumpAnswer → Type 0
-ShortDump answer = (n : ℕ) → answer ≡ Length n → n < 2 ^ 32

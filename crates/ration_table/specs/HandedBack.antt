@@ -34,7 +34,8 @@ use Rattle.soundness.specs.Check.{Findings, tableCheck}
 use Rattle.state.specs.Memory.{Memory, memoryOf, noMemory, resting, idled, advanced}
 use Rattle.updates.specs.Updates.{Reason, held, slot, full, FirstChange, landing, insertReason, insertChange, deleteChange, repairs, noChange, nextChange, startRoom, changeIn, changeAt}
 use Rattle.state.specs.Steps.{Handed, Step, noBeginning, stepRefused, stepFinal, formatStore, formatting, stepFormat, stepStore, stepFirst, isIdle}
-use Rattle.table.specs.Calls.{openSound, openChecked, openOf, formatOf, planning, stepPrepared, stepBegin, stepPlan, stepWork, stepHeld, stepDoing, stepOf}
+use Rattle.opening.specs.Opening.{openSound, openChecked, openOf}
+use Rattle.table.specs.Calls.{formatOf, planning, stepPrepared, stepBegin, stepPlan, stepWork, stepHeld, stepDoing, stepOf}
 use Rattle.updates.specs.Starts.{startRefused, started, startLanded, startChecked, startOf, insertOf, deleteOf}
 use Rattle.state.specs.StepLaws.{format-end}
 use Rattle.state.specs.declared.Doing.{Doing}

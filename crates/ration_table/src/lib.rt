@@ -1,7 +1,5 @@
 // The table and its dumps, for C and Rust to call. A card is a lent slice of words; a state is a lent block of words, and any
 // words in it are some state. A block of another length is no state, and nothing is read or written.
-mod replies;
-
 use block_steps::play;
 pub use replies::Reply;
 use replies::dump_reply;
@@ -20,13 +18,16 @@ ghost use mathlib.Core.Path.{_≡_};
 ghost use lib.ListN.{length};
 ghost use Rattle.dump.specs.Dump.{readAnswer, readOver, writeAnswer, writeOver};
 ghost use Rattle.dump.specs.Answers.{dumpReply};
-ghost use Rattle.table.specs.Answers.{foundReply};
-ghost use Rattle.table.specs.Calls.{findOf, openOf, formatOf, stepOf};
+ghost use Rattle.lookup.specs.Answers.{foundReply};
+ghost use Rattle.lookup.specs.Find.{findOf};
+ghost use Rattle.opening.specs.Opening.{openOf};
+ghost use Rattle.table.specs.Calls.{formatOf, stepOf};
 ghost use Rattle.updates.specs.Starts.{insertOf, deleteOf};
 ghost use Rattle.state.specs.Results.{handedOf, UnchangedStart};
 ghost use Rattle.state.specs.Memory.{memoryOf};
 ghost use Rattle.state_block.specs.Block.{stateWords, unpacked, memoryIn, Small};
-ghost use Rattle.ration_table.specs.Contracts.{replyOf, OpenCall, StartCall, StepCall};
+ghost use Rattle.ration_table.specs.Contracts.{OpenCall, StartCall, StepCall};
+ghost use Rattle.replies.specs.ReplyWords.{replyOf};
 
 // "A find is one call on the card alone".
 #[no_mangle]
@@ -143,7 +144,8 @@ pub extern "C" fn ration_read_dump(dump: &[u8], words: &mut [u32]) -> Reply
     ensures { λ r. ⌜ replyOf r ≡ dumpReply (readAnswer (now (dump .entry)) (length (now (words .entry)))) ⌝ }
     ensures { λ r. ⌜ now (words .exit) ≡ readOver (now (dump .entry)) (now (words .entry)) ⌝ }
 {
-    dump_reply(dump::read_dump(dump, words))
+    let answer = dump::read_dump(dump, words);
+    dump_reply(answer)
 }
 
 // "writing one checks 1, 2, 3, 12".
@@ -152,5 +154,6 @@ pub extern "C" fn ration_write_dump(card: &[u32], bytes: &mut [u8]) -> Reply
     ensures { λ r. ⌜ replyOf r ≡ dumpReply (writeAnswer (now (card .entry)) (length (now (bytes .entry)))) ⌝ }
     ensures { λ r. ⌜ now (bytes .exit) ≡ writeOver (now (card .entry)) (now (bytes .entry)) ⌝ }
 {
-    dump_reply(dump::write_dump(card, bytes))
+    let answer = dump::write_dump(card, bytes);
+    dump_reply(answer)
 }

@@ -6,9 +6,9 @@ use lib.ListN.{length, getD, take, drop}
 use lib.Dec.{eqb, ltb, leb}
 use Rattle.laws.specs.Cases.{pick}
 use Rattle.card.specs.Replies.{Reply, refusal, absent, fetched}
-use Rattle.table.specs.Calls.{findOf}
-use Rattle.table.specs.declared.Found.{Found as Look}
-use Rattle.table.specs.declared.Found.the-variants.{Value, Absent as NotHeld, Refused as NoLook}
+use Rattle.lookup.specs.Find.{findOf}
+use Rattle.lookup.specs.declared.Found.{Found as Look}
+use Rattle.lookup.specs.declared.Found.the-variants.{Value, Absent as NotHeld, Refused as NoLook}
 use Rattle.records.specs.declared.Fetched.{Fetched}
 use Rattle.records.specs.declared.Fetched.the-variants.{Found, Absent, Refused}
 

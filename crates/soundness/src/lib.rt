@@ -36,7 +36,7 @@ fn wide(x: u32) -> u64
 }
 
 // Whether the key of slot i stands in a later slot too.
-pub fn is_repeated(node: &[u32], i: usize) -> bool
+fn is_repeated(node: &[u32], i: usize) -> bool
     requires { ⌜ (length (now node) ≡ 24) × (i < 11) ⌝ }
     ensures { λ r. ⌜ r ≡ member (getD (now (node .entry)) (1 + i) 0) (drop (i + 1) (keyWords (now (node .entry)))) ⌝ }
 {
@@ -52,7 +52,7 @@ pub fn is_repeated(node: &[u32], i: usize) -> bool
 }
 
 // Whether slot i is empty, or its key lies in the range from `low`, included, to `high`, excluded, and in no later slot.
-pub fn slot_is_sound(node: &[u32], i: usize, low: u32, high: u64) -> bool
+fn slot_is_sound(node: &[u32], i: usize, low: u32, high: u64) -> bool
     requires { ⌜ (length (now node) ≡ 24) × (i < 11) ⌝ }
     ensures { λ r. ⌜ r ≡ slotSound low high (getD (now (node .entry)) (1 + i) 0) (drop (i + 1) (keyWords (now (node .entry)))) ⌝ }
 {
@@ -70,7 +70,7 @@ pub fn slot_is_sound(node: &[u32], i: usize, low: u32, high: u64) -> bool
 }
 
 // Whether the keys of a leaf are distinct and in its range.
-pub fn leaf_is_sound(node: &[u32], low: u32, high: u64) -> bool
+fn leaf_is_sound(node: &[u32], low: u32, high: u64) -> bool
     requires { ⌜ length (now node) ≡ 24 ⌝ }
     ensures { λ r. ⌜ r ≡ leafSound low high (keyWords (now (node .entry))) ⌝ }
 {
@@ -85,7 +85,7 @@ pub fn leaf_is_sound(node: &[u32], low: u32, high: u64) -> bool
 }
 
 // Whether the words of a node from `from`, included, to `to`, excluded, are 0.
-pub fn are_zero(node: &[u32], from: usize, to: usize) -> bool
+fn are_zero(node: &[u32], from: usize, to: usize) -> bool
     requires { ⌜ (from ≤ to) × (to ≤ length (now node)) ⌝ }
     ensures { λ r. ⌜ r ≡ all-zero (slice from to (now (node .entry))) ⌝ }
 {
@@ -100,7 +100,7 @@ pub fn are_zero(node: &[u32], from: usize, to: usize) -> bool
 }
 
 // Whether the words of an internal node with c children that document 01 calls 0 are 0.
-pub fn unused_is_zero(node: &[u32], c: usize) -> bool
+fn unused_is_zero(node: &[u32], c: usize) -> bool
     requires { ⌜ (length (now node) ≡ 24) × (1 ≤ c) × (c ≤ 11) ⌝ }
     ensures { λ r. ⌜ r ≡ unusedZero (now (node .entry)) c ⌝ }
 {
@@ -117,13 +117,13 @@ pub enum Entry {
     Inner(usize),
 }
 
-pub struct Entered {
+struct Entered {
     pub entry: Entry,
     pub survey: Survey,
 }
 
 // The survey with one violation more; refused where there was one before.
-pub fn with_violation(s: Survey, entry: Entry, key: u32, run: usize) -> Entered
+fn with_violation(s: Survey, entry: Entry, key: u32, run: usize) -> Entered
     ensures { λ r. ⌜ entryOf r ≡ noted true entry (findingsOf s) key run ⌝ }
 {
     if s.violated {
@@ -145,7 +145,7 @@ pub fn with_violation(s: Survey, entry: Entry, key: u32, run: usize) -> Entered
 }
 
 // A leaf is looked at, its number already taken off the free nodes.
-pub fn enter_leaf(node: &[u32], low: u32, high: u64, root: bool, s: Survey) -> Entered
+fn enter_leaf(node: &[u32], low: u32, high: u64, root: bool, s: Survey) -> Entered
     requires { ⌜ length (now node) ≡ 24 ⌝ }
     ensures { λ r. ⌜ entryOf r ≡ enterLeaf (now (node .entry)) low high root (findingsOf s) ⌝ }
 {
@@ -178,14 +178,7 @@ pub fn enter_leaf(node: &[u32], low: u32, high: u64, root: bool, s: Survey) -> E
 }
 
 // An internal node, tagged or not, is looked at, its number already taken off the free nodes.
-pub fn enter_inner(
-    node: &[u32],
-    tagged: bool,
-    low: u32,
-    run: usize,
-    root: bool,
-    s: Survey,
-) -> Entered
+fn enter_inner(node: &[u32], tagged: bool, low: u32, run: usize, root: bool, s: Survey) -> Entered
     requires { ⌜ length (now node) ≡ 24 ⌝ }
     ensures { λ r. ⌜ entryOf r ≡ enterInner (now (node .entry)) tagged low run root (findingsOf s) ⌝ }
 {
@@ -233,7 +226,7 @@ pub fn enter_inner(
 }
 
 // A node is looked at by its kind, its number already taken off the free nodes.
-pub fn enter_kind(node: &[u32], low: u32, high: u64, run: usize, root: bool, s: Survey) -> Entered
+fn enter_kind(node: &[u32], low: u32, high: u64, run: usize, root: bool, s: Survey) -> Entered
     requires { ⌜ length (now node) ≡ 24 ⌝ }
     ensures { λ r. ⌜ entryOf r ≡ enterKind (now (node .entry)) low high run root (findingsOf s) ⌝ }
 {
@@ -250,7 +243,7 @@ pub fn enter_kind(node: &[u32], low: u32, high: u64, run: usize, root: bool, s: 
 }
 
 // Node m is looked at for the first time: its number, its kind, its words.
-pub fn enter(
+fn enter(
     card: &[u32],
     n: usize,
     m: usize,
@@ -294,7 +287,7 @@ pub fn enter(
 }
 
 // How many 11-child nodes stand without a break straight above the children of a node with c children.
-pub fn child_run(c: usize, run: usize) -> usize
+fn child_run(c: usize, run: usize) -> usize
     requires { ⌜ run < depthLimit ⌝ }
     ensures { λ r. ⌜ r ≡ childRun c run ⌝ }
 {
@@ -302,7 +295,7 @@ pub fn child_run(c: usize, run: usize) -> usize
 }
 
 // The answer for the children as the answer for their parent, which is one level higher where it is not tagged.
-pub fn raise(r: Checked, tagged: bool) -> Checked
+fn raise(r: Checked, tagged: bool) -> Checked
     requires { ⌜ r .height < depthLimit ⌝ }
     ensures { λ a. ⌜ (checkedOf a ≡ raised tagged (checkedOf r)) × (a .height ≤ r .height + 1) ⌝ }
 {
@@ -316,14 +309,14 @@ pub fn raise(r: Checked, tagged: bool) -> Checked
 }
 
 // Where the range of a child ends, excluded.
-pub enum RangeEnd {
+enum RangeEnd {
     Wrong,
     At(u64),
 }
 
 // The end of child i's range, which begins at `from` in a node whose own range ends at `high`: the routing key after the
 // child, or `high` for the last. Wrong where that key does not rise above `from` or is not below `high`.
-pub fn range_end(node: &[u32], c: usize, i: usize, from: u32, high: u64) -> RangeEnd
+fn range_end(node: &[u32], c: usize, i: usize, from: u32, high: u64) -> RangeEnd
     requires { ⌜ (length (now node) ≡ 24) × (c ≡ length (children (now node))) × (i < c) ⌝ }
     ensures { λ r. ⌜ endOf r ≡ rangeEnd from high (drop i (routingKeys (now (node .entry)))) ⌝ }
 {
@@ -342,7 +335,7 @@ pub fn range_end(node: &[u32], c: usize, i: usize, from: u32, high: u64) -> Rang
 }
 
 // Whether a child is as high as the children before it, or is the first.
-pub fn is_level(first: bool, height: usize, before: usize) -> bool
+fn is_level(first: bool, height: usize, before: usize) -> bool
     ensures { λ r. ⌜ r ≡ (first || eqb height before) ⌝ }
 {
     if first {
@@ -352,7 +345,7 @@ pub fn is_level(first: bool, height: usize, before: usize) -> bool
 }
 
 // Node m and all below it, past at most `levels` internal nodes.
-pub fn node_check(
+fn node_check(
     card: &[u32],
     n: usize,
     m: usize,
@@ -400,7 +393,7 @@ pub fn node_check(
 
 // All c children of an internal node, left to right, each in its range and all equally high. A loop, so that the stack
 // holds two frames for each level and not one for each child.
-pub fn children_check(
+fn children_check(
     card: &[u32],
     node: &[u32],
     n: usize,

@@ -1,10 +1,10 @@
-// The table: format, open, find, and the steps of what is being done (document 01, "State, steps and free nodes").
-mod lookup;
-mod opening;
+// The table: find, open, and here format, the starts of updates and the steps of what is being done (document 01, "State, steps and free
+// nodes").
 mod steps;
 
-use lookup::found_at;
-use opening::open_checked;
+pub use lookup::Found;
+pub use lookup::find;
+pub use opening::open;
 pub use state::Answer;
 pub use state::Beginning;
 pub use state::Begun;
@@ -20,41 +20,9 @@ use updates::begin;
 use updates::start_refusal;
 ghost use mathlib.Core.Path.{_≡_};
 ghost use Rattle.state.specs.Memory.{memoryOf};
-ghost use Rattle.table.specs.Calls.{findOf, openOf, formatOf, stepOf};
+ghost use Rattle.table.specs.Calls.{formatOf, stepOf};
 ghost use Rattle.updates.specs.Starts.{insertOf, deleteOf};
 ghost use Rattle.state.specs.Results.{handedOf, Unchanged, UnchangedStart};
-
-// What a find answers.
-pub enum Found {
-    Value(u32),
-    Absent,
-    Refused(u32),
-}
-
-// "A find is one call on the card alone; it may come between steps and answers by the map at that moment."
-pub fn find(card: &[u32], key: u32) -> Found
-    ensures { λ r. ⌜ r ≡ findOf (now (card .entry)) key ⌝ }
-{
-    let refusal = card::card_refusal(card);
-    if refusal != 0 {
-        return Found::Refused(refusal);
-    }
-    if key == 0 {
-        return Found::Refused(6);
-    }
-    found_at(card, card::nodes_of(card.len()), key)
-}
-
-// "Opening stores nothing, works out the free nodes, and hands back an idle state, or one with the repair in progress".
-pub fn open(card: &[u32]) -> Beginning
-    ensures { λ r. ⌜ handedOf r ≡ openOf (now (card .entry)) ⌝ }
-{
-    let refusal = card::card_refusal(card);
-    if refusal != 0 {
-        return no_beginning(refusal);
-    }
-    open_checked(card, card::nodes_of(card.len()))
-}
 
 // "Formatting needs no earlier state". While it goes on the free nodes are those of the table it makes, whose root is node 1.
 pub fn start_format(card: &[u32]) -> Beginning

@@ -2,8 +2,9 @@
 use mathlib.Core.Path.{subst}
 use borrow.Author.Needs.{needs}
 use Rattle.state.specs.Steps.{Handed}
-use Rattle.table.specs.Calls.{openOf}
-use Rattle.ration_table.specs.Contracts.{replyOf, OpenCall}
+use Rattle.opening.specs.Opening.{openOf}
+use Rattle.ration_table.specs.Contracts.{OpenCall}
+use Rattle.replies.specs.ReplyWords.{replyOf}
 use Rattle.ration_table.specs.ContractLaws.{open-no-state, small-handed}
 use Rattle.ration_table.specs.HandedBack.{open-small}
 use Rattle.ration_table.proofs.ration_open.Statement.{statement}

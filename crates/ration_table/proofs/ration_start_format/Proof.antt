@@ -3,7 +3,8 @@ use mathlib.Core.Path.{subst}
 use borrow.Author.Needs.{needs}
 use Rattle.state.specs.Steps.{Handed}
 use Rattle.table.specs.Calls.{formatOf}
-use Rattle.ration_table.specs.Contracts.{replyOf, OpenCall}
+use Rattle.ration_table.specs.Contracts.{OpenCall}
+use Rattle.replies.specs.ReplyWords.{replyOf}
 use Rattle.ration_table.specs.ContractLaws.{open-no-state, small-handed}
 use Rattle.ration_table.specs.HandedBack.{format-small}
 use Rattle.ration_table.proofs.ration_start_format.Statement.{statement}

@@ -1,0 +1,3 @@
+pub mod Find
+pub mod FindLaws
+pub mod Answers

@@ -1,0 +1,56 @@
+-- `opening::open_sound` meets its contract.
+use mathlib.Core.Path.{ap, sym, _∙_}
+use native.Mathlib.Omega.{arith}
+use Rattle.soundness.specs.Check.{findingsOf}
+use Rattle.opening.specs.OpeningLaws.{open-scarce, open-repair, open-idle}
+use Rattle.state.specs.Memory.{Memory}
+use Rattle.state.specs.Results.{handedOf}
+use Rattle.state.specs.declared.Begun.the-variants.{Idle as OpenedIdle, Started}
+use borrow.Author.Needs.{needs}
+use Rattle.opening.proofs.open_sound.Statement.{statement}
+use Rattle.opening.proofs.open_sound.Tie as tie
+
+count-requires : tie.Need-count-requires
+count-requires c κs = search needs
+
+no-beginning-requires : tie.Need-no-beginning-requires
+no-beginning-requires c κs = search needs
+
+returns : tie.Need-returns
+unfolding findingsOf
+returns c = c .no-beginning .ensures ∙ sym (open-scarce _ _ (omega (arith, c .before .before .count .ensures)))
+
+no-beginning-requires-2 : tie.Need-no-beginning-requires-2
+no-beginning-requires-2 c κs = search needs
+
+returns-2 : tie.Need-returns-2
+unfolding findingsOf
+returns-2 c = c .no-beginning2 .ensures ∙ sym (open-scarce _ _ (omega (arith, c .before .before .before .before .count .ensures)))
+
+resting-requires : tie.Need-resting-requires
+resting-requires c κs = search needs
+
+returns-3 : tie.Need-returns-3
+unfolding handedOf findingsOf
+returns-3 c = ap (λ (x : Memory). record { begun = Started; memory = x }) (c .resting .ensures) ∙ sym (open-repair _ (findingsOf (c .before .before .before .before .before .before .before .args .found)) (omega (arith, c .before .before .before .before .before .count .ensures)) (c .before .if3 .taken))
+
+resting-requires-2 : tie.Need-resting-requires-2
+resting-requires-2 c κs = search needs
+
+returns-4 : tie.Need-returns-4
+unfolding handedOf findingsOf
+returns-4 c = ap (λ (x : Memory). record { begun = OpenedIdle; memory = x }) (c .resting2 .ensures) ∙ sym (open-idle _ (findingsOf (c .before .before .before .before .before .before .before .args .found)) (omega (arith, c .before .before .before .before .before .count .ensures)) (c .before .if3 .left))
+
+pub open-sound-spec : {M : Type 1} → statement M
+open-sound-spec =
+    tie.close
+    (tie.spec
+    count-requires
+    no-beginning-requires
+    returns
+    no-beginning-requires-2
+    returns-2
+    resting-requires
+    returns-3
+    resting-requires-2
+    returns-4)
