@@ -138,4 +138,4 @@ def main():
     open(crate + '/stdin', 'wb').write(b''.join([dump(t, NODES) for t in REPAIRED] + [d for _, d in REFUSED]))
     open(crate + '/stdout', 'w').write(''.join([text(t, NODES) for t in REPAIRED] + ['refused %d\n' % r for r, _ in REFUSED]))
 
-main()
+if __name__ == '__main__': main()

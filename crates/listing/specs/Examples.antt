@@ -10,9 +10,10 @@ use Rattle.soundness.specs.Check.{member, leafSound, enterLeaf, enterKind, ente
 use Rattle.opening.specs.Opening.{openSound, openChecked, openOf}
 use Rattle.state.specs.Steps.{isIdle}
 use Rattle.state.specs.Memory.{resting}
-use Rattle.listing.specs.Listing.{nodePairs, onCard, pairsFrom, repairedCard, listChecked, listTable, listBegun, listCard, listRead, listDump, listed}
+use Rattle.repairing.specs.Repairing.{repairedCard, openedCard}
+use Rattle.listing.specs.Listing.{nodePairs, onCard, pairsFrom, listChecked, listTable, listBegun, listCard, listRead, listDump, listed}
 
 -- "nodes 4 free 3 levels 0 pairs 2", then "7 70" and "3 31"
 example-listed : listDump (dumpOf example) 104 ≡ listed (record { nodes = 4; free = 3; levels = 0; pairs = (7, 70) ∷ (3, 31) ∷ [] })
-unfolding example nodeImage readAnswer damaged faults roomFor dumpOf cardBytes wordBytes wordAt paddedLength dumpWords listDump listRead listCard listBegun listTable listChecked repairedCard isIdle openOf openChecked openSound resting cardRefusal headerRefusal nodesOfLength tableCheck nodeCheck onLook enterNode enterKind enterLeaf leafSound member allNodes countTrue nodeAt keyWords valueWords leafPairs pairsFrom onCard nodePairs
+unfolding example nodeImage readAnswer damaged faults roomFor dumpOf cardBytes wordBytes wordAt paddedLength dumpWords listDump listRead listCard listBegun listTable listChecked openedCard repairedCard isIdle openOf openChecked openSound resting cardRefusal headerRefusal nodesOfLength tableCheck nodeCheck onLook enterNode enterKind enterLeaf leafSound member allNodes countTrue nodeAt keyWords valueWords leafPairs pairsFrom onCard nodePairs
 example-listed = refl

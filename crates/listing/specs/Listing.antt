@@ -3,17 +3,15 @@
 use mathlib.Core.List.{List, [], _∷_, _++_}
 use mathlib.Core.Option.{Option, none, some}
 use Prim.Native.Nat.{ℕ, zero, suc, _+_, _*_}
-use lib.ListN.{length, getD, drop, set}
+use lib.ListN.{length, getD, set}
 use lib.Dec.{eqb, ltb}
 use Rattle.laws.specs.Cases.{pick}
 use Rattle.card.specs.Layout.{rootPlace, depthLimit, nodeAt, kindOf, children, leafPairs}
 use Rattle.card.specs.Header.{nodesOfLength}
 use Rattle.free_nodes.specs.NodeSet.{countTrue}
 use Rattle.soundness.specs.Check.{Findings, tableCheck}
-use Rattle.state.specs.Memory.{Memory}
-use Rattle.state.specs.Steps.{isIdle}
 use Rattle.opening.specs.Opening.{openOf}
-use Rattle.table.specs.Calls.{stepOf, repairSteps}
+use Rattle.repairing.specs.Repairing.{openedCard}
 use Rattle.state.specs.declared.Begun.{Begun}
 use Rattle.state.specs.declared.Begun.the-variants.{Idle, Started, Refused}
 use Rattle.dump.specs.Dump.{dumpWords, readAnswer}
@@ -40,18 +38,6 @@ unfoldable pub pairsFrom : ℕ → List ℕ → ℕ → ℕ → List (ℕ × ℕ
 pairsFrom zero card n m = onCard n m (nodePairs (nodeAt card m) [])
 pairsFrom (suc levels) card n m = onCard n m (nodePairs (nodeAt card m) (childPairs (pairsFrom levels card n) (children (nodeAt card m))))
 
--- ---- "opens and repairs it in memory"
-
--- the card and the state after a repair
-pub record Repaired : Type 0 where
-  pub card : List ℕ
-  pub memory : Memory
-
--- steps, at most so many, until the state is idle
-unfoldable pub repairedCard : ℕ → List ℕ → Memory → Repaired
-repairedCard zero card m = record { card = card; memory = m }
-repairedCard (suc k) card m = pick (isIdle (m .doing)) (record { card = card; memory = m }) (repairedCard k (stepOf card m .card) (stepOf card m .memory))
-
 -- ---- what is listed
 
 -- "First line: N, free nodes, internal levels, pairs. Then key and value"
@@ -74,14 +60,15 @@ listChecked card n (some r) = listed (record { nodes = n; free = countTrue (r .1
 unfoldable pub listTable : List ℕ → ℕ → Listed
 listTable card n = pick (eqb n 0) (refused 1) (listChecked card n (tableCheck card n))
 
-unfoldable pub listBegun : List ℕ → Memory → Begun → Listed
-listBegun card m (Refused r) = refused r
-listBegun card m Idle = listTable (repairedCard repairSteps card m .card) (nodesOfLength (length card))
-listBegun card m Started = listTable (repairedCard repairSteps card m .card) (nodesOfLength (length card))
+-- "opens and repairs it in memory"
+unfoldable pub listBegun : List ℕ → Begun → Listed
+listBegun card (Refused r) = refused r
+listBegun card Idle = listTable (openedCard card .card) (nodesOfLength (length card))
+listBegun card Started = listTable (openedCard card .card) (nodesOfLength (length card))
 
 -- a card: opened, repaired, and its table read
 unfoldable pub listCard : List ℕ → Listed
-listCard card = listBegun card (openOf card .memory) (openOf card .begun)
+listCard card = listBegun card (openOf card .begun)
 
 unfoldable pub listRead : List ℕ → Answer → Listed
 listRead dump (ReadRefused r) = refused r
@@ -90,27 +77,6 @@ listRead dump (Length size) = listCard (dumpWords size dump)
 -- a dump, read into so many words: "Reading a dump checks 11, 12"
 unfoldable pub listDump : List ℕ → ℕ → Listed
 listDump dump lent = listRead dump (readAnswer dump lent)
-
--- ---- the words lent afterwards
-
--- "opens and repairs it in memory"; "A refusal .. stores nothing"
-unfoldable pub leftBegun : List ℕ → Memory → Begun → List ℕ
-leftBegun card m (Refused r) = card
-leftBegun card m Idle = repairedCard repairSteps card m .card
-leftBegun card m Started = repairedCard repairSteps card m .card
-
--- a card, once it was listed
-unfoldable pub listedCard : List ℕ → List ℕ
-listedCard card = leftBegun card (openOf card .memory) (openOf card .begun)
-
--- "those of the lent slice beyond it are untouched"
-unfoldable pub leftRead : List ℕ → List ℕ → Answer → List ℕ
-leftRead dump lent (ReadRefused r) = lent
-leftRead dump lent (Length size) = listedCard (dumpWords size dump) ++ drop size lent
-
--- the words that a dump was read into, once it was listed
-unfoldable pub listedOver : List ℕ → List ℕ → List ℕ
-listedOver dump lent = leftRead dump lent (readAnswer dump (length lent))
 
 -- ---- how the pairs are stored: key, value, key, value .., as many as a lent slice has room for
 

@@ -1,14 +1,8 @@
 -- What the answers in code say, in the terms of Listing. These are definitions.
 use mathlib.Core.List.{List}
 use Prim.Native.Nat.{ℕ}
-use Rattle.state.specs.Memory.{memoryOf}
-use Rattle.state.specs.declared.State.{State}
-use Rattle.listing.specs.Listing.{Repaired, Listed, refused, listed, layListed}
+use Rattle.listing.specs.Listing.{Listed, refused, listed, layListed}
 use Rattle.listing.specs.declared.Summary.{Summary}
-
--- the card and the state that a repair leaves
-unfoldable pub leftBy : List ℕ → State → Repaired
-leftBy card s = record { card = card; memory = memoryOf s }
 
 -- "First line: N, free nodes, internal levels, pairs", with how many words of the lent slice hold pairs
 unfoldable pub summarized : Listed → ℕ → Summary

@@ -1,4 +1,4 @@
--- Laws of the repair and of what is answered: one for each branch of the code.
+-- Laws of what is answered: one for each branch of the code.
 use mathlib.Core.Path.{_≡_, refl, ap, _∙_}
 use mathlib.Core.List.{List, _++_}
 use mathlib.Core.Bool.{true, false}
@@ -21,24 +21,9 @@ use Rattle.opening.specs.Opening.{openOf}
 use Rattle.table.specs.Calls.{stepOf, repairSteps}
 use Rattle.state.specs.Memory.{Memory}
 use Rattle.state.specs.declared.Begun.the-variants.{Idle, Started, Refused}
-use Rattle.listing.specs.Listing.{repairedCard, Listing, Listed, refused, listed, pairsFrom, listChecked, listTable, listBegun, listCard, listRead, listDump, leftBegun, listedCard, leftRead, listedOver, laid, layPairs, layListed}
+use Rattle.repairing.specs.Repairing.{openedCard}
+use Rattle.listing.specs.Listing.{Listing, Listed, refused, listed, pairsFrom, listChecked, listTable, listBegun, listCard, listRead, listDump, laid, layPairs, layListed}
 use Rattle.listing.specs.Summaries.{summarized, summaryOf}
-
--- ---- the repair
-
-pub repair-idle : (k : ℕ) (card : List ℕ) (m : Memory) → isIdle (m .doing) ≡ true → repairedCard k card m ≡ record { card = card; memory = m }
-unfolding repairedCard
-repair-idle zero card m e = refl
-repair-idle (suc k) card m e = rw e
-
-pub repair-over : (k : ℕ) (card : List ℕ) (m : Memory) → k ≡ 0 → repairedCard k card m ≡ record { card = card; memory = m }
-unfolding repairedCard
-repair-over k card m e = rw e
-
-pub repair-on : (k : ℕ) (card : List ℕ) (m : Memory) → (k ≡ 0 → ⊥) → isIdle (m .doing) ≡ false → repairedCard k card m ≡ repairedCard (k - 1) (stepOf card m .card) (stepOf card m .memory)
-unfolding repairedCard
-repair-on zero card m d e = absurd (d refl)
-repair-on (suc k) card m d e = let z : suc k - 1 ≡ k = omega arith in rw (e, z)
 
 -- ---- a table
 
@@ -72,25 +57,13 @@ module _ (card : List ℕ) where
   unfolding listCard listBegun
   card-refused r e = rw e
 
-  pub card-idle : openOf card .begun ≡ Idle → listCard card ≡ listTable (repairedCard repairSteps card (openOf card .memory) .card) (nodesOfLength (length card))
+  pub card-idle : openOf card .begun ≡ Idle → listCard card ≡ listTable (openedCard card .card) (nodesOfLength (length card))
   unfolding listCard listBegun
   card-idle e = rw e
 
-  pub card-started : openOf card .begun ≡ Started → listCard card ≡ listTable (repairedCard repairSteps card (openOf card .memory) .card) (nodesOfLength (length card))
+  pub card-started : openOf card .begun ≡ Started → listCard card ≡ listTable (openedCard card .card) (nodesOfLength (length card))
   unfolding listCard listBegun
   card-started e = rw e
-
-  pub left-refused : (r : ℕ) → openOf card .begun ≡ Refused r → card ≡ listedCard card
-  unfolding listedCard leftBegun
-  left-refused r e = rw e
-
-  pub left-idle : openOf card .begun ≡ Idle → listedCard card ≡ repairedCard repairSteps card (openOf card .memory) .card
-  unfolding listedCard leftBegun
-  left-idle e = rw e
-
-  pub left-started : openOf card .begun ≡ Started → listedCard card ≡ repairedCard repairSteps card (openOf card .memory) .card
-  unfolding listedCard leftBegun
-  left-started e = rw e
 
 -- ---- a dump
 
@@ -102,21 +75,3 @@ module _ (dump : List ℕ) (lent : ℕ) where
   pub dump-read : (size : ℕ) → readAnswer dump lent ≡ Length size → listDump dump lent ≡ listCard (dumpWords size dump)
   unfolding listDump listRead
   dump-read size e = rw e
-
--- the card that was read
-pub read-card : (dump words : List ℕ) (size : ℕ) → readAnswer dump (length words) ≡ Length size → take size (readOver dump words) ≡ dumpWords size dump
-read-card dump words size e = ap (take size) (read-words dump words size e) ∙ take-at (dumpWords size dump) (drop size words) size (length-dumpWords size dump)
-
--- the words lent, by what reading answers
-module _ (dump words : List ℕ) where
-  pub over-refused : (r : ℕ) → readAnswer dump (length words) ≡ ReadRefused r → readOver dump words ≡ listedOver dump words
-  unfolding readOver listedOver leftRead
-  over-refused r e = rw e
-
-  pub over-read : (size : ℕ) → readAnswer dump (length words) ≡ Length size → listedOver dump words ≡ listedCard (dumpWords size dump) ++ drop size words
-  unfolding listedOver leftRead
-  over-read size e = rw e
-
--- the words beyond the card that was read
-pub read-beyond : (dump words : List ℕ) (size : ℕ) → readAnswer dump (length words) ≡ Length size → drop size (readOver dump words) ≡ drop size words
-read-beyond dump words size e = ap (drop size) (read-words dump words size e) ∙ drop-at (dumpWords size dump) (drop size words) size (length-dumpWords size dump)

@@ -1,17 +1,14 @@
 // What the program `list` prints of a card or a dump (document 01, "Dumps and the list program").
 mod pairs;
-mod repairs;
 
 use pairs::collect;
-use repairs::repair;
+use repairing::open_repaired;
 use table::Begun;
-use table::State;
 ghost use mathlib.Core.Path.{_≡_};
 ghost use lib.ListN.{length};
-ghost use Rattle.table.specs.Calls.{repairSteps};
-ghost use Rattle.state.specs.Memory.{memoryOf};
+ghost use Rattle.repairing.specs.Repairing.{openedCard, openedOver};
 ghost use Rattle.card.specs.Header.{nodesOfLength};
-ghost use Rattle.listing.specs.Listing.{repairedCard, listTable, listCard, listDump, listedCard, listedOver, layListed};
+ghost use Rattle.listing.specs.Listing.{listTable, listCard, listDump, layListed};
 ghost use Rattle.listing.specs.Summaries.{summaryOf};
 
 // "First line: N, free nodes, internal levels, pairs", or the refusal, which is 0 where there is none. Of the lent slice
@@ -64,29 +61,18 @@ fn list_table(card: &[u32], out: &mut [u32]) -> Summary
     }
 }
 
-// The table of a card that was opened, once its repair is done.
-fn list_repaired(card: &mut [u32], s: State, out: &mut [u32]) -> Summary
-    ensures { λ r. ⌜ r ≡ summaryOf (listTable (repairedCard repairSteps (now (card .entry)) (memoryOf s) .card) (nodesOfLength (length (now (card .entry))))) (now (out .entry)) ⌝ }
-    ensures { λ r. ⌜ now (out .exit) ≡ layListed (listTable (repairedCard repairSteps (now (card .entry)) (memoryOf s) .card) (nodesOfLength (length (now (card .entry))))) (now (out .entry)) .words ⌝ }
-    ensures { λ r. ⌜ now (card .exit) ≡ repairedCard repairSteps (now (card .entry)) (memoryOf s) .card ⌝ }
-{
-    repair(card, s);
-    list_table(card, out)
-}
-
 // "opens and repairs it in memory": a card.
 pub fn list_card(card: &mut [u32], out: &mut [u32]) -> Summary
     ensures { λ r. ⌜ r ≡ summaryOf (listCard (now (card .entry))) (now (out .entry)) ⌝ }
     ensures { λ r. ⌜ now (out .exit) ≡ layListed (listCard (now (card .entry))) (now (out .entry)) .words ⌝ }
-    ensures { λ r. ⌜ now (card .exit) ≡ listedCard (now (card .entry)) ⌝ }
+    ensures { λ r. ⌜ now (card .exit) ≡ openedCard (now (card .entry)) .card ⌝ }
 {
-    let opening = table::open(card);
-    let begun = opening.begun;
-    let state = opening.state;
+    let opened = open_repaired(card);
+    let begun = opened.begun;
     match begun {
         Begun::Refused(refusal) => refusing(refusal),
-        Begun::Idle => list_repaired(card, state, out),
-        Begun::Started => list_repaired(card, state, out),
+        Begun::Idle => list_table(card, out),
+        Begun::Started => list_table(card, out),
     }
 }
 
@@ -94,7 +80,7 @@ pub fn list_card(card: &mut [u32], out: &mut [u32]) -> Summary
 pub fn list_dump(bytes: &[u8], card: &mut [u32], out: &mut [u32]) -> Summary
     ensures { λ r. ⌜ r ≡ summaryOf (listDump (now (bytes .entry)) (length (now (card .entry)))) (now (out .entry)) ⌝ }
     ensures { λ r. ⌜ now (out .exit) ≡ layListed (listDump (now (bytes .entry)) (length (now (card .entry)))) (now (out .entry)) .words ⌝ }
-    ensures { λ r. ⌜ now (card .exit) ≡ listedOver (now (bytes .entry)) (now (card .entry)) ⌝ }
+    ensures { λ r. ⌜ now (card .exit) ≡ openedOver (now (bytes .entry)) (now (card .entry)) ⌝ }
 {
     match dump::read_dump(bytes, card) {
         dump::Answer::Refused(refusal) => refusing(refusal),

@@ -1,4 +1,3 @@
 pub mod TreePairs
-pub mod Repair
 pub mod Room
 pub mod Right

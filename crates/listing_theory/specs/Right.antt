@@ -15,9 +15,10 @@ use Rattle.dump.specs.Dump.{wordsFor, dumpOf, roomFor, readAnswer}
 use Rattle.dump.specs.RoundTrip.{dump-words, dump-nodes, dump-whole}
 use Rattle.dump.specs.declared.Answer.the-variants.{Length}
 use Rattle.free_nodes.specs.NodeSet.{countTrue}
-use Rattle.listing.specs.Listing.{Listing, pairsFrom, repairedCard, listTable, listCard, listDump, refused, listed, laid, layListed}
+use Rattle.listing.specs.Listing.{Listing, pairsFrom, listTable, listCard, listDump, refused, listed, laid, layListed}
 use Rattle.listing.specs.SummaryLaws.{table-sound, card-refused, card-idle, card-started, dump-read}
-use Rattle.listing_theory.specs.Repair.{After, repaired}
+use Rattle.repairing.specs.Repairing.{openedCard}
+use Rattle.repairing_theory.specs.Repair.{After, repaired}
 use Rattle.listing_theory.specs.Room.{pairs-le, pairWords, all-laid}
 use Rattle.listing_theory.specs.TreePairs.{tree-pairs}
 use Rattle.promises.specs.Accepting.{accepted-card, accepted-table}
@@ -28,7 +29,6 @@ use Rattle.soundness_theory.specs.Depth.{well-formed-size, well-formed-depth}
 use Rattle.soundness_theory.specs.Facts.{Facts}
 use Rattle.soundness_theory.specs.Soundness.{sound-accepted}
 use Rattle.opening.specs.Opening.{openOf}
-use Rattle.table.specs.Calls.{repairSteps}
 use Rattle.state.specs.declared.Begun.{Begun}
 use Rattle.state.specs.declared.Begun.the-variants.{Idle, Started, Refused}
 use Rattle.tree.specs.Pairs.{pairs}
@@ -57,20 +57,20 @@ pub record ListedRight (c : List ℕ) (t : Tree) : Type 0 where
   pub few-pairs : length (listing .pairs) ≤ 11 * greatestNodes
 
 module _ (c : List ℕ) where
-  accepted-listed : Accepted c → (b : Begun) → openOf c .begun ≡ b → listCard c ≡ listTable (repairedCard repairSteps c (openOf c .memory) .card) (nodesOfLength (length c))
+  accepted-listed : Accepted c → (b : Begun) → openOf c .begun ≡ b → listCard c ≡ listTable (openedCard c .card) (nodesOfLength (length c))
   accepted-listed a (Refused r) e = absurd (a .not-refused r e)
   accepted-listed a Idle e = card-idle c e
   accepted-listed a Started e = card-started c e
 
   pub listing-right : (t : Tree) → WellFormed c t → Accepted c → ListedRight c t
-  listing-right t w a = go (repaired c t a w repairSteps (omega arith))
+  listing-right t w a = go (repaired c t a w)
     where
-      go : After c t repairSteps → ListedRight c t
+      go : After c t → ListedRight c t
       go x =
-          shown (sound-accepted (repairedCard repairSteps c (openOf c .memory) .card) (nodesOfLength (length c)) (x .sized .words) (x .sized .most) (x .table) (x .balanced .well-formed))
+          shown (sound-accepted (openedCard c .card) (nodesOfLength (length c)) (x .sized .words) (x .sized .most) (x .table) (x .balanced .well-formed))
         where
           after : List ℕ
-          after = repairedCard repairSteps c (openOf c .memory) .card
+          after = openedCard c .card
 
           number : ℕ
           number = nodesOfLength (length c)

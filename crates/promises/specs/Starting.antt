@@ -134,7 +134,7 @@ remove-started n w b due i free last key em z r x low high =
     (most-steps i, record { idle-before = λ e. refl; steps-left = λ e. steps-by-depth i; busy = λ e. refl }, record { tree = i .tree; table = i .table; openable = i .openable; same = i .same; stage = stage-remove z r x low high (enough-steps i) })
 
 module _ (n steps : ℕ) (w : World) (b : Ledger) (due : Option Answer) (i : Inv n steps w b due) where
-  nodes-same : w .memory .nodes ≡ n
+  pub nodes-same : w .memory .nodes ≡ n
   nodes-same = idle-or-busy (i .stage) .0
 
   -- the leaf that a key leads to

@@ -5,9 +5,11 @@ use native.Mathlib.Omega.{arith}
 use lib.ListN.{length, take, drop}
 use lib.Seq.{length-take-le}
 use Rattle.dump.specs.AnswerLaws.{read-sized}
-use Rattle.listing.specs.Listing.{Listed, listCard, listDump, listedCard, layListed}
+use Rattle.listing.specs.Listing.{Listed, listCard, listDump, layListed}
 use Rattle.listing.specs.Summaries.{summaryOf}
-use Rattle.listing.specs.SummaryLaws.{summary-refused, dump-refused, dump-read, read-card, over-refused, over-read, read-beyond}
+use Rattle.listing.specs.SummaryLaws.{summary-refused, dump-refused, dump-read}
+use Rattle.repairing.specs.Repairing.{openedCard}
+use Rattle.repairing.specs.RepairingLaws.{read-card, over-refused, over-read, read-beyond}
 use borrow.Author.Needs.{needs}
 use Rattle.listing.proofs.list_dump.Statement.{statement}
 use Rattle.listing.proofs.list_dump.Tie as tie
@@ -69,7 +71,7 @@ returns-2 c =
     let size = z .0 .0 in
     let e = sym (d .ensures .0) ∙ z .1 in
     let is = ap (λ (l : List ℕ). listCard (take (z .0 .0) l)) (d .ensures .1) ∙ ap listCard (read-card (s .args .bytes .now) (s .args .card .now) size e) ∙ sym (dump-read (s .args .bytes .now) (length (s .args .card .now)) size e) in
-    let left = k .ensures .1 .1 ∙ ap listedCard (ap (take (z .0 .0)) (d .ensures .1) ∙ read-card (s .args .bytes .now) (s .args .card .now) size e) in
+    let left = k .ensures .1 .1 ∙ ap (λ (l : List ℕ). openedCard l .card) (ap (take (z .0 .0)) (d .ensures .1) ∙ read-card (s .args .bytes .now) (s .args .card .now) size e) in
     let beyond = ap (drop (z .0 .0)) (d .ensures .1) ∙ read-beyond (s .args .bytes .now) (s .args .card .now) size e in
     (k .ensures .0 ∙ ap (λ (l : Listed). summaryOf l (s .args .out .now)) is, (k .ensures .1 .0 ∙ ap (λ (l : Listed). layListed l (s .args .out .now) .words) is, ap₂ (λ (a b : List ℕ). a ++ b) left beyond ∙ sym (over-read (s .args .bytes .now) (s .args .card .now) size e)))
 

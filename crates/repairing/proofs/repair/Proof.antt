@@ -1,15 +1,15 @@
+-- `repairing::repair` meets its contract.
 use mathlib.Core.Path.{_≡_, refl, ap₂, sym, _∙_}
 use Prim.Native.Nat.{_-_}
 use native.Mathlib.Omega.{arith}
 use lib.ListN.{length}
 use Rattle.table.specs.Calls.{repairSteps}
 use Rattle.state.specs.Memory.{memoryOf}
-use Rattle.listing.specs.Listing.{repairedCard}
-use Rattle.listing.specs.Summaries.{leftBy}
-use Rattle.listing.specs.SummaryLaws.{repair-idle, repair-over, repair-on}
+use Rattle.repairing.specs.Repairing.{repairedCard, leftBy}
+use Rattle.repairing.specs.RepairingLaws.{repair-idle, repair-over, repair-on}
 use borrow.Author.Needs.{needs}
-use Rattle.listing.proofs.repairs.repair.Statement.{statement}
-use Rattle.listing.proofs.repairs.repair.Tie as tie
+use Rattle.repairing.proofs.repair.Statement.{statement}
+use Rattle.repairing.proofs.repair.Tie as tie
 
 abbrev Inv-loop : tie.InvT-loop
 Inv-loop card₀ state₀ left₀ card state left = (repairedCard repairSteps card₀ (memoryOf state₀) ≡ repairedCard left card (memoryOf state)) × (length card ≡ length card₀)

@@ -1,4 +1,4 @@
--- The repair of `list` is a run of steps, and leaves a balanced table with the same map.
+-- A repair in one call is a run of steps, and leaves a balanced table with the same map and an idle state.
 use mathlib.Core.Path.{_≡_, refl, ap, sym, _∙_}
 use mathlib.Core.List.{List, []}
 use mathlib.Core.Bool.{true}
@@ -8,7 +8,7 @@ use lib.ListN.{length, replicate}
 use Rattle.laws.specs.Cases.{bool-cases}
 use Rattle.card.specs.Header.{nodesOfLength}
 use Rattle.card.specs.HeaderLaws.{Sized, sized-nodes}
-use Rattle.listing.specs.Listing.{repairedCard}
+use Rattle.repairing.specs.Repairing.{Repaired, repairedCard, openedCard}
 use Rattle.promises.specs.Feeding.{kept-ledger}
 use Rattle.promises.specs.Ledger.{ledger, empty}
 use Rattle.promises.specs.Machine.{Event, World, opened, happens, run, step}
@@ -43,16 +43,25 @@ is-idle (Inserting key value begun) e = let z : _≡_ {A = ℕ} 0 1 = cc in absu
 is-idle (Deleting key begun value) e = let z : _≡_ {A = ℕ} 0 1 = cc in absurd (omega arith)
 is-idle (Repairing key) e = let z : _≡_ {A = ℕ} 0 1 = cc in absurd (omega arith)
 
+-- the card and the state that a repair leaves
+abbrev pub world-of : Repaired → World
+world-of r = record { card = r .card; memory = r .memory }
+
 -- the loop that stops when the state is idle is the run of all the steps
-pub repair-run : (k : ℕ) (c : List ℕ) (m : Memory) → repairedCard k c m .card ≡ run (steps k) (record { card = c; memory = m }) .card
+repair-run : (k : ℕ) (c : List ℕ) (m : Memory) → world-of (repairedCard k c m) ≡ run (steps k) (record { card = c; memory = m })
 unfolding repairedCard run happens
 repair-run zero c m = refl
 repair-run (suc k) c m = bool-cases (isIdle (m .doing)) (λ q. rw q (stays q)) (λ q. rw q (repair-run k (stepOf c m .card) (stepOf c m .memory)))
   where
-    stays : isIdle (m .doing) ≡ true → c ≡ run (steps (suc k)) (record { card = c; memory = m }) .card
-    stays q = ap (λ (w : World). w .card) (sym (rests (suc k) (record { card = c; memory = m }) (is-idle (m .doing) q)))
+    stays : isIdle (m .doing) ≡ true → record { card = c; memory = m } ≡ run (steps (suc k)) (record { card = c; memory = m })
+    stays q = sym (rests (suc k) (record { card = c; memory = m }) (is-idle (m .doing) q))
 
-all-words : (k : ℕ) → Words (steps k)
+-- a card that was opened, once its repair is done
+pub opened-run : (c : List ℕ) → world-of (openedCard c) ≡ run (steps repairSteps) (opened c)
+unfolding openedCard
+opened-run c = repair-run repairSteps c (openOf c .memory)
+
+pub all-words : (k : ℕ) → Words (steps k)
 all-words zero = tt
 all-words (suc k) = all-words k
 
@@ -65,26 +74,26 @@ count-steps : (k : ℕ) → steps-in (steps k) ≡ k
 count-steps zero = refl
 count-steps (suc k) = ap suc (count-steps k)
 
--- after the repair: a balanced table, with the map that the card had when it was opened
-pub record After (c : List ℕ) (t : Tree) (k : ℕ) : Type 0 where
+-- after the repair: a balanced table, with the map that the card had when it was opened, and an idle state
+pub record After (c : List ℕ) (t : Tree) : Type 0 where
   pub table : Tree
-  pub sized : Sized (length (repairedCard k c (openOf c .memory) .card)) (nodesOfLength (length c))
-  pub balanced : Balanced (repairedCard k c (openOf c .memory) .card) table
+  pub sized : Sized (length (openedCard c .card)) (nodesOfLength (length c))
+  pub balanced : Balanced (openedCard c .card) table
   pub map : MapIs table (pairs t)
+  pub idle : openedCard c .memory .doing ≡ Idle
 
-module _ (c : List ℕ) (t : Tree) (a : Accepted c) (w : WellFormed c t) (k : ℕ) where
-  ends : repairSteps ≤ k → Ends (opened c) (steps k) (pairs t)
+module _ (c : List ℕ) (t : Tree) (a : Accepted c) (w : WellFormed c t) where
+  ends : Ends (opened c) (steps repairSteps) (pairs t)
   unfolding run kept-ledger
-  ends h = power-loss (opened c) (pairs t) (from-open c t a w) [] tt .ends (steps k) (all-quiet k (opened c)) (omega (arith, count-steps k))
+  ends = power-loss (opened c) (pairs t) (from-open c t a w) [] tt .ends (steps repairSteps) (all-quiet repairSteps (opened c)) (omega (arith, count-steps repairSteps))
 
-  size-kept : Sized (length (run (steps k) (opened c) .card)) (nodesOfLength (length c))
+  size-kept : Sized (length (run (steps repairSteps) (opened c) .card)) (nodesOfLength (length c))
   size-kept =
       let b = begins-inv (opened c) (pairs t) (from-open c t a w) in
-      let q = kept (b .0) (steps k) repairSteps (opened c) (ledger (pairs t) empty) none (all-words k) (b .1) in
+      let q = kept (b .0) (steps repairSteps) repairSteps (opened c) (ledger (pairs t) empty) none (all-words repairSteps) (b .1) in
       rw (sized-nodes (length c) (b .0) (b .1 .table .sized)) (q .1 .table .sized)
 
-  pub repaired : repairSteps ≤ k → After c t k
-  repaired h =
-      let e = ends h in
-      let r = repair-run k c (openOf c .memory) in
-      record { table = e .table; sized = rw r size-kept; balanced = rw r (e .balanced); map = e .map }
+  pub repaired : After c t
+  repaired =
+      let r = ap (λ (x : World). x .card) (opened-run c) in
+      record { table = ends .table; sized = rw r size-kept; balanced = rw r (ends .balanced); map = ends .map; idle = ap (λ (x : World). x .memory .doing) (opened-run c) ∙ ends .idle }

@@ -1,0 +1,2 @@
+pub mod InsertReason
+pub mod InsertReasonLaws

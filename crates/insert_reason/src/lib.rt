@@ -1,0 +1,94 @@
+// What stands in the way of a new number: the value that its key holds already, a leaf with an empty slot, or a split and the room
+// for it (document 02, W-209).
+use descent::Landing;
+use descent::Slot;
+use free_nodes::NodeSet;
+use repairing::open_repaired;
+use table::Begun;
+ghost use mathlib.Core.Path.{_≡_};
+ghost use lib.ListN.{length};
+ghost use Rattle.free_nodes.specs.NodeSet.{nodesOf, countTrue};
+ghost use Rattle.descent.specs.Descent.{slotOf};
+ghost use Rattle.updates.specs.Updates.{emptyReason, insertReason};
+ghost use Rattle.repairing.specs.Repairing.{openedCard, openedOver};
+ghost use Rattle.insert_reason.specs.InsertReason.{reasonFor, reasonOn, reasonOf, reasonInDump};
+
+// What is handed over for printing. A refusal comes first; a key of 0 is no key.
+pub enum Reason {
+    Refused(u32),
+    NoKey,
+    Held(u32),
+    Slot,
+    Split { run: usize, free: usize },
+}
+
+// Of a leaf that has not the key: an empty slot, or a split, with the 11-child nodes above the leaf and the free nodes.
+fn reason_absent(leaf: &[u32], free: NodeSet, run: usize) -> Reason
+    requires { ⌜ length (now leaf) ≡ 24 ⌝ }
+    ensures { λ r. ⌜ r ≡ reasonFor (emptyReason (slotOf (now (leaf .entry)) 0)) run (countTrue (nodesOf (free .words))) ⌝ }
+{
+    match descent::find_slot(leaf, 0) {
+        Slot::At(_) => Reason::Slot,
+        Slot::Absent => Reason::Split {
+            run,
+            free: free_nodes::count(free),
+        },
+    }
+}
+
+// In the leaf that the key leads to.
+fn reason_in(leaf: &[u32], key: u32, free: NodeSet, run: usize) -> Reason
+    requires { ⌜ length (now leaf) ≡ 24 ⌝ }
+    ensures { λ r. ⌜ r ≡ reasonFor (insertReason (now (leaf .entry)) key) run (countTrue (nodesOf (free .words))) ⌝ }
+{
+    match descent::find_slot(leaf, key) {
+        Slot::At(i) => Reason::Held(leaf[12 + i]),
+        Slot::Absent => reason_absent(leaf, free, run),
+    }
+}
+
+// On a card that was opened and repaired, with these free nodes.
+fn reason_on(card: &[u32], free: NodeSet, key: u32) -> Reason
+    ensures { λ r. ⌜ r ≡ reasonOn (now (card .entry)) (nodesOf (free .words)) key ⌝ }
+{
+    let n = card::nodes_of(card.len());
+    if n == 0 {
+        return Reason::Refused(1);
+    }
+    if key == 0 {
+        return Reason::NoKey;
+    }
+    match descent::find_landing(card, n, key, card[card::ROOT_PLACE] as usize) {
+        Landing::Refused => Reason::Refused(9),
+        Landing::Leaf { node, link: _, run } => {
+            reason_in(card::node_at(card, node), key, free, run)
+        }
+    }
+}
+
+// "opens and repairs it": a card.
+pub fn insert_reason(card: &mut [u32], key: u32) -> Reason
+    ensures { λ r. ⌜ r ≡ reasonOf (now (card .entry)) key ⌝ }
+    ensures { λ r. ⌜ now (card .exit) ≡ openedCard (now (card .entry)) .card ⌝ }
+{
+    let opened = open_repaired(card);
+    let begun = opened.begun;
+    let state = opened.state;
+    let free = state.free;
+    match begun {
+        Begun::Refused(refusal) => Reason::Refused(refusal),
+        Begun::Idle => reason_on(card, free, key),
+        Begun::Started => reason_on(card, free, key),
+    }
+}
+
+// A dump, read into a lent slice.
+pub fn insert_reason_in_dump(bytes: &[u8], card: &mut [u32], key: u32) -> Reason
+    ensures { λ r. ⌜ r ≡ reasonInDump (now (bytes .entry)) (length (now (card .entry))) key ⌝ }
+    ensures { λ r. ⌜ now (card .exit) ≡ openedOver (now (bytes .entry)) (now (card .entry)) ⌝ }
+{
+    match dump::read_dump(bytes, card) {
+        dump::Answer::Refused(refusal) => Reason::Refused(refusal),
+        dump::Answer::Length(size) => insert_reason(&mut card[..size], key),
+    }
+}

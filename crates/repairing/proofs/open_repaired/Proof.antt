@@ -1,0 +1,28 @@
+-- `repairing::open_repaired` meets its contract.
+use mathlib.Core.Path.{ap, _∙_}
+use Rattle.state.specs.Results.{handedOf}
+use Rattle.state.specs.Steps.{Handed}
+use Rattle.table.specs.Calls.{repairSteps}
+use Rattle.repairing.specs.Repairing.{repairedCard, openedCard}
+use borrow.Author.Needs.{needs}
+use Rattle.repairing.proofs.open_repaired.Statement.{statement}
+use Rattle.repairing.proofs.open_repaired.Tie as tie
+
+open-requires : tie.Need-open-requires
+open-requires c κs = search needs
+
+repair-requires : tie.Need-repair-requires
+repair-requires c κs = search needs
+
+same-length : tie.Need-same-length
+same-length c = search needs
+
+returns : tie.Need-returns
+unfolding handedOf openedCard
+returns c =
+    let s = c .before .before .before .before .before .before .before in
+    let o = c .before .before .before .before .«open» .ensures in
+    (ap (λ (h : Handed). h .begun) o, c .before .before .repair .ensures ∙ ap (λ (h : Handed). repairedCard repairSteps (s .args .card .now) (h .memory)) o)
+
+pub open-repaired-spec : {M : Type 1} → statement M
+open-repaired-spec = tie.close (tie.spec open-requires repair-requires same-length returns)
