@@ -1,16 +1,19 @@
 // The check that a table is sound, and what it learns on the way: the free nodes and the violation
 // (document 01, "A sound table"). Each node is visited once.
+mod entering;
+mod leaves;
+mod unused;
+
+use entering::enter;
 use free_nodes::NodeSet;
 ghost use mathlib.Core.Path.{_≡_};
 ghost use mathlib.Core.Bool.{true, false, _||_};
 ghost use Prim.Native.Nat.{_+_, _*_, _-_, _≤_, _<_};
-ghost use lib.ListN.{length, getD, drop};
-ghost use lib.Seq.{slice};
+ghost use lib.ListN.{length, drop};
 ghost use lib.Dec.{eqb};
-ghost use Rattle.laws.specs.Lists.{all-zero};
-ghost use Rattle.card.specs.Layout.{greatestNodes, depthLimit, keyWords, children, routingKeys};
-ghost use Rattle.soundness.specs.Check.{member, leafSound, unusedZero, findingsOf, noted, entryOf, enterLeaf, enterInner, enterKind, enterNode, checkedOf, raised, childRun, childrenCheck, nodeCheck, tableCheck};
-ghost use Rattle.soundness.specs.CheckLaws.{slotSound, rangeEnd, endOf};
+ghost use Rattle.card.specs.Layout.{greatestNodes, depthLimit, children, routingKeys};
+ghost use Rattle.soundness.specs.Check.{findingsOf, checkedOf, raised, childRun, childrenCheck, nodeCheck, tableCheck};
+ghost use Rattle.soundness.specs.CheckLaws.{rangeEnd, endOf};
 
 // What was learnt so far: the nodes not reached; whether a violation was met, a key that leads to it, and how many
 // 11-child nodes stand without a break straight above it where it is a tagged node.
@@ -35,81 +38,6 @@ fn wide(x: u32) -> u64
     x as u64
 }
 
-// Whether the key of slot i stands in a later slot too.
-fn is_repeated(node: &[u32], i: usize) -> bool
-    requires { ⌜ (length (now node) ≡ 24) × (i < 11) ⌝ }
-    ensures { λ r. ⌜ r ≡ member (getD (now (node .entry)) (1 + i) 0) (drop (i + 1) (keyWords (now (node .entry)))) ⌝ }
-{
-    let key = node[1 + i];
-    let mut j = i + 1;
-    while j < 11 {
-        if node[1 + j] == key {
-            return true;
-        }
-        j += 1;
-    }
-    false
-}
-
-// Whether slot i is empty, or its key lies in the range from `low`, included, to `high`, excluded, and in no later slot.
-fn slot_is_sound(node: &[u32], i: usize, low: u32, high: u64) -> bool
-    requires { ⌜ (length (now node) ≡ 24) × (i < 11) ⌝ }
-    ensures { λ r. ⌜ r ≡ slotSound low high (getD (now (node .entry)) (1 + i) 0) (drop (i + 1) (keyWords (now (node .entry)))) ⌝ }
-{
-    let key = node[1 + i];
-    if key == 0 {
-        return true;
-    }
-    if key < low {
-        return false;
-    }
-    if high <= wide(key) {
-        return false;
-    }
-    !is_repeated(node, i)
-}
-
-// Whether the keys of a leaf are distinct and in its range.
-fn leaf_is_sound(node: &[u32], low: u32, high: u64) -> bool
-    requires { ⌜ length (now node) ≡ 24 ⌝ }
-    ensures { λ r. ⌜ r ≡ leafSound low high (keyWords (now (node .entry))) ⌝ }
-{
-    let mut i: usize = 0;
-    while i < 11 {
-        if !slot_is_sound(node, i, low, high) {
-            return false;
-        }
-        i += 1;
-    }
-    true
-}
-
-// Whether the words of a node from `from`, included, to `to`, excluded, are 0.
-fn are_zero(node: &[u32], from: usize, to: usize) -> bool
-    requires { ⌜ (from ≤ to) × (to ≤ length (now node)) ⌝ }
-    ensures { λ r. ⌜ r ≡ all-zero (slice from to (now (node .entry))) ⌝ }
-{
-    let mut i = from;
-    while i < to {
-        if node[i] != 0 {
-            return false;
-        }
-        i += 1;
-    }
-    true
-}
-
-// Whether the words of an internal node with c children that document 01 calls 0 are 0.
-fn unused_is_zero(node: &[u32], c: usize) -> bool
-    requires { ⌜ (length (now node) ≡ 24) × (1 ≤ c) × (c ≤ 11) ⌝ }
-    ensures { λ r. ⌜ r ≡ unusedZero (now (node .entry)) c ⌝ }
-{
-    if !are_zero(node, c, 12) {
-        return false;
-    }
-    are_zero(node, 12 + c, 23)
-}
-
 // What a first look at a node finds.
 pub enum Entry {
     Refused,
@@ -120,170 +48,6 @@ pub enum Entry {
 struct Entered {
     pub entry: Entry,
     pub survey: Survey,
-}
-
-// The survey with one violation more; refused where there was one before.
-fn with_violation(s: Survey, entry: Entry, key: u32, run: usize) -> Entered
-    ensures { λ r. ⌜ entryOf r ≡ noted true entry (findingsOf s) key run ⌝ }
-{
-    if s.violated {
-        return Entered {
-            entry: Entry::Refused,
-            survey: s,
-        };
-    }
-    let f = s.free;
-    Entered {
-        entry,
-        survey: Survey {
-            free: f,
-            violated: true,
-            key,
-            run,
-        },
-    }
-}
-
-// A leaf is looked at, its number already taken off the free nodes.
-fn enter_leaf(node: &[u32], low: u32, high: u64, root: bool, s: Survey) -> Entered
-    requires { ⌜ length (now node) ≡ 24 ⌝ }
-    ensures { λ r. ⌜ entryOf r ≡ enterLeaf (now (node .entry)) low high root (findingsOf s) ⌝ }
-{
-    if !leaf_is_sound(node, low, high) {
-        return Entered {
-            entry: Entry::Refused,
-            survey: s,
-        };
-    }
-    if root {
-        return Entered {
-            entry: Entry::Leaf,
-            survey: s,
-        };
-    }
-    let count = card::pair_count(node);
-    if count == 0 {
-        return Entered {
-            entry: Entry::Refused,
-            survey: s,
-        };
-    }
-    if count < 2 {
-        return with_violation(s, Entry::Leaf, low, 0);
-    }
-    Entered {
-        entry: Entry::Leaf,
-        survey: s,
-    }
-}
-
-// An internal node, tagged or not, is looked at, its number already taken off the free nodes.
-fn enter_inner(node: &[u32], tagged: bool, low: u32, run: usize, root: bool, s: Survey) -> Entered
-    requires { ⌜ length (now node) ≡ 24 ⌝ }
-    ensures { λ r. ⌜ entryOf r ≡ enterInner (now (node .entry)) tagged low run root (findingsOf s) ⌝ }
-{
-    let c = card::child_count(node);
-    if c == 0 {
-        return Entered {
-            entry: Entry::Refused,
-            survey: s,
-        };
-    }
-    if !unused_is_zero(node, c) {
-        return Entered {
-            entry: Entry::Refused,
-            survey: s,
-        };
-    }
-    if tagged {
-        if root {
-            return Entered {
-                entry: Entry::Refused,
-                survey: s,
-            };
-        }
-        if c != 2 {
-            return Entered {
-                entry: Entry::Refused,
-                survey: s,
-            };
-        }
-        return with_violation(s, Entry::Inner(c), low, run);
-    }
-    if c < 2 {
-        if root {
-            return Entered {
-                entry: Entry::Refused,
-                survey: s,
-            };
-        }
-        return with_violation(s, Entry::Inner(c), low, 0);
-    }
-    Entered {
-        entry: Entry::Inner(c),
-        survey: s,
-    }
-}
-
-// A node is looked at by its kind, its number already taken off the free nodes.
-fn enter_kind(node: &[u32], low: u32, high: u64, run: usize, root: bool, s: Survey) -> Entered
-    requires { ⌜ length (now node) ≡ 24 ⌝ }
-    ensures { λ r. ⌜ entryOf r ≡ enterKind (now (node .entry)) low high run root (findingsOf s) ⌝ }
-{
-    let kind = node[0];
-    match kind {
-        1 => enter_leaf(node, low, high, root, s),
-        2 => enter_inner(node, false, low, run, root, s),
-        3 => enter_inner(node, true, low, run, root, s),
-        _ => Entered {
-            entry: Entry::Refused,
-            survey: s,
-        },
-    }
-}
-
-// Node m is looked at for the first time: its number, its kind, its words.
-fn enter(
-    card: &[u32],
-    n: usize,
-    m: usize,
-    low: u32,
-    high: u64,
-    run: usize,
-    root: bool,
-    s: Survey,
-) -> Entered
-    requires { ⌜ (length (now card) ≡ 8 + 24 * n) × (n ≤ greatestNodes) ⌝ }
-    ensures { λ r. ⌜ entryOf r ≡ enterNode (now (card .entry)) n m low high run root (findingsOf s) ⌝ }
-{
-    if m == 0 {
-        return Entered {
-            entry: Entry::Refused,
-            survey: s,
-        };
-    }
-    if n < m {
-        return Entered {
-            entry: Entry::Refused,
-            survey: s,
-        };
-    }
-    let f = s.free;
-    if !free_nodes::contains(f, m) {
-        return Entered {
-            entry: Entry::Refused,
-            survey: s,
-        };
-    }
-    let node = card::node_at(card, m);
-    if node[23] != 0 {
-        return Entered {
-            entry: Entry::Refused,
-            survey: s,
-        };
-    }
-    let left = free_nodes::without_node(f, m);
-    enter_kind(node, low, high, run, root, Survey { free: left, ..s })
 }
 
 // How many 11-child nodes stand without a break straight above the children of a node with c children.

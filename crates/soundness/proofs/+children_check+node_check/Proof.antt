@@ -22,7 +22,7 @@ use Rattle.soundness.proofs.node_check.Kinds as node-check-kinds
 use Rattle.soundness.proofs.+children_check+node_check.Lts-node_check as node-check-lts
 use Rattle.card.proofs.node_at.Reads as node-at-reads
 use Rattle.soundness.proofs.child_run.Reads as child-run-reads
-use Rattle.soundness.proofs.enter.Reads as enter-reads
+use Rattle.soundness.proofs.entering.enter.Reads as enter-reads
 use Rattle.soundness.proofs.is_level.Reads as is-level-reads
 use Rattle.soundness.proofs.raise.Reads as raise-reads
 use Rattle.soundness.proofs.range_end.Reads as range-end-reads

@@ -8,8 +8,8 @@ use borrow.Author.Needs.{needs}
 use Rattle.card.specs.NodeLaws.{length-node}
 use Rattle.soundness.specs.CheckLaws.{reached, enter-zero, enter-beyond, enter-again, enter-last-word, enter-new}
 use Rattle.soundness.specs.Check.{entryOf, lookOf, findingsOf}
-use Rattle.soundness.proofs.enter.Statement.{statement}
-use Rattle.soundness.proofs.enter.Tie as tie
+use Rattle.soundness.proofs.entering.enter.Statement.{statement}
+use Rattle.soundness.proofs.entering.enter.Tie as tie
 
 -- the part that `node_at` handed back has 24 words
 words : (c : tie.After-node-at) → length (c .node-at .result .now) ≡ 24

@@ -7,8 +7,8 @@ use borrow.Author.Needs.{needs}
 use Rattle.card.specs.Layout.{keyWords}
 use Rattle.soundness.specs.CheckLaws.{leaf-stop, leaf-next, leaf-end}
 use Rattle.soundness.specs.Check.{leafSound}
-use Rattle.soundness.proofs.leaf_is_sound.Statement.{statement}
-use Rattle.soundness.proofs.leaf_is_sound.Tie as tie
+use Rattle.soundness.proofs.leaves.leaf_is_sound.Statement.{statement}
+use Rattle.soundness.proofs.leaves.leaf_is_sound.Tie as tie
 
 -- the whole of the definition equals what is left of it
 abbrev Inv-loop : tie.InvT-loop

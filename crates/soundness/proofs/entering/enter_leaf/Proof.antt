@@ -3,8 +3,8 @@ use borrow.Author.Tests.{not-true, not-false}
 use borrow.Author.Needs.{needs}
 use Rattle.soundness.specs.CheckLaws.{enter-leaf-unsound, enter-leaf-root, enter-leaf-empty, enter-leaf-few, enter-leaf-enough}
 use Rattle.soundness.specs.Check.{entryOf, lookOf, findingsOf}
-use Rattle.soundness.proofs.enter_leaf.Statement.{statement}
-use Rattle.soundness.proofs.enter_leaf.Tie as tie
+use Rattle.soundness.proofs.entering.enter_leaf.Statement.{statement}
+use Rattle.soundness.proofs.entering.enter_leaf.Tie as tie
 
 leaf-is-sound-requires : tie.Need-leaf-is-sound-requires
 leaf-is-sound-requires c κs = search needs

@@ -6,8 +6,8 @@ use borrow.Author.Needs.{needs}
 use Rattle.card.specs.Layout.{keyWords}
 use Rattle.soundness.specs.CheckLaws.{member-here, member-next, member-end}
 use Rattle.soundness.specs.Check.{member}
-use Rattle.soundness.proofs.is_repeated.Statement.{statement}
-use Rattle.soundness.proofs.is_repeated.Tie as tie
+use Rattle.soundness.proofs.leaves.is_repeated.Statement.{statement}
+use Rattle.soundness.proofs.leaves.is_repeated.Tie as tie
 
 -- the whole of the definition equals what is left of it
 abbrev Inv-loop : tie.InvT-loop

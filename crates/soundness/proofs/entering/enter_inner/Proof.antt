@@ -5,8 +5,8 @@ use borrow.Author.Needs.{needs}
 use Rattle.card.specs.NodeLaws.{children-le}
 use Rattle.soundness.specs.CheckLaws.{enter-inner-none, enter-inner-unused, enter-tagged-root, enter-tagged-count, enter-tagged, enter-single-root, enter-single, enter-several}
 use Rattle.soundness.specs.Check.{entryOf, lookOf, findingsOf}
-use Rattle.soundness.proofs.enter_inner.Statement.{statement}
-use Rattle.soundness.proofs.enter_inner.Tie as tie
+use Rattle.soundness.proofs.entering.enter_inner.Statement.{statement}
+use Rattle.soundness.proofs.entering.enter_inner.Tie as tie
 
 child-count-requires : tie.Need-child-count-requires
 child-count-requires c κs = search needs

@@ -1,6 +1,6 @@
 use Rattle.soundness.specs.Check.{entryOf, noted, lookOf, findingsOf}
-use Rattle.soundness.proofs.with_violation.Statement.{statement}
-use Rattle.soundness.proofs.with_violation.Tie as tie
+use Rattle.soundness.proofs.entering.with_violation.Statement.{statement}
+use Rattle.soundness.proofs.entering.with_violation.Tie as tie
 
 returns : tie.Need-returns
 unfolding entryOf noted lookOf findingsOf

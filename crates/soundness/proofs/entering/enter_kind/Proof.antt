@@ -3,8 +3,8 @@ use native.Mathlib.Omega.{arith}
 use borrow.Author.Needs.{needs}
 use Rattle.soundness.specs.CheckLaws.{enter-kind-leaf, enter-kind-internal, enter-kind-tagged, enter-kind-none}
 use Rattle.soundness.specs.Check.{entryOf, lookOf, findingsOf}
-use Rattle.soundness.proofs.enter_kind.Statement.{statement}
-use Rattle.soundness.proofs.enter_kind.Tie as tie
+use Rattle.soundness.proofs.entering.enter_kind.Statement.{statement}
+use Rattle.soundness.proofs.entering.enter_kind.Tie as tie
 
 shared-slice-read-kind : tie.Need-shared-slice-read-kind
 shared-slice-read-kind c = search needs

@@ -6,8 +6,8 @@ use lib.ListN.{length}
 use borrow.Author.Needs.{needs}
 use Rattle.laws.specs.Lists.{all-zero}
 use Rattle.soundness.specs.CheckLaws.{zero-stop, zero-next, zero-end}
-use Rattle.soundness.proofs.are_zero.Statement.{statement}
-use Rattle.soundness.proofs.are_zero.Tie as tie
+use Rattle.soundness.proofs.unused.are_zero.Statement.{statement}
+use Rattle.soundness.proofs.unused.are_zero.Tie as tie
 
 -- the whole of the definition equals what is left of it
 abbrev Inv-loop : tie.InvT-loop
