@@ -4,7 +4,7 @@ use mathlib.Core.Path.{_≡_, refl, ap, sym, subst, _∙_}
 use mathlib.Core.List.{List}
 use mathlib.Core.Option.{Option, none, some}
 use mathlib.Core.Logic.{_↔_}
-use Prim.Native.Nat.{ℕ, _+_, _≤_, _<_}
+use Prim.Native.Nat.{ℕ, _+_, _^_, _≤_, _<_}
 use native.Mathlib.Omega.{arith}
 use lib.ListN.{length, getD}
 use Rattle.laws.specs.Cases.{order}
@@ -19,9 +19,11 @@ use Rattle.descent.specs.declared.Slot.{Slot}
 use Rattle.descent.specs.declared.Slot.the-variants.{At, Absent as NoSlot}
 use Rattle.descent_theory.specs.Find.{slotAnswer}
 use Rattle.descent_theory.specs.Landing.{LandedAt, landing-found}
+use Rattle.dump.specs.Dump.{dumpOf}
+use Rattle.dump.specs.RoundTrip.{dump-words}
 use Rattle.free_nodes.specs.NodeSet.{countTrue}
-use Rattle.insert_reason.specs.InsertReason.{reasonFor, reasonLanded, reasonOn, reasonOf}
-use Rattle.insert_reason.specs.InsertReasonLaws.{of-idle, of-started, on-no-key, on-key}
+use Rattle.insert_reason.specs.InsertReason.{reasonFor, reasonLanded, reasonOn, reasonOf, reasonInDump}
+use Rattle.insert_reason.specs.InsertReasonLaws.{of-idle, of-started, on-no-key, on-key, dump-read}
 use Rattle.insert_reason.specs.declared.Reason.{Reason}
 use Rattle.insert_reason.specs.declared.Reason.the-variants.{Refused, NoKey, Held, Slot as EmptySlot, Split}
 use Rattle.opening.specs.Opening.{openOf}
@@ -31,6 +33,7 @@ use Rattle.promises.specs.Promise.{Accepted, Begins, from-open}
 use Rattle.promises.specs.Room.{LeadsTo, key-leads, splitting-insert-works, splitting-insert-refused, other-insert-works}
 use Rattle.promises.specs.Starting.{nodes-same}
 use Rattle.repairing.specs.Repairing.{openedCard}
+use Rattle.repairing_theory.specs.ReadDump.{dump-answered}
 use Rattle.repairing_theory.specs.Repair.{After, steps, all-words, world-of, opened-run, repaired}
 use Rattle.soundness_theory.specs.Depth.{well-formed-depth}
 use Rattle.soundness_theory.specs.Ranges.{root-in-range}
@@ -247,3 +250,7 @@ module _ (c : List ℕ) (t : Tree) (accepted : Accepted c) (well : WellFormed c 
             let a : j ≡ run-above = cc in
             let b : free ≡ countTrue (openedCard c .memory .free) = cc in
             refused-eight value e (omega (arith, a, b))
+
+-- the dump of an accepted card gives the reason that the card gives
+pub dump-reason : (c : List ℕ) → Accepted c → ((i : ℕ) → getD c i 0 < 2 ^ 32) → (lent : ℕ) → length c ≤ lent → (key : ℕ) → reasonInDump (dumpOf c) lent key ≡ reasonOf c key
+dump-reason c a fits lent room key = dump-read (dumpOf c) lent key (length c) (dump-answered c a fits lent room) ∙ ap (λ (l : List ℕ). reasonOf l key) (dump-words c fits)

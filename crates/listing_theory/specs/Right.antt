@@ -10,18 +10,17 @@ use lib.ListN.{length, getD, drop}
 use Rattle.card.specs.Header.{nodesOfLength}
 use Rattle.card.specs.Layout.{rootPlace, depthLimit, greatestNodes}
 use Rattle.change_theory.specs.Exact.{Exact}
-use Rattle.dump.specs.AnswerLaws.{Good, read-whole, whole-undamaged, room-long}
-use Rattle.dump.specs.Dump.{wordsFor, dumpOf, roomFor, readAnswer}
-use Rattle.dump.specs.RoundTrip.{dump-words, dump-nodes, dump-whole}
-use Rattle.dump.specs.declared.Answer.the-variants.{Length}
+use Rattle.dump.specs.Dump.{dumpOf}
+use Rattle.dump.specs.RoundTrip.{dump-words}
 use Rattle.free_nodes.specs.NodeSet.{countTrue}
 use Rattle.listing.specs.Listing.{Listing, pairsFrom, listTable, listCard, listDump, refused, listed, laid, layListed}
 use Rattle.listing.specs.SummaryLaws.{table-sound, card-refused, card-idle, card-started, dump-read}
 use Rattle.repairing.specs.Repairing.{openedCard}
+use Rattle.repairing_theory.specs.ReadDump.{dump-answered}
 use Rattle.repairing_theory.specs.Repair.{After, repaired}
 use Rattle.listing_theory.specs.Room.{pairs-le, pairWords, all-laid}
 use Rattle.listing_theory.specs.TreePairs.{tree-pairs}
-use Rattle.promises.specs.Accepting.{accepted-card, accepted-table}
+use Rattle.promises.specs.Accepting.{accepted-table}
 use Rattle.promises.specs.Promise.{Accepted, MapIs}
 use Rattle.promises.specs.Reopen.{facts-exact}
 use Rattle.soundness.specs.Check.{Findings, tableCheck}
@@ -106,12 +105,7 @@ module _ (c : List ℕ) where
 
   -- the dump of an accepted card is listed as the card is
   pub dump-listed : Accepted c → ((i : ℕ) → getD c i 0 < 2 ^ 32) → (lent : ℕ) → length c ≤ lent → listDump (dumpOf c) lent ≡ listCard c
-  dump-listed a fits lent room =
-      let k = accepted-card c a in
-      let good : Good c = record { sized = k .1; header = k .2 } in
-      let answered : readAnswer (dumpOf c) lent ≡ Length (length c) =
-      read-whole (dumpOf c) lent (whole-undamaged (dumpOf c) (dump-whole c fits good)) ∙ ap (λ (size : ℕ). roomFor size lent) (ap wordsFor (dump-nodes c fits good) ∙ sym (k .1 .words)) ∙ room-long (length c) lent room in
-      dump-read (dumpOf c) lent (length c) answered ∙ ap listCard (dump-words c fits)
+  dump-listed a fits lent room = dump-read (dumpOf c) lent (length c) (dump-answered c a fits lent room) ∙ ap listCard (dump-words c fits)
 
   -- `list` refuses as opening does, and only then
   pub refuses-exactly : (r : ℕ) → (listCard c ≡ refused r) ↔ (openOf c .begun ≡ Refused r)

@@ -85,8 +85,8 @@ fn open(card: &Words, row: &mut [u64; 32]) -> State {
     handed.state
 }
 
-// What a step of a repair answered.
-fn repaired(row: &mut [u64; 32], answer: Answer) {
+// What a step answered of a repair or of formatting, which store words until one gives "ready".
+pub fn until_ready(row: &mut [u64; 32], answer: Answer) {
     count(row, STEPS);
     match answer {
         Answer::Stored => {}
@@ -109,7 +109,7 @@ fn repair_step(card: &mut Words, book: &Words, row: &mut [u64; 32], s: State) ->
     }
     let stepped = calls::step(card, row[LENGTH] as usize, s);
     let answer = stepped.answer;
-    repaired(row, answer);
+    until_ready(row, answer);
     stepped.state
 }
 

@@ -26,30 +26,15 @@ use places::STEPS;
 use places::TURNS;
 use places::WRONG;
 use places::wrong_if;
-use table::Answer;
 use table::Begun;
 use table::State;
-
-// What a step of formatting answered.
-fn formatted(row: &mut [u64; 32], answer: Answer) {
-    count(row, STEPS);
-    match answer {
-        Answer::Stored => {}
-        Answer::Ready => {
-            row[MORE] = 0;
-        }
-        Answer::Absent => wrong_if(row, true),
-        Answer::Value(_) => wrong_if(row, true),
-        Answer::Refused(_) => wrong_if(row, true),
-    }
-}
 
 // A step of formatting: the card is not formatted until the last store, and opening says so.
 fn format_step(card: &mut Words, row: &mut [u64; 32], s: State) -> State {
     let n = row[LENGTH] as usize;
     let stepped = calls::step(card, n, s);
     let answer = stepped.answer;
-    formatted(row, answer);
+    cuts::until_ready(row, answer);
     if calls::word(card, 0) == 0 {
         let is_refused = cuts::is_refused(calls::open(card, n), 2);
         wrong_if(row, !is_refused);
