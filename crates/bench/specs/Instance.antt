@@ -24,9 +24,9 @@ use Rattle.lookup.specs.Answers.{foundReply}
 use Rattle.state.specs.Answers.{stepReply}
 use Rattle.lookup.specs.Find.{foundIn, foundAt, findOf}
 use Rattle.opening.specs.Opening.{openSound, openChecked, openOf}
-use Rattle.table.specs.Calls.{formatOf, stepOf, planning, stepPrepared, stepBegin, stepPlan, stepWork, stepHeld, stepDoing}
+use Rattle.starting.specs.Starts.{formatOf, startRefused, started, startLanded, startChecked, startOf, insertOf, deleteOf}
+use Rattle.table.specs.Calls.{stepOf, planning, stepPrepared, stepBegin, stepPlan, stepWork, stepHeld, stepDoing}
 use Rattle.state.specs.Steps.{noBeginning, stepRefused, stepFinal, formattedWord, formatStore, formatting, stepFormat, stepStore, stepFirst, isIdle}
-use Rattle.updates.specs.Starts.{startRefused, started, startLanded, startChecked, startOf, insertOf, deleteOf}
 use Rattle.state.specs.declared.Doing.the-variants.{Idle}
 use Rattle.lookup.specs.declared.Found.the-variants.{Value as FoundValue, Absent as FoundAbsent}
 use Rattle.state.specs.declared.Answer.{Answer}

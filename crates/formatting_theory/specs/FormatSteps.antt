@@ -15,7 +15,8 @@ use Rattle.formatting_theory.specs.FormatCard.{formatCard, format-untouc
 use Rattle.formatting_theory.specs.FormatStores.{no-store, some-store}
 use Rattle.free_nodes.specs.NodeSet.{allNodes}
 use Rattle.state.specs.Steps.{Handed, noBeginning, Step, stepFinal, formatStore, formatting, stepFormat}
-use Rattle.table.specs.Calls.{formatOf, stepDoing, stepOf}
+use Rattle.starting.specs.Starts.{formatOf}
+use Rattle.table.specs.Calls.{stepDoing, stepOf}
 use Rattle.state.specs.Memory.{Memory, resting, idled}
 use Rattle.state.specs.declared.Doing.the-variants.{Idle, Formatting}
 use Rattle.state.specs.declared.Answer.the-variants.{Stored, Ready}

@@ -45,7 +45,7 @@ use Rattle.table.specs.Calls.{repairSteps}
 use Rattle.tree.specs.Pairs.{pairs, lookup}
 use Rattle.tree.specs.Tree.{Tree}
 use Rattle.tree.specs.WellFormed.{WellFormed}
-use Rattle.updates.specs.Starts.{startRefused, insertOf}
+use Rattle.starting.specs.Starts.{startRefused, insertOf}
 use Rattle.updates.specs.UpdateLaws.{leaf-full, landed}
 use Rattle.updates.specs.Updates.{landing, emptyReason, reasonIn, insertReason, held, slot, full}
 use Rattle.updates.specs.Updates.{Reason as InLeaf}

@@ -12,7 +12,7 @@ use Rattle.state.specs.Answers.{stepReply}
 use Rattle.opening.specs.Opening.{openOf}
 use Rattle.table.specs.Calls.{stepOf, repairSteps}
 use Rattle.state.specs.Steps.{isIdle}
-use Rattle.updates.specs.Starts.{insertOf, deleteOf}
+use Rattle.starting.specs.Starts.{insertOf, deleteOf}
 use Rattle.state.specs.declared.Doing.{Doing}
 use Rattle.state.specs.declared.Doing.the-variants.{Idle, Formatting, Inserting, Deleting, Repairing}
 use Rattle.state.specs.declared.Answer.{Answer}

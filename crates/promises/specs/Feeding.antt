@@ -9,7 +9,7 @@ use Rattle.promises.specs.Ledger.{Update, Result, Fed, Ledger, feed, put
 use Rattle.promises.specs.Machine.{Event, World, happens, run, find, insert, delete, step, crash}
 use Rattle.lookup.specs.Find.{findOf}
 use Rattle.table.specs.Calls.{stepOf}
-use Rattle.updates.specs.Starts.{insertOf, deleteOf}
+use Rattle.starting.specs.Starts.{insertOf, deleteOf}
 use Rattle.updates.specs.Updates.{landing}
 use Rattle.state.specs.declared.Begun.{Begun}
 use Rattle.state.specs.declared.Begun.the-variants.{Idle as OpenedIdle, Started, Refused as BegunRefused}

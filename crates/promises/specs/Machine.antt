@@ -4,7 +4,7 @@ use mathlib.Core.List.{List, [], _∷_}
 use Prim.Native.Nat.{ℕ}
 use Rattle.opening.specs.Opening.{openOf}
 use Rattle.table.specs.Calls.{stepOf}
-use Rattle.updates.specs.Starts.{insertOf, deleteOf}
+use Rattle.starting.specs.Starts.{insertOf, deleteOf}
 use Rattle.state.specs.Memory.{Memory}
 use Rattle.state.specs.declared.Begun.{Begun}
 use Rattle.state.specs.declared.Begun.the-variants.{Idle as OpenedIdle, Started, Refused as BegunRefused}

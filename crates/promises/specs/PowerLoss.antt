@@ -12,8 +12,8 @@ use lib.Dec.{eqb}
 use Rattle.card.specs.Replies.{ready}
 use Rattle.state.specs.Answers.{stepReply}
 use Rattle.state.specs.Steps.{noBeginning, isIdle}
-use Rattle.table.specs.Calls.{formatOf, stepOf, repairSteps}
-use Rattle.updates.specs.Starts.{startRefused, started, startLanded, startChecked, startOf, insertOf, deleteOf}
+use Rattle.starting.specs.Starts.{formatOf, startRefused, started, startLanded, startChecked, startOf, insertOf, deleteOf}
+use Rattle.table.specs.Calls.{stepOf, repairSteps}
 use Rattle.state.specs.Memory.{Memory, resting}
 use Rattle.updates.specs.Updates.{landing, startRoom}
 use Rattle.state.specs.declared.Doing.{Doing}

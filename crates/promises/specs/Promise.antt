@@ -10,8 +10,8 @@ use Rattle.lookup.specs.Answers.{foundReply}
 use Rattle.state.specs.Answers.{stepReply}
 use Rattle.lookup.specs.Find.{findOf}
 use Rattle.opening.specs.Opening.{openOf}
-use Rattle.table.specs.Calls.{formatOf, stepOf, repairSteps}
-use Rattle.updates.specs.Starts.{insertOf, deleteOf}
+use Rattle.starting.specs.Starts.{formatOf, insertOf, deleteOf}
+use Rattle.table.specs.Calls.{stepOf, repairSteps}
 use Rattle.state.specs.declared.Doing.{Doing}
 use Rattle.state.specs.declared.Doing.the-variants.{Idle, Formatting, Inserting, Deleting, Repairing}
 use Rattle.state.specs.declared.Answer.{Answer}

@@ -6,7 +6,7 @@ use mathlib.Core.Bool.{Bool, true, false}
 use Prim.Native.Nat.{ℕ, _+_, _≤_, _<_}
 use Rattle.state.specs.Answers.{stepReply}
 use Rattle.state.specs.Steps.{Handed}
-use Rattle.updates.specs.Starts.{startRefused, started, insertOf, deleteOf}
+use Rattle.starting.specs.Starts.{startRefused, started, insertOf, deleteOf}
 use Rattle.updates.specs.Updates.{full, landing, insertReason, startRoom}
 use Rattle.state.specs.declared.Doing.{Doing}
 use Rattle.state.specs.declared.Doing.the-variants.{Idle, Formatting, Inserting, Deleting, Repairing}

@@ -6,7 +6,7 @@ use Prim.Native.Nat.{ℕ, _+_, _≤_, _<_}
 use borrow.Author.Tests.{lt-ltb, le-ltb}
 use Rattle.card.specs.Layout.{nodeAt}
 use Rattle.free_nodes.specs.NodeSet.{countTrue}
-use Rattle.updates.specs.Starts.{started}
+use Rattle.starting.specs.Starts.{started}
 use Rattle.state.specs.Memory.{Memory}
 use Rattle.updates.specs.Updates.{Reason, held, slot, full, landing, insertReason, roomFor, startRoom}
 use Rattle.state.specs.declared.Doing.{Doing}

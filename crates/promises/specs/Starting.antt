@@ -25,7 +25,7 @@ use Rattle.promises.specs.Reopen.{table-well-formed, table-depth-limited
 use Rattle.promises.specs.Steps.{memory, job-busy}
 use Rattle.soundness_theory.specs.Level.{same-height}
 use Rattle.state.specs.Steps.{Handed, isIdle}
-use Rattle.updates.specs.Starts.{startRefused, started, startLanded, startChecked, startOf, insertOf, deleteOf}
+use Rattle.starting.specs.Starts.{startRefused, started, startLanded, startChecked, startOf, insertOf, deleteOf}
 use Rattle.state.specs.Memory.{Memory}
 use Rattle.updates.specs.Updates.{landing, startRoom}
 use Rattle.state.specs.declared.Doing.{Doing}

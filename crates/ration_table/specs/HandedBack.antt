@@ -35,8 +35,8 @@ use Rattle.state.specs.Memory.{Memory, memoryOf, noMemory, resting, idled, adva
 use Rattle.updates.specs.Updates.{Reason, held, slot, full, FirstChange, landing, insertReason, insertChange, deleteChange, repairs, noChange, nextChange, startRoom, changeIn, changeAt}
 use Rattle.state.specs.Steps.{Handed, Step, noBeginning, stepRefused, stepFinal, formatStore, formatting, stepFormat, stepStore, stepFirst, isIdle}
 use Rattle.opening.specs.Opening.{openSound, openChecked, openOf}
-use Rattle.table.specs.Calls.{formatOf, planning, stepPrepared, stepBegin, stepPlan, stepWork, stepHeld, stepDoing, stepOf}
-use Rattle.updates.specs.Starts.{startRefused, started, startLanded, startChecked, startOf, insertOf, deleteOf}
+use Rattle.starting.specs.Starts.{formatOf, startRefused, started, startLanded, startChecked, startOf, insertOf, deleteOf}
+use Rattle.table.specs.Calls.{planning, stepPrepared, stepBegin, stepPlan, stepWork, stepHeld, stepDoing, stepOf}
 use Rattle.state.specs.StepLaws.{format-end}
 use Rattle.state.specs.declared.Doing.{Doing}
 use Rattle.state.specs.declared.Doing.the-variants.{Idle, Formatting, Inserting, Deleting, Repairing}

@@ -1,29 +1,20 @@
--- Document 01: the start of formatting and the steps, each with its refusals in the order of "Refusal by place".
-use mathlib.Core.Bool.{Bool, false}
+-- Document 01: the steps, with their refusals in the order of "Refusal by place".
+use mathlib.Core.Bool.{Bool}
 use mathlib.Core.List.{List, [], _∷_}
 use Prim.Native.Nat.{ℕ, _+_, _*_}
-use lib.ListN.{length, set}
+use lib.ListN.{length}
 use lib.Dec.{eqb}
 use Rattle.laws.specs.Cases.{pick}
 use Rattle.card.specs.Layout.{depthLimit}
 use Rattle.card.specs.Header.{nodesOfLength, headerRefusal}
 use Rattle.card.specs.Stores.{Store}
-use Rattle.free_nodes.specs.NodeSet.{allNodes}
 use Rattle.plans.specs.Planning.{Preparation, refused, balanced, prepared}
 use Rattle.updates.specs.Updates.{FirstChange, nextChange}
-use Rattle.state.specs.Memory.{Memory, resting}
+use Rattle.state.specs.Memory.{Memory}
 use Rattle.state.specs.declared.Doing.{Doing}
 use Rattle.state.specs.declared.Doing.the-variants.{Idle, Formatting, Inserting, Deleting, Repairing}
 use Rattle.state.specs.declared.Answer.{Answer}
-use Rattle.state.specs.declared.Begun.the-variants.{Started}
-use Rattle.state.specs.Steps.{isIdle, Handed, noBeginning, Step, stepRefused, stepFinal, formatStore, stepFormat, stepStore, stepFirst}
-
--- STARTING TO FORMAT.
--- "Formatting needs no earlier state"; while it goes on the free nodes are those of the table it makes, whose root is node 1
-unfoldable pub formatOf : List ℕ → Handed
-formatOf card =
-    pick (eqb (nodesOfLength (length card)) 0) (noBeginning 1)
-    (record { begun = Started; memory = resting (nodesOfLength (length card)) (set (allNodes (nodesOfLength (length card))) 1 false) (Formatting 0) })
+use Rattle.state.specs.Steps.{isIdle, Step, stepRefused, stepFinal, formatStore, stepFormat, stepStore, stepFirst}
 
 -- STEPS.
 -- the state with a change planned

@@ -1,4 +1,3 @@
 pub mod Updates
-pub mod Starts
 pub mod Results
 pub mod UpdateLaws

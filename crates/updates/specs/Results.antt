@@ -1,22 +1,9 @@
 -- What the answers in code say, in the terms of Updates. These are definitions.
 use mathlib.Core.Path.{_≡_}
 use mathlib.Core.List.{List}
-use mathlib.Core.Bool.{Bool, true, false}
 use Prim.Native.Nat.{ℕ}
-use lib.ListN.{length}
-use lib.Dec.{eqb}
-use Rattle.card.specs.Header.{nodesOfLength, headerRefusal}
 use Rattle.plans.specs.Plan.{preparationOf}
-use Rattle.laws.specs.Cases.{pick}
-use Rattle.state.specs.Steps.{isIdle, Handed}
-use Rattle.state.specs.Memory.{Memory}
-use Rattle.updates.specs.Updates.{FirstChange, landing, startRoom}
-use Rattle.updates.specs.Starts.{startRefused, started}
-use Rattle.descent.specs.declared.Landing.{Landing}
-use Rattle.descent.specs.declared.Landing.the-variants.{Refused as NoLanding, Leaf as LandingAt}
-use Rattle.descent.specs.declared.Slot.{Slot}
-use Rattle.descent.specs.declared.Slot.the-variants.{At, Absent as NoSlot}
-use Rattle.state.specs.declared.Doing.{Doing}
+use Rattle.updates.specs.Updates.{FirstChange}
 use Rattle.updates.specs.declared.First.{First}
 
 -- the next change, its stores being in the rows that the step lends
@@ -26,33 +13,3 @@ firstOf places values f = record { doing = f .doing; final = f .answer; preparat
 -- the same whatever the rows hold
 abbrev pub InAnyRows : First → FirstChange → Type 0
 InAnyRows f change = (places values : List ℕ) → firstOf places values f ≡ change
-
-unfoldable pub isSlot : Slot → Bool
-isSlot (At i) = true
-isSlot NoSlot = false
-
--- the refusals 1, 2, 3, 7 and 6 of starting an update, in this order, for a state of so many nodes in which this is being done; 0
--- where none is due
-unfoldable pub startRefusal : List ℕ → ℕ → Doing → ℕ → ℕ
-startRefusal card nodes doing key =
-    pick (eqb (nodesOfLength (length card)) 0) 1
-    (pick (eqb (nodesOfLength (length card)) nodes)
-    (pick (eqb (headerRefusal card nodes) 0) (pick (isIdle doing) (pick (eqb key 0) 6 0) 7) (headerRefusal card nodes)) 1)
-
--- the room that an update needs which may split its leaf, or one which never does
-abbrev pub roomWhere : Bool → List ℕ → ℕ → List Bool → Landing → Bool
-roomWhere splits card key free l = pick splits (startRoom card key free l) true
-
--- 9 and 8, and 0 where neither is due
-unfoldable pub landingRefusal : Bool → Landing → ℕ
-landingRefusal room NoLanding = 9
-landingRefusal room (LandingAt node link run) = pick room 0 8
-
--- all of them, in their order
-abbrev pub dueRefusal : List ℕ → ℕ → Doing → ℕ → (Landing → Bool) → ℕ
-dueRefusal card nodes doing key room =
-    pick (eqb (startRefusal card nodes doing key) 0) (landingRefusal (room (landing card nodes key)) (landing card nodes key)) (startRefusal card nodes doing key)
-
--- what starting an update hands back, by the refusal that is due
-abbrev pub begunBy : ℕ → Memory → Doing → Handed
-begunBy refusal m doing = pick (eqb refusal 0) (started m doing) (startRefused refusal m)

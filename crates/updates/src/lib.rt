@@ -1,14 +1,10 @@
 // "Insert" and "Delete" of document 01, "The changes": the next change of what is being done.
-mod starting;
-
 use descent::Landing;
 use descent::Slot;
 use free_nodes::NodeSet;
 use plans::Planned;
 use plans::answers::balanced;
 use plans::answers::refused;
-pub use starting::begin;
-pub use starting::start_refusal;
 use state::Answer;
 use state::Doing;
 ghost use mathlib.Core.Path.{_≡_};

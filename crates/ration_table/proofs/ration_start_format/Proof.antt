@@ -2,7 +2,7 @@
 use mathlib.Core.Path.{subst}
 use borrow.Author.Needs.{needs}
 use Rattle.state.specs.Steps.{Handed}
-use Rattle.table.specs.Calls.{formatOf}
+use Rattle.starting.specs.Starts.{formatOf}
 use Rattle.ration_table.specs.Contracts.{OpenCall}
 use Rattle.replies.specs.ReplyWords.{replyOf}
 use Rattle.ration_table.specs.ContractLaws.{open-no-state, small-handed}

@@ -3,7 +3,7 @@ use mathlib.Core.Path.{ap, subst, _∙_}
 use native.Mathlib.Omega.{arith}
 use borrow.Author.Needs.{needs}
 use Rattle.state.specs.Steps.{Handed}
-use Rattle.updates.specs.Starts.{insertOf}
+use Rattle.starting.specs.Starts.{insertOf}
 use Rattle.state.specs.Memory.{memoryOf}
 use Rattle.state.specs.declared.State.{State}
 use Rattle.state_block.specs.Block.{memoryIn}

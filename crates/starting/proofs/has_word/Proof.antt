@@ -1,9 +1,9 @@
--- `updates::starting::has_word` meets its contract.
+-- `starting::has_word` meets its contract.
 use mathlib.Core.Path.{ap, sym, _∙_}
-use Rattle.updates.specs.Results.{isSlot}
+use Rattle.starting.specs.Refusals.{isSlot}
 use borrow.Author.Needs.{needs}
-use Rattle.updates.proofs.starting.has_word.Statement.{statement}
-use Rattle.updates.proofs.starting.has_word.Tie as tie
+use Rattle.starting.proofs.has_word.Statement.{statement}
+use Rattle.starting.proofs.has_word.Tie as tie
 
 find-slot-requires : tie.Need-find-slot-requires
 find-slot-requires c κs = search needs

@@ -1,15 +1,15 @@
--- `table::start_delete` meets its contract.
+-- `starting::start_delete` meets its contract.
 use mathlib.Core.Path.{ap, sym, _∙_}
 use mathlib.Core.Bool.{false}
 use Prim.Native.Nat.{ℕ}
 use Rattle.state.specs.Memory.{memoryOf}
-use Rattle.updates.specs.Results.{begunBy}
-use Rattle.updates.specs.Starts.{deleteOf}
-use Rattle.updates.specs.UpdateLaws.{start-due}
+use Rattle.starting.specs.Refusals.{begunBy}
+use Rattle.starting.specs.Starts.{deleteOf}
+use Rattle.starting.specs.StartLaws.{start-due}
 use Rattle.state.specs.declared.Doing.the-variants.{Deleting}
 use borrow.Author.Needs.{needs}
-use Rattle.table.proofs.start_delete.Statement.{statement}
-use Rattle.table.proofs.start_delete.Tie as tie
+use Rattle.starting.proofs.start_delete.Statement.{statement}
+use Rattle.starting.proofs.start_delete.Tie as tie
 
 start-refusal-requires : tie.Need-start-refusal-requires
 start-refusal-requires c κs = search needs

@@ -1,18 +1,18 @@
--- `table::start_format` meets its contract.
+-- `starting::start_format` meets its contract.
 use mathlib.Core.Path.{ap, sym, _∙_}
 use mathlib.Core.List.{List}
 use mathlib.Core.Bool.{Bool, false}
 use native.Mathlib.Omega.{arith}
 use lib.ListN.{set}
 use Rattle.card.specs.HeaderLaws.{sized}
-use Rattle.table.specs.CallLaws.{format-no-length, format-length}
+use Rattle.starting.specs.StartLaws.{format-no-length, format-length}
 use Rattle.state.specs.Memory.{Memory, resting}
 use Rattle.state.specs.Results.{handedOf}
 use Rattle.state.specs.declared.Doing.the-variants.{Formatting}
 use Rattle.state.specs.declared.Begun.the-variants.{Started}
 use borrow.Author.Needs.{needs}
-use Rattle.table.proofs.start_format.Statement.{statement}
-use Rattle.table.proofs.start_format.Tie as tie
+use Rattle.starting.proofs.start_format.Statement.{statement}
+use Rattle.starting.proofs.start_format.Tie as tie
 
 nodes-of-requires : tie.Need-nodes-of-requires
 nodes-of-requires c κs = search needs

@@ -1,12 +1,12 @@
--- `updates::starting::early_refusal` meets its contract.
+-- `starting::early_refusal` meets its contract.
 use mathlib.Core.Path.{sym, _∙_}
 use native.Mathlib.Omega.{arith}
 use borrow.Author.Tests.{not-true, not-false}
 use Rattle.card.specs.HeaderLaws.{sized}
-use Rattle.updates.specs.UpdateLaws.{start-no-length, start-other, start-header, start-busy, start-no-key, start-none}
+use Rattle.starting.specs.StartLaws.{start-no-length, start-other, start-header, start-busy, start-no-key, start-none}
 use borrow.Author.Needs.{needs}
-use Rattle.updates.proofs.starting.early_refusal.Statement.{statement}
-use Rattle.updates.proofs.starting.early_refusal.Tie as tie
+use Rattle.starting.proofs.early_refusal.Statement.{statement}
+use Rattle.starting.proofs.early_refusal.Tie as tie
 
 nodes-of-requires : tie.Need-nodes-of-requires
 nodes-of-requires c κs = search needs

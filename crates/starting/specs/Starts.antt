@@ -1,19 +1,26 @@
--- Document 01: starting an update, with its refusals in the order of "Refusal by place".
+-- Document 01: starting to format and starting an update, with their refusals in the order of "Refusal by place".
 use mathlib.Core.Bool.{Bool, true, false, not}
 use mathlib.Core.List.{List}
 use Prim.Native.Nat.{ℕ, _+_, _-_}
-use lib.ListN.{length}
+use lib.ListN.{length, set}
 use lib.Dec.{eqb}
 use Rattle.laws.specs.Cases.{pick}
 use Rattle.card.specs.Header.{nodesOfLength, headerRefusal}
 use Rattle.descent.specs.declared.Landing.{Landing}
 use Rattle.descent.specs.declared.Landing.the-variants.{Refused as NoLanding, Leaf as LandingAt}
+use Rattle.free_nodes.specs.NodeSet.{allNodes}
 use Rattle.updates.specs.Updates.{landing, startRoom}
-use Rattle.state.specs.Memory.{Memory}
+use Rattle.state.specs.Memory.{Memory, resting}
 use Rattle.state.specs.declared.Doing.{Doing}
-use Rattle.state.specs.declared.Doing.the-variants.{Inserting, Deleting}
+use Rattle.state.specs.declared.Doing.the-variants.{Formatting, Inserting, Deleting}
 use Rattle.state.specs.declared.Begun.the-variants.{Started, Refused as BegunRefused}
-use Rattle.state.specs.Steps.{isIdle, Handed}
+use Rattle.state.specs.Steps.{isIdle, Handed, noBeginning}
+
+-- STARTING TO FORMAT. "Formatting needs no earlier state"; while it goes on the free nodes are those of the table it makes, whose root is node 1
+unfoldable pub formatOf : List ℕ → Handed
+formatOf card =
+    pick (eqb (nodesOfLength (length card)) 0) (noBeginning 1)
+    (record { begun = Started; memory = resting (nodesOfLength (length card)) (set (allNodes (nodesOfLength (length card))) 1 false) (Formatting 0) })
 
 -- STARTING AN UPDATE. "Starting an update stores nothing." Refusals 1, 2, 3, 7, 6, 9, and 8 for an insert.
 unfoldable pub startRefused : ℕ → Memory → Handed

@@ -1,4 +1,5 @@
-// Starting an update: its refusals, the room it needs, and the state it hands back.
+// Starting to format, and starting an update: its refusals, the room it needs, and the state it hands back (document 01, "State, steps
+// and free nodes").
 use descent::Landing;
 use descent::Slot;
 use free_nodes::NodeSet;
@@ -7,6 +8,8 @@ use state::Begun;
 use state::Doing;
 use state::State;
 use state::is_idle;
+use state::no_beginning;
+use state::resting;
 ghost use mathlib.Core.Path.{_≡_};
 ghost use mathlib.Core.Bool.{true};
 ghost use lib.ListN.{length};
@@ -15,8 +18,9 @@ ghost use Rattle.descent.specs.Descent.{slotOf};
 ghost use Rattle.laws.specs.Cases.{pick};
 ghost use Rattle.state.specs.Memory.{memoryOf};
 ghost use Rattle.state.specs.Results.{handedOf, UnchangedStart};
 ghost use Rattle.updates.specs.Updates.{insertReason, roomFor};
-ghost use Rattle.updates.specs.Results.{startRefusal, isSlot, roomWhere, dueRefusal, begunBy};
+ghost use Rattle.starting.specs.Starts.{formatOf, insertOf, deleteOf};
+ghost use Rattle.starting.specs.Refusals.{startRefusal, isSlot, roomWhere, dueRefusal, begunBy};
 
 // The refusals 1, 2, 3, 7 and 6 of starting an update, in this order; 0 where none is due. All that is asked of the state are its
 // parts, since a state is large.
@@ -92,7 +96,7 @@ fn room_refusal(room: bool) -> u32
 
 // The refusal that starting an update is due, or 0: the early ones, then "9: node number 0 or above N, kind not 1 to 3, no
 // children, or more than 10 internal nodes", then 8. `splits` says whether the update may split its leaf.
-pub fn start_refusal(
+fn start_refusal(
     card: &[u32],
     nodes: usize,
     doing: Doing,
@@ -119,7 +123,7 @@ pub fn start_refusal(
 }
 
 // "Starting an update stores nothing": the state with the update in hand, or as it was where a refusal is due.
-pub fn begin(s: State, doing: Doing, refusal: u32) -> Beginning
+fn begin(s: State, doing: Doing, refusal: u32) -> Beginning
     ensures { λ r. ⌜ handedOf r ≡ begunBy refusal (memoryOf s) doing ⌝ }
     ensures { λ r. ⌜ UnchangedStart s r ⌝ }
 {
@@ -134,4 +138,50 @@ pub fn begin(s: State, doing: Doing, refusal: u32) -> Beginning
         begun: Begun::Started,
         state,
     }
+}
+
+// "Formatting needs no earlier state". While it goes on the free nodes are those of the table it makes, whose root is node 1.
+pub fn start_format(card: &[u32]) -> Beginning
+    ensures { λ r. ⌜ handedOf r ≡ formatOf (now (card .entry)) ⌝ }
+{
+    let n = card::nodes_of(card.len());
+    if n == 0 {
+        return no_beginning(1);
+    }
+    let free = free_nodes::without_node(free_nodes::all_nodes(n), 1);
+    let state = resting(n, free, Doing::Formatting { made: 0 });
+    Beginning {
+        begun: Begun::Started,
+        state,
+    }
+}
+
+// "Starting an update stores nothing."
+pub fn start_insert(card: &[u32], s: State, key: u32, value: u32) -> Beginning
+    ensures { λ r. ⌜ handedOf r ≡ insertOf (now (card .entry)) (memoryOf s) key value ⌝ }
+    ensures { λ r. ⌜ UnchangedStart s r ⌝ }
+{
+    let doing = Doing::Inserting {
+        key,
+        value,
+        begun: false,
+    };
+    let held = s.doing;
+    let refusal = start_refusal(card, s.nodes, held, s.free, key, true);
+    begin(s, doing, refusal)
+}
+
+// "Refusing a delete on a full card" would spoil a bin: a delete needs no free nodes to start.
+pub fn start_delete(card: &[u32], s: State, key: u32) -> Beginning
+    ensures { λ r. ⌜ handedOf r ≡ deleteOf (now (card .entry)) (memoryOf s) key ⌝ }
+    ensures { λ r. ⌜ UnchangedStart s r ⌝ }
+{
+    let doing = Doing::Deleting {
+        key,
+        begun: false,
+        value: 0,
+    };
+    let held = s.doing;
+    let refusal = start_refusal(card, s.nodes, held, s.free, key, false);
+    begin(s, doing, refusal)
 }

@@ -1,4 +1,4 @@
--- `updates::starting::start_refusal` meets its contract.
+-- `starting::start_refusal` meets its contract.
 use mathlib.Core.Path.{ap, sym, _∙_}
 use mathlib.Core.List.{List}
 use mathlib.Core.Bool.{Bool, true}
@@ -9,13 +9,14 @@ use Rattle.laws.specs.Cases.{pick}
 use Rattle.card.specs.HeaderLaws.{Sized}
 use Rattle.card.specs.NodeLaws.{length-node}
 use Rattle.free_nodes.specs.NodeSet.{nodesOf}
-use Rattle.updates.specs.Results.{roomWhere, dueRefusal, landingRefusal}
-use Rattle.updates.specs.UpdateLaws.{start-sized, due-early, due-landing, Landed, landed}
+use Rattle.starting.specs.Refusals.{roomWhere, dueRefusal, landingRefusal}
+use Rattle.starting.specs.StartLaws.{start-sized, due-early, due-landing}
+use Rattle.updates.specs.UpdateLaws.{Landed, landed}
 use Rattle.updates.specs.Updates.{landing, insertReason, roomFor, startRoom}
 use Rattle.descent.specs.declared.Landing.{Landing}
 use borrow.Author.Needs.{needs}
-use Rattle.updates.proofs.starting.start_refusal.Statement.{statement}
-use Rattle.updates.proofs.starting.start_refusal.Tie as tie
+use Rattle.starting.proofs.start_refusal.Statement.{statement}
+use Rattle.starting.proofs.start_refusal.Tie as tie
 
 whole : (c : tie.Else1) → Sized (length (c .before .before .before .args .card .now)) (c .before .before .before .args .nodes)
 whole c = start-sized (c .before .before .before .args .card .now) (c .before .before .before .args .nodes) (c .before .before .before .args .doing) (c .before .before .before .args .key) (sym (c .before .early-refusal .ensures) ∙ c .if1 .left)

@@ -1,13 +1,13 @@
--- `updates::starting::begin` meets its contract.
+-- `starting::begin` meets its contract.
 use mathlib.Core.Path.{refl}
 use borrow.Author.Tests.{ne-eqb, eq-eqb}
 use borrow.Author.Needs.{needs}
 use Rattle.state.specs.Memory.{memoryOf}
 use Rattle.state.specs.Results.{handedOf}
-use Rattle.updates.specs.Starts.{startRefused, started}
-use Rattle.updates.specs.UpdateLaws.{started-no-refusal}
-use Rattle.updates.proofs.starting.begin.Statement.{statement}
-use Rattle.updates.proofs.starting.begin.Tie as tie
+use Rattle.starting.specs.Starts.{startRefused, started}
+use Rattle.starting.specs.StartLaws.{started-no-refusal}
+use Rattle.starting.proofs.begin.Statement.{statement}
+use Rattle.starting.proofs.begin.Tie as tie
 
 returns : tie.Need-returns
 unfolding handedOf startRefused

@@ -1,7 +1,7 @@
--- `updates::starting::has_room_where` meets its contract.
+-- `starting::has_room_where` meets its contract.
 use borrow.Author.Needs.{needs}
-use Rattle.updates.proofs.starting.has_room_where.Statement.{statement}
-use Rattle.updates.proofs.starting.has_room_where.Tie as tie
+use Rattle.starting.proofs.has_room_where.Statement.{statement}
+use Rattle.starting.proofs.has_room_where.Tie as tie
 
 has-room-requires : tie.Need-has-room-requires
 has-room-requires c κs = search needs

@@ -1,13 +1,13 @@
--- `updates::starting::has_room` meets its contract.
+-- `starting::has_room` meets its contract.
 use mathlib.Core.Path.{ap, sym, _∙_}
 use Prim.Native.Nat.{ℕ, _-_}
 use native.Mathlib.Omega.{arith}
 use lib.Dec.{leb}
 use Rattle.free_nodes.specs.NodeSet.{nodesOf, countTrue}
-use Rattle.updates.specs.UpdateLaws.{room-held, room-slot, room-full, not-scarce, not-enough}
+use Rattle.starting.specs.StartLaws.{room-held, room-slot, room-full, not-scarce, not-enough}
 use borrow.Author.Needs.{needs}
-use Rattle.updates.proofs.starting.has_room.Statement.{statement}
-use Rattle.updates.proofs.starting.has_room.Tie as tie
+use Rattle.starting.proofs.has_room.Statement.{statement}
+use Rattle.starting.proofs.has_room.Tie as tie
 
 has-word-requires : tie.Need-has-word-requires
 has-word-requires c κs = search needs
