@@ -3,7 +3,7 @@ use mathlib.Core.Path.{_≡_, refl}
 use Prim.Native.Nat.{ℕ, suc, _≤_}
 use native.Mathlib.Omega.{arith}
 use lib.ListN.{length}
-use Rattle.change_theory.specs.Exchange.{tagged-in}
+use Rattle.shapes.specs.Next.{tagged-in}
 use Rattle.change_theory.specs.Rewrite.{Shape, violations-in, own-in, SameHeight}
 use Rattle.tree.specs.Splice.{Height, AllHeight}
 use Rattle.tree.specs.Tree.{Forest, roots, Context, node, top, down}

@@ -13,10 +13,12 @@ use Rattle.change_theory.specs.Rewrite.{Shape, violations-in, own-in, Sa
 use Rattle.laws.specs.Cases.{order}
 use Rattle.laws.specs.Lists.{drop-past}
 use Rattle.laws.specs.Totals.{total}
+use Rattle.shapes.specs.Bare.{bare-left, bare-right}
+use Rattle.shapes.specs.Next.{rootOfTwo, tagged-in}
 use Rattle.tree.specs.Cut.{cut, cut-join}
 use Rattle.tree.specs.Pairs.{forest-pairs, AllInRange, routing-roots}
 use Rattle.tree.specs.Represent.{RepresentsAll}
-use Rattle.tree.specs.Splice.{roots-join, routing-join, range-join, range-unjoin, pairs-splice, totals-splice, Height, AllHeight, height-splice, represents-splice}
+use Rattle.tree.specs.Splice.{roots-splice, roots-join, routing-join, range-join, range-unjoin, pairs-splice, totals-splice, Height, AllHeight, height-splice, represents-splice}
 use Rattle.tree.specs.Tree.{Forest, roots, routing, node-totals, Left, Right, join, splice, Context, node, one, more, rightmost, followed, top, down}
 use Rattle.tree.specs.Violations.{few, few-none, forest-violations, AllWidths, widths-splice}
 
@@ -71,11 +73,6 @@ pub enough : (C : Context) (n : ℕ) → 2 ≤ n → Enough C n
 enough top n h = h
 enough (down C m g l r) n h = omega arith
 
--- "under a tagged node (internal if it is the root)"
-abbrev pub tagged-in : Context → Bool
-tagged-in top = false
-tagged-in (down C m g l r) = true
-
 -- one child less, unless "that parent is the root with 2 children"
 abbrev pub Remains : Context → ℕ → Type 0
 Remains top n = 3 ≤ n
@@ -84,6 +81,21 @@ Remains (down C m g l r) n = Unit
 pub remains-enough : (C : Context) (n m : ℕ) → 2 ≤ n → n ≡ suc m → Remains C n → Enough C m
 remains-enough top n m h e o = omega arith
 remains-enough (down C i g l r) n m h e o = omega arith
+
+-- the two siblings are all the children, or others stand beside them: the same without numbers
+at-least : (l : Left) (F : Forest) (r : Right) → length (roots F) ≤ length (roots (splice l F r))
+at-least l F r = simp (roots-splice, length-append) (omega arith)
+
+pub alone : (l : Left) (F : Forest) (r : Right) → 2 ≤ length (roots F) → length (roots (splice l F r)) ≡ 2 → rootOfTwo false (bare-left l) (bare-right r) ≡ true
+alone [] F rightmost h e = refl
+alone [] F (followed k f) h e = absurd (omega (arith, ap length (roots-join F k f), length-append (roots F) (roots f), routing-roots f))
+alone (a ∷ l) F r h e = absurd (omega (arith, at-least l F r))
+
+pub beside : (C : Context) (l : Left) (F : Forest) (r : Right) → length (roots F) ≡ 2 → Remains C (length (roots (splice l F r))) → rootOfTwo (tagged-in C) (bare-left l) (bare-right r) ≡ false
+beside top [] F rightmost h o = absurd (omega arith)
+beside top [] F (followed k f) h o = refl
+beside top (a ∷ l) F r h o = refl
+beside (down C m g i j) l F r h o = refl
 
 -- the children of a parent, among them the only violation of the table
 pub record OneViolation (f : Forest) : Type 0 where

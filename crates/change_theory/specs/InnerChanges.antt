@@ -10,7 +10,8 @@ use Rattle.card.specs.NodeWords.{NodeWords}
 use Rattle.card.specs.Stores.{NewNode, new-node}
 use Rattle.plans.specs.Change.{half}
 use Rattle.change_theory.specs.Above.{above-height, above-shape, above-settled, above-own}
-use Rattle.change_theory.specs.Exchange.{Exchange, exchange-splice, enough, tagged-in, Remains, remains-enough, OneViolation, together-le, half-size, copied, widths-join, widths-unjoin, Parts, parts-size}
+use Rattle.change_theory.specs.Exchange.{Exchange, exchange-splice, enough, Remains, remains-enough, OneViolation, together-le, half-size, copied, widths-join, widths-unjoin, Parts, parts-size}
+use Rattle.shapes.specs.Next.{tagged-in}
 use Rattle.change_theory.specs.Rewrite.{SameHeight, Rewrite}
 use Rattle.laws.specs.Totals.{total}
 use Rattle.tree.specs.Pairs.{forest-pairs, AllInRange, routing-roots}

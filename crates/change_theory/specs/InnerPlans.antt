@@ -13,7 +13,8 @@ use Rattle.plans.specs.Change.{joinedKeys, joinedChildren, absorb, splitParent,
 use Rattle.plans.specs.Planning.{giving, first, second, third}
 use Rattle.change.specs.Mending.{mendTagged, mend}
 use Rattle.siblings.specs.Siblings.{mendTogether, mendSiblings}
-use Rattle.change_theory.specs.Exchange.{tagged-in, Remains, OneViolation, together-le, Parts, left-roots, right-roots, right-routing, left-routing, middle-key}
+use Rattle.change_theory.specs.Exchange.{Remains, OneViolation, together-le, Parts, left-roots, right-roots, right-routing, left-routing, middle-key}
+use Rattle.shapes.specs.Next.{tagged-in}
 use Rattle.change_theory.specs.InnerChanges.{inner-pair, new-siblings, parted-nodes, tagged-child, Underfull, together}
 use Rattle.change_theory.specs.Mending.{StandsAt, change-at, giving-same, kind-above, mend-tagged, mend-siblings, share-due, merge-root-due, merge-due}
 use Rattle.change_theory.specs.Siblings.{children-with, routing-with, first-child, second-child, key-between, two-represented, children-shared, routing-shared, children-merged, routing-merged}

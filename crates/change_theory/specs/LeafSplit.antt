@@ -11,7 +11,7 @@ use Rattle.card.specs.Layout.{slot-pairs}
 use Rattle.card.specs.Stores.{NewNode, new-node, AllHaveWords}
 use Rattle.plans.specs.Change.{splitLeaf}
 use Rattle.change_theory.specs.Above.{above-height, above-shape, above-settled, above-own}
-use Rattle.change_theory.specs.Exchange.{tagged-in}
+use Rattle.shapes.specs.Next.{tagged-in}
 use Rattle.change_theory.specs.LeafChanges.{leafNode}
 use Rattle.change_theory.specs.LeafRows.{slot-keys, length-pair-keys, length-pair-values, new-leaf-represented, twoLeaves, two-leaves-pairs, two-leaves-range, two-leaves-settled, two-leaves-widths}
 use Rattle.change_theory.specs.Mending.{change-at, kind-above}

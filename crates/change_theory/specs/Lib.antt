@@ -3,6 +3,7 @@ pub mod Siblings
 pub mod Exchange
 pub mod Above
 pub mod Parent
+pub mod Reached
 pub mod Mending
 pub mod InnerChanges
 pub mod InnerPlans
@@ -20,3 +21,7 @@ pub mod Repaired
 pub mod Mended
 pub mod Reshape
 pub mod Plays
+pub mod ExactOver
+pub mod Counted
+pub mod OtherTree
+pub mod KeptRoom

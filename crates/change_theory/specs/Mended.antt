@@ -30,6 +30,9 @@ use Rattle.free_nodes.specs.NodeSet.{capacity, countTrue}
 use Rattle.laws.specs.Bits.{bit-false, bit-le}
 use Rattle.laws.specs.Cases.{order}
 use Rattle.laws.specs.Totals.{indicator, indicator-other, total}
+use Rattle.change_theory.specs.Reached.{repair-reached}
+use Rattle.shapes.specs.Bare.{bare, bare-left, bare-right, bare-context, bare-plug}
+use Rattle.shapes.specs.Next.{mendAt, tagged-in, repairedBy}
 use Rattle.tree.specs.Pairs.{depth}
 use Rattle.tree.specs.Path.{Violation, OnPath, depth-of, own-violation, reserve}
 use Rattle.tree.specs.Represent.{Represents, roots-left, roots-right, RepresentsContext, link-place, Holds, unplugged}
@@ -72,7 +75,7 @@ other-numbers : (k i : ℕ) → (length (replicate k (suc i)) ≡ k) × (total (
 other-numbers zero i = (refl, refl)
 other-numbers (suc k) i = let r = other-numbers k i in (ap suc (r .0), omega (arith, r .1, indicator-other i (suc i) (omega arith)))
 
-out-inside : {c : List ℕ} {n : ℕ} {pos : Position} {free : List Bool} {last : ℕ} {C : Context} {o : Tree} {spare : ℕ} (p : Planned c n pos free last C o spare) (i : ℕ) → total (indicator i) (p .out) ≤ node-total (indicator i) o
+out-inside : {c : List ℕ} {n : ℕ} {pos : Position} {free : List Bool} {last : ℕ} {C : Context} {o : Tree} {spare : ℕ} {due : Tree} (p : Planned c n pos free last C o spare due) (i : ℕ) → total (indicator i) (p .out) ≤ node-total (indicator i) o
 out-inside p i =
     let q = other-numbers (p .given) i in
     let e : total (indicator i) (numbers (p .nodes (replicate (p .given) (suc i)))) ≡ 0 = ap (total (indicator i)) (p .in-order (replicate (p .given) (suc i)) (q .0)) ∙ q .1 in
@@ -100,10 +103,10 @@ module _ (c : List ℕ) (n : ℕ) (free : List Bool) (t : Tree) (len : length c 
       (λ a. order n i (λ b. absurd (omega (arith, g .were-free i, bit-false (getD free i false) (x .outside-none i (inr b))))) (λ b. record { pos = omega arith; fits = omega arith }))
 
 -- a planned change, given its numbers, on the card
-module _ (c : List ℕ) (n key : ℕ) (free : List Bool) (last : ℕ) (len : length c ≡ 8 + 24 * n) (small : n < capacity) (C : Context) (o : Tree) (spare deep : ℕ) where
+module _ (c : List ℕ) (n key : ℕ) (free : List Bool) (last : ℕ) (len : length c ≡ 8 + 24 * n) (small : n < capacity) (C : Context) (o : Tree) (spare deep : ℕ) (due : Tree) where
   pub planned-repaired : (pos : Position) → Holds c (plug C o) → Sound (plug C o) → Exact n free (plug C o) → table-violations (plug C o) ≡ 1 → violations-in C o ≡ 1 → 3 + spare ≤ countTrue free
-      → OnPath key C → depth-of C < deep → Planned c n pos free last C o spare → nextRepair c n key free last ≡ mend c n pos free last → Repaired c n key (plug C o) free last deep
-  planned-repaired pos h s x v vi room path fall p is = go (numbers-given (p .given) free last (x .outside-none 0 (inl refl)) (omega (arith, p .at-most-three)))
+      → OnPath key C → depth-of C < deep → Planned c n pos free last C o spare due → repairedBy false (bare (plug C o)) ≡ plug (bare-context C) due → nextRepair c n key free last ≡ mend c n pos free last → Repaired c n key (plug C o) free last deep
+  planned-repaired pos h s x v vi room path fall p reached is = go (numbers-given (p .given) free last (x .outside-none 0 (inl refl)) (omega (arith, p .at-most-three)))
     where
       go : ((ms : List ℕ) × (takeNumbers (p .given) free last ≡ some ms) × (length ms ≡ p .given) × Given free ms) → Repaired c n key (plug C o) free last deep
       go (ms, e, el, g) =
@@ -133,6 +136,7 @@ module _ (c : List ℕ) (n key : ℕ) (free : List Bool) (last : ℕ) (len : len
               level = ready .0;
               ready = ready .1;
               falls = ready .2;
+              shaped = bare-plug C part ∙ ap (plug (bare-context C)) (p .shaped ms) ∙ sym reached;
             };
           }
         where
@@ -203,14 +207,14 @@ mended c n key t free last len small h s deep x v single room = go (v .context) 
             let one-below = violation-parent C p l q r (s₁ .widths) (omega arith) own in
             let rep = unplugged c C (node p false (fill l q r)) h₁ .1 in
             let high = height-plug (s₁ .level .0) C (node p false (fill l q r)) (s₁ .level .1) in
-            planned-repaired c n key free last len small C (node p false (fill l q r)) (reserve (down C p false l r) q) (suc (depth-of C)) (positionOf (down C p false l r) q) h₁ s₁ x₁ v₁
-            (here C one-below) room (path .3) (omega arith) (plan q rep high one-below own) (search-mends c n key free last (positionOf (down C p false l r) q) found)
+            planned-repaired c n key free last len small C (node p false (fill l q r)) (reserve (down C p false l r) q) (suc (depth-of C)) (mendAt (tagged-in C) (bare-left l) (bare q) (bare-right r)) (positionOf (down C p false l r) q) h₁ s₁ x₁ v₁
+            (here C one-below) room (path .3) (omega arith) (plan q rep high one-below own) (repair-reached C p l q r own (omega arith)) (search-mends c n key free last (positionOf (down C p false l r) q) found)
           where
             here : (D : Context) → OneViolation (fill l q r) → violations-in D (node p false (fill l q r)) ≡ 1
             here top o = o .single
             here (down D m b i j) o = omega (arith, o .single, few-none (length (roots (fill l q r))) (o .least))
 
             plan : (q : Tree) → Represents c (node p false (fill l q r)) → ((k : ℕ) × Height k (node p false (fill l q r)) × ((s′ : Tree) → Height k s′ → Height (s₁ .level .0) (plug C s′))) → OneViolation (fill l q r) → own-violation q ≡ 1
-                → Planned c n (positionOf (down C p false l r) q) free last C (node p false (fill l q r)) (reserve (down C p false l r) q)
+                → Planned c n (positionOf (down C p false l r) q) free last C (node p false (fill l q r)) (reserve (down C p false l r) q) (mendAt (tagged-in C) (bare-left l) (bare q) (bare-right r))
             plan (leaf m ks vs) rep high o own = leaf-mended c n (positionOf (down C p false l r) (leaf m ks vs)) free last C p l r m ks vs len (stands C p l r (leaf m ks vs)) rep o own (high .0) (high .1)
             plan (node m g f) rep high o own = inner-mended c n (positionOf (down C p false l r) (node m g f)) free last C p l m g f r len (stands C p l r (node m g f)) rep (high .0) (high .1) o own

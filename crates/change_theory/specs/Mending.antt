@@ -16,10 +16,12 @@ use Rattle.plans.specs.Change.{Change, kindAbove, Together, share, merge, merge
 use Rattle.plans.specs.Planning.{giving, first, second, third}
 use Rattle.change.specs.Mending.{mendTagged, isNode, mendUnderfull, mend}
 use Rattle.siblings.specs.Siblings.{mendTogether, mendSiblings}
-use Rattle.change_theory.specs.Exchange.{tagged-in, Remains}
+use Rattle.change_theory.specs.Exchange.{Remains}
+use Rattle.shapes.specs.Next.{tagged-in}
 use Rattle.change_theory.specs.Rewrite.{numbers, Rewrite}
 use Rattle.change_theory.specs.Siblings.{first-child, second-child, both-there, two-represented}
 use Rattle.laws.specs.Cases.{order, and-intro}
+use Rattle.shapes.specs.Bare.{bare}
 use Rattle.tree.specs.Path.{reserve}
 use Rattle.tree.specs.Reading.{read-kind, root-on-card}
 use Rattle.tree.specs.Represent.{kind, Represents, link-place}
@@ -39,7 +41,7 @@ change-at C nodes number out = record { nodes = nodes; link = link-place C; top 
 
 -- The repair of the part o: so many numbers are given, the change over them is a rewrite of o, and with the nodes that it cuts
 -- out the free nodes are enough for what the new part keeps in reserve, where spare was kept for the old one.
-pub record Planned (c : List ℕ) (n : ℕ) (pos : Position) (free : List Bool) (last : ℕ) (C : Context) (o : Tree) (spare : ℕ) : Type 0 where
+pub record Planned (c : List ℕ) (n : ℕ) (pos : Position) (free : List Bool) (last : ℕ) (C : Context) (o : Tree) (spare : ℕ) (due : Tree) : Type 0 where
   pub given : ℕ
   pub nodes : List ℕ → List NewNode
   pub part : List ℕ → Tree
@@ -49,6 +51,8 @@ pub record Planned (c : List ℕ) (n : ℕ) (pos : Position) (free : List Bool) 
   pub at-most-three : given ≤ 3
   pub in-order : (ms : List ℕ) → length ms ≡ given → numbers (nodes ms) ≡ ms
   pub budget : (ms : List ℕ) → given + reserve C (part ms) ≤ length out + spare
+  -- and without numbers the new part is the one due
+  pub shaped : (ms : List ℕ) → bare (part ms) ≡ due
 
 -- all of so many numbers, in their order
 pub first-of : (ms : List ℕ) → length ms ≡ 1 → first ms ∷ [] ≡ ms

@@ -2,7 +2,7 @@
 -- sound table with the same pairs that can be opened; the last one puts the next tree there.
 use mathlib.Core.Path.{_≡_, refl}
 use mathlib.Core.List.{List, [], _∷_, _++_}
-use mathlib.Core.Bool.{Bool}
+use mathlib.Core.Bool.{Bool, false}
 use mathlib.Core.Logic.{_⊎_, inr}
 use Prim.Native.Nat.{ℕ, _≤_, _<_}
 use native.Mathlib.Omega.{arith}
@@ -14,6 +14,8 @@ use Rattle.change_theory.specs.Exact.{Exact}
 use Rattle.change_theory.specs.Repaired.{Mendable, Pending}
 use Rattle.change_theory.specs.Rewritten.{Sound}
 use Rattle.laws.specs.Totals.{total}
+use Rattle.shapes.specs.Bare.{bare}
+use Rattle.shapes.specs.Next.{repairedBy}
 use Rattle.tree.specs.Cut.{cut}
 use Rattle.tree.specs.Pairs.{pairs}
 use Rattle.tree.specs.Replace.{holds-frame}
@@ -65,7 +67,7 @@ pub record Changing (c : List ℕ) (n key : ℕ) (t : Tree) (rest : List Store) 
 
 -- a repair's change is one that keeps the pairs and comes nearer to the root
 pub pending-changing : {c : List ℕ} {n key : ℕ} {t : Tree} {rest : List Store} {free : List Bool} {cut : List ℕ} {deep : ℕ} → Holds c t → Sound t → Openable n t → (p : Pending c n key t rest free cut deep)
-    → (q : Changing c n key t rest free cut) × ((w : ℕ × ℕ → ℕ) → total w (pairs (q .next)) ≡ total w (pairs t)) × (q .level < deep)
+    → (q : Changing c n key t rest free cut) × ((w : ℕ × ℕ → ℕ) → total w (pairs (q .next)) ≡ total w (pairs t)) × (q .level < deep) × (bare (q .next) ≡ repairedBy false (bare t))
 pending-changing {c} {n} {key} {t} h s o p = (
   record {
     next = p .next;
@@ -77,4 +79,5 @@ pending-changing {c} {n} {key} {t} h s o p = (
   },
   p .same-pairs,
   p .falls,
+  p .shaped,
 )

@@ -2,7 +2,7 @@
 -- every store.
 use mathlib.Core.Path.{_≡_}
 use mathlib.Core.List.{List, [], _∷_, _++_}
-use mathlib.Core.Bool.{Bool}
+use mathlib.Core.Bool.{Bool, false}
 use mathlib.Core.Logic.{_⊎_}
 use Prim.Native.Nat.{ℕ, _+_, _≤_, _<_}
 use lib.ListN.{length, set}
@@ -14,6 +14,8 @@ use Rattle.change_theory.specs.Exact.{Exact}
 use Rattle.change_theory.specs.Rewritten.{Sound}
 use Rattle.free_nodes.specs.NodeSet.{countTrue}
 use Rattle.laws.specs.Totals.{total}
+use Rattle.shapes.specs.Bare.{bare}
+use Rattle.shapes.specs.Next.{repairedBy}
 use Rattle.tree.specs.Cut.{cut}
 use Rattle.tree.specs.Pairs.{pairs}
 use Rattle.tree.specs.Path.{depth-of, reserve, Violation}
@@ -47,6 +49,8 @@ pub record Pending (c : List ℕ) (n key : ℕ) (t : Tree) (rest : List Store) (
   pub level : ℕ
   pub ready : Mendable key (withAll cut free) next level
   pub falls : level < deep
+  -- without numbers it is the repair of the tree without numbers
+  pub shaped : bare next ≡ repairedBy false (bare t)
 
 -- the next change of a repair, planned on a card whose violation is so deep
 pub record Repaired (c : List ℕ) (n key : ℕ) (t : Tree) (free : List Bool) (last deep : ℕ) : Type 0 where

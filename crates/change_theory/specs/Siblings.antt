@@ -2,7 +2,7 @@
 -- side among the children of their parent, and the parent's lists of numbers where some children give way to others.
 use mathlib.Core.Path.{_≡_, refl, ap, sym, _∙_}
 use mathlib.Core.List.{List, [], _∷_, _++_, append-assoc}
-use mathlib.Core.Bool.{false}
+use mathlib.Core.Bool.{Bool, false}
 use mathlib.Core.Logic.{_⊎_, inl, inr}
 use Prim.Native.Nat.{ℕ, suc, _+_, _-_, _≤_, _<_}
 use native.Mathlib.Omega.{arith}
@@ -12,9 +12,12 @@ use Rattle.card.specs.Layout.{nodeAt, children, routingKeys}
 use Rattle.laws.specs.Lists.{getD-right}
 use Rattle.tree.specs.Path.{width-of}
 use Rattle.tree.specs.Reading.{node-children, node-routing}
+use Rattle.shapes.specs.Bare.{bare, bare-left, bare-right}
+use Rattle.shapes.specs.Next.{Siblings as Chosen, siblingsOf, mendTwo, mendAt}
+use Rattle.shapes.specs.Shaped.{siblings-shaped}
 use Rattle.tree.specs.Represent.{Represents, roots-left, roots-right, routing-left, routing-right}
 use Rattle.tree.specs.Splice.{represents-splice, roots-splice, routing-splice, length-roots-left, length-routing-left}
-use Rattle.tree.specs.Tree.{Tree, Forest, root, roots, routing, Left, Right, splice, fill, node, one, more, rightmost, followed}
+use Rattle.tree.specs.Tree.{Tree, Forest, root, roots, routing, Left, Right, splice, fill, leaf, node, one, more, rightmost, followed}
 
 -- Child s of a parent with at least two, seen as one of two children that stand side by side: child 0 is the first of the
 -- two, any other child the second. The first of the two is child length left of the parent.
@@ -27,13 +30,15 @@ pub record Pair (l₀ : Left) (s : Tree) (r₀ : Right) : Type 0 where
   pub whole : fill l₀ s r₀ ≡ splice left (more lesser key (one greater)) right
   pub index : length left ≡ length l₀ - 1
   pub member : (lesser ≡ s) ⊎ (greater ≡ s)
+  pub chosen : siblingsOf l₀ s r₀ ≡ record { left = left; lesser = lesser; key = key; greater = greater; right = right }
 
 pub siblings : (l₀ : Left) (s : Tree) (r₀ : Right) → 2 ≤ width-of l₀ r₀ → Pair l₀ s r₀
+unfolding siblingsOf
 siblings [] s rightmost h = absurd (omega arith)
-siblings [] s (followed k (one y)) h = record { left = []; lesser = s; key = k; greater = y; right = rightmost; whole = refl; index = refl; member = inl refl }
-siblings [] s (followed k (more y x f)) h = record { left = []; lesser = s; key = k; greater = y; right = followed x f; whole = refl; index = refl; member = inl refl }
-siblings (a ∷ []) s rightmost h = record { left = []; lesser = a .0; key = a .1; greater = s; right = rightmost; whole = refl; index = refl; member = inr refl }
-siblings (a ∷ []) s (followed k f) h = record { left = []; lesser = a .0; key = a .1; greater = s; right = followed k f; whole = refl; index = refl; member = inr refl }
+siblings [] s (followed k (one y)) h = record { left = []; lesser = s; key = k; greater = y; right = rightmost; whole = refl; index = refl; member = inl refl; chosen = refl }
+siblings [] s (followed k (more y x f)) h = record { left = []; lesser = s; key = k; greater = y; right = followed x f; whole = refl; index = refl; member = inl refl; chosen = refl }
+siblings (a ∷ []) s rightmost h = record { left = []; lesser = a .0; key = a .1; greater = s; right = rightmost; whole = refl; index = refl; member = inr refl; chosen = refl }
+siblings (a ∷ []) s (followed k f) h = record { left = []; lesser = a .0; key = a .1; greater = s; right = followed k f; whole = refl; index = refl; member = inr refl; chosen = refl }
 siblings (a ∷ b ∷ l) s r h =
     let u = siblings (b ∷ l) s r (omega arith) in
     record {
@@ -45,7 +50,19 @@ siblings (a ∷ b ∷ l) s r h =
       whole = ap (λ (f : Forest). more (a .0) (a .1) f) (u .whole);
       index = omega (arith, u .index);
       member = u .member;
+      chosen = ap (λ (v : Chosen). record { left = a ∷ v .left; lesser = v .lesser; key = v .key; greater = v .greater; right = v .right }) (u .chosen);
     }
+
+-- without numbers, too, the two are those that the violation and its sibling are
+pub leaf-due : (below : Bool) (l : Left) (m : ℕ) (ks vs : List ℕ) (r : Right) (u : Pair l (leaf m ks vs) r)
+    → mendAt below (bare-left l) (bare (leaf m ks vs)) (bare-right r) ≡ mendTwo below (bare-left (u .left)) (bare (u .lesser)) (u .key) (bare (u .greater)) (bare-right (u .right))
+unfolding mendAt
+leaf-due below l m ks vs r u = rw (siblings-shaped l (leaf m ks vs) r, u .chosen)
+
+pub inner-due : (below : Bool) (l : Left) (m : ℕ) (f : Forest) (r : Right) (u : Pair l (node m false f) r)
+    → mendAt below (bare-left l) (bare (node m false f)) (bare-right r) ≡ mendTwo below (bare-left (u .left)) (bare (u .lesser)) (u .key) (bare (u .greater)) (bare-right (u .right))
+unfolding mendAt
+inner-due below l m f r u = rw (siblings-shaped l (node m false f) r, u .chosen)
 
 -- a part ys in the middle of a list gives way to ms
 swap-middle : (xs ys zs ms : List ℕ) (i n : ℕ) → length xs ≡ i → n ≡ i + length ys → take i (xs ++ (ys ++ zs)) ++ (ms ++ drop n (xs ++ (ys ++ zs))) ≡ xs ++ (ms ++ zs)

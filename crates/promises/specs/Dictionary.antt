@@ -59,7 +59,7 @@ module _ (w : World) (l : List (ℕ × ℕ)) (begins : Begins w l) (es : List Ev
     insert-finishes-by-depth key value high e =
         let k = kept-from w l begins es words in
         let q = kept-insert (k .0) (k .1) (run es w) (kept-ledger es w (ledger l empty)) (kept-due es w (ledger l empty) none) (k .2) key value high in
-        rw e at (work-finishes (k .0) (q .0) (updateStoresAt h) (happens (insert key value) (run es w)) _ _ (q .2) (q .1 .busy e) (omega (arith, q .1 .steps-left e t sound h level)))
+        rw e at (work-finishes (k .0) (q .0) (updateStoresAt h) (happens (insert key value) (run es w)) _ _ (q .2 .0) (q .1 .busy e) (omega (arith, q .1 .steps-left e t sound h level)))
 
     pub delete-finishes-by-depth : (key : ℕ) → key < keyLimit → deleteOf (run es w .card) (run es w .memory) key .begun ≡ Started
         → Finishes (updateStoresAt h) (stepReply (dictionary-answer (lookup key (kept-ledger es w (ledger l empty) .held)))) (happens (delete key) (run es w))
@@ -67,7 +67,7 @@ module _ (w : World) (l : List (ℕ × ℕ)) (begins : Begins w l) (es : List Ev
     delete-finishes-by-depth key high e =
         let k = kept-from w l begins es words in
         let q = kept-delete (k .0) (k .1) (run es w) (kept-ledger es w (ledger l empty)) (kept-due es w (ledger l empty) none) (k .2) key high in
-        rw e at (work-finishes (k .0) (q .0) (updateStoresAt h) (happens (delete key) (run es w)) _ _ (q .2) (q .1 .busy e) (omega (arith, q .1 .steps-left e t sound h level)))
+        rw e at (work-finishes (k .0) (q .0) (updateStoresAt h) (happens (delete key) (run es w)) _ _ (q .2 .0) (q .1 .busy e) (omega (arith, q .1 .steps-left e t sound h level)))
 
   -- "With 600 nodes a balanced tree has at most 8 internal levels"
   within-bound : {final : Reply} {v : World} → run es w .memory .doing ≡ Idle → ((t : Tree) → WellFormed (run es w .card) t → (h : ℕ) → Height h t → Finishes (updateStoresAt h) final v) → Finishes updateStores final v

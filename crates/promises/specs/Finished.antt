@@ -29,6 +29,7 @@ use Rattle.promises.specs.Starting.{idle-or-busy}
 use Rattle.promises.specs.Stepping.{Right, final-due, right-final, Moves, kept-step, was-idle, ends-now, goes-further}
 use Rattle.promises.specs.Steps.{memory, idle-refused, idle-world}
 use Rattle.soundness_theory.specs.Depth.{balanced-levels, nodes-within}
+use Rattle.shapes.specs.Bare.{bare}
 use Rattle.tree.specs.Violations.{table-violations}
 
 -- so many steps that each store a word, and then one that gives the final answer
@@ -46,7 +47,7 @@ counted : (n steps : ℕ) (w : World) (b : Ledger) (due : Option Answer) → Inv
 counted n zero w b due i busy = absurd (idle-not-busy (w .memory .doing) (at-rest n 0 w b due refl i .0) busy)
 counted n (suc steps) w b due i busy =
     let q = kept-step n steps w b due i in
-    go (q .2) (q .1) (λ s e. counted n steps (happens step w) _ due (rw (stored-due w b due s) at (q .0)) (after-step w e))
+    go (q .2) (q .1) (λ s e. counted n steps (happens step w) _ due (rw (stored-due w b due s) at (q .0 .0)) (after-step w e))
   where
     go : Moves (w .card) (w .memory) (stepOf (w .card) (w .memory)) → Right (stepOf (w .card) (w .memory) .answer) due
         → (stepOf (w .card) (w .memory) .answer ≡ Stored → isIdle (stepOf (w .card) (w .memory) .memory .doing) ≡ false → (k : ℕ) × (k < steps) × Counted (stepReply (final-due due)) k (happens step w)) → (k : ℕ) × (k < suc steps) × Counted (stepReply (final-due due)) k w
@@ -137,9 +138,9 @@ work-not-refused n steps w b due i busy r e = at (kept-step n steps w b due (loo
 pub inv-rests : (n steps : ℕ) (w : World) (b : Ledger) (due : Option Answer) → Inv n steps w b due → w .memory .doing ≡ Idle → Rests w (b .held)
 inv-rests n steps w b due i idle = go (idle-or-busy (i .stage))
   where
-    go : (w .memory .nodes ≡ n) × ((isIdle (w .memory .doing) ≡ false) ⊎ ((free : List Bool) × (last : ℕ) × (w .memory ≡ memory n free last Idle [] []) × (b .in-hand ≡ empty) × (due ≡ none) × (table-violations (i .tree) ≡ 0) × (3 ≤ countTrue free) × Exact n free (i .tree))) → Rests w (b .held)
+    go : (w .memory .nodes ≡ n) × ((isIdle (w .memory .doing) ≡ false) ⊎ ((free : List Bool) × (last : ℕ) × (w .memory ≡ memory n free last Idle [] []) × (b .in-hand ≡ empty) × (due ≡ none) × (table-violations (i .tree) ≡ 0) × (3 ≤ countTrue free) × Exact n free (i .tree) × (bare (i .tree) ≡ i .goal))) → Rests w (b .held)
     go (e, inl busy) = absurd (idle-not-busy (w .memory .doing) idle busy)
-    go (e, inr (free, last, em, eh, ed, z, r, x)) =
+    go (e, inr (free, last, em, eh, ed, z, r, x, eg)) =
         record {
           table = i .tree;
           balanced = record { well-formed = table-well-formed (i .table); none = z };

@@ -13,7 +13,13 @@ use Rattle.card.specs.NodeWords.{OnCard}
 use Rattle.card.specs.Stores.{Store, stores, NewNode, node-stores, numbered}
 use Rattle.plans.specs.Planning.{withoutAll, first, second, third, withAll, balanced}
 use Rattle.change_theory.specs.Exact.{Exact, exact-after}
-use Rattle.change_theory.specs.Exchange.{tagged-in}
+use Rattle.descent.specs.Descent.{firstEqual}
+use Rattle.descent.specs.declared.Slot.{Slot}
+use Rattle.descent.specs.declared.Slot.the-variants.{At, Absent as NoSlot}
+use Rattle.promises.specs.Shapes.{firstShape}
+use Rattle.shapes.specs.Bare.{bare, bare-context, bare-plug}
+use Rattle.shapes.specs.Next.{tagged-in, putIn, putAt, takeOut, takeAt}
+use Rattle.shapes.specs.Ways.{Reaches, bare-reaches, bare-tagged-in, changed-leaf}
 use Rattle.change_theory.specs.LeafRows.{twoLeaves}
 use Rattle.change_theory.specs.LeafSplit.{Growth, withPair, splitNodes, leaf-split}
 use Rattle.change_theory.specs.Mended.{length-node-stores, link-on-card, given-fresh, given-on-card}
@@ -39,8 +45,12 @@ use Rattle.tree.specs.Path.{depth-of, full-run, reserve}
 use Rattle.tree.specs.Represent.{link-place, Holds, unplugged}
 use Rattle.tree.specs.Sorted.{outside-none}
 use Rattle.tree.specs.Splice.{pairs-plug}
-use Rattle.tree.specs.Tree.{Tree, node-total, Context, plug, total-plug, leaf, node}
+use Rattle.tree.specs.Tree.{Tree, node-total, Context, plug, total-plug, leaf, node, top, down}
 use Rattle.tree.specs.Violations.{below, table-violations}
+
+pub leads-reach : (key : ℕ) (C : Context) → Leads key C → Reaches key C
+leads-reach key top p = tt
+leads-reach key (down C m g l r) p = (p .0, p .1, leads-reach key C (p .2))
 
 -- a part's pairs are among those of the whole
 pub pairs-part : (w : ℕ × ℕ → ℕ) (C : Context) (s : Tree) → total w (pairs s) ≤ total w (pairs (plug C s))
@@ -121,6 +131,12 @@ module _ (c : List ℕ) (n key : ℕ) (free : List Bool) (C : Context) (m : ℕ)
       unfolding slot-changing withAll
       slot-enters = enters-put key v (pairs (plug C (leaf m ks vs))) (pairs (plug C (leaf m (set ks i key) (set vs i v)))) absent (λ w. omega (arith, pairs-plug w C (leaf m ks vs) (leaf m (set ks i key) (set vs i v)), key-more w))
 
+      pub slot-shaped : firstEqual ks 0 0 ≡ At i → bare (slot-changing .next) ≡ firstShape (put key v) (bare (plug C (leaf m ks vs)))
+      unfolding slot-changing withAll firstShape putIn putAt
+      slot-shaped e =
+          let c = changed-leaf (putIn key v) key (bare-context C) 0 ks vs (bare-reaches key C (leads-reach key C leads)) in
+          rw (bare-plug C (leaf m (set ks i key) (set vs i v)), bare-plug C (leaf m ks vs), c, e)
+
     -- "Delete: key word to 0"
     module _ (i : ℕ) (small : i < 11) (held : getD ks i 0 ≡ key) where
       key-less : (w : ℕ × ℕ → ℕ) → total w (slot-pairs ks vs) ≡ w (key, getD vs i 0) + total w (slot-pairs (set ks i 0) vs)
@@ -154,6 +170,12 @@ module _ (c : List ℕ) (n key : ℕ) (free : List Bool) (C : Context) (m : ℕ)
       delete-enters =
           enters-remove key (getD vs i 0) (pairs (plug C (leaf m ks vs))) (pairs (plug C (leaf m (set ks i 0) vs))) (key-once lowestKey keyLimit key (plug C (leaf m ks vs)) (sound .range))
           (λ w. omega (arith, pairs-plug w C (leaf m ks vs) (leaf m (set ks i 0) vs), key-less w))
+
+      pub delete-shaped : firstEqual ks key 0 ≡ At i → bare (delete-changing .next) ≡ firstShape (remove key) (bare (plug C (leaf m ks vs)))
+      unfolding delete-changing withAll firstShape takeOut takeAt
+      delete-shaped e =
+          let c = changed-leaf (takeOut key) key (bare-context C) 0 ks vs (bare-reaches key C (leads-reach key C leads)) in
+          rw (bare-plug C (leaf m (set ks i 0) vs), bare-plug C (leaf m ks vs), c, e)
 
     -- "Leaf full: the 12 pairs go 6 and 6 into two leaves under a tagged node (internal if it is the root)"
     module _ (v : ℕ) (ms : List ℕ) (three : length ms ≡ 3) (given : Given free ms) (len : length c ≡ 8 + 24 * n) (fits : n < capacity) (full-leaf : length (slot-pairs ks vs) ≡ 11)
@@ -226,6 +248,12 @@ module _ (c : List ℕ) (n key : ℕ) (free : List Bool) (C : Context) (m : ℕ)
         unfolding split-changing
         split-enters = enters-put key v (pairs (plug C (leaf m ks vs))) (pairs (plug C part)) absent (λ w. omega (arith, pairs-plug w C (leaf m ks vs) part, G .pair-more w))
 
+        pub split-shaped : firstEqual ks 0 0 ≡ NoSlot → bare (split-changing .next) ≡ firstShape (put key v) (bare (plug C (leaf m ks vs)))
+        unfolding split-changing firstShape putIn putAt
+        split-shaped e =
+            let c = changed-leaf (putIn key v) key (bare-context C) 0 ks vs (bare-reaches key C (leads-reach key C leads)) in
+            rw (bare-plug C part, bare-plug C (leaf m ks vs), c, e, bare-tagged-in C)
+
         pub split-count : length (node-stores nodes ++ (link-place C, third ms) ∷ []) ≡ 73
         split-count = length-append (node-stores nodes) ((link-place C, third ms) ∷ []) ∙ ap (λ (x : ℕ). x + 1) (length-node-stores nodes (G .few))
 
@@ -234,3 +262,4 @@ pub record First (c : List ℕ) (n key : ℕ) (t : Tree) (stores : List Store) (
   pub changing : Changing c n key t stores free cut
   pub enters : Enters u (pairs t) (pairs (changing .next))
   pub shallow : changing .level ≤ deep
+  pub shaped : bare (changing .next) ≡ firstShape u (bare t)

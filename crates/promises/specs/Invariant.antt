@@ -24,6 +24,9 @@ use Rattle.state.specs.declared.Doing.{Doing}
 use Rattle.state.specs.declared.Doing.the-variants.{Idle, Formatting, Inserting, Deleting, Repairing}
 use Rattle.state.specs.declared.Answer.{Answer}
 use Rattle.state.specs.declared.Answer.the-variants.{Stored, Ready, Absent, Value, Refused}
+use Rattle.promises.specs.Shapes.{afterShape}
+use Rattle.shapes.specs.Bare.{bare}
+use Rattle.shapes.specs.Whole.{Heads}
 use Rattle.tree.specs.Cut.{cut}
 use Rattle.tree.specs.Pairs.{pairs, lookup}
 use Rattle.tree.specs.Represent.{Holds}
@@ -55,29 +58,35 @@ pub record UpdateSteps (t : Tree) (steps : ℕ) : Type 0 where
   pub level : Height height t
   pub enough : updateStoresAt height + 1 ≤ steps
 
-pub data Stage (c : List ℕ) (n : ℕ) (t : Tree) (steps : ℕ) : Memory → Hand → Option Answer → Type 0 where
-  stage-idle : {free : List Bool} {last : ℕ} → table-violations t ≡ 0 → 3 ≤ countTrue free → Exact n free t
-      → Stage c n t steps (record { nodes = n; free = free; last = last; doing = Idle; rest = []; cut = [] }) empty none
+pub data Stage (c : List ℕ) (n : ℕ) (t goal : Tree) (steps : ℕ) : Memory → Hand → Option Answer → Type 0 where
+  stage-idle : {free : List Bool} {last : ℕ} → table-violations t ≡ 0 → 3 ≤ countTrue free → Exact n free t → bare t ≡ goal
+      → Stage c n t goal steps (record { nodes = n; free = free; last = last; doing = Idle; rest = []; cut = [] }) empty none
   -- started: nothing is planned yet
-  stage-put : {free : List Bool} {last key value : ℕ} → table-violations t ≡ 0 → 3 ≤ countTrue free → Exact n free t → lowestKey ≤ key → key < keyLimit → startRoom c key free (landing c n key) ≡ true → UpdateSteps t steps
-      → Stage c n t steps (record { nodes = n; free = free; last = last; doing = Inserting key value false; rest = []; cut = [] }) (hand (put key value) (leaf-full c n key) 0 false) (some (dictionary-answer (lookup key (pairs t))))
-  stage-remove : {free : List Bool} {last key : ℕ} → table-violations t ≡ 0 → 3 ≤ countTrue free → Exact n free t → lowestKey ≤ key → key < keyLimit → UpdateSteps t steps
-      → Stage c n t steps (record { nodes = n; free = free; last = last; doing = Deleting key false 0; rest = []; cut = [] }) (hand (remove key) false 0 false) (some (dictionary-answer (lookup key (pairs t))))
+  stage-put : {free : List Bool} {last key value : ℕ} → table-violations t ≡ 0 → 3 ≤ countTrue free → Exact n free t → lowestKey ≤ key → key < keyLimit → startRoom c key free (landing c n key) ≡ true → UpdateSteps t steps → afterShape (put key value) (bare t) ≡ goal
+      → Stage c n t goal steps (record { nodes = n; free = free; last = last; doing = Inserting key value false; rest = []; cut = [] }) (hand (put key value) (leaf-full c n key) 0 false) (some (dictionary-answer (lookup key (pairs t))))
+  stage-remove : {free : List Bool} {last key : ℕ} → table-violations t ≡ 0 → 3 ≤ countTrue free → Exact n free t → lowestKey ≤ key → key < keyLimit → UpdateSteps t steps → afterShape (remove key) (bare t) ≡ goal
+      → Stage c n t goal steps (record { nodes = n; free = free; last = last; doing = Deleting key false 0; rest = []; cut = [] }) (hand (remove key) false 0 false) (some (dictionary-answer (lookup key (pairs t))))
   -- the first change of an update, whose last store enters it
   stage-first : {free : List Bool} {last key : ℕ} {doing : Doing} {final : Answer} {u : Update} {f : Bool} {k : ℕ} {cut : List ℕ} {s : Store} {rest : List Store} → Job doing key final (some u) → (p : Changing c n key t (s ∷ rest) free cut) → Enters u (pairs t) (pairs (p .next))
-      → k + suc (length rest) ≡ deciding u f → suc (length rest) + (73 * p .level + 1) ≤ steps
-      → Stage c n t steps (record { nodes = n; free = free; last = last; doing = doing; rest = s ∷ rest; cut = cut }) (hand u f k false) (some final)
+      → k + suc (length rest) ≡ deciding u f → suc (length rest) + (73 * p .level + 1) ≤ steps → Heads (p .level) (bare (p .next)) goal
+      → Stage c n t goal steps (record { nodes = n; free = free; last = last; doing = doing; rest = s ∷ rest; cut = cut }) (hand u f k false) (some final)
   -- between two changes of a repair
-  stage-between : {free : List Bool} {last key : ℕ} {doing : Doing} {final : Answer} {u : Option Update} {h : Hand} {due : Option Answer} → Job doing key final u → Entered u final h due → (deep : ℕ) → Mendable key free t deep → Exact n free t → 73 * deep + 1 ≤ steps
-      → Stage c n t steps (record { nodes = n; free = free; last = last; doing = doing; rest = []; cut = [] }) h due
+  stage-between : {free : List Bool} {last key : ℕ} {doing : Doing} {final : Answer} {u : Option Update} {h : Hand} {due : Option Answer} → Job doing key final u → Entered u final h due → (deep : ℕ) → Mendable key free t deep → Exact n free t → 73 * deep + 1 ≤ steps → Heads deep (bare t) goal
+      → Stage c n t goal steps (record { nodes = n; free = free; last = last; doing = doing; rest = []; cut = [] }) h due
   -- within a change of a repair, which keeps the pairs
   stage-within : {free : List Bool} {last key : ℕ} {doing : Doing} {final : Answer} {u : Option Update} {h : Hand} {due : Option Answer} {cut : List ℕ} {s : Store} {rest : List Store} → Job doing key final u → Entered u final h due → (p : Changing c n key t (s ∷ rest) free cut)
-      → Same (pairs (p .next)) (pairs t) → suc (length rest) + (73 * p .level + 1) ≤ steps
-      → Stage c n t steps (record { nodes = n; free = free; last = last; doing = doing; rest = s ∷ rest; cut = cut }) h due
+      → Same (pairs (p .next)) (pairs t) → suc (length rest) + (73 * p .level + 1) ≤ steps → Heads (p .level) (bare (p .next)) goal
+      → Stage c n t goal steps (record { nodes = n; free = free; last = last; doing = doing; rest = s ∷ rest; cut = cut }) h due
 
 pub record Inv (n steps : ℕ) (w : World) (b : Ledger) (due : Option Answer) : Type 0 where
   pub tree : Tree
   pub table : Table (w .card) n tree
   pub openable : Openable n tree
   pub same : Same (pairs tree) (b .held)
-  pub stage : Stage (w .card) n tree steps (w .memory) (b .in-hand) due
+  -- what the work in hand comes to, without numbers
+  pub goal : Tree
+  pub stage : Stage (w .card) n tree goal steps (w .memory) (b .in-hand) due
+
+-- the invariant, with this goal
+abbrev pub Toward : Tree → ℕ → ℕ → World → Ledger → Option Answer → Type 0
+Toward goal n steps w b due = (i : Inv n steps w b due) × (i .goal ≡ goal)

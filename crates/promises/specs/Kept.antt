@@ -14,7 +14,7 @@ use Rattle.card.specs.Stores.{Store}
 use Rattle.plans.specs.Planning.{withAll}
 use Rattle.change_theory.specs.Plays.{Openable, Storable, Plays, Changing, last-store, store-then}
 use Rattle.change_theory.specs.Rewritten.{Sound}
-use Rattle.promises.specs.Invariant.{Table, Job, Entered, Inv, updated, stage-first, stage-between, stage-within}
+use Rattle.promises.specs.Invariant.{Toward, Table, Job, Entered, Inv, updated, stage-first, stage-between, stage-within}
 use Rattle.promises.specs.Ledger.{Update, Hand, ledger, deciding, counted}
 use Rattle.promises.specs.LedgerLaws.{Enters, Same, same-over, same-back, enters-from}
 use Rattle.promises.specs.Steps.{memory}
@@ -23,6 +23,8 @@ use Rattle.state.specs.declared.Doing.{Doing}
 use Rattle.state.specs.declared.Doing.the-variants.{Idle, Formatting, Inserting, Deleting, Repairing}
 use Rattle.state.specs.declared.Answer.{Answer}
 use Rattle.state.specs.declared.Answer.the-variants.{Stored, Ready, Absent, Value, Refused}
+use Rattle.shapes.specs.Bare.{bare}
+use Rattle.shapes.specs.Whole.{Heads}
 use Rattle.tree.specs.Cut.{cut}
 use Rattle.tree.specs.Pairs.{pairs}
 use Rattle.tree.specs.Represent.{Holds}
@@ -74,43 +76,49 @@ one-store {c} {n} {key} {t} {free = free} {cut = cut} b p = at (p .plays)
         some-left u (table-set a v s b h k) o (record { totals = e }) (record { next = p .next; plays = q; sound = p .sound; exact = p .exact; level = p .level; ready = p .ready }) refl refl
 
 -- a store of a repair's change
-pub repair-stored : {c : List ℕ} {n key : ℕ} {t : Tree} {s : Store} {rest : List Store} {free : List Bool} {cut : List ℕ} {doing : Doing} {final : Answer} {u : Option Update} {h : Hand} {due : Option Answer} (last steps : ℕ) (z : List Store) (l : List (ℕ × ℕ)) → Table c n t → Same (pairs t) l
-    → Job doing key final u → Entered u final h due → (p : Changing c n key t (s ∷ rest) free cut) → Same (pairs (p .next)) (pairs t) → length rest + (73 * p .level + 1) ≤ steps
-    → Inv n steps (record { card = set c (s .0) (s .1); memory = advanced (memory n free last doing z cut) rest }) (ledger l h) due
+pub repair-stored : {c : List ℕ} {n key : ℕ} {t : Tree} {s : Store} {rest : List Store} {free : List Bool} {cut : List ℕ} {doing : Doing} {final : Answer} {u : Option Update} {h : Hand} {due : Option Answer} {goal : Tree} (last steps : ℕ) (z : List Store) (l : List (ℕ × ℕ)) → Table c n t → Same (pairs t) l
+    → Job doing key final u → Entered u final h due → (p : Changing c n key t (s ∷ rest) free cut) → Same (pairs (p .next)) (pairs t) → length rest + (73 * p .level + 1) ≤ steps → Heads (p .level) (bare (p .next)) goal
+    → Toward goal n steps (record { card = set c (s .0) (s .1); memory = advanced (memory n free last doing z cut) rest }) (ledger l h) due
 unfolding advanced
-repair-stored {c} {n} {key} {t} {s} {rest} {free} {cut} {doing} {h = h} {due = due} last steps z l b same j en p e few = at rest (one-store b p) few
+repair-stored {c} {n} {key} {t} {s} {rest} {free} {cut} {doing} {h = h} {due = due} {goal = goal} last steps z l b same j en p e few hd = at rest (one-store b p) few
   where
-    at : (rest : List Store) → Left n key c t free cut (p .next) (p .level) s rest → length rest + (73 * p .level + 1) ≤ steps → Inv n steps (record { card = set c (s .0) (s .1); memory = advanced (memory n free last doing z cut) rest }) (ledger l h) due
-    at rest (all-made b′) few =
-        record {
-          tree = p .next;
-          table = b′;
-          openable = record { free = withAll cut free; exact = p .exact; key = key; deep = p .level; ready = p .ready };
-          same = same-over e same;
-          stage = stage-between j en (p .level) (p .ready) (p .exact) (omega arith);
-        }
+    at : (rest : List Store) → Left n key c t free cut (p .next) (p .level) s rest → length rest + (73 * p .level + 1) ≤ steps → Toward goal n steps (record { card = set c (s .0) (s .1); memory = advanced (memory n free last doing z cut) rest }) (ledger l h) due
+    at rest (all-made b′) few = (
+      record {
+        tree = p .next;
+        goal = goal;
+        table = b′;
+        openable = record { free = withAll cut free; exact = p .exact; key = key; deep = p .level; ready = p .ready };
+        same = same-over e same;
+        stage = stage-between j en (p .level) (p .ready) (p .exact) (omega arith) hd;
+      },
+      refl,
+    )
     at rest (some-left v b′ o e₁ q en₁ el) few =
-        record { tree = v; table = b′; openable = o; same = same-over e₁ same; stage = stage-within j en q (same-over (rw en₁ e) (same-back e₁)) (rw el few) }
+        (record { tree = v; goal = goal; table = b′; openable = o; same = same-over e₁ same; stage = stage-within j en q (same-over (rw en₁ e) (same-back e₁)) (rw el few) (rw (en₁, el) hd) }, refl)
 
 -- a store of an update's first change: the last one enters it
-pub update-stored : {c : List ℕ} {n key : ℕ} {t : Tree} {s : Store} {rest : List Store} {free : List Bool} {cut : List ℕ} {doing : Doing} {final : Answer} {u : Update} (f : Bool) (k last steps : ℕ) (z : List Store) (l : List (ℕ × ℕ)) → Table c n t → Same (pairs t) l
-    → Job doing key final (some u) → (p : Changing c n key t (s ∷ rest) free cut) → Enters u (pairs t) (pairs (p .next)) → k + suc (length rest) ≡ deciding u f → length rest + (73 * p .level + 1) ≤ steps
-    → Inv n steps (record { card = set c (s .0) (s .1); memory = advanced (memory n free last doing z cut) rest }) (counted u f k false l) (some final)
+pub update-stored : {c : List ℕ} {n key : ℕ} {t : Tree} {s : Store} {rest : List Store} {free : List Bool} {cut : List ℕ} {doing : Doing} {final : Answer} {u : Update} {goal : Tree} (f : Bool) (k last steps : ℕ) (z : List Store) (l : List (ℕ × ℕ)) → Table c n t → Same (pairs t) l
+    → Job doing key final (some u) → (p : Changing c n key t (s ∷ rest) free cut) → Enters u (pairs t) (pairs (p .next)) → k + suc (length rest) ≡ deciding u f → length rest + (73 * p .level + 1) ≤ steps → Heads (p .level) (bare (p .next)) goal
+    → Toward goal n steps (record { card = set c (s .0) (s .1); memory = advanced (memory n free last doing z cut) rest }) (counted u f k false l) (some final)
 unfolding advanced counted
-update-stored {c} {n} {key} {t} {s} {rest} {free} {cut} {doing} {final} {u} f k last steps z l b same j p e count few = at rest (one-store b p) count few
+update-stored {c} {n} {key} {t} {s} {rest} {free} {cut} {doing} {final} {u} {goal} f k last steps z l b same j p e count few hd = at rest (one-store b p) count few
   where
     at : (rest : List Store) → Left n key c t free cut (p .next) (p .level) s rest → k + suc (length rest) ≡ deciding u f → length rest + (73 * p .level + 1) ≤ steps
-        → Inv n steps (record { card = set c (s .0) (s .1); memory = advanced (memory n free last doing z cut) rest }) (counted u f k false l) (some final)
+        → Toward goal n steps (record { card = set c (s .0) (s .1); memory = advanced (memory n free last doing z cut) rest }) (counted u f k false l) (some final)
     at rest (all-made b′) count few =
-        rw (eq-eqb (suc k) (deciding u f) (omega arith))
-        record {
-          tree = p .next;
-          table = b′;
-          openable = record { free = withAll cut free; exact = p .exact; key = key; deep = p .level; ready = p .ready };
-          same = e .to l same;
-          stage = stage-between j updated (p .level) (p .ready) (p .exact) (omega arith);
-        }
+        rw (eq-eqb (suc k) (deciding u f) (omega arith)) (
+          record {
+            tree = p .next;
+            goal = goal;
+            table = b′;
+            openable = record { free = withAll cut free; exact = p .exact; key = key; deep = p .level; ready = p .ready };
+            same = e .to l same;
+            stage = stage-between j updated (p .level) (p .ready) (p .exact) (omega arith) hd;
+          },
+          refl,
+        )
     at rest (some-left {rest = r} v b′ o e₁ q en el) count few =
         let q′ : suc k + suc (length r) ≡ deciding u f = omega arith in
         rw (ne-eqb (suc k) (deciding u f) (omega arith))
-        record { tree = v; table = b′; openable = o; same = same-over e₁ same; stage = stage-first {f = f} {k = suc k} j q (enters-from (same-back e₁) (rw en e)) q′ (rw el few) }
+        (record { tree = v; goal = goal; table = b′; openable = o; same = same-over e₁ same; stage = stage-first {f = f} {k = suc k} j q (enters-from (same-back e₁) (rw en e)) q′ (rw el few) (rw (en, el) hd) }, refl)

@@ -7,6 +7,7 @@ pub mod LedgerLaws
 pub mod Slots
 pub mod LeafAfter
 pub mod FirstChanges
+pub mod Shapes
 pub mod Invariant
 pub mod Steps
 pub mod Reopen
@@ -23,3 +24,7 @@ pub mod Room
 pub mod Rations
 pub mod OpenRefusals
 pub mod NextPair
+pub mod Alike
+pub mod SameAnswers
+pub mod Lines
+pub mod BareCards

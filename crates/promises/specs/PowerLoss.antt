@@ -40,13 +40,17 @@ use Rattle.promises.specs.Invariant.{Table, UpdateSteps, Stage, Inv, sta
 use Rattle.promises.specs.Ledger.{Result, Hand, Ledger, ledger, fed-a-step, feed, was-refused, was-final, goes-on, empty}
 use Rattle.promises.specs.LedgerLaws.{Same, same-refl}
 use Rattle.promises.specs.Machine.{Event, World, opened, happens, run, find, insert, delete, step, crash}
-use Rattle.promises.specs.Promise.{ToReady, Begins, Words, Quiet, steps-in, Says-ready, MapIs, Ends, Kept, ready-now, stored-first, from-format, from-open}
+use Rattle.promises.specs.Promise.{Accepted, ToReady, Begins, Words, Quiet, steps-in, Says-ready, MapIs, Ends, Kept, ready-now, stored-first, from-format, from-open}
 use Rattle.promises.specs.Reopen.{table-well-formed, well-formed-table, reopened}
 use Rattle.promises.specs.Starting.{same-lookup, kept-insert, kept-delete}
 use Rattle.promises.specs.Stepping.{Right, right-final, Moves, kept-step, was-idle, ends-now, goes-further}
 use Rattle.tree.specs.InPlace.{length-total}
 use Rattle.tree.specs.Pairs.{pairs}
 use Rattle.tree.specs.Tree.{Tree}
+use Rattle.shapes.specs.Bare.{bare}
+use Rattle.card.specs.Layout.{depthLimit}
+use Rattle.shapes.specs.Whole.{settledBy}
+use Rattle.tree.specs.WellFormed.{WellFormed}
 use Rattle.tree.specs.Violations.{few, table-violations}
 use Rattle.descent.specs.declared.Slot.{Slot}
 use Rattle.descent.specs.declared.Slot.the-variants.{At, Absent as NoSlot}
@@ -56,21 +60,29 @@ use Rattle.descent.specs.declared.Landing.the-variants.{Refused as NoLanding, L
 -- ---- more steps than needed are enough; a cut; any events
 
 pub loosen : (n few many : ℕ) (w : World) (b : Ledger) (due : Option Answer) → few ≤ many → Inv n few w b due → Inv n many w b due
-loosen n few many w b due h i = record { tree = i .tree; table = i .table; openable = i .openable; same = i .same; stage = at (i .stage) }
+loosen n few many w b due h i = record { tree = i .tree; goal = i .goal; table = i .table; openable = i .openable; same = i .same; stage = at (i .stage) }
   where
     more : UpdateSteps (i .tree) few → UpdateSteps (i .tree) many
     more q = record { height = q .height; level = q .level; enough = omega (arith, q .enough) }
 
-    at : {m : Memory} {x : Hand} {d : Option Answer} → Stage (w .card) n (i .tree) few m x d → Stage (w .card) n (i .tree) many m x d
-    at (stage-idle z r x) = stage-idle z r x
-    at (stage-put z r x low high room q) = stage-put z r x low high room (more q)
-    at (stage-remove z r x low high q) = stage-remove z r x low high (more q)
-    at (stage-first {f = f} {k = k} j p en count q) = stage-first {f = f} {k = k} j p en count (omega arith)
-    at (stage-between j en deep r x q) = stage-between j en deep r x (omega arith)
-    at (stage-within j en p e q) = stage-within j en p e (omega arith)
+    at : {m : Memory} {x : Hand} {d : Option Answer} → Stage (w .card) n (i .tree) (i .goal) few m x d → Stage (w .card) n (i .tree) (i .goal) many m x d
+    at (stage-idle z r x g) = stage-idle z r x g
+    at (stage-put z r x low high room q g) = stage-put z r x low high room (more q) g
+    at (stage-remove z r x low high q g) = stage-remove z r x low high (more q) g
+    at (stage-first {f = f} {k = k} j p en count q g) = stage-first {f = f} {k = k} j p en count (omega arith) g
+    at (stage-between j en deep r x q g) = stage-between j en deep r x (omega arith) g
+    at (stage-within j en p e q g) = stage-within j en p e (omega arith) g
+
+pub loosen-goal : (n few many : ℕ) (w : World) (b : Ledger) (due : Option Answer) (h : few ≤ many) (i : Inv n few w b due) → loosen n few many w b due h i .goal ≡ i .goal
+unfolding loosen
+loosen-goal n few many w b due h i = refl
 
 pub reopened-inv : (n : ℕ) (c : List ℕ) (t : Tree) (l : List (ℕ × ℕ)) → Table c n t → Openable n t → Same (pairs t) l → Inv n repairSteps (opened c) (ledger l empty) none
-reopened-inv n c t l b o s = let r = reopened c n t b o in loosen n (r .steps) repairSteps (opened c) (ledger l empty) none (r .few-steps) (record { tree = t; table = b; openable = o; same = s; stage = r .stage })
+reopened-inv n c t l b o s = let r = reopened c n t b o in loosen n (r .steps) repairSteps (opened c) (ledger l empty) none (r .few-steps) (record { tree = t; goal = r .goal; table = b; openable = o; same = s; stage = r .stage })
+
+pub reopened-goal : (n : ℕ) (c : List ℕ) (t : Tree) (l : List (ℕ × ℕ)) (b : Table c n t) (o : Openable n t) (s : Same (pairs t) l) → reopened-inv n c t l b o s .goal ≡ settledBy depthLimit (bare t)
+unfolding reopened-inv loosen
+reopened-goal n c t l b o s = reopened c n t b o .goal-is
 
 find-keeps : (n steps : ℕ) (w : World) (b : Ledger) (due : Option Answer) (key : ℕ) → Inv n steps w b due → Inv n steps (happens (find key) w) (feed (fed (find key) w) b) due
 unfolding happens feed fed
@@ -84,9 +96,9 @@ pub kept : (n : ℕ) (es : List Event) (steps : ℕ) (w : World) (b : Ledger) (d
 unfolding run kept-ledger kept-due due-after
 kept n [] steps w b due u i = (steps, i)
 kept n (find key ∷ es) steps w b due u i = kept n es steps (happens (find key) w) (feed (fed (find key) w) b) due u (find-keeps n steps w b due key i)
-kept n (insert key value ∷ es) steps w b due u i = let q = kept-insert n steps w b due i key value (u .0) in kept n es (q .0) (happens (insert key value) w) (feed (fed (insert key value) w) b) (due-after (insert key value) w b due) (u .1) (q .2)
-kept n (delete key ∷ es) steps w b due u i = let q = kept-delete n steps w b due i key (u .0) in kept n es (q .0) (happens (delete key) w) (feed (fed (delete key) w) b) (due-after (delete key) w b due) (u .1) (q .2)
-kept n (step ∷ es) steps w b due u i = kept n es steps (happens step w) (feed (fed step w) b) (due-after step w b due) u (kept-step n steps w b due (loosen n steps (suc steps) w b due (omega arith) i) .0)
+kept n (insert key value ∷ es) steps w b due u i = let q = kept-insert n steps w b due i key value (u .0) in kept n es (q .0) (happens (insert key value) w) (feed (fed (insert key value) w) b) (due-after (insert key value) w b due) (u .1) (q .2 .0)
+kept n (delete key ∷ es) steps w b due u i = let q = kept-delete n steps w b due i key (u .0) in kept n es (q .0) (happens (delete key) w) (feed (fed (delete key) w) b) (due-after (delete key) w b due) (u .1) (q .2 .0)
+kept n (step ∷ es) steps w b due u i = kept n es steps (happens step w) (feed (fed step w) b) (due-after step w b due) u (kept-step n steps w b due (loosen n steps (suc steps) w b due (omega arith) i) .0 .0)
 kept n (crash ∷ es) steps w b due u i = kept n es repairSteps (happens crash w) (feed (fed crash w) b) none u (crash-keeps n steps w b due i)
 
 -- ---- where the list begins
@@ -105,10 +117,11 @@ fresh-inv n c f =
     let room : 3 ≤ countTrue (freshNodes n) = omega (arith, f .room, f .sized .least) in
     record {
       tree = freshTree;
+      goal = bare freshTree;
       table = record { sized = f .sized; header = f .formatted; holds = f .holds; sound = f .sound };
       openable = record { free = freshNodes n; exact = f .exact; key = 0; deep = 0; ready = settled (f .no-violations) room };
       same = record { totals = λ w. ap (total w) (f .no-pairs) };
-      stage = stage-idle (f .no-violations) room (f .exact);
+      stage = stage-idle (f .no-violations) room (f .exact) refl;
     }
 
 -- formatting stores word after word, and is ready after the last
@@ -143,6 +156,13 @@ begins-inv w l (from-format c v e r) = go (ℕ-discrete (nodesOfLength (length c
         let f = format-fresh c (nodesOfLength (length c)) s in
         (nodesOfLength (length c), rw is (fresh-inv (nodesOfLength (length c)) (formatCard (nodesOfLength (length c)) c (suc (length c))) f))
 
+-- a card just opened: the repair in hand, if there is one, comes to what the tree without numbers says
+pub opened-inv : (c : List ℕ) (t : Tree) → Accepted c → WellFormed c t → (i : Inv (nodesOfLength (length c)) repairSteps (opened c) (ledger (pairs t) empty) none) × (i .goal ≡ settledBy depthLimit (bare t))
+opened-inv c t a k =
+    let q = accepted-card c a in
+    let b : Table c (nodesOfLength (length c)) t = well-formed-table (q .1) (q .2) k in
+    (reopened-inv (nodesOfLength (length c)) c t (pairs t) b (accepted-openable c t a k) (same-refl (pairs t)), reopened-goal (nodesOfLength (length c)) c t (pairs t) b (accepted-openable c t a k) (same-refl (pairs t)))
+
 -- what holds after any list of events
 pub kept-from : (w : World) (l : List (ℕ × ℕ)) → Begins w l → (es : List Event) → Words es → (n : ℕ) × (k : ℕ) × Inv n k (run es w) (kept-ledger es w (ledger l empty)) (kept-due es w (ledger l empty) none)
 kept-from w l s es u =
@@ -176,13 +196,13 @@ start-unchanged c m key doing room r e =
 pub at-rest : (n steps : ℕ) (w : World) (b : Ledger) (due : Option Answer) → steps ≡ 0 → (i : Inv n steps w b due) → (w .memory .doing ≡ Idle) × (table-violations (i .tree) ≡ 0)
 at-rest n steps w b due none-left i = at (i .stage)
   where
-    at : {m : Memory} {h : Hand} {d : Option Answer} → Stage (w .card) n (i .tree) steps m h d → (m .doing ≡ Idle) × (table-violations (i .tree) ≡ 0)
-    at (stage-idle z r x) = (refl, z)
-    at (stage-put z r x low high room q) = absurd (omega arith)
-    at (stage-remove z r x low high q) = absurd (omega arith)
-    at (stage-first j p en count q) = absurd (omega arith)
-    at (stage-between j en deep r x q) = absurd (omega arith)
-    at (stage-within j en p e q) = absurd (omega arith)
+    at : {m : Memory} {h : Hand} {d : Option Answer} → Stage (w .card) n (i .tree) (i .goal) steps m h d → (m .doing ≡ Idle) × (table-violations (i .tree) ≡ 0)
+    at (stage-idle z r x g) = (refl, z)
+    at (stage-put z r x low high room q g) = absurd (omega arith)
+    at (stage-remove z r x low high q g) = absurd (omega arith)
+    at (stage-first j p en count q g) = absurd (omega arith)
+    at (stage-between j en deep r x q g) = absurd (omega arith)
+    at (stage-within j en p e q g) = absurd (omega arith)
 
 -- a step with an empty hand leaves it empty, whatever it answers
 empty-fed : (r : Result) (l : List (ℕ × ℕ)) → fed-a-step r l empty ≡ ledger l empty
@@ -211,7 +231,7 @@ repair-step : (n steps : ℕ) (w : World) (l : List (ℕ × ℕ)) → Inv n (suc
 unfolding feed fed due-after
 repair-step n steps w l i =
     let k = kept-step n steps w (ledger l empty) none i in
-    (rw (empty-fed (step-result (stepOf (w .card) (w .memory) .answer)) l, none-due (step-result (stepOf (w .card) (w .memory) .answer))) at (k .0), moves w (k .2) (k .1))
+    (rw (empty-fed (step-result (stepOf (w .card) (w .memory) .answer)) l, none-due (step-result (stepOf (w .card) (w .memory) .answer))) at (k .0 .0), moves w (k .2) (k .1))
   where
     moves : (w : World) → Moves (w .card) (w .memory) (stepOf (w .card) (w .memory)) → Right (stepOf (w .card) (w .memory) .answer) none → (w .memory .doing ≡ Idle) ⊎ ((stepOf (w .card) (w .memory) .answer ≡ Ready) ⊎ (isIdle (happens step w .memory .doing) ≡ false))
     moves w (was-idle e) r = inl e

@@ -35,6 +35,8 @@ use Rattle.state.specs.declared.Begun.the-variants.{Idle as OpenedIdle, Started
 use Rattle.tree.specs.Pairs.{depth}
 use Rattle.tree.specs.Path.{depth-of, reserve, Violation}
 use Rattle.tree.specs.Tree.{Tree}
+use Rattle.shapes.specs.Bare.{bare, bare-table-violations}
+use Rattle.shapes.specs.Whole.{settledBy, Heads, heads-done}
 use Rattle.tree.specs.Violations.{table-violations}
 use Rattle.tree.specs.WellFormed.{WellFormed}
 
@@ -94,7 +96,9 @@ facts-exact x = record { size = x .free-length; within = x .free-in; outside-non
 pub record Reopened (c : List ℕ) (n : ℕ) (t : Tree) : Type 0 where
   pub steps : ℕ
   pub few-steps : steps ≤ 73 * depthLimit + 1
-  pub stage : Stage c n t steps (openOf c .memory) empty none
+  pub goal : Tree
+  pub goal-is : goal ≡ settledBy depthLimit (bare t)
+  pub stage : Stage c n t goal steps (openOf c .memory) empty none
   pub accepted : (r : ℕ) → openOf c .begun ≡ BegunRefused r → ⊥
   pub idle-when-balanced : openOf c .begun ≡ OpenedIdle → table-violations t ≡ 0
   pub busy-when-started : openOf c .begun ≡ Started → isIdle (openOf c .memory .doing) ≡ false
@@ -141,7 +145,9 @@ reopened c n t b o = go (sound-accepted c n (b .sized .words) (b .sized .most) t
             record {
               steps = 73 * depth-of (v .0 .context) + 1;
               few-steps = omega (arith, violation-deep t (f .key) (v .0), x .deep);
-              stage = rw is (stage-between job-repair no-update (depth-of (v .0 .context)) (violated (v .0) w room) (facts-exact x) (omega arith));
+              stage = rw is (stage-between job-repair no-update (depth-of (v .0 .context)) (violated (v .0) w room) (facts-exact x) (omega arith) (record { repairs = depthLimit; enough = omega (arith, violation-deep t (f .key) (v .0), x .deep); reaches = refl }));
+              goal = settledBy depthLimit (bare t);
+              goal-is = refl;
               accepted = λ r z. let y : _≡_ {A = Begun} Started (BegunRefused r) = rw is at z in let k : _≡_ {A = ℕ} 0 1 = cc in omega arith;
               idle-when-balanced = λ z. let y : _≡_ {A = Begun} Started OpenedIdle = rw is at z in let k : _≡_ {A = ℕ} 0 1 = cc in absurd (omega arith);
               busy-when-started = λ z. ap (λ (x : Handed). isIdle (x .memory .doing)) is ∙ repair-busy n (f .free) (f .key);
@@ -155,7 +161,9 @@ reopened c n t b o = go (sound-accepted c n (b .sized .words) (b .sized .most) t
             record {
               steps = 0;
               few-steps = omega arith;
-              stage = let enough : 3 ≤ countTrue (f .free) = omega (arith, room-idle z, count-same f h x) in rw is (stage-idle z enough (facts-exact x));
+              stage = let enough : 3 ≤ countTrue (f .free) = omega (arith, room-idle z, count-same f h x) in rw is (stage-idle z enough (facts-exact x) refl);
+              goal = bare t;
+              goal-is = heads-done {deep = 0} (record { repairs = depthLimit; enough = omega arith; reaches = refl }) (bare-table-violations t ∙ z);
               accepted = λ r k. let y : _≡_ {A = Begun} OpenedIdle (BegunRefused r) = rw is at k in let k : _≡_ {A = ℕ} 0 1 = cc in omega arith;
               idle-when-balanced = λ k. z;
               busy-when-started = λ k. let y : _≡_ {A = Begun} OpenedIdle Started = rw is at k in let k : _≡_ {A = ℕ} 0 1 = cc in absurd (omega arith);

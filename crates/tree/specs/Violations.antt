@@ -12,7 +12,7 @@ use Rattle.laws.specs.Cases.{order, pick}
 use Rattle.tree.specs.Splice.{roots-splice}
 use Rattle.tree.specs.Tree.{Tree, Forest, roots, Left, Right, join, splice, fill, Context, plug, leaf, node, one, more, rightmost, followed, top, down}
 
-pub few : ℕ → ℕ
+unfoldable pub few : ℕ → ℕ
 few n = pick (ltb n 2) 1 0
 
 pub few-none : (n : ℕ) → 2 ≤ n → few n ≡ 0
