@@ -1,2 +1,2 @@
+-- what a step made on the state block itself promises
 pub mod Playing
-pub mod PlayLaws

@@ -1,10 +1,11 @@
 -- Document 01, "The card" and rows 1 to 3 of "Refusal by place".
 use mathlib.Core.List.{List}
-use Prim.Native.Nat.{ℕ, _+_, _-_, _*_, _/_, _%_}
+use Prim.Native.Nat.{ℕ, _+_, _-_, _*_, _/_, _%_, _≤_}
 use lib.ListN.{length, getD}
 use lib.Dec.{eqb, ltb}
 use Rattle.laws.specs.Cases.{pick}
 use Rattle.card.specs.Layout.{leastNodes, greatestNodes}
+use mathlib.Core.Path.{_≡_}
 
 -- N for a length of 8 + 24 × N words, N 4 to 600; 0 for any other length. "1: length not 8 + 24 × N, N 4 to 600"
 unfoldable pub nodesOfLength : ℕ → ℕ
@@ -21,3 +22,19 @@ headerRefusal card n = must card 0 1 2 (must card 1 n 3 (must card 2 8 3 (must c
 -- the refusals 1, 2 and 3 of a call on a card, in this order; 0 where none is due
 unfoldable pub cardRefusal : List ℕ → ℕ
 cardRefusal card = pick (eqb (nodesOfLength (length card)) 0) 1 (headerRefusal card (nodesOfLength (length card)))
+
+-- a card of so many words has n nodes
+pub record Sized (len n : ℕ) : Type 0 where
+  pub words : len ≡ 8 + 24 * n
+  pub least : leastNodes ≤ n
+  pub most : n ≤ greatestNodes
+
+-- words 0 to 3 and 5 to 7 of a formatted card with n nodes
+pub record Formatted (card : List ℕ) (n : ℕ) : Type 0 where
+  pub mark : getD card 0 0 ≡ 1
+  pub nodes : getD card 1 0 ≡ n
+  pub first : getD card 2 0 ≡ 8
+  pub each : getD card 3 0 ≡ 24
+  pub five : getD card 5 0 ≡ 0
+  pub six : getD card 6 0 ≡ 0
+  pub seven : getD card 7 0 ≡ 0

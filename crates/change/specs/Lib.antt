@@ -1,3 +1,2 @@
+-- which change is due
 pub mod Mending
-pub mod MendLaws
-pub mod Positions

@@ -13,8 +13,7 @@ use Rattle.descent.specs.declared.Landing.{Landing}
 use Rattle.descent.specs.declared.Landing.the-variants.{Refused as NoLanding, Leaf as LandingAt}
 use Rattle.state.specs.declared.Begun.{Begun}
 use Rattle.state.specs.declared.Begun.the-variants.{Idle, Started, Refused as BegunRefused}
-use Rattle.updates.specs.Updates.{landing, insertReason, held, slot, full}
-use Rattle.updates.specs.Updates.{Reason as InLeaf}
+use Rattle.updates.specs.Updates.{landing, insertReason, held, slot, full, Reason as InLeaf}
 use Rattle.opening.specs.Opening.{openOf}
 use Rattle.repairing.specs.Repairing.{openedCard}
 use Rattle.dump.specs.Dump.{dumpWords, readAnswer}

@@ -1,2 +1,2 @@
+-- what stands in the way of a new number
 pub mod InsertReason
-pub mod InsertReasonLaws

@@ -1,3 +1,2 @@
+-- THE KEY THAT A FILE HOLDS (request W-209)
 pub mod KeyFile
-pub mod KeyFileLaws
-pub mod Examples

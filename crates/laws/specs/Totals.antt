@@ -1,51 +1,15 @@
 -- Totals of a weight over a list. With the indicator of a number as the weight, a total counts how often that number
 -- is there, so that "each once", "none" and "the same ones" are facts of arithmetic.
-use mathlib.Core.Path.{_≡_, refl, ap, sym, _∙_}
-use mathlib.Core.List.{List, [], _∷_, _++_}
-use mathlib.Core.Bool.{Bool, true, false}
-use mathlib.Core.Logic.{_≢_, by-cases}
-use Prim.Native.Nat.{ℕ, zero, suc, _+_, _≤_, _<_}
-use native.Mathlib.Omega.{arith}
-use native.Mathlib.Decide.{ℕ-discrete}
+use mathlib.Core.List.{List, [], _∷_}
+use Prim.Native.Nat.{ℕ, _+_}
 use lib.Dec.{eqb}
-use borrow.Author.Tests.{eq-eqb, ne-eqb}
 use Rattle.laws.specs.Cases.{pick}
 
 -- 1 where the two are equal, else 0
-pub indicator : ℕ → ℕ → ℕ
+unfoldable pub indicator : ℕ → ℕ → ℕ
 indicator x y = pick (eqb x y) 1 0
-
-pub indicator-same : (x : ℕ) → indicator x x ≡ 1
-unfolding indicator
-indicator-same x = rw (eq-eqb x x refl)
-
-pub indicator-other : (x y : ℕ) → x ≢ y → indicator x y ≡ 0
-unfolding indicator
-indicator-other x y h = rw (ne-eqb x y h)
-
-pub indicator-zero : (x y : ℕ) → indicator x y ≡ 0 → y ≢ x
-indicator-zero x y h e = omega (arith, indicator-same x, ap (indicator x) e)
-
-pub indicator-le : (x y : ℕ) → indicator x y ≤ 1
-unfolding indicator
-indicator-le x y = go (eqb x y)
-  where
-    go : (b : Bool) → pick b 1 0 ≤ 1
-    go true = omega arith
-    go false = omega arith
-
-pub indicator-sym : (i j : ℕ) → indicator i j ≡ indicator j i
-indicator-sym i j = by-cases (ℕ-discrete i j) (λ e. rw e) (λ n. indicator-other i j n ∙ sym (indicator-other j i (λ e. n (sym e))))
 
 module _ {A : Type 0} where
   abbrev pub total : (A → ℕ) → List A → ℕ
   total w [] = 0
   total w (x ∷ xs) = w x + total w xs
-
-  pub total-append : (w : A → ℕ) (xs ys : List A) → total w (xs ++ ys) ≡ total w xs + total w ys
-  total-append w [] ys = omega arith
-  total-append w (x ∷ xs) ys = omega (arith, total-append w xs ys)
-
-  pub total-le : (w v : A → ℕ) → ((a : A) → w a ≤ v a) → (l : List A) → total w l ≤ total v l
-  total-le w v h [] = omega arith
-  total-le w v h (x ∷ l) = omega (arith, h x, total-le w v h l)

@@ -2,7 +2,7 @@
 -- pairs. Then key and value, leaves left to right, slots rising."
 use mathlib.Core.List.{List, [], _∷_, _++_}
 use mathlib.Core.Option.{Option, none, some}
-use Prim.Native.Nat.{ℕ, zero, suc, _+_, _*_}
+use Prim.Native.Nat.{ℕ, zero, suc, _+_}
 use lib.ListN.{length, getD, set}
 use lib.Dec.{eqb, ltb}
 use Rattle.laws.specs.Cases.{pick}
@@ -99,3 +99,10 @@ layPairs (p ∷ ps) l = layPairs ps (layPair p l)
 unfoldable pub layListed : Listed → List ℕ → Laid
 layListed (refused r) words = laid 0 words
 layListed (listed l) words = layPairs (l .pairs) (laid 0 words)
+
+-- ---- one slot
+
+-- "A key word of 0 is an empty slot"
+unfoldable pub laySlot : ℕ → ℕ → Laid → Laid
+laySlot zero value l = l
+laySlot (suc key) value l = layPair (suc key, value) l

@@ -4,8 +4,7 @@ ghost use mathlib.Core.List.{[]};
 ghost use Prim.Native.Nat.{ℕ, _+_, _*_, _≤_};
 ghost use lib.ListN.{length};
 ghost use Rattle.card.specs.Layout.{greatestNodes, leafPairs};
-ghost use Rattle.listing.specs.Listing.{pairsFrom, laid, layPairs};
-ghost use Rattle.listing.specs.ListingLaws.{laySlot};
+ghost use Rattle.listing.specs.Listing.{pairsFrom, laid, layPairs, laySlot};
 
 // Stores one slot's key and value from word `at` on, and answers where the next pair goes. An empty slot is no pair; nor is
 // a pair stored that the slice has no room for.

@@ -1,9 +1,8 @@
+-- what each change writes and where, as a list of stores
 pub mod Change
+-- the nodes that a change is given, and what a step finds that has none in hand
 pub mod Planning
+-- what the rows of words and of pairs in code hold, as lists
 pub mod Rows
-pub mod RowLaws
-pub mod PairLaws
+-- what the plans, the numbers and the answers in code say, in the terms of Change and Planning
 pub mod Plan
-pub mod PlanLaws
-pub mod NumberLaws
-pub mod ChangeLaws

@@ -1,8 +1,8 @@
 -- Document 01, "State, steps and free nodes" and "The changes": the nodes that a change is given, and what a step finds that has none in hand.
-use mathlib.Core.Bool.{Bool, true, false, not}
+use mathlib.Core.Bool.{Bool, true, false}
 use mathlib.Core.List.{List, [], _∷_}
 use mathlib.Core.Option.{Option, none, some}
-use Prim.Native.Nat.{ℕ, zero, suc, _-_}
+use Prim.Native.Nat.{ℕ, zero, suc}
 use lib.ListN.{getD, set}
 use lib.Dec.{eqb}
 use Rattle.laws.specs.Cases.{pick}

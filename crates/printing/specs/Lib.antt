@@ -1,6 +1,4 @@
+-- THE TEXT THAT `list` PRINTS, byte by byte (document 01, "Dumps and the list program")
 pub mod Text
+-- A row of bytes that is being filled
 pub mod Filling
-pub mod DecimalLaws
-pub mod FillingLaws
-pub mod TextLaws
-pub mod Examples

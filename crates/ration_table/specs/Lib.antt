@@ -1,3 +1,2 @@
+-- what the exported calls promise, in the terms of the definitions of the calls
 pub mod Contracts
-pub mod HandedBack
-pub mod ContractLaws

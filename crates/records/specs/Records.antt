@@ -1,5 +1,5 @@
 -- Document 02, W-213: "A value is an offset in a lent byte block: one length byte from 1 to 255, then that many record bytes."
-use mathlib.Core.Bool.{Bool, _||_}
+use mathlib.Core.Bool.{_||_}
 use mathlib.Core.List.{List, []}
 use Prim.Native.Nat.{ℕ, _+_}
 use lib.ListN.{length, getD, take, drop}

@@ -1,2 +1,2 @@
+-- "opens and repairs it in memory"
 pub mod Repairing
-pub mod RepairingLaws

@@ -1,2 +1,2 @@
+-- what two siblings are due, of which one is underfull
 pub mod Siblings
-pub mod SiblingLaws

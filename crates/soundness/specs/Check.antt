@@ -2,7 +2,7 @@
 use mathlib.Core.Bool.{Bool, true, false, _&&_, _||_, not}
 use mathlib.Core.List.{List, [], _∷_}
 use mathlib.Core.Option.{Option, none, some}
-use Prim.Native.Nat.{ℕ, zero, suc, _+_, _-_, _*_}
+use Prim.Native.Nat.{ℕ, zero, suc, _-_}
 use lib.ListN.{length, getD, set}
 use lib.Dec.{eqb, ltb, leb}
 use Rattle.laws.specs.Cases.{pick, guard, bind}
@@ -14,6 +14,8 @@ use Rattle.soundness.specs.declared.Checked.{Checked}
 use Rattle.soundness.specs.declared.Entered.{Entered}
 use Rattle.soundness.specs.declared.Entry.{Entry}
 use Rattle.soundness.specs.declared.Entry.the-variants.{Refused, Leaf, Inner}
+use Rattle.soundness.specs.declared.RangeEnd.{RangeEnd}
+use Rattle.soundness.specs.declared.RangeEnd.the-variants.{Wrong, At}
 
 -- what was learnt so far, with the free nodes as a list of Bools
 pub record Findings : Type 0 where
@@ -129,3 +131,20 @@ nodeCheck (suc levels) card n run isRoot low high m f =
 -- the whole table, from its root: "the root's is all keys"
 unfoldable pub tableCheck : List ℕ → ℕ → Option (ℕ × Findings)
 tableCheck card n = nodeCheck depthLimit card n 0 true lowestKey keyLimit (getD card rootPlace 0) (record { free = allNodes n; violated = false; key = 0; run = 0 })
+
+-- "its keys are distinct and in its range", for one slot: it is empty, or its key is in the range and in none of the later slots ks
+unfoldable pub slotSound : ℕ → ℕ → ℕ → List ℕ → Bool
+slotSound low high k ks = pick (eqb k 0) true (leb low k && (ltb k high && not (member k ks)))
+
+-- ---- the children in turn
+
+-- "a child's range runs from the routing key before it, included, to the one after it, excluded": the end of the range of the
+-- child before the routing keys ks, in a node whose range ends at high; none where the first of these keys does not rise
+-- above low or does not lie below high
+unfoldable pub rangeEnd : ℕ → ℕ → List ℕ → Option ℕ
+rangeEnd low high [] = some high
+rangeEnd low high (k ∷ ks) = guard (ltb low k && ltb k high) (some k)
+
+unfoldable pub endOf : RangeEnd → Option ℕ
+endOf Wrong = none
+endOf (At end) = some end

@@ -1,2 +1,2 @@
+-- the check of a table as it is computed
 pub mod Check
-pub mod CheckLaws

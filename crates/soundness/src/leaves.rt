@@ -4,8 +4,7 @@ ghost use mathlib.Core.Path.{_≡_};
 ghost use Prim.Native.Nat.{_+_, _<_};
 ghost use lib.ListN.{length, getD, drop};
 ghost use Rattle.card.specs.Layout.{keyWords};
-ghost use Rattle.soundness.specs.Check.{member, leafSound};
-ghost use Rattle.soundness.specs.CheckLaws.{slotSound};
+ghost use Rattle.soundness.specs.Check.{member, leafSound, slotSound};
 
 // Whether the key of slot i stands in a later slot too.
 fn is_repeated(node: &[u32], i: usize) -> bool

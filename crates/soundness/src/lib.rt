@@ -12,8 +12,7 @@ ghost use Prim.Native.Nat.{_+_, _*_, _-_, _≤_, _<_};
 ghost use lib.ListN.{length, drop};
 ghost use lib.Dec.{eqb};
 ghost use Rattle.card.specs.Layout.{greatestNodes, depthLimit, children, routingKeys};
-ghost use Rattle.soundness.specs.Check.{findingsOf, checkedOf, raised, childRun, childrenCheck, nodeCheck, tableCheck};
-ghost use Rattle.soundness.specs.CheckLaws.{rangeEnd, endOf};
+ghost use Rattle.soundness.specs.Check.{findingsOf, checkedOf, raised, childRun, childrenCheck, nodeCheck, tableCheck, rangeEnd, endOf};
 
 // What was learnt so far: the nodes not reached; whether a violation was met, a key that leads to it, and how many
 // 11-child nodes stand without a break straight above it where it is a tagged node.

@@ -1,7 +1,7 @@
 -- Document 01: starting to format and starting an update, with their refusals in the order of "Refusal by place".
-use mathlib.Core.Bool.{Bool, true, false, not}
+use mathlib.Core.Bool.{Bool, true, false}
 use mathlib.Core.List.{List}
-use Prim.Native.Nat.{ℕ, _+_, _-_}
+use Prim.Native.Nat.{ℕ}
 use lib.ListN.{length, set}
 use lib.Dec.{eqb}
 use Rattle.laws.specs.Cases.{pick}

@@ -1,5 +1,8 @@
+-- the state, as a reader sees it
 pub mod Memory
+-- a store of formatting and of the change in hand, and what a step and a start hand back
 pub mod Steps
+-- what the answers in code say, in the terms of Steps
 pub mod Results
-pub mod StepLaws
+-- document 01, "When an answer is an enum, a definition states this paper's number and values for each enum case."
 pub mod Answers

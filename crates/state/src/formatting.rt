@@ -8,7 +8,7 @@ ghost use mathlib.Core.Path.{_≡_};
 ghost use Prim.Native.Nat.{suc, _+_, _*_, _≤_};
 ghost use lib.ListN.{length};
 ghost use Rattle.card.specs.Layout.{greatestNodes};
-ghost use Rattle.card.specs.HeaderLaws.{Sized};
+ghost use Rattle.card.specs.Header.{Sized};
 ghost use Rattle.state.specs.Memory.{memoryOf};
 ghost use Rattle.state.specs.Steps.{formattedWord, formatStore, formatting, stepFormat};
 ghost use Rattle.state.specs.Results.{stepLeft, Unchanged};

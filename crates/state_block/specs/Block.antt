@@ -1,7 +1,7 @@
 -- The state of document 01, "State, steps and free nodes", as 177 words that the caller lends. Any words in the state block are
 -- some state: `unpacked` reads a state off every list of words, so that no call has to trust what it is lent.
 use mathlib.Core.Path.{_≡_}
-use mathlib.Core.Bool.{Bool, true, not}
+use mathlib.Core.Bool.{Bool, not}
 use mathlib.Core.List.{List, [], _∷_, _++_}
 use Prim.Native.Nat.{ℕ, zero, suc, _+_, _-_, _*_, _/_, _%_, _^_, _<_, min}
 use lib.ListN.{getD, take, drop}
@@ -97,7 +97,3 @@ pub record Small (m : Memory) : Type 0 where
 -- a block that is left holding a state
 abbrev pub Kept : State → List ℕ → Type 0
 Kept s block = Small (memoryOf s) → memoryIn block ≡ memoryOf s
-
--- every word of a block has 32 bits
-abbrev pub Words : List ℕ → Type 0
-Words block = (i : ℕ) → word block i < 2 ^ 32

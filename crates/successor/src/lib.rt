@@ -5,7 +5,7 @@ ghost use mathlib.Core.Path.{_≡_};
 ghost use Prim.Native.Nat.{_+_, _*_, _≤_, _<_};
 ghost use lib.ListN.{length, getD};
 ghost use Rattle.card.specs.Layout.{greatestNodes, depthLimit, keyLimit, rootPlace, leafPairs};
-ghost use Rattle.card.specs.HeaderLaws.{Sized};
+ghost use Rattle.card.specs.Header.{Sized};
 ghost use Rattle.descent.specs.Descent.{leafFor};
 ghost use Rattle.successor.specs.Successor.{nearerAbove, leastAbove, leastOf, endBelow, rangeEnd, found, inLeaf, inNextLeaf, nextIn, nextOf};
 

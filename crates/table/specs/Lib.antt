@@ -1,2 +1,2 @@
+-- the steps, with their refusals in the order of "Refusal by place"
 pub mod Calls
-pub mod StepLaws

@@ -13,7 +13,7 @@ use state::store_next;
 use updates::next_change;
 ghost use mathlib.Core.Path.{_≡_};
 ghost use lib.ListN.{length};
-ghost use Rattle.card.specs.HeaderLaws.{Sized};
+ghost use Rattle.card.specs.Header.{Sized};
 ghost use Rattle.plans.specs.Plan.{preparationOf};
 ghost use Rattle.state.specs.Memory.{memoryOf};
 ghost use Rattle.state.specs.Steps.{isIdle};

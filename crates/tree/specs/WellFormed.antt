@@ -4,13 +4,11 @@ use mathlib.Core.Path.{_≡_}
 use mathlib.Core.List.{List, [], _∷_}
 use mathlib.Core.Option.{none}
 use Prim.Native.Nat.{ℕ, _≤_, _<_}
-use lib.Dec.{ltb}
 use Rattle.card.specs.Layout.{lowestKey, keyLimit, slot-pairs}
-use Rattle.laws.specs.Cases.{pick}
-use Rattle.laws.specs.Totals.{indicator, total}
+use Rattle.laws.specs.Totals.{indicator}
 use Rattle.tree.specs.Pairs.{LeafRange}
 use Rattle.tree.specs.Represent.{Holds}
-use Rattle.tree.specs.Splice.{Height}
+use Rattle.tree.specs.Height.{Height}
 use Rattle.tree.specs.Tree.{Tree, Forest, routing, node-total, leaf, node, one, more}
 use Rattle.tree.specs.Violations.{RootOk, table-violations}
 

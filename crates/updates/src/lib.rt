@@ -11,7 +11,7 @@ ghost use mathlib.Core.Path.{_≡_};
 ghost use Prim.Native.Nat.{_^_, _≤_, _<_};
 ghost use lib.ListN.{length};
 ghost use Rattle.card.specs.Layout.{greatestNodes};
-ghost use Rattle.card.specs.HeaderLaws.{Sized};
+ghost use Rattle.card.specs.Header.{Sized};
 ghost use Rattle.free_nodes.specs.NodeSet.{nodesOf};
 ghost use Rattle.descent.specs.Descent.{slotOf};
 ghost use Rattle.laws.specs.Cases.{pick};

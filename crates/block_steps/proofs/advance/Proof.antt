@@ -2,7 +2,7 @@
 use mathlib.Core.Path.{sym, _∙_}
 use lib.ListN.{length-set}
 use borrow.Author.Needs.{needs}
-use Rattle.block_steps.specs.PlayLaws.{plan-on, plan-last}
+use Rattle.block_steps.proofs.PlayLaws.{plan-on, plan-last}
 use Rattle.block_steps.proofs.advance.Statement.{statement}
 use Rattle.block_steps.proofs.advance.Tie as tie
 

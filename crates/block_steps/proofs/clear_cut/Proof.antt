@@ -1,6 +1,6 @@
 -- `block_steps::clear_cut` meets its contract.
 use borrow.Author.Needs.{needs}
-use Rattle.state_block.specs.InPlace.{memory-cleared}
+use Rattle.state_block.proofs.InPlace.{memory-cleared}
 use Rattle.block_steps.proofs.clear_cut.Statement.{statement}
 use Rattle.block_steps.proofs.clear_cut.Tie as tie
 

@@ -5,7 +5,7 @@ use native.Mathlib.Omega.{arith}
 use lib.ListN.{length}
 use borrow.Author.Needs.{needs}
 use Rattle.state_block.specs.Block.{stateWords}
-use Rattle.block_steps.specs.PlayLaws.{leftToFree, free-all, free-end, free-zero, free-next}
+use Rattle.block_steps.proofs.PlayLaws.{leftToFree, free-all, free-end, free-zero, free-next}
 use Rattle.block_steps.proofs.free_cut.Statement.{statement}
 use Rattle.block_steps.proofs.free_cut.Tie as tie
 

@@ -2,7 +2,7 @@
 use mathlib.Core.Path.{refl}
 use native.Mathlib.Omega.{arith}
 use borrow.Author.Needs.{needs}
-use Rattle.state_block.specs.InPlace.{memory-freed, memory-no-node, cut-kept}
+use Rattle.state_block.proofs.InPlace.{memory-freed, memory-no-node, cut-kept}
 use Rattle.block_steps.proofs.free_node.Statement.{statement}
 use Rattle.block_steps.proofs.free_node.Tie as tie
 

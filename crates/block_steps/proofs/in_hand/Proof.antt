@@ -2,7 +2,7 @@
 use mathlib.Core.Path.{sym, ap, _∙_}
 use lib.Dec.{ltb}
 use borrow.Author.Needs.{needs}
-use Rattle.block_steps.specs.PlayLaws.{plan-full, plan-test}
+use Rattle.block_steps.proofs.PlayLaws.{plan-full, plan-test}
 use Rattle.block_steps.proofs.in_hand.Statement.{statement}
 use Rattle.block_steps.proofs.in_hand.Tie as tie
 

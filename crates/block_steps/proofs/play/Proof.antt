@@ -3,14 +3,14 @@ use mathlib.Core.Path.{_≡_, sym, subst, _∙_}
 use native.Mathlib.Omega.{arith}
 use lib.ListN.{length}
 use borrow.Author.Needs.{needs}
-use Rattle.card.specs.HeaderLaws.{sized-nodes}
+use Rattle.card.proofs.HeaderLaws.{sized-nodes}
 use Rattle.state.specs.Steps.{Step}
 use Rattle.table.specs.Calls.{stepDoing, stepOf}
 use Rattle.state.specs.Memory.{memoryOf}
-use Rattle.table.specs.StepLaws.{step-same}
+use Rattle.table.proofs.StepLaws.{step-same}
 use Rattle.state_block.specs.Block.{unpacked, memoryIn}
 use Rattle.block_steps.specs.Playing.{Played}
-use Rattle.block_steps.specs.PlayLaws.{doing-format, doing-held, held-work}
+use Rattle.block_steps.proofs.PlayLaws.{doing-format, doing-held, held-work}
 use Rattle.block_steps.proofs.play.Statement.{statement}
 use Rattle.block_steps.proofs.play.Tie as tie
 

@@ -6,7 +6,7 @@ use lib.ListN.{set}
 use borrow.Author.Needs.{needs}
 use Rattle.state.specs.declared.Answer.the-variants.{Stored}
 use Rattle.state_block.specs.Block.{memoryIn}
-use Rattle.block_steps.specs.PlayLaws.{format-stored}
+use Rattle.block_steps.proofs.PlayLaws.{format-stored}
 use Rattle.block_steps.proofs.play_format.Statement.{statement}
 use Rattle.block_steps.proofs.play_format.Tie as tie
 

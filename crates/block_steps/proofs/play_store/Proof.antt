@@ -11,7 +11,7 @@ use Rattle.state.specs.Memory.{Memory}
 use Rattle.state.specs.Results.{more}
 use Rattle.state.specs.declared.Answer.the-variants.{Stored}
 use Rattle.state_block.specs.Block.{unpacked}
-use Rattle.block_steps.specs.PlayLaws.{plan-below, work-stored}
+use Rattle.block_steps.proofs.PlayLaws.{plan-below, work-stored}
 use Rattle.block_steps.proofs.play_store.Statement.{statement}
 use Rattle.block_steps.proofs.play_store.Tie as tie
 

@@ -1,7 +1,7 @@
 -- `card::card_refusal` meets its contract.
 use mathlib.Core.Path.{sym, _∙_}
 use native.Mathlib.Omega.{arith}
-use Rattle.card.specs.HeaderLaws.{card-no-length, card-header, sized}
+use Rattle.card.proofs.HeaderLaws.{card-no-length, card-header, sized}
 use borrow.Author.Needs.{needs}
 use Rattle.card.proofs.card_refusal.Statement.{statement}
 use Rattle.card.proofs.card_refusal.Tie as tie

@@ -4,7 +4,7 @@ use native.Mathlib.Omega.{arith}
 use mathlib.Core.Path.{_≡_, sym}
 use Prim.Native.Nat.{ℕ, _+_, _-_, _≤_, _<_}
 use lib.ListN.{length, getD}
-use Rattle.card.specs.NodeLaws.{children-count}
+use Rattle.card.proofs.NodeLaws.{children-count}
 use Rattle.card.proofs.child_count.Statement.{statement}
 use Rattle.card.proofs.child_count.Tie as tie
 use Rattle.card.proofs.child_count.Reads as reads

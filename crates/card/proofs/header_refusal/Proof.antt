@@ -1,7 +1,8 @@
 use borrow.Author.Needs.{needs}
 use native.Mathlib.Omega.{arith}
 use mathlib.Core.Path.{sym}
-use Rattle.card.specs.HeaderLaws.{Formatted, formatted-header, wrong-word0, wrong-word1, wrong-word2, wrong-word3, wrong-word5, wrong-word6, wrong-word7}
+use Rattle.card.specs.Header.{Formatted}
+use Rattle.card.proofs.HeaderLaws.{formatted-header, wrong-word0, wrong-word1, wrong-word2, wrong-word3, wrong-word5, wrong-word6, wrong-word7}
 use Rattle.card.proofs.header_refusal.Statement.{statement}
 use Rattle.card.proofs.header_refusal.Tie as tie
 use Rattle.card.proofs.header_refusal.Reads as reads

@@ -1,5 +1,5 @@
 use mathlib.Core.Path.{sym}
-use Rattle.card.specs.NodeLaws.{is-key-none, is-key-some}
+use Rattle.card.proofs.NodeLaws.{is-key-none, is-key-some}
 use Rattle.card.proofs.is_key.Statement.{statement}
 use Rattle.card.proofs.is_key.Tie as tie
 use Rattle.card.proofs.is_key.Reads as reads

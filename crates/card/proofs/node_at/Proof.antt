@@ -1,6 +1,6 @@
 use borrow.Author.Needs.{needs}
 use mathlib.Core.Path.{refl}
-use Rattle.card.specs.NodeLaws.{node-part}
+use Rattle.card.proofs.NodeLaws.{node-part}
 use Rattle.card.proofs.node_at.Statement.{statement}
 use Rattle.card.proofs.node_at.Tie as tie
 use Rattle.card.proofs.node_at.Reads as reads

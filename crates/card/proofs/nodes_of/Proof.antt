@@ -1,7 +1,7 @@
 use borrow.Author.Needs.{needs}
 use native.Mathlib.Omega.{arith}
 use mathlib.Core.Path.{sym}
-use Rattle.card.specs.HeaderLaws.{nodes-short, nodes-long, nodes-whole, nodes-odd}
+use Rattle.card.proofs.HeaderLaws.{nodes-short, nodes-long, nodes-whole, nodes-odd}
 use Rattle.card.proofs.nodes_of.Statement.{statement}
 use Rattle.card.proofs.nodes_of.Tie as tie
 use Rattle.card.proofs.nodes_of.Reads as reads

@@ -3,7 +3,7 @@ use native.Mathlib.Omega.{arith}
 use mathlib.Core.Path.{_≡_, sym}
 use Prim.Native.Nat.{_+_, _-_, _≤_}
 use lib.ListN.{length, getD}
-use Rattle.card.specs.NodeLaws.{is-key-le, pairs-from, pairs-start, pairs-next, pairs-end}
+use Rattle.card.proofs.NodeLaws.{is-key-le, pairs-from, pairs-start, pairs-next, pairs-end}
 use Rattle.card.proofs.pair_count.Statement.{statement}
 use Rattle.card.proofs.pair_count.Tie as tie
 use Rattle.card.proofs.pair_count.Reads as reads

@@ -7,7 +7,7 @@ use Rattle.card.specs.Layout.{place}
 use Rattle.card.specs.Stores.{Store}
 use Rattle.free_nodes.specs.NodeSet.{nodesOf}
 use Rattle.plans.specs.Planning.{prepared}
-use Rattle.plans.specs.PlanLaws.{none-planned, planned-store}
+use Rattle.plans.proofs.PlanLaws.{none-planned, planned-store}
 use Rattle.change.proofs.clear_key.Statement.{statement}
 use Rattle.change.proofs.clear_key.Tie as tie
 

@@ -1,6 +1,6 @@
 -- `change::is_node` meets its contract.
 use borrow.Author.Tests.{lt-ltb, le-ltb}
-use Rattle.plans.specs.ChangeLaws.{and-second, and-first}
+use Rattle.plans.proofs.ChangeLaws.{and-second, and-first}
 use Rattle.change.specs.Mending.{isNode}
 use Rattle.change.proofs.is_node.Statement.{statement}
 use Rattle.change.proofs.is_node.Tie as tie

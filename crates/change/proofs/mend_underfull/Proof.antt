@@ -6,9 +6,9 @@ use native.Mathlib.Omega.{arith}
 use lib.ListN.{length, getD}
 use borrow.Author.Tests.{not-true, not-false}
 use borrow.Author.Needs.{needs}
-use Rattle.card.specs.NodeLaws.{length-node}
+use Rattle.card.proofs.NodeLaws.{length-node}
 use Rattle.free_nodes.specs.NodeSet.{nodesOf}
-use Rattle.change.specs.MendLaws.{node-numbered, underfull-alone, underfull-left-off, underfull-right-off, underfull-both}
+use Rattle.change.proofs.MendLaws.{node-numbered, underfull-alone, underfull-left-off, underfull-right-off, underfull-both}
 use Rattle.siblings.specs.Siblings.{mendSiblings}
 use Rattle.change.proofs.mend_underfull.Statement.{statement}
 use Rattle.change.proofs.mend_underfull.Tie as tie

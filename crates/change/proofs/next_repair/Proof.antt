@@ -5,7 +5,7 @@ use borrow.Author.Needs.{needs}
 use Rattle.free_nodes.specs.NodeSet.{nodesOf}
 use Rattle.descent.specs.declared.Search.{Search}
 use Rattle.change.specs.Mending.{onSearch, nextRepair}
-use Rattle.change.specs.Positions.{position-within}
+use Rattle.change.proofs.Positions.{position-within}
 use Rattle.change.proofs.next_repair.Statement.{statement}
 use Rattle.change.proofs.next_repair.Tie as tie
 

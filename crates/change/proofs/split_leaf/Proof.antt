@@ -6,12 +6,13 @@ use native.Mathlib.Omega.{arith}
 use lib.ListN.{length}
 use borrow.Author.Needs.{needs}
 use Rattle.laws.specs.Lists.{before-zero}
-use Rattle.laws.specs.Sorting.{sort, length-sort}
+use Rattle.laws.specs.Sorting.{sort}
+use Rattle.laws.proofs.Sorting.{length-sort}
 use Rattle.card.specs.Layout.{leafPairs}
 use Rattle.free_nodes.specs.NodeSet.{nodesOf}
 use Rattle.plans.specs.Change.{Together}
-use Rattle.plans.specs.ChangeLaws.{split-leaf, cut-one}
-use Rattle.change.specs.MendLaws.{leaf-pooled}
+use Rattle.plans.proofs.ChangeLaws.{split-leaf, cut-one}
+use Rattle.change.proofs.MendLaws.{leaf-pooled}
 use Rattle.plans.specs.Plan.{splitUnder}
 use Rattle.plans.specs.Planning.{giving, first, second, third}
 use Rattle.change.proofs.split_leaf.Statement.{statement}

@@ -4,9 +4,9 @@ use mathlib.Core.Path.{_≡_, sym, _∙_}
 use Prim.Native.Nat.{_-_, _≤_, _<_}
 use lib.ListN.{length}
 use Rattle.card.specs.Layout.{children}
-use Rattle.card.specs.NodeLaws.{children-le}
+use Rattle.card.proofs.NodeLaws.{children-le}
 use Rattle.descent.specs.Descent.{childIndex}
-use Rattle.descent.specs.DescentLaws.{children-more, last-child, next-child, indexFrom, index-start, index-last, index-stop, index-next}
+use Rattle.descent.proofs.DescentLaws.{children-more, last-child, next-child, indexFrom, index-start, index-last, index-stop, index-next}
 use Rattle.descent.proofs.child_index.Statement.{statement}
 use Rattle.descent.proofs.child_index.Tie as tie
 use Rattle.descent.proofs.child_index.Reads as reads

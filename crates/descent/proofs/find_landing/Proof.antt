@@ -5,9 +5,9 @@ use mathlib.Core.List.{List}
 use Prim.Native.Nat.{ℕ, _+_, _≤_}
 use lib.ListN.{length, getD}
 use Rattle.card.specs.Layout.{depthLimit, rootPlace, nodeAt, children}
-use Rattle.card.specs.NodeLaws.{length-node}
+use Rattle.card.proofs.NodeLaws.{length-node}
 use Rattle.descent.specs.Descent.{turnAt, landingFor}
-use Rattle.descent.specs.DescentLaws.{index-le, turn-inside, run-below-le, landing-refused, landing-leaf, landing-too-deep, landing-down}
+use Rattle.descent.proofs.DescentLaws.{index-le, turn-inside, run-below-le, landing-refused, landing-leaf, landing-too-deep, landing-down}
 use Rattle.descent.specs.declared.Turn.the-variants.{Down as TurnDown}
 use Rattle.descent.proofs.find_landing.Statement.{statement}
 use Rattle.descent.proofs.find_landing.Tie as tie

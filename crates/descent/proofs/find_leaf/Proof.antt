@@ -4,7 +4,7 @@ use mathlib.Core.Path.{_≡_, sym, _∙_}
 use Prim.Native.Nat.{_≤_}
 use Rattle.card.specs.Layout.{depthLimit}
 use Rattle.descent.specs.Descent.{leafFor}
-use Rattle.descent.specs.DescentLaws.{way-refused, way-leaf, way-too-deep, way-down}
+use Rattle.descent.proofs.DescentLaws.{way-refused, way-leaf, way-too-deep, way-down}
 use Rattle.descent.proofs.find_leaf.Statement.{statement}
 use Rattle.descent.proofs.find_leaf.Tie as tie
 use Rattle.descent.proofs.find_leaf.Reads as reads

@@ -3,7 +3,7 @@ use native.Mathlib.Omega.{arith}
 use mathlib.Core.Path.{_≡_, sym, _∙_}
 use Prim.Native.Nat.{_-_, _≤_}
 use Rattle.descent.specs.Descent.{slotOf}
-use Rattle.descent.specs.DescentLaws.{slotFrom, slot-start, slot-here, slot-next, slot-end}
+use Rattle.descent.proofs.DescentLaws.{slotFrom, slot-start, slot-here, slot-next, slot-end}
 use Rattle.descent.proofs.find_slot.Statement.{statement}
 use Rattle.descent.proofs.find_slot.Tie as tie
 use Rattle.descent.proofs.find_slot.Reads as reads

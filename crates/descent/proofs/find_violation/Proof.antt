@@ -4,7 +4,7 @@ use mathlib.Core.Path.{_≡_, refl, sym, _∙_}
 use Prim.Native.Nat.{_≤_}
 use Rattle.card.specs.Layout.{depthLimit}
 use Rattle.descent.specs.Descent.{rootPosition, seek}
-use Rattle.descent.specs.DescentLaws.{search-refused, search-balanced, search-violation, search-too-deep, search-down}
+use Rattle.descent.proofs.DescentLaws.{search-refused, search-balanced, search-violation, search-too-deep, search-down}
 use Rattle.descent.proofs.find_violation.Statement.{statement}
 use Rattle.descent.proofs.find_violation.Tie as tie
 use Rattle.descent.proofs.find_violation.Reads as reads

@@ -1,6 +1,6 @@
 use borrow.Author.Needs.{needs}
 use mathlib.Core.Path.{sym, _∙_}
-use Rattle.descent.specs.DescentLaws.{run-on, run-broken}
+use Rattle.descent.proofs.DescentLaws.{run-on, run-broken}
 use Rattle.descent.proofs.run_below.Statement.{statement}
 use Rattle.descent.proofs.run_below.Tie as tie
 use Rattle.descent.proofs.run_below.Reads as reads

@@ -5,11 +5,10 @@ use mathlib.Core.Logic.{inl, inr, ⊎-elim}
 use mathlib.Core.List.{List}
 use Prim.Native.Nat.{ℕ, _+_, _≤_}
 use lib.ListN.{length}
-use Rattle.card.specs.NodeLaws.{length-node}
+use Rattle.card.proofs.NodeLaws.{length-node}
 use Rattle.descent.specs.Descent.{turnAt, turnOf}
-use Rattle.descent.specs.DescentLaws.{children-stop, children-more, index-le, child-word, Internal, turn-zero, turn-beyond, turn-node, turn-leaf, turn-unknown, turn-childless, turn-down}
+use Rattle.descent.proofs.DescentLaws.{children-stop, children-more, index-le, child-word, Internal, turn-zero, turn-beyond, turn-node, turn-leaf, turn-unknown, turn-childless, turn-down}
 use Rattle.descent.specs.declared.Turn.the-variants.{Down as TurnDown}
-use borrow.Author.Needs.{needs}
 use Rattle.descent.proofs.turn_at.Statement.{statement}
 use Rattle.descent.proofs.turn_at.Tie as tie
 use Rattle.descent.proofs.turn_at.Reads as reads

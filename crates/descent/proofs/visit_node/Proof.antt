@@ -8,9 +8,9 @@ use lib.Dec.{eqb}
 use lib.ListN.{length, getD}
 use borrow.Author.Tests.{not-true, not-false}
 use Rattle.card.specs.Layout.{nodeAt, kindOf, children, leafPairs}
-use Rattle.card.specs.NodeLaws.{length-node}
+use Rattle.card.proofs.NodeLaws.{length-node}
 use Rattle.descent.specs.Descent.{visitAt, visitOf}
-use Rattle.descent.specs.DescentLaws.{children-stop, children-more, last-child, next-child, index-le, visit-zero, visit-beyond, visit-node, visit-root-leaf, visit-few, visit-leaf, visit-tagged, visit-unknown, Passable, visit-childless, visit-one-child, visit-down, child-position, not-both}
+use Rattle.descent.proofs.DescentLaws.{children-stop, children-more, last-child, next-child, index-le, visit-zero, visit-beyond, visit-node, visit-root-leaf, visit-few, visit-leaf, visit-tagged, visit-unknown, Passable, visit-childless, visit-one-child, visit-down, child-position, not-both}
 use Rattle.descent.specs.declared.Visit.the-variants.{Down as VisitDown}
 use borrow.Author.Needs.{needs}
 use Rattle.descent.proofs.visit_node.Statement.{statement}

@@ -5,8 +5,8 @@ use lib.ListN.{drop}
 use borrow.Author.Needs.{needs}
 use Rattle.laws.specs.Lists.{all-zero}
 use Rattle.dump.specs.Dump.{paddedLength, wordsFor, dumpNodes}
-use Rattle.dump.specs.AnswerLaws.{damaged-empty, damaged-odd, damaged-long, damaged-few, damaged-many, damaged-length, damaged-padding, whole-undamaged}
-use Rattle.dump.specs.Padding.{padding-start}
+use Rattle.dump.proofs.AnswerLaws.{damaged-empty, damaged-odd, damaged-long, damaged-few, damaged-many, damaged-length, damaged-padding, whole-undamaged}
+use Rattle.dump.proofs.Padding.{padding-start}
 use Rattle.dump.proofs.is_damaged.Statement.{statement}
 use Rattle.dump.proofs.is_damaged.Tie as tie
 

@@ -5,8 +5,8 @@ use native.Mathlib.Omega.{arith}
 use lib.ListN.{length, drop}
 use borrow.Author.Needs.{needs}
 use Rattle.laws.specs.Lists.{all-zero}
-use Rattle.dump.specs.ByteLaws.{no-bytes}
-use Rattle.dump.specs.Padding.{eight-passed, eight-found}
+use Rattle.dump.proofs.ByteLaws.{no-bytes}
+use Rattle.dump.proofs.Padding.{eight-passed, eight-found}
 use Rattle.dump.proofs.padding_is_zero.Statement.{statement}
 use Rattle.dump.proofs.padding_is_zero.Tie as tie
 

@@ -4,7 +4,7 @@ use native.Mathlib.Omega.{arith}
 use lib.ListN.{length}
 use borrow.Author.Needs.{needs}
 use Rattle.dump.specs.Dump.{wordsFor, roomFor, readAnswer}
-use Rattle.dump.specs.AnswerLaws.{Whole, whole-covers, undamaged-whole, read-damaged, read-whole, room-short, room-long, read-words, read-refused}
+use Rattle.dump.proofs.AnswerLaws.{Whole, whole-covers, undamaged-whole, read-damaged, read-whole, room-short, room-long, read-words, read-refused}
 use Rattle.dump.proofs.read_dump.Statement.{statement}
 use Rattle.dump.proofs.read_dump.Tie as tie
 

@@ -5,7 +5,7 @@ use native.Mathlib.Omega.{arith}
 use lib.ListN.{length, drop, set, length-set}
 use borrow.Author.Needs.{needs}
 use Rattle.dump.specs.Dump.{dumpWords}
-use Rattle.dump.specs.ByteLaws.{read-more}
+use Rattle.dump.proofs.ByteLaws.{read-more}
 use Rattle.dump.proofs.read_words.Statement.{statement}
 use Rattle.dump.proofs.read_words.Tie as tie
 

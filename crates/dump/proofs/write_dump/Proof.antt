@@ -4,7 +4,7 @@ use native.Mathlib.Omega.{arith}
 use lib.ListN.{length}
 use borrow.Author.Needs.{needs}
 use Rattle.dump.specs.Dump.{roomFor, writeAnswer}
-use Rattle.dump.specs.AnswerLaws.{Good, good-card, write-refuses, write-good, room-short, room-long, write-bytes, write-refused}
+use Rattle.dump.proofs.AnswerLaws.{Good, good-card, write-refuses, write-good, room-short, room-long, write-bytes, write-refused}
 use Rattle.dump.proofs.write_dump.Statement.{statement}
 use Rattle.dump.proofs.write_dump.Tie as tie
 

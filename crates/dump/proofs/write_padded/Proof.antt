@@ -6,8 +6,8 @@ use lib.ListN.{length, drop}
 use borrow.Author.Needs.{needs}
 use Rattle.laws.specs.Lists.{pad}
 use Rattle.dump.specs.Dump.{cardBytes, dumpOf}
-use Rattle.dump.specs.ByteLaws.{length-cardBytes, pad-after}
-use Rattle.dump.specs.AnswerLaws.{padded-covers}
+use Rattle.dump.proofs.ByteLaws.{length-cardBytes, pad-after}
+use Rattle.dump.proofs.AnswerLaws.{padded-covers}
 use Rattle.dump.proofs.write_padded.Statement.{statement}
 use Rattle.dump.proofs.write_padded.Tie as tie
 

@@ -2,7 +2,7 @@ use native.Mathlib.Omega.{arith}
 use lib.ListN.{length-set}
 use borrow.Author.Needs.{needs}
 use Rattle.dump.specs.Dump.{wordBytes}
-use Rattle.dump.specs.ByteLaws.{four-stores}
+use Rattle.dump.proofs.ByteLaws.{four-stores}
 use Rattle.dump.proofs.write_word.Statement.{statement}
 use Rattle.dump.proofs.write_word.Tie as tie
 

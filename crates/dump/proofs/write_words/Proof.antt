@@ -5,7 +5,7 @@ use native.Mathlib.Omega.{arith}
 use lib.ListN.{length, take, drop}
 use borrow.Author.Needs.{needs}
 use Rattle.dump.specs.Dump.{cardBytes}
-use Rattle.dump.specs.ByteLaws.{write-more, write-all}
+use Rattle.dump.proofs.ByteLaws.{write-more, write-all}
 use Rattle.dump.proofs.write_words.Statement.{statement}
 use Rattle.dump.proofs.write_words.Tie as tie
 

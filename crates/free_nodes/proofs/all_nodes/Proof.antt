@@ -7,8 +7,8 @@ use native.Mathlib.Numerals.{add-one}
 use native.Mathlib.Omega.{arith}
 use lib.ListN.{set}
 use Rattle.free_nodes.specs.NodeSet.{nodesOf, allNodes}
-use Rattle.free_nodes.specs.NodeSetLaws.{all-next}
-use Rattle.free_nodes.specs.Words.{no-nodes}
+use Rattle.free_nodes.proofs.NodeSetLaws.{all-next}
+use Rattle.free_nodes.proofs.Words.{no-nodes}
 use borrow.Author.Needs.{needs}
 use Rattle.free_nodes.proofs.all_nodes.Statement.{statement}
 use Rattle.free_nodes.proofs.all_nodes.Tie as tie

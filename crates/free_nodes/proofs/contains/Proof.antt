@@ -3,7 +3,7 @@ use mathlib.Core.Path.{_≡_}
 use native.Mathlib.Omega.{arith}
 use lib.ListN.{length}
 use Rattle.free_nodes.specs.NodeSet.{wordCount}
-use Rattle.free_nodes.specs.Words.{node-tested}
+use Rattle.free_nodes.proofs.Words.{node-tested}
 use borrow.Author.Needs.{needs}
 use Rattle.free_nodes.proofs.contains.Statement.{statement}
 use Rattle.free_nodes.proofs.contains.Tie as tie

@@ -9,7 +9,7 @@ use lib.Count.{ones, ones-le}
 use lib.ListN.{length, take, getD}
 use lib.Seq.{take-all}
 use Rattle.free_nodes.specs.NodeSet.{wordCount, nodesOf, countTrue}
-use Rattle.free_nodes.specs.Words.{count-next-word}
+use Rattle.free_nodes.proofs.Words.{count-next-word}
 use borrow.Author.Needs.{needs}
 use Rattle.free_nodes.proofs.count.Statement.{statement}
 use Rattle.free_nodes.proofs.count.Tie as tie

@@ -10,7 +10,7 @@ use lib.Bits.{and-le-l}
 use lib.Count.{trailing-le}
 use lib.ListN.{length, getD}
 use Rattle.free_nodes.specs.NodeSet.{wordCount}
-use Rattle.free_nodes.specs.Search.{Masked, Passed, masked-start, masked-next, passed-start, passed-next, search-found, search-none}
+use Rattle.free_nodes.proofs.Search.{Masked, Passed, masked-start, masked-next, passed-start, passed-next, search-found, search-none}
 use borrow.Author.Needs.{needs}
 use Rattle.free_nodes.proofs.first_from.Statement.{statement}
 use Rattle.free_nodes.proofs.first_from.Tie as tie

@@ -3,7 +3,7 @@ use mathlib.Core.Path.{_≡_, sym, _∙_}
 use native.Mathlib.Omega.{arith}
 use lib.ListN.{length}
 use Rattle.free_nodes.specs.NodeSet.{wordCount, nodesOf}
-use Rattle.free_nodes.specs.NodeSetLaws.{length-nodes, next-after, next-round, from-past}
+use Rattle.free_nodes.proofs.NodeSetLaws.{length-nodes, next-after, next-round, from-past}
 use borrow.Author.Needs.{needs}
 use Rattle.free_nodes.proofs.next_free.Statement.{statement}
 use Rattle.free_nodes.proofs.next_free.Tie as tie

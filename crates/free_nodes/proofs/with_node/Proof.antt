@@ -3,7 +3,7 @@ use mathlib.Core.Path.{_≡_}
 use native.Mathlib.Omega.{arith}
 use lib.ListN.{length}
 use Rattle.free_nodes.specs.NodeSet.{wordCount}
-use Rattle.free_nodes.specs.Words.{node-added}
+use Rattle.free_nodes.proofs.Words.{node-added}
 use borrow.Author.Needs.{needs}
 use Rattle.free_nodes.proofs.with_node.Statement.{statement}
 use Rattle.free_nodes.proofs.with_node.Tie as tie

@@ -6,7 +6,7 @@ use lib.ListN.{length, getD}
 use mir.Syntax.{w64}
 use mir.Val.{Fits}
 use Rattle.free_nodes.specs.NodeSet.{wordCount}
-use Rattle.free_nodes.specs.Words.{node-removed}
+use Rattle.free_nodes.proofs.Words.{node-removed}
 use borrow.Author.Needs.{needs}
 use Rattle.free_nodes.proofs.without_node.Statement.{statement}
 use Rattle.free_nodes.proofs.without_node.Tie as tie

@@ -3,7 +3,7 @@ use mathlib.Core.Path.{ap, sym, _∙_}
 use Rattle.state.specs.Memory.{memoryOf}
 use Rattle.repairing.specs.Repairing.{Repaired, leftBy}
 use Rattle.insert_reason.specs.InsertReason.{reasonOn}
-use Rattle.insert_reason.specs.InsertReasonLaws.{of-refused, of-idle, of-started}
+use Rattle.insert_reason.proofs.InsertReasonLaws.{of-refused, of-idle, of-started}
 use borrow.Author.Needs.{needs}
 use Rattle.insert_reason.proofs.insert_reason.Statement.{statement}
 use Rattle.insert_reason.proofs.insert_reason.Tie as tie

@@ -5,11 +5,11 @@ use Prim.Native.Nat.{ℕ}
 use native.Mathlib.Omega.{arith}
 use lib.ListN.{length, take, drop}
 use lib.Seq.{length-take-le}
-use Rattle.dump.specs.AnswerLaws.{read-sized}
+use Rattle.dump.proofs.AnswerLaws.{read-sized}
 use Rattle.repairing.specs.Repairing.{openedCard}
-use Rattle.repairing.specs.RepairingLaws.{read-card, over-refused, over-read, read-beyond}
+use Rattle.repairing.proofs.RepairingLaws.{read-card, over-refused, over-read, read-beyond}
 use Rattle.insert_reason.specs.InsertReason.{reasonOf}
-use Rattle.insert_reason.specs.InsertReasonLaws.{dump-refused, dump-read}
+use Rattle.insert_reason.proofs.InsertReasonLaws.{dump-refused, dump-read}
 use borrow.Author.Needs.{needs}
 use Rattle.insert_reason.proofs.insert_reason_in_dump.Statement.{statement}
 use Rattle.insert_reason.proofs.insert_reason_in_dump.Tie as tie

@@ -3,7 +3,7 @@ use mathlib.Core.Path.{ap, sym, _∙_}
 use Prim.Native.Nat.{_<_}
 use native.Mathlib.Omega.{arith}
 use Rattle.free_nodes.specs.NodeSet.{nodesOf, countTrue}
-use Rattle.descent.specs.DescentLaws.{slot-below as slot-few}
+use Rattle.descent.proofs.DescentLaws.{slot-below as slot-few}
 use Rattle.descent.specs.declared.Slot.{Slot}
 use Rattle.updates.specs.Updates.{reasonIn, insertReason}
 use Rattle.insert_reason.specs.InsertReason.{reasonFor}

@@ -4,13 +4,14 @@ use mathlib.Core.List.{List}
 use Prim.Native.Nat.{ℕ, _<_}
 use native.Mathlib.Omega.{arith}
 use lib.ListN.{length}
-use Rattle.card.specs.HeaderLaws.{Sized, sized}
-use Rattle.card.specs.NodeLaws.{length-node}
+use Rattle.card.specs.Header.{Sized}
+use Rattle.card.proofs.HeaderLaws.{sized}
+use Rattle.card.proofs.NodeLaws.{length-node}
 use Rattle.free_nodes.specs.NodeSet.{nodesOf, countTrue}
-use Rattle.updates.specs.UpdateLaws.{Landed, landed}
+use Rattle.updates.proofs.UpdateLaws.{Landed, landed}
 use Rattle.updates.specs.Updates.{landing, insertReason}
 use Rattle.insert_reason.specs.InsertReason.{reasonFor, reasonLanded}
-use Rattle.insert_reason.specs.InsertReasonLaws.{on-no-length, on-no-key, on-key}
+use Rattle.insert_reason.proofs.InsertReasonLaws.{on-no-length, on-no-key, on-key}
 use borrow.Author.Needs.{needs}
 use Rattle.insert_reason.proofs.reason_on.Statement.{statement}
 use Rattle.insert_reason.proofs.reason_on.Tie as tie

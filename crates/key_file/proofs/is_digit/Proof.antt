@@ -1,5 +1,5 @@
 -- `key_file::is_digit` meets its contract.
-use Rattle.key_file.specs.KeyFileLaws.{digit-not-low, digit-low}
+use Rattle.key_file.proofs.KeyFileLaws.{digit-not-low, digit-low}
 use Rattle.key_file.proofs.is_digit.Statement.{statement}
 use Rattle.key_file.proofs.is_digit.Tie as tie
 

@@ -5,7 +5,7 @@ use Prim.Native.Nat.{ℕ}
 use lib.Seq.{length-take-le}
 use borrow.Author.Needs.{needs}
 use Rattle.key_file.specs.KeyFile.{lastLine, keyOfLine}
-use Rattle.key_file.specs.KeyFileLaws.{key-longer, key-within}
+use Rattle.key_file.proofs.KeyFileLaws.{key-longer, key-within}
 use Rattle.key_file.proofs.key_in.Statement.{statement}
 use Rattle.key_file.proofs.key_in.Tie as tie
 

@@ -6,7 +6,7 @@ use lib.ListN.{length, getD, drop}
 use borrow.Author.Needs.{needs}
 use Rattle.card.specs.Layout.{keyLimit}
 use Rattle.key_file.specs.KeyFile.{allDigits, decimal}
-use Rattle.key_file.specs.KeyFileLaws.{digit-range, digits-next, digits-stop, digits-end, continued, continued-start, continued-next, continued-end, continued-least, key-other, key-great, key-found}
+use Rattle.key_file.proofs.KeyFileLaws.{digit-range, digits-next, digits-stop, digits-end, continued, continued-start, continued-next, continued-end, continued-least, key-other, key-great, key-found}
 use Rattle.key_file.proofs.key_of_line.Statement.{statement}
 use Rattle.key_file.proofs.key_of_line.Tie as tie
 

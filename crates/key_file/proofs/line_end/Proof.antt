@@ -5,7 +5,7 @@ use native.Mathlib.Omega.{arith}
 use lib.ListN.{length}
 use lib.Seq.{take-length}
 use borrow.Author.Needs.{needs}
-use Rattle.key_file.specs.KeyFileLaws.{no-bytes, final-feed, no-final-feed}
+use Rattle.key_file.proofs.KeyFileLaws.{no-bytes, final-feed, no-final-feed}
 use Rattle.key_file.proofs.line_end.Statement.{statement}
 use Rattle.key_file.proofs.line_end.Tie as tie
 

@@ -6,7 +6,7 @@ use native.Mathlib.Omega.{arith}
 use lib.ListN.{length, drop}
 use borrow.Author.Needs.{needs}
 use Rattle.key_file.specs.KeyFile.{hasFeed}
-use Rattle.key_file.specs.KeyFileLaws.{feed-none, feed-not-here, line-whole, line-starts}
+use Rattle.key_file.proofs.KeyFileLaws.{feed-none, feed-not-here, line-whole, line-starts}
 use Rattle.key_file.proofs.line_start.Statement.{statement}
 use Rattle.key_file.proofs.line_start.Tie as tie
 

@@ -7,7 +7,7 @@ use Rattle.opening.specs.Opening.{openOf}
 use Rattle.repairing.specs.Repairing.{Repaired, openedCard, leftBy}
 use Rattle.listing.specs.Listing.{Listed, listTable, listCard, layListed}
 use Rattle.listing.specs.Summaries.{summaryOf}
-use Rattle.listing.specs.SummaryLaws.{summary-refused, card-refused, card-idle, card-started}
+use Rattle.listing.proofs.SummaryLaws.{summary-refused, card-refused, card-idle, card-started}
 use borrow.Author.Needs.{needs}
 use Rattle.listing.proofs.list_card.Statement.{statement}
 use Rattle.listing.proofs.list_card.Tie as tie

@@ -4,12 +4,12 @@ use Prim.Native.Nat.{ℕ}
 use native.Mathlib.Omega.{arith}
 use lib.ListN.{length, take, drop}
 use lib.Seq.{length-take-le}
-use Rattle.dump.specs.AnswerLaws.{read-sized}
+use Rattle.dump.proofs.AnswerLaws.{read-sized}
 use Rattle.listing.specs.Listing.{Listed, listCard, listDump, layListed}
 use Rattle.listing.specs.Summaries.{summaryOf}
-use Rattle.listing.specs.SummaryLaws.{summary-refused, dump-refused, dump-read}
+use Rattle.listing.proofs.SummaryLaws.{summary-refused, dump-refused, dump-read}
 use Rattle.repairing.specs.Repairing.{openedCard}
-use Rattle.repairing.specs.RepairingLaws.{read-card, over-refused, over-read, read-beyond}
+use Rattle.repairing.proofs.RepairingLaws.{read-card, over-refused, over-read, read-beyond}
 use borrow.Author.Needs.{needs}
 use Rattle.listing.proofs.list_dump.Statement.{statement}
 use Rattle.listing.proofs.list_dump.Tie as tie

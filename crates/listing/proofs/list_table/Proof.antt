@@ -2,13 +2,13 @@ use mathlib.Core.Path.{_≡_, ap, sym, _∙_}
 use native.Mathlib.Omega.{arith}
 use lib.ListN.{length, getD}
 use borrow.Author.Tests.{not-true, not-false}
-use Rattle.card.specs.Header.{nodesOfLength}
-use Rattle.card.specs.HeaderLaws.{Sized, nodes-sized}
+use Rattle.card.specs.Header.{nodesOfLength, Sized}
+use Rattle.card.proofs.HeaderLaws.{nodes-sized}
 use Rattle.card.specs.Layout.{depthLimit, rootPlace}
 use Rattle.soundness.specs.Check.{findingsOf}
-use Rattle.soundness.specs.CheckLaws.{checked-ok, checked-bad}
+use Rattle.soundness.proofs.CheckLaws.{checked-ok, checked-bad}
 use Rattle.listing.specs.Listing.{Listing, listed, listTable, pairsFrom}
-use Rattle.listing.specs.SummaryLaws.{summary-refused, table-none, table-unsound, table-sound, summary-listed}
+use Rattle.listing.proofs.SummaryLaws.{summary-refused, table-none, table-unsound, table-sound, summary-listed}
 use borrow.Author.Needs.{needs}
 use Rattle.listing.proofs.list_table.Statement.{statement}
 use Rattle.listing.proofs.list_table.Tie as tie

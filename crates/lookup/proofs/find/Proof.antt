@@ -2,10 +2,11 @@
 use mathlib.Core.Path.{ap, sym, _∙_}
 use Prim.Native.Nat.{ℕ}
 use lib.ListN.{length, getD}
-use Rattle.card.specs.HeaderLaws.{Sized, sized, card-sized}
+use Rattle.card.specs.Header.{Sized}
+use Rattle.card.proofs.HeaderLaws.{sized, card-sized}
 use Rattle.card.specs.Layout.{depthLimit, rootPlace}
 use Rattle.descent.specs.Descent.{leafFor}
-use Rattle.lookup.specs.FindLaws.{find-refused, find-no-key, find-key}
+use Rattle.lookup.proofs.FindLaws.{find-refused, find-no-key, find-key}
 use Rattle.lookup.specs.Find.{foundAt}
 use Rattle.lookup.specs.declared.Found.the-variants.{Refused as FoundRefused}
 use borrow.Author.Needs.{needs}

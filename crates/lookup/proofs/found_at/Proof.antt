@@ -5,9 +5,9 @@ use Prim.Native.Nat.{ℕ}
 use native.Mathlib.Omega.{arith}
 use lib.ListN.{length, getD}
 use Rattle.card.specs.Layout.{depthLimit, rootPlace}
-use Rattle.card.specs.NodeLaws.{length-node}
+use Rattle.card.proofs.NodeLaws.{length-node}
 use Rattle.descent.specs.Descent.{slotOf}
-use Rattle.descent.specs.Inside.{Inside, leaf-inside}
+use Rattle.descent.proofs.Inside.{Inside, leaf-inside}
 use Rattle.lookup.specs.Find.{foundIn, foundAt}
 use borrow.Author.Needs.{needs}
 use Rattle.lookup.proofs.found_at.Statement.{statement}

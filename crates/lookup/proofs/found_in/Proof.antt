@@ -3,7 +3,7 @@ use mathlib.Core.Path.{ap, sym, _∙_}
 use Prim.Native.Nat.{_<_}
 use native.Mathlib.Omega.{arith}
 use Rattle.lookup.specs.Find.{foundIn}
-use Rattle.descent.specs.DescentLaws.{slot-below as slot-few}
+use Rattle.descent.proofs.DescentLaws.{slot-below as slot-few}
 use borrow.Author.Needs.{needs}
 use Rattle.lookup.proofs.found_in.Statement.{statement}
 use Rattle.lookup.proofs.found_in.Tie as tie

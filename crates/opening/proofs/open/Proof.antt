@@ -2,9 +2,10 @@
 use mathlib.Core.Path.{ap, sym, _∙_}
 use Prim.Native.Nat.{ℕ}
 use lib.ListN.{length}
-use Rattle.card.specs.HeaderLaws.{Sized, sized, card-sized}
+use Rattle.card.specs.Header.{Sized}
+use Rattle.card.proofs.HeaderLaws.{sized, card-sized}
 use Rattle.soundness.specs.Check.{tableCheck}
-use Rattle.opening.specs.OpeningLaws.{open-refused, open-unrefused}
+use Rattle.opening.proofs.OpeningLaws.{open-refused, open-unrefused}
 use Rattle.state.specs.Steps.{noBeginning}
 use Rattle.opening.specs.Opening.{openChecked}
 use borrow.Author.Needs.{needs}

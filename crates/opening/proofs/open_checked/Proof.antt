@@ -1,7 +1,7 @@
 -- `opening::open_checked` meets its contract.
 use mathlib.Core.Path.{ap, sym, _∙_}
 use borrow.Author.Tests.{not-true, not-false}
-use Rattle.soundness.specs.CheckLaws.{checked-ok, checked-bad}
+use Rattle.soundness.proofs.CheckLaws.{checked-ok, checked-bad}
 use Rattle.opening.specs.Opening.{openChecked}
 use borrow.Author.Needs.{needs}
 use Rattle.opening.proofs.open_checked.Statement.{statement}

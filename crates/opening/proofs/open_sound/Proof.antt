@@ -2,7 +2,7 @@
 use mathlib.Core.Path.{ap, sym, _∙_}
 use native.Mathlib.Omega.{arith}
 use Rattle.soundness.specs.Check.{findingsOf}
-use Rattle.opening.specs.OpeningLaws.{open-scarce, open-repair, open-idle}
+use Rattle.opening.proofs.OpeningLaws.{open-scarce, open-repair, open-idle}
 use Rattle.state.specs.Memory.{Memory}
 use Rattle.state.specs.Results.{handedOf}
 use Rattle.state.specs.declared.Begun.the-variants.{Idle as OpenedIdle, Started}

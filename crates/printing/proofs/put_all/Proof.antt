@@ -4,7 +4,7 @@ use native.Mathlib.Omega.{arith}
 use lib.ListN.{length, getD, drop, length-set}
 use borrow.Author.Needs.{needs}
 use Rattle.printing.specs.Filling.{filled, fill}
-use Rattle.printing.specs.FillingLaws.{fill-next, fill-end}
+use Rattle.printing.proofs.FillingLaws.{fill-next, fill-end}
 use Rattle.printing.proofs.put_all.Statement.{statement}
 use Rattle.printing.proofs.put_all.Tie as tie
 

@@ -6,8 +6,8 @@ use lib.ListN.{length, take}
 use borrow.Author.Needs.{needs}
 use Rattle.printing.specs.Text.{decimal}
 use Rattle.printing.specs.Filling.{filled, fill}
-use Rattle.printing.specs.FillingLaws.{fill-then, fill-reached}
-use Rattle.printing.specs.DecimalLaws.{made-decimal}
+use Rattle.printing.proofs.FillingLaws.{fill-then, fill-reached}
+use Rattle.printing.proofs.DecimalLaws.{made-decimal}
 use Rattle.printing.proofs.put_number.Statement.{statement}
 use Rattle.printing.proofs.put_number.Tie as tie
 

@@ -3,9 +3,9 @@ use Prim.Native.Nat.{_+_, _≤_}
 use native.Mathlib.Omega.{arith}
 use borrow.Author.Needs.{needs}
 use Rattle.printing.specs.Text.{decimal, lineFeed, space, pairLine}
-use Rattle.printing.specs.FillingLaws.{fill-then}
-use Rattle.printing.specs.DecimalLaws.{word-short}
-use Rattle.printing.specs.TextLaws.{number-within}
+use Rattle.printing.proofs.FillingLaws.{fill-then}
+use Rattle.printing.proofs.DecimalLaws.{word-short}
+use Rattle.printing.proofs.TextLaws.{number-within}
 use Rattle.printing.proofs.put_pair.Statement.{statement}
 use Rattle.printing.proofs.put_pair.Tie as tie
 

@@ -4,9 +4,9 @@ use native.Mathlib.Omega.{arith}
 use lib.ListN.{length}
 use borrow.Author.Needs.{needs}
 use Rattle.printing.specs.Text.{decimal, lineFeed, nodesWord, freeWord, levelsWord, pairsWord, firstLine}
-use Rattle.printing.specs.FillingLaws.{fill-then, fill-reached}
-use Rattle.printing.specs.DecimalLaws.{number-short}
-use Rattle.printing.specs.TextLaws.{number-within}
+use Rattle.printing.proofs.FillingLaws.{fill-then, fill-reached}
+use Rattle.printing.proofs.DecimalLaws.{number-short}
+use Rattle.printing.proofs.TextLaws.{number-within}
 use Rattle.printing.proofs.put_summary.Statement.{statement}
 use Rattle.printing.proofs.put_summary.Tie as tie
 

@@ -1,7 +1,7 @@
 -- `ration_table::hand_back` meets its contract.
 use mathlib.Core.Path.{sym, _∙_}
 use borrow.Author.Needs.{needs}
-use Rattle.ration_table.specs.ContractLaws.{handed-start, refused-back}
+use Rattle.ration_table.proofs.ContractLaws.{handed-start, refused-back}
 use Rattle.ration_table.proofs.hand_back.Statement.{statement}
 use Rattle.ration_table.proofs.hand_back.Tie as tie
 

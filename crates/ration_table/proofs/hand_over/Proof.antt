@@ -1,6 +1,6 @@
 -- `ration_table::hand_over` meets its contract.
 use borrow.Author.Needs.{needs}
-use Rattle.ration_table.specs.ContractLaws.{handed-open}
+use Rattle.ration_table.proofs.ContractLaws.{handed-open}
 use Rattle.ration_table.proofs.hand_over.Statement.{statement}
 use Rattle.ration_table.proofs.hand_over.Tie as tie
 

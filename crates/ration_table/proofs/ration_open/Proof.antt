@@ -5,8 +5,8 @@ use Rattle.state.specs.Steps.{Handed}
 use Rattle.opening.specs.Opening.{openOf}
 use Rattle.ration_table.specs.Contracts.{OpenCall}
 use Rattle.replies.specs.ReplyWords.{replyOf}
-use Rattle.ration_table.specs.ContractLaws.{open-no-state, small-handed}
-use Rattle.ration_table.specs.HandedBack.{open-small}
+use Rattle.ration_table.proofs.ContractLaws.{open-no-state, small-handed}
+use Rattle.ration_table.proofs.HandedBack.{open-small}
 use Rattle.ration_table.proofs.ration_open.Statement.{statement}
 use Rattle.ration_table.proofs.ration_open.Tie as tie
 

@@ -9,8 +9,8 @@ use Rattle.state.specs.declared.State.{State}
 use Rattle.state_block.specs.Block.{memoryIn}
 use Rattle.ration_table.specs.Contracts.{StartCall}
 use Rattle.replies.specs.ReplyWords.{replyOf}
-use Rattle.ration_table.specs.ContractLaws.{start-no-state, small-handed}
-use Rattle.ration_table.specs.HandedBack.{delete-small}
+use Rattle.ration_table.proofs.ContractLaws.{start-no-state, small-handed}
+use Rattle.ration_table.proofs.HandedBack.{delete-small}
 use Rattle.ration_table.proofs.ration_start_delete.Statement.{statement}
 use Rattle.ration_table.proofs.ration_start_delete.Tie as tie
 

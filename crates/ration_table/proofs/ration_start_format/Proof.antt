@@ -5,8 +5,8 @@ use Rattle.state.specs.Steps.{Handed}
 use Rattle.starting.specs.Starts.{formatOf}
 use Rattle.ration_table.specs.Contracts.{OpenCall}
 use Rattle.replies.specs.ReplyWords.{replyOf}
-use Rattle.ration_table.specs.ContractLaws.{open-no-state, small-handed}
-use Rattle.ration_table.specs.HandedBack.{format-small}
+use Rattle.ration_table.proofs.ContractLaws.{open-no-state, small-handed}
+use Rattle.ration_table.proofs.HandedBack.{format-small}
 use Rattle.ration_table.proofs.ration_start_format.Statement.{statement}
 use Rattle.ration_table.proofs.ration_start_format.Tie as tie
 

@@ -5,7 +5,7 @@ use borrow.Author.Needs.{needs}
 use Rattle.table.specs.Calls.{stepOf}
 use Rattle.state_block.specs.Block.{memoryIn}
 use Rattle.block_steps.specs.Playing.{Played}
-use Rattle.ration_table.specs.ContractLaws.{step-no-state, played-step, not-played}
+use Rattle.ration_table.proofs.ContractLaws.{step-no-state, played-step, not-played}
 use Rattle.ration_table.proofs.ration_step.Statement.{statement}
 use Rattle.ration_table.proofs.ration_step.Tie as tie
 

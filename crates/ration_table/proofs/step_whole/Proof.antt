@@ -2,7 +2,7 @@
 use mathlib.Core.Path.{refl, sym, _∙_}
 use native.Mathlib.Omega.{arith}
 use borrow.Author.Needs.{needs}
-use Rattle.ration_table.specs.ContractLaws.{packed-step, refused-step}
+use Rattle.ration_table.proofs.ContractLaws.{packed-step, refused-step}
 use Rattle.ration_table.proofs.step_whole.Statement.{statement}
 use Rattle.ration_table.proofs.step_whole.Tie as tie
 

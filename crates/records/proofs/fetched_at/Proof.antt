@@ -1,6 +1,6 @@
 -- `records::fetched_at` meets its contract.
 use mathlib.Core.Path.{_≡_, ap, sym, _∙_}
-use Rattle.records.specs.RecordLaws.{fetched-found, fetched-refused}
+use Rattle.records.proofs.RecordLaws.{fetched-found, fetched-refused}
 use Rattle.records.specs.declared.Fetched.the-variants.{Refused}
 use borrow.Author.Needs.{needs}
 use Rattle.records.proofs.fetched_at.Statement.{statement}

@@ -4,7 +4,7 @@ use native.Mathlib.Omega.{arith}
 use lib.ListN.{length}
 use borrow.Author.Tests.{eq-eqb, ne-eqb}
 use Rattle.records.specs.Records.{recordRefusal}
-use Rattle.records.specs.RecordLaws.{RecordInside, record-inside, record-part}
+use Rattle.records.proofs.RecordLaws.{RecordInside, record-inside, record-part}
 use borrow.Author.Needs.{needs}
 use Rattle.records.proofs.record_at.Statement.{statement}
 use Rattle.records.proofs.record_at.Tie as tie

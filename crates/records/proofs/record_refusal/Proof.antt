@@ -1,7 +1,7 @@
 -- `records::record_refusal` meets its contract.
 use mathlib.Core.Path.{sym}
 use native.Mathlib.Omega.{arith}
-use Rattle.records.specs.RecordLaws.{refusal-past, refusal-empty, refusal-long, refusal-none}
+use Rattle.records.proofs.RecordLaws.{refusal-past, refusal-empty, refusal-long, refusal-none}
 use borrow.Author.Needs.{needs}
 use Rattle.records.proofs.record_refusal.Statement.{statement}
 use Rattle.records.proofs.record_refusal.Tie as tie

@@ -6,7 +6,7 @@ use lib.ListN.{length}
 use Rattle.table.specs.Calls.{repairSteps}
 use Rattle.state.specs.Memory.{memoryOf}
 use Rattle.repairing.specs.Repairing.{repairedCard, leftBy}
-use Rattle.repairing.specs.RepairingLaws.{repair-idle, repair-over, repair-on}
+use Rattle.repairing.proofs.RepairingLaws.{repair-idle, repair-over, repair-on}
 use borrow.Author.Needs.{needs}
 use Rattle.repairing.proofs.repair.Statement.{statement}
 use Rattle.repairing.proofs.repair.Tie as tie

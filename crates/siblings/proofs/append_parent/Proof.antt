@@ -5,8 +5,8 @@ use native.Mathlib.Omega.{arith}
 use lib.ListN.{length}
 use borrow.Author.Needs.{needs}
 use Rattle.card.specs.Layout.{children}
-use Rattle.card.specs.NodeLaws.{children-le, length-routing}
-use Rattle.plans.specs.ChangeLaws.{parent-copied}
+use Rattle.card.proofs.NodeLaws.{children-le, length-routing}
+use Rattle.plans.proofs.ChangeLaws.{parent-copied}
 use Rattle.siblings.proofs.append_parent.Statement.{statement}
 use Rattle.siblings.proofs.append_parent.Tie as tie
 

@@ -1,7 +1,7 @@
 -- `siblings::both_are` meets its contract.
 use borrow.Author.Needs.{needs}
 use borrow.Author.Tests.{eq-eqb, ne-eqb}
-use Rattle.plans.specs.ChangeLaws.{and-second, and-first}
+use Rattle.plans.proofs.ChangeLaws.{and-second, and-first}
 use Rattle.siblings.proofs.both_are.Statement.{statement}
 use Rattle.siblings.proofs.both_are.Tie as tie
 

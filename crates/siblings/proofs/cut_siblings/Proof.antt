@@ -3,8 +3,8 @@ use mathlib.Core.Path.{ap}
 use native.Mathlib.Omega.{arith}
 use lib.ListN.{length}
 use borrow.Author.Needs.{needs}
-use Rattle.card.specs.NodeLaws.{children-le}
-use Rattle.plans.specs.ChangeLaws.{cut-siblings}
+use Rattle.card.proofs.NodeLaws.{children-le}
+use Rattle.plans.proofs.ChangeLaws.{cut-siblings}
 use Rattle.siblings.proofs.cut_siblings.Statement.{statement}
 use Rattle.siblings.proofs.cut_siblings.Tie as tie
 

@@ -4,7 +4,7 @@ use Prim.Native.Nat.{ℕ}
 use lib.Dec.{eqb}
 use borrow.Author.Needs.{needs}
 use borrow.Author.Tests.{eq-eqb, ne-eqb}
-use Rattle.plans.specs.ChangeLaws.{and-second, and-first}
+use Rattle.plans.proofs.ChangeLaws.{and-second, and-first}
 use Rattle.siblings.proofs.is_root_of_two.Statement.{statement}
 use Rattle.siblings.proofs.is_root_of_two.Tie as tie
 

@@ -5,10 +5,10 @@ use native.Mathlib.Omega.{arith}
 use lib.ListN.{length, getD}
 use borrow.Author.Needs.{needs}
 use Rattle.card.specs.Layout.{children, routingKeys}
-use Rattle.card.specs.NodeLaws.{children-le, length-routing}
+use Rattle.card.proofs.NodeLaws.{children-le, length-routing}
 use Rattle.free_nodes.specs.NodeSet.{nodesOf}
 use Rattle.plans.specs.Change.{Together}
-use Rattle.siblings.specs.SiblingLaws.{together-many, inners-count, inners-pooled}
+use Rattle.siblings.proofs.SiblingLaws.{together-many, inners-count, inners-pooled}
 use Rattle.siblings.specs.Siblings.{mendTogether}
 use Rattle.siblings.proofs.mend_inners.Statement.{statement}
 use Rattle.siblings.proofs.mend_inners.Tie as tie

@@ -3,7 +3,7 @@ use mathlib.Core.Path.{sym, _∙_}
 use native.Mathlib.Omega.{arith}
 use borrow.Author.Tests.{not-true, not-false}
 use borrow.Author.Needs.{needs}
-use Rattle.siblings.specs.SiblingLaws.{siblings-leaves, siblings-mixed, siblings-left-bare, siblings-right-bare, siblings-inners}
+use Rattle.siblings.proofs.SiblingLaws.{siblings-leaves, siblings-mixed, siblings-left-bare, siblings-right-bare, siblings-inners}
 use Rattle.siblings.proofs.mend_siblings.Statement.{statement}
 use Rattle.siblings.proofs.mend_siblings.Tie as tie
 

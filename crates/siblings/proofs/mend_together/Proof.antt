@@ -3,10 +3,10 @@ use mathlib.Core.Path.{_≡_, sym, _∙_}
 use native.Mathlib.Omega.{arith}
 use lib.ListN.{length}
 use borrow.Author.Needs.{needs}
-use Rattle.plans.specs.ChangeLaws.{keys-range}
-use Rattle.siblings.specs.SiblingLaws.{together-shared, together-root, together-merged}
+use Rattle.plans.proofs.ChangeLaws.{keys-range}
+use Rattle.siblings.proofs.SiblingLaws.{together-shared, together-root, together-merged}
 use Rattle.plans.specs.Plan.{togetherOf}
-use Rattle.plans.specs.RowLaws.{length-words}
+use Rattle.plans.proofs.RowLaws.{length-words}
 use Rattle.siblings.proofs.mend_together.Statement.{statement}
 use Rattle.siblings.proofs.mend_together.Tie as tie
 

@@ -6,10 +6,10 @@ use native.Mathlib.Omega.{arith}
 use lib.ListN.{length}
 use borrow.Author.Needs.{needs}
 use Rattle.free_nodes.specs.NodeSet.{wordCount, nodesOf}
-use Rattle.plans.specs.ChangeLaws.{planned-root}
-use Rattle.plans.specs.NumberLaws.{Given, one-given, take-none, take-one, giving-none}
+use Rattle.plans.proofs.ChangeLaws.{planned-root}
+use Rattle.plans.proofs.NumberLaws.{Given, one-given, take-none, take-one, giving-none}
 use Rattle.plans.specs.Plan.{togetherOf}
-use Rattle.plans.specs.PlanLaws.{none-planned}
+use Rattle.plans.proofs.PlanLaws.{none-planned}
 use Rattle.plans.specs.Planning.{takeNumbers}
 use Rattle.siblings.proofs.merge_into_root.Statement.{statement}
 use Rattle.siblings.proofs.merge_into_root.Tie as tie

@@ -6,10 +6,10 @@ use native.Mathlib.Omega.{arith}
 use lib.ListN.{length}
 use borrow.Author.Needs.{needs}
 use Rattle.free_nodes.specs.NodeSet.{wordCount, nodesOf}
-use Rattle.plans.specs.ChangeLaws.{planned-merge}
-use Rattle.plans.specs.NumberLaws.{Given, two-given, giving-none}
+use Rattle.plans.proofs.ChangeLaws.{planned-merge}
+use Rattle.plans.proofs.NumberLaws.{Given, two-given, giving-none}
 use Rattle.plans.specs.Plan.{twoOf, togetherOf}
-use Rattle.plans.specs.PlanLaws.{none-planned}
+use Rattle.plans.proofs.PlanLaws.{none-planned}
 use Rattle.plans.specs.Planning.{takeNumbers}
 use Rattle.siblings.proofs.merge_siblings.Statement.{statement}
 use Rattle.siblings.proofs.merge_siblings.Tie as tie

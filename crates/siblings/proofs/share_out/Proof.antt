@@ -6,10 +6,10 @@ use native.Mathlib.Omega.{arith}
 use lib.ListN.{length}
 use borrow.Author.Needs.{needs}
 use Rattle.free_nodes.specs.NodeSet.{wordCount, nodesOf}
-use Rattle.plans.specs.ChangeLaws.{planned-share}
-use Rattle.plans.specs.NumberLaws.{Given, three-given, giving-none}
+use Rattle.plans.proofs.ChangeLaws.{planned-share}
+use Rattle.plans.proofs.NumberLaws.{Given, three-given, giving-none}
 use Rattle.plans.specs.Plan.{threeOf, togetherOf}
-use Rattle.plans.specs.PlanLaws.{none-planned}
+use Rattle.plans.proofs.PlanLaws.{none-planned}
 use Rattle.plans.specs.Planning.{takeNumbers}
 use Rattle.siblings.proofs.share_out.Statement.{statement}
 use Rattle.siblings.proofs.share_out.Tie as tie

@@ -7,11 +7,11 @@ use lib.Dec.{eqb}
 use lib.ListN.{length, drop}
 use borrow.Author.Tests.{not-true, not-false}
 use borrow.Author.Needs.{needs}
-use Rattle.card.specs.NodeLaws.{children-le, length-node}
+use Rattle.card.proofs.NodeLaws.{children-le, length-node}
 use Rattle.card.specs.Layout.{children, routingKeys}
 use Rattle.soundness.specs.declared.Entry.{Entry}
-use Rattle.soundness.specs.CheckLaws.{Children, endOf, enter-children, checked-ok, checked-bad, turn-wrong, turn-bad, turn-uneven, turn-on, turn-end, check-bad, check-leaf, check-deep, check-inner, run-le}
-use Rattle.soundness.specs.Check.{entryOf, lookOf, findingsOf, enterNode, inner, raised, childrenCheck, nodeCheck}
+use Rattle.soundness.proofs.CheckLaws.{Children, enter-children, checked-ok, checked-bad, turn-wrong, turn-bad, turn-uneven, turn-on, turn-end, check-bad, check-leaf, check-deep, check-inner, run-le}
+use Rattle.soundness.specs.Check.{endOf, entryOf, lookOf, findingsOf, enterNode, inner, raised, childrenCheck, nodeCheck}
 use borrow.Fn.Kinds.{In}
 use borrow.Fn.PlainCycle.{Measures, is, falls, and}
 use Rattle.soundness.proofs.children_check.Reads as children-check

@@ -1,7 +1,7 @@
 use mathlib.Core.Path.{sym}
 use native.Mathlib.Omega.{arith}
 use borrow.Author.Needs.{needs}
-use Rattle.soundness.specs.CheckLaws.{raised-tagged, raised-more}
+use Rattle.soundness.proofs.CheckLaws.{raised-tagged, raised-more}
 use Rattle.soundness.specs.Check.{checkedOf}
 use Rattle.soundness.proofs.raise.Statement.{statement}
 use Rattle.soundness.proofs.raise.Tie as tie

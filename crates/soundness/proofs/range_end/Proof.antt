@@ -2,8 +2,9 @@ use mathlib.Core.Option.{some}
 use mathlib.Core.Path.{sym, ap, _∙_}
 use native.Mathlib.Omega.{arith}
 use borrow.Author.Needs.{needs}
-use Rattle.card.specs.NodeLaws.{children-le}
-use Rattle.soundness.specs.CheckLaws.{endOf, end-last, end-fallen, end-above, end-within}
+use Rattle.card.proofs.NodeLaws.{children-le}
+use Rattle.soundness.specs.Check.{endOf}
+use Rattle.soundness.proofs.CheckLaws.{end-last, end-fallen, end-above, end-within}
 use Rattle.soundness.proofs.range_end.Statement.{statement}
 use Rattle.soundness.proofs.range_end.Tie as tie
 

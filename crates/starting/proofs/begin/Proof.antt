@@ -5,7 +5,7 @@ use borrow.Author.Needs.{needs}
 use Rattle.state.specs.Memory.{memoryOf}
 use Rattle.state.specs.Results.{handedOf}
 use Rattle.starting.specs.Starts.{startRefused, started}
-use Rattle.starting.specs.StartLaws.{started-no-refusal}
+use Rattle.starting.proofs.StartLaws.{started-no-refusal}
 use Rattle.starting.proofs.begin.Statement.{statement}
 use Rattle.starting.proofs.begin.Tie as tie
 

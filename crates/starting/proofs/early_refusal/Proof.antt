@@ -2,8 +2,8 @@
 use mathlib.Core.Path.{sym, _∙_}
 use native.Mathlib.Omega.{arith}
 use borrow.Author.Tests.{not-true, not-false}
-use Rattle.card.specs.HeaderLaws.{sized}
-use Rattle.starting.specs.StartLaws.{start-no-length, start-other, start-header, start-busy, start-no-key, start-none}
+use Rattle.card.proofs.HeaderLaws.{sized}
+use Rattle.starting.proofs.StartLaws.{start-no-length, start-other, start-header, start-busy, start-no-key, start-none}
 use borrow.Author.Needs.{needs}
 use Rattle.starting.proofs.early_refusal.Statement.{statement}
 use Rattle.starting.proofs.early_refusal.Tie as tie

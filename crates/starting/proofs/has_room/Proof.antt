@@ -4,7 +4,7 @@ use Prim.Native.Nat.{ℕ, _-_}
 use native.Mathlib.Omega.{arith}
 use lib.Dec.{leb}
 use Rattle.free_nodes.specs.NodeSet.{nodesOf, countTrue}
-use Rattle.starting.specs.StartLaws.{room-held, room-slot, room-full, not-scarce, not-enough}
+use Rattle.starting.proofs.StartLaws.{room-held, room-slot, room-full, not-scarce, not-enough}
 use borrow.Author.Needs.{needs}
 use Rattle.starting.proofs.has_room.Statement.{statement}
 use Rattle.starting.proofs.has_room.Tie as tie

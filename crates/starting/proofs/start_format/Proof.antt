@@ -4,8 +4,8 @@ use mathlib.Core.List.{List}
 use mathlib.Core.Bool.{Bool, false}
 use native.Mathlib.Omega.{arith}
 use lib.ListN.{set}
-use Rattle.card.specs.HeaderLaws.{sized}
-use Rattle.starting.specs.StartLaws.{format-no-length, format-length}
+use Rattle.card.proofs.HeaderLaws.{sized}
+use Rattle.starting.proofs.StartLaws.{format-no-length, format-length}
 use Rattle.state.specs.Memory.{Memory, resting}
 use Rattle.state.specs.Results.{handedOf}
 use Rattle.state.specs.declared.Doing.the-variants.{Formatting}

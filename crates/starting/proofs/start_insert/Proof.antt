@@ -5,7 +5,7 @@ use Prim.Native.Nat.{ℕ}
 use Rattle.state.specs.Memory.{memoryOf}
 use Rattle.starting.specs.Refusals.{begunBy}
 use Rattle.starting.specs.Starts.{insertOf}
-use Rattle.starting.specs.StartLaws.{start-due}
+use Rattle.starting.proofs.StartLaws.{start-due}
 use Rattle.state.specs.declared.Doing.the-variants.{Inserting}
 use borrow.Author.Needs.{needs}
 use Rattle.starting.proofs.start_insert.Statement.{statement}

@@ -6,12 +6,12 @@ use Prim.Native.Nat.{ℕ, _<_}
 use native.Mathlib.Omega.{arith}
 use lib.ListN.{length}
 use Rattle.laws.specs.Cases.{pick}
-use Rattle.card.specs.HeaderLaws.{Sized}
-use Rattle.card.specs.NodeLaws.{length-node}
+use Rattle.card.specs.Header.{Sized}
+use Rattle.card.proofs.NodeLaws.{length-node}
 use Rattle.free_nodes.specs.NodeSet.{nodesOf}
 use Rattle.starting.specs.Refusals.{roomWhere, dueRefusal, landingRefusal}
-use Rattle.starting.specs.StartLaws.{start-sized, due-early, due-landing}
-use Rattle.updates.specs.UpdateLaws.{Landed, landed}
+use Rattle.starting.proofs.StartLaws.{start-sized, due-early, due-landing}
+use Rattle.updates.proofs.UpdateLaws.{Landed, landed}
 use Rattle.updates.specs.Updates.{landing, insertReason, roomFor, startRoom}
 use Rattle.descent.specs.declared.Landing.{Landing}
 use borrow.Author.Needs.{needs}

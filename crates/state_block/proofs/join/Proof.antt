@@ -6,7 +6,7 @@ use lib.ListN.{length-set, length, take}
 use lib.Seq.{take-all}
 use borrow.Author.Needs.{needs}
 use Rattle.state_block.specs.Block.{joined}
-use Rattle.state_block.specs.Rows.{joined-more}
+use Rattle.state_block.proofs.Rows.{joined-more}
 use Rattle.state_block.proofs.join.Statement.{statement}
 use Rattle.state_block.proofs.join.Tie as tie
 

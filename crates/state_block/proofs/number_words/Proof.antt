@@ -1,6 +1,6 @@
 -- `state_block::number_words` meets its contract.
 use borrow.Author.Needs.{needs}
-use Rattle.state_block.specs.RoundTrip.{numbers-stored}
+use Rattle.state_block.proofs.RoundTrip.{numbers-stored}
 use Rattle.state_block.proofs.number_words.Statement.{statement}
 use Rattle.state_block.proofs.number_words.Tie as tie
 

@@ -5,7 +5,7 @@ use lib.ListN.{length, length-take, length-drop, length-append, getD}
 use mir.Val.{Fits}
 use mir.Syntax.{w64}
 use borrow.Author.Needs.{needs}
-use Rattle.state_block.specs.RoundTrip.{HasRows, packed-stored, packed-kept}
+use Rattle.state_block.proofs.RoundTrip.{HasRows, packed-stored, packed-kept}
 use Rattle.state_block.specs.Block.{Kept}
 use Rattle.state_block.proofs.pack.Statement.{statement}
 use Rattle.state_block.proofs.pack.Tie as tie

@@ -4,7 +4,7 @@ use Prim.Native.Nat.{_-_, _≤_}
 use native.Mathlib.Omega.{arith}
 use lib.ListN.{length-set, length, take}
 use borrow.Author.Needs.{needs}
-use Rattle.state_block.specs.Rows.{copy-more, copy-all}
+use Rattle.state_block.proofs.Rows.{copy-more, copy-all}
 use Rattle.state_block.proofs.row.Statement.{statement}
 use Rattle.state_block.proofs.row.Tie as tie
 

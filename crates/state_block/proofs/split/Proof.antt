@@ -5,7 +5,7 @@ use native.Mathlib.Omega.{arith}
 use lib.ListN.{length, take}
 use borrow.Author.Needs.{needs}
 use Rattle.state_block.specs.Block.{halves}
-use Rattle.state_block.specs.Rows.{halves-more, copy-all, length-halves}
+use Rattle.state_block.proofs.Rows.{halves-more, copy-all, length-halves}
 use Rattle.state_block.proofs.split.Statement.{statement}
 use Rattle.state_block.proofs.split.Tie as tie
 

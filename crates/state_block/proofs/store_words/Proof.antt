@@ -4,7 +4,7 @@ use Prim.Native.Nat.{_-_, _≤_}
 use native.Mathlib.Omega.{arith}
 use lib.ListN.{length, take, length-set}
 use borrow.Author.Needs.{needs}
-use Rattle.state_block.specs.Rows.{copy-more, copy-all}
+use Rattle.state_block.proofs.Rows.{copy-more, copy-all}
 use Rattle.state_block.proofs.store_words.Statement.{statement}
 use Rattle.state_block.proofs.store_words.Tie as tie
 

@@ -2,8 +2,8 @@
 use native.Mathlib.Omega.{arith}
 use borrow.Author.Needs.{needs}
 use Rattle.state_block.specs.Block.{unpacked}
-use Rattle.state_block.specs.Rows.{three}
-use Rattle.state_block.specs.RoundTrip.{stateFrom, same-state}
+use Rattle.state_block.proofs.Rows.{three}
+use Rattle.state_block.proofs.RoundTrip.{stateFrom, same-state}
 use Rattle.state_block.proofs.unpack.Statement.{statement}
 use Rattle.state_block.proofs.unpack.Tie as tie
 

@@ -3,9 +3,9 @@ use mathlib.Core.Path.{_≡_, sym, _∙_}
 use Prim.Native.Nat.{_+_, _≤_}
 use native.Mathlib.Omega.{arith}
 use lib.ListN.{length}
-use Rattle.descent.specs.DescentLaws.{index-le}
+use Rattle.descent.proofs.DescentLaws.{index-le}
 use Rattle.card.specs.Layout.{keyLimit}
-use Rattle.successor.specs.SuccessorLaws.{end-last, end-key}
+use Rattle.successor.proofs.SuccessorLaws.{end-last, end-key}
 use borrow.Author.Needs.{needs}
 use Rattle.successor.proofs.end_below.Statement.{statement}
 use Rattle.successor.proofs.end_below.Tie as tie

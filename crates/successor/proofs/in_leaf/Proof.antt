@@ -5,10 +5,10 @@ use mathlib.Core.Option.{Option}
 use Prim.Native.Nat.{ℕ}
 use native.Mathlib.Omega.{arith}
 use lib.ListN.{length, getD}
-use Rattle.card.specs.HeaderLaws.{Sized}
+use Rattle.card.specs.Header.{Sized}
 use Rattle.card.specs.Layout.{depthLimit, rootPlace, leafPairs}
-use Rattle.card.specs.NodeLaws.{length-node}
-use Rattle.descent.specs.Inside.{Inside, leaf-inside}
+use Rattle.card.proofs.NodeLaws.{length-node}
+use Rattle.descent.proofs.Inside.{Inside, leaf-inside}
 use Rattle.successor.specs.Successor.{leastAbove, found, inLeaf}
 use borrow.Author.Needs.{needs}
 use Rattle.successor.proofs.in_leaf.Statement.{statement}

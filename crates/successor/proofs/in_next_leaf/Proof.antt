@@ -6,7 +6,7 @@ use lib.ListN.{getD}
 use Rattle.card.specs.Layout.{depthLimit, rootPlace}
 use Rattle.descent.specs.Descent.{leafFor}
 use Rattle.successor.specs.Successor.{inLeaf, inNextLeaf}
-use Rattle.successor.specs.SuccessorLaws.{next-none, next-there}
+use Rattle.successor.proofs.SuccessorLaws.{next-none, next-there}
 use borrow.Author.Needs.{needs}
 use Rattle.successor.proofs.in_next_leaf.Statement.{statement}
 use Rattle.successor.proofs.in_next_leaf.Tie as tie

@@ -5,7 +5,7 @@ use Prim.Native.Nat.{ℕ, _+_, _-_, _≤_}
 use native.Mathlib.Omega.{arith}
 use lib.ListN.{length, getD}
 use Rattle.successor.specs.Successor.{nearerAbove, leastOf}
-use Rattle.successor.specs.SuccessorLaws.{leastFrom, least-start, least-end, least-slot}
+use Rattle.successor.proofs.SuccessorLaws.{leastFrom, least-start, least-end, least-slot}
 use borrow.Author.Needs.{needs}
 use Rattle.successor.proofs.least_above.Statement.{statement}
 use Rattle.successor.proofs.least_above.Tie as tie

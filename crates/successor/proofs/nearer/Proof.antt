@@ -4,7 +4,7 @@ use mathlib.Core.Option.{Option}
 use Prim.Native.Nat.{ℕ}
 use native.Mathlib.Omega.{arith}
 use Rattle.successor.specs.Successor.{nearerAbove, leastOf}
-use Rattle.successor.specs.SuccessorLaws.{nearer-below, nearer-first, nearer-other, nearer-now}
+use Rattle.successor.proofs.SuccessorLaws.{nearer-below, nearer-first, nearer-other, nearer-now}
 use Rattle.successor.specs.declared.Least.{Least}
 use borrow.Author.Needs.{needs}
 use Rattle.successor.proofs.nearer.Statement.{statement}

@@ -2,9 +2,10 @@
 use mathlib.Core.Path.{_≡_, ap, sym, _∙_}
 use Prim.Native.Nat.{ℕ}
 use lib.ListN.{length}
-use Rattle.card.specs.HeaderLaws.{Sized, sized, card-sized}
+use Rattle.card.specs.Header.{Sized}
+use Rattle.card.proofs.HeaderLaws.{sized, card-sized}
 use Rattle.successor.specs.Successor.{nextIn}
-use Rattle.successor.specs.SuccessorLaws.{next-refused, next-taken}
+use Rattle.successor.proofs.SuccessorLaws.{next-refused, next-taken}
 use Rattle.successor.specs.declared.Successor.the-variants.{Refused}
 use borrow.Author.Needs.{needs}
 use Rattle.successor.proofs.next_pair.Statement.{statement}

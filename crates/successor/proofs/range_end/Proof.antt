@@ -5,10 +5,10 @@ use Prim.Native.Nat.{ℕ, _+_, _-_, _*_, _≤_}
 use native.Mathlib.Omega.{arith}
 use lib.ListN.{length, getD}
 use Rattle.card.specs.Layout.{depthLimit, keyLimit, nodeAt}
-use Rattle.card.specs.NodeLaws.{length-node}
-use Rattle.descent.specs.DescentLaws.{turn-inside}
+use Rattle.card.proofs.NodeLaws.{length-node}
+use Rattle.descent.proofs.DescentLaws.{turn-inside}
 use Rattle.successor.specs.Successor.{endBelow, rangeEnd}
-use Rattle.successor.specs.SuccessorLaws.{range-zero, range-refused, range-leaf, range-down}
+use Rattle.successor.proofs.SuccessorLaws.{range-zero, range-refused, range-leaf, range-down}
 use borrow.Author.Needs.{needs}
 use Rattle.successor.proofs.range_end.Statement.{statement}
 use Rattle.successor.proofs.range_end.Tie as tie

@@ -1,12 +1,12 @@
 -- `table::step` meets its contract.
 use mathlib.Core.Path.{refl, ap, sym, _∙_}
-use Rattle.card.specs.HeaderLaws.{sized}
+use Rattle.card.proofs.HeaderLaws.{sized}
 use Rattle.state.specs.Steps.{stepRefused}
 use Rattle.table.specs.Calls.{stepDoing, stepOf}
 use Rattle.state.specs.Memory.{memoryOf}
 use Rattle.state.specs.Results.{stepLeft}
-use Rattle.table.specs.StepLaws.{step-no-length, step-other, step-same}
-use Rattle.state.specs.StepLaws.{step-parts}
+use Rattle.table.proofs.StepLaws.{step-no-length, step-other, step-same}
+use Rattle.state.proofs.StepLaws.{step-parts}
 use Rattle.state.specs.declared.Answer.the-variants.{Refused}
 use borrow.Author.Needs.{needs}
 use Rattle.table.proofs.step.Statement.{statement}

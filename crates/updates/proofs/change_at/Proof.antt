@@ -4,9 +4,9 @@ use mathlib.Core.List.{List}
 use Prim.Native.Nat.{ℕ}
 use native.Mathlib.Omega.{arith}
 use lib.ListN.{length}
-use Rattle.card.specs.NodeLaws.{length-node}
+use Rattle.card.proofs.NodeLaws.{length-node}
 use Rattle.free_nodes.specs.NodeSet.{nodesOf}
-use Rattle.updates.specs.UpdateLaws.{Landed, landed}
+use Rattle.updates.proofs.UpdateLaws.{Landed, landed}
 use Rattle.updates.specs.Updates.{landing, noChange, changeIn, changeAt}
 use borrow.Author.Needs.{needs}
 use Rattle.updates.proofs.change_at.Statement.{statement}

@@ -10,7 +10,7 @@ use Rattle.updates.specs.Results.{firstOf}
 use Rattle.updates.specs.Updates.{deleteChange}
 use Rattle.state.specs.declared.Answer.the-variants.{Absent, Value}
 use Rattle.state.specs.declared.Doing.the-variants.{Deleting}
-use Rattle.descent.specs.DescentLaws.{slot-below as slot-few}
+use Rattle.descent.proofs.DescentLaws.{slot-below as slot-few}
 use borrow.Author.Needs.{needs}
 use Rattle.updates.proofs.delete_in.Statement.{statement}
 use Rattle.updates.proofs.delete_in.Tie as tie

@@ -11,7 +11,7 @@ use Rattle.updates.specs.Updates.{reasonIn, insertReason, insertChange}
 use Rattle.state.specs.declared.Answer.the-variants.{Value}
 use Rattle.state.specs.declared.Doing.the-variants.{Inserting}
 use Rattle.descent.specs.declared.Slot.{Slot}
-use Rattle.descent.specs.DescentLaws.{slot-below as slot-few}
+use Rattle.descent.proofs.DescentLaws.{slot-below as slot-few}
 use borrow.Author.Needs.{needs}
 use Rattle.updates.proofs.insert_in.Statement.{statement}
 use Rattle.updates.proofs.insert_in.Tie as tie

@@ -5,12 +5,12 @@ use Prim.Native.Nat.{_<_}
 use Rattle.plans.specs.Planning.{Preparation}
 use Rattle.free_nodes.specs.NodeSet.{nodesOf}
 use Rattle.updates.specs.Results.{firstOf}
-use Rattle.updates.specs.UpdateLaws.{leaf-full}
+use Rattle.updates.proofs.UpdateLaws.{leaf-full}
 use Rattle.updates.specs.Updates.{emptyReason, insertChange}
 use Rattle.state.specs.declared.Answer.the-variants.{Absent}
 use Rattle.state.specs.declared.Doing.the-variants.{Inserting}
 use Rattle.descent.specs.declared.Slot.{Slot}
-use Rattle.descent.specs.DescentLaws.{slot-below as slot-few}
+use Rattle.descent.proofs.DescentLaws.{slot-below as slot-few}
 use borrow.Author.Needs.{needs}
 use Rattle.updates.proofs.insert_new.Statement.{statement}
 use Rattle.updates.proofs.insert_new.Tie as tie

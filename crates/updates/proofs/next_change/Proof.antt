@@ -1,7 +1,7 @@
 -- `updates::next_change` meets its contract.
 use mathlib.Core.Path.{ap, sym, _∙_}
 use Rattle.free_nodes.specs.NodeSet.{nodesOf}
-use Rattle.updates.specs.UpdateLaws.{next-insert, next-delete}
+use Rattle.updates.proofs.UpdateLaws.{next-insert, next-delete}
 use Rattle.updates.specs.Updates.{noChange, nextChange}
 use borrow.Author.Needs.{needs}
 use Rattle.updates.proofs.next_change.Statement.{statement}

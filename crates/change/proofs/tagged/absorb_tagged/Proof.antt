@@ -6,9 +6,9 @@ use native.Mathlib.Omega.{arith}
 use lib.ListN.{length}
 use borrow.Author.Needs.{needs}
 use Rattle.free_nodes.specs.NodeSet.{wordCount, nodesOf}
-use Rattle.plans.specs.ChangeLaws.{planned-absorb}
-use Rattle.plans.specs.NumberLaws.{Given, one-given, take-none, take-one, giving-none}
-use Rattle.plans.specs.PlanLaws.{none-planned}
+use Rattle.plans.proofs.ChangeLaws.{planned-absorb}
+use Rattle.plans.proofs.NumberLaws.{Given, one-given, take-none, take-one, giving-none}
+use Rattle.plans.proofs.PlanLaws.{none-planned}
 use Rattle.plans.specs.Planning.{takeNumbers}
 use Rattle.change.proofs.tagged.absorb_tagged.Statement.{statement}
 use Rattle.change.proofs.tagged.absorb_tagged.Tie as tie

@@ -1,7 +1,7 @@
 -- `change::tagged::cut_tagged` meets its contract.
 use native.Mathlib.Omega.{arith}
 use borrow.Author.Needs.{needs}
-use Rattle.plans.specs.ChangeLaws.{cut-two}
+use Rattle.plans.proofs.ChangeLaws.{cut-two}
 use Rattle.change.proofs.tagged.cut_tagged.Statement.{statement}
 use Rattle.change.proofs.tagged.cut_tagged.Tie as tie
 

@@ -3,8 +3,8 @@ use mathlib.Core.Path.{ap}
 use native.Mathlib.Omega.{arith}
 use lib.ListN.{length}
 use borrow.Author.Needs.{needs}
-use Rattle.card.specs.NodeLaws.{children-le}
-use Rattle.plans.specs.ChangeLaws.{children-joined}
+use Rattle.card.proofs.NodeLaws.{children-le}
+use Rattle.plans.proofs.ChangeLaws.{children-joined}
 use Rattle.change.proofs.tagged.joined_children.Statement.{statement}
 use Rattle.change.proofs.tagged.joined_children.Tie as tie
 

@@ -3,8 +3,8 @@ use mathlib.Core.Path.{ap}
 use native.Mathlib.Omega.{arith}
 use lib.ListN.{length}
 use borrow.Author.Needs.{needs}
-use Rattle.card.specs.NodeLaws.{children-le, length-routing}
-use Rattle.plans.specs.ChangeLaws.{keys-joined}
+use Rattle.card.proofs.NodeLaws.{children-le, length-routing}
+use Rattle.plans.proofs.ChangeLaws.{keys-joined}
 use Rattle.change.proofs.tagged.joined_keys.Statement.{statement}
 use Rattle.change.proofs.tagged.joined_keys.Tie as tie
 

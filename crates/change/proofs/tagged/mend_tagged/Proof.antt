@@ -4,10 +4,10 @@ use mathlib.Core.Path.{sym, ap₂, _∙_}
 use Prim.Native.Nat.{ℕ}
 use native.Mathlib.Omega.{arith}
 use borrow.Author.Needs.{needs}
-use Rattle.card.specs.NodeLaws.{children-le}
+use Rattle.card.proofs.NodeLaws.{children-le}
 use Rattle.free_nodes.specs.NodeSet.{nodesOf}
 use Rattle.plans.specs.Change.{absorb, splitParent}
-use Rattle.change.specs.MendLaws.{tagged-refused, tagged-absorbed, tagged-split}
+use Rattle.change.proofs.MendLaws.{tagged-refused, tagged-absorbed, tagged-split}
 use Rattle.plans.specs.Planning.{giving, first, second, third}
 use Rattle.change.proofs.tagged.mend_tagged.Statement.{statement}
 use Rattle.change.proofs.tagged.mend_tagged.Tie as tie

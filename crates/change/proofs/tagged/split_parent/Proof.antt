@@ -3,9 +3,9 @@ use mathlib.Core.Path.{_≡_, _∙_}
 use native.Mathlib.Omega.{arith}
 use lib.ListN.{length}
 use borrow.Author.Needs.{needs}
-use Rattle.plans.specs.ChangeLaws.{split-parent}
+use Rattle.plans.proofs.ChangeLaws.{split-parent}
 use Rattle.plans.specs.Plan.{togetherOf}
-use Rattle.plans.specs.RowLaws.{length-words}
+use Rattle.plans.proofs.RowLaws.{length-words}
 use Rattle.plans.specs.Rows.{wordsOf}
 use Rattle.change.proofs.tagged.split_parent.Statement.{statement}
 use Rattle.change.proofs.tagged.split_parent.Tie as tie

@@ -3,9 +3,9 @@ use mathlib.Core.List.{List}
 use native.Mathlib.Omega.{arith}
 use lib.ListN.{length, drop}
 use Rattle.card.specs.Layout.{kindOf, children, leafPairs}
-use Rattle.card.specs.NodeLaws.{length-node, children-le}
+use Rattle.card.proofs.NodeLaws.{length-node, children-le}
 use Rattle.listing.specs.Listing.{childPairs, pairsFrom, laid, layPairs}
-use Rattle.listing.specs.ListingLaws.{lay-none, children-next, children-end, from-nothing, from-outside, from-leaf, from-deep, from-inner}
+use Rattle.listing.proofs.ListingLaws.{lay-none, children-next, children-end, from-nothing, from-outside, from-leaf, from-deep, from-inner}
 use borrow.Author.Needs.{needs}
 use Prim.Native.Nat.{ℕ, _+_, _-_, _≤_, _<_}
 use borrow.Fn.Kinds.{In}

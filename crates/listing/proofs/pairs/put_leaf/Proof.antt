@@ -5,7 +5,7 @@ use native.Mathlib.Omega.{arith}
 use lib.ListN.{length}
 use Rattle.card.specs.Layout.{leafPairs}
 use Rattle.listing.specs.Listing.{laid, layPairs}
-use Rattle.listing.specs.ListingLaws.{pairsAfter, leaf-start, leaf-next, leaf-end, lay-none}
+use Rattle.listing.proofs.ListingLaws.{pairsAfter, leaf-start, leaf-next, leaf-end, lay-none}
 use borrow.Author.Needs.{needs}
 use Rattle.listing.proofs.pairs.put_leaf.Statement.{statement}
 use Rattle.listing.proofs.pairs.put_leaf.Tie as tie

@@ -1,7 +1,7 @@
 use Prim.Native.Nat.{_-_, _≤_}
 use native.Mathlib.Omega.{arith}
 use lib.ListN.{length, length-set}
-use Rattle.listing.specs.ListingLaws.{slot-empty, slot-short, slot-stored}
+use Rattle.listing.proofs.ListingLaws.{slot-empty, slot-short, slot-stored}
 use borrow.Author.Needs.{needs}
 use Rattle.listing.proofs.pairs.put_slot.Statement.{statement}
 use Rattle.listing.proofs.pairs.put_slot.Tie as tie

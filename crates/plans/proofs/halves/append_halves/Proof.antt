@@ -4,7 +4,7 @@ use Prim.Native.Nat.{ℕ, _+_, _/_, _≤_}
 use native.Mathlib.Omega.{arith}
 use lib.ListN.{length}
 use borrow.Author.Needs.{needs}
-use Rattle.plans.specs.ChangeLaws.{keys-range, halves-planned}
+use Rattle.plans.proofs.ChangeLaws.{keys-range, halves-planned}
 use Rattle.plans.proofs.halves.append_halves.Statement.{statement}
 use Rattle.plans.proofs.halves.append_halves.Tie as tie
 

@@ -3,7 +3,7 @@ use mathlib.Core.Path.{_≡_, _∙_}
 use native.Mathlib.Omega.{arith}
 use lib.ListN.{length}
 use borrow.Author.Needs.{needs}
-use Rattle.plans.specs.ChangeLaws.{keys-range, between-is}
+use Rattle.plans.proofs.ChangeLaws.{keys-range, between-is}
 use Rattle.plans.proofs.halves.key_between.Statement.{statement}
 use Rattle.plans.proofs.halves.key_between.Tie as tie
 

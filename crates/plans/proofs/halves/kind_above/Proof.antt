@@ -1,5 +1,5 @@
 -- `plans::halves::kind_above` meets its contract.
-use Rattle.plans.specs.ChangeLaws.{kind-root, kind-other}
+use Rattle.plans.proofs.ChangeLaws.{kind-root, kind-other}
 use Rattle.plans.proofs.halves.kind_above.Statement.{statement}
 use Rattle.plans.proofs.halves.kind_above.Tie as tie
 

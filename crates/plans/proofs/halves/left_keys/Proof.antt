@@ -1,6 +1,6 @@
 -- `plans::halves::left_keys` meets its contract.
 use borrow.Author.Needs.{needs}
-use Rattle.plans.specs.ChangeLaws.{keys-leaf, keys-inner}
+use Rattle.plans.proofs.ChangeLaws.{keys-leaf, keys-inner}
 use Rattle.plans.proofs.halves.left_keys.Statement.{statement}
 use Rattle.plans.proofs.halves.left_keys.Tie as tie
 

@@ -6,10 +6,10 @@ use native.Mathlib.Omega.{arith}
 use lib.ListN.{length}
 use borrow.Author.Needs.{needs}
 use Rattle.free_nodes.specs.NodeSet.{wordCount, nodesOf}
-use Rattle.plans.specs.ChangeLaws.{planned-split}
-use Rattle.plans.specs.NumberLaws.{Given, three-given, giving-none}
+use Rattle.plans.proofs.ChangeLaws.{planned-split}
+use Rattle.plans.proofs.NumberLaws.{Given, three-given, giving-none}
 use Rattle.plans.specs.Plan.{threeOf, togetherOf}
-use Rattle.plans.specs.PlanLaws.{none-planned}
+use Rattle.plans.proofs.PlanLaws.{none-planned}
 use Rattle.plans.specs.Planning.{takeNumbers}
 use Rattle.plans.proofs.halves.split.Statement.{statement}
 use Rattle.plans.proofs.halves.split.Tie as tie

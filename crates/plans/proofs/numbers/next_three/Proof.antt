@@ -4,8 +4,8 @@ use native.Mathlib.Omega.{arith}
 use lib.ListN.{length}
 use borrow.Author.Needs.{needs}
 use Rattle.free_nodes.specs.NodeSet.{wordCount, nodesOf}
-use Rattle.free_nodes.specs.NodeSetLaws.{length-nodes, next-found}
-use Rattle.plans.specs.NumberLaws.{take-none, take-short, take-more}
+use Rattle.free_nodes.proofs.NodeSetLaws.{length-nodes, next-found}
+use Rattle.plans.proofs.NumberLaws.{take-none, take-short, take-more}
 use Rattle.plans.specs.Plan.{twoOf, threeOf}
 use Rattle.plans.proofs.numbers.next_three.Statement.{statement}
 use Rattle.plans.proofs.numbers.next_three.Tie as tie

@@ -4,8 +4,8 @@ use native.Mathlib.Omega.{arith}
 use lib.ListN.{length}
 use borrow.Author.Needs.{needs}
 use Rattle.free_nodes.specs.NodeSet.{wordCount, nodesOf}
-use Rattle.free_nodes.specs.NodeSetLaws.{length-nodes, next-found}
-use Rattle.plans.specs.NumberLaws.{take-none, take-short, take-more, take-one}
+use Rattle.free_nodes.proofs.NodeSetLaws.{length-nodes, next-found}
+use Rattle.plans.proofs.NumberLaws.{take-none, take-short, take-more, take-one}
 use Rattle.plans.specs.Plan.{twoOf}
 use Rattle.plans.proofs.numbers.next_two.Statement.{statement}
 use Rattle.plans.proofs.numbers.next_two.Tie as tie

@@ -4,8 +4,8 @@ use Prim.Native.Nat.{_≤_}
 use native.Mathlib.Omega.{arith}
 use lib.ListN.{length}
 use borrow.Author.Needs.{needs}
-use Rattle.plans.specs.PlanLaws.{extends-node}
-use Rattle.plans.specs.RowLaws.{length-words}
+use Rattle.plans.proofs.PlanLaws.{extends-node}
+use Rattle.plans.proofs.RowLaws.{length-words}
 use Rattle.plans.specs.Rows.{wordsOf}
 use Rattle.plans.proofs.stores.append_node.Statement.{statement}
 use Rattle.plans.proofs.stores.append_node.Tie as tie

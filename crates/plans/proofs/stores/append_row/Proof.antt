@@ -5,11 +5,12 @@ use native.Mathlib.Omega.{arith}
 use lib.ListN.{length, take}
 use lib.Seq.{take-all}
 use borrow.Author.Needs.{needs}
-use Rattle.laws.specs.Lists.{pad, length-pad}
+use Rattle.laws.specs.Lists.{pad}
+use Rattle.laws.proofs.Lists.{length-pad}
 use Rattle.card.specs.Stores.{stores}
 use Rattle.plans.specs.Plan.{planIn, Extends}
-use Rattle.plans.specs.PlanLaws.{extends-none, extends-row}
-use Rattle.plans.specs.RowLaws.{length-words}
+use Rattle.plans.proofs.PlanLaws.{extends-none, extends-row}
+use Rattle.plans.proofs.RowLaws.{length-words}
 use Rattle.plans.specs.Rows.{wordsOf}
 use Rattle.plans.proofs.stores.append_row.Statement.{statement}
 use Rattle.plans.proofs.stores.append_row.Tie as tie

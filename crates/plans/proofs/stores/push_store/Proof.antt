@@ -1,7 +1,7 @@
 -- `plans::stores::push_store` meets its contract.
 use borrow.Author.Needs.{needs}
 use Rattle.plans.specs.Plan.{planIn}
-use Rattle.plans.specs.PlanLaws.{extends-store}
+use Rattle.plans.proofs.PlanLaws.{extends-store}
 use Rattle.plans.proofs.stores.push_store.Statement.{statement}
 use Rattle.plans.proofs.stores.push_store.Tie as tie
 

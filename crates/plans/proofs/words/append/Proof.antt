@@ -4,7 +4,7 @@ use Prim.Native.Nat.{_+_, _-_, _≤_}
 use native.Mathlib.Omega.{arith}
 use lib.ListN.{length, take}
 use borrow.Author.Needs.{needs}
-use Rattle.plans.specs.RowLaws.{row-append, row-same, row-all}
+use Rattle.plans.proofs.RowLaws.{row-append, row-same, row-all}
 use Rattle.plans.specs.Rows.{wordsOf, Row}
 use Rattle.plans.proofs.words.append.Statement.{statement}
 use Rattle.plans.proofs.words.append.Tie as tie

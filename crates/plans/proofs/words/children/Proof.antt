@@ -2,8 +2,8 @@
 use Prim.Native.Nat.{_≤_}
 use native.Mathlib.Omega.{arith}
 use borrow.Author.Needs.{needs}
-use Rattle.card.specs.NodeLaws.{children-le}
-use Rattle.plans.specs.RowLaws.{children-part}
+use Rattle.card.proofs.NodeLaws.{children-le}
+use Rattle.plans.proofs.RowLaws.{children-part}
 use Rattle.plans.proofs.words.children.Statement.{statement}
 use Rattle.plans.proofs.words.children.Tie as tie
 

@@ -1,6 +1,6 @@
 -- `plans::words::first_words` meets its contract.
 use borrow.Author.Needs.{needs}
-use Rattle.plans.specs.RowLaws.{row-first}
+use Rattle.plans.proofs.RowLaws.{row-first}
 use Rattle.plans.proofs.words.first_words.Statement.{statement}
 use Rattle.plans.proofs.words.first_words.Tie as tie
 

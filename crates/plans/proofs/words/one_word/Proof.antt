@@ -1,6 +1,6 @@
 -- `plans::words::one_word` meets its contract.
 use borrow.Author.Needs.{needs}
-use Rattle.plans.specs.RowLaws.{row-then}
+use Rattle.plans.proofs.RowLaws.{row-then}
 use Rattle.plans.proofs.words.one_word.Statement.{statement}
 use Rattle.plans.proofs.words.one_word.Tie as tie
 

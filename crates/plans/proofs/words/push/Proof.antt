@@ -2,7 +2,7 @@
 use mathlib.Core.Path.{_≡_}
 use lib.ListN.{length}
 use borrow.Author.Needs.{needs}
-use Rattle.plans.specs.RowLaws.{row-push}
+use Rattle.plans.proofs.RowLaws.{row-push}
 use Rattle.plans.proofs.words.push.Statement.{statement}
 use Rattle.plans.proofs.words.push.Tie as tie
 

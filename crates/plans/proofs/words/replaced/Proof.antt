@@ -3,7 +3,7 @@ use mathlib.Core.Path.{_≡_}
 use native.Mathlib.Omega.{arith}
 use lib.ListN.{length}
 use borrow.Author.Needs.{needs}
-use Rattle.plans.specs.RowLaws.{row-replaced}
+use Rattle.plans.proofs.RowLaws.{row-replaced}
 use Rattle.plans.proofs.words.replaced.Statement.{statement}
 use Rattle.plans.proofs.words.replaced.Tie as tie
 

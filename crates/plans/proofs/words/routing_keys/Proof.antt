@@ -3,7 +3,7 @@ use mathlib.Core.Path.{sym}
 use Prim.Native.Nat.{_≤_}
 use native.Mathlib.Omega.{arith}
 use borrow.Author.Needs.{needs}
-use Rattle.card.specs.NodeLaws.{children-le, routing-words}
+use Rattle.card.proofs.NodeLaws.{children-le, routing-words}
 use Rattle.plans.proofs.words.routing_keys.Statement.{statement}
 use Rattle.plans.proofs.words.routing_keys.Tie as tie
 

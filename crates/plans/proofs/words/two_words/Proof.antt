@@ -1,6 +1,6 @@
 -- `plans::words::two_words` meets its contract.
 use borrow.Author.Needs.{needs}
-use Rattle.plans.specs.RowLaws.{row-then}
+use Rattle.plans.proofs.RowLaws.{row-then}
 use Rattle.plans.proofs.words.two_words.Statement.{statement}
 use Rattle.plans.proofs.words.two_words.Tie as tie
 

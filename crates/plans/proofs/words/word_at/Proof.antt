@@ -1,7 +1,7 @@
 -- `plans::words::word_at` meets its contract.
 use native.Mathlib.Omega.{arith}
 use borrow.Author.Needs.{needs}
-use Rattle.plans.specs.RowLaws.{word-within, word-past}
+use Rattle.plans.proofs.RowLaws.{word-within, word-past}
 use Rattle.plans.proofs.words.word_at.Statement.{statement}
 use Rattle.plans.proofs.words.word_at.Tie as tie
 

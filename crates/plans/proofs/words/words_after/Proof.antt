@@ -2,7 +2,7 @@
 use mathlib.Core.Path.{_≡_}
 use lib.ListN.{length}
 use borrow.Author.Needs.{needs}
-use Rattle.plans.specs.RowLaws.{row-after}
+use Rattle.plans.proofs.RowLaws.{row-after}
 use Rattle.plans.proofs.words.words_after.Statement.{statement}
 use Rattle.plans.proofs.words.words_after.Tie as tie
 

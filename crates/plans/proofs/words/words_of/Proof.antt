@@ -1,7 +1,7 @@
 -- `plans::words::words_of` meets its contract.
 use native.Mathlib.Omega.{arith}
 use borrow.Author.Needs.{needs}
-use Rattle.plans.specs.RowLaws.{row-then-part}
+use Rattle.plans.proofs.RowLaws.{row-then-part}
 use Rattle.plans.proofs.words.words_of.Statement.{statement}
 use Rattle.plans.proofs.words.words_of.Tie as tie
 

@@ -5,8 +5,8 @@ use native.Mathlib.Omega.{arith}
 use lib.ListN.{length, getD}
 use borrow.Author.Tests.{not-true, not-false}
 use borrow.Author.Needs.{needs}
-use Rattle.card.specs.NodeLaws.{length-node}
-use Rattle.soundness.specs.CheckLaws.{reached, enter-zero, enter-beyond, enter-again, enter-last-word, enter-new}
+use Rattle.card.proofs.NodeLaws.{length-node}
+use Rattle.soundness.proofs.CheckLaws.{reached, enter-zero, enter-beyond, enter-again, enter-last-word, enter-new}
 use Rattle.soundness.specs.Check.{entryOf, lookOf, findingsOf}
 use Rattle.soundness.proofs.entering.enter.Statement.{statement}
 use Rattle.soundness.proofs.entering.enter.Tie as tie

@@ -2,8 +2,8 @@ use mathlib.Core.Path.{sym, _∙_}
 use native.Mathlib.Omega.{arith}
 use borrow.Author.Tests.{not-true, not-false}
 use borrow.Author.Needs.{needs}
-use Rattle.card.specs.NodeLaws.{children-le}
-use Rattle.soundness.specs.CheckLaws.{enter-inner-none, enter-inner-unused, enter-tagged-root, enter-tagged-count, enter-tagged, enter-single-root, enter-single, enter-several}
+use Rattle.card.proofs.NodeLaws.{children-le}
+use Rattle.soundness.proofs.CheckLaws.{enter-inner-none, enter-inner-unused, enter-tagged-root, enter-tagged-count, enter-tagged, enter-single-root, enter-single, enter-several}
 use Rattle.soundness.specs.Check.{entryOf, lookOf, findingsOf}
 use Rattle.soundness.proofs.entering.enter_inner.Statement.{statement}
 use Rattle.soundness.proofs.entering.enter_inner.Tie as tie

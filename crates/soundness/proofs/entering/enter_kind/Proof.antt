@@ -1,7 +1,7 @@
 use mathlib.Core.Path.{sym, _∙_}
 use native.Mathlib.Omega.{arith}
 use borrow.Author.Needs.{needs}
-use Rattle.soundness.specs.CheckLaws.{enter-kind-leaf, enter-kind-internal, enter-kind-tagged, enter-kind-none}
+use Rattle.soundness.proofs.CheckLaws.{enter-kind-leaf, enter-kind-internal, enter-kind-tagged, enter-kind-none}
 use Rattle.soundness.specs.Check.{entryOf, lookOf, findingsOf}
 use Rattle.soundness.proofs.entering.enter_kind.Statement.{statement}
 use Rattle.soundness.proofs.entering.enter_kind.Tie as tie

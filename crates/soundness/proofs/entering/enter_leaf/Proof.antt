@@ -1,7 +1,7 @@
 use mathlib.Core.Path.{sym, _∙_}
 use borrow.Author.Tests.{not-true, not-false}
 use borrow.Author.Needs.{needs}
-use Rattle.soundness.specs.CheckLaws.{enter-leaf-unsound, enter-leaf-root, enter-leaf-empty, enter-leaf-few, enter-leaf-enough}
+use Rattle.soundness.proofs.CheckLaws.{enter-leaf-unsound, enter-leaf-root, enter-leaf-empty, enter-leaf-few, enter-leaf-enough}
 use Rattle.soundness.specs.Check.{entryOf, lookOf, findingsOf}
 use Rattle.soundness.proofs.entering.enter_leaf.Statement.{statement}
 use Rattle.soundness.proofs.entering.enter_leaf.Tie as tie

@@ -4,7 +4,7 @@ use native.Mathlib.Omega.{arith}
 use lib.ListN.{getD, drop}
 use borrow.Author.Needs.{needs}
 use Rattle.card.specs.Layout.{keyWords}
-use Rattle.soundness.specs.CheckLaws.{member-here, member-next, member-end}
+use Rattle.soundness.proofs.CheckLaws.{member-here, member-next, member-end}
 use Rattle.soundness.specs.Check.{member}
 use Rattle.soundness.proofs.leaves.is_repeated.Statement.{statement}
 use Rattle.soundness.proofs.leaves.is_repeated.Tie as tie

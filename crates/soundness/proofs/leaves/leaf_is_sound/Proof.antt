@@ -5,7 +5,7 @@ use lib.ListN.{drop}
 use borrow.Author.Tests.{not-true, not-false}
 use borrow.Author.Needs.{needs}
 use Rattle.card.specs.Layout.{keyWords}
-use Rattle.soundness.specs.CheckLaws.{leaf-stop, leaf-next, leaf-end}
+use Rattle.soundness.proofs.CheckLaws.{leaf-stop, leaf-next, leaf-end}
 use Rattle.soundness.specs.Check.{leafSound}
 use Rattle.soundness.proofs.leaves.leaf_is_sound.Statement.{statement}
 use Rattle.soundness.proofs.leaves.leaf_is_sound.Tie as tie

@@ -2,7 +2,7 @@ use mathlib.Core.Bool.{not}
 use mathlib.Core.Path.{sym, ap, _∙_}
 use native.Mathlib.Omega.{arith}
 use borrow.Author.Needs.{needs}
-use Rattle.soundness.specs.CheckLaws.{slot-empty, slot-below, slot-above, slot-within}
+use Rattle.soundness.proofs.CheckLaws.{slot-empty, slot-below, slot-above, slot-within}
 use Rattle.soundness.proofs.leaves.slot_is_sound.Statement.{statement}
 use Rattle.soundness.proofs.leaves.slot_is_sound.Tie as tie
 

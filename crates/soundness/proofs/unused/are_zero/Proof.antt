@@ -5,7 +5,7 @@ use lib.Seq.{slice}
 use lib.ListN.{length}
 use borrow.Author.Needs.{needs}
 use Rattle.laws.specs.Lists.{all-zero}
-use Rattle.soundness.specs.CheckLaws.{zero-stop, zero-next, zero-end}
+use Rattle.soundness.proofs.CheckLaws.{zero-stop, zero-next, zero-end}
 use Rattle.soundness.proofs.unused.are_zero.Statement.{statement}
 use Rattle.soundness.proofs.unused.are_zero.Tie as tie
 

@@ -1,7 +1,7 @@
 use mathlib.Core.Path.{sym, _∙_}
 use borrow.Author.Tests.{not-true, not-false}
 use borrow.Author.Needs.{needs}
-use Rattle.soundness.specs.CheckLaws.{unused-keys, unused-values}
+use Rattle.soundness.proofs.CheckLaws.{unused-keys, unused-values}
 use Rattle.soundness.proofs.unused.unused_is_zero.Statement.{statement}
 use Rattle.soundness.proofs.unused.unused_is_zero.Tie as tie
 

@@ -2,7 +2,7 @@
 use mathlib.Core.Path.{_≡_, ap, sym}
 use native.Mathlib.Omega.{arith}
 use Rattle.state.specs.Steps.{formattedWord}
-use Rattle.state.specs.StepLaws.{word-other}
+use Rattle.state.proofs.StepLaws.{word-other}
 use borrow.Author.Needs.{needs}
 use Rattle.state.proofs.formatting.formatted_word.Statement.{statement}
 use Rattle.state.proofs.formatting.formatted_word.Tie as tie

@@ -6,7 +6,7 @@ use lib.ListN.{length, set}
 use Rattle.state.specs.Steps.{stepFinal, formatting, stepFormat}
 use Rattle.state.specs.Memory.{Memory, memoryOf}
 use Rattle.state.specs.Results.{stepLeft}
-use Rattle.state.specs.StepLaws.{format-first, format-middle, format-last, format-end, final-ready, stored-no-refusal}
+use Rattle.state.proofs.StepLaws.{format-first, format-middle, format-last, format-end, final-ready, stored-no-refusal}
 use Rattle.state.specs.declared.Answer.the-variants.{Ready, Stored}
 use Rattle.state.specs.declared.Answer.{Answer}
 use borrow.Author.Needs.{needs}

@@ -6,7 +6,7 @@ use Prim.Native.Nat.{_+_}
 use lib.ListN.{length, drop}
 use Rattle.plans.specs.Plan.{storesOf}
 use Rattle.state.specs.Memory.{memoryOf}
-use Rattle.state.specs.StepLaws.{store-at, more-below, more-none, advance-on, advance-last}
+use Rattle.state.proofs.StepLaws.{store-at, more-below, more-none, advance-on, advance-last}
 use borrow.Author.Needs.{needs}
 use Rattle.state.proofs.playing.advance.Statement.{statement}
 use Rattle.state.proofs.playing.advance.Tie as tie

@@ -3,7 +3,7 @@ use borrow.Author.Needs.{needs}
 use mathlib.Core.Path.{_≡_, sym}
 use native.Mathlib.Omega.{arith}
 use lib.ListN.{length}
-use Rattle.state.specs.StepLaws.{more-full, more-test}
+use Rattle.state.proofs.StepLaws.{more-full, more-test}
 use Rattle.state.proofs.playing.in_hand.Statement.{statement}
 use Rattle.state.proofs.playing.in_hand.Tie as tie
 

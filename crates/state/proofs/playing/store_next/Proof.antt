@@ -8,7 +8,7 @@ use Rattle.plans.specs.Plan.{storesOf}
 use Rattle.state.specs.Steps.{stepRefused}
 use Rattle.state.specs.Memory.{Memory, memoryOf}
 use Rattle.state.specs.Results.{stepLeft}
-use Rattle.state.specs.StepLaws.{store-at, more-below, more-none, first-none, first-outside, first-stored, stored-no-refusal}
+use Rattle.state.proofs.StepLaws.{store-at, more-below, more-none, first-none, first-outside, first-stored, stored-no-refusal}
 use Rattle.state.specs.declared.Answer.the-variants.{Stored}
 use borrow.Author.Needs.{needs}
 use Rattle.state.proofs.playing.store_next.Statement.{statement}

@@ -8,7 +8,7 @@ use lib.ListN.{length, drop}
 use Rattle.plans.specs.Planning.{withAll}
 use Rattle.free_nodes.specs.NodeSet.{nodesOf}
 use Rattle.laws.specs.Lists.{before-zero}
-use Rattle.state.specs.StepLaws.{cut-end, cut-zero, cut-next, no-cut}
+use Rattle.state.proofs.StepLaws.{cut-end, cut-zero, cut-next, no-cut}
 use borrow.Author.Needs.{needs}
 use Rattle.state.proofs.playing.with_cut.Statement.{statement}
 use Rattle.state.proofs.playing.with_cut.Tie as tie

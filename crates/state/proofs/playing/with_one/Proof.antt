@@ -5,7 +5,7 @@ use native.Mathlib.Omega.{arith}
 use lib.ListN.{length}
 use lib.Seq.{set-out}
 use Rattle.free_nodes.specs.NodeSet.{nodesOf}
-use Rattle.free_nodes.specs.NodeSetLaws.{length-nodes}
+use Rattle.free_nodes.proofs.NodeSetLaws.{length-nodes}
 use borrow.Author.Needs.{needs}
 use Rattle.state.proofs.playing.with_one.Statement.{statement}
 use Rattle.state.proofs.playing.with_one.Tie as tie

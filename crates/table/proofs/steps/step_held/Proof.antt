@@ -3,7 +3,7 @@ use mathlib.Core.Path.{refl, sym, _∙_}
 use Rattle.state.specs.Steps.{stepRefused}
 use Rattle.state.specs.Memory.{memoryOf}
 use Rattle.state.specs.Results.{stepLeft}
-use Rattle.table.specs.StepLaws.{held-refused, held-idle, held-store, held-plan}
+use Rattle.table.proofs.StepLaws.{held-refused, held-idle, held-store, held-plan}
 use borrow.Author.Needs.{needs}
 use Rattle.table.proofs.steps.step_held.Statement.{statement}
 use Rattle.table.proofs.steps.step_held.Tie as tie

@@ -4,7 +4,7 @@ use Rattle.free_nodes.specs.NodeSet.{nodesOf}
 use Rattle.table.specs.Calls.{stepBegin, stepPlan}
 use Rattle.state.specs.Memory.{memoryOf}
 use Rattle.updates.specs.Results.{firstOf}
-use Rattle.updates.specs.UpdateLaws.{next-final}
+use Rattle.updates.proofs.UpdateLaws.{next-final}
 use Rattle.updates.specs.Updates.{FirstChange}
 use borrow.Author.Needs.{needs}
 use Rattle.table.proofs.steps.step_plan.Statement.{statement}

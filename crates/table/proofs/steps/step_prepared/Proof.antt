@@ -11,7 +11,7 @@ use Rattle.state.specs.Steps.{stepRefused, stepFinal, stepFirst}
 use Rattle.table.specs.Calls.{planning, stepPrepared}
 use Rattle.state.specs.Memory.{Memory, memoryOf}
 use Rattle.state.specs.Results.{stepLeft}
-use Rattle.state.specs.StepLaws.{first-same}
+use Rattle.state.proofs.StepLaws.{first-same}
 use borrow.Author.Needs.{needs}
 use Rattle.table.proofs.steps.step_prepared.Statement.{statement}
 use Rattle.table.proofs.steps.step_prepared.Tie as tie

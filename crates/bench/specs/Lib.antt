@@ -1,2 +1,0 @@
-pub mod Cards
-mod Instance

@@ -1,0 +1,140 @@
+-- Laws of the steps that are played in place: one for each branch of the code.
+use mathlib.Core.Path.{_≡_, refl, sym, ap, _∙_}
+use mathlib.Core.Bool.{true, false}
+use mathlib.Core.List.{List, [], _∷_}
+use Prim.Native.Nat.{ℕ, zero, suc, _+_, _≤_, _<_}
+use native.Mathlib.Omega.{arith}
+use native.Mathlib.Numerals.{add-one}
+use lib.ListN.{length, getD, drop, set, length-take, length-drop}
+use lib.Seq.{getD-take, getD-drop}
+use lib.Dec.{ltb}
+use borrow.Author.Tests.{lt-ltb, eq-eqb}
+use Rattle.laws.specs.Lists.{before-zero}
+use Rattle.card.specs.Header.{headerRefusal}
+use Rattle.card.specs.Stores.{Store}
+use Rattle.plans.specs.Plan.{storesOf}
+use Rattle.plans.specs.Planning.{withAll}
+use Rattle.state.specs.Memory.{Memory, memoryOf, advanced}
+use Rattle.state.specs.Steps.{formatting, formatStore, stepFormat, stepStore, isIdle}
+use Rattle.table.specs.Calls.{stepWork, stepHeld, stepDoing}
+use Rattle.state.specs.Results.{more}
+use Rattle.state.proofs.StepLaws.{store-at, more-full, more-test, more-below, more-none, cut-end, cut-zero, cut-next, no-cut, advance-on, advance-last, format-middle, word-other}
+use Rattle.state.specs.declared.Answer.the-variants.{Stored}
+use Rattle.state_block.specs.Block.{stateWords, word, part, doingIn, unpacked, memoryIn}
+use Rattle.state_block.specs.InPlace.{withFree, withCut}
+use Rattle.state_block.proofs.InPlace.{withRest, memory-made, memory-formatting}
+
+part-length : (block : List ℕ) (from n : ℕ) → from + n ≤ length block → length (part block from n) ≡ n
+part-length block from n h = omega (arith, length-take n (drop from block), length-drop from block)
+
+part-word : (block : List ℕ) (from n i : ℕ) → i < n → getD (part block from n) i 0 ≡ word block (from + i)
+part-word block from n i h = getD-take n (drop from block) i 0 h ∙ getD-drop from block i 0
+
+-- ---- "Nodes cut out of the tree are free after the store that cuts them out": those from the i-th on are still to be freed
+
+unfoldable pub leftToFree : List ℕ → ℕ → Memory
+leftToFree block i = withFree (memoryIn block) (withAll (before-zero (drop i (part block 8 3))) (memoryIn block .free))
+
+pub free-all : (block : List ℕ) → leftToFree block 0 ≡ withFree (memoryIn block) (withAll (memoryIn block .cut) (memoryIn block .free))
+unfolding leftToFree memoryOf unpacked
+free-all block = refl
+
+module _ (block : List ℕ) (l : length block ≡ stateWords) where
+  free-done : (i : ℕ) → before-zero (drop i (part block 8 3)) ≡ [] → leftToFree block i ≡ memoryIn block
+  unfolding leftToFree withFree
+  free-done i e = ap (λ (ms : List ℕ). withFree (memoryIn block) (withAll ms (memoryIn block .free))) e ∙ ap (withFree (memoryIn block)) (no-cut (memoryIn block .free))
+
+  pub free-end : (i : ℕ) → 3 ≤ i → leftToFree block i ≡ memoryIn block
+  free-end i h = free-done i (cut-end (part block 8 3) i (omega (arith, part-length block 8 3 (omega arith))))
+
+  module _ (i : ℕ) (h : i < 3) where
+    pub free-zero : word block (8 + i) ≡ 0 → leftToFree block i ≡ memoryIn block
+    free-zero z = free-done i (cut-zero (part block 8 3) i (omega (arith, part-length block 8 3 (omega arith))) (part-word block 8 3 i h ∙ z))
+
+    pub free-next : (after : List ℕ) (m : ℕ) → m ≡ word block (8 + i) → (m ≡ 0 → ⊥) → memoryIn after ≡ withFree (memoryIn block) (set (memoryIn block .free) m true) → part after 8 3 ≡ part block 8 3 → leftToFree after (i + 1) ≡ leftToFree block i
+    unfolding leftToFree withFree
+    free-next after m e p f g =
+        let s : getD (part block 8 3) i 0 ≡ m = part-word block 8 3 i h ∙ sym e in
+        rw (f, g) (ap (withFree (memoryIn block)) (sym (rw s at (cut-next (part block 8 3) i (memoryIn block .free) (omega (arith, part-length block 8 3 (omega arith))) (λ z. p (sym s ∙ z))))))
+
+-- ---- one store of the plan
+
+rest-in : (block : List ℕ) → memoryIn block .rest ≡ drop (word block 6) (storesOf (unpacked block .plan))
+unfolding memoryOf unpacked
+rest-in block = refl
+
+module _ (block : List ℕ) (l : length block ≡ stateWords) where
+  abbrev stores : List Store
+  stores = storesOf (unpacked block .plan)
+
+  -- whether a store is to come after so many, and which
+  pub plan-full : (k : ℕ) → 73 ≤ k → more (drop k stores) ≡ false
+  unfolding unpacked
+  plan-full k h = more-full (unpacked block .plan) k (part-length block 31 73 (omega arith)) (part-length block 104 73 (omega arith)) h
+
+  pub plan-test : (k : ℕ) → k < 73 → more (drop k stores) ≡ ltb k (word block 7)
+  unfolding unpacked
+  plan-test k h = more-test (unpacked block .plan) k (part-length block 31 73 (omega arith)) (part-length block 104 73 (omega arith)) h
+
+  pub plan-below : (k : ℕ) → more (drop k stores) ≡ true → (k < word block 7) × (k < 73)
+  unfolding unpacked
+  plan-below k e = more-below (unpacked block .plan) k (part-length block 31 73 (omega arith)) (part-length block 104 73 (omega arith)) e
+
+  plan-next : (k : ℕ) → more (drop k stores) ≡ true → drop k stores ≡ (word block (31 + k), word block (104 + k)) ∷ drop (k + 1) stores
+  unfolding unpacked
+  plan-next k e =
+      let h = plan-below k e in
+      let p : getD (part block 31 73) k 0 ≡ word block (31 + k) = part-word block 31 73 k (h .1) in
+      let v : getD (part block 104 73) k 0 ≡ word block (104 + k) = part-word block 104 73 k (h .1) in
+      rw (p, v) at (store-at (unpacked block .plan) k (part-length block 31 73 (omega arith)) (part-length block 104 73 (omega arith)) (h .0) (h .1))
+
+  pub plan-on : (k : ℕ) → more (drop k stores) ≡ true → memoryIn (set block 6 k) ≡ advanced (memoryIn block) (drop k stores)
+  unfolding withRest
+  plan-on k e = memory-made block k l ∙ sym (advance-on (memoryIn block) (drop k stores) (drop (k + 1) stores) (word block (31 + k), word block (104 + k)) (plan-next k e))
+
+  -- the last one, and with it the nodes that it cut out
+  pub plan-last : (k : ℕ) → more (drop k stores) ≡ false → (freed cleared : List ℕ)
+      → memoryIn freed ≡ withFree (memoryIn (set block 6 k)) (withAll (memoryIn (set block 6 k) .cut) (memoryIn (set block 6 k) .free)) → memoryIn cleared ≡ withCut (memoryIn freed) [] → memoryIn cleared ≡ advanced (memoryIn block) (drop k stores)
+  unfolding withRest withFree withCut
+  plan-last k e freed cleared f g = g ∙ rw (f, memory-made block k l) (sym (advance-last (memoryIn block) (drop k stores) (more-none (drop k stores) e)))
+
+  pub work-stored : (card : List ℕ) (k at : ℕ) → k ≡ word block 6 → more (drop k stores) ≡ true → at ≡ word block (31 + k) → at < length card
+      → stepWork card (memoryIn block) (memoryIn block .rest) ≡ record { answer = Stored; card = set card at (word block (104 + k)); memory = advanced (memoryIn block) (drop (k + 1) stores) }
+  unfolding stepWork stepStore
+  work-stored card k at e h f b =
+      ap (stepWork card (memoryIn block)) (rest-in block ∙ ap (λ (i : ℕ). drop i stores) (sym e) ∙ plan-next k h) ∙ rw (← f) (simp (lt-ltb at (length card) b))
+
+-- ---- formatting
+
+pub format-stored : (card block : List ℕ) (made : ℕ) → length block ≡ stateWords → word block 2 ≡ 1 → made ≡ word block 3 → 8 < made → made < length card
+    → stepFormat card (memoryIn block) (word block 3) (formatStore (memoryIn block .nodes) (length card) (word block 3)) ≡ record { answer = Stored; card = set card made 0; memory = memoryIn (set block 3 (made + 1)) }
+unfolding stepFormat
+format-stored card block made l e f h b =
+    rw (← f, format-middle (memoryIn block .nodes) (length card) made (λ z. omega arith) b, word-other (memoryIn block .nodes) made (λ z. omega arith) (λ z. omega arith) (λ z. omega arith) (λ z. omega arith) (λ z. omega arith))
+    (ap (λ (m : Memory). record { answer = Stored; card = set card made 0; memory = m }) (sym (memory-formatting block (made + 1) l e ∙ ap (formatting (memoryIn block)) (add-one made))))
+
+-- ---- a step of either
+
+held-kind : (card : List ℕ) (m : Memory) (what a b c : ℕ) → (what ≡ 1 → ⊥) → (what ≡ 0 → ⊥) → what ≤ 4 → (stepDoing card m (doingIn what a b c) ≡ stepHeld card m) × (isIdle (doingIn what a b c) ≡ false)
+unfolding stepDoing isIdle doingIn
+held-kind card m zero a b c p q h = absurd (q refl)
+held-kind card m (suc zero) a b c p q h = absurd (p refl)
+held-kind card m (suc (suc zero)) a b c p q h = (refl, refl)
+held-kind card m (suc (suc (suc zero))) a b c p q h = (refl, refl)
+held-kind card m (suc (suc (suc (suc zero)))) a b c p q h = (refl, refl)
+held-kind card m (suc (suc (suc (suc (suc what))))) a b c p q h = absurd (omega arith)
+
+module _ (card block : List ℕ) where
+  pub doing-format : word block 2 ≡ 1 → stepDoing card (memoryIn block) (memoryIn block .doing) ≡ stepFormat card (memoryIn block) (word block 3) (formatStore (memoryIn block .nodes) (length card) (word block 3))
+  unfolding memoryOf unpacked doingIn stepDoing
+  doing-format e = ap (λ (what : ℕ). stepDoing card (memoryIn block) (doingIn what (word block 3) (word block 4) (word block 5))) e
+
+  -- inserting, deleting or repairing
+  pub doing-held : (word block 2 ≡ 1 → ⊥) → (word block 2 ≡ 0 → ⊥) → word block 2 ≤ 4
+      → (stepDoing card (memoryIn block) (memoryIn block .doing) ≡ stepHeld card (memoryIn block)) × (isIdle (memoryIn block .doing) ≡ false)
+  unfolding memoryOf unpacked
+  doing-held p q h = held-kind card (memoryIn block) (word block 2) (word block 3) (word block 4) (word block 5) p q h
+
+  pub held-work : (n : ℕ) → n ≡ memoryIn block .nodes → headerRefusal card n ≡ 0 → isIdle (memoryIn block .doing) ≡ false → stepHeld card (memoryIn block) ≡ stepWork card (memoryIn block) (memoryIn block .rest)
+  unfolding stepHeld
+  held-work n e w i = simp (eq-eqb (headerRefusal card (memoryIn block .nodes)) 0 (ap (headerRefusal card) (sym e) ∙ w), i)

@@ -1,0 +1,133 @@
+-- Which change is due (document 01, "The changes"), test by test: what the planning comes to where the card's tests have been
+-- decided. Each law passes one definition; the lists read off the card are variables.
+use mathlib.Core.Path.{_≡_, refl, ap, _∙_}
+use mathlib.Core.List.{List, [], _∷_}
+use mathlib.Core.Bool.{Bool, true, false, _&&_}
+use mathlib.Core.Logic.{_⊎_, inl, inr}
+use Prim.Native.Nat.{ℕ, suc, _+_, _-_, _*_, _≤_, _<_}
+use native.Mathlib.Omega.{arith}
+use lib.ListN.{length, getD}
+use lib.Dec.{eqb}
+use borrow.Author.Tests.{lt-ltb, le-ltb, le-leb, lt-leb, ne-eqb, eq-eqb}
+use Rattle.card.specs.Layout.{rootPlace, nodeAt, kindOf, children}
+use Rattle.card.specs.NodeWords.{OnCard}
+use Rattle.card.specs.Stores.{NewNode}
+use Rattle.plans.specs.Change.{Change, kindAbove, Together, share, merge, mergeRoot}
+use Rattle.plans.specs.Planning.{giving, first, second, third}
+use Rattle.change.specs.Mending.{mendTagged, isNode, mendUnderfull, mend}
+use Rattle.siblings.specs.Siblings.{mendTogether, mendSiblings}
+use Rattle.change_theory.proofs.Exchange.{Remains}
+use Rattle.shapes.proofs.Next.{tagged-in}
+use Rattle.change_theory.proofs.Rewrite.{numbers, Rewrite}
+use Rattle.change_theory.proofs.Siblings.{first-child, second-child, both-there, two-represented}
+use Rattle.laws.proofs.Cases.{order, and-intro}
+use Rattle.shapes.proofs.Bare.{bare}
+use Rattle.tree.proofs.Path.{reserve}
+use Rattle.tree.proofs.Reading.{read-kind, root-on-card}
+use Rattle.tree.specs.Represent.{kind, Represents}
+use Rattle.tree.proofs.Represent.{link-place}
+use Rattle.tree.specs.Tree.{Tree, root, node, one, more}
+use Rattle.tree.proofs.Tree.{Left, Right, splice, Context, top, down}
+use Rattle.descent.specs.declared.Position.{Position}
+
+-- a violation stands at a position: the part s, child length l of node p, whose own link is that of the context C
+pub record StandsAt (pos : Position) (C : Context) (p : ℕ) (l : Left) (s : Tree) : Type 0 where
+  pub node-is : pos .node ≡ root s
+  pub parent-is : pos .parent ≡ p
+  pub index-is : pos .index ≡ length l
+  pub above-is : pos .above ≡ link-place C
+
+-- the change that puts a part in the place of the context: its new nodes, the new number linked, and the nodes cut out
+abbrev pub change-at : Context → List NewNode → ℕ → List ℕ → Change
+change-at C nodes number out = record { nodes = nodes; link = link-place C; top = number; cut = out }
+
+-- The repair of the part o: so many numbers are given, the change over them is a rewrite of o, and with the nodes that it cuts
+-- out the free nodes are enough for what the new part keeps in reserve, where spare was kept for the old one.
+pub record Planned (c : List ℕ) (n : ℕ) (pos : Position) (free : List Bool) (last : ℕ) (C : Context) (o : Tree) (spare : ℕ) (due : Tree) : Type 0 where
+  pub given : ℕ
+  pub nodes : List ℕ → List NewNode
+  pub part : List ℕ → Tree
+  pub out : List ℕ
+  pub planned : mend c n pos free last ≡ giving given free last (λ ms. change-at C (nodes ms) (root (part ms)) out)
+  pub rewrites : (ms : List ℕ) → Rewrite C o (part ms) (nodes ms) out
+  pub at-most-three : given ≤ 3
+  pub in-order : (ms : List ℕ) → length ms ≡ given → numbers (nodes ms) ≡ ms
+  pub budget : (ms : List ℕ) → given + reserve C (part ms) ≤ length out + spare
+  -- and without numbers the new part is the one due
+  pub shaped : (ms : List ℕ) → bare (part ms) ≡ due
+
+-- all of so many numbers, in their order
+pub first-of : (ms : List ℕ) → length ms ≡ 1 → first ms ∷ [] ≡ ms
+first-of [] e = absurd (omega arith)
+first-of (a ∷ []) e = refl
+first-of (a ∷ b ∷ ms) e = absurd (omega arith)
+
+pub two-of : (ms : List ℕ) → length ms ≡ 2 → first ms ∷ second ms ∷ [] ≡ ms
+two-of [] e = absurd (omega arith)
+two-of (a ∷ ms) e = ap (λ (r : List ℕ). a ∷ r) (first-of ms (omega arith))
+
+pub three-of : (ms : List ℕ) → length ms ≡ 3 → first ms ∷ second ms ∷ third ms ∷ [] ≡ ms
+three-of [] e = absurd (omega arith)
+three-of (a ∷ ms) e = ap (λ (r : List ℕ). a ∷ r) (two-of ms (omega arith))
+
+-- the same change for all numbers given
+pub giving-same : (k : ℕ) (free : List Bool) (last : ℕ) (f g : List ℕ → Change) → ((ms : List ℕ) → f ms ≡ g ms) → giving k free last f ≡ giving k free last g
+giving-same k free last f g e = ap (giving k free last) (λ i ms. e ms i)
+
+-- the kind of the node that a split puts above
+pub kind-above : (C : Context) → kindAbove (link-place C) ≡ kind (tagged-in C)
+unfolding kindAbove
+kind-above top = refl
+kind-above (down C m g l r) = rw (ne-eqb (link-place (down C m g l r)) rootPlace (λ e. omega arith))
+
+module _ (c : List ℕ) (n : ℕ) (pos : Position) (free : List Bool) (last : ℕ) where
+  pub mend-tagged : (p q : ℕ) → pos .parent ≡ p → pos .node ≡ q → kindOf (nodeAt c p) ≡ 2 → kindOf (nodeAt c q) ≡ 3 → mend c n pos free last ≡ mendTagged pos (nodeAt c p) (nodeAt c q) free last
+  unfolding mend
+  mend-tagged p q ep eq kp kq = rw (ep, eq, eq-eqb (kindOf (nodeAt c p)) 2 kp, eq-eqb (kindOf (nodeAt c q)) 3 kq)
+
+  pub mend-underfull : (p j kd : ℕ) → pos .parent ≡ p → pos .index - 1 ≡ j → kindOf (nodeAt c p) ≡ 2 → kindOf (nodeAt c (pos .node)) ≡ kd → kd < 3 → mend c n pos free last ≡ mendUnderfull c n pos (nodeAt c p) j free last
+  unfolding mend
+  mend-underfull p j kd ep ej kp kq h = rw (ep, ej, eq-eqb (kindOf (nodeAt c p)) 2 kp, ne-eqb (kindOf (nodeAt c (pos .node))) 3 (λ e. omega arith))
+
+  pub two-nodes : (P : List ℕ) (j x y : ℕ) → suc j < length (children P) → getD (children P) j 0 ≡ x → getD (children P) (suc j) 0 ≡ y → isNode n x ≡ true → isNode n y ≡ true
+      → mendUnderfull c n pos P j free last ≡ mendSiblings pos P j (nodeAt c x) (nodeAt c y) free last
+  unfolding mendUnderfull
+  two-nodes P j x y h ex ey ix iy = rw (lt-ltb (suc j) (length (children P)) h, ex, ey, ix, iy)
+
+-- a node on the card of n nodes
+pub is-node : (c : List ℕ) (n m : ℕ) → length c ≡ 8 + 24 * n → OnCard c m → isNode n m ≡ true
+unfolding isNode
+is-node c n m e o = and-intro (lt-ltb 0 m (o .pos)) (le-leb m n (omega (arith, o .fits)))
+
+-- Two children side by side, of which one, not tagged, is the violation: the planning comes to the two siblings.
+pub mend-siblings : (c : List ℕ) (n : ℕ) (pos : Position) (free : List Bool) (last p : ℕ) (l : Left) (x : Tree) (k : ℕ) (y : Tree) (r : Right) (kd : ℕ)
+    → length c ≡ 8 + 24 * n → Represents c (node p false (splice l (more x k (one y)) r)) → pos .parent ≡ p → pos .index - 1 ≡ length l → kindOf (nodeAt c (pos .node)) ≡ kd → kd < 3
+    → mend c n pos free last ≡ mendSiblings pos (nodeAt c p) (length l) (nodeAt c (root x)) (nodeAt c (root y)) free last
+mend-siblings c n pos free last p l x k y r kd e w ep ej kq h =
+    let s = two-represented c p l x k y r (length l) refl w in
+    mend-underfull c n pos free last p (length l) kd ep ej (read-kind c p 2 _ _ (w .0)) kq h
+    ∙ two-nodes c n pos free last (nodeAt c p) (length l) (root x) (root y) (both-there c p l x k y r (length l) refl w) (first-child c p l x k y r (length l) refl w) (second-child c p l x k y r (length l) refl w)
+    (is-node c n (root x) e (root-on-card c x (s .0))) (is-node c n (root y) e (root-on-card c y (s .1)))
+
+-- what two siblings hold together decides: shared out, merged, or merged into the root
+module _ (pos : Position) (P : List ℕ) (j : ℕ) (both : Together) (free : List Bool) (last : ℕ) where
+  pub share-due : 4 ≤ length (both .values) → length (both .values) ≤ 12 → mendTogether pos P j both free last ≡ giving 3 free last (λ ms. share pos P j both (first ms) (second ms) (third ms))
+  unfolding mendTogether
+  share-due h o = rw (le-ltb 12 (length (both .values)) o, le-leb 4 (length (both .values)) h)
+
+  pub merge-root-due : length (both .values) ≤ 3 → pos .above ≡ rootPlace → length (children P) ≡ 2 → mendTogether pos P j both free last ≡ giving 1 free last (λ ms. mergeRoot pos P j both (first ms))
+  unfolding mendTogether
+  merge-root-due h e f = rw (le-ltb 12 (length (both .values)) (omega arith), lt-leb 4 (length (both .values)) (omega arith), e, f)
+
+  pub merge-due : (C : Context) → length (both .values) ≤ 3 → pos .above ≡ link-place C → Remains C (length (children P)) → mendTogether pos P j both free last ≡ giving 2 free last (λ ms. merge pos P j both (first ms) (second ms))
+  unfolding mendTogether
+  merge-due C h e o = rw (le-ltb 12 (length (both .values)) (omega arith), lt-leb 4 (length (both .values)) (omega arith), e, not-that-root C (length (children P)) o)
+    where
+      not-that-root : (C : Context) (n : ℕ) → Remains C n → (eqb (link-place C) rootPlace && eqb n 2) ≡ false
+      not-that-root top n o = ne-eqb n 2 (λ e. omega arith)
+      not-that-root (down C m g l r) n o = rw (ne-eqb (link-place (down C m g l r)) rootPlace (λ e. omega arith))
+
+-- "if that parent is the root with 2 children", or not
+pub root-of-two : (C : Context) (m : ℕ) → 2 ≤ m → ((C ≡ top) × (m ≡ 2)) ⊎ Remains C m
+root-of-two top m h = order m 3 (λ o. inl (refl, omega arith)) (λ o. inr o)
+root-of-two (down C i g l r) m h = inr tt

@@ -1,0 +1,186 @@
+-- The book of the demands is the ledger of `promises`, and their events are its events.
+use mathlib.Core.Path.{_≡_, refl, ap, sym, _∙_}
+use mathlib.Core.Bool.{Bool, true, false, not}
+use mathlib.Core.List.{List, [], _∷_}
+use mathlib.Core.Option.{Option, none, some}
+use Prim.Native.Nat.{ℕ, suc, _<_}
+use native.Mathlib.Omega.{arith}
+use lib.Dec.{eqb, ltb}
+use borrow.Author.Tests.{ne-eqb, lt-ltb, le-ltb, ltb-true, ltb-false, eqb-true, eqb-false}
+use Rattle.card.specs.Layout.{nodeAt}
+use Rattle.promises.proofs.Machine.{Event as Was, World as Worldly, happens as was-happens, find as was-find, insert as was-insert, delete as was-delete, step as was-step, crash as was-crash}
+use Rattle.promises.proofs.Ledger.{Update as WasUpdate, Hand as WasHand, Ledger, added-unless, added as was-added, taken-out as was-taken-out, entered as was-entered, deciding, counted, fed-a-step, fed-a-start, feed as was-feed, put as was-put, remove as was-remove, was-refused, was-final, goes-on as was-goes-on, empty as was-empty, hand}
+use Rattle.promises.proofs.Feeding.{begun-result, step-result, is-none, full-at as was-full-at, leaf-full as was-leaf-full, fed}
+use Rattle.demands.specs.Events.{Event, World, reply-to, happens, run, find, insert, delete, step, cut}
+use Rattle.demands.specs.Book.{Update, Hand, Book, book, added, taken-out, entered, started, stepped, feed, outcome, told, put, remove, refused, final, goes-on, empty, holding}
+use Rattle.demands.proofs.Instance.{ration-table}
+use Rattle.demands.specs.Refusals.{nodes-on, full-at, leaf-full}
+use Rattle.demands.proofs.KeepsStarts.{leads-is, slot-is}
+use Rattle.demands.proofs.Numbers.{SmallBegun, SmallAnswer, start-small, step-small}
+use Rattle.demands.proofs.Ways.{landed, is-slot}
+use Rattle.descent.specs.Descent.{slotOf}
+use Rattle.descent.specs.declared.Landing.{Landing}
+use Rattle.descent.specs.declared.Landing.the-variants.{Refused as NoLanding, Leaf as LandingAt}
+use Rattle.descent.specs.declared.Slot.{Slot}
+use Rattle.descent.specs.declared.Slot.the-variants.{At, Absent as NoSlot}
+use Rattle.laws.proofs.Cases.{bool-cases, order}
+use Rattle.laws.specs.Cases.{pick}
+use Rattle.starting.specs.Starts.{insertOf, deleteOf}
+use Rattle.state.specs.Answers.{stepReply, startReply}
+use Rattle.state.specs.declared.Answer.{Answer}
+use Rattle.state.specs.declared.Answer.the-variants.{Stored, Ready, Absent, Value, Refused}
+use Rattle.state.specs.declared.Begun.{Begun}
+use Rattle.state.specs.declared.Begun.the-variants.{Idle as OpenedIdle, Started, Refused as BegunRefused}
+use Rattle.state.specs.declared.Doing.the-variants.{Inserting, Deleting}
+use Rattle.table.specs.Calls.{stepOf}
+use Rattle.tree.specs.Pairs.{lookup}
+use Rattle.updates.specs.Updates.{landing, startRoom}
+
+abbrev pub was : Event → Was
+was (find key) = was-find key
+was (insert key value) = was-insert key value
+was (delete key) = was-delete key
+was step = was-step
+was cut = was-crash
+
+abbrev pub worldly : World ration-table → Worldly
+worldly w = record { card = w .card; memory = w .state }
+
+pub same-world : (e : Event) (w : World ration-table) → worldly (happens ration-table e w) ≡ was-happens (was e) (worldly w)
+unfolding happens was-happens
+same-world (find key) w = refl
+same-world (insert key value) w = refl
+same-world (delete key) w = refl
+same-world step w = refl
+same-world cut w = refl
+
+-- ---- the book
+
+unfoldable pub update-of : WasUpdate → Update
+update-of (was-put key value) = put key value
+update-of (was-remove key) = remove key
+
+unfoldable pub hand-of : WasHand → Hand
+hand-of was-empty = empty
+hand-of (hand u f n e) = holding (update-of u) (deciding u f) n
+
+abbrev pub book-of : Ledger → Book
+book-of l = book (l .held) (hand-of (l .in-hand))
+
+-- entered exactly when the deciding step was counted
+unfoldable pub Flagged : WasHand → Type 0
+Flagged was-empty = Unit
+Flagged (hand u f n e) = e ≡ not (ltb n (deciding u f))
+
+taken-same : (key : ℕ) (l : List (ℕ × ℕ)) → taken-out key l ≡ was-taken-out key l
+unfolding taken-out was-taken-out
+taken-same key [] = refl
+taken-same key (p ∷ l) = ap (λ (x : List (ℕ × ℕ)). pick (eqb key (p .0)) x (p ∷ x)) (taken-same key l)
+
+added-same : (o : Option ℕ) (key value : ℕ) (l : List (ℕ × ℕ)) → added o key value l ≡ added-unless o key value l
+unfolding added added-unless
+added-same none key value l = refl
+added-same (some v) key value l = refl
+
+entered-same : (u : WasUpdate) (l : List (ℕ × ℕ)) → entered (update-of u) l ≡ was-entered u l
+unfolding entered was-entered update-of was-added
+entered-same (was-put key value) l = added-same (lookup key l) key value l
+entered-same (was-remove key) l = taken-same key l
+
+-- a step
+true-not : {P : Type 0} → _≡_ {A = Bool} true false → P
+true-not e = let z : _≡_ {A = ℕ} 0 1 = cc in absurd (omega arith)
+
+not-true : (b : Bool) → true ≡ not b → b ≡ false
+not-true true e = true-not e
+not-true false e = refl
+
+not-false : (b : Bool) → false ≡ not b → b ≡ true
+not-false true e = refl
+not-false false e = true-not (sym e)
+
+counted-same : (u : WasUpdate) (f : Bool) (n : ℕ) (e : Bool) (l : List (ℕ × ℕ)) → e ≡ not (ltb n (deciding u f))
+    → (stepped goes-on l (holding (update-of u) (deciding u f) n) ≡ book-of (counted u f n e l)) × Flagged (counted u f n e l .in-hand)
+unfolding stepped counted hand-of Flagged
+counted-same u f n true l g =
+    let h = ltb-false n (deciding u f) (not-true (ltb n (deciding u f)) g) in
+    (rw (ne-eqb (suc n) (deciding u f) (λ q. omega (arith, q, h))), rw (le-ltb (suc n) (deciding u f) (omega (arith, h))))
+counted-same u f n false l g =
+    let h = ltb-true n (deciding u f) (not-false (ltb n (deciding u f)) g) in
+    bool-cases (eqb (suc n) (deciding u f))
+    (λ q. (rw (q, entered-same u l), rw q (rw (le-ltb (suc n) (deciding u f) (omega (arith, eqb-true (suc n) (deciding u f) q))))))
+    (λ q. (rw q, rw q (rw (lt-ltb (suc n) (deciding u f) (below h (eqb-false (suc n) (deciding u f) q))))))
+  where
+    below : {a b : ℕ} → a < b → (suc a ≡ b → ⊥) → suc a < b
+    below {a} {b} h d = order (suc a) b (λ o. o) (λ o. absurd (d (omega arith)))
+
+final-same : (l : List (ℕ × ℕ)) (h : WasHand) → Flagged h → (stepped final l (hand-of h) ≡ book-of (fed-a-step was-final l h)) × Flagged (fed-a-step was-final l h .in-hand)
+unfolding stepped fed-a-step hand-of Flagged
+final-same l was-empty g = (refl, tt)
+final-same l (hand u f n true) g = (rw (not-true (ltb n (deciding u f)) g), tt)
+final-same l (hand u f n false) g = (rw (not-false (ltb n (deciding u f)) g, entered-same u l), tt)
+
+stored-same : (l : List (ℕ × ℕ)) (h : WasHand) → Flagged h → (stepped goes-on l (hand-of h) ≡ book-of (fed-a-step was-goes-on l h)) × Flagged (fed-a-step was-goes-on l h .in-hand)
+unfolding stepped fed-a-step hand-of Flagged
+stored-same l was-empty g = (refl, tt)
+stored-same l (hand u f n e) g = counted-same u f n e l g
+
+refusing : (l : List (ℕ × ℕ)) (h : WasHand) → Flagged h → (stepped refused l (hand-of h) ≡ book-of (fed-a-step was-refused l h)) × Flagged (fed-a-step was-refused l h .in-hand)
+unfolding stepped fed-a-step
+refusing l h g = (refl, g)
+
+step-same : (a : Answer) → SmallAnswer a → (l : List (ℕ × ℕ)) (h : WasHand) → Flagged h → (stepped (outcome (stepReply a)) l (hand-of h) ≡ book-of (fed-a-step (step-result a) l h)) × Flagged (fed-a-step (step-result a) l h .in-hand)
+unfolding outcome stepReply step-result
+step-same Stored s l h g = stored-same l h g
+step-same Ready s l h g = final-same l h g
+step-same Absent s l h g = final-same l h g
+step-same (Value v) s l h g = final-same l h g
+step-same (Refused r) s l h g = rw (lt-ltb r 64 s) (refusing l h g)
+
+-- a start
+begun-same : (u : WasUpdate) (f : Bool) (l : Ledger) (b : Begun) → SmallBegun b → 0 < deciding u f → Flagged (l .in-hand)
+    → (started (outcome (startReply b)) (update-of u) (deciding u f) (book-of l) ≡ book-of (fed-a-start u f (begun-result b) (l .held) (l .in-hand))) × Flagged (fed-a-start u f (begun-result b) (l .held) (l .in-hand) .in-hand)
+unfolding outcome startReply begun-result started fed-a-start hand-of Flagged
+begun-same u f l OpenedIdle s d g = (refl, rw (lt-ltb 0 (deciding u f) d))
+begun-same u f l Started s d g = (refl, rw (lt-ltb 0 (deciding u f) d))
+begun-same u f l (BegunRefused r) s d g = rw (lt-ltb r 64 s) (refl, g)
+
+-- whether the leaf is full
+turned : (s : Slot) → not (is-slot s) ≡ is-none s
+unfolding is-slot is-none
+turned (At i) = refl
+turned NoSlot = refl
+
+full-same : (c : List ℕ) (x : Landing) → full-at c (landed x) ≡ was-full-at c x
+unfolding full-at landed was-full-at
+full-same c NoLanding = refl
+full-same c (LandingAt m link run) = ap not (sym (slot-is (nodeAt c m) 0 (slotOf (nodeAt c m) 0) refl)) ∙ turned (slotOf (nodeAt c m) 0)
+
+leaf-same : (c : List ℕ) (n key : ℕ) → nodes-on c ≡ n → leaf-full c key ≡ was-leaf-full c n key
+unfolding was-leaf-full
+leaf-same c n key e = ap (full-at c) (sym (leads-is c n key e)) ∙ full-same c (landing c n key)
+
+-- ---- what the two are fed, event by event
+
+decides : (key value : ℕ) (f : Bool) → pick f 73 2 ≡ deciding (was-put key value) f
+unfolding deciding
+decides key value true = refl
+decides key value false = refl
+
+decides-some : (u : WasUpdate) (f : Bool) → 0 < deciding u f
+unfolding deciding
+decides-some (was-put key value) true = omega arith
+decides-some (was-put key value) false = omega arith
+decides-some (was-remove key) f = omega arith
+
+pub fed-same : (e : Event) (w : World ration-table) (l : Ledger) → nodes-on (w .card) ≡ w .state .nodes → Flagged (l .in-hand)
+    → (feed (told ration-table e w) (book-of l) ≡ book-of (was-feed (fed (was e) (worldly w)) l)) × Flagged (was-feed (fed (was e) (worldly w)) l .in-hand)
+unfolding feed told reply-to was-feed fed hand-of Flagged update-of insertOf deleteOf deciding
+fed-same (find key) w l n g = (refl, g)
+fed-same (insert key value) w l n g =
+    rw (leaf-same (w .card) (w .state .nodes) key n, decides key value (was-leaf-full (w .card) (w .state .nodes) key))
+    (begun-same (was-put key value) (was-leaf-full (w .card) (w .state .nodes) key) l (insertOf (w .card) (w .state) key value .begun)
+    (start-small (w .card) (w .state) key (Inserting key value false) (startRoom (w .card) key (w .state .free))) (decides-some (was-put key value) (was-leaf-full (w .card) (w .state .nodes) key)) g)
+fed-same (delete key) w l n g = begun-same (was-remove key) false l (deleteOf (w .card) (w .state) key .begun) (start-small (w .card) (w .state) key (Deleting key false 0) (λ x. true)) (decides-some (was-remove key) false) g
+fed-same step w l n g = step-same (stepOf (w .card) (w .state) .answer) (step-small (w .card) (w .state)) (l .held) (l .in-hand) g
+fed-same cut w l n g = (refl, tt)

@@ -1,0 +1,168 @@
+-- DEMAND 1, of find, formatting, opening and the starts.
+use mathlib.Core.Path.{_≡_, refl, ap, sym, _∙_}
+use mathlib.Core.Bool.{true, false}
+use mathlib.Core.List.{List}
+use mathlib.Core.Logic.{_⊎_, inl, inr}
+use mathlib.Core.Option.{Option, none, some}
+use Prim.Native.Nat.{ℕ, _+_, _≤_, _<_}
+use native.Mathlib.Omega.{arith}
+use native.Mathlib.Decide.{ℕ-discrete}
+use lib.ListN.{length, getD}
+use borrow.Author.Tests.{ne-eqb, lt-ltb}
+use Rattle.card.specs.Header.{nodesOfLength, cardRefusal, Sized, Formatted}
+use Rattle.card.specs.Layout.{depthLimit, rootPlace, nodeAt}
+use Rattle.card.specs.Replies.{Reply, refusal}
+use Rattle.demands.specs.Demand1.{Finds, HandsNone, Starts, OpensTo}
+use Rattle.demands.specs.Refusals.{ByRows, nodes-on, NoCard, Unsound, Scarce, leads-to, find-rows, format-rows, open-rows, end, row}
+use Rattle.demands.proofs.Instance.{isFormatting, handed, ration-table}
+use Rattle.demands.proofs.Rowing.{sized?, no-nodes, by-card, card-one}
+use Rattle.demands.proofs.Ways.{arrived, leaf-of, leaf-way}
+use Rattle.descent.specs.Descent.{slotOf, leafFor}
+use Rattle.descent.specs.declared.Slot.{Slot}
+use Rattle.descent.specs.declared.Slot.the-variants.{At, Absent as NoSlot}
+use Rattle.descent.specs.declared.Way.{Way}
+use Rattle.descent.specs.declared.Way.the-variants.{Refused as NoWay, Leaf as LeafAt}
+use Rattle.formatting_theory.proofs.FormatSteps.{formatMemory, format-starts, format-refused}
+use Rattle.free_nodes.specs.NodeSet.{countTrue}
+use Rattle.laws.proofs.Bits.{bit-true, bit-false}
+use Rattle.laws.proofs.Cases.{bool-cases, order}
+use Rattle.lookup.specs.Answers.{foundReply}
+use Rattle.lookup.specs.Find.{foundIn, foundAt, findOf}
+use Rattle.lookup.proofs.FindLaws.{find-refused, find-no-key, find-key}
+use Rattle.opening.specs.Opening.{openSound, openChecked, openOf}
+use Rattle.promises.proofs.OpenRefusals.{refuses-unsound, refuses-few}
+use Rattle.promises.proofs.Reopen.{length-accepted, card-accepted, open-sound, open-repair, open-idle}
+use Rattle.soundness.specs.Check.{Findings, tableCheck}
+use Rattle.soundness_theory.proofs.Facts.{Facts}
+use Rattle.soundness_theory.proofs.Soundness.{accepts-sound}
+use Rattle.starting.specs.Starts.{formatOf}
+use Rattle.state.specs.Answers.{startReply}
+use Rattle.state.specs.Memory.{noMemory, resting}
+use Rattle.state.specs.Steps.{isIdle, noBeginning}
+use Rattle.state.specs.declared.Begun.the-variants.{Started}
+use Rattle.tree.specs.Tree.{Tree}
+use Rattle.tree.specs.WellFormed.{WellFormed}
+
+-- ---- finds
+
+-- the card's refusal is not 0, whichever it is
+find-due : (c : List ℕ) (key r : ℕ) → cardRefusal c ≡ r → (r ≡ 0 → ⊥) → foundReply (findOf c key) ≡ refusal r
+unfolding foundReply
+find-due c key r e d = rw (find-refused c key (λ z. d (sym e ∙ z)), e)
+
+pub none-some : {A P : Type 0} (x : A) → _≡_ {A = Option A} none (some x) → P
+none-some x e = let z : _≡_ {A = ℕ} 0 1 = cc in absurd (omega arith)
+
+leaf-none : (o : Option (ℕ × ℕ)) → leaf-of o ≡ none → o ≡ none
+unfolding leaf-of
+leaf-none none e = refl
+leaf-none (some l) e = none-some (l .0) (sym e)
+
+found-works : (words : List ℕ) (s : Slot) → Finds (foundReply (foundIn words s))
+unfolding foundIn foundReply
+found-works words (At i) = inl (getD words (12 + i) 0, refl)
+found-works words NoSlot = inr refl
+
+pub finds : (c : List ℕ) (key : ℕ) → ByRows (find-rows c key) (λ r. ration-table .find c key ≡ refusal r) (Finds (ration-table .find c key))
+unfolding ByRows foundAt foundReply arrived leaf-of
+finds c key =
+    by-card (row 6 (key ≡ 0) (row 9 (leads-to c key ≡ none) end)) (λ r. foundReply (findOf c key) ≡ refusal r) (Finds (foundReply (findOf c key))) c (nodes-on c)
+    (λ p. find-due c key 1 (card-one c p) (λ z. omega (arith, z)))
+    (λ r s e d. find-due c key r (length-accepted c (nodes-on c) s ∙ e) d)
+    past
+  where
+    past : Sized (length c) (nodes-on c) → Formatted c (nodes-on c) → ByRows (row 6 (key ≡ 0) (row 9 (leads-to c key ≡ none) end)) (λ r. foundReply (findOf c key) ≡ refusal r) (Finds (foundReply (findOf c key)))
+    past s f = keyed (ℕ-discrete key 0)
+      where
+        a : (cardRefusal c ≡ 0) × (nodesOfLength (length c) ≡ nodes-on c)
+        a = card-accepted s f
+
+        at : (key ≡ 0 → ⊥) → (x : Way) → leafFor c (nodes-on c) key depthLimit (getD c rootPlace 0) ≡ x → ((leads-to c key ≡ none) × (foundReply (findOf c key) ≡ refusal 9)) ⊎ ((leads-to c key ≡ none → ⊥) × Finds (foundReply (findOf c key)))
+        at d NoWay e = inl (leaf-none (leads-to c key) (sym (leaf-way c key depthLimit 0 (getD c rootPlace 0)) ∙ ap arrived e), rw (find-key c key (a .0) d, a .1, e))
+        at d (LeafAt m deep) e = inr (
+          λ z. none-some m (sym (ap leaf-of z) ∙ sym (leaf-way c key depthLimit 0 (getD c rootPlace 0)) ∙ ap arrived e),
+          rw (find-key c key (a .0) d, a .1, e) (found-works (nodeAt c m) (slotOf (nodeAt c m) key)),
+        )
+
+        keyed : Dec (key ≡ 0) → ((key ≡ 0) × (foundReply (findOf c key) ≡ refusal 6)) ⊎ ((key ≡ 0 → ⊥) × (((leads-to c key ≡ none) × (foundReply (findOf c key) ≡ refusal 9)) ⊎ ((leads-to c key ≡ none → ⊥) × Finds (foundReply (findOf c key)))))
+        keyed (yes z) = inl (z, rw (find-no-key c key (a .0) z))
+        keyed (no d) = inr (d, at d (leafFor c (nodes-on c) key depthLimit (getD c rootPlace 0)) refl)
+
+-- ---- formatting
+
+none-handed : (r : ℕ) → HandsNone ration-table (handed (noBeginning r)) r
+unfolding noBeginning noMemory isIdle startReply
+none-handed r = record { number-given = refl; idle-state = refl; no-nodes = refl }
+
+format-begun : (n : ℕ) → Starts ration-table (handed (record { begun = Started; memory = formatMemory n 0 })) n true
+unfolding resting isIdle isFormatting startReply
+format-begun n = record { reply-given = refl; in-progress = refl; of-kind = refl; nodes-kept = refl }
+
+pub formats : (c : List ℕ) → ByRows (format-rows c) (HandsNone ration-table (ration-table .format c)) (Starts ration-table (ration-table .format c) (nodes-on c) true)
+unfolding ByRows
+formats c = go (sized? (length c) (nodes-on c))
+  where
+    go : Dec (Sized (length c) (nodes-on c)) → (NoCard c (nodes-on c) × HandsNone ration-table (handed (formatOf c)) 1) ⊎ ((NoCard c (nodes-on c) → ⊥) × Starts ration-table (handed (formatOf c)) (nodes-on c) true)
+    go (no p) = inl (p, rw (format-refused c (no-nodes c p)) (none-handed 1))
+    go (yes s) = inr (λ p. p s, rw (format-starts c (nodes-on c) s) (format-begun (nodes-on c)))
+
+-- ---- opening
+
+open-due : (c : List ℕ) (r : ℕ) → cardRefusal c ≡ r → (r ≡ 0 → ⊥) → openOf c ≡ noBeginning r
+unfolding openOf
+open-due c r e d = rw (e, ne-eqb r 0 d)
+
+sound-five : (n : ℕ) (f : Findings) → countTrue (f .free) < 3 + f .run → openSound n f ≡ noBeginning 5
+unfolding openSound
+sound-five n f o = rw (lt-ltb (countTrue (f .free)) (3 + f .run) o)
+
+reply-five : (c : List ℕ) (r : ℕ) → openOf c ≡ noBeginning r → startReply (openOf c .begun) ≡ refusal r
+unfolding noBeginning startReply
+reply-five c r e = rw e
+
+pub opens : (c : List ℕ) → ByRows (open-rows c) (HandsNone ration-table (ration-table .open-card c)) (OpensTo ration-table c (ration-table .open-card c))
+unfolding ByRows openOf openChecked noBeginning startReply resting isIdle isFormatting
+opens c =
+    by-card (row 4 (Unsound c) (row 5 (Scarce c) end)) (HandsNone ration-table (handed (openOf c))) (OpensTo ration-table c (handed (openOf c))) c (nodes-on c)
+    (λ p. rw (open-due c 1 (card-one c p) (λ z. omega (arith, z))) (none-handed 1))
+    (λ r s e d. rw (open-due c r (length-accepted c (nodes-on c) s ∙ e) d) (none-handed r))
+    past
+  where
+    past : Sized (length c) (nodes-on c) → Formatted c (nodes-on c) → ByRows (row 4 (Unsound c) (row 5 (Scarce c) end)) (HandsNone ration-table (handed (openOf c))) (OpensTo ration-table c (handed (openOf c)))
+    past s k = checked (tableCheck c (nodes-on c)) refl
+      where
+        checked : (x : Option (ℕ × Findings)) → tableCheck c (nodes-on c) ≡ x → (Unsound c × HandsNone ration-table (handed (openOf c)) 4) ⊎ ((Unsound c → ⊥) × ((Scarce c × HandsNone ration-table (handed (openOf c)) 5) ⊎ ((Scarce c → ⊥) × OpensTo ration-table c (handed (openOf c)))))
+        checked none e =
+            let a = card-accepted s k in
+            let is : openOf c ≡ noBeginning 4 = rw (a .0, a .1, e) in
+            inl (refuses-unsound c (nodes-on c) s k .0 (reply-five c 4 is), rw is (none-handed 4))
+        checked (some (h, f)) e = inr (λ p. p (t .0, t .1), order (countTrue (f .free)) (3 + f .run) few enough)
+          where
+            t : (t : Tree) × WellFormed c t × Facts c (nodes-on c) t h f
+            t = accepts-sound c (nodes-on c) (s .words) (s .most) h f e
+
+            few : countTrue (f .free) < 3 + f .run → (Scarce c × HandsNone ration-table (handed (openOf c)) 5) ⊎ ((Scarce c → ⊥) × OpensTo ration-table c (handed (openOf c)))
+            few o =
+                let is : openOf c ≡ noBeginning 5 = open-sound c (nodes-on c) h f s k e ∙ sound-five (nodes-on c) f o in
+                inl (refuses-few c (nodes-on c) s k .0 (reply-five c 5 is), rw is (none-handed 5))
+
+            enough : 3 + f .run ≤ countTrue (f .free) → (Scarce c × HandsNone ration-table (handed (openOf c)) 5) ⊎ ((Scarce c → ⊥) × OpensTo ration-table c (handed (openOf c)))
+            enough o = bool-cases (f .violated) broken whole
+              where
+                broken : f .violated ≡ true → (Scarce c × HandsNone ration-table (handed (openOf c)) 5) ⊎ ((Scarce c → ⊥) × OpensTo ration-table c (handed (openOf c)))
+                broken q =
+                    let is = open-repair c (nodes-on c) h f s k e o q in
+                    let code : startReply (openOf c .begun) .code ≡ 69 = rw is in
+                    inr (
+                      λ p. omega (arith, code, ap (λ (x : Reply). x .code) (refuses-few c (nodes-on c) s k .1 p)),
+                      record { table = t .0; sound = t .1; hands = inr (omega (arith, t .2 .violated, bit-true (f .violated) q), rw is, rw is); of-kind = rw is; nodes-noted = rw is },
+                    )
+
+                whole : f .violated ≡ false → (Scarce c × HandsNone ration-table (handed (openOf c)) 5) ⊎ ((Scarce c → ⊥) × OpensTo ration-table c (handed (openOf c)))
+                whole q =
+                    let is = open-idle c (nodes-on c) h f s k e o q in
+                    let code : startReply (openOf c .begun) .code ≡ 68 = rw is in
+                    inr (
+                      λ p. omega (arith, code, ap (λ (x : Reply). x .code) (refuses-few c (nodes-on c) s k .1 p)),
+                      record { table = t .0; sound = t .1; hands = inl (omega (arith, t .2 .violated, bit-false (f .violated) q), rw is, rw is); of-kind = rw is; nodes-noted = rw is },
+                    )

@@ -1,0 +1,279 @@
+-- DEMAND 2 of the ration table.
+use mathlib.Core.Path.{_≡_, refl, ap, sym, subst, _∙_}
+use mathlib.Core.Bool.{Bool, true, false}
+use mathlib.Core.List.{List, [], _∷_}
+use mathlib.Core.Logic.{inl, inr}
+use mathlib.Core.Option.{Option, none, some}
+use Prim.Native.Nat.{ℕ, suc, _+_, _<_}
+use native.Mathlib.Omega.{arith}
+use lib.ListN.{length}
+use Rattle.card.specs.Header.{Sized, Formatted}
+use Rattle.promises.proofs.Machine.{Event as Was, World as Worldly, happens as was-happens, run as was-run, find as was-find, insert as was-insert, delete as was-delete, step as was-step, crash as was-crash}
+use Rattle.promises.proofs.Feeding.{begun-result, due-after, dictionary-answer, due-after-start}
+use Rattle.promises.proofs.Invariant.{Inv}
+use Rattle.demands.specs.Events.{Event, World, reply-to, happens, run, LeftUncut, steps-in, insert, delete, step, from-format, from-open}
+use Rattle.demands.specs.Book.{Book}
+use Rattle.demands.proofs.Instance.{ration-table, isFormatting}
+use Rattle.card.specs.Layout.{keyLimit}
+use Rattle.card.specs.Replies.{Reply, refusal}
+use Rattle.demands.specs.Demand1.{HandsBack, Starts, Refuses}
+use Rattle.demands.specs.Demand2.{dictionary, update-stores, Finishes, Rests, Works, Dictionary, Demand2, StoresAs}
+use Rattle.demands.specs.Refusals.{Rows, ByRows, leads-to, NoRoom, on-card, row, end}
+use Rattle.demands.proofs.Following.{worldly, same-world}
+use Rattle.demands.proofs.Keeps1.{none-some}
+use Rattle.demands.proofs.Keeps3.{Covered, always, was-list, run-same, quiet-same, steps-same, rests-right}
+use Rattle.demands.proofs.KeepsStarts.{leads-is}
+use Rattle.demands.proofs.KeepsSteps.{demand-1}
+use Rattle.demands.proofs.Numbers.{SmallBegun, start-small}
+use Rattle.demands.proofs.Rowing.{sized-on}
+use Rattle.demands.proofs.Ways.{landed}
+use Rattle.laws.proofs.Cases.{bool-cases, order}
+use Rattle.promises.proofs.Accepting.{find-answers}
+use Rattle.promises.proofs.Finished.{work-finishes, finishes-within, work-not-refused, inv-rests}
+use Rattle.promises.proofs.Finishing.{updateStores, updateStoresAt, stores, stores-in, Finishes as WasFinishes, Rests as WasRests}
+use Rattle.promises.proofs.Promise.{Quiet, steps-in as was-steps-in}
+use Rattle.promises.proofs.Starting.{nodes-same, lands, same-lookup, kept-insert, kept-delete}
+use Rattle.starting.specs.Starts.{insertOf, deleteOf}
+use Rattle.state.specs.Answers.{stepReply, startReply}
+use Rattle.state.specs.Steps.{isIdle}
+use Rattle.state.specs.declared.Answer.{Answer}
+use Rattle.state.specs.declared.Answer.the-variants.{Stored, Ready, Absent, Value, Refused}
+use Rattle.state.specs.declared.Begun.{Begun}
+use Rattle.state.specs.declared.Begun.the-variants.{Idle as OpenedIdle, Started, Refused as BegunRefused}
+use Rattle.state.specs.declared.Doing.{Doing}
+use Rattle.state.specs.declared.Doing.the-variants.{Idle, Formatting, Inserting, Deleting, Repairing}
+use Rattle.table.specs.Calls.{stepOf}
+use Rattle.tree.specs.Pairs.{pairs, lookup}
+use Rattle.updates.specs.Updates.{startRoom}
+
+dictionary-same : (o : Option ℕ) → stepReply (dictionary-answer o) ≡ dictionary o
+unfolding stepReply dictionary-answer dictionary
+dictionary-same none = refl
+dictionary-same (some v) = refl
+
+idle-doing : (d : Doing) → isIdle d ≡ true → d ≡ Idle
+unfolding isIdle
+idle-doing Idle e = refl
+idle-doing (Formatting made) e = let z : _≡_ {A = ℕ} 0 1 = cc in absurd (omega arith)
+idle-doing (Inserting key value begun) e = let z : _≡_ {A = ℕ} 0 1 = cc in absurd (omega arith)
+idle-doing (Deleting key begun value) e = let z : _≡_ {A = ℕ} 0 1 = cc in absurd (omega arith)
+idle-doing (Repairing key) e = let z : _≡_ {A = ℕ} 0 1 = cc in absurd (omega arith)
+
+-- ---- one step more
+
+one-more : List Was → List Was
+one-more [] = was-step ∷ []
+one-more (e ∷ qs) = e ∷ one-more qs
+
+more-steps : (qs : List Was) → was-steps-in (one-more qs) ≡ suc (was-steps-in qs)
+unfolding one-more
+more-steps [] = refl
+more-steps (was-find key ∷ qs) = more-steps qs
+more-steps (was-insert key value ∷ qs) = more-steps qs
+more-steps (was-delete key ∷ qs) = more-steps qs
+more-steps (was-step ∷ qs) = ap suc (more-steps qs)
+more-steps (was-crash ∷ qs) = more-steps qs
+
+more-quiet : (qs : List Was) (w : Worldly) → Quiet qs w → Quiet (one-more qs) w
+unfolding one-more Quiet
+more-quiet [] w u = tt
+more-quiet (was-find key ∷ qs) w u = more-quiet qs w u
+more-quiet (was-insert key value ∷ qs) w u = (u .0, more-quiet qs (was-happens (was-insert key value) w) (u .1))
+more-quiet (was-delete key ∷ qs) w u = (u .0, more-quiet qs (was-happens (was-delete key) w) (u .1))
+more-quiet (was-step ∷ qs) w u = more-quiet qs (was-happens was-step w) u
+more-quiet (was-crash ∷ qs) w u = u
+
+more-stores : (qs : List Was) (w : Worldly) → stores-in (one-more qs) w ≡ stores-in qs w + stores (stepOf (was-run qs w .card) (was-run qs w .memory) .answer)
+unfolding one-more stores-in was-run
+more-stores [] w = omega arith
+more-stores (was-find key ∷ qs) w = more-stores qs (was-happens (was-find key) w)
+more-stores (was-insert key value ∷ qs) w = more-stores qs (was-happens (was-insert key value) w)
+more-stores (was-delete key ∷ qs) w = more-stores qs (was-happens (was-delete key) w)
+more-stores (was-step ∷ qs) w = omega (arith, more-stores qs (was-happens was-step w))
+more-stores (was-crash ∷ qs) w = more-stores qs (was-happens was-crash w)
+
+stores-one : (a : Answer) → stores a ≡ 1 → stepReply a ≡ stepReply Stored
+unfolding stores
+stores-one Stored e = refl
+stores-one Ready e = absurd (omega arith)
+stores-one Absent e = absurd (omega arith)
+stores-one (Value v) e = absurd (omega arith)
+stores-one (Refused r) e = absurd (omega arith)
+
+finishes-same : (most : ℕ) (last : Reply) (w : World ration-table) → WasFinishes most last (worldly w) → Finishes ration-table most last w
+unfolding reply-to stepReply
+finishes-same most last w f =
+    record {
+      count = f .count;
+      few-stores = f .few-stores;
+      each-stores = each;
+      then-answers = λ qs u h. subst (λ (x : Worldly). stepReply (stepOf (x .card) (x .memory) .answer) ≡ last) (sym (run-same qs w)) (f .then-answers (was-list qs) (quiet-same qs w u) (steps-same qs ∙ h) .answer);
+    }
+  where
+    each : (qs : List Event) → LeftUncut ration-table qs w → steps-in qs < f .count → stepReply (stepOf (run ration-table qs w .card) (run ration-table qs w .state) .answer) ≡ stepReply Stored
+    each qs u h =
+        let q = quiet-same qs w u in
+        let now = f .each-stores (was-list qs) q (omega (arith, h, steps-same qs)) in
+        let then = f .each-stores (one-more (was-list qs)) (more-quiet (was-list qs) (worldly w) q) (omega (arith, h, steps-same qs, more-steps (was-list qs))) in
+        let one : stores (stepOf (was-run (was-list qs) (worldly w) .card) (was-run (was-list qs) (worldly w) .memory) .answer) ≡ 1 = omega (arith, now, then, more-stores (was-list qs) (worldly w), more-steps (was-list qs)) in
+        subst (λ (x : Worldly). stepReply (stepOf (x .card) (x .memory) .answer) ≡ stepReply Stored) (sym (run-same qs w)) (stores-one _ one)
+
+-- ---- rows
+
+past-card : (rows : Rows) (refuses : ℕ → Type 0) (works : Type 0) (c : List ℕ) (n : ℕ) → Sized (length c) n → Formatted c n → ByRows (on-card c n rows) refuses works → ByRows rows refuses works
+unfolding ByRows
+past-card rows refuses works c n s f (inl p) = absurd (p .0 s)
+past-card rows refuses works c n s f (inr (_, inl p)) = absurd (p .0 (f .mark))
+past-card rows refuses works c n s f (inr (_, inr (_, inl p))) = absurd (p .0 f)
+past-card rows refuses works c n s f (inr (_, inr (_, inr (_, q)))) = q
+
+answer-refused : (a : Answer) (r : ℕ) → r < 64 → stepReply a ≡ refusal r → a ≡ Refused r
+unfolding stepReply
+answer-refused Stored r h e = absurd (omega (arith, h, ap (λ (x : Reply). x .code) e))
+answer-refused Ready r h e = absurd (omega (arith, h, ap (λ (x : Reply). x .code) e))
+answer-refused Absent r h e = absurd (omega (arith, h, ap (λ (x : Reply). x .code) e))
+answer-refused (Value v) r h e = absurd (omega (arith, h, ap (λ (x : Reply). x .code) e))
+answer-refused (Refused k) r h e = ap Refused (ap (λ (x : Reply). x .code) e)
+
+begun-started : (b : Begun) → SmallBegun b → startReply b ≡ startReply Started → b ≡ Started
+unfolding startReply
+begun-started OpenedIdle s e = absurd (omega (arith, ap (λ (x : Reply). x .code) e))
+begun-started Started s e = refl
+begun-started (BegunRefused r) s e = absurd (omega (arith, s, ap (λ (x : Reply). x .code) e))
+
+not-formatting : (d : Doing) → d ≡ Idle → isFormatting d ≡ false
+unfolding isFormatting
+not-formatting d e = rw e
+
+module _ (w : World ration-table) (b : Book) (v : Covered w b) where
+  abbrev n : ℕ
+  n = v .size
+
+  abbrev i : Inv (v .size) (v .steps) (worldly w) (v .was-kept) (v .due)
+  i = v .inv
+
+  same-held : b .held ≡ v .was-kept .held
+  same-held = ap (λ (x : Book). x .held) (v .same-book)
+
+  nodes-are : w .state .nodes ≡ n
+  nodes-are = nodes-same n (v .steps) (worldly w) (v .was-kept) (v .due) i
+
+  sized : Sized (length (w .card)) (w .state .nodes)
+  sized = subst (λ x. Sized (length (w .card)) x) (sym nodes-are) (i .table .sized)
+
+  header : Formatted (w .card) (w .state .nodes)
+  header = subst (λ x. Formatted (w .card) x) (sym nodes-are) (i .table .header)
+
+  finds-right : (key : ℕ) → 0 < key → key < keyLimit → ration-table .find (w .card) key ≡ dictionary (lookup key (b .held))
+  finds-right key low high =
+      find-answers (w .card) n (i .tree) key (i .table) low high ∙ dictionary-same (lookup key (pairs (i .tree))) ∙ ap dictionary (same-lookup i key) ∙ ap (λ (x : List (ℕ × ℕ)). dictionary (lookup key x)) (sym same-held)
+
+  leads-somewhere : (key : ℕ) → (key ≡ 0 → ⊥) → key < keyLimit → leads-to (w .card) key ≡ none → ⊥
+  unfolding landed
+  leads-somewhere key d high e =
+      let g = lands n (v .steps) (worldly w) (v .was-kept) (v .due) i key (order key 1 (λ o. absurd (d (omega arith))) (λ o. o)) high in
+      none-some (g .0, g .2) (sym e ∙ sym (leads-is (w .card) (w .state .nodes) key (sized-on (w .card) (w .state .nodes) sized)) ∙ ap landed (g .3))
+
+  rests-now : w .state .doing ≡ Idle → WasRests (worldly w) (v .was-kept .held)
+  rests-now e = inv-rests n (v .steps) (worldly w) (v .was-kept) (v .due) i e
+
+  insert-finishes : (key value : ℕ) → key < keyLimit → insertOf (w .card) (w .state) key value .begun ≡ Started → WasFinishes updateStores (stepReply (dictionary-answer (lookup key (v .was-kept .held)))) (was-happens (was-insert key value) (worldly w))
+  unfolding was-happens due-after due-after-start begun-result
+  insert-finishes key value high e =
+      let q = kept-insert n (v .steps) (worldly w) (v .was-kept) (v .due) i key value high in
+      let r = rests-now (q .1 .idle-before e) in
+      let level = r .balanced .well-formed .level in
+      finishes-within (updateStoresAt (level .0)) updateStores (omega (arith, r .levels (level .0) (level .1)))
+      (rw e at (work-finishes n (q .0) (updateStoresAt (level .0)) (was-happens (was-insert key value) (worldly w)) _ _ (q .2 .0) (q .1 .busy e) (omega (arith, q .1 .steps-left e (r .table) (r .balanced .well-formed) (level .0) (level .1)))))
+
+  delete-finishes : (key : ℕ) → key < keyLimit → deleteOf (w .card) (w .state) key .begun ≡ Started → WasFinishes updateStores (stepReply (dictionary-answer (lookup key (v .was-kept .held)))) (was-happens (was-delete key) (worldly w))
+  unfolding was-happens due-after due-after-start begun-result
+  delete-finishes key high e =
+      let q = kept-delete n (v .steps) (worldly w) (v .was-kept) (v .due) i key high in
+      let r = rests-now (q .1 .idle-before e) in
+      let level = r .balanced .well-formed .level in
+      finishes-within (updateStoresAt (level .0)) updateStores (omega (arith, r .levels (level .0) (level .1)))
+      (rw e at (work-finishes n (q .0) (updateStoresAt (level .0)) (was-happens (was-delete key) (worldly w)) _ _ (q .2 .0) (q .1 .busy e) (omega (arith, q .1 .steps-left e (r .table) (r .balanced .well-formed) (level .0) (level .1)))))
+
+  due-same : (key : ℕ) → stepReply (dictionary-answer (lookup key (v .was-kept .held))) ≡ dictionary (lookup key (b .held))
+  due-same key = dictionary-same (lookup key (v .was-kept .held)) ∙ ap (λ (x : List (ℕ × ℕ)). dictionary (lookup key x)) (sym same-held)
+
+  insert-works : (key value : ℕ) → key < keyLimit → Starts ration-table (ration-table .insert (w .card) (w .state) key value) (w .state .nodes) false → Works ration-table (insert key value) key w (b .held)
+  unfolding reply-to insertOf startReply
+  insert-works key value high s =
+      let e = begun-started (insertOf (w .card) (w .state) key value .begun) (start-small (w .card) (w .state) key (Inserting key value false) (startRoom (w .card) key (w .state .free))) (s .reply-given) in
+      record {
+        begins = s .reply-given;
+        finishes = finishes-same update-stores (dictionary (lookup key (b .held))) (happens ration-table (insert key value) w) (rw (same-world (insert key value) w, ← due-same key) (insert-finishes key value high e));
+      }
+
+  delete-works : (key : ℕ) → key < keyLimit → Starts ration-table (ration-table .delete (w .card) (w .state) key) (w .state .nodes) false → Works ration-table (delete key) key w (b .held)
+  unfolding reply-to deleteOf startReply
+  delete-works key high s =
+      let e = begun-started (deleteOf (w .card) (w .state) key .begun) (start-small (w .card) (w .state) key (Deleting key false 0) (λ l. true)) (s .reply-given) in
+      record {
+        begins = s .reply-given;
+        finishes = finishes-same update-stores (dictionary (lookup key (b .held))) (happens ration-table (delete key) w) (rw (same-world (delete key) w, ← due-same key) (delete-finishes key high e));
+      }
+
+  inserts-right : (key value : ℕ) → key < keyLimit → ByRows (row 7 (isIdle (w .state .doing) ≡ false) (row 6 (key ≡ 0) (row 8 (NoRoom (w .card) (w .state .free) key) end)))
+      (λ r. reply-to ration-table (insert key value) w ≡ refusal r) (Works ration-table (insert key value) key w (b .held))
+  unfolding ByRows reply-to
+  inserts-right key value high =
+      go (past-card (row 7 (isIdle (w .state .doing) ≡ false) (row 6 (key ≡ 0) (row 9 (leads-to (w .card) key ≡ none) (row 8 (NoRoom (w .card) (w .state .free) key) end)))) (HandsBack ration-table (w .state) (ration-table .insert (w .card) (w .state) key value))
+      (Starts ration-table (ration-table .insert (w .card) (w .state) key value) (w .state .nodes) false) (w .card) (w .state .nodes) sized header (demand-1 .inserts (w .card) (w .state) key value))
+    where
+      go : ByRows (row 7 (isIdle (w .state .doing) ≡ false) (row 6 (key ≡ 0) (row 9 (leads-to (w .card) key ≡ none) (row 8 (NoRoom (w .card) (w .state .free) key) end)))) (HandsBack ration-table (w .state) (ration-table .insert (w .card) (w .state) key value))
+          (Starts ration-table (ration-table .insert (w .card) (w .state) key value) (w .state .nodes) false)
+          → ByRows (row 7 (isIdle (w .state .doing) ≡ false) (row 6 (key ≡ 0) (row 8 (NoRoom (w .card) (w .state .free) key) end))) (λ r. reply-to ration-table (insert key value) w ≡ refusal r) (Works ration-table (insert key value) key w (b .held))
+      go (inl (p, h)) = inl (p, h .number-given)
+      go (inr (a, inl (p, h))) = inr (a, inl (p, h .number-given))
+      go (inr (a, inr (d, inl (p, h)))) = absurd (leads-somewhere key d high p)
+      go (inr (a, inr (d, inr (l, inl (p, h))))) = inr (a, inr (d, inl (p, h .number-given)))
+      go (inr (a, inr (d, inr (l, inr (r, s))))) = inr (a, inr (d, inr (r, insert-works key value high s)))
+
+  deletes-right : (key : ℕ) → key < keyLimit → ByRows (row 7 (isIdle (w .state .doing) ≡ false) (row 6 (key ≡ 0) end)) (λ r. reply-to ration-table (delete key) w ≡ refusal r) (Works ration-table (delete key) key w (b .held))
+  unfolding ByRows reply-to
+  deletes-right key high =
+      go (past-card (row 7 (isIdle (w .state .doing) ≡ false) (row 6 (key ≡ 0) (row 9 (leads-to (w .card) key ≡ none) end))) (HandsBack ration-table (w .state) (ration-table .delete (w .card) (w .state) key))
+      (Starts ration-table (ration-table .delete (w .card) (w .state) key) (w .state .nodes) false) (w .card) (w .state .nodes) sized header (demand-1 .deletes (w .card) (w .state) key))
+    where
+      go : ByRows (row 7 (isIdle (w .state .doing) ≡ false) (row 6 (key ≡ 0) (row 9 (leads-to (w .card) key ≡ none) end))) (HandsBack ration-table (w .state) (ration-table .delete (w .card) (w .state) key)) (Starts ration-table (ration-table .delete (w .card) (w .state) key) (w .state .nodes) false)
+          → ByRows (row 7 (isIdle (w .state .doing) ≡ false) (row 6 (key ≡ 0) end)) (λ r. reply-to ration-table (delete key) w ≡ refusal r) (Works ration-table (delete key) key w (b .held))
+      go (inl (p, h)) = inl (p, h .number-given)
+      go (inr (a, inl (p, h))) = inr (a, inl (p, h .number-given))
+      go (inr (a, inr (d, inl (p, h)))) = absurd (leads-somewhere key d high p)
+      go (inr (a, inr (d, inr (l, s)))) = inr (a, inr (d, delete-works key high s))
+
+  steps-right : ByRows (row 10 (isIdle (w .state .doing) ≡ true) end) (λ r. reply-to ration-table step w ≡ refusal r) ((r : ℕ) → r < 64 → reply-to ration-table step w ≡ refusal r → ⊥)
+  unfolding ByRows reply-to
+  steps-right =
+      bool-cases (isIdle (w .state .doing))
+      (λ q. inl (q, ten q (demand-1 .steps (w .card) (w .state) (not-formatting (w .state .doing) (idle-doing (w .state .doing) q)))))
+      (λ q. inr (λ z. true-false (sym z ∙ q), λ r h e. work-not-refused n (v .steps) (worldly w) (v .was-kept) (v .due) i q r (answer-refused (stepOf (w .card) (w .state) .answer) r h e)))
+    where
+      true-false : _≡_ {A = Bool} true false → ⊥
+      true-false e = let z : _≡_ {A = ℕ} 0 1 = cc in omega arith
+
+      ten : {works : Type 0} → isIdle (w .state .doing) ≡ true → ByRows (on-card (w .card) (w .state .nodes) (row 10 (isIdle (w .state .doing) ≡ true) end)) (Refuses ration-table (w .card) (w .state) (ration-table .step (w .card) (w .state))) works → stepReply (stepOf (w .card) (w .state) .answer) ≡ refusal 10
+      ten {works} q p = at (past-card (row 10 (isIdle (w .state .doing) ≡ true) end) (Refuses ration-table (w .card) (w .state) (ration-table .step (w .card) (w .state))) works (w .card) (w .state .nodes) sized header p)
+        where
+          at : ByRows (row 10 (isIdle (w .state .doing) ≡ true) end) (Refuses ration-table (w .card) (w .state) (ration-table .step (w .card) (w .state))) works → stepReply (stepOf (w .card) (w .state) .answer) ≡ refusal 10
+          at (inl (z, h)) = h .number-given
+          at (inr (z, h)) = absurd (z q)
+
+  rests-are : isIdle (w .state .doing) ≡ true → Rests ration-table w (b .held)
+  rests-are q =
+      let r = rests-now (idle-doing (w .state .doing) q) in
+      rw same-held (record { right = rests-right r; levels = r .levels; free-exact = r .free-exact; three-kept = r .three-kept })
+
+  pub is-dictionary : Dictionary ration-table w b
+  is-dictionary = record { finds = finds-right; inserts = inserts-right; deletes = deletes-right; steps = steps-right; rests = rests-are }
+
+-- DEMAND 2 of the ration table
+pub demand-2 : Demand2 ration-table
+demand-2 = always (Dictionary ration-table) is-dictionary
+
+-- and its rules are its own definition
+pub stores-as-named : StoresAs ration-table ration-table
+stores-as-named = record { from-open = λ c es. refl; from-format = λ c es. refl }

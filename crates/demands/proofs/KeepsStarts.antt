@@ -1,0 +1,155 @@
+-- DEMAND 1, of the starts.
+use mathlib.Core.Path.{_≡_, refl, ap, sym, subst, _∙_}
+use mathlib.Core.Bool.{Bool, true, false}
+use mathlib.Core.List.{List}
+use mathlib.Core.Logic.{_⊎_, inl, inr}
+use mathlib.Core.Option.{Option, none, some}
+use Prim.Native.Nat.{ℕ, _+_}
+use native.Mathlib.Omega.{arith}
+use native.Mathlib.Decide.{ℕ-discrete}
+use lib.ListN.{length, getD}
+use lib.Dec.{eqb}
+use borrow.Author.Tests.{eq-eqb, ne-eqb, lt-ltb, le-ltb, eqb-true, eqb-false}
+use Rattle.card.specs.Header.{nodesOfLength, headerRefusal, Sized, Formatted}
+use Rattle.card.proofs.HeaderLaws.{nodes-sized, sized-nodes, formatted-header}
+use Rattle.card.specs.Layout.{depthLimit, rootPlace, nodeAt, keyWords}
+use Rattle.card.specs.Replies.{absent}
+use Rattle.demands.specs.Demand1.{HandsBack, Starts}
+use Rattle.demands.specs.Refusals.{Rows, ByRows, nodes-on, NoCard, leads-to, among, NoRoom, start-rows, insert-rows, delete-rows, end, row}
+use Rattle.demands.proofs.Instance.{isFormatting, handed, ration-table}
+use Rattle.demands.proofs.Keeps1.{none-some}
+use Rattle.demands.proofs.Rowing.{sized-on, by-card}
+use Rattle.demands.proofs.Ways.{landed, landing-way, is-slot, slot-among}
+use Rattle.descent.specs.Descent.{slotOf, landingFor}
+use Rattle.descent.specs.declared.Landing.{Landing}
+use Rattle.descent.specs.declared.Landing.the-variants.{Refused as NoLanding, Leaf as LandingAt}
+use Rattle.descent.specs.declared.Slot.{Slot}
+use Rattle.descent.specs.declared.Slot.the-variants.{At, Absent as NoSlot}
+use Rattle.free_nodes.specs.NodeSet.{countTrue}
+use Rattle.laws.proofs.Cases.{bool-cases, order}
+use Rattle.laws.specs.Cases.{pick}
+use Rattle.starting.specs.Starts.{startRefused, started, startLanded, startChecked, startOf, insertOf, deleteOf}
+use Rattle.state.specs.Answers.{startReply}
+use Rattle.state.specs.Memory.{Memory}
+use Rattle.state.specs.Steps.{isIdle}
+use Rattle.state.specs.declared.Doing.{Doing}
+use Rattle.state.specs.declared.Doing.the-variants.{Inserting, Deleting}
+use Rattle.updates.specs.Updates.{landing, reasonIn, emptyReason, insertReason, roomFor, startRoom, full}
+
+-- a state whose N does not fit the card
+pub not-sized : (c : List ℕ) (n : ℕ) → NoCard c n → (nodesOfLength (length c) ≡ 0 → ⊥) → nodesOfLength (length c) ≡ n → ⊥
+not-sized c n p d e = p (subst (λ x. Sized (length c) x) e (nodes-sized (length c) d))
+
+pub leads-is : (c : List ℕ) (n key : ℕ) → nodes-on c ≡ n → landed (landing c n key) ≡ leads-to c key
+unfolding landing
+leads-is c n key e = subst (λ x. landed (landingFor c x key depthLimit rootPlace 0 (getD c rootPlace 0)) ≡ leads-to c key) e (landing-way c key depthLimit rootPlace 0 (getD c rootPlace 0))
+
+module _ (c : List ℕ) (m : Memory) (key : ℕ) (doing : Doing) (room : Landing → Bool) where
+  start-one : NoCard c (m .nodes) → startOf c m key doing room ≡ startRefused 1 m
+  unfolding startOf
+  start-one p =
+      bool-cases (eqb (nodesOfLength (length c)) 0) (λ q. rw q) (λ q.
+      bool-cases (eqb (nodesOfLength (length c)) (m .nodes)) (λ q₁. absurd (not-sized c (m .nodes) p (eqb-false (nodesOfLength (length c)) 0 q) (eqb-true (nodesOfLength (length c)) (m .nodes) q₁))) (λ q₁. rw (q, q₁)))
+
+  start-header : (r : ℕ) → Sized (length c) (m .nodes) → headerRefusal c (m .nodes) ≡ r → (r ≡ 0 → ⊥) → startOf c m key doing room ≡ startRefused r m
+  unfolding startOf
+  start-header r s e d = rw (sized-nodes (length c) (m .nodes) s, ne-eqb (m .nodes) 0 (λ z. omega (arith, z, s .least)), eq-eqb (m .nodes) (m .nodes) refl, e, ne-eqb r 0 d)
+
+  start-passed : Sized (length c) (m .nodes) → Formatted c (m .nodes) → startOf c m key doing room ≡ startChecked c m key doing room
+  unfolding startOf
+  start-passed s f = rw (sized-nodes (length c) (m .nodes) s, ne-eqb (m .nodes) 0 (λ z. omega (arith, z, s .least)), eq-eqb (m .nodes) (m .nodes) refl, formatted-header c (m .nodes) f)
+
+  refused-back : (r : ℕ) → HandsBack ration-table m (handed (startRefused r m)) r
+  unfolding startRefused startReply
+  refused-back r = record { number-given = refl; unchanged = refl }
+
+  start-begun : isIdle doing ≡ false → isFormatting doing ≡ false → Starts ration-table (handed (started m doing)) (m .nodes) false
+  unfolding started startReply
+  start-begun e f = record { reply-given = refl; in-progress = e; of-kind = f; nodes-kept = refl }
+
+  -- the rows of a start, to where the key has led to its leaf
+  by-start : (rows : Rows) (works : Type 0)
+      → ((leaf link j : ℕ) → leads-to c key ≡ some (leaf, j) → startOf c m key doing room ≡ pick (room (LandingAt leaf link j)) (started m doing) (startRefused 8 m) → ByRows rows (HandsBack ration-table m (handed (startOf c m key doing room))) works)
+      → ByRows (start-rows ration-table c m key rows) (HandsBack ration-table m (handed (startOf c m key doing room))) works
+  unfolding ByRows startChecked startLanded landed
+  by-start rows works next =
+      by-card (row 7 (isIdle (m .doing) ≡ false) (row 6 (key ≡ 0) (row 9 (leads-to c key ≡ none) rows))) (HandsBack ration-table m (handed (startOf c m key doing room))) works c (m .nodes)
+      (λ p. rw (start-one p) (refused-back 1)) (λ r s e d. rw (start-header r s e d) (refused-back r)) past
+    where
+      past : Sized (length c) (m .nodes) → Formatted c (m .nodes) → ByRows (row 7 (isIdle (m .doing) ≡ false) (row 6 (key ≡ 0) (row 9 (leads-to c key ≡ none) rows))) (HandsBack ration-table m (handed (startOf c m key doing room))) works
+      past s f =
+          bool-cases (isIdle (m .doing)) (λ q. inr (λ z. clash q z, keyed q (ℕ-discrete key 0))) (λ q. inl (q, rw (start-passed s f, q) (refused-back 7)))
+        where
+          clash : isIdle (m .doing) ≡ true → isIdle (m .doing) ≡ false → ⊥
+          clash a b = let y : _≡_ {A = Bool} true false = sym a ∙ b in let z : _≡_ {A = ℕ} 0 1 = cc in omega arith
+
+          lands : landed (landing c (m .nodes) key) ≡ leads-to c key
+          lands = leads-is c (m .nodes) key (sized-on c (m .nodes) s)
+
+          at : isIdle (m .doing) ≡ true → (key ≡ 0 → ⊥) → (x : Landing) → landing c (m .nodes) key ≡ x
+              → ((leads-to c key ≡ none) × HandsBack ration-table m (handed (startOf c m key doing room)) 9) ⊎ ((leads-to c key ≡ none → ⊥) × ByRows rows (HandsBack ration-table m (handed (startOf c m key doing room))) works)
+          at q d NoLanding e = inl (sym lands ∙ ap landed e, rw (start-passed s f, q, ne-eqb key 0 d, e) (refused-back 9))
+          at q d (LandingAt leaf link j) e =
+              let to : leads-to c key ≡ some (leaf, j) = sym lands ∙ ap landed e in
+              inr (λ z. none-some (leaf, j) (sym z ∙ to), next leaf link j to (start-passed s f ∙ rw (q, ne-eqb key 0 d, e)))
+
+          keyed : isIdle (m .doing) ≡ true → Dec (key ≡ 0) → ((key ≡ 0) × HandsBack ration-table m (handed (startOf c m key doing room)) 6)
+              ⊎ ((key ≡ 0 → ⊥) × (((leads-to c key ≡ none) × HandsBack ration-table m (handed (startOf c m key doing room)) 9) ⊎ ((leads-to c key ≡ none → ⊥) × ByRows rows (HandsBack ration-table m (handed (startOf c m key doing room))) works)))
+          keyed q (yes z) = inl (z, rw (start-passed s f, q, eq-eqb key 0 z) (refused-back 6))
+          keyed q (no d) = inr (d, at q d (landing c (m .nodes) key) refl)
+
+pub deletes : (c : List ℕ) (m : Memory) (key : ℕ) → ByRows (delete-rows ration-table c m key) (HandsBack ration-table m (ration-table .delete c m key)) (Starts ration-table (ration-table .delete c m key) (m .nodes) false)
+unfolding ByRows deleteOf isIdle isFormatting
+deletes c m key =
+    by-start c m key (Deleting key false 0) (λ l. true) end (Starts ration-table (handed (deleteOf c m key)) (m .nodes) false)
+    (λ leaf link j to e. rw e (start-begun c m key (Deleting key false 0) (λ l. true) refl refl))
+
+-- where a key leads is one place
+at-leaf : Option (ℕ × ℕ) → ℕ
+at-leaf none = 0
+at-leaf (some l) = l .0
+
+at-run : Option (ℕ × ℕ) → ℕ
+at-run none = 0
+at-run (some l) = l .1
+
+pub one-leaf : (c : List ℕ) (key leaf j leaf′ j′ : ℕ) → leads-to c key ≡ some (leaf, j) → leads-to c key ≡ some (leaf′, j′) → (leaf ≡ leaf′) × (j ≡ j′)
+unfolding at-leaf at-run
+one-leaf c key leaf j leaf′ j′ e f = (ap at-leaf (sym e ∙ f), ap at-run (sym e ∙ f))
+
+true-false : {P : Type 0} → _≡_ {A = Bool} true false → P
+true-false e = let z : _≡_ {A = ℕ} 0 1 = cc in absurd (omega arith)
+
+pub slot-is : (words : List ℕ) (x : ℕ) (s : Slot) → slotOf words x ≡ s → is-slot s ≡ among x (keyWords words)
+unfolding slotOf
+slot-is words x s e = ap is-slot (sym e) ∙ slot-among (keyWords words) x 0
+
+-- an insert has no room exactly by row 8
+pub room-row : (c : List ℕ) (free : List Bool) (key leaf link j : ℕ) → leads-to c key ≡ some (leaf, j)
+    → (NoRoom c free key × (startRoom c key free (LandingAt leaf link j) ≡ false)) ⊎ ((NoRoom c free key → ⊥) × (startRoom c key free (LandingAt leaf link j) ≡ true))
+unfolding startRoom roomFor insertReason reasonIn emptyReason is-slot
+room-row c free key leaf link j to = at (slotOf (nodeAt c leaf) key) refl (slotOf (nodeAt c leaf) 0) refl
+  where
+    same : (r : NoRoom c free key) → (r .leaf ≡ leaf) × (r .j ≡ j)
+    same r = one-leaf c key (r .leaf) (r .j) leaf j (r .leads) to
+
+    at : (x : Slot) → slotOf (nodeAt c leaf) key ≡ x → (y : Slot) → slotOf (nodeAt c leaf) 0 ≡ y
+        → (NoRoom c free key × (startRoom c key free (LandingAt leaf link j) ≡ false)) ⊎ ((NoRoom c free key → ⊥) × (startRoom c key free (LandingAt leaf link j) ≡ true))
+    at (At i) e y f = inr (λ r. true-false (slot-is (nodeAt c leaf) key (At i) e ∙ ap (λ (x : ℕ). among key (keyWords (nodeAt c x))) (sym (same r .0)) ∙ r .absent), rw e)
+    at NoSlot e (At i) f = inr (λ r. true-false (slot-is (nodeAt c leaf) 0 (At i) f ∙ ap (λ (x : ℕ). among 0 (keyWords (nodeAt c x))) (sym (same r .0)) ∙ r .full), rw (e, f))
+    at NoSlot e NoSlot f =
+        order (countTrue free) (j + 5)
+        (λ o. inl (record { leaf = leaf; j = j; leads = to; absent = sym (slot-is (nodeAt c leaf) key NoSlot e); full = sym (slot-is (nodeAt c leaf) 0 NoSlot f); few = o }, rw (e, f, lt-ltb (countTrue free) (j + 5) o)))
+        (λ o. inr (λ r. omega (arith, r .few, same r .1), rw (e, f, le-ltb (countTrue free) (j + 5) o)))
+
+pub inserts : (c : List ℕ) (m : Memory) (key value : ℕ) → ByRows (insert-rows ration-table c m key) (HandsBack ration-table m (ration-table .insert c m key value)) (Starts ration-table (ration-table .insert c m key value) (m .nodes) false)
+unfolding ByRows insertOf isIdle isFormatting
+inserts c m key value =
+    by-start c m key (Inserting key value false) (startRoom c key (m .free)) (row 8 (NoRoom c (m .free) key) end) (Starts ration-table (handed (insertOf c m key value)) (m .nodes) false)
+    (λ leaf link j to e. at leaf link j e (room-row c (m .free) key leaf link j to))
+  where
+    at : (leaf link j : ℕ) → startOf c m key (Inserting key value false) (startRoom c key (m .free)) ≡ pick (startRoom c key (m .free) (LandingAt leaf link j)) (started m (Inserting key value false)) (startRefused 8 m)
+        → (NoRoom c (m .free) key × (startRoom c key (m .free) (LandingAt leaf link j) ≡ false)) ⊎ ((NoRoom c (m .free) key → ⊥) × (startRoom c key (m .free) (LandingAt leaf link j) ≡ true))
+        → (NoRoom c (m .free) key × HandsBack ration-table m (handed (insertOf c m key value)) 8) ⊎ ((NoRoom c (m .free) key → ⊥) × Starts ration-table (handed (insertOf c m key value)) (m .nodes) false)
+    at leaf link j e (inl (r, q)) = inl (r, rw (e, q) (refused-back c m key (Inserting key value false) (startRoom c key (m .free)) 8))
+    at leaf link j e (inr (r, q)) = inr (r, rw (e, q) (start-begun c m key (Inserting key value false) (startRoom c key (m .free)) refl refl))

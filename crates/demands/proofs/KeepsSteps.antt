@@ -1,0 +1,182 @@
+-- DEMAND 1, of a step: its three cases, and the rows before them.
+use mathlib.Core.Path.{_≡_, refl, ap, sym, _∙_}
+use mathlib.Core.Bool.{Bool, true, false}
+use mathlib.Core.List.{List, [], _∷_}
+use mathlib.Core.Logic.{_⊎_, inl, inr}
+use Prim.Native.Nat.{ℕ, _+_, _<_}
+use native.Mathlib.Omega.{arith}
+use lib.ListN.{length, getD}
+use lib.Dec.{eqb, ltb}
+use borrow.Author.Tests.{eq-eqb, ne-eqb, lt-ltb, le-ltb, ltb-true, eqb-true, eqb-false}
+use Rattle.card.specs.Header.{nodesOfLength, Sized}
+use Rattle.card.proofs.HeaderLaws.{sized-nodes, formatted-header}
+use Rattle.card.specs.Layout.{nodeAt}
+use Rattle.card.specs.Stores.{Store}
+use Rattle.demands.specs.Demand1.{Stores, Answers, Refuses, Demand1}
+use Rattle.demands.specs.Refusals.{ByRows, NoCard, on-card, end, row}
+use Rattle.demands.proofs.Instance.{isFormatting, stepped, ration-table}
+use Rattle.demands.proofs.Keeps1.{finds, formats, opens}
+use Rattle.demands.proofs.KeepsStarts.{not-sized, inserts, deletes}
+use Rattle.demands.proofs.Rowing.{sized?, by-card}
+use Rattle.descent.specs.Descent.{slotOf}
+use Rattle.descent.specs.declared.Landing.{Landing}
+use Rattle.descent.specs.declared.Landing.the-variants.{Refused as NoLanding, Leaf as LandingAt}
+use Rattle.descent.specs.declared.Slot.{Slot}
+use Rattle.descent.specs.declared.Slot.the-variants.{At, Absent as NoSlot}
+use Rattle.laws.proofs.Cases.{bool-cases, order}
+use Rattle.plans.specs.Planning.{Preparation, refused, balanced, prepared}
+use Rattle.state.specs.Answers.{stepReply}
+use Rattle.state.specs.Memory.{Memory, idled}
+use Rattle.state.specs.Steps.{isIdle, Step, stepRefused, stepFinal, formatStore, stepFormat, stepStore, stepFirst}
+use Rattle.state.specs.declared.Answer.{Answer}
+use Rattle.state.specs.declared.Answer.the-variants.{Ready, Absent, Value}
+use Rattle.state.specs.declared.Doing.{Doing}
+use Rattle.state.specs.declared.Doing.the-variants.{Idle, Formatting, Inserting, Deleting, Repairing}
+use Rattle.table.specs.Calls.{planning, stepPrepared, stepBegin, stepPlan, stepWork, stepHeld, stepDoing, stepOf}
+use Rattle.updates.specs.Updates.{Reason, landing, insertReason, insertChange, deleteChange, repairs, noChange, changeIn, changeAt, nextChange, held, slot, full}
+
+-- an answer that is final
+abbrev pub Final : Answer → Type 0
+Final a = (a ≡ Ready) ⊎ (((v : ℕ) × (a ≡ Value v)) ⊎ (a ≡ Absent))
+
+-- ---- the final answer of whatever is planned
+
+insert-final : (key value : ℕ) (free : List Bool) (last m link : ℕ) (words : List ℕ) (r : Reason) → Final (insertChange key value free last m link words r .final)
+unfolding insertChange stepReply
+insert-final key value free last m link words (held v) = inr (inl (v, refl))
+insert-final key value free last m link words (slot i) = inr (inr refl)
+insert-final key value free last m link words full = inr (inr refl)
+
+delete-final : (key : ℕ) (free : List Bool) (last m : ℕ) (words : List ℕ) (s : Slot) → Final (deleteChange key free last m words s .final)
+unfolding deleteChange stepReply
+delete-final key free last m words (At i) = inr (inl (getD words (12 + i) 0, refl))
+delete-final key free last m words NoSlot = inr (inr refl)
+
+change-final : (doing : Doing) (free : List Bool) (last m link : ℕ) (words : List ℕ) → Final (changeIn doing free last m link words .final)
+unfolding changeIn noChange stepReply
+change-final Idle free last m link words = inl refl
+change-final (Formatting made) free last m link words = inl refl
+change-final (Inserting key value begun) free last m link words = insert-final key value free last m link words (insertReason words key)
+change-final (Deleting key begun value) free last m link words = delete-final key free last m words (slotOf words key)
+change-final (Repairing key) free last m link words = inl refl
+
+at-final : (c : List ℕ) (doing : Doing) (free : List Bool) (last : ℕ) (l : Landing) → Final (changeAt c doing free last l .final)
+unfolding changeAt noChange stepReply
+at-final c doing free last NoLanding = inl refl
+at-final c doing free last (LandingAt m link run) = change-final doing free last m link (nodeAt c m)
+
+pub next-final : (c : List ℕ) (n : ℕ) (free : List Bool) (last : ℕ) (doing : Doing) → Final (nextChange c n free last doing .final)
+unfolding nextChange noChange repairs stepReply
+next-final c n free last Idle = inl refl
+next-final c n free last (Formatting made) = inl refl
+next-final c n free last (Inserting key value false) = at-final c (Inserting key value false) free last (landing c n key)
+next-final c n free last (Inserting key value true) = inr (inr refl)
+next-final c n free last (Deleting key false value) = at-final c (Deleting key false value) free last (landing c n key)
+next-final c n free last (Deleting key true value) = inr (inl (value, refl))
+next-final c n free last (Repairing key) = inl refl
+
+-- ---- the three cases
+
+abbrev pub Cases : List ℕ → Memory → Step → Type 0
+Cases c m s = Stores ration-table c (stepped s) ⊎ (Answers ration-table c (stepped s) ⊎ Refuses ration-table c m (stepped s) 9)
+
+abbrev pub FormatCases : List ℕ → Step → Type 0
+FormatCases c s = Stores ration-table c (stepped s) ⊎ Answers ration-table c (stepped s)
+
+refused-same : (r : ℕ) (c : List ℕ) (m : Memory) → Refuses ration-table c m (stepped (stepRefused r c m)) r
+unfolding stepRefused stepReply
+refused-same r c m = record { number-given = refl; same-card = refl; unchanged = refl }
+
+final-idle : (a : Answer) (c : List ℕ) (m : Memory) → Final a → Answers ration-table c (stepped (stepFinal a c m))
+unfolding stepFinal idled isIdle stepReply
+final-idle a c m (inl e) = record { final = inl (ap stepReply e); same-card = refl; idle-then = refl }
+final-idle a c m (inr (inl (v, e))) = record { final = inr (inl (v, ap stepReply e)); same-card = refl; idle-then = refl }
+final-idle a c m (inr (inr e)) = record { final = inr (inr (ap stepReply e)); same-card = refl; idle-then = refl }
+
+store-cases : (c : List ℕ) (old m : Memory) (s : Store) (rest : List Store) → Cases c old (stepStore c old m s rest)
+unfolding stepStore stepReply
+store-cases c old m s rest =
+    order (s .0) (length c)
+    (λ o. inl (rw (lt-ltb (s .0) (length c) o) (record { reply-given = refl; place = s .0; word = s .1; inside = o; one-store = refl })))
+    (λ o. inr (inr (rw (le-ltb (s .0) (length c) o) (refused-same 9 c old))))
+
+first-cases : (c : List ℕ) (old m : Memory) (stores : List Store) → Cases c old (stepFirst c old m stores)
+unfolding stepFirst
+first-cases c old m [] = inr (inr (refused-same 9 c old))
+first-cases c old m (s ∷ rest) = store-cases c old m s rest
+
+prepared-cases : (c : List ℕ) (m : Memory) (doing : Doing) (a : Answer) → Final a → (p : Preparation) → Cases c m (stepPrepared c m doing a p)
+unfolding stepPrepared
+prepared-cases c m doing a f refused = inr (inr (refused-same 9 c m))
+prepared-cases c m doing a f balanced = inr (inl (final-idle a c m f))
+prepared-cases c m doing a f (prepared stores free last cut) = first-cases c m (planning m doing free last cut) stores
+
+work-cases : (c : List ℕ) (m : Memory) (rest : List Store) → Cases c m (stepWork c m rest)
+unfolding stepWork stepPlan stepBegin
+work-cases c m [] =
+    let f = nextChange c (m .nodes) (m .free) (m .last) (m .doing) in
+    prepared-cases c m (nextChange c (m .nodes) (m .free) (m .last) (m .doing) .doing) (nextChange c (m .nodes) (m .free) (m .last) (m .doing) .final) (next-final c (m .nodes) (m .free) (m .last) (m .doing)) (nextChange c (m .nodes) (m .free) (m .last) (m .doing) .preparation)
+work-cases c m (s ∷ rest) = store-cases c m m s rest
+
+-- formatting: its place is always on the card
+format-cases : (c : List ℕ) (m : Memory) (made : ℕ) → 0 < length c → FormatCases c (stepFormat c m made (formatStore (m .nodes) (length c) made))
+unfolding stepFormat formatStore stepReply
+format-cases c m made pos =
+    bool-cases (eqb made 0) (λ q. inl (rw q (record { reply-given = refl; place = 0; word = 0; inside = pos; one-store = refl }))) (λ q.
+    bool-cases (ltb made (length c)) (λ q₁. inl (rw (q, q₁) (record { reply-given = refl; place = made; word = _; inside = ltb-true made (length c) q₁; one-store = refl }))) (λ q₁.
+    bool-cases (eqb made (length c)) (λ q₂. inl (rw (q, q₁, q₂) (record { reply-given = refl; place = 0; word = 1; inside = pos; one-store = refl })))
+    (λ q₂. inr (rw (q, q₁, q₂) (final-idle Ready c m (inl refl))))))
+
+-- ---- the rows
+
+pub step-one : (c : List ℕ) (m : Memory) → NoCard c (m .nodes) → stepOf c m ≡ stepRefused 1 c m
+unfolding stepOf
+step-one c m p =
+    bool-cases (eqb (nodesOfLength (length c)) 0) (λ q. rw q) (λ q.
+    bool-cases (eqb (nodesOfLength (length c)) (m .nodes)) (λ q₁. absurd (not-sized c (m .nodes) p (eqb-false (nodesOfLength (length c)) 0 q) (eqb-true (nodesOfLength (length c)) (m .nodes) q₁))) (λ q₁. rw (q, q₁)))
+
+pub step-sized : (c : List ℕ) (m : Memory) → Sized (length c) (m .nodes) → stepOf c m ≡ stepDoing c m (m .doing)
+unfolding stepOf
+step-sized c m s = rw (sized-nodes (length c) (m .nodes) s, ne-eqb (m .nodes) 0 (λ z. omega (arith, z, s .least)), eq-eqb (m .nodes) (m .nodes) refl)
+
+true-false : {P : Type 0} → _≡_ {A = Bool} true false → P
+true-false e = let z : _≡_ {A = ℕ} 0 1 = cc in absurd (omega arith)
+
+format-doing : (doing : Doing) → isFormatting doing ≡ true → (made : ℕ) × (doing ≡ Formatting made)
+unfolding isFormatting
+format-doing Idle e = true-false (sym e)
+format-doing (Formatting made) e = (made, refl)
+format-doing (Inserting key value begun) e = true-false (sym e)
+format-doing (Deleting key begun value) e = true-false (sym e)
+format-doing (Repairing key) e = true-false (sym e)
+
+held-doing : (c : List ℕ) (m : Memory) (doing : Doing) → isFormatting doing ≡ false → stepDoing c m doing ≡ stepHeld c m
+unfolding isFormatting stepDoing
+held-doing c m Idle e = refl
+held-doing c m (Formatting made) e = true-false e
+held-doing c m (Inserting key value begun) e = refl
+held-doing c m (Deleting key begun value) e = refl
+held-doing c m (Repairing key) e = refl
+
+module _ (c : List ℕ) (m : Memory) where
+  pub formatting-rows : isFormatting (m .doing) ≡ true → ByRows (row 1 (NoCard c (m .nodes)) end) (Refuses ration-table c m (stepped (stepOf c m))) (FormatCases c (stepOf c m))
+  unfolding ByRows stepDoing
+  formatting-rows q = go (sized? (length c) (m .nodes)) (format-doing (m .doing) q)
+    where
+      go : Dec (Sized (length c) (m .nodes)) → ((made : ℕ) × (m .doing ≡ Formatting made)) → (NoCard c (m .nodes) × Refuses ration-table c m (stepped (stepOf c m)) 1) ⊎ ((NoCard c (m .nodes) → ⊥) × FormatCases c (stepOf c m))
+      go (no p) d = inl (p, rw (step-one c m p) (refused-same 1 c m))
+      go (yes s) (made, e) = inr (λ p. p s, rw (step-sized c m s ∙ ap (stepDoing c m) e) (format-cases c m made (omega (arith, s .words))))
+
+  pub held-rows : isFormatting (m .doing) ≡ false → ByRows (on-card c (m .nodes) (row 10 (isIdle (m .doing) ≡ true) end)) (Refuses ration-table c m (stepped (stepOf c m))) (Cases c m (stepOf c m))
+  unfolding ByRows stepHeld
+  held-rows q =
+      by-card (row 10 (isIdle (m .doing) ≡ true) end) (Refuses ration-table c m (stepped (stepOf c m))) (Cases c m (stepOf c m)) c (m .nodes)
+      (λ p. rw (step-one c m p) (refused-same 1 c m))
+      (λ r s e d. rw (step-sized c m s ∙ held-doing c m (m .doing) q, e, ne-eqb r 0 d) (refused-same r c m))
+      (λ s f. bool-cases (isIdle (m .doing))
+      (λ i. inl (i, rw (step-sized c m s ∙ held-doing c m (m .doing) q, formatted-header c (m .nodes) f, i) (refused-same 10 c m)))
+      (λ i. inr (λ z. true-false (sym z ∙ i), rw (step-sized c m s ∙ held-doing c m (m .doing) q, formatted-header c (m .nodes) f, i) (work-cases c m (m .rest)))))
+
+-- DEMAND 1 of the ration table
+pub demand-1 : Demand1 ration-table
+demand-1 = record { finds = finds; formats = formats; opens = opens; inserts = inserts; deletes = deletes; format-steps = formatting-rows; steps = held-rows }

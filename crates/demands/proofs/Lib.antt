@@ -1,0 +1,10 @@
+pub mod Instance
+pub mod Ways
+pub mod Rowing
+pub mod Keeps1
+pub mod KeepsStarts
+pub mod KeepsSteps
+pub mod Numbers
+pub mod Following
+pub mod Keeps3
+pub mod Keeps2

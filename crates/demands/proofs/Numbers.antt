@@ -1,0 +1,189 @@
+-- Refusals have numbers below 64, so that the number of an answer tells which answer it is.
+use mathlib.Core.Path.{_≡_, refl, ap}
+use mathlib.Core.Bool.{Bool, true, false}
+use mathlib.Core.List.{List, [], _∷_}
+use mathlib.Core.Logic.{inl, inr}
+use mathlib.Core.Option.{Option, none, some}
+use Prim.Native.Nat.{ℕ, _+_, _<_}
+use native.Mathlib.Omega.{arith}
+use lib.ListN.{length, getD}
+use lib.Dec.{eqb, ltb}
+use Rattle.card.specs.Header.{nodesOfLength, headerRefusal, cardRefusal, must}
+use Rattle.card.specs.Replies.{Reply, stored, ready}
+use Rattle.card.specs.Stores.{Store}
+use Rattle.demands.proofs.KeepsSteps.{Final, next-final}
+use Rattle.descent.specs.declared.Landing.{Landing}
+use Rattle.descent.specs.declared.Landing.the-variants.{Refused as NoLanding, Leaf as LandingAt}
+use Rattle.free_nodes.specs.NodeSet.{countTrue}
+use Rattle.descent.specs.Descent.{slotOf, leafFor}
+use Rattle.descent.specs.declared.Slot.{Slot}
+use Rattle.descent.specs.declared.Slot.the-variants.{At, Absent as NoSlot}
+use Rattle.descent.specs.declared.Way.{Way}
+use Rattle.descent.specs.declared.Way.the-variants.{Refused as NoWay, Leaf as LeafAt}
+use Rattle.lookup.specs.Find.{foundIn, foundAt, findOf}
+use Rattle.lookup.specs.declared.Found.{Found}
+use Rattle.lookup.specs.declared.Found.the-variants.{Value as FoundValue, Absent as FoundAbsent, Refused as FoundRefused}
+use Rattle.card.specs.Layout.{depthLimit, rootPlace, nodeAt}
+use Rattle.laws.proofs.Cases.{bool-cases}
+use Rattle.opening.specs.Opening.{openSound, openChecked, openOf}
+use Rattle.plans.specs.Planning.{Preparation, refused, balanced, prepared}
+use Rattle.soundness.specs.Check.{Findings, tableCheck}
+use Rattle.starting.specs.Starts.{startRefused, started, startLanded, startChecked, startOf}
+use Rattle.state.specs.Answers.{stepReply, startReply}
+use Rattle.state.specs.Memory.{Memory}
+use Rattle.state.specs.Steps.{isIdle, noBeginning, stepRefused, stepFinal, formatStore, stepFormat, stepStore, stepFirst}
+use Rattle.state.specs.declared.Answer.{Answer}
+use Rattle.state.specs.declared.Answer.the-variants.{Stored, Ready, Absent, Value, Refused}
+use Rattle.state.specs.declared.Begun.{Begun}
+use Rattle.state.specs.declared.Begun.the-variants.{Idle as OpenedIdle, Started, Refused as BegunRefused}
+use Rattle.state.specs.declared.Doing.{Doing}
+use Rattle.state.specs.declared.Doing.the-variants.{Idle, Formatting, Inserting, Deleting, Repairing}
+use Rattle.table.specs.Calls.{planning, stepPrepared, stepBegin, stepPlan, stepWork, stepHeld, stepDoing, stepOf}
+use Rattle.updates.specs.Updates.{landing, nextChange}
+
+abbrev pub SmallBegun : Begun → Type 0
+SmallBegun OpenedIdle = Unit
+SmallBegun Started = Unit
+SmallBegun (BegunRefused r) = r < 64
+
+abbrev pub SmallAnswer : Answer → Type 0
+SmallAnswer Stored = Unit
+SmallAnswer Ready = Unit
+SmallAnswer Absent = Unit
+SmallAnswer (Value v) = Unit
+SmallAnswer (Refused r) = r < 64
+
+must-small : (c : List ℕ) (i v r next : ℕ) → r < 64 → next < 64 → must c i v r next < 64
+must-small c i v r next a b = bool-cases (eqb (getD c i 0) v) (λ q. rw q b) (λ q. rw q a)
+
+header-small : (c : List ℕ) (n : ℕ) → headerRefusal c n < 64
+unfolding headerRefusal
+header-small c n =
+    must-small c 0 1 2 _ (omega arith) (must-small c 1 n 3 _ (omega arith) (must-small c 2 8 3 _ (omega arith) (must-small c 3 24 3 _ (omega arith) (must-small c 5 0 3 _ (omega arith) (must-small c 6 0 3 _ (omega arith) (must-small c 7 0 3 0 (omega arith) (omega arith)))))))
+
+card-small : (c : List ℕ) → cardRefusal c < 64
+unfolding cardRefusal
+card-small c = bool-cases (eqb (nodesOfLength (length c)) 0) (λ q. rw q (omega arith)) (λ q. rw q (header-small c (nodesOfLength (length c))))
+
+sound-small : (n : ℕ) (f : Findings) → SmallBegun (openSound n f .begun)
+unfolding openSound noBeginning
+sound-small n f = bool-cases (ltb (countTrue (f .free)) (3 + f .run)) (λ a. rw a (omega arith)) (λ a. bool-cases (f .violated) (λ v. rw (a, v) tt) (λ v. rw (a, v) tt))
+
+checked-small : (n : ℕ) (x : Option (ℕ × Findings)) → SmallBegun (openChecked n x .begun)
+unfolding openChecked noBeginning
+checked-small n none = omega arith
+checked-small n (some r) = sound-small n (r .1)
+
+pub open-small : (c : List ℕ) → SmallBegun (openOf c .begun)
+unfolding openOf noBeginning
+open-small c = bool-cases (eqb (cardRefusal c) 0) (λ q. rw q (checked-small (nodesOfLength (length c)) (tableCheck c (nodesOfLength (length c))))) (λ q. rw q (card-small c))
+
+landed-small : (m : Memory) (doing : Doing) (room : Bool) (l : Landing) → SmallBegun (startLanded m doing room l .begun)
+unfolding startLanded startRefused started
+landed-small m doing room NoLanding = omega arith
+landed-small m doing true (LandingAt node link run) = tt
+landed-small m doing false (LandingAt node link run) = omega arith
+
+pub start-small : (c : List ℕ) (m : Memory) (key : ℕ) (doing : Doing) (room : Landing → Bool) → SmallBegun (startOf c m key doing room .begun)
+unfolding startOf startChecked startRefused
+start-small c m key doing room =
+    bool-cases (eqb (nodesOfLength (length c)) 0) (λ q. rw q (omega arith)) (λ q.
+    bool-cases (eqb (nodesOfLength (length c)) (m .nodes)) (λ q₁.
+    bool-cases (eqb (headerRefusal c (m .nodes)) 0) (λ q₂.
+    bool-cases (isIdle (m .doing)) (λ q₃.
+    bool-cases (eqb key 0) (λ q₄. rw (q, q₁, q₂, q₃, q₄) (omega arith)) (λ q₄. rw (q, q₁, q₂, q₃, q₄) (landed-small m doing (room (landing c (m .nodes) key)) (landing c (m .nodes) key))))
+    (λ q₃. rw (q, q₁, q₂, q₃) (omega arith))) (λ q₂. rw (q, q₁, q₂) (header-small c (m .nodes)))) (λ q₁. rw (q, q₁) (omega arith)))
+
+store-small : (c : List ℕ) (old m : Memory) (s : Store) (rest : List Store) → SmallAnswer (stepStore c old m s rest .answer)
+unfolding stepStore stepRefused
+store-small c old m s rest = bool-cases (ltb (s .0) (length c)) (λ q. rw q tt) (λ q. rw q (omega arith))
+
+final-small : (a : Answer) → Final a → SmallAnswer a
+final-small a (inl e) = rw e tt
+final-small a (inr (inl (v, e))) = rw e tt
+final-small a (inr (inr e)) = rw e tt
+
+prepared-small : (c : List ℕ) (m : Memory) (doing : Doing) (a : Answer) → Final a → (p : Preparation) → SmallAnswer (stepPrepared c m doing a p .answer)
+unfolding stepPrepared stepRefused stepFinal stepFirst
+prepared-small c m doing a f refused = omega arith
+prepared-small c m doing a f balanced = final-small a f
+prepared-small c m doing a f (prepared [] free last cut) = omega arith
+prepared-small c m doing a f (prepared (s ∷ rest) free last cut) = store-small c m (planning m doing free last cut) s rest
+
+work-small : (c : List ℕ) (m : Memory) (rest : List Store) → SmallAnswer (stepWork c m rest .answer)
+unfolding stepWork stepPlan stepBegin
+work-small c m [] = prepared-small c m (nextChange c (m .nodes) (m .free) (m .last) (m .doing) .doing) (nextChange c (m .nodes) (m .free) (m .last) (m .doing) .final) (next-final c (m .nodes) (m .free) (m .last) (m .doing)) (nextChange c (m .nodes) (m .free) (m .last) (m .doing) .preparation)
+work-small c m (s ∷ rest) = store-small c m m s rest
+
+held-small : (c : List ℕ) (m : Memory) → SmallAnswer (stepHeld c m .answer)
+unfolding stepHeld stepRefused
+held-small c m =
+    bool-cases (eqb (headerRefusal c (m .nodes)) 0) (λ q. bool-cases (isIdle (m .doing)) (λ i. rw (q, i) (omega arith)) (λ i. rw (q, i) (work-small c m (m .rest)))) (λ q. rw q (header-small c (m .nodes)))
+
+format-small : (c : List ℕ) (m : Memory) (made : ℕ) (s : Option Store) → SmallAnswer (stepFormat c m made s .answer)
+unfolding stepFormat stepFinal
+format-small c m made none = tt
+format-small c m made (some s) = tt
+
+doing-small : (c : List ℕ) (m : Memory) (d : Doing) → SmallAnswer (stepDoing c m d .answer)
+unfolding stepDoing
+doing-small c m Idle = held-small c m
+doing-small c m (Formatting made) = format-small c m made (formatStore (m .nodes) (length c) made)
+doing-small c m (Inserting key value begun) = held-small c m
+doing-small c m (Deleting key begun value) = held-small c m
+doing-small c m (Repairing key) = held-small c m
+
+pub step-small : (c : List ℕ) (m : Memory) → SmallAnswer (stepOf c m .answer)
+unfolding stepOf stepRefused
+step-small c m =
+    bool-cases (eqb (nodesOfLength (length c)) 0) (λ q. rw q (omega arith)) (λ q.
+    bool-cases (eqb (nodesOfLength (length c)) (m .nodes)) (λ q₁. rw (q, q₁) (doing-small c m (m .doing))) (λ q₁. rw (q, q₁) (omega arith)))
+
+abbrev pub SmallFound : Found → Type 0
+SmallFound (FoundValue v) = Unit
+SmallFound FoundAbsent = Unit
+SmallFound (FoundRefused r) = r < 64
+
+in-small : (words : List ℕ) (s : Slot) → SmallFound (foundIn words s)
+unfolding foundIn
+in-small words (At i) = tt
+in-small words NoSlot = tt
+
+at-small : (c : List ℕ) (key : ℕ) (x : Way) → SmallFound (foundAt c key x)
+unfolding foundAt
+at-small c key NoWay = omega arith
+at-small c key (LeafAt m depth) = in-small (nodeAt c m) (slotOf (nodeAt c m) key)
+
+pub find-small : (c : List ℕ) (key : ℕ) → SmallFound (findOf c key)
+unfolding findOf
+find-small c key =
+    bool-cases (eqb (cardRefusal c) 0)
+    (λ q. bool-cases (eqb key 0) (λ z. rw (q, z) (omega arith)) (λ z. rw (q, z) (at-small c key (leafFor c (nodesOfLength (length c)) key depthLimit (getD c rootPlace 0)))))
+    (λ q. rw q (card-small c))
+
+-- ---- so the number tells the answer
+
+code-of : {r s : Reply} → r ≡ s → r .code ≡ s .code
+code-of e = ap (λ (x : Reply). x .code) e
+
+pub is-ready : (a : Answer) → SmallAnswer a → stepReply a ≡ ready → a ≡ Ready
+unfolding stepReply
+is-ready Stored s e = absurd (omega (arith, code-of e))
+is-ready Ready s e = refl
+is-ready Absent s e = absurd (omega (arith, code-of e))
+is-ready (Value v) s e = absurd (omega (arith, code-of e))
+is-ready (Refused r) s e = absurd (omega (arith, code-of e, s))
+
+pub is-stored : (a : Answer) → SmallAnswer a → stepReply a ≡ stored → a ≡ Stored
+unfolding stepReply
+is-stored Stored s e = refl
+is-stored Ready s e = absurd (omega (arith, code-of e))
+is-stored Absent s e = absurd (omega (arith, code-of e))
+is-stored (Value v) s e = absurd (omega (arith, code-of e))
+is-stored (Refused r) s e = absurd (omega (arith, code-of e, s))
+
+pub is-refused : (b : Begun) → startReply b .code < 64 → (r : ℕ) × (b ≡ BegunRefused r)
+unfolding startReply
+is-refused OpenedIdle h = absurd (omega arith)
+is-refused Started h = absurd (omega arith)
+is-refused (BegunRefused r) h = (r, refl)

@@ -1,3 +1,0 @@
-pub mod TreePairs
-pub mod Room
-pub mod Right

@@ -1,0 +1,2 @@
+-- laws of a find: one for each branch of the code
+pub mod FindLaws

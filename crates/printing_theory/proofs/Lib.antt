@@ -1,0 +1,2 @@
+-- WHAT THE PROGRAM `list` PRINTS: of every dump, the text of its whole listing
+pub mod Printed

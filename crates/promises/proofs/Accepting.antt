@@ -1,0 +1,118 @@
+-- What an accepted card shows: its header, its table, that it can be opened again; and what a find answers on a table.
+use mathlib.Core.Path.{_≡_, refl, ap, _∙_}
+use mathlib.Core.List.{List}
+use mathlib.Core.Bool.{true, false}
+use mathlib.Core.Option.{Option, none, some}
+use Prim.Native.Nat.{ℕ, _+_, _≤_, _<_}
+use native.Mathlib.Omega.{arith}
+use native.Mathlib.Decide.{ℕ-discrete}
+use lib.ListN.{length, getD}
+use borrow.Author.Tests.{lt-ltb, ne-eqb, eq-eqb}
+use Rattle.descent.specs.declared.Way.{Way}
+use Rattle.promises.proofs.Feeding.{dictionary-answer}
+use Rattle.lookup.specs.Answers.{foundReply}
+use Rattle.state.specs.Answers.{stepReply}
+use Rattle.lookup.specs.Find.{foundIn, foundAt, findOf}
+use Rattle.opening.specs.Opening.{openSound, openChecked, openOf}
+use Rattle.state.specs.Steps.{noBeginning}
+use Rattle.card.specs.Header.{nodesOfLength, cardRefusal, Sized, Formatted}
+use Rattle.card.proofs.HeaderLaws.{nodes-sized, header-formatted}
+use Rattle.card.specs.Layout.{lowestKey, keyLimit, depthLimit, rootPlace, nodeAt}
+use Rattle.change_theory.proofs.Plays.{Openable}
+use Rattle.change_theory.proofs.Repaired.{settled, violated}
+use Rattle.descent.specs.Descent.{slotOf, leafFor}
+use Rattle.descent_theory.proofs.Find.{slotAnswer, find-map}
+use Rattle.free_nodes.specs.NodeSet.{countTrue}
+use Rattle.laws.proofs.Bits.{bit-true, bit-false}
+use Rattle.laws.proofs.Cases.{bool-cases, order}
+use Rattle.promises.proofs.Invariant.{Table}
+use Rattle.promises.proofs.Promise.{Accepted}
+use Rattle.promises.proofs.Reopen.{table-depth-limited, card-accepted, facts-exact}
+use Rattle.soundness.specs.Check.{Findings, tableCheck}
+use Rattle.soundness_theory.proofs.Facts.{Facts}
+use Rattle.soundness_theory.proofs.Soundness.{accepts-sound, sound-accepted}
+use Rattle.tree.specs.Pairs.{pairs, lookup}
+use Rattle.tree.proofs.Path.{depth-of}
+use Rattle.tree.specs.Tree.{Tree}
+use Rattle.tree.specs.WellFormed.{WellFormed}
+use Rattle.descent.specs.declared.Slot.{Slot}
+use Rattle.descent.specs.declared.Slot.the-variants.{At, Absent as NoSlot}
+
+refuses : (c : List ℕ) (r : ℕ) → openOf c ≡ noBeginning r → Accepted c → ⊥
+unfolding noBeginning
+refuses c r e a = a .not-refused r (rw e)
+
+pub accepted-card : (c : List ℕ) → Accepted c → (cardRefusal c ≡ 0) × Sized (length c) (nodesOfLength (length c)) × Formatted c (nodesOfLength (length c))
+unfolding openOf cardRefusal
+accepted-card c a = go (ℕ-discrete (cardRefusal c) 0) (ℕ-discrete (nodesOfLength (length c)) 0)
+  where
+    go : Dec (cardRefusal c ≡ 0) → Dec (nodesOfLength (length c) ≡ 0) → (cardRefusal c ≡ 0) × Sized (length c) (nodesOfLength (length c)) × Formatted c (nodesOfLength (length c))
+    go (no d) q = absurd (refuses c (cardRefusal c) (rw (ne-eqb (cardRefusal c) 0 d)) a)
+    go (yes e) (yes z) = let k : _≡_ {A = ℕ} 1 0 = rw (eq-eqb (nodesOfLength (length c)) 0 z) at e in absurd (omega arith)
+    go (yes e) (no d) = (e, nodes-sized (length c) d, header-formatted c (nodesOfLength (length c)) (rw (ne-eqb (nodesOfLength (length c)) 0 d) at e))
+
+open-is : (c : List ℕ) → cardRefusal c ≡ 0 → openOf c ≡ openChecked (nodesOfLength (length c)) (tableCheck c (nodesOfLength (length c)))
+unfolding openOf
+open-is c e = rw e
+
+open-some : (n h : ℕ) (f : Findings) → openChecked n (some (h, f)) ≡ openSound n f
+unfolding openChecked
+open-some n h f = refl
+
+open-few : (n : ℕ) (f : Findings) → countTrue (f .free) < 3 + f .run → openSound n f ≡ noBeginning 5
+unfolding openSound
+open-few n f h = rw (lt-ltb (countTrue (f .free)) (3 + f .run) h)
+
+pub accepted-table : (c : List ℕ) → Accepted c → (t : Tree) × WellFormed c t
+unfolding openChecked
+accepted-table c a = go (tableCheck c (nodesOfLength (length c))) refl
+  where
+    k : (cardRefusal c ≡ 0) × Sized (length c) (nodesOfLength (length c)) × Formatted c (nodesOfLength (length c))
+    k = accepted-card c a
+
+    go : (x : Option (ℕ × Findings)) → tableCheck c (nodesOfLength (length c)) ≡ x → (t : Tree) × WellFormed c t
+    go none e = absurd (refuses c 4 (open-is c (k .0) ∙ rw e) a)
+    go (some r) e = let s = accepts-sound c (nodesOfLength (length c)) (k .1 .words) (k .1 .most) (r .0) (r .1) e in (s .0, s .1)
+
+-- the table of an accepted card can be opened again
+pub accepted-openable : (c : List ℕ) (t : Tree) → Accepted c → WellFormed c t → Openable (nodesOfLength (length c)) t
+accepted-openable c t a w = go (sound-accepted c (nodesOfLength (length c)) (k .1 .words) (k .1 .most) t w)
+  where
+    k : (cardRefusal c ≡ 0) × Sized (length c) (nodesOfLength (length c)) × Formatted c (nodesOfLength (length c))
+    k = accepted-card c a
+
+    go : ((h : ℕ) × (f : Findings) × (tableCheck c (nodesOfLength (length c)) ≡ some (h, f)) × Facts c (nodesOfLength (length c)) t h f) → Openable (nodesOfLength (length c)) t
+    go (h, f, e, x) = bool-cases (f .violated) broken whole
+      where
+        room : 3 + f .run ≤ countTrue (f .free)
+        room = order (countTrue (f .free)) (3 + f .run) (λ o. absurd (refuses c 5 (open-is c (k .0) ∙ ap (openChecked (nodesOfLength (length c))) e ∙ open-some (nodesOfLength (length c)) h f ∙ open-few (nodesOfLength (length c)) f o) a)) (λ o. o)
+
+        broken : f .violated ≡ true → Openable (nodesOfLength (length c)) t
+        broken q =
+            let v = x .violation q in
+            record { free = f .free; exact = facts-exact x; key = f .key; deep = depth-of (v .0 .context); ready = violated (v .0) (omega (arith, x .violated, bit-true (f .violated) q)) (omega (arith, room, v .1)) }
+
+        whole : f .violated ≡ false → Openable (nodesOfLength (length c)) t
+        whole q = record { free = f .free; exact = facts-exact x; key = f .key; deep = 0; ready = settled (omega (arith, x .violated, bit-false (f .violated) q)) (omega (arith, room)) }
+
+-- ---- finds
+
+find-is : (c : List ℕ) (n key : ℕ) → cardRefusal c ≡ 0 → nodesOfLength (length c) ≡ n → 0 < key → findOf c key ≡ foundAt c key (leafFor c n key depthLimit (getD c rootPlace 0))
+unfolding findOf
+find-is c n key e en h = rw (e, en, ne-eqb key 0 (omega arith))
+
+found-is : (words : List ℕ) (s : Slot) → foundReply (foundIn words s) ≡ stepReply (dictionary-answer (slotAnswer words s))
+unfolding foundIn slotAnswer foundReply stepReply dictionary-answer
+found-is words (At i) = refl
+found-is words NoSlot = refl
+
+pub find-answers : (c : List ℕ) (n : ℕ) (t : Tree) (key : ℕ) → Table c n t → 0 < key → key < keyLimit → foundReply (findOf c key) ≡ stepReply (dictionary-answer (lookup key (pairs t)))
+unfolding foundAt
+find-answers c n t key b h l =
+    let a = card-accepted (b .sized) (b .header) in
+    let f = find-map c n key (b .sized .words) h depthLimit lowestKey keyLimit t (b .holds .2) (b .sound .range) (omega arith) l (table-depth-limited b) (omega arith) in
+    ap foundReply (find-is c n key (a .0) (a .1) h)
+    ∙ ap (λ (x : ℕ). foundReply (foundAt c key (leafFor c n key depthLimit x))) (b .holds .0)
+    ∙ ap (λ (x : Way). foundReply (foundAt c key x)) (f .found)
+    ∙ found-is (nodeAt c (f .number)) (slotOf (nodeAt c (f .number)) key)
+    ∙ ap (λ (x : Option ℕ). stepReply (dictionary-answer x)) (f .answers)

@@ -1,0 +1,66 @@
+-- The first step of an update, by what its leaf holds.
+use mathlib.Core.Path.{_≡_}
+use mathlib.Core.List.{List, [], _∷_}
+use mathlib.Core.Bool.{Bool, true, false, not}
+use Prim.Native.Nat.{ℕ, _+_, _≤_, _<_}
+use native.Mathlib.Omega.{arith}
+use lib.ListN.{getD}
+use lib.Dec.{ltb}
+use borrow.Author.Tests.{lt-ltb}
+use Rattle.card.specs.Layout.{place, nodeAt, leafPairs}
+use Rattle.plans.specs.Change.{splitLeaf}
+use Rattle.plans.specs.Planning.{giving, first, second, third, balanced, prepared}
+use Rattle.descent.specs.Descent.{slotOf}
+use Rattle.free_nodes.specs.NodeSet.{countTrue}
+use Rattle.laws.proofs.Cases.{order}
+use Rattle.laws.specs.Sorting.{sort}
+use Rattle.promises.proofs.Feeding.{is-none, full-at, leaf-full}
+use Rattle.promises.proofs.Machine.{run}
+use Rattle.table.specs.Calls.{stepPrepared, stepBegin}
+use Rattle.state.specs.Memory.{Memory}
+use Rattle.updates.specs.Updates.{landing, emptyReason, reasonIn, insertReason, insertChange, deleteChange, roomFor, startRoom, changeIn, changeAt}
+use Rattle.state.specs.declared.Doing.the-variants.{Inserting, Deleting}
+use Rattle.state.specs.declared.Answer.the-variants.{Absent, Value}
+use Rattle.descent.specs.declared.Slot.the-variants.{At, Absent as NoSlot}
+use Rattle.descent.specs.declared.Landing.the-variants.{Leaf as LandingAt}
+
+module _ (c : List ℕ) (n key : ℕ) (m link run : ℕ) (land : landing c n key ≡ LandingAt m link run) where
+  module _ (value : ℕ) (free : List Bool) (last : ℕ) (mem : Memory) where
+    pub put-held : (i : ℕ) → slotOf (nodeAt c m) key ≡ At i → stepBegin c mem (changeAt c (Inserting key value false) free last (landing c n key)) ≡ stepPrepared c mem (Inserting key value true) (Value (getD (nodeAt c m) (12 + i) 0)) balanced
+    unfolding stepBegin changeAt changeIn insertReason reasonIn insertChange
+    put-held i e = rw (land, e)
+
+    pub put-slot : (i : ℕ) → slotOf (nodeAt c m) key ≡ NoSlot → slotOf (nodeAt c m) 0 ≡ At i
+        → stepBegin c mem (changeAt c (Inserting key value false) free last (landing c n key)) ≡ stepPrepared c mem (Inserting key value true) Absent (prepared ((place m (12 + i), value) ∷ (place m (1 + i), key) ∷ []) free last [])
+    unfolding stepBegin changeAt changeIn insertReason reasonIn emptyReason insertChange
+    put-slot i e z = rw (land, e, z)
+
+    pub put-full : slotOf (nodeAt c m) key ≡ NoSlot → slotOf (nodeAt c m) 0 ≡ NoSlot
+        → stepBegin c mem (changeAt c (Inserting key value false) free last (landing c n key)) ≡ stepPrepared c mem (Inserting key value true) Absent (giving 3 free last (λ ms. splitLeaf m link (sort ((key, value) ∷ leafPairs (nodeAt c m))) (first ms) (second ms) (third ms)))
+    unfolding stepBegin changeAt changeIn insertReason reasonIn emptyReason insertChange
+    put-full e z = rw (land, e, z)
+
+    pub remove-held : (i : ℕ) → slotOf (nodeAt c m) key ≡ At i
+        → stepBegin c mem (changeAt c (Deleting key false 0) free last (landing c n key)) ≡ stepPrepared c mem (Deleting key true (getD (nodeAt c m) (12 + i) 0)) (Value (getD (nodeAt c m) (12 + i) 0)) (prepared ((place m (1 + i), 0) ∷ []) free last [])
+    unfolding stepBegin changeAt changeIn deleteChange
+    remove-held i e = rw (land, e)
+
+    pub remove-absent : slotOf (nodeAt c m) key ≡ NoSlot → stepBegin c mem (changeAt c (Deleting key false 0) free last (landing c n key)) ≡ stepPrepared c mem (Deleting key true 0) Absent balanced
+    unfolding stepBegin changeAt changeIn deleteChange
+    remove-absent e = rw (land, e)
+
+  -- "A splitting insert needs j + 5 free nodes."
+  pub room-full : (free : List Bool) → slotOf (nodeAt c m) key ≡ NoSlot → slotOf (nodeAt c m) 0 ≡ NoSlot → startRoom c key free (landing c n key) ≡ true → run + 5 ≤ countTrue free
+  unfolding startRoom roomFor insertReason reasonIn emptyReason
+  room-full free e z r = let q : not (ltb (countTrue free) (run + 5)) ≡ true = rw (land, e, z) at r in order (countTrue free) (run + 5) (λ o. absurd (never o q)) (λ o. o)
+    where
+      never : countTrue free < run + 5 → not (ltb (countTrue free) (run + 5)) ≡ true → ⊥
+      never o q = let k : _≡_ {A = Bool} false true = rw (lt-ltb (countTrue free) (run + 5) o) at q in let y : _≡_ {A = ℕ} 0 1 = cc in omega arith
+
+  pub flag-slot : (i : ℕ) → slotOf (nodeAt c m) 0 ≡ At i → leaf-full c n key ≡ false
+  unfolding leaf-full full-at is-none
+  flag-slot i e = rw (land, e)
+
+  pub flag-full : slotOf (nodeAt c m) 0 ≡ NoSlot → leaf-full c n key ≡ true
+  unfolding leaf-full full-at is-none
+  flag-full e = rw (land, e)

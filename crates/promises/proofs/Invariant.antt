@@ -1,0 +1,92 @@
+-- What holds of a card, its state, the ledger and the answer due, at every moment.
+use mathlib.Core.Path.{_≡_}
+use mathlib.Core.List.{List, [], _∷_}
+use mathlib.Core.Bool.{Bool, true, false}
+use mathlib.Core.Option.{Option, none, some}
+use Prim.Native.Nat.{ℕ, suc, _+_, _*_, _≤_, _<_}
+use lib.ListN.{length}
+use Rattle.card.specs.Layout.{lowestKey, keyLimit}
+use Rattle.card.specs.Header.{Sized, Formatted}
+use Rattle.card.specs.Stores.{Store}
+use Rattle.tree.specs.FreeNodes.{Exact}
+use Rattle.change_theory.proofs.Plays.{Openable, Changing}
+use Rattle.change_theory.proofs.Repaired.{Mendable}
+use Rattle.change_theory.proofs.Rewritten.{Sound}
+use Rattle.free_nodes.specs.NodeSet.{countTrue}
+use Rattle.promises.proofs.Feeding.{leaf-full, dictionary-answer}
+use Rattle.promises.proofs.Finishing.{updateStoresAt}
+use Rattle.promises.proofs.Ledger.{Update, Hand, Ledger, deciding, put, remove, empty, hand}
+use Rattle.promises.proofs.LedgerLaws.{Enters, Same}
+use Rattle.promises.proofs.Machine.{World}
+use Rattle.state.specs.Memory.{Memory}
+use Rattle.updates.specs.Updates.{landing, startRoom}
+use Rattle.state.specs.declared.Doing.{Doing}
+use Rattle.state.specs.declared.Doing.the-variants.{Idle, Inserting, Deleting, Repairing}
+use Rattle.state.specs.declared.Answer.{Answer}
+use Rattle.state.specs.declared.Answer.the-variants.{Ready, Absent, Value}
+use Rattle.promises.proofs.Shapes.{afterShape}
+use Rattle.shapes.proofs.Bare.{bare}
+use Rattle.shapes.proofs.Whole.{Heads}
+use Rattle.tree.proofs.Cut.{cut}
+use Rattle.tree.specs.Pairs.{pairs, lookup}
+use Rattle.tree.specs.Represent.{Holds}
+use Rattle.tree.specs.Height.{Height}
+use Rattle.tree.specs.Tree.{Tree}
+use Rattle.tree.specs.Violations.{table-violations}
+
+-- a card with n nodes that holds the tree
+pub record Table (c : List ℕ) (n : ℕ) (t : Tree) : Type 0 where
+  pub sized : Sized (length c) n
+  pub header : Formatted c n
+  pub holds : Holds c t
+  pub sound : Sound t
+
+-- work whose first change was planned: the key it follows, its final answer, and its update, which opening's repair has not
+pub data Job : Doing → ℕ → Answer → Option Update → Type 0 where
+  job-repair : {key : ℕ} → Job (Repairing key) key Ready none
+  job-insert : {key value : ℕ} → Job (Inserting key value true) key Absent (some (put key value))
+  job-delete : {key value : ℕ} → Job (Deleting key true value) key (Value value) (some (remove key))
+
+-- the ledger has entered the update, if there is one, and its answer is due
+pub data Entered : Option Update → Answer → Hand → Option Answer → Type 0 where
+  no-update : {final : Answer} → Entered none final empty none
+  updated : {u : Update} {final : Answer} {f : Bool} {k : ℕ} → Entered (some u) final (hand u f k true) (some final)
+
+-- steps enough from the start of an update of the tree to its final answer: 73 stores for its first change, 73 for each level
+pub record UpdateSteps (t : Tree) (steps : ℕ) : Type 0 where
+  pub height : ℕ
+  pub level : Height height t
+  pub enough : updateStoresAt height + 1 ≤ steps
+
+pub data Stage (c : List ℕ) (n : ℕ) (t goal : Tree) (steps : ℕ) : Memory → Hand → Option Answer → Type 0 where
+  stage-idle : {free : List Bool} {last : ℕ} → table-violations t ≡ 0 → 3 ≤ countTrue free → Exact n free t → bare t ≡ goal
+      → Stage c n t goal steps (record { nodes = n; free = free; last = last; doing = Idle; rest = []; cut = [] }) empty none
+  -- started: nothing is planned yet
+  stage-put : {free : List Bool} {last key value : ℕ} → table-violations t ≡ 0 → 3 ≤ countTrue free → Exact n free t → lowestKey ≤ key → key < keyLimit → startRoom c key free (landing c n key) ≡ true → UpdateSteps t steps → afterShape (put key value) (bare t) ≡ goal
+      → Stage c n t goal steps (record { nodes = n; free = free; last = last; doing = Inserting key value false; rest = []; cut = [] }) (hand (put key value) (leaf-full c n key) 0 false) (some (dictionary-answer (lookup key (pairs t))))
+  stage-remove : {free : List Bool} {last key : ℕ} → table-violations t ≡ 0 → 3 ≤ countTrue free → Exact n free t → lowestKey ≤ key → key < keyLimit → UpdateSteps t steps → afterShape (remove key) (bare t) ≡ goal
+      → Stage c n t goal steps (record { nodes = n; free = free; last = last; doing = Deleting key false 0; rest = []; cut = [] }) (hand (remove key) false 0 false) (some (dictionary-answer (lookup key (pairs t))))
+  -- the first change of an update, whose last store enters it
+  stage-first : {free : List Bool} {last key : ℕ} {doing : Doing} {final : Answer} {u : Update} {f : Bool} {k : ℕ} {cut : List ℕ} {s : Store} {rest : List Store} → Job doing key final (some u) → (p : Changing c n key t (s ∷ rest) free cut) → Enters u (pairs t) (pairs (p .next))
+      → k + suc (length rest) ≡ deciding u f → suc (length rest) + (73 * p .level + 1) ≤ steps → Heads (p .level) (bare (p .next)) goal
+      → Stage c n t goal steps (record { nodes = n; free = free; last = last; doing = doing; rest = s ∷ rest; cut = cut }) (hand u f k false) (some final)
+  -- between two changes of a repair
+  stage-between : {free : List Bool} {last key : ℕ} {doing : Doing} {final : Answer} {u : Option Update} {h : Hand} {due : Option Answer} → Job doing key final u → Entered u final h due → (deep : ℕ) → Mendable key free t deep → Exact n free t → 73 * deep + 1 ≤ steps → Heads deep (bare t) goal
+      → Stage c n t goal steps (record { nodes = n; free = free; last = last; doing = doing; rest = []; cut = [] }) h due
+  -- within a change of a repair, which keeps the pairs
+  stage-within : {free : List Bool} {last key : ℕ} {doing : Doing} {final : Answer} {u : Option Update} {h : Hand} {due : Option Answer} {cut : List ℕ} {s : Store} {rest : List Store} → Job doing key final u → Entered u final h due → (p : Changing c n key t (s ∷ rest) free cut)
+      → Same (pairs (p .next)) (pairs t) → suc (length rest) + (73 * p .level + 1) ≤ steps → Heads (p .level) (bare (p .next)) goal
+      → Stage c n t goal steps (record { nodes = n; free = free; last = last; doing = doing; rest = s ∷ rest; cut = cut }) h due
+
+pub record Inv (n steps : ℕ) (w : World) (b : Ledger) (due : Option Answer) : Type 0 where
+  pub tree : Tree
+  pub table : Table (w .card) n tree
+  pub openable : Openable n tree
+  pub same : Same (pairs tree) (b .held)
+  -- what the work in hand comes to, without numbers
+  pub goal : Tree
+  pub stage : Stage (w .card) n tree goal steps (w .memory) (b .in-hand) due
+
+-- the invariant, with this goal
+abbrev pub Toward : Tree → ℕ → ℕ → World → Ledger → Option Answer → Type 0
+Toward goal n steps w b due = (i : Inv n steps w b due) × (i .goal ≡ goal)

@@ -1,0 +1,60 @@
+-- what happens to a card: the calls of document 01 that a list of demand 3 may hold, and power going, after which the card is opened anew
+pub mod Machine
+-- the book, here the ledger
+pub mod Ledger
+-- what the ledger is fed of each event: document 01, "The book and the cut"
+pub mod Feeding
+-- THE POWER-CUT PROMISE, demand 3, as one claim about whole lists
+pub mod Promise
+-- demand 2, "an update taking at most 657 stores": what it means that the work in hand comes to its end, and how it leaves the table
+pub mod Finishing
+-- what entering an update does to totals, and so to the map
+pub mod LedgerLaws
+-- what the look-up in a leaf tells about its rows
+pub mod Slots
+-- A leaf of a balanced table is changed in its place: what the table is then
+pub mod LeafAfter
+-- the first change of an insert or a delete on a balanced table: its stores, the tree they lead to, and what the ledger enters
+pub mod FirstChanges
+-- what an update makes of a tree without numbers: its first change, and what the repairs after it come to
+pub mod Shapes
+-- what holds of a card, its state, the ledger and the answer due, at every moment
+pub mod Invariant
+-- what a step is on a card that holds a table, by what is being done
+pub mod Steps
+-- opening a card that holds a sound table with enough free nodes succeeds, and hands back the state that the table asks for
+pub mod Reopen
+-- the first step of an update, by what its leaf holds
+pub mod Begin
+-- every event keeps the invariant; a step uses one of the steps that are left
+pub mod Kept
+-- A step keeps the invariant, feeds the ledger rightly, and gives the answer that is due
+pub mod Stepping
+-- starting an update keeps the invariant: refused, nothing changes; not refused, the update is in hand and its answer due
+pub mod Starting
+-- what an accepted card shows: its header, its table, that it can be opened again; and what a find answers on a table
+pub mod Accepting
+-- the proof of the power-cut promise
+pub mod PowerLoss
+-- the work in hand finishes, no step of it is refused, and it leaves a balanced table with three free nodes or more: what the invariant says about every step, put together
+pub mod Finished
+-- DEMAND 2 over the lists of demand 3, "On a table formatted or opened by these calls and worked by them alone": every update gives the answer of the paper's dictionary after at most 657 stores, and at most 73 × (h + 1) on a table of h levels; no step of it is refused, and opening's repair ends too
+pub mod Dictionary
+-- the room of an insert, by what it finds in its leaf
+pub mod RoomLaws
+-- DEMAND 2, what room there is: on an idle state the table is balanced, at most 8 levels high
+pub mod Room
+-- "on a table as in demand 2 this holds for each line after every finished update and repair"
+pub mod Rations
+-- what opening refuses, exactly
+pub mod OpenRefusals
+-- "It reads the card only, like a find, and may come between steps"
+pub mod NextPair
+-- whole calls: each update runs to its end before the next, without cuts
+pub mod Alike
+-- THE PROMISE, on a card of one line: of two tables as in demand 2, at rest, with the same N, whose trees differ in node numbers alone
+pub mod SameAnswers
+-- LINES APART, the induction over lists of calls, with what one whole call of either line does as its premise: a call of a line has the outcome that its own limit and tree give, and leaves the other line's tree as it is
+pub mod Lines
+-- bench cards I, J, K and L2 on trees without numbers: the functions that show the promise compute
+pub mod BareCards

@@ -1,0 +1,150 @@
+-- Laws of the exported calls: one for each way that a call ends.
+use mathlib.Core.Path.{_≡_, refl, sym, ap, subst, _∙_}
+use mathlib.Core.Bool.{true, false}
+use mathlib.Core.List.{List}
+use Prim.Native.Nat.{ℕ, _^_, _<_}
+use native.Mathlib.Omega.{arith}
+use lib.ListN.{length}
+use Rattle.card.specs.Replies.{Reply, stored, noState}
+use Rattle.dump.specs.Dump.{readAnswer, writeAnswer}
+use Rattle.dump.proofs.AnswerLaws.{read-sized, write-sized, padded-most, greatest-dump}
+use Rattle.dump.specs.declared.Answer.the-variants.{Length}
+use Rattle.state.specs.Answers.{startReply, stepReply}
+use Rattle.state.specs.Steps.{Handed, Step}
+use Rattle.table.specs.Calls.{stepOf}
+use Rattle.state.specs.Memory.{Memory, memoryOf}
+use Rattle.state.specs.Results.{handedOf, Unchanged, UnchangedStart}
+use Rattle.state.specs.declared.State.{State}
+use Rattle.state.specs.declared.Beginning.{Beginning}
+use Rattle.state.specs.declared.Begun.{Begun}
+use Rattle.state.specs.declared.Begun.the-variants.{Idle as OpenedIdle, Started, Refused as BegunRefused}
+use Rattle.state.specs.declared.Stepped.{Stepped}
+use Rattle.state.specs.declared.Answer.{Answer}
+use Rattle.state.specs.declared.Answer.the-variants.{Stored, Ready, Absent, Value, Refused}
+use Rattle.state_block.specs.Block.{stateWords, unpacked, memoryIn, Small, Kept}
+use Rattle.state_block.proofs.Block.{Words}
+use Rattle.ration_table.proofs.HandedBack.{step-small}
+use Rattle.ration_table.specs.Contracts.{OpenCall, StartCall, StepCall}
+use Rattle.replies.specs.ReplyWords.{isRefusal, isRefusedStart}
+use Rattle.block_steps.specs.Playing.{Played}
+
+-- ---- refusals
+
+refused-start : (b : Begun) → isRefusedStart b ≡ true → (r : ℕ) × (b ≡ BegunRefused r)
+unfolding isRefusedStart
+refused-start OpenedIdle e = let z : _≡_ {A = ℕ} 0 1 = cc in absurd (omega arith)
+refused-start Started e = let z : _≡_ {A = ℕ} 0 1 = cc in absurd (omega arith)
+refused-start (BegunRefused r) e = (r, refl)
+
+unrefused-start : (b : Begun) (r : ℕ) → isRefusedStart b ≡ false → b ≡ BegunRefused r → ⊥
+unfolding isRefusedStart
+unrefused-start b r e f = let z : true ≡ false = ap isRefusedStart (sym f) ∙ e in let w : _≡_ {A = ℕ} 0 1 = cc in omega arith
+
+refusal : (a : Answer) → isRefusal a ≡ true → (r : ℕ) × (a ≡ Refused r)
+unfolding isRefusal
+refusal Stored e = let z : _≡_ {A = ℕ} 0 1 = cc in absurd (omega arith)
+refusal Ready e = let z : _≡_ {A = ℕ} 0 1 = cc in absurd (omega arith)
+refusal Absent e = let z : _≡_ {A = ℕ} 0 1 = cc in absurd (omega arith)
+refusal (Value v) e = let z : _≡_ {A = ℕ} 0 1 = cc in absurd (omega arith)
+refusal (Refused r) e = (r, refl)
+
+no-refusal : (a : Answer) (r : ℕ) → isRefusal a ≡ false → a ≡ Refused r → ⊥
+unfolding isRefusal
+no-refusal a r e f = let z : true ≡ false = ap isRefusal (sym f) ∙ e in let w : _≡_ {A = ℕ} 0 1 = cc in omega arith
+
+-- ---- the state handed back, where the whole answer is known
+
+pub small-handed : (h : Beginning) (due : Handed) → handedOf h ≡ due → Small (due .memory) → Small (memoryOf (h .state))
+unfolding handedOf
+small-handed h due e small = subst (λ (x : Handed). Small (x .memory)) (sym e) small
+
+-- ---- a block of another length
+
+module _ (block : List ℕ) (reply : Reply) (n : length block ≡ stateWords → ⊥) (e : reply ≡ noState) where
+  pub open-no-state : (due : Handed) → OpenCall block block reply due
+  open-no-state due = record { answered = λ l. absurd (n l); handed = λ l. absurd (n l); no-state = λ m. (e, refl) }
+
+  pub start-no-state : (due : Handed) → StartCall block block reply due
+  start-no-state due = record { opened = open-no-state due; unchanged = λ r f. refl }
+
+  pub step-no-state : (card : List ℕ) (due : Step) → StepCall block block card card reply due
+  step-no-state card due =
+      record { answered = λ l. absurd (n l); stored = λ l. absurd (n l); handed = λ l. absurd (n l); unchanged = λ r f. refl; no-state = λ m. (e, refl, refl) }
+
+-- ---- what is handed back
+
+module _ (before after : List ℕ) (reply : Reply) (l : length before ≡ stateWords) where
+  module _ (h : Beginning) (e : reply ≡ startReply (h .begun)) where
+    pub handed-open : memoryIn after ≡ memoryOf (h .state) → OpenCall before after reply (handedOf h)
+    unfolding handedOf
+    handed-open f = record { answered = λ k. e; handed = λ k. f; no-state = λ n. absurd (n l) }
+
+    pub handed-start : isRefusedStart (h .begun) ≡ false → memoryIn after ≡ memoryOf (h .state) → StartCall before after reply (handedOf h)
+    unfolding handedOf
+    handed-start i f = record { opened = handed-open f; unchanged = λ r g. absurd (unrefused-start (h .begun) r i g) }
+
+pub refused-back : (block : List ℕ) (reply : Reply) (h : Beginning) → length block ≡ stateWords → reply ≡ startReply (h .begun) → isRefusedStart (h .begun) ≡ true → UnchangedStart (unpacked block) h → StartCall block block reply (handedOf h)
+unfolding handedOf
+refused-back block reply h l e i u =
+    let r = refused-start (h .begun) i in
+    record { opened = handed-open block block reply l h e (ap memoryOf (sym (u (r .0) (r .1)))); unchanged = λ n f. refl }
+
+-- ---- a step
+
+module _ (before after card card-after : List ℕ) (reply : Reply) (l : length before ≡ stateWords) where
+  -- a store in place
+  pub played-step : (due : Step) → reply ≡ stored → Played true due card card-after before after → StepCall before after card card-after reply due
+  unfolding stepReply isRefusal
+  played-step due e f =
+      record {
+        answered = λ k. e ∙ ap (λ (x : Step). stepReply (x .answer)) (sym f);
+        stored = λ k. ap (λ (x : Step). x .card) (sym f);
+        handed = λ k. ap (λ (x : Step). x .memory) (sym f);
+        unchanged = λ r g. absurd (no-refusal Stored r refl (ap (λ (x : Step). x .answer) (sym f) ∙ g));
+        no-state = λ n. absurd (n l);
+      }
+
+  module _ (s : State) (x : Stepped) (u : s ≡ unpacked before) (c : card-after ≡ stepOf card (memoryOf s) .card) (a : x .answer ≡ stepOf card (memoryOf s) .answer) (m : memoryOf (x .state) ≡ stepOf card (memoryOf s) .memory) (e : reply ≡ stepReply (x .answer)) where
+    abbrev due : Step
+    due = stepOf card (memoryIn before)
+
+    same : stepOf card (memoryOf s) ≡ due
+    same = ap (λ (t : State). stepOf card (memoryOf t)) u
+
+    pub packed-step : isRefusal (x .answer) ≡ false → Words before → Kept (x .state) after → StepCall before after card card-after reply due
+    packed-step i w kept =
+        let f : memoryIn after ≡ memoryOf (x .state) = kept (subst (λ (y : Memory). Small y) (sym (m ∙ ap (λ (y : Step). y .memory) same)) (step-small card before w)) in
+        record {
+          answered = λ k. e ∙ ap stepReply a ∙ ap (λ (y : Step). stepReply (y .answer)) same;
+          stored = λ k. c ∙ ap (λ (y : Step). y .card) same;
+          handed = λ k. f ∙ m ∙ ap (λ (y : Step). y .memory) same;
+          unchanged = λ r g. absurd (no-refusal (x .answer) r i (a ∙ ap (λ (y : Step). y .answer) same ∙ g));
+          no-state = λ n. absurd (n l);
+        }
+
+    pub refused-step : isRefusal (x .answer) ≡ true → Unchanged s x → after ≡ before → StepCall before after card card-after reply due
+    refused-step i v f =
+        let r = refusal (x .answer) i in
+        record {
+          answered = λ k. e ∙ ap stepReply a ∙ ap (λ (y : Step). stepReply (y .answer)) same;
+          stored = λ k. c ∙ ap (λ (y : Step). y .card) same;
+          handed = λ k. ap memoryIn f ∙ ap memoryOf (sym u) ∙ ap memoryOf (sym (v (r .0) (r .1))) ∙ m ∙ ap (λ (y : Step). y .memory) same;
+          unchanged = λ n g. f;
+          no-state = λ n. absurd (n l);
+        }
+
+-- nothing was played: the step is made on the card and block as they were
+pub not-played : (before played after card played-card card-after : List ℕ) (reply : Reply) → Played false (stepOf card (memoryIn before)) card played-card before played → StepCall played after played-card card-after reply (stepOf played-card (memoryIn played)) → StepCall before after card card-after reply (stepOf card (memoryIn before))
+not-played before played after card played-card card-after reply e h =
+    subst (λ (b : List ℕ). StepCall b after card card-after reply (stepOf card (memoryIn b))) (e .1)
+    (subst (λ (k : List ℕ). StepCall played after k card-after reply (stepOf k (memoryIn played))) (e .0) h)
+
+-- ---- dumps
+
+pub short-read : (dump : List ℕ) (lent n : ℕ) → readAnswer dump lent ≡ Length n → n < 2 ^ 32
+short-read dump lent n e = let s = read-sized dump lent n e in omega (arith, s .sized .words, s .sized .most)
+
+pub short-write : (card : List ℕ) (lent n : ℕ) → writeAnswer card lent ≡ Length n → n < 2 ^ 32
+short-write card lent n e =
+    let s = write-sized card lent n e in
+    omega (arith, s .size, greatest-dump, padded-most (length card) (omega (arith, s .good .sized .words, s .good .sized .most)))

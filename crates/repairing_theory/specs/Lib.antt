@@ -1,2 +1,0 @@
-pub mod Repair
-pub mod ReadDump

@@ -1,0 +1,2 @@
+-- laws of what two siblings are due: one for each branch of the code
+pub mod SiblingLaws

@@ -1,0 +1,2 @@
+-- laws of the starts: one for each branch of the code
+pub mod StartLaws

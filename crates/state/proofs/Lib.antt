@@ -1,0 +1,2 @@
+-- laws of the stores: one for each branch of the code
+pub mod StepLaws

@@ -1,0 +1,171 @@
+-- Laws of the stores: one for each branch of the code.
+use mathlib.Core.Path.{_≡_, refl, ap, ap₂, sym, _∙_}
+use mathlib.Core.List.{List, [], _∷_, zip, zipWith}
+use mathlib.Core.Bool.{Bool, true, false}
+use mathlib.Core.Option.{none, some}
+use Prim.Native.Nat.{ℕ, zero, suc, _+_, _≤_, _<_}
+use native.Mathlib.Omega.{arith}
+use native.Mathlib.Numerals.{add-one}
+use lib.ListN.{length, set, getD, take, drop, length-take, drop-of-length-le}
+use lib.Seq.{drop-cons, getD-take}
+use lib.Dec.{ltb}
+use borrow.Author.Tests.{ltb-true, lt-ltb, le-ltb, ne-eqb, eq-eqb}
+use Rattle.card.specs.Stores.{Store}
+use Rattle.plans.specs.Plan.{storesOf}
+use Rattle.plans.specs.Planning.{withAll}
+use Rattle.plans.specs.declared.Plan.{Plan}
+use Rattle.laws.proofs.Cases.{order}
+use Rattle.laws.specs.Cases.{pick}
+use Rattle.laws.specs.Lists.{before-zero}
+use Rattle.state.specs.Steps.{Step, stepRefused, formattedWord, formatStore, stepStore, stepFirst}
+use Rattle.state.specs.Memory.{Memory, memoryOf, advanced}
+use Rattle.state.specs.Results.{stepLeft, more}
+use Rattle.state.specs.declared.Stepped.{Stepped}
+use Rattle.state.specs.declared.Answer.{Answer}
+use Rattle.state.specs.declared.Answer.the-variants.{Stored, Ready, Refused}
+
+-- the stores of a plan, from one on
+zip-nil : (xs : List ℕ) → zip {A = ℕ} {B = ℕ} xs [] ≡ []
+unfolding zip zipWith
+zip-nil [] = refl
+zip-nil (x ∷ xs) = refl
+
+zip-drop : (k : ℕ) (xs ys : List ℕ) → drop k (zip xs ys) ≡ zip (drop k xs) (drop k ys)
+unfolding zip zipWith
+zip-drop zero xs ys = refl
+zip-drop (suc k) [] ys = refl
+zip-drop (suc k) (x ∷ xs) [] = sym (zip-nil (drop k xs))
+zip-drop (suc k) (x ∷ xs) (y ∷ ys) = zip-drop k xs ys
+
+module _ (p : Plan) (k : ℕ) (lp : length (p .places) ≡ 73) (lv : length (p .values) ≡ 73) where
+  pub store-at : k < p .count → k < 73 → drop k (storesOf p) ≡ (getD (p .places) k 0, getD (p .values) k 0) ∷ drop (k + 1) (storesOf p)
+  unfolding storesOf zip zipWith
+  store-at h l =
+      let hp : k < length (take (p .count) (p .places)) = simp length-take (omega arith) in
+      let hv : k < length (take (p .count) (p .values)) = simp length-take (omega arith) in
+      zip-drop k (take (p .count) (p .places)) (take (p .count) (p .values))
+      ∙ ap₂ (λ (x y : List ℕ). zip x y) (drop-cons (take (p .count) (p .places)) k 0 hp) (drop-cons (take (p .count) (p .values)) k 0 hv)
+      ∙ ap₂ (λ (x y : ℕ). (x, y) ∷ zip (drop (suc k) (take (p .count) (p .places))) (drop (suc k) (take (p .count) (p .values)))) (getD-take (p .count) (p .places) k 0 h) (getD-take (p .count) (p .values) k 0 h)
+      ∙ ap (λ (r : List Store). (getD (p .places) k 0, getD (p .values) k 0) ∷ r) (sym (zip-drop (suc k) (take (p .count) (p .places)) (take (p .count) (p .values))))
+      ∙ ap (λ (j : ℕ). (getD (p .places) k 0, getD (p .values) k 0) ∷ drop j (zip (take (p .count) (p .places)) (take (p .count) (p .values)))) (sym (add-one k))
+
+  pub stores-full : 73 ≤ k → drop k (storesOf p) ≡ []
+  unfolding storesOf zip zipWith
+  stores-full h =
+      zip-drop k (take (p .count) (p .places)) (take (p .count) (p .values))
+      ∙ ap (λ (x : List ℕ). zip x (drop k (take (p .count) (p .values)))) (drop-of-length-le (take (p .count) (p .places)) {i = k} (simp length-take (omega arith)))
+
+  pub stores-end : p .count ≤ k → drop k (storesOf p) ≡ []
+  unfolding storesOf zip zipWith
+  stores-end h =
+      zip-drop k (take (p .count) (p .places)) (take (p .count) (p .values))
+      ∙ ap (λ (x : List ℕ). zip x (drop k (take (p .count) (p .values)))) (drop-of-length-le (take (p .count) (p .places)) {i = k} (simp length-take (omega arith)))
+
+  pub more-full : 73 ≤ k → more (drop k (storesOf p)) ≡ false
+  unfolding more
+  more-full h = ap more (stores-full h)
+
+  pub more-test : k < 73 → more (drop k (storesOf p)) ≡ ltb k (p .count)
+  unfolding more
+  more-test l = order k (p .count) (λ o. ap more (store-at o l) ∙ sym (lt-ltb k (p .count) o)) (λ o. ap more (stores-end o) ∙ sym (le-ltb k (p .count) o))
+
+  -- a store is to come exactly where it is below both ends
+  pub more-below : more (drop k (storesOf p)) ≡ true → (k < p .count) × (k < 73)
+  more-below e =
+      order k 73 (λ l. (ltb-true k (p .count) (sym (more-test l) ∙ e), l))
+      (λ o. let z : false ≡ true = sym (more-full o) ∙ e in let w : _≡_ {A = ℕ} 0 1 = cc in absurd (omega arith))
+
+pub more-none : (ss : List Store) → more ss ≡ false → ss ≡ []
+unfolding more
+more-none [] e = refl
+more-none (s ∷ rest) e = let w : _≡_ {A = ℕ} 0 1 = cc in absurd (omega arith)
+
+-- the nodes that are cut out, one after the other
+with-first : (x : ℕ) (l : List ℕ) (free : List Bool) → (x ≡ 0 → ⊥) → withAll (before-zero (x ∷ l)) free ≡ withAll (before-zero l) (set free x true)
+unfolding withAll
+with-first zero l free q = absurd (q refl)
+with-first (suc x) l free q = ap (λ (b : Bool). withAll (before-zero l) (pick b free (set free (suc x) true))) (ne-eqb (suc x) 0 q)
+
+module _ (cut : List ℕ) (i : ℕ) where
+  pub cut-end : length cut ≤ i → before-zero (drop i cut) ≡ []
+  cut-end h = ap before-zero (drop-of-length-le cut {i = i} h)
+
+  pub cut-zero : i < length cut → getD cut i 0 ≡ 0 → before-zero (drop i cut) ≡ []
+  cut-zero h z = ap before-zero (drop-cons cut i 0 h) ∙ ap (λ (x : ℕ). before-zero (x ∷ drop (suc i) cut)) z
+
+  pub cut-next : (free : List Bool) → i < length cut → (getD cut i 0 ≡ 0 → ⊥) → withAll (before-zero (drop i cut)) free ≡ withAll (before-zero (drop (i + 1) cut)) (set free (getD cut i 0) true)
+  unfolding withAll
+  cut-next free h p =
+      ap (λ (l : List ℕ). withAll (before-zero l) free) (drop-cons cut i 0 h) ∙ with-first (getD cut i 0) (drop (suc i) cut) free p
+      ∙ ap (λ (j : ℕ). withAll (before-zero (drop j cut)) (set free (getD cut i 0) true)) (sym (add-one i))
+
+pub no-cut : (free : List Bool) → withAll [] free ≡ free
+unfolding withAll
+no-cut free = refl
+
+-- one store more
+pub advance-on : (m : Memory) (ss rest : List Store) (s : Store) → ss ≡ s ∷ rest → advanced m ss ≡ record { nodes = m .nodes; free = m .free; last = m .last; doing = m .doing; rest = ss; cut = m .cut }
+unfolding advanced
+advance-on m ss rest s e = ap (advanced m) e ∙ ap (λ (x : List Store). record { nodes = m .nodes; free = m .free; last = m .last; doing = m .doing; rest = x; cut = m .cut }) (sym e)
+
+pub advance-last : (m : Memory) (ss : List Store) → ss ≡ [] → advanced m ss ≡ record { nodes = m .nodes; free = withAll (m .cut) (m .free); last = m .last; doing = m .doing; rest = ss; cut = [] }
+unfolding advanced
+advance-last m ss e = ap (advanced m) e ∙ ap (λ (x : List Store). record { nodes = m .nodes; free = withAll (m .cut) (m .free); last = m .last; doing = m .doing; rest = x; cut = [] }) (sym e)
+
+-- the first store of a list
+module _ (card : List ℕ) (old m : Memory) (ss : List Store) where
+  pub first-none : ss ≡ [] → stepFirst card old m ss ≡ stepRefused 9 card old
+  unfolding stepFirst
+  first-none e = ap (stepFirst card old m) e
+
+  module _ (x v : ℕ) (rest : List Store) (e : ss ≡ (x, v) ∷ rest) where
+    pub first-outside : length card ≤ x → stepFirst card old m ss ≡ stepRefused 9 card old
+    unfolding stepFirst stepStore
+    first-outside h = ap (stepFirst card old m) e ∙ simp (le-ltb x (length card) h)
+
+    pub first-stored : x < length card → stepFirst card old m ss ≡ record { answer = Stored; card = set card x v; memory = advanced m rest }
+    unfolding stepFirst stepStore
+    first-stored h = ap (stepFirst card old m) e ∙ simp (lt-ltb x (length card) h)
+
+-- what is left of a state but the stores to come decides the next state
+pub first-same : (card : List ℕ) (old m : Memory) (r : List Store) (ss : List Store)
+    → stepFirst card old (record { nodes = m .nodes; free = m .free; last = m .last; doing = m .doing; rest = r; cut = m .cut }) ss ≡ stepFirst card old m ss
+unfolding stepFirst stepStore advanced
+first-same card old m r [] = refl
+first-same card old m r (s ∷ []) = refl
+first-same card old m r (s ∷ t ∷ rest) = refl
+
+-- formatting
+module _ (n len made : ℕ) where
+  pub format-first : made ≡ 0 → formatStore n len made ≡ some (0, 0)
+  unfolding formatStore
+  format-first z = simp (eq-eqb made 0 z)
+
+  pub format-middle : (made ≡ 0 → ⊥) → made < len → formatStore n len made ≡ some (made, formattedWord n made)
+  unfolding formatStore
+  format-middle p h = simp (ne-eqb made 0 p, lt-ltb made len h)
+
+  pub format-last : (made ≡ 0 → ⊥) → made ≡ len → formatStore n len made ≡ some (0, 1)
+  unfolding formatStore
+  format-last p h = simp (ne-eqb made 0 p, le-ltb made len (omega arith), eq-eqb made len h)
+
+  pub format-end : len < made → formatStore n len made ≡ none
+  unfolding formatStore
+  format-end h = simp (ne-eqb made 0 (λ z. omega arith), le-ltb made len (omega arith), ne-eqb made len (λ z. omega arith))
+
+-- a final answer is no refusal
+pub final-ready : (n : ℕ) → _≡_ {A = Answer} Ready (Refused n) → ⊥
+final-ready n e = let z : _≡_ {A = ℕ} 0 1 = cc in omega arith
+
+pub stored-no-refusal : (n : ℕ) → _≡_ {A = Answer} Stored (Refused n) → ⊥
+stored-no-refusal n e = let z : _≡_ {A = ℕ} 0 1 = cc in omega arith
+
+-- the words of a formatted card that are 0
+pub word-other : (n i : ℕ) → (i ≡ 1 → ⊥) → (i ≡ 2 → ⊥) → (i ≡ 3 → ⊥) → (i ≡ 4 → ⊥) → (i ≡ 8 → ⊥) → formattedWord n i ≡ 0
+unfolding formattedWord
+word-other n i a b c d e = simp (ne-eqb i 1 a, ne-eqb i 2 b, ne-eqb i 3 c, ne-eqb i 4 d, ne-eqb i 8 e)
+
+-- the parts of what a step leaves
+pub step-parts : (after : List ℕ) (r : Stepped) (x : Step) → stepLeft after r ≡ x → (after ≡ x .card) × (r .answer ≡ x .answer) × (memoryOf (r .state) ≡ x .memory)
+unfolding stepLeft
+step-parts after r x e = (ap (λ (y : Step). y .card) e, ap (λ (y : Step). y .answer) e, ap (λ (y : Step). y .memory) e)

@@ -1,0 +1,126 @@
+-- Laws of the next pair: one for each branch of the code.
+use mathlib.Core.Path.{_≡_, refl, sym, _∙_}
+use mathlib.Core.List.{List, _∷_}
+use mathlib.Core.Option.{Option, none, some}
+use Prim.Native.Nat.{ℕ, zero, suc, _+_, _-_, _≤_, _<_}
+use native.Mathlib.Omega.{arith}
+use native.Mathlib.Numerals.{add-one}
+use lib.ListN.{length, getD, drop, drop-of-length-le, List·getD-eq-default}
+use lib.Seq.{drop-cons, getD-take}
+use borrow.Author.Tests.{lt-ltb, le-ltb, eq-eqb, ne-eqb}
+use Rattle.laws.proofs.Lists.{getD-any-default}
+use Rattle.card.specs.Header.{cardRefusal, nodesOfLength}
+use Rattle.card.specs.Layout.{rootPlace, depthLimit, keyLimit, nodeAt, keyWords, valueWords, children, routingKeys, slot-pairs, leafPairs}
+use Rattle.card.proofs.NodeLaws.{length-keyWords, length-valueWords, get-keyWord, get-valueWord, children-le, length-routing}
+use Rattle.descent.specs.Descent.{childIndex, turnAt, leafFor}
+use Rattle.descent.specs.declared.Turn.the-variants.{Refused as NoTurn, Leaf as TurnLeaf, Down as TurnDown}
+use Rattle.successor.specs.Successor.{nearer, nearerAbove, leastAbove, endBelow, onTurnEnd, rangeEnd, inLeaf, inNextLeaf, nextIn, nextOf}
+use Rattle.successor.specs.declared.Successor.the-variants.{Nothing, Refused}
+
+-- ---- a slot more
+
+module _ (after : ℕ) (p : ℕ × ℕ) where
+  pub nearer-below : (least : Option (ℕ × ℕ)) → p .0 ≤ after → nearerAbove after p least ≡ least
+  unfolding nearerAbove
+  nearer-below least h = rw (le-ltb after (p .0) h)
+
+  pub nearer-first : after < p .0 → nearerAbove after p none ≡ some p
+  unfolding nearerAbove nearer
+  nearer-first h = rw (lt-ltb after (p .0) h)
+
+  pub nearer-other : (q : ℕ × ℕ) → after < p .0 → q .0 < p .0 → nearerAbove after p (some q) ≡ some q
+  unfolding nearerAbove nearer
+  nearer-other q h l = rw (lt-ltb after (p .0) h, lt-ltb (q .0) (p .0) l)
+
+  pub nearer-now : (q : ℕ × ℕ) → after < p .0 → p .0 ≤ q .0 → nearerAbove after p (some q) ≡ some p
+  unfolding nearerAbove nearer
+  nearer-now q h l = rw (lt-ltb after (p .0) h, le-ltb (q .0) (p .0) l)
+
+-- ---- the slots from number i on
+
+unfoldable pub leastFrom : ℕ → List ℕ → ℕ → Option (ℕ × ℕ)
+leastFrom after node i = leastAbove after (slot-pairs (drop i (keyWords node)) (drop i (valueWords node)))
+
+pub least-start : (after : ℕ) (node : List ℕ) → leastFrom after node 0 ≡ leastAbove after (leafPairs node)
+unfolding leastFrom leafPairs
+least-start after node = refl
+
+slot-more : (after k v : ℕ) (ks vs : List ℕ) → leastAbove after (slot-pairs (k ∷ ks) (v ∷ vs)) ≡ nearerAbove after (k, v) (leastAbove after (slot-pairs ks vs))
+unfolding leastAbove
+slot-more after zero v ks vs = sym (nearer-below after (0, v) (leastAbove after (slot-pairs ks vs)) (omega arith))
+slot-more after (suc k) v ks vs = refl
+
+module _ (after : ℕ) (node : List ℕ) (l : length node ≡ 24) where
+  pub least-end : (i : ℕ) → i ≡ 11 → leastFrom after node i ≡ none
+  unfolding leastFrom leastAbove
+  least-end i e = rw (drop-of-length-le (keyWords node) {i = i} (omega (arith, length-keyWords node l)))
+
+  pub least-slot : (i : ℕ) → i < 11 → leastFrom after node i ≡ nearerAbove after (getD node (1 + i) 0, getD node (12 + i) 0) (leastFrom after node (i + 1))
+  unfolding leastFrom
+  least-slot i h =
+      rw (
+        add-one i,
+        drop-cons (keyWords node) i 0 (omega (arith, length-keyWords node l)),
+        drop-cons (valueWords node) i 0 (omega (arith, length-valueWords node l)),
+        get-keyWord node i h,
+        get-valueWord node i h,
+      )
+      (slot-more after (getD node (1 + i) 0) (getD node (12 + i) 0) (drop (suc i) (keyWords node)) (drop (suc i) (valueWords node)))
+
+-- ---- where the range of the child ends
+
+module _ (node : List ℕ) (key end i : ℕ) (l : length node ≡ 24) (e : i ≡ childIndex node key) where
+  pub end-last : length (children node) ≤ i + 1 → endBelow node key end ≡ end
+  unfolding endBelow
+  end-last h = rw (← e) (List·getD-eq-default (routingKeys node) end {n = i} (omega (arith, length-routing node l)))
+
+  pub end-key : i + 1 < length (children node) → endBelow node key end ≡ getD node (1 + i) 0
+  unfolding endBelow routingKeys
+  end-key h =
+      rw (← e)
+      (getD-take (length (children node) - 1) (keyWords node) i end (omega arith)
+      ∙ getD-any-default (keyWords node) i end 0 (omega (arith, length-keyWords node l, children-le node))
+      ∙ get-keyWord node i (omega (arith, children-le node)))
+
+-- ---- the way down
+
+module _ (card : List ℕ) (n key end m : ℕ) where
+  pub range-zero : (levels : ℕ) → levels ≡ 0 → rangeEnd card n key levels end m ≡ end
+  unfolding rangeEnd
+  range-zero zero e = refl
+  range-zero (suc levels) e = absurd (omega arith)
+
+  pub range-refused : (levels : ℕ) → turnAt card n key m ≡ NoTurn → rangeEnd card n key levels end m ≡ end
+  unfolding rangeEnd onTurnEnd
+  range-refused zero e = refl
+  range-refused (suc levels) e = rw e refl
+
+  pub range-leaf : (levels : ℕ) → turnAt card n key m ≡ TurnLeaf → rangeEnd card n key levels end m ≡ end
+  unfolding rangeEnd onTurnEnd
+  range-leaf zero e = refl
+  range-leaf (suc levels) e = rw e refl
+
+  pub range-down : (levels child : ℕ) → 0 < levels → turnAt card n key m ≡ TurnDown child → rangeEnd card n key levels end m ≡ rangeEnd card n key (levels - 1) (endBelow (nodeAt card m) key end) child
+  unfolding rangeEnd onTurnEnd
+  range-down zero child h e = absurd (omega arith)
+  range-down (suc levels) child h e = let z : suc levels - 1 ≡ levels = omega arith in rw (z, e) refl
+
+-- ---- the call
+
+module _ (card : List ℕ) (n after end : ℕ) where
+  pub next-none : end ≡ keyLimit → inNextLeaf card n after end ≡ Nothing
+  unfolding inNextLeaf
+  next-none e = rw (eq-eqb end keyLimit e)
+
+  pub next-there : (end ≡ keyLimit → ⊥) → inNextLeaf card n after end ≡ inLeaf card after (leafFor card n end depthLimit (getD card rootPlace 0))
+  unfolding inNextLeaf
+  next-there h = rw (ne-eqb end keyLimit h)
+
+module _ (card : List ℕ) (after : ℕ) where
+  pub next-refused : (cardRefusal card ≡ 0 → ⊥) → nextOf card after ≡ Refused (cardRefusal card)
+  unfolding nextOf
+  next-refused h = rw (ne-eqb (cardRefusal card) 0 h)
+
+  pub next-taken : cardRefusal card ≡ 0 → nextOf card after ≡ nextIn card (nodesOfLength (length card)) after
+  unfolding nextOf
+  next-taken e = rw (eq-eqb (cardRefusal card) 0 e)

@@ -1,0 +1,2 @@
+-- laws of the steps: one for each branch of the code
+pub mod StepLaws

@@ -1,0 +1,64 @@
+-- The way of a key through a tree, as a context: what the key passes and where it stops.
+use mathlib.Core.Path.{_≡_}
+use mathlib.Core.List.{[], _∷_}
+use mathlib.Core.Bool.{true, false}
+use Prim.Native.Nat.{ℕ, suc, _+_, _≤_, _<_}
+use lib.ListN.{length}
+use lib.Dec.{eqb}
+use Rattle.card.specs.Layout.{slot-pairs}
+use Rattle.laws.specs.Cases.{pick}
+use Rattle.tree.specs.Tree.{Tree, roots, leaf, node}
+use Rattle.tree.proofs.Tree.{Left, Right, Context, plug, rightmost, followed, top, down}
+use Rattle.tree.proofs.Violations.{below}
+use Rattle.tree.specs.Violations.{few, tag}
+
+abbrev pub Past : ℕ → Left → Type 0
+Past k [] = Unit
+Past k (a ∷ l) = (a .1 ≤ k) × Past k l
+
+abbrev pub Short : ℕ → Right → Type 0
+Short k rightmost = Unit
+Short k (followed x f) = k < x
+
+-- the key leads to the hole of the context, past nodes that are not tagged
+abbrev pub OnPath : ℕ → Context → Type 0
+OnPath k top = Unit
+OnPath k (down C m g l r) = (g ≡ false) × Past k l × Short k r × OnPath k C
+
+-- how many internal nodes stand above the hole
+abbrev pub depth-of : Context → ℕ
+depth-of top = 0
+depth-of (down C m g l r) = suc (depth-of C)
+
+abbrev pub right-size : Right → ℕ
+right-size rightmost = 0
+right-size (followed k f) = length (roots f)
+
+-- how many children the node above the hole has
+abbrev pub width-of : Left → Right → ℕ
+width-of l r = length l + suc (right-size r)
+
+-- "the 11-child nodes without a break straight above" the hole
+unfoldable pub full-run : Context → ℕ
+full-run top = 0
+full-run (down C m g l r) = pick (eqb (width-of l r) 11) (suc (full-run C)) 0
+
+-- the violation of a tree's root node itself, where it is not the root of the table
+abbrev pub own-violation : Tree → ℕ
+own-violation (leaf m ks vs) = few (length (slot-pairs ks vs))
+own-violation (node m g f) = tag g + few (length (roots f))
+
+-- how many free nodes must be kept besides three: those that splits above a tagged node will need
+abbrev pub reserve : Context → Tree → ℕ
+reserve C (leaf m ks vs) = 0
+reserve C (node m true f) = full-run C
+reserve C (node m false f) = 0
+
+-- the violation of a table, and a key that leads to it
+pub record Violation (t : Tree) (key : ℕ) : Type 0 where
+  pub context : Context
+  pub part : Tree
+  pub is-tree : t ≡ plug context part
+  pub inside : below context
+  pub own : own-violation part ≡ 1
+  pub on-path : OnPath key context

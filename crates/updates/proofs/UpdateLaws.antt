@@ -1,0 +1,117 @@
+-- Laws of the updates: one for each branch of the code.
+use mathlib.Core.Path.{_≡_, refl, ap, sym, _∙_}
+use mathlib.Core.List.{List, [], _∷_}
+use mathlib.Core.Bool.{Bool, true, false}
+use Prim.Native.Nat.{ℕ, zero, suc, _+_, _^_, _<_}
+use native.Mathlib.Omega.{arith}
+use lib.ListN.{length, getD}
+use borrow.Author.Tests.{ne-eqb}
+use Rattle.card.specs.Header.{Sized}
+use Rattle.card.specs.Layout.{depthLimit, rootPlace, place, nodeAt, keyWords, valueWords, children, slot-pairs, leafPairs}
+use Rattle.card.proofs.NodeLaws.{length-node, length-keyWords, length-valueWords}
+use Rattle.descent.specs.Descent.{childIndex, firstEqual, slotOf, turnAt, runBelow, onTurnLanding, landingFor}
+use Rattle.descent.proofs.DescentLaws.{index-le, turn-inside}
+use Rattle.laws.specs.Cases.{pick}
+use Rattle.descent.proofs.Inside.{Inside, landing-inside}
+use Rattle.updates.specs.Updates.{landing, Reason, insertReason, insertChange, deleteChange, noChange, changeIn, changeAt, repairs, nextChange, held, slot, full}
+use Rattle.descent.specs.declared.Slot.{Slot}
+use Rattle.descent.specs.declared.Slot.the-variants.{At, Absent as NoSlot}
+use Rattle.descent.specs.declared.Landing.{Landing}
+use Rattle.descent.specs.declared.Landing.the-variants.{Refused as NoLanding, Leaf as LandingAt}
+use Rattle.descent.specs.declared.Turn.{Turn}
+use Rattle.descent.specs.declared.Turn.the-variants.{Refused as NoTurn, Leaf as TurnLeaf, Down as TurnDown}
+use Rattle.state.specs.declared.Doing.{Doing}
+use Rattle.state.specs.declared.Doing.the-variants.{Idle, Formatting, Inserting, Deleting, Repairing}
+use Rattle.state.specs.declared.Answer.the-variants.{Absent, Value, Refused}
+
+-- a leaf without an empty slot has eleven pairs
+full-pairs : (ks vs : List ℕ) (a : ℕ) → length ks ≡ length vs → firstEqual ks 0 a ≡ NoSlot → length (slot-pairs ks vs) ≡ length ks
+unfolding firstEqual
+full-pairs [] vs a l e = refl
+full-pairs (k ∷ ks) [] a l e = absurd (omega arith)
+full-pairs (zero ∷ ks) (v ∷ vs) a l e = let z : _≡_ {A = ℕ} 0 1 = cc in absurd (omega arith)
+full-pairs (suc k ∷ ks) (v ∷ vs) a l e = ap suc (full-pairs ks vs (suc a) (omega arith) (rw (ne-eqb (suc k) 0 (λ z. omega arith)) at e))
+
+pub leaf-full : (leaf : List ℕ) → length leaf ≡ 24 → slotOf leaf 0 ≡ NoSlot → length (leafPairs leaf) ≡ 11
+unfolding slotOf leafPairs
+leaf-full leaf l e = full-pairs (keyWords leaf) (valueWords leaf) 0 (length-keyWords leaf l ∙ sym (length-valueWords leaf l)) e ∙ length-keyWords leaf l
+
+-- the link to a leaf is a word of a card
+pub record Landed (n m link : ℕ) : Type 0 where
+  pub inside : Inside n m
+  pub linked : link < 2 ^ 32
+
+module _ (card : List ℕ) (n key m link run : ℕ) (fits : Sized (length card) n) where
+  landing-linked : (levels from above at : ℕ) → from < 2 ^ 32 → landingFor card n key levels from above at ≡ LandingAt m link run → link < 2 ^ 32
+  unfolding landingFor onTurnLanding
+  landing-linked zero from above at f e = go (turnAt card n key at) e
+    where
+      go : (t : Turn) → onTurnLanding at from above (λ child. NoLanding) t ≡ LandingAt m link run → link < 2 ^ 32
+      go NoTurn r = let z : _≡_ {A = ℕ} 0 1 = cc in absurd (omega arith)
+      go TurnLeaf r = let z : from ≡ link = cc in rw z at f
+      go (TurnDown child) r = let z : _≡_ {A = ℕ} 0 1 = cc in absurd (omega arith)
+  landing-linked (suc levels) from above at f e =
+      go (λ child below. landing-linked levels (place at (12 + childIndex (nodeAt card at) key)) (runBelow (length (children (nodeAt card at))) above) child below) (turnAt card n key at) refl e
+    where
+      go : ((child : ℕ) → place at (12 + childIndex (nodeAt card at) key) < 2 ^ 32
+          → landingFor card n key levels (place at (12 + childIndex (nodeAt card at) key)) (runBelow (length (children (nodeAt card at))) above) child ≡ LandingAt m link run → link < 2 ^ 32)
+          → (t : Turn) → turnAt card n key at ≡ t
+          → onTurnLanding at from above (landingFor card n key levels (place at (12 + childIndex (nodeAt card at) key)) (runBelow (length (children (nodeAt card at))) above)) t ≡ LandingAt m link run → link < 2 ^ 32
+      go next NoTurn q r = let z : _≡_ {A = ℕ} 0 1 = cc in absurd (omega arith)
+      go next TurnLeaf q r = let z : from ≡ link = cc in rw z at f
+      go next (TurnDown child) q r =
+          let i = turn-inside card n key at child q in
+          let w : length (nodeAt card at) ≡ 24 = length-node card at (i .0) (omega (arith, i .1, fits .words)) in
+          next child (omega (arith, i .0, i .1, fits .most, index-le (nodeAt card at) key w)) r
+
+  pub landed : landing card n key ≡ LandingAt m link run → Landed n m link
+  unfolding landing
+  landed e =
+      record {
+        inside = landing-inside card n key m link run depthLimit rootPlace 0 (getD card rootPlace 0) e;
+        linked = landing-linked depthLimit rootPlace 0 (getD card rootPlace 0) (omega arith) e;
+      }
+
+-- the final answer of a first change is no refusal
+insert-final-in : (key value : ℕ) (free : List Bool) (last m link : ℕ) (node : List ℕ) (r : Reason) (n : ℕ) → insertChange key value free last m link node r .final ≡ Refused n → ⊥
+unfolding insertChange
+insert-final-in key value free last m link node (held v) n e = let z : _≡_ {A = ℕ} 0 1 = cc in omega arith
+insert-final-in key value free last m link node (slot i) n e = let z : _≡_ {A = ℕ} 0 1 = cc in omega arith
+insert-final-in key value free last m link node full n e = let z : _≡_ {A = ℕ} 0 1 = cc in omega arith
+
+delete-final-in : (key : ℕ) (free : List Bool) (last m : ℕ) (node : List ℕ) (t : Slot) (n : ℕ) → deleteChange key free last m node t .final ≡ Refused n → ⊥
+unfolding deleteChange
+delete-final-in key free last m node (At i) n e = let z : _≡_ {A = ℕ} 0 1 = cc in omega arith
+delete-final-in key free last m node NoSlot n e = let z : _≡_ {A = ℕ} 0 1 = cc in omega arith
+
+change-final : (card : List ℕ) (doing : Doing) (free : List Bool) (last : ℕ) (l : Landing) (n : ℕ) → changeAt card doing free last l .final ≡ Refused n → ⊥
+unfolding changeAt changeIn noChange
+change-final card doing free last NoLanding n e = let z : _≡_ {A = ℕ} 0 1 = cc in omega arith
+change-final card Idle free last (LandingAt m link run) n e = let z : _≡_ {A = ℕ} 0 1 = cc in omega arith
+change-final card (Formatting made) free last (LandingAt m link run) n e = let z : _≡_ {A = ℕ} 0 1 = cc in omega arith
+change-final card (Inserting key value begun) free last (LandingAt m link run) n e = insert-final-in key value free last m link (nodeAt card m) (insertReason (nodeAt card m) key) n e
+change-final card (Deleting key begun value) free last (LandingAt m link run) n e = delete-final-in key free last m (nodeAt card m) (slotOf (nodeAt card m) key) n e
+change-final card (Repairing key) free last (LandingAt m link run) n e = let z : _≡_ {A = ℕ} 0 1 = cc in omega arith
+
+pub next-final : (card : List ℕ) (nodes : ℕ) (free : List Bool) (last : ℕ) (doing : Doing) (n : ℕ) → nextChange card nodes free last doing .final ≡ Refused n → ⊥
+unfolding nextChange repairs noChange
+next-final card nodes free last Idle n e = let z : _≡_ {A = ℕ} 0 1 = cc in omega arith
+next-final card nodes free last (Formatting made) n e = let z : _≡_ {A = ℕ} 0 1 = cc in omega arith
+next-final card nodes free last (Inserting key value false) n e = change-final card (Inserting key value false) free last (landing card nodes key) n e
+next-final card nodes free last (Inserting key value true) n e = let z : _≡_ {A = ℕ} 0 1 = cc in omega arith
+next-final card nodes free last (Deleting key false value) n e = change-final card (Deleting key false value) free last (landing card nodes key) n e
+next-final card nodes free last (Deleting key true value) n e = let z : _≡_ {A = ℕ} 0 1 = cc in omega arith
+next-final card nodes free last (Repairing key) n e = let z : _≡_ {A = ℕ} 0 1 = cc in omega arith
+
+-- an update's next change: its first, or a repair
+pub next-insert : (card : List ℕ) (n key value : ℕ) (begun : Bool) (free : List Bool) (last : ℕ)
+    → pick begun (repairs card n key (Inserting key value begun) Absent free last) (changeAt card (Inserting key value begun) free last (landing card n key)) ≡ nextChange card n free last (Inserting key value begun)
+unfolding nextChange
+next-insert card n key value true free last = refl
+next-insert card n key value false free last = refl
+
+pub next-delete : (card : List ℕ) (n key value : ℕ) (begun : Bool) (free : List Bool) (last : ℕ)
+    → pick begun (repairs card n key (Deleting key begun value) (Value value) free last) (changeAt card (Deleting key begun value) free last (landing card n key)) ≡ nextChange card n free last (Deleting key begun value)
+unfolding nextChange
+next-delete card n key value true free last = refl
+next-delete card n key value false free last = refl
