@@ -25,6 +25,7 @@ use Rattle.laws.proofs.Cases.{bool-cases, order}
 use Rattle.opening.specs.Opening.{openOf}
 use Rattle.starting.specs.Starts.{formatOf}
 use Rattle.state.specs.Answers.{stepReply, startReply}
+use Rattle.state.specs.Memory.{resting}
 use Rattle.state.specs.Steps.{formattedWord, formatStore as formatStoreOf, noBeginning, Handed}
 use Rattle.state.specs.declared.Answer.the-variants.{Stored, Ready}
 use Rattle.table.specs.Calls.{stepOf}
@@ -79,11 +80,12 @@ module _ (c : List ℕ) (s : Sized (length c) (nodes-on c)) where
       }
 
   pub formats-sized : Formats ration-table c
-  unfolding reply-to stepReply noBeginning startReply
+  unfolding reply-to happens stepReply noBeginning startReply resting
   formats-sized =
       record {
         each = λ qs u h. rw (runs-to qs u (omega arith)) (stores-now (steps-in qs) h);
         then-ready = λ qs u h. rw (runs-to qs u (omega arith), h, format-step-ready c (nodes-on c) s);
+        search-first = λ qs u h. rw (runs-to qs u (omega arith), h, format-step-ready c (nodes-on c) s);
         cut-refused = λ qs u low h. rw (runs-to qs u (omega arith), cut-refused c (nodes-on c) (steps-in qs) s low h);
       }
 

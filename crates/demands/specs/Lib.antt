@@ -7,6 +7,8 @@ pub mod Refusals
 pub mod Events
 -- the book
 pub mod Book
+-- a table that is worked by these calls alone
+pub mod Worked
 -- the tree's rules: the words of each change
 pub mod Rules
 -- the three demands
