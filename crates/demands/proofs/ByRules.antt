@@ -18,7 +18,7 @@ use Rattle.card.specs.Layout.{keyLimit}
 use Rattle.starting.specs.Starts.{insertOf, deleteOf}
 use Rattle.state.specs.declared.Begun.the-variants.{Started}
 use Rattle.tree.specs.Pairs.{lookup}
-use Rattle.demands.proofs.Instance.{ration-table}
+use Rattle.demands.specs.RationTable.{ration-table}
 use Rattle.demands.proofs.Making.{Nears, nearer, Left, find-same, same-insert, same-delete, run-left, stores-each}
 use Rattle.plans.specs.Planning.{Preparation, lastOf, withAll, refused, balanced, prepared}
 use Rattle.state.specs.Answers.{stepReply}

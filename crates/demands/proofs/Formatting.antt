@@ -14,7 +14,7 @@ use Rattle.card.specs.Stores.{Store}
 use Rattle.demands.specs.Demand2.{StoresNow, freshWord, formatStore, formatBegun, Formats}
 use Rattle.demands.specs.Events.{Event, World, reply-to, happens, run, LeftUncut, steps-in, find, insert, delete, step, cut}
 use Rattle.demands.specs.Refusals.{NoCard, nodes-on}
-use Rattle.demands.proofs.Instance.{ration-table}
+use Rattle.demands.specs.RationTable.{ration-table}
 use Rattle.demands.proofs.Making.{find-same, same-insert, same-delete}
 use Rattle.demands.proofs.Rowing.{sized?, no-nodes}
 use Rattle.formatting_theory.proofs.FormatSteps.{formatMemory, format-starts, format-refused, format-step-stores, format-step-ready}

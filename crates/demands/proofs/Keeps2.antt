@@ -13,7 +13,8 @@ use Rattle.promises.proofs.Feeding.{begun-result, due-after, dictionary-answer,
 use Rattle.promises.proofs.Invariant.{Inv}
 use Rattle.demands.specs.Events.{Event, World, reply-to, happens, run, LeftUncut, steps-in, insert, delete, step, from-format, from-open}
 use Rattle.demands.specs.Book.{Book}
-use Rattle.demands.proofs.Instance.{workOf, work-idle, idle-work, busy-work, ration-table}
+use Rattle.demands.specs.RationTable.{workOf, ration-table}
+use Rattle.demands.proofs.Work.{work-idle, idle-work, busy-work}
 use Rattle.card.specs.Layout.{keyLimit}
 use Rattle.card.specs.Replies.{Reply, refusal}
 use Rattle.demands.specs.Demand1.{HandsBack, Starts, Refuses}

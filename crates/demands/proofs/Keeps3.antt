@@ -15,7 +15,7 @@ use Rattle.promises.proofs.Feeding.{dictionary-answer, step-result, fed, kept-l
 use Rattle.promises.proofs.Invariant.{Inv}
 use Rattle.demands.specs.Events.{Event, World, opened, reply-to, happens, run, Words, LeftUncut, steps-in, SaysReady, FormatsTo, Opens, Begins, find, insert, delete, step, cut, ready-now, stored-first, found-first, refused-insert, refused-delete, from-format, from-open}
 use Rattle.demands.specs.Book.{Book, book, feed, told, kept, empty}
-use Rattle.demands.proofs.Instance.{ration-table}
+use Rattle.demands.specs.RationTable.{ration-table}
 use Rattle.card.specs.Replies.{Reply, ready, idle}
 use Rattle.demands.specs.Worked.{dictionary, Always, BalancedWith}
 use Rattle.demands.specs.Demand3.{repair-steps, Ended, Survives, Demand3}

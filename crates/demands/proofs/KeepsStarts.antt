@@ -17,7 +17,8 @@ use Rattle.card.specs.Replies.{absent}
 use Rattle.demands.specs.Demand1.{HandsBack, Starts}
 use Rattle.demands.specs.Table.{inserting, deleting}
 use Rattle.demands.specs.Refusals.{Rows, ByRows, Busy, nodes-on, NoCard, leads-to, among, NoRoom, start-rows, insert-rows, delete-rows, end, row}
-use Rattle.demands.proofs.Instance.{true-false, workOf, idle-work, busy-work, handed, ration-table}
+use Rattle.demands.specs.RationTable.{workOf, handed, ration-table}
+use Rattle.demands.proofs.Work.{true-false, idle-work, busy-work}
 use Rattle.demands.proofs.Keeps1.{none-some}
 use Rattle.demands.proofs.Rowing.{sized-on, by-card}
 use Rattle.demands.proofs.Ways.{landed, landing-way, is-slot, slot-among}

@@ -15,7 +15,8 @@ use Rattle.card.specs.Stores.{Store}
 use Rattle.demands.specs.Demand1.{HandsBack, Stores, Answers, Refuses, Demand1}
 use Rattle.demands.specs.Table.{formatting, inserting, deleting}
 use Rattle.demands.specs.Refusals.{ByRows, Idle, NoCard, on-card, end, row}
-use Rattle.demands.proofs.Instance.{workOf, idle-work, busy-work, work-formatting, stepped, ration-table}
+use Rattle.demands.specs.RationTable.{workOf, stepped, ration-table}
+use Rattle.demands.proofs.Work.{idle-work, busy-work, work-formatting}
 use Rattle.demands.proofs.Keeps1.{finds, formats, opens}
 use Rattle.demands.proofs.KeepsStarts.{not-sized, start-one, refused-back, inserts, deletes}
 use Rattle.demands.proofs.Rowing.{sized?, by-card}

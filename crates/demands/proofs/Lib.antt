@@ -1,6 +1,6 @@
 -- The ration table meets the demands.
--- the table itself
-pub mod Instance
+-- the work that a state tells
+pub mod Work
 -- the way down, and the rows 1, 2 and 3
 pub mod Ways
 pub mod Rowing
@@ -28,3 +28,5 @@ pub mod UpdatesByRules
 pub mod Formatting
 -- DEMAND 2, `demand-2`
 pub mod Keeps2
+-- the promises of this table, one line each
+pub mod Demands

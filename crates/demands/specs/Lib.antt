@@ -15,3 +15,5 @@ pub mod Rules
 pub mod Demand1
 pub mod Demand2
 pub mod Demand3
+-- the table that is proved to meet them
+pub mod RationTable
