@@ -245,10 +245,10 @@ repair-next final most w x k (exact, turn) later = at turn
     v = x .covered
 
     between : Between ration-table w (v .inv .tree)
-    between = record { holds = v .inv .table .holds; free-exact = subst (λ y. Exact y (w .state .free) (v .inv .tree)) (sym (nodes-same (v .size) (v .steps) (worldly w) (v .was-kept) (v .due) (v .inv))) exact }
+    between = record { sound = table-well-formed (v .inv .table); free-exact = subst (λ y. Exact y (w .state .free) (v .inv .tree)) (sym (nodes-same (v .size) (v .steps) (worldly w) (v .was-kept) (v .due) (v .inv))) exact }
 
     at : ((table-violations (v .inv .tree) ≡ 0) × (stepOf (w .card) (w .state) .answer ≡ final-due (v .due))) ⊎ RepairNext (w .card) (v .size) (w .state) → Repairs ration-table (stepReply final) w
-    at (inl (z, a)) = done (v .inv .tree) (record { well-formed = table-well-formed (v .inv .table); none = z }) between (ap stepReply (a ∙ x .is-due))
+    at (inl (z, a)) = done (v .inv .tree) between z (ap stepReply (a ∙ x .is-due))
     at (inr q) =
         let r = repair-by-rule (w .card) (v .size) (q .key) (q .planned) in
         let m = memory (v .size) (q .then-free) (q .then-last) (w .state .doing) [] (q .out) in
@@ -274,7 +274,7 @@ final-counts a (inr (inl (v, e))) = rw e
 final-counts a (inr (inr e)) = rw e
 
 -- The first step of an update: what is planned is by the rule, or there is nothing to change.
-module _ (final : Answer) (most : ℕ) (w : World ration-table) (x : Nears final most w) (busy : isIdle (w .state .doing) ≡ false) (Rule : List ℕ → List ℕ → List Store → Type 0) where
+module _ (final : Answer) (most : ℕ) (w : World ration-table) (x : Nears final most w) (busy : isIdle (w .state .doing) ≡ false) (Nothing : Type 0) (Rule : List ℕ → List ℕ → List Store → Type 0) where
   not-refused : (r : ℕ) → stepOf (w .card) (w .state) ≡ stepRefused r (w .card) (w .state) → ⊥
   unfolding stepRefused
   not-refused r e = let v = x .covered in work-not-refused (v .size) (v .steps) (worldly w) (v .was-kept) (v .due) (v .inv) busy r (ap (λ y. y .answer) e)
@@ -286,16 +286,16 @@ module _ (final : Answer) (most : ℕ) (w : World ration-table) (x : Nears final
       let q = kept-step (v .size) (v .steps) (worldly w) (v .was-kept) (v .due) (loosen (v .size) (v .steps) (suc (v .steps)) (worldly w) (v .was-kept) (v .due) (omega arith) (v .inv)) in
       right-final (subst (λ y. Right y (v .due)) (ap (λ y. y .answer) e) (q .1)) (final-counts a f) ∙ x .is-due
 
-  pub first-by-rules : (f : FirstChange) → stepOf (w .card) (w .state) ≡ stepBegin (w .card) (w .state) f → Final (f .final)
-      → ((ss : List Store) (fewer : List Bool) (now : ℕ) (out : List ℕ) → f .preparation ≡ prepared ss fewer now out → ByRule Rule (w .state .free) (w .state .last) ss fewer now out × Begun (f .doing)) → Updates ration-table Rule (stepReply final) w
+  pub first-by-rules : (f : FirstChange) → stepOf (w .card) (w .state) ≡ stepBegin (w .card) (w .state) f → Final (f .final) → (f .preparation ≡ balanced → f .final ≡ final → Nothing)
+      → ((ss : List Store) (fewer : List Bool) (now : ℕ) (out : List ℕ) → f .preparation ≡ prepared ss fewer now out → ByRule Rule (w .state .free) (w .state .last) ss fewer now out × Begun (f .doing)) → Updates ration-table Nothing Rule (stepReply final) w
   unfolding stepBegin stepPrepared stepFirst stepStore planning reply-to stepFinal
-  first-by-rules f e fin rule = at (f .preparation) refl
+  first-by-rules f e fin none-due rule = at (f .preparation) refl
     where
-      at : (p : Preparation) → f .preparation ≡ p → Updates ration-table Rule (stepReply final) w
+      at : (p : Preparation) → f .preparation ≡ p → Updates ration-table Nothing Rule (stepReply final) w
       at refused q = absurd (not-refused 9 (e ∙ ap (stepPrepared (w .card) (w .state) (f .doing) (f .final)) q))
       at balanced q =
           let s : stepOf (w .card) (w .state) ≡ stepFinal (f .final) (w .card) (w .state) = e ∙ ap (stepPrepared (w .card) (w .state) (f .doing) (f .final)) q in
-          no-change (ap (λ y. stepReply (y .answer)) s ∙ ap stepReply (ends-due (f .final) fin s))
+          no-change (none-due q (ends-due (f .final) fin s)) (ap (λ y. stepReply (y .answer)) s ∙ ap stepReply (ends-due (f .final) fin s))
       at (prepared [] fewer now out) q = absurd (not-refused 9 (e ∙ ap (stepPrepared (w .card) (w .state) (f .doing) (f .final)) q))
       at (prepared (s ∷ rest) fewer now out) q =
           order (s .0) (length (w .card)) inside
@@ -304,7 +304,7 @@ module _ (final : Answer) (most : ℕ) (w : World ration-table) (x : Nears final
           m : Memory
           m = memory (w .state .nodes) fewer now (f .doing) [] out
 
-          inside : s .0 < length (w .card) → Updates ration-table Rule (stepReply final) w
+          inside : s .0 < length (w .card) → Updates ration-table Nothing Rule (stepReply final) w
           inside o =
               let first : stepOf (w .card) (w .state) ≡ record { answer = Stored; card = set (w .card) (s .0) (s .1); memory = advanced (memory (w .state .nodes) fewer now (f .doing) [] out) rest } = e ∙ ap (stepPrepared (w .card) (w .state) (f .doing) (f .final)) q ∙ rw (lt-ltb (s .0) (length (w .card)) o) in
               let r = rule (s ∷ rest) fewer now out q in

@@ -199,28 +199,28 @@ module _ (w : World ration-table) (b : Book) (v : Covered w b) where
   due-same : (key : ℕ) → stepReply (dictionary-answer (lookup key (v .was-kept .held))) ≡ dictionary (lookup key (b .held))
   due-same key = dictionary-same (lookup key (v .was-kept .held)) ∙ ap (λ (x : List (ℕ × ℕ)). dictionary (lookup key x)) (sym same-held)
 
-  insert-works : (key value : ℕ) → key < keyLimit → Starts ration-table (w .state) (ration-table .insert (w .card) (w .state) key value) (inserting key value) → Works ration-table (insert key value) (InsertRule (w .card) key value) key w (b .held)
+  insert-works : (key value : ℕ) → key < keyLimit → Starts ration-table (w .state) (ration-table .insert (w .card) (w .state) key value) (inserting key value) → Works ration-table (insert key value) ((a : ℕ) × (lookup key (b .held) ≡ some a)) (InsertRule (w .card) key value) key w (b .held)
   unfolding reply-to insertOf startReply
   insert-works key value high s =
       let e = begun-started (insertOf (w .card) (w .state) key value .begun) (start-small (w .card) (w .state) key (Inserting key value false) (startRoom (w .card) key (w .state .free))) (s .reply-given) in
       record {
         begins = s .reply-given;
-        by-rules = subst (λ (r : Reply). Updates ration-table (InsertRule (w .card) key value) r (happens ration-table (insert key value) w)) (due-same key) (insert-by-rules w b v key value high e);
+        by-rules = subst (λ (l : List (ℕ × ℕ)). Updates ration-table ((a : ℕ) × (lookup key l ≡ some a)) (InsertRule (w .card) key value) (dictionary (lookup key l)) (happens ration-table (insert key value) w)) (sym same-held) (subst (λ (r : Reply). Updates ration-table ((a : ℕ) × (lookup key (v .was-kept .held) ≡ some a)) (InsertRule (w .card) key value) r (happens ration-table (insert key value) w)) (dictionary-same (lookup key (v .was-kept .held))) (insert-by-rules w b v key value high e));
         finishes = finishes-same update-stores (dictionary (lookup key (b .held))) (happens ration-table (insert key value) w) (rw (same-world (insert key value) w, ← due-same key) (insert-finishes key value high e));
       }
 
-  delete-works : (key : ℕ) → key < keyLimit → Starts ration-table (w .state) (ration-table .delete (w .card) (w .state) key) (deleting key) → Works ration-table (delete key) (DeleteRule (w .card) key) key w (b .held)
+  delete-works : (key : ℕ) → key < keyLimit → Starts ration-table (w .state) (ration-table .delete (w .card) (w .state) key) (deleting key) → Works ration-table (delete key) (lookup key (b .held) ≡ none) (DeleteRule (w .card) key) key w (b .held)
   unfolding reply-to deleteOf startReply
   delete-works key high s =
       let e = begun-started (deleteOf (w .card) (w .state) key .begun) (start-small (w .card) (w .state) key (Deleting key false 0) (λ l. true)) (s .reply-given) in
       record {
         begins = s .reply-given;
-        by-rules = subst (λ (r : Reply). Updates ration-table (DeleteRule (w .card) key) r (happens ration-table (delete key) w)) (due-same key) (delete-by-rules w b v key high e);
+        by-rules = subst (λ (l : List (ℕ × ℕ)). Updates ration-table (lookup key l ≡ none) (DeleteRule (w .card) key) (dictionary (lookup key l)) (happens ration-table (delete key) w)) (sym same-held) (subst (λ (r : Reply). Updates ration-table (lookup key (v .was-kept .held) ≡ none) (DeleteRule (w .card) key) r (happens ration-table (delete key) w)) (dictionary-same (lookup key (v .was-kept .held))) (delete-by-rules w b v key high e));
         finishes = finishes-same update-stores (dictionary (lookup key (b .held))) (happens ration-table (delete key) w) (rw (same-world (delete key) w, ← due-same key) (delete-finishes key high e));
       }
 
   inserts-right : (key value : ℕ) → key < keyLimit → ByRows (row 7 (Busy ration-table (w .state)) (row 6 (key ≡ 0) (row 8 (NoRoom (w .card) (w .state .free) key) end)))
-      (λ r. reply-to ration-table (insert key value) w ≡ refusal r) (Works ration-table (insert key value) (InsertRule (w .card) key value) key w (b .held))
+      (λ r. reply-to ration-table (insert key value) w ≡ refusal r) (Works ration-table (insert key value) ((a : ℕ) × (lookup key (b .held) ≡ some a)) (InsertRule (w .card) key value) key w (b .held))
   unfolding ByRows reply-to
   inserts-right key value high =
       go (past-card (row 7 (Busy ration-table (w .state)) (row 6 (key ≡ 0) (row 9 (leads-to (w .card) key ≡ none) (row 8 (NoRoom (w .card) (w .state .free) key) end)))) (HandsBack ration-table (w .state) (ration-table .insert (w .card) (w .state) key value))
@@ -228,21 +228,21 @@ module _ (w : World ration-table) (b : Book) (v : Covered w b) where
     where
       go : ByRows (row 7 (Busy ration-table (w .state)) (row 6 (key ≡ 0) (row 9 (leads-to (w .card) key ≡ none) (row 8 (NoRoom (w .card) (w .state .free) key) end)))) (HandsBack ration-table (w .state) (ration-table .insert (w .card) (w .state) key value))
           (Starts ration-table (w .state) (ration-table .insert (w .card) (w .state) key value) (inserting key value))
-          → ByRows (row 7 (Busy ration-table (w .state)) (row 6 (key ≡ 0) (row 8 (NoRoom (w .card) (w .state .free) key) end))) (λ r. reply-to ration-table (insert key value) w ≡ refusal r) (Works ration-table (insert key value) (InsertRule (w .card) key value) key w (b .held))
+          → ByRows (row 7 (Busy ration-table (w .state)) (row 6 (key ≡ 0) (row 8 (NoRoom (w .card) (w .state .free) key) end))) (λ r. reply-to ration-table (insert key value) w ≡ refusal r) (Works ration-table (insert key value) ((a : ℕ) × (lookup key (b .held) ≡ some a)) (InsertRule (w .card) key value) key w (b .held))
       go (inl (p, h)) = inl (p, h .number-given)
       go (inr (a, inl (p, h))) = inr (a, inl (p, h .number-given))
       go (inr (a, inr (d, inl (p, h)))) = absurd (leads-somewhere key d high p)
       go (inr (a, inr (d, inr (l, inl (p, h))))) = inr (a, inr (d, inl (p, h .number-given)))
       go (inr (a, inr (d, inr (l, inr (r, s))))) = inr (a, inr (d, inr (r, insert-works key value high s)))
 
-  deletes-right : (key : ℕ) → key < keyLimit → ByRows (row 7 (Busy ration-table (w .state)) (row 6 (key ≡ 0) end)) (λ r. reply-to ration-table (delete key) w ≡ refusal r) (Works ration-table (delete key) (DeleteRule (w .card) key) key w (b .held))
+  deletes-right : (key : ℕ) → key < keyLimit → ByRows (row 7 (Busy ration-table (w .state)) (row 6 (key ≡ 0) end)) (λ r. reply-to ration-table (delete key) w ≡ refusal r) (Works ration-table (delete key) (lookup key (b .held) ≡ none) (DeleteRule (w .card) key) key w (b .held))
   unfolding ByRows reply-to
   deletes-right key high =
       go (past-card (row 7 (Busy ration-table (w .state)) (row 6 (key ≡ 0) (row 9 (leads-to (w .card) key ≡ none) end))) (HandsBack ration-table (w .state) (ration-table .delete (w .card) (w .state) key))
       (Starts ration-table (w .state) (ration-table .delete (w .card) (w .state) key) (deleting key)) (w .card) (w .state .nodes) sized header (demand-1 .deletes (w .card) (w .state) key))
     where
       go : ByRows (row 7 (Busy ration-table (w .state)) (row 6 (key ≡ 0) (row 9 (leads-to (w .card) key ≡ none) end))) (HandsBack ration-table (w .state) (ration-table .delete (w .card) (w .state) key)) (Starts ration-table (w .state) (ration-table .delete (w .card) (w .state) key) (deleting key))
-          → ByRows (row 7 (Busy ration-table (w .state)) (row 6 (key ≡ 0) end)) (λ r. reply-to ration-table (delete key) w ≡ refusal r) (Works ration-table (delete key) (DeleteRule (w .card) key) key w (b .held))
+          → ByRows (row 7 (Busy ration-table (w .state)) (row 6 (key ≡ 0) end)) (λ r. reply-to ration-table (delete key) w ≡ refusal r) (Works ration-table (delete key) (lookup key (b .held) ≡ none) (DeleteRule (w .card) key) key w (b .held))
       go (inl (p, h)) = inl (p, h .number-given)
       go (inr (a, inl (p, h))) = inr (a, inl (p, h .number-given))
       go (inr (a, inr (d, inl (p, h)))) = absurd (leads-somewhere key d high p)

@@ -33,7 +33,8 @@ use Rattle.descent.specs.declared.Slot.the-variants.{At, Absent as NoSlot}
 use Rattle.free_nodes.specs.NodeSet.{countTrue}
 use Rattle.laws.proofs.Cases.{bool-cases}
 use Rattle.opening.specs.Opening.{openSound, openChecked, openOf}
-use Rattle.plans.specs.Planning.{prepared}
+use Rattle.plans.specs.Change.{Change}
+use Rattle.plans.specs.Planning.{takeNumbers, overNumbers, giving, balanced, prepared}
 use Rattle.promises.proofs.Feeding.{begun-result, fed, due-after, due-after-start, dictionary-answer}
 use Rattle.promises.proofs.Invariant.{job-repair, job-insert, job-delete}
 use Rattle.promises.proofs.Ledger.{ledger, put, remove, empty as was-empty, feed as was-feed}
@@ -45,6 +46,7 @@ use Rattle.starting.specs.Starts.{startRefused, started as startedWith, startLa
 use Rattle.state.specs.Answers.{stepReply, startReply}
 use Rattle.state.specs.Memory.{Memory, noMemory, resting}
 use Rattle.state.specs.Steps.{isIdle, Handed, noBeginning}
+use Rattle.state.specs.declared.Answer.{Answer}
 use Rattle.state.specs.declared.Answer.the-variants.{Ready, Absent, Value}
 use Rattle.state.specs.declared.Begun.{Begun as Beginning}
 use Rattle.state.specs.declared.Begun.the-variants.{Started, Refused as BegunRefused}
@@ -78,6 +80,15 @@ unfolding openOf
 open-doing c =
     bool-cases (eqb (cardRefusal c) 0) (λ q. rw q (checked-doing (nodesOfLength (length c)) (tableCheck c (nodesOfLength (length c)))))
     (λ q. rw q (none-doing (cardRefusal c) (card-small c)))
+
+-- a change that is given nodes is not nothing
+giving-not-balanced : (k : ℕ) (free : List Bool) (last : ℕ) (change : List ℕ → Change) → giving k free last change ≡ balanced → ⊥
+unfolding giving overNumbers
+giving-not-balanced k free last change e = at (takeNumbers k free last) e
+  where
+    at : (o : Option (List ℕ)) → overNumbers free last change o ≡ balanced → ⊥
+    at none q = let z : _≡_ {A = ℕ} 0 1 = cc in omega arith
+    at (some ms) q = let z : _≡_ {A = ℕ} 0 1 = cc in omega arith
 
 module _ (w : World ration-table) (b : Book) (v : Covered w b) where
   -- a started update is near its end, and its answer is the dictionary's
@@ -171,8 +182,30 @@ module _ (w : World ration-table) (b : Book) (v : Covered w b) where
   prepared-delete c key free last NoLanding e = let z : _≡_ {A = ℕ} 0 1 = cc in absurd (omega arith)
   prepared-delete c key free last (LandingAt m link run) e = let d = delete-begun key free last m (nodeAt c m) (slotOf (nodeAt c m) key) in subst Begun (sym (d .1)) (key, Value (d .0), some (remove key), job-delete)
 
+  -- where nothing is planned, the key is held by an insert and absent to a delete
+  insert-nothing : (c : List ℕ) (key value : ℕ) (free : List Bool) (last : ℕ) (l : Landing) (o : Option ℕ) → changeAt c (Inserting key value false) free last l .preparation ≡ balanced → changeAt c (Inserting key value false) free last l .final ≡ dictionary-answer o → (a : ℕ) × (o ≡ some a)
+  unfolding changeAt changeIn noChange insertChange dictionary-answer
+  insert-nothing c key value free last NoLanding o e q = let z : _≡_ {A = ℕ} 0 1 = cc in absurd (omega arith)
+  insert-nothing c key value free last (LandingAt m link run) o e q = at (insertReason (nodeAt c m) key) e q o refl
+    where
+      at : (r : Reason) → insertChange key value free last m link (nodeAt c m) r .preparation ≡ balanced → insertChange key value free last m link (nodeAt c m) r .final ≡ dictionary-answer o → (p : Option ℕ) → o ≡ p → (a : ℕ) × (o ≡ some a)
+      at (held a) e q none k = let y : _≡_ {A = Answer} (Value a) Absent = q ∙ ap dictionary-answer k in let z : _≡_ {A = ℕ} 0 1 = cc in absurd (omega arith)
+      at (held a) e q (some v) k = (v, k)
+      at (slot i) e q p k = let z : _≡_ {A = ℕ} 0 1 = cc in absurd (omega arith)
+      at full e q p k = absurd (giving-not-balanced 3 free last _ e)
+
+  delete-nothing : (c : List ℕ) (key : ℕ) (free : List Bool) (last : ℕ) (l : Landing) (o : Option ℕ) → changeAt c (Deleting key false 0) free last l .preparation ≡ balanced → changeAt c (Deleting key false 0) free last l .final ≡ dictionary-answer o → o ≡ none
+  unfolding changeAt changeIn noChange deleteChange dictionary-answer
+  delete-nothing c key free last NoLanding o e q = let z : _≡_ {A = ℕ} 0 1 = cc in absurd (omega arith)
+  delete-nothing c key free last (LandingAt m link run) o e q = at (slotOf (nodeAt c m) key) e q o refl
+    where
+      at : (s : Slot) → deleteChange key free last m (nodeAt c m) s .preparation ≡ balanced → deleteChange key free last m (nodeAt c m) s .final ≡ dictionary-answer o → (p : Option ℕ) → o ≡ p → o ≡ none
+      at (At i) e q p k = let z : _≡_ {A = ℕ} 0 1 = cc in absurd (omega arith)
+      at NoSlot e q none k = k
+      at NoSlot e q (some v) k = let y : _≡_ {A = Answer} Absent (Value v) = q ∙ ap dictionary-answer k in let z : _≡_ {A = ℕ} 0 1 = cc in absurd (omega arith)
+
   pub insert-by-rules : (key value : ℕ) → key < keyLimit → insertOf (w .card) (w .state) key value .begun ≡ Started
-      → Updates ration-table (InsertRule (w .card) key value) (stepReply (dictionary-answer (lookup key (v .was-kept .held)))) (happens ration-table (insert key value) w)
+      → Updates ration-table ((a : ℕ) × (lookup key (v .was-kept .held) ≡ some a)) (InsertRule (w .card) key value) (stepReply (dictionary-answer (lookup key (v .was-kept .held)))) (happens ration-table (insert key value) w)
   unfolding happens insertOf
   insert-by-rules key value high e =
       let q = insert-nears key value high e in
@@ -180,14 +213,15 @@ module _ (w : World ration-table) (b : Book) (v : Covered w b) where
       let m = insertOf (w .card) (w .state) key value .memory in
       let d : m .doing ≡ Inserting key value false = started-doing (w .state) (Inserting key value false) (startRoom (w .card) key (w .state .free)) key e in
       let n : nodes-on (w .card) ≡ u .size = covered-nodes u ∙ nodes-same (u .size) (u .steps) (worldly (happens ration-table (insert key value) w)) (u .was-kept) (u .due) (u .inv) in
-      first-by-rules (dictionary-answer (lookup key (v .was-kept .held))) (q .0) (happens ration-table (insert key value) w) (q .1) (q .2) (InsertRule (w .card) key value)
+      first-by-rules (dictionary-answer (lookup key (v .was-kept .held))) (q .0) (happens ration-table (insert key value) w) (q .1) (q .2) ((a : ℕ) × (lookup key (v .was-kept .held) ≡ some a)) (InsertRule (w .card) key value)
       (changeAt (w .card) (Inserting key value false) (m .free) (m .last) (landing (w .card) (u .size) key))
       (put-turns key value (u .inv .table) (u .inv .stage) d)
       (at-final (w .card) (Inserting key value false) (m .free) (m .last) (landing (w .card) (u .size) key))
+      (insert-nothing (w .card) key value (m .free) (m .last) (landing (w .card) (u .size) key) (lookup key (v .was-kept .held)))
       (λ ss fewer now out p. (insert-by-rule (w .card) (u .size) key n value false p, prepared-insert (w .card) key value (m .free) (m .last) (landing (w .card) (u .size) key) p))
 
   pub delete-by-rules : (key : ℕ) → key < keyLimit → deleteOf (w .card) (w .state) key .begun ≡ Started
-      → Updates ration-table (DeleteRule (w .card) key) (stepReply (dictionary-answer (lookup key (v .was-kept .held)))) (happens ration-table (delete key) w)
+      → Updates ration-table (lookup key (v .was-kept .held) ≡ none) (DeleteRule (w .card) key) (stepReply (dictionary-answer (lookup key (v .was-kept .held)))) (happens ration-table (delete key) w)
   unfolding happens deleteOf
   delete-by-rules key high e =
       let q = delete-nears key high e in
@@ -195,10 +229,11 @@ module _ (w : World ration-table) (b : Book) (v : Covered w b) where
       let m = deleteOf (w .card) (w .state) key .memory in
       let d : m .doing ≡ Deleting key false 0 = started-doing (w .state) (Deleting key false 0) (λ l. true) key e in
       let n : nodes-on (w .card) ≡ u .size = covered-nodes u ∙ nodes-same (u .size) (u .steps) (worldly (happens ration-table (delete key) w)) (u .was-kept) (u .due) (u .inv) in
-      first-by-rules (dictionary-answer (lookup key (v .was-kept .held))) (q .0) (happens ration-table (delete key) w) (q .1) (q .2) (DeleteRule (w .card) key)
+      first-by-rules (dictionary-answer (lookup key (v .was-kept .held))) (q .0) (happens ration-table (delete key) w) (q .1) (q .2) (lookup key (v .was-kept .held) ≡ none) (DeleteRule (w .card) key)
       (changeAt (w .card) (Deleting key false 0) (m .free) (m .last) (landing (w .card) (u .size) key))
       (remove-turns key (u .inv .table) (u .inv .stage) d)
       (at-final (w .card) (Deleting key false 0) (m .free) (m .last) (landing (w .card) (u .size) key))
+      (delete-nothing (w .card) key (m .free) (m .last) (landing (w .card) (u .size) key) (lookup key (v .was-kept .held)))
       (λ ss fewer now out p. (delete-by-rule (w .card) (u .size) key n false 0 p, prepared-delete (w .card) key (m .free) (m .last) (landing (w .card) (u .size) key) p))
 
   -- opening's repair
