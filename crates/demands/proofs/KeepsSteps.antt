@@ -1,9 +1,9 @@
 -- DEMAND 1, of a step: its three cases, and the rows before them.
-use mathlib.Core.Path.{_≡_, refl, ap, sym, _∙_}
+use mathlib.Core.Path.{_≡_, refl, ap, sym, subst, _∙_}
 use mathlib.Core.Bool.{Bool, true, false}
 use mathlib.Core.List.{List, [], _∷_}
 use mathlib.Core.Logic.{_⊎_, inl, inr}
-use Prim.Native.Nat.{ℕ, _+_, _<_}
+use Prim.Native.Nat.{ℕ, _+_, _≤_, _<_}
 use native.Mathlib.Omega.{arith}
 use lib.ListN.{length, getD}
 use lib.Dec.{eqb, ltb}
@@ -12,7 +12,7 @@ use Rattle.card.specs.Header.{nodesOfLength, Sized}
 use Rattle.card.proofs.HeaderLaws.{sized-nodes, formatted-header}
 use Rattle.card.specs.Layout.{nodeAt}
 use Rattle.card.specs.Stores.{Store}
-use Rattle.demands.specs.Demand1.{HandsBack, Stores, Answers, Refuses, Demand1}
+use Rattle.demands.specs.Demand1.{HandsBack, Stores, StoresNext, Answers, Refuses, Demand1}
 use Rattle.demands.specs.Table.{formatting, inserting, deleting}
 use Rattle.demands.specs.Refusals.{ByRows, Idle, NoCard, on-card, end, row}
 use Rattle.demands.specs.RationTable.{workOf, stepped, ration-table}
@@ -106,6 +106,11 @@ advanced-doing : (m : Memory) (rest : List Store) → advanced m rest .doing ≡
 unfolding advanced
 advanced-doing m [] = refl
 advanced-doing m (s ∷ rest) = refl
+
+pub advanced-rest : (m : Memory) (rest : List Store) → advanced m rest .rest ≡ rest
+unfolding advanced
+advanced-rest m [] = refl
+advanced-rest m (s ∷ rest) = refl
 
 store-cases : (c : List ℕ) (old m : Memory) (s : Store) (rest : List Store) → m .nodes ≡ old .nodes → workOf (m .doing) ≡ workOf (old .doing) → Cases c old (stepStore c old m s rest)
 unfolding stepStore stepReply
@@ -215,6 +220,25 @@ module _ (c : List ℕ) (m : Memory) where
       (λ i. inl (idle-work (m .doing) i, rw (step-sized c m s ∙ held-doing c m (m .doing) q, formatted-header c (m .nodes) f, i) (refused-same 10 c m)))
       (λ i. inr (busy-work (m .doing) i, rw (step-sized c m s ∙ held-doing c m (m .doing) q, formatted-header c (m .nodes) f, i) (work-cases c m (m .rest)))))
 
+-- with a change in hand
+next-cases : (c : List ℕ) (m : Memory) (x : Store) (rest : List Store) → ByRows (row 9 (length c ≤ x .0) end) (Refuses ration-table c m (stepped (stepStore c m m x rest))) (StoresNext ration-table c m (stepped (stepStore c m m x rest)) x rest)
+unfolding ByRows stepStore stepReply
+next-cases c m x rest =
+    order (x .0) (length c)
+    (λ o. inr (λ z. omega (arith, o, z), rw (lt-ltb (x .0) (length c) o) (record { reply-given = refl; one-store = refl; rest-to-come = advanced-rest m rest; nodes-kept = advanced-nodes m rest; work-kept = ap workOf (advanced-doing m rest) })))
+    (λ o. inl (o, rw (le-ltb (x .0) (length c) o) (refused-same 9 c m)))
+
+in-hand-rows : (c : List ℕ) (m : Memory) (x : Store) (rest : List Store) → m .rest ≡ x ∷ rest → (workOf (m .doing) ≡ formatting → ⊥)
+    → ByRows (on-card c (m .nodes) (row 10 (Idle ration-table m) (row 9 (length c ≤ x .0) end))) (Refuses ration-table c m (stepped (stepOf c m))) (StoresNext ration-table c m (stepped (stepOf c m)) x rest)
+unfolding ByRows stepHeld stepWork
+in-hand-rows c m x rest e q =
+    by-card (row 10 (Idle ration-table m) (row 9 (length c ≤ x .0) end)) (Refuses ration-table c m (stepped (stepOf c m))) (StoresNext ration-table c m (stepped (stepOf c m)) x rest) c (m .nodes)
+    (λ p. rw (step-one c m p) (refused-same 1 c m))
+    (λ r s k d. rw (step-sized c m s ∙ held-doing c m (m .doing) q, k, ne-eqb r 0 d) (refused-same r c m))
+    (λ s f. bool-cases (isIdle (m .doing))
+    (λ i. inl (idle-work (m .doing) i, rw (step-sized c m s ∙ held-doing c m (m .doing) q, formatted-header c (m .nodes) f, i) (refused-same 10 c m)))
+    (λ i. inr (busy-work (m .doing) i, subst (λ (y : Step). ByRows (row 9 (length c ≤ x .0) end) (Refuses ration-table c m (stepped y)) (StoresNext ration-table c m (stepped y) x rest)) (sym (step-sized c m s ∙ held-doing c m (m .doing) q ∙ rw (formatted-header c (m .nodes) f, i) (ap (stepWork c m) e))) (next-cases c m x rest))))
+
 -- no card has N = 0
 none-sized : (c : List ℕ) (n : ℕ) → n ≡ 0 → NoCard c n
 none-sized c n e s = omega (arith, e, s .least)
@@ -231,4 +255,4 @@ none-refused c m e key value =
 
 -- DEMAND 1 of the ration table
 pub demand-1 : Demand1 ration-table
-demand-1 = record { finds = finds; formats = formats; opens = opens; inserts = inserts; deletes = deletes; format-steps = formatting-rows; steps = held-rows; none-refused = none-refused }
+demand-1 = record { finds = finds; formats = formats; opens = opens; inserts = inserts; deletes = deletes; format-steps = formatting-rows; steps-in-hand = in-hand-rows; steps = held-rows; none-refused = none-refused }

@@ -16,6 +16,7 @@ use Rattle.demands.specs.Demand2.{storeAt, StoresNow}
 use Rattle.demands.proofs.Following.{worldly, same-world, fed-same}
 use Rattle.demands.specs.RationTable.{ration-table}
 use Rattle.demands.proofs.Keeps3.{Covered, covered-nodes, refused-insert-same, refused-delete-same}
+use Rattle.demands.proofs.KeepsSteps.{advanced-rest}
 use Rattle.promises.proofs.Feeding.{fed, due-after}
 use Rattle.promises.proofs.Finished.{stored-due}
 use Rattle.promises.proofs.Invariant.{Inv, Stage, Table, stage-idle, stage-put, stage-remove, stage-first, stage-between, stage-within}
@@ -89,11 +90,6 @@ stage-storing b (stage-remove z r x low high q g) = inl refl
 stage-storing {c} {n} b (stage-first {free} {last} {doing = doing} {cut = out} {s = s} {rest = rest} j p en count few hd) = inr (s, rest, refl, step-stores c n (b .sized) (b .header) free last doing (job-busy j) out s rest (first-storable (p .plays) .inside))
 stage-storing b (stage-between j en deep k x few hd) = inl refl
 stage-storing {c} {n} b (stage-within {free} {last} {doing = doing} {cut = out} {s = s} {rest = rest} j en p e few hd) = inr (s, rest, refl, step-stores c n (b .sized) (b .header) free last doing (job-busy j) out s rest (first-storable (p .plays) .inside))
-
-advanced-rest : (m : Memory) (rest : List Store) → advanced m rest .rest ≡ rest
-unfolding advanced
-advanced-rest m [] = refl
-advanced-rest m (s ∷ rest) = refl
 
 advanced-twice : (m : Memory) (s : Store) (rest more : List Store) → advanced (advanced m (s ∷ rest)) more ≡ advanced m more
 unfolding advanced

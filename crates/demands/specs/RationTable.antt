@@ -34,6 +34,7 @@ ration-table =
       free = λ m. m .free;
       lastGiven = λ m. m .last;
       work = λ m. workOf (m .doing);
+      toCome = λ m. m .rest;
       find = λ c key. foundReply (findOf c key);
       format = λ c. handed (formatOf c);
       openCard = λ c. handed (openOf c);
