@@ -8,3 +8,7 @@ pub mod Numbers
 pub mod Following
 pub mod Keeps3
 pub mod Keeps2
+-- laws of rows "in order"
+pub mod RowLaws
+-- W-213, of the questions that `records` answers
+pub mod Fetching

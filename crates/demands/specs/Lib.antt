@@ -5,3 +5,5 @@ pub mod Book
 pub mod Demand1
 pub mod Demand2
 pub mod Demand3
+-- document 02, W-213: the record of a ration, as a part of a lent block
+pub mod W213
