@@ -57,11 +57,14 @@ module _ (block : List ℕ) (at : ℕ) where
   unfolding ByRows
   at-offset =
       order at (length block)
-      (λ l. inr (λ past. omega arith, by-cases (ℕ-discrete (getD block at 0) 0)
-      (λ z. inl (inl z, refused-at 24 (refusal-empty block at l (getD block at 0) refl z) (λ q. omega (arith, q))))
-      (λ d. order (length block) (at + 1 + getD block at 0)
-      (λ o. inl (inr (omega arith), refused-at 24 (refusal-long block at l (getD block at 0) refl d (omega arith)) (λ q. omega (arith, q))))
-      (λ o. inr (λ q. ⊎-elim d (λ p. omega arith) q, found-at d o)))))
+      (λ l. inr (
+        λ past. omega arith,
+        by-cases (ℕ-discrete (getD block at 0) 0)
+            (λ z. inl (inl z, refused-at 24 (refusal-empty block at l (getD block at 0) refl z) (λ q. omega (arith, q))))
+            (λ d. order (length block) (at + 1 + getD block at 0)
+            (λ o. inl (inr (omega arith), refused-at 24 (refusal-long block at l (getD block at 0) refl d (omega arith)) (λ q. omega (arith, q))))
+            (λ o. inr (λ q. ⊎-elim d (λ p. omega arith) q, found-at d o))),
+      ))
       (λ past. inl (omega arith, refused-at 23 (refusal-past block at past) (λ z. omega (arith, z))))
 
 -- ---- the number of the find's reply tells its answer

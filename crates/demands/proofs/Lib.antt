@@ -12,3 +12,5 @@ pub mod Keeps2
 pub mod RowLaws
 -- W-213, of the questions that `records` answers
 pub mod Fetching
+-- W-202, of the test that `dump` makes
+pub mod PaddingTest

@@ -7,3 +7,5 @@ pub mod Demand2
 pub mod Demand3
 -- document 02, W-213: the record of a ration, as a part of a lent block
 pub mod W213
+-- document 02, W-202: the padding of a dump, tested eight bytes at a time
+pub mod W202
