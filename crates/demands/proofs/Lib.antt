@@ -14,3 +14,5 @@ pub mod RowLaws
 pub mod Fetching
 -- W-202, of the test that `dump` makes
 pub mod PaddingTest
+-- W-214, of the ration table
+pub mod Depths

@@ -9,3 +9,5 @@ pub mod Demand3
 pub mod W213
 -- document 02, W-202: the padding of a dump, tested eight bytes at a time
 pub mod W202
+-- document 02, W-214: how many levels a line has, by its rations
+pub mod W214
