@@ -16,3 +16,5 @@ pub mod Fetching
 pub mod PaddingTest
 -- W-214, of the ration table
 pub mod Depths
+-- W-201, of the call `successor::next_pair`
+pub mod NextNumber

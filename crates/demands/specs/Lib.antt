@@ -11,3 +11,5 @@ pub mod W213
 pub mod W202
 -- document 02, W-214: how many levels a line has, by its rations
 pub mod W214
+-- document 02, W-201: the next ration number
+pub mod W201
