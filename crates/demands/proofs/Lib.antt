@@ -18,3 +18,5 @@ pub mod PaddingTest
 pub mod Depths
 -- W-201, of the call `successor::next_pair`
 pub mod NextNumber
+-- the program `list`
+pub mod ListRight

@@ -13,3 +13,5 @@ pub mod W202
 pub mod W214
 -- document 02, W-201: the next ration number
 pub mod W201
+-- document 01, the program `list`
+pub mod List
