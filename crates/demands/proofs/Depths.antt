@@ -1,44 +1,43 @@
 -- Document 02, W-214, of the ration table.
 use mathlib.Core.Path.{_≡_, refl, ap, sym, subst, _∙_}
 use mathlib.Core.Bool.{true, false}
-use mathlib.Core.List.{List, [], _∷_}
+use mathlib.Core.List.{List}
 use mathlib.Core.Option.{Option, none, some}
-use Prim.Native.Nat.{ℕ, zero, suc, _+_, _*_, _^_, _≤_, _<_}
+use Prim.Native.Nat.{ℕ, zero, suc, _^_, _<_}
 use native.Mathlib.Omega.{arith}
 use native.Mathlib.Numerals.{add-one}
 use lib.ListN.{length, replicate}
-use Rattle.card.specs.Layout.{keyLimit}
-use Rattle.card.specs.Replies.{Reply, refusal, stored, started}
 use Rattle.demands.specs.Book.{Book}
-use Rattle.demands.specs.Demand2.{dictionary, Finishes, Rests, Works}
-use Rattle.demands.specs.Events.{Event, World, reply-to, happens, run, LeftUncut, steps-in, insert, delete, step}
-use Rattle.demands.specs.W214.{SingleLeaf, Levels, Line, storesAt, EndsByDepth, W214}
+use Rattle.demands.specs.Demand2.{Finishes, Works}
+use Rattle.demands.specs.Events.{Event, World, reply-to, happens, LeftUncut, steps-in, insert, delete, step}
+use Rattle.demands.specs.Refusals.{Rows, ByRows}
+use Rattle.demands.specs.W214.{Levels, Line, storesAt, EndsByDepth, W214}
 use Rattle.demands.proofs.Following.{worldly, same-world}
 use Rattle.demands.proofs.Instance.{ration-table}
 use Rattle.demands.proofs.Keeps2.{is-dictionary}
 use Rattle.demands.proofs.Keeps3.{Covered, always, was-list, run-same, quiet-same, steps-same}
+use Rattle.demands.proofs.Numbers.{start-small}
+use Rattle.demands.proofs.ReplyLaws.{code-of, begun-started}
 use Rattle.demands.proofs.RowLaws.{Numbers, rows-elim}
-use Rattle.demands.proofs.Numbers.{SmallBegun, start-small}
-use Rattle.demands.specs.Refusals.{Rows, ByRows}
+use Rattle.card.specs.Layout.{keyLimit}
+use Rattle.card.specs.Replies.{Reply, refusal, stored, started}
 use Rattle.laws.proofs.Cases.{order}
 use Rattle.promises.proofs.Feeding.{begun-result, dictionary-answer, due-after, due-after-start}
 use Rattle.promises.proofs.Finished.{work-finishes}
 use Rattle.promises.proofs.Finishing.{Finishes as WasFinishes}
-use Rattle.promises.proofs.Machine.{World as Worldly, happens as was-happens, run as was-run, insert as was-insert, delete as was-delete}
+use Rattle.promises.proofs.Machine.{World as Worldly, happens as was-happens, insert as was-insert, delete as was-delete}
 use Rattle.promises.proofs.Starting.{kept-insert, kept-delete}
 use Rattle.soundness_theory.proofs.Level.{same-height}
 use Rattle.soundness_theory.proofs.Rations.{balanced-pairs, pairs-bound-levels, few-pairs-flat, flat-leaf}
 use Rattle.starting.specs.Starts.{insertOf, deleteOf}
-use Rattle.state.specs.Answers.{stepReply, startReply}
-use Rattle.state.specs.declared.Begun.{Begun}
-use Rattle.state.specs.declared.Begun.the-variants.{Idle as OpenedIdle, Started, Refused as BegunRefused}
+use Rattle.state.specs.Answers.{stepReply}
 use Rattle.state.specs.declared.Doing.the-variants.{Inserting, Deleting}
 use Rattle.table.specs.Calls.{stepOf}
 use Rattle.tree.specs.Height.{Height}
 use Rattle.tree.specs.Pairs.{pairs, lookup}
 use Rattle.tree.specs.Tree.{Tree}
+use Rattle.tree.specs.WellFormed.{Balanced}
 use Rattle.updates.specs.Updates.{startRoom}
-use Rattle.tree.specs.WellFormed.{WellFormed, Balanced}
 
 tree-levels : (c : List ℕ) (t : Tree) → Balanced c t → (h : ℕ) → Height h t → Levels t h (length (pairs t))
 tree-levels c t b h level =
@@ -80,9 +79,16 @@ count-steps zero = refl
 count-steps (suc k) = ap suc (count-steps k)
 
 -- the number of stores is one: where the final answer comes within fewer steps, they are no more
-sharpened : (few most : ℕ) (last final : Reply) (w : World ration-table) → (last .code ≡ 66 → ⊥) → WasFinishes few last (worldly w) → Finishes ration-table most final w → Finishes ration-table few final w
+sharpened : (few most : ℕ) (last final : Reply) (w : World ration-table) → (last .code ≡ 66 → ⊥) → WasFinishes few last (worldly w)
+    → Finishes ration-table most final w → Finishes ration-table few final w
 unfolding reply-to
-sharpened few most last final w d g f = record { count = f .count; few-stores = order (g .count) (f .count) (λ o. absurd (sooner o)) (λ o. omega (arith, g .few-stores)); each-stores = f .each-stores; then-answers = f .then-answers }
+sharpened few most last final w d g f =
+    record {
+      count = f .count;
+      few-stores = order (g .count) (f .count) (λ o. absurd (sooner o)) (λ o. omega (arith, g .few-stores));
+      each-stores = f .each-stores;
+      then-answers = f .then-answers;
+    }
   where
     sooner : g .count < f .count → ⊥
     sooner o =
@@ -91,32 +97,32 @@ sharpened few most last final w d g f = record { count = f .count; few-stores = 
         let n = count-steps (g .count) in
         let a = g .then-answers (was-list qs) (quiet-same qs w u) (steps-same qs ∙ n) .answer in
         let still = subst (λ (x : Worldly). stepReply (stepOf (x .card) (x .memory) .answer) ≡ stored) (run-same qs w) (f .each-stores qs u (omega (arith, n))) in
-        d (ap (λ (x : Reply). x .code) (sym a ∙ still))
+        d (code-of (sym a ∙ still))
 
 final-code : (o : Option ℕ) → stepReply (dictionary-answer o) .code ≡ 66 → ⊥
 unfolding stepReply dictionary-answer
 final-code none e = omega arith
 final-code (some v) e = omega arith
 
-begun-started : (b : Begun) → SmallBegun b → startReply b ≡ started → b ≡ Started
-unfolding startReply
-begun-started OpenedIdle s e = absurd (omega (arith, ap (λ (x : Reply). x .code) e))
-begun-started Started s e = refl
-begun-started (BegunRefused r) s e = absurd (omega (arith, s, ap (λ (x : Reply). x .code) e))
-
 module _ (w : World ration-table) (b : Book) (v : Covered w b) (key : ℕ) (high : key < keyLimit) where
   -- a call that is started was refused by no row
-  works : (e : Event) (rows : Rows) → Numbers rows → ByRows rows (λ r. reply-to ration-table e w ≡ refusal r) (Works ration-table e key w (b .held)) → reply-to ration-table e w ≡ started → Works ration-table e key w (b .held)
-  works e rows n p s = rows-elim rows n (λ r h q. absurd (omega (arith, ap (λ (x : Reply). x .code) (sym q ∙ s)))) (λ q. q) p
+  works : (e : Event) (rows : Rows) → Numbers rows → ByRows rows (λ r. reply-to ration-table e w ≡ refusal r) (Works ration-table e key w (b .held))
+      → reply-to ration-table e w ≡ started → Works ration-table e key w (b .held)
+  works e rows n p s = rows-elim rows n (λ r h q. absurd (omega (arith, code-of (sym q ∙ s)))) (λ q. q) p
 
   insert-ends : (value : ℕ) → EndsByDepth ration-table (insert key value) key w (b .held)
   unfolding reply-to was-happens due-after due-after-start begun-result insertOf
   insert-ends value t sound h level s =
-      let e = begun-started (insertOf (w .card) (w .state) key value .begun) (start-small (w .card) (w .state) key (Inserting key value false) (startRoom (w .card) key (w .state .free))) s in
+      let e =
+      begun-started (insertOf (w .card) (w .state) key value .begun)
+      (start-small (w .card) (w .state) key (Inserting key value false) (startRoom (w .card) key (w .state .free))) s in
       let q = kept-insert (v .size) (v .steps) (worldly w) (v .was-kept) (v .due) (v .inv) key value high in
       let f = works (insert key value) _ (omega arith, (omega arith, (omega arith, tt))) (is-dictionary w b v .inserts key value high) s .finishes in
-      sharpened (storesAt h) _ (stepReply (dictionary-answer (lookup key (v .was-kept .held)))) _ (happens ration-table (insert key value) w) (final-code (lookup key (v .was-kept .held)))
-      (rw (same-world (insert key value) w) (rw e at (work-finishes (v .size) (q .0) (storesAt h) (was-happens (was-insert key value) (worldly w)) _ _ (q .2 .0) (q .1 .busy e) (omega (arith, q .1 .steps-left e t sound h level)))))
+      let next = was-happens (was-insert key value) (worldly w) in
+      let g = work-finishes (v .size) (q .0) (storesAt h) next _ _ (q .2 .0) (q .1 .busy e) (omega (arith, q .1 .steps-left e t sound h level)) in
+      let due = lookup key (v .was-kept .held) in
+      sharpened (storesAt h) _ (stepReply (dictionary-answer due)) _ (happens ration-table (insert key value) w) (final-code due)
+      (rw (same-world (insert key value) w) (rw e at g))
       f
 
   delete-ends : EndsByDepth ration-table (delete key) key w (b .held)
@@ -125,8 +131,11 @@ module _ (w : World ration-table) (b : Book) (v : Covered w b) (key : ℕ) (high
       let e = begun-started (deleteOf (w .card) (w .state) key .begun) (start-small (w .card) (w .state) key (Deleting key false 0) (λ l. true)) s in
       let q = kept-delete (v .size) (v .steps) (worldly w) (v .was-kept) (v .due) (v .inv) key high in
       let f = works (delete key) _ (omega arith, (omega arith, tt)) (is-dictionary w b v .deletes key high) s .finishes in
-      sharpened (storesAt h) _ (stepReply (dictionary-answer (lookup key (v .was-kept .held)))) _ (happens ration-table (delete key) w) (final-code (lookup key (v .was-kept .held)))
-      (rw (same-world (delete key) w) (rw e at (work-finishes (v .size) (q .0) (storesAt h) (was-happens (was-delete key) (worldly w)) _ _ (q .2 .0) (q .1 .busy e) (omega (arith, q .1 .steps-left e t sound h level)))))
+      let next = was-happens (was-delete key) (worldly w) in
+      let g = work-finishes (v .size) (q .0) (storesAt h) next _ _ (q .2 .0) (q .1 .busy e) (omega (arith, q .1 .steps-left e t sound h level)) in
+      let due = lookup key (v .was-kept .held) in
+      sharpened (storesAt h) _ (stepReply (dictionary-answer due)) _ (happens ration-table (delete key) w) (final-code due)
+      (rw (same-world (delete key) w) (rw e at g))
       f
 
 pub w-214 : W214 ration-table
@@ -134,6 +143,8 @@ w-214 =
     record {
       trees = tree-levels;
       lines = always (λ w b. ration-table .is-idle (w .state) ≡ true → Line (w .card) (b .held)) line;
-      inserts = always (λ w b. (key value : ℕ) → key < keyLimit → EndsByDepth ration-table (insert key value) key w (b .held)) (λ w b v key value high. insert-ends w b v key high value);
+      inserts =
+          always (λ w b. (key value : ℕ) → key < keyLimit → EndsByDepth ration-table (insert key value) key w (b .held))
+          (λ w b v key value high. insert-ends w b v key high value);
       deletes = always (λ w b. (key : ℕ) → key < keyLimit → EndsByDepth ration-table (delete key) key w (b .held)) delete-ends;
     }

@@ -1,27 +1,27 @@
 -- Document 02, W-213, of the two questions that `records` answers.
 use mathlib.Core.Path.{_≡_, refl, ap, sym, _∙_}
-use mathlib.Core.List.{List, []}
-use mathlib.Core.Logic.{_⊎_, _↔_, inl, inr, ⊎-elim, by-cases}
-use Prim.Native.Nat.{ℕ, _+_, _≤_, _<_}
+use mathlib.Core.List.{List}
+use mathlib.Core.Logic.{_↔_, inl, inr, ⊎-elim, by-cases}
+use Prim.Native.Nat.{ℕ, _+_, _≤_}
 use native.Mathlib.Omega.{arith}
 use native.Mathlib.Decide.{ℕ-discrete}
-use lib.ListN.{length, getD, take, drop, length-take, length-drop}
+use lib.ListN.{length, getD, length-take, length-drop}
 use borrow.Author.Tests.{eq-eqb, ne-eqb}
-use Rattle.card.specs.Replies.{Reply, refusal, holds, absent, fetched}
 use Rattle.demands.specs.Demand1.{Finds}
 use Rattle.demands.specs.Refusals.{ByRows, find-rows}
-use Rattle.demands.specs.W213.{recordRows, NoRecord, IsRecord, W213}
+use Rattle.demands.specs.W213.{recordRows, NoRecord, IsRecord, AtOffset, ByFind, W213}
 use Rattle.demands.proofs.Instance.{ration-table}
 use Rattle.demands.proofs.Keeps1.{finds}
-use Rattle.demands.proofs.Numbers.{SmallFound, find-small}
+use Rattle.demands.proofs.Numbers.{find-small}
+use Rattle.demands.proofs.ReplyLaws.{code-of, found-refused, found-absent, found-value}
 use Rattle.demands.proofs.RowLaws.{Numbers, rows-elim, rows-map}
+use Rattle.card.specs.Replies.{Reply, refusal, holds, absent, fetched}
 use Rattle.laws.proofs.Cases.{order}
-use Rattle.lookup.specs.Answers.{foundReply}
 use Rattle.lookup.specs.Find.{findOf}
-use Rattle.lookup.specs.declared.Found.{Found}
 use Rattle.lookup.specs.declared.Found.the-variants.{Value, Absent as NotHeld, Refused as NoLook}
-use Rattle.records.specs.Records.{recordRefusal, recordAt, recordFor, recordOf, fetchedAt, fetchedFor, fetchOf, fetchReply}
+use Rattle.lookup.specs.declared.Found.{Found}
 use Rattle.records.proofs.RecordLaws.{refusal-past, refusal-empty, refusal-long, refusal-none}
+use Rattle.records.specs.Records.{recordRefusal, recordAt, recordFor, recordOf, fetchedAt, fetchedFor, fetchOf, fetchReply}
 
 -- the two questions, by what the find answers
 abbrev partFor : List ℕ → Found → List ℕ
@@ -53,7 +53,7 @@ module _ (block : List ℕ) (at : ℕ) where
           most = λ bytes. rw z (omega (arith, as-long, bytes at));
         }
 
-  at-offset : ByRows (recordRows block at) (λ r. NoRecord (partFor block (Value at)) (replyFor block (Value at)) (refusal r)) (IsRecord (partFor block (Value at)) (replyFor block (Value at)) block at)
+  at-offset : AtOffset (partFor block (Value at)) (replyFor block (Value at)) block at
   unfolding ByRows
   at-offset =
       order at (length block)
@@ -66,32 +66,6 @@ module _ (block : List ℕ) (at : ℕ) where
             (λ o. inr (λ q. ⊎-elim d (λ p. omega arith) q, found-at d o))),
       ))
       (λ past. inl (omega arith, refused-at 23 (refusal-past block at past) (λ z. omega (arith, z))))
-
--- ---- the number of the find's reply tells its answer
-
-code-of : {r s : Reply} → r ≡ s → r .code ≡ s .code
-code-of e = ap (λ (x : Reply). x .code) e
-
-value-of : {r s : Reply} → r ≡ s → r .value ≡ s .value
-value-of e = ap (λ (x : Reply). x .value) e
-
-is-refused : (f : Found) (r : ℕ) → r < 64 → foundReply f ≡ refusal r → f ≡ NoLook r
-unfolding foundReply
-is-refused (Value v) r h e = absurd (omega (arith, code-of e))
-is-refused NotHeld r h e = absurd (omega (arith, code-of e))
-is-refused (NoLook k) r h e = ap NoLook (code-of e)
-
-is-absent : (f : Found) → SmallFound f → foundReply f ≡ absent → f ≡ NotHeld
-unfolding foundReply
-is-absent (Value v) s e = absurd (omega (arith, code-of e))
-is-absent NotHeld s e = refl
-is-absent (NoLook k) s e = absurd (omega (arith, code-of e))
-
-is-value : (f : Found) (v : ℕ) → SmallFound f → foundReply f ≡ holds v → f ≡ Value v
-unfolding foundReply
-is-value (Value k) v s e = ap Value (value-of e)
-is-value NotHeld v s e = absurd (omega (arith, code-of e))
-is-value (NoLook k) v s e = absurd (omega (arith, code-of e))
 
 -- ---- for every card, key and block
 
@@ -110,25 +84,22 @@ module _ (c : List ℕ) (key : ℕ) (block : List ℕ) where
   unfolding recordOf recordFor fetchOf fetchedFor fetchReply
   not-held e = record { told = rw e; empty = rw e }
 
-  abbrev AtOffset : ℕ → Type 0
-  AtOffset at = ByRows (recordRows block at) (λ r. NoRecord (part c key block) (reply c key block) (refusal r)) (IsRecord (part c key block) (reply c key block) block at)
-
-  held-at : (at : ℕ) → findOf c key ≡ Value at → AtOffset at
+  held-at : (at : ℕ) → findOf c key ≡ Value at → AtOffset (part c key block) (reply c key block) block at
   unfolding recordOf fetchOf
   held-at at e = rw e (at-offset block at)
 
   abbrev Works : Type 0
-  Works = ((ration-table .find c key ≡ absent) × NoRecord (part c key block) (reply c key block) absent) ⊎ ((at : ℕ) × (ration-table .find c key ≡ holds at) × AtOffset at)
+  Works = ByFind (part c key block) (reply c key block) block (ration-table .find c key)
 
   looked : Finds (ration-table .find c key) → Works
-  looked (inl (at, e)) = inr (at, e, held-at at (is-value (findOf c key) at (find-small c key) e))
-  looked (inr e) = inl (e, not-held (is-absent (findOf c key) (find-small c key) e))
+  looked (inl (at, e)) = inr (at, e, held-at at (found-value (findOf c key) at (find-small c key) e))
+  looked (inr e) = inl (e, not-held (found-absent (findOf c key) (find-small c key) e))
 
   find-numbers : Numbers (find-rows c key)
   find-numbers = (omega arith, (omega arith, (omega arith, (omega arith, (omega arith, tt)))))
 
   all-answers : ByRows (find-rows c key) (λ r. (ration-table .find c key ≡ refusal r) × NoRecord (part c key block) (reply c key block) (refusal r)) Works
-  all-answers = rows-map (find-rows c key) find-numbers (λ r h e. (e, no-look r (is-refused (findOf c key) r h e))) looked (finds c key)
+  all-answers = rows-map (find-rows c key) find-numbers (λ r h e. (e, no-look r (found-refused (findOf c key) r h e))) looked (finds c key)
 
   -- the two questions agree, by what they answer alone
   none-found : (why : Reply) → NoRecord (part c key block) (reply c key block) why → (why .code ≡ 74 → ⊥) → (reply c key block ≡ fetched) ↔ (1 ≤ length (part c key block))
@@ -139,12 +110,18 @@ module _ (c : List ℕ) (key : ℕ) (block : List ℕ) where
     where
       works : Works → (reply c key block ≡ fetched) ↔ (1 ≤ length (part c key block))
       works (inl (e, n)) = none-found absent n (λ z. omega (arith, z))
-      works (inr (at, e, q)) = rows-elim (recordRows block at) (omega arith, (omega arith, tt)) (λ r h n. none-found (refusal r) n (λ z. omega (arith, z))) (λ i. (λ z. i .least, λ z. i .told)) q
+      works (inr (at, e, q)) =
+          rows-elim (recordRows block at) (omega arith, (omega arith, tt)) (λ r h n. none-found (refusal r) n (λ z. omega (arith, z)))
+          (λ i. (λ z. i .least, λ z. i .told)) q
 
   absent-is : (reply c key block ≡ absent) ↔ (ration-table .find c key ≡ absent)
-  absent-is = rows-elim (find-rows c key) find-numbers (λ r h n. neither (refusal r) (refusal r) (n .1 .told) (n .0) (λ z. omega (arith, z)) (λ z. omega (arith, z))) works all-answers
+  absent-is =
+      rows-elim (find-rows c key) find-numbers
+      (λ r h n. neither (refusal r) (refusal r) (n .1 .told) (n .0) (λ z. omega (arith, z)) (λ z. omega (arith, z)))
+      works all-answers
     where
-      neither : (a b : Reply) → reply c key block ≡ a → ration-table .find c key ≡ b → (a .code ≡ 65 → ⊥) → (b .code ≡ 65 → ⊥) → (reply c key block ≡ absent) ↔ (ration-table .find c key ≡ absent)
+      neither : (a b : Reply) → reply c key block ≡ a → ration-table .find c key ≡ b → (a .code ≡ 65 → ⊥) → (b .code ≡ 65 → ⊥)
+          → (reply c key block ≡ absent) ↔ (ration-table .find c key ≡ absent)
       neither a b e f d g = (λ z. absurd (d (code-of (sym e ∙ z))), λ z. absurd (g (code-of (sym f ∙ z))))
 
       works : Works → (reply c key block ≡ absent) ↔ (ration-table .find c key ≡ absent)

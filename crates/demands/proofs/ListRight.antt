@@ -1,31 +1,32 @@
 -- The program `list`, of the ration table.
 use mathlib.Core.Path.{_≡_, refl, ap, sym, subst, _∙_}
-use mathlib.Core.Bool.{Bool, true, false}
+use mathlib.Core.Bool.{true, false}
 use mathlib.Core.List.{List}
 use mathlib.Core.Logic.{inl, inr, ⊎-elim}
 use Prim.Native.Nat.{ℕ, zero, suc, _^_, _<_}
 use native.Mathlib.Omega.{arith}
 use lib.ListN.{length, getD, replicate}
-use Rattle.card.specs.Header.{nodesOfLength, Sized, Formatted}
-use Rattle.card.proofs.HeaderLaws.{sized-nodes}
-use Rattle.card.specs.Replies.{Reply, refusal}
-use Rattle.demands.specs.Demand1.{HandsNone, OpensTo}
+use Rattle.demands.specs.Demand1.{OpensTo}
 use Rattle.demands.specs.Demand3.{repair-steps}
 use Rattle.demands.specs.Events.{World, opened, happens, run, step}
 use Rattle.demands.specs.List.{repairedBy, ListsRight, ListProgram}
 use Rattle.demands.specs.Refusals.{ByRows, nodes-on, open-rows, end, row}
+use Rattle.demands.proofs.Following.{worldly, same-world}
 use Rattle.demands.proofs.Instance.{handed, ration-table}
 use Rattle.demands.proofs.Keeps1.{opens}
 use Rattle.demands.proofs.Numbers.{SmallBegun, open-small}
-use Rattle.demands.proofs.Following.{worldly, same-world}
+use Rattle.demands.proofs.ReplyLaws.{code-of, true-false, begun-refused}
 use Rattle.demands.proofs.RowLaws.{rows-map}
 use Rattle.demands.proofs.Rowing.{sized-on}
+use Rattle.card.proofs.HeaderLaws.{sized-nodes}
+use Rattle.card.specs.Header.{nodesOfLength, Sized, Formatted}
+use Rattle.card.specs.Replies.{refusal}
 use Rattle.dump.proofs.AnswerLaws.{Good, undamaged-whole, whole-undamaged, read-damaged, read-whole, room-long}
 use Rattle.dump.proofs.RoundTrip.{dump-words, dump-whole, dump-nodes}
 use Rattle.dump.specs.Dump.{dumpOf, dumpWords, wordsFor, dumpNodes, damaged}
 use Rattle.laws.proofs.Cases.{bool-cases}
 use Rattle.listing.proofs.SummaryLaws.{card-refused, dump-refused, dump-read}
-use Rattle.listing.specs.Listing.{Listing, Listed, refused, listed, listCard, listDump}
+use Rattle.listing.specs.Listing.{Listing, refused, listed, listCard, listDump}
 use Rattle.listing_theory.proofs.Right.{ListedRight, listing-right}
 use Rattle.opening.specs.Opening.{openOf}
 use Rattle.printing.specs.Text.{listText, cardRoom, dumpText}
@@ -38,8 +39,6 @@ use Rattle.repairing_theory.proofs.Repair.{steps, opened-run}
 use Rattle.shapes.proofs.Unique.{one-held}
 use Rattle.state.specs.Answers.{startReply}
 use Rattle.state.specs.declared.Begun.{Begun}
-use Rattle.state.specs.declared.Begun.the-variants.{Idle, Started, Refused}
-use Rattle.tree.specs.Pairs.{pairs, lookup}
 use Rattle.tree.specs.Tree.{Tree}
 use Rattle.tree.specs.WellFormed.{WellFormed}
 
@@ -55,15 +54,6 @@ unfolding repairedBy
 repaired-is c = ap (λ (x : Worldly). x .card) (run-steps repair-steps (opened ration-table c) ∙ sym (opened-run c))
 
 -- ---- cards
-
-code-of : {r s : Reply} → r ≡ s → r .code ≡ s .code
-code-of e = ap (λ (x : Reply). x .code) e
-
-begun-refused : (b : Begun) (r : ℕ) → r < 64 → startReply b ≡ refusal r → b ≡ Refused r
-unfolding startReply
-begun-refused Idle r h e = absurd (omega (arith, code-of e))
-begun-refused Started r h e = absurd (omega (arith, code-of e))
-begun-refused (Refused k) r h e = ap Refused (code-of e)
 
 module _ (c : List ℕ) where
   lists-right : Accepted c → (t : Tree) → WellFormed c t → (x : ListedRight c t) → ListsRight ration-table c (x .listing)
@@ -93,7 +83,10 @@ module _ (c : List ℕ) where
       }
 
   of-card : ByRows (open-rows c) (λ r. (ration-table .open-card c .reply ≡ refusal r) × (listCard c ≡ refused r)) ((l : Listing) × (listCard c ≡ listed l) × ListsRight ration-table c l)
-  of-card = rows-map (open-rows c) (omega arith, (omega arith, (omega arith, (omega arith, (omega arith, tt))))) (λ r h z. (z .number-given, card-refused c r (begun-refused (openOf c .begun) r h (z .number-given)))) works (opens c)
+  of-card =
+      rows-map (open-rows c) (omega arith, (omega arith, (omega arith, (omega arith, (omega arith, tt)))))
+      (λ r h z. (z .number-given, card-refused c r (begun-refused (openOf c .begun) r h (z .number-given))))
+      works (opens c)
     where
       works : OpensTo ration-table c (handed (openOf c)) → (l : Listing) × (listCard c ≡ listed l) × ListsRight ration-table c l
       works o = let a = not-refused o in let x = listing-right c (o .table) (o .sound) a in (x .listing, x .is-listed, lists-right a (o .table) (o .sound) x)
@@ -102,16 +95,15 @@ module _ (c : List ℕ) where
 
 module _ (dump : List ℕ) where
   read-room : damaged dump ≡ false → listDump dump cardRoom ≡ listCard (dumpWords (wordsFor (dumpNodes dump)) dump)
-  read-room q = dump-read dump cardRoom (wordsFor (dumpNodes dump)) (read-whole dump cardRoom q ∙ room-long (wordsFor (dumpNodes dump)) cardRoom (omega (arith, undamaged-whole dump q .most)))
+  read-room q =
+      let size = wordsFor (dumpNodes dump) in
+      dump-read dump cardRoom size (read-whole dump cardRoom q ∙ room-long size cardRoom (omega (arith, undamaged-whole dump q .most)))
 
   of-dump : ByRows (row 11 (damaged dump ≡ true) end) (λ r. dumpText dump ≡ listText (refused r)) (dumpText dump ≡ listText (listCard (dumpWords (wordsFor (dumpNodes dump)) dump)))
   unfolding ByRows
   of-dump =
       bool-cases (damaged dump) (λ q. inl (q, text-right dump ∙ ap listText (dump-refused dump cardRoom 11 (read-damaged dump cardRoom q))))
       (λ q. inr (λ z. true-false (sym z ∙ q), text-right dump ∙ ap listText (read-room q)))
-    where
-      true-false : _≡_ {A = Bool} true false → ⊥
-      true-false e = let z : _≡_ {A = ℕ} 0 1 = cc in omega arith
 
 own : (c : List ℕ) → ((i : ℕ) → getD c i 0 < 2 ^ 32) → Sized (length c) (nodes-on c) → Formatted c (nodes-on c) → dumpText (dumpOf c) ≡ listText (listCard c)
 own c fits s f =

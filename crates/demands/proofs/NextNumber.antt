@@ -1,13 +1,10 @@
 -- Document 02, W-201, of the call `successor::next_pair`.
 use mathlib.Core.Path.{_≡_, refl, ap, sym, _∙_}
 use mathlib.Core.List.{List, [], _∷_}
-use mathlib.Core.Logic.{_⊎_, inl, inr}
+use mathlib.Core.Logic.{inl, inr}
 use Prim.Native.Nat.{ℕ, zero, suc, _<_}
 use native.Mathlib.Omega.{arith}
 use lib.ListN.{length}
-use Rattle.card.specs.Header.{cardRefusal, Sized, Formatted}
-use Rattle.card.specs.Layout.{lowestKey, keyLimit}
-use Rattle.card.specs.Replies.{Reply, refusal}
 use Rattle.demands.specs.Book.{Book}
 use Rattle.demands.specs.Events.{World}
 use Rattle.demands.specs.Refusals.{ByRows, nodes-on, on-card, end}
@@ -15,13 +12,16 @@ use Rattle.demands.specs.W201.{NextCall, AnswersNext, HeldTo, Rises, Wal
 use Rattle.demands.proofs.Instance.{ration-table}
 use Rattle.demands.proofs.Keeps3.{Covered, always}
 use Rattle.demands.proofs.Rowing.{by-card, card-one}
+use Rattle.card.specs.Header.{cardRefusal}
+use Rattle.card.specs.Layout.{lowestKey, keyLimit}
+use Rattle.card.specs.Replies.{refusal}
 use Rattle.promises.proofs.PowerLoss.{map-is}
 use Rattle.promises.proofs.Reopen.{length-accepted, card-accepted, table-well-formed}
 use Rattle.soundness_theory.proofs.Ranges.{well-formed-in-range}
 use Rattle.successor.proofs.SuccessorLaws.{next-refused}
 use Rattle.successor.specs.Successor.{nextOf, onNext, walkFrom, nextReply}
-use Rattle.successor.specs.declared.Successor.{Successor}
 use Rattle.successor.specs.declared.Successor.the-variants.{Pair, Nothing, Refused}
+use Rattle.successor.specs.declared.Successor.{Successor}
 use Rattle.successor_theory.proofs.AnyCard.{AboveOrNine, next-above}
 use Rattle.successor_theory.proofs.IsNext.{IsNext}
 use Rattle.successor_theory.proofs.Lookups.{found-in-range}
@@ -115,10 +115,17 @@ module _ (w : World ration-table) (b : Book) (v : Covered w b) where
   accepted = card-accepted (v .inv .table .sized) (v .inv .table .header) .0
 
   moment : (number : ℕ) → number < keyLimit → AnswersNext (b .held) number (call (w .card) number)
-  moment number h = answered (b .held) (pairs (v .inv .tree)) same-pairs number (nextOf (w .card) number) (next-right (w .card) (v .inv .tree) number (table-well-formed (v .inv .table)) accepted h)
+  moment number h =
+      answered (b .held) (pairs (v .inv .tree)) same-pairs number (nextOf (w .card) number)
+      (next-right (w .card) (v .inv .tree) number (table-well-formed (v .inv .table)) accepted h)
 
   walk-now : Walked call (w .card) (b .held)
   walk-now = walked (w .card) (v .inv .tree) (table-well-formed (v .inv .table)) accepted (b .held) same-pairs as-many-pairs
 
 pub w-201 : W201 ration-table (λ c number. nextReply (nextOf c number))
-w-201 = record { moments = always (λ w b. (number : ℕ) → number < keyLimit → AnswersNext (b .held) number (call (w .card) number)) moment; walks = always (λ w b. Walked call (w .card) (b .held)) walk-now; cards = cards }
+w-201 =
+    record {
+      moments = always (λ w b. (number : ℕ) → number < keyLimit → AnswersNext (b .held) number (call (w .card) number)) moment;
+      walks = always (λ w b. Walked call (w .card) (b .held)) walk-now;
+      cards = cards;
+    }

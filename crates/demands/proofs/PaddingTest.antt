@@ -1,16 +1,17 @@
 -- Document 02, W-202, of the test that `dump` makes.
 use mathlib.Core.Path.{_≡_, refl, ap, sym, _∙_}
-use mathlib.Core.Bool.{Bool, true, false}
+use mathlib.Core.Bool.{true}
 use mathlib.Core.List.{List, [], _∷_}
 use mathlib.Core.Logic.{inl, inr}
 use Prim.Native.Nat.{ℕ, suc, _+_, _-_, _*_, _/_, _%_, _^_, _≤_, _<_}
 use native.Mathlib.Omega.{arith}
-use lib.ListN.{length, getD, drop, length-drop, List·getD-eq-default}
+use lib.ListN.{length, getD, length-drop, List·getD-eq-default}
 use lib.Seq.{getD-drop}
 use borrow.Author.Tests.{eq-eqb}
-use Rattle.card.specs.Replies.{refusal, long}
 use Rattle.demands.specs.Refusals.{ByRows}
 use Rattle.demands.specs.W202.{paddingLength, padding, Whole, readRows, W202}
+use Rattle.demands.proofs.ReplyLaws.{true-false}
+use Rattle.card.specs.Replies.{refusal, long}
 use Rattle.dump.proofs.AnswerLaws.{Whole as WholeBytes, greatest-dump, padded-covers, padded-whole, padded-most, undamaged-whole, whole-undamaged, read-damaged, read-whole, room-short, room-long}
 use Rattle.dump.proofs.Padding.{eight-exactly, padding-eights}
 use Rattle.dump.specs.Answers.{dumpReply}
@@ -25,9 +26,6 @@ unfolding eightAt
 fits dump k bytes =
     omega (arith, bytes (8 * k), bytes (8 * k + 1), bytes (8 * k + 2), bytes (8 * k + 3), bytes (8 * k + 4), bytes (8 * k + 5), bytes (8 * k + 6), bytes (8 * k + 7))
 
-true-false : _≡_ {A = Bool} true false → ⊥
-true-false e = let z : _≡_ {A = ℕ} 0 1 = cc in omega arith
-
 zeros-all : (l : List ℕ) → ((i : ℕ) → getD l i 0 ≡ 0) → all-zero l ≡ true
 zeros-all [] f = refl
 zeros-all (x ∷ l) f = rw (eq-eqb x 0 (f 0)) (zeros-all l (λ i. f (suc i)))
@@ -39,7 +37,8 @@ module _ (dump : List ℕ) where
       let at = 4 * wordsFor (dumpNodes dump) + i in
       getD-drop (4 * wordsFor (dumpNodes dump)) dump i 0
       ∙ order at (length dump)
-      (λ o. ap (λ (j : ℕ). getD dump j 0) (let z : at ≡ 8 * (at / 8) + at % 8 = omega arith in z) ∙ eight-exactly dump (at / 8) .0 (w .zeros (at / 8) (omega arith) (omega arith)) (at % 8) (omega arith))
+      (λ o. ap (λ (j : ℕ). getD dump j 0) (let z : at ≡ 8 * (at / 8) + at % 8 = omega arith in z)
+      ∙ eight-exactly dump (at / 8) .0 (w .zeros (at / 8) (omega arith) (omega arith)) (at % 8) (omega arith))
       (λ o. List·getD-eq-default dump 0 {n = at} o)
 
   to-bytes : Whole eightAt dump → WholeBytes dump
@@ -65,7 +64,8 @@ module _ (dump : List ℕ) where
   long-as : Whole eightAt dump → length (padding dump) ≡ paddingLength (dumpNodes dump)
   long-as w = omega (arith, length-drop (4 * wordsFor (dumpNodes dump)) dump, w .padded)
 
-  reading : (lent : ℕ) → ByRows (readRows eightAt dump lent) (λ r. dumpReply (readAnswer dump lent) ≡ refusal r) (dumpReply (readAnswer dump lent) ≡ long (wordsFor (dumpNodes dump)))
+  reading : (lent : ℕ) → ByRows (readRows eightAt dump lent) (λ r. dumpReply (readAnswer dump lent) ≡ refusal r)
+      (dumpReply (readAnswer dump lent) ≡ long (wordsFor (dumpNodes dump)))
   unfolding ByRows dumpReply
   reading lent =
       bool-cases (damaged dump) (λ q. inl (λ w. true-false (sym q ∙ whole-undamaged dump (to-bytes w)), rw (read-damaged dump lent q)))

@@ -1,5 +1,5 @@
 -- Laws of rows "in order": what follows from each of them, and from their end.
-use mathlib.Core.Logic.{_⊎_, inl, inr}
+use mathlib.Core.Logic.{inl, inr}
 use Prim.Native.Nat.{ℕ, _<_}
 use Rattle.demands.specs.Refusals.{Rows, ByRows, end, row}
 
@@ -15,7 +15,8 @@ module _ {refuses : ℕ → Type 0} {works : Type 0} where
   rows-elim (row number due rows) n f g (inl d) = f number (n .0) (d .1)
   rows-elim (row number due rows) n f g (inr d) = rows-elim rows (n .1) f g (d .1)
 
-  pub rows-map : {refuses′ : ℕ → Type 0} {works′ : Type 0} (rows : Rows) → Numbers rows → ((r : ℕ) → r < 64 → refuses r → refuses′ r) → (works → works′) → ByRows rows refuses works → ByRows rows refuses′ works′
+  pub rows-map : {refuses′ : ℕ → Type 0} {works′ : Type 0} (rows : Rows) → Numbers rows → ((r : ℕ) → r < 64 → refuses r → refuses′ r) → (works → works′)
+      → ByRows rows refuses works → ByRows rows refuses′ works′
   unfolding ByRows
   rows-map end n f g w = g w
   rows-map (row number due rows) n f g (inl d) = inl (d .0, f number (n .0) (d .1))

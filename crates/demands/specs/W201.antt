@@ -57,7 +57,7 @@ module _ (call : NextCall) (c : List ℕ) where
   -- a card that is not refused with 1, 2 or 3
   pub record OnAnyCard : Type 0 where
     pub held-to : (number : ℕ) → HeldTo number (call c number)
-    -- a sound table is answered exactly, also where opening would refuse it with 5
+    -- a sound table is answered exactly, also where opening would refuse it with 5; a number is a word
     pub exact : (t : Tree) → WellFormed c t → (number : ℕ) → number < keyLimit → AnswersNext (pairs t) number (call c number)
     pub walks : (t : Tree) → WellFormed c t → Walked (pairs t)
 

@@ -30,13 +30,19 @@ module _ (part : List ℕ) (reply : Reply) where
     -- a byte is below 256
     pub most : ((i : ℕ) → getD block i 0 < 256) → length part ≤ 255
 
+  -- the value found is the offset; "Both after a find that succeeded."
+  abbrev pub AtOffset : List ℕ → ℕ → Type 0
+  AtOffset block at = ByRows (recordRows block at) (λ r. NoRecord (refusal r)) (IsRecord block at)
+
+  -- by the reply of a find that is not refused
+  abbrev pub ByFind : List ℕ → Reply → Type 0
+  ByFind block found = ((found ≡ absent) × NoRecord absent) ⊎ ((at : ℕ) × (found ≡ holds at) × AtOffset block at)
+
 -- For every card, key and block. Nothing lent is written: neither question gives a card or a block back.
 pub record W213 (T : Table) (part : List ℕ → ℕ → List ℕ → List ℕ) (reply : List ℕ → ℕ → List ℕ → Reply) : Type 0 where
-  -- the find's own refusals, 1, 2, 3, 6 and 9, come first; "absent" is the find's; and 23 and 24 come "both after a find that
-  -- succeeded"
-  pub answers : (c : List ℕ) (key : ℕ) (block : List ℕ) → ByRows (find-rows c key) (λ r. (T .find c key ≡ refusal r) × NoRecord (part c key block) (reply c key block) (refusal r))
-      (((T .find c key ≡ absent) × NoRecord (part c key block) (reply c key block) absent)
-      ⊎ ((at : ℕ) × (T .find c key ≡ holds at) × ByRows (recordRows block at) (λ r. NoRecord (part c key block) (reply c key block) (refusal r)) (IsRecord (part c key block) (reply c key block) block at)))
+  -- the find's own refusals, 1, 2, 3, 6 and 9, come first
+  pub answers : (c : List ℕ) (key : ℕ) (block : List ℕ) → ByRows (find-rows c key)
+      (λ r. (T .find c key ≡ refusal r) × NoRecord (part c key block) (reply c key block) (refusal r)) (ByFind (part c key block) (reply c key block) block (T .find c key))
   -- the two questions agree: "found" exactly where the part is not empty
   pub found-exactly : (c : List ℕ) (key : ℕ) (block : List ℕ) → (reply c key block ≡ fetched) ↔ (1 ≤ length (part c key block))
   pub absent-exactly : (c : List ℕ) (key : ℕ) (block : List ℕ) → (reply c key block ≡ absent) ↔ (T .find c key ≡ absent)
