@@ -13,8 +13,9 @@ use Rattle.card.specs.Header.{nodesOfLength, cardRefusal, Sized, Formatted}
 use Rattle.card.specs.Layout.{depthLimit, rootPlace, nodeAt}
 use Rattle.card.specs.Replies.{Reply, refusal}
 use Rattle.demands.specs.Demand1.{Finds, HandsNone, Starts, OpensTo}
+use Rattle.demands.specs.Table.{formatting}
 use Rattle.demands.specs.Refusals.{ByRows, nodes-on, NoCard, Unsound, Scarce, leads-to, find-rows, format-rows, open-rows, end, row}
-use Rattle.demands.proofs.Instance.{isFormatting, handed, ration-table}
+use Rattle.demands.proofs.Instance.{workOf, handed, ration-table}
 use Rattle.demands.proofs.Rowing.{sized?, no-nodes, by-card, card-one}
 use Rattle.demands.proofs.Ways.{arrived, leaf-of, leaf-way}
 use Rattle.descent.specs.Descent.{slotOf, leafFor}
@@ -38,7 +39,7 @@ use Rattle.soundness_theory.proofs.Soundness.{accepts-sound}
 use Rattle.starting.specs.Starts.{formatOf}
 use Rattle.state.specs.Answers.{startReply}
 use Rattle.state.specs.Memory.{noMemory, resting}
-use Rattle.state.specs.Steps.{isIdle, noBeginning}
+use Rattle.state.specs.Steps.{noBeginning}
 use Rattle.state.specs.declared.Begun.the-variants.{Started}
 use Rattle.tree.specs.Tree.{Tree}
 use Rattle.tree.specs.WellFormed.{WellFormed}
@@ -91,18 +92,18 @@ finds c key =
 -- ---- formatting
 
 none-handed : (r : ℕ) → HandsNone ration-table (handed (noBeginning r)) r
-unfolding noBeginning noMemory isIdle startReply
+unfolding noBeginning noMemory workOf startReply
 none-handed r = record { number-given = refl; idle-state = refl; no-nodes = refl }
 
-format-begun : (n : ℕ) → Starts ration-table (handed (record { begun = Started; memory = formatMemory n 0 })) n true
-unfolding resting isIdle isFormatting startReply
-format-begun n = record { reply-given = refl; in-progress = refl; of-kind = refl; nodes-kept = refl }
+format-begun : (n : ℕ) → Starts ration-table (handed (record { begun = Started; memory = formatMemory n 0 })) n formatting
+unfolding resting workOf startReply
+format-begun n = record { reply-given = refl; in-progress = refl; nodes-kept = refl }
 
-pub formats : (c : List ℕ) → ByRows (format-rows c) (HandsNone ration-table (ration-table .format c)) (Starts ration-table (ration-table .format c) (nodes-on c) true)
+pub formats : (c : List ℕ) → ByRows (format-rows c) (HandsNone ration-table (ration-table .format c)) (Starts ration-table (ration-table .format c) (nodes-on c) formatting)
 unfolding ByRows
 formats c = go (sized? (length c) (nodes-on c))
   where
-    go : Dec (Sized (length c) (nodes-on c)) → (NoCard c (nodes-on c) × HandsNone ration-table (handed (formatOf c)) 1) ⊎ ((NoCard c (nodes-on c) → ⊥) × Starts ration-table (handed (formatOf c)) (nodes-on c) true)
+    go : Dec (Sized (length c) (nodes-on c)) → (NoCard c (nodes-on c) × HandsNone ration-table (handed (formatOf c)) 1) ⊎ ((NoCard c (nodes-on c) → ⊥) × Starts ration-table (handed (formatOf c)) (nodes-on c) formatting)
     go (no p) = inl (p, rw (format-refused c (no-nodes c p)) (none-handed 1))
     go (yes s) = inr (λ p. p s, rw (format-starts c (nodes-on c) s) (format-begun (nodes-on c)))
 
@@ -120,8 +121,8 @@ reply-five : (c : List ℕ) (r : ℕ) → openOf c ≡ noBeginning r → startRe
 unfolding noBeginning startReply
 reply-five c r e = rw e
 
-pub opens : (c : List ℕ) → ByRows (open-rows c) (HandsNone ration-table (ration-table .open-card c)) (OpensTo ration-table c (ration-table .open-card c))
-unfolding ByRows openOf openChecked noBeginning startReply resting isIdle isFormatting
+pub opens : (c : List ℕ) → ByRows (open-rows c) (HandsNone ration-table (ration-table .openCard c)) (OpensTo ration-table c (ration-table .openCard c))
+unfolding ByRows openOf openChecked noBeginning startReply resting workOf
 opens c =
     by-card (row 4 (Unsound c) (row 5 (Scarce c) end)) (HandsNone ration-table (handed (openOf c))) (OpensTo ration-table c (handed (openOf c))) c (nodes-on c)
     (λ p. rw (open-due c 1 (card-one c p) (λ z. omega (arith, z))) (none-handed 1))
@@ -155,7 +156,7 @@ opens c =
                     let code : startReply (openOf c .begun) .code ≡ 69 = rw is in
                     inr (
                       λ p. omega (arith, code, ap (λ (x : Reply). x .code) (refuses-few c (nodes-on c) s k .1 p)),
-                      record { table = t .0; sound = t .1; hands = inr (omega (arith, t .2 .violated, bit-true (f .violated) q), rw is, rw is); of-kind = rw is; nodes-noted = rw is },
+                      record { table = t .0; sound = t .1; hands = inr (omega (arith, t .2 .violated, bit-true (f .violated) q), rw is, rw is); nodes-noted = rw is },
                     )
 
                 whole : f .violated ≡ false → (Scarce c × HandsNone ration-table (handed (openOf c)) 5) ⊎ ((Scarce c → ⊥) × OpensTo ration-table c (handed (openOf c)))
@@ -164,5 +165,5 @@ opens c =
                     let code : startReply (openOf c .begun) .code ≡ 68 = rw is in
                     inr (
                       λ p. omega (arith, code, ap (λ (x : Reply). x .code) (refuses-few c (nodes-on c) s k .1 p)),
-                      record { table = t .0; sound = t .1; hands = inl (omega (arith, t .2 .violated, bit-false (f .violated) q), rw is, rw is); of-kind = rw is; nodes-noted = rw is },
+                      record { table = t .0; sound = t .1; hands = inl (omega (arith, t .2 .violated, bit-false (f .violated) q), rw is, rw is); nodes-noted = rw is },
                     )

@@ -13,12 +13,14 @@ use Rattle.promises.proofs.Feeding.{begun-result, due-after, dictionary-answer,
 use Rattle.promises.proofs.Invariant.{Inv}
 use Rattle.demands.specs.Events.{Event, World, reply-to, happens, run, LeftUncut, steps-in, insert, delete, step, from-format, from-open}
 use Rattle.demands.specs.Book.{Book}
-use Rattle.demands.proofs.Instance.{ration-table, isFormatting}
+use Rattle.demands.proofs.Instance.{workOf, work-idle, idle-work, busy-work, ration-table}
 use Rattle.card.specs.Layout.{keyLimit}
 use Rattle.card.specs.Replies.{Reply, refusal}
 use Rattle.demands.specs.Demand1.{HandsBack, Starts, Refuses}
-use Rattle.demands.specs.Demand2.{dictionary, update-stores, Finishes, Rests, Works, Dictionary, Demand2, StoresAs}
-use Rattle.demands.specs.Refusals.{Rows, ByRows, leads-to, NoRoom, on-card, row, end}
+use Rattle.demands.specs.Demand2.{dictionary, update-stores, Finishes, Updates, Rests, Works, Dictionary, Demand2}
+use Rattle.demands.specs.Table.{Work, noWork, formatting, inserting, deleting}
+use Rattle.demands.specs.Refusals.{Rows, ByRows, Idle as Resting, Busy, leads-to, NoRoom, on-card, row, end}
+use Rattle.demands.specs.Rules.{InsertRule, DeleteRule}
 use Rattle.demands.proofs.Following.{worldly, same-world}
 use Rattle.demands.proofs.Keeps1.{none-some}
 use Rattle.demands.proofs.Keeps3.{Covered, always, was-list, run-same, quiet-same, steps-same, rests-right}
@@ -26,6 +28,8 @@ use Rattle.demands.proofs.KeepsStarts.{leads-is}
 use Rattle.demands.proofs.KeepsSteps.{demand-1}
 use Rattle.demands.proofs.Numbers.{SmallBegun, start-small}
 use Rattle.demands.proofs.Rowing.{sized-on}
+use Rattle.demands.proofs.UpdatesByRules.{insert-by-rules, delete-by-rules, opening-by-rules}
+use Rattle.demands.proofs.Formatting.{formats-right}
 use Rattle.demands.proofs.Ways.{landed}
 use Rattle.laws.proofs.Cases.{bool-cases, order}
 use Rattle.promises.proofs.Accepting.{find-answers}
@@ -141,9 +145,9 @@ begun-started OpenedIdle s e = absurd (omega (arith, ap (λ (x : Reply). x .code
 begun-started Started s e = refl
 begun-started (BegunRefused r) s e = absurd (omega (arith, s, ap (λ (x : Reply). x .code) e))
 
-not-formatting : (d : Doing) → d ≡ Idle → isFormatting d ≡ false
-unfolding isFormatting
-not-formatting d e = rw e
+not-formatting : (d : Doing) → d ≡ Idle → workOf d ≡ formatting → ⊥
+unfolding workOf
+not-formatting d e f = let y : _≡_ {A = Work} noWork formatting = sym (ap workOf e) ∙ f in let z : _≡_ {A = ℕ} 0 1 = cc in omega arith
 
 module _ (w : World ration-table) (b : Book) (v : Covered w b) where
   abbrev n : ℕ
@@ -198,82 +202,77 @@ module _ (w : World ration-table) (b : Book) (v : Covered w b) where
   due-same : (key : ℕ) → stepReply (dictionary-answer (lookup key (v .was-kept .held))) ≡ dictionary (lookup key (b .held))
   due-same key = dictionary-same (lookup key (v .was-kept .held)) ∙ ap (λ (x : List (ℕ × ℕ)). dictionary (lookup key x)) (sym same-held)
 
-  insert-works : (key value : ℕ) → key < keyLimit → Starts ration-table (ration-table .insert (w .card) (w .state) key value) (w .state .nodes) false → Works ration-table (insert key value) key w (b .held)
+  insert-works : (key value : ℕ) → key < keyLimit → Starts ration-table (ration-table .insert (w .card) (w .state) key value) (w .state .nodes) (inserting key value) → Works ration-table (insert key value) (InsertRule (w .card) key value) key w (b .held)
   unfolding reply-to insertOf startReply
   insert-works key value high s =
       let e = begun-started (insertOf (w .card) (w .state) key value .begun) (start-small (w .card) (w .state) key (Inserting key value false) (startRoom (w .card) key (w .state .free))) (s .reply-given) in
       record {
         begins = s .reply-given;
+        by-rules = subst (λ (r : Reply). Updates ration-table (InsertRule (w .card) key value) r (happens ration-table (insert key value) w)) (due-same key) (insert-by-rules w b v key value high e);
         finishes = finishes-same update-stores (dictionary (lookup key (b .held))) (happens ration-table (insert key value) w) (rw (same-world (insert key value) w, ← due-same key) (insert-finishes key value high e));
       }
 
-  delete-works : (key : ℕ) → key < keyLimit → Starts ration-table (ration-table .delete (w .card) (w .state) key) (w .state .nodes) false → Works ration-table (delete key) key w (b .held)
+  delete-works : (key : ℕ) → key < keyLimit → Starts ration-table (ration-table .delete (w .card) (w .state) key) (w .state .nodes) (deleting key) → Works ration-table (delete key) (DeleteRule (w .card) key) key w (b .held)
   unfolding reply-to deleteOf startReply
   delete-works key high s =
       let e = begun-started (deleteOf (w .card) (w .state) key .begun) (start-small (w .card) (w .state) key (Deleting key false 0) (λ l. true)) (s .reply-given) in
       record {
         begins = s .reply-given;
+        by-rules = subst (λ (r : Reply). Updates ration-table (DeleteRule (w .card) key) r (happens ration-table (delete key) w)) (due-same key) (delete-by-rules w b v key high e);
         finishes = finishes-same update-stores (dictionary (lookup key (b .held))) (happens ration-table (delete key) w) (rw (same-world (delete key) w, ← due-same key) (delete-finishes key high e));
       }
 
-  inserts-right : (key value : ℕ) → key < keyLimit → ByRows (row 7 (isIdle (w .state .doing) ≡ false) (row 6 (key ≡ 0) (row 8 (NoRoom (w .card) (w .state .free) key) end)))
-      (λ r. reply-to ration-table (insert key value) w ≡ refusal r) (Works ration-table (insert key value) key w (b .held))
+  inserts-right : (key value : ℕ) → key < keyLimit → ByRows (row 7 (Busy ration-table (w .state)) (row 6 (key ≡ 0) (row 8 (NoRoom (w .card) (w .state .free) key) end)))
+      (λ r. reply-to ration-table (insert key value) w ≡ refusal r) (Works ration-table (insert key value) (InsertRule (w .card) key value) key w (b .held))
   unfolding ByRows reply-to
   inserts-right key value high =
-      go (past-card (row 7 (isIdle (w .state .doing) ≡ false) (row 6 (key ≡ 0) (row 9 (leads-to (w .card) key ≡ none) (row 8 (NoRoom (w .card) (w .state .free) key) end)))) (HandsBack ration-table (w .state) (ration-table .insert (w .card) (w .state) key value))
-      (Starts ration-table (ration-table .insert (w .card) (w .state) key value) (w .state .nodes) false) (w .card) (w .state .nodes) sized header (demand-1 .inserts (w .card) (w .state) key value))
+      go (past-card (row 7 (Busy ration-table (w .state)) (row 6 (key ≡ 0) (row 9 (leads-to (w .card) key ≡ none) (row 8 (NoRoom (w .card) (w .state .free) key) end)))) (HandsBack ration-table (w .state) (ration-table .insert (w .card) (w .state) key value))
+      (Starts ration-table (ration-table .insert (w .card) (w .state) key value) (w .state .nodes) (inserting key value)) (w .card) (w .state .nodes) sized header (demand-1 .inserts (w .card) (w .state) key value))
     where
-      go : ByRows (row 7 (isIdle (w .state .doing) ≡ false) (row 6 (key ≡ 0) (row 9 (leads-to (w .card) key ≡ none) (row 8 (NoRoom (w .card) (w .state .free) key) end)))) (HandsBack ration-table (w .state) (ration-table .insert (w .card) (w .state) key value))
-          (Starts ration-table (ration-table .insert (w .card) (w .state) key value) (w .state .nodes) false)
-          → ByRows (row 7 (isIdle (w .state .doing) ≡ false) (row 6 (key ≡ 0) (row 8 (NoRoom (w .card) (w .state .free) key) end))) (λ r. reply-to ration-table (insert key value) w ≡ refusal r) (Works ration-table (insert key value) key w (b .held))
+      go : ByRows (row 7 (Busy ration-table (w .state)) (row 6 (key ≡ 0) (row 9 (leads-to (w .card) key ≡ none) (row 8 (NoRoom (w .card) (w .state .free) key) end)))) (HandsBack ration-table (w .state) (ration-table .insert (w .card) (w .state) key value))
+          (Starts ration-table (ration-table .insert (w .card) (w .state) key value) (w .state .nodes) (inserting key value))
+          → ByRows (row 7 (Busy ration-table (w .state)) (row 6 (key ≡ 0) (row 8 (NoRoom (w .card) (w .state .free) key) end))) (λ r. reply-to ration-table (insert key value) w ≡ refusal r) (Works ration-table (insert key value) (InsertRule (w .card) key value) key w (b .held))
       go (inl (p, h)) = inl (p, h .number-given)
       go (inr (a, inl (p, h))) = inr (a, inl (p, h .number-given))
       go (inr (a, inr (d, inl (p, h)))) = absurd (leads-somewhere key d high p)
       go (inr (a, inr (d, inr (l, inl (p, h))))) = inr (a, inr (d, inl (p, h .number-given)))
       go (inr (a, inr (d, inr (l, inr (r, s))))) = inr (a, inr (d, inr (r, insert-works key value high s)))
 
-  deletes-right : (key : ℕ) → key < keyLimit → ByRows (row 7 (isIdle (w .state .doing) ≡ false) (row 6 (key ≡ 0) end)) (λ r. reply-to ration-table (delete key) w ≡ refusal r) (Works ration-table (delete key) key w (b .held))
+  deletes-right : (key : ℕ) → key < keyLimit → ByRows (row 7 (Busy ration-table (w .state)) (row 6 (key ≡ 0) end)) (λ r. reply-to ration-table (delete key) w ≡ refusal r) (Works ration-table (delete key) (DeleteRule (w .card) key) key w (b .held))
   unfolding ByRows reply-to
   deletes-right key high =
-      go (past-card (row 7 (isIdle (w .state .doing) ≡ false) (row 6 (key ≡ 0) (row 9 (leads-to (w .card) key ≡ none) end))) (HandsBack ration-table (w .state) (ration-table .delete (w .card) (w .state) key))
-      (Starts ration-table (ration-table .delete (w .card) (w .state) key) (w .state .nodes) false) (w .card) (w .state .nodes) sized header (demand-1 .deletes (w .card) (w .state) key))
+      go (past-card (row 7 (Busy ration-table (w .state)) (row 6 (key ≡ 0) (row 9 (leads-to (w .card) key ≡ none) end))) (HandsBack ration-table (w .state) (ration-table .delete (w .card) (w .state) key))
+      (Starts ration-table (ration-table .delete (w .card) (w .state) key) (w .state .nodes) (deleting key)) (w .card) (w .state .nodes) sized header (demand-1 .deletes (w .card) (w .state) key))
     where
-      go : ByRows (row 7 (isIdle (w .state .doing) ≡ false) (row 6 (key ≡ 0) (row 9 (leads-to (w .card) key ≡ none) end))) (HandsBack ration-table (w .state) (ration-table .delete (w .card) (w .state) key)) (Starts ration-table (ration-table .delete (w .card) (w .state) key) (w .state .nodes) false)
-          → ByRows (row 7 (isIdle (w .state .doing) ≡ false) (row 6 (key ≡ 0) end)) (λ r. reply-to ration-table (delete key) w ≡ refusal r) (Works ration-table (delete key) key w (b .held))
+      go : ByRows (row 7 (Busy ration-table (w .state)) (row 6 (key ≡ 0) (row 9 (leads-to (w .card) key ≡ none) end))) (HandsBack ration-table (w .state) (ration-table .delete (w .card) (w .state) key)) (Starts ration-table (ration-table .delete (w .card) (w .state) key) (w .state .nodes) (deleting key))
+          → ByRows (row 7 (Busy ration-table (w .state)) (row 6 (key ≡ 0) end)) (λ r. reply-to ration-table (delete key) w ≡ refusal r) (Works ration-table (delete key) (DeleteRule (w .card) key) key w (b .held))
       go (inl (p, h)) = inl (p, h .number-given)
       go (inr (a, inl (p, h))) = inr (a, inl (p, h .number-given))
       go (inr (a, inr (d, inl (p, h)))) = absurd (leads-somewhere key d high p)
       go (inr (a, inr (d, inr (l, s)))) = inr (a, inr (d, delete-works key high s))
 
-  steps-right : ByRows (row 10 (isIdle (w .state .doing) ≡ true) end) (λ r. reply-to ration-table step w ≡ refusal r) ((r : ℕ) → r < 64 → reply-to ration-table step w ≡ refusal r → ⊥)
+  steps-right : ByRows (row 10 (Resting ration-table (w .state)) end) (λ r. reply-to ration-table step w ≡ refusal r) ((r : ℕ) → r < 64 → reply-to ration-table step w ≡ refusal r → ⊥)
   unfolding ByRows reply-to
   steps-right =
       bool-cases (isIdle (w .state .doing))
-      (λ q. inl (q, ten q (demand-1 .steps (w .card) (w .state) (not-formatting (w .state .doing) (idle-doing (w .state .doing) q)))))
-      (λ q. inr (λ z. true-false (sym z ∙ q), λ r h e. work-not-refused n (v .steps) (worldly w) (v .was-kept) (v .due) i q r (answer-refused (stepOf (w .card) (w .state) .answer) r h e)))
+      (λ q. inl (idle-work (w .state .doing) q, ten (idle-work (w .state .doing) q) (demand-1 .steps (w .card) (w .state) (not-formatting (w .state .doing) (idle-doing (w .state .doing) q)))))
+      (λ q. inr (busy-work (w .state .doing) q, λ r h e. work-not-refused n (v .steps) (worldly w) (v .was-kept) (v .due) i q r (answer-refused (stepOf (w .card) (w .state) .answer) r h e)))
     where
-      true-false : _≡_ {A = Bool} true false → ⊥
-      true-false e = let z : _≡_ {A = ℕ} 0 1 = cc in omega arith
-
-      ten : {works : Type 0} → isIdle (w .state .doing) ≡ true → ByRows (on-card (w .card) (w .state .nodes) (row 10 (isIdle (w .state .doing) ≡ true) end)) (Refuses ration-table (w .card) (w .state) (ration-table .step (w .card) (w .state))) works → stepReply (stepOf (w .card) (w .state) .answer) ≡ refusal 10
-      ten {works} q p = at (past-card (row 10 (isIdle (w .state .doing) ≡ true) end) (Refuses ration-table (w .card) (w .state) (ration-table .step (w .card) (w .state))) works (w .card) (w .state .nodes) sized header p)
+      ten : {works : Type 0} → Resting ration-table (w .state) → ByRows (on-card (w .card) (w .state .nodes) (row 10 (Resting ration-table (w .state)) end)) (Refuses ration-table (w .card) (w .state) (ration-table .step (w .card) (w .state))) works → stepReply (stepOf (w .card) (w .state) .answer) ≡ refusal 10
+      ten {works} q p = at (past-card (row 10 (Resting ration-table (w .state)) end) (Refuses ration-table (w .card) (w .state) (ration-table .step (w .card) (w .state))) works (w .card) (w .state .nodes) sized header p)
         where
-          at : ByRows (row 10 (isIdle (w .state .doing) ≡ true) end) (Refuses ration-table (w .card) (w .state) (ration-table .step (w .card) (w .state))) works → stepReply (stepOf (w .card) (w .state) .answer) ≡ refusal 10
+          at : ByRows (row 10 (Resting ration-table (w .state)) end) (Refuses ration-table (w .card) (w .state) (ration-table .step (w .card) (w .state))) works → stepReply (stepOf (w .card) (w .state) .answer) ≡ refusal 10
           at (inl (z, h)) = h .number-given
           at (inr (z, h)) = absurd (z q)
 
-  rests-are : isIdle (w .state .doing) ≡ true → Rests ration-table w (b .held)
+  rests-are : Resting ration-table (w .state) → Rests ration-table w (b .held)
   rests-are q =
-      let r = rests-now (idle-doing (w .state .doing) q) in
+      let r = rests-now (idle-doing (w .state .doing) (work-idle (w .state .doing) q)) in
       rw same-held (record { right = rests-right r; levels = r .levels; free-exact = r .free-exact; three-kept = r .three-kept })
 
   pub is-dictionary : Dictionary ration-table w b
-  is-dictionary = record { finds = finds-right; inserts = inserts-right; deletes = deletes-right; steps = steps-right; rests = rests-are }
+  is-dictionary = record { finds = finds-right; inserts = inserts-right; deletes = deletes-right; repairs = opening-by-rules w b v; steps = steps-right; rests = rests-are }
 
 -- DEMAND 2 of the ration table
 pub demand-2 : Demand2 ration-table
-demand-2 = always (Dictionary ration-table) is-dictionary
-
--- and its rules are its own definition
-pub stores-as-named : StoresAs ration-table ration-table
-stores-as-named = record { from-open = λ c es. refl; from-format = λ c es. refl }
+demand-2 = record { worked = always (Dictionary ration-table) is-dictionary; formats = formats-right }

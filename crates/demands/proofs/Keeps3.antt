@@ -56,7 +56,7 @@ pub record Covered (w : World ration-table) (b : Book) : Type 0 where
   pub same-book : b ≡ book-of was-kept
   pub flagged : Flagged (was-kept .in-hand)
 
-covered-nodes : {w : World ration-table} {b : Book} (v : Covered w b) → nodes-on (w .card) ≡ w .state .nodes
+pub covered-nodes : {w : World ration-table} {b : Book} (v : Covered w b) → nodes-on (w .card) ≡ w .state .nodes
 covered-nodes {w} {b} v = sized-on (w .card) (v .size) (v .inv .table .sized) ∙ sym (nodes-same (v .size) (v .steps) (worldly w) (v .was-kept) (v .due) (v .inv))
 
 word-of : (e : Event) → Words (e ∷ []) → WasWords (was e ∷ [])
@@ -98,11 +98,11 @@ covered-list (e ∷ es) w b u v = let q = first-word e es u in covered-list es (
 
 -- ---- where the list begins
 
-refused-insert-same : (key value : ℕ) (w : World ration-table) → reply-to ration-table (insert key value) w .code < 64 → worldly (happens ration-table (insert key value) w) ≡ worldly w
+pub refused-insert-same : (key value : ℕ) (w : World ration-table) → reply-to ration-table (insert key value) w .code < 64 → worldly (happens ration-table (insert key value) w) ≡ worldly w
 unfolding reply-to
 refused-insert-same key value w h = let r = is-refused (insertOf (w .card) (w .state) key value .begun) h in same-world (insert key value) w ∙ insert-same key value (worldly w) (r .0) (r .1)
 
-refused-delete-same : (key : ℕ) (w : World ration-table) → reply-to ration-table (delete key) w .code < 64 → worldly (happens ration-table (delete key) w) ≡ worldly w
+pub refused-delete-same : (key : ℕ) (w : World ration-table) → reply-to ration-table (delete key) w .code < 64 → worldly (happens ration-table (delete key) w) ≡ worldly w
 unfolding reply-to
 refused-delete-same key w h = let r = is-refused (deleteOf (w .card) (w .state) key .begun) h in same-world (delete key) w ∙ delete-same key (worldly w) (r .0) (r .1)
 
@@ -275,7 +275,7 @@ module _ (w : World ration-table) (b : Book) (v : Covered w b) where
   opens-now = ⊎-map (λ z. ap startReply (z .0)) (λ z. ap startReply (z .0)) open-kind
 
   -- an idle state was handed back exactly with the reply "idle"
-  idle-said : openOf (w .card) .memory .doing ≡ Idle → ration-table .open-card (w .card) .reply ≡ idle
+  idle-said : openOf (w .card) .memory .doing ≡ Idle → ration-table .openCard (w .card) .reply ≡ idle
   unfolding startReply
   idle-said e = at open-kind
     where
@@ -283,7 +283,7 @@ module _ (w : World ration-table) (b : Book) (v : Covered w b) where
       at (inl z) = ap startReply (z .0)
       at (inr z) = absurd (idle-not-busy (openOf (w .card) .memory .doing) e (z .1))
 
-  said-idle : ration-table .open-card (w .card) .reply ≡ idle → openOf (w .card) .memory .doing ≡ Idle
+  said-idle : ration-table .openCard (w .card) .reply ≡ idle → openOf (w .card) .memory .doing ≡ Idle
   unfolding startReply
   said-idle e = at open-kind
     where

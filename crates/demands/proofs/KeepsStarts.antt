@@ -15,8 +15,9 @@ use Rattle.card.proofs.HeaderLaws.{nodes-sized, sized-nodes, formatted-header}
 use Rattle.card.specs.Layout.{depthLimit, rootPlace, nodeAt, keyWords}
 use Rattle.card.specs.Replies.{absent}
 use Rattle.demands.specs.Demand1.{HandsBack, Starts}
-use Rattle.demands.specs.Refusals.{Rows, ByRows, nodes-on, NoCard, leads-to, among, NoRoom, start-rows, insert-rows, delete-rows, end, row}
-use Rattle.demands.proofs.Instance.{isFormatting, handed, ration-table}
+use Rattle.demands.specs.Table.{inserting, deleting}
+use Rattle.demands.specs.Refusals.{Rows, ByRows, Busy, nodes-on, NoCard, leads-to, among, NoRoom, start-rows, insert-rows, delete-rows, end, row}
+use Rattle.demands.proofs.Instance.{true-false, workOf, idle-work, busy-work, handed, ration-table}
 use Rattle.demands.proofs.Keeps1.{none-some}
 use Rattle.demands.proofs.Rowing.{sized-on, by-card}
 use Rattle.demands.proofs.Ways.{landed, landing-way, is-slot, slot-among}
@@ -63,9 +64,9 @@ module _ (c : List ℕ) (m : Memory) (key : ℕ) (doing : Doing) (room : Landing
   unfolding startRefused startReply
   refused-back r = record { number-given = refl; unchanged = refl }
 
-  start-begun : isIdle doing ≡ false → isFormatting doing ≡ false → Starts ration-table (handed (started m doing)) (m .nodes) false
+  start-begun : Starts ration-table (handed (started m doing)) (m .nodes) (workOf doing)
   unfolding started startReply
-  start-begun e f = record { reply-given = refl; in-progress = e; of-kind = f; nodes-kept = refl }
+  start-begun = record { reply-given = refl; in-progress = refl; nodes-kept = refl }
 
   -- the rows of a start, to where the key has led to its leaf
   by-start : (rows : Rows) (works : Type 0)
@@ -73,16 +74,13 @@ module _ (c : List ℕ) (m : Memory) (key : ℕ) (doing : Doing) (room : Landing
       → ByRows (start-rows ration-table c m key rows) (HandsBack ration-table m (handed (startOf c m key doing room))) works
   unfolding ByRows startChecked startLanded landed
   by-start rows works next =
-      by-card (row 7 (isIdle (m .doing) ≡ false) (row 6 (key ≡ 0) (row 9 (leads-to c key ≡ none) rows))) (HandsBack ration-table m (handed (startOf c m key doing room))) works c (m .nodes)
+      by-card (row 7 (Busy ration-table m) (row 6 (key ≡ 0) (row 9 (leads-to c key ≡ none) rows))) (HandsBack ration-table m (handed (startOf c m key doing room))) works c (m .nodes)
       (λ p. rw (start-one p) (refused-back 1)) (λ r s e d. rw (start-header r s e d) (refused-back r)) past
     where
-      past : Sized (length c) (m .nodes) → Formatted c (m .nodes) → ByRows (row 7 (isIdle (m .doing) ≡ false) (row 6 (key ≡ 0) (row 9 (leads-to c key ≡ none) rows))) (HandsBack ration-table m (handed (startOf c m key doing room))) works
+      past : Sized (length c) (m .nodes) → Formatted c (m .nodes) → ByRows (row 7 (Busy ration-table m) (row 6 (key ≡ 0) (row 9 (leads-to c key ≡ none) rows))) (HandsBack ration-table m (handed (startOf c m key doing room))) works
       past s f =
-          bool-cases (isIdle (m .doing)) (λ q. inr (λ z. clash q z, keyed q (ℕ-discrete key 0))) (λ q. inl (q, rw (start-passed s f, q) (refused-back 7)))
+          bool-cases (isIdle (m .doing)) (λ q. inr (λ b. b (idle-work (m .doing) q), keyed q (ℕ-discrete key 0))) (λ q. inl (busy-work (m .doing) q, rw (start-passed s f, q) (refused-back 7)))
         where
-          clash : isIdle (m .doing) ≡ true → isIdle (m .doing) ≡ false → ⊥
-          clash a b = let y : _≡_ {A = Bool} true false = sym a ∙ b in let z : _≡_ {A = ℕ} 0 1 = cc in omega arith
-
           lands : landed (landing c (m .nodes) key) ≡ leads-to c key
           lands = leads-is c (m .nodes) key (sized-on c (m .nodes) s)
 
@@ -98,11 +96,11 @@ module _ (c : List ℕ) (m : Memory) (key : ℕ) (doing : Doing) (room : Landing
           keyed q (yes z) = inl (z, rw (start-passed s f, q, eq-eqb key 0 z) (refused-back 6))
           keyed q (no d) = inr (d, at q d (landing c (m .nodes) key) refl)
 
-pub deletes : (c : List ℕ) (m : Memory) (key : ℕ) → ByRows (delete-rows ration-table c m key) (HandsBack ration-table m (ration-table .delete c m key)) (Starts ration-table (ration-table .delete c m key) (m .nodes) false)
-unfolding ByRows deleteOf isIdle isFormatting
+pub deletes : (c : List ℕ) (m : Memory) (key : ℕ) → ByRows (delete-rows ration-table c m key) (HandsBack ration-table m (ration-table .delete c m key)) (Starts ration-table (ration-table .delete c m key) (m .nodes) (deleting key))
+unfolding ByRows deleteOf workOf
 deletes c m key =
-    by-start c m key (Deleting key false 0) (λ l. true) end (Starts ration-table (handed (deleteOf c m key)) (m .nodes) false)
-    (λ leaf link j to e. rw e (start-begun c m key (Deleting key false 0) (λ l. true) refl refl))
+    by-start c m key (Deleting key false 0) (λ l. true) end (Starts ration-table (handed (deleteOf c m key)) (m .nodes) (deleting key))
+    (λ leaf link j to e. rw e (start-begun c m key (Deleting key false 0) (λ l. true)))
 
 -- where a key leads is one place
 at-leaf : Option (ℕ × ℕ) → ℕ
@@ -116,9 +114,6 @@ at-run (some l) = l .1
 pub one-leaf : (c : List ℕ) (key leaf j leaf′ j′ : ℕ) → leads-to c key ≡ some (leaf, j) → leads-to c key ≡ some (leaf′, j′) → (leaf ≡ leaf′) × (j ≡ j′)
 unfolding at-leaf at-run
 one-leaf c key leaf j leaf′ j′ e f = (ap at-leaf (sym e ∙ f), ap at-run (sym e ∙ f))
-
-true-false : {P : Type 0} → _≡_ {A = Bool} true false → P
-true-false e = let z : _≡_ {A = ℕ} 0 1 = cc in absurd (omega arith)
 
 pub slot-is : (words : List ℕ) (x : ℕ) (s : Slot) → slotOf words x ≡ s → is-slot s ≡ among x (keyWords words)
 unfolding slotOf
@@ -142,14 +137,14 @@ room-row c free key leaf link j to = at (slotOf (nodeAt c leaf) key) refl (slotO
         (λ o. inl (record { leaf = leaf; j = j; leads = to; absent = sym (slot-is (nodeAt c leaf) key NoSlot e); full = sym (slot-is (nodeAt c leaf) 0 NoSlot f); few = o }, rw (e, f, lt-ltb (countTrue free) (j + 5) o)))
         (λ o. inr (λ r. omega (arith, r .few, same r .1), rw (e, f, le-ltb (countTrue free) (j + 5) o)))
 
-pub inserts : (c : List ℕ) (m : Memory) (key value : ℕ) → ByRows (insert-rows ration-table c m key) (HandsBack ration-table m (ration-table .insert c m key value)) (Starts ration-table (ration-table .insert c m key value) (m .nodes) false)
-unfolding ByRows insertOf isIdle isFormatting
+pub inserts : (c : List ℕ) (m : Memory) (key value : ℕ) → ByRows (insert-rows ration-table c m key) (HandsBack ration-table m (ration-table .insert c m key value)) (Starts ration-table (ration-table .insert c m key value) (m .nodes) (inserting key value))
+unfolding ByRows insertOf workOf
 inserts c m key value =
-    by-start c m key (Inserting key value false) (startRoom c key (m .free)) (row 8 (NoRoom c (m .free) key) end) (Starts ration-table (handed (insertOf c m key value)) (m .nodes) false)
+    by-start c m key (Inserting key value false) (startRoom c key (m .free)) (row 8 (NoRoom c (m .free) key) end) (Starts ration-table (handed (insertOf c m key value)) (m .nodes) (inserting key value))
     (λ leaf link j to e. at leaf link j e (room-row c (m .free) key leaf link j to))
   where
     at : (leaf link j : ℕ) → startOf c m key (Inserting key value false) (startRoom c key (m .free)) ≡ pick (startRoom c key (m .free) (LandingAt leaf link j)) (started m (Inserting key value false)) (startRefused 8 m)
         → (NoRoom c (m .free) key × (startRoom c key (m .free) (LandingAt leaf link j) ≡ false)) ⊎ ((NoRoom c (m .free) key → ⊥) × (startRoom c key (m .free) (LandingAt leaf link j) ≡ true))
-        → (NoRoom c (m .free) key × HandsBack ration-table m (handed (insertOf c m key value)) 8) ⊎ ((NoRoom c (m .free) key → ⊥) × Starts ration-table (handed (insertOf c m key value)) (m .nodes) false)
+        → (NoRoom c (m .free) key × HandsBack ration-table m (handed (insertOf c m key value)) 8) ⊎ ((NoRoom c (m .free) key → ⊥) × Starts ration-table (handed (insertOf c m key value)) (m .nodes) (inserting key value))
     at leaf link j e (inl (r, q)) = inl (r, rw (e, q) (refused-back c m key (Inserting key value false) (startRoom c key (m .free)) 8))
-    at leaf link j e (inr (r, q)) = inr (r, rw (e, q) (start-begun c m key (Inserting key value false) (startRoom c key (m .free)) refl refl))
+    at leaf link j e (inr (r, q)) = inr (r, rw (e, q) (start-begun c m key (Inserting key value false) (startRoom c key (m .free))))

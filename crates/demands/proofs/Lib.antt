@@ -1,12 +1,32 @@
+-- The ration table meets the demands.
+-- the table itself
 pub mod Instance
+-- the way down, and the rows 1, 2 and 3
 pub mod Ways
 pub mod Rowing
+-- DEMAND 1: find, formatting, opening; the starts; the steps, and `demand-1`
 pub mod Keeps1
 pub mod KeepsStarts
 pub mod KeepsSteps
+-- the number of an answer tells which answer it is
 pub mod Numbers
+-- events and book are those of `promises`
 pub mod Following
+-- DEMAND 3, `demand-3`, and what holds of every table that a list leaves
 pub mod Keeps3
+-- what the calls plan is by the rules, on any card: the nodes given, where nodes stand, repairs, first changes
+pub mod PlannedNumbers
+pub mod Standing
+pub mod PlannedRepairs
+pub mod PlannedUpdates
+-- the stores of a change are made one a step
+pub mod Making
+-- updates and repairs go by the rules
+pub mod ByRules
+pub mod UpdatesByRules
+-- the stores of formatting
+pub mod Formatting
+-- DEMAND 2, `demand-2`
 pub mod Keeps2
 -- laws of rows "in order"
 pub mod RowLaws

@@ -61,7 +61,7 @@ unfolding headerRefusal
 header-small c n =
     must-small c 0 1 2 _ (omega arith) (must-small c 1 n 3 _ (omega arith) (must-small c 2 8 3 _ (omega arith) (must-small c 3 24 3 _ (omega arith) (must-small c 5 0 3 _ (omega arith) (must-small c 6 0 3 _ (omega arith) (must-small c 7 0 3 0 (omega arith) (omega arith)))))))
 
-card-small : (c : List ℕ) → cardRefusal c < 64
+pub card-small : (c : List ℕ) → cardRefusal c < 64
 unfolding cardRefusal
 card-small c = bool-cases (eqb (nodesOfLength (length c)) 0) (λ q. rw q (omega arith)) (λ q. rw q (header-small c (nodesOfLength (length c))))
 

@@ -37,7 +37,7 @@ data Counted (final : Reply) : ℕ → World → Type 0 where
   stores-first : {k : ℕ} {w : World} → stepOf (w .card) (w .memory) .answer ≡ Stored → Counted final k (happens step w) → Counted final (suc k) w
 
 -- a store leaves the answer due as it was
-stored-due : (w : World) (b : Ledger) (due : Option Answer) → stepOf (w .card) (w .memory) .answer ≡ Stored → due-after step w b due ≡ due
+pub stored-due : (w : World) (b : Ledger) (due : Option Answer) → stepOf (w .card) (w .memory) .answer ≡ Stored → due-after step w b due ≡ due
 unfolding due-after due-after-step step-result
 stored-due w b due e = rw e
 

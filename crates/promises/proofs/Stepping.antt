@@ -69,12 +69,12 @@ use Rattle.descent.specs.declared.Slot.the-variants.{At, Absent as NoSlot}
 use Rattle.descent.specs.declared.Landing.the-variants.{Leaf as LandingAt}
 
 -- a table with a violation has its next change planned
-mends : (c : List ℕ) (n key : ℕ) (t : Tree) (free : List Bool) (last : ℕ) → Table c n t → Exact n free t → (v : Violation t key) → table-violations t ≡ 1 → 3 + reserve (v .context) (v .part) ≤ countTrue free
+pub mends : (c : List ℕ) (n key : ℕ) (t : Tree) (free : List Bool) (last : ℕ) → Table c n t → Exact n free t → (v : Violation t key) → table-violations t ≡ 1 → 3 + reserve (v .context) (v .part) ≤ countTrue free
     → Repaired c n key t free last (depth-of (v .context))
 mends c n key t free last b x v single room = mended c n key t free last (b .sized .words) (omega (arith, b .sized .most)) (b .holds) (b .sound) (table-depth-limited b) x v single room
 
 -- a balanced table needs none
-rests : (c : List ℕ) (n key : ℕ) (t : Tree) (free : List Bool) (last : ℕ) → Table c n t → table-violations t ≡ 0 → nextRepair c n key free last ≡ balanced
+pub rests : (c : List ℕ) (n key : ℕ) (t : Tree) (free : List Bool) (last : ℕ) → Table c n t → table-violations t ≡ 0 → nextRepair c n key free last ≡ balanced
 unfolding nextRepair onSearch
 rests c n key t free last b z = ap (onSearch c n free last) (seek-balanced c n key (b .sized .words) depthLimit t (b .holds) (b .sound .widths) z (table-depth-limited b))
 

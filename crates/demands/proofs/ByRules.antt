@@ -1,0 +1,324 @@
+-- Updates and repairs on a table that is worked go by the tree's rules: change after change, each store the rule's, and then the
+-- final answer.
+use mathlib.Core.Path.{_≡_, refl, ap, sym, subst, _∙_}
+use mathlib.Core.Bool.{Bool, true, false}
+use mathlib.Core.List.{List, [], _∷_}
+use mathlib.Core.Logic.{_⊎_, inl, inr}
+use mathlib.Core.Option.{Option, none, some}
+use Prim.Native.Nat.{ℕ, zero, suc, _+_, _*_, _≤_, _<_}
+use native.Mathlib.Omega.{arith}
+use lib.ListN.{length, set, drop, length-append}
+use Rattle.card.specs.Stores.{Store}
+use Rattle.demands.specs.Events.{Event, World, reply-to, happens, run, LeftUncut, steps-in, find, insert, delete, step, cut}
+use Rattle.demands.specs.Demand2.{storeAt, StoresNow, Makes, Between, Repairs, Updates, done, mends as mends-by, no-change, changes}
+use Rattle.demands.specs.Book.{Book, feed, told}
+use Rattle.demands.specs.Refusals.{nodes-on}
+use Rattle.demands.specs.Rules.{Given, marked}
+use Rattle.card.specs.Layout.{keyLimit}
+use Rattle.starting.specs.Starts.{insertOf, deleteOf}
+use Rattle.state.specs.declared.Begun.the-variants.{Started}
+use Rattle.tree.specs.Pairs.{lookup}
+use Rattle.demands.proofs.Instance.{ration-table}
+use Rattle.demands.proofs.Making.{Nears, nearer, Left, find-same, same-insert, same-delete, run-left, stores-each}
+use Rattle.plans.specs.Planning.{Preparation, withAll, refused, balanced, prepared}
+use Rattle.state.specs.Answers.{stepReply}
+use Rattle.state.specs.Memory.{Memory, advanced}
+use Rattle.state.specs.declared.Answer.{Answer}
+use Rattle.state.specs.declared.Answer.the-variants.{Stored}
+use Rattle.state.specs.declared.Doing.{Doing}
+use Rattle.state.specs.declared.Doing.the-variants.{Idle, Inserting, Deleting}
+use Rattle.demands.proofs.PlannedNumbers.{ByRule, cut-marked}
+use Rattle.demands.proofs.PlannedRepairs.{repair-by-rule}
+use Rattle.state.specs.Steps.{isIdle, stepRefused, stepFinal, stepFirst, stepStore}
+use Rattle.table.specs.Calls.{planning, stepPrepared, stepBegin, stepOf}
+use Rattle.updates.specs.Updates.{FirstChange, landing, changeAt}
+use Rattle.demands.proofs.KeepsSteps.{Final}
+use Rattle.laws.proofs.Cases.{order}
+use borrow.Author.Tests.{lt-ltb, le-ltb}
+use Rattle.change.specs.Mending.{nextRepair}
+use Rattle.change_theory.proofs.Plays.{Openable, pending-changing}
+use Rattle.change_theory.proofs.Repaired.{Repaired, settled, violated}
+use Rattle.promises.proofs.Invariant.{Table, Stage, Job, Entered, stage-idle, stage-put, stage-remove, stage-first, stage-between, stage-within, job-repair, job-insert, job-delete, no-update, updated}
+use Rattle.promises.proofs.Kept.{first-storable}
+use Rattle.promises.proofs.Reopen.{table-well-formed}
+use Rattle.promises.proofs.Starting.{nodes-same, kept-insert, kept-delete}
+use Rattle.promises.proofs.Machine.{insert as was-insert, delete as was-delete, happens as was-happens}
+use Rattle.demands.proofs.Following.{worldly, same-world, fed-same}
+use Rattle.demands.proofs.Keeps3.{Covered, covered-nodes}
+use Rattle.promises.proofs.Ledger.{Update, Hand, was-final, feed as was-feed}
+use Rattle.promises.proofs.Stepping.{Right, final-due, right-final, kept-step, mends, rests}
+use Rattle.promises.proofs.PowerLoss.{loosen}
+use Rattle.promises.proofs.Finished.{work-not-refused}
+use Rattle.promises.proofs.Feeding.{step-result, begun-result, fed, due-after, due-after-start, dictionary-answer}
+use Rattle.promises.proofs.Steps.{memory, step-repairs, prepared-ready, prepared-first, step-puts, step-removes}
+use Rattle.tree.proofs.Path.{depth-of}
+use Rattle.tree.specs.FreeNodes.{Exact}
+use Rattle.tree.specs.Tree.{Tree}
+use Rattle.tree.specs.Violations.{table-violations}
+
+-- a run without a cut either has no step and leaves the world, or goes on from its first step
+first-step : (w : World ration-table) (qs : List Event) → LeftUncut ration-table qs w
+    → ((steps-in qs ≡ 0) × (run ration-table qs w ≡ w))
+    ⊎ ((rest : List Event) × LeftUncut ration-table rest (happens ration-table step w) × (steps-in qs ≡ suc (steps-in rest)) × (run ration-table qs w ≡ run ration-table rest (happens ration-table step w)))
+unfolding LeftUncut run
+first-step w [] u = inl (refl, refl)
+first-step w (find key ∷ qs) u = rw (find-same key w) (first-step w qs (rw (find-same key w) at (u .1)))
+first-step w (insert key value ∷ qs) u = let e = same-insert key value w (u .0) in rw e (first-step w qs (rw e at (u .1)))
+first-step w (delete key ∷ qs) u = let e = same-delete key w (u .0) in rw e (first-step w qs (rw e at (u .1)))
+first-step w (step ∷ qs) u = inr (qs, u .1, refl, refl)
+first-step w (cut ∷ qs) u = absurd (u .0)
+
+advanced-free : (m : Memory) (ss : List Store) → 0 < length ss → advanced m ss .free ≡ m .free
+unfolding advanced
+advanced-free m [] h = absurd (omega arith)
+advanced-free m (s ∷ ss) h = refl
+
+advanced-all : (m : Memory) → advanced m [] .free ≡ withAll (m .cut) (m .free)
+unfolding advanced
+advanced-all m = refl
+
+advanced-none : (m : Memory) → advanced m [] .rest ≡ []
+unfolding advanced
+advanced-none m = refl
+
+advanced-same : (m : Memory) → advanced m [] .doing ≡ m .doing
+unfolding advanced
+advanced-same m = refl
+
+drop-all : (ss : List Store) (k : ℕ) → k ≡ length ss → drop k ss ≡ []
+drop-all [] zero e = refl
+drop-all [] (suc k) e = absurd (omega arith)
+drop-all (s ∷ ss) zero e = absurd (omega arith)
+drop-all (s ∷ ss) (suc k) e = drop-all ss k (omega arith)
+
+drop-some : (ss : List Store) (k : ℕ) → k < length ss → 0 < length (drop k ss)
+drop-some [] k h = absurd (omega arith)
+drop-some (s ∷ ss) zero h = omega arith
+drop-some (s ∷ ss) (suc k) h = drop-some ss k (omega arith)
+
+-- A change whose first store the next step makes, with m the plan and the rest of the stores to come.
+module _ (final : Answer) (most : ℕ) (w : World ration-table) (x : Nears final most w) (m : Memory) (s : Store) (rest : List Store)
+    (first : stepOf (w .card) (w .state) ≡ record { answer = Stored; card = set (w .card) (s .0) (s .1); memory = advanced m rest })
+  where
+    first-stored : StoresNow ration-table w s
+    unfolding reply-to happens stepReply
+    first-stored = record { reply-given = rw first; one-store = rw first }
+
+    then-left : (few : ℕ) × (most ≡ suc few) × Left final m few rest (happens ration-table step w)
+    unfolding happens
+    then-left =
+        let q = nearer final most w x (ap (λ z. z .answer) first) in
+        (q .0, q .1, record { nears = q .2; is-left = ap (λ z. z .memory) first })
+
+    pub all-left : (qs : List Event) → LeftUncut ration-table qs w → steps-in qs ≡ suc (length rest) → (few : ℕ) × (few < most) × Left final m few [] (run ration-table qs w)
+    all-left qs u h = at (first-step w qs u)
+      where
+        at : ((steps-in qs ≡ 0) × (run ration-table qs w ≡ w)) ⊎ ((more : List Event) × LeftUncut ration-table more (happens ration-table step w) × (steps-in qs ≡ suc (steps-in more)) × (run ration-table qs w ≡ run ration-table more (happens ration-table step w)))
+            → (few : ℕ) × (few < most) × Left final m few [] (run ration-table qs w)
+        at (inl (z, e)) = absurd (omega (arith, z, h))
+        at (inr (more, v, k, e)) =
+            let l = then-left in
+            let r = run-left final m (l .0) rest (happens ration-table step w) (l .2) more v (omega (arith, k, h)) in
+            let d = drop-all rest (steps-in more) (omega (arith, k, h)) in
+            (r .0, omega (arith, r .1, l .1), rw e (subst (λ (y : List Store). Left final m (r .0) y (run ration-table more (happens ration-table step w))) d (r .2)))
+
+    module _ (given out : List ℕ) (taken : Given (w .state .free) (w .state .last) given) (is-free : m .free ≡ marked false given (w .state .free)) (is-cut : m .cut ≡ out) (freed : withAll out (m .free) ≡ marked true out (m .free)) where
+      pub change-made : Makes ration-table w given out (s ∷ rest)
+      change-made = record { taken = taken; each = each; free-within = within; free-after = after }
+        where
+          each : (qs : List Event) → LeftUncut ration-table qs w → steps-in qs < suc (length rest) → StoresNow ration-table (run ration-table qs w) (storeAt (s ∷ rest) (steps-in qs))
+          each qs u h = at (first-step w qs u)
+            where
+              at : ((steps-in qs ≡ 0) × (run ration-table qs w ≡ w)) ⊎ ((more : List Event) × LeftUncut ration-table more (happens ration-table step w) × (steps-in qs ≡ suc (steps-in more)) × (run ration-table qs w ≡ run ration-table more (happens ration-table step w)))
+                  → StoresNow ration-table (run ration-table qs w) (storeAt (s ∷ rest) (steps-in qs))
+              at (inl (z, e)) = rw (z, e) first-stored
+              at (inr (more, v, k, e)) = rw (k, e) (stores-each final m (then-left .0) rest (happens ration-table step w) (then-left .2) more v (omega (arith, k, h)))
+
+          state-at : (qs : List Event) → LeftUncut ration-table qs w → 0 < steps-in qs → steps-in qs ≤ suc (length rest) → (k : ℕ) × (steps-in qs ≡ suc k) × (run ration-table qs w .state ≡ advanced m (drop k rest))
+          state-at qs u p h = at (first-step w qs u)
+            where
+              at : ((steps-in qs ≡ 0) × (run ration-table qs w ≡ w)) ⊎ ((more : List Event) × LeftUncut ration-table more (happens ration-table step w) × (steps-in qs ≡ suc (steps-in more)) × (run ration-table qs w ≡ run ration-table more (happens ration-table step w)))
+                  → (k : ℕ) × (steps-in qs ≡ suc k) × (run ration-table qs w .state ≡ advanced m (drop k rest))
+              at (inl (z, e)) = absurd (omega (arith, z, p))
+              at (inr (more, v, k, e)) = (steps-in more, k, rw e (run-left final m (then-left .0) rest (happens ration-table step w) (then-left .2) more v (omega (arith, k, h)) .2 .is-left))
+
+          within : (qs : List Event) → LeftUncut ration-table qs w → 0 < steps-in qs → steps-in qs < suc (length rest) → run ration-table qs w .state .free ≡ marked false given (w .state .free)
+          within qs u p h =
+              let a = state-at qs u p (omega arith) in
+              ap (λ (y : Memory). y .free) (a .2) ∙ advanced-free m (drop (a .0) rest) (drop-some rest (a .0) (omega (arith, a .1, h))) ∙ is-free
+
+          after : (qs : List Event) → LeftUncut ration-table qs w → steps-in qs ≡ suc (length rest) → run ration-table qs w .state .free ≡ marked true out (marked false given (w .state .free))
+          after qs u h =
+              let a = state-at qs u (omega arith) (omega arith) in
+              ap (λ (y : Memory). y .free) (a .2 ∙ ap (advanced m) (drop-all rest (a .0) (omega (arith, a .1, h)))) ∙ advanced-all m ∙ ap (λ (y : List ℕ). withAll y (m .free)) is-cut ∙ freed ∙ ap (marked true out) is-free
+
+-- ---- between two changes
+
+-- the work in hand has had its first change planned: an update that has, or a repair of opening's
+abbrev pub Begun : Doing → Type 0
+Begun doing = (key : ℕ) × (final : Answer) × (u : Option Update) × Job doing key final u
+
+-- the next change of a repair
+record RepairNext (c : List ℕ) (n : ℕ) (m : Memory) : Type 0 where
+  pub key : ℕ
+  pub first : Store
+  pub rest : List Store
+  pub then-free : List Bool
+  pub then-last : ℕ
+  pub out : List ℕ
+  pub planned : nextRepair c n key (m .free) (m .last) ≡ prepared (first ∷ rest) then-free then-last out
+  pub first-made : stepOf c m ≡ record { answer = Stored; card = set c (first .0) (first .1); memory = advanced (memory n then-free then-last (m .doing) [] out) rest }
+
+-- the final answer, or the next change
+abbrev Turns : List ℕ → ℕ → Tree → Memory → Option Answer → Type 0
+Turns c n t m due = Exact n (m .free) t × (((table-violations t ≡ 0) × (stepOf c m .answer ≡ final-due due)) ⊎ RepairNext c n m)
+
+entered-due : {doing : Doing} {key : ℕ} {final : Answer} {u : Option Update} {h : Hand} {due : Option Answer} → Job doing key final u → Entered u final h due → final ≡ final-due due
+entered-due job-repair no-update = refl
+entered-due job-insert updated = refl
+entered-due job-delete updated = refl
+
+idle-no-job : {doing : Doing} {key : ℕ} {final : Answer} {u : Option Update} → Job doing key final u → doing ≡ Idle → ⊥
+idle-no-job job-repair e = let z : _≡_ {A = ℕ} 0 1 = cc in omega arith
+idle-no-job job-insert e = let z : _≡_ {A = ℕ} 0 1 = cc in omega arith
+idle-no-job job-delete e = let z : _≡_ {A = ℕ} 0 1 = cc in omega arith
+
+put-no-job : (k v : ℕ) {doing : Doing} {key : ℕ} {final : Answer} {u : Option Update} → Job doing key final u → doing ≡ Inserting k v false → ⊥
+put-no-job k v job-repair e = let z : _≡_ {A = ℕ} 0 1 = cc in omega arith
+put-no-job k v job-insert e = let z : _≡_ {A = ℕ} 0 1 = cc in omega arith
+put-no-job k v job-delete e = let z : _≡_ {A = ℕ} 0 1 = cc in omega arith
+
+remove-no-job : (k : ℕ) {doing : Doing} {key : ℕ} {final : Answer} {u : Option Update} → Job doing key final u → doing ≡ Deleting k false 0 → ⊥
+remove-no-job k job-repair e = let z : _≡_ {A = ℕ} 0 1 = cc in omega arith
+remove-no-job k job-insert e = let z : _≡_ {A = ℕ} 0 1 = cc in omega arith
+remove-no-job k job-delete e = let z : _≡_ {A = ℕ} 0 1 = cc in omega arith
+
+turns-at : {c : List ℕ} {n : ℕ} {t goal : Tree} {steps : ℕ} {m : Memory} {h : Hand} {due : Option Answer} → Table c n t → Openable n t → Stage c n t goal steps m h due → m .rest ≡ [] → Begun (m .doing) → Turns c n t m due
+turns-at b o (stage-idle z r x g) e k = absurd (idle-no-job (k .3) refl)
+turns-at b o (stage-put {key = key} {value = value} z r x low high room q g) e k = absurd (put-no-job key value (k .3) refl)
+turns-at b o (stage-remove {key = key} z r x low high q g) e k = absurd (remove-no-job key (k .3) refl)
+turns-at b o (stage-first {s = s} {rest = rest} j p en count few hd) e k = let y : _≡_ {A = List Store} (s ∷ rest) [] = e in let z : _≡_ {A = ℕ} 0 1 = cc in absurd (omega arith)
+turns-at b o (stage-within {s = s} {rest = rest} j en p q few hd) e k = let y : _≡_ {A = List Store} (s ∷ rest) [] = e in let z : _≡_ {A = ℕ} 0 1 = cc in absurd (omega arith)
+turns-at {c} {n} {t} {due = due} b o (stage-between {free} {last} {key} {doing} {final} j en deep (settled z r) x few hd) e k =
+    (x, inl (z, ap (λ y. y .answer) (step-repairs c n (b .sized) (b .header) free last j ∙ prepared-ready c (memory n free last doing [] []) doing final (nextRepair c n key free last) (rests c n key t free last b z)) ∙ entered-due j en))
+turns-at {c} {n} {t} {due = due} b o (stage-between {free} {last} {key} {doing} {final} j en deep (violated v w r) x few hd) e k = (x, inr (apply (mends c n key t free last b x v w r)))
+  where
+    apply : Repaired c n key t free last (depth-of (v .context)) → RepairNext c n (memory n free last doing [] [])
+    apply q = split (q .stores) refl
+      where
+        split : (ss : List Store) → q .stores ≡ ss → RepairNext c n (memory n free last doing [] [])
+        split [] e₁ = let z = ap length (sym e₁ ∙ q .pending .is-rest) in absurd (omega (arith, simp length-append at z))
+        split (s ∷ rest) e₁ =
+            let planned : nextRepair c n key free last ≡ prepared (s ∷ rest) (q .free-then) (q .last-then) (q .cut) = rw e₁ at (q .planned) in
+            let p = pending-changing (b .holds) (b .sound) o (rw e₁ at (q .pending)) in
+            record {
+              key = key;
+              first = s;
+              rest = rest;
+              then-free = q .free-then;
+              then-last = q .last-then;
+              out = q .cut;
+              planned = planned;
+              first-made = step-repairs c n (b .sized) (b .header) free last j ∙ prepared-first c (memory n free last doing [] []) doing final (nextRepair c n key free last) s rest (q .free-then) (q .last-then) (q .cut) planned (first-storable (p .0 .plays) .inside);
+            }
+
+-- one turn of a repair, where all that come after it are by the rules
+repair-next : (final : Answer) (most : ℕ) (w : World ration-table) (x : Nears final most w) → Begun (w .state .doing) → Turns (w .card) (x .covered .size) (x .covered .inv .tree) (w .state) (x .covered .due)
+    → ((few : ℕ) (v : World ration-table) → few < most → Nears final few v → v .state .rest ≡ [] → Begun (v .state .doing) → Repairs ration-table (stepReply final) v) → Repairs ration-table (stepReply final) w
+unfolding reply-to
+repair-next final most w x k (exact, turn) later = at turn
+  where
+    v : Covered w (x .book-now)
+    v = x .covered
+
+    between : Between ration-table w (v .inv .tree)
+    between = record { holds = v .inv .table .holds; free-exact = subst (λ y. Exact y (w .state .free) (v .inv .tree)) (sym (nodes-same (v .size) (v .steps) (worldly w) (v .was-kept) (v .due) (v .inv))) exact }
+
+    at : ((table-violations (v .inv .tree) ≡ 0) × (stepOf (w .card) (w .state) .answer ≡ final-due (v .due))) ⊎ RepairNext (w .card) (v .size) (w .state) → Repairs ration-table (stepReply final) w
+    at (inl (z, a)) = done (v .inv .tree) (record { well-formed = table-well-formed (v .inv .table); none = z }) between (ap stepReply (a ∙ x .is-due))
+    at (inr q) =
+        let r = repair-by-rule (w .card) (v .size) (q .key) (q .planned) in
+        let m = memory (v .size) (q .then-free) (q .then-last) (w .state .doing) [] (q .out) in
+        mends-by (v .inv .tree) between (r .rule)
+        (change-made final most w x m (q .first) (q .rest) (q .first-made) (r .given) (q .out) (r .in-turn) (r .left) refl (cut-marked (q .out) (q .then-free) (r .cut-nodes)))
+        (λ qs u n. let l = all-left final most w x m (q .first) (q .rest) (q .first-made) qs u n in
+        later (l .0) (run ration-table qs w) (l .1) (l .2 .nears) (ap (λ (y : Memory). y .rest) (l .2 .is-left) ∙ advanced-none m) (subst Begun (sym (ap (λ (y : Memory). y .doing) (l .2 .is-left) ∙ advanced-same m)) k))
+
+-- "Repairs go on until balanced": as many changes as there are steps left, at most
+pub repairs-by-rules : (final : Answer) (bound most : ℕ) (w : World ration-table) → most < bound → Nears final most w → w .state .rest ≡ [] → Begun (w .state .doing) → Repairs ration-table (stepReply final) w
+repairs-by-rules final zero most w h x e k = absurd (omega arith)
+repairs-by-rules final (suc bound) most w h x e k =
+    repair-next final most w x k (turns-at (x .covered .inv .table) (x .covered .inv .openable) (x .covered .inv .stage) e k)
+    (λ few v l y e′ k′. repairs-by-rules final bound few v (omega (arith, l, h)) y e′ k′)
+
+-- ---- the first change of an update
+
+-- a final answer is one that the book counts as final
+final-counts : (a : Answer) → Final a → step-result a ≡ was-final
+unfolding step-result
+final-counts a (inl e) = rw e
+final-counts a (inr (inl (v, e))) = rw e
+final-counts a (inr (inr e)) = rw e
+
+-- The first step of an update: what is planned is by the rule, or there is nothing to change.
+module _ (final : Answer) (most : ℕ) (w : World ration-table) (x : Nears final most w) (busy : isIdle (w .state .doing) ≡ false) (Rule : List ℕ → List ℕ → List Store → Type 0) where
+  not-refused : (r : ℕ) → stepOf (w .card) (w .state) ≡ stepRefused r (w .card) (w .state) → ⊥
+  unfolding stepRefused
+  not-refused r e = let v = x .covered in work-not-refused (v .size) (v .steps) (worldly w) (v .was-kept) (v .due) (v .inv) busy r (ap (λ y. y .answer) e)
+
+  ends-due : (a : Answer) → Final a → stepOf (w .card) (w .state) ≡ stepFinal a (w .card) (w .state) → a ≡ final
+  unfolding stepFinal
+  ends-due a f e =
+      let v = x .covered in
+      let q = kept-step (v .size) (v .steps) (worldly w) (v .was-kept) (v .due) (loosen (v .size) (v .steps) (suc (v .steps)) (worldly w) (v .was-kept) (v .due) (omega arith) (v .inv)) in
+      right-final (subst (λ y. Right y (v .due)) (ap (λ y. y .answer) e) (q .1)) (final-counts a f) ∙ x .is-due
+
+  pub first-by-rules : (f : FirstChange) → stepOf (w .card) (w .state) ≡ stepBegin (w .card) (w .state) f → Final (f .final)
+      → ((ss : List Store) (fewer : List Bool) (now : ℕ) (out : List ℕ) → f .preparation ≡ prepared ss fewer now out → ByRule Rule (w .state .free) (w .state .last) ss fewer now out × Begun (f .doing)) → Updates ration-table Rule (stepReply final) w
+  unfolding stepBegin stepPrepared stepFirst stepStore planning reply-to stepFinal
+  first-by-rules f e fin rule = at (f .preparation) refl
+    where
+      at : (p : Preparation) → f .preparation ≡ p → Updates ration-table Rule (stepReply final) w
+      at refused q = absurd (not-refused 9 (e ∙ ap (stepPrepared (w .card) (w .state) (f .doing) (f .final)) q))
+      at balanced q =
+          let s : stepOf (w .card) (w .state) ≡ stepFinal (f .final) (w .card) (w .state) = e ∙ ap (stepPrepared (w .card) (w .state) (f .doing) (f .final)) q in
+          no-change (ap (λ y. stepReply (y .answer)) s ∙ ap stepReply (ends-due (f .final) fin s))
+      at (prepared [] fewer now out) q = absurd (not-refused 9 (e ∙ ap (stepPrepared (w .card) (w .state) (f .doing) (f .final)) q))
+      at (prepared (s ∷ rest) fewer now out) q =
+          order (s .0) (length (w .card)) inside
+          (λ o. absurd (not-refused 9 (e ∙ ap (stepPrepared (w .card) (w .state) (f .doing) (f .final)) q ∙ rw (le-ltb (s .0) (length (w .card)) o))))
+        where
+          m : Memory
+          m = memory (w .state .nodes) fewer now (f .doing) [] out
+
+          inside : s .0 < length (w .card) → Updates ration-table Rule (stepReply final) w
+          inside o =
+              let first : stepOf (w .card) (w .state) ≡ record { answer = Stored; card = set (w .card) (s .0) (s .1); memory = advanced (memory (w .state .nodes) fewer now (f .doing) [] out) rest } = e ∙ ap (stepPrepared (w .card) (w .state) (f .doing) (f .final)) q ∙ rw (lt-ltb (s .0) (length (w .card)) o) in
+              let r = rule (s ∷ rest) fewer now out q in
+              changes (r .0 .rule) (change-made final most w x m s rest first (r .0 .given) out (r .0 .in-turn) (r .0 .left) refl (cut-marked out fewer (r .0 .cut-nodes)))
+              (λ qs u n. let l = all-left final most w x m s rest first qs u n in
+              repairs-by-rules final (suc (l .0)) (l .0) (run ration-table qs w) (omega arith) (l .2 .nears) (ap (λ (y : Memory). y .rest) (l .2 .is-left) ∙ advanced-none m) (subst Begun (sym (ap (λ (y : Memory). y .doing) (l .2 .is-left) ∙ advanced-same m)) (r .1)))
+
+-- where an update stands that has just been started
+pub put-turns : {c : List ℕ} {n : ℕ} {t goal : Tree} {steps : ℕ} {m : Memory} {h : Hand} {due : Option Answer} (key value : ℕ) → Table c n t → Stage c n t goal steps m h due → m .doing ≡ Inserting key value false
+    → stepOf c m ≡ stepBegin c m (changeAt c (Inserting key value false) (m .free) (m .last) (landing c n key))
+put-turns key value b (stage-idle z r x g) e = let q : _≡_ {A = ℕ} 0 1 = cc in absurd (omega arith)
+put-turns {c} {n} key value b (stage-put {free} {last} {key = k} {value = v} z r x low high room q g) e =
+    let ek : k ≡ key = cc in
+    let ev : v ≡ value = cc in
+    rw (← ek, ← ev) (step-puts c n (b .sized) (b .header) free last k v)
+put-turns key value b (stage-remove z r x low high q g) e = let y : _≡_ {A = ℕ} 0 1 = cc in absurd (omega arith)
+put-turns key value b (stage-first j p en count few hd) e = absurd (put-no-job key value j e)
+put-turns key value b (stage-between j en deep k x few hd) e = absurd (put-no-job key value j e)
+put-turns key value b (stage-within j en p q few hd) e = absurd (put-no-job key value j e)
+
+pub remove-turns : {c : List ℕ} {n : ℕ} {t goal : Tree} {steps : ℕ} {m : Memory} {h : Hand} {due : Option Answer} (key : ℕ) → Table c n t → Stage c n t goal steps m h due → m .doing ≡ Deleting key false 0
+    → stepOf c m ≡ stepBegin c m (changeAt c (Deleting key false 0) (m .free) (m .last) (landing c n key))
+remove-turns key b (stage-idle z r x g) e = let q : _≡_ {A = ℕ} 0 1 = cc in absurd (omega arith)
+remove-turns key b (stage-put z r x low high room q g) e = let y : _≡_ {A = ℕ} 0 1 = cc in absurd (omega arith)
+remove-turns {c} {n} key b (stage-remove {free} {last} {key = k} z r x low high q g) e =
+    let ek : k ≡ key = cc in
+    rw (← ek) (step-removes c n (b .sized) (b .header) free last k)
+remove-turns key b (stage-first j p en count few hd) e = absurd (remove-no-job key j e)
+remove-turns key b (stage-between j en deep k x few hd) e = absurd (remove-no-job key j e)
+remove-turns key b (stage-within j en p q few hd) e = absurd (remove-no-job key j e)

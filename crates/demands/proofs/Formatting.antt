@@ -1,0 +1,96 @@
+-- DEMAND 2, of formatting: its stores, its "ready", and what opening says of it cut.
+use mathlib.Core.Path.{_≡_, refl, ap, sym, subst, _∙_}
+use mathlib.Core.Bool.{Bool, true, false}
+use mathlib.Core.List.{List, [], _∷_}
+use mathlib.Core.Option.{Option, none, some}
+use Prim.Native.Nat.{ℕ, zero, suc, _+_, _≤_, _<_}
+use native.Mathlib.Omega.{arith}
+use lib.ListN.{length, set}
+use lib.Dec.{eqb, ltb}
+use borrow.Author.Tests.{ne-eqb, ltb-true}
+use Rattle.card.specs.Header.{Sized}
+use Rattle.card.specs.Replies.{Reply, refusal, started}
+use Rattle.card.specs.Stores.{Store}
+use Rattle.demands.specs.Demand2.{StoresNow, freshWord, formatStore, formatBegun, Formats}
+use Rattle.demands.specs.Events.{Event, World, reply-to, happens, run, LeftUncut, steps-in, find, insert, delete, step, cut}
+use Rattle.demands.specs.Refusals.{NoCard, nodes-on}
+use Rattle.demands.proofs.Instance.{ration-table}
+use Rattle.demands.proofs.Making.{find-same, same-insert, same-delete}
+use Rattle.demands.proofs.Rowing.{sized?, no-nodes}
+use Rattle.formatting_theory.proofs.FormatSteps.{formatMemory, format-starts, format-refused, format-step-stores, format-step-ready}
+use Rattle.formatting_theory.proofs.FormatCard.{formatCard, format-next}
+use Rattle.formatting_theory.proofs.FormatCut.{cut-refused}
+use Rattle.formatting_theory.proofs.FormatStores.{some-store}
+use Rattle.laws.proofs.Cases.{bool-cases, order}
+use Rattle.opening.specs.Opening.{openOf}
+use Rattle.starting.specs.Starts.{formatOf}
+use Rattle.state.specs.Answers.{stepReply, startReply}
+use Rattle.state.specs.Steps.{formattedWord, formatStore as formatStoreOf, noBeginning, Handed}
+use Rattle.state.specs.declared.Answer.the-variants.{Stored, Ready}
+use Rattle.table.specs.Calls.{stepOf}
+
+-- store number i, as the step finds it
+same-store : (n words i : ℕ) (s : Store) → formatStoreOf n words i ≡ some s → formatStore n words i ≡ s
+unfolding formatStoreOf formattedWord
+same-store n words i s e =
+    bool-cases (eqb i 0) (λ q. let k : some (0, 0) ≡ some s = rw q at e in let z : (0, 0) ≡ s = cc in rw q z)
+    (λ q. bool-cases (ltb i words)
+    (λ q₁. let k : some (i, freshWord n i) ≡ some s = rw (q, q₁) at e in let z : (i, freshWord n i) ≡ s = cc in rw (q, ne-eqb i words (λ y. absurd (same-not-less i words q₁ y))) z)
+    (λ q₁. bool-cases (eqb i words)
+    (λ q₂. let k : some (0, 1) ≡ some s = rw (q, q₁, q₂) at e in let z : (0, 1) ≡ s = cc in rw (q, q₂) z)
+    (λ q₂. let k : none ≡ some s = rw (q, q₁, q₂) at e in let z : _≡_ {A = ℕ} 0 1 = cc in absurd (omega arith))))
+  where
+    same-not-less : (a b : ℕ) → ltb a b ≡ true → a ≡ b → ⊥
+    same-not-less a b h y = omega (arith, ltb-true a b h)
+
+module _ (c : List ℕ) (s : Sized (length c) (nodes-on c)) where
+  -- the card and the state after so many stores
+  abbrev after : ℕ → World ration-table
+  after made = record { card = formatCard (nodes-on c) c made; state = formatMemory (nodes-on c) made }
+
+  begun-after : formatBegun ration-table c ≡ after 0
+  unfolding formatCard
+  begun-after = ap (λ (h : Handed). record { card = c; state = h .memory }) (format-starts c (nodes-on c) s)
+
+  one-more : (made : ℕ) → made ≤ length c → happens ration-table step (after made) ≡ after (suc made)
+  unfolding happens
+  one-more made h = rw (format-step-stores c (nodes-on c) s made h)
+
+  run-after : (qs : List Event) (made : ℕ) → LeftUncut ration-table qs (after made) → made + steps-in qs ≤ suc (length c) → run ration-table qs (after made) ≡ after (made + steps-in qs)
+  unfolding LeftUncut run
+  run-after [] made u h = ap after (omega arith)
+  run-after (find key ∷ qs) made u h = rw (find-same key (after made)) (run-after qs made (rw (find-same key (after made)) at (u .1)) h)
+  run-after (insert key value ∷ qs) made u h = let e = same-insert key value (after made) (u .0) in rw e (run-after qs made (rw e at (u .1)) h)
+  run-after (delete key ∷ qs) made u h = let e = same-delete key (after made) (u .0) in rw e (run-after qs made (rw e at (u .1)) h)
+  run-after (step ∷ qs) made u h = let e = one-more made (omega arith) in rw e (run-after qs (suc made) (rw e at (u .1)) (omega arith) ∙ ap after (omega arith))
+  run-after (cut ∷ qs) made u h = absurd (u .0)
+
+  runs-to : (qs : List Event) → LeftUncut ration-table qs (formatBegun ration-table c) → steps-in qs ≤ suc (length c) → run ration-table qs (formatBegun ration-table c) ≡ after (steps-in qs)
+  runs-to qs u h = ap (run ration-table qs) begun-after ∙ run-after qs 0 (subst (LeftUncut ration-table qs) begun-after u) (omega arith) ∙ ap after (omega arith)
+
+  stores-now : (made : ℕ) → made ≤ length c → StoresNow ration-table (after made) (formatStore (nodes-on c) (length c) made)
+  unfolding reply-to happens stepReply
+  stores-now made h =
+      let f = some-store (nodes-on c) (length c) made (omega (arith, s .words)) h in
+      let e = same-store (nodes-on c) (length c) made (f .0) (f .1) in
+      record {
+        reply-given = rw (format-step-stores c (nodes-on c) s made h);
+        one-store = rw (format-step-stores c (nodes-on c) s made h, e) (format-next (nodes-on c) c made (f .0) (f .1));
+      }
+
+  pub formats-sized : Formats ration-table c
+  unfolding reply-to stepReply noBeginning startReply
+  formats-sized =
+      record {
+        each = λ qs u h. rw (runs-to qs u (omega arith)) (stores-now (steps-in qs) h);
+        then-ready = λ qs u h. rw (runs-to qs u (omega arith), h, format-step-ready c (nodes-on c) s);
+        cut-refused = λ qs u low h. rw (runs-to qs u (omega arith), cut-refused c (nodes-on c) (steps-in qs) s low h);
+      }
+
+pub formats-right : (c : List ℕ) → ration-table .format c .reply ≡ started → Formats ration-table c
+unfolding noBeginning startReply
+formats-right c e = go (sized? (length c) (nodes-on c))
+  where
+    go : Dec (Sized (length c) (nodes-on c)) → Formats ration-table c
+    go (yes s) = formats-sized c s
+    go (no p) = let z : refusal 1 ≡ started = rw (format-refused c (no-nodes c p)) at e in absurd (omega (arith, ap (λ (r : Reply). r .code) z))

@@ -1,0 +1,180 @@
+-- The stores of a change, made one a step on a table that is worked: what the state and the card are at each of them.
+use mathlib.Core.Path.{_≡_, refl, ap, sym, subst, _∙_}
+use mathlib.Core.Bool.{Bool, true, false}
+use mathlib.Core.List.{List, [], _∷_}
+use mathlib.Core.Logic.{_⊎_, inl, inr}
+use mathlib.Core.Option.{Option, none, some}
+use Prim.Native.Nat.{ℕ, zero, suc, _+_, _≤_, _<_}
+use native.Mathlib.Omega.{arith}
+use lib.ListN.{length, getD, set, drop}
+use Rattle.card.specs.Replies.{Reply, stored}
+use Rattle.card.specs.Stores.{Store}
+use Rattle.demands.specs.Table.{Refused}
+use Rattle.demands.specs.Events.{Event, World, reply-to, happens, run, LeftUncut, steps-in, find, insert, delete, step, cut}
+use Rattle.demands.specs.Book.{Book, feed, told}
+use Rattle.demands.specs.Demand2.{storeAt, StoresNow}
+use Rattle.demands.proofs.Following.{worldly, same-world, fed-same}
+use Rattle.demands.proofs.Instance.{ration-table}
+use Rattle.demands.proofs.Keeps3.{Covered, covered-nodes, refused-insert-same, refused-delete-same}
+use Rattle.promises.proofs.Feeding.{fed, due-after}
+use Rattle.promises.proofs.Finished.{stored-due}
+use Rattle.promises.proofs.Invariant.{Inv, Stage, Table, stage-idle, stage-put, stage-remove, stage-first, stage-between, stage-within}
+use Rattle.promises.proofs.Kept.{first-storable}
+use Rattle.promises.proofs.Ledger.{Hand, feed as was-feed}
+use Rattle.promises.proofs.Machine.{World as Worldly, step as was-step}
+use Rattle.promises.proofs.PowerLoss.{loosen, at-rest}
+use Rattle.promises.proofs.Stepping.{final-due, kept-step}
+use Rattle.promises.proofs.Steps.{job-busy, step-stores, idle-refused}
+use Rattle.state.specs.Answers.{stepReply}
+use Rattle.state.specs.Memory.{Memory, advanced}
+use Rattle.state.specs.Steps.{stepRefused}
+use Rattle.state.specs.declared.Answer.{Answer}
+use Rattle.state.specs.declared.Answer.the-variants.{Stored, Refused as WasRefused}
+use Rattle.state.specs.declared.Doing.the-variants.{Idle}
+use Rattle.table.specs.Calls.{stepOf}
+use Rattle.tree.specs.Tree.{Tree}
+
+-- A table that is worked, at most so many steps from the end of what is being done, with this final answer due.
+pub record Nears (final : Answer) (most : ℕ) (w : World ration-table) : Type 0 where
+  pub book-now : Book
+  pub covered : Covered w book-now
+  pub soon : covered .steps ≤ most
+  pub is-due : final-due (covered .due) ≡ final
+
+-- a store brings it one step nearer
+pub nearer : (final : Answer) (most : ℕ) (w : World ration-table) → Nears final most w → stepOf (w .card) (w .state) .answer ≡ Stored → (few : ℕ) × (most ≡ suc few) × Nears final few (happens ration-table step w)
+unfolding stepRefused
+nearer final zero w x e = absurd (never (idle-refused (w .card) (w .state) rested))
+  where
+    v : Covered w (x .book-now)
+    v = x .covered
+
+    rested : w .state .doing ≡ Idle
+    rested = at-rest (v .size) (v .steps) (worldly w) (v .was-kept) (v .due) (omega (arith, x .soon)) (v .inv) .0
+
+    never : ((r : ℕ) × (stepOf (w .card) (w .state) ≡ stepRefused r (w .card) (w .state))) → ⊥
+    never (r, q) = let y : _≡_ {A = Answer} (WasRefused r) Stored = sym (ap (λ z. z .answer) q) ∙ e in let z : _≡_ {A = ℕ} 0 1 = cc in omega arith
+nearer final (suc few) w x e =
+    let v = x .covered in
+    let q = kept-step (v .size) few (worldly w) (v .was-kept) (v .due) (loosen (v .size) (v .steps) (suc few) (worldly w) (v .was-kept) (v .due) (x .soon) (v .inv)) in
+    let f = fed-same step w (v .was-kept) (covered-nodes v) (v .flagged) in (
+      few,
+      refl,
+      record {
+        book-now = feed (told ration-table step w) (x .book-now);
+        covered = record {
+          size = v .size;
+          steps = few;
+          was-kept = was-feed (fed was-step (worldly w)) (v .was-kept);
+          due = due-after was-step (worldly w) (v .was-kept) (v .due);
+          inv = rw (same-world step w) (q .0 .0);
+          same-book = ap (feed (told ration-table step w)) (v .same-book) ∙ f .0;
+          flagged = f .1;
+        };
+        soon = omega arith;
+        is-due = ap final-due (stored-due (worldly w) (v .was-kept) (v .due) e) ∙ x .is-due;
+      },
+    )
+
+-- ---- one store of the change in hand
+
+-- the next store of the plan is made
+abbrev Storing : List ℕ → Memory → Type 0
+Storing c m = (s : Store) × (rest : List Store) × (m .rest ≡ s ∷ rest) × (stepOf c m ≡ record { answer = Stored; card = set c (s .0) (s .1); memory = advanced m rest })
+
+stage-storing : {c : List ℕ} {n : ℕ} {t goal : Tree} {steps : ℕ} {m : Memory} {h : Hand} {due : Option Answer} → Table c n t → Stage c n t goal steps m h due → (m .rest ≡ []) ⊎ Storing c m
+stage-storing b (stage-idle z r x g) = inl refl
+stage-storing b (stage-put z r x low high room q g) = inl refl
+stage-storing b (stage-remove z r x low high q g) = inl refl
+stage-storing {c} {n} b (stage-first {free} {last} {doing = doing} {cut = out} {s = s} {rest = rest} j p en count few hd) = inr (s, rest, refl, step-stores c n (b .sized) (b .header) free last doing (job-busy j) out s rest (first-storable (p .plays) .inside))
+stage-storing b (stage-between j en deep k x few hd) = inl refl
+stage-storing {c} {n} b (stage-within {free} {last} {doing = doing} {cut = out} {s = s} {rest = rest} j en p e few hd) = inr (s, rest, refl, step-stores c n (b .sized) (b .header) free last doing (job-busy j) out s rest (first-storable (p .plays) .inside))
+
+advanced-rest : (m : Memory) (rest : List Store) → advanced m rest .rest ≡ rest
+unfolding advanced
+advanced-rest m [] = refl
+advanced-rest m (s ∷ rest) = refl
+
+advanced-twice : (m : Memory) (s : Store) (rest more : List Store) → advanced (advanced m (s ∷ rest)) more ≡ advanced m more
+unfolding advanced
+advanced-twice m s rest [] = refl
+advanced-twice m s rest (x ∷ more) = refl
+
+-- where the stores still to come are those of a plan, the next step makes the first of them
+pub makes-next : (w : World ration-table) (b : Book) → Covered w b → (m : Memory) (s : Store) (rest : List Store) → w .state ≡ advanced m (s ∷ rest)
+    → stepOf (w .card) (w .state) ≡ record { answer = Stored; card = set (w .card) (s .0) (s .1); memory = advanced m rest }
+makes-next w b v m s rest e = at (stage-storing (v .inv .table) (v .inv .stage))
+  where
+    is-rest : w .state .rest ≡ s ∷ rest
+    is-rest = ap (λ (x : Memory). x .rest) e ∙ advanced-rest m (s ∷ rest)
+
+    at : (w .state .rest ≡ []) ⊎ Storing (w .card) (w .state) → stepOf (w .card) (w .state) ≡ record { answer = Stored; card = set (w .card) (s .0) (s .1); memory = advanced m rest }
+    at (inl q) = let y : _≡_ {A = List Store} [] (s ∷ rest) = sym q ∙ is-rest in let z : _≡_ {A = ℕ} 0 1 = cc in absurd (omega arith)
+    at (inr (x, r, q, k)) =
+        let y : (x ∷ r) ≡ (s ∷ rest) = sym q ∙ is-rest in
+        let ex : x ≡ s = cc in
+        let er : r ≡ rest = cc in
+        k ∙ rw (ex, er, e, advanced-twice m s rest rest)
+
+-- ---- all stores that are left, with finds and refused calls between
+
+-- a find and a refused start leave the same world
+pub find-same : (key : ℕ) (w : World ration-table) → happens ration-table (find key) w ≡ w
+unfolding happens
+find-same key w = refl
+
+world-of : Worldly → World ration-table
+world-of x = record { card = x .card; state = x .memory }
+
+pub same-insert : (key value : ℕ) (w : World ration-table) → Refused (reply-to ration-table (insert key value) w) → happens ration-table (insert key value) w ≡ w
+unfolding world-of
+same-insert key value w h = ap world-of (refused-insert-same key value w h)
+
+pub same-delete : (key : ℕ) (w : World ration-table) → Refused (reply-to ration-table (delete key) w) → happens ration-table (delete key) w ≡ w
+unfolding world-of
+same-delete key w h = ap world-of (refused-delete-same key w h)
+
+-- the plan m, of which the stores ss are still to come
+module _ (final : Answer) (m : Memory) where
+  pub record Left (most : ℕ) (ss : List Store) (w : World ration-table) : Type 0 where
+    pub nears : Nears final most w
+    pub is-left : w .state ≡ advanced m ss
+
+  stored-step : (w : World ration-table) (s : Store) (rest : List Store) → stepOf (w .card) (w .state) ≡ record { answer = Stored; card = set (w .card) (s .0) (s .1); memory = advanced m rest } → (StoresNow ration-table w s) × (happens ration-table step w .state ≡ advanced m rest)
+  unfolding reply-to happens stepReply
+  stored-step w s rest e = (record { reply-given = rw e; one-store = rw e }, rw e)
+
+  one-less : {most : ℕ} {w : World ration-table} (s : Store) (rest : List Store) → Left most (s ∷ rest) w → (few : ℕ) × (most ≡ suc few) × Left few rest (happens ration-table step w)
+  one-less {most} {w} s rest x =
+      let e = makes-next w (x .nears .book-now) (x .nears .covered) m s rest (x .is-left) in
+      let q = nearer final most w (x .nears) (ap (λ z. z .answer) e) in
+      (q .0, q .1, record { nears = q .2; is-left = stored-step w s rest e .1 })
+
+  -- what is left after a run without a cut
+  pub run-left : (most : ℕ) (ss : List Store) (w : World ration-table) → Left most ss w → (qs : List Event) → LeftUncut ration-table qs w → steps-in qs ≤ length ss → (few : ℕ) × (few + steps-in qs ≡ most) × Left few (drop (steps-in qs) ss) (run ration-table qs w)
+  unfolding LeftUncut run
+  run-left most ss w x [] u h = (most, omega arith, x)
+  run-left most ss w x (find key ∷ qs) u h = rw (find-same key w) (run-left most ss w x qs (rw (find-same key w) at (u .1)) h)
+  run-left most ss w x (insert key value ∷ qs) u h = let e = same-insert key value w (u .0) in rw e (run-left most ss w x qs (rw e at (u .1)) h)
+  run-left most ss w x (delete key ∷ qs) u h = let e = same-delete key w (u .0) in rw e (run-left most ss w x qs (rw e at (u .1)) h)
+  run-left most [] w x (step ∷ qs) u h = absurd (omega arith)
+  run-left most (s ∷ rest) w x (step ∷ qs) u h =
+      let q = one-less s rest x in
+      let r = run-left (q .0) rest (happens ration-table step w) (q .2) qs (u .1) (omega arith) in
+      (r .0, omega (arith, q .1, r .1), r .2)
+  run-left most ss w x (cut ∷ qs) u h = absurd (u .0)
+
+  next-stored : (most : ℕ) (ss : List Store) (w : World ration-table) → Left most ss w → 0 < length ss → StoresNow ration-table w (storeAt ss 0)
+  next-stored most [] w x h = absurd (omega arith)
+  next-stored most (s ∷ rest) w x h = stored-step w s rest (makes-next w (x .nears .book-now) (x .nears .covered) m s rest (x .is-left)) .0
+
+  drop-more : (ss : List Store) (k : ℕ) → k < length ss → (0 < length (drop k ss)) × (storeAt (drop k ss) 0 ≡ storeAt ss k)
+  drop-more [] k h = absurd (omega arith)
+  drop-more (s ∷ ss) zero h = (omega arith, refl)
+  drop-more (s ∷ ss) (suc k) h = drop-more ss k (omega arith)
+
+  pub stores-each : (most : ℕ) (ss : List Store) (w : World ration-table) → Left most ss w → (qs : List Event) → LeftUncut ration-table qs w → steps-in qs < length ss → StoresNow ration-table (run ration-table qs w) (storeAt ss (steps-in qs))
+  stores-each most ss w x qs u h =
+      let r = run-left most ss w x qs u (omega arith) in
+      let d = drop-more ss (steps-in qs) h in
+      subst (StoresNow ration-table (run ration-table qs w)) (d .1) (next-stored (r .0) (drop (steps-in qs) ss) (run ration-table qs w) (r .2) (d .0))

@@ -1,0 +1,227 @@
+-- DEMAND 2, "each step stores exactly the word that the tree's rules in document 01 name": inserts, deletes and opening's repair.
+use mathlib.Core.Path.{_≡_, refl, ap, sym, subst, _∙_}
+use mathlib.Core.Bool.{Bool, true, false}
+use mathlib.Core.List.{List, [], _∷_}
+use mathlib.Core.Logic.{_⊎_, inl, inr}
+use mathlib.Core.Option.{Option, none, some}
+use Prim.Native.Nat.{ℕ, suc, _+_, _<_}
+use native.Mathlib.Omega.{arith}
+use lib.Dec.{eqb, ltb}
+use lib.ListN.{length, getD}
+use Rattle.card.specs.Header.{nodesOfLength, headerRefusal, cardRefusal}
+use Rattle.card.specs.Layout.{keyLimit, nodeAt}
+use Rattle.card.specs.Replies.{Reply, ready, started}
+use Rattle.card.specs.Stores.{Store}
+use Rattle.demands.specs.Book.{Book, book, feed, told, empty}
+use Rattle.demands.specs.Demand2.{Repairs, Updates}
+use Rattle.demands.specs.Events.{World, opened, happens, insert, delete}
+use Rattle.demands.specs.Refusals.{nodes-on}
+use Rattle.demands.specs.Rules.{InsertRule, DeleteRule}
+use Rattle.demands.proofs.ByRules.{Begun, repairs-by-rules, first-by-rules, put-turns, remove-turns}
+use Rattle.demands.proofs.Following.{worldly, same-world, hand-of, Flagged, fed-same}
+use Rattle.demands.proofs.Instance.{ration-table}
+use Rattle.demands.proofs.Keeps3.{Covered, covered-nodes}
+use Rattle.demands.proofs.KeepsSteps.{at-final}
+use Rattle.demands.proofs.Making.{Nears}
+use Rattle.demands.proofs.Numbers.{card-small}
+use Rattle.demands.proofs.PlannedUpdates.{insert-by-rule, delete-by-rule}
+use Rattle.descent.specs.Descent.{slotOf}
+use Rattle.descent.specs.declared.Landing.{Landing}
+use Rattle.descent.specs.declared.Landing.the-variants.{Refused as NoLanding, Leaf as LandingAt}
+use Rattle.descent.specs.declared.Slot.{Slot}
+use Rattle.descent.specs.declared.Slot.the-variants.{At, Absent as NoSlot}
+use Rattle.free_nodes.specs.NodeSet.{countTrue}
+use Rattle.laws.proofs.Cases.{bool-cases}
+use Rattle.opening.specs.Opening.{openSound, openChecked, openOf}
+use Rattle.plans.specs.Planning.{prepared}
+use Rattle.promises.proofs.Feeding.{begun-result, fed, due-after, due-after-start, dictionary-answer}
+use Rattle.promises.proofs.Invariant.{job-repair, job-insert, job-delete}
+use Rattle.promises.proofs.Ledger.{ledger, put, remove, empty as was-empty, feed as was-feed}
+use Rattle.promises.proofs.Machine.{insert as was-insert, delete as was-delete, happens as was-happens}
+use Rattle.promises.proofs.PowerLoss.{reopened-inv}
+use Rattle.promises.proofs.Starting.{nodes-same, kept-insert, kept-delete}
+use Rattle.soundness.specs.Check.{Findings, tableCheck}
+use Rattle.starting.specs.Starts.{startRefused, started as startedWith, startLanded, startChecked, startOf, insertOf, deleteOf}
+use Rattle.state.specs.Answers.{stepReply, startReply}
+use Rattle.state.specs.Memory.{Memory, noMemory, resting}
+use Rattle.state.specs.Steps.{isIdle, Handed, noBeginning}
+use Rattle.state.specs.declared.Answer.the-variants.{Ready, Absent, Value}
+use Rattle.state.specs.declared.Begun.{Begun as Beginning}
+use Rattle.state.specs.declared.Begun.the-variants.{Started, Refused as BegunRefused}
+use Rattle.state.specs.declared.Doing.{Doing}
+use Rattle.state.specs.declared.Doing.the-variants.{Inserting, Deleting, Repairing}
+use Rattle.table.specs.Calls.{repairSteps}
+use Rattle.tree.specs.Pairs.{lookup}
+use Rattle.updates.specs.Updates.{Reason, landing, insertReason, insertChange, deleteChange, noChange, changeIn, changeAt, startRoom, held, slot, full}
+
+-- what opening hands back: no stores to come, and a repair where it says so
+abbrev OpenDoing : Handed → Type 0
+OpenDoing h = (h .memory .rest ≡ []) × ((startReply (h .begun) ≡ started → ⊥) ⊎ ((key : ℕ) × (h .memory .doing ≡ Repairing key)))
+
+none-doing : (r : ℕ) → r < 64 → OpenDoing (noBeginning r)
+unfolding noBeginning noMemory startReply
+none-doing r h = (refl, inl (λ e. omega (arith, h, ap (λ (x : Reply). x .code) e)))
+
+sound-doing : (n : ℕ) (f : Findings) → OpenDoing (openSound n f)
+unfolding openSound resting startReply
+sound-doing n f =
+    bool-cases (ltb (countTrue (f .free)) (3 + f .run)) (λ q. rw q (none-doing 5 (omega arith)))
+    (λ q. bool-cases (f .violated) (λ a. rw (q, a) (refl, inr (_, refl))) (λ a. rw (q, a) (refl, inl (λ e. omega (arith, ap (λ (x : Reply). x .code) e)))))
+
+checked-doing : (n : ℕ) (found : Option (ℕ × Findings)) → OpenDoing (openChecked n found)
+unfolding openChecked
+checked-doing n none = none-doing 4 (omega arith)
+checked-doing n (some r) = sound-doing n (r .1)
+
+open-doing : (c : List ℕ) → OpenDoing (openOf c)
+unfolding openOf
+open-doing c =
+    bool-cases (eqb (cardRefusal c) 0) (λ q. rw q (checked-doing (nodesOfLength (length c)) (tableCheck c (nodesOfLength (length c)))))
+    (λ q. rw q (none-doing (cardRefusal c) (card-small c)))
+
+module _ (w : World ration-table) (b : Book) (v : Covered w b) where
+  -- a started update is near its end, and its answer is the dictionary's
+  insert-nears : (key value : ℕ) → key < keyLimit → insertOf (w .card) (w .state) key value .begun ≡ Started
+      → (most : ℕ) × Nears (dictionary-answer (lookup key (v .was-kept .held))) most (happens ration-table (insert key value) w) × (isIdle (happens ration-table (insert key value) w .state .doing) ≡ false)
+  unfolding due-after due-after-start begun-result was-happens happens
+  insert-nears key value high e =
+      let q = kept-insert (v .size) (v .steps) (worldly w) (v .was-kept) (v .due) (v .inv) key value high in
+      let f = fed-same (insert key value) w (v .was-kept) (covered-nodes v) (v .flagged) in (
+        q .0,
+        record {
+          book-now = feed (told ration-table (insert key value) w) b;
+          covered = record {
+            size = v .size;
+            steps = q .0;
+            was-kept = was-feed (fed (was-insert key value) (worldly w)) (v .was-kept);
+            due = due-after (was-insert key value) (worldly w) (v .was-kept) (v .due);
+            inv = rw (same-world (insert key value) w) (q .2 .0);
+            same-book = ap (feed (told ration-table (insert key value) w)) (v .same-book) ∙ f .0;
+            flagged = f .1;
+          };
+          soon = omega arith;
+          is-due = rw e;
+        },
+        q .1 .busy e,
+      )
+
+  delete-nears : (key : ℕ) → key < keyLimit → deleteOf (w .card) (w .state) key .begun ≡ Started
+      → (most : ℕ) × Nears (dictionary-answer (lookup key (v .was-kept .held))) most (happens ration-table (delete key) w) × (isIdle (happens ration-table (delete key) w .state .doing) ≡ false)
+  unfolding due-after due-after-start begun-result was-happens happens
+  delete-nears key high e =
+      let q = kept-delete (v .size) (v .steps) (worldly w) (v .was-kept) (v .due) (v .inv) key high in
+      let f = fed-same (delete key) w (v .was-kept) (covered-nodes v) (v .flagged) in (
+        q .0,
+        record {
+          book-now = feed (told ration-table (delete key) w) b;
+          covered = record {
+            size = v .size;
+            steps = q .0;
+            was-kept = was-feed (fed (was-delete key) (worldly w)) (v .was-kept);
+            due = due-after (was-delete key) (worldly w) (v .was-kept) (v .due);
+            inv = rw (same-world (delete key) w) (q .2 .0);
+            same-book = ap (feed (told ration-table (delete key) w)) (v .same-book) ∙ f .0;
+            flagged = f .1;
+          };
+          soon = omega arith;
+          is-due = rw e;
+        },
+        q .1 .busy e,
+      )
+
+  -- what is planned for a started update
+  started-doing : (m : Memory) (doing : Doing) (room : Landing → Bool) (key : ℕ) → startOf (w .card) m key doing room .begun ≡ Started → startOf (w .card) m key doing room .memory .doing ≡ doing
+  unfolding startOf startChecked startLanded startRefused startedWith
+  started-doing m doing room key e =
+      bool-cases (eqb (nodesOfLength (length (w .card))) 0) (λ q. absurd (never 1 (rw q at e))) (λ q.
+      bool-cases (eqb (nodesOfLength (length (w .card))) (m .nodes)) (λ q₁.
+      bool-cases (eqb (headerRefusal (w .card) (m .nodes)) 0) (λ q₂.
+      bool-cases (isIdle (m .doing)) (λ q₃.
+      bool-cases (eqb key 0) (λ q₄. absurd (never 6 (rw (q, q₁, q₂, q₃, q₄) at e))) (λ q₄. rw (q, q₁, q₂, q₃, q₄) (at (landing (w .card) (m .nodes) key) (rw (q, q₁, q₂, q₃, q₄) at e))))
+      (λ q₃. absurd (never 7 (rw (q, q₁, q₂, q₃) at e))))
+      (λ q₂. absurd (never (headerRefusal (w .card) (m .nodes)) (rw (q, q₁, q₂) at e))))
+      (λ q₁. absurd (never 1 (rw (q, q₁) at e))))
+    where
+      never : (r : ℕ) → _≡_ {A = Beginning} (BegunRefused r) Started → ⊥
+      never r y = let z : _≡_ {A = ℕ} 0 1 = cc in omega arith
+
+      at : (l : Landing) → startLanded m doing (room l) l .begun ≡ Started → startLanded m doing (room l) l .memory .doing ≡ doing
+      at NoLanding y = absurd (never 9 y)
+      at (LandingAt node link run) y = bool-cases (room (LandingAt node link run)) (λ k. rw k) (λ k. absurd (never 8 (rw k at y)))
+
+  -- an update's first change leaves it begun
+  insert-begun : (key value : ℕ) (free : List Bool) (last m link : ℕ) (words : List ℕ) (r : Reason) → insertChange key value free last m link words r .doing ≡ Inserting key value true
+  unfolding insertChange
+  insert-begun key value free last m link words (held a) = refl
+  insert-begun key value free last m link words (slot i) = refl
+  insert-begun key value free last m link words full = refl
+
+  delete-begun : (key : ℕ) (free : List Bool) (last m : ℕ) (words : List ℕ) (s : Slot) → (a : ℕ) × (deleteChange key free last m words s .doing ≡ Deleting key true a)
+  unfolding deleteChange
+  delete-begun key free last m words (At i) = (getD words (12 + i) 0, refl)
+  delete-begun key free last m words NoSlot = (0, refl)
+
+  prepared-insert : (c : List ℕ) (key value : ℕ) (free : List Bool) (last : ℕ) (l : Landing) {ss : List Store} {fewer : List Bool} {now : ℕ} {out : List ℕ} → changeAt c (Inserting key value false) free last l .preparation ≡ prepared ss fewer now out → Begun (changeAt c (Inserting key value false) free last l .doing)
+  unfolding changeAt changeIn noChange
+  prepared-insert c key value free last NoLanding e = let z : _≡_ {A = ℕ} 0 1 = cc in absurd (omega arith)
+  prepared-insert c key value free last (LandingAt m link run) e = subst Begun (sym (insert-begun key value free last m link (nodeAt c m) (insertReason (nodeAt c m) key))) (key, Absent, some (put key value), job-insert)
+
+  prepared-delete : (c : List ℕ) (key : ℕ) (free : List Bool) (last : ℕ) (l : Landing) {ss : List Store} {fewer : List Bool} {now : ℕ} {out : List ℕ} → changeAt c (Deleting key false 0) free last l .preparation ≡ prepared ss fewer now out → Begun (changeAt c (Deleting key false 0) free last l .doing)
+  unfolding changeAt changeIn noChange
+  prepared-delete c key free last NoLanding e = let z : _≡_ {A = ℕ} 0 1 = cc in absurd (omega arith)
+  prepared-delete c key free last (LandingAt m link run) e = let d = delete-begun key free last m (nodeAt c m) (slotOf (nodeAt c m) key) in subst Begun (sym (d .1)) (key, Value (d .0), some (remove key), job-delete)
+
+  pub insert-by-rules : (key value : ℕ) → key < keyLimit → insertOf (w .card) (w .state) key value .begun ≡ Started
+      → Updates ration-table (InsertRule (w .card) key value) (stepReply (dictionary-answer (lookup key (v .was-kept .held)))) (happens ration-table (insert key value) w)
+  unfolding happens insertOf
+  insert-by-rules key value high e =
+      let q = insert-nears key value high e in
+      let u = q .1 .covered in
+      let m = insertOf (w .card) (w .state) key value .memory in
+      let d : m .doing ≡ Inserting key value false = started-doing (w .state) (Inserting key value false) (startRoom (w .card) key (w .state .free)) key e in
+      let n : nodes-on (w .card) ≡ u .size = covered-nodes u ∙ nodes-same (u .size) (u .steps) (worldly (happens ration-table (insert key value) w)) (u .was-kept) (u .due) (u .inv) in
+      first-by-rules (dictionary-answer (lookup key (v .was-kept .held))) (q .0) (happens ration-table (insert key value) w) (q .1) (q .2) (InsertRule (w .card) key value)
+      (changeAt (w .card) (Inserting key value false) (m .free) (m .last) (landing (w .card) (u .size) key))
+      (put-turns key value (u .inv .table) (u .inv .stage) d)
+      (at-final (w .card) (Inserting key value false) (m .free) (m .last) (landing (w .card) (u .size) key))
+      (λ ss fewer now out p. (insert-by-rule (w .card) (u .size) key n value false p, prepared-insert (w .card) key value (m .free) (m .last) (landing (w .card) (u .size) key) p))
+
+  pub delete-by-rules : (key : ℕ) → key < keyLimit → deleteOf (w .card) (w .state) key .begun ≡ Started
+      → Updates ration-table (DeleteRule (w .card) key) (stepReply (dictionary-answer (lookup key (v .was-kept .held)))) (happens ration-table (delete key) w)
+  unfolding happens deleteOf
+  delete-by-rules key high e =
+      let q = delete-nears key high e in
+      let u = q .1 .covered in
+      let m = deleteOf (w .card) (w .state) key .memory in
+      let d : m .doing ≡ Deleting key false 0 = started-doing (w .state) (Deleting key false 0) (λ l. true) key e in
+      let n : nodes-on (w .card) ≡ u .size = covered-nodes u ∙ nodes-same (u .size) (u .steps) (worldly (happens ration-table (delete key) w)) (u .was-kept) (u .due) (u .inv) in
+      first-by-rules (dictionary-answer (lookup key (v .was-kept .held))) (q .0) (happens ration-table (delete key) w) (q .1) (q .2) (DeleteRule (w .card) key)
+      (changeAt (w .card) (Deleting key false 0) (m .free) (m .last) (landing (w .card) (u .size) key))
+      (remove-turns key (u .inv .table) (u .inv .stage) d)
+      (at-final (w .card) (Deleting key false 0) (m .free) (m .last) (landing (w .card) (u .size) key))
+      (λ ss fewer now out p. (delete-by-rule (w .card) (u .size) key n false 0 p, prepared-delete (w .card) key (m .free) (m .last) (landing (w .card) (u .size) key) p))
+
+  -- opening's repair
+  pub opening-by-rules : ration-table .openCard (w .card) .reply ≡ started → Repairs ration-table ready (opened ration-table (w .card))
+  unfolding startReply stepReply hand-of Flagged
+  opening-by-rules e = at (open-doing (w .card))
+    where
+      at : (openOf (w .card) .memory .rest ≡ []) × ((startReply (openOf (w .card) .begun) ≡ started → ⊥) ⊎ ((key : ℕ) × (openOf (w .card) .memory .doing ≡ Repairing key))) → Repairs ration-table ready (opened ration-table (w .card))
+      at (r, inl not) = absurd (not e)
+      at (r, inr (key, d)) =
+          repairs-by-rules Ready (suc repairSteps) repairSteps (opened ration-table (w .card)) (omega arith)
+          (record {
+            book-now = book (v .was-kept .held) empty;
+            covered = record {
+              size = v .size;
+              steps = repairSteps;
+              was-kept = ledger (v .was-kept .held) was-empty;
+              due = none;
+              inv = reopened-inv (v .size) (w .card) (v .inv .tree) (v .was-kept .held) (v .inv .table) (v .inv .openable) (v .inv .same);
+              same-book = refl;
+              flagged = tt;
+            };
+            soon = omega arith;
+            is-due = refl;
+          })
+          r (subst Begun (sym d) (key, Ready, none, job-repair))
