@@ -10,7 +10,7 @@ use lib.ListN.{length, replicate}
 use Rattle.demands.specs.Book.{Book}
 use Rattle.demands.specs.Demand2.{Finishes, Works}
 use Rattle.demands.specs.Events.{Event, World, reply-to, happens, LeftUncut, steps-in, insert, delete, step}
-use Rattle.demands.specs.Refusals.{Rows, ByRows}
+use Rattle.demands.specs.Refusals.{Rows, ByRows, Idle}
 use Rattle.demands.specs.W214.{Levels, Line, storesAt, EndsByDepth, W214}
 use Rattle.demands.proofs.Following.{worldly, same-world}
 use Rattle.demands.proofs.Instance.{ration-table}
@@ -21,6 +21,7 @@ use Rattle.demands.proofs.ReplyLaws.{code-of, begun-started}
 use Rattle.demands.proofs.RowLaws.{Numbers, rows-elim}
 use Rattle.card.specs.Layout.{keyLimit}
 use Rattle.card.specs.Replies.{Reply, refusal, stored, started}
+use Rattle.card.specs.Stores.{Store}
 use Rattle.laws.proofs.Cases.{order}
 use Rattle.promises.proofs.Feeding.{begun-result, dictionary-answer, due-after, due-after-start}
 use Rattle.promises.proofs.Finished.{work-finishes}
@@ -49,7 +50,7 @@ tree-levels c t b h level =
     }
 
 module _ (w : World ration-table) (b : Book) (v : Covered w b) where
-  line : ration-table .is-idle (w .state) ≡ true → Line (w .card) (b .held)
+  line : Idle ration-table (w .state) → Line (w .card) (b .held)
   line idle =
       let r = is-dictionary w b v .rests idle .right in
       let level = r .balanced .well-formed .level in
@@ -106,9 +107,9 @@ final-code (some v) e = omega arith
 
 module _ (w : World ration-table) (b : Book) (v : Covered w b) (key : ℕ) (high : key < keyLimit) where
   -- a call that is started was refused by no row
-  works : (e : Event) (rows : Rows) → Numbers rows → ByRows rows (λ r. reply-to ration-table e w ≡ refusal r) (Works ration-table e key w (b .held))
-      → reply-to ration-table e w ≡ started → Works ration-table e key w (b .held)
-  works e rows n p s = rows-elim rows n (λ r h q. absurd (omega (arith, code-of (sym q ∙ s)))) (λ q. q) p
+  works : (e : Event) (Rule : List ℕ → List ℕ → List Store → Type 0) (rows : Rows) → Numbers rows → ByRows rows (λ r. reply-to ration-table e w ≡ refusal r) (Works ration-table e Rule key w (b .held))
+      → reply-to ration-table e w ≡ started → Works ration-table e Rule key w (b .held)
+  works e Rule rows n p s = rows-elim rows n (λ r h q. absurd (omega (arith, code-of (sym q ∙ s)))) (λ q. q) p
 
   insert-ends : (value : ℕ) → EndsByDepth ration-table (insert key value) key w (b .held)
   unfolding reply-to was-happens due-after due-after-start begun-result insertOf
@@ -117,7 +118,7 @@ module _ (w : World ration-table) (b : Book) (v : Covered w b) (key : ℕ) (high
       begun-started (insertOf (w .card) (w .state) key value .begun)
       (start-small (w .card) (w .state) key (Inserting key value false) (startRoom (w .card) key (w .state .free))) s in
       let q = kept-insert (v .size) (v .steps) (worldly w) (v .was-kept) (v .due) (v .inv) key value high in
-      let f = works (insert key value) _ (omega arith, (omega arith, (omega arith, tt))) (is-dictionary w b v .inserts key value high) s .finishes in
+      let f = works (insert key value) _ _ (omega arith, (omega arith, (omega arith, tt))) (is-dictionary w b v .inserts key value high) s .finishes in
       let next = was-happens (was-insert key value) (worldly w) in
       let g = work-finishes (v .size) (q .0) (storesAt h) next _ _ (q .2 .0) (q .1 .busy e) (omega (arith, q .1 .steps-left e t sound h level)) in
       let due = lookup key (v .was-kept .held) in
@@ -130,7 +131,7 @@ module _ (w : World ration-table) (b : Book) (v : Covered w b) (key : ℕ) (high
   delete-ends t sound h level s =
       let e = begun-started (deleteOf (w .card) (w .state) key .begun) (start-small (w .card) (w .state) key (Deleting key false 0) (λ l. true)) s in
       let q = kept-delete (v .size) (v .steps) (worldly w) (v .was-kept) (v .due) (v .inv) key high in
-      let f = works (delete key) _ (omega arith, (omega arith, tt)) (is-dictionary w b v .deletes key high) s .finishes in
+      let f = works (delete key) _ _ (omega arith, (omega arith, tt)) (is-dictionary w b v .deletes key high) s .finishes in
       let next = was-happens (was-delete key) (worldly w) in
       let g = work-finishes (v .size) (q .0) (storesAt h) next _ _ (q .2 .0) (q .1 .busy e) (omega (arith, q .1 .steps-left e t sound h level)) in
       let due = lookup key (v .was-kept .held) in
@@ -142,7 +143,7 @@ pub w-214 : W214 ration-table
 w-214 =
     record {
       trees = tree-levels;
-      lines = always (λ w b. ration-table .is-idle (w .state) ≡ true → Line (w .card) (b .held)) line;
+      lines = always (λ w b. Idle ration-table (w .state) → Line (w .card) (b .held)) line;
       inserts =
           always (λ w b. (key value : ℕ) → key < keyLimit → EndsByDepth ration-table (insert key value) key w (b .held))
           (λ w b v key value high. insert-ends w b v key high value);

@@ -82,7 +82,7 @@ module _ (c : List ℕ) where
             ⊎-elim (λ z. omega (arith, code-of (z .1))) (λ z. omega (arith, code-of (z .1))) (o .hands);
       }
 
-  of-card : ByRows (open-rows c) (λ r. (ration-table .open-card c .reply ≡ refusal r) × (listCard c ≡ refused r)) ((l : Listing) × (listCard c ≡ listed l) × ListsRight ration-table c l)
+  of-card : ByRows (open-rows c) (λ r. (ration-table .openCard c .reply ≡ refusal r) × (listCard c ≡ refused r)) ((l : Listing) × (listCard c ≡ listed l) × ListsRight ration-table c l)
   of-card =
       rows-map (open-rows c) (omega arith, (omega arith, (omega arith, (omega arith, (omega arith, tt)))))
       (λ r h z. (z .number-given, card-refused c r (begun-refused (openOf c .begun) r h (z .number-given))))

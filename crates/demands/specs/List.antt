@@ -44,7 +44,7 @@ pub record ListsRight (T : Table) (c : List ℕ) (l : Listing) : Type 0 where
 -- `list` of a card's words, and the text that it prints of a dump's bytes
 pub record ListProgram (T : Table) (list : List ℕ → Listed) (text : List ℕ → List ℕ) : Type 0 where
   -- it refuses as opening does, and only then
-  pub cards : (c : List ℕ) → ByRows (open-rows c) (λ r. (T .open-card c .reply ≡ refusal r) × (list c ≡ refused r)) ((l : Listing) × (list c ≡ listed l) × ListsRight T c l)
+  pub cards : (c : List ℕ) → ByRows (open-rows c) (λ r. (T .openCard c .reply ≡ refusal r) × (list c ≡ refused r)) ((l : Listing) × (list c ≡ listed l) × ListsRight T c l)
   -- 11 comes first; "12: lent slice shorter than the result" is never due
   pub dumps : (dump : List ℕ) → ByRows (row 11 (damaged dump ≡ true) end) (λ r. text dump ≡ listText (refused r)) (text dump ≡ listText (list (dumpWords (wordsFor (dumpNodes dump)) dump)))
   -- the dump of a card prints what the card does

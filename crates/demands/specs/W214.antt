@@ -1,6 +1,5 @@
 -- Document 02, W-214, "How many levels for how many rations". On a mark 1 card there is one line.
 use mathlib.Core.Path.{_≡_}
-use mathlib.Core.Bool.{true}
 use mathlib.Core.List.{List}
 use Prim.Native.Nat.{ℕ, _+_, _*_, _^_, _≤_, _<_}
 use lib.ListN.{length}
@@ -12,6 +11,7 @@ use Rattle.tree.specs.Tree.{Tree, leaf}
 use Rattle.tree.specs.WellFormed.{WellFormed, Balanced}
 use Rattle.demands.specs.Table.{Table}
 use Rattle.demands.specs.Events.{Event, World, reply-to, happens, insert, delete}
+use Rattle.demands.specs.Refusals.{Idle}
 use Rattle.demands.specs.Demand2.{dictionary, Finishes}
 use Rattle.demands.specs.Demand3.{Always, BalancedWith}
 
@@ -50,6 +50,6 @@ pub record W214 (T : Table) : Type 0 where
   -- "Show that on every balanced tree .."
   pub trees : (c : List ℕ) (t : Tree) → Balanced c t → (h : ℕ) → Height h t → Levels t h (length (pairs t))
   -- ".. and that on a table as in demand 2 this holds for each line after every finished update and repair": the state is idle then
-  pub lines : Always T (λ w b. T .is-idle (w .state) ≡ true → Line (w .card) (b .held))
+  pub lines : Always T (λ w b. Idle T (w .state) → Line (w .card) (b .held))
   pub inserts : Always T (λ w b. (key value : ℕ) → key < keyLimit → EndsByDepth T (insert key value) key w (b .held))
   pub deletes : Always T (λ w b. (key : ℕ) → key < keyLimit → EndsByDepth T (delete key) key w (b .held))
