@@ -13,14 +13,14 @@ use Rattle.demands.specs.Events.{Event, World, reply-to, happens, run, L
 use Rattle.demands.specs.Demand2.{storeAt, StoresNow, Makes, Between, Repairs, Updates, done, mends as mends-by, no-change, changes}
 use Rattle.demands.specs.Book.{Book, feed, told}
 use Rattle.demands.specs.Refusals.{nodes-on}
-use Rattle.demands.specs.Rules.{Given, marked}
+use Rattle.demands.specs.Rules.{Given, lastGivenOf, marked}
 use Rattle.card.specs.Layout.{keyLimit}
 use Rattle.starting.specs.Starts.{insertOf, deleteOf}
 use Rattle.state.specs.declared.Begun.the-variants.{Started}
 use Rattle.tree.specs.Pairs.{lookup}
-use Rattle.demands.proofs.Instance.{ration-table}
+use Rattle.demands.specs.RationTable.{ration-table}
 use Rattle.demands.proofs.Making.{Nears, nearer, Left, find-same, same-insert, same-delete, run-left, stores-each}
-use Rattle.plans.specs.Planning.{Preparation, withAll, refused, balanced, prepared}
+use Rattle.plans.specs.Planning.{Preparation, lastOf, withAll, refused, balanced, prepared}
 use Rattle.state.specs.Answers.{stepReply}
 use Rattle.state.specs.Memory.{Memory, advanced}
 use Rattle.state.specs.declared.Answer.{Answer}
@@ -73,6 +73,11 @@ unfolding advanced
 advanced-free m [] h = absurd (omega arith)
 advanced-free m (s ∷ ss) h = refl
 
+advanced-last : (m : Memory) (ss : List Store) → advanced m ss .last ≡ m .last
+unfolding advanced
+advanced-last m [] = refl
+advanced-last m (s ∷ ss) = refl
+
 advanced-all : (m : Memory) → advanced m [] .free ≡ withAll (m .cut) (m .free)
 unfolding advanced
 advanced-all m = refl
@@ -122,9 +127,9 @@ module _ (final : Answer) (most : ℕ) (w : World ration-table) (x : Nears final
             let d = drop-all rest (steps-in more) (omega (arith, k, h)) in
             (r .0, omega (arith, r .1, l .1), rw e (subst (λ (y : List Store). Left final m (r .0) y (run ration-table more (happens ration-table step w))) d (r .2)))
 
-    module _ (given out : List ℕ) (taken : Given (w .state .free) (w .state .last) given) (is-free : m .free ≡ marked false given (w .state .free)) (is-cut : m .cut ≡ out) (freed : withAll out (m .free) ≡ marked true out (m .free)) where
+    module _ (given out : List ℕ) (taken : Given (w .state .free) (w .state .last) given) (is-free : m .free ≡ marked false given (w .state .free)) (is-last : m .last ≡ lastGivenOf (w .state .last) given) (is-cut : m .cut ≡ out) (freed : withAll out (m .free) ≡ marked true out (m .free)) where
       pub change-made : Makes ration-table w given out (s ∷ rest)
-      change-made = record { taken = taken; each = each; free-within = within; free-after = after }
+      change-made = record { taken = taken; last-taken = last; each = each; free-within = within; free-after = after }
         where
           each : (qs : List Event) → LeftUncut ration-table qs w → steps-in qs < suc (length rest) → StoresNow ration-table (run ration-table qs w) (storeAt (s ∷ rest) (steps-in qs))
           each qs u h = at (first-step w qs u)
@@ -142,6 +147,9 @@ module _ (final : Answer) (most : ℕ) (w : World ration-table) (x : Nears final
               at (inl (z, e)) = absurd (omega (arith, z, p))
               at (inr (more, v, k, e)) = (steps-in more, k, rw e (run-left final m (then-left .0) rest (happens ration-table step w) (then-left .2) more v (omega (arith, k, h)) .2 .is-left))
 
+          last : (qs : List Event) → LeftUncut ration-table qs w → 0 < steps-in qs → steps-in qs ≤ suc (length rest) → run ration-table qs w .state .last ≡ lastGivenOf (w .state .last) given
+          last qs u p h = let a = state-at qs u p h in ap (λ (y : Memory). y .last) (a .2) ∙ advanced-last m (drop (a .0) rest) ∙ is-last
+
           within : (qs : List Event) → LeftUncut ration-table qs w → 0 < steps-in qs → steps-in qs < suc (length rest) → run ration-table qs w .state .free ≡ marked false given (w .state .free)
           within qs u p h =
               let a = state-at qs u p (omega arith) in
@@ -153,6 +161,11 @@ module _ (final : Answer) (most : ℕ) (w : World ration-table) (x : Nears final
               ap (λ (y : Memory). y .free) (a .2 ∙ ap (advanced m) (drop-all rest (a .0) (omega (arith, a .1, h)))) ∙ advanced-all m ∙ ap (λ (y : List ℕ). withAll y (m .free)) is-cut ∙ freed ∙ ap (marked true out) is-free
 
 -- ---- between two changes
+
+last-same : (last : ℕ) (ms : List ℕ) → lastOf last ms ≡ lastGivenOf last ms
+unfolding lastOf
+last-same last [] = refl
+last-same last (m ∷ ms) = last-same m ms
 
 -- the work in hand has had its first change planned: an update that has, or a repair of opening's
 abbrev pub Begun : Doing → Type 0
@@ -240,7 +253,7 @@ repair-next final most w x k (exact, turn) later = at turn
         let r = repair-by-rule (w .card) (v .size) (q .key) (q .planned) in
         let m = memory (v .size) (q .then-free) (q .then-last) (w .state .doing) [] (q .out) in
         mends-by (v .inv .tree) between (r .rule)
-        (change-made final most w x m (q .first) (q .rest) (q .first-made) (r .given) (q .out) (r .in-turn) (r .left) refl (cut-marked (q .out) (q .then-free) (r .cut-nodes)))
+        (change-made final most w x m (q .first) (q .rest) (q .first-made) (r .given) (q .out) (r .in-turn) (r .left) (r .given-last ∙ last-same (w .state .last) (r .given)) refl (cut-marked (q .out) (q .then-free) (r .cut-nodes)))
         (λ qs u n. let l = all-left final most w x m (q .first) (q .rest) (q .first-made) qs u n in
         later (l .0) (run ration-table qs w) (l .1) (l .2 .nears) (ap (λ (y : Memory). y .rest) (l .2 .is-left) ∙ advanced-none m) (subst Begun (sym (ap (λ (y : Memory). y .doing) (l .2 .is-left) ∙ advanced-same m)) k))
 
@@ -295,7 +308,7 @@ module _ (final : Answer) (most : ℕ) (w : World ration-table) (x : Nears final
           inside o =
               let first : stepOf (w .card) (w .state) ≡ record { answer = Stored; card = set (w .card) (s .0) (s .1); memory = advanced (memory (w .state .nodes) fewer now (f .doing) [] out) rest } = e ∙ ap (stepPrepared (w .card) (w .state) (f .doing) (f .final)) q ∙ rw (lt-ltb (s .0) (length (w .card)) o) in
               let r = rule (s ∷ rest) fewer now out q in
-              changes (r .0 .rule) (change-made final most w x m s rest first (r .0 .given) out (r .0 .in-turn) (r .0 .left) refl (cut-marked out fewer (r .0 .cut-nodes)))
+              changes (r .0 .rule) (change-made final most w x m s rest first (r .0 .given) out (r .0 .in-turn) (r .0 .left) (r .0 .given-last ∙ last-same (w .state .last) (r .0 .given)) refl (cut-marked out fewer (r .0 .cut-nodes)))
               (λ qs u n. let l = all-left final most w x m s rest first qs u n in
               repairs-by-rules final (suc (l .0)) (l .0) (run ration-table qs w) (omega arith) (l .2 .nears) (ap (λ (y : Memory). y .rest) (l .2 .is-left) ∙ advanced-none m) (subst Begun (sym (ap (λ (y : Memory). y .doing) (l .2 .is-left) ∙ advanced-same m)) (r .1)))
 

@@ -13,7 +13,7 @@ use Rattle.demands.specs.Events.{Event, World, reply-to, happens, LeftUn
 use Rattle.demands.specs.Refusals.{Rows, ByRows, Idle}
 use Rattle.demands.specs.W214.{Levels, Line, storesAt, EndsByDepth, W214}
 use Rattle.demands.proofs.Following.{worldly, same-world}
-use Rattle.demands.proofs.Instance.{ration-table}
+use Rattle.demands.specs.RationTable.{ration-table}
 use Rattle.demands.proofs.Keeps2.{is-dictionary}
 use Rattle.demands.proofs.Keeps3.{Covered, always, was-list, run-same, quiet-same, steps-same}
 use Rattle.demands.proofs.Numbers.{start-small}

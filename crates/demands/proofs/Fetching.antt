@@ -10,7 +10,7 @@ use borrow.Author.Tests.{eq-eqb, ne-eqb}
 use Rattle.demands.specs.Demand1.{Finds}
 use Rattle.demands.specs.Refusals.{ByRows, find-rows}
 use Rattle.demands.specs.W213.{recordRows, NoRecord, IsRecord, AtOffset, ByFind, W213}
-use Rattle.demands.proofs.Instance.{ration-table}
+use Rattle.demands.specs.RationTable.{ration-table}
 use Rattle.demands.proofs.Keeps1.{finds}
 use Rattle.demands.proofs.Numbers.{find-small}
 use Rattle.demands.proofs.ReplyLaws.{code-of, found-refused, found-absent, found-value}

@@ -13,7 +13,7 @@ use Rattle.promises.proofs.Ledger.{Update as WasUpdate, Hand as WasHand, Ledger
 use Rattle.promises.proofs.Feeding.{begun-result, step-result, is-none, full-at as was-full-at, leaf-full as was-leaf-full, fed}
 use Rattle.demands.specs.Events.{Event, World, reply-to, happens, run, find, insert, delete, step, cut}
 use Rattle.demands.specs.Book.{Update, Hand, Book, book, added, taken-out, entered, started, stepped, feed, outcome, told, put, remove, refused, final, goes-on, empty, holding}
-use Rattle.demands.proofs.Instance.{ration-table}
+use Rattle.demands.specs.RationTable.{ration-table}
 use Rattle.demands.specs.Refusals.{nodes-on, full-at, leaf-full}
 use Rattle.demands.proofs.KeepsStarts.{leads-is, slot-is}
 use Rattle.demands.proofs.Numbers.{SmallBegun, SmallAnswer, start-small, step-small}

@@ -14,7 +14,7 @@ use Rattle.card.specs.Stores.{Store}
 use Rattle.demands.specs.Demand2.{StoresNow, freshWord, formatStore, formatBegun, Formats}
 use Rattle.demands.specs.Events.{Event, World, reply-to, happens, run, LeftUncut, steps-in, find, insert, delete, step, cut}
 use Rattle.demands.specs.Refusals.{NoCard, nodes-on}
-use Rattle.demands.proofs.Instance.{ration-table}
+use Rattle.demands.specs.RationTable.{ration-table}
 use Rattle.demands.proofs.Making.{find-same, same-insert, same-delete}
 use Rattle.demands.proofs.Rowing.{sized?, no-nodes}
 use Rattle.formatting_theory.proofs.FormatSteps.{formatMemory, format-starts, format-refused, format-step-stores, format-step-ready}
@@ -25,6 +25,7 @@ use Rattle.laws.proofs.Cases.{bool-cases, order}
 use Rattle.opening.specs.Opening.{openOf}
 use Rattle.starting.specs.Starts.{formatOf}
 use Rattle.state.specs.Answers.{stepReply, startReply}
+use Rattle.state.specs.Memory.{resting}
 use Rattle.state.specs.Steps.{formattedWord, formatStore as formatStoreOf, noBeginning, Handed}
 use Rattle.state.specs.declared.Answer.the-variants.{Stored, Ready}
 use Rattle.table.specs.Calls.{stepOf}
@@ -79,11 +80,12 @@ module _ (c : List ℕ) (s : Sized (length c) (nodes-on c)) where
       }
 
   pub formats-sized : Formats ration-table c
-  unfolding reply-to stepReply noBeginning startReply
+  unfolding reply-to happens stepReply noBeginning startReply resting
   formats-sized =
       record {
         each = λ qs u h. rw (runs-to qs u (omega arith)) (stores-now (steps-in qs) h);
         then-ready = λ qs u h. rw (runs-to qs u (omega arith), h, format-step-ready c (nodes-on c) s);
+        search-first = λ qs u h. rw (runs-to qs u (omega arith), h, format-step-ready c (nodes-on c) s);
         cut-refused = λ qs u low h. rw (runs-to qs u (omega arith), cut-refused c (nodes-on c) (steps-in qs) s low h);
       }
 

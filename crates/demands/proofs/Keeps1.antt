@@ -12,10 +12,9 @@ use borrow.Author.Tests.{ne-eqb, lt-ltb}
 use Rattle.card.specs.Header.{nodesOfLength, cardRefusal, Sized, Formatted}
 use Rattle.card.specs.Layout.{depthLimit, rootPlace, nodeAt}
 use Rattle.card.specs.Replies.{Reply, refusal}
-use Rattle.demands.specs.Demand1.{Finds, HandsNone, Starts, OpensTo}
-use Rattle.demands.specs.Table.{formatting}
+use Rattle.demands.specs.Demand1.{Finds, HandsNone, StartsFormat, OpensTo}
 use Rattle.demands.specs.Refusals.{ByRows, nodes-on, NoCard, Unsound, Scarce, leads-to, find-rows, format-rows, open-rows, end, row}
-use Rattle.demands.proofs.Instance.{workOf, handed, ration-table}
+use Rattle.demands.specs.RationTable.{workOf, handed, ration-table}
 use Rattle.demands.proofs.Rowing.{sized?, no-nodes, by-card, card-one}
 use Rattle.demands.proofs.Ways.{arrived, leaf-of, leaf-way}
 use Rattle.descent.specs.Descent.{slotOf, leafFor}
@@ -32,7 +31,7 @@ use Rattle.lookup.specs.Find.{foundIn, foundAt, findOf}
 use Rattle.lookup.proofs.FindLaws.{find-refused, find-no-key, find-key}
 use Rattle.opening.specs.Opening.{openSound, openChecked, openOf}
 use Rattle.promises.proofs.OpenRefusals.{refuses-unsound, refuses-few}
-use Rattle.promises.proofs.Reopen.{length-accepted, card-accepted, open-sound, open-repair, open-idle}
+use Rattle.promises.proofs.Reopen.{length-accepted, card-accepted, open-sound, open-repair, open-idle, facts-exact}
 use Rattle.soundness.specs.Check.{Findings, tableCheck}
 use Rattle.soundness_theory.proofs.Facts.{Facts}
 use Rattle.soundness_theory.proofs.Soundness.{accepts-sound}
@@ -95,17 +94,17 @@ none-handed : (r : ℕ) → HandsNone ration-table (handed (noBeginning r)) r
 unfolding noBeginning noMemory workOf startReply
 none-handed r = record { number-given = refl; idle-state = refl; no-nodes = refl }
 
-format-begun : (n : ℕ) → Starts ration-table (handed (record { begun = Started; memory = formatMemory n 0 })) n formatting
+format-begun : (c : List ℕ) → StartsFormat ration-table c (handed (record { begun = Started; memory = formatMemory (nodes-on c) 0 }))
 unfolding resting workOf startReply
-format-begun n = record { reply-given = refl; in-progress = refl; nodes-kept = refl }
+format-begun c = record { reply-given = refl; in-progress = refl; nodes-noted = refl }
 
-pub formats : (c : List ℕ) → ByRows (format-rows c) (HandsNone ration-table (ration-table .format c)) (Starts ration-table (ration-table .format c) (nodes-on c) formatting)
+pub formats : (c : List ℕ) → ByRows (format-rows c) (HandsNone ration-table (ration-table .format c)) (StartsFormat ration-table c (ration-table .format c))
 unfolding ByRows
 formats c = go (sized? (length c) (nodes-on c))
   where
-    go : Dec (Sized (length c) (nodes-on c)) → (NoCard c (nodes-on c) × HandsNone ration-table (handed (formatOf c)) 1) ⊎ ((NoCard c (nodes-on c) → ⊥) × Starts ration-table (handed (formatOf c)) (nodes-on c) formatting)
+    go : Dec (Sized (length c) (nodes-on c)) → (NoCard c (nodes-on c) × HandsNone ration-table (handed (formatOf c)) 1) ⊎ ((NoCard c (nodes-on c) → ⊥) × StartsFormat ration-table c (handed (formatOf c)))
     go (no p) = inl (p, rw (format-refused c (no-nodes c p)) (none-handed 1))
-    go (yes s) = inr (λ p. p s, rw (format-starts c (nodes-on c) s) (format-begun (nodes-on c)))
+    go (yes s) = inr (λ p. p s, rw (format-starts c (nodes-on c) s) (format-begun c))
 
 -- ---- opening
 
@@ -156,7 +155,7 @@ opens c =
                     let code : startReply (openOf c .begun) .code ≡ 69 = rw is in
                     inr (
                       λ p. omega (arith, code, ap (λ (x : Reply). x .code) (refuses-few c (nodes-on c) s k .1 p)),
-                      record { table = t .0; sound = t .1; hands = inr (omega (arith, t .2 .violated, bit-true (f .violated) q), rw is, rw is); nodes-noted = rw is },
+                      record { table = t .0; sound = t .1; hands = inr (omega (arith, t .2 .violated, bit-true (f .violated) q), rw is, rw is); nodes-noted = rw is; free-noted = rw is (facts-exact (t .2)); search-first = rw is },
                     )
 
                 whole : f .violated ≡ false → (Scarce c × HandsNone ration-table (handed (openOf c)) 5) ⊎ ((Scarce c → ⊥) × OpensTo ration-table c (handed (openOf c)))
@@ -165,5 +164,5 @@ opens c =
                     let code : startReply (openOf c .begun) .code ≡ 68 = rw is in
                     inr (
                       λ p. omega (arith, code, ap (λ (x : Reply). x .code) (refuses-few c (nodes-on c) s k .1 p)),
-                      record { table = t .0; sound = t .1; hands = inl (omega (arith, t .2 .violated, bit-false (f .violated) q), rw is, rw is); nodes-noted = rw is },
+                      record { table = t .0; sound = t .1; hands = inl (omega (arith, t .2 .violated, bit-false (f .violated) q), rw is, rw is); nodes-noted = rw is; free-noted = rw is (facts-exact (t .2)); search-first = rw is },
                     )

@@ -13,17 +13,19 @@ use Rattle.promises.proofs.Feeding.{begun-result, due-after, dictionary-answer,
 use Rattle.promises.proofs.Invariant.{Inv}
 use Rattle.demands.specs.Events.{Event, World, reply-to, happens, run, LeftUncut, steps-in, insert, delete, step, from-format, from-open}
 use Rattle.demands.specs.Book.{Book}
-use Rattle.demands.proofs.Instance.{workOf, work-idle, idle-work, busy-work, ration-table}
+use Rattle.demands.specs.RationTable.{workOf, ration-table}
+use Rattle.demands.proofs.Work.{work-idle, idle-work, busy-work}
 use Rattle.card.specs.Layout.{keyLimit}
 use Rattle.card.specs.Replies.{Reply, refusal}
 use Rattle.demands.specs.Demand1.{HandsBack, Starts, Refuses}
-use Rattle.demands.specs.Demand2.{dictionary, update-stores, Finishes, Updates, Rests, Works, Dictionary, Demand2}
+use Rattle.demands.specs.Worked.{dictionary}
+use Rattle.demands.specs.Demand2.{update-stores, Finishes, Updates, Rests, Works, Dictionary, Demand2}
 use Rattle.demands.specs.Table.{Work, noWork, formatting, inserting, deleting}
 use Rattle.demands.specs.Refusals.{Rows, ByRows, Idle as Resting, Busy, leads-to, NoRoom, on-card, row, end}
 use Rattle.demands.specs.Rules.{InsertRule, DeleteRule}
 use Rattle.demands.proofs.Following.{worldly, same-world}
 use Rattle.demands.proofs.Keeps1.{none-some}
-use Rattle.demands.proofs.Keeps3.{Covered, always, was-list, run-same, quiet-same, steps-same, rests-right}
+use Rattle.demands.proofs.Keeps3.{dictionary-same, Covered, always, was-list, run-same, quiet-same, steps-same, rests-right}
 use Rattle.demands.proofs.KeepsStarts.{leads-is}
 use Rattle.demands.proofs.KeepsSteps.{demand-1}
 use Rattle.demands.proofs.Numbers.{SmallBegun, start-small}
@@ -49,11 +51,6 @@ use Rattle.state.specs.declared.Doing.the-variants.{Idle, Formatting, Inserting
 use Rattle.table.specs.Calls.{stepOf}
 use Rattle.tree.specs.Pairs.{pairs, lookup}
 use Rattle.updates.specs.Updates.{startRoom}
-
-dictionary-same : (o : Option ℕ) → stepReply (dictionary-answer o) ≡ dictionary o
-unfolding stepReply dictionary-answer dictionary
-dictionary-same none = refl
-dictionary-same (some v) = refl
 
 idle-doing : (d : Doing) → isIdle d ≡ true → d ≡ Idle
 unfolding isIdle
@@ -202,7 +199,7 @@ module _ (w : World ration-table) (b : Book) (v : Covered w b) where
   due-same : (key : ℕ) → stepReply (dictionary-answer (lookup key (v .was-kept .held))) ≡ dictionary (lookup key (b .held))
   due-same key = dictionary-same (lookup key (v .was-kept .held)) ∙ ap (λ (x : List (ℕ × ℕ)). dictionary (lookup key x)) (sym same-held)
 
-  insert-works : (key value : ℕ) → key < keyLimit → Starts ration-table (ration-table .insert (w .card) (w .state) key value) (w .state .nodes) (inserting key value) → Works ration-table (insert key value) (InsertRule (w .card) key value) key w (b .held)
+  insert-works : (key value : ℕ) → key < keyLimit → Starts ration-table (w .state) (ration-table .insert (w .card) (w .state) key value) (inserting key value) → Works ration-table (insert key value) (InsertRule (w .card) key value) key w (b .held)
   unfolding reply-to insertOf startReply
   insert-works key value high s =
       let e = begun-started (insertOf (w .card) (w .state) key value .begun) (start-small (w .card) (w .state) key (Inserting key value false) (startRoom (w .card) key (w .state .free))) (s .reply-given) in
@@ -212,7 +209,7 @@ module _ (w : World ration-table) (b : Book) (v : Covered w b) where
         finishes = finishes-same update-stores (dictionary (lookup key (b .held))) (happens ration-table (insert key value) w) (rw (same-world (insert key value) w, ← due-same key) (insert-finishes key value high e));
       }
 
-  delete-works : (key : ℕ) → key < keyLimit → Starts ration-table (ration-table .delete (w .card) (w .state) key) (w .state .nodes) (deleting key) → Works ration-table (delete key) (DeleteRule (w .card) key) key w (b .held)
+  delete-works : (key : ℕ) → key < keyLimit → Starts ration-table (w .state) (ration-table .delete (w .card) (w .state) key) (deleting key) → Works ration-table (delete key) (DeleteRule (w .card) key) key w (b .held)
   unfolding reply-to deleteOf startReply
   delete-works key high s =
       let e = begun-started (deleteOf (w .card) (w .state) key .begun) (start-small (w .card) (w .state) key (Deleting key false 0) (λ l. true)) (s .reply-given) in
@@ -227,10 +224,10 @@ module _ (w : World ration-table) (b : Book) (v : Covered w b) where
   unfolding ByRows reply-to
   inserts-right key value high =
       go (past-card (row 7 (Busy ration-table (w .state)) (row 6 (key ≡ 0) (row 9 (leads-to (w .card) key ≡ none) (row 8 (NoRoom (w .card) (w .state .free) key) end)))) (HandsBack ration-table (w .state) (ration-table .insert (w .card) (w .state) key value))
-      (Starts ration-table (ration-table .insert (w .card) (w .state) key value) (w .state .nodes) (inserting key value)) (w .card) (w .state .nodes) sized header (demand-1 .inserts (w .card) (w .state) key value))
+      (Starts ration-table (w .state) (ration-table .insert (w .card) (w .state) key value) (inserting key value)) (w .card) (w .state .nodes) sized header (demand-1 .inserts (w .card) (w .state) key value))
     where
       go : ByRows (row 7 (Busy ration-table (w .state)) (row 6 (key ≡ 0) (row 9 (leads-to (w .card) key ≡ none) (row 8 (NoRoom (w .card) (w .state .free) key) end)))) (HandsBack ration-table (w .state) (ration-table .insert (w .card) (w .state) key value))
-          (Starts ration-table (ration-table .insert (w .card) (w .state) key value) (w .state .nodes) (inserting key value))
+          (Starts ration-table (w .state) (ration-table .insert (w .card) (w .state) key value) (inserting key value))
           → ByRows (row 7 (Busy ration-table (w .state)) (row 6 (key ≡ 0) (row 8 (NoRoom (w .card) (w .state .free) key) end))) (λ r. reply-to ration-table (insert key value) w ≡ refusal r) (Works ration-table (insert key value) (InsertRule (w .card) key value) key w (b .held))
       go (inl (p, h)) = inl (p, h .number-given)
       go (inr (a, inl (p, h))) = inr (a, inl (p, h .number-given))
@@ -242,9 +239,9 @@ module _ (w : World ration-table) (b : Book) (v : Covered w b) where
   unfolding ByRows reply-to
   deletes-right key high =
       go (past-card (row 7 (Busy ration-table (w .state)) (row 6 (key ≡ 0) (row 9 (leads-to (w .card) key ≡ none) end))) (HandsBack ration-table (w .state) (ration-table .delete (w .card) (w .state) key))
-      (Starts ration-table (ration-table .delete (w .card) (w .state) key) (w .state .nodes) (deleting key)) (w .card) (w .state .nodes) sized header (demand-1 .deletes (w .card) (w .state) key))
+      (Starts ration-table (w .state) (ration-table .delete (w .card) (w .state) key) (deleting key)) (w .card) (w .state .nodes) sized header (demand-1 .deletes (w .card) (w .state) key))
     where
-      go : ByRows (row 7 (Busy ration-table (w .state)) (row 6 (key ≡ 0) (row 9 (leads-to (w .card) key ≡ none) end))) (HandsBack ration-table (w .state) (ration-table .delete (w .card) (w .state) key)) (Starts ration-table (ration-table .delete (w .card) (w .state) key) (w .state .nodes) (deleting key))
+      go : ByRows (row 7 (Busy ration-table (w .state)) (row 6 (key ≡ 0) (row 9 (leads-to (w .card) key ≡ none) end))) (HandsBack ration-table (w .state) (ration-table .delete (w .card) (w .state) key)) (Starts ration-table (w .state) (ration-table .delete (w .card) (w .state) key) (deleting key))
           → ByRows (row 7 (Busy ration-table (w .state)) (row 6 (key ≡ 0) end)) (λ r. reply-to ration-table (delete key) w ≡ refusal r) (Works ration-table (delete key) (DeleteRule (w .card) key) key w (b .held))
       go (inl (p, h)) = inl (p, h .number-given)
       go (inr (a, inl (p, h))) = inr (a, inl (p, h .number-given))

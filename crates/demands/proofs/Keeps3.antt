@@ -11,13 +11,14 @@ use lib.Dec.{eqb, ltb}
 use Rattle.card.specs.Header.{nodesOfLength, cardRefusal}
 use Rattle.promises.proofs.Machine.{Event as Was, World as Worldly, opened as was-opened, happens as was-happens, run as was-run, find as was-find, insert as was-insert, delete as was-delete, step as was-step, crash as was-crash}
 use Rattle.promises.proofs.Ledger.{Result, Ledger, ledger, fed-a-step, feed as was-feed, was-refused, was-final, goes-on as was-goes-on, empty as was-empty}
-use Rattle.promises.proofs.Feeding.{step-result, fed, kept-ledger, due-after, due-after-step, kept-due}
+use Rattle.promises.proofs.Feeding.{dictionary-answer, step-result, fed, kept-ledger, due-after, due-after-step, kept-due}
 use Rattle.promises.proofs.Invariant.{Inv}
 use Rattle.demands.specs.Events.{Event, World, opened, reply-to, happens, run, Words, LeftUncut, steps-in, SaysReady, FormatsTo, Opens, Begins, find, insert, delete, step, cut, ready-now, stored-first, found-first, refused-insert, refused-delete, from-format, from-open}
 use Rattle.demands.specs.Book.{Book, book, feed, told, kept, empty}
-use Rattle.demands.proofs.Instance.{ration-table}
+use Rattle.demands.specs.RationTable.{ration-table}
 use Rattle.card.specs.Replies.{Reply, ready, idle}
-use Rattle.demands.specs.Demand3.{Always, BalancedWith, repair-steps, Ended, Survives, Demand3}
+use Rattle.demands.specs.Worked.{dictionary, Always, BalancedWith}
+use Rattle.demands.specs.Demand3.{repair-steps, Ended, Survives, Demand3}
 use Rattle.demands.specs.Refusals.{nodes-on}
 use Rattle.demands.proofs.Following.{was, worldly, same-world, hand-of, book-of, Flagged, fed-same}
 use Rattle.demands.proofs.Numbers.{SmallBegun, open-small, step-small, is-ready, is-stored, is-refused}
@@ -30,7 +31,12 @@ use Rattle.promises.proofs.Finishing.{Rests}
 use Rattle.promises.proofs.PowerLoss.{loosen, reopened-inv, kept as inv-kept, begins-inv, power-loss, find-same, insert-same, delete-same, idle-not-busy}
 use Rattle.promises.proofs.Promise.{Accepted, ToReady, Begins as WasBegins, Words as WasWords, Quiet, steps-in as was-steps-in, Says-ready, ready-now as was-ready-now, stored-first as was-stored-first, from-format as was-from-format, from-open as was-from-open}
 use Rattle.promises.proofs.Reopen.{table-well-formed, reopened}
-use Rattle.promises.proofs.Starting.{nodes-same}
+use Rattle.promises.proofs.Starting.{nodes-same, same-lookup}
+use Rattle.promises.proofs.Accepting.{find-answers}
+use Rattle.lookup.specs.Answers.{foundReply}
+use Rattle.lookup.specs.Find.{findOf}
+use Rattle.card.specs.Layout.{keyLimit}
+use Rattle.tree.specs.Pairs.{pairs, lookup}
 use Rattle.promises.proofs.Steps.{idle-world}
 use Rattle.promises.proofs.Stepping.{Moves, kept-step, was-idle, ends-now, goes-further}
 use Rattle.soundness.specs.Check.{Findings, tableCheck}
@@ -45,6 +51,11 @@ use Rattle.state.specs.declared.Begun.the-variants.{Idle as OpenedIdle, Started
 use Rattle.state.specs.declared.Doing.{Doing}
 use Rattle.state.specs.declared.Doing.the-variants.{Idle}
 use Rattle.table.specs.Calls.{stepOf, repairSteps}
+
+pub dictionary-same : (o : Option ℕ) → stepReply (dictionary-answer o) ≡ dictionary o
+unfolding stepReply dictionary-answer dictionary
+dictionary-same none = refl
+dictionary-same (some v) = refl
 
 -- the invariant of `promises`, with the book beside it
 pub record Covered (w : World ration-table) (b : Book) : Type 0 where
@@ -235,6 +246,19 @@ module _ (n k : ℕ) (l : List (ℕ × ℕ)) where
       let q = kept-step n k w (ledger l was-empty) none (loosen n k (suc k) w (ledger l was-empty) none (omega arith) i) in
       (rw (empty-fed (step-result (stepOf (w .card) (w .memory) .answer)) l, none-due (step-result (stepOf (w .card) (w .memory) .answer))) at (q .0 .0), q .2)
 
+  -- a run without a cut keeps it
+  run-held : (qs : List Was) (w : Worldly) → Quiet qs w → Held w → Held (was-run qs w)
+  unfolding Quiet was-run
+  run-held [] w u i = i
+  run-held (was-find key ∷ qs) w u i = run-held qs (was-happens (was-find key) w) (rw (find-same key w) u) (rw (find-same key w) i)
+  run-held (was-insert key value ∷ qs) w u i = run-held qs (was-happens (was-insert key value) w) (u .1) (rw (insert-same key value w (u .0 .0) (u .0 .1)) i)
+  run-held (was-delete key ∷ qs) w u i = run-held qs (was-happens (was-delete key) w) (u .1) (rw (delete-same key w (u .0 .0) (u .0 .1)) i)
+  run-held (was-step ∷ qs) w u i = run-held qs (was-happens was-step w) u (step-held w i .0)
+  run-held (was-crash ∷ qs) w u i = absurd u
+
+  held-finds : (w : Worldly) → Held w → (key : ℕ) → 0 < key → key < keyLimit → foundReply (findOf (w .card) key) ≡ dictionary (lookup key l)
+  held-finds w i key low high = find-answers (w .card) n (i .tree) key (i .table) low high ∙ dictionary-same (lookup key (pairs (i .tree))) ∙ ap dictionary (same-lookup i key)
+
   ready-idle : (w : Worldly) → Moves (w .card) (w .memory) (stepOf (w .card) (w .memory)) → stepReply (stepOf (w .card) (w .memory) .answer) ≡ ready → was-happens was-step w .memory .doing ≡ Idle
   unfolding was-happens
   ready-idle w (was-idle e) r = ap (λ (x : Worldly). x .memory .doing) (idle-world w e) ∙ e
@@ -304,6 +328,12 @@ module _ (w : World ration-table) (b : Book) (v : Covered w b) where
       let r = rests-right (inv-rests (v .size) repairSteps (was-run (was-list qs) (was-opened (w .card))) (ledger (v .was-kept .held) was-empty) none (q .0) (q .1)) in
       rw (v .same-book, ap (λ (x : Worldly). x .card) (run-same qs (opened ration-table (w .card)))) r
 
+  repair-finds : (qs : List Event) → LeftUncut ration-table qs (opened ration-table (w .card)) → (key : ℕ) → 0 < key → key < keyLimit → ration-table .find (run ration-table qs (opened ration-table (w .card)) .card) key ≡ dictionary (lookup key (b .held))
+  repair-finds qs u key low high =
+      let i = reopened-inv (v .size) (w .card) (v .inv .tree) (v .was-kept .held) (v .inv .table) (v .inv .openable) (v .inv .same) in
+      let q = run-held (v .size) repairSteps (v .was-kept .held) (was-list qs) (was-opened (w .card)) (quiet-same qs (opened ration-table (w .card)) u) i in
+      rw (v .same-book, ap (λ (x : Worldly). x .card) (run-same qs (opened ration-table (w .card)))) (held-finds (v .size) repairSteps (v .was-kept .held) (was-run (was-list qs) (was-opened (w .card))) q key low high)
+
 -- DEMAND 3 of the ration table
 pub demand-3 : Demand3 ration-table
-demand-3 = always (λ w b. Survives ration-table (w .card) (b .held)) (λ w b v. record { opens = opens-now w b v; ends = repair-ends w b v; right = repair-right w b v })
+demand-3 = always (λ w b. Survives ration-table (w .card) (b .held)) (λ w b v. record { opens = opens-now w b v; ends = repair-ends w b v; right = repair-right w b v; finds = repair-finds w b v })

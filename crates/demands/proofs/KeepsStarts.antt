@@ -17,7 +17,8 @@ use Rattle.card.specs.Replies.{absent}
 use Rattle.demands.specs.Demand1.{HandsBack, Starts}
 use Rattle.demands.specs.Table.{inserting, deleting}
 use Rattle.demands.specs.Refusals.{Rows, ByRows, Busy, nodes-on, NoCard, leads-to, among, NoRoom, start-rows, insert-rows, delete-rows, end, row}
-use Rattle.demands.proofs.Instance.{true-false, workOf, idle-work, busy-work, handed, ration-table}
+use Rattle.demands.specs.RationTable.{workOf, handed, ration-table}
+use Rattle.demands.proofs.Work.{true-false, idle-work, busy-work}
 use Rattle.demands.proofs.Keeps1.{none-some}
 use Rattle.demands.proofs.Rowing.{sized-on, by-card}
 use Rattle.demands.proofs.Ways.{landed, landing-way, is-slot, slot-among}
@@ -46,7 +47,7 @@ unfolding landing
 leads-is c n key e = subst (λ x. landed (landingFor c x key depthLimit rootPlace 0 (getD c rootPlace 0)) ≡ leads-to c key) e (landing-way c key depthLimit rootPlace 0 (getD c rootPlace 0))
 
 module _ (c : List ℕ) (m : Memory) (key : ℕ) (doing : Doing) (room : Landing → Bool) where
-  start-one : NoCard c (m .nodes) → startOf c m key doing room ≡ startRefused 1 m
+  pub start-one : NoCard c (m .nodes) → startOf c m key doing room ≡ startRefused 1 m
   unfolding startOf
   start-one p =
       bool-cases (eqb (nodesOfLength (length c)) 0) (λ q. rw q) (λ q.
@@ -60,13 +61,13 @@ module _ (c : List ℕ) (m : Memory) (key : ℕ) (doing : Doing) (room : Landing
   unfolding startOf
   start-passed s f = rw (sized-nodes (length c) (m .nodes) s, ne-eqb (m .nodes) 0 (λ z. omega (arith, z, s .least)), eq-eqb (m .nodes) (m .nodes) refl, formatted-header c (m .nodes) f)
 
-  refused-back : (r : ℕ) → HandsBack ration-table m (handed (startRefused r m)) r
+  pub refused-back : (r : ℕ) → HandsBack ration-table m (handed (startRefused r m)) r
   unfolding startRefused startReply
   refused-back r = record { number-given = refl; unchanged = refl }
 
-  start-begun : Starts ration-table (handed (started m doing)) (m .nodes) (workOf doing)
+  start-begun : Starts ration-table m (handed (started m doing)) (workOf doing)
   unfolding started startReply
-  start-begun = record { reply-given = refl; in-progress = refl; nodes-kept = refl }
+  start-begun = record { reply-given = refl; in-progress = refl; all-kept = record { nodes-kept = refl; free-kept = refl; last-kept = refl } }
 
   -- the rows of a start, to where the key has led to its leaf
   by-start : (rows : Rows) (works : Type 0)
@@ -96,10 +97,10 @@ module _ (c : List ℕ) (m : Memory) (key : ℕ) (doing : Doing) (room : Landing
           keyed q (yes z) = inl (z, rw (start-passed s f, q, eq-eqb key 0 z) (refused-back 6))
           keyed q (no d) = inr (d, at q d (landing c (m .nodes) key) refl)
 
-pub deletes : (c : List ℕ) (m : Memory) (key : ℕ) → ByRows (delete-rows ration-table c m key) (HandsBack ration-table m (ration-table .delete c m key)) (Starts ration-table (ration-table .delete c m key) (m .nodes) (deleting key))
+pub deletes : (c : List ℕ) (m : Memory) (key : ℕ) → ByRows (delete-rows ration-table c m key) (HandsBack ration-table m (ration-table .delete c m key)) (Starts ration-table m (ration-table .delete c m key) (deleting key))
 unfolding ByRows deleteOf workOf
 deletes c m key =
-    by-start c m key (Deleting key false 0) (λ l. true) end (Starts ration-table (handed (deleteOf c m key)) (m .nodes) (deleting key))
+    by-start c m key (Deleting key false 0) (λ l. true) end (Starts ration-table m (handed (deleteOf c m key)) (deleting key))
     (λ leaf link j to e. rw e (start-begun c m key (Deleting key false 0) (λ l. true)))
 
 -- where a key leads is one place
@@ -137,14 +138,14 @@ room-row c free key leaf link j to = at (slotOf (nodeAt c leaf) key) refl (slotO
         (λ o. inl (record { leaf = leaf; j = j; leads = to; absent = sym (slot-is (nodeAt c leaf) key NoSlot e); full = sym (slot-is (nodeAt c leaf) 0 NoSlot f); few = o }, rw (e, f, lt-ltb (countTrue free) (j + 5) o)))
         (λ o. inr (λ r. omega (arith, r .few, same r .1), rw (e, f, le-ltb (countTrue free) (j + 5) o)))
 
-pub inserts : (c : List ℕ) (m : Memory) (key value : ℕ) → ByRows (insert-rows ration-table c m key) (HandsBack ration-table m (ration-table .insert c m key value)) (Starts ration-table (ration-table .insert c m key value) (m .nodes) (inserting key value))
+pub inserts : (c : List ℕ) (m : Memory) (key value : ℕ) → ByRows (insert-rows ration-table c m key) (HandsBack ration-table m (ration-table .insert c m key value)) (Starts ration-table m (ration-table .insert c m key value) (inserting key value))
 unfolding ByRows insertOf workOf
 inserts c m key value =
-    by-start c m key (Inserting key value false) (startRoom c key (m .free)) (row 8 (NoRoom c (m .free) key) end) (Starts ration-table (handed (insertOf c m key value)) (m .nodes) (inserting key value))
+    by-start c m key (Inserting key value false) (startRoom c key (m .free)) (row 8 (NoRoom c (m .free) key) end) (Starts ration-table m (handed (insertOf c m key value)) (inserting key value))
     (λ leaf link j to e. at leaf link j e (room-row c (m .free) key leaf link j to))
   where
     at : (leaf link j : ℕ) → startOf c m key (Inserting key value false) (startRoom c key (m .free)) ≡ pick (startRoom c key (m .free) (LandingAt leaf link j)) (started m (Inserting key value false)) (startRefused 8 m)
         → (NoRoom c (m .free) key × (startRoom c key (m .free) (LandingAt leaf link j) ≡ false)) ⊎ ((NoRoom c (m .free) key → ⊥) × (startRoom c key (m .free) (LandingAt leaf link j) ≡ true))
-        → (NoRoom c (m .free) key × HandsBack ration-table m (handed (insertOf c m key value)) 8) ⊎ ((NoRoom c (m .free) key → ⊥) × Starts ration-table (handed (insertOf c m key value)) (m .nodes) (inserting key value))
+        → (NoRoom c (m .free) key × HandsBack ration-table m (handed (insertOf c m key value)) 8) ⊎ ((NoRoom c (m .free) key → ⊥) × Starts ration-table m (handed (insertOf c m key value)) (inserting key value))
     at leaf link j e (inl (r, q)) = inl (r, rw (e, q) (refused-back c m key (Inserting key value false) (startRoom c key (m .free)) 8))
     at leaf link j e (inr (r, q)) = inr (r, rw (e, q) (start-begun c m key (Inserting key value false) (startRoom c key (m .free))))

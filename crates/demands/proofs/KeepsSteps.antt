@@ -12,12 +12,13 @@ use Rattle.card.specs.Header.{nodesOfLength, Sized}
 use Rattle.card.proofs.HeaderLaws.{sized-nodes, formatted-header}
 use Rattle.card.specs.Layout.{nodeAt}
 use Rattle.card.specs.Stores.{Store}
-use Rattle.demands.specs.Demand1.{Stores, Answers, Refuses, Demand1}
+use Rattle.demands.specs.Demand1.{HandsBack, Stores, Answers, Refuses, Demand1}
 use Rattle.demands.specs.Table.{formatting, inserting, deleting}
 use Rattle.demands.specs.Refusals.{ByRows, Idle, NoCard, on-card, end, row}
-use Rattle.demands.proofs.Instance.{workOf, idle-work, busy-work, work-formatting, stepped, ration-table}
+use Rattle.demands.specs.RationTable.{workOf, stepped, ration-table}
+use Rattle.demands.proofs.Work.{idle-work, busy-work, work-formatting}
 use Rattle.demands.proofs.Keeps1.{finds, formats, opens}
-use Rattle.demands.proofs.KeepsStarts.{not-sized, inserts, deletes}
+use Rattle.demands.proofs.KeepsStarts.{not-sized, start-one, refused-back, inserts, deletes}
 use Rattle.demands.proofs.Rowing.{sized?, by-card}
 use Rattle.descent.specs.Descent.{slotOf}
 use Rattle.descent.specs.declared.Landing.{Landing}
@@ -33,8 +34,9 @@ use Rattle.state.specs.declared.Answer.{Answer}
 use Rattle.state.specs.declared.Answer.the-variants.{Ready, Absent, Value}
 use Rattle.state.specs.declared.Doing.{Doing}
 use Rattle.state.specs.declared.Doing.the-variants.{Idle as NoDoing, Formatting, Inserting, Deleting, Repairing}
+use Rattle.starting.specs.Starts.{insertOf, deleteOf}
 use Rattle.table.specs.Calls.{planning, stepPrepared, stepBegin, stepPlan, stepWork, stepHeld, stepDoing, stepOf}
-use Rattle.updates.specs.Updates.{Reason, landing, insertReason, insertChange, deleteChange, repairs, noChange, changeIn, changeAt, nextChange, held, slot, full}
+use Rattle.updates.specs.Updates.{Reason, landing, startRoom, insertReason, insertChange, deleteChange, repairs, noChange, changeIn, changeAt, nextChange, held, slot, full}
 
 -- an answer that is final
 abbrev pub Final : Answer → Type 0
@@ -90,9 +92,9 @@ refused-same r c m = record { number-given = refl; same-card = refl; unchanged =
 
 final-idle : (a : Answer) (c : List ℕ) (m : Memory) → Final a → Answers ration-table c m (stepped (stepFinal a c m))
 unfolding stepFinal idled workOf stepReply
-final-idle a c m (inl e) = record { final = inl (ap stepReply e); same-card = refl; idle-then = refl; nodes-kept = refl }
-final-idle a c m (inr (inl (v, e))) = record { final = inr (inl (v, ap stepReply e)); same-card = refl; idle-then = refl; nodes-kept = refl }
-final-idle a c m (inr (inr e)) = record { final = inr (inr (ap stepReply e)); same-card = refl; idle-then = refl; nodes-kept = refl }
+final-idle a c m (inl e) = record { final = inl (ap stepReply e); same-card = refl; idle-then = refl; all-kept = record { nodes-kept = refl; free-kept = refl; last-kept = refl } }
+final-idle a c m (inr (inl (v, e))) = record { final = inr (inl (v, ap stepReply e)); same-card = refl; idle-then = refl; all-kept = record { nodes-kept = refl; free-kept = refl; last-kept = refl } }
+final-idle a c m (inr (inr e)) = record { final = inr (inr (ap stepReply e)); same-card = refl; idle-then = refl; all-kept = record { nodes-kept = refl; free-kept = refl; last-kept = refl } }
 
 -- a store leaves N and what is being done
 advanced-nodes : (m : Memory) (rest : List Store) → advanced m rest .nodes ≡ m .nodes
@@ -213,6 +215,20 @@ module _ (c : List ℕ) (m : Memory) where
       (λ i. inl (idle-work (m .doing) i, rw (step-sized c m s ∙ held-doing c m (m .doing) q, formatted-header c (m .nodes) f, i) (refused-same 10 c m)))
       (λ i. inr (busy-work (m .doing) i, rw (step-sized c m s ∙ held-doing c m (m .doing) q, formatted-header c (m .nodes) f, i) (work-cases c m (m .rest)))))
 
+-- no card has N = 0
+none-sized : (c : List ℕ) (n : ℕ) → n ≡ 0 → NoCard c n
+none-sized c n e s = omega (arith, e, s .least)
+
+none-refused : (c : List ℕ) (m : Memory) → m .nodes ≡ 0 → (key value : ℕ)
+    → HandsBack ration-table m (ration-table .insert c m key value) 1 × HandsBack ration-table m (ration-table .delete c m key) 1 × Refuses ration-table c m (ration-table .step c m) 1
+unfolding insertOf deleteOf
+none-refused c m e key value =
+    let p = none-sized c (m .nodes) e in (
+      rw (start-one c m key (Inserting key value false) (startRoom c key (m .free)) p) (refused-back c m key (Inserting key value false) (startRoom c key (m .free)) 1),
+      rw (start-one c m key (Deleting key false 0) (λ l. true) p) (refused-back c m key (Deleting key false 0) (λ l. true) 1),
+      rw (step-one c m p) (refused-same 1 c m),
+    )
+
 -- DEMAND 1 of the ration table
 pub demand-1 : Demand1 ration-table
-demand-1 = record { finds = finds; formats = formats; opens = opens; inserts = inserts; deletes = deletes; format-steps = formatting-rows; steps = held-rows }
+demand-1 = record { finds = finds; formats = formats; opens = opens; inserts = inserts; deletes = deletes; format-steps = formatting-rows; steps = held-rows; none-refused = none-refused }

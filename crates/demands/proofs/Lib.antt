@@ -1,6 +1,6 @@
 -- The ration table meets the demands.
--- the table itself
-pub mod Instance
+-- the work that a state tells
+pub mod Work
 -- the way down, and the rows 1, 2 and 3
 pub mod Ways
 pub mod Rowing
@@ -42,3 +42,5 @@ pub mod PaddingTest
 pub mod Fetching
 -- W-214, of the ration table
 pub mod Depths
+-- the promises of this table, one line each
+pub mod Demands

@@ -12,7 +12,7 @@ use Rattle.demands.specs.Events.{World, opened, happens, run, step}
 use Rattle.demands.specs.List.{repairedBy, ListsRight, ListProgram}
 use Rattle.demands.specs.Refusals.{ByRows, nodes-on, open-rows, end, row}
 use Rattle.demands.proofs.Following.{worldly, same-world}
-use Rattle.demands.proofs.Instance.{handed, ration-table}
+use Rattle.demands.specs.RationTable.{handed, ration-table}
 use Rattle.demands.proofs.Keeps1.{opens}
 use Rattle.demands.proofs.Numbers.{SmallBegun, open-small}
 use Rattle.demands.proofs.ReplyLaws.{code-of, true-false, begun-refused}

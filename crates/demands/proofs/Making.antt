@@ -14,7 +14,7 @@ use Rattle.demands.specs.Events.{Event, World, reply-to, happens, run, L
 use Rattle.demands.specs.Book.{Book, feed, told}
 use Rattle.demands.specs.Demand2.{storeAt, StoresNow}
 use Rattle.demands.proofs.Following.{worldly, same-world, fed-same}
-use Rattle.demands.proofs.Instance.{ration-table}
+use Rattle.demands.specs.RationTable.{ration-table}
 use Rattle.demands.proofs.Keeps3.{Covered, covered-nodes, refused-insert-same, refused-delete-same}
 use Rattle.promises.proofs.Feeding.{fed, due-after}
 use Rattle.promises.proofs.Finished.{stored-due}

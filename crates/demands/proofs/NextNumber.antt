@@ -9,7 +9,7 @@ use Rattle.demands.specs.Book.{Book}
 use Rattle.demands.specs.Events.{World}
 use Rattle.demands.specs.Refusals.{ByRows, nodes-on, on-card, end}
 use Rattle.demands.specs.W201.{NextCall, AnswersNext, HeldTo, Rises, Walks, Walked, OnAnyCard, W201, ends, goes-on}
-use Rattle.demands.proofs.Instance.{ration-table}
+use Rattle.demands.specs.RationTable.{ration-table}
 use Rattle.demands.proofs.Keeps3.{Covered, always}
 use Rattle.demands.proofs.Rowing.{by-card, card-one}
 use Rattle.card.specs.Header.{cardRefusal}

@@ -19,7 +19,7 @@ use Rattle.demands.specs.Refusals.{nodes-on}
 use Rattle.demands.specs.Rules.{InsertRule, DeleteRule}
 use Rattle.demands.proofs.ByRules.{Begun, repairs-by-rules, first-by-rules, put-turns, remove-turns}
 use Rattle.demands.proofs.Following.{worldly, same-world, hand-of, Flagged, fed-same}
-use Rattle.demands.proofs.Instance.{ration-table}
+use Rattle.demands.specs.RationTable.{ration-table}
 use Rattle.demands.proofs.Keeps3.{Covered, covered-nodes}
 use Rattle.demands.proofs.KeepsSteps.{at-final}
 use Rattle.demands.proofs.Making.{Nears}

@@ -7,12 +7,16 @@ pub mod Refusals
 pub mod Events
 -- the book
 pub mod Book
+-- a table that is worked by these calls alone
+pub mod Worked
 -- the tree's rules: the words of each change
 pub mod Rules
 -- the three demands
 pub mod Demand1
 pub mod Demand2
 pub mod Demand3
+-- the table that is proved to meet them
+pub mod RationTable
 -- document 01, the program `list`
 pub mod List
 -- document 02, the requests that have landed: the next ration number

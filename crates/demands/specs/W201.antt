@@ -12,7 +12,7 @@ use Rattle.tree.specs.Pairs.{pairs, lookup}
 use Rattle.tree.specs.Tree.{Tree}
 use Rattle.tree.specs.WellFormed.{WellFormed}
 use Rattle.demands.specs.Table.{Table}
-use Rattle.demands.specs.Demand3.{Always}
+use Rattle.demands.specs.Worked.{Always}
 use Rattle.demands.specs.Refusals.{ByRows, nodes-on, on-card, end}
 
 -- The call: of a card and a number the reply, and beside it the key of the pair. "It reads the card only": no card comes back.

@@ -12,8 +12,8 @@ use Rattle.tree.specs.WellFormed.{WellFormed, Balanced}
 use Rattle.demands.specs.Table.{Table}
 use Rattle.demands.specs.Events.{Event, World, reply-to, happens, insert, delete}
 use Rattle.demands.specs.Refusals.{Idle}
-use Rattle.demands.specs.Demand2.{dictionary, Finishes}
-use Rattle.demands.specs.Demand3.{Always, BalancedWith}
+use Rattle.demands.specs.Demand2.{Finishes}
+use Rattle.demands.specs.Worked.{dictionary, Always, BalancedWith}
 
 abbrev pub SingleLeaf : Tree → Type 0
 SingleLeaf t = (m : ℕ) × (keys : List ℕ) × (values : List ℕ) × (t ≡ leaf m keys values)
