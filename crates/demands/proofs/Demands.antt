@@ -2,10 +2,27 @@
 use Rattle.demands.specs.Demand1.{Demand1}
 use Rattle.demands.specs.Demand2.{Demand2}
 use Rattle.demands.specs.Demand3.{Demand3}
+use Rattle.demands.specs.List.{ListProgram}
 use Rattle.demands.specs.RationTable.{ration-table}
+use Rattle.demands.specs.W201.{W201}
+use Rattle.demands.specs.W202.{W202}
+use Rattle.demands.specs.W213.{W213}
+use Rattle.demands.specs.W214.{W214}
+use Rattle.demands.proofs.Depths.{w-214 as depths-kept}
+use Rattle.demands.proofs.Fetching.{w-213 as fetching-kept}
 use Rattle.demands.proofs.KeepsSteps.{demand-1 as rows-kept}
 use Rattle.demands.proofs.Keeps2.{demand-2 as dictionary-kept}
 use Rattle.demands.proofs.Keeps3.{demand-3 as book-kept}
+use Rattle.demands.proofs.ListRight.{list-program as list-kept}
+use Rattle.demands.proofs.NextNumber.{w-201 as next-kept}
+use Rattle.demands.proofs.PaddingTest.{w-202 as padding-kept}
+use Rattle.dump.specs.Answers.{dumpReply}
+use Rattle.dump.specs.Dump.{readAnswer}
+use Rattle.dump.specs.Padding.{eightAt}
+use Rattle.listing.specs.Listing.{listCard}
+use Rattle.printing.specs.Text.{dumpText}
+use Rattle.records.specs.Records.{recordOf, fetchOf, fetchReply}
+use Rattle.successor.specs.Successor.{nextOf, nextReply}
 
 pub demand-1 : Demand1 ration-table
 demand-1 = rows-kept
@@ -15,3 +32,18 @@ demand-2 = dictionary-kept
 
 pub demand-3 : Demand3 ration-table
 demand-3 = book-kept
+
+pub list-program : ListProgram ration-table listCard dumpText
+list-program = list-kept
+
+pub w-201 : W201 ration-table (λ c number. nextReply (nextOf c number))
+w-201 = next-kept
+
+pub w-202 : W202 eightAt (λ dump lent. dumpReply (readAnswer dump lent))
+w-202 = padding-kept
+
+pub w-213 : W213 ration-table recordOf (λ c key block. fetchReply (fetchOf c key block))
+w-213 = fetching-kept
+
+pub w-214 : W214 ration-table
+w-214 = depths-kept

@@ -28,5 +28,19 @@ pub mod UpdatesByRules
 pub mod Formatting
 -- DEMAND 2, `demand-2`
 pub mod Keeps2
+-- laws of rows "in order"
+pub mod RowLaws
+-- the number of a reply tells which answer it is
+pub mod ReplyLaws
+-- the program `list`
+pub mod ListRight
+-- W-201, of the call `successor::next_pair`
+pub mod NextNumber
+-- W-202, of the test that `dump` makes
+pub mod PaddingTest
+-- W-213, of the questions that `records` answers
+pub mod Fetching
+-- W-214, of the ration table
+pub mod Depths
 -- the promises of this table, one line each
 pub mod Demands

@@ -3,7 +3,7 @@ use mathlib.Core.Path.{_≡_, ap, sym, _∙_}
 use mathlib.Core.Bool.{false}
 use mathlib.Core.List.{List}
 use mathlib.Core.Logic.{_↔_}
-use Prim.Native.Nat.{ℕ, zero, suc, _+_, _*_, _/_, _≤_, _<_}
+use Prim.Native.Nat.{ℕ, zero, suc, _+_, _-_, _*_, _/_, _%_, _≤_, _<_}
 use native.Mathlib.Omega.{arith}
 use lib.ListN.{length, getD, drop}
 use lib.Seq.{getD-drop}
@@ -11,7 +11,7 @@ use Rattle.laws.proofs.Cases.{bool-cases}
 use Rattle.laws.specs.Lists.{all-zero}
 use Rattle.laws.proofs.Lists.{getD-all-zero}
 use Rattle.dump.proofs.ByteLaws.{zero-here}
-use Rattle.dump.specs.Dump.{wordsFor}
+use Rattle.dump.specs.Dump.{paddedLength, wordsFor}
 use Rattle.dump.specs.Padding.{eightAt}
 
 -- all eight are 0
@@ -58,6 +58,11 @@ module _ (dump : List ℕ) (k : ℕ) (room : 8 * k + 8 ≤ length dump) where
   pub eight-found : (eightAt dump k ≡ 0 → ⊥) → all-zero (drop (8 * k) dump) ≡ false
   eight-found d = bool-cases (all-zero (drop (8 * k) dump)) (λ t. absurd (d (number-zero dump k (λ i h. sym (getD-drop (8 * k) dump i 0) ∙ getD-all-zero (drop (8 * k) dump) i t)))) (λ f. f)
 
--- "its length is always a multiple of 32", so it begins at a multiple of 8
+-- "its length is always a multiple of 32": a card has 8 + 24 × N words, so its bytes and the dump's are both such a multiple
+pub padding-eights : (n : ℕ) → (paddedLength (wordsFor n) - 4 * wordsFor n) % 32 ≡ 0
+unfolding paddedLength
+padding-eights n = omega arith
+
+-- and the padding begins at a multiple of 8
 pub padding-start : (n : ℕ) → 8 * (wordsFor n / 2) ≡ 4 * wordsFor n
 padding-start n = omega arith

@@ -26,7 +26,7 @@ fn card_of_six() -> [u32; 104] {
 }
 
 // What there is for a ration.
-fn say(card: &[u32; 104], key: u32, block: &[u8]) {
+fn say(card: &[u32], key: u32, block: &[u8]) {
     io::write_all(1, b"ration ");
     io::print_decimal(1, key as u64);
     match records::is_fetched(card, key, block) {
@@ -45,13 +45,53 @@ fn say(card: &[u32; 104], key: u32, block: &[u8]) {
     io::write_all(1, b"\n");
 }
 
-// Two records, a length 0, and a length that runs past the end.
-fn main() {
-    let card = card_of_six();
+// Two records, a length 0, and a length that runs past the end; a ration that the card does not hold.
+fn say_all(card: &[u32]) {
     let block = b"\x04mash\x06grower\x00\x09ab";
     let mut key: u32 = 0;
     while key < 8 {
-        say(&card, key, block);
+        say(card, key, block);
         key += 1;
     }
+}
+
+// The longest record, which ends where the block ends.
+fn longest() -> [u8; 256] {
+    let mut block = [b'.'; 256];
+    block[0] = 255;
+    block[255] = b'!';
+    block
+}
+
+// A whole card's record in a short block.
+fn say_short(card: &[u32; 104], key: u32) {
+    say(card, key, b"\x04mash");
+}
+
+// The find's own refusals: the card's length, mark, header, and a root that is no node; key 0 before the root.
+fn say_refused(whole: [u32; 104]) {
+    let mut card = whole;
+    say(&card[0..103], 1, b"\x04mash");
+    card[0] = 0;
+    say_short(&card, 1);
+    card[0] = 1;
+    card[2] = 9;
+    say_short(&card, 1);
+    card[2] = 8;
+    card[4] = 0;
+    say_short(&card, 1);
+    say_short(&card, 0);
+}
+
+fn main() {
+    let card = card_of_six();
+    say_all(&card);
+    // a record that ends where the block ends, and the same block without its last byte
+    say(&card, 2, b"\x04mash\x06grower");
+    say(&card, 2, b"\x04mash\x06growe");
+    let block = longest();
+    say(&card, 1, &block);
+    // no bytes at all
+    say(&card, 1, b"");
+    say_refused(card);
 }

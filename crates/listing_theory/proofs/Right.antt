@@ -40,10 +40,9 @@ use Rattle.tree.specs.WellFormed.{WellFormed, Balanced}
 pub record ListedRight (c : List ℕ) (t : Tree) : Type 0 where
   pub listing : Listing
   pub is-listed : listCard c ≡ listed listing
-  -- the card as the repair leaves it, and its table
-  pub card : List ℕ
+  -- the table on the card as the repair leaves it
   pub table : Tree
-  pub balanced : Balanced card table
+  pub balanced : Balanced (openedCard c .card) table
   pub map : MapIs table (pairs t)
   pub all-pairs : listing .pairs ≡ pairs table
   pub level : Height (listing .levels) table
@@ -84,7 +83,6 @@ module _ (c : List ℕ) where
               record {
                 listing = record { nodes = number; free = countTrue (f .free); levels = h; pairs = pairsFrom depthLimit after number (getD after rootPlace 0) };
                 is-listed = accepted-listed a (openOf c .begun) refl ∙ table-sound after number h f (λ z. omega (arith, x .sized .least)) e;
-                card = after;
                 table = x .table;
                 balanced = x .balanced;
                 map = x .map;

@@ -1,5 +1,5 @@
 // The record of a ration (document 02, W-213): a value is an offset in a lent block of bytes, where a record stands.
-use table::Found;
+use lookup::Found;
 ghost use mathlib.Core.Path.{_≡_};
 ghost use mathlib.Core.List.{[]};
 ghost use Prim.Native.Nat.{_<_};
@@ -54,7 +54,7 @@ fn record_at(block: &[u8], at: usize) -> &[u8]
 pub fn fetch_record<'a>(card: &[u32], key: u32, block: &'a [u8]) -> &'a [u8]
     ensures { λ r. ⌜ now r ≡ recordOf (now (card .entry)) key (now (block .entry)) ⌝ }
 {
-    match table::find(card, key) {
+    match lookup::find(card, key) {
         Found::Value(value) => record_at(block, value as usize),
         Found::Absent => &block[0..0],
         Found::Refused(_) => &block[0..0],
@@ -76,7 +76,7 @@ fn fetched_at(block: &[u8], at: usize) -> Fetched
 pub fn is_fetched(card: &[u32], key: u32, block: &[u8]) -> Fetched
     ensures { λ r. ⌜ r ≡ fetchOf (now (card .entry)) key (now (block .entry)) ⌝ }
 {
-    match table::find(card, key) {
+    match lookup::find(card, key) {
         Found::Value(value) => fetched_at(block, value as usize),
         Found::Absent => Fetched::Absent,
         Found::Refused(refusal) => Fetched::Refused(refusal),

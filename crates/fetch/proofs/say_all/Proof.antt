@@ -1,17 +1,14 @@
--- `fetch::main` is safe and ends. Assumes nothing.
+-- `fetch::say_all` is safe and ends. Assumes nothing.
 use borrow.Author.Needs.{needs}
 use Prim.Native.Nat.{_-_}
-use Rattle.fetch.proofs.main.Statement.{statement}
-use Rattle.fetch.proofs.main.Tie as tie
+use Rattle.fetch.proofs.say_all.Statement.{statement}
+use Rattle.fetch.proofs.say_all.Tie as tie
 
 abbrev Inv-loop : tie.InvT-loop
 Inv-loop card block key₀ key = Unit {0}
 
 abbrev μ-loop : tie.MeasureT-loop
 μ-loop card block key₀ key = 8 - key
-
-card-of-six-requires : tie.Need-card-of-six-requires Inv-loop μ-loop
-card-of-six-requires c κs = search needs
 
 loop-holds : tie.Need-loop-holds Inv-loop μ-loop
 loop-holds c = search needs
@@ -31,13 +28,12 @@ loop-again c = search needs
 returns : tie.Need-returns Inv-loop μ-loop
 returns c = search needs
 
-pub main-spec : {M : Type 1} → statement M
-main-spec =
+pub say-all-spec : {M : Type 1} → statement M
+say-all-spec =
     tie.close
     (tie.spec
     Inv-loop
     μ-loop
-    card-of-six-requires
     loop-holds
     say-requires
     add-key

@@ -1,0 +1,117 @@
+-- The program `list`, of the ration table.
+use mathlib.Core.Path.{_≡_, refl, ap, sym, subst, _∙_}
+use mathlib.Core.Bool.{true, false}
+use mathlib.Core.List.{List}
+use mathlib.Core.Logic.{inl, inr, ⊎-elim}
+use Prim.Native.Nat.{ℕ, zero, suc, _^_, _<_}
+use native.Mathlib.Omega.{arith}
+use lib.ListN.{length, getD, replicate}
+use Rattle.demands.specs.Demand1.{OpensTo}
+use Rattle.demands.specs.Demand3.{repair-steps}
+use Rattle.demands.specs.Events.{World, opened, happens, run, step}
+use Rattle.demands.specs.List.{repairedBy, ListsRight, ListProgram}
+use Rattle.demands.specs.Refusals.{ByRows, nodes-on, open-rows, end, row}
+use Rattle.demands.proofs.Following.{worldly, same-world}
+use Rattle.demands.specs.RationTable.{handed, ration-table}
+use Rattle.demands.proofs.Keeps1.{opens}
+use Rattle.demands.proofs.Numbers.{SmallBegun, open-small}
+use Rattle.demands.proofs.ReplyLaws.{code-of, true-false, begun-refused}
+use Rattle.demands.proofs.RowLaws.{rows-map}
+use Rattle.demands.proofs.Rowing.{sized-on}
+use Rattle.card.proofs.HeaderLaws.{sized-nodes}
+use Rattle.card.specs.Header.{nodesOfLength, Sized, Formatted}
+use Rattle.card.specs.Replies.{refusal}
+use Rattle.dump.proofs.AnswerLaws.{Good, undamaged-whole, whole-undamaged, read-damaged, read-whole, room-long}
+use Rattle.dump.proofs.RoundTrip.{dump-words, dump-whole, dump-nodes}
+use Rattle.dump.specs.Dump.{dumpOf, dumpWords, wordsFor, dumpNodes, damaged}
+use Rattle.laws.proofs.Cases.{bool-cases}
+use Rattle.listing.proofs.SummaryLaws.{card-refused, dump-refused, dump-read}
+use Rattle.listing.specs.Listing.{Listing, refused, listed, listCard, listDump}
+use Rattle.listing_theory.proofs.Right.{ListedRight, listing-right}
+use Rattle.opening.specs.Opening.{openOf}
+use Rattle.printing.specs.Text.{listText, cardRoom, dumpText}
+use Rattle.printing_theory.proofs.Printed.{text-right}
+use Rattle.promises.proofs.Accepting.{accepted-card}
+use Rattle.promises.proofs.Machine.{World as Worldly, run as was-run}
+use Rattle.promises.proofs.Promise.{Accepted}
+use Rattle.repairing.specs.Repairing.{openedCard}
+use Rattle.repairing_theory.proofs.Repair.{steps, opened-run}
+use Rattle.shapes.proofs.Unique.{one-held}
+use Rattle.state.specs.Answers.{startReply}
+use Rattle.state.specs.declared.Begun.{Begun}
+use Rattle.tree.specs.Tree.{Tree}
+use Rattle.tree.specs.WellFormed.{WellFormed}
+
+-- ---- the repaired card
+
+run-steps : (k : ℕ) (w : World ration-table) → worldly (run ration-table (replicate k step) w) ≡ was-run (steps k) (worldly w)
+unfolding run was-run
+run-steps zero w = refl
+run-steps (suc k) w = run-steps k (happens ration-table step w) ∙ ap (was-run (steps k)) (same-world step w)
+
+repaired-is : (c : List ℕ) → repairedBy ration-table c ≡ openedCard c .card
+unfolding repairedBy
+repaired-is c = ap (λ (x : Worldly). x .card) (run-steps repair-steps (opened ration-table c) ∙ sym (opened-run c))
+
+-- ---- cards
+
+module _ (c : List ℕ) where
+  lists-right : Accepted c → (t : Tree) → WellFormed c t → (x : ListedRight c t) → ListsRight ration-table c (x .listing)
+  lists-right a t w x =
+      let n = sym (sized-on c (nodesOfLength (length c)) (accepted-card c a .1)) in
+      record {
+        table = x .table;
+        balanced = rw (repaired-is c) (x .balanced);
+        nodes = x .nodes ∙ n;
+        unreached = x .unreached;
+        exact = rw n at (x .exact);
+        free = omega (arith, x .free);
+        levels = x .level;
+        all-pairs = x .all-pairs;
+        alike = λ s v key. rw (x .all-pairs, one-held c s t (v .holds) (w .holds)) (x .map .alike key);
+        as-many = λ s v. rw (x .all-pairs, one-held c s t (v .holds) (w .holds)) (x .map .as-many);
+      }
+
+  not-refused : OpensTo ration-table c (handed (openOf c)) → Accepted c
+  unfolding startReply
+  not-refused o =
+      record {
+        not-refused = λ r e.
+            let small : r < 64 = subst (λ (b : Begun). SmallBegun b) e (open-small c) in
+            let code = code-of (ap startReply e) in
+            ⊎-elim (λ z. omega (arith, code-of (z .1))) (λ z. omega (arith, code-of (z .1))) (o .hands);
+      }
+
+  of-card : ByRows (open-rows c) (λ r. (ration-table .openCard c .reply ≡ refusal r) × (listCard c ≡ refused r)) ((l : Listing) × (listCard c ≡ listed l) × ListsRight ration-table c l)
+  of-card =
+      rows-map (open-rows c) (omega arith, (omega arith, (omega arith, (omega arith, (omega arith, tt)))))
+      (λ r h z. (z .number-given, card-refused c r (begun-refused (openOf c .begun) r h (z .number-given))))
+      works (opens c)
+    where
+      works : OpensTo ration-table c (handed (openOf c)) → (l : Listing) × (listCard c ≡ listed l) × ListsRight ration-table c l
+      works o = let a = not-refused o in let x = listing-right c (o .table) (o .sound) a in (x .listing, x .is-listed, lists-right a (o .table) (o .sound) x)
+
+-- ---- dumps
+
+module _ (dump : List ℕ) where
+  read-room : damaged dump ≡ false → listDump dump cardRoom ≡ listCard (dumpWords (wordsFor (dumpNodes dump)) dump)
+  read-room q =
+      let size = wordsFor (dumpNodes dump) in
+      dump-read dump cardRoom size (read-whole dump cardRoom q ∙ room-long size cardRoom (omega (arith, undamaged-whole dump q .most)))
+
+  of-dump : ByRows (row 11 (damaged dump ≡ true) end) (λ r. dumpText dump ≡ listText (refused r)) (dumpText dump ≡ listText (listCard (dumpWords (wordsFor (dumpNodes dump)) dump)))
+  unfolding ByRows
+  of-dump =
+      bool-cases (damaged dump) (λ q. inl (q, text-right dump ∙ ap listText (dump-refused dump cardRoom 11 (read-damaged dump cardRoom q))))
+      (λ q. inr (λ z. true-false (sym z ∙ q), text-right dump ∙ ap listText (read-room q)))
+
+own : (c : List ℕ) → ((i : ℕ) → getD c i 0 < 2 ^ 32) → Sized (length c) (nodes-on c) → Formatted c (nodes-on c) → dumpText (dumpOf c) ≡ listText (listCard c)
+own c fits s f =
+    let e = sized-nodes (length c) (nodes-on c) s in
+    let good : Good c = record { sized = rw e s; header = rw e f } in
+    let q = whole-undamaged (dumpOf c) (dump-whole c fits good) in
+    let size : wordsFor (dumpNodes (dumpOf c)) ≡ length c = ap wordsFor (dump-nodes c fits good) ∙ sym (good .sized .words) in
+    text-right (dumpOf c) ∙ ap listText (read-room (dumpOf c) q ∙ ap listCard (ap (λ (k : ℕ). dumpWords k (dumpOf c)) size ∙ dump-words c fits))
+
+pub list-program : ListProgram ration-table listCard dumpText
+list-program = record { cards = of-card; dumps = of-dump; own-dump = own }

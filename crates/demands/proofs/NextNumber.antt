@@ -1,0 +1,131 @@
+-- Document 02, W-201, of the call `successor::next_pair`.
+use mathlib.Core.Path.{_≡_, refl, ap, sym, _∙_}
+use mathlib.Core.List.{List, [], _∷_}
+use mathlib.Core.Logic.{inl, inr}
+use Prim.Native.Nat.{ℕ, zero, suc, _<_}
+use native.Mathlib.Omega.{arith}
+use lib.ListN.{length}
+use Rattle.demands.specs.Book.{Book}
+use Rattle.demands.specs.Events.{World}
+use Rattle.demands.specs.Refusals.{ByRows, nodes-on, on-card, end}
+use Rattle.demands.specs.W201.{NextCall, AnswersNext, HeldTo, Rises, Walks, Walked, OnAnyCard, W201, ends, goes-on}
+use Rattle.demands.specs.RationTable.{ration-table}
+use Rattle.demands.proofs.Keeps3.{Covered, always}
+use Rattle.demands.proofs.Rowing.{by-card, card-one}
+use Rattle.card.specs.Header.{cardRefusal}
+use Rattle.card.specs.Layout.{lowestKey, keyLimit}
+use Rattle.card.specs.Replies.{refusal}
+use Rattle.promises.proofs.PowerLoss.{map-is}
+use Rattle.promises.proofs.Reopen.{length-accepted, card-accepted, table-well-formed}
+use Rattle.soundness_theory.proofs.Ranges.{well-formed-in-range}
+use Rattle.successor.proofs.SuccessorLaws.{next-refused}
+use Rattle.successor.specs.Successor.{nextOf, onNext, walkFrom, nextReply}
+use Rattle.successor.specs.declared.Successor.the-variants.{Pair, Nothing, Refused}
+use Rattle.successor.specs.declared.Successor.{Successor}
+use Rattle.successor_theory.proofs.AnyCard.{AboveOrNine, next-above}
+use Rattle.successor_theory.proofs.IsNext.{IsNext}
+use Rattle.successor_theory.proofs.Lookups.{found-in-range}
+use Rattle.successor_theory.proofs.Next.{next-right}
+use Rattle.successor_theory.proofs.Walk.{walk-rises, walk-lookup, walk-length}
+use Rattle.tree.proofs.Sorted.{Rising}
+use Rattle.tree.specs.Pairs.{pairs, lookup}
+use Rattle.tree.specs.Tree.{Tree}
+use Rattle.tree.specs.WellFormed.{WellFormed}
+
+abbrev call : NextCall
+call c number = nextReply (nextOf c number)
+
+-- ---- the answer's numbers
+
+answered : (l ps : List (ℕ × ℕ)) → ((key : ℕ) → lookup key ps ≡ lookup key l) → (number : ℕ) (s : Successor) → IsNext ps number s → AnswersNext l number (nextReply s)
+unfolding nextReply
+answered l ps same number (Pair key value) i =
+    inl (key, value, record { greater = i .0; held = sym (same key) ∙ i .1; smallest = λ k a b. sym (same k) ∙ i .2 k (omega arith) b }, refl)
+answered l ps same number Nothing i = inr (λ k a. sym (same k) ∙ i k a, refl)
+answered l ps same number (Refused r) i = absurd i
+
+held : (number : ℕ) (s : Successor) → AboveOrNine number s → HeldTo number (nextReply s)
+unfolding nextReply
+held number (Pair key value) a = inl (key, value, a, refl)
+held number Nothing a = inr (inl refl)
+held number (Refused r) a = inr (inr (ap (λ (x : ℕ). (refusal x, 0)) a))
+
+-- ---- the walk
+
+rises : (number hi : ℕ) (l : List (ℕ × ℕ)) → Rising (suc number) hi l → Rises number l
+rises number hi [] r = tt
+rises number hi (p ∷ l) r = (omega (arith, r .0), rises (p .0) hi l (r .1))
+
+module _ (c : List ℕ) (t : Tree) (w : WellFormed c t) (e : cardRefusal c ≡ 0) where
+  -- a walk that ends before it may not go further has come to "none"
+  walked-out : (most number : ℕ) → number < keyLimit → length (walkFrom most c number) < most → Walks call c number (walkFrom most c number)
+  unfolding walkFrom onNext nextReply
+  walked-out zero number h l = absurd (omega arith)
+  walked-out (suc most) number h l = go (nextOf c number) refl (next-right c t number w e h) l (walked-out most)
+    where
+      go : (s : Successor) → nextOf c number ≡ s → IsNext (pairs t) number s → length (onNext (walkFrom most c) s) < suc most
+          → ((k : ℕ) → k < keyLimit → length (walkFrom most c k) < most → Walks call c k (walkFrom most c k)) → Walks call c number (onNext (walkFrom most c) s)
+      go (Pair k v) q i l further = goes-on k v (ap nextReply q) (further k (found-in-range lowestKey keyLimit k v t (well-formed-in-range w) (i .1) .1) (omega arith))
+      go Nothing q i l further = ends (ap nextReply q)
+      go (Refused r) q i l further = absurd i
+
+  walked : (l : List (ℕ × ℕ)) → ((key : ℕ) → lookup key (pairs t) ≡ lookup key l) → length (pairs t) ≡ length l → Walked call c l
+  walked l same as-many =
+      let most = suc (length (pairs t)) in
+      record {
+        listed = walkFrom most c 0;
+        walk = walked-out most 0 (omega arith) (omega (arith, walk-length c t w e most (omega arith)));
+        rising = rises 0 keyLimit (walkFrom most c 0) (walk-rises c t w e most);
+        alike = λ key. walk-lookup c t w e most (omega arith) key ∙ same key;
+        as-many = walk-length c t w e most (omega arith) ∙ as-many;
+      }
+
+-- ---- every card
+
+on-any-card : (c : List ℕ) → cardRefusal c ≡ 0 → OnAnyCard call c
+on-any-card c e =
+    record {
+      held-to = λ number. held number (nextOf c number) (next-above c number e);
+      exact = λ t w number h. answered (pairs t) (pairs t) (λ key. refl) number (nextOf c number) (next-right c t number w e h);
+      walks = λ t w. walked c t w e (pairs t) (λ key. refl) refl;
+    }
+
+refused : (c : List ℕ) (r : ℕ) → cardRefusal c ≡ r → (r ≡ 0 → ⊥) → (number : ℕ) → call c number ≡ (refusal r, 0)
+unfolding nextReply
+refused c r e d number = rw (next-refused c number (λ z. d (sym e ∙ z)), e)
+
+cards : (c : List ℕ) → ByRows (on-card c (nodes-on c) end) (λ r. (number : ℕ) → call c number ≡ (refusal r, 0)) (OnAnyCard call c)
+unfolding ByRows
+cards c =
+    by-card end (λ r. (number : ℕ) → call c number ≡ (refusal r, 0)) (OnAnyCard call c) c (nodes-on c)
+    (λ p. refused c 1 (card-one c p) (λ z. omega (arith, z)))
+    (λ r s e d. refused c r (length-accepted c (nodes-on c) s ∙ e) d)
+    (λ s f. on-any-card c (card-accepted s f .0))
+
+-- ---- every moment
+
+module _ (w : World ration-table) (b : Book) (v : Covered w b) where
+  same-pairs : (key : ℕ) → lookup key (pairs (v .inv .tree)) ≡ lookup key (b .held)
+  same-pairs key = map-is (v .inv) .alike key ∙ ap (λ (x : Book). lookup key (x .held)) (sym (v .same-book))
+
+  as-many-pairs : length (pairs (v .inv .tree)) ≡ length (b .held)
+  as-many-pairs = map-is (v .inv) .as-many ∙ ap (λ (x : Book). length (x .held)) (sym (v .same-book))
+
+  accepted : cardRefusal (w .card) ≡ 0
+  accepted = card-accepted (v .inv .table .sized) (v .inv .table .header) .0
+
+  moment : (number : ℕ) → number < keyLimit → AnswersNext (b .held) number (call (w .card) number)
+  moment number h =
+      answered (b .held) (pairs (v .inv .tree)) same-pairs number (nextOf (w .card) number)
+      (next-right (w .card) (v .inv .tree) number (table-well-formed (v .inv .table)) accepted h)
+
+  walk-now : Walked call (w .card) (b .held)
+  walk-now = walked (w .card) (v .inv .tree) (table-well-formed (v .inv .table)) accepted (b .held) same-pairs as-many-pairs
+
+pub w-201 : W201 ration-table (λ c number. nextReply (nextOf c number))
+w-201 =
+    record {
+      moments = always (λ w b. (number : ℕ) → number < keyLimit → AnswersNext (b .held) number (call (w .card) number)) moment;
+      walks = always (λ w b. Walked call (w .card) (b .held)) walk-now;
+      cards = cards;
+    }

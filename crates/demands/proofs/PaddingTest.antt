@@ -1,0 +1,80 @@
+-- Document 02, W-202, of the test that `dump` makes.
+use mathlib.Core.Path.{_≡_, refl, ap, sym, _∙_}
+use mathlib.Core.Bool.{true}
+use mathlib.Core.List.{List, [], _∷_}
+use mathlib.Core.Logic.{inl, inr}
+use Prim.Native.Nat.{ℕ, suc, _+_, _-_, _*_, _/_, _%_, _^_, _≤_, _<_}
+use native.Mathlib.Omega.{arith}
+use lib.ListN.{length, getD, length-drop, List·getD-eq-default}
+use lib.Seq.{getD-drop}
+use borrow.Author.Tests.{eq-eqb}
+use Rattle.demands.specs.Refusals.{ByRows}
+use Rattle.demands.specs.W202.{paddingLength, padding, Whole, readRows, W202}
+use Rattle.demands.proofs.ReplyLaws.{true-false}
+use Rattle.card.specs.Replies.{refusal, long}
+use Rattle.dump.proofs.AnswerLaws.{Whole as WholeBytes, greatest-dump, padded-covers, padded-whole, padded-most, undamaged-whole, whole-undamaged, read-damaged, read-whole, room-short, room-long}
+use Rattle.dump.proofs.Padding.{eight-exactly, padding-eights}
+use Rattle.dump.specs.Answers.{dumpReply}
+use Rattle.dump.specs.Dump.{wordsFor, dumpNodes, damaged, readAnswer}
+use Rattle.dump.specs.Padding.{eightAt}
+use Rattle.laws.proofs.Cases.{bool-cases, order}
+use Rattle.laws.proofs.Lists.{getD-all-zero}
+use Rattle.laws.specs.Lists.{all-zero}
+
+fits : (dump : List ℕ) (k : ℕ) → ((i : ℕ) → getD dump i 0 < 256) → eightAt dump k < 2 ^ 64
+unfolding eightAt
+fits dump k bytes =
+    omega (arith, bytes (8 * k), bytes (8 * k + 1), bytes (8 * k + 2), bytes (8 * k + 3), bytes (8 * k + 4), bytes (8 * k + 5), bytes (8 * k + 6), bytes (8 * k + 7))
+
+zeros-all : (l : List ℕ) → ((i : ℕ) → getD l i 0 ≡ 0) → all-zero l ≡ true
+zeros-all [] f = refl
+zeros-all (x ∷ l) f = rw (eq-eqb x 0 (f 0)) (zeros-all l (λ i. f (suc i)))
+
+module _ (dump : List ℕ) where
+  -- a byte of the padding stands in one of its eights
+  byte-zero : Whole eightAt dump → (i : ℕ) → getD (padding dump) i 0 ≡ 0
+  byte-zero w i =
+      let at = 4 * wordsFor (dumpNodes dump) + i in
+      getD-drop (4 * wordsFor (dumpNodes dump)) dump i 0
+      ∙ order at (length dump)
+      (λ o. ap (λ (j : ℕ). getD dump j 0) (let z : at ≡ 8 * (at / 8) + at % 8 = omega arith in z)
+      ∙ eight-exactly dump (at / 8) .0 (w .zeros (at / 8) (omega arith) (omega arith)) (at % 8) (omega arith))
+      (λ o. List·getD-eq-default dump 0 {n = at} o)
+
+  to-bytes : Whole eightAt dump → WholeBytes dump
+  to-bytes w = record { least = w .least; most = w .most; padded = w .padded; zeros = zeros-all (padding dump) (byte-zero w) }
+
+  byte-of : WholeBytes dump → (i : ℕ) → 4 * wordsFor (dumpNodes dump) ≤ i → getD dump i 0 ≡ 0
+  byte-of w i h =
+      let from = 4 * wordsFor (dumpNodes dump) in
+      ap (λ (j : ℕ). getD dump j 0) (let z : i ≡ from + (i - from) = omega arith in z) ∙ sym (getD-drop from dump (i - from) 0) ∙ getD-all-zero (padding dump) (i - from) (w .zeros)
+
+  from-bytes : WholeBytes dump → Whole eightAt dump
+  from-bytes w =
+      record {
+        not-empty = λ z. omega (arith, w .padded, padded-covers (wordsFor (dumpNodes dump)));
+        in-blocks = omega (arith, w .padded, padded-whole (wordsFor (dumpNodes dump)));
+        not-long = omega (arith, w .padded, w .most, padded-most (wordsFor (dumpNodes dump)) (omega (arith, w .most)), greatest-dump);
+        least = w .least;
+        most = w .most;
+        padded = w .padded;
+        zeros = λ k a b. eight-exactly dump k .1 (λ i h. byte-of w (8 * k + i) (omega arith));
+      }
+
+  long-as : Whole eightAt dump → length (padding dump) ≡ paddingLength (dumpNodes dump)
+  long-as w = omega (arith, length-drop (4 * wordsFor (dumpNodes dump)) dump, w .padded)
+
+  reading : (lent : ℕ) → ByRows (readRows eightAt dump lent) (λ r. dumpReply (readAnswer dump lent) ≡ refusal r)
+      (dumpReply (readAnswer dump lent) ≡ long (wordsFor (dumpNodes dump)))
+  unfolding ByRows dumpReply
+  reading lent =
+      bool-cases (damaged dump) (λ q. inl (λ w. true-false (sym q ∙ whole-undamaged dump (to-bytes w)), rw (read-damaged dump lent q)))
+      (λ q. inr (
+        λ d. d (from-bytes (undamaged-whole dump q)),
+        order lent (wordsFor (dumpNodes dump))
+            (λ o. inl (omega arith, rw (read-whole dump lent q, room-short (wordsFor (dumpNodes dump)) lent o)))
+            (λ o. inr (λ z. omega arith, rw (read-whole dump lent q, room-long (wordsFor (dumpNodes dump)) lent o))),
+      ))
+
+pub w-202 : W202 eightAt (λ dump lent. dumpReply (readAnswer dump lent))
+w-202 = record { sixty-four = fits; exactly = eight-exactly; in-eights = λ n a b. omega (arith, padding-eights n); as-long = long-as; reads = reading }

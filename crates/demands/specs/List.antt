@@ -1,0 +1,51 @@
+-- Document 01, "Dumps and the list program": "The program `list` reads a dump from standard input, opens and repairs it in memory,
+-- and prints."
+use mathlib.Core.Path.{_≡_}
+use mathlib.Core.Bool.{Bool, true}
+use mathlib.Core.List.{List}
+use Prim.Native.Nat.{ℕ, _^_, _<_}
+use lib.ListN.{length, getD, replicate}
+use Rattle.card.specs.Header.{Sized, Formatted}
+use Rattle.card.specs.Replies.{refusal}
+use Rattle.dump.specs.Dump.{dumpOf, dumpWords, wordsFor, dumpNodes, damaged}
+use Rattle.free_nodes.specs.NodeSet.{countTrue}
+use Rattle.listing.specs.Listing.{Listing, Listed, refused, listed}
+use Rattle.printing.specs.Text.{listText}
+use Rattle.tree.specs.FreeNodes.{Exact}
+use Rattle.tree.specs.Height.{Height}
+use Rattle.tree.specs.Pairs.{pairs, lookup}
+use Rattle.tree.specs.Tree.{Tree}
+use Rattle.tree.specs.WellFormed.{WellFormed, Balanced}
+use Rattle.demands.specs.Table.{Table}
+use Rattle.demands.specs.Demand3.{repair-steps}
+use Rattle.demands.specs.Events.{opened, run, step}
+use Rattle.demands.specs.Refusals.{ByRows, nodes-on, open-rows, end, row}
+
+-- "opens and repairs it in memory": so many steps that the repair has ended (demand 3); those after its end store nothing
+unfoldable pub repairedBy : (T : Table) → List ℕ → List ℕ
+repairedBy T c = run T (replicate repair-steps step) (opened T c) .card
+
+-- "First line: N, free nodes, internal levels, pairs. Then key and value, leaves left to right, slots rising."
+pub record ListsRight (T : Table) (c : List ℕ) (l : Listing) : Type 0 where
+  -- of the table on the repaired card
+  pub table : Tree
+  pub balanced : Balanced (repairedBy T c) table
+  pub nodes : l .nodes ≡ nodes-on c
+  -- the free nodes are exactly those that are not reached
+  pub unreached : List Bool
+  pub exact : Exact (nodes-on c) unreached table
+  pub free : l .free ≡ countTrue unreached
+  pub levels : Height (l .levels) table
+  pub all-pairs : l .pairs ≡ pairs table
+  -- and they are the map of the card: every key has the same value in both or is in neither, and there are as many pairs
+  pub alike : (t : Tree) → WellFormed c t → (key : ℕ) → lookup key (l .pairs) ≡ lookup key (pairs t)
+  pub as-many : (t : Tree) → WellFormed c t → length (l .pairs) ≡ length (pairs t)
+
+-- `list` of a card's words, and the text that it prints of a dump's bytes
+pub record ListProgram (T : Table) (list : List ℕ → Listed) (text : List ℕ → List ℕ) : Type 0 where
+  -- it refuses as opening does, and only then
+  pub cards : (c : List ℕ) → ByRows (open-rows c) (λ r. (T .openCard c .reply ≡ refusal r) × (list c ≡ refused r)) ((l : Listing) × (list c ≡ listed l) × ListsRight T c l)
+  -- 11 comes first; "12: lent slice shorter than the result" is never due
+  pub dumps : (dump : List ℕ) → ByRows (row 11 (damaged dump ≡ true) end) (λ r. text dump ≡ listText (refused r)) (text dump ≡ listText (list (dumpWords (wordsFor (dumpNodes dump)) dump)))
+  -- the dump of a card prints what the card does
+  pub own-dump : (c : List ℕ) → ((i : ℕ) → getD c i 0 < 2 ^ 32) → Sized (length c) (nodes-on c) → Formatted c (nodes-on c) → text (dumpOf c) ≡ listText (list c)
