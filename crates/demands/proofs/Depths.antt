@@ -107,9 +107,9 @@ final-code (some v) e = omega arith
 
 module _ (w : World ration-table) (b : Book) (v : Covered w b) (key : ℕ) (high : key < keyLimit) where
   -- a call that is started was refused by no row
-  works : (e : Event) (Rule : List ℕ → List ℕ → List Store → Type 0) (rows : Rows) → Numbers rows → ByRows rows (λ r. reply-to ration-table e w ≡ refusal r) (Works ration-table e Rule key w (b .held))
-      → reply-to ration-table e w ≡ started → Works ration-table e Rule key w (b .held)
-  works e Rule rows n p s = rows-elim rows n (λ r h q. absurd (omega (arith, code-of (sym q ∙ s)))) (λ q. q) p
+  works : (e : Event) (Nothing : Type 0) (Rule : List ℕ → List ℕ → List Store → Type 0) (rows : Rows) → Numbers rows → ByRows rows (λ r. reply-to ration-table e w ≡ refusal r) (Works ration-table e Nothing Rule key w (b .held))
+      → reply-to ration-table e w ≡ started → Works ration-table e Nothing Rule key w (b .held)
+  works e Nothing Rule rows n p s = rows-elim rows n (λ r h q. absurd (omega (arith, code-of (sym q ∙ s)))) (λ q. q) p
 
   insert-ends : (value : ℕ) → EndsByDepth ration-table (insert key value) key w (b .held)
   unfolding reply-to was-happens due-after due-after-start begun-result insertOf
@@ -118,7 +118,7 @@ module _ (w : World ration-table) (b : Book) (v : Covered w b) (key : ℕ) (high
       begun-started (insertOf (w .card) (w .state) key value .begun)
       (start-small (w .card) (w .state) key (Inserting key value false) (startRoom (w .card) key (w .state .free))) s in
       let q = kept-insert (v .size) (v .steps) (worldly w) (v .was-kept) (v .due) (v .inv) key value high in
-      let f = works (insert key value) _ _ (omega arith, (omega arith, (omega arith, tt))) (is-dictionary w b v .inserts key value high) s .finishes in
+      let f = works (insert key value) _ _ _ (omega arith, (omega arith, (omega arith, tt))) (is-dictionary w b v .inserts key value high) s .finishes in
       let next = was-happens (was-insert key value) (worldly w) in
       let g = work-finishes (v .size) (q .0) (storesAt h) next _ _ (q .2 .0) (q .1 .busy e) (omega (arith, q .1 .steps-left e t sound h level)) in
       let due = lookup key (v .was-kept .held) in
@@ -131,7 +131,7 @@ module _ (w : World ration-table) (b : Book) (v : Covered w b) (key : ℕ) (high
   delete-ends t sound h level s =
       let e = begun-started (deleteOf (w .card) (w .state) key .begun) (start-small (w .card) (w .state) key (Deleting key false 0) (λ l. true)) s in
       let q = kept-delete (v .size) (v .steps) (worldly w) (v .was-kept) (v .due) (v .inv) key high in
-      let f = works (delete key) _ _ (omega arith, (omega arith, tt)) (is-dictionary w b v .deletes key high) s .finishes in
+      let f = works (delete key) _ _ _ (omega arith, (omega arith, tt)) (is-dictionary w b v .deletes key high) s .finishes in
       let next = was-happens (was-delete key) (worldly w) in
       let g = work-finishes (v .size) (q .0) (storesAt h) next _ _ (q .2 .0) (q .1 .busy e) (omega (arith, q .1 .steps-left e t sound h level)) in
       let due = lookup key (v .was-kept .held) in
