@@ -32,7 +32,7 @@ use Rattle.demands.proofs.PlannedRepairs.{repair-by-rule}
 use Rattle.state.specs.Steps.{isIdle, stepRefused, stepFinal, stepFirst, stepStore}
 use Rattle.table.specs.Calls.{planning, stepPrepared, stepBegin, stepOf}
 use Rattle.updates.specs.Updates.{FirstChange, landing, changeAt}
-use Rattle.demands.proofs.KeepsSteps.{Final}
+use Rattle.demands.proofs.StepRows.{Final}
 use Rattle.laws.proofs.Cases.{order}
 use borrow.Author.Tests.{lt-ltb, le-ltb}
 use Rattle.change.specs.Mending.{nextRepair}
@@ -43,8 +43,8 @@ use Rattle.promises.proofs.Kept.{first-storable}
 use Rattle.promises.proofs.Reopen.{table-well-formed}
 use Rattle.promises.proofs.Starting.{nodes-same, kept-insert, kept-delete}
 use Rattle.promises.proofs.Machine.{insert as was-insert, delete as was-delete, happens as was-happens}
-use Rattle.demands.proofs.Following.{worldly, same-world, fed-same}
-use Rattle.demands.proofs.Keeps3.{Covered, covered-nodes}
+use Rattle.demands.proofs.SameBook.{worldly, same-world, fed-same}
+use Rattle.demands.proofs.PowerCuts.{Covered, covered-nodes}
 use Rattle.promises.proofs.Ledger.{Update, Hand, was-final, feed as was-feed}
 use Rattle.promises.proofs.Stepping.{Right, final-due, right-final, kept-step, mends, rests}
 use Rattle.promises.proofs.PowerLoss.{loosen}

@@ -10,9 +10,9 @@ use Rattle.demands.specs.W213.{W213}
 use Rattle.demands.specs.W214.{W214}
 use Rattle.demands.proofs.Depths.{w-214 as depths-kept}
 use Rattle.demands.proofs.Fetching.{w-213 as fetching-kept}
-use Rattle.demands.proofs.KeepsSteps.{demand-1 as rows-kept}
-use Rattle.demands.proofs.Keeps2.{demand-2 as dictionary-kept}
-use Rattle.demands.proofs.Keeps3.{demand-3 as book-kept}
+use Rattle.demands.proofs.StepRows.{demand-1 as rows-kept}
+use Rattle.demands.proofs.Dictionary.{demand-2 as dictionary-kept}
+use Rattle.demands.proofs.PowerCuts.{demand-3 as book-kept}
 use Rattle.demands.proofs.ListRight.{list-program as list-kept}
 use Rattle.demands.proofs.NextNumber.{w-201 as next-kept}
 use Rattle.demands.proofs.PaddingTest.{w-202 as padding-kept}

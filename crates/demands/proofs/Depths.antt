@@ -12,11 +12,11 @@ use Rattle.demands.specs.Demand2.{Finishes, Works}
 use Rattle.demands.specs.Events.{Event, World, reply-to, happens, LeftUncut, steps-in, insert, delete, step}
 use Rattle.demands.specs.Refusals.{Rows, ByRows, Idle}
 use Rattle.demands.specs.W214.{Levels, Line, storesAt, EndsByDepth, W214}
-use Rattle.demands.proofs.Following.{worldly, same-world}
+use Rattle.demands.proofs.SameBook.{worldly, same-world}
 use Rattle.demands.specs.RationTable.{ration-table}
-use Rattle.demands.proofs.Keeps2.{is-dictionary}
-use Rattle.demands.proofs.Keeps3.{Covered, always, was-list, run-same, quiet-same, steps-same}
-use Rattle.demands.proofs.Numbers.{start-small}
+use Rattle.demands.proofs.Dictionary.{is-dictionary}
+use Rattle.demands.proofs.PowerCuts.{Covered, always, was-list, run-same, quiet-same, steps-same}
+use Rattle.demands.proofs.AnswerNumbers.{start-small}
 use Rattle.demands.proofs.ReplyLaws.{code-of, begun-started}
 use Rattle.demands.proofs.RowLaws.{Numbers, rows-elim}
 use Rattle.card.specs.Layout.{keyLimit}

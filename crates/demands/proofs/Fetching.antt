@@ -11,8 +11,8 @@ use Rattle.demands.specs.Demand1.{Finds}
 use Rattle.demands.specs.Refusals.{ByRows, find-rows}
 use Rattle.demands.specs.W213.{recordRows, NoRecord, IsRecord, AtOffset, ByFind, W213}
 use Rattle.demands.specs.RationTable.{ration-table}
-use Rattle.demands.proofs.Keeps1.{finds}
-use Rattle.demands.proofs.Numbers.{find-small}
+use Rattle.demands.proofs.CardRows.{finds}
+use Rattle.demands.proofs.AnswerNumbers.{find-small}
 use Rattle.demands.proofs.ReplyLaws.{code-of, found-refused, found-absent, found-value}
 use Rattle.demands.proofs.RowLaws.{Numbers, rows-elim, rows-map}
 use Rattle.card.specs.Replies.{Reply, refusal, holds, absent, fetched}

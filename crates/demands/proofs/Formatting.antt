@@ -16,7 +16,7 @@ use Rattle.demands.specs.Events.{Event, World, reply-to, happens, run, L
 use Rattle.demands.specs.Refusals.{NoCard, nodes-on}
 use Rattle.demands.specs.RationTable.{ration-table}
 use Rattle.demands.proofs.Making.{find-same, same-insert, same-delete}
-use Rattle.demands.proofs.Rowing.{sized?, no-nodes}
+use Rattle.demands.proofs.FirstRows.{sized?, no-nodes}
 use Rattle.formatting_theory.proofs.FormatSteps.{formatMemory, format-starts, format-refused, format-step-stores, format-step-ready}
 use Rattle.formatting_theory.proofs.FormatCard.{formatCard, format-next}
 use Rattle.formatting_theory.proofs.FormatCut.{cut-refused}

@@ -2,18 +2,19 @@
 -- the work that a state tells
 pub mod Work
 -- the way down, and the rows 1, 2 and 3
-pub mod Ways
-pub mod Rowing
+pub mod WayDown
+pub mod FirstRows
 -- DEMAND 1: find, formatting, opening; the starts; the steps, and `demand-1`
-pub mod Keeps1
-pub mod KeepsStarts
-pub mod KeepsSteps
--- the number of an answer tells which answer it is
-pub mod Numbers
+pub mod CardRows
+pub mod StartRows
+pub mod StepRows
+-- refusals are numbered below 64, so that the number of a reply tells which answer it is
+pub mod AnswerNumbers
+pub mod ReplyLaws
 -- events and book are those of `promises`
-pub mod Following
+pub mod SameBook
 -- DEMAND 3, `demand-3`, and what holds of every table that a list leaves
-pub mod Keeps3
+pub mod PowerCuts
 -- what the calls plan is by the rules, on any card: the nodes given, where nodes stand, repairs, first changes
 pub mod PlannedNumbers
 pub mod Standing
@@ -27,11 +28,9 @@ pub mod UpdatesByRules
 -- the stores of formatting
 pub mod Formatting
 -- DEMAND 2, `demand-2`
-pub mod Keeps2
+pub mod Dictionary
 -- laws of rows "in order"
 pub mod RowLaws
--- the number of a reply tells which answer it is
-pub mod ReplyLaws
 -- the program `list`
 pub mod ListRight
 -- W-201, of the call `successor::next_pair`

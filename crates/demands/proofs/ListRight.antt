@@ -11,13 +11,14 @@ use Rattle.demands.specs.Demand3.{repair-steps}
 use Rattle.demands.specs.Events.{World, opened, happens, run, step}
 use Rattle.demands.specs.List.{repairedBy, ListsRight, ListProgram}
 use Rattle.demands.specs.Refusals.{ByRows, nodes-on, open-rows, end, row}
-use Rattle.demands.proofs.Following.{worldly, same-world}
+use Rattle.demands.proofs.SameBook.{worldly, same-world}
 use Rattle.demands.specs.RationTable.{handed, ration-table}
-use Rattle.demands.proofs.Keeps1.{opens}
-use Rattle.demands.proofs.Numbers.{SmallBegun, open-small}
-use Rattle.demands.proofs.ReplyLaws.{code-of, true-false, begun-refused}
+use Rattle.demands.proofs.CardRows.{opens}
+use Rattle.demands.proofs.AnswerNumbers.{SmallBegun, open-small}
+use Rattle.demands.proofs.ReplyLaws.{code-of, begun-refused}
+use Rattle.demands.proofs.Work.{true-false}
 use Rattle.demands.proofs.RowLaws.{rows-map}
-use Rattle.demands.proofs.Rowing.{sized-on}
+use Rattle.demands.proofs.FirstRows.{sized-on}
 use Rattle.card.proofs.HeaderLaws.{sized-nodes}
 use Rattle.card.specs.Header.{nodesOfLength, Sized, Formatted}
 use Rattle.card.specs.Replies.{refusal}

@@ -13,10 +13,10 @@ use Rattle.demands.specs.Table.{Refused}
 use Rattle.demands.specs.Events.{Event, World, reply-to, happens, run, LeftUncut, steps-in, find, insert, delete, step, cut}
 use Rattle.demands.specs.Book.{Book, feed, told}
 use Rattle.demands.specs.Demand2.{storeAt, StoresNow}
-use Rattle.demands.proofs.Following.{worldly, same-world, fed-same}
+use Rattle.demands.proofs.SameBook.{worldly, same-world, fed-same}
 use Rattle.demands.specs.RationTable.{ration-table}
-use Rattle.demands.proofs.Keeps3.{Covered, covered-nodes, refused-insert-same, refused-delete-same}
-use Rattle.demands.proofs.KeepsSteps.{advanced-rest}
+use Rattle.demands.proofs.PowerCuts.{Covered, covered-nodes, refused-insert-same, refused-delete-same}
+use Rattle.demands.proofs.StepRows.{advanced-rest}
 use Rattle.promises.proofs.Feeding.{fed, due-after}
 use Rattle.promises.proofs.Finished.{stored-due}
 use Rattle.promises.proofs.Invariant.{Inv, Stage, Table, stage-idle, stage-put, stage-remove, stage-first, stage-between, stage-within}

@@ -10,8 +10,8 @@ use Rattle.demands.specs.Events.{World}
 use Rattle.demands.specs.Refusals.{ByRows, nodes-on, on-card, end}
 use Rattle.demands.specs.W201.{NextCall, AnswersNext, HeldTo, Rises, Walks, Walked, OnAnyCard, W201, ends, goes-on}
 use Rattle.demands.specs.RationTable.{ration-table}
-use Rattle.demands.proofs.Keeps3.{Covered, always}
-use Rattle.demands.proofs.Rowing.{by-card, card-one}
+use Rattle.demands.proofs.PowerCuts.{Covered, always}
+use Rattle.demands.proofs.FirstRows.{by-card, card-one}
 use Rattle.card.specs.Header.{cardRefusal}
 use Rattle.card.specs.Layout.{lowestKey, keyLimit}
 use Rattle.card.specs.Replies.{refusal}

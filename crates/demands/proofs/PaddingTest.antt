@@ -10,7 +10,7 @@ use lib.Seq.{getD-drop}
 use borrow.Author.Tests.{eq-eqb}
 use Rattle.demands.specs.Refusals.{ByRows}
 use Rattle.demands.specs.W202.{paddingLength, padding, Whole, readRows, W202}
-use Rattle.demands.proofs.ReplyLaws.{true-false}
+use Rattle.demands.proofs.Work.{true-false}
 use Rattle.card.specs.Replies.{refusal, long}
 use Rattle.dump.proofs.AnswerLaws.{Whole as WholeBytes, greatest-dump, padded-covers, padded-whole, padded-most, undamaged-whole, whole-undamaged, read-damaged, read-whole, room-short, room-long}
 use Rattle.dump.proofs.Padding.{eight-exactly, padding-eights}

@@ -23,7 +23,7 @@ use Rattle.demands.specs.Refusals.{nodes-on, leads-to, among}
 use Rattle.demands.specs.Rules.{InsertRule, in-slot, leaf-split, DeleteRule, key-cleared}
 use Rattle.demands.proofs.PlannedNumbers.{ByRule, not-refused, not-balanced, giving-three, none-taken}
 use Rattle.demands.proofs.Standing.{picked, landing-linked}
-use Rattle.demands.proofs.Ways.{landed, landing-way, is-slot, slot-among}
+use Rattle.demands.proofs.WayDown.{landed, landing-way, is-slot, slot-among}
 
 -- ---- the slots of a leaf
 

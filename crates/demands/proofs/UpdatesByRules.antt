@@ -18,12 +18,12 @@ use Rattle.demands.specs.Events.{World, opened, happens, insert, delete}
 use Rattle.demands.specs.Refusals.{nodes-on}
 use Rattle.demands.specs.Rules.{InsertRule, DeleteRule}
 use Rattle.demands.proofs.ByRules.{Begun, repairs-by-rules, first-by-rules, put-turns, remove-turns}
-use Rattle.demands.proofs.Following.{worldly, same-world, hand-of, Flagged, fed-same}
+use Rattle.demands.proofs.SameBook.{worldly, same-world, hand-of, Flagged, fed-same}
 use Rattle.demands.specs.RationTable.{ration-table}
-use Rattle.demands.proofs.Keeps3.{Covered, covered-nodes}
-use Rattle.demands.proofs.KeepsSteps.{at-final}
+use Rattle.demands.proofs.PowerCuts.{Covered, covered-nodes}
+use Rattle.demands.proofs.StepRows.{at-final}
 use Rattle.demands.proofs.Making.{Nears}
-use Rattle.demands.proofs.Numbers.{card-small}
+use Rattle.demands.proofs.AnswerNumbers.{card-small}
 use Rattle.demands.proofs.PlannedUpdates.{insert-by-rule, delete-by-rule}
 use Rattle.descent.specs.Descent.{slotOf}
 use Rattle.descent.specs.declared.Landing.{Landing}

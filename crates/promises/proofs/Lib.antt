@@ -44,12 +44,8 @@ pub mod Dictionary
 pub mod RoomLaws
 -- DEMAND 2, what room there is: on an idle state the table is balanced, at most 8 levels high
 pub mod Room
--- "on a table as in demand 2 this holds for each line after every finished update and repair"
-pub mod Rations
 -- what opening refuses, exactly
 pub mod OpenRefusals
--- "It reads the card only, like a find, and may come between steps"
-pub mod NextPair
 -- whole calls: each update runs to its end before the next, without cuts
 pub mod Alike
 -- THE PROMISE, on a card of one line: of two tables as in demand 2, at rest, with the same N, whose trees differ in node numbers alone

@@ -15,9 +15,9 @@ use Rattle.demands.specs.Events.{Event, World, reply-to, happens, run, f
 use Rattle.demands.specs.Book.{Update, Hand, Book, book, added, taken-out, entered, started, stepped, feed, outcome, told, put, remove, refused, final, goes-on, empty, holding}
 use Rattle.demands.specs.RationTable.{ration-table}
 use Rattle.demands.specs.Refusals.{nodes-on, full-at, leaf-full}
-use Rattle.demands.proofs.KeepsStarts.{leads-is, slot-is}
-use Rattle.demands.proofs.Numbers.{SmallBegun, SmallAnswer, start-small, step-small}
-use Rattle.demands.proofs.Ways.{landed, is-slot}
+use Rattle.demands.proofs.StartRows.{leads-is, slot-is}
+use Rattle.demands.proofs.AnswerNumbers.{SmallBegun, SmallAnswer, start-small, step-small}
+use Rattle.demands.proofs.WayDown.{landed, is-slot}
 use Rattle.descent.specs.Descent.{slotOf}
 use Rattle.descent.specs.declared.Landing.{Landing}
 use Rattle.descent.specs.declared.Landing.the-variants.{Refused as NoLanding, Leaf as LandingAt}

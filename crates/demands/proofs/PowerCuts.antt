@@ -20,9 +20,10 @@ use Rattle.card.specs.Replies.{Reply, ready, idle}
 use Rattle.demands.specs.Worked.{dictionary, Always, BalancedWith}
 use Rattle.demands.specs.Demand3.{repair-steps, Ended, Survives, Demand3}
 use Rattle.demands.specs.Refusals.{nodes-on}
-use Rattle.demands.proofs.Following.{was, worldly, same-world, hand-of, book-of, Flagged, fed-same}
-use Rattle.demands.proofs.Numbers.{SmallBegun, open-small, step-small, is-ready, is-stored, is-refused}
-use Rattle.demands.proofs.Rowing.{sized-on}
+use Rattle.demands.proofs.SameBook.{was, worldly, same-world, hand-of, book-of, Flagged, fed-same}
+use Rattle.demands.proofs.AnswerNumbers.{SmallBegun, open-small, step-small}
+use Rattle.demands.proofs.ReplyLaws.{is-ready, is-stored, is-refused}
+use Rattle.demands.proofs.FirstRows.{sized-on}
 use Rattle.free_nodes.specs.NodeSet.{countTrue}
 use Rattle.laws.proofs.Cases.{bool-cases}
 use Rattle.opening.specs.Opening.{openSound, openChecked, openOf}

@@ -15,8 +15,8 @@ use Rattle.card.specs.Replies.{Reply, refusal}
 use Rattle.demands.specs.Demand1.{Finds, HandsNone, StartsFormat, OpensTo}
 use Rattle.demands.specs.Refusals.{ByRows, nodes-on, NoCard, Unsound, Scarce, leads-to, find-rows, format-rows, open-rows, end, row}
 use Rattle.demands.specs.RationTable.{workOf, handed, ration-table}
-use Rattle.demands.proofs.Rowing.{sized?, no-nodes, by-card, card-one}
-use Rattle.demands.proofs.Ways.{arrived, leaf-of, leaf-way}
+use Rattle.demands.proofs.FirstRows.{sized?, no-nodes, by-card, card-one}
+use Rattle.demands.proofs.WayDown.{arrived, leaf-of, leaf-way}
 use Rattle.descent.specs.Descent.{slotOf, leafFor}
 use Rattle.descent.specs.declared.Slot.{Slot}
 use Rattle.descent.specs.declared.Slot.the-variants.{At, Absent as NoSlot}

@@ -23,16 +23,17 @@ use Rattle.demands.specs.Demand2.{update-stores, Finishes, Updates, Rest
 use Rattle.demands.specs.Table.{Work, noWork, formatting, inserting, deleting}
 use Rattle.demands.specs.Refusals.{Rows, ByRows, Idle as Resting, Busy, leads-to, NoRoom, on-card, row, end}
 use Rattle.demands.specs.Rules.{InsertRule, DeleteRule}
-use Rattle.demands.proofs.Following.{worldly, same-world}
-use Rattle.demands.proofs.Keeps1.{none-some}
-use Rattle.demands.proofs.Keeps3.{dictionary-same, Covered, always, was-list, run-same, quiet-same, steps-same, rests-right}
-use Rattle.demands.proofs.KeepsStarts.{leads-is}
-use Rattle.demands.proofs.KeepsSteps.{demand-1}
-use Rattle.demands.proofs.Numbers.{SmallBegun, start-small}
-use Rattle.demands.proofs.Rowing.{sized-on}
+use Rattle.demands.proofs.SameBook.{worldly, same-world}
+use Rattle.demands.proofs.CardRows.{none-some}
+use Rattle.demands.proofs.PowerCuts.{dictionary-same, Covered, always, was-list, run-same, quiet-same, steps-same, rests-right}
+use Rattle.demands.proofs.StartRows.{leads-is}
+use Rattle.demands.proofs.StepRows.{demand-1}
+use Rattle.demands.proofs.AnswerNumbers.{SmallBegun, start-small}
+use Rattle.demands.proofs.ReplyLaws.{begun-started}
+use Rattle.demands.proofs.FirstRows.{sized-on}
 use Rattle.demands.proofs.UpdatesByRules.{insert-by-rules, delete-by-rules, opening-by-rules}
 use Rattle.demands.proofs.Formatting.{formats-right}
-use Rattle.demands.proofs.Ways.{landed}
+use Rattle.demands.proofs.WayDown.{landed}
 use Rattle.laws.proofs.Cases.{bool-cases, order}
 use Rattle.promises.proofs.Accepting.{find-answers}
 use Rattle.promises.proofs.Finished.{work-finishes, finishes-within, work-not-refused, inv-rests}
@@ -135,12 +136,6 @@ answer-refused Ready r h e = absurd (omega (arith, h, ap (λ (x : Reply). x .cod
 answer-refused Absent r h e = absurd (omega (arith, h, ap (λ (x : Reply). x .code) e))
 answer-refused (Value v) r h e = absurd (omega (arith, h, ap (λ (x : Reply). x .code) e))
 answer-refused (Refused k) r h e = ap Refused (ap (λ (x : Reply). x .code) e)
-
-begun-started : (b : Begun) → SmallBegun b → startReply b ≡ startReply Started → b ≡ Started
-unfolding startReply
-begun-started OpenedIdle s e = absurd (omega (arith, ap (λ (x : Reply). x .code) e))
-begun-started Started s e = refl
-begun-started (BegunRefused r) s e = absurd (omega (arith, s, ap (λ (x : Reply). x .code) e))
 
 not-formatting : (d : Doing) → d ≡ Idle → workOf d ≡ formatting → ⊥
 unfolding workOf

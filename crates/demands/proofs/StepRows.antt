@@ -17,9 +17,9 @@ use Rattle.demands.specs.Table.{formatting, inserting, deleting}
 use Rattle.demands.specs.Refusals.{ByRows, Idle, NoCard, on-card, end, row}
 use Rattle.demands.specs.RationTable.{workOf, stepped, ration-table}
 use Rattle.demands.proofs.Work.{idle-work, busy-work, work-formatting}
-use Rattle.demands.proofs.Keeps1.{finds, formats, opens}
-use Rattle.demands.proofs.KeepsStarts.{not-sized, start-one, refused-back, inserts, deletes}
-use Rattle.demands.proofs.Rowing.{sized?, by-card}
+use Rattle.demands.proofs.CardRows.{finds, formats, opens}
+use Rattle.demands.proofs.StartRows.{not-sized, start-one, refused-back, inserts, deletes}
+use Rattle.demands.proofs.FirstRows.{sized?, by-card}
 use Rattle.descent.specs.Descent.{slotOf}
 use Rattle.descent.specs.declared.Landing.{Landing}
 use Rattle.descent.specs.declared.Landing.the-variants.{Refused as NoLanding, Leaf as LandingAt}

@@ -11,7 +11,7 @@ use lib.Dec.{eqb, ltb}
 use Rattle.card.specs.Header.{nodesOfLength, headerRefusal, cardRefusal, must}
 use Rattle.card.specs.Replies.{Reply, stored, ready}
 use Rattle.card.specs.Stores.{Store}
-use Rattle.demands.proofs.KeepsSteps.{Final, next-final}
+use Rattle.demands.proofs.StepRows.{Final, next-final}
 use Rattle.descent.specs.declared.Landing.{Landing}
 use Rattle.descent.specs.declared.Landing.the-variants.{Refused as NoLanding, Leaf as LandingAt}
 use Rattle.free_nodes.specs.NodeSet.{countTrue}
@@ -160,30 +160,3 @@ find-small c key =
     bool-cases (eqb (cardRefusal c) 0)
     (λ q. bool-cases (eqb key 0) (λ z. rw (q, z) (omega arith)) (λ z. rw (q, z) (at-small c key (leafFor c (nodesOfLength (length c)) key depthLimit (getD c rootPlace 0)))))
     (λ q. rw q (card-small c))
-
--- ---- so the number tells the answer
-
-code-of : {r s : Reply} → r ≡ s → r .code ≡ s .code
-code-of e = ap (λ (x : Reply). x .code) e
-
-pub is-ready : (a : Answer) → SmallAnswer a → stepReply a ≡ ready → a ≡ Ready
-unfolding stepReply
-is-ready Stored s e = absurd (omega (arith, code-of e))
-is-ready Ready s e = refl
-is-ready Absent s e = absurd (omega (arith, code-of e))
-is-ready (Value v) s e = absurd (omega (arith, code-of e))
-is-ready (Refused r) s e = absurd (omega (arith, code-of e, s))
-
-pub is-stored : (a : Answer) → SmallAnswer a → stepReply a ≡ stored → a ≡ Stored
-unfolding stepReply
-is-stored Stored s e = refl
-is-stored Ready s e = absurd (omega (arith, code-of e))
-is-stored Absent s e = absurd (omega (arith, code-of e))
-is-stored (Value v) s e = absurd (omega (arith, code-of e))
-is-stored (Refused r) s e = absurd (omega (arith, code-of e, s))
-
-pub is-refused : (b : Begun) → startReply b .code < 64 → (r : ℕ) × (b ≡ BegunRefused r)
-unfolding startReply
-is-refused OpenedIdle h = absurd (omega arith)
-is-refused Started h = absurd (omega arith)
-is-refused (BegunRefused r) h = (r, refl)

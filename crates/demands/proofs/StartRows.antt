@@ -19,9 +19,9 @@ use Rattle.demands.specs.Table.{inserting, deleting}
 use Rattle.demands.specs.Refusals.{Rows, ByRows, Busy, nodes-on, NoCard, leads-to, among, NoRoom, start-rows, insert-rows, delete-rows, end, row}
 use Rattle.demands.specs.RationTable.{workOf, handed, ration-table}
 use Rattle.demands.proofs.Work.{true-false, idle-work, busy-work}
-use Rattle.demands.proofs.Keeps1.{none-some}
-use Rattle.demands.proofs.Rowing.{sized-on, by-card}
-use Rattle.demands.proofs.Ways.{landed, landing-way, is-slot, slot-among}
+use Rattle.demands.proofs.CardRows.{none-some}
+use Rattle.demands.proofs.FirstRows.{sized-on, by-card}
+use Rattle.demands.proofs.WayDown.{landed, landing-way, is-slot, slot-among}
 use Rattle.descent.specs.Descent.{slotOf, landingFor}
 use Rattle.descent.specs.declared.Landing.{Landing}
 use Rattle.descent.specs.declared.Landing.the-variants.{Refused as NoLanding, Leaf as LandingAt}
