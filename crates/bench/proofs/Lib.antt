@@ -1,4 +1,4 @@
--- the starred cards as one table, computed through the definitions that the calls are proved to meet
+-- the starred cards, computed
 pub mod Cards
--- the power-cut promise speaks of something: S is made by these calls from a card of any words, an insert of key 12 begins
+-- the power-cut promise speaks of something
 pub mod Instance
