@@ -4,7 +4,7 @@ use mathlib.Core.Bool.{Bool, true, false}
 use mathlib.Core.List.{List}
 use mathlib.Core.Logic.{_⊎_, inl, inr}
 use mathlib.Core.Option.{Option, none, some}
-use Prim.Native.Nat.{ℕ, _+_}
+use Prim.Native.Nat.{ℕ}
 use native.Mathlib.Omega.{arith}
 use native.Mathlib.Decide.{ℕ-discrete}
 use lib.ListN.{length, getD}
@@ -36,7 +36,7 @@ use Rattle.state.specs.Memory.{Memory}
 use Rattle.state.specs.Steps.{isIdle}
 use Rattle.state.specs.declared.Doing.{Doing}
 use Rattle.state.specs.declared.Doing.the-variants.{Inserting, Deleting}
-use Rattle.updates.specs.Updates.{landing, reasonIn, emptyReason, insertReason, roomFor, startRoom, full}
+use Rattle.updates.specs.Updates.{landing, reasonIn, emptyReason, insertReason, splitNeed, roomFor, startRoom, full}
 
 -- a state whose N does not fit the card
 pub not-sized : (c : List ℕ) (n : ℕ) → NoCard c n → (nodesOfLength (length c) ≡ 0 → ⊥) → nodesOfLength (length c) ≡ n → ⊥
@@ -134,9 +134,9 @@ room-row c free key leaf link j to = at (slotOf (nodeAt c leaf) key) refl (slotO
     at (At i) e y f = inr (λ r. true-false (slot-is (nodeAt c leaf) key (At i) e ∙ ap (λ (x : ℕ). among key (keyWords (nodeAt c x))) (sym (same r .0)) ∙ r .absent), rw e)
     at NoSlot e (At i) f = inr (λ r. true-false (slot-is (nodeAt c leaf) 0 (At i) f ∙ ap (λ (x : ℕ). among 0 (keyWords (nodeAt c x))) (sym (same r .0)) ∙ r .full), rw (e, f))
     at NoSlot e NoSlot f =
-        order (countTrue free) (j + 5)
-        (λ o. inl (record { leaf = leaf; j = j; leads = to; absent = sym (slot-is (nodeAt c leaf) key NoSlot e); full = sym (slot-is (nodeAt c leaf) 0 NoSlot f); few = o }, rw (e, f, lt-ltb (countTrue free) (j + 5) o)))
-        (λ o. inr (λ r. omega (arith, r .few, same r .1), rw (e, f, le-ltb (countTrue free) (j + 5) o)))
+        order (countTrue free) (splitNeed j)
+        (λ o. inl (record { leaf = leaf; j = j; leads = to; absent = sym (slot-is (nodeAt c leaf) key NoSlot e); full = sym (slot-is (nodeAt c leaf) 0 NoSlot f); few = o }, rw (e, f, lt-ltb (countTrue free) (splitNeed j) o)))
+        (λ o. inr (λ r. omega (arith, r .few, same r .1), rw (e, f, le-ltb (countTrue free) (splitNeed j) o)))
 
 pub inserts : (c : List ℕ) (m : Memory) (key value : ℕ) → ByRows (insert-rows ration-table c m key) (HandsBack ration-table m (ration-table .insert c m key value)) (Starts ration-table m (ration-table .insert c m key value) (inserting key value))
 unfolding ByRows insertOf workOf

@@ -13,7 +13,7 @@ use Rattle.descent.specs.declared.Landing.{Landing}
 use Rattle.descent.specs.declared.Landing.the-variants.{Refused as NoLanding, Leaf as LandingAt}
 use Rattle.state.specs.declared.Begun.{Begun}
 use Rattle.state.specs.declared.Begun.the-variants.{Idle, Started, Refused as BegunRefused}
-use Rattle.updates.specs.Updates.{landing, insertReason, held, slot, full, Reason as InLeaf}
+use Rattle.updates.specs.Updates.{landing, insertReason, splitNeed, held, slot, full, Reason as InLeaf}
 use Rattle.opening.specs.Opening.{openOf}
 use Rattle.repairing.specs.Repairing.{openedCard}
 use Rattle.dump.specs.Dump.{dumpWords, readAnswer}
@@ -22,11 +22,12 @@ use Rattle.dump.specs.declared.Answer.the-variants.{Length, Refused as ReadRefu
 use Rattle.insert_reason.specs.declared.Reason.{Reason}
 use Rattle.insert_reason.specs.declared.Reason.the-variants.{Refused, NoKey, Held, Slot, Split}
 
--- by what an insert finds in its leaf, below so many 11-child nodes without a break, with so many nodes free
+-- by what an insert finds in its leaf, below so many 11-child nodes without a break, with so many nodes free. "M being j + 5": what
+-- the split needs is part of the reason
 unfoldable pub reasonFor : InLeaf → ℕ → ℕ → Reason
 reasonFor (held v) run free = Held v
 reasonFor (slot i) run free = Slot
-reasonFor full run free = Split run free
+reasonFor full run free = Split run free (splitNeed run)
 
 -- in the leaf that the key leads to; "9: on the way down"
 unfoldable pub reasonLanded : List ℕ → List Bool → ℕ → Landing → Reason

@@ -6,11 +6,14 @@ use free_nodes::NodeSet;
 use repairing::open_repaired;
 use table::Begun;
 ghost use mathlib.Core.Path.{_≡_};
+ghost use Prim.Native.Nat.{_≤_};
 ghost use lib.ListN.{length};
+ghost use Rattle.card.specs.Layout.{depthLimit};
 ghost use Rattle.free_nodes.specs.NodeSet.{nodesOf, countTrue};
 ghost use Rattle.descent.specs.Descent.{slotOf};
 ghost use Rattle.updates.specs.Updates.{emptyReason, insertReason};
 ghost use Rattle.repairing.specs.Repairing.{openedCard, openedOver};
+ghost use Rattle.key_file.specs.KeyFile.{keyIn};
 ghost use Rattle.insert_reason.specs.InsertReason.{reasonFor, reasonOn, reasonOf, reasonInDump};
 
 // What is handed over for printing. A refusal comes first; a key of 0 is no key.
@@ -19,12 +22,17 @@ pub enum Reason {
     NoKey,
     Held(u32),
     Slot,
-    Split { run: usize, free: usize },
+    Split {
+        run: usize,
+        free: usize,
+        need: usize,
+    },
 }
 
-// Of a leaf that has not the key: an empty slot, or a split, with the 11-child nodes above the leaf and the free nodes.
+// Of a leaf that has not the key: an empty slot, or a split, with the 11-child nodes above the leaf, the free nodes, and those that
+// it needs: "M being j + 5".
 fn reason_absent(leaf: &[u32], free: NodeSet, run: usize) -> Reason
-    requires { ⌜ length (now leaf) ≡ 24 ⌝ }
+    requires { ⌜ (length (now leaf) ≡ 24) × (run ≤ depthLimit) ⌝ }
     ensures { λ r. ⌜ r ≡ reasonFor (emptyReason (slotOf (now (leaf .entry)) 0)) run (countTrue (nodesOf (free .words))) ⌝ }
 {
     match descent::find_slot(leaf, 0) {
@@ -32,13 +40,14 @@ fn reason_absent(leaf: &[u32], free: NodeSet, run: usize) -> Reason
         Slot::Absent => Reason::Split {
             run,
             free: free_nodes::count(free),
+            need: run + updates::SPLIT_NEED,
         },
     }
 }
 
 // In the leaf that the key leads to.
 fn reason_in(leaf: &[u32], key: u32, free: NodeSet, run: usize) -> Reason
-    requires { ⌜ length (now leaf) ≡ 24 ⌝ }
+    requires { ⌜ (length (now leaf) ≡ 24) × (run ≤ depthLimit) ⌝ }
     ensures { λ r. ⌜ r ≡ reasonFor (insertReason (now (leaf .entry)) key) run (countTrue (nodesOf (free .words))) ⌝ }
 {
     match descent::find_slot(leaf, key) {
@@ -91,4 +100,13 @@ pub fn insert_reason_in_dump(bytes: &[u8], card: &mut [u32], key: u32) -> Reason
         dump::Answer::Refused(refusal) => Reason::Refused(refusal),
         dump::Answer::Length(size) => insert_reason(&mut card[..size], key),
     }
+}
+
+// "then reads a key from the last line of a file": of a dump and of the bytes of that file.
+pub fn insert_reason_for_file(dump: &[u8], file: &[u8], card: &mut [u32]) -> Reason
+    ensures { λ r. ⌜ r ≡ reasonInDump (now (dump .entry)) (length (now (card .entry))) (keyIn (now (file .entry))) ⌝ }
+    ensures { λ r. ⌜ now (card .exit) ≡ openedOver (now (dump .entry)) (now (card .entry)) ⌝ }
+{
+    let key = key_file::key_in(file);
+    insert_reason_in_dump(dump, card, key)
 }

@@ -45,17 +45,21 @@ use Rattle.tree.specs.Tree.{Tree}
 use Rattle.tree.specs.WellFormed.{WellFormed}
 use Rattle.starting.specs.Starts.{startRefused, insertOf}
 use Rattle.updates.proofs.UpdateLaws.{leaf-full, landed}
-use Rattle.updates.specs.Updates.{landing, emptyReason, reasonIn, insertReason, held, slot, full, Reason as InLeaf}
+use Rattle.updates.specs.Updates.{landing, emptyReason, reasonIn, insertReason, splitNeed, held, slot, full, Reason as InLeaf}
 
 -- What each reason says of the card's map and of the card as the repair leaves it: the key's value; or that it has none and that the
--- leaf it leads to has an empty slot; or that it has none, that this leaf is full, and how many 11-child nodes without a break stand
--- straight above it and how many nodes are free.
+-- leaf it leads to has an empty slot; or that it has none, that this leaf is full, how many 11-child nodes without a break stand
+-- straight above it, how many nodes are free, and how many the split needs.
 unfoldable pub ReasonHolds : List ℕ → Tree → ℕ → Reason → Type 0
 ReasonHolds c t key (Refused r) = ⊥
 ReasonHolds c t key NoKey = ⊥
 ReasonHolds c t key (Held v) = lookup key (pairs t) ≡ some v
 ReasonHolds c t key EmptySlot = (lookup key (pairs t) ≡ none) × ((leaf : ℕ) × (j : ℕ) × (i : ℕ) × LeadsTo (world-of (openedCard c)) key leaf j × (slotOf (nodeAt (openedCard c .card) leaf) 0 ≡ At i))
-ReasonHolds c t key (Split j free) = (lookup key (pairs t) ≡ none) × ((leaf : ℕ) × LeadsTo (world-of (openedCard c)) key leaf j × (length (leafPairs (nodeAt (openedCard c .card) leaf)) ≡ 11)) × (countTrue (openedCard c .memory .free) ≡ free)
+ReasonHolds c t key (Split j free need) =
+    (lookup key (pairs t) ≡ none)
+    × ((leaf : ℕ) × LeadsTo (world-of (openedCard c)) key leaf j × (length (leafPairs (nodeAt (openedCard c .card) leaf)) ≡ 11))
+    × (countTrue (openedCard c .memory .free) ≡ free)
+    × (need ≡ splitNeed j)
 
 module _ (c : List ℕ) (t : Tree) (accepted : Accepted c) (well : WellFormed c t) where
   -- the card and the state that the repair leaves, as a run of steps
@@ -192,7 +196,7 @@ module _ (c : List ℕ) (t : Tree) (accepted : Accepted c) (well : WellFormed c 
         go (held v) e = sym answered ∙ leaf-held (nodeAt (openedCard c .card) leaf) key v e
         go (slot i) e = (sym answered ∙ leaf-absent (nodeAt (openedCard c .card) leaf) key (At i) e, (leaf, run-above, i, leads .2, leaf-slot (nodeAt (openedCard c .card) leaf) key i e))
         go full e =
-            (sym answered ∙ leaf-absent (nodeAt (openedCard c .card) leaf) key NoSlot e, (leaf, leads .2, leaf-full (nodeAt (openedCard c .card) leaf) leaf-words (leaf-no-slot (nodeAt (openedCard c .card) leaf) key e)), refl)
+            (sym answered ∙ leaf-absent (nodeAt (openedCard c .card) leaf) key NoSlot e, (leaf, leads .2, leaf-full (nodeAt (openedCard c .card) leaf) leaf-words (leaf-no-slot (nodeAt (openedCard c .card) leaf) key e)), refl, refl)
 
     -- the insert of the key, with any value, after the repair
     abbrev insert-of : ℕ → Handed
@@ -207,14 +211,14 @@ module _ (c : List ℕ) (t : Tree) (accepted : Accepted c) (well : WellFormed c 
     idle-after : after .memory .doing ≡ Idle
     idle-after = ap (λ (w : World). w .memory .doing) (sym is-after) ∙ left .idle
 
-    refused-eight : (value : ℕ) → in-leaf ≡ full → countTrue (openedCard c .memory .free) < run-above + 5 → insert-of value ≡ startRefused 8 (openedCard c .memory)
+    refused-eight : (value : ℕ) → in-leaf ≡ full → countTrue (openedCard c .memory .free) < splitNeed run-above → insert-of value ≡ startRefused 8 (openedCard c .memory)
     refused-eight value =
-        subst (λ (w : World). insertReason (nodeAt (w .card) leaf) key ≡ full → countTrue (w .memory .free) < run-above + 5 → insertOf (w .card) (w .memory) key value ≡ startRefused 8 (w .memory)) (sym is-after)
+        subst (λ (w : World). insertReason (nodeAt (w .card) leaf) key ≡ full → countTrue (w .memory .free) < splitNeed run-above → insertOf (w .card) (w .memory) key value ≡ startRefused 8 (w .memory)) (sym is-after)
         (splitting-insert-refused (opened c) (pairs t) begins (steps repairSteps) (all-words repairSteps) idle-after key value low high leaf run-above leads-after)
 
-    started-room : (value : ℕ) → in-leaf ≡ full → run-above + 5 ≤ countTrue (openedCard c .memory .free) → insert-of value .begun ≡ Started
+    started-room : (value : ℕ) → in-leaf ≡ full → splitNeed run-above ≤ countTrue (openedCard c .memory .free) → insert-of value .begun ≡ Started
     started-room value =
-        subst (λ (w : World). insertReason (nodeAt (w .card) leaf) key ≡ full → run-above + 5 ≤ countTrue (w .memory .free) → insertOf (w .card) (w .memory) key value .begun ≡ Started) (sym is-after)
+        subst (λ (w : World). insertReason (nodeAt (w .card) leaf) key ≡ full → splitNeed run-above ≤ countTrue (w .memory .free) → insertOf (w .card) (w .memory) key value .begun ≡ Started) (sym is-after)
         (λ e h. splitting-insert-works (opened c) (pairs t) begins (steps repairSteps) (all-words repairSteps) idle-after key value low high leaf run-above leads-after e h .0)
 
     started-other : (value : ℕ) → (in-leaf ≡ full → ⊥) → insert-of value .begun ≡ Started
@@ -226,27 +230,27 @@ module _ (c : List ℕ) (t : Tree) (accepted : Accepted c) (well : WellFormed c 
     unfolding startRefused
     not-started value e s = let z : _≡_ {A = ℕ} 0 1 = cc (sym (ap (λ (h : Handed). h .begun) e) ∙ s) in omega arith
 
-    -- "an insert of that key would be refused 8 exactly when `split` is printed with F below M", M being j + 5
-    pub refused-exactly : (value : ℕ) → (insert-of value ≡ startRefused 8 (openedCard c .memory)) ↔ ((j : ℕ) × (free : ℕ) × (reasonOf c key ≡ Split j free) × (free < j + 5))
+    -- "an insert of that key would be refused 8 exactly when `split` is printed with F below M": F and M as they are handed over
+    pub refused-exactly : (value : ℕ) → (insert-of value ≡ startRefused 8 (openedCard c .memory)) ↔ ((j : ℕ) × (free : ℕ) × (need : ℕ) × (reasonOf c key ≡ Split j free need) × (free < need))
     unfolding reasonFor
     refused-exactly value = (to in-leaf refl, from in-leaf refl)
       where
-        to : (r : InLeaf) → in-leaf ≡ r → insert-of value ≡ startRefused 8 (openedCard c .memory) → (j : ℕ) × (free : ℕ) × (reasonOf c key ≡ Split j free) × (free < j + 5)
+        to : (r : InLeaf) → in-leaf ≡ r → insert-of value ≡ startRefused 8 (openedCard c .memory) → (j : ℕ) × (free : ℕ) × (need : ℕ) × (reasonOf c key ≡ Split j free need) × (free < need)
         to (held v) e q = absurd (not-started value q (started-other value (λ f. let z : _≡_ {A = ℕ} 0 1 = cc in omega arith)))
         to (slot i) e q = absurd (not-started value q (started-other value (λ f. let z : _≡_ {A = ℕ} 0 1 = cc in omega arith)))
         to full e q =
-            order (countTrue (openedCard c .memory .free)) (run-above + 5)
-            (λ h. (run-above, countTrue (openedCard c .memory .free), reason-is ∙ ap (λ (r : InLeaf). reasonFor r run-above (countTrue (openedCard c .memory .free))) e, h))
+            order (countTrue (openedCard c .memory .free)) (splitNeed run-above)
+            (λ h. (run-above, countTrue (openedCard c .memory .free), splitNeed run-above, reason-is ∙ ap (λ (r : InLeaf). reasonFor r run-above (countTrue (openedCard c .memory .free))) e, h))
             (λ h. absurd (not-started value q (started-room value e h)))
 
-        from : (r : InLeaf) → in-leaf ≡ r → ((j : ℕ) × (free : ℕ) × (reasonOf c key ≡ Split j free) × (free < j + 5)) → insert-of value ≡ startRefused 8 (openedCard c .memory)
-        from (held v) e (j, free, s, h) = let z : _≡_ {A = ℕ} 0 1 = cc (sym s ∙ reason-is ∙ ap (λ (r : InLeaf). reasonFor r run-above (countTrue (openedCard c .memory .free))) e) in absurd (omega arith)
-        from (slot i) e (j, free, s, h) = let z : _≡_ {A = ℕ} 0 1 = cc (sym s ∙ reason-is ∙ ap (λ (r : InLeaf). reasonFor r run-above (countTrue (openedCard c .memory .free))) e) in absurd (omega arith)
-        from full e (j, free, s, h) =
+        from : (r : InLeaf) → in-leaf ≡ r → ((j : ℕ) × (free : ℕ) × (need : ℕ) × (reasonOf c key ≡ Split j free need) × (free < need)) → insert-of value ≡ startRefused 8 (openedCard c .memory)
+        from (held v) e (j, free, need, s, h) = let z : _≡_ {A = ℕ} 0 1 = cc (sym s ∙ reason-is ∙ ap (λ (r : InLeaf). reasonFor r run-above (countTrue (openedCard c .memory .free))) e) in absurd (omega arith)
+        from (slot i) e (j, free, need, s, h) = let z : _≡_ {A = ℕ} 0 1 = cc (sym s ∙ reason-is ∙ ap (λ (r : InLeaf). reasonFor r run-above (countTrue (openedCard c .memory .free))) e) in absurd (omega arith)
+        from full e (j, free, need, s, h) =
             let q = sym s ∙ reason-is ∙ ap (λ (r : InLeaf). reasonFor r run-above (countTrue (openedCard c .memory .free))) e in
-            let a : j ≡ run-above = cc in
             let b : free ≡ countTrue (openedCard c .memory .free) = cc in
-            refused-eight value e (omega (arith, a, b))
+            let n : need ≡ splitNeed run-above = cc in
+            refused-eight value e (omega (arith, b, n))
 
 -- the dump of an accepted card gives the reason that the card gives
 pub dump-reason : (c : List ℕ) → Accepted c → ((i : ℕ) → getD c i 0 < 2 ^ 32) → (lent : ℕ) → length c ≤ lent → (key : ℕ) → reasonInDump (dumpOf c) lent key ≡ reasonOf c key

@@ -8,9 +8,10 @@ use native.Mathlib.Numerals.{add-one}
 use native.Mathlib.Omega.{arith}
 use lib.ListN.{length, getD, take, drop, drop-of-length-le}
 use lib.Seq.{drop-cons}
-use lib.Dec.{eqb, leb}
-use borrow.Author.Tests.{eq-eqb, ne-eqb, le-leb, lt-leb, lt-ltb, le-ltb, leb-true}
-use Rattle.laws.proofs.Cases.{order, and-true}
+use lib.Dec.{eqb, leb, ltb}
+use borrow.Author.Tests.{eq-eqb, ne-eqb, le-leb, lt-leb, lt-ltb, le-ltb, leb-true, ltb-true}
+use Rattle.laws.specs.Cases.{pick}
+use Rattle.laws.proofs.Cases.{bool-cases, order, and-true}
 use Rattle.card.specs.Layout.{lowestKey, keyLimit}
 use Rattle.key_file.specs.KeyFile.{mostBytes, lineFeed, withoutFinalFeed, hasFeed, lastLine, isDigit, allDigits, decimal, isKeyLine, keyOfLine, keyIn}
 
@@ -150,6 +151,14 @@ module _ (line : List ℕ) where
       order value lowestKey (λ none. rw (d, e, lt-leb lowestKey value none) (omega arith))
       (λ some. rw (d, e, le-leb lowestKey value some, lt-ltb value keyLimit h))
 
+  line-below : keyOfLine line < keyLimit
+  unfolding keyOfLine isKeyLine
+  line-below = go (isKeyLine line) refl
+    where
+      go : (b : Bool) → isKeyLine line ≡ b → pick b (decimal line) 0 < keyLimit
+      go true e = ltb-true (decimal line) keyLimit (and-true (leb lowestKey (decimal line)) (ltb (decimal line) keyLimit) (and-true (allDigits line) _ e .1) .1)
+      go false e = omega arith
+
 module _ (file : List ℕ) where
   pub key-longer : mostBytes < length file → 0 ≡ keyIn file
   unfolding keyIn
@@ -158,3 +167,8 @@ module _ (file : List ℕ) where
   pub key-within : length file ≤ mostBytes → keyOfLine (lastLine (withoutFinalFeed file)) ≡ keyIn file
   unfolding keyIn
   key-within h = rw (le-leb (length file) mostBytes h)
+
+  -- "from 1 to 4,294,967,295", or 0, which is no key
+  pub key-below : keyIn file < keyLimit
+  unfolding keyIn
+  key-below = bool-cases (leb (length file) mostBytes) (λ yes. rw yes (line-below (lastLine (withoutFinalFeed file)))) (λ no. rw no (omega arith))

@@ -2,7 +2,8 @@
 use mathlib.Core.Path.{_≡_, refl}
 use mathlib.Core.List.{[], _∷_, _++_}
 use Rattle.listing.specs.Listing.{refused, listed}
-use Rattle.printing.specs.Text.{digitsFrom, digitCount, decimal, lineFeed, space, nodesWord, freeWord, levelsWord, pairsWord, refusedWord, firstLine, pairLine, pairLines, refusalLine, listText}
+use Rattle.printing.specs.Text.{space, nodesWord, levelsWord, pairsWord, firstLine, pairLine, pairLines, listText}
+use Rattle.text_row.specs.Lines.{digitsFrom, digitCount, decimal, lineFeed, freeWord, refusedWord, numberLine, refusalLine}
 
 -- "nodes 4 free 3 levels 0 pairs 2", then "7 70" and "3 31"
 example-text :
@@ -13,5 +14,5 @@ example-text = refl
 
 -- "refused 11"
 example-refused : listText (refused 11) ≡ 114 ∷ 101 ∷ 102 ∷ 117 ∷ 115 ∷ 101 ∷ 100 ∷ 32 ∷ 49 ∷ 49 ∷ 10 ∷ []
-unfolding listText refusalLine refusedWord lineFeed decimal digitCount digitsFrom
+unfolding listText refusalLine numberLine refusedWord lineFeed decimal digitCount digitsFrom
 example-refused = refl

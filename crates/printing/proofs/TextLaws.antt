@@ -1,4 +1,4 @@
--- Laws of the text: where a number ends, a turn of the loop over the pairs, and what `listing::list_dump` hands over.
+-- Laws of the text: a turn of the loop over the pairs, and what `listing::list_dump` hands over.
 use mathlib.Core.Path.{_≡_, refl, ap, ap₂, _∙_}
 use mathlib.Core.List.{List, [], _∷_, _++_}
 use Prim.Native.Nat.{ℕ, suc, _+_, _/_, _^_, _≤_, _<_}
@@ -11,14 +11,12 @@ use Rattle.laws.proofs.Cases.{order}
 use Rattle.listing.specs.Listing.{Listed, refused, listed, listDump, Laid, laid, layPair, layPairs, layListed}
 use Rattle.listing.specs.Summaries.{summarized, summaryOf}
 use Rattle.listing.specs.declared.Summary.{Summary}
-use Rattle.printing.specs.Text.{decimal, lineFeed, space, firstLine, pairLine, pairLines, refusalLine, listText, pairsIn, told, cardRoom, pairRoom, zeros, handed}
-use Rattle.printing.proofs.DecimalLaws.{word-short}
-use Rattle.printing.specs.Filling.{filled, fill}
-use Rattle.printing.proofs.FillingLaws.{fill-append, fill-reached}
-
--- a word and a number of at most so many digits
-pub number-within : (word : List ℕ) (n most at : ℕ) (row : List ℕ) → length (decimal n) ≤ most → {r : ℕ} {after : List ℕ} → filled r after ≡ fill (word ++ decimal n) (filled at row) → r ≤ at + length word + most
-number-within word n most at row h e = omega (arith, fill-reached (word ++ decimal n) at row e, length-append word (decimal n))
+use Rattle.printing.specs.Text.{space, firstLine, pairLine, pairLines, listText, pairsIn, told, pairRoom, zeros, handed}
+use Rattle.repairing.specs.Repairing.{cardRoom}
+use Rattle.text_row.specs.Lines.{decimal, lineFeed, refusalLine}
+use Rattle.text_row.proofs.DecimalLaws.{word-short}
+use Rattle.text_row.specs.Filling.{filled, fill}
+use Rattle.text_row.proofs.FillingLaws.{fill-append}
 
 -- a pair's line
 pub pair-short : (key value : ℕ) → key < 2 ^ 32 → value < 2 ^ 32 → length (pairLine key value) ≤ 22

@@ -1,4 +1,2 @@
 -- THE TEXT THAT `list` PRINTS, byte by byte (document 01, "Dumps and the list program")
 pub mod Text
--- A row of bytes that is being filled
-pub mod Filling

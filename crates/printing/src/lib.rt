@@ -2,42 +2,20 @@
 // (document 01, "Dumps and the list program"). The text is made in a row of bytes before it is written, so that the program
 // `replay` compares the very text that `list` prints.
 use listing::Summary;
+use text_row::print_first;
+use text_row::put_all;
+use text_row::put_number;
+use text_row::put_refusal;
 ghost use mathlib.Core.Path.{_≡_};
 ghost use mathlib.Core.List.{_++_};
 ghost use Prim.Native.Nat.{_+_, _*_, _/_, _≤_};
 ghost use lib.ListN.{length, drop};
-ghost use Rattle.printing.specs.Text.{decimal as decimalOf, firstLine, pairLine, pairLines, pairsIn, refusalLine, dumpText};
-ghost use Rattle.printing.specs.Filling.{filled, fill};
+ghost use Rattle.printing.specs.Text.{firstLine, pairLine, pairLines, pairsIn, dumpText};
+ghost use Rattle.text_row.specs.Filling.{filled, fill};
 
 // Room for the longest text: 6,600 pairs, those of 600 leaves, on lines of at most 22 bytes, and a first line with four numbers
 // of at most 20 digits.
 pub type Text = [u8; 145308];
-
-// Puts the bytes into the row from place `at` on. Each of these functions answers where the next byte goes.
-fn put_all(text: &mut [u8], at: usize, bytes: &[u8]) -> usize
-    requires { ⌜ at + length (now bytes) ≤ length (now text) ⌝ }
-    ensures { λ r. ⌜ filled r (now (text .exit)) ≡ fill (now (bytes .entry)) (filled at (now (text .entry))) ⌝ }
-{
-    let mut next = at;
-    let mut i: usize = 0;
-    while i < bytes.len() {
-        text[next] = bytes[i];
-        next += 1;
-        i += 1;
-    }
-    next
-}
-
-// A number after a word and a space.
-fn put_number(text: &mut [u8], at: usize, word: &[u8], number: u64) -> usize
-    requires { ⌜ at + length (now word) + length (decimalOf number) ≤ length (now text) ⌝ }
-    ensures { λ r. ⌜ filled r (now (text .exit)) ≡ fill (now (word .entry) ++ decimalOf number) (filled at (now (text .entry))) ⌝ }
-{
-    let mut digits = [0u8; 20];
-    let k = io::decimal(number, &mut digits);
-    let next = put_all(text, at, word);
-    put_all(text, next, &digits[..k])
-}
 
 // "First line: N, free nodes, internal levels, pairs."
 fn put_summary(text: &mut [u8], s: Summary) -> usize
@@ -77,16 +55,6 @@ fn put_pairs(text: &mut [u8], at: usize, words: &[u32]) -> usize
     next
 }
 
-// "Refused, it prints `refused ` and the number only."
-fn put_refusal(text: &mut [u8], refusal: u32) -> usize
-    requires { ⌜ 19 ≤ length (now text) ⌝ }
-    ensures { λ r. ⌜ filled r (now (text .exit)) ≡ fill (refusalLine refusal) (filled 0 (now (text .entry))) ⌝ }
-    ensures { λ r. ⌜ r ≤ length (now (text .entry)) ⌝ }
-{
-    let next = put_number(text, 0, b"refused ", refusal as u64);
-    put_all(text, next, b"\n")
-}
-
 // What `list` prints for a dump, from the start of the row on; the answer is how many bytes it is. The words are those of 600
 // nodes, and the pairs those of 600 leaves.
 pub fn list_text(dump: &[u8], text: &mut Text) -> usize
@@ -104,12 +72,9 @@ pub fn list_text(dump: &[u8], text: &mut Text) -> usize
     put_pairs(text, first, &out[..words])
 }
 
-// Writes the first n bytes of the row.
+// As a slice, from its start.
 fn print_text(text: &Text, n: usize) {
-    let all: &[u8] = text;
-    if n <= all.len() {
-        io::write_all(1, &all[0..n]);
-    }
+    print_first(text, n);
 }
 
 // What the program `list` prints for a dump.

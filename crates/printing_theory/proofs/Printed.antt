@@ -22,9 +22,10 @@ use Rattle.listing.specs.Summaries.{summarized, summaryOf}
 use Rattle.listing.proofs.SummaryLaws.{card-refused, dump-refused, dump-read}
 use Rattle.listing_theory.proofs.Right.{listing-right}
 use Rattle.listing_theory.proofs.Room.{pairWords, all-laid}
-use Rattle.printing.specs.Text.{listText, pairsIn, told, cardRoom, pairRoom, zeros, handed, dumpText}
+use Rattle.printing.specs.Text.{listText, pairsIn, told, pairRoom, zeros, handed, dumpText}
 use Rattle.promises.proofs.Accepting.{accepted-table}
 use Rattle.promises.proofs.Promise.{Accepted}
+use Rattle.repairing.specs.Repairing.{cardRoom}
 use Rattle.soundness.specs.Check.{Findings, tableCheck}
 use Rattle.state.specs.Steps.{noBeginning}
 use Rattle.state.specs.declared.Begun.{Begun}

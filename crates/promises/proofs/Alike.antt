@@ -49,7 +49,7 @@ use Rattle.tree.proofs.Reading.{leaf-keys}
 use Rattle.tree.proofs.Represent.{link-place}
 use Rattle.tree.specs.Tree.{Tree, node-total}
 use Rattle.tree.specs.Violations.{table-violations}
-use Rattle.updates.specs.Updates.{landing, insertReason, reasonIn, emptyReason, roomFor, startRoom}
+use Rattle.updates.specs.Updates.{landing, insertReason, reasonIn, emptyReason, splitNeed, roomFor, startRoom}
 
 -- what a whole call comes to
 pub data Outcome : Type 0 where
@@ -190,9 +190,9 @@ module _ (n steps : ℕ) (w : World) (b : Ledger) (due : Option Answer) (i : Inv
           by-empty NoSlot e₀ e =
               let c = resting-goal .1 in
               rw (e, e₀, found NoSlot e, need NoSlot e₀)
-              (ap not (order (countTrue (w .memory .free)) (full-run (g .context) + 5)
-              (λ o. lt-ltb (countTrue (w .memory .free)) (full-run (g .context) + 5) o ∙ sym (lt-ltb n (node-total (λ m. 1) t + (full-run (g .context) + 5)) (omega arith)))
-              (λ o. le-ltb (countTrue (w .memory .free)) (full-run (g .context) + 5) o ∙ sym (le-ltb n (node-total (λ m. 1) t + (full-run (g .context) + 5)) (omega arith)))))
+              (ap not (order (countTrue (w .memory .free)) (splitNeed (full-run (g .context)))
+              (λ o. lt-ltb (countTrue (w .memory .free)) (splitNeed (full-run (g .context))) o ∙ sym (lt-ltb n (node-total (λ m. 1) t + (splitNeed (full-run (g .context)))) (omega arith)))
+              (λ o. le-ltb (countTrue (w .memory .free)) (splitNeed (full-run (g .context))) o ∙ sym (le-ltb n (node-total (λ m. 1) t + (splitNeed (full-run (g .context)))) (omega arith)))))
 
           by-key : (s : Slot) → slotOf (nodeAt (w .card) (g .number)) key ≡ s
               → roomFor (w .memory .free) (full-run (g .context)) (insertReason (nodeAt (w .card) (g .number)) key) ≡ not (both (is-absent (lookup key (pairs t))) (ltb n (node-total (λ m. 1) t + needOf key 0 t)))

@@ -18,7 +18,7 @@ use Rattle.promises.proofs.Feeding.{is-none, full-at, leaf-full}
 use Rattle.promises.proofs.Machine.{run}
 use Rattle.table.specs.Calls.{stepPrepared, stepBegin}
 use Rattle.state.specs.Memory.{Memory}
-use Rattle.updates.specs.Updates.{landing, emptyReason, reasonIn, insertReason, insertChange, deleteChange, roomFor, startRoom, changeIn, changeAt}
+use Rattle.updates.specs.Updates.{landing, emptyReason, reasonIn, insertReason, insertChange, deleteChange, splitNeed, roomFor, startRoom, changeIn, changeAt}
 use Rattle.state.specs.declared.Doing.the-variants.{Inserting, Deleting}
 use Rattle.state.specs.declared.Answer.the-variants.{Absent, Value}
 use Rattle.descent.specs.declared.Slot.the-variants.{At, Absent as NoSlot}
@@ -50,12 +50,12 @@ module _ (c : List ℕ) (n key : ℕ) (m link run : ℕ) (land : landing c n key
     remove-absent e = rw (land, e)
 
   -- "A splitting insert needs j + 5 free nodes."
-  pub room-full : (free : List Bool) → slotOf (nodeAt c m) key ≡ NoSlot → slotOf (nodeAt c m) 0 ≡ NoSlot → startRoom c key free (landing c n key) ≡ true → run + 5 ≤ countTrue free
+  pub room-full : (free : List Bool) → slotOf (nodeAt c m) key ≡ NoSlot → slotOf (nodeAt c m) 0 ≡ NoSlot → startRoom c key free (landing c n key) ≡ true → splitNeed run ≤ countTrue free
   unfolding startRoom roomFor insertReason reasonIn emptyReason
-  room-full free e z r = let q : not (ltb (countTrue free) (run + 5)) ≡ true = rw (land, e, z) at r in order (countTrue free) (run + 5) (λ o. absurd (never o q)) (λ o. o)
+  room-full free e z r = let q : not (ltb (countTrue free) (splitNeed run)) ≡ true = rw (land, e, z) at r in order (countTrue free) (splitNeed run) (λ o. absurd (never o q)) (λ o. o)
     where
-      never : countTrue free < run + 5 → not (ltb (countTrue free) (run + 5)) ≡ true → ⊥
-      never o q = let k : _≡_ {A = Bool} false true = rw (lt-ltb (countTrue free) (run + 5) o) at q in let y : _≡_ {A = ℕ} 0 1 = cc in omega arith
+      never : countTrue free < splitNeed run → not (ltb (countTrue free) (splitNeed run)) ≡ true → ⊥
+      never o q = let k : _≡_ {A = Bool} false true = rw (lt-ltb (countTrue free) (splitNeed run) o) at q in let y : _≡_ {A = ℕ} 0 1 = cc in omega arith
 
   pub flag-slot : (i : ℕ) → slotOf (nodeAt c m) 0 ≡ At i → leaf-full c n key ≡ false
   unfolding leaf-full full-at is-none

@@ -38,7 +38,7 @@ use Rattle.laws.proofs.Totals.{indicator-other, indicator-le}
 use Rattle.promises.proofs.LeafAfter.{LeafAfter, ready-after, on-path, two-pairs, leaf-after}
 use Rattle.promises.proofs.Ledger.{Update, put, remove}
 use Rattle.promises.proofs.LedgerLaws.{Enters, enters-put, enters-remove}
-use Rattle.updates.specs.Updates.{held}
+use Rattle.updates.specs.Updates.{held, splitNeed}
 use Rattle.tree.proofs.Cut.{cut}
 use Rattle.tree.proofs.InPlace.{value-stored, key-stored, slot-pairs-out, slot-pairs-in, length-total}
 use Rattle.tree.proofs.Lookup.{key-once}
@@ -185,7 +185,7 @@ module _ (c : List ℕ) (n key : ℕ) (free : List Bool) (C : Context) (m : ℕ)
 
     -- "Leaf full: the 12 pairs go 6 and 6 into two leaves under a tagged node (internal if it is the root)"
     module _ (v : ℕ) (ms : List ℕ) (three : length ms ≡ 3) (given : Given free ms) (len : length c ≡ 8 + 24 * n) (fits : n < capacity) (full-leaf : length (slot-pairs ks vs) ≡ 11)
-        (absent : total (has-key key) (pairs (plug C (leaf m ks vs))) ≡ 0) (spare : full-run C + 5 ≤ countTrue free)
+        (absent : total (has-key key) (pairs (plug C (leaf m ks vs))) ≡ 0) (spare : splitNeed (full-run C) ≤ countTrue free)
       where
         abbrev pub nodes : List NewNode
         nodes = splitNodes C (first ms) (second ms) (third ms) (withPair key v ks vs)

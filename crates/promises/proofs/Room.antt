@@ -3,11 +3,11 @@
 use mathlib.Core.Path.{_≡_, ap, _∙_}
 use mathlib.Core.List.{List}
 use mathlib.Core.Bool.{Bool, true, false}
-use Prim.Native.Nat.{ℕ, _+_, _≤_, _<_}
+use Prim.Native.Nat.{ℕ, _≤_, _<_}
 use Rattle.state.specs.Answers.{stepReply}
 use Rattle.state.specs.Steps.{Handed}
 use Rattle.starting.specs.Starts.{startRefused, started, insertOf, deleteOf}
-use Rattle.updates.specs.Updates.{full, landing, insertReason, startRoom}
+use Rattle.updates.specs.Updates.{full, landing, insertReason, splitNeed, startRoom}
 use Rattle.state.specs.declared.Doing.the-variants.{Idle, Inserting, Deleting}
 use Rattle.state.specs.declared.Begun.the-variants.{Started}
 use Rattle.card.specs.Layout.{lowestKey, keyLimit, nodeAt}
@@ -61,11 +61,11 @@ module _ (w : World) (l : List (ℕ × ℕ)) (begins : Begins w l) (es : List Ev
 
     module _ (key value : ℕ) (low : lowestKey ≤ key) (high : key < keyLimit) (leaf j : ℕ) (leads : LeadsTo (run es w) key leaf j) where
       -- "A splitting insert needs j + 5 free nodes", and with them it is started and finishes
-      pub splitting-insert-works : insertReason (nodeAt (run es w .card) leaf) key ≡ full → j + 5 ≤ countTrue (run es w .memory .free) → InsertWorks (run es w) (kept-ledger es w (ledger l empty) .held) key value
+      pub splitting-insert-works : insertReason (nodeAt (run es w .card) leaf) key ≡ full → splitNeed j ≤ countTrue (run es w .memory .free) → InsertWorks (run es w) (kept-ledger es w (ledger l empty) .held) key value
       splitting-insert-works e h = insert-works key value low high (room-at _ _ key _ leaf (leads .0) j (leads .1) ∙ room-enough _ j _ e h)
 
       -- "8: key absent, leaf full, free nodes fewer than j + 5"
-      pub splitting-insert-refused : insertReason (nodeAt (run es w .card) leaf) key ≡ full → countTrue (run es w .memory .free) < j + 5 → insertOf (run es w .card) (run es w .memory) key value ≡ startRefused 8 (run es w .memory)
+      pub splitting-insert-refused : insertReason (nodeAt (run es w .card) leaf) key ≡ full → countTrue (run es w .memory .free) < splitNeed j → insertOf (run es w .card) (run es w .memory) key value ≡ startRefused 8 (run es w .memory)
       splitting-insert-refused e h = insert-decided key value low high false (room-at _ _ key _ leaf (leads .0) j (leads .1) ∙ room-short _ j _ e h)
 
       -- a key that is held, or a leaf with an empty slot, needs no room

@@ -2,13 +2,13 @@
 use mathlib.Core.Path.{_≡_, refl, ap}
 use mathlib.Core.List.{List}
 use mathlib.Core.Bool.{Bool, true, false}
-use Prim.Native.Nat.{ℕ, _+_, _≤_, _<_}
+use Prim.Native.Nat.{ℕ, _≤_, _<_}
 use borrow.Author.Tests.{lt-ltb, le-ltb}
 use Rattle.card.specs.Layout.{nodeAt}
 use Rattle.free_nodes.specs.NodeSet.{countTrue}
 use Rattle.starting.specs.Starts.{started}
 use Rattle.state.specs.Memory.{Memory}
-use Rattle.updates.specs.Updates.{Reason, held, slot, full, landing, insertReason, roomFor, startRoom}
+use Rattle.updates.specs.Updates.{Reason, held, slot, full, landing, insertReason, splitNeed, roomFor, startRoom}
 use Rattle.state.specs.declared.Doing.{Doing}
 use Rattle.state.specs.declared.Begun.the-variants.{Started}
 use Rattle.descent.specs.declared.Landing.the-variants.{Leaf as LandingAt}
@@ -17,13 +17,13 @@ pub room-at : (c : List ℕ) (n key : ℕ) (free : List Bool) (leaf link j : ℕ
 unfolding startRoom
 room-at c n key free leaf link j e = ap (startRoom c key free) e
 
-pub room-enough : (free : List Bool) (j : ℕ) (x : Reason) → x ≡ full → j + 5 ≤ countTrue free → roomFor free j x ≡ true
+pub room-enough : (free : List Bool) (j : ℕ) (x : Reason) → x ≡ full → splitNeed j ≤ countTrue free → roomFor free j x ≡ true
 unfolding roomFor
-room-enough free j x e h = rw (e, le-ltb (countTrue free) (j + 5) h)
+room-enough free j x e h = rw (e, le-ltb (countTrue free) (splitNeed j) h)
 
-pub room-short : (free : List Bool) (j : ℕ) (x : Reason) → x ≡ full → countTrue free < j + 5 → roomFor free j x ≡ false
+pub room-short : (free : List Bool) (j : ℕ) (x : Reason) → x ≡ full → countTrue free < splitNeed j → roomFor free j x ≡ false
 unfolding roomFor
-room-short free j x e h = rw (e, lt-ltb (countTrue free) (j + 5) h)
+room-short free j x e h = rw (e, lt-ltb (countTrue free) (splitNeed j) h)
 
 pub room-other : (free : List Bool) (j : ℕ) (x : Reason) → (x ≡ full → ⊥) → roomFor free j x ≡ true
 unfolding roomFor

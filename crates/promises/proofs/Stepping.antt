@@ -48,7 +48,7 @@ use Rattle.soundness_theory.proofs.Found.{found}
 use Rattle.state.specs.Steps.{Step, stepRefused, isIdle}
 use Rattle.table.specs.Calls.{stepPrepared, stepOf}
 use Rattle.state.specs.Memory.{Memory, idled, advanced}
-use Rattle.updates.specs.Updates.{landing, startRoom}
+use Rattle.updates.specs.Updates.{landing, splitNeed, startRoom}
 use Rattle.state.specs.declared.Doing.{Doing}
 use Rattle.state.specs.declared.Doing.the-variants.{Idle, Inserting, Deleting}
 use Rattle.state.specs.declared.Answer.{Answer}
@@ -345,7 +345,7 @@ module _ (n steps : ℕ) (c : List ℕ) (t : Tree) (b : Table c n t) (o : Openab
           ∙ giving-some 3 free last _ ms e₁
           ∙ ap (λ (q : List Store). prepared q (withoutAll ms free) (lastOf last ms) (g .number ∷ [])) (change-stores (g .context) _ (third ms) (g .number ∷ []))
 
-      go : ((ms : List ℕ) × (takeNumbers 3 free last ≡ some ms) × (length ms ≡ 3) × Given free ms) → 73 + 73 * depth-of (g .context) ≤ steps → length (slot-pairs (g .keys) (g .values)) ≡ 11 → full-run (g .context) + 5 ≤ countTrue free → total (has-key key) (pairs t) ≡ 0 → settledBy depthLimit (firstShape (put key value) (bare t)) ≡ goal
+      go : ((ms : List ℕ) × (takeNumbers 3 free last ≡ some ms) × (length ms ≡ 3) × Given free ms) → 73 + 73 * depth-of (g .context) ≤ steps → length (slot-pairs (g .keys) (g .values)) ≡ 11 → splitNeed (full-run (g .context)) ≤ countTrue free → total (has-key key) (pairs t) ≡ 0 → settledBy depthLimit (firstShape (put key value) (bare t)) ≡ goal
           → Goal (memory n free last (Inserting key value false) [] []) (hand (put key value) true 0 false) (some Absent)
       go (ms, e₁, three, gv) way eleven spare none-held reach = split (stores ms) refl
         where
@@ -353,7 +353,7 @@ module _ (n steps : ℕ) (c : List ℕ) (t : Tree) (b : Table c n t) (o : Openab
           p = at (g .context) (g .number) (g .keys) (g .values) (rw (g .is-tree) (b .holds)) (rw (g .is-tree) (b .sound)) (rw (g .is-tree) z) (rw (g .is-tree) x) (g .leads) eleven (rw (g .is-tree) none-held) spare (row-slot key 0 g ∙ e₀)
             where
               at : (C : Context) (m : ℕ) (ks vs : List ℕ) → Holds c (plug C (leaf m ks vs)) → Sound (plug C (leaf m ks vs)) → table-violations (plug C (leaf m ks vs)) ≡ 0 → Exact n free (plug C (leaf m ks vs)) → Leads key C → length (slot-pairs ks vs) ≡ 11
-                  → total (has-key key) (pairs (plug C (leaf m ks vs))) ≡ 0 → full-run C + 5 ≤ countTrue free → firstEqual ks 0 0 ≡ NoSlot
+                  → total (has-key key) (pairs (plug C (leaf m ks vs))) ≡ 0 → splitNeed (full-run C) ≤ countTrue free → firstEqual ks 0 0 ≡ NoSlot
                   → First c n key (plug C (leaf m ks vs)) (node-stores (splitNodes C (first ms) (second ms) (third ms) (withPair key value ks vs)) ++ (link-place C, third ms) ∷ []) (withoutAll ms free) (m ∷ []) (put key value) (depth-of C)
               at C m ks vs h s z x w full-leaf a sp e₂ =
                   record {

@@ -16,11 +16,12 @@ use Rattle.shapes.proofs.Ways.{Reaches, bare-reaches}
 use Rattle.tree.proofs.Path.{Past, Short, depth-of, width-of, full-run}
 use Rattle.tree.specs.Tree.{Tree, Forest, roots, leaf, node, one, more}
 use Rattle.tree.proofs.Tree.{Left, Right, fill, Context, plug, rightmost, followed, top, down}
+use Rattle.updates.specs.Updates.{splitNeed}
 
 -- the room that the leaf asks for, with so many full nodes straight above it
 unfoldable pub leafNeed : Slot → ℕ → ℕ
 leafNeed (At i) run = 0
-leafNeed NoSlot run = run + 5
+leafNeed NoSlot run = splitNeed run
 
 unfoldable mutual
   pub needOf : ℕ → ℕ → Tree → ℕ

@@ -3,7 +3,7 @@ use mathlib.Core.Path.{_≡_, refl, ap, sym, _∙_}
 use mathlib.Core.List.{List}
 use mathlib.Core.Bool.{Bool, true, false, not}
 use mathlib.Core.Logic.{by-cases}
-use Prim.Native.Nat.{ℕ, _+_, _-_, _≤_, _<_}
+use Prim.Native.Nat.{ℕ, _-_, _≤_, _<_}
 use native.Mathlib.Omega.{arith}
 use native.Mathlib.Decide.{ℕ-discrete}
 use lib.ListN.{length, set}
@@ -19,7 +19,7 @@ use Rattle.state.specs.Steps.{Handed, isIdle, noBeginning}
 use Rattle.starting.specs.Starts.{formatOf, startRefused, started, startLanded, startChecked, startOf}
 use Rattle.state.specs.Memory.{Memory, resting}
 use Rattle.starting.specs.Refusals.{isSlot, startRefusal, landingRefusal, dueRefusal, begunBy}
-use Rattle.updates.specs.Updates.{landing, emptyReason, reasonIn, insertReason, roomFor}
+use Rattle.updates.specs.Updates.{landing, emptyReason, reasonIn, insertReason, splitNeed, roomFor}
 use Rattle.descent.specs.declared.Slot.{Slot}
 use Rattle.descent.specs.declared.Slot.the-variants.{At, Absent as NoSlot}
 use Rattle.descent.specs.declared.Landing.{Landing}
@@ -133,7 +133,7 @@ unfolding isSlot roomFor emptyReason
 empty-slot run free (At i) h = refl
 empty-slot run free NoSlot h = let z : _≡_ {A = ℕ} 0 1 = cc in absurd (omega arith)
 
-full-slot : (run : ℕ) (free : List Bool) (t : Slot) → isSlot t ≡ false → roomFor free run (emptyReason t) ≡ not (ltb (countTrue free) (run + 5))
+full-slot : (run : ℕ) (free : List Bool) (t : Slot) → isSlot t ≡ false → roomFor free run (emptyReason t) ≡ not (ltb (countTrue free) (splitNeed run))
 unfolding isSlot roomFor emptyReason
 full-slot run free (At i) h = let z : _≡_ {A = ℕ} 0 1 = cc in absurd (omega arith)
 full-slot run free NoSlot h = refl
@@ -148,17 +148,17 @@ module _ (leaf : List ℕ) (key run : ℕ) (free : List Bool) where
     unfolding insertReason
     room-slot e = ap (roomFor free run) (absent-reason leaf (slotOf leaf key) a) ∙ empty-slot run free (slotOf leaf 0) e
 
-    pub room-full : isSlot (slotOf leaf 0) ≡ false → roomFor free run (insertReason leaf key) ≡ not (ltb (countTrue free) (run + 5))
+    pub room-full : isSlot (slotOf leaf 0) ≡ false → roomFor free run (insertReason leaf key) ≡ not (ltb (countTrue free) (splitNeed run))
     unfolding insertReason
     room-full e = ap (roomFor free run) (absent-reason leaf (slotOf leaf key) a) ∙ full-slot run free (slotOf leaf 0) e
 
-pub not-scarce : (count run : ℕ) → count < run + 5 → not (ltb count (run + 5)) ≡ false
-not-scarce count run h = ap not (lt-ltb count (run + 5) h)
+pub not-scarce : (count run : ℕ) → count < splitNeed run → not (ltb count (splitNeed run)) ≡ false
+not-scarce count run h = ap not (lt-ltb count (splitNeed run) h)
 
-pub not-enough : (count run : ℕ) → 5 ≤ count → not (ltb count (run + 5)) ≡ leb run (count - 5)
+pub not-enough : (count run : ℕ) → splitNeed 0 ≤ count → not (ltb count (splitNeed run)) ≡ leb run (count - splitNeed 0)
 not-enough count run h =
-    order count (run + 5) (λ o. ap not (lt-ltb count (run + 5) o) ∙ sym (lt-leb run (count - 5) (omega arith)))
-    (λ o. ap not (le-ltb count (run + 5) o) ∙ sym (le-leb run (count - 5) (omega arith)))
+    order count (splitNeed run) (λ o. ap not (lt-ltb count (splitNeed run) o) ∙ sym (lt-leb run (count - splitNeed 0) (omega arith)))
+    (λ o. ap not (le-ltb count (splitNeed run) o) ∙ sym (le-leb run (count - splitNeed 0) (omega arith)))
 
 -- a start that is no refusal
 pub started-no-refusal : (n : ℕ) → _≡_ {A = Begun} Started (BegunRefused n) → ⊥

@@ -58,7 +58,7 @@ fn has_word(leaf: &[u32], word: u32) -> bool
     }
 }
 
-// "A splitting insert needs j + 5 free nodes." The run may be any number here, so 5 is taken from the free nodes.
+// "A splitting insert needs j + 5 free nodes." The run may be any number here, so the 5 are taken from the free nodes.
 fn has_room(leaf: &[u32], key: u32, free: NodeSet, run: usize) -> bool
     requires { ⌜ length (now leaf) ≡ 24 ⌝ }
     ensures { λ r. ⌜ r ≡ roomFor (nodesOf (free .words)) run (insertReason (now (leaf .entry)) key) ⌝ }
@@ -70,10 +70,10 @@ fn has_room(leaf: &[u32], key: u32, free: NodeSet, run: usize) -> bool
         return true;
     }
     let count = free_nodes::count(free);
-    if count < 5 {
+    if count < updates::SPLIT_NEED {
         return false;
     }
-    run <= count - 5
+    run <= count - updates::SPLIT_NEED
 }
 
 // The same of an update that may split its leaf, or of one that never does and so needs no room.

@@ -2,9 +2,10 @@
 use mathlib.Core.Path.{_≡_, refl, ap, sym, _∙_}
 use mathlib.Core.List.{List, [], _∷_}
 use mathlib.Core.Bool.{Bool, true, false}
-use Prim.Native.Nat.{ℕ, zero, suc, _+_, _^_, _<_}
+use Prim.Native.Nat.{ℕ, zero, suc, _+_, _^_, _≤_, _<_}
 use native.Mathlib.Omega.{arith}
 use lib.ListN.{length, getD}
+use lib.Dec.{eqb}
 use borrow.Author.Tests.{ne-eqb}
 use Rattle.card.specs.Header.{Sized}
 use Rattle.card.specs.Layout.{depthLimit, rootPlace, place, nodeAt, keyWords, valueWords, children, slot-pairs, leafPairs}
@@ -12,6 +13,7 @@ use Rattle.card.proofs.NodeLaws.{length-node, length-keyWords, length-valueWord
 use Rattle.descent.specs.Descent.{childIndex, firstEqual, slotOf, turnAt, runBelow, onTurnLanding, landingFor}
 use Rattle.descent.proofs.DescentLaws.{index-le, turn-inside}
 use Rattle.laws.specs.Cases.{pick}
+use Rattle.laws.proofs.Cases.{bool-cases}
 use Rattle.descent.proofs.Inside.{Inside, landing-inside}
 use Rattle.updates.specs.Updates.{landing, Reason, insertReason, insertChange, deleteChange, noChange, changeIn, changeAt, repairs, nextChange, held, slot, full}
 use Rattle.descent.specs.declared.Slot.{Slot}
@@ -71,6 +73,35 @@ module _ (card : List ℕ) (n key m link run : ℕ) (fits : Sized (length card) 
         inside = landing-inside card n key m link run depthLimit rootPlace 0 (getD card rootPlace 0) e;
         linked = landing-linked depthLimit rootPlace 0 (getD card rootPlace 0) (omega arith) e;
       }
+
+-- each level passed adds at most one to the run of 11-child nodes above
+run-short : (width above : ℕ) → runBelow width above ≤ suc above
+unfolding runBelow
+run-short width above = bool-cases (eqb width 11) (λ yes. rw yes (omega arith)) (λ no. rw no (omega arith))
+
+module _ (card : List ℕ) (n key m link run : ℕ) where
+  landing-run : (levels from above at : ℕ) → landingFor card n key levels from above at ≡ LandingAt m link run → run ≤ above + levels
+  unfolding landingFor onTurnLanding
+  landing-run zero from above at e = go (turnAt card n key at) e
+    where
+      go : (t : Turn) → onTurnLanding at from above (λ child. NoLanding) t ≡ LandingAt m link run → run ≤ above + 0
+      go NoTurn r = let z : _≡_ {A = ℕ} 0 1 = cc in absurd (omega arith)
+      go TurnLeaf r = let z : above ≡ run = cc in omega arith
+      go (TurnDown child) r = let z : _≡_ {A = ℕ} 0 1 = cc in absurd (omega arith)
+  landing-run (suc levels) from above at e = go (landing-run levels (place at (12 + childIndex (nodeAt card at) key)) (runBelow (length (children (nodeAt card at))) above)) (turnAt card n key at) e
+    where
+      go : ((child : ℕ) → landingFor card n key levels (place at (12 + childIndex (nodeAt card at) key)) (runBelow (length (children (nodeAt card at))) above) child ≡ LandingAt m link run
+          → run ≤ runBelow (length (children (nodeAt card at))) above + levels)
+          → (t : Turn)
+          → onTurnLanding at from above (landingFor card n key levels (place at (12 + childIndex (nodeAt card at) key)) (runBelow (length (children (nodeAt card at))) above)) t ≡ LandingAt m link run → run ≤ above + suc levels
+      go next NoTurn r = let z : _≡_ {A = ℕ} 0 1 = cc in absurd (omega arith)
+      go next TurnLeaf r = let z : above ≡ run = cc in omega arith
+      go next (TurnDown child) r = omega (arith, next child r, run-short (length (children (nodeAt card at))) above)
+
+  -- the run above a leaf is no longer than the way to it
+  pub landed-run : landing card n key ≡ LandingAt m link run → run ≤ depthLimit
+  unfolding landing
+  landed-run e = omega (arith, landing-run depthLimit rootPlace 0 (getD card rootPlace 0) e)
 
 -- the final answer of a first change is no refusal
 insert-final-in : (key value : ℕ) (free : List Bool) (last m link : ℕ) (node : List ℕ) (r : Reason) (n : ℕ) → insertChange key value free last m link node r .final ≡ Refused n → ⊥

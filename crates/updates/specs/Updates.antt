@@ -92,10 +92,14 @@ nextChange card n free last (Deleting key true value) = repairs card n key (Dele
 nextChange card n free last (Repairing key) = repairs card n key (Repairing key) Ready free last
 
 -- "A splitting insert needs j + 5 free nodes."
+abbrev pub splitNeed : ℕ → ℕ
+splitNeed j = j + 5
+
+-- whether an insert has the free nodes that it needs, by what it finds in its leaf
 unfoldable pub roomFor : List Bool → ℕ → Reason → Bool
 roomFor free run (held v) = true
 roomFor free run (slot i) = true
-roomFor free run full = not (ltb (countTrue free) (run + 5))
+roomFor free run full = not (ltb (countTrue free) (splitNeed run))
 
 unfoldable pub startRoom : List ℕ → ℕ → List Bool → Landing → Bool
 startRoom card key free NoLanding = true

@@ -18,6 +18,9 @@ ghost use Rattle.laws.specs.Cases.{pick};
 ghost use Rattle.updates.specs.Updates.{landing, emptyReason, insertReason, insertChange, deleteChange, repairs, noChange, changeIn, changeAt, nextChange};
 ghost use Rattle.updates.specs.Results.{firstOf, InAnyRows};
 
+// "A splitting insert needs j + 5 free nodes": those that it needs beyond j. The only place in code where the number stands.
+pub const SPLIT_NEED: usize = 5;
+
 // The first change of an update, what is then being done, and the final answer where there is nothing to change.
 pub struct First {
     pub doing: Doing,

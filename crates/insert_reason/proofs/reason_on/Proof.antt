@@ -1,14 +1,15 @@
 -- `insert_reason::reason_on` meets its contract.
 use mathlib.Core.Path.{ap, sym, _∙_}
 use mathlib.Core.List.{List}
-use Prim.Native.Nat.{ℕ, _<_}
+use Prim.Native.Nat.{ℕ, _≤_, _<_}
 use native.Mathlib.Omega.{arith}
 use lib.ListN.{length}
 use Rattle.card.specs.Header.{Sized}
+use Rattle.card.specs.Layout.{depthLimit}
 use Rattle.card.proofs.HeaderLaws.{sized}
 use Rattle.card.proofs.NodeLaws.{length-node}
 use Rattle.free_nodes.specs.NodeSet.{nodesOf, countTrue}
-use Rattle.updates.proofs.UpdateLaws.{Landed, landed}
+use Rattle.updates.proofs.UpdateLaws.{Landed, landed, landed-run}
 use Rattle.updates.specs.Updates.{landing, insertReason}
 use Rattle.insert_reason.specs.InsertReason.{reasonFor, reasonLanded}
 use Rattle.insert_reason.proofs.InsertReasonLaws.{on-no-length, on-no-key, on-key}
@@ -22,6 +23,13 @@ whole c = sized (c .before .before .before .args .card .now) (c .before .nodes-o
 leaf : (c : tie.After-node) → Landed (c .before .before .before .before .before .before .nodes-of .result) (c .node .given .0 .0) (c .node .given .0 .1 .0)
 unfolding landing
 leaf c = landed (c .before .before .before .before .before .before .before .before .args .card .now) (c .before .before .before .before .before .before .nodes-of .result) (c .before .before .before .before .before .before .before .before .args .key) (c .node .given .0 .0) (c .node .given .0 .1 .0) (c .node .given .0 .1 .1 .0) (whole (c .before .before .before .before .before)) (sym (c .before .before .find-landing .ensures) ∙ c .node .given .1)
+
+-- the run above the leaf
+few : (c : tie.After-node) → c .node .given .0 .1 .1 .0 ≤ depthLimit
+unfolding landing
+few c =
+    let s = c .before .before .before .before .before .before .before .before in
+    landed-run (s .args .card .now) (c .before .before .before .before .before .before .nodes-of .result) (s .args .key) (c .node .given .0 .0) (c .node .given .0 .1 .0) (c .node .given .0 .1 .1 .0) (sym (c .before .before .find-landing .ensures) ∙ c .node .given .1)
 
 nodes-of-requires : tie.Need-nodes-of-requires
 nodes-of-requires c κs = search needs
@@ -51,7 +59,11 @@ node-at-requires : tie.Need-node-at-requires
 node-at-requires c κs = let k = leaf (c .before) in let h = whole (c .before .before .before .before .before .before) in (k .inside .one, omega (arith, k .inside .most, h .most), omega (arith, k .inside .most, h .words))
 
 reason-in-requires : tie.Need-reason-in-requires
-reason-in-requires c κs = let k = leaf (c .before .before) in let h = whole (c .before .before .before .before .before .before .before) in ap length (c .node-at .ensures) ∙ length-node (c .before .before .before .before .before .before .before .before .before .before .args .card .now) (c .before .before .node .given .0 .0) (k .inside .one) (omega (arith, k .inside .most, h .words))
+reason-in-requires c κs =
+    let s = c .before .before .before .before .before .before .before .before .before .before in
+    let k = leaf (c .before .before) in
+    let h = whole (c .before .before .before .before .before .before .before) in
+    (ap length (c .node-at .ensures) ∙ length-node (s .args .card .now) (c .before .before .node .given .0 .0) (k .inside .one) (omega (arith, k .inside .most, h .words)), few (c .before .before))
 
 returns-3 : tie.Need-returns-3
 unfolding landing reasonLanded

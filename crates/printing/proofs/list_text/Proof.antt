@@ -5,8 +5,8 @@ use native.Mathlib.Omega.{arith}
 use lib.ListN.{length, take, length-take, length-replicate}
 use borrow.Author.Needs.{needs}
 use Rattle.printing.specs.Text.{firstLine, pairLines, pairsIn, listText, told, pairRoom, handed, dumpText}
-use Rattle.printing.specs.Filling.{filled, fill}
-use Rattle.printing.proofs.FillingLaws.{fill-then, fill-whole}
+use Rattle.text_row.specs.Filling.{filled, fill}
+use Rattle.text_row.proofs.FillingLaws.{fill-then, fill-whole}
 use Rattle.printing.proofs.TextLaws.{told-refused, told-listed, handed-is, words-fit}
 use Rattle.printing.proofs.list_text.Statement.{statement}
 use Rattle.printing.proofs.list_text.Tie as tie

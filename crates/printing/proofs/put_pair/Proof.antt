@@ -2,10 +2,10 @@ use mathlib.Core.List.{[], _++_}
 use Prim.Native.Nat.{_+_, _≤_}
 use native.Mathlib.Omega.{arith}
 use borrow.Author.Needs.{needs}
-use Rattle.printing.specs.Text.{decimal, lineFeed, space, pairLine}
-use Rattle.printing.proofs.FillingLaws.{fill-then}
-use Rattle.printing.proofs.DecimalLaws.{word-short}
-use Rattle.printing.proofs.TextLaws.{number-within}
+use Rattle.printing.specs.Text.{space, pairLine}
+use Rattle.text_row.specs.Lines.{decimal, lineFeed}
+use Rattle.text_row.proofs.FillingLaws.{fill-then, number-within}
+use Rattle.text_row.proofs.DecimalLaws.{word-short}
 use Rattle.printing.proofs.put_pair.Statement.{statement}
 use Rattle.printing.proofs.put_pair.Tie as tie
 

@@ -4,8 +4,8 @@ use native.Mathlib.Omega.{arith}
 use lib.ListN.{length, getD, drop}
 use borrow.Author.Needs.{needs}
 use Rattle.printing.specs.Text.{pairLine, pairLines, pairsIn}
-use Rattle.printing.specs.Filling.{filled, fill}
-use Rattle.printing.proofs.FillingLaws.{fill-reached}
+use Rattle.text_row.specs.Filling.{filled, fill}
+use Rattle.text_row.proofs.FillingLaws.{fill-reached}
 use Rattle.printing.proofs.TextLaws.{pair-short, lines-next, lines-end}
 use Rattle.printing.proofs.put_pairs.Statement.{statement}
 use Rattle.printing.proofs.put_pairs.Tie as tie

@@ -3,10 +3,10 @@ use Prim.Native.Nat.{_/_, _≤_}
 use native.Mathlib.Omega.{arith}
 use lib.ListN.{length}
 use borrow.Author.Needs.{needs}
-use Rattle.printing.specs.Text.{decimal, lineFeed, nodesWord, freeWord, levelsWord, pairsWord, firstLine}
-use Rattle.printing.proofs.FillingLaws.{fill-then, fill-reached}
-use Rattle.printing.proofs.DecimalLaws.{number-short}
-use Rattle.printing.proofs.TextLaws.{number-within}
+use Rattle.printing.specs.Text.{nodesWord, levelsWord, pairsWord, firstLine}
+use Rattle.text_row.specs.Lines.{decimal, lineFeed, freeWord}
+use Rattle.text_row.proofs.FillingLaws.{fill-then, fill-reached, number-within}
+use Rattle.text_row.proofs.DecimalLaws.{number-short}
 use Rattle.printing.proofs.put_summary.Statement.{statement}
 use Rattle.printing.proofs.put_summary.Tie as tie
 

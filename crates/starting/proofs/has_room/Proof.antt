@@ -4,6 +4,7 @@ use Prim.Native.Nat.{ℕ, _-_}
 use native.Mathlib.Omega.{arith}
 use lib.Dec.{leb}
 use Rattle.free_nodes.specs.NodeSet.{nodesOf, countTrue}
+use Rattle.updates.specs.Updates.{splitNeed}
 use Rattle.starting.proofs.StartLaws.{room-held, room-slot, room-full, not-scarce, not-enough}
 use borrow.Author.Needs.{needs}
 use Rattle.starting.proofs.has_room.Statement.{statement}
@@ -29,7 +30,7 @@ returns-3 c = sym (room-full (c .before .before .before .before .before .before 
 
 returns-4 : tie.Need-returns-4
 returns-4 c =
-    ap (λ (x : ℕ). leb (c .before .before .before .before .before .before .before .args .run) (x - 5)) (c .before .count .ensures)
+    ap (λ (x : ℕ). leb (c .before .before .before .before .before .before .before .args .run) (x - splitNeed 0)) (c .before .count .ensures)
     ∙ sym (room-full (c .before .before .before .before .before .before .before .args .leaf .now) (c .before .before .before .before .before .before .before .args .key) (c .before .before .before .before .before .before .before .args .run) (nodesOf (c .before .before .before .before .before .before .before .args .free .words)) (sym (c .before .before .before .before .before .has-word .ensures) ∙ c .before .before .before .before .if1 .left) (sym (c .before .before .before .has-word2 .ensures) ∙ c .before .before .if2 .left) ∙ not-enough (countTrue (nodesOf (c .before .before .before .before .before .before .before .args .free .words))) (c .before .before .before .before .before .before .before .args .run) (omega (arith, c .before .count .ensures, c .if3 .left)))
 
 pub has-room-spec : {M : Type 1} → statement M

@@ -3,10 +3,10 @@ use Prim.Native.Nat.{_+_, _-_, _≤_}
 use native.Mathlib.Omega.{arith}
 use lib.ListN.{length, getD, drop, length-set}
 use borrow.Author.Needs.{needs}
-use Rattle.printing.specs.Filling.{filled, fill}
-use Rattle.printing.proofs.FillingLaws.{fill-next, fill-end}
-use Rattle.printing.proofs.put_all.Statement.{statement}
-use Rattle.printing.proofs.put_all.Tie as tie
+use Rattle.text_row.specs.Filling.{filled, fill}
+use Rattle.text_row.proofs.FillingLaws.{fill-next, fill-end}
+use Rattle.text_row.proofs.put_all.Statement.{statement}
+use Rattle.text_row.proofs.put_all.Tie as tie
 
 abbrev Inv-loop : tie.InvT-loop
 Inv-loop text₀ at bytes next₀ i₀ text next i = (i ≤ length bytes) × (next ≡ at + i) × (length text ≡ length text₀) × (fill bytes (filled at text₀) ≡ fill (drop i bytes) (filled next text))

@@ -1,12 +1,13 @@
--- Laws of a row that is being filled: two fillings in a row, a turn of the loop, and the row afterwards.
+-- Laws of a row that is being filled: two fillings in a row, a turn of the loop, the row afterwards, and where a number ends.
 use mathlib.Core.Path.{_≡_, refl, ap, sym, _∙_}
 use mathlib.Core.List.{List, [], _∷_, _++_}
 use Prim.Native.Nat.{ℕ, suc, _+_, _≤_, _<_}
 use native.Mathlib.Omega.{arith}
 use native.Mathlib.Numerals.{add-one}
-use lib.ListN.{length, getD, set, drop, drop-of-length-le}
+use lib.ListN.{length, getD, set, drop, drop-of-length-le, length-append}
 use lib.Seq.{drop-cons, sets, sets-eq}
-use Rattle.printing.specs.Filling.{Filled, filled, fill}
+use Rattle.text_row.specs.Filling.{Filled, filled, fill}
+use Rattle.text_row.specs.Lines.{decimal}
 
 pub fill-append : (a b : List ℕ) (f : Filled) → fill (a ++ b) f ≡ fill b (fill a f)
 unfolding fill
@@ -46,3 +47,7 @@ fill-whole bytes row r after h e =
     let z : 0 + length bytes ≡ length bytes = omega arith in
     let all : r ≡ length bytes = fill-reached bytes 0 row e ∙ z in
     (all, ap (λ (f : Filled). f .row) e ∙ fill-sets bytes (filled 0 row) ∙ sets-eq bytes row 0 (omega arith) ∙ ap (λ (k : ℕ). bytes ++ drop k row) z)
+
+-- a word and a number of at most so many digits
+pub number-within : (word : List ℕ) (n most at : ℕ) (row : List ℕ) → length (decimal n) ≤ most → {r : ℕ} {after : List ℕ} → filled r after ≡ fill (word ++ decimal n) (filled at row) → r ≤ at + length word + most
+number-within word n most at row h e = omega (arith, fill-reached (word ++ decimal n) at row e, length-append word (decimal n))

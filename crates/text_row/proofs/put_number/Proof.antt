@@ -4,12 +4,12 @@ use Prim.Native.Nat.{ℕ}
 use native.Mathlib.Omega.{arith}
 use lib.ListN.{length, take}
 use borrow.Author.Needs.{needs}
-use Rattle.printing.specs.Text.{decimal}
-use Rattle.printing.specs.Filling.{filled, fill}
-use Rattle.printing.proofs.FillingLaws.{fill-then, fill-reached}
-use Rattle.printing.proofs.DecimalLaws.{made-decimal}
-use Rattle.printing.proofs.put_number.Statement.{statement}
-use Rattle.printing.proofs.put_number.Tie as tie
+use Rattle.text_row.specs.Lines.{decimal}
+use Rattle.text_row.specs.Filling.{filled, fill}
+use Rattle.text_row.proofs.FillingLaws.{fill-then, fill-reached}
+use Rattle.text_row.proofs.DecimalLaws.{made-decimal}
+use Rattle.text_row.proofs.put_number.Statement.{statement}
+use Rattle.text_row.proofs.put_number.Tie as tie
 
 -- the digits are the number's
 made : (c : tie.After-decimal) → take (c .decimal .result) (c .decimal .last .1 .0) ≡ decimal (c .before .before .before .before .args .number)

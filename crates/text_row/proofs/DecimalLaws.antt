@@ -8,7 +8,7 @@ use lib.ListN.{length, take, length-append}
 use borrow.Author.Tests.{lt-ltb, le-ltb}
 use Rattle.io.specs.Digits.{glyph, digits, Fewest}
 use Rattle.laws.proofs.Cases.{order}
-use Rattle.printing.specs.Text.{digitsFrom, digitCount, decimal}
+use Rattle.text_row.specs.Lines.{digitsFrom, digitCount, decimal}
 
 -- ---- powers of ten
 
@@ -53,7 +53,7 @@ made-decimal n r out f e =
 
 -- ---- how long a number is
 
-length-digits : (k n : ℕ) → length (digits 10 k n) ≡ k
+pub length-digits : (k n : ℕ) → length (digits 10 k n) ≡ k
 length-digits zero n = refl
 length-digits (suc k) n = omega (arith, length-append (digits 10 k (n / 10)) (glyph (n % 10) ∷ []), length-digits k (n / 10))
 

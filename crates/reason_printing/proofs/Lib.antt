@@ -1,0 +1,2 @@
+-- the definitions at work: a text of each kind
+pub mod Examples
