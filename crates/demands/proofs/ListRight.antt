@@ -30,12 +30,12 @@ use Rattle.listing.proofs.SummaryLaws.{card-refused, dump-refused, dump-read}
 use Rattle.listing.specs.Listing.{Listing, refused, listed, listCard, listDump}
 use Rattle.listing_theory.proofs.Right.{ListedRight, listing-right}
 use Rattle.opening.specs.Opening.{openOf}
-use Rattle.printing.specs.Text.{listText, cardRoom, dumpText}
+use Rattle.printing.specs.Text.{listText, dumpText}
 use Rattle.printing_theory.proofs.Printed.{text-right}
 use Rattle.promises.proofs.Accepting.{accepted-card}
 use Rattle.promises.proofs.Machine.{World as Worldly, run as was-run}
 use Rattle.promises.proofs.Promise.{Accepted}
-use Rattle.repairing.specs.Repairing.{openedCard}
+use Rattle.repairing.specs.Repairing.{cardRoom, openedCard}
 use Rattle.repairing_theory.proofs.Repair.{steps, opened-run}
 use Rattle.shapes.proofs.Unique.{one-held}
 use Rattle.state.specs.Answers.{startReply}
