@@ -79,7 +79,7 @@ module _ (c : List ℕ) (n key : ℕ) (on : nodes-on c ≡ n) {free : List Bool}
   unfolding insertChange emptyReason changeStores splitLeaf kindAbove
   insert-in value m link run l absent (At i) f e =
       let slot = slot-at (nodeAt c m) 0 i f in
-      none-taken (in-slot i (leads c n key m link run on l) absent (omega (arith, slot .within, slots-of-eleven (nodeAt c m))) (slot .stands) (slot .first)) e
+      none-taken (in-slot i (leads c n key m link run on l) absent (omega (arith, slot .within, slots-of-eleven (nodeAt c m)), slot .stands, slot .first)) e
   insert-in value m link run l absent NoSlot f e =
       let there = landing-linked c n key m link run l in
       giving-three _ e (λ x y z. (leaf-split x y z _ (leads c n key m link run on l) absent (no-slot (nodeAt c m) 0 f) (there .0) refl, (there .1, tt)))
@@ -109,7 +109,7 @@ module _ (c : List ℕ) (n key : ℕ) (on : nodes-on c ≡ n) {free : List Bool}
           → deleteChange key free last m (nodeAt c m) s .preparation ≡ prepared ss fewer now cut → ByRule (DeleteRule c key) free last ss fewer now cut
       on-slot m link run l (At i) f z =
           let slot = slot-at (nodeAt c m) key i f in
-          none-taken (key-cleared i (leads c n key m link run on l) (omega (arith, slot .within, slots-of-eleven (nodeAt c m))) (slot .stands) (slot .first)) z
+          none-taken (key-cleared i (leads c n key m link run on l) (omega (arith, slot .within, slots-of-eleven (nodeAt c m)), slot .stands, slot .first)) z
       on-slot m link run l NoSlot f z = absurd (not-balanced z)
 
       on-landing : (l : Landing) → landing c n key ≡ l → changeAt c (Deleting key begun value) free last l .preparation ≡ prepared ss fewer now cut

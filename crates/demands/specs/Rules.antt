@@ -62,19 +62,45 @@ written nodes link number = node-stores nodes ++ (link, number) ∷ []
 abbrev pub leafOf : ℕ → List (ℕ × ℕ) → NewNode
 leafOf a ps = new-node a 1 (pair-keys ps) (pair-values ps)
 
+-- the key words, the routing keys and the children of node m
+abbrev pub slots : List ℕ → ℕ → List ℕ
+slots c m = keyWords (nodeAt c m)
+
+abbrev pub routes : List ℕ → ℕ → List ℕ
+routes c m = routingKeys (nodeAt c m)
+
+abbrev pub kids : List ℕ → ℕ → List ℕ
+kids c m = children (nodeAt c m)
+
 -- ---- the first change of an update; `given`, `cut` and the stores
+
+-- slot i is the first whose key word is x
+abbrev pub FirstSlot : List ℕ → ℕ → ℕ → Type 0
+FirstSlot row x i = (i < 11) × (getD row i 0 ≡ x) × ((k : ℕ) → k < i → getD row k 0 ≡ x → ⊥)
 
 -- "With an empty slot: value first, then key, in the lowest empty slot. Leaf full: the 12 pairs go 6 and 6 into two leaves under a
 -- tagged node (internal if it is the root) whose routing key is the right leaf's smallest."
 pub data InsertRule (c : List ℕ) (key value : ℕ) : List ℕ → List ℕ → List Store → Type 0 where
-  in-slot : {m j : ℕ} (i : ℕ) → leads-to c key ≡ some (m, j) → among key (keyWords (nodeAt c m)) ≡ false → i < 11 → getD (keyWords (nodeAt c m)) i 0 ≡ 0 → ((x : ℕ) → x < i → getD (keyWords (nodeAt c m)) x 0 ≡ 0 → ⊥)
+  in-slot : {m j : ℕ} (i : ℕ)
+      → leads-to c key ≡ some (m, j)
+      → among key (slots c m) ≡ false
+      → FirstSlot (slots c m) 0 i
       → InsertRule c key value [] [] ((place m (12 + i), value) ∷ (place m (1 + i), key) ∷ [])
-  leaf-split : {m j link : ℕ} (a b d : ℕ) (twelve : List (ℕ × ℕ)) → leads-to c key ≡ some (m, j) → among key (keyWords (nodeAt c m)) ≡ false → among 0 (keyWords (nodeAt c m)) ≡ false → LinkedAt c link m → twelve ≡ sort ((key, value) ∷ leafPairs (nodeAt c m))
-      → InsertRule c key value (a ∷ b ∷ d ∷ []) (m ∷ []) (written (leafOf a (take 6 twelve) ∷ leafOf b (drop 6 twelve) ∷ new-node d (kindUnder link) (key-at 6 twelve ∷ []) (a ∷ b ∷ []) ∷ []) link d)
+  leaf-split : {m j link : ℕ} (a b d : ℕ) (twelve : List (ℕ × ℕ))
+      → leads-to c key ≡ some (m, j)
+      → among key (slots c m) ≡ false
+      → among 0 (slots c m) ≡ false
+      → LinkedAt c link m
+      → twelve ≡ sort ((key, value) ∷ leafPairs (nodeAt c m))
+      → InsertRule c key value (a ∷ b ∷ d ∷ []) (m ∷ [])
+      (written (leafOf a (take 6 twelve) ∷ leafOf b (drop 6 twelve) ∷ new-node d (kindUnder link) (key-at 6 twelve ∷ []) (a ∷ b ∷ []) ∷ []) link d)
 
 -- "Delete: key word to 0"; "In a leaf it is at the first slot whose key word equals the key."
 pub data DeleteRule (c : List ℕ) (key : ℕ) : List ℕ → List ℕ → List Store → Type 0 where
-  key-cleared : {m j : ℕ} (i : ℕ) → leads-to c key ≡ some (m, j) → i < 11 → getD (keyWords (nodeAt c m)) i 0 ≡ key → ((x : ℕ) → x < i → getD (keyWords (nodeAt c m)) x 0 ≡ key → ⊥) → DeleteRule c key [] [] ((place m (1 + i), 0) ∷ [])
+  key-cleared : {m j : ℕ} (i : ℕ)
+      → leads-to c key ≡ some (m, j)
+      → FirstSlot (slots c m) key i
+      → DeleteRule c key [] [] ((place m (1 + i), 0) ∷ [])
 
 -- ---- repairs
 
@@ -84,7 +110,7 @@ pub data Together (c : List ℕ) (x k y : ℕ) : ℕ → List ℕ → List ℕ �
   two-leaves : kindOf (nodeAt c x) ≡ 1 → kindOf (nodeAt c y) ≡ 1
       → Together c x k y 1 (pair-keys (sort (leafPairs (nodeAt c x) ++ leafPairs (nodeAt c y)))) (pair-values (sort (leafPairs (nodeAt c x) ++ leafPairs (nodeAt c y))))
   two-internal : kindOf (nodeAt c x) ≡ 2 → kindOf (nodeAt c y) ≡ 2
-      → Together c x k y 2 (routingKeys (nodeAt c x) ++ k ∷ routingKeys (nodeAt c y)) (children (nodeAt c x) ++ children (nodeAt c y))
+      → Together c x k y 2 (routes c x ++ k ∷ routes c y) (kids c x ++ kids c y)
 
 -- how many pairs or children a node has
 abbrev pub width : List ℕ → ℕ
@@ -96,19 +122,19 @@ pub record Underfull (c : List ℕ) (link p j : ℕ) : Type 0 where
   pub parent-linked : LinkedAt c link p
   pub parent-kind : kindOf (nodeAt c p) ≡ 2
   pub index : ℕ
-  pub is-child : index < length (children (nodeAt c p))
-  pub few : width (nodeAt c (getD (children (nodeAt c p)) index 0)) < 2
+  pub is-child : index < length (kids c p)
+  pub few : width (nodeAt c (getD (kids c p) index 0)) < 2
   pub first-of-two : j ≡ index - 1
-  pub has-sibling : suc j < length (children (nodeAt c p))
+  pub has-sibling : suc j < length (kids c p)
 
 -- A tagged child i of the parent p, linked at `link`.
 pub record TaggedChild (c : List ℕ) (link p i t : ℕ) : Type 0 where
   pub parent-linked : LinkedAt c link p
   pub parent-kind : kindOf (nodeAt c p) ≡ 2
-  pub is-child : i < length (children (nodeAt c p))
-  pub child-is : getD (children (nodeAt c p)) i 0 ≡ t
+  pub is-child : i < length (kids c p)
+  pub child-is : getD (kids c p) i 0 ≡ t
   pub tagged : kindOf (nodeAt c t) ≡ 3
-  pub two : length (children (nodeAt c t)) ≡ 2
+  pub two : length (kids c t) ≡ 2
 
 -- "takes its key and children in": the parent's keys and children with those of the tagged child i
 abbrev pub keysWith : List ℕ → ℕ → List ℕ → List ℕ
@@ -128,29 +154,60 @@ keysLeft kind h = pick (eqb kind 1) h (h - 1)
 
 pub data RepairRule (c : List ℕ) : List ℕ → List ℕ → List Store → Type 0 where
   -- "Tagged node: parent with at most 10 children: a new copy of the parent takes its key and children in."
-  taken-in : {link p i t : ℕ} (a : ℕ) → TaggedChild c link p i t → length (children (nodeAt c p)) ≤ 10
-      → RepairRule c (a ∷ []) (p ∷ t ∷ []) (written (new-node a 2 (keysWith (nodeAt c p) i (nodeAt c t)) (childrenWith (nodeAt c p) i (nodeAt c t)) ∷ []) link a)
+  taken-in : {link p i t : ℕ} (a : ℕ)
+      → TaggedChild c link p i t
+      → length (kids c p) ≤ 10
+      → RepairRule c (a ∷ []) (p ∷ t ∷ [])
+      (written (new-node a 2 (keysWith (nodeAt c p) i (nodeAt c t)) (childrenWith (nodeAt c p) i (nodeAt c t)) ∷ []) link a)
   -- "Parent with 11: the 12 children go 6 and 6 into two internal nodes, the middle key above them in a tagged node (internal if it
   -- is the root)."
-  parent-split : {link p i t : ℕ} (a b d : ℕ) (keys kids : List ℕ) → TaggedChild c link p i t → 10 < length (children (nodeAt c p)) → keys ≡ keysWith (nodeAt c p) i (nodeAt c t) → kids ≡ childrenWith (nodeAt c p) i (nodeAt c t)
-      → RepairRule c (a ∷ b ∷ d ∷ []) (p ∷ t ∷ []) (written (new-node a 2 (take 5 keys) (take 6 kids) ∷ new-node b 2 (drop 6 keys) (drop 6 kids) ∷ new-node d (kindUnder link) (getD keys 5 0 ∷ []) (a ∷ b ∷ []) ∷ []) link d)
+  parent-split : {link p i t : ℕ} (a b d : ℕ) (keys twelve : List ℕ)
+      → TaggedChild c link p i t
+      → 10 < length (kids c p)
+      → keys ≡ keysWith (nodeAt c p) i (nodeAt c t)
+      → twelve ≡ childrenWith (nodeAt c p) i (nodeAt c t)
+      → RepairRule c (a ∷ b ∷ d ∷ []) (p ∷ t ∷ [])
+      (written (
+      new-node a 2 (take 5 keys) (take 6 twelve)
+      ∷ new-node b 2 (drop 6 keys) (drop 6 twelve)
+      ∷ new-node d (kindUnder link) (getD keys 5 0 ∷ []) (a ∷ b ∷ [])
+      ∷ []
+      ) link d)
   -- "Together 4 or more: shared out, the left one getting the larger half, under a new copy of the parent."
-  shared : {link p j kind : ℕ} {keys values : List ℕ} (a b d h x y : ℕ) → Underfull c link p j → x ≡ getD (children (nodeAt c p)) j 0 → y ≡ getD (children (nodeAt c p)) (suc j) 0
-      → Together c x (getD (routingKeys (nodeAt c p)) j 0) y kind keys values → 4 ≤ length values → h ≡ largerHalf (length values)
+  shared : {link p j kind : ℕ} {keys values : List ℕ} (a b d h x y : ℕ)
+      → Underfull c link p j
+      → x ≡ getD (kids c p) j 0
+      → y ≡ getD (kids c p) (suc j) 0
+      → Together c x (getD (routes c p) j 0) y kind keys values
+      → 4 ≤ length values
+      → h ≡ largerHalf (length values)
       → RepairRule c (a ∷ b ∷ d ∷ []) (p ∷ x ∷ y ∷ [])
       (written (
-      new-node a kind (take (keysLeft kind h) keys) (take h values) ∷ new-node b kind (drop h keys) (drop h values)
-      ∷ new-node d 2 (take j (routingKeys (nodeAt c p)) ++ getD keys (keysLeft kind h) 0 ∷ drop (suc j) (routingKeys (nodeAt c p))) (take j (children (nodeAt c p)) ++ a ∷ b ∷ drop (suc (suc j)) (children (nodeAt c p))) ∷ []
+      new-node a kind (take (keysLeft kind h) keys) (take h values)
+      ∷ new-node b kind (drop h keys) (drop h values)
+      ∷ new-node d 2 (take j (routes c p) ++ getD keys (keysLeft kind h) 0 ∷ drop (suc j) (routes c p)) (take j (kids c p) ++ a ∷ b ∷ drop (suc (suc j)) (kids c p))
+      ∷ []
       ) link d)
   -- "Together 3 or fewer: merged, the parent copied with one child less";
-  merged : {link p j kind : ℕ} {keys values : List ℕ} (a b x y : ℕ) → Underfull c link p j → x ≡ getD (children (nodeAt c p)) j 0 → y ≡ getD (children (nodeAt c p)) (suc j) 0
-      → Together c x (getD (routingKeys (nodeAt c p)) j 0) y kind keys values → length values ≤ 3 → ((link ≡ rootPlace) × (length (children (nodeAt c p)) ≡ 2) → ⊥)
+  merged : {link p j kind : ℕ} {keys values : List ℕ} (a b x y : ℕ)
+      → Underfull c link p j
+      → x ≡ getD (kids c p) j 0
+      → y ≡ getD (kids c p) (suc j) 0
+      → Together c x (getD (routes c p) j 0) y kind keys values
+      → length values ≤ 3
+      → ((link ≡ rootPlace) × (length (kids c p) ≡ 2) → ⊥)
       → RepairRule c (a ∷ b ∷ []) (p ∷ x ∷ y ∷ [])
       (written (
       new-node a kind keys values
-      ∷ new-node b 2 (take j (routingKeys (nodeAt c p)) ++ drop (suc j) (routingKeys (nodeAt c p))) (take j (children (nodeAt c p)) ++ a ∷ drop (suc (suc j)) (children (nodeAt c p))) ∷ []
+      ∷ new-node b 2 (take j (routes c p) ++ drop (suc j) (routes c p)) (take j (kids c p) ++ a ∷ drop (suc (suc j)) (kids c p))
+      ∷ []
       ) link b)
   -- "if that parent is the root with 2 children, the merged node becomes the root."
-  merged-root : {p j kind : ℕ} {keys values : List ℕ} (a x y : ℕ) → Underfull c rootPlace p j → x ≡ getD (children (nodeAt c p)) j 0 → y ≡ getD (children (nodeAt c p)) (suc j) 0
-      → Together c x (getD (routingKeys (nodeAt c p)) j 0) y kind keys values → length values ≤ 3 → length (children (nodeAt c p)) ≡ 2
+  merged-root : {p j kind : ℕ} {keys values : List ℕ} (a x y : ℕ)
+      → Underfull c rootPlace p j
+      → x ≡ getD (kids c p) j 0
+      → y ≡ getD (kids c p) (suc j) 0
+      → Together c x (getD (routes c p) j 0) y kind keys values
+      → length values ≤ 3
+      → length (kids c p) ≡ 2
       → RepairRule c (a ∷ []) (p ∷ x ∷ y ∷ []) (written (new-node a kind keys values ∷ []) rootPlace a)
