@@ -1,7 +1,9 @@
 -- THE PROMISES OF THIS TABLE, one plain line each: the statements stand under specs/, and what they rest on is all that is to be believed.
+use lib.ListN.{length}
 use Rattle.demands.specs.Demand1.{Demand1}
 use Rattle.demands.specs.Demand2.{Demand2}
 use Rattle.demands.specs.Demand3.{Demand3}
+use Rattle.demands.specs.Dumps.{Dumps}
 use Rattle.demands.specs.List.{ListProgram}
 use Rattle.demands.specs.RationTable.{ration-table}
 use Rattle.demands.specs.W201.{W201}
@@ -13,11 +15,12 @@ use Rattle.demands.proofs.Fetching.{w-213 as fetching-kept}
 use Rattle.demands.proofs.StepRows.{demand-1 as rows-kept}
 use Rattle.demands.proofs.Dictionary.{demand-2 as dictionary-kept}
 use Rattle.demands.proofs.PowerCuts.{demand-3 as book-kept}
+use Rattle.demands.proofs.DumpsRight.{dumps-right as dumps-kept}
 use Rattle.demands.proofs.ListRight.{list-program as list-kept}
 use Rattle.demands.proofs.NextNumber.{w-201 as next-kept}
 use Rattle.demands.proofs.PaddingTest.{w-202 as padding-kept}
 use Rattle.dump.specs.Answers.{dumpReply}
-use Rattle.dump.specs.Dump.{readAnswer}
+use Rattle.dump.specs.Dump.{readAnswer, readOver, writeAnswer, writeOver}
 use Rattle.dump.specs.Padding.{eightAt}
 use Rattle.listing.specs.Listing.{listCard}
 use Rattle.printing.specs.Text.{dumpText}
@@ -32,6 +35,10 @@ demand-2 = dictionary-kept
 
 pub demand-3 : Demand3 ration-table
 demand-3 = book-kept
+
+pub dumps : Dumps (λ dump lent. (dumpReply (readAnswer dump (length lent)), readOver dump lent))
+    (λ card lent. (dumpReply (writeAnswer card (length lent)), writeOver card lent))
+dumps = dumps-kept
 
 pub list-program : ListProgram ration-table listCard dumpText
 list-program = list-kept

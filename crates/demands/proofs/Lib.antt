@@ -31,6 +31,8 @@ pub mod Formatting
 pub mod Dictionary
 -- laws of rows "in order"
 pub mod RowLaws
+-- dumps, of the calls `dump::read_dump` and `write_dump`
+pub mod DumpsRight
 -- the program `list`
 pub mod ListRight
 -- W-201, of the call `successor::next_pair`

@@ -17,7 +17,8 @@ pub mod Demand2
 pub mod Demand3
 -- the table that is proved to meet them
 pub mod RationTable
--- document 01, the program `list`
+-- document 01, dumps and the program `list`
+pub mod Dumps
 pub mod List
 -- document 02, the requests that have landed: the next ration number
 pub mod W201
