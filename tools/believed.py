@@ -151,9 +151,9 @@ def check():
 def table(with_modules):
     rows = list(STATEMENTS)
     for path in sorted((CRATES / "demands" / "specs").glob("*.antt")):
-        if re.match(r"W\d+|List", path.stem):
+        if re.match(r"W\d+|List|Dumps", path.stem):
             stated = list(Module(path).lines)[-1]
-            rows.append((path.stem.replace("W", "W-").replace("List", "the program `list`"), [f"demands/{path.stem}/{stated}"]))
+            rows.append((path.stem.replace("W", "W-").replace("List", "the program `list`").replace("Dumps", "dumps"), [f"demands/{path.stem}/{stated}"]))
     calls = [TABLE] + [cited for crate, functions in CALLS.items() for cited in contract_names(crate, functions)]
     rows.append(("the contracts of the calls, as a table", calls))
     rows.append(("all three demands with the contracts of the calls", STATEMENTS[3][1] + calls))
