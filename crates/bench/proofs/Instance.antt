@@ -22,7 +22,7 @@ use Rattle.soundness.specs.Check.{member, leafSound, unusedZero, lookOf, noted,
 use Rattle.state.specs.Memory.{noMemory, resting, idled, advanced}
 use Rattle.updates.specs.Updates.{landing, emptyReason, reasonIn, insertReason, insertChange, changeAt, deleteChange, changeIn, roomFor, startRoom, repairs, nextChange}
 use Rattle.lookup.specs.Answers.{foundReply}
-use Rattle.state.specs.Answers.{stepReply}
+use Rattle.state.specs.Answers.{stepReply, startReply}
 use Rattle.lookup.specs.Find.{foundIn, foundAt, findOf}
 use Rattle.opening.specs.Opening.{openSound, openChecked, openOf}
 use Rattle.starting.specs.Starts.{formatOf, startRefused, started, startLanded, startChecked, startOf, insertOf, deleteOf}
@@ -31,12 +31,14 @@ use Rattle.state.specs.Steps.{noBeginning, stepRefused, stepFinal, formattedWor
 use Rattle.state.specs.declared.Doing.the-variants.{Idle}
 use Rattle.state.specs.declared.Answer.{Answer}
 use Rattle.state.specs.declared.Answer.the-variants.{Stored, Ready, Absent, Value, Refused}
-use Rattle.promises.proofs.Feeding.{kept-ledger, fed, leaf-full, full-at, is-none, begun-result, step-result, dictionary-answer}
-use Rattle.promises.proofs.Ledger.{ledger, empty, feed, fed-a-step, fed-a-start, counted, deciding, entered, added, added-unless}
-use Rattle.promises.proofs.Machine.{Event, World, happens, run, insert, step, crash}
-use Rattle.promises.proofs.PowerLoss.{power-loss}
-use Rattle.promises.proofs.Promise.{ToReady, ready-now, stored-first, Begins, from-format, Kept}
-use Rattle.card.specs.Replies.{holds, absent}
+use Rattle.card.specs.Replies.{refusal, holds, absent, stored, ready, idle, started as startedReply}
+use Rattle.demands.specs.Book.{book, empty, added, entered, started as inHand, stepped as counted, feed, outcome, told, kept}
+use Rattle.demands.specs.Demand3.{Survives}
+use Rattle.demands.specs.Events.{Event, World, opened, reply-to, happens, run, LeftUncut, FormatsTo, ready-now, stored-first, Begins, from-format, insert, step, cut}
+use Rattle.demands.specs.RationTable.{ration-table}
+use Rattle.demands.specs.Refusals.{way, among, full-at}
+use Rattle.demands.specs.Worked.{dictionary}
+use Rattle.demands.proofs.Demands.{demand-3}
 use Rattle.tree.specs.Pairs.{lookup}
 
 unfoldable pub is-stored : Answer → Bool
@@ -54,13 +56,13 @@ is-ready (Value v) = false
 is-ready (Refused r) = false
 
 -- so many steps store a word each, and the next one answers "ready"
-unfoldable pub ready-in : ℕ → World → Bool
-ready-in zero w = is-ready (stepOf (w .card) (w .memory) .answer)
-ready-in (suc k) w = pick (is-stored (stepOf (w .card) (w .memory) .answer)) (ready-in k (happens step w)) false
+unfoldable pub ready-in : ℕ → World ration-table → Bool
+ready-in zero w = is-ready (stepOf (w .card) (w .state) .answer)
+ready-in (suc k) w = pick (is-stored (stepOf (w .card) (w .state) .answer)) (ready-in k (happens ration-table step w)) false
 
-unfoldable pub after : ℕ → World → World
-after zero w = happens step w
-after (suc k) w = after k (happens step w)
+unfoldable pub after : ℕ → World ration-table → World ration-table
+after zero w = happens ration-table step w
+after (suc k) w = after k (happens ration-table step w)
 
 not-true : _≡_ {A = Bool} false true → ⊥
 not-true z = let k : _≡_ {A = ℕ} 0 1 = cc in omega arith
@@ -81,17 +83,17 @@ ready-is Absent e = absurd (not-true e)
 ready-is (Value v) e = absurd (not-true e)
 ready-is (Refused r) e = absurd (not-true e)
 
-pub to-ready : (k : ℕ) (w : World) → ready-in k w ≡ true → ToReady w (after k w)
-unfolding ready-in after
-to-ready zero w e = ready-now (ready-is _ e)
-to-ready (suc k) w e = bool-cases (is-stored (stepOf (w .card) (w .memory) .answer)) (λ q. stored-first (stored-is _ q) (to-ready k (happens step w) (rw q at e))) (λ q. absurd (not-true (rw q at e)))
+pub to-ready : (k : ℕ) (w : World ration-table) → ready-in k w ≡ true → FormatsTo ration-table w (after k w)
+unfolding ready-in after reply-to stepReply
+to-ready zero w e = ready-now (ap stepReply (ready-is _ e))
+to-ready (suc k) w e = bool-cases (is-stored (stepOf (w .card) (w .state) .answer)) (λ q. stored-first (ap stepReply (stored-is _ q)) (to-ready k (happens ration-table step w) (rw q at e))) (λ q. absurd (not-true (rw q at e)))
 
 -- 152 words of anything, being formatted, and the card 153 steps on
 abbrev pub any-words : List ℕ
 any-words = replicate 152 9
 
-abbrev pub being-formatted : World
-being-formatted = record { card = any-words; memory = formatOf any-words .memory }
+abbrev pub being-formatted : World ration-table
+being-formatted = record { card = any-words; state = formatOf any-words .memory }
 
 -- an insert that finds an empty slot: its start, its two stores and its final answer
 abbrev pub put-in : ℕ → List Event
@@ -99,43 +101,40 @@ put-in k = insert k (10 * k) ∷ step ∷ step ∷ step ∷ []
 
 -- S, and so many steps of the insert of key 12; then power goes
 abbrev pub cut-after : ℕ → List Event
-cut-after k = put-in 1 ++ put-in 2 ++ put-in 3 ++ put-in 4 ++ put-in 5 ++ put-in 6 ++ put-in 7 ++ put-in 8 ++ put-in 9 ++ put-in 10 ++ put-in 11 ++ insert 12 120 ∷ (replicate k step ++ crash ∷ [])
+cut-after k = put-in 1 ++ put-in 2 ++ put-in 3 ++ put-in 4 ++ put-in 5 ++ put-in 6 ++ put-in 7 ++ put-in 8 ++ put-in 9 ++ put-in 10 ++ put-in 11 ++ insert 12 120 ∷ (replicate k step ++ cut ∷ [])
 
 -- formatted: "root node 1, an empty leaf, all else 0"
-abbrev pub formatted : World
-formatted = record { card = 1 ∷ 6 ∷ 8 ∷ 24 ∷ 1 ∷ 0 ∷ 0 ∷ 0 ∷ 1 ∷ replicate 143 0; memory = resting 6 (withoutAll (1 ∷ []) (allNodes 6)) Idle }
+abbrev pub formatted : World ration-table
+formatted = record { card = 1 ∷ 6 ∷ 8 ∷ 24 ∷ 1 ∷ 0 ∷ 0 ∷ 0 ∷ 1 ∷ replicate 143 0; state = resting 6 (withoutAll (1 ∷ []) (allNodes 6)) Idle }
 
-pub takes-153 : ready-in 153 being-formatted ≡ true
-unfolding ready-in is-stored is-ready happens stepOf stepDoing stepFormat formatStore formattedWord formatOf stepFinal nodesOfLength formatting resting idled allNodes headerRefusal stepHeld isIdle stepWork stepPlan stepBegin stepPrepared changeAt landing landingFor onTurnLanding turnAt turnOf turnInner nodeAt children valueWords keyWords slotOf firstEqual insertReason reasonIn emptyReason insertChange stepFirst stepStore planning advanced repairs nextChange nextRepair onSearch seek onVisit visitAt visitOf rootPosition leafPairs insertOf startOf startChecked startRoom roomFor startLanded started stepRefused startRefused withAll giving overNumbers takeNumbers numbersFrom nextFree firstFrom firstTrue orElse withoutAll lastOf splitLeaf changeStores sort insert-all insert-pair kindAbove nodeImage countTrue childPosition childFor childIndex passed routingKeys runBelow deleteOf changeIn deleteChange mend mendTagged mendUnderfull mendSiblings mendTogether isNode share merge mergeRoot leavesTogether innersTogether half leftKeys keyBetween absorb splitParent joinedKeys joinedChildren findOf cardRefusal foundAt leafFor onTurn foundIn noBeginning noMemory openOf openChecked openSound tableCheck nodeCheck onLook enterNode enterKind enterLeaf enterInner innerSound noted lookOf leafSound member unusedZero childrenCheck childRun raised
-takes-153 = refl
+-- the pairs of S, the last put in first
+abbrev pub pairs-to-11 : List (ℕ × ℕ)
+pairs-to-11 = (11, 110) ∷ (10, 100) ∷ (9, 90) ∷ (8, 80) ∷ (7, 70) ∷ (6, 60) ∷ (5, 50) ∷ (4, 40) ∷ (3, 30) ∷ (2, 20) ∷ (1, 10) ∷ []
 
-pub is-formatted : after 153 being-formatted ≡ formatted
-unfolding after happens stepOf stepDoing stepFormat formatStore formattedWord formatOf stepFinal nodesOfLength formatting resting idled allNodes headerRefusal stepHeld isIdle stepWork stepPlan stepBegin stepPrepared changeAt landing landingFor onTurnLanding turnAt turnOf turnInner nodeAt children valueWords keyWords slotOf firstEqual insertReason reasonIn emptyReason insertChange stepFirst stepStore planning advanced repairs nextChange nextRepair onSearch seek onVisit visitAt visitOf rootPosition leafPairs insertOf startOf startChecked startRoom roomFor startLanded started stepRefused startRefused withAll giving overNumbers takeNumbers numbersFrom nextFree firstFrom firstTrue orElse withoutAll lastOf splitLeaf changeStores sort insert-all insert-pair kindAbove nodeImage countTrue childPosition childFor childIndex passed routingKeys runBelow deleteOf changeIn deleteChange mend mendTagged mendUnderfull mendSiblings mendTogether isNode share merge mergeRoot leavesTogether innersTogether half leftKeys keyBetween absorb splitParent joinedKeys joinedChildren findOf cardRefusal foundAt leafFor onTurn foundIn noBeginning noMemory openOf openChecked openSound tableCheck nodeCheck onLook enterNode enterKind enterLeaf enterInner innerSound noted lookOf leafSound member unusedZero childrenCheck childRun raised
-is-formatted = refl
+-- computed: 153 stores and "ready"; what formatting leaves; the book with the cut after 40 and after 73 of the stores
+pub computed : (ready-in 153 being-formatted ≡ true) × (after 153 being-formatted ≡ formatted) × (kept ration-table (cut-after 40) formatted (book [] empty) ≡ book pairs-to-11 empty) × (kept ration-table (cut-after 73) formatted (book [] empty) ≡ book ((12, 120) ∷ pairs-to-11) empty)
+unfolding ready-in is-stored is-ready after kept feed told outcome reply-to inHand counted entered added full-at way among stepReply startReply happens stepOf stepDoing stepFormat formatStore formattedWord formatOf stepFinal nodesOfLength formatting resting idled allNodes headerRefusal stepHeld isIdle stepWork stepPlan stepBegin stepPrepared changeAt landing landingFor onTurnLanding turnAt turnOf turnInner nodeAt children valueWords keyWords slotOf firstEqual insertReason reasonIn emptyReason insertChange stepFirst stepStore planning advanced repairs nextChange nextRepair onSearch seek onVisit visitAt visitOf rootPosition leafPairs insertOf startOf startChecked startRoom roomFor startLanded started stepRefused startRefused withAll giving overNumbers takeNumbers numbersFrom nextFree firstFrom firstTrue orElse withoutAll lastOf splitLeaf changeStores sort insert-all insert-pair kindAbove nodeImage countTrue childPosition childFor childIndex passed routingKeys runBelow deleteOf changeIn deleteChange mend mendTagged mendUnderfull mendSiblings mendTogether isNode share merge mergeRoot leavesTogether innersTogether half leftKeys keyBetween absorb splitParent joinedKeys joinedChildren findOf cardRefusal foundAt leafFor onTurn foundIn noBeginning noMemory openOf openChecked openSound tableCheck nodeCheck onLook enterNode enterKind enterLeaf enterInner innerSound noted lookOf leafSound member unusedZero childrenCheck childRun raised
+computed = (refl, refl, refl, refl)
 
-pub ledger-at-40 : kept-ledger (cut-after 40) formatted (ledger [] empty) ≡ ledger ((11, 110) ∷ (10, 100) ∷ (9, 90) ∷ (8, 80) ∷ (7, 70) ∷ (6, 60) ∷ (5, 50) ∷ (4, 40) ∷ (3, 30) ∷ (2, 20) ∷ (1, 10) ∷ []) empty
-unfolding kept-ledger fed leaf-full full-at is-none begun-result step-result feed fed-a-step fed-a-start counted deciding entered added added-unless happens stepOf stepDoing stepFormat formatStore formattedWord formatOf stepFinal nodesOfLength formatting resting idled allNodes headerRefusal stepHeld isIdle stepWork stepPlan stepBegin stepPrepared changeAt landing landingFor onTurnLanding turnAt turnOf turnInner nodeAt children valueWords keyWords slotOf firstEqual insertReason reasonIn emptyReason insertChange stepFirst stepStore planning advanced repairs nextChange nextRepair onSearch seek onVisit visitAt visitOf rootPosition leafPairs insertOf startOf startChecked startRoom roomFor startLanded started stepRefused startRefused withAll giving overNumbers takeNumbers numbersFrom nextFree firstFrom firstTrue orElse withoutAll lastOf splitLeaf changeStores sort insert-all insert-pair kindAbove nodeImage countTrue childPosition childFor childIndex passed routingKeys runBelow deleteOf changeIn deleteChange mend mendTagged mendUnderfull mendSiblings mendTogether isNode share merge mergeRoot leavesTogether innersTogether half leftKeys keyBetween absorb splitParent joinedKeys joinedChildren findOf cardRefusal foundAt leafFor onTurn foundIn noBeginning noMemory openOf openChecked openSound tableCheck nodeCheck onLook enterNode enterKind enterLeaf enterInner innerSound noted lookOf leafSound member unusedZero childrenCheck childRun raised
-ledger-at-40 = refl
+begins : Begins ration-table formatted []
+unfolding formatOf nodesOfLength startReply
+begins = from-format any-words formatted refl (subst (λ w. FormatsTo ration-table being-formatted w) (computed .1) (to-ready 153 being-formatted (computed .0)))
 
-pub ledger-at-73 : kept-ledger (cut-after 73) formatted (ledger [] empty) ≡ ledger ((12, 120) ∷ (11, 110) ∷ (10, 100) ∷ (9, 90) ∷ (8, 80) ∷ (7, 70) ∷ (6, 60) ∷ (5, 50) ∷ (4, 40) ∷ (3, 30) ∷ (2, 20) ∷ (1, 10) ∷ []) empty
-unfolding kept-ledger fed leaf-full full-at is-none begun-result step-result feed fed-a-step fed-a-start counted deciding entered added added-unless happens stepOf stepDoing stepFormat formatStore formattedWord formatOf stepFinal nodesOfLength formatting resting idled allNodes headerRefusal stepHeld isIdle stepWork stepPlan stepBegin stepPrepared changeAt landing landingFor onTurnLanding turnAt turnOf turnInner nodeAt children valueWords keyWords slotOf firstEqual insertReason reasonIn emptyReason insertChange stepFirst stepStore planning advanced repairs nextChange nextRepair onSearch seek onVisit visitAt visitOf rootPosition leafPairs insertOf startOf startChecked startRoom roomFor startLanded started stepRefused startRefused withAll giving overNumbers takeNumbers numbersFrom nextFree firstFrom firstTrue orElse withoutAll lastOf splitLeaf changeStores sort insert-all insert-pair kindAbove nodeImage countTrue childPosition childFor childIndex passed routingKeys runBelow deleteOf changeIn deleteChange mend mendTagged mendUnderfull mendSiblings mendTogether isNode share merge mergeRoot leavesTogether innersTogether half leftKeys keyBetween absorb splitParent joinedKeys joinedChildren findOf cardRefusal foundAt leafFor onTurn foundIn noBeginning noMemory openOf openChecked openSound tableCheck nodeCheck onLook enterNode enterKind enterLeaf enterInner innerSound noted lookOf leafSound member unusedZero childrenCheck childRun raised
-ledger-at-73 = refl
+-- the demand at these two lists
+abbrev pub Survived : ℕ → Type 0
+Survived k = Survives ration-table (run ration-table (cut-after k) formatted .card) (kept ration-table (cut-after k) formatted (book [] empty) .held)
 
-begins : Begins formatted []
-unfolding formatOf nodesOfLength
-begins = from-format any-words formatted refl (subst (λ w. ToReady being-formatted w) is-formatted (to-ready 153 being-formatted takes-153))
+pub survives-at-40 : Survived 40
+survives-at-40 = demand-3 formatted [] begins (cut-after 40) (omega arith, (omega arith, (omega arith, (omega arith, (omega arith, (omega arith, (omega arith, (omega arith, (omega arith, (omega arith, (omega arith, (omega arith, tt))))))))))))
 
-pub kept-at-40 : Kept formatted (cut-after 40) (ledger [] empty)
-kept-at-40 = power-loss formatted [] begins (cut-after 40) (omega arith, (omega arith, (omega arith, (omega arith, (omega arith, (omega arith, (omega arith, (omega arith, (omega arith, (omega arith, (omega arith, (omega arith, tt))))))))))))
+pub survives-at-73 : Survived 73
+survives-at-73 = demand-3 formatted [] begins (cut-after 73) (omega arith, (omega arith, (omega arith, (omega arith, (omega arith, (omega arith, (omega arith, (omega arith, (omega arith, (omega arith, (omega arith, (omega arith, tt))))))))))))
 
-pub kept-at-73 : Kept formatted (cut-after 73) (ledger [] empty)
-kept-at-73 = power-loss formatted [] begins (cut-after 73) (omega arith, (omega arith, (omega arith, (omega arith, (omega arith, (omega arith, (omega arith, (omega arith, (omega arith, (omega arith, (omega arith, (omega arith, tt))))))))))))
+-- what it says of key 12 then: with no step of the repair made, out or in
+pub out-at-40 : ration-table .find (run ration-table (cut-after 40) formatted .card) 12 ≡ absent
+unfolding dictionary LeftUncut run
+out-at-40 = survives-at-40 .finds [] tt 12 (omega arith) (omega arith) ∙ ap (λ b. dictionary (lookup 12 (b .held))) (computed .2)
 
--- what the promise says of key 12 then
-pub out-at-40 : foundReply (findOf (run (cut-after 40) formatted .card) 12) ≡ absent
-unfolding stepReply dictionary-answer
-out-at-40 = kept-at-40 .finds 12 (omega arith) (omega arith) ∙ ap (λ b. stepReply (dictionary-answer (lookup 12 (b .held)))) ledger-at-40
-
-pub in-at-73 : foundReply (findOf (run (cut-after 73) formatted .card) 12) ≡ holds 120
-unfolding stepReply dictionary-answer
-in-at-73 = kept-at-73 .finds 12 (omega arith) (omega arith) ∙ ap (λ b. stepReply (dictionary-answer (lookup 12 (b .held)))) ledger-at-73
+pub in-at-73 : ration-table .find (run ration-table (cut-after 73) formatted .card) 12 ≡ holds 120
+unfolding dictionary LeftUncut run
+in-at-73 = survives-at-73 .finds [] tt 12 (omega arith) (omega arith) ∙ ap (λ b. dictionary (lookup 12 (b .held))) (computed .3)
