@@ -8,10 +8,12 @@ use Rattle.demands.specs.List.{ListProgram}
 use Rattle.demands.specs.RationTable.{ration-table}
 use Rattle.demands.specs.W201.{W201}
 use Rattle.demands.specs.W202.{W202}
+use Rattle.demands.specs.W209.{W209}
 use Rattle.demands.specs.W213.{W213}
 use Rattle.demands.specs.W214.{W214}
 use Rattle.demands.proofs.Depths.{w-214 as depths-kept}
 use Rattle.demands.proofs.Fetching.{w-213 as fetching-kept}
+use Rattle.demands.proofs.InsertChecks.{w-209 as reasons-kept}
 use Rattle.demands.proofs.StepRows.{demand-1 as rows-kept}
 use Rattle.demands.proofs.Dictionary.{demand-2 as dictionary-kept}
 use Rattle.demands.proofs.PowerCuts.{demand-3 as book-kept}
@@ -24,6 +26,7 @@ use Rattle.dump.specs.Dump.{readAnswer, readOver, writeAnswer, writeOver}
 use Rattle.dump.specs.Padding.{eightAt}
 use Rattle.listing.specs.Listing.{listCard}
 use Rattle.printing.specs.Text.{dumpText}
+use Rattle.reason_printing.specs.ReasonText.{checkText}
 use Rattle.records.specs.Records.{recordOf, fetchOf, fetchReply}
 use Rattle.successor.specs.Successor.{nextOf, nextReply}
 
@@ -48,6 +51,9 @@ w-201 = next-kept
 
 pub w-202 : W202 eightAt (λ dump lent. dumpReply (readAnswer dump lent))
 w-202 = padding-kept
+
+pub w-209 : W209 ration-table checkText
+w-209 = reasons-kept
 
 pub w-213 : W213 ration-table recordOf (λ c key block. fetchReply (fetchOf c key block))
 w-213 = fetching-kept

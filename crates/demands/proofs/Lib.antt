@@ -43,5 +43,7 @@ pub mod PaddingTest
 pub mod Fetching
 -- W-214, of the ration table
 pub mod Depths
+-- W-209, of the program `insert_check`
+pub mod InsertChecks
 -- the promises of this table, one line each
 pub mod Demands

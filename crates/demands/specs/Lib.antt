@@ -15,6 +15,8 @@ pub mod Rules
 pub mod Demand1
 pub mod Demand2
 pub mod Demand3
+-- document 02, W-209: what stands in the way of a new number
+pub mod W209
 -- the table that is proved to meet them
 pub mod RationTable
 -- document 01, dumps and the program `list`

@@ -1,0 +1,236 @@
+-- W-209, of the program `insert_check`.
+use mathlib.Core.Path.{_≡_, refl, ap, sym, subst, _∙_}
+use mathlib.Core.Bool.{true, false}
+use mathlib.Core.List.{List, [], _∷_}
+use mathlib.Core.Logic.{_⊎_, inl, inr, ⊎-elim, ⊎-map, _↔_}
+use mathlib.Core.Option.{Option, none, some}
+use Prim.Native.Nat.{ℕ, zero, suc, _≤_, _<_}
+use native.Mathlib.Omega.{arith}
+use native.Mathlib.Decide.{ℕ-discrete}
+use lib.ListN.{length, drop, replicate, length-take}
+use borrow.Author.Tests.{ne-eqb}
+use Rattle.demands.specs.Demand1.{OpensTo}
+use Rattle.demands.specs.Demand3.{repair-steps, Survives}
+use Rattle.demands.specs.Events.{World, opened, happens, run, Words, LeftUncut, Opens, Begins, step, from-open}
+use Rattle.demands.specs.Book.{kept}
+use Rattle.demands.specs.RationTable.{handed, ration-table}
+use Rattle.demands.specs.Refusals.{ByRows, nodes-on, leads-to, among, open-rows, end, row}
+use Rattle.demands.specs.W209.{repairedWorld, SplitBelow, TellsHeld, LeadsAbsent, TellsSlot, TellsSplit, Told, OfCard, W209}
+use Rattle.demands.specs.Worked.{dictionary}
+use Rattle.demands.proofs.AnswerNumbers.{SmallBegun, open-small}
+use Rattle.demands.proofs.CardRows.{opens}
+use Rattle.demands.proofs.PowerCuts.{covered-nodes, always, demand-3}
+use Rattle.demands.proofs.ReplyLaws.{code-of, begun-refused}
+use Rattle.demands.proofs.RowLaws.{rows-map}
+use Rattle.demands.proofs.SameBook.{worldly, same-world}
+use Rattle.demands.proofs.StartRows.{leads-is, slot-is}
+use Rattle.demands.proofs.WayDown.{landed, is-slot}
+use Rattle.demands.proofs.Work.{true-false}
+use Rattle.card.specs.Layout.{nodeAt, keyWords, valueWords, slot-pairs, leafPairs, keyLimit}
+use Rattle.card.specs.Replies.{refusal}
+use Rattle.descent.specs.Descent.{slotOf}
+use Rattle.descent.specs.declared.Slot.the-variants.{At}
+use Rattle.dump.proofs.AnswerLaws.{undamaged-whole, read-damaged, read-whole, room-long}
+use Rattle.dump.specs.Dump.{dumpWords, readAnswer, wordsFor, dumpNodes, damaged}
+use Rattle.dump.specs.declared.Answer.the-variants.{Length}
+use Rattle.free_nodes.specs.NodeSet.{countTrue}
+use Rattle.insert_reason.specs.declared.Reason.{Reason}
+use Rattle.insert_reason.specs.declared.Reason.the-variants.{Refused, NoKey, Held, Slot as EmptySlot, Split}
+use Rattle.insert_reason_theory.proofs.Printed.{unread-text, unopened-text, no-key-text, text-holds, text-refused}
+use Rattle.insert_reason_theory.proofs.Reasons.{ReasonHolds}
+use Rattle.key_file.proofs.KeyFileLaws.{key-below}
+use Rattle.key_file.specs.KeyFile.{keyIn}
+use Rattle.laws.proofs.Cases.{bool-cases}
+use Rattle.opening.specs.Opening.{openOf}
+use Rattle.promises.proofs.Machine.{World as Worldly, happens as was-happens, run as was-run}
+use Rattle.promises.proofs.PowerLoss.{insert-same}
+use Rattle.promises.proofs.Promise.{Accepted}
+use Rattle.promises.proofs.Room.{LeadsTo}
+use Rattle.reason_printing.specs.ReasonText.{splitLine, reasonText, checkText}
+use Rattle.repairing.specs.Repairing.{cardRoom, openedCard}
+use Rattle.repairing_theory.proofs.Repair.{steps, world-of, opened-run}
+use Rattle.starting.specs.Starts.{startRefused, insertOf}
+use Rattle.state.specs.Answers.{startReply}
+use Rattle.state.specs.Memory.{Memory}
+use Rattle.state.specs.Steps.{Handed}
+use Rattle.state.specs.declared.Begun.{Begun}
+use Rattle.state.specs.declared.Begun.the-variants.{Refused as BegunRefused}
+use Rattle.text_row.specs.Lines.{refusalLine}
+use Rattle.tree.specs.Pairs.{pairs, lookup}
+use Rattle.tree.specs.Tree.{Tree}
+use Rattle.tree.specs.WellFormed.{WellFormed}
+
+-- ---- a leaf of eleven pairs has no empty slot
+
+pairs-most : (ks vs : List ℕ) → length (slot-pairs ks vs) ≤ length ks
+pairs-most [] vs = omega arith
+pairs-most (k ∷ ks) [] = omega arith
+pairs-most (zero ∷ ks) (v ∷ vs) = omega (arith, pairs-most ks vs)
+pairs-most (suc k ∷ ks) (v ∷ vs) = omega (arith, pairs-most ks vs)
+
+pairs-fewer : (ks vs : List ℕ) → among 0 ks ≡ true → length (slot-pairs ks vs) < length ks
+unfolding among
+pairs-fewer [] vs e = true-false (sym e)
+pairs-fewer (k ∷ ks) [] e = omega arith
+pairs-fewer (zero ∷ ks) (v ∷ vs) e = omega (arith, pairs-most ks vs)
+pairs-fewer (suc k ∷ ks) (v ∷ vs) e = omega (arith, pairs-fewer ks vs (rw (ne-eqb (suc k) 0 (λ z. omega arith)) at e))
+
+no-empty-slot : (leaf : List ℕ) → length (leafPairs leaf) ≡ 11 → among 0 (keyWords leaf) ≡ false
+unfolding leafPairs keyWords
+no-empty-slot leaf eleven =
+    bool-cases (among 0 (keyWords leaf)) (λ q. absurd (omega (arith, eleven, pairs-fewer (keyWords leaf) (valueWords leaf) q, length-take 11 (drop 1 leaf)))) (λ q. q)
+
+-- ---- the card and the state that the repair leaves
+
+steps-run : (k : ℕ) (w : World ration-table) → worldly (run ration-table (replicate k step) w) ≡ was-run (steps k) (worldly w)
+unfolding run was-run
+steps-run zero w = refl
+steps-run (suc k) w = steps-run k (happens ration-table step w) ∙ ap (was-run (steps k)) (same-world step w)
+
+steps-uncut : (k : ℕ) (w : World ration-table) → LeftUncut ration-table (replicate k step) w
+unfolding LeftUncut
+steps-uncut zero w = tt
+steps-uncut (suc k) w = (tt, steps-uncut k (happens ration-table step w))
+
+steps-words : (k : ℕ) → Words (replicate k step)
+steps-words zero = tt
+steps-words (suc k) = steps-words k
+
+-- an insert is refused with 8, by its reply
+refused-eight : (c : List ℕ) (m : Memory) (key value : ℕ) → (startReply (insertOf c m key value .begun) ≡ refusal 8) ↔ (insertOf c m key value ≡ startRefused 8 m)
+unfolding startRefused startReply was-happens
+refused-eight c m key value = (to, λ e. ap (λ (h : Handed). startReply (h .begun)) e)
+  where
+    whole : (h : Handed) → h .begun ≡ BegunRefused 8 → h .memory ≡ m → h ≡ record { begun = BegunRefused 8; memory = m }
+    whole h e f = ap (λ (b : Begun). record { begun = b; memory = h .memory }) e ∙ ap (λ (x : Memory). record { begun = BegunRefused 8; memory = x }) f
+
+    to : startReply (insertOf c m key value .begun) ≡ refusal 8 → insertOf c m key value ≡ record { begun = BegunRefused 8; memory = m }
+    to e =
+        let b = begun-refused (insertOf c m key value .begun) 8 (omega arith) e in
+        whole (insertOf c m key value) b (ap (λ (w : Worldly). w .memory) (insert-same key value (record { card = c; memory = m }) 8 b))
+
+-- what a reason says of the leaf, of any card and state
+abbrev SlotAt : ℕ → Worldly → Type 0
+SlotAt key w = (leaf : ℕ) × (j : ℕ) × (i : ℕ) × LeadsTo w key leaf j × (slotOf (nodeAt (w .card) leaf) 0 ≡ At i)
+
+abbrev FullAt : ℕ → ℕ → Worldly → Type 0
+FullAt key j w = (leaf : ℕ) × LeadsTo w key leaf j × (length (leafPairs (nodeAt (w .card) leaf)) ≡ 11)
+
+module _ (c : List ℕ) where
+  abbrev after : World ration-table
+  after = repairedWorld ration-table c
+
+  is-after : world-of (openedCard c) ≡ worldly after
+  unfolding repairedWorld
+  is-after = opened-run c ∙ sym (steps-run repair-steps (opened ration-table c))
+
+  accepts : Opens ration-table c → Accepted c
+  unfolding startReply
+  accepts o =
+      record {
+        not-refused = λ r e.
+            let small : r < 64 = subst (λ (b : Begun). SmallBegun b) e (open-small c) in
+            let code = code-of (ap startReply e) in
+            ⊎-elim (λ z. omega (arith, code-of z)) (λ z. omega (arith, code-of z)) o;
+      }
+
+  module _ (t : Tree) (well : WellFormed c t) (opening : Opens ration-table c) where
+    begins : Begins ration-table (opened ration-table c) (pairs t)
+    begins = from-open c t opening well
+
+    nodes-after : nodes-on (after .card) ≡ after .state .nodes
+    unfolding repairedWorld
+    nodes-after =
+        always (λ w b. nodes-on (w .card) ≡ w .state .nodes) (λ w b v. covered-nodes v) (opened ration-table c) (pairs t) begins (replicate repair-steps step) (steps-words repair-steps)
+
+    survives : Survives ration-table c (pairs t)
+    unfolding run kept
+    survives = demand-3 (opened ration-table c) (pairs t) begins [] tt
+
+    leads-after : (key leaf j : ℕ) → LeadsTo (worldly after) key leaf j → leads-to (after .card) key ≡ some (leaf, j)
+    unfolding landed
+    leads-after key leaf j l = sym (leads-is (after .card) (after .state .nodes) key nodes-after) ∙ ap landed (l .1)
+
+    module _ (key : ℕ) (low : 0 < key) (high : key < keyLimit) (out : List ℕ) where
+      found-after : (o : Option ℕ) → lookup key (pairs t) ≡ o → ration-table .find (after .card) key ≡ dictionary o
+      unfolding repairedWorld
+      found-after o e = survives .finds (replicate repair-steps step) (steps-uncut repair-steps (opened ration-table c)) key low high ∙ ap dictionary e
+
+      absent-at : (leaf j : ℕ) → lookup key (pairs t) ≡ none → LeadsTo (worldly after) key leaf j → LeadsAbsent ration-table after key out leaf j
+      unfolding dictionary
+      absent-at leaf j e l = record { not-held = found-after none e; leads = leads-after key leaf j l }
+
+      -- the text of a reason that holds
+      tells : (r : Reason) → out ≡ reasonText r → ReasonHolds c t key r → TellsHeld ration-table after key out ⊎ (TellsSlot ration-table after key out ⊎ TellsSplit ration-table after key out)
+      unfolding ReasonHolds reasonText dictionary is-slot
+      tells (Refused r) e h = absurd h
+      tells NoKey e h = absurd h
+      tells (Held v) e h = inl (record { value = v; found = found-after (some v) h; printed = e })
+      tells EmptySlot e h =
+          let (leaf, j, i, to, s) = subst (SlotAt key) is-after (h .1) in
+          inr (inl (record { leaf = leaf; j = j; place = absent-at leaf j (h .0) to; empty = sym (slot-is (nodeAt (after .card) leaf) 0 (At i) s); printed = e }))
+      tells (Split j free need) e h =
+          let (leaf, to, eleven) = subst (FullAt key j) is-after (h .1) in
+          let are-free : free ≡ countTrue (after .state .free) = sym (h .2) ∙ ap (λ (x : Worldly). countTrue (x .memory .free)) is-after in
+          inr (inr (record {
+            leaf = leaf;
+            j = j;
+            place = absent-at leaf j (h .0) to;
+            full = no-empty-slot (nodeAt (after .card) leaf) eleven;
+            printed = e ∙ ap (λ (x : ℕ). splitLine j x need) are-free ∙ ap (splitLine j (countTrue (after .state .free))) (h .3);
+          }))
+
+-- ---- dumps
+
+module _ (dump file : List ℕ) where
+  module _ (whole : damaged dump ≡ false) where
+    abbrev size : ℕ
+    size = wordsFor (dumpNodes dump)
+
+    abbrev card : List ℕ
+    card = dumpWords size dump
+
+    read : readAnswer dump cardRoom ≡ Length size
+    read = read-whole dump cardRoom whole ∙ room-long size cardRoom (omega (arith, undamaged-whole dump whole .most))
+
+    told : OpensTo ration-table card (handed (openOf card)) → Told ration-table (repairedWorld ration-table card) (keyIn file) (checkText dump file)
+    told o = go (ℕ-discrete (keyIn file) 0)
+      where
+        opening : Opens ration-table card
+        opening = ⊎-map (λ z. z .1) (λ z. z .1) (o .hands)
+
+        text : (keyIn file ≡ 0 → ⊥) → (value : ℕ) → (insertOf (after card .card) (after card .state) (keyIn file) value ≡ startRefused 8 (after card .state)) ↔ SplitBelow (checkText dump file)
+        text d value =
+            subst (λ (x : Worldly). (insertOf (x .card) (x .memory) (keyIn file) value ≡ startRefused 8 (x .memory)) ↔ SplitBelow (checkText dump file)) (is-after card)
+            (text-refused dump file size read (o .table) (accepts card opening) (o .sound) d value)
+
+        exactly : (keyIn file ≡ 0 → ⊥) → (value : ℕ) → (startReply (insertOf (after card .card) (after card .state) (keyIn file) value .begun) ≡ refusal 8) ↔ SplitBelow (checkText dump file)
+        exactly d value =
+            let reply = refused-eight (after card .card) (after card .state) (keyIn file) value in
+            (λ e. text d value .0 (reply .0 e), λ p. reply .1 (text d value .1 p))
+
+        go : Dec (keyIn file ≡ 0) → Told ration-table (repairedWorld ration-table card) (keyIn file) (checkText dump file)
+        go (yes z) = inl (z, no-key-text dump file size read (o .table) (accepts card opening) (o .sound) z)
+        go (no d) =
+            let (r, is, holding) = text-holds dump file size read (o .table) (accepts card opening) (o .sound) d in
+            inr (
+              d,
+              record {
+                reason = tells card (o .table) (o .sound) opening (keyIn file) (omega (arith, d)) (key-below file) (checkText dump file) r is holding;
+                refused-exactly = exactly d;
+              },
+            )
+
+    of-card : OfCard ration-table card (keyIn file) (checkText dump file)
+    of-card =
+        rows-map (open-rows card) (omega arith, (omega arith, (omega arith, (omega arith, (omega arith, tt)))))
+        (λ r h z. unopened-text dump file size read r (begun-refused (openOf card .begun) r h (z .number-given)))
+        told (opens card)
+
+  of-dump : ByRows (row 11 (damaged dump ≡ true) end) (λ r. checkText dump file ≡ refusalLine r) (OfCard ration-table (dumpWords (wordsFor (dumpNodes dump)) dump) (keyIn file) (checkText dump file))
+  unfolding ByRows
+  of-dump =
+      bool-cases (damaged dump) (λ q. inl (q, unread-text dump file 11 (read-damaged dump cardRoom q))) (λ q. inr (λ z. true-false (sym z ∙ q), of-card q))
+
+pub w-209 : W209 ration-table checkText
+w-209 = record { dumps = of-dump }
