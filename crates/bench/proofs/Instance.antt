@@ -21,7 +21,6 @@ use Rattle.laws.specs.Sorting.{insert-pair, insert-all, sort}
 use Rattle.soundness.specs.Check.{member, leafSound, unusedZero, lookOf, noted, enterLeaf, innerSound, enterInner, enterKind, enterNode, childrenCheck, childRun, raised, onLook, nodeCheck, tableCheck}
 use Rattle.state.specs.Memory.{noMemory, resting, idled, advanced}
 use Rattle.updates.specs.Updates.{landing, emptyReason, reasonIn, insertReason, insertChange, changeAt, deleteChange, changeIn, roomFor, startRoom, repairs, nextChange}
-use Rattle.lookup.specs.Answers.{foundReply}
 use Rattle.state.specs.Answers.{stepReply, startReply}
 use Rattle.lookup.specs.Find.{foundIn, foundAt, findOf}
 use Rattle.opening.specs.Opening.{openSound, openChecked, openOf}
@@ -31,10 +30,10 @@ use Rattle.state.specs.Steps.{noBeginning, stepRefused, stepFinal, formattedWor
 use Rattle.state.specs.declared.Doing.the-variants.{Idle}
 use Rattle.state.specs.declared.Answer.{Answer}
 use Rattle.state.specs.declared.Answer.the-variants.{Stored, Ready, Absent, Value, Refused}
-use Rattle.card.specs.Replies.{refusal, holds, absent, stored, ready, idle, started as startedReply}
+use Rattle.card.specs.Replies.{holds, absent}
 use Rattle.demands.specs.Book.{book, empty, added, entered, started as inHand, stepped as counted, feed, outcome, told, kept}
 use Rattle.demands.specs.Demand3.{Survives}
-use Rattle.demands.specs.Events.{Event, World, opened, reply-to, happens, run, LeftUncut, FormatsTo, ready-now, stored-first, Begins, from-format, insert, step, cut}
+use Rattle.demands.specs.Events.{Event, World, reply-to, happens, run, LeftUncut, FormatsTo, ready-now, stored-first, Begins, from-format, insert, step, cut}
 use Rattle.demands.specs.RationTable.{ration-table}
 use Rattle.demands.specs.Refusals.{way, among, full-at}
 use Rattle.demands.specs.Worked.{dictionary}

@@ -1,5 +1,4 @@
 -- Refusals have numbers below 64, so that the number of an answer tells which answer it is.
-use mathlib.Core.Path.{_≡_, refl, ap}
 use mathlib.Core.Bool.{Bool, true, false}
 use mathlib.Core.List.{List, [], _∷_}
 use mathlib.Core.Logic.{inl, inr}
@@ -9,7 +8,6 @@ use native.Mathlib.Omega.{arith}
 use lib.ListN.{length, getD}
 use lib.Dec.{eqb, ltb}
 use Rattle.card.specs.Header.{nodesOfLength, headerRefusal, cardRefusal, must}
-use Rattle.card.specs.Replies.{Reply, stored, ready}
 use Rattle.card.specs.Stores.{Store}
 use Rattle.demands.proofs.StepRows.{Final, next-final}
 use Rattle.descent.specs.declared.Landing.{Landing}
@@ -29,7 +27,6 @@ use Rattle.opening.specs.Opening.{openSound, openChecked, openOf}
 use Rattle.plans.specs.Planning.{Preparation, refused, balanced, prepared}
 use Rattle.soundness.specs.Check.{Findings, tableCheck}
 use Rattle.starting.specs.Starts.{startRefused, started, startLanded, startChecked, startOf}
-use Rattle.state.specs.Answers.{stepReply, startReply}
 use Rattle.state.specs.Memory.{Memory}
 use Rattle.state.specs.Steps.{isIdle, noBeginning, stepRefused, stepFinal, formatStore, stepFormat, stepStore, stepFirst}
 use Rattle.state.specs.declared.Answer.{Answer}

@@ -4,20 +4,14 @@ use mathlib.Core.Path.{_≡_, refl, ap, sym, subst, _∙_}
 use mathlib.Core.Bool.{Bool, true, false}
 use mathlib.Core.List.{List, [], _∷_}
 use mathlib.Core.Logic.{_⊎_, inl, inr}
-use mathlib.Core.Option.{Option, none, some}
-use Prim.Native.Nat.{ℕ, zero, suc, _+_, _*_, _≤_, _<_}
+use mathlib.Core.Option.{Option}
+use Prim.Native.Nat.{ℕ, zero, suc, _≤_, _<_}
 use native.Mathlib.Omega.{arith}
 use lib.ListN.{length, set, drop, length-append}
 use Rattle.card.specs.Stores.{Store}
 use Rattle.demands.specs.Events.{Event, World, reply-to, happens, run, LeftUncut, steps-in, find, insert, delete, step, cut}
 use Rattle.demands.specs.Demand2.{storeAt, StoresNow, Makes, Between, Repairs, Updates, done, mends as mends-by, no-change, changes}
-use Rattle.demands.specs.Book.{Book, feed, told}
-use Rattle.demands.specs.Refusals.{nodes-on}
 use Rattle.demands.specs.Rules.{Given, lastGivenOf, marked}
-use Rattle.card.specs.Layout.{keyLimit}
-use Rattle.starting.specs.Starts.{insertOf, deleteOf}
-use Rattle.state.specs.declared.Begun.the-variants.{Started}
-use Rattle.tree.specs.Pairs.{lookup}
 use Rattle.demands.specs.RationTable.{ration-table}
 use Rattle.demands.proofs.Making.{Nears, nearer, Left, find-same, same-insert, same-delete, run-left, stores-each}
 use Rattle.plans.specs.Planning.{Preparation, lastOf, withAll, refused, balanced, prepared}
@@ -41,15 +35,14 @@ use Rattle.change_theory.proofs.Repaired.{Repaired, settled, violated}
 use Rattle.promises.proofs.Invariant.{Table, Stage, Job, Entered, stage-idle, stage-put, stage-remove, stage-first, stage-between, stage-within, job-repair, job-insert, job-delete, no-update, updated}
 use Rattle.promises.proofs.Kept.{first-storable}
 use Rattle.promises.proofs.Reopen.{table-well-formed}
-use Rattle.promises.proofs.Starting.{nodes-same, kept-insert, kept-delete}
-use Rattle.promises.proofs.Machine.{insert as was-insert, delete as was-delete, happens as was-happens}
-use Rattle.demands.proofs.SameBook.{worldly, same-world, fed-same}
-use Rattle.demands.proofs.PowerCuts.{Covered, covered-nodes}
-use Rattle.promises.proofs.Ledger.{Update, Hand, was-final, feed as was-feed}
+use Rattle.promises.proofs.Starting.{nodes-same}
+use Rattle.demands.proofs.SameBook.{worldly}
+use Rattle.demands.proofs.PowerCuts.{Covered}
+use Rattle.promises.proofs.Ledger.{Update, Hand, was-final}
 use Rattle.promises.proofs.Stepping.{Right, final-due, right-final, kept-step, mends, rests}
 use Rattle.promises.proofs.PowerLoss.{loosen}
 use Rattle.promises.proofs.Finished.{work-not-refused}
-use Rattle.promises.proofs.Feeding.{step-result, begun-result, fed, due-after, due-after-start, dictionary-answer}
+use Rattle.promises.proofs.Feeding.{step-result}
 use Rattle.promises.proofs.Steps.{memory, step-repairs, prepared-ready, prepared-first, step-puts, step-removes}
 use Rattle.tree.proofs.Path.{depth-of}
 use Rattle.tree.specs.FreeNodes.{Exact}

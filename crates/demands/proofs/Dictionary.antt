@@ -1,9 +1,9 @@
 -- DEMAND 2 of the ration table.
 use mathlib.Core.Path.{_≡_, refl, ap, sym, subst, _∙_}
-use mathlib.Core.Bool.{Bool, true, false}
+use mathlib.Core.Bool.{true, false}
 use mathlib.Core.List.{List, [], _∷_}
 use mathlib.Core.Logic.{inl, inr}
-use mathlib.Core.Option.{Option, none, some}
+use mathlib.Core.Option.{none, some}
 use Prim.Native.Nat.{ℕ, suc, _+_, _<_}
 use native.Mathlib.Omega.{arith}
 use lib.ListN.{length}
@@ -11,7 +11,7 @@ use Rattle.card.specs.Header.{Sized, Formatted}
 use Rattle.promises.proofs.Machine.{Event as Was, World as Worldly, happens as was-happens, run as was-run, find as was-find, insert as was-insert, delete as was-delete, step as was-step, crash as was-crash}
 use Rattle.promises.proofs.Feeding.{begun-result, due-after, dictionary-answer, due-after-start}
 use Rattle.promises.proofs.Invariant.{Inv}
-use Rattle.demands.specs.Events.{Event, World, reply-to, happens, run, LeftUncut, steps-in, insert, delete, step, from-format, from-open}
+use Rattle.demands.specs.Events.{Event, World, reply-to, happens, run, LeftUncut, steps-in, insert, delete, step}
 use Rattle.demands.specs.Book.{Book}
 use Rattle.demands.specs.RationTable.{workOf, ration-table}
 use Rattle.demands.proofs.Work.{work-idle, idle-work, busy-work}
@@ -28,7 +28,7 @@ use Rattle.demands.proofs.CardRows.{none-some}
 use Rattle.demands.proofs.PowerCuts.{dictionary-same, Covered, always, was-list, run-same, quiet-same, steps-same, rests-right}
 use Rattle.demands.proofs.StartRows.{leads-is}
 use Rattle.demands.proofs.StepRows.{demand-1}
-use Rattle.demands.proofs.AnswerNumbers.{SmallBegun, start-small}
+use Rattle.demands.proofs.AnswerNumbers.{start-small}
 use Rattle.demands.proofs.ReplyLaws.{begun-started}
 use Rattle.demands.proofs.FirstRows.{sized-on}
 use Rattle.demands.proofs.UpdatesByRules.{insert-by-rules, delete-by-rules, opening-by-rules}
@@ -45,8 +45,7 @@ use Rattle.state.specs.Answers.{stepReply, startReply}
 use Rattle.state.specs.Steps.{isIdle}
 use Rattle.state.specs.declared.Answer.{Answer}
 use Rattle.state.specs.declared.Answer.the-variants.{Stored, Ready, Absent, Value, Refused}
-use Rattle.state.specs.declared.Begun.{Begun}
-use Rattle.state.specs.declared.Begun.the-variants.{Idle as OpenedIdle, Started, Refused as BegunRefused}
+use Rattle.state.specs.declared.Begun.the-variants.{Started}
 use Rattle.state.specs.declared.Doing.{Doing}
 use Rattle.state.specs.declared.Doing.the-variants.{Idle, Formatting, Inserting, Deleting, Repairing}
 use Rattle.table.specs.Calls.{stepOf}

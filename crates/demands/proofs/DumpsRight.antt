@@ -10,7 +10,7 @@ use lib.ListN.{length, getD, take, drop, length-drop, length-append, List·getD-
 use lib.Seq.{getD-drop, take-at}
 use Rattle.card.specs.Header.{nodesOfLength, cardRefusal, Sized, Formatted}
 use Rattle.card.specs.Layout.{leastNodes, greatestNodes}
-use Rattle.card.specs.Replies.{Reply, refusal, long}
+use Rattle.card.specs.Replies.{Reply, long}
 use Rattle.demands.specs.Dumps.{wordOf, byteOf, PaddedLength, nodesIn, wordsIn, Damaged, empty, no-multiple, too-long, bad-nodes, other-length, not-zero, readRows, writeRows, Refuses, Reads, Writes, Dumps}
 use Rattle.demands.specs.Refusals.{ByRows, nodes-on, end, row}
 use Rattle.demands.proofs.AnswerNumbers.{card-small}

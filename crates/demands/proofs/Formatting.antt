@@ -1,11 +1,11 @@
 -- DEMAND 2, of formatting: its stores, its "ready", and what opening says of it cut.
-use mathlib.Core.Path.{_≡_, refl, ap, sym, subst, _∙_}
-use mathlib.Core.Bool.{Bool, true, false}
+use mathlib.Core.Path.{_≡_, ap, subst, _∙_}
+use mathlib.Core.Bool.{true}
 use mathlib.Core.List.{List, [], _∷_}
-use mathlib.Core.Option.{Option, none, some}
-use Prim.Native.Nat.{ℕ, zero, suc, _+_, _≤_, _<_}
+use mathlib.Core.Option.{none, some}
+use Prim.Native.Nat.{ℕ, suc, _+_, _≤_}
 use native.Mathlib.Omega.{arith}
-use lib.ListN.{length, set}
+use lib.ListN.{length}
 use lib.Dec.{eqb, ltb}
 use borrow.Author.Tests.{ne-eqb, ltb-true}
 use Rattle.card.specs.Header.{Sized}
@@ -13,7 +13,7 @@ use Rattle.card.specs.Replies.{Reply, refusal, started}
 use Rattle.card.specs.Stores.{Store}
 use Rattle.demands.specs.Demand2.{StoresNow, freshWord, formatStore, formatBegun, Formats}
 use Rattle.demands.specs.Events.{Event, World, reply-to, happens, run, LeftUncut, steps-in, find, insert, delete, step, cut}
-use Rattle.demands.specs.Refusals.{NoCard, nodes-on}
+use Rattle.demands.specs.Refusals.{nodes-on}
 use Rattle.demands.specs.RationTable.{ration-table}
 use Rattle.demands.proofs.Making.{find-same, same-insert, same-delete}
 use Rattle.demands.proofs.FirstRows.{sized?, no-nodes}
@@ -21,14 +21,10 @@ use Rattle.formatting_theory.proofs.FormatSteps.{formatMemory, format-starts, f
 use Rattle.formatting_theory.proofs.FormatCard.{formatCard, format-next}
 use Rattle.formatting_theory.proofs.FormatCut.{cut-refused}
 use Rattle.formatting_theory.proofs.FormatStores.{some-store}
-use Rattle.laws.proofs.Cases.{bool-cases, order}
-use Rattle.opening.specs.Opening.{openOf}
-use Rattle.starting.specs.Starts.{formatOf}
+use Rattle.laws.proofs.Cases.{bool-cases}
 use Rattle.state.specs.Answers.{stepReply, startReply}
 use Rattle.state.specs.Memory.{resting}
 use Rattle.state.specs.Steps.{formattedWord, formatStore as formatStoreOf, noBeginning, Handed}
-use Rattle.state.specs.declared.Answer.the-variants.{Stored, Ready}
-use Rattle.table.specs.Calls.{stepOf}
 
 -- store number i, as the step finds it
 same-store : (n words i : ℕ) (s : Store) → formatStoreOf n words i ≡ some s → formatStore n words i ≡ s

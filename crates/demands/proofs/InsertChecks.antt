@@ -1,8 +1,8 @@
 -- W-209, of the program `insert_check`.
-use mathlib.Core.Path.{_≡_, refl, ap, sym, subst, _∙_}
+use mathlib.Core.Path.{_≡_, ap, sym, subst, _∙_}
 use mathlib.Core.Bool.{true, false}
 use mathlib.Core.List.{List, [], _∷_}
-use mathlib.Core.Logic.{_⊎_, inl, inr, ⊎-elim, ⊎-map, _↔_}
+use mathlib.Core.Logic.{_⊎_, inl, inr, ⊎-map, _↔_}
 use mathlib.Core.Option.{Option, none, some}
 use Prim.Native.Nat.{ℕ, zero, suc, _≤_, _<_}
 use native.Mathlib.Omega.{arith}
@@ -15,14 +15,15 @@ use Rattle.demands.specs.Events.{World, opened, happens, run, Words, Lef
 use Rattle.demands.specs.Book.{kept}
 use Rattle.demands.specs.RationTable.{handed, ration-table}
 use Rattle.demands.specs.Refusals.{ByRows, nodes-on, leads-to, among, open-rows, end, row}
-use Rattle.demands.specs.W209.{repairedWorld, SplitBelow, TellsHeld, LeadsAbsent, TellsSlot, TellsSplit, Told, OfCard, W209}
+use Rattle.demands.specs.List.{repairedWorld}
+use Rattle.demands.proofs.ListRight.{repaired-world}
+use Rattle.demands.specs.W209.{SplitBelow, TellsHeld, LeadsAbsent, TellsSlot, TellsSplit, Told, OfCard, W209}
 use Rattle.demands.specs.Worked.{dictionary}
-use Rattle.demands.proofs.AnswerNumbers.{SmallBegun, open-small}
 use Rattle.demands.proofs.CardRows.{opens}
-use Rattle.demands.proofs.PowerCuts.{covered-nodes, always, demand-3}
-use Rattle.demands.proofs.ReplyLaws.{code-of, begun-refused}
+use Rattle.demands.proofs.PowerCuts.{accepted, covered-nodes, always, demand-3}
+use Rattle.demands.proofs.ReplyLaws.{begun-refused}
 use Rattle.demands.proofs.RowLaws.{rows-map}
-use Rattle.demands.proofs.SameBook.{worldly, same-world}
+use Rattle.demands.proofs.SameBook.{worldly}
 use Rattle.demands.proofs.StartRows.{leads-is, slot-is}
 use Rattle.demands.proofs.WayDown.{landed, is-slot}
 use Rattle.demands.proofs.Work.{true-false}
@@ -42,13 +43,12 @@ use Rattle.key_file.proofs.KeyFileLaws.{key-below}
 use Rattle.key_file.specs.KeyFile.{keyIn}
 use Rattle.laws.proofs.Cases.{bool-cases}
 use Rattle.opening.specs.Opening.{openOf}
-use Rattle.promises.proofs.Machine.{World as Worldly, happens as was-happens, run as was-run}
+use Rattle.promises.proofs.Machine.{World as Worldly, happens as was-happens}
 use Rattle.promises.proofs.PowerLoss.{insert-same}
-use Rattle.promises.proofs.Promise.{Accepted}
 use Rattle.promises.proofs.Room.{LeadsTo}
 use Rattle.reason_printing.specs.ReasonText.{splitLine, reasonText, checkText}
 use Rattle.repairing.specs.Repairing.{cardRoom, openedCard}
-use Rattle.repairing_theory.proofs.Repair.{steps, world-of, opened-run}
+use Rattle.repairing_theory.proofs.Repair.{world-of}
 use Rattle.starting.specs.Starts.{startRefused, insertOf}
 use Rattle.state.specs.Answers.{startReply}
 use Rattle.state.specs.Memory.{Memory}
@@ -79,13 +79,6 @@ no-empty-slot : (leaf : List ℕ) → length (leafPairs leaf) ≡ 11 → among 0
 unfolding leafPairs keyWords
 no-empty-slot leaf eleven =
     bool-cases (among 0 (keyWords leaf)) (λ q. absurd (omega (arith, eleven, pairs-fewer (keyWords leaf) (valueWords leaf) q, length-take 11 (drop 1 leaf)))) (λ q. q)
-
--- ---- the card and the state that the repair leaves
-
-steps-run : (k : ℕ) (w : World ration-table) → worldly (run ration-table (replicate k step) w) ≡ was-run (steps k) (worldly w)
-unfolding run was-run
-steps-run zero w = refl
-steps-run (suc k) w = steps-run k (happens ration-table step w) ∙ ap (was-run (steps k)) (same-world step w)
 
 steps-uncut : (k : ℕ) (w : World ration-table) → LeftUncut ration-table (replicate k step) w
 unfolding LeftUncut
@@ -121,18 +114,7 @@ module _ (c : List ℕ) where
   after = repairedWorld ration-table c
 
   is-after : world-of (openedCard c) ≡ worldly after
-  unfolding repairedWorld
-  is-after = opened-run c ∙ sym (steps-run repair-steps (opened ration-table c))
-
-  accepts : Opens ration-table c → Accepted c
-  unfolding startReply
-  accepts o =
-      record {
-        not-refused = λ r e.
-            let small : r < 64 = subst (λ (b : Begun). SmallBegun b) e (open-small c) in
-            let code = code-of (ap startReply e) in
-            ⊎-elim (λ z. omega (arith, code-of z)) (λ z. omega (arith, code-of z)) o;
-      }
+  is-after = sym (repaired-world c)
 
   module _ (t : Tree) (well : WellFormed c t) (opening : Opens ration-table c) where
     begins : Begins ration-table (opened ration-table c) (pairs t)
@@ -202,7 +184,7 @@ module _ (dump file : List ℕ) where
         text : (keyIn file ≡ 0 → ⊥) → (value : ℕ) → (insertOf (after card .card) (after card .state) (keyIn file) value ≡ startRefused 8 (after card .state)) ↔ SplitBelow (checkText dump file)
         text d value =
             subst (λ (x : Worldly). (insertOf (x .card) (x .memory) (keyIn file) value ≡ startRefused 8 (x .memory)) ↔ SplitBelow (checkText dump file)) (is-after card)
-            (text-refused dump file size read (o .table) (accepts card opening) (o .sound) d value)
+            (text-refused dump file size read (o .table) (accepted card opening) (o .sound) d value)
 
         exactly : (keyIn file ≡ 0 → ⊥) → (value : ℕ) → (startReply (insertOf (after card .card) (after card .state) (keyIn file) value .begun) ≡ refusal 8) ↔ SplitBelow (checkText dump file)
         exactly d value =
@@ -210,9 +192,9 @@ module _ (dump file : List ℕ) where
             (λ e. text d value .0 (reply .0 e), λ p. reply .1 (text d value .1 p))
 
         go : Dec (keyIn file ≡ 0) → Told ration-table (repairedWorld ration-table card) (keyIn file) (checkText dump file)
-        go (yes z) = inl (z, no-key-text dump file size read (o .table) (accepts card opening) (o .sound) z)
+        go (yes z) = inl (z, no-key-text dump file size read (o .table) (accepted card opening) (o .sound) z)
         go (no d) =
-            let (r, is, holding) = text-holds dump file size read (o .table) (accepts card opening) (o .sound) d in
+            let (r, is, holding) = text-holds dump file size read (o .table) (accepted card opening) (o .sound) d in
             inr (
               d,
               record {

@@ -39,11 +39,11 @@ pub mod ListRight
 pub mod NextNumber
 -- W-202, of the test that `dump` makes
 pub mod PaddingTest
+-- W-209, of the program `insert_check`
+pub mod InsertChecks
 -- W-213, of the questions that `records` answers
 pub mod Fetching
 -- W-214, of the ration table
 pub mod Depths
--- W-209, of the program `insert_check`
-pub mod InsertChecks
 -- the promises of this table, one line each
 pub mod Demands

@@ -1,22 +1,22 @@
 -- The program `list`, of the ration table.
-use mathlib.Core.Path.{_≡_, refl, ap, sym, subst, _∙_}
+use mathlib.Core.Path.{_≡_, refl, ap, sym, _∙_}
 use mathlib.Core.Bool.{true, false}
 use mathlib.Core.List.{List}
-use mathlib.Core.Logic.{inl, inr, ⊎-elim}
+use mathlib.Core.Logic.{⊎-map, inl, inr}
 use Prim.Native.Nat.{ℕ, zero, suc, _^_, _<_}
 use native.Mathlib.Omega.{arith}
 use lib.ListN.{length, getD, replicate}
 use Rattle.demands.specs.Demand1.{OpensTo}
 use Rattle.demands.specs.Demand3.{repair-steps}
 use Rattle.demands.specs.Events.{World, opened, happens, run, step}
-use Rattle.demands.specs.List.{repairedBy, ListsRight, ListProgram}
+use Rattle.demands.specs.List.{repairedWorld, ListsRight, ListProgram}
 use Rattle.demands.specs.Refusals.{ByRows, nodes-on, open-rows, end, row}
 use Rattle.demands.proofs.SameBook.{worldly, same-world}
 use Rattle.demands.specs.RationTable.{handed, ration-table}
 use Rattle.demands.proofs.CardRows.{opens}
-use Rattle.demands.proofs.AnswerNumbers.{SmallBegun, open-small}
-use Rattle.demands.proofs.ReplyLaws.{code-of, begun-refused}
+use Rattle.demands.proofs.ReplyLaws.{begun-refused}
 use Rattle.demands.proofs.Work.{true-false}
+use Rattle.demands.proofs.PowerCuts.{accepted}
 use Rattle.demands.proofs.RowLaws.{rows-map}
 use Rattle.demands.proofs.FirstRows.{sized-on}
 use Rattle.card.proofs.HeaderLaws.{sized-nodes}
@@ -36,10 +36,8 @@ use Rattle.promises.proofs.Accepting.{accepted-card}
 use Rattle.promises.proofs.Machine.{World as Worldly, run as was-run}
 use Rattle.promises.proofs.Promise.{Accepted}
 use Rattle.repairing.specs.Repairing.{cardRoom, openedCard}
-use Rattle.repairing_theory.proofs.Repair.{steps, opened-run}
+use Rattle.repairing_theory.proofs.Repair.{world-of, steps, opened-run}
 use Rattle.shapes.proofs.Unique.{one-held}
-use Rattle.state.specs.Answers.{startReply}
-use Rattle.state.specs.declared.Begun.{Begun}
 use Rattle.tree.specs.Tree.{Tree}
 use Rattle.tree.specs.WellFormed.{WellFormed}
 
@@ -50,9 +48,12 @@ unfolding run was-run
 run-steps zero w = refl
 run-steps (suc k) w = run-steps k (happens ration-table step w) ∙ ap (was-run (steps k)) (same-world step w)
 
-repaired-is : (c : List ℕ) → repairedBy ration-table c ≡ openedCard c .card
-unfolding repairedBy
-repaired-is c = ap (λ (x : Worldly). x .card) (run-steps repair-steps (opened ration-table c) ∙ sym (opened-run c))
+pub repaired-world : (c : List ℕ) → worldly (repairedWorld ration-table c) ≡ world-of (openedCard c)
+unfolding repairedWorld
+repaired-world c = run-steps repair-steps (opened ration-table c) ∙ sym (opened-run c)
+
+repaired-is : (c : List ℕ) → repairedWorld ration-table c .card ≡ openedCard c .card
+repaired-is c = ap (λ (x : Worldly). x .card) (repaired-world c)
 
 -- ---- cards
 
@@ -73,16 +74,6 @@ module _ (c : List ℕ) where
         as-many = λ s v. rw (x .all-pairs, one-held c s t (v .holds) (w .holds)) (x .map .as-many);
       }
 
-  not-refused : OpensTo ration-table c (handed (openOf c)) → Accepted c
-  unfolding startReply
-  not-refused o =
-      record {
-        not-refused = λ r e.
-            let small : r < 64 = subst (λ (b : Begun). SmallBegun b) e (open-small c) in
-            let code = code-of (ap startReply e) in
-            ⊎-elim (λ z. omega (arith, code-of (z .1))) (λ z. omega (arith, code-of (z .1))) (o .hands);
-      }
-
   of-card : ByRows (open-rows c) (λ r. (ration-table .openCard c .reply ≡ refusal r) × (listCard c ≡ refused r)) ((l : Listing) × (listCard c ≡ listed l) × ListsRight ration-table c l)
   of-card =
       rows-map (open-rows c) (omega arith, (omega arith, (omega arith, (omega arith, (omega arith, tt)))))
@@ -90,7 +81,7 @@ module _ (c : List ℕ) where
       works (opens c)
     where
       works : OpensTo ration-table c (handed (openOf c)) → (l : Listing) × (listCard c ≡ listed l) × ListsRight ration-table c l
-      works o = let a = not-refused o in let x = listing-right c (o .table) (o .sound) a in (x .listing, x .is-listed, lists-right a (o .table) (o .sound) x)
+      works o = let a = accepted c (⊎-map (λ z. z .1) (λ z. z .1) (o .hands)) in let x = listing-right c (o .table) (o .sound) a in (x .listing, x .is-listed, lists-right a (o .table) (o .sound) x)
 
 -- ---- dumps
 

@@ -1,13 +1,11 @@
 -- The stores of a change, made one a step on a table that is worked: what the state and the card are at each of them.
 use mathlib.Core.Path.{_≡_, refl, ap, sym, subst, _∙_}
-use mathlib.Core.Bool.{Bool, true, false}
 use mathlib.Core.List.{List, [], _∷_}
 use mathlib.Core.Logic.{_⊎_, inl, inr}
-use mathlib.Core.Option.{Option, none, some}
+use mathlib.Core.Option.{Option}
 use Prim.Native.Nat.{ℕ, zero, suc, _+_, _≤_, _<_}
 use native.Mathlib.Omega.{arith}
-use lib.ListN.{length, getD, set, drop}
-use Rattle.card.specs.Replies.{Reply, stored}
+use lib.ListN.{length, set, drop}
 use Rattle.card.specs.Stores.{Store}
 use Rattle.demands.specs.Table.{Refused}
 use Rattle.demands.specs.Events.{Event, World, reply-to, happens, run, LeftUncut, steps-in, find, insert, delete, step, cut}
@@ -19,7 +17,7 @@ use Rattle.demands.proofs.PowerCuts.{Covered, covered-nodes, refused-in
 use Rattle.demands.proofs.StepRows.{advanced-rest}
 use Rattle.promises.proofs.Feeding.{fed, due-after}
 use Rattle.promises.proofs.Finished.{stored-due}
-use Rattle.promises.proofs.Invariant.{Inv, Stage, Table, stage-idle, stage-put, stage-remove, stage-first, stage-between, stage-within}
+use Rattle.promises.proofs.Invariant.{Stage, Table, stage-idle, stage-put, stage-remove, stage-first, stage-between, stage-within}
 use Rattle.promises.proofs.Kept.{first-storable}
 use Rattle.promises.proofs.Ledger.{Hand, feed as was-feed}
 use Rattle.promises.proofs.Machine.{World as Worldly, step as was-step}

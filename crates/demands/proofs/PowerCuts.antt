@@ -153,7 +153,7 @@ small-refused : (b : Begun) (r : ℕ) → SmallBegun b → b ≡ BegunRefused r 
 unfolding startReply
 small-refused b r s e = let z : r < 64 = subst (λ x. SmallBegun x) e s in rw e z
 
-accepted : (c : List ℕ) → Opens ration-table c → Accepted c
+pub accepted : (c : List ℕ) → Opens ration-table c → Accepted c
 unfolding startReply
 accepted c o = record { not-refused = λ r e. let h = small-refused (openOf c .begun) r (open-small c) e in at h o }
   where

@@ -1,6 +1,5 @@
 -- The number of a reply tells which answer it is.
 use mathlib.Core.Path.{_≡_, refl, ap}
-use mathlib.Core.Bool.{Bool, true, false}
 use Prim.Native.Nat.{ℕ, _<_}
 use native.Mathlib.Omega.{arith}
 use Rattle.card.specs.Replies.{Reply, refusal, holds, absent, started, stored, ready}

@@ -15,10 +15,6 @@ pub mod Rules
 pub mod Demand1
 pub mod Demand2
 pub mod Demand3
--- document 02, W-209: what stands in the way of a new number
-pub mod W209
--- the table that is proved to meet them
-pub mod RationTable
 -- document 01, dumps and the program `list`
 pub mod Dumps
 pub mod List
@@ -26,7 +22,11 @@ pub mod List
 pub mod W201
 -- the padding of a dump, tested eight bytes at a time
 pub mod W202
+-- what stands in the way of a new number
+pub mod W209
 -- the record of a ration, as a part of a lent block
 pub mod W213
 -- how many levels a line has, by its rations
 pub mod W214
+-- the table that is proved to meet all this
+pub mod RationTable

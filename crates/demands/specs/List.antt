@@ -18,18 +18,18 @@ use Rattle.tree.specs.Tree.{Tree}
 use Rattle.tree.specs.WellFormed.{WellFormed, Balanced}
 use Rattle.demands.specs.Table.{Table}
 use Rattle.demands.specs.Demand3.{repair-steps}
-use Rattle.demands.specs.Events.{opened, run, step}
+use Rattle.demands.specs.Events.{World, opened, run, step}
 use Rattle.demands.specs.Refusals.{ByRows, nodes-on, open-rows, end, row}
 
 -- "opens and repairs it in memory": so many steps that the repair has ended (demand 3); those after its end store nothing
-unfoldable pub repairedBy : (T : Table) → List ℕ → List ℕ
-repairedBy T c = run T (replicate repair-steps step) (opened T c) .card
+unfoldable pub repairedWorld : (T : Table) → List ℕ → World T
+repairedWorld T c = run T (replicate repair-steps step) (opened T c)
 
 -- "First line: N, free nodes, internal levels, pairs. Then key and value, leaves left to right, slots rising."
 pub record ListsRight (T : Table) (c : List ℕ) (l : Listing) : Type 0 where
   -- of the table on the repaired card
   pub table : Tree
-  pub balanced : Balanced (repairedBy T c) table
+  pub balanced : Balanced (repairedWorld T c .card) table
   pub nodes : l .nodes ≡ nodes-on c
   -- the free nodes are exactly those that are not reached
   pub unreached : List Bool

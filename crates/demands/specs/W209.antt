@@ -6,7 +6,6 @@ use mathlib.Core.List.{List, _++_}
 use mathlib.Core.Logic.{_⊎_, _↔_}
 use mathlib.Core.Option.{some}
 use Prim.Native.Nat.{ℕ, _<_}
-use lib.ListN.{replicate}
 use Rattle.card.specs.Layout.{nodeAt, keyWords}
 use Rattle.card.specs.Replies.{refusal, holds, absent}
 use Rattle.dump.specs.Dump.{dumpWords, wordsFor, dumpNodes, damaged}
@@ -15,15 +14,10 @@ use Rattle.key_file.specs.KeyFile.{keyIn}
 use Rattle.reason_printing.specs.ReasonText.{noKeyWord, heldWord, slotWord, splitLine}
 use Rattle.text_row.specs.Lines.{lineFeed, numberLine, refusalLine}
 use Rattle.updates.specs.Updates.{splitNeed}
+use Rattle.demands.specs.List.{repairedWorld}
 use Rattle.demands.specs.Table.{Table}
-use Rattle.demands.specs.Demand3.{repair-steps}
-use Rattle.demands.specs.Events.{World, opened, run, step}
+use Rattle.demands.specs.Events.{World}
 use Rattle.demands.specs.Refusals.{ByRows, leads-to, among, open-rows, end, row}
-
--- "A program reads a dump from standard input, opens and repairs it": the card and the state after so many steps that the repair has
--- ended (demand 3)
-unfoldable pub repairedWorld : (T : Table) → List ℕ → World T
-repairedWorld T c = run T (replicate repair-steps step) (opened T c)
 
 -- "`split` is printed with F below M"
 abbrev pub SplitBelow : List ℕ → Type 0
