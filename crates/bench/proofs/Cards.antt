@@ -5,15 +5,15 @@ use mathlib.Core.List.{List, [], _∷_, _++_}
 use Prim.Native.Nat.{ℕ, zero, suc, _+_, _*_}
 use lib.ListN.{getD, replicate}
 use Rattle.card.specs.Header.{nodesOfLength, headerRefusal, cardRefusal}
-use Rattle.card.specs.Layout.{nodeAt, keyWords, valueWords, children, routingKeys, leafPairs, nodeImage}
-use Rattle.plans.specs.Change.{changeStores, kindAbove, splitLeaf, joinedKeys, joinedChildren, absorb, splitParent, leavesTogether, innersTogether, half, leftKeys, keyBetween, share, merge, mergeRoot}
+use Rattle.card.specs.Layout.{nodeAt, keyWords, valueWords, children, routingKeys, leafPairs, nodeImage, runBelow}
+use Rattle.plans.specs.Change.{changeStores, kindAbove, splitLeaf, joinedKeys, joinedChildren, absorb, splitParent, leavesTogether, innersTogether, half, leftKeys, keyBetween, share, merge, mergeRoot, halves, copied}
 use Rattle.plans.specs.Planning.{numbersFrom, takeNumbers, withoutAll, lastOf, overNumbers, giving, withAll}
 use Rattle.change.specs.Mending.{mendTagged, isNode, mendUnderfull, mend, onSearch, nextRepair}
 use Rattle.siblings.specs.Siblings.{mendTogether, mendSiblings}
-use Rattle.descent.specs.Descent.{passed, childIndex, childFor, firstEqual, slotOf, turnInner, turnOf, turnAt, onTurn, leafFor, runBelow, onTurnLanding, landingFor, rootPosition, childPosition, visitOf, visitAt, onVisit, seek}
+use Rattle.descent.specs.Descent.{passed, childIndex, childFor, firstEqual, slotOf, turnInner, turnOf, turnAt, onTurn, leafFor, onTurnLanding, landingFor, rootPosition, childPosition, visitOf, visitAt, onVisit, seek, visitLeaf, visitInner, visitTagged}
 use Rattle.free_nodes.specs.NodeSet.{allNodes, countTrue, firstTrue, firstFrom, orElse, nextFree}
 use Rattle.laws.specs.Sorting.{insert-pair, insert-all, sort, pair-keys}
-use Rattle.soundness.specs.Check.{member, leafSound, unusedZero, lookOf, noted, enterLeaf, innerSound, enterInner, enterKind, enterNode, childrenCheck, childRun, raised, onLook, nodeCheck, tableCheck}
+use Rattle.soundness.specs.Check.{member, leafSound, unusedZero, lookOf, noted, enterLeaf, innerSound, enterInner, enterKind, enterNode, childrenCheck, raised, onLook, nodeCheck, tableCheck, rangeEnd, slotSound}
 use Rattle.card.specs.Replies.{Reply, refusal, holds, absent, idle, started as begun}
 use Rattle.lookup.specs.Answers.{foundReply}
 use Rattle.state.specs.Answers.{stepReply, startReply}
@@ -161,15 +161,15 @@ heldL2 =
     }
 
 pub again-B : againB ≡ heldB
-unfolding fresh drive onAnswer insert delete upto steps cardL cardB cardS cardI cardK cardL2 foundReply stepReply startReply stepOf stepDoing stepFormat formatStore formattedWord formatOf stepFinal nodesOfLength formatting resting idled allNodes headerRefusal stepHeld isIdle stepWork stepPlan stepBegin stepPrepared changeAt landing landingFor onTurnLanding turnAt turnOf turnInner nodeAt children valueWords keyWords slotOf firstEqual insertReason reasonIn emptyReason insertChange stepFirst stepStore planning advanced repairs nextChange nextRepair onSearch seek onVisit visitAt visitOf rootPosition leafPairs insertOf startOf startChecked startRoom roomFor startLanded started stepRefused startRefused withAll giving overNumbers takeNumbers numbersFrom nextFree firstFrom firstTrue orElse withoutAll lastOf splitLeaf changeStores sort insert-all insert-pair kindAbove nodeImage countTrue childPosition childFor childIndex passed routingKeys runBelow deleteOf changeIn deleteChange mend mendTagged mendUnderfull mendSiblings mendTogether isNode share merge mergeRoot leavesTogether innersTogether half leftKeys keyBetween absorb splitParent joinedKeys joinedChildren findOf cardRefusal foundAt leafFor onTurn foundIn noBeginning noMemory openOf openChecked openSound tableCheck nodeCheck onLook enterNode enterKind enterLeaf enterInner innerSound noted lookOf leafSound member unusedZero childrenCheck childRun raised
+unfolding fresh drive onAnswer insert delete upto steps cardL cardB cardS cardI cardK cardL2 foundReply stepReply startReply stepOf stepDoing stepFormat formatStore formattedWord formatOf stepFinal nodesOfLength formatting resting idled allNodes headerRefusal stepHeld isIdle stepWork stepPlan stepBegin stepPrepared changeAt landing landingFor onTurnLanding turnAt turnOf turnInner nodeAt children valueWords keyWords slotOf firstEqual insertReason reasonIn emptyReason insertChange stepFirst stepStore planning advanced repairs nextChange nextRepair onSearch seek onVisit visitAt visitOf visitLeaf visitInner visitTagged rootPosition leafPairs insertOf startOf startChecked startRoom roomFor startLanded started stepRefused startRefused withAll giving overNumbers takeNumbers numbersFrom nextFree firstFrom firstTrue orElse withoutAll lastOf splitLeaf changeStores sort insert-all insert-pair kindAbove nodeImage countTrue childPosition childFor childIndex passed routingKeys runBelow deleteOf changeIn deleteChange mend mendTagged mendUnderfull mendSiblings mendTogether isNode share halves copied merge mergeRoot leavesTogether innersTogether half leftKeys keyBetween absorb splitParent joinedKeys joinedChildren findOf cardRefusal foundAt leafFor onTurn foundIn noBeginning noMemory openOf openChecked openSound tableCheck nodeCheck onLook enterNode enterKind enterLeaf enterInner innerSound noted lookOf leafSound slotSound member unusedZero childrenCheck rangeEnd raised
 again-B = refl
 
 pub worked-S : cardS ≡ heldS
-unfolding fresh drive onAnswer insert delete upto steps cardL cardB cardS cardI cardK cardL2 foundReply stepReply startReply stepOf stepDoing stepFormat formatStore formattedWord formatOf stepFinal nodesOfLength formatting resting idled allNodes headerRefusal stepHeld isIdle stepWork stepPlan stepBegin stepPrepared changeAt landing landingFor onTurnLanding turnAt turnOf turnInner nodeAt children valueWords keyWords slotOf firstEqual insertReason reasonIn emptyReason insertChange stepFirst stepStore planning advanced repairs nextChange nextRepair onSearch seek onVisit visitAt visitOf rootPosition leafPairs insertOf startOf startChecked startRoom roomFor startLanded started stepRefused startRefused withAll giving overNumbers takeNumbers numbersFrom nextFree firstFrom firstTrue orElse withoutAll lastOf splitLeaf changeStores sort insert-all insert-pair kindAbove nodeImage countTrue childPosition childFor childIndex passed routingKeys runBelow deleteOf changeIn deleteChange mend mendTagged mendUnderfull mendSiblings mendTogether isNode share merge mergeRoot leavesTogether innersTogether half leftKeys keyBetween absorb splitParent joinedKeys joinedChildren findOf cardRefusal foundAt leafFor onTurn foundIn noBeginning noMemory openOf openChecked openSound tableCheck nodeCheck onLook enterNode enterKind enterLeaf enterInner innerSound noted lookOf leafSound member unusedZero childrenCheck childRun raised
+unfolding fresh drive onAnswer insert delete upto steps cardL cardB cardS cardI cardK cardL2 foundReply stepReply startReply stepOf stepDoing stepFormat formatStore formattedWord formatOf stepFinal nodesOfLength formatting resting idled allNodes headerRefusal stepHeld isIdle stepWork stepPlan stepBegin stepPrepared changeAt landing landingFor onTurnLanding turnAt turnOf turnInner nodeAt children valueWords keyWords slotOf firstEqual insertReason reasonIn emptyReason insertChange stepFirst stepStore planning advanced repairs nextChange nextRepair onSearch seek onVisit visitAt visitOf visitLeaf visitInner visitTagged rootPosition leafPairs insertOf startOf startChecked startRoom roomFor startLanded started stepRefused startRefused withAll giving overNumbers takeNumbers numbersFrom nextFree firstFrom firstTrue orElse withoutAll lastOf splitLeaf changeStores sort insert-all insert-pair kindAbove nodeImage countTrue childPosition childFor childIndex passed routingKeys runBelow deleteOf changeIn deleteChange mend mendTagged mendUnderfull mendSiblings mendTogether isNode share halves copied merge mergeRoot leavesTogether innersTogether half leftKeys keyBetween absorb splitParent joinedKeys joinedChildren findOf cardRefusal foundAt leafFor onTurn foundIn noBeginning noMemory openOf openChecked openSound tableCheck nodeCheck onLook enterNode enterKind enterLeaf enterInner innerSound noted lookOf leafSound slotSound member unusedZero childrenCheck rangeEnd raised
 worked-S = refl
 
 pub from-S : insert 12 120 heldS ≡ heldI
-unfolding fresh drive onAnswer insert delete upto steps cardL cardB cardS cardI cardK cardL2 foundReply stepReply startReply stepOf stepDoing stepFormat formatStore formattedWord formatOf stepFinal nodesOfLength formatting resting idled allNodes headerRefusal stepHeld isIdle stepWork stepPlan stepBegin stepPrepared changeAt landing landingFor onTurnLanding turnAt turnOf turnInner nodeAt children valueWords keyWords slotOf firstEqual insertReason reasonIn emptyReason insertChange stepFirst stepStore planning advanced repairs nextChange nextRepair onSearch seek onVisit visitAt visitOf rootPosition leafPairs insertOf startOf startChecked startRoom roomFor startLanded started stepRefused startRefused withAll giving overNumbers takeNumbers numbersFrom nextFree firstFrom firstTrue orElse withoutAll lastOf splitLeaf changeStores sort insert-all insert-pair kindAbove nodeImage countTrue childPosition childFor childIndex passed routingKeys runBelow deleteOf changeIn deleteChange mend mendTagged mendUnderfull mendSiblings mendTogether isNode share merge mergeRoot leavesTogether innersTogether half leftKeys keyBetween absorb splitParent joinedKeys joinedChildren findOf cardRefusal foundAt leafFor onTurn foundIn noBeginning noMemory openOf openChecked openSound tableCheck nodeCheck onLook enterNode enterKind enterLeaf enterInner innerSound noted lookOf leafSound member unusedZero childrenCheck childRun raised
+unfolding fresh drive onAnswer insert delete upto steps cardL cardB cardS cardI cardK cardL2 foundReply stepReply startReply stepOf stepDoing stepFormat formatStore formattedWord formatOf stepFinal nodesOfLength formatting resting idled allNodes headerRefusal stepHeld isIdle stepWork stepPlan stepBegin stepPrepared changeAt landing landingFor onTurnLanding turnAt turnOf turnInner nodeAt children valueWords keyWords slotOf firstEqual insertReason reasonIn emptyReason insertChange stepFirst stepStore planning advanced repairs nextChange nextRepair onSearch seek onVisit visitAt visitOf visitLeaf visitInner visitTagged rootPosition leafPairs insertOf startOf startChecked startRoom roomFor startLanded started stepRefused startRefused withAll giving overNumbers takeNumbers numbersFrom nextFree firstFrom firstTrue orElse withoutAll lastOf splitLeaf changeStores sort insert-all insert-pair kindAbove nodeImage countTrue childPosition childFor childIndex passed routingKeys runBelow deleteOf changeIn deleteChange mend mendTagged mendUnderfull mendSiblings mendTogether isNode share halves copied merge mergeRoot leavesTogether innersTogether half leftKeys keyBetween absorb splitParent joinedKeys joinedChildren findOf cardRefusal foundAt leafFor onTurn foundIn noBeginning noMemory openOf openChecked openSound tableCheck nodeCheck onLook enterNode enterKind enterLeaf enterInner innerSound noted lookOf leafSound slotSound member unusedZero childrenCheck rangeEnd raised
 from-S = refl
 
 pub worked-I : cardI ≡ heldI
@@ -177,7 +177,7 @@ unfolding cardI
 worked-I = ap (insert 12 120) worked-S ∙ from-S
 
 pub from-I : delete 5 (delete 4 (delete 3 (delete 2 (delete 1 heldI)))) ≡ heldK
-unfolding fresh drive onAnswer insert delete upto steps cardL cardB cardS cardI cardK cardL2 foundReply stepReply startReply stepOf stepDoing stepFormat formatStore formattedWord formatOf stepFinal nodesOfLength formatting resting idled allNodes headerRefusal stepHeld isIdle stepWork stepPlan stepBegin stepPrepared changeAt landing landingFor onTurnLanding turnAt turnOf turnInner nodeAt children valueWords keyWords slotOf firstEqual insertReason reasonIn emptyReason insertChange stepFirst stepStore planning advanced repairs nextChange nextRepair onSearch seek onVisit visitAt visitOf rootPosition leafPairs insertOf startOf startChecked startRoom roomFor startLanded started stepRefused startRefused withAll giving overNumbers takeNumbers numbersFrom nextFree firstFrom firstTrue orElse withoutAll lastOf splitLeaf changeStores sort insert-all insert-pair kindAbove nodeImage countTrue childPosition childFor childIndex passed routingKeys runBelow deleteOf changeIn deleteChange mend mendTagged mendUnderfull mendSiblings mendTogether isNode share merge mergeRoot leavesTogether innersTogether half leftKeys keyBetween absorb splitParent joinedKeys joinedChildren findOf cardRefusal foundAt leafFor onTurn foundIn noBeginning noMemory openOf openChecked openSound tableCheck nodeCheck onLook enterNode enterKind enterLeaf enterInner innerSound noted lookOf leafSound member unusedZero childrenCheck childRun raised
+unfolding fresh drive onAnswer insert delete upto steps cardL cardB cardS cardI cardK cardL2 foundReply stepReply startReply stepOf stepDoing stepFormat formatStore formattedWord formatOf stepFinal nodesOfLength formatting resting idled allNodes headerRefusal stepHeld isIdle stepWork stepPlan stepBegin stepPrepared changeAt landing landingFor onTurnLanding turnAt turnOf turnInner nodeAt children valueWords keyWords slotOf firstEqual insertReason reasonIn emptyReason insertChange stepFirst stepStore planning advanced repairs nextChange nextRepair onSearch seek onVisit visitAt visitOf visitLeaf visitInner visitTagged rootPosition leafPairs insertOf startOf startChecked startRoom roomFor startLanded started stepRefused startRefused withAll giving overNumbers takeNumbers numbersFrom nextFree firstFrom firstTrue orElse withoutAll lastOf splitLeaf changeStores sort insert-all insert-pair kindAbove nodeImage countTrue childPosition childFor childIndex passed routingKeys runBelow deleteOf changeIn deleteChange mend mendTagged mendUnderfull mendSiblings mendTogether isNode share halves copied merge mergeRoot leavesTogether innersTogether half leftKeys keyBetween absorb splitParent joinedKeys joinedChildren findOf cardRefusal foundAt leafFor onTurn foundIn noBeginning noMemory openOf openChecked openSound tableCheck nodeCheck onLook enterNode enterKind enterLeaf enterInner innerSound noted lookOf leafSound slotSound member unusedZero childrenCheck rangeEnd raised
 from-I = refl
 
 pub worked-K : cardK ≡ heldK
@@ -185,7 +185,7 @@ unfolding cardK
 worked-K = ap (λ b. delete 5 (delete 4 (delete 3 (delete 2 (delete 1 b))))) worked-I ∙ from-I
 
 pub from-K : delete 9 (delete 10 (delete 8 (delete 7 heldK))) ≡ heldL2
-unfolding fresh drive onAnswer insert delete upto steps cardL cardB cardS cardI cardK cardL2 foundReply stepReply startReply stepOf stepDoing stepFormat formatStore formattedWord formatOf stepFinal nodesOfLength formatting resting idled allNodes headerRefusal stepHeld isIdle stepWork stepPlan stepBegin stepPrepared changeAt landing landingFor onTurnLanding turnAt turnOf turnInner nodeAt children valueWords keyWords slotOf firstEqual insertReason reasonIn emptyReason insertChange stepFirst stepStore planning advanced repairs nextChange nextRepair onSearch seek onVisit visitAt visitOf rootPosition leafPairs insertOf startOf startChecked startRoom roomFor startLanded started stepRefused startRefused withAll giving overNumbers takeNumbers numbersFrom nextFree firstFrom firstTrue orElse withoutAll lastOf splitLeaf changeStores sort insert-all insert-pair kindAbove nodeImage countTrue childPosition childFor childIndex passed routingKeys runBelow deleteOf changeIn deleteChange mend mendTagged mendUnderfull mendSiblings mendTogether isNode share merge mergeRoot leavesTogether innersTogether half leftKeys keyBetween absorb splitParent joinedKeys joinedChildren findOf cardRefusal foundAt leafFor onTurn foundIn noBeginning noMemory openOf openChecked openSound tableCheck nodeCheck onLook enterNode enterKind enterLeaf enterInner innerSound noted lookOf leafSound member unusedZero childrenCheck childRun raised
+unfolding fresh drive onAnswer insert delete upto steps cardL cardB cardS cardI cardK cardL2 foundReply stepReply startReply stepOf stepDoing stepFormat formatStore formattedWord formatOf stepFinal nodesOfLength formatting resting idled allNodes headerRefusal stepHeld isIdle stepWork stepPlan stepBegin stepPrepared changeAt landing landingFor onTurnLanding turnAt turnOf turnInner nodeAt children valueWords keyWords slotOf firstEqual insertReason reasonIn emptyReason insertChange stepFirst stepStore planning advanced repairs nextChange nextRepair onSearch seek onVisit visitAt visitOf visitLeaf visitInner visitTagged rootPosition leafPairs insertOf startOf startChecked startRoom roomFor startLanded started stepRefused startRefused withAll giving overNumbers takeNumbers numbersFrom nextFree firstFrom firstTrue orElse withoutAll lastOf splitLeaf changeStores sort insert-all insert-pair kindAbove nodeImage countTrue childPosition childFor childIndex passed routingKeys runBelow deleteOf changeIn deleteChange mend mendTagged mendUnderfull mendSiblings mendTogether isNode share halves copied merge mergeRoot leavesTogether innersTogether half leftKeys keyBetween absorb splitParent joinedKeys joinedChildren findOf cardRefusal foundAt leafFor onTurn foundIn noBeginning noMemory openOf openChecked openSound tableCheck nodeCheck onLook enterNode enterKind enterLeaf enterInner innerSound noted lookOf leafSound slotSound member unusedZero childrenCheck rangeEnd raised
 from-K = refl
 
 pub worked-L2 : cardL2 ≡ heldL2
@@ -197,7 +197,7 @@ unfoldable pub rowA : List ℕ
 rowA = said (foundReply (findOf (cardL .card) 7))
 
 pub rowA-is : rowA ≡ said absent
-unfolding rowA fresh drive onAnswer insert delete upto steps cardL cardB cardS cardI cardK cardL2 foundReply stepReply startReply stepOf stepDoing stepFormat formatStore formattedWord formatOf stepFinal nodesOfLength formatting resting idled allNodes headerRefusal stepHeld isIdle stepWork stepPlan stepBegin stepPrepared changeAt landing landingFor onTurnLanding turnAt turnOf turnInner nodeAt children valueWords keyWords slotOf firstEqual insertReason reasonIn emptyReason insertChange stepFirst stepStore planning advanced repairs nextChange nextRepair onSearch seek onVisit visitAt visitOf rootPosition leafPairs insertOf startOf startChecked startRoom roomFor startLanded started stepRefused startRefused withAll giving overNumbers takeNumbers numbersFrom nextFree firstFrom firstTrue orElse withoutAll lastOf splitLeaf changeStores sort insert-all insert-pair kindAbove nodeImage countTrue childPosition childFor childIndex passed routingKeys runBelow deleteOf changeIn deleteChange mend mendTagged mendUnderfull mendSiblings mendTogether isNode share merge mergeRoot leavesTogether innersTogether half leftKeys keyBetween absorb splitParent joinedKeys joinedChildren findOf cardRefusal foundAt leafFor onTurn foundIn noBeginning noMemory openOf openChecked openSound tableCheck nodeCheck onLook enterNode enterKind enterLeaf enterInner innerSound noted lookOf leafSound member unusedZero childrenCheck childRun raised
+unfolding rowA fresh drive onAnswer insert delete upto steps cardL cardB cardS cardI cardK cardL2 foundReply stepReply startReply stepOf stepDoing stepFormat formatStore formattedWord formatOf stepFinal nodesOfLength formatting resting idled allNodes headerRefusal stepHeld isIdle stepWork stepPlan stepBegin stepPrepared changeAt landing landingFor onTurnLanding turnAt turnOf turnInner nodeAt children valueWords keyWords slotOf firstEqual insertReason reasonIn emptyReason insertChange stepFirst stepStore planning advanced repairs nextChange nextRepair onSearch seek onVisit visitAt visitOf visitLeaf visitInner visitTagged rootPosition leafPairs insertOf startOf startChecked startRoom roomFor startLanded started stepRefused startRefused withAll giving overNumbers takeNumbers numbersFrom nextFree firstFrom firstTrue orElse withoutAll lastOf splitLeaf changeStores sort insert-all insert-pair kindAbove nodeImage countTrue childPosition childFor childIndex passed routingKeys runBelow deleteOf changeIn deleteChange mend mendTagged mendUnderfull mendSiblings mendTogether isNode share halves copied merge mergeRoot leavesTogether innersTogether half leftKeys keyBetween absorb splitParent joinedKeys joinedChildren findOf cardRefusal foundAt leafFor onTurn foundIn noBeginning noMemory openOf openChecked openSound tableCheck nodeCheck onLook enterNode enterKind enterLeaf enterInner innerSound noted lookOf leafSound slotSound member unusedZero childrenCheck rangeEnd raised
 rowA-is = refl
 
 -- B: L, insert 7: word 20 gets 70, then word 9 gets 7; two stores, absent
@@ -205,7 +205,7 @@ unfoldable pub rowB : List ℕ
 rowB = getD cutB 20 0 ∷ getD cutB 9 0 ∷ getD (cardB .card) 20 0 ∷ getD (cardB .card) 9 0 ∷ cardB .stores ∷ said (stepReply (cardB .answer))
 
 pub rowB-is : rowB ≡ (70 ∷ 0 ∷ 70 ∷ 7 ∷ 2 ∷ said absent)
-unfolding rowB fresh drive onAnswer insert delete upto steps cardL cardB cardS cardI cardK cardL2 foundReply stepReply startReply stepOf stepDoing stepFormat formatStore formattedWord formatOf stepFinal nodesOfLength formatting resting idled allNodes headerRefusal stepHeld isIdle stepWork stepPlan stepBegin stepPrepared changeAt landing landingFor onTurnLanding turnAt turnOf turnInner nodeAt children valueWords keyWords slotOf firstEqual insertReason reasonIn emptyReason insertChange stepFirst stepStore planning advanced repairs nextChange nextRepair onSearch seek onVisit visitAt visitOf rootPosition leafPairs insertOf startOf startChecked startRoom roomFor startLanded started stepRefused startRefused withAll giving overNumbers takeNumbers numbersFrom nextFree firstFrom firstTrue orElse withoutAll lastOf splitLeaf changeStores sort insert-all insert-pair kindAbove nodeImage countTrue childPosition childFor childIndex passed routingKeys runBelow deleteOf changeIn deleteChange mend mendTagged mendUnderfull mendSiblings mendTogether isNode share merge mergeRoot leavesTogether innersTogether half leftKeys keyBetween absorb splitParent joinedKeys joinedChildren findOf cardRefusal foundAt leafFor onTurn foundIn noBeginning noMemory openOf openChecked openSound tableCheck nodeCheck onLook enterNode enterKind enterLeaf enterInner innerSound noted lookOf leafSound member unusedZero childrenCheck childRun raised
+unfolding rowB fresh drive onAnswer insert delete upto steps cardL cardB cardS cardI cardK cardL2 foundReply stepReply startReply stepOf stepDoing stepFormat formatStore formattedWord formatOf stepFinal nodesOfLength formatting resting idled allNodes headerRefusal stepHeld isIdle stepWork stepPlan stepBegin stepPrepared changeAt landing landingFor onTurnLanding turnAt turnOf turnInner nodeAt children valueWords keyWords slotOf firstEqual insertReason reasonIn emptyReason insertChange stepFirst stepStore planning advanced repairs nextChange nextRepair onSearch seek onVisit visitAt visitOf visitLeaf visitInner visitTagged rootPosition leafPairs insertOf startOf startChecked startRoom roomFor startLanded started stepRefused startRefused withAll giving overNumbers takeNumbers numbersFrom nextFree firstFrom firstTrue orElse withoutAll lastOf splitLeaf changeStores sort insert-all insert-pair kindAbove nodeImage countTrue childPosition childFor childIndex passed routingKeys runBelow deleteOf changeIn deleteChange mend mendTagged mendUnderfull mendSiblings mendTogether isNode share halves copied merge mergeRoot leavesTogether innersTogether half leftKeys keyBetween absorb splitParent joinedKeys joinedChildren findOf cardRefusal foundAt leafFor onTurn foundIn noBeginning noMemory openOf openChecked openSound tableCheck nodeCheck onLook enterNode enterKind enterLeaf enterInner innerSound noted lookOf leafSound slotSound member unusedZero childrenCheck rangeEnd raised
 rowB-is = refl
 
 -- C: B cut after one store: find 7 absent
@@ -213,7 +213,7 @@ unfoldable pub rowC : List ℕ
 rowC = said (foundReply (findOf cutB 7))
 
 cutB-absent : foundReply (findOf cutB 7) ≡ absent
-unfolding fresh drive onAnswer insert delete upto steps cardL cardB cardS cardI cardK cardL2 foundReply stepReply startReply stepOf stepDoing stepFormat formatStore formattedWord formatOf stepFinal nodesOfLength formatting resting idled allNodes headerRefusal stepHeld isIdle stepWork stepPlan stepBegin stepPrepared changeAt landing landingFor onTurnLanding turnAt turnOf turnInner nodeAt children valueWords keyWords slotOf firstEqual insertReason reasonIn emptyReason insertChange stepFirst stepStore planning advanced repairs nextChange nextRepair onSearch seek onVisit visitAt visitOf rootPosition leafPairs insertOf startOf startChecked startRoom roomFor startLanded started stepRefused startRefused withAll giving overNumbers takeNumbers numbersFrom nextFree firstFrom firstTrue orElse withoutAll lastOf splitLeaf changeStores sort insert-all insert-pair kindAbove nodeImage countTrue childPosition childFor childIndex passed routingKeys runBelow deleteOf changeIn deleteChange mend mendTagged mendUnderfull mendSiblings mendTogether isNode share merge mergeRoot leavesTogether innersTogether half leftKeys keyBetween absorb splitParent joinedKeys joinedChildren findOf cardRefusal foundAt leafFor onTurn foundIn noBeginning noMemory openOf openChecked openSound tableCheck nodeCheck onLook enterNode enterKind enterLeaf enterInner innerSound noted lookOf leafSound member unusedZero childrenCheck childRun raised
+unfolding fresh drive onAnswer insert delete upto steps cardL cardB cardS cardI cardK cardL2 foundReply stepReply startReply stepOf stepDoing stepFormat formatStore formattedWord formatOf stepFinal nodesOfLength formatting resting idled allNodes headerRefusal stepHeld isIdle stepWork stepPlan stepBegin stepPrepared changeAt landing landingFor onTurnLanding turnAt turnOf turnInner nodeAt children valueWords keyWords slotOf firstEqual insertReason reasonIn emptyReason insertChange stepFirst stepStore planning advanced repairs nextChange nextRepair onSearch seek onVisit visitAt visitOf visitLeaf visitInner visitTagged rootPosition leafPairs insertOf startOf startChecked startRoom roomFor startLanded started stepRefused startRefused withAll giving overNumbers takeNumbers numbersFrom nextFree firstFrom firstTrue orElse withoutAll lastOf splitLeaf changeStores sort insert-all insert-pair kindAbove nodeImage countTrue childPosition childFor childIndex passed routingKeys runBelow deleteOf changeIn deleteChange mend mendTagged mendUnderfull mendSiblings mendTogether isNode share halves copied merge mergeRoot leavesTogether innersTogether half leftKeys keyBetween absorb splitParent joinedKeys joinedChildren findOf cardRefusal foundAt leafFor onTurn foundIn noBeginning noMemory openOf openChecked openSound tableCheck nodeCheck onLook enterNode enterKind enterLeaf enterInner innerSound noted lookOf leafSound slotSound member unusedZero childrenCheck rangeEnd raised
 cutB-absent = refl
 
 pub rowC-is : rowC ≡ said absent
@@ -225,7 +225,7 @@ unfoldable pub rowD : List ℕ
 rowD = againB .stores ∷ insert 7 71 againB .stores ∷ said (stepReply (insert 7 71 againB .answer))
 
 pub rowD-held : heldB .stores ∷ insert 7 71 heldB .stores ∷ said (stepReply (insert 7 71 heldB .answer)) ≡ (2 ∷ 0 ∷ said (holds 70))
-unfolding fresh drive onAnswer insert delete upto steps cardL cardB cardS cardI cardK cardL2 foundReply stepReply startReply stepOf stepDoing stepFormat formatStore formattedWord formatOf stepFinal nodesOfLength formatting resting idled allNodes headerRefusal stepHeld isIdle stepWork stepPlan stepBegin stepPrepared changeAt landing landingFor onTurnLanding turnAt turnOf turnInner nodeAt children valueWords keyWords slotOf firstEqual insertReason reasonIn emptyReason insertChange stepFirst stepStore planning advanced repairs nextChange nextRepair onSearch seek onVisit visitAt visitOf rootPosition leafPairs insertOf startOf startChecked startRoom roomFor startLanded started stepRefused startRefused withAll giving overNumbers takeNumbers numbersFrom nextFree firstFrom firstTrue orElse withoutAll lastOf splitLeaf changeStores sort insert-all insert-pair kindAbove nodeImage countTrue childPosition childFor childIndex passed routingKeys runBelow deleteOf changeIn deleteChange mend mendTagged mendUnderfull mendSiblings mendTogether isNode share merge mergeRoot leavesTogether innersTogether half leftKeys keyBetween absorb splitParent joinedKeys joinedChildren findOf cardRefusal foundAt leafFor onTurn foundIn noBeginning noMemory openOf openChecked openSound tableCheck nodeCheck onLook enterNode enterKind enterLeaf enterInner innerSound noted lookOf leafSound member unusedZero childrenCheck childRun raised
+unfolding fresh drive onAnswer insert delete upto steps cardL cardB cardS cardI cardK cardL2 foundReply stepReply startReply stepOf stepDoing stepFormat formatStore formattedWord formatOf stepFinal nodesOfLength formatting resting idled allNodes headerRefusal stepHeld isIdle stepWork stepPlan stepBegin stepPrepared changeAt landing landingFor onTurnLanding turnAt turnOf turnInner nodeAt children valueWords keyWords slotOf firstEqual insertReason reasonIn emptyReason insertChange stepFirst stepStore planning advanced repairs nextChange nextRepair onSearch seek onVisit visitAt visitOf visitLeaf visitInner visitTagged rootPosition leafPairs insertOf startOf startChecked startRoom roomFor startLanded started stepRefused startRefused withAll giving overNumbers takeNumbers numbersFrom nextFree firstFrom firstTrue orElse withoutAll lastOf splitLeaf changeStores sort insert-all insert-pair kindAbove nodeImage countTrue childPosition childFor childIndex passed routingKeys runBelow deleteOf changeIn deleteChange mend mendTagged mendUnderfull mendSiblings mendTogether isNode share halves copied merge mergeRoot leavesTogether innersTogether half leftKeys keyBetween absorb splitParent joinedKeys joinedChildren findOf cardRefusal foundAt leafFor onTurn foundIn noBeginning noMemory openOf openChecked openSound tableCheck nodeCheck onLook enterNode enterKind enterLeaf enterInner innerSound noted lookOf leafSound slotSound member unusedZero childrenCheck rangeEnd raised
 rowD-held = refl
 
 pub rowD-is : rowD ≡ (2 ∷ 0 ∷ said (holds 70))
@@ -237,7 +237,7 @@ unfoldable pub rowE : List ℕ
 rowE = delete 7 cardB .stores ∷ getD (delete 7 cardB .card) 9 0 ∷ said (stepReply (delete 7 cardB .answer))
 
 pub rowE-is : rowE ≡ (1 ∷ 0 ∷ said (holds 70))
-unfolding rowE fresh drive onAnswer insert delete upto steps cardL cardB cardS cardI cardK cardL2 foundReply stepReply startReply stepOf stepDoing stepFormat formatStore formattedWord formatOf stepFinal nodesOfLength formatting resting idled allNodes headerRefusal stepHeld isIdle stepWork stepPlan stepBegin stepPrepared changeAt landing landingFor onTurnLanding turnAt turnOf turnInner nodeAt children valueWords keyWords slotOf firstEqual insertReason reasonIn emptyReason insertChange stepFirst stepStore planning advanced repairs nextChange nextRepair onSearch seek onVisit visitAt visitOf rootPosition leafPairs insertOf startOf startChecked startRoom roomFor startLanded started stepRefused startRefused withAll giving overNumbers takeNumbers numbersFrom nextFree firstFrom firstTrue orElse withoutAll lastOf splitLeaf changeStores sort insert-all insert-pair kindAbove nodeImage countTrue childPosition childFor childIndex passed routingKeys runBelow deleteOf changeIn deleteChange mend mendTagged mendUnderfull mendSiblings mendTogether isNode share merge mergeRoot leavesTogether innersTogether half leftKeys keyBetween absorb splitParent joinedKeys joinedChildren findOf cardRefusal foundAt leafFor onTurn foundIn noBeginning noMemory openOf openChecked openSound tableCheck nodeCheck onLook enterNode enterKind enterLeaf enterInner innerSound noted lookOf leafSound member unusedZero childrenCheck childRun raised
+unfolding rowE fresh drive onAnswer insert delete upto steps cardL cardB cardS cardI cardK cardL2 foundReply stepReply startReply stepOf stepDoing stepFormat formatStore formattedWord formatOf stepFinal nodesOfLength formatting resting idled allNodes headerRefusal stepHeld isIdle stepWork stepPlan stepBegin stepPrepared changeAt landing landingFor onTurnLanding turnAt turnOf turnInner nodeAt children valueWords keyWords slotOf firstEqual insertReason reasonIn emptyReason insertChange stepFirst stepStore planning advanced repairs nextChange nextRepair onSearch seek onVisit visitAt visitOf visitLeaf visitInner visitTagged rootPosition leafPairs insertOf startOf startChecked startRoom roomFor startLanded started stepRefused startRefused withAll giving overNumbers takeNumbers numbersFrom nextFree firstFrom firstTrue orElse withoutAll lastOf splitLeaf changeStores sort insert-all insert-pair kindAbove nodeImage countTrue childPosition childFor childIndex passed routingKeys runBelow deleteOf changeIn deleteChange mend mendTagged mendUnderfull mendSiblings mendTogether isNode share halves copied merge mergeRoot leavesTogether innersTogether half leftKeys keyBetween absorb splitParent joinedKeys joinedChildren findOf cardRefusal foundAt leafFor onTurn foundIn noBeginning noMemory openOf openChecked openSound tableCheck nodeCheck onLook enterNode enterKind enterLeaf enterInner innerSound noted lookOf leafSound slotSound member unusedZero childrenCheck rangeEnd raised
 rowE-is = refl
 
 -- F: L, delete 7: absent
@@ -245,7 +245,7 @@ unfoldable pub rowF : List ℕ
 rowF = delete 7 cardL .stores ∷ said (stepReply (delete 7 cardL .answer))
 
 pub rowF-is : rowF ≡ (0 ∷ said absent)
-unfolding rowF fresh drive onAnswer insert delete upto steps cardL cardB cardS cardI cardK cardL2 foundReply stepReply startReply stepOf stepDoing stepFormat formatStore formattedWord formatOf stepFinal nodesOfLength formatting resting idled allNodes headerRefusal stepHeld isIdle stepWork stepPlan stepBegin stepPrepared changeAt landing landingFor onTurnLanding turnAt turnOf turnInner nodeAt children valueWords keyWords slotOf firstEqual insertReason reasonIn emptyReason insertChange stepFirst stepStore planning advanced repairs nextChange nextRepair onSearch seek onVisit visitAt visitOf rootPosition leafPairs insertOf startOf startChecked startRoom roomFor startLanded started stepRefused startRefused withAll giving overNumbers takeNumbers numbersFrom nextFree firstFrom firstTrue orElse withoutAll lastOf splitLeaf changeStores sort insert-all insert-pair kindAbove nodeImage countTrue childPosition childFor childIndex passed routingKeys runBelow deleteOf changeIn deleteChange mend mendTagged mendUnderfull mendSiblings mendTogether isNode share merge mergeRoot leavesTogether innersTogether half leftKeys keyBetween absorb splitParent joinedKeys joinedChildren findOf cardRefusal foundAt leafFor onTurn foundIn noBeginning noMemory openOf openChecked openSound tableCheck nodeCheck onLook enterNode enterKind enterLeaf enterInner innerSound noted lookOf leafSound member unusedZero childrenCheck childRun raised
+unfolding rowF fresh drive onAnswer insert delete upto steps cardL cardB cardS cardI cardK cardL2 foundReply stepReply startReply stepOf stepDoing stepFormat formatStore formattedWord formatOf stepFinal nodesOfLength formatting resting idled allNodes headerRefusal stepHeld isIdle stepWork stepPlan stepBegin stepPrepared changeAt landing landingFor onTurnLanding turnAt turnOf turnInner nodeAt children valueWords keyWords slotOf firstEqual insertReason reasonIn emptyReason insertChange stepFirst stepStore planning advanced repairs nextChange nextRepair onSearch seek onVisit visitAt visitOf visitLeaf visitInner visitTagged rootPosition leafPairs insertOf startOf startChecked startRoom roomFor startLanded started stepRefused startRefused withAll giving overNumbers takeNumbers numbersFrom nextFree firstFrom firstTrue orElse withoutAll lastOf splitLeaf changeStores sort insert-all insert-pair kindAbove nodeImage countTrue childPosition childFor childIndex passed routingKeys runBelow deleteOf changeIn deleteChange mend mendTagged mendUnderfull mendSiblings mendTogether isNode share halves copied merge mergeRoot leavesTogether innersTogether half leftKeys keyBetween absorb splitParent joinedKeys joinedChildren findOf cardRefusal foundAt leafFor onTurn foundIn noBeginning noMemory openOf openChecked openSound tableCheck nodeCheck onLook enterNode enterKind enterLeaf enterInner innerSound noted lookOf leafSound slotSound member unusedZero childrenCheck rangeEnd raised
 rowF-is = refl
 
 -- G: 104 words may be formatted; 80, 103, 105 are refused 1. 14,408 may; 14,432 not
@@ -253,42 +253,42 @@ unfoldable pub rowG104 : List ℕ
 rowG104 = said (startReply (formatOf (replicate 104 0) .begun))
 
 pub rowG104-is : rowG104 ≡ said begun
-unfolding rowG104 fresh drive onAnswer insert delete upto steps cardL cardB cardS cardI cardK cardL2 foundReply stepReply startReply stepOf stepDoing stepFormat formatStore formattedWord formatOf stepFinal nodesOfLength formatting resting idled allNodes headerRefusal stepHeld isIdle stepWork stepPlan stepBegin stepPrepared changeAt landing landingFor onTurnLanding turnAt turnOf turnInner nodeAt children valueWords keyWords slotOf firstEqual insertReason reasonIn emptyReason insertChange stepFirst stepStore planning advanced repairs nextChange nextRepair onSearch seek onVisit visitAt visitOf rootPosition leafPairs insertOf startOf startChecked startRoom roomFor startLanded started stepRefused startRefused withAll giving overNumbers takeNumbers numbersFrom nextFree firstFrom firstTrue orElse withoutAll lastOf splitLeaf changeStores sort insert-all insert-pair kindAbove nodeImage countTrue childPosition childFor childIndex passed routingKeys runBelow deleteOf changeIn deleteChange mend mendTagged mendUnderfull mendSiblings mendTogether isNode share merge mergeRoot leavesTogether innersTogether half leftKeys keyBetween absorb splitParent joinedKeys joinedChildren findOf cardRefusal foundAt leafFor onTurn foundIn noBeginning noMemory openOf openChecked openSound tableCheck nodeCheck onLook enterNode enterKind enterLeaf enterInner innerSound noted lookOf leafSound member unusedZero childrenCheck childRun raised
+unfolding rowG104 fresh drive onAnswer insert delete upto steps cardL cardB cardS cardI cardK cardL2 foundReply stepReply startReply stepOf stepDoing stepFormat formatStore formattedWord formatOf stepFinal nodesOfLength formatting resting idled allNodes headerRefusal stepHeld isIdle stepWork stepPlan stepBegin stepPrepared changeAt landing landingFor onTurnLanding turnAt turnOf turnInner nodeAt children valueWords keyWords slotOf firstEqual insertReason reasonIn emptyReason insertChange stepFirst stepStore planning advanced repairs nextChange nextRepair onSearch seek onVisit visitAt visitOf visitLeaf visitInner visitTagged rootPosition leafPairs insertOf startOf startChecked startRoom roomFor startLanded started stepRefused startRefused withAll giving overNumbers takeNumbers numbersFrom nextFree firstFrom firstTrue orElse withoutAll lastOf splitLeaf changeStores sort insert-all insert-pair kindAbove nodeImage countTrue childPosition childFor childIndex passed routingKeys runBelow deleteOf changeIn deleteChange mend mendTagged mendUnderfull mendSiblings mendTogether isNode share halves copied merge mergeRoot leavesTogether innersTogether half leftKeys keyBetween absorb splitParent joinedKeys joinedChildren findOf cardRefusal foundAt leafFor onTurn foundIn noBeginning noMemory openOf openChecked openSound tableCheck nodeCheck onLook enterNode enterKind enterLeaf enterInner innerSound noted lookOf leafSound slotSound member unusedZero childrenCheck rangeEnd raised
 rowG104-is = refl
 
 unfoldable pub rowG80 : List ℕ
 rowG80 = said (startReply (formatOf (replicate 80 0) .begun))
 
 pub rowG80-is : rowG80 ≡ said (refusal 1)
-unfolding rowG80 fresh drive onAnswer insert delete upto steps cardL cardB cardS cardI cardK cardL2 foundReply stepReply startReply stepOf stepDoing stepFormat formatStore formattedWord formatOf stepFinal nodesOfLength formatting resting idled allNodes headerRefusal stepHeld isIdle stepWork stepPlan stepBegin stepPrepared changeAt landing landingFor onTurnLanding turnAt turnOf turnInner nodeAt children valueWords keyWords slotOf firstEqual insertReason reasonIn emptyReason insertChange stepFirst stepStore planning advanced repairs nextChange nextRepair onSearch seek onVisit visitAt visitOf rootPosition leafPairs insertOf startOf startChecked startRoom roomFor startLanded started stepRefused startRefused withAll giving overNumbers takeNumbers numbersFrom nextFree firstFrom firstTrue orElse withoutAll lastOf splitLeaf changeStores sort insert-all insert-pair kindAbove nodeImage countTrue childPosition childFor childIndex passed routingKeys runBelow deleteOf changeIn deleteChange mend mendTagged mendUnderfull mendSiblings mendTogether isNode share merge mergeRoot leavesTogether innersTogether half leftKeys keyBetween absorb splitParent joinedKeys joinedChildren findOf cardRefusal foundAt leafFor onTurn foundIn noBeginning noMemory openOf openChecked openSound tableCheck nodeCheck onLook enterNode enterKind enterLeaf enterInner innerSound noted lookOf leafSound member unusedZero childrenCheck childRun raised
+unfolding rowG80 fresh drive onAnswer insert delete upto steps cardL cardB cardS cardI cardK cardL2 foundReply stepReply startReply stepOf stepDoing stepFormat formatStore formattedWord formatOf stepFinal nodesOfLength formatting resting idled allNodes headerRefusal stepHeld isIdle stepWork stepPlan stepBegin stepPrepared changeAt landing landingFor onTurnLanding turnAt turnOf turnInner nodeAt children valueWords keyWords slotOf firstEqual insertReason reasonIn emptyReason insertChange stepFirst stepStore planning advanced repairs nextChange nextRepair onSearch seek onVisit visitAt visitOf visitLeaf visitInner visitTagged rootPosition leafPairs insertOf startOf startChecked startRoom roomFor startLanded started stepRefused startRefused withAll giving overNumbers takeNumbers numbersFrom nextFree firstFrom firstTrue orElse withoutAll lastOf splitLeaf changeStores sort insert-all insert-pair kindAbove nodeImage countTrue childPosition childFor childIndex passed routingKeys runBelow deleteOf changeIn deleteChange mend mendTagged mendUnderfull mendSiblings mendTogether isNode share halves copied merge mergeRoot leavesTogether innersTogether half leftKeys keyBetween absorb splitParent joinedKeys joinedChildren findOf cardRefusal foundAt leafFor onTurn foundIn noBeginning noMemory openOf openChecked openSound tableCheck nodeCheck onLook enterNode enterKind enterLeaf enterInner innerSound noted lookOf leafSound slotSound member unusedZero childrenCheck rangeEnd raised
 rowG80-is = refl
 
 unfoldable pub rowG103 : List ℕ
 rowG103 = said (startReply (formatOf (replicate 103 0) .begun))
 
 pub rowG103-is : rowG103 ≡ said (refusal 1)
-unfolding rowG103 fresh drive onAnswer insert delete upto steps cardL cardB cardS cardI cardK cardL2 foundReply stepReply startReply stepOf stepDoing stepFormat formatStore formattedWord formatOf stepFinal nodesOfLength formatting resting idled allNodes headerRefusal stepHeld isIdle stepWork stepPlan stepBegin stepPrepared changeAt landing landingFor onTurnLanding turnAt turnOf turnInner nodeAt children valueWords keyWords slotOf firstEqual insertReason reasonIn emptyReason insertChange stepFirst stepStore planning advanced repairs nextChange nextRepair onSearch seek onVisit visitAt visitOf rootPosition leafPairs insertOf startOf startChecked startRoom roomFor startLanded started stepRefused startRefused withAll giving overNumbers takeNumbers numbersFrom nextFree firstFrom firstTrue orElse withoutAll lastOf splitLeaf changeStores sort insert-all insert-pair kindAbove nodeImage countTrue childPosition childFor childIndex passed routingKeys runBelow deleteOf changeIn deleteChange mend mendTagged mendUnderfull mendSiblings mendTogether isNode share merge mergeRoot leavesTogether innersTogether half leftKeys keyBetween absorb splitParent joinedKeys joinedChildren findOf cardRefusal foundAt leafFor onTurn foundIn noBeginning noMemory openOf openChecked openSound tableCheck nodeCheck onLook enterNode enterKind enterLeaf enterInner innerSound noted lookOf leafSound member unusedZero childrenCheck childRun raised
+unfolding rowG103 fresh drive onAnswer insert delete upto steps cardL cardB cardS cardI cardK cardL2 foundReply stepReply startReply stepOf stepDoing stepFormat formatStore formattedWord formatOf stepFinal nodesOfLength formatting resting idled allNodes headerRefusal stepHeld isIdle stepWork stepPlan stepBegin stepPrepared changeAt landing landingFor onTurnLanding turnAt turnOf turnInner nodeAt children valueWords keyWords slotOf firstEqual insertReason reasonIn emptyReason insertChange stepFirst stepStore planning advanced repairs nextChange nextRepair onSearch seek onVisit visitAt visitOf visitLeaf visitInner visitTagged rootPosition leafPairs insertOf startOf startChecked startRoom roomFor startLanded started stepRefused startRefused withAll giving overNumbers takeNumbers numbersFrom nextFree firstFrom firstTrue orElse withoutAll lastOf splitLeaf changeStores sort insert-all insert-pair kindAbove nodeImage countTrue childPosition childFor childIndex passed routingKeys runBelow deleteOf changeIn deleteChange mend mendTagged mendUnderfull mendSiblings mendTogether isNode share halves copied merge mergeRoot leavesTogether innersTogether half leftKeys keyBetween absorb splitParent joinedKeys joinedChildren findOf cardRefusal foundAt leafFor onTurn foundIn noBeginning noMemory openOf openChecked openSound tableCheck nodeCheck onLook enterNode enterKind enterLeaf enterInner innerSound noted lookOf leafSound slotSound member unusedZero childrenCheck rangeEnd raised
 rowG103-is = refl
 
 unfoldable pub rowG105 : List ℕ
 rowG105 = said (startReply (formatOf (replicate 105 0) .begun))
 
 pub rowG105-is : rowG105 ≡ said (refusal 1)
-unfolding rowG105 fresh drive onAnswer insert delete upto steps cardL cardB cardS cardI cardK cardL2 foundReply stepReply startReply stepOf stepDoing stepFormat formatStore formattedWord formatOf stepFinal nodesOfLength formatting resting idled allNodes headerRefusal stepHeld isIdle stepWork stepPlan stepBegin stepPrepared changeAt landing landingFor onTurnLanding turnAt turnOf turnInner nodeAt children valueWords keyWords slotOf firstEqual insertReason reasonIn emptyReason insertChange stepFirst stepStore planning advanced repairs nextChange nextRepair onSearch seek onVisit visitAt visitOf rootPosition leafPairs insertOf startOf startChecked startRoom roomFor startLanded started stepRefused startRefused withAll giving overNumbers takeNumbers numbersFrom nextFree firstFrom firstTrue orElse withoutAll lastOf splitLeaf changeStores sort insert-all insert-pair kindAbove nodeImage countTrue childPosition childFor childIndex passed routingKeys runBelow deleteOf changeIn deleteChange mend mendTagged mendUnderfull mendSiblings mendTogether isNode share merge mergeRoot leavesTogether innersTogether half leftKeys keyBetween absorb splitParent joinedKeys joinedChildren findOf cardRefusal foundAt leafFor onTurn foundIn noBeginning noMemory openOf openChecked openSound tableCheck nodeCheck onLook enterNode enterKind enterLeaf enterInner innerSound noted lookOf leafSound member unusedZero childrenCheck childRun raised
+unfolding rowG105 fresh drive onAnswer insert delete upto steps cardL cardB cardS cardI cardK cardL2 foundReply stepReply startReply stepOf stepDoing stepFormat formatStore formattedWord formatOf stepFinal nodesOfLength formatting resting idled allNodes headerRefusal stepHeld isIdle stepWork stepPlan stepBegin stepPrepared changeAt landing landingFor onTurnLanding turnAt turnOf turnInner nodeAt children valueWords keyWords slotOf firstEqual insertReason reasonIn emptyReason insertChange stepFirst stepStore planning advanced repairs nextChange nextRepair onSearch seek onVisit visitAt visitOf visitLeaf visitInner visitTagged rootPosition leafPairs insertOf startOf startChecked startRoom roomFor startLanded started stepRefused startRefused withAll giving overNumbers takeNumbers numbersFrom nextFree firstFrom firstTrue orElse withoutAll lastOf splitLeaf changeStores sort insert-all insert-pair kindAbove nodeImage countTrue childPosition childFor childIndex passed routingKeys runBelow deleteOf changeIn deleteChange mend mendTagged mendUnderfull mendSiblings mendTogether isNode share halves copied merge mergeRoot leavesTogether innersTogether half leftKeys keyBetween absorb splitParent joinedKeys joinedChildren findOf cardRefusal foundAt leafFor onTurn foundIn noBeginning noMemory openOf openChecked openSound tableCheck nodeCheck onLook enterNode enterKind enterLeaf enterInner innerSound noted lookOf leafSound slotSound member unusedZero childrenCheck rangeEnd raised
 rowG105-is = refl
 
 unfoldable pub rowG14408 : List ℕ
 rowG14408 = said (startReply (formatOf (replicate 14408 0) .begun))
 
 pub rowG14408-is : rowG14408 ≡ said begun
-unfolding rowG14408 fresh drive onAnswer insert delete upto steps cardL cardB cardS cardI cardK cardL2 foundReply stepReply startReply stepOf stepDoing stepFormat formatStore formattedWord formatOf stepFinal nodesOfLength formatting resting idled allNodes headerRefusal stepHeld isIdle stepWork stepPlan stepBegin stepPrepared changeAt landing landingFor onTurnLanding turnAt turnOf turnInner nodeAt children valueWords keyWords slotOf firstEqual insertReason reasonIn emptyReason insertChange stepFirst stepStore planning advanced repairs nextChange nextRepair onSearch seek onVisit visitAt visitOf rootPosition leafPairs insertOf startOf startChecked startRoom roomFor startLanded started stepRefused startRefused withAll giving overNumbers takeNumbers numbersFrom nextFree firstFrom firstTrue orElse withoutAll lastOf splitLeaf changeStores sort insert-all insert-pair kindAbove nodeImage countTrue childPosition childFor childIndex passed routingKeys runBelow deleteOf changeIn deleteChange mend mendTagged mendUnderfull mendSiblings mendTogether isNode share merge mergeRoot leavesTogether innersTogether half leftKeys keyBetween absorb splitParent joinedKeys joinedChildren findOf cardRefusal foundAt leafFor onTurn foundIn noBeginning noMemory openOf openChecked openSound tableCheck nodeCheck onLook enterNode enterKind enterLeaf enterInner innerSound noted lookOf leafSound member unusedZero childrenCheck childRun raised
+unfolding rowG14408 fresh drive onAnswer insert delete upto steps cardL cardB cardS cardI cardK cardL2 foundReply stepReply startReply stepOf stepDoing stepFormat formatStore formattedWord formatOf stepFinal nodesOfLength formatting resting idled allNodes headerRefusal stepHeld isIdle stepWork stepPlan stepBegin stepPrepared changeAt landing landingFor onTurnLanding turnAt turnOf turnInner nodeAt children valueWords keyWords slotOf firstEqual insertReason reasonIn emptyReason insertChange stepFirst stepStore planning advanced repairs nextChange nextRepair onSearch seek onVisit visitAt visitOf visitLeaf visitInner visitTagged rootPosition leafPairs insertOf startOf startChecked startRoom roomFor startLanded started stepRefused startRefused withAll giving overNumbers takeNumbers numbersFrom nextFree firstFrom firstTrue orElse withoutAll lastOf splitLeaf changeStores sort insert-all insert-pair kindAbove nodeImage countTrue childPosition childFor childIndex passed routingKeys runBelow deleteOf changeIn deleteChange mend mendTagged mendUnderfull mendSiblings mendTogether isNode share halves copied merge mergeRoot leavesTogether innersTogether half leftKeys keyBetween absorb splitParent joinedKeys joinedChildren findOf cardRefusal foundAt leafFor onTurn foundIn noBeginning noMemory openOf openChecked openSound tableCheck nodeCheck onLook enterNode enterKind enterLeaf enterInner innerSound noted lookOf leafSound slotSound member unusedZero childrenCheck rangeEnd raised
 rowG14408-is = refl
 
 unfoldable pub rowG14432 : List ℕ
 rowG14432 = said (startReply (formatOf (replicate 14432 0) .begun))
 
 pub rowG14432-is : rowG14432 ≡ said (refusal 1)
-unfolding rowG14432 fresh drive onAnswer insert delete upto steps cardL cardB cardS cardI cardK cardL2 foundReply stepReply startReply stepOf stepDoing stepFormat formatStore formattedWord formatOf stepFinal nodesOfLength formatting resting idled allNodes headerRefusal stepHeld isIdle stepWork stepPlan stepBegin stepPrepared changeAt landing landingFor onTurnLanding turnAt turnOf turnInner nodeAt children valueWords keyWords slotOf firstEqual insertReason reasonIn emptyReason insertChange stepFirst stepStore planning advanced repairs nextChange nextRepair onSearch seek onVisit visitAt visitOf rootPosition leafPairs insertOf startOf startChecked startRoom roomFor startLanded started stepRefused startRefused withAll giving overNumbers takeNumbers numbersFrom nextFree firstFrom firstTrue orElse withoutAll lastOf splitLeaf changeStores sort insert-all insert-pair kindAbove nodeImage countTrue childPosition childFor childIndex passed routingKeys runBelow deleteOf changeIn deleteChange mend mendTagged mendUnderfull mendSiblings mendTogether isNode share merge mergeRoot leavesTogether innersTogether half leftKeys keyBetween absorb splitParent joinedKeys joinedChildren findOf cardRefusal foundAt leafFor onTurn foundIn noBeginning noMemory openOf openChecked openSound tableCheck nodeCheck onLook enterNode enterKind enterLeaf enterInner innerSound noted lookOf leafSound member unusedZero childrenCheck childRun raised
+unfolding rowG14432 fresh drive onAnswer insert delete upto steps cardL cardB cardS cardI cardK cardL2 foundReply stepReply startReply stepOf stepDoing stepFormat formatStore formattedWord formatOf stepFinal nodesOfLength formatting resting idled allNodes headerRefusal stepHeld isIdle stepWork stepPlan stepBegin stepPrepared changeAt landing landingFor onTurnLanding turnAt turnOf turnInner nodeAt children valueWords keyWords slotOf firstEqual insertReason reasonIn emptyReason insertChange stepFirst stepStore planning advanced repairs nextChange nextRepair onSearch seek onVisit visitAt visitOf visitLeaf visitInner visitTagged rootPosition leafPairs insertOf startOf startChecked startRoom roomFor startLanded started stepRefused startRefused withAll giving overNumbers takeNumbers numbersFrom nextFree firstFrom firstTrue orElse withoutAll lastOf splitLeaf changeStores sort insert-all insert-pair kindAbove nodeImage countTrue childPosition childFor childIndex passed routingKeys runBelow deleteOf changeIn deleteChange mend mendTagged mendUnderfull mendSiblings mendTogether isNode share halves copied merge mergeRoot leavesTogether innersTogether half leftKeys keyBetween absorb splitParent joinedKeys joinedChildren findOf cardRefusal foundAt leafFor onTurn foundIn noBeginning noMemory openOf openChecked openSound tableCheck nodeCheck onLook enterNode enterKind enterLeaf enterInner innerSound noted lookOf leafSound slotSound member unusedZero childrenCheck rangeEnd raised
 rowG14432-is = refl
 
 -- H: key 0 refused 6; 4,294,967,295 accepted
@@ -296,21 +296,21 @@ unfoldable pub rowHinsert : List ℕ
 rowHinsert = said (startReply (insertOf (cardL .card) (cardL .memory) 0 1 .begun))
 
 pub rowHinsert-is : rowHinsert ≡ said (refusal 6)
-unfolding rowHinsert fresh drive onAnswer insert delete upto steps cardL cardB cardS cardI cardK cardL2 foundReply stepReply startReply stepOf stepDoing stepFormat formatStore formattedWord formatOf stepFinal nodesOfLength formatting resting idled allNodes headerRefusal stepHeld isIdle stepWork stepPlan stepBegin stepPrepared changeAt landing landingFor onTurnLanding turnAt turnOf turnInner nodeAt children valueWords keyWords slotOf firstEqual insertReason reasonIn emptyReason insertChange stepFirst stepStore planning advanced repairs nextChange nextRepair onSearch seek onVisit visitAt visitOf rootPosition leafPairs insertOf startOf startChecked startRoom roomFor startLanded started stepRefused startRefused withAll giving overNumbers takeNumbers numbersFrom nextFree firstFrom firstTrue orElse withoutAll lastOf splitLeaf changeStores sort insert-all insert-pair kindAbove nodeImage countTrue childPosition childFor childIndex passed routingKeys runBelow deleteOf changeIn deleteChange mend mendTagged mendUnderfull mendSiblings mendTogether isNode share merge mergeRoot leavesTogether innersTogether half leftKeys keyBetween absorb splitParent joinedKeys joinedChildren findOf cardRefusal foundAt leafFor onTurn foundIn noBeginning noMemory openOf openChecked openSound tableCheck nodeCheck onLook enterNode enterKind enterLeaf enterInner innerSound noted lookOf leafSound member unusedZero childrenCheck childRun raised
+unfolding rowHinsert fresh drive onAnswer insert delete upto steps cardL cardB cardS cardI cardK cardL2 foundReply stepReply startReply stepOf stepDoing stepFormat formatStore formattedWord formatOf stepFinal nodesOfLength formatting resting idled allNodes headerRefusal stepHeld isIdle stepWork stepPlan stepBegin stepPrepared changeAt landing landingFor onTurnLanding turnAt turnOf turnInner nodeAt children valueWords keyWords slotOf firstEqual insertReason reasonIn emptyReason insertChange stepFirst stepStore planning advanced repairs nextChange nextRepair onSearch seek onVisit visitAt visitOf visitLeaf visitInner visitTagged rootPosition leafPairs insertOf startOf startChecked startRoom roomFor startLanded started stepRefused startRefused withAll giving overNumbers takeNumbers numbersFrom nextFree firstFrom firstTrue orElse withoutAll lastOf splitLeaf changeStores sort insert-all insert-pair kindAbove nodeImage countTrue childPosition childFor childIndex passed routingKeys runBelow deleteOf changeIn deleteChange mend mendTagged mendUnderfull mendSiblings mendTogether isNode share halves copied merge mergeRoot leavesTogether innersTogether half leftKeys keyBetween absorb splitParent joinedKeys joinedChildren findOf cardRefusal foundAt leafFor onTurn foundIn noBeginning noMemory openOf openChecked openSound tableCheck nodeCheck onLook enterNode enterKind enterLeaf enterInner innerSound noted lookOf leafSound slotSound member unusedZero childrenCheck rangeEnd raised
 rowHinsert-is = refl
 
 unfoldable pub rowHfind : List ℕ
 rowHfind = said (foundReply (findOf (cardL .card) 0))
 
 pub rowHfind-is : rowHfind ≡ said (refusal 6)
-unfolding rowHfind fresh drive onAnswer insert delete upto steps cardL cardB cardS cardI cardK cardL2 foundReply stepReply startReply stepOf stepDoing stepFormat formatStore formattedWord formatOf stepFinal nodesOfLength formatting resting idled allNodes headerRefusal stepHeld isIdle stepWork stepPlan stepBegin stepPrepared changeAt landing landingFor onTurnLanding turnAt turnOf turnInner nodeAt children valueWords keyWords slotOf firstEqual insertReason reasonIn emptyReason insertChange stepFirst stepStore planning advanced repairs nextChange nextRepair onSearch seek onVisit visitAt visitOf rootPosition leafPairs insertOf startOf startChecked startRoom roomFor startLanded started stepRefused startRefused withAll giving overNumbers takeNumbers numbersFrom nextFree firstFrom firstTrue orElse withoutAll lastOf splitLeaf changeStores sort insert-all insert-pair kindAbove nodeImage countTrue childPosition childFor childIndex passed routingKeys runBelow deleteOf changeIn deleteChange mend mendTagged mendUnderfull mendSiblings mendTogether isNode share merge mergeRoot leavesTogether innersTogether half leftKeys keyBetween absorb splitParent joinedKeys joinedChildren findOf cardRefusal foundAt leafFor onTurn foundIn noBeginning noMemory openOf openChecked openSound tableCheck nodeCheck onLook enterNode enterKind enterLeaf enterInner innerSound noted lookOf leafSound member unusedZero childrenCheck childRun raised
+unfolding rowHfind fresh drive onAnswer insert delete upto steps cardL cardB cardS cardI cardK cardL2 foundReply stepReply startReply stepOf stepDoing stepFormat formatStore formattedWord formatOf stepFinal nodesOfLength formatting resting idled allNodes headerRefusal stepHeld isIdle stepWork stepPlan stepBegin stepPrepared changeAt landing landingFor onTurnLanding turnAt turnOf turnInner nodeAt children valueWords keyWords slotOf firstEqual insertReason reasonIn emptyReason insertChange stepFirst stepStore planning advanced repairs nextChange nextRepair onSearch seek onVisit visitAt visitOf visitLeaf visitInner visitTagged rootPosition leafPairs insertOf startOf startChecked startRoom roomFor startLanded started stepRefused startRefused withAll giving overNumbers takeNumbers numbersFrom nextFree firstFrom firstTrue orElse withoutAll lastOf splitLeaf changeStores sort insert-all insert-pair kindAbove nodeImage countTrue childPosition childFor childIndex passed routingKeys runBelow deleteOf changeIn deleteChange mend mendTagged mendUnderfull mendSiblings mendTogether isNode share halves copied merge mergeRoot leavesTogether innersTogether half leftKeys keyBetween absorb splitParent joinedKeys joinedChildren findOf cardRefusal foundAt leafFor onTurn foundIn noBeginning noMemory openOf openChecked openSound tableCheck nodeCheck onLook enterNode enterKind enterLeaf enterInner innerSound noted lookOf leafSound slotSound member unusedZero childrenCheck rangeEnd raised
 rowHfind-is = refl
 
 unfoldable pub rowHgreatest : List ℕ
 rowHgreatest = said (startReply (insertOf (cardL .card) (cardL .memory) 4294967295 1 .begun))
 
 pub rowHgreatest-is : rowHgreatest ≡ said begun
-unfolding rowHgreatest fresh drive onAnswer insert delete upto steps cardL cardB cardS cardI cardK cardL2 foundReply stepReply startReply stepOf stepDoing stepFormat formatStore formattedWord formatOf stepFinal nodesOfLength formatting resting idled allNodes headerRefusal stepHeld isIdle stepWork stepPlan stepBegin stepPrepared changeAt landing landingFor onTurnLanding turnAt turnOf turnInner nodeAt children valueWords keyWords slotOf firstEqual insertReason reasonIn emptyReason insertChange stepFirst stepStore planning advanced repairs nextChange nextRepair onSearch seek onVisit visitAt visitOf rootPosition leafPairs insertOf startOf startChecked startRoom roomFor startLanded started stepRefused startRefused withAll giving overNumbers takeNumbers numbersFrom nextFree firstFrom firstTrue orElse withoutAll lastOf splitLeaf changeStores sort insert-all insert-pair kindAbove nodeImage countTrue childPosition childFor childIndex passed routingKeys runBelow deleteOf changeIn deleteChange mend mendTagged mendUnderfull mendSiblings mendTogether isNode share merge mergeRoot leavesTogether innersTogether half leftKeys keyBetween absorb splitParent joinedKeys joinedChildren findOf cardRefusal foundAt leafFor onTurn foundIn noBeginning noMemory openOf openChecked openSound tableCheck nodeCheck onLook enterNode enterKind enterLeaf enterInner innerSound noted lookOf leafSound member unusedZero childrenCheck childRun raised
+unfolding rowHgreatest fresh drive onAnswer insert delete upto steps cardL cardB cardS cardI cardK cardL2 foundReply stepReply startReply stepOf stepDoing stepFormat formatStore formattedWord formatOf stepFinal nodesOfLength formatting resting idled allNodes headerRefusal stepHeld isIdle stepWork stepPlan stepBegin stepPrepared changeAt landing landingFor onTurnLanding turnAt turnOf turnInner nodeAt children valueWords keyWords slotOf firstEqual insertReason reasonIn emptyReason insertChange stepFirst stepStore planning advanced repairs nextChange nextRepair onSearch seek onVisit visitAt visitOf visitLeaf visitInner visitTagged rootPosition leafPairs insertOf startOf startChecked startRoom roomFor startLanded started stepRefused startRefused withAll giving overNumbers takeNumbers numbersFrom nextFree firstFrom firstTrue orElse withoutAll lastOf splitLeaf changeStores sort insert-all insert-pair kindAbove nodeImage countTrue childPosition childFor childIndex passed routingKeys runBelow deleteOf changeIn deleteChange mend mendTagged mendUnderfull mendSiblings mendTogether isNode share halves copied merge mergeRoot leavesTogether innersTogether half leftKeys keyBetween absorb splitParent joinedKeys joinedChildren findOf cardRefusal foundAt leafFor onTurn foundIn noBeginning noMemory openOf openChecked openSound tableCheck nodeCheck onLook enterNode enterKind enterLeaf enterInner innerSound noted lookOf leafSound slotSound member unusedZero childrenCheck rangeEnd raised
 rowHgreatest-is = refl
 
 -- I: S, insert 12: 73 stores, leaves 2 and 3, root 4, routing key 7
@@ -318,7 +318,7 @@ unfoldable pub rowI : List ℕ
 rowI = cardI .stores ∷ getD (cardI .card) 4 0 ∷ (children (nodeAt (cardI .card) 4) ++ routingKeys (nodeAt (cardI .card) 4))
 
 pub rowI-held : heldI .stores ∷ getD (heldI .card) 4 0 ∷ (children (nodeAt (heldI .card) 4) ++ routingKeys (nodeAt (heldI .card) 4)) ≡ (73 ∷ 4 ∷ 2 ∷ 3 ∷ 7 ∷ [])
-unfolding fresh drive onAnswer insert delete upto steps cardL cardB cardS cardI cardK cardL2 foundReply stepReply startReply stepOf stepDoing stepFormat formatStore formattedWord formatOf stepFinal nodesOfLength formatting resting idled allNodes headerRefusal stepHeld isIdle stepWork stepPlan stepBegin stepPrepared changeAt landing landingFor onTurnLanding turnAt turnOf turnInner nodeAt children valueWords keyWords slotOf firstEqual insertReason reasonIn emptyReason insertChange stepFirst stepStore planning advanced repairs nextChange nextRepair onSearch seek onVisit visitAt visitOf rootPosition leafPairs insertOf startOf startChecked startRoom roomFor startLanded started stepRefused startRefused withAll giving overNumbers takeNumbers numbersFrom nextFree firstFrom firstTrue orElse withoutAll lastOf splitLeaf changeStores sort insert-all insert-pair kindAbove nodeImage countTrue childPosition childFor childIndex passed routingKeys runBelow deleteOf changeIn deleteChange mend mendTagged mendUnderfull mendSiblings mendTogether isNode share merge mergeRoot leavesTogether innersTogether half leftKeys keyBetween absorb splitParent joinedKeys joinedChildren findOf cardRefusal foundAt leafFor onTurn foundIn noBeginning noMemory openOf openChecked openSound tableCheck nodeCheck onLook enterNode enterKind enterLeaf enterInner innerSound noted lookOf leafSound member unusedZero childrenCheck childRun raised
+unfolding fresh drive onAnswer insert delete upto steps cardL cardB cardS cardI cardK cardL2 foundReply stepReply startReply stepOf stepDoing stepFormat formatStore formattedWord formatOf stepFinal nodesOfLength formatting resting idled allNodes headerRefusal stepHeld isIdle stepWork stepPlan stepBegin stepPrepared changeAt landing landingFor onTurnLanding turnAt turnOf turnInner nodeAt children valueWords keyWords slotOf firstEqual insertReason reasonIn emptyReason insertChange stepFirst stepStore planning advanced repairs nextChange nextRepair onSearch seek onVisit visitAt visitOf visitLeaf visitInner visitTagged rootPosition leafPairs insertOf startOf startChecked startRoom roomFor startLanded started stepRefused startRefused withAll giving overNumbers takeNumbers numbersFrom nextFree firstFrom firstTrue orElse withoutAll lastOf splitLeaf changeStores sort insert-all insert-pair kindAbove nodeImage countTrue childPosition childFor childIndex passed routingKeys runBelow deleteOf changeIn deleteChange mend mendTagged mendUnderfull mendSiblings mendTogether isNode share halves copied merge mergeRoot leavesTogether innersTogether half leftKeys keyBetween absorb splitParent joinedKeys joinedChildren findOf cardRefusal foundAt leafFor onTurn foundIn noBeginning noMemory openOf openChecked openSound tableCheck nodeCheck onLook enterNode enterKind enterLeaf enterInner innerSound noted lookOf leafSound slotSound member unusedZero childrenCheck rangeEnd raised
 rowI-held = refl
 
 pub rowI-is : rowI ≡ (73 ∷ 4 ∷ 2 ∷ 3 ∷ 7 ∷ [])
@@ -330,7 +330,7 @@ unfoldable pub rowJ : List ℕ
 rowJ = said (startReply (insertOf (upto 11 (fresh 5) .card) (upto 11 (fresh 5) .memory) 12 120 .begun))
 
 pub rowJ-is : rowJ ≡ said (refusal 8)
-unfolding rowJ fresh drive onAnswer insert delete upto steps cardL cardB cardS cardI cardK cardL2 foundReply stepReply startReply stepOf stepDoing stepFormat formatStore formattedWord formatOf stepFinal nodesOfLength formatting resting idled allNodes headerRefusal stepHeld isIdle stepWork stepPlan stepBegin stepPrepared changeAt landing landingFor onTurnLanding turnAt turnOf turnInner nodeAt children valueWords keyWords slotOf firstEqual insertReason reasonIn emptyReason insertChange stepFirst stepStore planning advanced repairs nextChange nextRepair onSearch seek onVisit visitAt visitOf rootPosition leafPairs insertOf startOf startChecked startRoom roomFor startLanded started stepRefused startRefused withAll giving overNumbers takeNumbers numbersFrom nextFree firstFrom firstTrue orElse withoutAll lastOf splitLeaf changeStores sort insert-all insert-pair kindAbove nodeImage countTrue childPosition childFor childIndex passed routingKeys runBelow deleteOf changeIn deleteChange mend mendTagged mendUnderfull mendSiblings mendTogether isNode share merge mergeRoot leavesTogether innersTogether half leftKeys keyBetween absorb splitParent joinedKeys joinedChildren findOf cardRefusal foundAt leafFor onTurn foundIn noBeginning noMemory openOf openChecked openSound tableCheck nodeCheck onLook enterNode enterKind enterLeaf enterInner innerSound noted lookOf leafSound member unusedZero childrenCheck childRun raised
+unfolding rowJ fresh drive onAnswer insert delete upto steps cardL cardB cardS cardI cardK cardL2 foundReply stepReply startReply stepOf stepDoing stepFormat formatStore formattedWord formatOf stepFinal nodesOfLength formatting resting idled allNodes headerRefusal stepHeld isIdle stepWork stepPlan stepBegin stepPrepared changeAt landing landingFor onTurnLanding turnAt turnOf turnInner nodeAt children valueWords keyWords slotOf firstEqual insertReason reasonIn emptyReason insertChange stepFirst stepStore planning advanced repairs nextChange nextRepair onSearch seek onVisit visitAt visitOf visitLeaf visitInner visitTagged rootPosition leafPairs insertOf startOf startChecked startRoom roomFor startLanded started stepRefused startRefused withAll giving overNumbers takeNumbers numbersFrom nextFree firstFrom firstTrue orElse withoutAll lastOf splitLeaf changeStores sort insert-all insert-pair kindAbove nodeImage countTrue childPosition childFor childIndex passed routingKeys runBelow deleteOf changeIn deleteChange mend mendTagged mendUnderfull mendSiblings mendTogether isNode share halves copied merge mergeRoot leavesTogether innersTogether half leftKeys keyBetween absorb splitParent joinedKeys joinedChildren findOf cardRefusal foundAt leafFor onTurn foundIn noBeginning noMemory openOf openChecked openSound tableCheck nodeCheck onLook enterNode enterKind enterLeaf enterInner innerSound noted lookOf leafSound slotSound member unusedZero childrenCheck rangeEnd raised
 rowJ-is = refl
 
 -- K: after I, delete 1 to 5: the last takes 74 stores, leaves 5 (6 to 9) and 6 (10 to 12), root 1, routing key 10
@@ -338,7 +338,7 @@ unfoldable pub rowK : List ℕ
 rowK = cardK .stores ∷ getD (cardK .card) 4 0 ∷ (children (nodeAt (cardK .card) 1) ++ routingKeys (nodeAt (cardK .card) 1))
 
 pub rowK-held : heldK .stores ∷ getD (heldK .card) 4 0 ∷ (children (nodeAt (heldK .card) 1) ++ routingKeys (nodeAt (heldK .card) 1)) ≡ (74 ∷ 1 ∷ 5 ∷ 6 ∷ 10 ∷ [])
-unfolding fresh drive onAnswer insert delete upto steps cardL cardB cardS cardI cardK cardL2 foundReply stepReply startReply stepOf stepDoing stepFormat formatStore formattedWord formatOf stepFinal nodesOfLength formatting resting idled allNodes headerRefusal stepHeld isIdle stepWork stepPlan stepBegin stepPrepared changeAt landing landingFor onTurnLanding turnAt turnOf turnInner nodeAt children valueWords keyWords slotOf firstEqual insertReason reasonIn emptyReason insertChange stepFirst stepStore planning advanced repairs nextChange nextRepair onSearch seek onVisit visitAt visitOf rootPosition leafPairs insertOf startOf startChecked startRoom roomFor startLanded started stepRefused startRefused withAll giving overNumbers takeNumbers numbersFrom nextFree firstFrom firstTrue orElse withoutAll lastOf splitLeaf changeStores sort insert-all insert-pair kindAbove nodeImage countTrue childPosition childFor childIndex passed routingKeys runBelow deleteOf changeIn deleteChange mend mendTagged mendUnderfull mendSiblings mendTogether isNode share merge mergeRoot leavesTogether innersTogether half leftKeys keyBetween absorb splitParent joinedKeys joinedChildren findOf cardRefusal foundAt leafFor onTurn foundIn noBeginning noMemory openOf openChecked openSound tableCheck nodeCheck onLook enterNode enterKind enterLeaf enterInner innerSound noted lookOf leafSound member unusedZero childrenCheck childRun raised
+unfolding fresh drive onAnswer insert delete upto steps cardL cardB cardS cardI cardK cardL2 foundReply stepReply startReply stepOf stepDoing stepFormat formatStore formattedWord formatOf stepFinal nodesOfLength formatting resting idled allNodes headerRefusal stepHeld isIdle stepWork stepPlan stepBegin stepPrepared changeAt landing landingFor onTurnLanding turnAt turnOf turnInner nodeAt children valueWords keyWords slotOf firstEqual insertReason reasonIn emptyReason insertChange stepFirst stepStore planning advanced repairs nextChange nextRepair onSearch seek onVisit visitAt visitOf visitLeaf visitInner visitTagged rootPosition leafPairs insertOf startOf startChecked startRoom roomFor startLanded started stepRefused startRefused withAll giving overNumbers takeNumbers numbersFrom nextFree firstFrom firstTrue orElse withoutAll lastOf splitLeaf changeStores sort insert-all insert-pair kindAbove nodeImage countTrue childPosition childFor childIndex passed routingKeys runBelow deleteOf changeIn deleteChange mend mendTagged mendUnderfull mendSiblings mendTogether isNode share halves copied merge mergeRoot leavesTogether innersTogether half leftKeys keyBetween absorb splitParent joinedKeys joinedChildren findOf cardRefusal foundAt leafFor onTurn foundIn noBeginning noMemory openOf openChecked openSound tableCheck nodeCheck onLook enterNode enterKind enterLeaf enterInner innerSound noted lookOf leafSound slotSound member unusedZero childrenCheck rangeEnd raised
 rowK-held = refl
 
 pub rowK-is : rowK ≡ (74 ∷ 1 ∷ 5 ∷ 6 ∷ 10 ∷ [])
@@ -349,7 +349,7 @@ unfoldable pub rowKleft : List ℕ
 rowKleft = pair-keys (leafPairs (nodeAt (cardK .card) 5))
 
 pub rowKleft-held : pair-keys (leafPairs (nodeAt (heldK .card) 5)) ≡ (6 ∷ 7 ∷ 8 ∷ 9 ∷ [])
-unfolding fresh drive onAnswer insert delete upto steps cardL cardB cardS cardI cardK cardL2 foundReply stepReply startReply stepOf stepDoing stepFormat formatStore formattedWord formatOf stepFinal nodesOfLength formatting resting idled allNodes headerRefusal stepHeld isIdle stepWork stepPlan stepBegin stepPrepared changeAt landing landingFor onTurnLanding turnAt turnOf turnInner nodeAt children valueWords keyWords slotOf firstEqual insertReason reasonIn emptyReason insertChange stepFirst stepStore planning advanced repairs nextChange nextRepair onSearch seek onVisit visitAt visitOf rootPosition leafPairs insertOf startOf startChecked startRoom roomFor startLanded started stepRefused startRefused withAll giving overNumbers takeNumbers numbersFrom nextFree firstFrom firstTrue orElse withoutAll lastOf splitLeaf changeStores sort insert-all insert-pair kindAbove nodeImage countTrue childPosition childFor childIndex passed routingKeys runBelow deleteOf changeIn deleteChange mend mendTagged mendUnderfull mendSiblings mendTogether isNode share merge mergeRoot leavesTogether innersTogether half leftKeys keyBetween absorb splitParent joinedKeys joinedChildren findOf cardRefusal foundAt leafFor onTurn foundIn noBeginning noMemory openOf openChecked openSound tableCheck nodeCheck onLook enterNode enterKind enterLeaf enterInner innerSound noted lookOf leafSound member unusedZero childrenCheck childRun raised
+unfolding fresh drive onAnswer insert delete upto steps cardL cardB cardS cardI cardK cardL2 foundReply stepReply startReply stepOf stepDoing stepFormat formatStore formattedWord formatOf stepFinal nodesOfLength formatting resting idled allNodes headerRefusal stepHeld isIdle stepWork stepPlan stepBegin stepPrepared changeAt landing landingFor onTurnLanding turnAt turnOf turnInner nodeAt children valueWords keyWords slotOf firstEqual insertReason reasonIn emptyReason insertChange stepFirst stepStore planning advanced repairs nextChange nextRepair onSearch seek onVisit visitAt visitOf visitLeaf visitInner visitTagged rootPosition leafPairs insertOf startOf startChecked startRoom roomFor startLanded started stepRefused startRefused withAll giving overNumbers takeNumbers numbersFrom nextFree firstFrom firstTrue orElse withoutAll lastOf splitLeaf changeStores sort insert-all insert-pair kindAbove nodeImage countTrue childPosition childFor childIndex passed routingKeys runBelow deleteOf changeIn deleteChange mend mendTagged mendUnderfull mendSiblings mendTogether isNode share halves copied merge mergeRoot leavesTogether innersTogether half leftKeys keyBetween absorb splitParent joinedKeys joinedChildren findOf cardRefusal foundAt leafFor onTurn foundIn noBeginning noMemory openOf openChecked openSound tableCheck nodeCheck onLook enterNode enterKind enterLeaf enterInner innerSound noted lookOf leafSound slotSound member unusedZero childrenCheck rangeEnd raised
 rowKleft-held = refl
 
 pub rowKleft-is : rowKleft ≡ (6 ∷ 7 ∷ 8 ∷ 9 ∷ [])
@@ -360,7 +360,7 @@ unfoldable pub rowKright : List ℕ
 rowKright = pair-keys (leafPairs (nodeAt (cardK .card) 6))
 
 pub rowKright-held : pair-keys (leafPairs (nodeAt (heldK .card) 6)) ≡ (10 ∷ 11 ∷ 12 ∷ [])
-unfolding fresh drive onAnswer insert delete upto steps cardL cardB cardS cardI cardK cardL2 foundReply stepReply startReply stepOf stepDoing stepFormat formatStore formattedWord formatOf stepFinal nodesOfLength formatting resting idled allNodes headerRefusal stepHeld isIdle stepWork stepPlan stepBegin stepPrepared changeAt landing landingFor onTurnLanding turnAt turnOf turnInner nodeAt children valueWords keyWords slotOf firstEqual insertReason reasonIn emptyReason insertChange stepFirst stepStore planning advanced repairs nextChange nextRepair onSearch seek onVisit visitAt visitOf rootPosition leafPairs insertOf startOf startChecked startRoom roomFor startLanded started stepRefused startRefused withAll giving overNumbers takeNumbers numbersFrom nextFree firstFrom firstTrue orElse withoutAll lastOf splitLeaf changeStores sort insert-all insert-pair kindAbove nodeImage countTrue childPosition childFor childIndex passed routingKeys runBelow deleteOf changeIn deleteChange mend mendTagged mendUnderfull mendSiblings mendTogether isNode share merge mergeRoot leavesTogether innersTogether half leftKeys keyBetween absorb splitParent joinedKeys joinedChildren findOf cardRefusal foundAt leafFor onTurn foundIn noBeginning noMemory openOf openChecked openSound tableCheck nodeCheck onLook enterNode enterKind enterLeaf enterInner innerSound noted lookOf leafSound member unusedZero childrenCheck childRun raised
+unfolding fresh drive onAnswer insert delete upto steps cardL cardB cardS cardI cardK cardL2 foundReply stepReply startReply stepOf stepDoing stepFormat formatStore formattedWord formatOf stepFinal nodesOfLength formatting resting idled allNodes headerRefusal stepHeld isIdle stepWork stepPlan stepBegin stepPrepared changeAt landing landingFor onTurnLanding turnAt turnOf turnInner nodeAt children valueWords keyWords slotOf firstEqual insertReason reasonIn emptyReason insertChange stepFirst stepStore planning advanced repairs nextChange nextRepair onSearch seek onVisit visitAt visitOf visitLeaf visitInner visitTagged rootPosition leafPairs insertOf startOf startChecked startRoom roomFor startLanded started stepRefused startRefused withAll giving overNumbers takeNumbers numbersFrom nextFree firstFrom firstTrue orElse withoutAll lastOf splitLeaf changeStores sort insert-all insert-pair kindAbove nodeImage countTrue childPosition childFor childIndex passed routingKeys runBelow deleteOf changeIn deleteChange mend mendTagged mendUnderfull mendSiblings mendTogether isNode share halves copied merge mergeRoot leavesTogether innersTogether half leftKeys keyBetween absorb splitParent joinedKeys joinedChildren findOf cardRefusal foundAt leafFor onTurn foundIn noBeginning noMemory openOf openChecked openSound tableCheck nodeCheck onLook enterNode enterKind enterLeaf enterInner innerSound noted lookOf leafSound slotSound member unusedZero childrenCheck rangeEnd raised
 rowKright-held = refl
 
 pub rowKright-is : rowKright ≡ (10 ∷ 11 ∷ 12 ∷ [])
@@ -372,7 +372,7 @@ unfoldable pub rowL2 : List ℕ
 rowL2 = cardL2 .stores ∷ getD (cardL2 .card) 4 0 ∷ countTrue (cardL2 .memory .free) ∷ said (stepReply (cardL2 .answer))
 
 pub rowL2-held : heldL2 .stores ∷ getD (heldL2 .card) 4 0 ∷ countTrue (heldL2 .memory .free) ∷ said (stepReply (heldL2 .answer)) ≡ (26 ∷ 2 ∷ 5 ∷ said (holds 90))
-unfolding fresh drive onAnswer insert delete upto steps cardL cardB cardS cardI cardK cardL2 foundReply stepReply startReply stepOf stepDoing stepFormat formatStore formattedWord formatOf stepFinal nodesOfLength formatting resting idled allNodes headerRefusal stepHeld isIdle stepWork stepPlan stepBegin stepPrepared changeAt landing landingFor onTurnLanding turnAt turnOf turnInner nodeAt children valueWords keyWords slotOf firstEqual insertReason reasonIn emptyReason insertChange stepFirst stepStore planning advanced repairs nextChange nextRepair onSearch seek onVisit visitAt visitOf rootPosition leafPairs insertOf startOf startChecked startRoom roomFor startLanded started stepRefused startRefused withAll giving overNumbers takeNumbers numbersFrom nextFree firstFrom firstTrue orElse withoutAll lastOf splitLeaf changeStores sort insert-all insert-pair kindAbove nodeImage countTrue childPosition childFor childIndex passed routingKeys runBelow deleteOf changeIn deleteChange mend mendTagged mendUnderfull mendSiblings mendTogether isNode share merge mergeRoot leavesTogether innersTogether half leftKeys keyBetween absorb splitParent joinedKeys joinedChildren findOf cardRefusal foundAt leafFor onTurn foundIn noBeginning noMemory openOf openChecked openSound tableCheck nodeCheck onLook enterNode enterKind enterLeaf enterInner innerSound noted lookOf leafSound member unusedZero childrenCheck childRun raised
+unfolding fresh drive onAnswer insert delete upto steps cardL cardB cardS cardI cardK cardL2 foundReply stepReply startReply stepOf stepDoing stepFormat formatStore formattedWord formatOf stepFinal nodesOfLength formatting resting idled allNodes headerRefusal stepHeld isIdle stepWork stepPlan stepBegin stepPrepared changeAt landing landingFor onTurnLanding turnAt turnOf turnInner nodeAt children valueWords keyWords slotOf firstEqual insertReason reasonIn emptyReason insertChange stepFirst stepStore planning advanced repairs nextChange nextRepair onSearch seek onVisit visitAt visitOf visitLeaf visitInner visitTagged rootPosition leafPairs insertOf startOf startChecked startRoom roomFor startLanded started stepRefused startRefused withAll giving overNumbers takeNumbers numbersFrom nextFree firstFrom firstTrue orElse withoutAll lastOf splitLeaf changeStores sort insert-all insert-pair kindAbove nodeImage countTrue childPosition childFor childIndex passed routingKeys runBelow deleteOf changeIn deleteChange mend mendTagged mendUnderfull mendSiblings mendTogether isNode share halves copied merge mergeRoot leavesTogether innersTogether half leftKeys keyBetween absorb splitParent joinedKeys joinedChildren findOf cardRefusal foundAt leafFor onTurn foundIn noBeginning noMemory openOf openChecked openSound tableCheck nodeCheck onLook enterNode enterKind enterLeaf enterInner innerSound noted lookOf leafSound slotSound member unusedZero childrenCheck rangeEnd raised
 rowL2-held = refl
 
 pub rowL2-is : rowL2 ≡ (26 ∷ 2 ∷ 5 ∷ said (holds 90))
@@ -383,7 +383,7 @@ unfoldable pub rowL2leaf : List ℕ
 rowL2leaf = pair-keys (leafPairs (nodeAt (cardL2 .card) 2))
 
 pub rowL2leaf-held : pair-keys (leafPairs (nodeAt (heldL2 .card) 2)) ≡ (6 ∷ 11 ∷ 12 ∷ [])
-unfolding fresh drive onAnswer insert delete upto steps cardL cardB cardS cardI cardK cardL2 foundReply stepReply startReply stepOf stepDoing stepFormat formatStore formattedWord formatOf stepFinal nodesOfLength formatting resting idled allNodes headerRefusal stepHeld isIdle stepWork stepPlan stepBegin stepPrepared changeAt landing landingFor onTurnLanding turnAt turnOf turnInner nodeAt children valueWords keyWords slotOf firstEqual insertReason reasonIn emptyReason insertChange stepFirst stepStore planning advanced repairs nextChange nextRepair onSearch seek onVisit visitAt visitOf rootPosition leafPairs insertOf startOf startChecked startRoom roomFor startLanded started stepRefused startRefused withAll giving overNumbers takeNumbers numbersFrom nextFree firstFrom firstTrue orElse withoutAll lastOf splitLeaf changeStores sort insert-all insert-pair kindAbove nodeImage countTrue childPosition childFor childIndex passed routingKeys runBelow deleteOf changeIn deleteChange mend mendTagged mendUnderfull mendSiblings mendTogether isNode share merge mergeRoot leavesTogether innersTogether half leftKeys keyBetween absorb splitParent joinedKeys joinedChildren findOf cardRefusal foundAt leafFor onTurn foundIn noBeginning noMemory openOf openChecked openSound tableCheck nodeCheck onLook enterNode enterKind enterLeaf enterInner innerSound noted lookOf leafSound member unusedZero childrenCheck childRun raised
+unfolding fresh drive onAnswer insert delete upto steps cardL cardB cardS cardI cardK cardL2 foundReply stepReply startReply stepOf stepDoing stepFormat formatStore formattedWord formatOf stepFinal nodesOfLength formatting resting idled allNodes headerRefusal stepHeld isIdle stepWork stepPlan stepBegin stepPrepared changeAt landing landingFor onTurnLanding turnAt turnOf turnInner nodeAt children valueWords keyWords slotOf firstEqual insertReason reasonIn emptyReason insertChange stepFirst stepStore planning advanced repairs nextChange nextRepair onSearch seek onVisit visitAt visitOf visitLeaf visitInner visitTagged rootPosition leafPairs insertOf startOf startChecked startRoom roomFor startLanded started stepRefused startRefused withAll giving overNumbers takeNumbers numbersFrom nextFree firstFrom firstTrue orElse withoutAll lastOf splitLeaf changeStores sort insert-all insert-pair kindAbove nodeImage countTrue childPosition childFor childIndex passed routingKeys runBelow deleteOf changeIn deleteChange mend mendTagged mendUnderfull mendSiblings mendTogether isNode share halves copied merge mergeRoot leavesTogether innersTogether half leftKeys keyBetween absorb splitParent joinedKeys joinedChildren findOf cardRefusal foundAt leafFor onTurn foundIn noBeginning noMemory openOf openChecked openSound tableCheck nodeCheck onLook enterNode enterKind enterLeaf enterInner innerSound noted lookOf leafSound slotSound member unusedZero childrenCheck rangeEnd raised
 rowL2leaf-held = refl
 
 pub rowL2leaf-is : rowL2leaf ≡ (6 ∷ 11 ∷ 12 ∷ [])
@@ -395,7 +395,7 @@ unfoldable pub rowCutOpened : List ℕ
 rowCutOpened = said (startReply (openOf (cutI cardS) .begun))
 
 pub rowCutOpened-held : said (startReply (openOf (cutI heldS) .begun)) ≡ said idle
-unfolding fresh drive onAnswer insert delete upto steps cardL cardB cardS cardI cardK cardL2 foundReply stepReply startReply stepOf stepDoing stepFormat formatStore formattedWord formatOf stepFinal nodesOfLength formatting resting idled allNodes headerRefusal stepHeld isIdle stepWork stepPlan stepBegin stepPrepared changeAt landing landingFor onTurnLanding turnAt turnOf turnInner nodeAt children valueWords keyWords slotOf firstEqual insertReason reasonIn emptyReason insertChange stepFirst stepStore planning advanced repairs nextChange nextRepair onSearch seek onVisit visitAt visitOf rootPosition leafPairs insertOf startOf startChecked startRoom roomFor startLanded started stepRefused startRefused withAll giving overNumbers takeNumbers numbersFrom nextFree firstFrom firstTrue orElse withoutAll lastOf splitLeaf changeStores sort insert-all insert-pair kindAbove nodeImage countTrue childPosition childFor childIndex passed routingKeys runBelow deleteOf changeIn deleteChange mend mendTagged mendUnderfull mendSiblings mendTogether isNode share merge mergeRoot leavesTogether innersTogether half leftKeys keyBetween absorb splitParent joinedKeys joinedChildren findOf cardRefusal foundAt leafFor onTurn foundIn noBeginning noMemory openOf openChecked openSound tableCheck nodeCheck onLook enterNode enterKind enterLeaf enterInner innerSound noted lookOf leafSound member unusedZero childrenCheck childRun raised
+unfolding fresh drive onAnswer insert delete upto steps cardL cardB cardS cardI cardK cardL2 foundReply stepReply startReply stepOf stepDoing stepFormat formatStore formattedWord formatOf stepFinal nodesOfLength formatting resting idled allNodes headerRefusal stepHeld isIdle stepWork stepPlan stepBegin stepPrepared changeAt landing landingFor onTurnLanding turnAt turnOf turnInner nodeAt children valueWords keyWords slotOf firstEqual insertReason reasonIn emptyReason insertChange stepFirst stepStore planning advanced repairs nextChange nextRepair onSearch seek onVisit visitAt visitOf visitLeaf visitInner visitTagged rootPosition leafPairs insertOf startOf startChecked startRoom roomFor startLanded started stepRefused startRefused withAll giving overNumbers takeNumbers numbersFrom nextFree firstFrom firstTrue orElse withoutAll lastOf splitLeaf changeStores sort insert-all insert-pair kindAbove nodeImage countTrue childPosition childFor childIndex passed routingKeys runBelow deleteOf changeIn deleteChange mend mendTagged mendUnderfull mendSiblings mendTogether isNode share halves copied merge mergeRoot leavesTogether innersTogether half leftKeys keyBetween absorb splitParent joinedKeys joinedChildren findOf cardRefusal foundAt leafFor onTurn foundIn noBeginning noMemory openOf openChecked openSound tableCheck nodeCheck onLook enterNode enterKind enterLeaf enterInner innerSound noted lookOf leafSound slotSound member unusedZero childrenCheck rangeEnd raised
 rowCutOpened-held = refl
 
 pub rowCutOpened-is : rowCutOpened ≡ said idle
@@ -406,7 +406,7 @@ unfoldable pub rowCutAbsent : List ℕ
 rowCutAbsent = said (foundReply (findOf (cutI cardS) 12))
 
 pub rowCutAbsent-held : said (foundReply (findOf (cutI heldS) 12)) ≡ said absent
-unfolding fresh drive onAnswer insert delete upto steps cardL cardB cardS cardI cardK cardL2 foundReply stepReply startReply stepOf stepDoing stepFormat formatStore formattedWord formatOf stepFinal nodesOfLength formatting resting idled allNodes headerRefusal stepHeld isIdle stepWork stepPlan stepBegin stepPrepared changeAt landing landingFor onTurnLanding turnAt turnOf turnInner nodeAt children valueWords keyWords slotOf firstEqual insertReason reasonIn emptyReason insertChange stepFirst stepStore planning advanced repairs nextChange nextRepair onSearch seek onVisit visitAt visitOf rootPosition leafPairs insertOf startOf startChecked startRoom roomFor startLanded started stepRefused startRefused withAll giving overNumbers takeNumbers numbersFrom nextFree firstFrom firstTrue orElse withoutAll lastOf splitLeaf changeStores sort insert-all insert-pair kindAbove nodeImage countTrue childPosition childFor childIndex passed routingKeys runBelow deleteOf changeIn deleteChange mend mendTagged mendUnderfull mendSiblings mendTogether isNode share merge mergeRoot leavesTogether innersTogether half leftKeys keyBetween absorb splitParent joinedKeys joinedChildren findOf cardRefusal foundAt leafFor onTurn foundIn noBeginning noMemory openOf openChecked openSound tableCheck nodeCheck onLook enterNode enterKind enterLeaf enterInner innerSound noted lookOf leafSound member unusedZero childrenCheck childRun raised
+unfolding fresh drive onAnswer insert delete upto steps cardL cardB cardS cardI cardK cardL2 foundReply stepReply startReply stepOf stepDoing stepFormat formatStore formattedWord formatOf stepFinal nodesOfLength formatting resting idled allNodes headerRefusal stepHeld isIdle stepWork stepPlan stepBegin stepPrepared changeAt landing landingFor onTurnLanding turnAt turnOf turnInner nodeAt children valueWords keyWords slotOf firstEqual insertReason reasonIn emptyReason insertChange stepFirst stepStore planning advanced repairs nextChange nextRepair onSearch seek onVisit visitAt visitOf visitLeaf visitInner visitTagged rootPosition leafPairs insertOf startOf startChecked startRoom roomFor startLanded started stepRefused startRefused withAll giving overNumbers takeNumbers numbersFrom nextFree firstFrom firstTrue orElse withoutAll lastOf splitLeaf changeStores sort insert-all insert-pair kindAbove nodeImage countTrue childPosition childFor childIndex passed routingKeys runBelow deleteOf changeIn deleteChange mend mendTagged mendUnderfull mendSiblings mendTogether isNode share halves copied merge mergeRoot leavesTogether innersTogether half leftKeys keyBetween absorb splitParent joinedKeys joinedChildren findOf cardRefusal foundAt leafFor onTurn foundIn noBeginning noMemory openOf openChecked openSound tableCheck nodeCheck onLook enterNode enterKind enterLeaf enterInner innerSound noted lookOf leafSound slotSound member unusedZero childrenCheck rangeEnd raised
 rowCutAbsent-held = refl
 
 pub rowCutAbsent-is : rowCutAbsent ≡ said absent
@@ -417,7 +417,7 @@ unfoldable pub rowCutHeld : List ℕ
 rowCutHeld = said (foundReply (findOf (splitI cardS) 12))
 
 pub rowCutHeld-held : said (foundReply (findOf (splitI heldS) 12)) ≡ said (holds 120)
-unfolding fresh drive onAnswer insert delete upto steps cardL cardB cardS cardI cardK cardL2 foundReply stepReply startReply stepOf stepDoing stepFormat formatStore formattedWord formatOf stepFinal nodesOfLength formatting resting idled allNodes headerRefusal stepHeld isIdle stepWork stepPlan stepBegin stepPrepared changeAt landing landingFor onTurnLanding turnAt turnOf turnInner nodeAt children valueWords keyWords slotOf firstEqual insertReason reasonIn emptyReason insertChange stepFirst stepStore planning advanced repairs nextChange nextRepair onSearch seek onVisit visitAt visitOf rootPosition leafPairs insertOf startOf startChecked startRoom roomFor startLanded started stepRefused startRefused withAll giving overNumbers takeNumbers numbersFrom nextFree firstFrom firstTrue orElse withoutAll lastOf splitLeaf changeStores sort insert-all insert-pair kindAbove nodeImage countTrue childPosition childFor childIndex passed routingKeys runBelow deleteOf changeIn deleteChange mend mendTagged mendUnderfull mendSiblings mendTogether isNode share merge mergeRoot leavesTogether innersTogether half leftKeys keyBetween absorb splitParent joinedKeys joinedChildren findOf cardRefusal foundAt leafFor onTurn foundIn noBeginning noMemory openOf openChecked openSound tableCheck nodeCheck onLook enterNode enterKind enterLeaf enterInner innerSound noted lookOf leafSound member unusedZero childrenCheck childRun raised
+unfolding fresh drive onAnswer insert delete upto steps cardL cardB cardS cardI cardK cardL2 foundReply stepReply startReply stepOf stepDoing stepFormat formatStore formattedWord formatOf stepFinal nodesOfLength formatting resting idled allNodes headerRefusal stepHeld isIdle stepWork stepPlan stepBegin stepPrepared changeAt landing landingFor onTurnLanding turnAt turnOf turnInner nodeAt children valueWords keyWords slotOf firstEqual insertReason reasonIn emptyReason insertChange stepFirst stepStore planning advanced repairs nextChange nextRepair onSearch seek onVisit visitAt visitOf visitLeaf visitInner visitTagged rootPosition leafPairs insertOf startOf startChecked startRoom roomFor startLanded started stepRefused startRefused withAll giving overNumbers takeNumbers numbersFrom nextFree firstFrom firstTrue orElse withoutAll lastOf splitLeaf changeStores sort insert-all insert-pair kindAbove nodeImage countTrue childPosition childFor childIndex passed routingKeys runBelow deleteOf changeIn deleteChange mend mendTagged mendUnderfull mendSiblings mendTogether isNode share halves copied merge mergeRoot leavesTogether innersTogether half leftKeys keyBetween absorb splitParent joinedKeys joinedChildren findOf cardRefusal foundAt leafFor onTurn foundIn noBeginning noMemory openOf openChecked openSound tableCheck nodeCheck onLook enterNode enterKind enterLeaf enterInner innerSound noted lookOf leafSound slotSound member unusedZero childrenCheck rangeEnd raised
 rowCutHeld-held = refl
 
 pub rowCutHeld-is : rowCutHeld ≡ said (holds 120)

@@ -16,8 +16,7 @@ use Rattle.demands.specs.Demand2.{storeAt, StoresNow}
 use Rattle.demands.proofs.Following.{worldly, same-world, fed-same}
 use Rattle.demands.proofs.Instance.{ration-table}
 use Rattle.demands.proofs.Keeps3.{Covered, covered-nodes, refused-insert-same, refused-delete-same}
-use Rattle.promises.proofs.Feeding.{fed, due-after}
-use Rattle.promises.proofs.Finished.{stored-due}
+use Rattle.promises.proofs.Feeding.{fed, due-after, stored-due}
 use Rattle.promises.proofs.Invariant.{Inv, Stage, Table, stage-idle, stage-put, stage-remove, stage-first, stage-between, stage-within}
 use Rattle.promises.proofs.Kept.{first-storable}
 use Rattle.promises.proofs.Ledger.{Hand, feed as was-feed}
