@@ -1,14 +1,18 @@
 -- Laws of a node's part of the card.
 use mathlib.Core.Path.{_≡_, refl, sym, ap, ap₂, _∙_}
-use mathlib.Core.List.{List, [], _∷_}
+use mathlib.Core.List.{List, [], _∷_, _++_}
+use mathlib.Core.Bool.{Bool, true, false}
 use Prim.Native.Nat.{ℕ, zero, suc, _+_, _-_, _*_, _≤_, _<_}
 use native.Mathlib.Omega.{arith}
 use native.Mathlib.Numerals.{add-one}
-use lib.ListN.{length, getD, take, drop, length-take, length-drop, drop-of-length-le}
+use lib.ListN.{length, getD, take, drop, length-append, length-take, length-drop, drop-of-length-le}
 use lib.Seq.{take-take, getD-take, getD-drop, length-take-le, drop-cons}
+use lib.Dec.{eqb}
+use borrow.Author.Tests.{eq-eqb, ne-eqb}
+use Rattle.laws.specs.Cases.{pick}
 use Rattle.laws.specs.Lists.{before-zero}
 use Rattle.laws.proofs.Lists.{before-zero-length, before-zero-take}
-use Rattle.card.specs.Layout.{word, nodeAt, keyWords, valueWords, children, routingKeys, slot-pairs, isKey, leafPairs}
+use Rattle.card.specs.Layout.{word, nodeAt, keyWords, valueWords, children, routingKeys, slot-pairs, isKey, leafPairs, runBelow}
 
 -- the part that the code cuts out is the node
 pub node-part : (card : List ℕ) (m a b : ℕ) → a ≡ 8 + 24 * (m - 1) → b ≡ a + 24 → take (b - a) (drop a card) ≡ nodeAt card m
@@ -92,27 +96,68 @@ unfolding isKey
 is-key-some zero e = absurd (e refl)
 is-key-some (suc k) e = refl
 
-slot-count : (k v : ℕ) (x y : List ℕ) → length (slot-pairs (k ∷ x) (v ∷ y)) ≡ isKey k + length (slot-pairs x y)
-unfolding isKey
-slot-count zero v x y = omega arith
-slot-count (suc k) v x y = omega arith
+-- a slot's own pair, if its key word is one, and those of the slots after it
+slot-pairs-cons : (k v : ℕ) (x y : List ℕ) → slot-pairs (k ∷ x) (v ∷ y) ≡ slot-pairs (k ∷ []) (v ∷ []) ++ slot-pairs x y
+slot-pairs-cons zero v x y = refl
+slot-pairs-cons (suc k) v x y = refl
 
-pub pairs-from : List ℕ → ℕ → ℕ
-pairs-from node i = length (slot-pairs (drop i (keyWords node)) (drop i (valueWords node)))
+slot-length : (k v : ℕ) → length (slot-pairs (k ∷ []) (v ∷ [])) ≡ isKey k
+unfolding isKey
+slot-length zero v = refl
+slot-length (suc k) v = refl
+
+pub slot-pairs-le : (ks vs : List ℕ) → length (slot-pairs ks vs) ≤ length ks
+slot-pairs-le [] vs = omega arith
+slot-pairs-le (k ∷ ks) [] = omega arith
+slot-pairs-le (zero ∷ ks) (v ∷ vs) = omega (arith, slot-pairs-le ks vs)
+slot-pairs-le (suc k ∷ ks) (v ∷ vs) = omega (arith, slot-pairs-le ks vs)
+
+-- a leaf has at most eleven pairs
+pub leaf-few : (node : List ℕ) → length (leafPairs node) ≤ 11
+unfolding leafPairs keyWords
+leaf-few node = omega (arith, slot-pairs-le (take 11 (drop 1 node)) (valueWords node), length-take 11 (drop 1 node))
+
+-- the pairs of a leaf from slot i on
+unfoldable pub leafFrom : List ℕ → ℕ → List (ℕ × ℕ)
+leafFrom node i = slot-pairs (drop i (keyWords node)) (drop i (valueWords node))
+
+pub leaf-start : (node : List ℕ) → leafFrom node 0 ≡ leafPairs node
+unfolding leafFrom leafPairs
+leaf-start node = refl
 
 module _ (node : List ℕ) (len : length node ≡ 24) where
-  pub pairs-start : length (leafPairs node) ≡ pairs-from node 0
-  unfolding leafPairs pairs-from
-  pairs-start = refl
-
-  pub pairs-next : (i : ℕ) → i < 11 → pairs-from node i ≡ isKey (getD node (1 + i) 0) + pairs-from node (i + 1)
-  unfolding pairs-from
-  pairs-next i h =
+  pub leaf-next : (i : ℕ) → i < 11 → leafFrom node i ≡ slot-pairs (getD node (1 + i) 0 ∷ []) (getD node (12 + i) 0 ∷ []) ++ leafFrom node (i + 1)
+  unfolding leafFrom
+  leaf-next i h =
       let a = length-keyWords node len in
       let b = length-valueWords node len in
-      rw (drop-cons (keyWords node) i 0 (omega arith), drop-cons (valueWords node) i 0 (omega arith), add-one i, ← get-keyWord node i h)
-      (slot-count (getD (keyWords node) i 0) (getD (valueWords node) i 0) (drop (suc i) (keyWords node)) (drop (suc i) (valueWords node)))
+      rw (drop-cons (keyWords node) i 0 (omega arith), drop-cons (valueWords node) i 0 (omega arith), add-one i, ← get-keyWord node i h, ← get-valueWord node i h)
+      (slot-pairs-cons (getD (keyWords node) i 0) (getD (valueWords node) i 0) (drop (suc i) (keyWords node)) (drop (suc i) (valueWords node)))
 
-  pub pairs-end : (i : ℕ) → 11 ≤ i → pairs-from node i ≡ 0
-  unfolding pairs-from
-  pairs-end i h = rw (drop-of-length-le (keyWords node) {i = i} (omega (arith, length-keyWords node len)))
+  pub leaf-length : (i : ℕ) → i < 11 → length (leafFrom node i) ≡ isKey (getD node (1 + i) 0) + length (leafFrom node (i + 1))
+  leaf-length i h =
+      ap length (leaf-next i h)
+      ∙ length-append (slot-pairs (getD node (1 + i) 0 ∷ []) (getD node (12 + i) 0 ∷ [])) (leafFrom node (i + 1))
+      ∙ ap (λ (n : ℕ). n + length (leafFrom node (i + 1))) (slot-length (getD node (1 + i) 0) (getD node (12 + i) 0))
+
+  pub leaf-end : (i : ℕ) → 11 ≤ i → leafFrom node i ≡ []
+  unfolding leafFrom
+  leaf-end i h = rw (drop-of-length-le (keyWords node) {i = i} (omega (arith, length-keyWords node len)))
+
+-- ---- the 11-child nodes without a break straight above
+
+pub run-more : (c run : ℕ) → c ≡ 11 → runBelow c run ≡ run + 1
+unfolding runBelow
+run-more c run e = rw (eq-eqb c 11 e) (omega arith)
+
+pub run-none : (c run : ℕ) → (c ≡ 11 → ⊥) → runBelow c run ≡ 0
+unfolding runBelow
+run-none c run q = rw (ne-eqb c 11 q)
+
+pub run-below-le : (c run : ℕ) → runBelow c run ≤ run + 1
+unfolding runBelow
+run-below-le c run = go (eqb c 11)
+  where
+    go : (b : Bool) → pick b (suc run) 0 ≤ run + 1
+    go true = omega arith
+    go false = omega arith

@@ -2,6 +2,8 @@
 use mathlib.Core.List.{List, [], _∷_, _++_}
 use Prim.Native.Nat.{ℕ, zero, suc, _+_, _-_, _*_}
 use lib.ListN.{length, getD, take, drop}
+use lib.Dec.{eqb}
+use Rattle.laws.specs.Cases.{pick}
 use Rattle.laws.specs.Lists.{before-zero, pad}
 
 -- "With N nodes (4 to 600)"
@@ -56,6 +58,11 @@ children node = before-zero (valueWords node)
 -- "With c children the routing keys are words 1 to c − 1"
 unfoldable pub routingKeys : List ℕ → List ℕ
 routingKeys node = take (length (children node) - 1) (keyWords node)
+
+-- "the number of 11-child nodes without a break straight above" a node: of the children of a node with c children, where so many
+-- stand without a break straight above that node itself
+unfoldable pub runBelow : ℕ → ℕ → ℕ
+runBelow c run = pick (eqb c 11) (suc run) 0
 
 -- the pairs of a row of key words and the row of values beside it: "A key word of 0 is an empty slot"
 abbrev pub slot-pairs : List ℕ → List ℕ → List (ℕ × ℕ)

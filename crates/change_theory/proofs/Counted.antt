@@ -1,5 +1,5 @@
 -- The free nodes of a table are as many as N less those of its tree.
-use mathlib.Core.Path.{_≡_, refl}
+use mathlib.Core.Path.{_≡_}
 use mathlib.Core.List.{List, [], _∷_, _++_}
 use mathlib.Core.Bool.{Bool}
 use Prim.Native.Nat.{ℕ, _+_, _*_, _≤_, _<_}
@@ -9,7 +9,7 @@ use Rattle.tree.specs.FreeNodes.{Exact}
 use Rattle.change_theory.proofs.ExactOver.{ExactOver, exact-one, over-count}
 use Rattle.free_nodes.specs.NodeSet.{capacity, countTrue}
 use Rattle.laws.specs.Totals.{indicator, total}
-use Rattle.laws.proofs.Totals.{total-append}
+use Rattle.laws.proofs.Totals.{total-append, total-length}
 use Rattle.tree.specs.Represent.{Represents}
 use Rattle.tree.specs.Tree.{Tree, Forest, node-total, node-totals, leaf, node, one, more}
 
@@ -30,10 +30,6 @@ mutual
   numbers-totals : (w : ℕ → ℕ) (f : Forest) → total w (numbers-all f) ≡ node-totals w f
   numbers-totals w (one t) = numbers-total w t
   numbers-totals w (more t k f) = omega (arith, total-append w (numbers-in t) (numbers-all f), numbers-total w t, numbers-totals w f)
-
-total-length : (l : List ℕ) → total (λ m. 1) l ≡ length l
-total-length [] = refl
-total-length (x ∷ l) = omega (arith, total-length l)
 
 pub count-exact : (c : List ℕ) (n : ℕ) (free : List Bool) (t : Tree) → length c ≡ 8 + 24 * n → n < capacity → Represents c t → Exact n free t → countTrue free + node-total (λ m. 1) t ≡ n
 count-exact c n free t len small rep x =

@@ -2,12 +2,11 @@
 use mathlib.Core.Path.{_≡_, refl, sym, _∙_}
 use mathlib.Core.List.{List, [], _∷_}
 use mathlib.Core.Bool.{Bool, true, false}
-use mathlib.Core.Logic.{_⊎_, inl, inr, _≢_, ⊎-elim}
+use mathlib.Core.Logic.{_⊎_, inl, inr, ⊎-elim}
 use Prim.Native.Nat.{ℕ, _+_, _*_, _≤_, _<_}
 use native.Mathlib.Omega.{arith}
 use lib.ListN.{length, set, getD, length-set}
 use lib.Seq.{ext-getD}
-use borrow.Author.Tests.{ne-eqb}
 use Rattle.card.specs.NodeWords.{OnCard}
 use Rattle.plans.specs.Planning.{withoutAll, withAll}
 use Rattle.tree.specs.FreeNodes.{free-bit, Exact}
@@ -43,10 +42,6 @@ pub record Freed (free : List Bool) (ms : List ℕ) : Type 0 where
   pub counted : countTrue (withAll ms free) ≡ countTrue free + length ms
   pub kept-length : length (withAll ms free) ≡ length free
 
-with-all-cons : (m : ℕ) (ms : List ℕ) (free : List Bool) → m ≢ 0 → withAll (m ∷ ms) free ≡ withAll ms (set free m true)
-unfolding withAll
-with-all-cons m ms free d = rw (ne-eqb m 0 d)
-
 pub freed : (ms : List ℕ) (free : List Bool) → ((i : ℕ) → free-bit free i + total (indicator i) ms ≤ 1) → ((i : ℕ) → 0 < total (indicator i) ms → (1 ≤ i) × (i < length free)) → Freed free ms
 unfolding withAll
 freed [] free h b = record { now = λ i. omega arith; counted = omega arith; kept-length = refl }
@@ -56,11 +51,10 @@ freed (m ∷ ms) free h b =
     let step : (i : ℕ) → free-bit (set free m true) i ≡ free-bit free i + indicator i m = λ i. bit-added free m i (p .1) z in
     let len : length (set free m true) ≡ length free = simp length-set in
     let q : Freed (set free m true) ms = freed ms (set free m true) (λ i. omega (arith, h i, step i)) (λ i o. let r = b i (omega arith) in (r .0, omega arith)) in
-    let e = with-all-cons m ms free (omega (arith, p .0)) in
     record {
-      now = λ i. rw e (omega (arith, q .now i, step i));
-      counted = rw e (omega (arith, q .counted, count-add free m (p .1) (bit-zero (getD free m false) z)));
-      kept-length = rw e (q .kept-length ∙ len);
+      now = λ i. omega (arith, q .now i, step i);
+      counted = omega (arith, q .counted, count-add free m (p .1) (bit-zero (getD free m false) z));
+      kept-length = q .kept-length ∙ len;
     }
 
 -- from the free nodes of one tree to those of the next: ms were given for it, cut are cut out of it

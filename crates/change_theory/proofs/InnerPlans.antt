@@ -9,7 +9,7 @@ use lib.ListN.{length, getD, take, drop}
 use borrow.Author.Tests.{lt-ltb, le-leb, lt-leb, eq-eqb}
 use Rattle.card.specs.Layout.{nodeAt, kindOf, children, routingKeys}
 use Rattle.card.specs.Stores.{new-node}
-use Rattle.plans.specs.Change.{joinedKeys, joinedChildren, absorb, splitParent, Together, innersTogether, half, leftKeys, keyBetween, share, merge, mergeRoot}
+use Rattle.plans.specs.Change.{joinedKeys, joinedChildren, absorb, splitParent, Together, innersTogether, half, leftKeys, keyBetween, share, merge, mergeRoot, halves, copied}
 use Rattle.plans.specs.Planning.{giving, first, second, third}
 use Rattle.change.specs.Mending.{mendTagged, mend}
 use Rattle.siblings.specs.Siblings.{mendTogether, mendSiblings}
@@ -104,12 +104,12 @@ module _ (pos : Position) (C : Context) (p : ℕ) (ea : pos .above ≡ link-plac
   share-is : (h : ℕ) → half (length (roots K)) ≡ h → (L : Forest) (key : ℕ) (R : Forest) → Parts h K L key R → (N : Forest) (a b c : ℕ)
       → take j (routingKeys P) ++ key ∷ drop (suc j) (routingKeys P) ≡ routing N → take j (children P) ++ a ∷ b ∷ drop (suc (suc j)) (children P) ≡ roots N
       → share pos P j (inner-together K) a b c ≡ change-at C (new-siblings a L b R ++ new-node c 2 (routing N) (roots N) ∷ []) c (p ∷ x ∷ y ∷ [])
-  unfolding share leftKeys keyBetween
+  unfolding share halves copied leftKeys keyBetween
   share-is h eh L key R q N a b c ek ec = rw (eh, left-routing h K L key R q (h - 1) refl, middle-key h K L key R q (h - 1) refl, left-roots h K L key R q, right-routing h K L key R q, right-roots h K L key R q, ek, ec, ea, ep, ex, ey)
 
   merge-is : (N : Forest) (a b : ℕ) → take j (routingKeys P) ++ drop (suc j) (routingKeys P) ≡ routing N → take j (children P) ++ a ∷ drop (suc (suc j)) (children P) ≡ roots N
       → merge pos P j (inner-together K) a b ≡ change-at C (new-node a 2 (routing K) (roots K) ∷ new-node b 2 (routing N) (roots N) ∷ []) b (p ∷ x ∷ y ∷ [])
-  unfolding merge
+  unfolding merge copied
   merge-is N a b ek ec = rw (ek, ec, ea, ep, ex, ey)
 
   merge-root-is : (a : ℕ) → mergeRoot pos P j (inner-together K) a ≡ change-at C (new-node a 2 (routing K) (roots K) ∷ []) a (p ∷ x ∷ y ∷ [])

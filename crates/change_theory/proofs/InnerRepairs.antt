@@ -6,8 +6,8 @@ use mathlib.Core.Logic.{_⊎_, inl, inr}
 use Prim.Native.Nat.{ℕ, zero, suc, _+_, _-_, _*_, _≤_}
 use native.Mathlib.Omega.{arith}
 use lib.ListN.{length}
-use borrow.Author.Tests.{eq-eqb}
 use Rattle.card.specs.Stores.{new-node}
+use Rattle.card.proofs.NodeLaws.{run-more}
 use Rattle.plans.specs.Change.{half}
 use Rattle.plans.specs.Planning.{first, second, third}
 use Rattle.change_theory.proofs.Exchange.{alone, beside, Remains, OneViolation, together-le, half-size, Parts, parts}
@@ -17,12 +17,11 @@ use Rattle.shapes.proofs.Shaped.{absorb-shaped, split-shaped, inner-share-shape
 use Rattle.change_theory.proofs.InnerChanges.{inner-pair, new-siblings, parted-nodes, tagged-child, absorb-rewrite, split-rewrite, Underfull, together, share-rewrite, merge-rewrite, merge-root-rewrite}
 use Rattle.change_theory.proofs.InnerPlans.{absorb-plan, split-plan, share-plan, merge-plan, merge-root-plan}
 use Rattle.change_theory.proofs.Mending.{StandsAt, Planned, first-of, two-of, three-of, root-of-two}
-use Rattle.change_theory.proofs.Parent.{violations-inside, width-fill}
 use Rattle.change_theory.proofs.Siblings.{inner-due, Pair, siblings}
 use Rattle.laws.proofs.Cases.{order}
 use Rattle.tree.proofs.Cut.{cut}
 use Rattle.tree.proofs.Pairs.{routing-roots}
-use Rattle.tree.proofs.Path.{width-of, full-run, own-violation, reserve}
+use Rattle.tree.proofs.Path.{width-of, full-run, own-violation, reserve, width-fill}
 use Rattle.tree.specs.Represent.{kind, Represents}
 use Rattle.tree.proofs.Represent.{link-place}
 use Rattle.tree.specs.Height.{Height, AllHeight}
@@ -30,13 +29,13 @@ use Rattle.tree.proofs.Splice.{height-splice}
 use Rattle.tree.specs.Tree.{Tree, Forest, root, roots, routing, leaf, node, one, more}
 use Rattle.tree.proofs.Tree.{Left, Right, join, splice, fill, Context, top, down}
 use Rattle.tree.specs.Violations.{violations}
-use Rattle.tree.proofs.Violations.{widths-splice, size-splice}
+use Rattle.tree.proofs.Violations.{widths-splice, size-splice, violations-inside}
 use Rattle.descent.specs.declared.Position.{Position}
 
 -- a full parent keeps a node in reserve for its own split
 full-parent : (C : Context) (m : ℕ) (g : Bool) (l : Left) (r : Right) → width-of l r ≡ 11 → full-run (down C m g l r) ≡ suc (full-run C)
 unfolding full-run
-full-parent C m g l r e = rw (eq-eqb (width-of l r) 11 e)
+full-parent C m g l r e = run-more (width-of l r) (full-run C) e ∙ omega arith
 
 reserve-above : (C : Context) (m : ℕ) (f : Forest) → reserve C (node m (tagged-in C) f) ≤ full-run C
 reserve-above top m f = omega arith

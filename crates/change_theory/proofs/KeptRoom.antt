@@ -1,7 +1,7 @@
 -- The room of a line is its limit less its own nodes. A repair leaves the room that its new part keeps in reserve, whatever the bits
 -- count; and what it is given the bits have.
-use mathlib.Core.Path.{_≡_, refl, ap, _∙_}
-use mathlib.Core.List.{List, [], _∷_}
+use mathlib.Core.Path.{_≡_, ap, _∙_}
+use mathlib.Core.List.{List}
 use mathlib.Core.Bool.{Bool}
 use Prim.Native.Nat.{ℕ, _+_, _≤_}
 use native.Mathlib.Omega.{arith}
@@ -10,13 +10,10 @@ use Rattle.change_theory.proofs.Mending.{Planned}
 use Rattle.change_theory.proofs.Rewrite.{numbers}
 use Rattle.descent.specs.declared.Position.{Position}
 use Rattle.laws.specs.Totals.{total}
+use Rattle.laws.proofs.Totals.{total-length}
 use Rattle.tree.proofs.Path.{reserve}
 use Rattle.tree.specs.Tree.{Tree, node-total}
 use Rattle.tree.proofs.Tree.{Context, plug, total-plug}
-
-total-length : (l : List ℕ) → total (λ m. 1) l ≡ length l
-total-length [] = refl
-total-length (x ∷ l) = omega (arith, total-length l)
 
 pub room-kept : {c : List ℕ} {n : ℕ} {pos : Position} {free : List Bool} {last : ℕ} {C : Context} {o : Tree} {spare : ℕ} {due : Tree} (p : Planned c n pos free last C o spare due) (ms : List ℕ) (limit : ℕ) → length ms ≡ p .given
     → node-total (λ m. 1) (plug C o) + 3 + spare ≤ limit → node-total (λ m. 1) (plug C (p .part ms)) + 3 + reserve C (p .part ms) ≤ limit

@@ -12,10 +12,10 @@ use lib.Dec.{ltb}
 use borrow.Author.Tests.{lt-ltb, le-ltb}
 use Rattle.card.specs.Layout.{slot-pairs}
 use Rattle.card.specs.Stores.{NewNode, new-node}
+use Rattle.card.proofs.NodeLaws.{slot-pairs-le}
 use Rattle.plans.specs.Change.{half}
 use Rattle.change_theory.proofs.Exchange.{Exchange, exchange-splice, Enough, enough, Remains, remains-enough, OneViolation, copied, half-size}
-use Rattle.change_theory.proofs.LeafRows.{newLeaf, slot-keys, slot-pairs-length, new-leaf-pairs, new-leaf-range, new-leaf-settled, length-pair-keys, length-pair-values, new-leaf-represented, twoLeaves, two-leaves-pairs, two-leaves-range, two-leaves-settled, two-leaves-widths}
-use Rattle.change_theory.proofs.Parent.{violations-inside}
+use Rattle.change_theory.proofs.LeafRows.{newLeaf, slot-keys, new-leaf-pairs, new-leaf-range, new-leaf-settled, length-pair-keys, length-pair-values, new-leaf-represented, twoLeaves, two-leaves-pairs, two-leaves-range, two-leaves-settled, two-leaves-widths}
 use Rattle.change_theory.proofs.Rewrite.{SameHeight, Rewrite}
 use Rattle.laws.proofs.Cases.{order}
 use Rattle.laws.specs.Cases.{pick}
@@ -31,7 +31,7 @@ use Rattle.tree.specs.Height.{Height}
 use Rattle.tree.proofs.Splice.{represents-splice}
 use Rattle.tree.specs.Tree.{Forest, roots, routing, leaf, node, one, more}
 use Rattle.tree.proofs.Tree.{Left, Right, splice, Context, rightmost, top}
-use Rattle.tree.proofs.Violations.{few-le, few-none, few-zero, violations-splice, widths-splice, size-splice}
+use Rattle.tree.proofs.Violations.{few-le, few-none, few-zero, violations-splice, widths-splice, size-splice, violations-inside}
 use Rattle.tree.specs.Violations.{few, forest-violations}
 
 -- two leaves side by side, and the pairs that they hold together, by rising key
@@ -150,8 +150,8 @@ module _ (l : Left) (x : ℕ) (ks vs : List ℕ) (k y : ℕ) (ks′ vs′ : List
   leaves-most c p q =
       let u = represents-splice c l (leaves x ks vs k y ks′ vs′) r (q .1) .0 in
       let n = together-length ks vs ks′ vs′ in
-      let h : length (slot-pairs ks vs) ≤ 11 = omega (arith, slot-pairs-length ks vs, u .0 .1) in
-      let h′ : length (slot-pairs ks′ vs′) ≤ 11 = omega (arith, slot-pairs-length ks′ vs′, u .1 .1) in
+      let h : length (slot-pairs ks vs) ≤ 11 = omega (arith, slot-pairs-le ks vs, u .0 .1) in
+      let h′ : length (slot-pairs ks′ vs′) ≤ 11 = omega (arith, slot-pairs-le ks′ vs′, u .1 .1) in
       order (length (slot-pairs ks vs)) 2 (λ o. omega arith)
       (λ o. order (length (slot-pairs ks′ vs′)) 2 (λ o′. omega arith) (λ o′. omega (arith, leaves-single, few-none (length (slot-pairs ks vs)) o, few-none (length (slot-pairs ks′ vs′)) o′)))
 

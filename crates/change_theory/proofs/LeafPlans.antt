@@ -10,7 +10,7 @@ use lib.ListN.{length, getD, take, drop}
 use borrow.Author.Tests.{eq-eqb}
 use Rattle.card.specs.Layout.{nodeAt, kindOf, children, routingKeys, slot-pairs, leafPairs}
 use Rattle.card.specs.Stores.{new-node}
-use Rattle.plans.specs.Change.{Together, leavesTogether, half, leftKeys, keyBetween, share, merge, mergeRoot}
+use Rattle.plans.specs.Change.{Together, leavesTogether, half, leftKeys, keyBetween, share, merge, mergeRoot, halves, copied}
 use Rattle.plans.specs.Planning.{giving, first, second, third}
 use Rattle.change.specs.Mending.{mend}
 use Rattle.siblings.specs.Siblings.{mendTogether, mendSiblings}
@@ -50,12 +50,12 @@ leaves-mended q parent j x y free last e f = rw (eq-eqb (kindOf x) 1 e, eq-eqb (
 module _ (q : Position) (parent : List ℕ) (j : ℕ) (ps : Pairs) (C : Context) (p x y : ℕ) (el : q .above ≡ link-place C) (ep : q .parent ≡ p) (ex : getD (children parent) j 0 ≡ x) (ey : getD (children parent) (suc j) 0 ≡ y) where
   share-leaves : (a b c : ℕ) (keys kids : List ℕ) → take j (routingKeys parent) ++ key-at (half (length ps)) ps ∷ drop (suc j) (routingKeys parent) ≡ keys → take j (children parent) ++ a ∷ b ∷ drop (suc (suc j)) (children parent) ≡ kids
       → share q parent j (rowsOf ps) a b c ≡ change-at C (leafNode a (take (half (length ps)) ps) ∷ leafNode b (drop (half (length ps)) ps) ∷ new-node c 2 keys kids ∷ []) c (p ∷ x ∷ y ∷ [])
-  unfolding share leftKeys keyBetween
+  unfolding share halves copied leftKeys keyBetween
   share-leaves a b c keys kids e f = rw (length-pair-values ps, keys-take, values-take, keys-drop, values-drop, key-at-row, e, f, ex, ey, el, ep)
 
   merge-leaves : (a b : ℕ) (keys kids : List ℕ) → take j (routingKeys parent) ++ drop (suc j) (routingKeys parent) ≡ keys → take j (children parent) ++ a ∷ drop (suc (suc j)) (children parent) ≡ kids
       → merge q parent j (rowsOf ps) a b ≡ change-at C (leafNode a ps ∷ new-node b 2 keys kids ∷ []) b (p ∷ x ∷ y ∷ [])
-  unfolding merge
+  unfolding merge copied
   merge-leaves a b keys kids e f = rw (e, f, ex, ey, el, ep)
 
   mergeRoot-leaves : (a : ℕ) → mergeRoot q parent j (rowsOf ps) a ≡ change-at C (leafNode a ps ∷ []) a (p ∷ x ∷ y ∷ [])

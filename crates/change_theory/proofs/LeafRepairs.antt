@@ -14,7 +14,6 @@ use Rattle.change_theory.proofs.LeafChanges.{leaves, pairsTogether, Und
 use Rattle.change_theory.proofs.LeafPlans.{AtSiblings, leaf-share-plan, leaf-merge-plan, leaf-merge-root-plan}
 use Rattle.change_theory.proofs.LeafRows.{newLeaf, twoLeaves}
 use Rattle.change_theory.proofs.Mending.{StandsAt, Planned, first-of, two-of, three-of}
-use Rattle.change_theory.proofs.Parent.{violations-inside}
 use Rattle.change_theory.proofs.Siblings.{leaf-due, siblings}
 use Rattle.laws.proofs.Cases.{order}
 use Rattle.tree.proofs.Pairs.{routing-roots}
@@ -28,6 +27,7 @@ use Rattle.tree.proofs.Splice.{height-splice, roots-splice}
 use Rattle.tree.specs.Tree.{Tree, Forest, roots, leaf, node, one, more}
 use Rattle.tree.proofs.Tree.{Left, Right, splice, fill, Context, rightmost, followed, top, down}
 use Rattle.tree.specs.Violations.{few, violations, forest-violations}
+use Rattle.tree.proofs.Violations.{violations-inside}
 use Rattle.descent.specs.declared.Position.{Position}
 
 -- Two leaves side by side, of which one is the violation; no node is kept in reserve for what takes their place.

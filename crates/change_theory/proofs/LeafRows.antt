@@ -1,6 +1,6 @@
 -- Document 01, "The changes": "Pairs in new leaves ascend from slot 0; unused words are 0." A new leaf and what it holds.
 use mathlib.Core.Path.{_≡_, refl, ap, ap₂, sym, _∙_}
-use mathlib.Core.List.{List, [], _∷_, _++_, map}
+use mathlib.Core.List.{List, [], _∷_, _++_}
 use Prim.Native.Nat.{ℕ, zero, suc, _+_, _-_, _≤_, _<_}
 use native.Mathlib.Omega.{arith}
 use lib.ListN.{length, getD, take, drop, replicate, length-take, length-drop, length-map, take-append-drop, List·getD-map}
@@ -13,6 +13,7 @@ use Rattle.laws.proofs.Lists.{length-pad, getD-pad}
 use Rattle.laws.specs.Sorting.{Pairs, pair-keys, pair-values, key-at}
 use Rattle.laws.proofs.Totals.{indicator-other, indicator-zero, total-append}
 use Rattle.laws.specs.Totals.{total}
+use Rattle.laws.proofs.Sorting.{map-take, map-drop}
 use Rattle.tree.specs.Pairs.{pairs, forest-pairs, has-key}
 use Rattle.tree.proofs.Pairs.{InRange, AllInRange}
 use Rattle.tree.specs.Represent.{Represents}
@@ -33,12 +34,6 @@ slot-keys (zero ∷ ks) (v ∷ vs) = slot-keys ks vs
 slot-keys (suc k ∷ ks) (v ∷ vs) = omega (arith, indicator-other 0 (suc k) (omega arith), slot-keys ks vs)
 
 -- as many pairs as slots at most
-pub slot-pairs-length : (ks vs : List ℕ) → length (slot-pairs ks vs) ≤ length ks
-slot-pairs-length [] vs = omega arith
-slot-pairs-length (k ∷ ks) [] = omega arith
-slot-pairs-length (zero ∷ ks) (v ∷ vs) = omega (arith, slot-pairs-length ks vs)
-slot-pairs-length (suc k ∷ ks) (v ∷ vs) = omega (arith, slot-pairs-length ks vs)
-
 -- pairs without the key 0, put into slots and read again
 slots-read : (n m : ℕ) (ps : Pairs) → total (has-key 0) ps ≡ 0 → slot-pairs (pair-keys ps ++ replicate n 0) (pair-values ps ++ replicate m 0) ≡ ps
 slots-read n m [] z = slot-pairs-zeros n m (replicate m 0)
@@ -85,29 +80,19 @@ total-cut : (w : ℕ × ℕ → ℕ) (n : ℕ) (ps : Pairs) → total w (take n 
 total-cut w n ps = sym (total-append w (take n ps) (drop n ps)) ∙ ap (total w) (take-append-drop n ps)
 
 -- a part of a mapped list
-take-map : (f : ℕ × ℕ → ℕ) (n : ℕ) (ps : Pairs) → take n (map f ps) ≡ map f (take n ps)
-take-map f zero ps = refl
-take-map f (suc n) [] = refl
-take-map f (suc n) (p ∷ ps) = ap (λ (l : List ℕ). f p ∷ l) (take-map f n ps)
-
-drop-map : (f : ℕ × ℕ → ℕ) (n : ℕ) (ps : Pairs) → drop n (map f ps) ≡ map f (drop n ps)
-drop-map f zero ps = refl
-drop-map f (suc n) [] = refl
-drop-map f (suc n) (p ∷ ps) = drop-map f n ps
-
 -- so the rows of the parts are the parts of the rows
 module _ (n : ℕ) (ps : Pairs) where
   pub keys-take : take n (pair-keys ps) ≡ pair-keys (take n ps)
-  keys-take = take-map (λ p. p .0) n ps
+  keys-take = map-take (λ p. p .0) n ps
 
   pub values-take : take n (pair-values ps) ≡ pair-values (take n ps)
-  values-take = take-map (λ p. p .1) n ps
+  values-take = map-take (λ p. p .1) n ps
 
   pub keys-drop : drop n (pair-keys ps) ≡ pair-keys (drop n ps)
-  keys-drop = drop-map (λ p. p .0) n ps
+  keys-drop = map-drop (λ p. p .0) n ps
 
   pub values-drop : drop n (pair-values ps) ≡ pair-values (drop n ps)
-  values-drop = drop-map (λ p. p .1) n ps
+  values-drop = map-drop (λ p. p .1) n ps
 
   pub key-at-row : getD (pair-keys ps) n 0 ≡ key-at n ps
   key-at-row = List·getD-map (λ (p : ℕ × ℕ). p .0) ps n (0, 0)

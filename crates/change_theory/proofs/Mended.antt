@@ -12,8 +12,9 @@ use Rattle.card.specs.Layout.{depthLimit, rootPlace, place, nodeImage}
 use Rattle.card.specs.NodeWords.{OnCard}
 use Rattle.card.specs.Stores.{Store, stores, NewNode, node-stores}
 use Rattle.card.proofs.Stores.{length-node-image, numbered}
-use Rattle.plans.specs.Change.{Change, changeStores}
-use Rattle.plans.specs.Planning.{takeNumbers, withoutAll, lastOf, overNumbers, giving, withAll, prepared}
+use Rattle.plans.specs.Change.{changeStores}
+use Rattle.plans.specs.Planning.{takeNumbers, withoutAll, lastOf, withAll, prepared}
+use Rattle.plans.proofs.NumberLaws.{giving-some}
 use Rattle.change.specs.Mending.{mend, onSearch, nextRepair}
 use Rattle.tree.specs.FreeNodes.{Exact}
 use Rattle.change_theory.proofs.Exact.{number-outside, exact-after}
@@ -30,7 +31,7 @@ use Rattle.descent.specs.Descent.{rootPosition, seek}
 use Rattle.descent_theory.proofs.Seek.{positionOf, violation-found}
 use Rattle.free_nodes.specs.NodeSet.{capacity, countTrue}
 use Rattle.laws.proofs.Bits.{bit-false, bit-le}
-use Rattle.laws.proofs.Cases.{order}
+use Rattle.laws.proofs.Cases.{order, impossible}
 use Rattle.laws.specs.Totals.{indicator, total}
 use Rattle.laws.proofs.Totals.{indicator-other}
 use Rattle.change_theory.proofs.Reached.{repair-reached}
@@ -48,11 +49,6 @@ use Rattle.tree.proofs.Violations.{below, few-none}
 use Rattle.tree.specs.Violations.{table-violations}
 use Rattle.descent.specs.declared.Position.{Position}
 use Rattle.descent.specs.declared.Search.the-variants.{Violation as SearchViolation}
-
--- the change over the numbers given
-pub giving-some : (k : ℕ) (free : List Bool) (last : ℕ) (change : List ℕ → Change) (ms : List ℕ) → takeNumbers k free last ≡ some ms → giving k free last change ≡ prepared (changeStores (change ms)) (withoutAll ms free) (lastOf last ms) (change ms .cut)
-unfolding giving overNumbers
-giving-some k free last change ms e = rw e
 
 pub change-stores : (C : Context) (nodes : List NewNode) (number : ℕ) (out : List ℕ) → changeStores (change-at C nodes number out) ≡ node-stores nodes ++ (link-place C, number) ∷ []
 unfolding changeStores
@@ -202,7 +198,7 @@ mended c n key t free last len small h s deep x v single room = go (v .context) 
     go : (D : Context) (q : Tree) → t ≡ plug D q → below D → own-violation q ≡ 1 → OnPath key D → 3 + reserve D q ≤ countTrue free → seek c n key depthLimit (rootPosition (getD c rootPlace 0)) ≡ SearchViolation (positionOf D q)
         → Repaired c n key t free last (depth-of D)
     go top q e b own path room found = absurd b
-    go (down C p true l r) q e b own path room found = let z = path .0 in let y : _≡_ {A = ℕ} 0 1 = cc in absurd (omega arith)
+    go (down C p true l r) q e b own path room found = let z = path .0 in impossible (cc)
     go (down C p false l r) q e b own path room found =
         rw e
         (at (rw e at h) (rw e at s) (rw e at x) (rw e at single))

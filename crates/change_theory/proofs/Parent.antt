@@ -1,26 +1,16 @@
 -- The parent of the violation of a table: its children hold the only one, so that all else about them is in order.
-use mathlib.Core.Path.{_≡_, refl}
-use mathlib.Core.List.{[], _∷_}
+use mathlib.Core.Path.{_≡_}
 use mathlib.Core.Bool.{Bool, true, false}
 use Prim.Native.Nat.{ℕ, _≤_}
 use native.Mathlib.Omega.{arith}
 use lib.ListN.{length}
 use Rattle.change_theory.proofs.Exchange.{OneViolation}
 use Rattle.change_theory.proofs.Rewrite.{Shape, violations-in}
-use Rattle.tree.proofs.Path.{width-of, own-violation}
-use Rattle.tree.specs.Tree.{Tree, Forest, roots, leaf, node, one}
-use Rattle.tree.proofs.Tree.{Left, Right, splice, fill, Context, plug, rightmost, followed, top, down}
-use Rattle.tree.proofs.Violations.{few-zero, violations-join, widths-splice}
-use Rattle.tree.specs.Violations.{violations, forest-violations, AllWidths, RootOk, table-violations}
-
-pub violations-inside : (l : Left) (F : Forest) (r : Right) → forest-violations F ≤ forest-violations (splice l F r)
-violations-inside [] F rightmost = omega arith
-violations-inside [] F (followed k f) = omega (arith, violations-join F k f)
-violations-inside (x ∷ l) F r = omega (arith, violations-inside l F r)
-
-own-inside : (s : Tree) → own-violation s ≤ violations s
-own-inside (leaf m ks vs) = omega arith
-own-inside (node m g f) = omega arith
+use Rattle.tree.proofs.Path.{own-violation, own-violation-le}
+use Rattle.tree.specs.Tree.{Tree, Forest, roots, node, one}
+use Rattle.tree.proofs.Tree.{Left, Right, fill, Context, plug, top, down}
+use Rattle.tree.proofs.Violations.{few-zero, widths-splice, violations-inside}
+use Rattle.tree.specs.Violations.{forest-violations, AllWidths, RootOk, table-violations}
 
 -- what is asked of a table holds of every part of it
 pub shape-plug : (C : Context) (s : Tree) → RootOk (plug C s) → Shape C s
@@ -32,28 +22,22 @@ shape-plug (down C m g l r) s h = widths-splice l (one s) r (below-shape C m g (
     below-shape top m false f h = h .2
     below-shape (down C i b l r) m g f h = h .1
 
+pub forest-part : (C : Context) (m : ℕ) (g : Bool) (f : Forest) → forest-violations f ≤ violations-in C (node m g f)
+forest-part top m g f = omega arith
+forest-part (down C i b l r) m g f = omega arith
+
 pub violations-part : (C : Context) (s : Tree) → violations-in C s ≤ table-violations (plug C s)
 violations-part top s = omega arith
 violations-part (down C m g l r) s = omega (arith, violations-inside l (one s) r, forest-part C m g (fill l s r), violations-part C (node m g (fill l s r)))
-  where
-    forest-part : (C : Context) (m : ℕ) (g : Bool) (f : Forest) → forest-violations f ≤ violations-in C (node m g f)
-    forest-part top m g f = omega arith
-    forest-part (down C i b l r) m g f = omega arith
 
 -- the children of an internal node that has the only violation of the table below it
 pub violation-parent : (C : Context) (p : ℕ) (l : Left) (s : Tree) (r : Right) → RootOk (plug C (node p false (fill l s r))) → table-violations (plug C (node p false (fill l s r))) ≤ 1 → own-violation s ≡ 1 → OneViolation (fill l s r)
 violation-parent C p l s r h t o =
     let v = violations-part C (node p false (fill l s r)) in
     let i = violations-inside l (one s) r in
-    let j = own-inside s in
+    let j = own-violation-le s in
     of-shape C (fill l s r) (shape-plug C (node p false (fill l s r)) h) (omega arith) (omega arith)
   where
     of-shape : (C : Context) (f : Forest) → Shape C (node p false f) → violations-in C (node p false f) ≤ 1 → 1 ≤ forest-violations f → OneViolation f
     of-shape top f h t o = record { least = h .0; most = h .1; widths = h .2; single = omega arith }
     of-shape (down D m g i j) f h t o = record { least = few-zero (length (roots f)) (omega arith); most = h .0 .1; widths = h .1; single = omega arith }
-
--- and there are as many of them as its context says
-pub width-fill : (l : Left) (s : Tree) (r : Right) → length (roots (fill l s r)) ≡ width-of l r
-width-fill [] s (rightmost) = refl
-width-fill [] s (followed k f) = omega arith
-width-fill (x ∷ l) s r = omega (arith, width-fill l s r)

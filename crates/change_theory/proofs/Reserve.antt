@@ -2,24 +2,26 @@
 use mathlib.Core.Path.{_≡_, refl, ap, sym, _∙_}
 use mathlib.Core.List.{[], _∷_}
 use mathlib.Core.Bool.{true, false}
-use Prim.Native.Nat.{ℕ, _+_, _≤_}
+use Prim.Native.Nat.{ℕ, _+_}
 use native.Mathlib.Omega.{arith}
 use lib.ListN.{length}
 use Rattle.descent_theory.proofs.Routing.{Untagged}
-use Rattle.descent_theory.proofs.Seek.{width-fill, violations-part, own-violation-le, sound-above}
-use Rattle.tree.proofs.Path.{width-of, full-run, own-violation, reserve, Violation}
+use Rattle.descent_theory.proofs.Seek.{violations-part, sound-above}
+use Rattle.tree.proofs.Path.{width-of, full-run, own-violation, reserve, Violation, width-fill, own-violation-le}
 use Rattle.tree.specs.Tree.{Tree, Forest, roots, leaf, node, one, more}
 use Rattle.tree.proofs.Tree.{Left, Right, join, fill, Context, plug, rightmost, followed, top, down}
-use Rattle.tree.proofs.Violations.{below}
+use Rattle.tree.proofs.Violations.{below, violations-inside}
 use Rattle.tree.specs.Violations.{violations, forest-violations, RootOk, table-violations}
-use Rattle.tree.specs.Reserve.{run-below, reserves, all-reserves}
+use Rattle.tree.specs.Reserve.{reserves, all-reserves}
+use Rattle.laws.proofs.Cases.{impossible}
+use Rattle.card.specs.Layout.{runBelow}
 
 -- without a violation there is no tagged node
 mutual
   pub reserves-none : (run : ℕ) (t : Tree) → violations t ≡ 0 → reserves run t ≡ 0
   reserves-none run (leaf m ks vs) z = refl
   reserves-none run (node m true f) z = absurd (omega arith)
-  reserves-none run (node m false f) z = omega (arith, all-reserves-none (run-below (length (roots f)) run) f (omega arith))
+  reserves-none run (node m false f) z = omega (arith, all-reserves-none (runBelow (length (roots f)) run) f (omega arith))
 
   pub all-reserves-none : (run : ℕ) (f : Forest) → forest-violations f ≡ 0 → all-reserves run f ≡ 0
   all-reserves-none run (one t) z = reserves-none run t z
@@ -29,41 +31,36 @@ all-reserves-join : (run : ℕ) (f : Forest) (k : ℕ) (g : Forest) → all-rese
 all-reserves-join run (one t) k g = refl
 all-reserves-join run (more t x f) k g = omega (arith, all-reserves-join run f k g)
 
-violations-fill : (l : Left) (s : Tree) (r : Right) → violations s ≤ forest-violations (fill l s r)
-violations-fill [] s rightmost = omega arith
-violations-fill [] s (followed k f) = omega arith
-violations-fill (a ∷ l) s r = omega (arith, violations-fill l s r)
-
 -- only the child in the hole has violations
 reserves-fill : (run : ℕ) (l : Left) (s : Tree) (r : Right) → forest-violations (fill l s r) ≡ violations s → all-reserves run (fill l s r) ≡ reserves run s
 reserves-fill run [] s rightmost e = refl
 reserves-fill run [] s (followed k f) e = omega (arith, all-reserves-none run f (omega arith))
 reserves-fill run (a ∷ l) s r e =
-    let q = violations-fill l s r in
+    let q = violations-inside l (one s) r in
     omega (arith, reserves-none run (a .0) (omega arith), reserves-fill run l s r (omega arith))
 
 -- the total, seen at the violation
 pub reserves-plug : (C : Context) (s : Tree) → Untagged C → table-violations (plug C s) ≡ 1 → below C → violations s ≡ 1 → reserves 0 (plug C s) ≡ reserves (full-run C) s
 unfolding full-run
 reserves-plug top s u v b o = absurd b
-reserves-plug (down top m true l r) s u v b o = let e = u .0 in let z : _≡_ {A = ℕ} 0 1 = cc in absurd (omega arith)
+reserves-plug (down top m true l r) s u v b o = let e = u .0 in impossible (cc)
 reserves-plug (down top m false l r) s u v b o =
-    let e = reserves-fill (run-below (width-of l r) 0) l s r (omega arith) in
-    ap (λ (x : ℕ). 0 + all-reserves (run-below x 0) (fill l s r)) (width-fill l s r) ∙ omega arith
-reserves-plug (down (down C m′ g′ l′ r′) m true l r) s u v b o = let e = u .0 in let z : _≡_ {A = ℕ} 0 1 = cc in absurd (omega arith)
+    let e = reserves-fill (runBelow (width-of l r) 0) l s r (omega arith) in
+    ap (λ (x : ℕ). 0 + all-reserves (runBelow x 0) (fill l s r)) (width-fill l s r) ∙ omega arith
+reserves-plug (down (down C m′ g′ l′ r′) m true l r) s u v b o = let e = u .0 in impossible (cc)
 reserves-plug (down (down C m′ g′ l′ r′) m false l r) s u v b o =
     let le = violations-part (down C m′ g′ l′ r′) (node m false (fill l s r)) tt in
-    let ge = violations-fill l s r in
+    let ge = violations-inside l (one s) r in
     let one-here : violations (node m false (fill l s r)) ≡ 1 = omega (arith, v) in
     reserves-plug (down C m′ g′ l′ r′) (node m false (fill l s r)) (u .1) v tt one-here
-    ∙ ap (λ (x : ℕ). 0 + all-reserves (run-below x (full-run (down C m′ g′ l′ r′))) (fill l s r)) (width-fill l s r)
-    ∙ omega (arith, reserves-fill (run-below (width-of l r) (full-run (down C m′ g′ l′ r′))) l s r (omega (arith, one-here)))
+    ∙ ap (λ (x : ℕ). 0 + all-reserves (runBelow x (full-run (down C m′ g′ l′ r′))) (fill l s r)) (width-fill l s r)
+    ∙ omega (arith, reserves-fill (runBelow (width-of l r) (full-run (down C m′ g′ l′ r′))) l s r (omega (arith, one-here)))
 
 -- at the violation itself it is what document 01 asks for
 reserves-own : (C : Context) (s : Tree) → violations s ≡ 1 → own-violation s ≡ 1 → reserves (full-run C) s ≡ reserve C s
 reserves-own C (leaf m ks vs) v o = refl
-reserves-own C (node m true f) v o = omega (arith, all-reserves-none (run-below (length (roots f)) (full-run C)) f (omega arith))
-reserves-own C (node m false f) v o = omega (arith, all-reserves-none (run-below (length (roots f)) (full-run C)) f (omega arith))
+reserves-own C (node m true f) v o = omega (arith, all-reserves-none (runBelow (length (roots f)) (full-run C)) f (omega arith))
+reserves-own C (node m false f) v o = omega (arith, all-reserves-none (runBelow (length (roots f)) (full-run C)) f (omega arith))
 
 -- so the reserve of a table's violation is the same for every key that leads to it
 pub reserve-total : (t : Tree) (key : ℕ) → RootOk t → table-violations t ≡ 1 → (v : Violation t key) → reserve (v .context) (v .part) ≡ reserves 0 t

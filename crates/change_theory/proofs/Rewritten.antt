@@ -4,7 +4,7 @@ use mathlib.Core.List.{List, [], _∷_}
 use mathlib.Core.Bool.{Bool, true, false}
 use Prim.Native.Nat.{ℕ, _+_, _≤_, _<_}
 use native.Mathlib.Omega.{arith}
-use lib.ListN.{length, set, take}
+use lib.ListN.{set, take}
 use Rattle.card.specs.Layout.{lowestKey, keyLimit}
 use Rattle.card.specs.NodeWords.{OnCard}
 use Rattle.card.proofs.Stores.{play, Within, keeps-play, numbered, AllFitCard, Distinct, AllHaveWords, within-node-stores, nodes-written}
@@ -21,10 +21,10 @@ use Rattle.tree.specs.Represent.{Represents, Holds}
 use Rattle.tree.proofs.Represent.{link-place, frame, unplugged}
 use Rattle.tree.specs.Height.{Height}
 use Rattle.tree.proofs.Splice.{range-plug, plug-low, height-plug, pairs-plug}
-use Rattle.tree.specs.Tree.{Tree, Forest, root, roots, node-total, node-totals, leaf, node, one, more}
-use Rattle.tree.proofs.Tree.{Left, Right, fill, Context, plug, total-plug, top, down}
+use Rattle.tree.specs.Tree.{Tree, Forest, root, node-total, node-totals, leaf, node, one, more}
+use Rattle.tree.proofs.Tree.{fill, Context, plug, total-plug, top, down}
 use Rattle.tree.specs.Violations.{few, Widths, AllWidths, RootOk, table-violations}
-use Rattle.tree.proofs.Violations.{widths-splice, size-splice, violations-plug}
+use Rattle.tree.proofs.Violations.{widths-splice, violations-plug, fill-width}
 
 -- what makes a tree sound, apart from the card: strict ranges, each node once, widths, equal depth, at most one violation
 pub record Sound (t : Tree) : Type 0 where
@@ -35,9 +35,6 @@ pub record Sound (t : Tree) : Type 0 where
   pub few-violations : table-violations t ≤ 1
 
 -- widths through a context
-fill-width : (l : Left) (s s′ : Tree) (r : Right) → length (roots (fill l s′ r)) ≡ length (roots (fill l s r))
-fill-width l s s′ r = omega (arith, size-splice l (one s) (one s′) r)
-
 pub shape-plug : (C : Context) (o : Tree) → RootOk (plug C o) → Shape C o × ((s : Tree) → Shape C s → RootOk (plug C s))
 shape-plug top o h = (h, λ s k. k)
 shape-plug (down C m g l r) o h = at C (shape-plug C (node m g (fill l o r)) h)

@@ -246,7 +246,7 @@ repair-next final most w x k (exact, turn) later = at turn
         let r = repair-by-rule (w .card) (v .size) (q .key) (q .planned) in
         let m = memory (v .size) (q .then-free) (q .then-last) (w .state .doing) [] (q .out) in
         mends-by (v .inv .tree) between (r .rule)
-        (change-made final most w x m (q .first) (q .rest) (q .first-made) (r .given) (q .out) (r .in-turn) (r .left) (r .given-last ∙ last-same (w .state .last) (r .given)) refl (cut-marked (q .out) (q .then-free) (r .cut-nodes)))
+        (change-made final most w x m (q .first) (q .rest) (q .first-made) (r .given) (q .out) (r .in-turn) (r .left) (r .given-last ∙ last-same (w .state .last) (r .given)) refl (cut-marked (q .out) (q .then-free)))
         (λ qs u n. let l = all-left final most w x m (q .first) (q .rest) (q .first-made) qs u n in
         later (l .0) (run ration-table qs w) (l .1) (l .2 .nears) (ap (λ (y : Memory). y .rest) (l .2 .is-left) ∙ advanced-none m) (subst Begun (sym (ap (λ (y : Memory). y .doing) (l .2 .is-left) ∙ advanced-same m)) k))
 
@@ -301,7 +301,7 @@ module _ (final : Answer) (most : ℕ) (w : World ration-table) (x : Nears final
           inside o =
               let first : stepOf (w .card) (w .state) ≡ record { answer = Stored; card = set (w .card) (s .0) (s .1); memory = advanced (memory (w .state .nodes) fewer now (f .doing) [] out) rest } = e ∙ ap (stepPrepared (w .card) (w .state) (f .doing) (f .final)) q ∙ rw (lt-ltb (s .0) (length (w .card)) o) in
               let r = rule (s ∷ rest) fewer now out q in
-              changes (r .0 .rule) (change-made final most w x m s rest first (r .0 .given) out (r .0 .in-turn) (r .0 .left) (r .0 .given-last ∙ last-same (w .state .last) (r .0 .given)) refl (cut-marked out fewer (r .0 .cut-nodes)))
+              changes (r .0 .rule) (change-made final most w x m s rest first (r .0 .given) out (r .0 .in-turn) (r .0 .left) (r .0 .given-last ∙ last-same (w .state .last) (r .0 .given)) refl (cut-marked out fewer))
               (λ qs u n. let l = all-left final most w x m s rest first qs u n in
               repairs-by-rules final (suc (l .0)) (l .0) (run ration-table qs w) (omega arith) (l .2 .nears) (ap (λ (y : Memory). y .rest) (l .2 .is-left) ∙ advanced-none m) (subst Begun (sym (ap (λ (y : Memory). y .doing) (l .2 .is-left) ∙ advanced-same m)) (r .1)))
 

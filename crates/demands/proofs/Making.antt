@@ -15,8 +15,7 @@ use Rattle.demands.proofs.SameBook.{worldly, same-world, fed-same}
 use Rattle.demands.specs.RationTable.{ration-table}
 use Rattle.demands.proofs.PowerCuts.{Covered, covered-nodes, refused-insert-same, refused-delete-same}
 use Rattle.demands.proofs.StepRows.{advanced-rest}
-use Rattle.promises.proofs.Feeding.{fed, due-after}
-use Rattle.promises.proofs.Finished.{stored-due}
+use Rattle.promises.proofs.Feeding.{fed, due-after, stored-due}
 use Rattle.promises.proofs.Invariant.{Stage, Table, stage-idle, stage-put, stage-remove, stage-first, stage-between, stage-within}
 use Rattle.promises.proofs.Kept.{first-storable}
 use Rattle.promises.proofs.Ledger.{Hand, feed as was-feed}

@@ -9,7 +9,6 @@ use Prim.Native.Nat.{ℕ, zero, suc, _+_, _-_, _≤_, _<_}
 use native.Mathlib.Omega.{arith}
 use lib.ListN.{length, getD, set, drop}
 use lib.Seq.{getD-drop}
-use borrow.Author.Tests.{ne-eqb}
 use Rattle.card.specs.Stores.{Store}
 use Rattle.free_nodes.specs.NodeSet.{firstTrue, firstFrom, orElse, nextFree}
 use Rattle.free_nodes.specs.declared.Next.{Next}
@@ -104,15 +103,10 @@ unfolding withoutAll
 given-marked [] free = refl
 given-marked (m ∷ ms) free = given-marked ms (set free m false)
 
--- none of these is number 0, which no node has
-abbrev pub AllNodes : List ℕ → Type 0
-AllNodes [] = Unit
-AllNodes (m ∷ ms) = (0 < m) × AllNodes ms
-
-pub cut-marked : (ms : List ℕ) (free : List Bool) → AllNodes ms → withAll ms free ≡ marked true ms free
+pub cut-marked : (ms : List ℕ) (free : List Bool) → withAll ms free ≡ marked true ms free
 unfolding withAll
-cut-marked [] free h = refl
-cut-marked (m ∷ ms) free h = rw (ne-eqb m 0 (λ e. omega (arith, h .0))) (cut-marked ms (set free m true) (h .1))
+cut-marked [] free = refl
+cut-marked (m ∷ ms) free = cut-marked ms (set free m true)
 
 -- ---- a change over the numbers given
 
@@ -123,7 +117,6 @@ pub record ByRule (Rule : List ℕ → List ℕ → List Store → Type 0) (free
   pub in-turn : Given free last given
   pub left : fewer ≡ marked false given free
   pub given-last : now ≡ lastOf last given
-  pub cut-nodes : AllNodes cut
 
 -- what is refused is not planned, and what is balanced neither
 pub not-refused : {ss : List Store} {fewer : List Bool} {now : ℕ} {cut : List ℕ} → refused ≡ prepared ss fewer now cut → ⊥
@@ -148,7 +141,7 @@ three-of P f (a ∷ ms) e = two-of (λ (rest : List ℕ). P (a ∷ rest)) (f a) 
 
 -- the change over these numbers is by the rule
 abbrev pub RightOver : (List ℕ → List ℕ → List Store → Type 0) → (List ℕ → Change) → List ℕ → Type 0
-RightOver Rule change ms = Rule ms (change ms .cut) (changeStores (change ms)) × AllNodes (change ms .cut)
+RightOver Rule change ms = Rule ms (change ms .cut) (changeStores (change ms))
 
 module _ {Rule : List ℕ → List ℕ → List Store → Type 0} {free : List Bool} {last : ℕ} {stores : List Store} {fewer : List Bool} {now : ℕ} {cut : List ℕ} where
   giving-by-rule : (k : ℕ) (change : List ℕ → Change) → giving k free last change ≡ prepared stores fewer now cut
@@ -164,7 +157,7 @@ module _ {Rule : List ℕ → List ℕ → List Store → Type 0} {free : List B
           let l : now ≡ lastOf last ms = cc in
           let c : cut ≡ change ms .cut = cc in
           let r = h ms (numbers-counted k free last ms t) in
-          record { given = ms; rule = rw (c, s) (r .0); in-turn = numbers-by-rule k free last ms t; left = f ∙ given-marked ms free; given-last = l; cut-nodes = rw c (r .1) }
+          record { given = ms; rule = rw (c, s) r; in-turn = numbers-by-rule k free last ms t; left = f ∙ given-marked ms free; given-last = l }
 
   pub giving-one : (change : List ℕ → Change) → giving 1 free last change ≡ prepared stores fewer now cut
       → ((a : ℕ) → RightOver Rule change (a ∷ [])) → ByRule Rule free last stores fewer now cut
@@ -185,4 +178,4 @@ unfolding lastOf
 none-taken {ss} {stores} {cut} r e =
     let s : stores ≡ ss = cc in
     let c : cut ≡ [] = cc in
-    record { given = []; rule = rw (c, s) r; in-turn = none-given; left = (cc); given-last = (cc); cut-nodes = rw c tt }
+    record { given = []; rule = rw (c, s) r; in-turn = none-given; left = (cc); given-last = (cc) }

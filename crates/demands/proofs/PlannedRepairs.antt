@@ -1,7 +1,7 @@
 -- Document 01, "The changes": what the calls plan to repair a fault is by the rules, on any card.
 use mathlib.Core.Path.{_≡_, refl}
 use mathlib.Core.Bool.{Bool, false, _&&_}
-use mathlib.Core.List.{List, [], _∷_}
+use mathlib.Core.List.{List}
 use mathlib.Core.Logic.{_⊎_, inl, inr}
 use Prim.Native.Nat.{ℕ, suc, _-_, _<_}
 use native.Mathlib.Omega.{arith}
@@ -16,13 +16,12 @@ use Rattle.descent.specs.declared.Position.{Position}
 use Rattle.descent.specs.declared.Search.{Search}
 use Rattle.descent.specs.declared.Search.the-variants.{Refused as NoSearch, Balanced as SearchBalanced, Violation as SearchViolation}
 use Rattle.laws.proofs.Cases.{and-true, and-intro}
-use Rattle.plans.proofs.ChangeLaws.{child-positive}
-use Rattle.plans.specs.Change.{changeStores, kindAbove, joinedKeys, joinedChildren, absorb, splitParent}
+use Rattle.plans.specs.Change.{changeStores, kindAbove, joinedKeys, joinedChildren, absorb, splitParent, halves, copied}
 use Rattle.plans.specs.Change.{Together as Both, leavesTogether, innersTogether, half, leftKeys, keyBetween, share, merge, mergeRoot}
 use Rattle.plans.specs.Planning.{prepared}
 use Rattle.siblings.specs.Siblings.{mendTogether, mendSiblings}
 use Rattle.demands.specs.Rules.{Together, two-leaves, two-internal, Underfull, TaggedChild, RepairRule, taken-in, parent-split, shared, merged, merged-root, width}
-use Rattle.demands.proofs.PlannedNumbers.{ByRule, AllNodes, not-refused, not-balanced, giving-one, giving-two, giving-three}
+use Rattle.demands.proofs.PlannedNumbers.{ByRule, not-refused, not-balanced, giving-one, giving-two, giving-three}
 use Rattle.demands.proofs.Standing.{picked, Below, Fault, fault-found}
 
 -- the parent's words
@@ -48,30 +47,27 @@ module _ (c : List ℕ) (free : List Bool) (last : ℕ) (ss : List Store) (fewer
         two = eqb-true (length (children (nodeAt c (p .node)))) 2 q;
       } in
       picked (leb (length (children (parentOf c p))) 10) e₁
-      (λ r e₂. giving-one _ e₂ (λ a. (taken-in a t (leb-true (length (children (parentOf c p))) 10 r), (b .parent-there, (m, tt)))))
-      (λ r e₂. giving-three _ e₂ (λ x y z. (parent-split x y z _ _ t (leb-false (length (children (parentOf c p))) 10 r) refl refl, (b .parent-there, (m, tt))))))
+      (λ r e₂. giving-one _ e₂ (λ a. taken-in a t (leb-true (length (children (parentOf c p))) 10 r)))
+      (λ r e₂. giving-three _ e₂ (λ x y z. parent-split x y z _ _ t (leb-false (length (children (parentOf c p))) 10 r) refl refl)))
       (λ q z. absurd (not-refused z))
 
   -- "Together 4 or more: shared out .. Together 3 or fewer: merged .. if that parent is the root with 2 children .."
   together-mended : (p : Position) (j : ℕ) (both : Both) → 0 < p .parent → Underfull c (p .above) (p .parent) j
       → Together c (getD (children (parentOf c p)) j 0) (getD (routingKeys (parentOf c p)) j 0) (getD (children (parentOf c p)) (suc j) 0) (both .kind) (both .keys) (both .values)
       → mendTogether p (parentOf c p) j both free last ≡ prepared ss fewer now cut → Repairs
-  unfolding mendTogether changeStores share merge mergeRoot half leftKeys keyBetween
+  unfolding mendTogether changeStores share merge mergeRoot halves copied half leftKeys keyBetween
   together-mended p j both m u t e =
       picked (ltb 12 (length (both .values))) e (λ q z. absurd (not-refused z)) (λ q e₁.
       picked (leb 4 (length (both .values))) e₁
-      (λ r e₂. giving-three _ e₂ (λ x y z. (shared x y z _ _ _ u refl refl t (leb-true 4 (length (both .values)) r) refl, nodes))) (λ r e₂.
+      (λ r e₂. giving-three _ e₂ (λ x y z. shared x y z _ _ _ u refl refl t (leb-true 4 (length (both .values)) r) refl)) (λ r e₂.
       let few = leb-false 4 (length (both .values)) r in
       picked (eqb (p .above) rootPlace && eqb (length (children (parentOf c p))) 2) e₂
       (λ s e₃.
       let root = and-true (eqb (p .above) rootPlace) (eqb (length (children (parentOf c p))) 2) s in
       let above = eqb-true (p .above) rootPlace (root .0) in
-      giving-one _ e₃ (λ x. (rw above (merged-root x _ _ (rw above at u) refl refl t (omega arith) (eqb-true (length (children (parentOf c p))) 2 (root .1))), nodes)))
-      (λ s e₃. giving-two _ e₃ (λ x y. (merged x y _ _ u refl refl t (omega arith) (not-that-root s), nodes)))))
+      giving-one _ e₃ (λ x. rw above (merged-root x _ _ (rw above at u) refl refl t (omega arith) (eqb-true (length (children (parentOf c p))) 2 (root .1)))))
+      (λ s e₃. giving-two _ e₃ (λ x y. merged x y _ _ u refl refl t (omega arith) (not-that-root s)))))
     where
-      nodes : AllNodes (p .parent ∷ getD (children (parentOf c p)) j 0 ∷ getD (children (parentOf c p)) (suc j) 0 ∷ [])
-      nodes = let h = u .has-sibling in (m, (child-positive (parentOf c p) j (omega arith), (child-positive (parentOf c p) (suc j) h, tt)))
-
       not-that-root : (eqb (p .above) rootPlace && eqb (length (children (parentOf c p))) 2) ≡ false → (p .above ≡ rootPlace) × (length (children (parentOf c p)) ≡ 2) → ⊥
       not-that-root s h =
           let both-true = and-intro (eq-eqb (p .above) rootPlace (h .0)) (eq-eqb (length (children (parentOf c p))) 2 (h .1)) in

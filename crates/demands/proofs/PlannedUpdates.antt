@@ -82,7 +82,7 @@ module _ (c : List ℕ) (n key : ℕ) (on : nodes-on c ≡ n) {free : List Bool}
       none-taken (in-slot i (leads c n key m link run on l) absent (omega (arith, slot .within, slots-of-eleven (nodeAt c m)), slot .stands, slot .first)) e
   insert-in value m link run l absent NoSlot f e =
       let there = landing-linked c n key m link run l in
-      giving-three _ e (λ x y z. (leaf-split x y z _ (leads c n key m link run on l) absent (no-slot (nodeAt c m) 0 f) (there .0) refl, (there .1, tt)))
+      giving-three _ e (λ x y z. leaf-split x y z _ (leads c n key m link run on l) absent (no-slot (nodeAt c m) 0 f) (there .0) refl)
 
   pub insert-by-rule : (value : ℕ) (begun : Bool) → changeAt c (Inserting key value begun) free last (landing c n key) .preparation ≡ prepared ss fewer now cut
       → ByRule (InsertRule c key value) free last ss fewer now cut

@@ -10,9 +10,9 @@ use lib.ListN.{length, getD, drop, length-take}
 use lib.Dec.{eqb, ltb}
 use lib.Seq.{getD-take, getD-drop}
 use borrow.Author.Tests.{eqb-true, eqb-false, ltb-true, not-true}
-use Rattle.card.specs.Layout.{rootPlace, depthLimit, place, nodeAt, kindOf, keyWords, children, routingKeys, leafPairs}
+use Rattle.card.specs.Layout.{rootPlace, depthLimit, place, nodeAt, kindOf, keyWords, children, routingKeys, leafPairs, runBelow}
 use Rattle.card.proofs.NodeLaws.{children-words}
-use Rattle.descent.specs.Descent.{childIndex, childFor, turnInner, turnOf, turnAt, onTurnLanding, landingFor, runBelow, rootPosition, childPosition, visitOf, visitAt, onVisit, seek}
+use Rattle.descent.specs.Descent.{childIndex, childFor, turnInner, turnOf, turnAt, onTurnLanding, landingFor, rootPosition, childPosition, visitOf, visitAt, onVisit, seek, visitLeaf, visitInner, visitTagged}
 use Rattle.descent.proofs.DescentLaws.{passed-le}
 use Rattle.descent.specs.declared.Position.{Position}
 use Rattle.descent.specs.declared.Landing.{Landing}
@@ -130,7 +130,7 @@ pub record Fault (c : List ℕ) (p : Position) : Type 0 where
 module _ (c : List ℕ) (n key : ℕ) (p : Position) where
   -- what a visit tells of the node
   violated : visitAt c n key p ≡ VisitViolation → (0 < p .node) × (p .parent ≡ 0 → ⊥) × ((kindOf (nodeAt c (p .node)) ≡ 3) ⊎ (width (nodeAt c (p .node)) < 2))
-  unfolding visitAt visitOf
+  unfolding visitAt visitOf visitLeaf visitInner visitTagged
   violated e =
       picked (eqb (p .node) 0) e (λ q z. absurd (none z)) (λ q e₁.
       picked (ltb n (p .node)) e₁ (λ q₁ z. absurd (none z)) (λ q₁ e₂.
@@ -139,14 +139,10 @@ module _ (c : List ℕ) (n key : ℕ) (p : Position) where
       let t = and-true (not (eqb (p .parent) 0)) (ltb (length (leafPairs (nodeAt c (p .node)))) 2) q₃ in
       (there q, other (t .0), inr (rw q₂ (ltb-true (length (leafPairs (nodeAt c (p .node)))) 2 (t .1))))) (λ q₃ z. absurd (balanced z)))
       (λ q₂ e₃.
-      picked (not (eqb (p .parent) 0) && eqb (kindOf (nodeAt c (p .node))) 3) e₃ (λ q₃ z.
-      let t = and-true (not (eqb (p .parent) 0)) (eqb (kindOf (nodeAt c (p .node))) 3) q₃ in
-      (there q, other (t .0), inl (eqb-true (kindOf (nodeAt c (p .node))) 3 (t .1)))) (λ q₃ e₄.
-      picked (eqb (kindOf (nodeAt c (p .node))) 2 || eqb (kindOf (nodeAt c (p .node))) 3) e₄ (λ q₄ e₅.
-      picked (eqb (length (children (nodeAt c (p .node)))) 0) e₅ (λ q₅ z. absurd (none z)) (λ q₅ e₆.
-      picked (not (eqb (p .parent) 0) && ltb (length (children (nodeAt c (p .node)))) 2) e₆ (λ q₆ z.
-      let t = and-true (not (eqb (p .parent) 0)) (ltb (length (children (nodeAt c (p .node)))) 2) q₆ in
-      (there q, other (t .0), inr (rw q₂ (ltb-true (length (children (nodeAt c (p .node)))) 2 (t .1))))) (λ q₆ z. absurd (down z))))
+      picked (eqb (kindOf (nodeAt c (p .node))) 2) e₃ (λ q₃ e₄. inner q q₂ e₄) (λ q₃ e₄.
+      picked (eqb (kindOf (nodeAt c (p .node))) 3) e₄ (λ q₄ e₅.
+      picked (eqb (p .parent) 0) e₅ (λ q₅ e₆. inner q q₂ e₆) (λ q₅ z.
+      (there q, eqb-false (p .parent) 0 q₅, inl (eqb-true (kindOf (nodeAt c (p .node))) 3 q₄))))
       (λ q₄ z. absurd (none z))))))
     where
       none : NoVisit ≡ VisitViolation → ⊥
@@ -164,20 +160,25 @@ module _ (c : List ℕ) (n key : ℕ) (p : Position) where
       other : not (eqb (p .parent) 0) ≡ true → p .parent ≡ 0 → ⊥
       other q = eqb-false (p .parent) 0 (not-true (eqb (p .parent) 0) q)
 
-  gone-down : (q : Position) → visitAt c n key p ≡ VisitDown q → (0 < p .node) × (0 < length (children (nodeAt c (p .node)))) × (q ≡ childPosition c key p)
-  unfolding visitAt visitOf
+      inner : eqb (p .node) 0 ≡ false → eqb (kindOf (nodeAt c (p .node))) 1 ≡ false → visitInner (nodeAt c (p .node)) (eqb (p .parent) 0) (childPosition (nodeAt c (p .node)) key p) ≡ VisitViolation
+          → (0 < p .node) × (p .parent ≡ 0 → ⊥) × ((kindOf (nodeAt c (p .node)) ≡ 3) ⊎ (width (nodeAt c (p .node)) < 2))
+      inner q q₂ e₅ =
+          picked (eqb (length (children (nodeAt c (p .node)))) 0) e₅ (λ q₅ z. absurd (none z)) (λ q₅ e₆.
+          picked (not (eqb (p .parent) 0) && ltb (length (children (nodeAt c (p .node)))) 2) e₆ (λ q₆ z.
+          let t = and-true (not (eqb (p .parent) 0)) (ltb (length (children (nodeAt c (p .node)))) 2) q₆ in
+          (there q, other (t .0), inr (rw q₂ (ltb-true (length (children (nodeAt c (p .node)))) 2 (t .1))))) (λ q₆ z. absurd (down z)))
+
+  gone-down : (q : Position) → visitAt c n key p ≡ VisitDown q → (0 < p .node) × (0 < length (children (nodeAt c (p .node)))) × (q ≡ childPosition (nodeAt c (p .node)) key p)
+  unfolding visitAt visitOf visitLeaf visitInner visitTagged
   gone-down q e =
       picked (eqb (p .node) 0) e (λ h z. absurd (none z)) (λ h e₁.
       picked (ltb n (p .node)) e₁ (λ h₁ z. absurd (none z)) (λ h₁ e₂.
       picked (eqb (kindOf (nodeAt c (p .node))) 1) e₂ (λ h₂ e₃.
       picked (not (eqb (p .parent) 0) && ltb (length (leafPairs (nodeAt c (p .node)))) 2) e₃ (λ h₃ z. absurd (violation z)) (λ h₃ z. absurd (balanced z)))
       (λ h₂ e₃.
-      picked (not (eqb (p .parent) 0) && eqb (kindOf (nodeAt c (p .node))) 3) e₃ (λ h₃ z. absurd (violation z)) (λ h₃ e₄.
-      picked (eqb (kindOf (nodeAt c (p .node))) 2 || eqb (kindOf (nodeAt c (p .node))) 3) e₄ (λ h₄ e₅.
-      picked (eqb (length (children (nodeAt c (p .node)))) 0) e₅ (λ h₅ z. absurd (none z)) (λ h₅ e₆.
-      picked (not (eqb (p .parent) 0) && ltb (length (children (nodeAt c (p .node)))) 2) e₆ (λ h₆ z. absurd (violation z)) (λ h₆ z.
-      (let ne = eqb-false (p .node) 0 h in omega (arith, ne), let ne = eqb-false (length (children (nodeAt c (p .node)))) 0 h₅ in omega (arith, ne), cc))))
-      (λ h₄ z. absurd (none z))))))
+      picked (eqb (kindOf (nodeAt c (p .node))) 2) e₃ (λ h₃ e₄. inner h e₄) (λ h₃ e₄.
+      picked (eqb (kindOf (nodeAt c (p .node))) 3) e₄ (λ h₄ e₅.
+      picked (eqb (p .parent) 0) e₅ (λ h₅ e₆. inner h e₆) (λ h₅ z. absurd (violation z))) (λ h₄ z. absurd (none z))))))
     where
       none : NoVisit ≡ VisitDown q → ⊥
       none z = let o : _≡_ {A = ℕ} 0 1 = cc in omega arith
@@ -188,8 +189,15 @@ module _ (c : List ℕ) (n key : ℕ) (p : Position) where
       violation : VisitViolation ≡ VisitDown q → ⊥
       violation z = let o : _≡_ {A = ℕ} 0 1 = cc in omega arith
 
+      inner : eqb (p .node) 0 ≡ false → visitInner (nodeAt c (p .node)) (eqb (p .parent) 0) (childPosition (nodeAt c (p .node)) key p) ≡ VisitDown q
+          → (0 < p .node) × (0 < length (children (nodeAt c (p .node)))) × (q ≡ childPosition (nodeAt c (p .node)) key p)
+      inner h e₅ =
+          picked (eqb (length (children (nodeAt c (p .node)))) 0) e₅ (λ h₅ z. absurd (none z)) (λ h₅ e₆.
+          picked (not (eqb (p .parent) 0) && ltb (length (children (nodeAt c (p .node)))) 2) e₆ (λ h₆ z. absurd (violation z)) (λ h₆ z.
+          (let ne = eqb-false (p .node) 0 h in omega (arith, ne), let ne = eqb-false (length (children (nodeAt c (p .node)))) 0 h₅ in omega (arith, ne), cc)))
+
 -- the child that a key takes stands below a node that stands
-child-stands : (c : List ℕ) (key : ℕ) (p : Position) → LinkedAt c (p .link) (p .node) → 0 < p .node → 0 < length (children (nodeAt c (p .node))) → Stands c (childPosition c key p)
+child-stands : (c : List ℕ) (key : ℕ) (p : Position) → LinkedAt c (p .link) (p .node) → 0 < p .node → 0 < length (children (nodeAt c (p .node))) → Stands c (childPosition (nodeAt c (p .node)) key p)
 unfolding childPosition
 child-stands c key p l m h = (
   child-on-way c key (p .link) (p .node) l h,

@@ -6,9 +6,9 @@ use mathlib.Core.Option.{Option, none, some}
 use Prim.Native.Nat.{ℕ, zero, suc, _+_, _-_}
 use lib.ListN.{length}
 use lib.Dec.{eqb, ltb}
-use Rattle.card.specs.Layout.{depthLimit, place, nodeAt, kindOf, children}
+use Rattle.card.specs.Layout.{depthLimit, place, nodeAt, kindOf, children, runBelow}
 use Rattle.demands.specs.Refusals.{nodes-on, is-internal, run-above, way, among}
-use Rattle.descent.specs.Descent.{childIndex, childFor, firstEqual, turnInner, turnOf, turnAt, onTurn, leafFor, runBelow, onTurnLanding, landingFor}
+use Rattle.descent.specs.Descent.{childIndex, childFor, firstEqual, turnInner, turnOf, turnAt, onTurn, leafFor, onTurnLanding, landingFor}
 use Rattle.descent.specs.declared.Landing.{Landing}
 use Rattle.descent.specs.declared.Landing.the-variants.{Refused as NoLanding, Leaf as LandingAt}
 use Rattle.descent.specs.declared.Slot.{Slot}

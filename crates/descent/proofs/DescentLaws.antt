@@ -2,7 +2,7 @@
 -- node makes of a key.
 use mathlib.Core.Path.{_≡_, refl, ap, ap₂, sym, _∙_}
 use mathlib.Core.List.{List, [], _∷_}
-use mathlib.Core.Bool.{Bool, true, false, _&&_, _||_, not}
+use mathlib.Core.Bool.{Bool, true, false, _||_, not}
 use mathlib.Core.Logic.{_⊎_, inl, inr}
 use Prim.Native.Nat.{ℕ, zero, suc, _+_, _-_, _*_, _≤_, _<_}
 use native.Mathlib.Omega.{arith}
@@ -11,11 +11,11 @@ use lib.ListN.{length, getD, drop, drop-of-length-le}
 use lib.Seq.{drop-cons, getD-take}
 use lib.Dec.{ltb, eqb}
 use borrow.Author.Tests.{lt-ltb, le-ltb, ne-eqb, eq-eqb}
-use Rattle.card.specs.Layout.{place, nodeAt, kindOf, keyWords, valueWords, children, routingKeys, leafPairs, depthLimit}
+use Rattle.card.specs.Layout.{place, nodeAt, kindOf, keyWords, valueWords, children, routingKeys, leafPairs, depthLimit, runBelow}
 use Rattle.card.proofs.NodeLaws.{length-keyWords, get-keyWord, get-valueWord, children-le, length-routing}
-use Rattle.descent.specs.Descent.{passed, childIndex, childFor, firstEqual, slotOf, turnInner, turnOf, turnAt, onTurn, leafFor, runBelow, onTurnLanding, landingFor, childPosition, visitOf, visitAt, onVisit, seek}
+use Rattle.descent.specs.Descent.{passed, childIndex, childFor, firstEqual, slotOf, turnInner, turnOf, turnAt, onTurn, leafFor, onTurnLanding, landingFor, childPosition, visitOf, visitAt, onVisit, seek, visitLeaf, visitInner, visitTagged}
 use Rattle.laws.specs.Cases.{pick}
-use Rattle.laws.proofs.Cases.{order}
+use Rattle.laws.proofs.Cases.{order, impossible}
 use Rattle.laws.specs.Lists.{before-zero}
 use Rattle.descent.specs.declared.Slot.{Slot}
 use Rattle.descent.specs.declared.Slot.the-variants.{At, Absent}
@@ -54,7 +54,7 @@ module _ (node : List ℕ) (len : length node ≡ 24) (key i : ℕ) where
 -- a slot that is found is one of the eleven
 first-below : (ws : List ℕ) (key j i : ℕ) → firstEqual ws key j ≡ At i → i < j + length ws
 unfolding firstEqual
-first-below [] key j i e = let z : _≡_ {A = ℕ} 0 1 = cc in absurd (omega arith)
+first-below [] key j i e = impossible (cc)
 first-below (w ∷ ws) key j i e = go (eqb w key) (λ q. first-below ws key (suc j) i q) e
   where
     go : (b : Bool) → (firstEqual ws key (suc j) ≡ At i → i < suc j + length ws) → pick b (At j) (firstEqual ws key (suc j)) ≡ At i → i < j + suc (length ws)
@@ -218,11 +218,11 @@ module _ (card : List ℕ) (n key m : ℕ) where
 -- ---- where an update lands
 
 no-turn-down : (child : ℕ) → NoTurn ≡ TurnDown child → ⊥
-no-turn-down child e = let z : _≡_ {A = ℕ} 0 1 = cc in absurd (omega arith)
+no-turn-down child e = impossible (cc)
 
 -- whatever its kind, a node without children leads nowhere
 childless-stays : (leaf inner : Bool) (child : ℕ) → pick leaf TurnLeaf (pick inner NoTurn NoTurn) ≡ TurnDown child → ⊥
-childless-stays true inner child e = let z : _≡_ {A = ℕ} 0 1 = cc in absurd (omega arith)
+childless-stays true inner child e = impossible (cc)
 childless-stays false true child e = no-turn-down child e
 childless-stays false false child e = no-turn-down child e
 
@@ -238,23 +238,6 @@ turn-inside card n key m child e =
     order m 1 (λ o. absurd (no-turn-down child (sym (turn-zero card n key m (omega arith)) ∙ e)))
     (λ from. order n m (λ o. absurd (no-turn-down child (sym (turn-beyond card n key m o) ∙ e)))
     (λ to. (from, to, down-first-child (nodeAt card m) key child (sym (turn-node card n key m (λ z. omega arith) to) ∙ e))))
-
--- the run of 11-child nodes grows by a node of eleven children, and any other breaks it
-pub run-on : (c run : ℕ) → c ≡ 11 → runBelow c run ≡ run + 1
-unfolding runBelow
-run-on c run e = rw (eq-eqb c 11 e) (omega arith)
-
-pub run-broken : (c run : ℕ) → (c ≡ 11 → ⊥) → runBelow c run ≡ 0
-unfolding runBelow
-run-broken c run p = rw (ne-eqb c 11 p)
-
-pub run-below-le : (c run : ℕ) → runBelow c run ≤ run + 1
-unfolding runBelow
-run-below-le c run = go (eqb c 11)
-  where
-    go : (b : Bool) → pick b (suc run) 0 ≤ run + 1
-    go true = omega arith
-    go false = omega arith
 
 module _ (card : List ℕ) (n key link run m : ℕ) where
   pub landing-refused : (levels : ℕ) → turnAt card n key m ≡ NoTurn → landingFor card n key levels link run m ≡ NoLanding
@@ -293,58 +276,58 @@ module _ (card : List ℕ) (n key : ℕ) (p : Position) where
   unfolding visitAt
   visit-beyond l = simp (ne-eqb (p .node) 0 (λ e. omega arith), lt-ltb n (p .node) l)
 
-  pub visit-node : (b : Bool) → (p .node ≡ 0 → ⊥) → p .node ≤ n → eqb (p .parent) 0 ≡ b → visitAt card n key p ≡ visitOf card key p b
+  pub visit-node : (b : Bool) → (p .node ≡ 0 → ⊥) → p .node ≤ n → eqb (p .parent) 0 ≡ b
+      → visitAt card n key p ≡ visitOf (nodeAt card (p .node)) b (childPosition (nodeAt card (p .node)) key p)
   unfolding visitAt
   visit-node b q l e = simp (ne-eqb (p .node) 0 q, le-ltb n (p .node) l, e)
 
-module _ (card : List ℕ) (key : ℕ) (p : Position) where
-  pub visit-root-leaf : kindOf (nodeAt card (p .node)) ≡ 1 → visitOf card key p true ≡ VisitBalanced
-  unfolding visitOf
+module _ (node : List ℕ) (next : Position) where
+  pub visit-root-leaf : kindOf node ≡ 1 → visitOf node true next ≡ VisitBalanced
+  unfolding visitOf visitLeaf
   visit-root-leaf e = simp (eq-eqb _ _ e)
 
-  pub visit-few : kindOf (nodeAt card (p .node)) ≡ 1 → length (leafPairs (nodeAt card (p .node))) < 2 → visitOf card key p false ≡ VisitViolation
-  unfolding visitOf
+  pub visit-few : kindOf node ≡ 1 → length (leafPairs node) < 2 → visitOf node false next ≡ VisitViolation
+  unfolding visitOf visitLeaf
   visit-few e l = simp (eq-eqb _ _ e, lt-ltb _ _ l)
 
-  pub visit-leaf : kindOf (nodeAt card (p .node)) ≡ 1 → 2 ≤ length (leafPairs (nodeAt card (p .node))) → visitOf card key p false ≡ VisitBalanced
-  unfolding visitOf
+  pub visit-leaf : kindOf node ≡ 1 → 2 ≤ length (leafPairs node) → visitOf node false next ≡ VisitBalanced
+  unfolding visitOf visitLeaf
   visit-leaf e l = simp (eq-eqb _ _ e, le-ltb _ _ l)
 
-  pub visit-tagged : kindOf (nodeAt card (p .node)) ≡ 3 → visitOf card key p false ≡ VisitViolation
-  unfolding visitOf
-  visit-tagged e = simp (ne-eqb (kindOf (nodeAt card (p .node))) 1 (λ q. omega arith), eq-eqb _ _ e)
+  pub visit-tagged : kindOf node ≡ 3 → visitOf node false next ≡ VisitViolation
+  unfolding visitOf visitTagged
+  visit-tagged e = simp (e)
 
-  pub visit-unknown : (b : Bool) → (kindOf (nodeAt card (p .node)) ≡ 1 → ⊥) → (kindOf (nodeAt card (p .node)) ≡ 2 → ⊥) → (kindOf (nodeAt card (p .node)) ≡ 3 → ⊥) → visitOf card key p b ≡ NoVisit
+  pub visit-unknown : (b : Bool) → (kindOf node ≡ 1 → ⊥) → (kindOf node ≡ 2 → ⊥) → (kindOf node ≡ 3 → ⊥) → visitOf node b next ≡ NoVisit
   unfolding visitOf
-  visit-unknown true q r s = simp (ne-eqb _ _ q, ne-eqb _ _ r, ne-eqb _ _ s)
-  visit-unknown false q r s = simp (ne-eqb _ _ q, ne-eqb _ _ r, ne-eqb _ _ s)
+  visit-unknown b q r s = simp (ne-eqb _ _ q, ne-eqb _ _ r, ne-eqb _ _ s)
 
--- a position whose node is no violation by its tag: not tagged, or the root
+-- a node that is no violation by its tag: not tagged, or the root
 abbrev pub Passable : List ℕ → Bool → Type 0
 Passable node isRoot = (kindOf node ≡ 2) ⊎ ((kindOf node ≡ 3) × (isRoot ≡ true))
 
-module _ (card : List ℕ) (key : ℕ) (p : Position) where
-  passable : (b : Bool) → Passable (nodeAt card (p .node)) b → visitOf card key p b ≡ pick (eqb (length (children (nodeAt card (p .node)))) 0) NoVisit (pick (not b && ltb (length (children (nodeAt card (p .node)))) 2) VisitViolation (VisitDown (childPosition card key p)))
-  unfolding visitOf
-  passable true (inl e) = simp (ne-eqb (kindOf (nodeAt card (p .node))) 1 (λ q. omega arith), eq-eqb _ _ e)
-  passable false (inl e) = simp (ne-eqb (kindOf (nodeAt card (p .node))) 1 (λ q. omega arith), ne-eqb (kindOf (nodeAt card (p .node))) 3 (λ q. omega arith), eq-eqb _ _ e)
-  passable true (inr e) = simp (ne-eqb (kindOf (nodeAt card (p .node))) 1 (λ q. omega (arith, e .0)), ne-eqb (kindOf (nodeAt card (p .node))) 2 (λ q. omega (arith, e .0)), eq-eqb _ _ (e .0))
-  passable false (inr e) = let r = e .1 in let z : _≡_ {A = ℕ} 0 1 = cc in absurd (omega arith)
+module _ (node : List ℕ) (next : Position) where
+  passable : (b : Bool) → Passable node b → visitOf node b next ≡ visitInner node b next
+  unfolding visitOf visitTagged
+  passable b (inl e) = simp (e)
+  passable b (inr e) = simp (e .0, e .1)
 
-  pub visit-childless : (b : Bool) → Passable (nodeAt card (p .node)) b → length (children (nodeAt card (p .node))) ≡ 0 → visitOf card key p b ≡ NoVisit
-  visit-childless b k e = passable b k ∙ simp (eq-eqb (length (children (nodeAt card (p .node)))) 0 e)
+  pub visit-childless : (b : Bool) → Passable node b → length (children node) ≡ 0 → visitOf node b next ≡ NoVisit
+  unfolding visitInner
+  visit-childless b k e = passable b k ∙ simp (e)
 
-  pub visit-one-child : (b : Bool) → Passable (nodeAt card (p .node)) b → b ≡ false → length (children (nodeAt card (p .node))) ≡ 1 → visitOf card key p b ≡ VisitViolation
-  visit-one-child true k r e = let z : _≡_ {A = ℕ} 0 1 = cc in absurd (omega arith)
-  visit-one-child false k r e = passable false k ∙ simp (ne-eqb (length (children (nodeAt card (p .node)))) 0 (λ q. omega arith), lt-ltb (length (children (nodeAt card (p .node)))) 2 (omega arith))
+  pub visit-one-child : (b : Bool) → Passable node b → b ≡ false → length (children node) ≡ 1 → visitOf node b next ≡ VisitViolation
+  unfolding visitInner
+  visit-one-child b k r e = passable b k ∙ simp (r, e)
 
-  pub visit-down : (b : Bool) → Passable (nodeAt card (p .node)) b → 0 < length (children (nodeAt card (p .node))) → (b ≡ false → 2 ≤ length (children (nodeAt card (p .node)))) → visitOf card key p b ≡ VisitDown (childPosition card key p)
-  visit-down true k h g = passable true k ∙ simp (ne-eqb (length (children (nodeAt card (p .node)))) 0 (λ q. omega arith))
-  visit-down false k h g = passable false k ∙ simp (ne-eqb (length (children (nodeAt card (p .node)))) 0 (λ q. omega arith), le-ltb (length (children (nodeAt card (p .node)))) 2 (g refl))
+  pub visit-down : (b : Bool) → Passable node b → 0 < length (children node) → (b ≡ false → 2 ≤ length (children node)) → visitOf node b next ≡ VisitDown next
+  unfolding visitInner
+  visit-down true k h g = passable true k ∙ simp (ne-eqb (length (children node)) 0 (λ q. omega arith))
+  visit-down false k h g = passable false k ∙ simp (ne-eqb (length (children node)) 0 (λ q. omega arith), le-ltb (length (children node)) 2 (g refl))
 
 -- the child's position, as the code makes it
 pub child-position : (card : List ℕ) (key : ℕ) (p : Position) (node : List ℕ) (i : ℕ) → node ≡ nodeAt card (p .node) → i ≡ childIndex node key
-    → childPosition card key p ≡ record { node = getD node (12 + i) 0; link = 8 + 24 * (p .node - 1) + 12 + i; parent = p .node; index = i; above = p .link }
+    → childPosition (nodeAt card (p .node)) key p ≡ record { node = getD node (12 + i) 0; link = 8 + 24 * (p .node - 1) + 12 + i; parent = p .node; index = i; above = p .link }
 unfolding childPosition childFor
 child-position card key p node i e f =
     rw (f, e)
@@ -353,8 +336,8 @@ child-position card key p node i e f =
 
 -- what a test by `!` tells of the flag
 pub not-both : (b : Bool) → not b ≡ false → b ≡ false → ⊥
-not-both true e f = let z : _≡_ {A = ℕ} 0 1 = cc in absurd (omega arith)
-not-both false e f = let z : _≡_ {A = ℕ} 0 1 = cc in absurd (omega arith)
+not-both true e f = impossible (cc)
+not-both false e f = impossible (cc)
 
 -- ---- the search for a violation
 

@@ -5,7 +5,7 @@ use Prim.Native.Nat.{ℕ, zero, suc, _+_, _-_}
 use lib.ListN.{length, getD}
 use lib.Dec.{eqb, ltb}
 use Rattle.laws.specs.Cases.{pick}
-use Rattle.card.specs.Layout.{rootPlace, depthLimit, place, nodeAt, kindOf, keyWords, children, routingKeys, leafPairs}
+use Rattle.card.specs.Layout.{rootPlace, depthLimit, place, nodeAt, kindOf, keyWords, children, routingKeys, leafPairs, runBelow}
 use Rattle.descent.specs.declared.Slot.{Slot}
 use Rattle.descent.specs.declared.Slot.the-variants.{At, Absent}
 use Rattle.descent.specs.declared.Turn.{Turn}
@@ -63,9 +63,6 @@ leafFor card n key (suc levels) m = onTurn m (depthLimit - suc levels) (leafFor 
 
 -- Where an update's key leads: the leaf, the word that links to it, and how many 11-child nodes stand without a break straight
 -- above it (document 01: "Let j be the number of 11-child nodes without a break straight above a full leaf").
-unfoldable pub runBelow : ℕ → ℕ → ℕ
-runBelow c run = pick (eqb c 11) (suc run) 0
-
 unfoldable pub onTurnLanding : ℕ → ℕ → ℕ → (ℕ → Landing) → Turn → Landing
 onTurnLanding m link run next NoTurn = NoLanding
 onTurnLanding m link run next TurnLeaf = LandingAt m link run
@@ -80,27 +77,32 @@ landingFor card n key (suc levels) link run m =
 unfoldable pub rootPosition : ℕ → Position
 rootPosition root = record { node = root; link = rootPlace; parent = 0; index = 0; above = 0 }
 
--- the child that a key takes from a node at a position
+-- the child that a key takes from the words of the node at a position
 unfoldable pub childPosition : List ℕ → ℕ → Position → Position
-childPosition card key p =
-    record {
-      node = childFor (nodeAt card (p .node)) key;
-      link = place (p .node) (12 + childIndex (nodeAt card (p .node)) key);
-      parent = p .node;
-      index = childIndex (nodeAt card (p .node)) key;
-      above = p .link;
-    }
+childPosition node key p =
+    record { node = childFor node key; link = place (p .node) (12 + childIndex node key); parent = p .node; index = childIndex node key; above = p .link }
 
--- A fault is "a tagged node, or a non-root node with fewer than 2 pairs or children": the first on a key's way.
-unfoldable pub visitOf : List ℕ → ℕ → Position → Bool → Visit
-visitOf card key p isRoot =
-    pick (eqb (kindOf (nodeAt card (p .node))) 1) (pick (not isRoot && ltb (length (leafPairs (nodeAt card (p .node)))) 2) VisitViolation VisitBalanced)
-    (pick (not isRoot && eqb (kindOf (nodeAt card (p .node))) 3) VisitViolation
-    (pick (eqb (kindOf (nodeAt card (p .node))) 2 || eqb (kindOf (nodeAt card (p .node))) 3)
-    (pick (eqb (length (children (nodeAt card (p .node)))) 0) NoVisit (pick (not isRoot && ltb (length (children (nodeAt card (p .node)))) 2) VisitViolation (VisitDown (childPosition card key p)))) NoVisit))
+-- A fault is "a tagged node, or a non-root node with fewer than 2 pairs or children". What the words of a node make of the
+-- search for the first one on a key's way, by the node's kind; `next` is the child that the key takes.
+unfoldable pub visitLeaf : List ℕ → Bool → Visit
+visitLeaf node isRoot = pick (not isRoot && ltb (length (leafPairs node)) 2) VisitViolation VisitBalanced
+
+unfoldable pub visitInner : List ℕ → Bool → Position → Visit
+visitInner node isRoot next = pick (eqb (length (children node)) 0) NoVisit (pick (not isRoot && ltb (length (children node)) 2) VisitViolation (VisitDown next))
+
+unfoldable pub visitTagged : List ℕ → Bool → Position → Visit
+visitTagged node isRoot next = pick isRoot (visitInner node isRoot next) VisitViolation
+
+-- "9: node number 0 or above N, kind not 1 to 3 .."
+unfoldable pub visitOf : List ℕ → Bool → Position → Visit
+visitOf node isRoot next =
+    pick (eqb (kindOf node) 1) (visitLeaf node isRoot)
+    (pick (eqb (kindOf node) 2) (visitInner node isRoot next) (pick (eqb (kindOf node) 3) (visitTagged node isRoot next) NoVisit))
 
 unfoldable pub visitAt : List ℕ → ℕ → ℕ → Position → Visit
-visitAt card n key p = pick (eqb (p .node) 0) NoVisit (pick (ltb n (p .node)) NoVisit (visitOf card key p (eqb (p .parent) 0)))
+visitAt card n key p =
+    pick (eqb (p .node) 0) NoVisit
+    (pick (ltb n (p .node)) NoVisit (visitOf (nodeAt card (p .node)) (eqb (p .parent) 0) (childPosition (nodeAt card (p .node)) key p)))
 
 unfoldable pub onVisit : Position → (Position → Search) → Visit → Search
 onVisit p next NoVisit = NoSearch

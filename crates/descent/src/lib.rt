@@ -2,8 +2,8 @@
 ghost use mathlib.Core.Path.{_≡_};
 ghost use Prim.Native.Nat.{_+_, _*_, _≤_};
 ghost use lib.ListN.{length, getD};
-ghost use Rattle.card.specs.Layout.{greatestNodes, depthLimit, rootPlace, children};
-ghost use Rattle.descent.specs.Descent.{childIndex, slotOf, turnAt, leafFor, runBelow, landingFor, visitAt, rootPosition, seek};
+ghost use Rattle.card.specs.Layout.{greatestNodes, depthLimit, rootPlace, children, runBelow};
+ghost use Rattle.descent.specs.Descent.{childIndex, slotOf, turnAt, leafFor, landingFor, visitAt, rootPosition, seek};
 
 // The slot of a key in a leaf.
 pub enum Slot {

@@ -6,15 +6,14 @@ use mathlib.Core.Bool.{Bool}
 use Prim.Native.Nat.{ℕ, suc, _+_, _-_, _*_, _≤_, _<_}
 use native.Mathlib.Omega.{arith}
 use lib.ListN.{length, getD}
-use Rattle.card.specs.Layout.{rootPlace, depthLimit, place, nodeAt}
-use Rattle.descent.specs.Descent.{slotOf, runBelow, landingFor}
+use Rattle.card.specs.Layout.{rootPlace, depthLimit, place, nodeAt, runBelow}
+use Rattle.descent.specs.Descent.{slotOf, landingFor}
 use Rattle.descent.proofs.DescentLaws.{landing-leaf, landing-down}
 use Rattle.descent_theory.proofs.Find.{slotAnswer, turn-at-leaf, turn-at-node, find-map}
 use Rattle.descent_theory.proofs.Routing.{Leads, child-fill, passed-fill, index-on-card, children-on-card}
-use Rattle.descent_theory.proofs.Seek.{width-fill}
 use Rattle.tree.specs.Pairs.{pairs, lookup}
 use Rattle.tree.proofs.Pairs.{InRange, depth}
-use Rattle.tree.proofs.Path.{Past, Short, depth-of, width-of, full-run}
+use Rattle.tree.proofs.Path.{Past, Short, depth-of, width-of, full-run, width-fill}
 use Rattle.tree.specs.Represent.{Represents, Holds}
 use Rattle.tree.proofs.Represent.{roots-left, link-place, unplugged}
 use Rattle.tree.proofs.Splice.{length-roots-left}
@@ -38,7 +37,7 @@ module _ (c : List ℕ) (n key : ℕ) (len : length c ≡ 8 + 24 * n) where
 
   -- The way goes down to every part that the key leads to, and brings its link and the run above it.
   pub landing-path : (levels : ℕ) (C : Context) (s : Tree) → Holds c (plug C s) → Leads key C → landingFor c n key (depth-of C + levels) rootPlace 0 (getD c rootPlace 0) ≡ landingFor c n key levels (link-place C) (full-run C) (root s)
-  unfolding full-run runBelow
+  unfolding full-run
   landing-path levels top s w p = ap₂ (λ (x y : ℕ). landingFor c n key x rootPlace 0 y) (let z : 0 + levels ≡ levels = omega arith in z) (w .0)
   landing-path levels (down C m g l r) s w p =
       let u = unplugged c C (node m g (fill l s r)) w in

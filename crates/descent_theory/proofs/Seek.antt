@@ -9,21 +9,22 @@ use native.Mathlib.Omega.{arith}
 use lib.ListN.{length, getD}
 use lib.Dec.{eqb}
 use borrow.Author.Tests.{lt-ltb, le-ltb, ne-eqb}
-use Rattle.card.specs.Layout.{place, slot-pairs}
+use Rattle.card.specs.Layout.{place, slot-pairs, nodeAt}
 use Rattle.descent.specs.Descent.{passed, rootPosition, childPosition, visitOf, visitAt, seek}
 use Rattle.descent.proofs.DescentLaws.{visit-node, visit-root-leaf, visit-few, visit-leaf, visit-tagged, visit-one-child, visit-down, search-balanced, search-violation, search-down}
 use Rattle.descent_theory.proofs.Routing.{Untagged, child-fill, passed-fill, index-on-card, child-on-card, children-on-card, some-children, number-on-card}
-use Rattle.laws.proofs.Cases.{order}
+use Rattle.laws.proofs.Cases.{order, impossible}
+use Rattle.laws.specs.Bits.{bit}
 use Rattle.tree.proofs.Pairs.{child, depth, depths, child-represents, child-depth, routing-roots}
-use Rattle.tree.proofs.Path.{Past, Short, OnPath, depth-of, width-of, own-violation, Violation}
+use Rattle.tree.proofs.Path.{Past, Short, OnPath, depth-of, width-of, own-violation, Violation, width-fill, own-violation-le}
 use Rattle.tree.proofs.Reading.{read-kind, leaf-pairs}
 use Rattle.tree.specs.Represent.{Represents, Holds}
 use Rattle.tree.proofs.Represent.{roots-left, RepresentsContext, link-place, unplugged}
 use Rattle.tree.proofs.Splice.{length-roots-left}
 use Rattle.tree.specs.Tree.{Tree, Forest, root, roots, routing, leaf, node, one, more}
 use Rattle.tree.proofs.Tree.{Left, Right, fill, Context, plug, rightmost, followed, top, down}
-use Rattle.tree.proofs.Violations.{few-below, below, few-zero}
-use Rattle.tree.specs.Violations.{tag, violations, forest-violations, RootOk, table-violations}
+use Rattle.tree.proofs.Violations.{few-below, below, few-zero, violations-inside}
+use Rattle.tree.specs.Violations.{violations, forest-violations, RootOk, table-violations}
 use Rattle.descent.specs.declared.Position.{Position}
 use Rattle.descent.specs.declared.Visit.the-variants.{Violation as VisitViolation}
 use Rattle.descent.specs.declared.Search.the-variants.{Balanced as SearchBalanced, Violation as SearchViolation}
@@ -45,31 +46,17 @@ WideAbove (down C m g l r) = (below C → 2 ≤ width-of l r) × WideAbove C
 
 -- ---- facts of the tree
 
-pub width-fill : (l : Left) (s : Tree) (r : Right) → length (roots (fill l s r)) ≡ width-of l r
-width-fill [] s rightmost = refl
-width-fill [] s (followed x f) = omega arith
-width-fill (a ∷ l) s r = omega (arith, width-fill l s r)
-
 pub child-violations : (key : ℕ) (f : Forest) → violations (child key f) ≤ forest-violations f
 child-violations key (one t) = omega arith
 child-violations key (more t x f) = order key x (λ o. rw (lt-ltb key x o) (omega arith)) (λ o. rw (le-ltb key x o) (omega (arith, child-violations key f)))
 
-violations-fill : (l : Left) (s : Tree) (r : Right) → violations s ≤ forest-violations (fill l s r)
-violations-fill [] s rightmost = omega arith
-violations-fill [] s (followed x f) = omega arith
-violations-fill (a ∷ l) s r = omega (arith, violations-fill l s r)
-
 -- the violations of a part are violations of the table
 pub violations-part : (C : Context) (s : Tree) → below C → violations s ≤ table-violations (plug C s)
 violations-part top s b = absurd b
-violations-part (down top m g l r) s b = violations-fill l s r
-violations-part (down (down C m′ g′ l′ r′) m g l r) s b = omega (arith, violations-part (down C m′ g′ l′ r′) (node m g (fill l s r)) tt, violations-fill l s r)
+violations-part (down top m g l r) s b = violations-inside l (one s) r
+violations-part (down (down C m′ g′ l′ r′) m g l r) s b = omega (arith, violations-part (down C m′ g′ l′ r′) (node m g (fill l s r)) tt, violations-inside l (one s) r)
 
-pub own-violation-le : (s : Tree) → own-violation s ≤ violations s
-own-violation-le (leaf m ks vs) = omega arith
-own-violation-le (node m g f) = omega arith
-
-untagged : (g : Bool) → tag g ≡ 0 → g ≡ false
+untagged : (g : Bool) → bit g ≡ 0 → g ≡ false
 untagged false e = refl
 untagged true e = absurd (omega arith)
 
@@ -80,7 +67,7 @@ sound-above (down top m true l r) s ok most has = absurd ok
 sound-above (down top m false l r) s ok most has = ((refl, tt), ((λ b. absurd b), tt))
 sound-above (down (down C m′ g′ l′ r′) m g l r) s ok most has =
     let part : Tree = node m g (fill l s r) in
-    let inner = violations-fill l s r in
+    let inner = violations-inside l (one s) r in
     let outer = violations-part (down C m′ g′ l′ r′) part tt in
     let q = sound-above (down C m′ g′ l′ r′) part ok most (omega arith) in
     ((untagged g (omega arith), q .0), ((λ b. omega (arith, few-zero (length (roots (fill l s r))) (omega arith), width-fill l s r)), q .1))
@@ -99,7 +86,7 @@ depth-plug (down C m g l r) s = omega (arith, depth-plug C (node m g (fill l s r
 module _ (c : List ℕ) (n key : ℕ) (len : length c ≡ 8 + 24 * n) where
   -- the visit of a node of the tree
   visit-part : (s : Tree) → Represents c s → (link parent index above : ℕ) (b : Bool) → eqb parent 0 ≡ b
-      → visitAt c n key (position (root s) link parent index above) ≡ visitOf c key (position (root s) link parent index above) b
+      → visitAt c n key (position (root s) link parent index above) ≡ visitOf (nodeAt c (root s)) b (childPosition (nodeAt c (root s)) key (position (root s) link parent index above))
   visit-part s r link parent index above b e =
       let on = number-on-card c n s len r in
       visit-node c n key (position (root s) link parent index above) b (λ q. omega (arith, on .0)) (on .1) e
@@ -111,11 +98,11 @@ module _ (c : List ℕ) (n key : ℕ) (len : length c ≡ 8 + 24 * n) where
   search-child levels m f r link parent index above wide =
       let p : Position = position m link parent index above in
       let all = children-on-card c key m false f r in
-      search-down c n key p (suc levels) (childPosition c key p)
+      search-down c n key p (suc levels) (childPosition (nodeAt c m) key p)
       (visit-part (node m false f) r link parent index above (eqb parent 0) refl
-      ∙ visit-down c key p (eqb parent 0) (inl (read-kind c m _ _ _ (r .0))) (some-children c key m false f r) (λ e. omega (arith, wide e)))
+      ∙ visit-down (nodeAt c m) (childPosition (nodeAt c m) key p) (eqb parent 0) (inl (read-kind c m _ _ _ (r .0))) (some-children c key m false f r) (λ e. omega (arith, wide e)))
       (λ e. omega arith)
-      ∙ ap (λ (x : ℕ). seek c n key x (childPosition c key p)) (let z : suc levels - 1 ≡ levels = omega arith in z)
+      ∙ ap (λ (x : ℕ). seek c n key x (childPosition (nodeAt c m) key p)) (let z : suc levels - 1 ≡ levels = omega arith in z)
       ∙ ap₂ (λ (x i : ℕ). seek c n key levels (position x (place m (12 + i)) m i link)) (child-on-card c key m false f r) (index-on-card c key m false f r)
 
   -- ---- the way to a part
@@ -130,14 +117,14 @@ module _ (c : List ℕ) (n key : ℕ) (len : length c ≡ 8 + 24 * n) where
 
       outer : (C : Context) → RepresentsContext c C m × Represents c (node m false (fill l s r)) → (below C → 2 ≤ width-of l r)
           → seek c n key (suc levels) (positionOf C (node m false (fill l s r))) ≡ seek c n key levels (position (root (child key (fill l s r))) (place m (12 + passed (routing (fill l s r)) key)) m (passed (routing (fill l s r)) key) (link-place C))
-      outer top u h = search-child levels m (fill l s r) (u .1) 4 0 0 0 (λ e. let z : _≡_ {A = ℕ} 0 1 = cc in absurd (omega arith))
+      outer top u h = search-child levels m (fill l s r) (u .1) 4 0 0 0 (λ e. impossible (cc))
       outer (down D m′ g′ l′ r′) u h = search-child levels m (fill l s r) (u .1) (link-place (down D m′ g′ l′ r′)) m′ (length l′) (link-place D) (λ e. omega (arith, h tt, width-fill l s r))
 
   -- the search goes down to every part on the key's path, past nodes that are no violations
   pub search-path : (levels : ℕ) (C : Context) (s : Tree) → Holds c (plug C s) → OnPath key C → WideAbove C → seek c n key (depth-of C + levels) (rootPosition (getD c 4 0)) ≡ seek c n key levels (positionOf C s)
   unfolding positionOf
   search-path levels top s w p wide = ap₂ (λ (x y : ℕ). seek c n key x (rootPosition y)) (let z : 0 + levels ≡ levels = omega arith in z) (w .0)
-  search-path levels (down C m true l r) s w p wide = let e = p .0 in let z : _≡_ {A = ℕ} 0 1 = cc in absurd (omega arith)
+  search-path levels (down C m true l r) s w p wide = let e = p .0 in impossible (cc)
   search-path levels (down C m false l r) s w p wide =
       ap (λ (x : ℕ). seek c n key x (rootPosition (getD c 4 0))) (let z : suc (depth-of C) + levels ≡ depth-of C + suc levels = omega arith in z)
       ∙ search-path (suc levels) C (node m false (fill l s r)) w (p .3) (wide .1)
@@ -148,13 +135,13 @@ module _ (c : List ℕ) (n key : ℕ) (len : length c ≡ 8 + 24 * n) where
   visit-violation : (s : Tree) → Represents c s → own-violation s ≡ 1 → (link parent index above : ℕ) → (parent ≡ 0 → ⊥) → visitAt c n key (position (root s) link parent index above) ≡ VisitViolation
   visit-violation (leaf m ks vs) r own link parent index above q =
       visit-part (leaf m ks vs) r link parent index above false (ne-eqb parent 0 q)
-      ∙ visit-few c key (position m link parent index above) (read-kind c m _ _ _ (r .0)) (omega (arith, ap length (leaf-pairs c m ks vs r), few-below (length (slot-pairs ks vs)) own))
+      ∙ visit-few (nodeAt c m) _ (read-kind c m _ _ _ (r .0)) (omega (arith, ap length (leaf-pairs c m ks vs r), few-below (length (slot-pairs ks vs)) own))
   visit-violation (node m true f) r own link parent index above q =
       visit-part (node m true f) r link parent index above false (ne-eqb parent 0 q)
-      ∙ visit-tagged c key (position m link parent index above) (read-kind c m _ _ _ (r .0))
+      ∙ visit-tagged (nodeAt c m) _ (read-kind c m _ _ _ (r .0))
   visit-violation (node m false f) r own link parent index above q =
       visit-part (node m false f) r link parent index above false (ne-eqb parent 0 q)
-      ∙ visit-one-child c key (position m link parent index above) false (inl (read-kind c m _ _ _ (r .0))) refl
+      ∙ visit-one-child (nodeAt c m) _ false (inl (read-kind c m _ _ _ (r .0))) refl
       (omega (arith, children-on-card c key m false f r, few-below (length (roots f)) (omega arith), routing-roots f))
 
   -- the search by a key finds the violation on the key's path, where no node above it is one
@@ -183,7 +170,7 @@ module _ (c : List ℕ) (n key : ℕ) (len : length c ≡ 8 + 24 * n) where
   balanced-leaf levels m ks vs r sound link parent index above q =
       search-balanced c n key (position m link parent index above) levels
       (visit-part (leaf m ks vs) r link parent index above false (ne-eqb parent 0 q)
-      ∙ visit-leaf c key (position m link parent index above) (read-kind c m _ _ _ (r .0)) (omega (arith, ap length (leaf-pairs c m ks vs r), few-zero (length (slot-pairs ks vs)) sound)))
+      ∙ visit-leaf (nodeAt c m) _ (read-kind c m _ _ _ (r .0)) (omega (arith, ap length (leaf-pairs c m ks vs r), few-zero (length (slot-pairs ks vs)) sound)))
 
   balanced-part : (levels : ℕ) (s : Tree) → Represents c s → violations s ≡ 0 → depth s ≤ levels → (link parent index above : ℕ) → (parent ≡ 0 → ⊥) → seek c n key levels (position (root s) link parent index above) ≡ SearchBalanced
   balanced-part zero (leaf m ks vs) r sound d link parent index above q = balanced-leaf zero m ks vs r sound link parent index above q
@@ -200,7 +187,7 @@ module _ (c : List ℕ) (n key : ℕ) (len : length c ≡ 8 + 24 * n) where
   seek-balanced levels (leaf m ks vs) w ok sound d =
       ap (λ (x : ℕ). seek c n key levels (rootPosition x)) (w .0)
       ∙ search-balanced c n key (position m 4 0 0 0) levels
-      (visit-part (leaf m ks vs) (w .2) 4 0 0 0 true refl ∙ visit-root-leaf c key (position m 4 0 0 0) (read-kind c m _ _ _ (w .2 .0)))
+      (visit-part (leaf m ks vs) (w .2) 4 0 0 0 true refl ∙ visit-root-leaf (nodeAt c m) _ (read-kind c m _ _ _ (w .2 .0)))
   seek-balanced levels (node m true f) w ok sound d = absurd ok
   seek-balanced zero (node m false f) w ok sound d = absurd (omega arith)
   seek-balanced (suc levels) (node m false f) w ok sound d =

@@ -7,7 +7,7 @@ use native.Mathlib.Omega.{arith}
 use native.Mathlib.Decide.{decLt, ℕ-discrete}
 use lib.ListN.{length, getD, drop}
 use borrow.Author.Tests.{lt-ltb, le-ltb, ltb-false, eq-eqb, ne-eqb, eqb-true, not-false}
-use Rattle.laws.proofs.Cases.{bool-cases}
+use Rattle.laws.proofs.Cases.{bool-cases, impossible}
 use Rattle.laws.specs.Lists.{all-zero}
 use Rattle.card.specs.Layout.{leastNodes, greatestNodes}
 use Rattle.card.specs.Header.{nodesOfLength, cardRefusal, Sized, Formatted}
@@ -40,12 +40,12 @@ padded-most words h = omega arith
 any-one : (ts : List Bool) (k : ℕ) → getD ts k false ≡ true → any ts ≡ true
 any-one [] k e = e
 any-one (true ∷ ts) k e = refl
-any-one (false ∷ ts) zero e = absurd (let z : _≡_ {A = ℕ} 0 1 = cc in omega arith)
+any-one (false ∷ ts) zero e = absurd (impossible (cc))
 any-one (false ∷ ts) (suc k) e = any-one ts k e
 
 any-none : (ts : List Bool) (k : ℕ) → any ts ≡ false → getD ts k false ≡ false
 any-none [] k e = refl
-any-none (true ∷ ts) k e = absurd (let z : _≡_ {A = ℕ} 0 1 = cc in omega arith)
+any-none (true ∷ ts) k e = absurd (impossible (cc))
 any-none (false ∷ ts) zero e = refl
 any-none (false ∷ ts) (suc k) e = any-none ts k e
 
@@ -141,7 +141,7 @@ room-length : (size lent n : ℕ) → roomFor size lent ≡ Length n → (n ≡ 
 room-length size lent n e = go (decLt lent size)
   where
     go : Dec (lent < size) → (n ≡ size) × (n ≤ lent)
-    go (yes h) = let w = room-short size lent h in let z : _≡_ {A = ℕ} 0 1 = cc in absurd (omega arith)
+    go (yes h) = let w = room-short size lent h in impossible (cc)
     go (no h) =
         let w = room-long size lent (omega arith) in
         let same : n ≡ size = cc in
@@ -172,7 +172,7 @@ pub record Read (dump : List ℕ) (lent n : ℕ) : Type 0 where
 pub read-sized : (dump : List ℕ) (lent n : ℕ) → readAnswer dump lent ≡ Length n → Read dump lent n
 read-sized dump lent n e =
     bool-cases (damaged dump)
-    (λ h. let w = read-damaged dump lent h in let z : _≡_ {A = ℕ} 0 1 = cc in absurd (omega arith))
+    (λ h. let w = read-damaged dump lent h in impossible (cc))
     (λ h.
     let w = undamaged-whole dump h in
     let r = room-length _ lent n (sym (read-whole dump lent h) ∙ e) in
@@ -214,7 +214,7 @@ pub write-sized : (card : List ℕ) (lent n : ℕ) → writeAnswer card lent ≡
 write-sized card lent n e = go (ℕ-discrete (cardRefusal card) 0)
   where
     go : Dec (cardRefusal card ≡ 0) → Written card lent n
-    go (no h) = let w = write-refuses card lent (cardRefusal card) refl h in let z : _≡_ {A = ℕ} 0 1 = cc in absurd (omega arith)
+    go (no h) = let w = write-refuses card lent (cardRefusal card) refl h in impossible (cc)
     go (yes h) =
         let r = room-length _ lent n (sym (write-good card lent h) ∙ e) in
         record { good = good-card card h; size = r .0; room = r .1 }

@@ -12,7 +12,7 @@ use Rattle.card.specs.Header.{nodesOfLength, Sized}
 use Rattle.card.proofs.HeaderLaws.{sized-nodes}
 use Rattle.card.specs.Stores.{Store}
 use Rattle.formatting_theory.proofs.FormatCard.{formatCard, format-untouched, format-next, format-length}
-use Rattle.formatting_theory.proofs.FormatStores.{no-store, some-store}
+use Rattle.formatting_theory.proofs.FormatStores.{some-store}
 use Rattle.free_nodes.specs.NodeSet.{allNodes}
 use Rattle.state.specs.Steps.{Handed, noBeginning, Step, stepFinal, formatStore, formatting, stepFormat}
 use Rattle.starting.specs.Starts.{formatOf}
@@ -21,6 +21,7 @@ use Rattle.state.specs.Memory.{Memory, resting, idled}
 use Rattle.state.specs.declared.Doing.the-variants.{Idle, Formatting}
 use Rattle.state.specs.declared.Answer.the-variants.{Stored, Ready}
 use Rattle.state.specs.declared.Begun.the-variants.{Started}
+use Rattle.state.proofs.StepLaws.{format-end}
 
 -- "those not reached from the root", which is node 1
 abbrev pub freshNodes : ℕ → List Bool
@@ -79,7 +80,7 @@ module _ (c : List ℕ) (n : ℕ) (sized : Sized (length c) n) where
   pub format-step-ready : stepOf (formatCard n c (suc (length c))) (formatMemory n (suc (length c))) ≡ record { answer = Ready; card = formatCard n c (suc (length c)); memory = freshMemory n }
   format-step-ready =
       let made : ℕ = suc (length c) in
-      step-formats (formatCard n c made) n made (freshNodes n) none (still-sized made) (same-store made ∙ no-store n (length c) made (omega arith))
+      step-formats (formatCard n c made) n made (freshNodes n) none (still-sized made) (same-store made ∙ format-end n (length c) made (omega arith))
       ∙ format-ends (formatCard n c made) n made (freshNodes n)
 
 -- ALL STEPS

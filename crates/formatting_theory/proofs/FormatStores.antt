@@ -1,7 +1,7 @@
 -- Document 01: formatting is "0 in word 0, then every word from 1 to the last in rising order (root node 1, an empty leaf, all
 -- else 0), then 1 in word 0". Each of these stores by its number, and the words that they put on the card.
 use mathlib.Core.Path.{_≡_, refl}
-use mathlib.Core.Option.{none, some}
+use mathlib.Core.Option.{some}
 use Prim.Native.Nat.{ℕ, zero, suc, _≤_, _<_}
 use native.Mathlib.Omega.{arith}
 use borrow.Author.Tests.{lt-ltb, le-ltb, ne-eqb, eq-eqb}
@@ -20,10 +20,6 @@ rising-store n len made low high = rw (ne-eqb made 0 (omega arith), lt-ltb made 
 pub last-store : (n len : ℕ) → 0 < len → formatStore n len len ≡ some (0, 1)
 unfolding formatStore
 last-store n len some-words = rw (ne-eqb len 0 (omega arith), le-ltb len len (omega arith), eq-eqb len len refl)
-
-pub no-store : (n len made : ℕ) → len < made → formatStore n len made ≡ none
-unfolding formatStore
-no-store n len made past = rw (ne-eqb made 0 (omega arith), le-ltb made len (omega arith), ne-eqb made len (omega arith))
 
 -- "root node 1, an empty leaf, all else 0"
 pub header-words : (n : ℕ)

@@ -10,6 +10,7 @@ use lib.ListN.{length, getD, set, drop, replicate, length-drop, length-append, d
 use lib.Seq.{getD-append-add, getD-drop, append-snoc, set-at}
 use Rattle.laws.specs.Digits.{digitsOf}
 use Rattle.laws.proofs.Digits.{length-digits}
+use Rattle.laws.proofs.Cases.{impossible}
 use Rattle.free_nodes.specs.NodeSet.{capacity, nodesOf, allNodes, countTrue, firstTrue, firstFrom, orElse, nextFree}
 use Rattle.free_nodes.specs.declared.Next.{Next}
 use Rattle.free_nodes.specs.declared.Next.the-variants.{Node, Nothing}
@@ -23,7 +24,7 @@ length-nodes (word ∷ words) = omega (arith, length-append (digitsOf 64 word) (
 
 first-found : (bits : List Bool) (a m : ℕ) → firstTrue bits a ≡ Node m → (getD bits (m - a) false ≡ true) × (a ≤ m) × (m < a + length bits)
 unfolding firstTrue
-first-found [] a m e = let z : _≡_ {A = ℕ} 0 1 = cc in absurd (omega arith)
+first-found [] a m e = impossible (cc)
 first-found (true ∷ bits) a m e =
     let s : a ≡ m = cc in
     let z : m - a ≡ 0 = omega arith in
@@ -63,7 +64,7 @@ next-exists bits last z h = go (firstFrom bits (last + 1)) (round bits z h)
   where
     round : (bits : List Bool) → getD bits 0 false ≡ false → 0 < countTrue bits → (m : ℕ) × (firstFrom bits 1 ≡ Node m)
     round [] z h = absurd (not-suc-le-zero h)
-    round (true ∷ rest) z h = let y : _≡_ {A = ℕ} 0 1 = cc in absurd (omega arith)
+    round (true ∷ rest) z h = impossible (cc)
     round (false ∷ rest) z h = first-exists rest 1 h
 
     go : (first : Next) → (m : ℕ) × (firstFrom bits 1 ≡ Node m) → (m : ℕ) × (orElse first (firstFrom bits 1) ≡ Node m)

@@ -81,7 +81,7 @@ masked-start words a =
 
 pub passed-start : (words : List ℕ) (a : ℕ) → Passed words a (a / 64)
 unfolding Passed
-passed-start words a k l h = let z : _≡_ {A = ℕ} 0 1 = omega arith in absurd (omega arith)
+passed-start words a k l h = absurd (omega arith)
 
 -- where the masked word has 0 at node k's digit, the node is not free
 masked-clear : (words : List ℕ) (a q word k : ℕ) → Masked words a q word → a ≤ k → 64 * q ≤ k → k < 64 * (q + 1) → digit word (k % 64) ≡ 0

@@ -9,6 +9,10 @@ use lib.Dec.{ltb}
 use borrow.Author.Tests.{ltb-true, ltb-false}
 use Rattle.laws.specs.Cases.{pick, guard, bind}
 
+-- Where two different constructors are equal, `cc` proves that 0 is 1, and anything follows: `impossible (cc)`.
+pub impossible {ℓ} : {P : Type ℓ} → _≡_ {A = ℕ} 0 1 → P
+impossible e = absurd (omega arith)
+
 pub bool-cases {ℓ} : {P : Type ℓ} (b : Bool) → (b ≡ true → P) → (b ≡ false → P) → P
 bool-cases true f g = f refl
 bool-cases false f g = g refl
@@ -23,7 +27,7 @@ elim-pick false x y = refl
 
 pub and-true : (a b : Bool) → (a && b) ≡ true → (a ≡ true) × (b ≡ true)
 and-true true b e = (refl, e)
-and-true false b e = let z : _≡_ {A = ℕ} 0 1 = cc in absurd (omega arith)
+and-true false b e = impossible (cc)
 
 pub or-true : (a b : Bool) → (a || b) ≡ true → (a ≡ true) ⊎ (b ≡ true)
 or-true true b e = inl refl
@@ -34,8 +38,8 @@ and-intro {a} {b} p q = rw (p, q)
 
 pub guard-some : {A : Type 0} (b : Bool) (x : Option A) (a : A) → guard b x ≡ some a → (b ≡ true) × (x ≡ some a)
 guard-some true x a e = (refl, e)
-guard-some false x a e = let z : _≡_ {A = ℕ} 0 1 = cc in absurd (omega arith)
+guard-some false x a e = impossible (cc)
 
 pub bind-some : {A B : Type 0} (x : Option A) (f : A → Option B) (b : B) → bind x f ≡ some b → (a : A) × (x ≡ some a) × (f a ≡ some b)
-bind-some none f b e = let z : _≡_ {A = ℕ} 0 1 = cc in absurd (omega arith)
+bind-some none f b e = impossible (cc)
 bind-some (some a) f b e = (a, refl, e)

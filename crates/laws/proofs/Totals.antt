@@ -7,6 +7,7 @@ use Prim.Native.Nat.{ℕ, _+_, _≤_}
 use native.Mathlib.Omega.{arith}
 use native.Mathlib.Decide.{ℕ-discrete}
 use lib.Dec.{eqb}
+use lib.ListN.{length}
 use borrow.Author.Tests.{eq-eqb, ne-eqb}
 use Rattle.laws.specs.Cases.{pick}
 use Rattle.laws.specs.Totals.{indicator, total}
@@ -37,6 +38,10 @@ module _ {A : Type 0} where
   pub total-append : (w : A → ℕ) (xs ys : List A) → total w (xs ++ ys) ≡ total w xs + total w ys
   total-append w [] ys = omega arith
   total-append w (x ∷ xs) ys = omega (arith, total-append w xs ys)
+
+  pub total-length : (l : List A) → total (λ x. 1) l ≡ length l
+  total-length [] = refl
+  total-length (x ∷ l) = omega (arith, total-length l)
 
   pub total-le : (w v : A → ℕ) → ((a : A) → w a ≤ v a) → (l : List A) → total w l ≤ total v l
   total-le w v h [] = omega arith

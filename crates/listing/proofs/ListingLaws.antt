@@ -1,15 +1,13 @@
 -- Laws of what `list` lays out.
-use mathlib.Core.Path.{_≡_, refl, sym, _∙_}
+use mathlib.Core.Path.{_≡_, refl, sym, _∙_, ap}
 use mathlib.Core.List.{List, [], _∷_, _++_}
 use Prim.Native.Nat.{ℕ, zero, suc, _+_, _-_, _≤_, _<_}
 use native.Mathlib.Omega.{arith}
-use native.Mathlib.Numerals.{add-one}
 use lib.ListN.{length, getD, set, drop, drop-of-length-le}
-use lib.Seq.{drop-cons}
 use borrow.Author.Tests.{lt-ltb, le-ltb, ne-eqb, eq-eqb}
-use Rattle.card.specs.Layout.{nodeAt, kindOf, keyWords, valueWords, children, slot-pairs, leafPairs}
-use Rattle.card.proofs.NodeLaws.{length-valueWords, get-valueWord, length-keyWords}
-use Rattle.soundness.proofs.CheckLaws.{key-drop, child-drop}
+use Rattle.card.specs.Layout.{nodeAt, kindOf, children, slot-pairs, leafPairs}
+use Rattle.card.proofs.NodeLaws.{leafFrom, leaf-next}
+use Rattle.soundness.proofs.CheckLaws.{child-drop}
 use Rattle.listing.specs.Listing.{childPairs, nodePairs, onCard, pairsFrom, Laid, laid, layPair, layPairs, laySlot}
 
 pub slot-empty : (key value : ℕ) (l : Laid) → key ≡ 0 → l ≡ laySlot key value l
@@ -31,30 +29,14 @@ slot-stored key value at words d s = sym (slot-held key value (laid at words) d 
 
 -- ---- the slots of a leaf
 
--- the pairs from slot i on
-unfoldable pub pairsAfter : List ℕ → ℕ → List (ℕ × ℕ)
-pairsAfter node i = slot-pairs (drop i (keyWords node)) (drop i (valueWords node))
-
-value-drop : (node : List ℕ) → length node ≡ 24 → (i : ℕ) → i < 11 → drop i (valueWords node) ≡ getD node (12 + i) 0 ∷ drop (i + 1) (valueWords node)
-value-drop node len i h = rw (add-one i, ← get-valueWord node i h) (drop-cons (valueWords node) i 0 (omega (arith, length-valueWords node len)))
-
-lay-slot : (k v : ℕ) (ks vs : List ℕ) (l : Laid) → layPairs (slot-pairs (k ∷ ks) (v ∷ vs)) l ≡ layPairs (slot-pairs ks vs) (laySlot k v l)
+lay-slot : (k v : ℕ) (rest : List (ℕ × ℕ)) (l : Laid) → layPairs (slot-pairs (k ∷ []) (v ∷ []) ++ rest) l ≡ layPairs rest (laySlot k v l)
 unfolding laySlot layPairs
-lay-slot zero v ks vs l = refl
-lay-slot (suc k) v ks vs l = refl
+lay-slot zero v rest l = refl
+lay-slot (suc k) v rest l = refl
 
-module _ (node : List ℕ) (len : length node ≡ 24) where
-  pub leaf-start : leafPairs node ≡ pairsAfter node 0
-  unfolding leafPairs pairsAfter
-  leaf-start = refl
-
-  pub leaf-next : (i : ℕ) → i < 11 → (l : Laid) → layPairs (pairsAfter node i) l ≡ layPairs (pairsAfter node (i + 1)) (laySlot (getD node (1 + i) 0) (getD node (12 + i) 0) l)
-  unfolding pairsAfter
-  leaf-next i h l = rw (key-drop node len i h, value-drop node len i h) (lay-slot (getD node (1 + i) 0) (getD node (12 + i) 0) (drop (i + 1) (keyWords node)) (drop (i + 1) (valueWords node)) l)
-
-  pub leaf-end : (i : ℕ) → 11 ≤ i → pairsAfter node i ≡ []
-  unfolding pairsAfter
-  leaf-end i h = rw (drop-of-length-le (keyWords node) {i = i} (omega (arith, length-keyWords node len)))
+pub leaf-laid : (node : List ℕ) → length node ≡ 24 → (i : ℕ) → i < 11 → (l : Laid)
+    → layPairs (leafFrom node i) l ≡ layPairs (leafFrom node (i + 1)) (laySlot (getD node (1 + i) 0) (getD node (12 + i) 0) l)
+leaf-laid node len i h l = ap (λ (ps : List (ℕ × ℕ)). layPairs ps l) (leaf-next node len i h) ∙ lay-slot (getD node (1 + i) 0) (getD node (12 + i) 0) (leafFrom node (i + 1)) l
 
 -- ---- the children of an internal node
 

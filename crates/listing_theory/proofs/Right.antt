@@ -34,6 +34,7 @@ use Rattle.tree.specs.Pairs.{pairs}
 use Rattle.tree.specs.Height.{Height}
 use Rattle.tree.specs.Tree.{Tree}
 use Rattle.tree.specs.WellFormed.{WellFormed, Balanced}
+use Rattle.laws.proofs.Cases.{impossible}
 
 -- "N, free nodes, internal levels, pairs. Then key and value, leaves left to right, slots rising": of a balanced table whose
 -- map is that of the card listed
@@ -114,10 +115,9 @@ module _ (c : List ℕ) where
           let a : Accepted c = record { not-refused = f } in
           let t = accepted-table c a in
           let k = listing-right (t .0) (t .1) a .is-listed in
-          let z : _≡_ {A = ℕ} 0 1 = cc in
-          absurd (omega arith)
+          impossible (cc)
 
       go : (b : Begun) → openOf c .begun ≡ b → listCard c ≡ refused r → openOf c .begun ≡ Refused r
       go (Refused k) q e = let s = card-refused c k q in let z : k ≡ r = cc in rw z at q
-      go Idle q e = opens (λ k s. let z : _≡_ {A = ℕ} 0 1 = cc in omega arith) e
-      go Started q e = opens (λ k s. let z : _≡_ {A = ℕ} 0 1 = cc in omega arith) e
+      go Idle q e = opens (λ k s. impossible (cc)) e
+      go Started q e = opens (λ k s. impossible (cc)) e

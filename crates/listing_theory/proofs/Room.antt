@@ -1,29 +1,22 @@
 -- How much room the pairs take: a slice with two words for each of them holds them all.
 use mathlib.Core.Path.{_≡_, refl, ap, ap₂, sym, _∙_}
 use mathlib.Core.List.{List, [], _∷_, _++_, append-assoc}
-use Prim.Native.Nat.{ℕ, zero, suc, _+_, _*_, _≤_}
+use Prim.Native.Nat.{ℕ, suc, _+_, _*_, _≤_}
 use native.Mathlib.Omega.{arith}
 use lib.ListN.{length, drop, set, length-append}
 use lib.Seq.{set-append-seam}
 use borrow.Author.Tests.{lt-ltb}
-use Rattle.card.specs.Layout.{slot-pairs}
+use Rattle.card.proofs.NodeLaws.{slot-pairs-le}
 use Rattle.listing.specs.Listing.{Laid, laid, layPair, layPairs}
 use Rattle.listing.proofs.ListingLaws.{lay-none}
 use Rattle.tree.specs.Pairs.{pairs, forest-pairs}
 use Rattle.tree.specs.Represent.{Represents, RepresentsAll}
 use Rattle.tree.specs.Tree.{Tree, Forest, node-total, node-totals, leaf, node, one, more}
 
--- a leaf has at most 11 pairs
-slots-le : (ks vs : List ℕ) → length (slot-pairs ks vs) ≤ length ks
-slots-le [] vs = omega arith
-slots-le (k ∷ ks) [] = omega arith
-slots-le (zero ∷ ks) (v ∷ vs) = omega (arith, slots-le ks vs)
-slots-le (suc k ∷ ks) (v ∷ vs) = omega (arith, slots-le ks vs)
-
 module _ (c : List ℕ) where
   mutual
     pub pairs-le : (t : Tree) → Represents c t → length (pairs t) ≤ 11 * node-total (λ m. 1) t
-    pairs-le (leaf m ks vs) r = omega (arith, slots-le ks vs, r .1)
+    pairs-le (leaf m ks vs) r = omega (arith, slot-pairs-le ks vs, r .1)
     pairs-le (node m g f) r = omega (arith, forest-le f (r .1))
 
     pub forest-le : (f : Forest) → RepresentsAll c f → length (forest-pairs f) ≤ 11 * node-totals (λ m. 1) f

@@ -1,6 +1,6 @@
 -- Laws of the changes: the numbers that decide them, and their stores.
 use mathlib.Core.Path.{_≡_, refl, ap, ap₂, sym, _∙_, subst}
-use mathlib.Core.List.{List, [], _∷_, _++_, map}
+use mathlib.Core.List.{List, [], _∷_, _++_}
 use mathlib.Core.Bool.{Bool, true, false, _&&_}
 use mathlib.Core.Option.{some}
 use Prim.Native.Nat.{ℕ, zero, suc, _+_, _-_, _/_, _≤_, _<_}
@@ -12,9 +12,9 @@ use borrow.Author.Tests.{ne-eqb, eq-eqb}
 use Rattle.card.specs.Layout.{rootPlace, valueWords, children, routingKeys}
 use Rattle.card.proofs.NodeLaws.{length-routing}
 use Rattle.card.specs.Stores.{Store, NewNode, new-node, node-stores}
-use Rattle.plans.specs.Change.{Change, changeStores, kindAbove, splitLeaf, joinedKeys, joinedChildren, absorb, splitParent, Together, half, leftKeys, keyBetween, share, merge, mergeRoot}
+use Rattle.plans.specs.Change.{Change, changeStores, kindAbove, splitLeaf, joinedKeys, joinedChildren, absorb, splitParent, Together, half, leftKeys, keyBetween, share, merge, mergeRoot, leftValues, halves, copied}
 use Rattle.plans.proofs.NumberLaws.{giving-some}
-use Rattle.plans.specs.Plan.{storesOf, Extends, togetherOf, halves, copied, splitUnder, Linked, PositionWithin}
+use Rattle.plans.specs.Plan.{storesOf, Extends, togetherOf, splitUnder, Linked, PositionWithin}
 use Rattle.plans.proofs.PlanLaws.{extends-nodes, planned-nodes}
 use Rattle.plans.specs.Planning.{takeNumbers, withoutAll, lastOf, giving, first, second, third, prepared}
 use Rattle.plans.proofs.RowLaws.{length-words}
@@ -22,6 +22,7 @@ use Rattle.plans.specs.Rows.{wordsOf, Row}
 use Rattle.laws.specs.Cases.{pick}
 use Rattle.laws.specs.Lists.{before-zero}
 use Rattle.laws.specs.Sorting.{Pairs, pair-keys, pair-values, key-at}
+use Rattle.laws.proofs.Sorting.{map-take, map-drop}
 use Rattle.plans.specs.declared.Plan.{Plan}
 use Rattle.plans.specs.declared.halves.Pool.{Pool}
 use Rattle.plans.specs.declared.words.Words.{Words}
@@ -89,16 +90,16 @@ cut-siblings parent kids a j e p h =
 -- ---- what there is, shared out
 
 module _ (b : Pool) (len : length (b .values .items) ≡ 12) (few : b .values .count ≤ 12) where
-  half-is : (b .values .count + 1) / 2 ≡ half (length (togetherOf b .values))
+  half-is : (b .values .count + 1) / 2 ≡ leftValues (togetherOf b)
   unfolding half togetherOf
   half-is = ap (λ (n : ℕ). (n + 1) / 2) (sym (length-words (b .values) len few))
 
-  left-is : (k : ℕ) → k ≡ pick (eqb (b .kind) 1) ((b .values .count + 1) / 2) ((b .values .count + 1) / 2 - 1) → k ≡ leftKeys (togetherOf b) (half (length (togetherOf b .values)))
+  left-is : (k : ℕ) → k ≡ pick (eqb (b .kind) 1) ((b .values .count + 1) / 2) ((b .values .count + 1) / 2 - 1) → k ≡ leftKeys (togetherOf b)
   unfolding leftKeys togetherOf
   left-is k e = e ∙ ap (λ (h : ℕ). pick (eqb (b .kind) 1) h (h - 1)) half-is
 
   pub between-is : (k : ℕ) → k ≡ pick (eqb (b .kind) 1) ((b .values .count + 1) / 2) ((b .values .count + 1) / 2 - 1)
-      → getD (wordsOf (b .keys)) k 0 ≡ keyBetween (togetherOf b) (half (length (wordsOf (b .values))))
+      → getD (wordsOf (b .keys)) k 0 ≡ keyBetween (togetherOf b)
   unfolding keyBetween togetherOf
   between-is k e = ap (λ (i : ℕ). getD (wordsOf (b .keys)) i 0) (left-is k e)
 
@@ -112,9 +113,9 @@ module _ (b : Pool) (len : length (b .values .items) ≡ 12) (few : b .values .c
   unfolding halves togetherOf
   halves-planned p q r k a c lk lv rk rv x y z w e f g i j s t =
       let h = half-is in
-      let left : new-node a (b .kind) (wordsOf lk) (wordsOf lv) ≡ new-node a (b .kind) (take (leftKeys (togetherOf b) (half (length (togetherOf b .values)))) (wordsOf (b .keys))) (take (half (length (togetherOf b .values))) (wordsOf (b .values))) =
+      let left : new-node a (b .kind) (wordsOf lk) (wordsOf lv) ≡ new-node a (b .kind) (take (leftKeys (togetherOf b)) (wordsOf (b .keys))) (take (leftValues (togetherOf b)) (wordsOf (b .values))) =
       ap₂ (new-node a (b .kind)) (f .listed ∙ ap (λ (n : ℕ). take n (wordsOf (b .keys))) (left-is k e)) (g .listed ∙ ap (λ (n : ℕ). take n (wordsOf (b .values))) h) in
-      let right : new-node c (b .kind) (wordsOf rk) (wordsOf rv) ≡ new-node c (b .kind) (drop (half (length (togetherOf b .values))) (wordsOf (b .keys))) (drop (half (length (togetherOf b .values))) (wordsOf (b .values))) =
+      let right : new-node c (b .kind) (wordsOf rk) (wordsOf rv) ≡ new-node c (b .kind) (drop (leftValues (togetherOf b)) (wordsOf (b .keys))) (drop (leftValues (togetherOf b)) (wordsOf (b .values))) =
       ap₂ (new-node c (b .kind)) (i .listed ∙ ap (λ (n : ℕ). drop n (wordsOf (b .keys))) h) (j .listed ∙ ap (λ (n : ℕ). drop n (wordsOf (b .values))) h) in
       extends-nodes p q r 24 24 (_ ∷ []) (_ ∷ [])
       (subst (λ (n : NewNode). Extends p q 24 (node-stores (n ∷ []))) left s)
@@ -170,7 +171,7 @@ module _ (free fewer : List Bool) (last : ℕ) (cut : List ℕ) where
 
   pub planned-share : (p : Position) (parent : List ℕ) (j : ℕ) (both : Together) (a b c key x y : ℕ) (keys kids : Words) (empty two three : Plan)
       → takeNumbers 3 free last ≡ some (a ∷ b ∷ c ∷ []) → storesOf empty ≡ [] → Extends empty two 48 (node-stores (halves both a b))
-      → key ≡ keyBetween both (half (length (both .values))) → Row keys x (key ∷ []) → Row kids y (a ∷ b ∷ [])
+      → key ≡ keyBetween both → Row keys x (key ∷ []) → Row kids y (a ∷ b ∷ [])
       → Extends two three 24 (node-stores (copied c parent j (wordsOf keys) (wordsOf kids) ∷ []))
       → fewer ≡ withoutAll (a ∷ b ∷ c ∷ []) free → cut ≡ p .parent ∷ getD (children parent) j 0 ∷ getD (children parent) (suc j) 0 ∷ []
       → prepared (storesOf three ++ (p .above, c) ∷ []) fewer c cut ≡ giving 3 free last (λ ms. share p parent j both (first ms) (second ms) (third ms))
@@ -211,7 +212,7 @@ module _ (free fewer : List Bool) (last : ℕ) (cut : List ℕ) where
 
   pub planned-split : (link : ℕ) (both : Together) (a b c kind key x y : ℕ) (keys kids : Words) (empty two three : Plan)
       → takeNumbers 3 free last ≡ some (a ∷ b ∷ c ∷ []) → storesOf empty ≡ [] → Extends empty two 48 (node-stores (halves both a b))
-      → kind ≡ kindAbove link → key ≡ keyBetween both (half (length (both .values))) → Row keys x (key ∷ []) → Row kids y (a ∷ b ∷ [])
+      → kind ≡ kindAbove link → key ≡ keyBetween both → Row keys x (key ∷ []) → Row kids y (a ∷ b ∷ [])
       → Extends two three 24 (node-stores (new-node c kind (wordsOf keys) (wordsOf kids) ∷ []))
       → fewer ≡ withoutAll (a ∷ b ∷ c ∷ []) free
       → prepared (storesOf three ++ (link, c) ∷ []) fewer c cut ≡ giving 3 free last (λ ms. splitUnder link both cut (first ms) (second ms) (third ms))
@@ -220,7 +221,7 @@ module _ (free fewer : List Bool) (last : ℕ) (cut : List ℕ) where
       planned-change 3 (λ ms. splitUnder link both cut (first ms) (second ms) (third ms)) (a ∷ b ∷ c ∷ []) three c e
       (planned-nodes empty three 72 (halves both a b ++ new-node c kind (wordsOf keys) (wordsOf kids) ∷ []) z (extends-nodes empty two three 48 24 (halves both a b) (new-node c kind (wordsOf keys) (wordsOf kids) ∷ []) s t)
       ∙ ap₂ (λ (v w : List ℕ). node-stores (halves both a b ++ new-node c kind v w ∷ [])) (r .listed ∙ ap (λ (v : ℕ). v ∷ []) k) (q .listed)
-      ∙ ap (λ (n : ℕ). node-stores (halves both a b ++ new-node c n (keyBetween both (half (length (both .values))) ∷ []) (a ∷ b ∷ []) ∷ [])) kk)
+      ∙ ap (λ (n : ℕ). node-stores (halves both a b ++ new-node c n (keyBetween both ∷ []) (a ∷ b ∷ []) ∷ [])) kk)
       refl refl f refl
 
 -- the split of a parent is that of its twelve children
@@ -231,16 +232,6 @@ unfolding splitUnder splitParent halves keyBetween leftKeys half
 split-parent p keys kids free last cut e g = simp (e, g)
 
 -- the split of a leaf is that of its twelve pairs
-map-take : (f : ℕ × ℕ → ℕ) (n : ℕ) (l : Pairs) → take n (map f l) ≡ map f (take n l)
-map-take f zero l = refl
-map-take f (suc n) [] = refl
-map-take f (suc n) (x ∷ l) = ap (λ (m : List ℕ). f x ∷ m) (map-take f n l)
-
-map-drop : (f : ℕ × ℕ → ℕ) (n : ℕ) (l : Pairs) → drop n (map f l) ≡ map f (drop n l)
-map-drop f zero l = refl
-map-drop f (suc n) [] = refl
-map-drop f (suc n) (x ∷ l) = map-drop f n l
-
 pub split-leaf : (m link : ℕ) (twelve : Pairs) (free : List Bool) (last : ℕ) (cut : List ℕ) → length twelve ≡ 12 → cut ≡ m ∷ []
     → giving 3 free last (λ ms. splitUnder link (record { kind = 1; keys = pair-keys twelve; values = pair-values twelve }) cut (first ms) (second ms) (third ms))
     ≡ giving 3 free last (λ ms. splitLeaf m link twelve (first ms) (second ms) (third ms))

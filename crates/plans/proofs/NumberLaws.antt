@@ -12,6 +12,7 @@ use Rattle.free_nodes.specs.NodeSet.{wordCount, capacity, nodesOf, nextFree}
 use Rattle.free_nodes.proofs.NodeSetLaws.{length-nodes, next-found}
 use Rattle.free_nodes.specs.declared.Next.{Next}
 use Rattle.free_nodes.specs.declared.Next.the-variants.{Node, Nothing}
+use Rattle.laws.proofs.Cases.{impossible}
 
 module _ (k : ℕ) (free : List Bool) (last : ℕ) where
   pub take-none : nextFree free last ≡ Nothing → takeNumbers (suc k) free last ≡ none
@@ -52,12 +53,12 @@ number-within (suc k) free last ms e i h = on-next (λ m rest g j l. number-with
     on-rest : (m : ℕ) → nextFree free last ≡ Node m → (o : Option (List ℕ))
         → ((rest : List ℕ) → o ≡ some rest → (j : ℕ) → j < k → (1 ≤ getD rest j 0) × (getD rest j 0 < length (set free m false)))
         → numbersFrom (Node m) (λ x. o) ≡ some ms → (1 ≤ getD ms i 0) × (getD ms i 0 < length free)
-    on-rest m f none ih x = let z : _≡_ {A = ℕ} 0 1 = cc in absurd (omega arith)
+    on-rest m f none ih x = impossible (cc)
     on-rest m f (some rest) ih x = let q : ms ≡ m ∷ rest = cc in rw q (at m rest f (ih rest refl) i h)
 
     on-next : ((m : ℕ) (rest : List ℕ) → takeNumbers k (set free m false) m ≡ some rest → (j : ℕ) → j < k → (1 ≤ getD rest j 0) × (getD rest j 0 < length (set free m false)))
         → (x : Next) → nextFree free last ≡ x → numbersFrom x (λ m. takeNumbers k (set free m false) m) ≡ some ms → (1 ≤ getD ms i 0) × (getD ms i 0 < length free)
-    on-next ih Nothing f g = let z : _≡_ {A = ℕ} 0 1 = cc in absurd (omega arith)
+    on-next ih Nothing f g = impossible (cc)
     on-next ih (Node m) f g = on-rest m f (takeNumbers k (set free m false) m) (ih m) g
 
 -- ---- a change over the numbers given

@@ -84,40 +84,52 @@ innersTogether x key y = record { kind = 2; keys = routingKeys x ++ key ∷ rout
 unfoldable pub half : ℕ → ℕ
 half n = (n + 1) / 2
 
+-- "the left one getting the larger half": how many values that is
+abbrev pub leftValues : Together → ℕ
+leftValues both = half (length (both .values))
+
 -- "Between shared leaves the routing key is the right one's smallest. Internal nodes .. sharing sends one up": how many keys
--- the left node gets where it gets h values, and the key between the two
-unfoldable pub leftKeys : Together → ℕ → ℕ
-leftKeys both h = pick (eqb (both .kind) 1) h (h - 1)
+-- the left node gets, and the key between the two
+unfoldable pub leftKeys : Together → ℕ
+leftKeys both = pick (eqb (both .kind) 1) (leftValues both) (leftValues both - 1)
 
-unfoldable pub keyBetween : Together → ℕ → ℕ
-keyBetween both h = getD (both .keys) (leftKeys both h) 0
+unfoldable pub keyBetween : Together → ℕ
+keyBetween both = getD (both .keys) (leftKeys both) 0
 
--- Children j and j + 1 of the parent are siblings.
+-- the two nodes that share what there is
+unfoldable pub halves : Together → ℕ → ℕ → List NewNode
+halves both a b =
+    new-node a (both .kind) (take (leftKeys both) (both .keys)) (take (leftValues both) (both .values))
+    ∷ new-node b (both .kind) (drop (leftValues both) (both .keys)) (drop (leftValues both) (both .values))
+    ∷ []
+
+-- Children j and j + 1 of a parent are siblings. A copy of the parent, with other keys in the place of the routing key between
+-- them and other children in the place of the two; and the nodes that such a change cuts out.
+unfoldable pub copied : ℕ → List ℕ → ℕ → List ℕ → List ℕ → NewNode
+copied m parent j keys kids =
+    new-node m 2 (take j (routingKeys parent) ++ (keys ++ drop (suc j) (routingKeys parent))) (take j (children parent) ++ (kids ++ drop (suc (suc j)) (children parent)))
+
+abbrev pub siblingsCut : Position → List ℕ → ℕ → List ℕ
+siblingsCut p parent j = p .parent ∷ getD (children parent) j 0 ∷ getD (children parent) (suc j) 0 ∷ []
+
 -- "Together 4 or more: shared out, the left one getting the larger half, under a new copy of the parent."
 unfoldable pub share : Position → List ℕ → ℕ → Together → ℕ → ℕ → ℕ → Change
 share p parent j both a b c =
     record {
-      nodes =
-          new-node a (both .kind) (take (leftKeys both (half (length (both .values)))) (both .keys)) (take (half (length (both .values))) (both .values))
-          ∷ new-node b (both .kind) (drop (half (length (both .values))) (both .keys)) (drop (half (length (both .values))) (both .values))
-          ∷ new-node c 2 (take j (routingKeys parent) ++ keyBetween both (half (length (both .values))) ∷ drop (suc j) (routingKeys parent)) (take j (children parent) ++ a ∷ b ∷ drop (suc (suc j)) (children parent))
-          ∷ [];
+      nodes = halves both a b ++ copied c parent j (keyBetween both ∷ []) (a ∷ b ∷ []) ∷ [];
       link = p .above;
       top = c;
-      cut = p .parent ∷ getD (children parent) j 0 ∷ getD (children parent) (suc j) 0 ∷ [];
+      cut = siblingsCut p parent j;
     }
 
 -- "Together 3 or fewer: merged, the parent copied with one child less"
 unfoldable pub merge : Position → List ℕ → ℕ → Together → ℕ → ℕ → Change
 merge p parent j both a b =
     record {
-      nodes =
-          new-node a (both .kind) (both .keys) (both .values)
-          ∷ new-node b 2 (take j (routingKeys parent) ++ drop (suc j) (routingKeys parent)) (take j (children parent) ++ a ∷ drop (suc (suc j)) (children parent))
-          ∷ [];
+      nodes = new-node a (both .kind) (both .keys) (both .values) ∷ copied b parent j [] (a ∷ []) ∷ [];
       link = p .above;
       top = b;
-      cut = p .parent ∷ getD (children parent) j 0 ∷ getD (children parent) (suc j) 0 ∷ [];
+      cut = siblingsCut p parent j;
     }
 
 -- "if that parent is the root with 2 children, the merged node becomes the root"
@@ -127,5 +139,5 @@ mergeRoot p parent j both a =
       nodes = new-node a (both .kind) (both .keys) (both .values) ∷ [];
       link = p .above;
       top = a;
-      cut = p .parent ∷ getD (children parent) j 0 ∷ getD (children parent) (suc j) 0 ∷ [];
+      cut = siblingsCut p parent j;
     }

@@ -2,12 +2,12 @@
 use mathlib.Core.Path.{_≡_}
 use mathlib.Core.List.{List, [], _∷_, _++_, zip}
 use mathlib.Core.Option.{Option, none, some}
-use Prim.Native.Nat.{ℕ, suc, _+_, _-_, _*_, _^_, _≤_, _<_}
-use lib.ListN.{length, take, drop}
+use Prim.Native.Nat.{ℕ, _+_, _-_, _*_, _^_, _≤_, _<_}
+use lib.ListN.{length, take}
 use lib.Dec.{eqb}
-use Rattle.card.specs.Layout.{greatestNodes, nodeAt, children, routingKeys}
-use Rattle.card.specs.Stores.{Store, NewNode, new-node}
-use Rattle.plans.specs.Change.{Change, kindAbove, Together, half, leftKeys, keyBetween}
+use Rattle.card.specs.Layout.{greatestNodes, nodeAt, children}
+use Rattle.card.specs.Stores.{Store, new-node}
+use Rattle.plans.specs.Change.{Change, kindAbove, Together, keyBetween, halves}
 use Rattle.plans.specs.Planning.{Preparation, refused, balanced, prepared}
 use Rattle.plans.specs.Rows.{wordsOf}
 use Rattle.free_nodes.specs.NodeSet.{nodesOf}
@@ -73,23 +73,11 @@ pub record Whole (b : Pool) : Type 0 where
   pub fits : Keyed b
   pub enough : 4 ≤ b .values .count
 
--- the two nodes that share what there is
-unfoldable pub halves : Together → ℕ → ℕ → List NewNode
-halves both a b =
-    new-node a (both .kind) (take (leftKeys both (half (length (both .values)))) (both .keys)) (take (half (length (both .values))) (both .values))
-    ∷ new-node b (both .kind) (drop (half (length (both .values))) (both .keys)) (drop (half (length (both .values))) (both .values))
-    ∷ []
-
--- a copy of a parent with other keys in the place of routing key j, and other children in the place of j and j + 1
-unfoldable pub copied : ℕ → List ℕ → ℕ → List ℕ → List ℕ → NewNode
-copied m parent j keys kids =
-    new-node m 2 (take j (routingKeys parent) ++ (keys ++ drop (suc j) (routingKeys parent))) (take j (children parent) ++ (kids ++ drop (suc (suc j)) (children parent)))
-
 -- two nodes that share what there is, under a node with the key between them
 unfoldable pub splitUnder : ℕ → Together → List ℕ → ℕ → ℕ → ℕ → Change
 splitUnder link both cut a b c =
     record {
-      nodes = halves both a b ++ new-node c (kindAbove link) (keyBetween both (half (length (both .values))) ∷ []) (a ∷ b ∷ []) ∷ [];
+      nodes = halves both a b ++ new-node c (kindAbove link) (keyBetween both ∷ []) (a ∷ b ∷ []) ∷ [];
       link = link;
       top = c;
       cut = cut;

@@ -4,8 +4,6 @@ use mathlib.Core.List.{List, [], _∷_}
 use mathlib.Core.Option.{Option, none, some}
 use Prim.Native.Nat.{ℕ, zero, suc}
 use lib.ListN.{getD, set}
-use lib.Dec.{eqb}
-use Rattle.laws.specs.Cases.{pick}
 use Rattle.card.specs.Stores.{Store}
 use Rattle.free_nodes.specs.NodeSet.{nextFree}
 use Rattle.free_nodes.specs.declared.Next.{Next}
@@ -58,4 +56,4 @@ third ms = getD ms 2 0
 -- "Nodes cut out of the tree are free after the store that cuts them out, and are given again."
 unfoldable pub withAll : List ℕ → List Bool → List Bool
 withAll [] free = free
-withAll (m ∷ ms) free = withAll ms (pick (eqb m 0) free (set free m true))
+withAll (m ∷ ms) free = withAll ms (set free m true)

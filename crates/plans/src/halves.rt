@@ -21,10 +21,10 @@ ghost use Rattle.laws.specs.Cases.{pick};
 ghost use Rattle.laws.specs.Lists.{before-zero};
 ghost use Rattle.card.specs.Stores.{node-stores};
 ghost use Rattle.free_nodes.specs.NodeSet.{capacity, nodesOf};
-ghost use Rattle.plans.specs.Change.{kindAbove, half, keyBetween};
+ghost use Rattle.plans.specs.Change.{kindAbove, halves, keyBetween};
 ghost use Rattle.plans.specs.Planning.{giving, first, second, third};
 ghost use Rattle.plans.specs.Rows.{wordsOf};
-ghost use Rattle.plans.specs.Plan.{planIn, Extends, preparationOf, togetherOf, halves, splitUnder, Whole};
+ghost use Rattle.plans.specs.Plan.{planIn, Extends, preparationOf, togetherOf, splitUnder, Whole};
 
 // What two siblings hold together: for leaves keys and values, for internal nodes routing keys and children.
 pub struct Pool {
@@ -88,7 +88,7 @@ pub fn append_halves(
 // The key between two nodes that share what there is: "Between shared leaves the routing key is the right one's smallest. Internal nodes .. sharing sends one up".
 pub fn key_between(both: Pool) -> u32
     requires { ⌜ Whole both ⌝ }
-    ensures { λ r. ⌜ r ≡ keyBetween (togetherOf both) (half (length (wordsOf (both .values)))) ⌝ }
+    ensures { λ r. ⌜ r ≡ keyBetween (togetherOf both) ⌝ }
 {
     let keys = both.keys;
     let values = both.values;

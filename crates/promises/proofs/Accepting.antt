@@ -7,13 +7,14 @@ use Prim.Native.Nat.{ℕ, _+_, _≤_, _<_}
 use native.Mathlib.Omega.{arith}
 use native.Mathlib.Decide.{ℕ-discrete}
 use lib.ListN.{length, getD}
-use borrow.Author.Tests.{lt-ltb, ne-eqb, eq-eqb}
+use borrow.Author.Tests.{ne-eqb, eq-eqb}
 use Rattle.descent.specs.declared.Way.{Way}
 use Rattle.promises.proofs.Feeding.{dictionary-answer}
 use Rattle.lookup.specs.Answers.{foundReply}
 use Rattle.state.specs.Answers.{stepReply}
 use Rattle.lookup.specs.Find.{foundIn, foundAt, findOf}
 use Rattle.opening.specs.Opening.{openSound, openChecked, openOf}
+use Rattle.opening.proofs.OpeningLaws.{open-unrefused, open-scarce}
 use Rattle.state.specs.Steps.{noBeginning}
 use Rattle.card.specs.Header.{nodesOfLength, cardRefusal, Sized, Formatted}
 use Rattle.card.proofs.HeaderLaws.{nodes-sized, header-formatted}
@@ -51,17 +52,9 @@ accepted-card c a = go (ℕ-discrete (cardRefusal c) 0) (ℕ-discrete (nodesOfLe
     go (yes e) (yes z) = let k : _≡_ {A = ℕ} 1 0 = rw (eq-eqb (nodesOfLength (length c)) 0 z) at e in absurd (omega arith)
     go (yes e) (no d) = (e, nodes-sized (length c) d, header-formatted c (nodesOfLength (length c)) (rw (ne-eqb (nodesOfLength (length c)) 0 d) at e))
 
-open-is : (c : List ℕ) → cardRefusal c ≡ 0 → openOf c ≡ openChecked (nodesOfLength (length c)) (tableCheck c (nodesOfLength (length c)))
-unfolding openOf
-open-is c e = rw e
-
 open-some : (n h : ℕ) (f : Findings) → openChecked n (some (h, f)) ≡ openSound n f
 unfolding openChecked
 open-some n h f = refl
-
-open-few : (n : ℕ) (f : Findings) → countTrue (f .free) < 3 + f .run → openSound n f ≡ noBeginning 5
-unfolding openSound
-open-few n f h = rw (lt-ltb (countTrue (f .free)) (3 + f .run) h)
 
 pub accepted-table : (c : List ℕ) → Accepted c → (t : Tree) × WellFormed c t
 unfolding openChecked
@@ -71,7 +64,7 @@ accepted-table c a = go (tableCheck c (nodesOfLength (length c))) refl
     k = accepted-card c a
 
     go : (x : Option (ℕ × Findings)) → tableCheck c (nodesOfLength (length c)) ≡ x → (t : Tree) × WellFormed c t
-    go none e = absurd (refuses c 4 (open-is c (k .0) ∙ rw e) a)
+    go none e = absurd (refuses c 4 (open-unrefused c (k .0) ∙ rw e) a)
     go (some r) e = let s = accepts-sound c (nodesOfLength (length c)) (k .1 .words) (k .1 .most) (r .0) (r .1) e in (s .0, s .1)
 
 -- the table of an accepted card can be opened again
@@ -85,7 +78,7 @@ accepted-openable c t a w = go (sound-accepted c (nodesOfLength (length c)) (k .
     go (h, f, e, x) = bool-cases (f .violated) broken whole
       where
         room : 3 + f .run ≤ countTrue (f .free)
-        room = order (countTrue (f .free)) (3 + f .run) (λ o. absurd (refuses c 5 (open-is c (k .0) ∙ ap (openChecked (nodesOfLength (length c))) e ∙ open-some (nodesOfLength (length c)) h f ∙ open-few (nodesOfLength (length c)) f o) a)) (λ o. o)
+        room = order (countTrue (f .free)) (3 + f .run) (λ o. absurd (refuses c 5 (open-unrefused c (k .0) ∙ ap (openChecked (nodesOfLength (length c))) e ∙ open-some (nodesOfLength (length c)) h f ∙ open-scarce (nodesOfLength (length c)) f o) a)) (λ o. o)
 
         broken : f .violated ≡ true → Openable (nodesOfLength (length c)) t
         broken q =

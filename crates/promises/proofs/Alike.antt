@@ -20,8 +20,8 @@ use Rattle.descent_theory.proofs.Landing.{LandedAt, landing-found}
 use Rattle.descent.specs.declared.Landing.the-variants.{Leaf as LandingAt}
 use Rattle.free_nodes.specs.NodeSet.{countTrue}
 use Rattle.laws.specs.Cases.{pick}
-use Rattle.laws.proofs.Cases.{order, bool-cases}
-use Rattle.promises.proofs.Feeding.{begun-result, step-result, update-key, dictionary-answer, due-after, due-after-start, due-after-step}
+use Rattle.laws.proofs.Cases.{order, bool-cases, impossible}
+use Rattle.promises.proofs.Feeding.{begun-result, step-result, update-key, dictionary-answer, due-after, due-after-start, stored-due}
 use Rattle.promises.proofs.FirstChanges.{leads-reach}
 use Rattle.promises.proofs.Invariant.{Inv}
 use Rattle.promises.proofs.Ledger.{Update, Ledger, put, remove, empty, was-final}
@@ -36,6 +36,7 @@ use Rattle.promises.proofs.Steps.{memory}
 use Rattle.shapes.proofs.Bare.{bare, bare-pairs, bare-size}
 use Rattle.shapes.proofs.Need.{leafNeed, needOf, need-leaf}
 use Rattle.starting.specs.Starts.{insertOf, deleteOf, started, startRefused}
+use Rattle.starting.proofs.StartLaws.{started-no-refusal}
 use Rattle.state.specs.Steps.{Handed, isIdle}
 use Rattle.state.specs.declared.Answer.{Answer}
 use Rattle.state.specs.declared.Answer.the-variants.{Stored}
@@ -110,15 +111,7 @@ pub record Resting (n : ℕ) (w : World) (t : Tree) : Type 0 where
 
 not-goes-on : _≡_ {A = Answer} Stored Stored → step-result Stored ≡ was-final → ⊥
 unfolding step-result
-not-goes-on e q = let k : _≡_ {A = ℕ} 0 1 = cc in omega arith
-
-started-not-refused : {r : ℕ} → _≡_ {A = Begun} Started (BegunRefused r) → ⊥
-started-not-refused e = let k : _≡_ {A = ℕ} 0 1 = cc in omega arith
-
--- a store leaves the answer due as it was
-stored-due : (w : World) (b : Ledger) (due : Option Answer) → stepOf (w .card) (w .memory) .answer ≡ Stored → due-after step w b due ≡ due
-unfolding due-after due-after-step step-result
-stored-due w b due e = rw e
+not-goes-on e q = impossible (cc)
 
 after-idle : (w : World) → stepOf (w .card) (w .memory) .memory .doing ≡ Idle → happens step w .memory .doing ≡ Idle
 unfolding happens
@@ -210,7 +203,7 @@ module _ (n steps : ℕ) (w : World) (b : Ledger) (due : Option Answer) (i : Inv
       at : (r : Bool) → pick (not r) (started (w .memory) (Inserting key value false)) (startRefused 8 (w .memory)) .begun ≡ pick r (BegunRefused 8) Started
       at true = refl
       at false = refl
-  start-decided (remove key) low high true e = let k : _≡_ {A = ℕ} 0 1 = cc in absurd (omega arith)
+  start-decided (remove key) low high true e = impossible (cc)
   start-decided (remove key) low high false e = ap (λ (x : Handed). x .begun) (room-decides n steps w b due i key (Deleting key false 0) (λ x. true) idle low high)
 
   -- what a start that is not refused leaves
@@ -246,12 +239,12 @@ one-whole {u} (not-begun {w} r e) n t x low high =
     let now : bare (i .tree) ≡ t = resting-goal n (x .steps) w (x .book) (x .due) i (x .idle) .0 ∙ x .goal in
     bool-cases (refuses n u t)
     (λ d. let s = start-decided n (x .steps) w (x .book) (x .due) i (x .idle) u low high true (ap (refuses n u) now ∙ d) in let z = outcome-refused n u t d in (ap refused (refused-same (sym e ∙ s)) ∙ sym (z .0), rw (z .1) x))
-    (λ d. let s = start-decided n (x .steps) w (x .book) (x .due) i (x .idle) u low high false (ap (refuses n u) now ∙ d) in absurd (started-not-refused (sym s ∙ e)))
+    (λ d. let s = start-decided n (x .steps) w (x .book) (x .due) i (x .idle) u low high false (ap (refuses n u) now ∙ d) in absurd (started-no-refusal _ (sym s ∙ e)))
 one-whole {u} (worked {w} {v} {a} e ends) n t x low high =
     let i = x .inv in
     let now : bare (i .tree) ≡ t = resting-goal n (x .steps) w (x .book) (x .due) i (x .idle) .0 ∙ x .goal in
     bool-cases (refuses n u t)
-    (λ d. let s = start-decided n (x .steps) w (x .book) (x .due) i (x .idle) u low high true (ap (refuses n u) now ∙ d) in absurd (started-not-refused (sym e ∙ s)))
+    (λ d. let s = start-decided n (x .steps) w (x .book) (x .due) i (x .idle) u low high true (ap (refuses n u) now ∙ d) in absurd (started-no-refusal _ (sym e ∙ s)))
     (λ d. let q = begun-right n (x .steps) w (x .book) (x .due) i (x .idle) u high e in
     let z = outcome-answered n u t d in
     let y = ends-at ends n (q .0) (q .1) (q .2) (q .3) (afterShape u t) (q .4 ∙ ap (afterShape u) (x .goal)) (q .6) in

@@ -3,7 +3,6 @@ use mathlib.Core.Path.{_≡_}
 use mathlib.Core.List.{List, [], _∷_}
 use mathlib.Core.Bool.{Bool, true, false, not}
 use Prim.Native.Nat.{ℕ, _+_, _≤_, _<_}
-use native.Mathlib.Omega.{arith}
 use lib.ListN.{getD}
 use lib.Dec.{ltb}
 use borrow.Author.Tests.{lt-ltb}
@@ -12,7 +11,7 @@ use Rattle.plans.specs.Change.{splitLeaf}
 use Rattle.plans.specs.Planning.{giving, first, second, third, balanced, prepared}
 use Rattle.descent.specs.Descent.{slotOf}
 use Rattle.free_nodes.specs.NodeSet.{countTrue}
-use Rattle.laws.proofs.Cases.{order}
+use Rattle.laws.proofs.Cases.{order, impossible}
 use Rattle.laws.specs.Sorting.{sort}
 use Rattle.promises.proofs.Feeding.{is-none, full-at, leaf-full}
 use Rattle.promises.proofs.Machine.{run}
@@ -55,7 +54,7 @@ module _ (c : List ℕ) (n key : ℕ) (m link run : ℕ) (land : landing c n key
   room-full free e z r = let q : not (ltb (countTrue free) (splitNeed run)) ≡ true = rw (land, e, z) at r in order (countTrue free) (splitNeed run) (λ o. absurd (never o q)) (λ o. o)
     where
       never : countTrue free < splitNeed run → not (ltb (countTrue free) (splitNeed run)) ≡ true → ⊥
-      never o q = let k : _≡_ {A = Bool} false true = rw (lt-ltb (countTrue free) (splitNeed run) o) at q in let y : _≡_ {A = ℕ} 0 1 = cc in omega arith
+      never o q = let k : _≡_ {A = Bool} false true = rw (lt-ltb (countTrue free) (splitNeed run) o) at q in impossible (cc)
 
   pub flag-slot : (i : ℕ) → slotOf (nodeAt c m) 0 ≡ At i → leaf-full c n key ≡ false
   unfolding leaf-full full-at is-none

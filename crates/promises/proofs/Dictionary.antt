@@ -36,6 +36,7 @@ use Rattle.tree.specs.Pairs.{pairs, lookup}
 use Rattle.tree.specs.Height.{Height}
 use Rattle.tree.specs.Tree.{Tree}
 use Rattle.tree.specs.WellFormed.{WellFormed}
+use Rattle.laws.proofs.Cases.{impossible}
 
 module _ (w : World) (l : List (ℕ × ℕ)) (begins : Begins w l) (es : List Event) (words : Words es) where
   -- After any list of events, a step that gives a final answer gives the one due: "ready" where opening's repair is in progress,
@@ -100,4 +101,4 @@ repair-finishes c e =
     work-finishes (nodesOfLength (length c)) repairSteps (73 * depthLimit) (opened c) _ _ (reopened-inv (nodesOfLength (length c)) c (t .0) (pairs (t .0)) b o (same-refl (pairs (t .0)))) (reopened c (nodesOfLength (length c)) (t .0) b o .busy-when-started e) (omega arith)
   where
     accepted : Accepted c
-    accepted = record { not-refused = λ r z. let y : _≡_ {A = Begun} (BegunRefused r) Started = rw z at e in let k : _≡_ {A = ℕ} 0 1 = cc in omega arith }
+    accepted = record { not-refused = λ r z. let y : _≡_ {A = Begun} (BegunRefused r) Started = rw z at e in impossible (cc) }

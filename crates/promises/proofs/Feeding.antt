@@ -1,4 +1,5 @@
 -- What the ledger is fed of each event: document 01, "The book and the cut".
+use mathlib.Core.Path.{_≡_}
 use mathlib.Core.List.{List, [], _∷_}
 use mathlib.Core.Bool.{Bool, true, false}
 use mathlib.Core.Option.{Option, none, some}
@@ -91,6 +92,11 @@ due-after (insert key value) w b due = due-after-start (begun-result (insertOf (
 due-after (delete key) w b due = due-after-start (begun-result (deleteOf (w .card) (w .memory) key .begun)) (remove key) (b .held) due
 due-after step w b due = due-after-step (step-result (stepOf (w .card) (w .memory) .answer)) due
 due-after crash w b due = none
+
+-- a store leaves the answer due as it was
+pub stored-due : (w : World) (b : Ledger) (due : Option Answer) → stepOf (w .card) (w .memory) .answer ≡ Stored → due-after step w b due ≡ due
+unfolding due-after due-after-step step-result
+stored-due w b due e = rw e
 
 -- the answer due after a list of events
 unfoldable pub kept-due : List Event → World → Ledger → Option Answer → Option Answer

@@ -16,7 +16,7 @@ use Rattle.state.specs.declared.Answer.the-variants.{Stored, Ready, Absent, Val
 use Rattle.card.specs.Replies.{Reply}
 use Rattle.tree.specs.FreeNodes.{Exact}
 use Rattle.free_nodes.specs.NodeSet.{countTrue}
-use Rattle.promises.proofs.Feeding.{step-result, due-after-step, due-after}
+use Rattle.promises.proofs.Feeding.{step-result, stored-due}
 use Rattle.promises.proofs.Finishing.{stores, stores-in, Answers, Finishes, Rests}
 use Rattle.promises.proofs.Invariant.{Inv}
 use Rattle.promises.proofs.Ledger.{Ledger, was-final, empty}
@@ -30,16 +30,12 @@ use Rattle.promises.proofs.Steps.{memory, idle-refused, idle-world}
 use Rattle.soundness_theory.proofs.Depth.{balanced-levels, nodes-within}
 use Rattle.shapes.proofs.Bare.{bare}
 use Rattle.tree.specs.Violations.{table-violations}
+use Rattle.laws.proofs.Cases.{impossible}
 
 -- so many steps that each store a word, and then one that gives the final answer
 data Counted (final : Reply) : ℕ → World → Type 0 where
   answers-now : {w : World} → step-result (stepOf (w .card) (w .memory) .answer) ≡ was-final → Answers final w → Counted final 0 w
   stores-first : {k : ℕ} {w : World} → stepOf (w .card) (w .memory) .answer ≡ Stored → Counted final k (happens step w) → Counted final (suc k) w
-
--- a store leaves the answer due as it was
-pub stored-due : (w : World) (b : Ledger) (due : Option Answer) → stepOf (w .card) (w .memory) .answer ≡ Stored → due-after step w b due ≡ due
-unfolding due-after due-after-step step-result
-stored-due w b due e = rw e
 
 -- the work in hand takes fewer stores than it has steps left
 counted : (n steps : ℕ) (w : World) (b : Ledger) (due : Option Answer) → Inv n steps w b due → isIdle (w .memory .doing) ≡ false → (k : ℕ) × (k < steps) × Counted (stepReply (final-due due)) k w
@@ -74,7 +70,7 @@ idle-after w a = a .idle
 
 final-stores : (a : Answer) → step-result a ≡ was-final → stores a ≡ 0
 unfolding step-result stores
-final-stores Stored e = let k : _≡_ {A = ℕ} 0 1 = cc in absurd (omega arith)
+final-stores Stored e = impossible (cc)
 final-stores Ready e = refl
 final-stores Absent e = refl
 final-stores (Value v) e = refl
@@ -123,7 +119,7 @@ finishes-within few many h f = record { count = f .count; few-stores = omega (ar
 
 refused-not-final : (r : ℕ) → step-result (Refused r) ≡ was-final → ⊥
 unfolding step-result
-refused-not-final r e = let k : _≡_ {A = ℕ} 0 1 = cc in omega arith
+refused-not-final r e = impossible (cc)
 
 pub work-not-refused : (n steps : ℕ) (w : World) (b : Ledger) (due : Option Answer) → Inv n steps w b due → isIdle (w .memory .doing) ≡ false → (r : ℕ) → stepOf (w .card) (w .memory) .answer ≡ Refused r → ⊥
 work-not-refused n steps w b due i busy r e = at (kept-step n steps w b due (loosen n steps (suc steps) w b due (omega arith) i) .2)
@@ -131,7 +127,7 @@ work-not-refused n steps w b due i busy r e = at (kept-step n steps w b due (loo
     at : Moves (w .card) (w .memory) (stepOf (w .card) (w .memory)) → ⊥
     at (was-idle f) = idle-not-busy (w .memory .doing) f busy
     at (ends-now f same idle) = let z : step-result (Refused r) ≡ was-final = rw e at f in refused-not-final r z
-    at (goes-further s f) = let z : _≡_ {A = Answer} (Refused r) Stored = rw e at s in let k : _≡_ {A = ℕ} 0 1 = cc in omega arith
+    at (goes-further s f) = let z : _≡_ {A = Answer} (Refused r) Stored = rw e at s in impossible (cc)
 
 -- an idle state's table
 pub inv-rests : (n steps : ℕ) (w : World) (b : Ledger) (due : Option Answer) → Inv n steps w b due → w .memory .doing ≡ Idle → Rests w (b .held)

@@ -14,13 +14,14 @@ use borrow.Author.Tests.{lt-ltb, le-ltb, eq-eqb, ne-eqb}
 use Rattle.card.specs.Header.{nodesOfLength, headerRefusal, must, cardRefusal, Sized, Formatted}
 use Rattle.card.specs.Replies.{Reply, refusal}
 use Rattle.card.proofs.HeaderLaws.{nodes-sized, header-formatted, formatted-header, wrong-word0}
+use Rattle.card.specs.Layout.{runBelow}
 use Rattle.tree.specs.FreeNodes.{Exact}
 use Rattle.change_theory.proofs.Exact.{exact-same}
-use Rattle.tree.specs.Reserve.{reserves, run-below}
+use Rattle.tree.specs.Reserve.{reserves}
 use Rattle.change_theory.proofs.Reserve.{all-reserves-none, reserve-total}
 use Rattle.free_nodes.specs.NodeSet.{countTrue}
 use Rattle.laws.proofs.Bits.{bit-true, bit-false}
-use Rattle.laws.proofs.Cases.{bool-cases, order}
+use Rattle.laws.proofs.Cases.{bool-cases, order, impossible}
 use Rattle.promises.proofs.Reopen.{length-accepted, card-accepted, open-sound, facts-exact}
 use Rattle.soundness.specs.Check.{Findings, tableCheck}
 use Rattle.soundness_theory.proofs.Facts.{Facts}
@@ -37,8 +38,8 @@ use Rattle.tree.specs.WellFormed.{WellFormed}
 -- the answer's number is a refusal's exactly when the answer is that refusal: the other answers have numbers from 64 on
 says : (b : Begun) (r : ℕ) → r < 64 → (startReply b ≡ refusal r) ↔ (b ≡ BegunRefused r)
 unfolding startReply
-says OpenedIdle r h = (λ e. absurd (omega (arith, ap (λ (x : Reply). x .code) e)), λ e. let k : _≡_ {A = ℕ} 0 1 = cc in absurd (omega arith))
-says Started r h = (λ e. absurd (omega (arith, ap (λ (x : Reply). x .code) e)), λ e. let k : _≡_ {A = ℕ} 0 1 = cc in absurd (omega arith))
+says OpenedIdle r h = (λ e. absurd (omega (arith, ap (λ (x : Reply). x .code) e)), λ e. impossible (cc))
+says Started r h = (λ e. absurd (omega (arith, ap (λ (x : Reply). x .code) e)), λ e. impossible (cc))
 says (BegunRefused k) r h = (λ e. ap BegunRefused (ap (λ (x : Reply). x .code) e), λ e. ap startReply e)
 
 through : {P : Type 0} (b : Begun) (r : ℕ) → r < 64 → (b ≡ BegunRefused r) ↔ P → (startReply b ≡ refusal r) ↔ P
@@ -49,10 +50,10 @@ refused-same : (a b : ℕ) → _≡_ {A = Begun} (BegunRefused a) (BegunRefused 
 refused-same a b e = cc
 
 started-not : {P : Type 0} (r : ℕ) → _≡_ {A = Begun} Started (BegunRefused r) → P
-started-not r e = let k : _≡_ {A = ℕ} 0 1 = cc in absurd (omega arith)
+started-not r e = impossible (cc)
 
 idle-not : {P : Type 0} (r : ℕ) → _≡_ {A = Begun} OpenedIdle (BegunRefused r) → P
-idle-not r e = let k : _≡_ {A = ℕ} 0 1 = cc in absurd (omega arith)
+idle-not r e = impossible (cc)
 
 -- a table that the check does not accept
 open-unsound : (c : List ℕ) (n : ℕ) → Sized (length c) n → Formatted c n → tableCheck c n ≡ none → openOf c .begun ≡ BegunRefused 4
@@ -158,7 +159,7 @@ module _ (c : List ℕ) (n : ℕ) (s : Sized (length c) n) where
 balanced-reserves : (t : Tree) → RootOk t → table-violations t ≡ 0 → reserves 0 t ≡ 0
 balanced-reserves (leaf m ks vs) w z = refl
 balanced-reserves (node m true f) w z = absurd w
-balanced-reserves (node m false f) w z = omega (arith, all-reserves-none (run-below (length (roots f)) 0) f z)
+balanced-reserves (node m false f) w z = omega (arith, all-reserves-none (runBelow (length (roots f)) 0) f z)
 
 facts-run : {c : List ℕ} {n h : ℕ} {t : Tree} {f : Findings} → RootOk t → Facts c n t h f → f .run ≡ reserves 0 t
 facts-run {c} {n} {h} {t} {f} w x =

@@ -30,7 +30,7 @@ use Rattle.formatting_theory.proofs.FormatCard.{formatCard, format-untouched}
 use Rattle.formatting_theory.proofs.FormatSteps.{freshNodes, formatMemory, freshMemory, format-starts, format-refused, format-step-stores, format-step-ready}
 use Rattle.formatting_theory.proofs.FreshTable.{freshTree, FreshTable, format-fresh}
 use Rattle.free_nodes.specs.NodeSet.{countTrue}
-use Rattle.laws.proofs.Cases.{bool-cases, order}
+use Rattle.laws.proofs.Cases.{bool-cases, order, impossible}
 use Rattle.laws.specs.Totals.{total}
 use Rattle.promises.proofs.Accepting.{accepted-card, accepted-openable, find-answers}
 use Rattle.promises.proofs.Feeding.{step-result, fed, kept-ledger, due-after-step, due-after, kept-due, dictionary-answer}
@@ -101,7 +101,7 @@ kept n (crash ∷ es) steps w b due u i = kept n es repairSteps (happens crash w
 
 format-not-refused : (c : List ℕ) → nodesOfLength (length c) ≡ 0 → formatOf c .begun ≡ Started → ⊥
 unfolding noBeginning
-format-not-refused c z e = let y : _≡_ {A = Begun} (BegunRefused 1) Started = rw (format-refused c z) at e in let k : _≡_ {A = ℕ} 0 1 = cc in omega arith
+format-not-refused c z e = let y : _≡_ {A = Begun} (BegunRefused 1) Started = rw (format-refused c z) at e in impossible (cc)
 
 begun-world : (c : List ℕ) (n : ℕ) → Sized (length c) n → _≡_ {A = World} (record { card = c; memory = formatOf c .memory }) (record { card = formatCard n c 0; memory = formatMemory n 0 })
 begun-world c n s = rw (format-starts c n s, format-untouched n c)
@@ -126,10 +126,10 @@ unfolding happens
 format-ready-inv c n made s w v e h (ready-now q) =
     order (length c) made
     (λ o. let m : made ≡ suc (length c) = omega arith in rw (e, m, format-step-ready c n s))
-    (λ o. let z : stepOf (w .card) (w .memory) .answer ≡ Stored = rw (e, format-step-stores c n s made o) in let y : _≡_ {A = Answer} Stored Ready = sym z ∙ q in let k : _≡_ {A = ℕ} 0 1 = cc in absurd (omega arith))
+    (λ o. let z : stepOf (w .card) (w .memory) .answer ≡ Stored = rw (e, format-step-stores c n s made o) in let y : _≡_ {A = Answer} Stored Ready = sym z ∙ q in impossible (cc))
 format-ready-inv c n made s w v e h (stored-first q r) =
     order (length c) made
-    (λ o. let m : made ≡ suc (length c) = omega arith in let z : stepOf (w .card) (w .memory) .answer ≡ Ready = rw (e, m, format-step-ready c n s) in let y : _≡_ {A = Answer} Ready Stored = sym z ∙ q in let k : _≡_ {A = ℕ} 0 1 = cc in absurd (omega arith))
+    (λ o. let m : made ≡ suc (length c) = omega arith in let z : stepOf (w .card) (w .memory) .answer ≡ Ready = rw (e, m, format-step-ready c n s) in let y : _≡_ {A = Answer} Ready Stored = sym z ∙ q in impossible (cc))
     (λ o. format-ready-inv c n (suc made) s (happens step w) v (next o) (omega arith) r)
   where
     next : made ≤ length c → happens step w ≡ record { card = formatCard n c (suc made); memory = formatMemory n (suc made) }
@@ -171,7 +171,7 @@ kept-from w l s es u =
 start-landed-unchanged : (m : Memory) (doing : Doing) (room : Bool) (x : Landing) (r : ℕ) → startLanded m doing room x .begun ≡ BegunRefused r → startLanded m doing room x .memory ≡ m
 unfolding startLanded startRefused started
 start-landed-unchanged m doing room NoLanding r e = refl
-start-landed-unchanged m doing true (LandingAt number link run) r e = let k : _≡_ {A = ℕ} 0 1 = cc in absurd (omega arith)
+start-landed-unchanged m doing true (LandingAt number link run) r e = impossible (cc)
 start-landed-unchanged m doing false (LandingAt number link run) r e = refl
 
 -- a refused start changes nothing
@@ -247,7 +247,7 @@ delete-same key w r e = same-world w _ (start-unchanged (w .card) (w .memory) ke
 
 pub idle-not-busy : (d : Doing) → d ≡ Idle → isIdle d ≡ false → ⊥
 unfolding isIdle
-idle-not-busy d e q = let z : _≡_ {A = Bool} true false = rw e at q in let k : _≡_ {A = ℕ} 0 1 = cc in omega arith
+idle-not-busy d e q = let z : _≡_ {A = Bool} true false = rw e at q in impossible (cc)
 
 still-ends : (w : World) {S : Type 0} → (happens step w .memory .doing ≡ Idle) ⊎ S → (w .memory .doing ≡ Idle) ⊎ ((stepOf (w .card) (w .memory) .answer ≡ Ready) ⊎ (isIdle (happens step w .memory .doing) ≡ false))
     → (w .memory .doing ≡ Idle) ⊎ ((stepReply (stepOf (w .card) (w .memory) .answer) ≡ ready) ⊎ S)

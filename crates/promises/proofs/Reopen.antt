@@ -18,7 +18,7 @@ use Rattle.change_theory.proofs.Reserve.{reserve-total}
 use Rattle.descent_theory.proofs.Seek.{depth-plug}
 use Rattle.free_nodes.specs.NodeSet.{countTrue}
 use Rattle.laws.proofs.Bits.{bit-true, bit-false}
-use Rattle.laws.proofs.Cases.{bool-cases}
+use Rattle.laws.proofs.Cases.{bool-cases, impossible}
 use Rattle.promises.proofs.Invariant.{Table, Stage, job-repair, no-update, stage-idle, stage-between}
 use Rattle.promises.proofs.Ledger.{empty}
 use Rattle.soundness.specs.Check.{Findings, tableCheck}
@@ -148,8 +148,8 @@ reopened c n t b o = go (sound-accepted c n (b .sized .words) (b .sized .most) t
               stage = rw is (stage-between job-repair no-update (depth-of (v .0 .context)) (violated (v .0) w room) (facts-exact x) (omega arith) (record { repairs = depthLimit; enough = omega (arith, violation-deep t (f .key) (v .0), x .deep); reaches = refl }));
               goal = settledBy depthLimit (bare t);
               goal-is = refl;
-              accepted = λ r z. let y : _≡_ {A = Begun} Started (BegunRefused r) = rw is at z in let k : _≡_ {A = ℕ} 0 1 = cc in omega arith;
-              idle-when-balanced = λ z. let y : _≡_ {A = Begun} Started OpenedIdle = rw is at z in let k : _≡_ {A = ℕ} 0 1 = cc in absurd (omega arith);
+              accepted = λ r z. let y : _≡_ {A = Begun} Started (BegunRefused r) = rw is at z in impossible (cc);
+              idle-when-balanced = λ z. let y : _≡_ {A = Begun} Started OpenedIdle = rw is at z in impossible (cc);
               busy-when-started = λ z. ap (λ (x : Handed). isIdle (x .memory .doing)) is ∙ repair-busy n (f .free) (f .key);
             }
 
@@ -164,7 +164,7 @@ reopened c n t b o = go (sound-accepted c n (b .sized .words) (b .sized .most) t
               stage = let enough : 3 ≤ countTrue (f .free) = omega (arith, room-idle z, count-same f h x) in rw is (stage-idle z enough (facts-exact x) refl);
               goal = bare t;
               goal-is = heads-done {deep = 0} (record { repairs = depthLimit; enough = omega arith; reaches = refl }) (bare-table-violations t ∙ z);
-              accepted = λ r k. let y : _≡_ {A = Begun} OpenedIdle (BegunRefused r) = rw is at k in let k : _≡_ {A = ℕ} 0 1 = cc in omega arith;
+              accepted = λ r k. let y : _≡_ {A = Begun} OpenedIdle (BegunRefused r) = rw is at k in impossible (cc);
               idle-when-balanced = λ k. z;
-              busy-when-started = λ k. let y : _≡_ {A = Begun} OpenedIdle Started = rw is at k in let k : _≡_ {A = ℕ} 0 1 = cc in absurd (omega arith);
+              busy-when-started = λ k. let y : _≡_ {A = Begun} OpenedIdle Started = rw is at k in impossible (cc);
             }

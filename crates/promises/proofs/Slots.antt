@@ -9,7 +9,7 @@ use borrow.Author.Tests.{eqb-true, eqb-false}
 use Rattle.card.specs.Layout.{keyWords, slot-pairs}
 use Rattle.card.proofs.NodeLaws.{length-keyWords}
 use Rattle.descent.specs.Descent.{firstEqual, slotOf}
-use Rattle.laws.proofs.Cases.{bool-cases}
+use Rattle.laws.proofs.Cases.{bool-cases, impossible}
 use Rattle.laws.specs.Totals.{indicator, total}
 use Rattle.laws.proofs.Totals.{indicator-same, indicator-other}
 use Rattle.descent.specs.declared.Slot.{Slot}
@@ -17,7 +17,7 @@ use Rattle.descent.specs.declared.Slot.the-variants.{At, Absent as NoSlot}
 
 first-hit : (ws : List ℕ) (x j i : ℕ) → firstEqual ws x j ≡ At i → (j ≤ i) × (i < j + length ws) × (getD ws (i - j) 0 ≡ x)
 unfolding firstEqual
-first-hit [] x j i e = let z : _≡_ {A = ℕ} 0 1 = cc in absurd (omega arith)
+first-hit [] x j i e = impossible (cc)
 first-hit (y ∷ ws) x j i e =
     bool-cases (eqb y x)
     (λ b. let q : _≡_ {A = Slot} (At j) (At i) = rw b at e in let k : j ≡ i = cc in let d : i - j ≡ 0 = omega arith in (omega arith, omega arith, rw d (eqb-true y x b)))
@@ -28,7 +28,7 @@ unfolding firstEqual
 first-miss [] x j e = refl
 first-miss (y ∷ ws) x j e =
     bool-cases (eqb y x)
-    (λ b. let q : _≡_ {A = Slot} (At j) NoSlot = rw b at e in let z : _≡_ {A = ℕ} 0 1 = cc in absurd (omega arith))
+    (λ b. let q : _≡_ {A = Slot} (At j) NoSlot = rw b at e in impossible (cc))
     (λ b. omega (arith, first-miss ws x (suc j) (rw b at e), indicator-other x y (λ q. eqb-false y x b (sym q))))
 
 -- the slot found holds the key

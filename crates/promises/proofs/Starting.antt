@@ -15,7 +15,7 @@ use Rattle.tree.specs.FreeNodes.{Exact}
 use Rattle.descent.specs.Descent.{landingFor}
 use Rattle.descent_theory.proofs.Landing.{landing-found}
 use Rattle.free_nodes.specs.NodeSet.{countTrue}
-use Rattle.laws.proofs.Cases.{bool-cases, order}
+use Rattle.laws.proofs.Cases.{bool-cases, order, impossible}
 use Rattle.laws.specs.Cases.{pick}
 use Rattle.promises.proofs.Feeding.{begun-result, leaf-full, fed, due-after-start, due-after}
 use Rattle.promises.proofs.Finishing.{updateStoresAt}
@@ -107,7 +107,7 @@ unfolding startRefused begun-result fed-a-start due-after-start goalAfter
 refused-goal n steps w b due u was-full r i = (steps, record { idle-before = λ e. not-started e; steps-left = λ e. not-started e; busy = λ e. not-started e }, (record { tree = i .tree; goal = i .goal; table = i .table; openable = i .openable; same = i .same; stage = i .stage }, refl))
   where
     not-started : {P : Type 0} → _≡_ {A = Begun} (BegunRefused r) Started → P
-    not-started e = let k : _≡_ {A = ℕ} 0 1 = cc in absurd (omega arith)
+    not-started e = impossible (cc)
 
 -- the answer due by the ledger's pairs is that by the tree's
 pub same-lookup : {n steps : ℕ} {w : World} {b : Ledger} {due : Option Answer} (i : Inv n steps w b due) (key : ℕ) → lookup key (pairs (i .tree)) ≡ lookup key (b .held)

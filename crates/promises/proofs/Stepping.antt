@@ -11,10 +11,11 @@ use Rattle.card.specs.Layout.{lowestKey, keyLimit, depthLimit, place, nodeAt, s
 use Rattle.card.specs.Stores.{Store, stores, node-stores}
 use Rattle.plans.specs.Change.{splitLeaf}
 use Rattle.plans.specs.Planning.{Preparation, takeNumbers, withoutAll, lastOf, giving, first, second, third, balanced, prepared}
+use Rattle.plans.proofs.NumberLaws.{giving-some}
 use Rattle.change.specs.Mending.{onSearch, nextRepair}
 use Rattle.tree.specs.FreeNodes.{Exact}
 use Rattle.change_theory.proofs.LeafSplit.{withPair, splitNodes, split-change}
-use Rattle.change_theory.proofs.Mended.{giving-some, change-stores, mended}
+use Rattle.change_theory.proofs.Mended.{change-stores, mended}
 use Rattle.change_theory.proofs.Mending.{change-at, giving-same}
 use Rattle.change_theory.proofs.Numbers.{Given, numbers-given}
 use Rattle.change_theory.proofs.Plays.{Openable, Changing, pending-changing}
@@ -29,7 +30,7 @@ use Rattle.descent_theory.proofs.Landing.{LandedAt, landing-found}
 use Rattle.descent_theory.proofs.Routing.{Leads}
 use Rattle.descent_theory.proofs.Seek.{depth-plug, seek-balanced}
 use Rattle.free_nodes.specs.NodeSet.{countTrue}
-use Rattle.laws.proofs.Cases.{order}
+use Rattle.laws.proofs.Cases.{order, impossible}
 use Rattle.laws.specs.Sorting.{sort}
 use Rattle.laws.specs.Totals.{total}
 use Rattle.promises.proofs.Begin.{put-held, put-slot, put-full, remove-held, remove-absent, room-full, flag-slot, flag-full}
@@ -105,8 +106,8 @@ final-due (some a) = a
 
 pub right-final : {a : Answer} {due : Option Answer} → Right a due → step-result a ≡ was-final → a ≡ final-due due
 unfolding step-result
-right-final no-answer e = let k : _≡_ {A = ℕ} 0 1 = cc in absurd (omega arith)
-right-final no-call e = let k : _≡_ {A = ℕ} 0 1 = cc in absurd (omega arith)
+right-final no-answer e = impossible (cc)
+right-final no-call e = impossible (cc)
 right-final update-answer e = refl
 right-final repair-answer e = refl
 

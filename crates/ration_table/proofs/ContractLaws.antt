@@ -27,30 +27,31 @@ use Rattle.ration_table.proofs.HandedBack.{step-small}
 use Rattle.ration_table.specs.Contracts.{OpenCall, StartCall, StepCall}
 use Rattle.replies.specs.ReplyWords.{isRefusal, isRefusedStart}
 use Rattle.block_steps.specs.Playing.{Played}
+use Rattle.laws.proofs.Cases.{impossible}
 
 -- ---- refusals
 
 refused-start : (b : Begun) → isRefusedStart b ≡ true → (r : ℕ) × (b ≡ BegunRefused r)
 unfolding isRefusedStart
-refused-start OpenedIdle e = let z : _≡_ {A = ℕ} 0 1 = cc in absurd (omega arith)
-refused-start Started e = let z : _≡_ {A = ℕ} 0 1 = cc in absurd (omega arith)
+refused-start OpenedIdle e = impossible (cc)
+refused-start Started e = impossible (cc)
 refused-start (BegunRefused r) e = (r, refl)
 
 unrefused-start : (b : Begun) (r : ℕ) → isRefusedStart b ≡ false → b ≡ BegunRefused r → ⊥
 unfolding isRefusedStart
-unrefused-start b r e f = let z : true ≡ false = ap isRefusedStart (sym f) ∙ e in let w : _≡_ {A = ℕ} 0 1 = cc in omega arith
+unrefused-start b r e f = let z : true ≡ false = ap isRefusedStart (sym f) ∙ e in impossible (cc)
 
 refusal : (a : Answer) → isRefusal a ≡ true → (r : ℕ) × (a ≡ Refused r)
 unfolding isRefusal
-refusal Stored e = let z : _≡_ {A = ℕ} 0 1 = cc in absurd (omega arith)
-refusal Ready e = let z : _≡_ {A = ℕ} 0 1 = cc in absurd (omega arith)
-refusal Absent e = let z : _≡_ {A = ℕ} 0 1 = cc in absurd (omega arith)
-refusal (Value v) e = let z : _≡_ {A = ℕ} 0 1 = cc in absurd (omega arith)
+refusal Stored e = impossible (cc)
+refusal Ready e = impossible (cc)
+refusal Absent e = impossible (cc)
+refusal (Value v) e = impossible (cc)
 refusal (Refused r) e = (r, refl)
 
 no-refusal : (a : Answer) (r : ℕ) → isRefusal a ≡ false → a ≡ Refused r → ⊥
 unfolding isRefusal
-no-refusal a r e f = let z : true ≡ false = ap isRefusal (sym f) ∙ e in let w : _≡_ {A = ℕ} 0 1 = cc in omega arith
+no-refusal a r e f = let z : true ≡ false = ap isRefusal (sym f) ∙ e in impossible (cc)
 
 -- ---- the state handed back, where the whole answer is known
 

@@ -10,7 +10,7 @@ use lib.ListN.{length, getD, set, length-set}
 use lib.Dec.{eqb, ltb, leb}
 use borrow.Author.Tests.{eq-eqb}
 use Rattle.laws.specs.Cases.{pick}
-use Rattle.laws.proofs.Cases.{order}
+use Rattle.laws.proofs.Cases.{order, impossible}
 use Rattle.card.specs.Layout.{greatestNodes, rootPlace, depthLimit, nodeAt, kindOf, children}
 use Rattle.card.specs.Header.{nodesOfLength, headerRefusal, cardRefusal}
 use Rattle.card.proofs.HeaderLaws.{nodes-sized}
@@ -153,13 +153,13 @@ LowFirst f = LowLast (f .preparation) × (formatted (f .doing) < 2 ^ 32)
 -- "A change takes the next free node after the one given last": a number below the number of bits
 last-after : (m last : ℕ) (ms : List ℕ) (found : Option (List ℕ)) → ((ns : List ℕ) → found ≡ some ns → lastOf m ns < 2 ^ 32) → elim found [ none ↦ none | some ns ↦ some (m ∷ ns) ] ≡ some ms → lastOf last ms < 2 ^ 32
 unfolding lastOf
-last-after m last ms none h e = let z : _≡_ {A = ℕ} 0 1 = cc in absurd (omega arith)
+last-after m last ms none h e = impossible (cc)
 last-after m last ms (some ns) h e = let s : m ∷ ns ≡ ms = cc in rw (← s) (h ns refl)
 
 module _ (free : List Bool) (last : ℕ) (bits : length free ≤ 2 ^ 32) where
   last-from : (ms : List ℕ) (next : Next) (rest : ℕ → Option (List ℕ)) → nextFree free last ≡ next → ((m : ℕ) (ns : List ℕ) → m < 2 ^ 32 → rest m ≡ some ns → lastOf m ns < 2 ^ 32) → numbersFrom next rest ≡ some ms → lastOf last ms < 2 ^ 32
   unfolding numbersFrom
-  last-from ms Nothing rest f h e = let z : _≡_ {A = ℕ} 0 1 = cc in absurd (omega arith)
+  last-from ms Nothing rest f h e = impossible (cc)
   last-from ms (Node m) rest f h e = last-after m last ms (rest m) (λ ns g. h m ns (omega (arith, next-found free last m f .2)) g) e
 
 last-taken : (k : ℕ) (free : List Bool) (last : ℕ) (ms : List ℕ) → length free ≤ 2 ^ 32 → last < 2 ^ 32 → takeNumbers k free last ≡ some ms → lastOf last ms < 2 ^ 32

@@ -8,7 +8,7 @@ use native.Mathlib.Omega.{arith}
 use lib.ListN.{length, take, drop}
 use lib.Seq.{take-at, drop-at}
 use lib.Dec.{eqb, ltb}
-use Rattle.laws.proofs.Cases.{bool-cases}
+use Rattle.laws.proofs.Cases.{bool-cases, impossible}
 use Rattle.card.specs.Header.{nodesOfLength, cardRefusal}
 use Rattle.free_nodes.specs.NodeSet.{countTrue}
 use Rattle.soundness.specs.Check.{Findings, tableCheck}
@@ -42,7 +42,7 @@ sound-idle : (n : ℕ) (f : Findings) (r : ℕ) → openSound n f .begun ≡ Ref
 unfolding openSound noBeginning noMemory resting isIdle
 sound-idle n f r =
     bool-cases (ltb (countTrue (f .free)) (3 + f .run)) (λ s. rw s (λ e. refl))
-    (λ s. rw s (bool-cases (f .violated) (λ v. rw v (λ e. let z : _≡_ {A = ℕ} 0 1 = cc in absurd (omega arith))) (λ v. rw v (λ e. refl))))
+    (λ s. rw s (bool-cases (f .violated) (λ v. rw v (λ e. impossible (cc))) (λ v. rw v (λ e. refl))))
 
 checked-idle : (n : ℕ) (x : Option (ℕ × Findings)) (r : ℕ) → openChecked n x .begun ≡ Refused r → isIdle (openChecked n x .memory .doing) ≡ true
 unfolding openChecked noBeginning noMemory resting isIdle

@@ -5,7 +5,7 @@ use mathlib.Core.Bool.{true}
 use Prim.Native.Nat.{ℕ, zero, suc}
 use native.Mathlib.Omega.{arith}
 use lib.ListN.{length, replicate}
-use Rattle.laws.proofs.Cases.{bool-cases}
+use Rattle.laws.proofs.Cases.{bool-cases, impossible}
 use Rattle.card.specs.Header.{nodesOfLength, Sized}
 use Rattle.card.proofs.HeaderLaws.{sized-nodes}
 use Rattle.repairing.specs.Repairing.{Repaired, repairedCard, openedCard}
@@ -38,10 +38,10 @@ rests (suc k) w e = ap (run (steps k)) (idle-world w e) ∙ rests k w e
 is-idle : (d : Doing) → isIdle d ≡ true → d ≡ Idle
 unfolding isIdle
 is-idle Idle e = refl
-is-idle (Formatting made) e = let z : _≡_ {A = ℕ} 0 1 = cc in absurd (omega arith)
-is-idle (Inserting key value begun) e = let z : _≡_ {A = ℕ} 0 1 = cc in absurd (omega arith)
-is-idle (Deleting key begun value) e = let z : _≡_ {A = ℕ} 0 1 = cc in absurd (omega arith)
-is-idle (Repairing key) e = let z : _≡_ {A = ℕ} 0 1 = cc in absurd (omega arith)
+is-idle (Formatting made) e = impossible (cc)
+is-idle (Inserting key value begun) e = impossible (cc)
+is-idle (Deleting key begun value) e = impossible (cc)
+is-idle (Repairing key) e = impossible (cc)
 
 -- the card and the state that a repair leaves
 abbrev pub world-of : Repaired → World

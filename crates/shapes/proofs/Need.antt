@@ -5,7 +5,7 @@ use mathlib.Core.Bool.{Bool}
 use Prim.Native.Nat.{ℕ, suc, _+_}
 use native.Mathlib.Omega.{arith}
 use lib.ListN.{length}
-use lib.Dec.{eqb, ltb}
+use lib.Dec.{ltb}
 use borrow.Author.Tests.{lt-ltb, le-ltb}
 use Rattle.descent.specs.Descent.{firstEqual}
 use Rattle.descent.specs.declared.Slot.{Slot}
@@ -13,10 +13,11 @@ use Rattle.descent.specs.declared.Slot.the-variants.{At, Absent as NoSlot}
 use Rattle.laws.specs.Cases.{pick}
 use Rattle.shapes.proofs.Bare.{bare, bare-context, bare-plug, bare-run, bare-depth}
 use Rattle.shapes.proofs.Ways.{Reaches, bare-reaches}
-use Rattle.tree.proofs.Path.{Past, Short, depth-of, width-of, full-run}
+use Rattle.tree.proofs.Path.{Past, Short, depth-of, full-run, width-fill}
 use Rattle.tree.specs.Tree.{Tree, Forest, roots, leaf, node, one, more}
 use Rattle.tree.proofs.Tree.{Left, Right, fill, Context, plug, rightmost, followed, top, down}
 use Rattle.updates.specs.Updates.{splitNeed}
+use Rattle.card.specs.Layout.{runBelow}
 
 -- the room that the leaf asks for, with so many full nodes straight above it
 unfoldable pub leafNeed : Slot → ℕ → ℕ
@@ -26,7 +27,7 @@ leafNeed NoSlot run = splitNeed run
 unfoldable mutual
   pub needOf : ℕ → ℕ → Tree → ℕ
   needOf key run (leaf m ks vs) = leafNeed (firstEqual ks 0 0) run
-  needOf key run (node m g f) = needIn key (pick (eqb (length (roots f)) 11) (suc run) 0) f
+  needOf key run (node m g f) = needIn key (runBelow (length (roots f)) run) f
 
   pub needIn : ℕ → ℕ → Forest → ℕ
   needIn key run (one t) = needOf key run t
@@ -42,11 +43,6 @@ unfoldable mutual
   wayIn key (one t) = wayOf key t
   wayIn key (more t x f) = pick (ltb key x) (wayOf key t) (wayIn key f)
 
-width-fill : (l : Left) (s : Tree) (r : Right) → length (roots (fill l s r)) ≡ width-of l r
-width-fill [] s rightmost = refl
-width-fill [] s (followed k f) = omega arith
-width-fill (x ∷ l) s r = omega (arith, width-fill l s r)
-
 module _ (key : ℕ) where
   need-fill : (run : ℕ) (l : Left) (s : Tree) (r : Right) → Past key l → Short key r → needIn key run (fill l s r) ≡ needOf key run s
   unfolding needIn
@@ -57,7 +53,7 @@ module _ (key : ℕ) where
   need-through : (C : Context) (m : ℕ) (g : Bool) (l : Left) (s : Tree) (r : Right) → Past key l → Short key r → needOf key (full-run C) (node m g (fill l s r)) ≡ needOf key (full-run (down C m g l r)) s
   unfolding needOf full-run
   need-through C m g l s r p q =
-      need-fill (pick (eqb (length (roots (fill l s r))) 11) (suc (full-run C)) 0) l s r p q ∙ ap (λ (w : ℕ). needOf key (pick (eqb w 11) (suc (full-run C)) 0) s) (width-fill l s r)
+      need-fill (runBelow (length (roots (fill l s r))) (full-run C)) l s r p q ∙ ap (λ (w : ℕ). needOf key (runBelow w (full-run C)) s) (width-fill l s r)
 
   need-plug : (C : Context) (s : Tree) → Reaches key C → needOf key (full-run top) (plug C s) ≡ needOf key (full-run C) s
   need-plug top s p = refl

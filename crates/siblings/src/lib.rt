@@ -37,11 +37,11 @@ ghost use Rattle.laws.specs.Lists.{before-zero};
 ghost use Rattle.card.specs.Layout.{rootPlace, kindOf, children, routingKeys};
 ghost use Rattle.card.specs.Stores.{node-stores};
 ghost use Rattle.free_nodes.specs.NodeSet.{capacity, nodesOf};
-ghost use Rattle.plans.specs.Change.{leavesTogether, innersTogether, share, merge, mergeRoot};
+ghost use Rattle.plans.specs.Change.{leavesTogether, innersTogether, copied, share, merge, mergeRoot};
 ghost use Rattle.plans.specs.Planning.{giving, first, second, third};
 ghost use Rattle.siblings.specs.Siblings.{mendTogether, mendSiblings};
 ghost use Rattle.plans.specs.Rows.{wordsOf};
-ghost use Rattle.plans.specs.Plan.{planIn, Extends, preparationOf, togetherOf, copied, Keyed, Whole, Linked};
+ghost use Rattle.plans.specs.Plan.{planIn, Extends, preparationOf, togetherOf, Keyed, Whole, Linked};
 
 // A new copy of the parent more, with other keys in the place of routing key j and other children in the place of j and j + 1.
 fn append_parent(

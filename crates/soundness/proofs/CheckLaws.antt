@@ -3,21 +3,19 @@ use mathlib.Core.Path.{_≡_, refl, ap, ap₂, sym, _∙_}
 use mathlib.Core.List.{List, [], _∷_}
 use mathlib.Core.Bool.{Bool, true, false, _&&_, _||_, not}
 use mathlib.Core.Option.{Option, none, some}
-use mathlib.Core.Logic.{by-cases}
 use Prim.Native.Nat.{ℕ, zero, suc, _+_, _-_, _≤_, _<_}
 use native.Mathlib.Omega.{arith}
-use native.Mathlib.Decide.{ℕ-discrete}
 use native.Mathlib.Numerals.{add-one}
 use lib.ListN.{length, set, getD, take, drop, drop-of-length-le}
 use lib.Seq.{take-nil, drop-cons, getD-take, getD-drop, slice, slice-cons, slice-empty, drop-drop}
-use lib.Dec.{ltb, leb, eqb}
+use lib.Dec.{ltb, eqb}
 use borrow.Author.Tests.{ltb-false, lt-ltb, le-ltb, le-leb, lt-leb, eqb-false, ne-eqb, eq-eqb}
-use Rattle.card.specs.Layout.{nodeAt, kindOf, keyWords, valueWords, children, routingKeys, leafPairs}
+use Rattle.card.specs.Layout.{nodeAt, kindOf, keyWords, valueWords, children, routingKeys, leafPairs, runBelow}
 use Rattle.card.proofs.NodeLaws.{length-keyWords, get-keyWord, children-words, routing-words, length-routing}
-use Rattle.laws.proofs.Cases.{order, guard-some, bind-some}
+use Rattle.laws.proofs.Cases.{order, guard-some, bind-some, impossible}
 use Rattle.laws.specs.Cases.{pick, guard, bind}
 use Rattle.laws.specs.Lists.{all-zero, zero-after}
-use Rattle.soundness.specs.Check.{Findings, findingsOf, checkedOf, member, leafSound, unusedZero, Look, lookOf, noted, enterLeaf, innerSound, enterInner, enterKind, enterNode, ChildCheck, childrenCheck, childRun, raised, onLook, nodeCheck, bad, leaf, inner, slotSound, rangeEnd}
+use Rattle.soundness.specs.Check.{Findings, findingsOf, checkedOf, member, leafSound, unusedZero, Look, lookOf, noted, enterLeaf, innerSound, enterInner, enterKind, enterNode, ChildCheck, childrenCheck, raised, onLook, nodeCheck, bad, leaf, inner, slotSound, rangeEnd}
 use Rattle.soundness.specs.declared.Checked.{Checked}
 use Rattle.soundness.specs.declared.Entry.{Entry}
 use Rattle.soundness.specs.declared.Entry.the-variants.{Refused, Leaf, Inner}
@@ -58,24 +56,15 @@ module _ (low high k : ℕ) (ks : List ℕ) where
   unfolding slotSound
   slot-within p h g = simp (ne-eqb k 0 p, le-leb low k h, lt-ltb k high g)
 
-  leaf-slot : leafSound low high (k ∷ ks) ≡ (slotSound low high k ks && leafSound low high ks)
-  unfolding slotSound leafSound
-  leaf-slot = go (eqb k 0) (leb low k) (ltb k high) (not (member k ks))
-    where
-      go : (z a b c : Bool) → pick z (leafSound low high ks) (a && (b && (c && leafSound low high ks))) ≡ (pick z true (a && (b && c)) && leafSound low high ks)
-      go true a b c = refl
-      go false true true true = refl
-      go false true true false = refl
-      go false true false c = refl
-      go false false b c = refl
-
 module _ (node : List ℕ) (len : length node ≡ 24) (low high i : ℕ) where
   pub leaf-stop : i < 11 → slotSound low high (getD node (1 + i) 0) (drop (i + 1) (keyWords node)) ≡ false → leafSound low high (drop i (keyWords node)) ≡ false
-  leaf-stop h e = ap (leafSound low high) (key-drop node len i h) ∙ leaf-slot low high _ _ ∙ rw e
+  unfolding leafSound
+  leaf-stop h e = ap (leafSound low high) (key-drop node len i h) ∙ rw e
 
   pub leaf-next : i < 11 → slotSound low high (getD node (1 + i) 0) (drop (i + 1) (keyWords node)) ≡ true
       → leafSound low high (drop i (keyWords node)) ≡ leafSound low high (drop (i + 1) (keyWords node))
-  leaf-next h e = ap (leafSound low high) (key-drop node len i h) ∙ leaf-slot low high _ _ ∙ rw e
+  unfolding leafSound
+  leaf-next h e = ap (leafSound low high) (key-drop node len i h) ∙ rw e
 
   pub leaf-end : 11 ≤ i → leafSound low high (drop i (keyWords node)) ≡ true
   unfolding leafSound
@@ -244,17 +233,17 @@ module _ (card : List ℕ) (n m low high run : ℕ) (root : Bool) (f : Findings)
 -- ---- what a look that found children tells
 
 pick-bad : (b : Bool) (x : Look) (c : ℕ) (g : Findings) → pick b bad x ≡ inner c g → (b ≡ false) × (x ≡ inner c g)
-pick-bad true x c g e = let z : _≡_ {A = ℕ} 0 1 = cc in absurd (omega arith)
+pick-bad true x c g e = impossible (cc)
 pick-bad false x c g e = (refl, e)
 
 pick-else-bad : (b : Bool) (x : Look) (c : ℕ) (g : Findings) → pick b x bad ≡ inner c g → x ≡ inner c g
 pick-else-bad true x c g e = e
-pick-else-bad false x c g e = let z : _≡_ {A = ℕ} 0 1 = cc in absurd (omega arith)
+pick-else-bad false x c g e = impossible (cc)
 
 look-inner : (entry : Entry) (f : Findings) (c : ℕ) (g : Findings) → lookOf entry f ≡ inner c g → entry ≡ Inner c
 unfolding lookOf
-look-inner Refused f c g e = let z : _≡_ {A = ℕ} 0 1 = cc in absurd (omega arith)
-look-inner Leaf f c g e = let z : _≡_ {A = ℕ} 0 1 = cc in absurd (omega arith)
+look-inner Refused f c g e = impossible (cc)
+look-inner Leaf f c g e = impossible (cc)
 look-inner (Inner k) f c g e = ap Inner (let z : k ≡ c = cc in z)
 
 noted-inner : (violates : Bool) (entry : Entry) (f : Findings) (key run c : ℕ) (g : Findings) → noted violates entry f key run ≡ inner c g → entry ≡ Inner c
@@ -264,11 +253,11 @@ noted-inner false entry f key run c g e = look-inner entry f c g e
 
 enter-leaf-inner : (node : List ℕ) (low high : ℕ) (root : Bool) (f : Findings) (c : ℕ) (g : Findings) → enterLeaf node low high root f ≡ inner c g → ⊥
 unfolding enterLeaf
-enter-leaf-inner node low high true f c g e = let q = pick-else-bad (leafSound low high (keyWords node)) _ c g e in let z : _≡_ {A = ℕ} 0 1 = cc in omega arith
+enter-leaf-inner node low high true f c g e = let q = pick-else-bad (leafSound low high (keyWords node)) _ c g e in impossible (cc)
 enter-leaf-inner node low high false f c g e =
     let q = pick-bad (eqb (length (leafPairs node)) 0) _ c g (pick-else-bad (leafSound low high (keyWords node)) _ c g e) in
     let r = noted-inner (ltb (length (leafPairs node)) 2) Leaf f low 0 c g (q .1) in
-    let z : _≡_ {A = ℕ} 0 1 = cc in omega arith
+    impossible (cc)
 
 enter-inner-count : (node : List ℕ) (tagged : Bool) (low run : ℕ) (root : Bool) (f : Findings) (c : ℕ) (g : Findings) → enterInner node tagged low run root f ≡ inner c g
     → (c ≡ length (children node)) × (1 ≤ c)
@@ -333,23 +322,12 @@ raised-more r = go (r .ok)
     go true = rw (add-one (r .height))
     go false = refl
 
-module _ (check : ChildCheck) (first : Bool) (height low high m : ℕ) (ms : List ℕ) (f : Findings) where
-  children-step : (ks : List ℕ) → childrenCheck check first height low high ks (m ∷ ms) f
-      ≡ bind (rangeEnd low high ks) (λ to. bind (check low to m f) (λ r. guard (first || eqb (r .0) height) (childrenCheck check false (r .0) to high (drop 1 ks) ms (r .1))))
-  unfolding childrenCheck rangeEnd
-  children-step [] = refl
-  children-step (k ∷ ks) = go (ltb low k && ltb k high)
-    where
-      go : (b : Bool) → guard b (bind (check low k m f) (λ r. guard (first || eqb (r .0) height) (childrenCheck check false (r .0) k high ks ms (r .1))))
-          ≡ bind (guard b (some k)) (λ to. bind (check low to m f) (λ r. guard (first || eqb (r .0) height) (childrenCheck check false (r .0) to high ks ms (r .1))))
-      go true = refl
-      go false = refl
-
 -- no check of a child succeeds, and there is a child
 pub children-none : (check : ChildCheck) → ((low high m : ℕ) (f : Findings) → check low high m f ≡ none)
     → (height low high : ℕ) (ks ms : List ℕ) (f : Findings) → 1 ≤ length ms → childrenCheck check true height low high ks ms f ≡ none
+unfolding childrenCheck
 children-none check fails height low high ks [] f h = absurd (omega arith)
-children-none check fails height low high ks (m ∷ ms) f h = children-step check true height low high m ms f ks ∙ go (rangeEnd low high ks)
+children-none check fails height low high ks (m ∷ ms) f h = go (rangeEnd low high ks)
   where
     go : (end : Option ℕ) → bind end (λ to. bind (check low to m f) (λ r. guard true (childrenCheck check false (r .0) to high (drop 1 ks) ms (r .1)))) ≡ none
     go none = refl
@@ -399,7 +377,8 @@ module _ (node : List ℕ) (len : length node ≡ 24) (c i : ℕ) (counted : c �
     turn : childrenCheck check (eqb i 0) height low high (drop i (routingKeys node)) (drop i (children node)) f
         ≡ bind (rangeEnd low high (drop i (routingKeys node))) (λ to. bind (check low to (getD node (12 + i) 0) f)
         (λ r. guard (eqb i 0 || eqb (r .0) height) (childrenCheck check false (r .0) to high (drop 1 (drop i (routingKeys node))) (drop (i + 1) (children node)) (r .1))))
-    turn = ap (λ (ms : List ℕ). childrenCheck check (eqb i 0) height low high (drop i (routingKeys node)) ms f) (child-drop h) ∙ children-step check (eqb i 0) height low high _ _ f _
+    unfolding childrenCheck
+    turn = ap (λ (ms : List ℕ). childrenCheck check (eqb i 0) height low high (drop i (routingKeys node)) ms f) (child-drop h)
 
     pub turn-wrong : rangeEnd low high (drop i (routingKeys node)) ≡ none
         → childrenCheck check (eqb i 0) height low high (drop i (routingKeys node)) (drop i (children node)) f ≡ none
@@ -462,26 +441,13 @@ module _ (card : List ℕ) (n run : ℕ) (root : Bool) (low high m : ℕ) (f : F
         rw (z, found) (ap (raised (eqb (kindOf (nodeAt card m)) 3)) (children-none (λ l h k g. none) (λ l h k g. refl) 0 low high (routingKeys (nodeAt card m)) (children (nodeAt card m)) g (omega (arith, k .counted, k .some-child))))
 
     pub check-inner : (levels ≡ 0 → ⊥) → nodeCheck levels card n run root low high m f
-        ≡ raised (eqb (kindOf (nodeAt card m)) 3) (childrenCheck (nodeCheck (levels - 1) card n (childRun c run) false) true 0 low high (routingKeys (nodeAt card m)) (children (nodeAt card m)) g)
+        ≡ raised (eqb (kindOf (nodeAt card m)) 3) (childrenCheck (nodeCheck (levels - 1) card n (runBelow c run) false) true 0 low high (routingKeys (nodeAt card m)) (children (nodeAt card m)) g)
     unfolding nodeCheck onLook
     check-inner p = ap (λ (x : ℕ). nodeCheck x card n run root low high m f) (let z : levels ≡ suc (levels - 1) = omega arith in z) ∙ go (levels - 1)
       where
         go : (l : ℕ) → nodeCheck (suc l) card n run root low high m f
-            ≡ raised (eqb (kindOf (nodeAt card m)) 3) (childrenCheck (nodeCheck l card n (childRun c run) false) true 0 low high (routingKeys (nodeAt card m)) (children (nodeAt card m)) g)
+            ≡ raised (eqb (kindOf (nodeAt card m)) 3) (childrenCheck (nodeCheck l card n (runBelow c run) false) true 0 low high (routingKeys (nodeAt card m)) (children (nodeAt card m)) g)
         go l = rw found
-
--- ---- 11-child nodes above
-
-pub run-more : (c run : ℕ) → c ≡ 11 → childRun c run ≡ run + 1
-unfolding childRun
-run-more c run e = rw (eq-eqb c 11 e, add-one run)
-
-pub run-none : (c run : ℕ) → (c ≡ 11 → ⊥) → childRun c run ≡ 0
-unfolding childRun
-run-none c run p = rw (ne-eqb c 11 p)
-
-pub run-le : (c run : ℕ) → childRun c run ≤ run + 1
-run-le c run = by-cases (ℕ-discrete c 11) (λ e. omega (arith, run-more c run e)) (λ p. omega (arith, run-none c run p))
 
 -- ---- heights: a sound part is at most as high as the levels that its check may pass
 
@@ -493,7 +459,7 @@ children-height check levels each [] ks first height low high f r h e =
     let z : _≡_ {A = ℕ × Findings} (height, f) r = cc in
     omega (arith, ap (λ (x : ℕ × Findings). x .0) z)
 children-height check levels each (m ∷ ms) ks first height low high f r h e =
-    let p = bind-some (rangeEnd low high ks) _ r (sym (children-step check first height low high m ms f ks) ∙ e) in
+    let p = bind-some (rangeEnd low high ks) _ r e in
     let q = bind-some (check low (p .0) m f) _ r (p .2) in
     let g = guard-some (first || eqb (q .0 .0) height) _ r (q .2) in
     children-height check levels each ms (drop 1 ks) false (q .0 .0) (p .0) high (q .0 .1) r (each low (p .0) m f (q .0) (q .1)) (g .1)
@@ -501,7 +467,7 @@ children-height check levels each (m ∷ ms) ks first height low high f r h e =
 raised-height : (tagged : Bool) (x : Option (ℕ × Findings)) (levels : ℕ) (r : ℕ × Findings)
     → ((a : ℕ × Findings) → x ≡ some a → a .0 ≤ levels) → raised tagged x ≡ some r → r .0 ≤ suc levels
 unfolding raised
-raised-height tagged none levels r h e = let z : _≡_ {A = ℕ} 0 1 = cc in absurd (omega arith)
+raised-height tagged none levels r h e = impossible (cc)
 raised-height true (some a) levels r h e =
     let z : _≡_ {A = ℕ × Findings} (a .0, a .1) r = cc in
     omega (arith, h a refl, ap (λ (x : ℕ × Findings). x .0) z)
@@ -515,15 +481,15 @@ unfolding nodeCheck onLook
 node-height zero card n run root low high m f r e = go (enterNode card n m low high run root f) refl e
   where
     go : (x : Look) → enterNode card n m low high run root f ≡ x → onLook (nodeAt card m) low high (λ r l h k g. none) run x ≡ some r → r .0 ≤ 0
-    go bad q d = let z : _≡_ {A = ℕ} 0 1 = cc in absurd (omega arith)
+    go bad q d = impossible (cc)
     go (leaf g) q d = let z : _≡_ {A = ℕ × Findings} (0, g) r = cc in omega (arith, ap (λ (x : ℕ × Findings). x .0) z)
-    go (inner c g) q d = let z : _≡_ {A = ℕ} 0 1 = cc (sym (check-deep card n run root low high m f 0 c g q refl) ∙ e) in absurd (omega arith)
+    go (inner c g) q d = impossible (cc (sym (check-deep card n run root low high m f 0 c g q refl) ∙ e))
 node-height (suc levels) card n run root low high m f r e = go (λ l h k g. node-height levels card n l false h k g) (enterNode card n m low high run root f) e
   where
     go : ((b low high m : ℕ) (f : Findings) (r : ℕ × Findings) → nodeCheck levels card n b false low high m f ≡ some r → r .0 ≤ levels)
         → (x : Look) → onLook (nodeAt card m) low high (λ r. nodeCheck levels card n r false) run x ≡ some r → r .0 ≤ suc levels
-    go each bad e = let z : _≡_ {A = ℕ} 0 1 = cc in absurd (omega arith)
+    go each bad e = impossible (cc)
     go each (leaf g) e = let z : _≡_ {A = ℕ × Findings} (0, g) r = cc in omega (arith, ap (λ (x : ℕ × Findings). x .0) z)
     go each (inner c g) e =
         raised-height (eqb (kindOf (nodeAt card m)) 3) _ levels r
-        (λ a q. children-height (nodeCheck levels card n (childRun c run) false) levels (each (childRun c run)) (children (nodeAt card m)) (routingKeys (nodeAt card m)) true 0 low high g a (omega arith) q) e
+        (λ a q. children-height (nodeCheck levels card n (runBelow c run) false) levels (each (runBelow c run)) (children (nodeAt card m)) (routingKeys (nodeAt card m)) true 0 low high g a (omega arith) q) e

@@ -3,11 +3,11 @@ use mathlib.Core.Bool.{Bool, true, false, _&&_, _||_, not}
 use mathlib.Core.List.{List, [], _∷_}
 use mathlib.Core.Option.{Option, none, some}
 use Prim.Native.Nat.{ℕ, zero, suc, _-_}
-use lib.ListN.{length, getD, set}
+use lib.ListN.{length, getD, set, drop}
 use lib.Dec.{eqb, ltb, leb}
 use Rattle.laws.specs.Cases.{pick, guard, bind}
 use Rattle.laws.specs.Lists.{zero-after}
-use Rattle.card.specs.Layout.{lowestKey, keyLimit, rootPlace, depthLimit, nodeAt, kindOf, keyWords, valueWords, children, routingKeys, leafPairs}
+use Rattle.card.specs.Layout.{lowestKey, keyLimit, rootPlace, depthLimit, nodeAt, kindOf, keyWords, valueWords, children, routingKeys, leafPairs, runBelow}
 use Rattle.free_nodes.specs.NodeSet.{nodesOf, allNodes}
 use Rattle.soundness.specs.declared.Survey.{Survey}
 use Rattle.soundness.specs.declared.Checked.{Checked}
@@ -36,10 +36,14 @@ unfoldable pub member : ℕ → List ℕ → Bool
 member k [] = false
 member k (x ∷ xs) = eqb x k || member k xs
 
--- "A leaf is sound when its keys are distinct and in its range": the key words that are not 0
+-- "its keys are distinct and in its range", for one slot: it is empty, or its key is in the range and in none of the later slots ks
+unfoldable pub slotSound : ℕ → ℕ → ℕ → List ℕ → Bool
+slotSound low high k ks = pick (eqb k 0) true (leb low k && (ltb k high && not (member k ks)))
+
+-- "A leaf is sound when its keys are distinct and in its range": slot by slot of its key words
 unfoldable pub leafSound : ℕ → ℕ → List ℕ → Bool
 leafSound low high [] = true
-leafSound low high (k ∷ ks) = pick (eqb k 0) (leafSound low high ks) (leb low k && (ltb k high && (not (member k ks) && leafSound low high ks)))
+leafSound low high (k ∷ ks) = slotSound low high k ks && leafSound low high ks
 
 -- "all other words but the kind are 0", for c children
 unfoldable pub unusedZero : List ℕ → ℕ → Bool
@@ -99,18 +103,19 @@ abbrev pub ChildCheck : Type 0
 ChildCheck = ℕ → ℕ → ℕ → Findings → Option (ℕ × Findings)
 
 -- "its routing keys rise strictly, and each lies in its range (a child's range runs from the routing key before it, included,
--- to the one after it, excluded ..)"; all children are equally high. `first` says that no child was checked yet.
+-- to the one after it, excluded ..)": the end of the range of the child before the routing keys ks, in a node whose range ends at
+-- high; none where the first of these keys does not rise above low or does not lie below high
+unfoldable pub rangeEnd : ℕ → ℕ → List ℕ → Option ℕ
+rangeEnd low high [] = some high
+rangeEnd low high (k ∷ ks) = guard (ltb low k && ltb k high) (some k)
+
+-- "an internal node is sound when its children are": each in its range, and all equally high; `first` says that none was checked yet
 unfoldable pub childrenCheck : ChildCheck → Bool → ℕ → ℕ → ℕ → List ℕ → List ℕ → Findings → Option (ℕ × Findings)
 childrenCheck check first height low high ks [] f = some (height, f)
-childrenCheck check first height low high [] (m ∷ ms) f =
-    bind (check low high m f) (λ r. guard (first || eqb (r .0) height) (childrenCheck check false (r .0) high high [] ms (r .1)))
-childrenCheck check first height low high (k ∷ ks) (m ∷ ms) f =
-    guard (ltb low k && ltb k high)
-    (bind (check low k m f) (λ r. guard (first || eqb (r .0) height) (childrenCheck check false (r .0) k high ks ms (r .1))))
-
--- the 11-child nodes without a break straight above the children of a node with c children
-unfoldable pub childRun : ℕ → ℕ → ℕ
-childRun c run = pick (eqb c 11) (suc run) 0
+childrenCheck check first height low high ks (m ∷ ms) f =
+    bind (rangeEnd low high ks) (λ end.
+    bind (check low end m f) (λ r.
+    guard (first || eqb (r .0) height) (childrenCheck check false (r .0) end high (drop 1 ks) ms (r .1))))
 
 -- a tagged node is not counted in the height
 unfoldable pub raised : Bool → Option (ℕ × Findings) → Option (ℕ × Findings)
@@ -120,7 +125,7 @@ raised tagged (some r) = some (pick tagged (r .0) (suc (r .0)), r .1)
 unfoldable pub onLook : List ℕ → ℕ → ℕ → (ℕ → ChildCheck) → ℕ → Look → Option (ℕ × Findings)
 onLook node low high child run bad = none
 onLook node low high child run (leaf f) = some (0, f)
-onLook node low high child run (inner c f) = raised (eqb (kindOf node) 3) (childrenCheck (child (childRun c run)) true 0 low high (routingKeys node) (children node) f)
+onLook node low high child run (inner c f) = raised (eqb (kindOf node) 3) (childrenCheck (child (runBelow c run)) true 0 low high (routingKeys node) (children node) f)
 
 -- "an internal node is sound when its children are": node m and all below it, past at most so many internal nodes
 unfoldable pub nodeCheck : ℕ → List ℕ → ℕ → ℕ → Bool → ℕ → ℕ → ℕ → Findings → Option (ℕ × Findings)
@@ -132,19 +137,7 @@ nodeCheck (suc levels) card n run isRoot low high m f =
 unfoldable pub tableCheck : List ℕ → ℕ → Option (ℕ × Findings)
 tableCheck card n = nodeCheck depthLimit card n 0 true lowestKey keyLimit (getD card rootPlace 0) (record { free = allNodes n; violated = false; key = 0; run = 0 })
 
--- "its keys are distinct and in its range", for one slot: it is empty, or its key is in the range and in none of the later slots ks
-unfoldable pub slotSound : ℕ → ℕ → ℕ → List ℕ → Bool
-slotSound low high k ks = pick (eqb k 0) true (leb low k && (ltb k high && not (member k ks)))
-
--- ---- the children in turn
-
--- "a child's range runs from the routing key before it, included, to the one after it, excluded": the end of the range of the
--- child before the routing keys ks, in a node whose range ends at high; none where the first of these keys does not rise
--- above low or does not lie below high
-unfoldable pub rangeEnd : ℕ → ℕ → List ℕ → Option ℕ
-rangeEnd low high [] = some high
-rangeEnd low high (k ∷ ks) = guard (ltb low k && ltb k high) (some k)
-
+-- the same as the code holds it
 unfoldable pub endOf : RangeEnd → Option ℕ
 endOf Wrong = none
 endOf (At end) = some end

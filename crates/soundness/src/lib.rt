@@ -11,8 +11,8 @@ ghost use mathlib.Core.Bool.{true, false, _||_};
 ghost use Prim.Native.Nat.{_+_, _*_, _-_, _≤_, _<_};
 ghost use lib.ListN.{length, drop};
 ghost use lib.Dec.{eqb};
-ghost use Rattle.card.specs.Layout.{greatestNodes, depthLimit, children, routingKeys};
-ghost use Rattle.soundness.specs.Check.{findingsOf, checkedOf, raised, childRun, childrenCheck, nodeCheck, tableCheck, rangeEnd, endOf};
+ghost use Rattle.card.specs.Layout.{greatestNodes, depthLimit, children, routingKeys, runBelow};
+ghost use Rattle.soundness.specs.Check.{findingsOf, checkedOf, raised, childrenCheck, nodeCheck, tableCheck, rangeEnd, endOf};
 
 // What was learnt so far: the nodes not reached; whether a violation was met, a key that leads to it, and how many
 // 11-child nodes stand without a break straight above it where it is a tagged node.
@@ -52,7 +52,7 @@ struct Entered {
 // How many 11-child nodes stand without a break straight above the children of a node with c children.
 fn child_run(c: usize, run: usize) -> usize
     requires { ⌜ run < depthLimit ⌝ }
-    ensures { λ r. ⌜ r ≡ childRun c run ⌝ }
+    ensures { λ r. ⌜ r ≡ runBelow c run ⌝ }
 {
     if c == 11 { run + 1 } else { 0 }
 }

@@ -9,11 +9,13 @@ use lib.Dec.{ltb, eqb}
 use borrow.Author.Tests.{ltb-false, le-ltb, eqb-true, eqb-false, ne-eqb, eq-eqb}
 use Rattle.card.specs.Layout.{nodeAt, kindOf, keyWords, valueWords, children, slot-pairs, leafPairs}
 use Rattle.laws.specs.Cases.{pick}
+use Rattle.laws.proofs.Cases.{impossible}
 use Rattle.soundness.specs.Check.{Findings, leafSound, unusedZero, Look, lookOf, noted, enterLeaf, innerSound, enterInner, enterKind, enterNode, bad, inner, leaf as leaf-look}
 use Rattle.soundness_theory.proofs.Found.{taken, note}
 use Rattle.tree.specs.Represent.{kind}
 use Rattle.soundness.specs.declared.Entry.{Entry}
 use Rattle.soundness.specs.declared.Entry.the-variants.{Leaf, Inner}
+use Rattle.soundness.proofs.CheckLaws.{enter-kind-leaf}
 
 -- the looks with which the check goes on
 abbrev pub Accepted : Look → Type 0
@@ -23,8 +25,8 @@ Accepted (inner c f) = Unit
 
 not-bad : (L : Look) → Accepted L → bad ≡ L → ⊥
 not-bad bad a e = a
-not-bad (leaf-look f) a e = let z : _≡_ {A = ℕ} 0 1 = cc in omega arith
-not-bad (inner c f) a e = let z : _≡_ {A = ℕ} 0 1 = cc in omega arith
+not-bad (leaf-look f) a e = impossible (cc)
+not-bad (inner c f) a e = impossible (cc)
 
 passes : (b : Bool) (x L : Look) → Accepted L → pick b x bad ≡ L → (b ≡ true) × (x ≡ L)
 passes true x L a e = (refl, e)
@@ -38,7 +40,7 @@ fails false x L a e = (refl, e)
 noted-shown : (b : Bool) (entry : Entry) (f : Findings) (key run : ℕ) (L : Look) → Accepted L → noted b entry f key run ≡ L → (b ≡ true → f .violated ≡ false) × (lookOf entry (note b key run f) ≡ L)
 unfolding noted
 noted-shown true entry f key run L a e = let p = fails (f .violated) (lookOf entry (note true key run f)) L a e in (λ z. p .0, p .1)
-noted-shown false entry f key run L a e = (λ z. let y : _≡_ {A = ℕ} 0 1 = cc in absurd (omega arith), e)
+noted-shown false entry f key run L a e = (λ z. impossible (cc), e)
 
 noted-accepts : (b : Bool) (entry : Entry) (f : Findings) (key run : ℕ) → (b ≡ true → f .violated ≡ false) → noted b entry f key run ≡ lookOf entry (note b key run f)
 unfolding noted
@@ -91,7 +93,7 @@ leaf-look-shown : (words : List ℕ) (low high : ℕ) (isRoot : Bool) (f : Findi
 unfolding enterLeaf leafPairs lookOf
 leaf-look-shown words low high true f L a k e =
     let p = passes (leafSound low high (keyWords words)) (leaf-look f) L a e in
-    (record { kind-is = k; sound = p .0; filled = λ z. let y : _≡_ {A = ℕ} 0 1 = cc in absurd (omega arith); first = λ z. let y : _≡_ {A = ℕ} 0 1 = cc in absurd (omega arith) }, p .1)
+    (record { kind-is = k; sound = p .0; filled = λ z. impossible (cc); first = λ z. impossible (cc) }, p .1)
 leaf-look-shown words low high false f L a k e =
     let p = passes (leafSound low high (keyWords words)) (pick (eqb (pairsIn words) 0) bad (noted (ltb (pairsIn words) 2) Leaf f low 0)) L a e in
     let q = fails (eqb (pairsIn words) 0) (noted (ltb (pairsIn words) 2) Leaf f low 0) L a (p .1) in
@@ -173,10 +175,6 @@ present-enters c n m low high run isRoot f h =
     let z : eqb m 0 ≡ false = ne-eqb m 0 (omega (arith, h .pos)) in
     rw (z, le-ltb n m (h .within), h .free, eq-eqb (getD (nodeAt c m) 23 0) 0 (h .last))
 
-kind-leaf : (words : List ℕ) (low high run : ℕ) (isRoot : Bool) (f : Findings) → kindOf words ≡ 1 → enterKind words low high run isRoot f ≡ enterLeaf words low high isRoot f
-unfolding enterKind
-kind-leaf words low high run isRoot f k = rw k
-
 kind-inner : (words : List ℕ) (tagged : Bool) (low high run : ℕ) (isRoot : Bool) (f : Findings) → kindOf words ≡ kind tagged → enterKind words low high run isRoot f ≡ enterInner words tagged low run isRoot f
 unfolding enterKind
 kind-inner words true low high run isRoot f k = rw k
@@ -184,7 +182,7 @@ kind-inner words false low high run isRoot f k = rw k
 
 pub enter-accepts : (c : List ℕ) (n m low high run : ℕ) (isRoot : Bool) (f : Findings) (L : Look) → Enters c n m low high run isRoot f L → enterNode c n m low high run isRoot f ≡ L
 enter-accepts c n m low high run isRoot f L (as-leaf h e) =
-    present-enters c n m low high run isRoot f h ∙ kind-leaf (nodeAt c m) low high run isRoot (taken m f) (e .kind-is)
+    present-enters c n m low high run isRoot f h ∙ enter-kind-leaf (nodeAt c m) low high run isRoot (taken m f) (e .kind-is)
     ∙ leaf-accepted (nodeAt c m) low high isRoot (taken m f) e
 enter-accepts c n m low high run isRoot f L (as-inner tagged h e) =
     present-enters c n m low high run isRoot f h ∙ kind-inner (nodeAt c m) tagged low high run isRoot (taken m f) (e .kind-is)

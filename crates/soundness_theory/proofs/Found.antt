@@ -12,22 +12,22 @@ use lib.ListN.{length, set, getD, length-set}
 use lib.Seq.{getD-set-other}
 use lib.Dec.{ltb}
 use borrow.Author.Tests.{lt-ltb, le-ltb}
-use Rattle.card.specs.Layout.{slot-pairs}
+use Rattle.card.specs.Layout.{slot-pairs, runBelow}
 use Rattle.laws.specs.Bits.{bit}
 use Rattle.laws.proofs.Bits.{bit-le}
-use Rattle.laws.proofs.Cases.{order}
+use Rattle.laws.proofs.Cases.{order, impossible}
 use Rattle.laws.specs.Cases.{pick}
 use Rattle.laws.specs.Totals.{indicator}
 use Rattle.laws.proofs.Totals.{indicator-same, indicator-other}
-use Rattle.soundness.specs.Check.{Findings, childRun}
+use Rattle.soundness.specs.Check.{Findings}
 use Rattle.tree.proofs.Path.{own-violation}
 use Rattle.tree.specs.Tree.{Tree, Forest, root, roots, node-total, node-totals, leaf, node, one, more}
-use Rattle.tree.specs.Violations.{few, tag, violations, forest-violations, Width, Widths, AllWidths, RootOk, table-violations}
+use Rattle.tree.specs.Violations.{few, violations, forest-violations, Width, Widths, AllWidths, RootOk, table-violations}
 use Rattle.tree.proofs.Violations.{few-none, few-one}
 
 -- at most one of two: where the second holds the first does not
 pub one-of : (a b : Bool) → (b ≡ true → a ≡ false) → bit a + bit b ≤ 1
-one-of true true h = let z : _≡_ {A = ℕ} 0 1 = cc (h refl) in absurd (omega arith)
+one-of true true h = impossible (cc (h refl))
 one-of true false h = omega arith
 one-of false true h = omega arith
 one-of false false h = omega arith
@@ -62,7 +62,7 @@ at-root isRoot run low t f = note (violates isRoot t) low (noted-run run t) (tak
 abbrev mutual
   pub found : Bool → ℕ → ℕ → Tree → Findings → Findings
   found isRoot run low (leaf m ks vs) f = at-root isRoot run low (leaf m ks vs) f
-  found isRoot run low (node m g k) f = found-below (childRun (length (roots k)) run) low k (at-root isRoot run low (node m g k) f)
+  found isRoot run low (node m g k) f = found-below (runBelow (length (roots k)) run) low k (at-root isRoot run low (node m g k) f)
 
   pub found-below : ℕ → ℕ → Forest → Findings → Findings
   found-below run low (one t) f = found false run low t f
@@ -99,7 +99,7 @@ mutual
   found-free isRoot run low (leaf m ks vs) f h i = root-free (violates isRoot (leaf m ks vs)) low 0 m f i (h i)
   found-free isRoot run low (node m g k) f h i =
       let p : (i : ℕ) → isFree (at-root isRoot run low (node m g k) f) i + indicator i m ≡ isFree f i = λ i. root-free (violates isRoot (node m g k)) low (pick g run 0) m f i (omega (arith, h i)) in
-      let q = found-below-free (childRun (length (roots k)) run) low k (at-root isRoot run low (node m g k) f) (λ i. omega (arith, p i, h i)) i in
+      let q = found-below-free (runBelow (length (roots k)) run) low k (at-root isRoot run low (node m g k) f) (λ i. omega (arith, p i, h i)) i in
       omega (arith, p i)
 
   pub found-below-free : (run low : ℕ) (k : Forest) (f : Findings) → ((i : ℕ) → node-totals (indicator i) k ≤ isFree f i) → (i : ℕ) → isFree (found-below run low k f) i + node-totals (indicator i) k ≡ isFree f i
@@ -113,7 +113,7 @@ mutual
   pub found-length : (isRoot : Bool) (run low : ℕ) (t : Tree) (f : Findings) → length (found isRoot run low t f .free) ≡ length (f .free)
   found-length isRoot run low (leaf m ks vs) f = ap length (note-free (violates isRoot (leaf m ks vs)) low 0 (taken m f)) ∙ length-set (f .free) m false
   found-length isRoot run low (node m g k) f =
-      found-below-length (childRun (length (roots k)) run) low k (at-root isRoot run low (node m g k) f)
+      found-below-length (runBelow (length (roots k)) run) low k (at-root isRoot run low (node m g k) f)
       ∙ ap length (note-free (violates isRoot (node m g k)) low (pick g run 0) (taken m f)) ∙ length-set (f .free) m false
 
   pub found-below-length : (run low : ℕ) (k : Forest) (f : Findings) → length (found-below run low k f .free) ≡ length (f .free)
@@ -130,10 +130,6 @@ WidthsAt false t = Widths t
 abbrev pub violations-at : Bool → Tree → ℕ
 violations-at true t = table-violations t
 violations-at false t = violations t
-
-abbrev pub violations-below : Tree → ℕ
-violations-below (leaf m ks vs) = 0
-violations-below (node m g f) = forest-violations f
 
 pub widths-below : (isRoot : Bool) (m : ℕ) (g : Bool) (f : Forest) → WidthsAt isRoot (node m g f) → AllWidths f
 widths-below true m true f w = absurd w
@@ -160,12 +156,12 @@ note-none false key run m f e = record { violated = refl; key = refl; run = refl
 pub few-bit : (n : ℕ) → few n ≡ bit (ltb n 2)
 few-bit n = order n 2 (λ o. rw (lt-ltb n 2 o) (few-one n o)) (λ o. rw (le-ltb n 2 o) (few-none n o))
 
-inner-own : (g : Bool) (n : ℕ) → Width g n → tag g + few n ≡ bit (g || ltb n 2)
+inner-own : (g : Bool) (n : ℕ) → Width g n → bit g + few n ≡ bit (g || ltb n 2)
 inner-own true n w = omega (arith, few-none n (omega arith))
 inner-own false n w = omega (arith, few-bit n)
 
 -- a tree's root node adds one violation where it violates, and none else
-pub own-at : (isRoot : Bool) (t : Tree) → WidthsAt isRoot t → violations-at isRoot t ≡ bit (violates isRoot t) + violations-below t
+pub own-at : (isRoot : Bool) (t : Tree) → WidthsAt isRoot t → violations-at isRoot t ≡ bit (violates isRoot t) + table-violations t
 own-at true (leaf m ks vs) w = refl
 own-at false (leaf m ks vs) w = omega (arith, few-bit (length (slot-pairs ks vs)))
 own-at true (node m true f) w = absurd w
@@ -185,7 +181,7 @@ mutual
   found-violated isRoot run low (node m g k) f w h =
       let o = own-at isRoot (node m g k) w in
       let p = note-one (violates isRoot (node m g k)) low (pick g run 0) (taken m f) (omega arith) in
-      omega (arith, found-below-violated (childRun (length (roots k)) run) low k (at-root isRoot run low (node m g k) f) (widths-below isRoot m g k w) (omega arith))
+      omega (arith, found-below-violated (runBelow (length (roots k)) run) low k (at-root isRoot run low (node m g k) f) (widths-below isRoot m g k w) (omega arith))
 
   pub found-below-violated : (run low : ℕ) (k : Forest) (f : Findings) → AllWidths k → bit (f .violated) + forest-violations k ≤ 1
       → bit (found-below run low k f .violated) ≡ bit (f .violated) + forest-violations k
@@ -200,7 +196,7 @@ mutual
   found-same isRoot run low (node m g k) f w h =
       let o = own-at isRoot (node m g k) w in
       same-over (found isRoot run low (node m g k) f) (at-root isRoot run low (node m g k) f) f
-      (found-below-same (childRun (length (roots k)) run) low k (at-root isRoot run low (node m g k) f) (widths-below isRoot m g k w) (omega arith))
+      (found-below-same (runBelow (length (roots k)) run) low k (at-root isRoot run low (node m g k) f) (widths-below isRoot m g k w) (omega arith))
       (note-none (violates isRoot (node m g k)) low (pick g run 0) m f (omega arith))
 
   pub found-below-same : (run low : ℕ) (k : Forest) (f : Findings) → AllWidths k → forest-violations k ≡ 0 → Same (found-below run low k f) f

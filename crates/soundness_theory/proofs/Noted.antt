@@ -11,7 +11,7 @@ use lib.Dec.{ltb}
 use Rattle.laws.specs.Bits.{bit}
 use Rattle.laws.proofs.Cases.{order}
 use Rattle.laws.specs.Cases.{pick}
-use Rattle.soundness.specs.Check.{Findings, childRun}
+use Rattle.soundness.specs.Check.{Findings}
 use Rattle.soundness_theory.proofs.Found.{taken, note, violates, at-root, found, found-below, Same, own-at, own-one, found-below-same}
 use Rattle.tree.proofs.Pairs.{InRange, AllInRange}
 use Rattle.tree.proofs.Path.{Past, OnPath, width-of, full-run, own-violation, reserve, Violation}
@@ -19,6 +19,7 @@ use Rattle.tree.specs.Tree.{Tree, Forest, roots, leaf, node, one, more}
 use Rattle.tree.proofs.Tree.{Left, Right, splice, fill, Context, plug, rightmost, followed, top, down}
 use Rattle.tree.specs.Violations.{violations, forest-violations, Widths, AllWidths, RootOk, table-violations}
 use Rattle.tree.proofs.Violations.{below}
+use Rattle.card.specs.Layout.{runBelow}
 
 -- the findings name a violation of the tree by a key of the range
 pub record Told (low high : ℕ) (t : Tree) (f : Findings) : Type 0 where
@@ -80,8 +81,8 @@ past-next : (low x : ℕ) (l : Left) (t : Tree) → low ≤ x → Past low l →
 past-next low x [] t h p = (omega arith, tt)
 past-next low x (a ∷ l) t h p = (omega (arith, p .0), past-next low x l t h (p .1))
 
-run-of : (C : Context) (m : ℕ) (l : Left) (r : Right) (n run : ℕ) → n ≡ width-of l r → childRun n (full-run C) ≡ run → full-run (down C m false l r) ≡ run
-unfolding full-run childRun
+run-of : (C : Context) (m : ℕ) (l : Left) (r : Right) (n run : ℕ) → n ≡ width-of l r → runBelow n (full-run C) ≡ run → full-run (down C m false l r) ≡ run
+unfolding full-run
 run-of C m l r n run e h = rw (← e) h
 
 mutual
@@ -96,13 +97,13 @@ mutual
       let here : Findings = at-root false run low (node m g k) f in
       order 0 (bit (violates false (node m g k)))
       (λ u. let s = note-some (violates false (node m g k)) low (pick g run 0) (taken m f) (omega arith) in
-      told-same low high whole here (found false run low (node m g k) f) (found-below-same (childRun (length (roots k)) run) low k here (w .1) (omega arith))
+      told-same low high whole here (found false run low (node m g k) f) (found-below-same (runBelow (length (roots k)) run) low k here (w .1) (omega arith))
       (told-here low high whole C (node m g k) here e b (omega (arith, own-one (node m g k) w)) (p low (omega arith) h) (s .0) (s .1 ∙ reserve-node C run m g k r) h))
       (λ u. let z : g ≡ false = untagged g (ltb (length (roots k)) 2) (omega arith) in
-      found-below-told (childRun (length (roots k)) run) low high k here whole C m [] (e ∙ ap (λ (b : Bool). plug C (node m b k)) z) (w .1) i h (omega arith) (ap₂ childRun (omega arith) r) tt p)
+      found-below-told (runBelow (length (roots k)) run) low high k here whole C m [] (e ∙ ap (λ (b : Bool). plug C (node m b k)) z) (w .1) i h (omega arith) (ap₂ runBelow (omega arith) r) tt p)
 
   pub found-below-told : (run low high : ℕ) (k : Forest) (f : Findings) (whole : Tree) (C : Context) (m : ℕ) (l : Left) → whole ≡ plug C (node m false (splice l k rightmost)) → AllWidths k → AllInRange low high k → low < high → forest-violations k ≡ 1
-      → childRun (length l + length (roots k)) (full-run C) ≡ run → Past low l → ((x : ℕ) → low ≤ x → x < high → OnPath x C) → Told low high whole (found-below run low k f)
+      → runBelow (length l + length (roots k)) (full-run C) ≡ run → Past low l → ((x : ℕ) → low ≤ x → x < high → OnPath x C) → Told low high whole (found-below run low k f)
   found-below-told run low high (one t) f whole C m l e w i h v r q p =
       found-told run low high t f whole (down C m false l rightmost) e tt w i h v (run-of C m l rightmost (length l + 1) run refl r)
       (λ x a b. (refl, past-more low x l a q, tt, p x a b))
@@ -115,7 +116,7 @@ mutual
       (λ y a b. (refl, past-more low y l a q, b, p y a (omega (arith, i .2)))))))
       (λ u. told-widen x high low high whole (found-below run x k (found false run low t f)) (omega (arith, i .1)) (omega arith)
       (found-below-told run x high k (found false run low t f) whole C m (l ++ (t, x) ∷ []) (e ∙ ap (λ (b : Forest). plug C (node m false b)) (splice-next l t x k)) (w .1) (i .3) (i .2) (omega arith)
-      (ap (λ (n : ℕ). childRun n (full-run C)) (omega (arith, length-append l ((t, x) ∷ []))) ∙ r)
+      (ap (λ (n : ℕ). runBelow n (full-run C)) (omega (arith, length-append l ((t, x) ∷ []))) ∙ r)
       (past-next low x l t (omega (arith, i .1)) q)
       (λ y a b. p y (omega (arith, i .1)) b)))
 
@@ -125,5 +126,5 @@ unfolding full-run
 table-told low high (leaf m ks vs) f w i h v = absurd (omega arith)
 table-told low high (node m true k) f w i h v = absurd w
 table-told low high (node m false k) f w i h v =
-    found-below-told (childRun (length (roots k)) 0) low high k (at-root true 0 low (node m false k) f) (node m false k) top m [] refl (w .2) i h v
-    (ap (λ (n : ℕ). childRun n 0) (omega arith)) tt (λ x a b. tt)
+    found-below-told (runBelow (length (roots k)) 0) low high k (at-root true 0 low (node m false k) f) (node m false k) top m [] refl (w .2) i h v
+    (ap (λ (n : ℕ). runBelow n 0) (omega arith)) tt (λ x a b. tt)

@@ -12,6 +12,7 @@ use Rattle.card.specs.NodeWords.{NodeWords}
 use Rattle.laws.specs.Bits.{bit}
 use Rattle.laws.specs.Cases.{pick}
 use Rattle.laws.specs.Totals.{indicator}
+use Rattle.laws.proofs.Cases.{impossible}
 use Rattle.soundness.specs.Check.{Findings, innerSound}
 use Rattle.soundness_theory.proofs.Found.{one-of, taken, violates, at-root, found, isFree, AllFree, root-free, found-free, WidthsAt, violations-at, widths-below, note-one, own-at, found-violated}
 use Rattle.tree.proofs.Pairs.{InRange, AllInRange, depth, depths}
@@ -60,7 +61,7 @@ part-first p =
 -- the widths of an internal node
 pub widths-node : (isRoot : Bool) (m : ℕ) (g : Bool) (k : Forest) (n : ℕ) → n ≡ length (roots k) → innerSound g isRoot n ≡ true → 1 ≤ n → n ≤ 11 → AllWidths k → WidthsAt isRoot (node m g k)
 unfolding innerSound
-widths-node true m true k n e s a b w = let z : _≡_ {A = ℕ} 0 1 = cc in absurd (omega arith)
+widths-node true m true k n e s a b w = impossible (cc)
 widths-node false m true k n e s a b w = (omega (arith, eqb-true n 2 s), w)
 widths-node true m false k n e s a b w = (omega (arith, ltb-false n 2 (not-true (ltb n 2) s)), omega arith, w)
 widths-node false m false k n e s a b w = ((omega arith, omega arith), w)

@@ -9,17 +9,17 @@ use native.Mathlib.Omega.{arith}
 use lib.ListN.{length, getD}
 use lib.Dec.{ltb, eqb}
 use borrow.Author.Tests.{lt-ltb, eq-eqb}
-use Rattle.card.specs.Layout.{nodeAt, kindOf, keyWords, valueWords, children, routingKeys, slot-pairs}
+use Rattle.card.specs.Layout.{nodeAt, kindOf, keyWords, valueWords, children, routingKeys, slot-pairs, runBelow}
 use Rattle.card.proofs.NodeLaws.{node-word}
 use Rattle.card.specs.NodeWords.{NodeWords}
 use Rattle.laws.proofs.Bits.{bit-positive}
 use Rattle.laws.specs.Cases.{pick}
-use Rattle.laws.proofs.Cases.{and-intro}
+use Rattle.laws.proofs.Cases.{and-intro, impossible}
 use Rattle.laws.specs.Lists.{zero-after}
 use Rattle.laws.proofs.Lists.{zero-after-pad}
 use Rattle.laws.specs.Totals.{indicator}
 use Rattle.laws.proofs.Totals.{indicator-same}
-use Rattle.soundness.specs.Check.{Findings, unusedZero, enterNode, ChildCheck, childrenCheck, childRun, raised, onLook, nodeCheck, inner, leaf as leaf-look}
+use Rattle.soundness.specs.Check.{Findings, unusedZero, enterNode, ChildCheck, childrenCheck, raised, onLook, nodeCheck, inner, leaf as leaf-look, rangeEnd}
 use Rattle.soundness_theory.proofs.Entering.{Present, pairsIn, fewPairs, width, Enters, enter-accepts, as-leaf, as-inner}
 use Rattle.soundness_theory.proofs.Found.{one-of-not, taken, note, violates, at-root, found, found-below, isFree, WidthsAt, own-at}
 use Rattle.soundness_theory.proofs.Leaves.{leaf-passes}
@@ -33,16 +33,16 @@ use Rattle.tree.specs.Tree.{Tree, Forest, root, roots, routing, leaf, node, one
 -- ---- the steps of the check, each over what the step before it gave
 
 one-step : (check : ChildCheck) (first : Bool) (height low high m : ℕ) (f : Findings) (r : ℕ × Findings) → check low high m f ≡ some r → (first || eqb (r .0) height) ≡ true → childrenCheck check first height low high [] (m ∷ []) f ≡ some r
-unfolding childrenCheck
+unfolding childrenCheck rangeEnd
 one-step check first height low high m f r e h = rw (e, h)
 
 more-step : (check : ChildCheck) (first : Bool) (height low high k m : ℕ) (ks ms : List ℕ) (f : Findings) (r q : ℕ × Findings) → low < k → k < high → check low k m f ≡ some r → (first || eqb (r .0) height) ≡ true
     → childrenCheck check false (r .0) k high ks ms (r .1) ≡ some q → childrenCheck check first height low high (k ∷ ks) (m ∷ ms) f ≡ some q
-unfolding childrenCheck
+unfolding childrenCheck rangeEnd
 more-step check first height low high k m ks ms f r q a b e h t = rw (lt-ltb low k a, lt-ltb k high b, e, h) t
 
 inner-step : (words : List ℕ) (low high : ℕ) (child : ℕ → ChildCheck) (run m : ℕ) (g : Bool) (ks ms : List ℕ) (f : Findings) (b : ℕ) (after : Findings) → kindOf words ≡ kind g → routingKeys words ≡ ks → children words ≡ ms
-    → childrenCheck (child (childRun (length ms) run)) true 0 low high ks ms (note (g || ltb (length ms) 2) low (pick g run 0) (taken m f)) ≡ some (b, after)
+    → childrenCheck (child (runBelow (length ms) run)) true 0 low high ks ms (note (g || ltb (length ms) 2) low (pick g run 0) (taken m f)) ≡ some (b, after)
     → onLook words low high child run (inner (width words) (note (g || ltb (width words) 2) low (pick g run 0) (taken m f))) ≡ some (pick g b (suc b), after)
 unfolding onLook raised
 inner-step words low high child run m g ks ms f b after k er em e = rw (kind-tagged words g k, er, em, e)
@@ -69,7 +69,7 @@ module _ (c : List ℕ) (n : ℕ) (len : length c ≡ 8 + 24 * n) where
       )
     where
       filled : (isRoot : Bool) → isRoot ≡ false → WidthsAt isRoot (leaf m ks vs) → 1 ≤ length (slot-pairs ks vs)
-      filled true z w = let y : _≡_ {A = ℕ} 0 1 = cc in absurd (omega arith)
+      filled true z w = impossible (cc)
       filled false z w = w
 
   node-enters : (isRoot : Bool) (run low high h bound m : ℕ) (g : Bool) (k : Forest) (f : Findings) → SoundPart c isRoot low high h bound f (node m g k)
@@ -111,10 +111,10 @@ module _ (c : List ℕ) (n : ℕ) (len : length c ≡ 8 + 24 * n) where
   look-passes child bound ih isRoot run low high h f (node m g k) p =
       let q = node-part isRoot run m g p in
       inside (q .0) (q .1) (enter-accepts c n m low high run isRoot f (inner (width (nodeAt c m)) (note (g || ltb (width (nodeAt c m)) 2) low (pick g run 0) (taken m f))) (node-enters isRoot run low high h (suc bound) m g k f p))
-      (children-pass bound (childRun (length (roots k)) run) (child (childRun (length (roots k)) run)) (ih (childRun (length (roots k)) run)) true 0 low high (q .0) (at-root isRoot run low (node m g k) f) k (q .2) refl)
+      (children-pass bound (runBelow (length (roots k)) run) (child (runBelow (length (roots k)) run)) (ih (runBelow (length (roots k)) run)) true 0 low high (q .0) (at-root isRoot run low (node m g k) f) k (q .2) refl)
     where
       inside : (b : ℕ) → h ≡ pick g b (suc b) → enterNode c n m low high run isRoot f ≡ inner (width (nodeAt c m)) (note (g || ltb (width (nodeAt c m)) 2) low (pick g run 0) (taken m f))
-          → childrenCheck (child (childRun (length (roots k)) run)) true 0 low high (routing k) (roots k) (at-root isRoot run low (node m g k) f) ≡ some (b, found isRoot run low (node m g k) f)
+          → childrenCheck (child (runBelow (length (roots k)) run)) true 0 low high (routing k) (roots k) (at-root isRoot run low (node m g k) f) ≡ some (b, found isRoot run low (node m g k) f)
           → onLook (nodeAt c m) low high child run (enterNode c n m low high run isRoot f) ≡ some (h, found isRoot run low (node m g k) f)
       inside b e l s =
           ap (onLook (nodeAt c m) low high child run) l

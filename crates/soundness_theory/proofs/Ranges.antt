@@ -1,38 +1,24 @@
 -- Two ways to say that the keys of a tree are in their ranges. Document 01 lets a routing key equal the low end of its node's
 -- range, but the child before such a key would have an empty range, and every leaf below the root holds a pair: so in a sound
 -- table every routing key is above that low end, as `InRange` asks. Conversely, `InRange` gives document 01's words.
-use mathlib.Core.Path.{_≡_, refl}
+use mathlib.Core.Path.{_≡_}
 use mathlib.Core.List.{List, [], _∷_}
-use mathlib.Core.Bool.{Bool, true, false}
+use mathlib.Core.Bool.{true, false}
 use Prim.Native.Nat.{ℕ, _≤_, _<_}
 use native.Mathlib.Omega.{arith}
 use lib.ListN.{length}
-use lib.Dec.{ltb}
-use borrow.Author.Tests.{ltb-true, ltb-false, lt-ltb, le-ltb}
 use Rattle.card.specs.Layout.{lowestKey, keyLimit, slot-pairs}
-use Rattle.laws.specs.Cases.{pick}
 use Rattle.laws.specs.Totals.{total}
 use Rattle.tree.specs.Pairs.{outside}
 use Rattle.tree.proofs.Pairs.{InRange, AllInRange}
 use Rattle.tree.specs.Tree.{Tree, Forest, routing, leaf, node, one, more}
 use Rattle.tree.specs.Violations.{Widths, AllWidths, RootOk}
 use Rattle.tree.specs.WellFormed.{RisingKeys, KeysWithin, SoundIn, SoundChildren, WellFormed}
-
--- a key inside the range, by the count of keys outside it and by the two ends
-pub inside-bounds : (lo hi : ℕ) (p : ℕ × ℕ) → outside lo hi p ≡ 0 → (lo ≤ p .0) × (p .0 < hi)
-inside-bounds lo hi p e = go (ltb (p .0) lo) (ltb (p .0) hi) refl refl e
-  where
-    go : (a b : Bool) → ltb (p .0) lo ≡ a → ltb (p .0) hi ≡ b → _≡_ {A = ℕ} (pick a 1 (pick b 0 1)) 0 → (lo ≤ p .0) × (p .0 < hi)
-    go true b q r e = absurd (omega arith)
-    go false true q r e = (ltb-false (p .0) lo q, ltb-true (p .0) hi r)
-    go false false q r e = absurd (omega arith)
-
-pub bounds-inside : (lo hi : ℕ) (p : ℕ × ℕ) → lo ≤ p .0 → p .0 < hi → outside lo hi p ≡ 0
-bounds-inside lo hi p a b = rw (le-ltb (p .0) lo a, lt-ltb (p .0) hi b)
+use Rattle.tree.proofs.Sorted.{outside-zero}
 
 pair-between : (lo hi : ℕ) (ps : List (ℕ × ℕ)) → total (outside lo hi) ps ≡ 0 → 1 ≤ length ps → lo < hi
 pair-between lo hi [] e h = absurd (omega arith)
-pair-between lo hi (p ∷ ps) e h = let b = inside-bounds lo hi p (omega arith) in omega (arith, b .0, b .1)
+pair-between lo hi (p ∷ ps) e h = let b = outside-zero lo hi p (omega arith) in omega (arith, b .0, b .1)
 
 -- a sound part below the root: the same ranges, and they are not empty
 mutual

@@ -11,17 +11,17 @@ use native.Mathlib.Decide.{ℕ-discrete}
 use lib.ListN.{length, getD}
 use lib.Dec.{ltb, eqb}
 use borrow.Author.Tests.{ltb-true, eqb-true}
-use Rattle.card.specs.Layout.{nodeAt, kindOf, keyWords, valueWords, children, routingKeys, slot-pairs}
+use Rattle.card.specs.Layout.{nodeAt, kindOf, keyWords, valueWords, children, routingKeys, slot-pairs, runBelow}
 use Rattle.card.proofs.NodeLaws.{length-node, node-word, length-keyWords, length-valueWords, get-keyWord, get-valueWord, children-le, length-routing}
 use Rattle.card.specs.NodeWords.{OnCard, NodeWords}
 use Rattle.laws.specs.Bits.{bit}
 use Rattle.laws.specs.Cases.{pick, guard, bind}
-use Rattle.laws.proofs.Cases.{and-true, guard-some, bind-some}
+use Rattle.laws.proofs.Cases.{and-true, guard-some, bind-some, impossible}
 use Rattle.laws.proofs.Lists.{before-zero-take, getD-zero-after}
 use Rattle.laws.specs.Lists.{zero-after}
 use Rattle.laws.specs.Totals.{indicator}
 use Rattle.laws.proofs.Totals.{indicator-other, indicator-le}
-use Rattle.soundness.specs.Check.{Findings, unusedZero, Look, enterNode, ChildCheck, childrenCheck, childRun, raised, onLook, nodeCheck, bad, inner, leaf as leaf-look}
+use Rattle.soundness.specs.Check.{Findings, unusedZero, Look, enterNode, ChildCheck, childrenCheck, raised, onLook, nodeCheck, bad, inner, leaf as leaf-look, rangeEnd}
 use Rattle.soundness_theory.proofs.Entering.{Present, fewPairs, LeafEntry, width, InnerEntry, Enters, enter-shown, as-leaf, as-inner}
 use Rattle.soundness_theory.proofs.Found.{one-of, taken, note, at-root, found, found-below, isFree, WidthsAt, own-at}
 use Rattle.soundness_theory.proofs.Leaves.{leaf-range}
@@ -52,7 +52,7 @@ kind-tagged words false k = rw k
 
 -- all children are equally high: the first sets the height
 same-height : (first : Bool) (a b : ℕ) → (first || eqb a b) ≡ true → first ≡ false → a ≡ b
-same-height true a b e z = let y : _≡_ {A = ℕ} 0 1 = cc in absurd (omega arith)
+same-height true a b e z = impossible (cc)
 same-height false a b e z = eqb-true a b e
 
 -- ---- what is shown
@@ -124,7 +124,7 @@ module _ (c : List ℕ) (n : ℕ) (len : length c ≡ 8 + 24 * n) where
   children-shown : (bound run : ℕ) (check : ChildCheck) → ((low high m : ℕ) (f : Findings) (r : ℕ × Findings) → check low high m f ≡ some r → Shown c false run low high m bound f r)
       → (first : Bool) (height low high : ℕ) (ks ms : List ℕ) (f : Findings) (r : ℕ × Findings) → length ms ≡ suc (length ks) → childrenCheck check first height low high ks ms f ≡ some r
       → AllShown c first height run low high ks ms bound f r
-  unfolding childrenCheck
+  unfolding childrenCheck rangeEnd
   children-shown bound run check ih first height low high ks [] f r z e = absurd (omega arith)
   children-shown bound run check ih first height low high [] (m ∷ x ∷ ms) f r z e = absurd (omega arith)
   children-shown bound run check ih first height low high (k ∷ ks) (m ∷ []) f r z e = absurd (omega arith)
@@ -145,9 +145,11 @@ module _ (c : List ℕ) (n : ℕ) (len : length c ≡ 8 + 24 * n) where
       height-in none = 0
       height-in (some q) = q .0
   children-shown bound run check ih first height low high (k ∷ ks) (m ∷ x ∷ ms) f r z e =
-      let a = guard-some (ltb low k && ltb k high) (bind (check low k m f) (λ q. guard (first || eqb (q .0) height) (childrenCheck check false (q .0) k high ks (x ∷ ms) (q .1)))) r e in
+      let t = bind-some (guard (ltb low k && ltb k high) (some k)) (λ end. bind (check low end m f) (λ q. guard (first || eqb (q .0) height) (childrenCheck check false (q .0) end high ks (x ∷ ms) (q .1)))) r e in
+      let a = guard-some (ltb low k && ltb k high) (some k) (t .0) (t .1) in
       let o = and-true (ltb low k) (ltb k high) (a .0) in
-      let b = bind-some (check low k m f) (λ q. guard (first || eqb (q .0) height) (childrenCheck check false (q .0) k high ks (x ∷ ms) (q .1))) r (a .1) in
+      let end : k ≡ t .0 = cc in
+      let b = bind-some (check low k m f) (λ q. guard (first || eqb (q .0) height) (childrenCheck check false (q .0) k high ks (x ∷ ms) (q .1))) r (rw end (t .2)) in
       let g = guard-some (first || eqb (b .0 .0) height) (childrenCheck check false (b .0 .0) k high ks (x ∷ ms) (b .0 .1)) r (b .2) in
       join-shown (b .0) (ltb-true low k (o .0)) (ltb-true k high (o .1)) (same-height first (b .0 .0) height (g .0)) (ih low k m f (b .0) (b .1))
       (children-shown bound run check ih false (b .0 .0) k high ks (x ∷ ms) (b .0 .1) r (omega arith) (g .1))
@@ -166,7 +168,7 @@ module _ (c : List ℕ) (n : ℕ) (len : length c ≡ 8 + 24 * n) where
           }
 
   inner-shown : (isRoot : Bool) (run low high m bound : ℕ) (f : Findings) (g : Bool) (r : ℕ × Findings) → Present c n m f → InnerEntry (nodeAt c m) g isRoot (f .violated)
-      → AllShown c true 0 (childRun (width (nodeAt c m)) run) low high (routingKeys (nodeAt c m)) (children (nodeAt c m)) bound (note (g || ltb (width (nodeAt c m)) 2) low (pick g run 0) (taken m f)) r
+      → AllShown c true 0 (runBelow (width (nodeAt c m)) run) low high (routingKeys (nodeAt c m)) (children (nodeAt c m)) bound (note (g || ltb (width (nodeAt c m)) 2) low (pick g run 0) (taken m f)) r
       → Shown c isRoot run low high m (suc bound) f (pick g (r .0) (suc (r .0)), r .1)
   unfolding routingKeys children unusedZero
   inner-shown isRoot run low high m bound f g r p e s =
@@ -187,7 +189,7 @@ module _ (c : List ℕ) (n : ℕ) (len : length c ≡ 8 + 24 * n) where
             (λ j h. getD-zero-after (width words - 1) (keyWords words) j (u .0) ∙ ap (λ (l : List ℕ). getD l j 0) (sym (s .are-keys)))
             (λ j h. getD-zero-after (width words) (valueWords words) j (u .1) ∙ ap (λ (l : List ℕ). getD l j 0) (before-zero-take (valueWords words) ∙ sym (s .are-roots))))
             (omega (arith, children-le words)) w (λ z. e .first (sym v ∙ z)) (present-free m f p) (rw a (s .parts));
-        after = s .after ∙ ap₂ (λ (x : ℕ) (y : Findings). found-below (childRun x run) low k y) (sym q) (sym a);
+        after = s .after ∙ ap₂ (λ (x : ℕ) (y : Findings). found-below (runBelow x run) low k y) (sym q) (sym a);
       }
 
   look-shown : (child : ℕ → ChildCheck) (bound : ℕ) → ((run low high m : ℕ) (f : Findings) (r : ℕ × Findings) → child run low high m f ≡ some r → Shown c false run low high m bound f r)
@@ -199,13 +201,13 @@ module _ (c : List ℕ) (n : ℕ) (len : length c ≡ 8 + 24 * n) where
       here g = note (g || ltb (width (nodeAt c m)) 2) low (pick g run 0) (taken m f)
 
       below-check : Bool → Option (ℕ × Findings)
-      below-check g = childrenCheck (child (childRun (width (nodeAt c m)) run)) true 0 low high (routingKeys (nodeAt c m)) (children (nodeAt c m)) (here g)
+      below-check g = childrenCheck (child (runBelow (width (nodeAt c m)) run)) true 0 low high (routingKeys (nodeAt c m)) (children (nodeAt c m)) (here g)
 
       inside : (g : Bool) → Present c n m f → InnerEntry (nodeAt c m) g isRoot (f .violated) → (q : ℕ × Findings) → below-check g ≡ some q → (pick g (q .0) (suc (q .0)), q .1) ≡ r → Shown c isRoot run low high m (suc bound) f r
       inside g p h q e t =
           subst (λ (x : ℕ × Findings). Shown c isRoot run low high m (suc bound) f x) t
           (inner-shown isRoot run low high m bound f g q p h
-          (children-shown bound (childRun (width (nodeAt c m)) run) (child (childRun (width (nodeAt c m)) run)) (ih (childRun (width (nodeAt c m)) run)) true 0 low high (routingKeys (nodeAt c m)) (children (nodeAt c m)) (here g) q
+          (children-shown bound (runBelow (width (nodeAt c m)) run) (child (runBelow (width (nodeAt c m)) run)) (ih (runBelow (width (nodeAt c m)) run)) true 0 low high (routingKeys (nodeAt c m)) (children (nodeAt c m)) (here g) q
           (omega (arith, length-routing (nodeAt c m) (present-length m f p), h .filled)) e))
 
       entered : (L : Look) → Enters c n m low high run isRoot f L → onLook (nodeAt c m) low high child run L ≡ some r → Shown c isRoot run low high m (suc bound) f r

@@ -13,7 +13,7 @@ use Rattle.card.specs.Header.{nodesOfLength, headerRefusal, Sized}
 use Rattle.card.proofs.HeaderLaws.{nodes-sized}
 use Rattle.descent.specs.Descent.{slotOf}
 use Rattle.free_nodes.specs.NodeSet.{allNodes, countTrue}
-use Rattle.laws.proofs.Cases.{order}
+use Rattle.laws.proofs.Cases.{order, impossible}
 use Rattle.laws.specs.Cases.{pick}
 use Rattle.state.specs.Steps.{Handed, isIdle, noBeginning}
 use Rattle.starting.specs.Starts.{formatOf, startRefused, started, startLanded, startChecked, startOf}
@@ -121,21 +121,21 @@ start-sized card nodes doing key r =
 held-slot : (leaf : List ℕ) (run : ℕ) (free : List Bool) (t : Slot) → isSlot t ≡ true → roomFor free run (reasonIn leaf t) ≡ true
 unfolding isSlot roomFor reasonIn
 held-slot leaf run free (At i) h = refl
-held-slot leaf run free NoSlot h = let z : _≡_ {A = ℕ} 0 1 = cc in absurd (omega arith)
+held-slot leaf run free NoSlot h = impossible (cc)
 
 pub absent-reason : (leaf : List ℕ) (t : Slot) → isSlot t ≡ false → reasonIn leaf t ≡ emptyReason (slotOf leaf 0)
 unfolding isSlot reasonIn
-absent-reason leaf (At i) h = let z : _≡_ {A = ℕ} 0 1 = cc in absurd (omega arith)
+absent-reason leaf (At i) h = impossible (cc)
 absent-reason leaf NoSlot h = refl
 
 empty-slot : (run : ℕ) (free : List Bool) (t : Slot) → isSlot t ≡ true → roomFor free run (emptyReason t) ≡ true
 unfolding isSlot roomFor emptyReason
 empty-slot run free (At i) h = refl
-empty-slot run free NoSlot h = let z : _≡_ {A = ℕ} 0 1 = cc in absurd (omega arith)
+empty-slot run free NoSlot h = impossible (cc)
 
 full-slot : (run : ℕ) (free : List Bool) (t : Slot) → isSlot t ≡ false → roomFor free run (emptyReason t) ≡ not (ltb (countTrue free) (splitNeed run))
 unfolding isSlot roomFor emptyReason
-full-slot run free (At i) h = let z : _≡_ {A = ℕ} 0 1 = cc in absurd (omega arith)
+full-slot run free (At i) h = impossible (cc)
 full-slot run free NoSlot h = refl
 
 module _ (leaf : List ℕ) (key run : ℕ) (free : List Bool) where
@@ -162,7 +162,7 @@ not-enough count run h =
 
 -- a start that is no refusal
 pub started-no-refusal : (n : ℕ) → _≡_ {A = Begun} Started (BegunRefused n) → ⊥
-started-no-refusal n e = let z : _≡_ {A = ℕ} 0 1 = cc in omega arith
+started-no-refusal n e = impossible (cc)
 
 -- ---- starting to format
 

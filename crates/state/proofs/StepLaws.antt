@@ -14,8 +14,7 @@ use Rattle.card.specs.Stores.{Store}
 use Rattle.plans.specs.Plan.{storesOf}
 use Rattle.plans.specs.Planning.{withAll}
 use Rattle.plans.specs.declared.Plan.{Plan}
-use Rattle.laws.proofs.Cases.{order}
-use Rattle.laws.specs.Cases.{pick}
+use Rattle.laws.proofs.Cases.{order, impossible}
 use Rattle.laws.specs.Lists.{before-zero}
 use Rattle.state.specs.Steps.{Step, stepRefused, formattedWord, formatStore, stepStore, stepFirst}
 use Rattle.state.specs.Memory.{Memory, memoryOf, advanced}
@@ -73,18 +72,18 @@ module _ (p : Plan) (k : ℕ) (lp : length (p .places) ≡ 73) (lv : length (p .
   pub more-below : more (drop k (storesOf p)) ≡ true → (k < p .count) × (k < 73)
   more-below e =
       order k 73 (λ l. (ltb-true k (p .count) (sym (more-test l) ∙ e), l))
-      (λ o. let z : false ≡ true = sym (more-full o) ∙ e in let w : _≡_ {A = ℕ} 0 1 = cc in absurd (omega arith))
+      (λ o. let z : false ≡ true = sym (more-full o) ∙ e in impossible (cc))
 
 pub more-none : (ss : List Store) → more ss ≡ false → ss ≡ []
 unfolding more
 more-none [] e = refl
-more-none (s ∷ rest) e = let w : _≡_ {A = ℕ} 0 1 = cc in absurd (omega arith)
+more-none (s ∷ rest) e = impossible (cc)
 
 -- the nodes that are cut out, one after the other
 with-first : (x : ℕ) (l : List ℕ) (free : List Bool) → (x ≡ 0 → ⊥) → withAll (before-zero (x ∷ l)) free ≡ withAll (before-zero l) (set free x true)
 unfolding withAll
 with-first zero l free q = absurd (q refl)
-with-first (suc x) l free q = ap (λ (b : Bool). withAll (before-zero l) (pick b free (set free (suc x) true))) (ne-eqb (suc x) 0 q)
+with-first (suc x) l free q = refl
 
 module _ (cut : List ℕ) (i : ℕ) where
   pub cut-end : length cut ≤ i → before-zero (drop i cut) ≡ []
@@ -155,10 +154,10 @@ module _ (n len made : ℕ) where
 
 -- a final answer is no refusal
 pub final-ready : (n : ℕ) → _≡_ {A = Answer} Ready (Refused n) → ⊥
-final-ready n e = let z : _≡_ {A = ℕ} 0 1 = cc in omega arith
+final-ready n e = impossible (cc)
 
 pub stored-no-refusal : (n : ℕ) → _≡_ {A = Answer} Stored (Refused n) → ⊥
-stored-no-refusal n e = let z : _≡_ {A = ℕ} 0 1 = cc in omega arith
+stored-no-refusal n e = impossible (cc)
 
 -- the words of a formatted card that are 0
 pub word-other : (n i : ℕ) → (i ≡ 1 → ⊥) → (i ≡ 2 → ⊥) → (i ≡ 3 → ⊥) → (i ≡ 4 → ⊥) → (i ≡ 8 → ⊥) → formattedWord n i ≡ 0

@@ -1,17 +1,16 @@
 -- Laws of the next pair: one for each branch of the code.
-use mathlib.Core.Path.{_≡_, refl, sym, _∙_}
-use mathlib.Core.List.{List, _∷_}
+use mathlib.Core.Path.{_≡_, refl, sym, _∙_, ap}
+use mathlib.Core.List.{List, _∷_, [], _++_}
 use mathlib.Core.Option.{Option, none, some}
 use Prim.Native.Nat.{ℕ, zero, suc, _+_, _-_, _≤_, _<_}
 use native.Mathlib.Omega.{arith}
-use native.Mathlib.Numerals.{add-one}
-use lib.ListN.{length, getD, drop, drop-of-length-le, List·getD-eq-default}
-use lib.Seq.{drop-cons, getD-take}
+use lib.ListN.{length, getD, List·getD-eq-default}
+use lib.Seq.{getD-take}
 use borrow.Author.Tests.{lt-ltb, le-ltb, eq-eqb, ne-eqb}
 use Rattle.laws.proofs.Lists.{getD-any-default}
 use Rattle.card.specs.Header.{cardRefusal, nodesOfLength}
-use Rattle.card.specs.Layout.{rootPlace, depthLimit, keyLimit, nodeAt, keyWords, valueWords, children, routingKeys, slot-pairs, leafPairs}
-use Rattle.card.proofs.NodeLaws.{length-keyWords, length-valueWords, get-keyWord, get-valueWord, children-le, length-routing}
+use Rattle.card.specs.Layout.{rootPlace, depthLimit, keyLimit, nodeAt, keyWords, children, routingKeys, slot-pairs}
+use Rattle.card.proofs.NodeLaws.{length-keyWords, get-keyWord, children-le, length-routing, leafFrom, leaf-next, leaf-end}
 use Rattle.descent.specs.Descent.{childIndex, turnAt, leafFor}
 use Rattle.descent.specs.declared.Turn.the-variants.{Refused as NoTurn, Leaf as TurnLeaf, Down as TurnDown}
 use Rattle.successor.specs.Successor.{nearer, nearerAbove, leastAbove, endBelow, onTurnEnd, rangeEnd, inLeaf, inNextLeaf, nextIn, nextOf}
@@ -38,34 +37,18 @@ module _ (after : ℕ) (p : ℕ × ℕ) where
 
 -- ---- the slots from number i on
 
-unfoldable pub leastFrom : ℕ → List ℕ → ℕ → Option (ℕ × ℕ)
-leastFrom after node i = leastAbove after (slot-pairs (drop i (keyWords node)) (drop i (valueWords node)))
-
-pub least-start : (after : ℕ) (node : List ℕ) → leastFrom after node 0 ≡ leastAbove after (leafPairs node)
-unfolding leastFrom leafPairs
-least-start after node = refl
-
-slot-more : (after k v : ℕ) (ks vs : List ℕ) → leastAbove after (slot-pairs (k ∷ ks) (v ∷ vs)) ≡ nearerAbove after (k, v) (leastAbove after (slot-pairs ks vs))
+slot-more : (after k v : ℕ) (rest : List (ℕ × ℕ)) → leastAbove after (slot-pairs (k ∷ []) (v ∷ []) ++ rest) ≡ nearerAbove after (k, v) (leastAbove after rest)
 unfolding leastAbove
-slot-more after zero v ks vs = sym (nearer-below after (0, v) (leastAbove after (slot-pairs ks vs)) (omega arith))
-slot-more after (suc k) v ks vs = refl
+slot-more after zero v rest = sym (nearer-below after (0, v) (leastAbove after rest) (omega arith))
+slot-more after (suc k) v rest = refl
 
 module _ (after : ℕ) (node : List ℕ) (l : length node ≡ 24) where
-  pub least-end : (i : ℕ) → i ≡ 11 → leastFrom after node i ≡ none
-  unfolding leastFrom leastAbove
-  least-end i e = rw (drop-of-length-le (keyWords node) {i = i} (omega (arith, length-keyWords node l)))
+  pub least-end : (i : ℕ) → i ≡ 11 → leastAbove after (leafFrom node i) ≡ none
+  unfolding leastAbove
+  least-end i e = ap (leastAbove after) (leaf-end node l i (omega arith))
 
-  pub least-slot : (i : ℕ) → i < 11 → leastFrom after node i ≡ nearerAbove after (getD node (1 + i) 0, getD node (12 + i) 0) (leastFrom after node (i + 1))
-  unfolding leastFrom
-  least-slot i h =
-      rw (
-        add-one i,
-        drop-cons (keyWords node) i 0 (omega (arith, length-keyWords node l)),
-        drop-cons (valueWords node) i 0 (omega (arith, length-valueWords node l)),
-        get-keyWord node i h,
-        get-valueWord node i h,
-      )
-      (slot-more after (getD node (1 + i) 0) (getD node (12 + i) 0) (drop (suc i) (keyWords node)) (drop (suc i) (valueWords node)))
+  pub least-slot : (i : ℕ) → i < 11 → leastAbove after (leafFrom node i) ≡ nearerAbove after (getD node (1 + i) 0, getD node (12 + i) 0) (leastAbove after (leafFrom node (i + 1)))
+  least-slot i h = ap (leastAbove after) (leaf-next node l i h) ∙ slot-more after (getD node (1 + i) 0) (getD node (12 + i) 0) (leafFrom node (i + 1))
 
 -- ---- where the range of the child ends
 

@@ -12,17 +12,18 @@ use Rattle.state.specs.Steps.{stepRefused, stepFirst, isIdle}
 use Rattle.table.specs.Calls.{stepPlan, stepWork, stepHeld, stepDoing, stepOf}
 use Rattle.state.specs.Memory.{Memory}
 use Rattle.state.specs.Results.{more}
+use Rattle.laws.proofs.Cases.{impossible}
 
 -- a step of anything but formatting
 work-store : (card : List ℕ) (m : Memory) (ss : List Store) → more ss ≡ true → stepWork card m ss ≡ stepFirst card m m ss
 unfolding more stepWork stepFirst
-work-store card m [] e = let w : _≡_ {A = ℕ} 0 1 = cc in absurd (omega arith)
+work-store card m [] e = impossible (cc)
 work-store card m (s ∷ rest) e = refl
 
 work-plan : (card : List ℕ) (m : Memory) (ss : List Store) → more ss ≡ false → stepWork card m ss ≡ stepPlan card m (m .doing)
 unfolding more stepWork
 work-plan card m [] e = refl
-work-plan card m (s ∷ rest) e = let w : _≡_ {A = ℕ} 0 1 = cc in absurd (omega arith)
+work-plan card m (s ∷ rest) e = impossible (cc)
 
 module _ (card : List ℕ) (m : Memory) where
   pub held-refused : (h : ℕ) → h ≡ headerRefusal card (m .nodes) → (h ≡ 0 → ⊥) → stepHeld card m ≡ stepRefused h card m

@@ -1,16 +1,16 @@
 -- The way of a key through a tree, as a context: what the key passes and where it stops.
-use mathlib.Core.Path.{_≡_}
+use mathlib.Core.Path.{_≡_, refl}
 use mathlib.Core.List.{[], _∷_}
 use mathlib.Core.Bool.{true, false}
 use Prim.Native.Nat.{ℕ, suc, _+_, _≤_, _<_}
 use lib.ListN.{length}
-use lib.Dec.{eqb}
-use Rattle.card.specs.Layout.{slot-pairs}
-use Rattle.laws.specs.Cases.{pick}
+use Rattle.card.specs.Layout.{slot-pairs, runBelow}
+use Rattle.laws.specs.Bits.{bit}
 use Rattle.tree.specs.Tree.{Tree, roots, leaf, node}
-use Rattle.tree.proofs.Tree.{Left, Right, Context, plug, rightmost, followed, top, down}
+use Rattle.tree.proofs.Tree.{Left, Right, Context, plug, rightmost, followed, top, down, fill}
 use Rattle.tree.proofs.Violations.{below}
-use Rattle.tree.specs.Violations.{few, tag}
+use Rattle.tree.specs.Violations.{few, violations}
+use native.Mathlib.Omega.{arith}
 
 abbrev pub Past : ℕ → Left → Type 0
 Past k [] = Unit
@@ -41,12 +41,12 @@ width-of l r = length l + suc (right-size r)
 -- "the 11-child nodes without a break straight above" the hole
 unfoldable pub full-run : Context → ℕ
 full-run top = 0
-full-run (down C m g l r) = pick (eqb (width-of l r) 11) (suc (full-run C)) 0
+full-run (down C m g l r) = runBelow (width-of l r) (full-run C)
 
 -- the violation of a tree's root node itself, where it is not the root of the table
 abbrev pub own-violation : Tree → ℕ
 own-violation (leaf m ks vs) = few (length (slot-pairs ks vs))
-own-violation (node m g f) = tag g + few (length (roots f))
+own-violation (node m g f) = bit g + few (length (roots f))
 
 -- how many free nodes must be kept besides three: those that splits above a tagged node will need
 abbrev pub reserve : Context → Tree → ℕ
@@ -62,3 +62,14 @@ pub record Violation (t : Tree) (key : ℕ) : Type 0 where
   pub inside : below context
   pub own : own-violation part ≡ 1
   pub on-path : OnPath key context
+
+-- ---- laws
+
+pub width-fill : (l : Left) (s : Tree) (r : Right) → length (roots (fill l s r)) ≡ width-of l r
+width-fill [] s rightmost = refl
+width-fill [] s (followed x f) = omega arith
+width-fill (a ∷ l) s r = omega (arith, width-fill l s r)
+
+pub own-violation-le : (s : Tree) → own-violation s ≤ violations s
+own-violation-le (leaf m ks vs) = omega arith
+own-violation-le (node m g f) = omega arith

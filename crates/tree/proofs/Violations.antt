@@ -55,6 +55,15 @@ widths-splice (a ∷ l) f r i = let u = widths-splice l f r (i .1) in (u .0, λ 
 pub size-splice : (l : Left) (f g : Forest) (r : Right) → length (roots (splice l g r)) + length (roots f) ≡ length (roots (splice l f r)) + length (roots g)
 size-splice l f g r = simp (roots-splice, length-append) (omega arith)
 
+-- another part in the hole leaves the number of children
+pub fill-width : (l : Left) (s s′ : Tree) (r : Right) → length (roots (fill l s′ r)) ≡ length (roots (fill l s r))
+fill-width l s s′ r = omega (arith, size-splice l (one s) (one s′) r)
+
+pub violations-inside : (l : Left) (f : Forest) (r : Right) → forest-violations f ≤ forest-violations (splice l f r)
+violations-inside [] f rightmost = omega arith
+violations-inside [] f (followed k e) = omega (arith, violations-join f k e)
+violations-inside (x ∷ l) f r = omega (arith, violations-inside l f r)
+
 -- through a context, for a part that stands below the root
 abbrev pub below : Context → Type 0
 below top = ⊥
@@ -65,7 +74,4 @@ violations-plug top s s′ b = absurd b
 violations-plug (down top m g l r) s s′ b = violations-splice l (one s) (one s′) r
 violations-plug (down (down C m′ g′ l′ r′) m g l r) s s′ b =
     let p = violations-plug (down C m′ g′ l′ r′) (node m g (fill l s r)) (node m g (fill l s′ r)) tt in
-    omega (arith, violations-splice l (one s) (one s′) r, size-splice l (one s) (one s′) r, ap few (size-same l s s′ r))
-  where
-    size-same : (l : Left) (s s′ : Tree) (r : Right) → length (roots (fill l s′ r)) ≡ length (roots (fill l s r))
-    size-same l s s′ r = omega (arith, size-splice l (one s) (one s′) r)
+    omega (arith, violations-splice l (one s) (one s′) r, size-splice l (one s) (one s′) r, ap few (fill-width l s s′ r))

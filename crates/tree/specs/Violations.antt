@@ -5,21 +5,18 @@ use Prim.Native.Nat.{ℕ, _+_, _≤_}
 use lib.ListN.{length}
 use lib.Dec.{ltb}
 use Rattle.card.specs.Layout.{slot-pairs}
+use Rattle.laws.specs.Bits.{bit}
 use Rattle.laws.specs.Cases.{pick}
 use Rattle.tree.specs.Tree.{Tree, Forest, roots, leaf, node, one, more}
 
 unfoldable pub few : ℕ → ℕ
 few n = pick (ltb n 2) 1 0
 
-abbrev pub tag : Bool → ℕ
-tag true = 1
-tag false = 0
-
 -- the faults of a tree that is not the root
 abbrev mutual
   pub violations : Tree → ℕ
   violations (leaf m ks vs) = few (length (slot-pairs ks vs))
-  violations (node m g f) = tag g + few (length (roots f)) + forest-violations f
+  violations (node m g f) = bit g + few (length (roots f)) + forest-violations f
 
   pub forest-violations : Forest → ℕ
   forest-violations (one t) = violations t

@@ -8,12 +8,12 @@ use lib.ListN.{length, getD}
 use lib.Dec.{eqb}
 use borrow.Author.Tests.{ne-eqb}
 use Rattle.card.specs.Header.{Sized}
-use Rattle.card.specs.Layout.{depthLimit, rootPlace, place, nodeAt, keyWords, valueWords, children, slot-pairs, leafPairs}
+use Rattle.card.specs.Layout.{depthLimit, rootPlace, place, nodeAt, keyWords, valueWords, children, slot-pairs, leafPairs, runBelow}
 use Rattle.card.proofs.NodeLaws.{length-node, length-keyWords, length-valueWords}
-use Rattle.descent.specs.Descent.{childIndex, firstEqual, slotOf, turnAt, runBelow, onTurnLanding, landingFor}
+use Rattle.descent.specs.Descent.{childIndex, firstEqual, slotOf, turnAt, onTurnLanding, landingFor}
 use Rattle.descent.proofs.DescentLaws.{index-le, turn-inside}
 use Rattle.laws.specs.Cases.{pick}
-use Rattle.laws.proofs.Cases.{bool-cases}
+use Rattle.laws.proofs.Cases.{bool-cases, impossible}
 use Rattle.descent.proofs.Inside.{Inside, landing-inside}
 use Rattle.updates.specs.Updates.{landing, Reason, insertReason, insertChange, deleteChange, noChange, changeIn, changeAt, repairs, nextChange, held, slot, full}
 use Rattle.descent.specs.declared.Slot.{Slot}
@@ -31,7 +31,7 @@ full-pairs : (ks vs : List ℕ) (a : ℕ) → length ks ≡ length vs → firstE
 unfolding firstEqual
 full-pairs [] vs a l e = refl
 full-pairs (k ∷ ks) [] a l e = absurd (omega arith)
-full-pairs (zero ∷ ks) (v ∷ vs) a l e = let z : _≡_ {A = ℕ} 0 1 = cc in absurd (omega arith)
+full-pairs (zero ∷ ks) (v ∷ vs) a l e = impossible (cc)
 full-pairs (suc k ∷ ks) (v ∷ vs) a l e = ap suc (full-pairs ks vs (suc a) (omega arith) (rw (ne-eqb (suc k) 0 (λ z. omega arith)) at e))
 
 pub leaf-full : (leaf : List ℕ) → length leaf ≡ 24 → slotOf leaf 0 ≡ NoSlot → length (leafPairs leaf) ≡ 11
@@ -49,9 +49,9 @@ module _ (card : List ℕ) (n key m link run : ℕ) (fits : Sized (length card) 
   landing-linked zero from above at f e = go (turnAt card n key at) e
     where
       go : (t : Turn) → onTurnLanding at from above (λ child. NoLanding) t ≡ LandingAt m link run → link < 2 ^ 32
-      go NoTurn r = let z : _≡_ {A = ℕ} 0 1 = cc in absurd (omega arith)
+      go NoTurn r = impossible (cc)
       go TurnLeaf r = let z : from ≡ link = cc in rw z at f
-      go (TurnDown child) r = let z : _≡_ {A = ℕ} 0 1 = cc in absurd (omega arith)
+      go (TurnDown child) r = impossible (cc)
   landing-linked (suc levels) from above at f e =
       go (λ child below. landing-linked levels (place at (12 + childIndex (nodeAt card at) key)) (runBelow (length (children (nodeAt card at))) above) child below) (turnAt card n key at) refl e
     where
@@ -59,7 +59,7 @@ module _ (card : List ℕ) (n key m link run : ℕ) (fits : Sized (length card) 
           → landingFor card n key levels (place at (12 + childIndex (nodeAt card at) key)) (runBelow (length (children (nodeAt card at))) above) child ≡ LandingAt m link run → link < 2 ^ 32)
           → (t : Turn) → turnAt card n key at ≡ t
           → onTurnLanding at from above (landingFor card n key levels (place at (12 + childIndex (nodeAt card at) key)) (runBelow (length (children (nodeAt card at))) above)) t ≡ LandingAt m link run → link < 2 ^ 32
-      go next NoTurn q r = let z : _≡_ {A = ℕ} 0 1 = cc in absurd (omega arith)
+      go next NoTurn q r = impossible (cc)
       go next TurnLeaf q r = let z : from ≡ link = cc in rw z at f
       go next (TurnDown child) q r =
           let i = turn-inside card n key at child q in
@@ -106,33 +106,33 @@ module _ (card : List ℕ) (n key m link run : ℕ) where
 -- the final answer of a first change is no refusal
 insert-final-in : (key value : ℕ) (free : List Bool) (last m link : ℕ) (node : List ℕ) (r : Reason) (n : ℕ) → insertChange key value free last m link node r .final ≡ Refused n → ⊥
 unfolding insertChange
-insert-final-in key value free last m link node (held v) n e = let z : _≡_ {A = ℕ} 0 1 = cc in omega arith
-insert-final-in key value free last m link node (slot i) n e = let z : _≡_ {A = ℕ} 0 1 = cc in omega arith
-insert-final-in key value free last m link node full n e = let z : _≡_ {A = ℕ} 0 1 = cc in omega arith
+insert-final-in key value free last m link node (held v) n e = impossible (cc)
+insert-final-in key value free last m link node (slot i) n e = impossible (cc)
+insert-final-in key value free last m link node full n e = impossible (cc)
 
 delete-final-in : (key : ℕ) (free : List Bool) (last m : ℕ) (node : List ℕ) (t : Slot) (n : ℕ) → deleteChange key free last m node t .final ≡ Refused n → ⊥
 unfolding deleteChange
-delete-final-in key free last m node (At i) n e = let z : _≡_ {A = ℕ} 0 1 = cc in omega arith
-delete-final-in key free last m node NoSlot n e = let z : _≡_ {A = ℕ} 0 1 = cc in omega arith
+delete-final-in key free last m node (At i) n e = impossible (cc)
+delete-final-in key free last m node NoSlot n e = impossible (cc)
 
 change-final : (card : List ℕ) (doing : Doing) (free : List Bool) (last : ℕ) (l : Landing) (n : ℕ) → changeAt card doing free last l .final ≡ Refused n → ⊥
 unfolding changeAt changeIn noChange
-change-final card doing free last NoLanding n e = let z : _≡_ {A = ℕ} 0 1 = cc in omega arith
-change-final card Idle free last (LandingAt m link run) n e = let z : _≡_ {A = ℕ} 0 1 = cc in omega arith
-change-final card (Formatting made) free last (LandingAt m link run) n e = let z : _≡_ {A = ℕ} 0 1 = cc in omega arith
+change-final card doing free last NoLanding n e = impossible (cc)
+change-final card Idle free last (LandingAt m link run) n e = impossible (cc)
+change-final card (Formatting made) free last (LandingAt m link run) n e = impossible (cc)
 change-final card (Inserting key value begun) free last (LandingAt m link run) n e = insert-final-in key value free last m link (nodeAt card m) (insertReason (nodeAt card m) key) n e
 change-final card (Deleting key begun value) free last (LandingAt m link run) n e = delete-final-in key free last m (nodeAt card m) (slotOf (nodeAt card m) key) n e
-change-final card (Repairing key) free last (LandingAt m link run) n e = let z : _≡_ {A = ℕ} 0 1 = cc in omega arith
+change-final card (Repairing key) free last (LandingAt m link run) n e = impossible (cc)
 
 pub next-final : (card : List ℕ) (nodes : ℕ) (free : List Bool) (last : ℕ) (doing : Doing) (n : ℕ) → nextChange card nodes free last doing .final ≡ Refused n → ⊥
 unfolding nextChange repairs noChange
-next-final card nodes free last Idle n e = let z : _≡_ {A = ℕ} 0 1 = cc in omega arith
-next-final card nodes free last (Formatting made) n e = let z : _≡_ {A = ℕ} 0 1 = cc in omega arith
+next-final card nodes free last Idle n e = impossible (cc)
+next-final card nodes free last (Formatting made) n e = impossible (cc)
 next-final card nodes free last (Inserting key value false) n e = change-final card (Inserting key value false) free last (landing card nodes key) n e
-next-final card nodes free last (Inserting key value true) n e = let z : _≡_ {A = ℕ} 0 1 = cc in omega arith
+next-final card nodes free last (Inserting key value true) n e = impossible (cc)
 next-final card nodes free last (Deleting key false value) n e = change-final card (Deleting key false value) free last (landing card nodes key) n e
-next-final card nodes free last (Deleting key true value) n e = let z : _≡_ {A = ℕ} 0 1 = cc in omega arith
-next-final card nodes free last (Repairing key) n e = let z : _≡_ {A = ℕ} 0 1 = cc in omega arith
+next-final card nodes free last (Deleting key true value) n e = impossible (cc)
+next-final card nodes free last (Repairing key) n e = impossible (cc)
 
 -- an update's next change: its first, or a repair
 pub next-insert : (card : List ℕ) (n key value : ℕ) (begun : Bool) (free : List Bool) (last : ℕ)

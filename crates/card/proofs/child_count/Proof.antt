@@ -3,12 +3,10 @@ use borrow.Author.Count.{below-more}
 use native.Mathlib.Omega.{arith}
 use mathlib.Core.Path.{_≡_, sym}
 use Prim.Native.Nat.{ℕ, _+_, _-_, _≤_, _<_}
-use lib.ListN.{length, getD}
+use lib.ListN.{getD}
 use Rattle.card.proofs.NodeLaws.{children-count}
 use Rattle.card.proofs.child_count.Statement.{statement}
 use Rattle.card.proofs.child_count.Tie as tie
-use Rattle.card.proofs.child_count.Reads as reads
-use Rattle.card.proofs.child_count.Lts as lts
 
 abbrev Inv-loop : tie.InvT-loop
 Inv-loop node c₀ c = (c ≤ 11) × ((k : ℕ) → k < c → getD node (12 + k) 0 ≡ 0 → ⊥)
@@ -16,39 +14,30 @@ Inv-loop node c₀ c = (c ≤ 11) × ((k : ℕ) → k < c → getD node (12 + k)
 abbrev μ-loop : tie.MeasureT-loop
 μ-loop node c₀ c = 11 - c
 
--- src/lib.rt:20:5
 loop-holds : tie.Need-loop-holds Inv-loop μ-loop
 loop-holds c = search needs
 
--- src/lib.rt:21:17
 add-if1 : tie.Need-add-if1 Inv-loop μ-loop
 add-if1 c = search needs
 
--- src/lib.rt:21:12
 mul-if1 : tie.Need-mul-if1 Inv-loop μ-loop
 mul-if1 c = search needs
 
--- src/lib.rt:21:12
 shared-slice-read-if1 : tie.Need-shared-slice-read-if1 Inv-loop μ-loop
 shared-slice-read-if1 c = search needs
 
--- src/lib.rt:22:13
 returns : tie.Need-returns Inv-loop μ-loop
 returns c = sym (children-count (c .before .before .before .before .args .node .now) (c .before .before .before .loop .c) (search needs) (omega arith) (c .before .before .before .loop .inv .1) (λ l. c .if1 .taken))
 
--- src/lib.rt:24:9
 add-c : tie.Need-add-c Inv-loop μ-loop
 add-c c = search needs
 
--- src/lib.rt:20:5
 loop-less : tie.Need-loop-less Inv-loop μ-loop
 loop-less c = search needs
 
--- src/lib.rt:20:5
 loop-again : tie.Need-loop-again Inv-loop μ-loop
 loop-again c = (omega arith, below-more _ _ (c .before .before .before .loop .inv .1) (c .if1 .left))
 
--- src/lib.rt:15:1
 returns-2 : tie.Need-returns-2 Inv-loop μ-loop
 returns-2 c = sym (children-count (c .before .before .args .node .now) (c .before .loop .c) (search needs) (omega arith) (c .before .loop .inv .1) (λ l. absurd (omega arith)))
 

@@ -1,74 +1,55 @@
 use borrow.Author.Needs.{needs}
 use native.Mathlib.Omega.{arith}
 use mathlib.Core.Path.{sym}
-use Rattle.card.specs.Header.{Formatted}
 use Rattle.card.proofs.HeaderLaws.{formatted-header, wrong-word0, wrong-word1, wrong-word2, wrong-word3, wrong-word5, wrong-word6, wrong-word7}
 use Rattle.card.proofs.header_refusal.Statement.{statement}
 use Rattle.card.proofs.header_refusal.Tie as tie
-use Rattle.card.proofs.header_refusal.Reads as reads
-use Rattle.card.proofs.header_refusal.Lts as lts
 
--- src/lib.rt:34:8
 shared-slice-read-if1 : tie.Need-shared-slice-read-if1
 shared-slice-read-if1 c = search needs
 
--- src/lib.rt:35:9
 returns : tie.Need-returns
 returns c = sym (wrong-word0 _ _ (c .if1 .taken))
 
--- src/lib.rt:37:8
 shared-slice-read-if2 : tie.Need-shared-slice-read-if2
 shared-slice-read-if2 c = search needs
 
--- src/lib.rt:37:8
 cast-if2 : tie.Need-cast-if2
 cast-if2 c = omega (arith, c .shared-slice-known2 .given 1)
 
--- src/lib.rt:38:9
 returns-2 : tie.Need-returns-2
 returns-2 c = sym (wrong-word1 _ _ (c .before .before .if1 .left) (c .if2 .taken))
 
--- src/lib.rt:40:8
 shared-slice-read-if3 : tie.Need-shared-slice-read-if3
 shared-slice-read-if3 c = search needs
 
--- src/lib.rt:41:9
 returns-3 : tie.Need-returns-3
 returns-3 c = sym (wrong-word2 _ _ (c .before .before .before .before .if1 .left) (c .before .before .if2 .left) (c .if3 .taken))
 
--- src/lib.rt:43:8
 shared-slice-read-if4 : tie.Need-shared-slice-read-if4
 shared-slice-read-if4 c = search needs
 
--- src/lib.rt:44:9
 returns-4 : tie.Need-returns-4
 returns-4 c = sym (wrong-word3 _ _ (c .before .before .before .before .before .before .if1 .left) (c .before .before .before .before .if2 .left) (c .before .before .if3 .left) (c .if4 .taken))
 
--- src/lib.rt:46:8
 shared-slice-read-if5 : tie.Need-shared-slice-read-if5
 shared-slice-read-if5 c = search needs
 
--- src/lib.rt:47:9
 returns-5 : tie.Need-returns-5
 returns-5 c = sym (wrong-word5 _ _ (c .before .before .before .before .before .before .before .before .if1 .left) (c .before .before .before .before .before .before .if2 .left) (c .before .before .before .before .if3 .left) (c .before .before .if4 .left) (c .if5 .taken))
 
--- src/lib.rt:49:8
 shared-slice-read-if6 : tie.Need-shared-slice-read-if6
 shared-slice-read-if6 c = search needs
 
--- src/lib.rt:50:9
 returns-6 : tie.Need-returns-6
 returns-6 c = sym (wrong-word6 _ _ (c .before .before .before .before .before .before .before .before .before .before .if1 .left) (c .before .before .before .before .before .before .before .before .if2 .left) (c .before .before .before .before .before .before .if3 .left) (c .before .before .before .before .if4 .left) (c .before .before .if5 .left) (c .if6 .taken))
 
--- src/lib.rt:52:8
 shared-slice-read-if7 : tie.Need-shared-slice-read-if7
 shared-slice-read-if7 c = search needs
 
--- src/lib.rt:53:9
 returns-7 : tie.Need-returns-7
 returns-7 c = sym (wrong-word7 _ _ (c .before .before .before .before .before .before .before .before .before .before .before .before .if1 .left) (c .before .before .before .before .before .before .before .before .before .before .if2 .left) (c .before .before .before .before .before .before .before .before .if3 .left) (c .before .before .before .before .before .before .if4 .left) (c .before .before .before .before .if5 .left) (c .before .before .if6 .left) (c .if7 .taken))
 
--- src/lib.rt:30:1
 returns-8 : tie.Need-returns-8
 returns-8 c = sym (formatted-header _ _ (record { mark = c .before .before .before .before .before .before .before .before .before .before .before .before .if1 .left; nodes = c .before .before .before .before .before .before .before .before .before .before .if2 .left; first = c .before .before .before .before .before .before .before .before .if3 .left; each = c .before .before .before .before .before .before .if4 .left; five = c .before .before .before .before .if5 .left; six = c .before .before .if6 .left; seven = c .if7 .left }))
 

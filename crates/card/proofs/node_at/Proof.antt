@@ -3,42 +3,31 @@ use mathlib.Core.Path.{refl}
 use Rattle.card.proofs.NodeLaws.{node-part}
 use Rattle.card.proofs.node_at.Statement.{statement}
 use Rattle.card.proofs.node_at.Tie as tie
-use Rattle.card.proofs.node_at.Reads as reads
-use Rattle.card.proofs.node_at.Lts as lts
 
--- src/lib.rt:63:24
 sub-at : tie.Need-sub-at
 sub-at c = search needs
 
--- src/lib.rt:63:18
 mul-at : tie.Need-mul-at
 mul-at c = search needs
 
--- src/lib.rt:63:14
 add-at : tie.Need-add-at
 add-at c = search needs
 
--- src/lib.rt:64:15
 add-result : tie.Need-add-result
 add-result c = search needs
 
--- src/lib.rt:64:5
 mul-result : tie.Need-mul-result
 mul-result c = search needs
 
--- src/lib.rt:64:5
 sub-result : tie.Need-sub-result
 sub-result c = search needs
 
--- src/lib.rt:64:5
 part-result-start : tie.Need-part-result-start
 part-result-start c = search needs
 
--- src/lib.rt:64:5
 part-result-end : tie.Need-part-result-end
 part-result-end c = search needs
 
--- src/lib.rt:59:1
 returns : tie.Need-returns
 returns c = node-part _ (c .before .args .m) _ _ refl refl
 

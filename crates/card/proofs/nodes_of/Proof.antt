@@ -4,46 +4,34 @@ use mathlib.Core.Path.{sym}
 use Rattle.card.proofs.HeaderLaws.{nodes-short, nodes-long, nodes-whole, nodes-odd}
 use Rattle.card.proofs.nodes_of.Statement.{statement}
 use Rattle.card.proofs.nodes_of.Tie as tie
-use Rattle.card.proofs.nodes_of.Reads as reads
-use Rattle.card.proofs.nodes_of.Lts as lts
 
--- src/lib.rt:16:21
 mul-if1 : tie.Need-mul-if1
 mul-if1 c = search needs
 
--- src/lib.rt:16:17
 add-if1 : tie.Need-add-if1
 add-if1 c = search needs
 
--- src/lib.rt:17:9
 returns : tie.Need-returns
 returns c = sym (nodes-short _ (c .if1 .taken))
 
--- src/lib.rt:19:12
 mul-if2 : tie.Need-mul-if2
 mul-if2 c = search needs
 
--- src/lib.rt:19:8
 add-if2 : tie.Need-add-if2
 add-if2 c = search needs
 
--- src/lib.rt:20:9
 returns-2 : tie.Need-returns-2
 returns-2 c = sym (nodes-long _ (c .if2 .taken))
 
--- src/lib.rt:22:9
 sub-if3 : tie.Need-sub-if3
 sub-if3 c = search needs
 
--- src/lib.rt:23:10
 sub-result : tie.Need-sub-result
 sub-result c = search needs
 
--- src/lib.rt:13:1
 returns-3 : tie.Need-returns-3
 returns-3 c = sym (nodes-whole _ (omega arith) (omega arith) (c .if3 .taken))
 
--- src/lib.rt:13:1
 returns-4 : tie.Need-returns-4
 returns-4 c = sym (nodes-odd _ (omega arith) (omega arith) (c .if3 .left))
 

@@ -9,8 +9,6 @@ use Rattle.descent.specs.Descent.{childIndex}
 use Rattle.descent.proofs.DescentLaws.{children-more, last-child, next-child, indexFrom, index-start, index-last, index-stop, index-next}
 use Rattle.descent.proofs.child_index.Statement.{statement}
 use Rattle.descent.proofs.child_index.Tie as tie
-use Rattle.descent.proofs.child_index.Reads as reads
-use Rattle.descent.proofs.child_index.Lts as lts
 
 abbrev Inv-loop : tie.InvT-loop
 Inv-loop node key i₀ i = (i ≤ 10) × (i < length (children node)) × (childIndex node key ≡ indexFrom node key i)
@@ -18,55 +16,42 @@ Inv-loop node key i₀ i = (i ≤ 10) × (i < length (children node)) × (childI
 abbrev μ-loop : tie.MeasureT-loop
 μ-loop node key i₀ i = 10 - i
 
--- src/lib.rt:56:5
 loop-holds : tie.Need-loop-holds Inv-loop μ-loop
 loop-holds c = (search needs, children-more _ 0 (omega arith) (omega arith) (search needs), index-start _ _)
 
--- src/lib.rt:57:17
 add-if1 : tie.Need-add-if1 Inv-loop μ-loop
 add-if1 c = search needs
 
--- src/lib.rt:57:12
 mul-if1 : tie.Need-mul-if1 Inv-loop μ-loop
 mul-if1 c = search needs
 
--- src/lib.rt:57:12
 shared-slice-read-if1 : tie.Need-shared-slice-read-if1 Inv-loop μ-loop
 shared-slice-read-if1 c = search needs
 
--- src/lib.rt:58:13
 returns : tie.Need-returns Inv-loop μ-loop
 returns c = let l = c .before .before .before .loop in sym (l .inv .2 ∙ index-last _ (search needs) _ _ (last-child _ _ (omega arith) (c .if1 .taken)))
 
--- src/lib.rt:60:23
 add-if2 : tie.Need-add-if2 Inv-loop μ-loop
 add-if2 c = search needs
 
--- src/lib.rt:60:18
 mul-if2 : tie.Need-mul-if2 Inv-loop μ-loop
 mul-if2 c = search needs
 
--- src/lib.rt:60:18
 shared-slice-read-if2 : tie.Need-shared-slice-read-if2 Inv-loop μ-loop
 shared-slice-read-if2 c = search needs
 
--- src/lib.rt:61:13
 returns-2 : tie.Need-returns-2 Inv-loop μ-loop
 returns-2 c = let l = c .before .before .before .before .before .loop in sym (l .inv .2 ∙ index-stop _ (search needs) _ _ (next-child _ _ (omega arith) (l .inv .1) (c .before .before .if1 .left)) (c .if2 .taken))
 
--- src/lib.rt:63:9
 add-i : tie.Need-add-i Inv-loop μ-loop
 add-i c = search needs
 
--- src/lib.rt:56:5
 loop-less : tie.Need-loop-less Inv-loop μ-loop
 loop-less c = search needs
 
--- src/lib.rt:56:5
 loop-again : tie.Need-loop-again Inv-loop μ-loop
 loop-again c = let l = c .before .before .before .before .before .loop in let more = next-child _ _ (omega arith) (l .inv .1) (c .before .before .if1 .left) in (omega arith, more, l .inv .2 ∙ index-next _ (search needs) _ _ more (c .if2 .left))
 
--- src/lib.rt:51:1
 returns-3 : tie.Need-returns-3 Inv-loop μ-loop
 returns-3 c = let l = c .before .loop in sym (l .inv .2 ∙ index-last _ (search needs) _ _ (omega (arith, children-le (c .before .before .args .node .now))))
 

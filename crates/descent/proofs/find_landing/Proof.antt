@@ -5,18 +5,12 @@ use mathlib.Core.List.{List}
 use Prim.Native.Nat.{ℕ, _+_, _≤_}
 use lib.ListN.{length, getD}
 use Rattle.card.specs.Layout.{depthLimit, rootPlace, nodeAt, children}
-use Rattle.card.proofs.NodeLaws.{length-node}
+use Rattle.card.proofs.NodeLaws.{length-node, run-below-le}
 use Rattle.descent.specs.Descent.{turnAt, landingFor}
-use Rattle.descent.proofs.DescentLaws.{index-le, turn-inside, run-below-le, landing-refused, landing-leaf, landing-too-deep, landing-down}
+use Rattle.descent.proofs.DescentLaws.{index-le, turn-inside, landing-refused, landing-leaf, landing-too-deep, landing-down}
 use Rattle.descent.specs.declared.Turn.the-variants.{Down as TurnDown}
 use Rattle.descent.proofs.find_landing.Statement.{statement}
 use Rattle.descent.proofs.find_landing.Tie as tie
-use Rattle.descent.proofs.find_landing.Reads as reads
-use Rattle.descent.proofs.find_landing.Lts as lts
-use Rattle.card.proofs.node_at.Reads as node-at-reads
-use Rattle.descent.proofs.child_index.Reads as child-index-reads
-use Rattle.descent.proofs.run_below.Reads as run-below-reads
-use Rattle.descent.proofs.turn_at.Reads as turn-at-reads
 
 -- the run is no longer than the way so far
 abbrev Inv-loop : tie.InvT-loop
@@ -43,79 +37,60 @@ words c =
 less : (c : tie.After-child-index Inv-loop μ-loop) → c .child-index .result ≤ 10
 less c = omega (arith, c .child-index .ensures, index-le (c .before .node-at .result .now) (c .before .before .before .before .before .before .before .before .before .args .key) (words (c .before)))
 
--- src/lib.rt:148:5
 loop-holds : tie.Need-loop-holds Inv-loop μ-loop
 loop-holds c = search needs
 
--- src/lib.rt:149:15
 turn-at-requires : tie.Need-turn-at-requires Inv-loop μ-loop
 turn-at-requires c κs = search needs
 
--- src/lib.rt:151:17
 enum-told : tie.Need-enum-told Inv-loop μ-loop
 enum-told c = search needs
 
--- src/lib.rt:151:17
 returns : tie.Need-returns Inv-loop μ-loop
 returns c = sym (c .before .before .before .loop .inv .1 ∙ landing-refused _ _ _ _ _ _ _ (sym (c .before .before .turn-at .ensures) ∙ c .enum-told .given .1))
 
--- src/lib.rt:154:17
 enum-told-2 : tie.Need-enum-told-2 Inv-loop μ-loop
 enum-told-2 c = search needs
 
--- src/lib.rt:154:17
 returns-2 : tie.Need-returns-2 Inv-loop μ-loop
 returns-2 c = sym (c .before .before .before .loop .inv .1 ∙ landing-leaf _ _ _ _ _ _ _ (sym (c .before .before .turn-at .ensures) ∙ c .enum-told2 .given .1))
 
--- src/lib.rt:156:24
 enum-known-child : tie.Need-enum-known-child Inv-loop μ-loop
 enum-known-child c = search needs
 
--- src/lib.rt:158:21
 returns-3 : tie.Need-returns-3 Inv-loop μ-loop
 returns-3 c = sym (c .before .before .before .before .before .loop .inv .1 ∙ landing-too-deep _ _ _ _ _ _ _ _ (sym (c .before .before .before .before .turn-at .ensures) ∙ c .before .before .child .given .1) (c .if1 .taken))
 
--- src/lib.rt:160:21
 node-at-requires : tie.Need-node-at-requires Inv-loop μ-loop
 node-at-requires c κs = let on = inside c in (on .0, omega arith, omega arith)
 
--- src/lib.rt:161:21
 child-index-requires : tie.Need-child-index-requires Inv-loop μ-loop
 child-index-requires c κs = (words c, λ e. inside (c .before) .2 (ap (λ (x : List ℕ). getD x 12 0) (sym (c .node-at .ensures)) ∙ e))
 
--- src/lib.rt:162:34
 sub-link : tie.Need-sub-link Inv-loop μ-loop
 sub-link c = inside (c .before .before) .0
 
--- src/lib.rt:162:28
 mul-link : tie.Need-mul-link Inv-loop μ-loop
 mul-link c = let on = inside (c .before .before) in omega arith
 
--- src/lib.rt:162:24
 add-link : tie.Need-add-link Inv-loop μ-loop
 add-link c = let on = inside (c .before .before) in omega arith
 
--- src/lib.rt:162:24
 add-link-2 : tie.Need-add-link-2 Inv-loop μ-loop
 add-link-2 c = let on = inside (c .before .before) in omega arith
 
--- src/lib.rt:162:24
 add-link-3 : tie.Need-add-link-3 Inv-loop μ-loop
 add-link-3 c = let on = inside (c .before .before) in omega (arith, less c)
 
--- src/lib.rt:163:17
 run-below-requires : tie.Need-run-below-requires Inv-loop μ-loop
 run-below-requires c κs = (words (c .before), omega arith)
 
--- src/lib.rt:164:17
 sub-left : tie.Need-sub-left Inv-loop μ-loop
 sub-left c = search needs
 
--- src/lib.rt:148:5
 loop-less : tie.Need-loop-less Inv-loop μ-loop
 loop-less c = search needs
 
--- src/lib.rt:148:5
 loop-again : tie.Need-loop-again Inv-loop μ-loop
 loop-again c =
     let e = c .before .before .before in (

@@ -7,9 +7,6 @@ use Rattle.descent.specs.Descent.{leafFor}
 use Rattle.descent.proofs.DescentLaws.{way-refused, way-leaf, way-too-deep, way-down}
 use Rattle.descent.proofs.find_leaf.Statement.{statement}
 use Rattle.descent.proofs.find_leaf.Tie as tie
-use Rattle.descent.proofs.find_leaf.Reads as reads
-use Rattle.descent.proofs.find_leaf.Lts as lts
-use Rattle.descent.proofs.turn_at.Reads as turn-at-reads
 
 abbrev Inv-loop : tie.InvT-loop
 Inv-loop card n key root m₀ left₀ m left = (left ≤ depthLimit) × (leafFor card n key depthLimit root ≡ leafFor card n key left m)
@@ -17,51 +14,39 @@ Inv-loop card n key root m₀ left₀ m left = (left ≤ depthLimit) × (leafFor
 abbrev μ-loop : tie.MeasureT-loop
 μ-loop card n key root m₀ left₀ m left = left
 
--- src/lib.rt:114:5
 loop-holds : tie.Need-loop-holds Inv-loop μ-loop
 loop-holds c = search needs
 
--- src/lib.rt:115:15
 turn-at-requires : tie.Need-turn-at-requires Inv-loop μ-loop
 turn-at-requires c κs = search needs
 
--- src/lib.rt:117:17
 enum-told : tie.Need-enum-told Inv-loop μ-loop
 enum-told c = search needs
 
--- src/lib.rt:117:17
 returns : tie.Need-returns Inv-loop μ-loop
 returns c = sym (c .before .before .before .loop .inv .1 ∙ way-refused _ _ _ _ _ (sym (c .before .before .turn-at .ensures) ∙ c .enum-told .given .1))
 
--- src/lib.rt:122:28
 enum-told-2 : tie.Need-enum-told-2 Inv-loop μ-loop
 enum-told-2 c = search needs
 
--- src/lib.rt:122:28
 sub-t9 : tie.Need-sub-t9 Inv-loop μ-loop
 sub-t9 c = search needs
 
--- src/lib.rt:120:17
 returns-2 : tie.Need-returns-2 Inv-loop μ-loop
 returns-2 c = sym (c .before .before .before .loop .inv .1 ∙ way-leaf _ _ _ _ _ (sym (c .before .before .turn-at .ensures) ∙ c .enum-told2 .given .1))
 
--- src/lib.rt:125:24
 enum-known-child : tie.Need-enum-known-child Inv-loop μ-loop
 enum-known-child c = search needs
 
--- src/lib.rt:127:21
 returns-3 : tie.Need-returns-3 Inv-loop μ-loop
 returns-3 c = sym (c .before .before .before .before .before .loop .inv .1 ∙ way-too-deep _ _ _ _ _ _ (sym (c .before .before .before .before .turn-at .ensures) ∙ c .before .before .child .given .1) (c .if1 .taken))
 
--- src/lib.rt:129:17
 sub-left : tie.Need-sub-left Inv-loop μ-loop
 sub-left c = search needs
 
--- src/lib.rt:114:5
 loop-less : tie.Need-loop-less Inv-loop μ-loop
 loop-less c = search needs
 
--- src/lib.rt:114:5
 loop-again : tie.Need-loop-again Inv-loop μ-loop
 loop-again c = (omega arith, c .before .before .before .before .before .loop .inv .1 ∙ way-down _ _ _ _ _ _ (sym (c .before .before .before .before .turn-at .ensures) ∙ c .before .before .child .given .1) (c .if1 .left))
 

@@ -6,8 +6,6 @@ use Rattle.descent.specs.Descent.{slotOf}
 use Rattle.descent.proofs.DescentLaws.{slotFrom, slot-start, slot-here, slot-next, slot-end}
 use Rattle.descent.proofs.find_slot.Statement.{statement}
 use Rattle.descent.proofs.find_slot.Tie as tie
-use Rattle.descent.proofs.find_slot.Reads as reads
-use Rattle.descent.proofs.find_slot.Lts as lts
 
 abbrev Inv-loop : tie.InvT-loop
 Inv-loop node key i₀ i = (i ≤ 11) × (slotOf node key ≡ slotFrom node key i)
@@ -15,39 +13,30 @@ Inv-loop node key i₀ i = (i ≤ 11) × (slotOf node key ≡ slotFrom node key 
 abbrev μ-loop : tie.MeasureT-loop
 μ-loop node key i₀ i = 11 - i
 
--- src/lib.rt:23:5
 loop-holds : tie.Need-loop-holds Inv-loop μ-loop
 loop-holds c = (search needs, slot-start _ _)
 
--- src/lib.rt:27:17
 add-if2 : tie.Need-add-if2 Inv-loop μ-loop
 add-if2 c = search needs
 
--- src/lib.rt:27:12
 mul-if2 : tie.Need-mul-if2 Inv-loop μ-loop
 mul-if2 c = search needs
 
--- src/lib.rt:27:12
 shared-slice-read-if2 : tie.Need-shared-slice-read-if2 Inv-loop μ-loop
 shared-slice-read-if2 c = search needs
 
--- src/lib.rt:30:9
 add-i : tie.Need-add-i Inv-loop μ-loop
 add-i c = search needs
 
--- src/lib.rt:23:5
 loop-less : tie.Need-loop-less Inv-loop μ-loop
 loop-less c = search needs
 
--- src/lib.rt:23:5
 loop-again : tie.Need-loop-again Inv-loop μ-loop
 loop-again c = (omega arith, c .before .before .before .loop .inv .1 ∙ slot-next _ (search needs) _ _ (omega arith) (c .if2 .left))
 
--- src/lib.rt:18:1
 returns : tie.Need-returns Inv-loop μ-loop
 returns c = sym (c .before .loop .inv .1 ∙ slot-end _ (search needs) _ _ (c .if1 .taken))
 
--- src/lib.rt:18:1
 returns-2 : tie.Need-returns-2 Inv-loop μ-loop
 returns-2 c = sym (c .before .before .before .loop .inv .1 ∙ slot-here _ (search needs) _ _ (c .before .before .if1 .left) (c .if2 .taken))
 

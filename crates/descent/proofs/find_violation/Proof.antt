@@ -7,9 +7,6 @@ use Rattle.descent.specs.Descent.{rootPosition, seek}
 use Rattle.descent.proofs.DescentLaws.{search-refused, search-balanced, search-violation, search-too-deep, search-down}
 use Rattle.descent.proofs.find_violation.Statement.{statement}
 use Rattle.descent.proofs.find_violation.Tie as tie
-use Rattle.descent.proofs.find_violation.Reads as reads
-use Rattle.descent.proofs.find_violation.Lts as lts
-use Rattle.descent.proofs.visit_node.Reads as visit-node-reads
 
 abbrev Inv-loop : tie.InvT-loop
 Inv-loop card n key root p₀ left₀ p left = (left ≤ depthLimit) × (seek card n key depthLimit (rootPosition root) ≡ seek card n key left p)
@@ -17,56 +14,43 @@ Inv-loop card n key root p₀ left₀ p left = (left ≤ depthLimit) × (seek ca
 abbrev μ-loop : tie.MeasureT-loop
 μ-loop card n key root p₀ left₀ p left = left
 
--- src/lib.rt:221:5
 loop-holds : tie.Need-loop-holds Inv-loop μ-loop
 unfolding rootPosition
 loop-holds c = (search needs, refl)
 
--- src/lib.rt:222:15
 visit-node-requires : tie.Need-visit-node-requires Inv-loop μ-loop
 visit-node-requires c κs = search needs
 
--- src/lib.rt:224:17
 enum-told : tie.Need-enum-told Inv-loop μ-loop
 enum-told c = search needs
 
--- src/lib.rt:224:17
 returns : tie.Need-returns Inv-loop μ-loop
 returns c = sym (c .before .before .before .loop .inv .1 ∙ search-refused _ _ _ _ _ (sym (c .before .before .visit-node .ensures) ∙ c .enum-told .given .1))
 
--- src/lib.rt:227:17
 enum-told-2 : tie.Need-enum-told-2 Inv-loop μ-loop
 enum-told-2 c = search needs
 
--- src/lib.rt:227:17
 returns-2 : tie.Need-returns-2 Inv-loop μ-loop
 returns-2 c = sym (c .before .before .before .loop .inv .1 ∙ search-balanced _ _ _ _ _ (sym (c .before .before .visit-node .ensures) ∙ c .enum-told2 .given .1))
 
--- src/lib.rt:230:17
 enum-told-3 : tie.Need-enum-told-3 Inv-loop μ-loop
 enum-told-3 c = search needs
 
--- src/lib.rt:230:17
 returns-3 : tie.Need-returns-3 Inv-loop μ-loop
 returns-3 c = sym (c .before .before .before .loop .inv .1 ∙ search-violation _ _ _ _ _ (sym (c .before .before .visit-node .ensures) ∙ c .enum-told3 .given .1))
 
--- src/lib.rt:232:25
 enum-known-next : tie.Need-enum-known-next Inv-loop μ-loop
 enum-known-next c = search needs
 
--- src/lib.rt:234:21
 returns-4 : tie.Need-returns-4 Inv-loop μ-loop
 returns-4 c = sym (c .before .before .before .before .before .loop .inv .1 ∙ search-too-deep _ _ _ _ _ _ (sym (c .before .before .before .before .visit-node .ensures) ∙ c .before .before .next .given .1) (c .if1 .taken))
 
--- src/lib.rt:236:17
 sub-left : tie.Need-sub-left Inv-loop μ-loop
 sub-left c = search needs
 
--- src/lib.rt:221:5
 loop-less : tie.Need-loop-less Inv-loop μ-loop
 loop-less c = search needs
 
--- src/lib.rt:221:5
 loop-again : tie.Need-loop-again Inv-loop μ-loop
 loop-again c = (omega arith, c .before .before .before .before .before .loop .inv .1 ∙ search-down _ _ _ _ _ _ (sym (c .before .before .before .before .visit-node .ensures) ∙ c .before .before .next .given .1) (c .if1 .left))
 

@@ -11,10 +11,6 @@ use Rattle.descent.proofs.DescentLaws.{children-stop, children-more, in
 use Rattle.descent.specs.declared.Turn.the-variants.{Down as TurnDown}
 use Rattle.descent.proofs.turn_at.Statement.{statement}
 use Rattle.descent.proofs.turn_at.Tie as tie
-use Rattle.descent.proofs.turn_at.Reads as reads
-use Rattle.descent.proofs.turn_at.Lts as lts
-use Rattle.card.proofs.node_at.Reads as node-at-reads
-use Rattle.descent.proofs.child_index.Reads as child-index-reads
 
 -- the part that `node_at` handed back has 24 words
 words : (c : tie.After-node-at) → length (c .node-at .result .now) ≡ 24
@@ -34,59 +30,45 @@ kind c = ⊎-elim (λ w. inr (w .1 .left)) (λ w. inl (w .left)) (c .if4 .came)
 less : (c : tie.After-child-index) → c .child-index .result ≤ 10
 less c = omega (arith, c .child-index .ensures, index-le (c .before .before .before .before .before .before .node-at .result .now) (c .before .before .before .before .before .before .before .before .before .before .args .key) (words (c .before .before .before .before .before .before)))
 
--- src/lib.rt:80:9
 returns : tie.Need-returns
 returns c = sym (turn-zero _ _ _ _ (c .if1 .taken))
 
--- src/lib.rt:83:9
 returns-2 : tie.Need-returns-2
 returns-2 c = sym (turn-beyond _ _ _ _ (c .if2 .taken))
 
--- src/lib.rt:85:9
 node-at-requires : tie.Need-node-at-requires
 node-at-requires c κs = search needs
 
--- src/lib.rt:86:16
 shared-slice-read-kind : tie.Need-shared-slice-read-kind
 shared-slice-read-kind c = omega (arith, words (c .before))
 
--- src/lib.rt:88:9
 returns-3 : tie.Need-returns-3
 returns-3 c = sym (looked (c .before .before) ∙ turn-leaf _ _ (c .if3 .taken))
 
--- src/lib.rt:92:13
 returns-4 : tie.Need-returns-4
 returns-4 c = sym (looked (c .before .before .before .before) ∙ turn-unknown _ _ (c .before .before .if3 .left) (c .before .if4 .taken) (c .if5 .taken))
 
--- src/lib.rt:95:8
 shared-slice-read-if6 : tie.Need-shared-slice-read-if6
 shared-slice-read-if6 c = omega (arith, words (c .before .before .before .before))
 
--- src/lib.rt:96:9
 returns-5 : tie.Need-returns-5
 returns-5 c = sym (looked (c .before .before .before .before .before) ∙ turn-childless _ _ (kind (c .before .before)) (omega (arith, children-stop (c .before .before .before .before .before .node-at .result .now) 0 (omega arith) (c .if6 .taken))))
 
--- src/lib.rt:98:9
 child-index-requires : tie.Need-child-index-requires
 child-index-requires c κs = (words (c .before .before .before .before .before), c .if6 .left)
 
--- src/lib.rt:99:21
 add-t13 : tie.Need-add-t13
 add-t13 c = omega (arith, less c)
 
--- src/lib.rt:99:16
 mul-t14 : tie.Need-mul-t14
 mul-t14 c = omega (arith, less c)
 
--- src/lib.rt:99:16
 shared-slice-read-t10 : tie.Need-shared-slice-read-t10
 shared-slice-read-t10 c = omega (arith, less (c .before), words (c .before .before .before .before .before .before .before))
 
--- src/lib.rt:99:16
 cast-t16 : tie.Need-cast-t16
 cast-t16 c = omega (arith, c .shared-slice-known4 .given (12 + c .before .child-index .result))
 
--- src/lib.rt:75:1
 returns-6 : tie.Need-returns-6
 returns-6 c =
     sym

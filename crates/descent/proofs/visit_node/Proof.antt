@@ -9,17 +9,12 @@ use lib.ListN.{length, getD}
 use borrow.Author.Tests.{not-true, not-false}
 use Rattle.card.specs.Layout.{nodeAt, kindOf, children, leafPairs}
 use Rattle.card.proofs.NodeLaws.{length-node}
-use Rattle.descent.specs.Descent.{visitAt, visitOf}
+use Rattle.descent.specs.Descent.{visitAt, visitOf, childPosition}
 use Rattle.descent.proofs.DescentLaws.{children-stop, children-more, last-child, next-child, index-le, visit-zero, visit-beyond, visit-node, visit-root-leaf, visit-few, visit-leaf, visit-tagged, visit-unknown, Passable, visit-childless, visit-one-child, visit-down, child-position, not-both}
 use Rattle.descent.specs.declared.Visit.the-variants.{Down as VisitDown}
 use borrow.Author.Needs.{needs}
 use Rattle.descent.proofs.visit_node.Statement.{statement}
 use Rattle.descent.proofs.visit_node.Tie as tie
-use Rattle.descent.proofs.visit_node.Reads as reads
-use Rattle.descent.proofs.visit_node.Lts as lts
-use Rattle.card.proofs.node_at.Reads as node-at-reads
-use Rattle.descent.proofs.child_index.Reads as child-index-reads
-use Rattle.card.proofs.pair_count.Reads as pair-count-reads
 
 -- the part that `node_at` handed back has 24 words, and they are the node's
 words : (c : tie.After-node-at) → length (c .node-at .result .now) ≡ 24
@@ -35,7 +30,7 @@ same-pairs : (c : tie.After-node-at) → length (leafPairs (nodeAt (c .before .b
 same-pairs c = ap (λ (x : List ℕ). length (leafPairs x)) (sym (c .node-at .ensures))
 
 -- the visit goes by the node, and by whether it is the root
-looked : (c : tie.After-node-at) (b : Bool) → eqb (c .before .before .before .before .args .p .parent) 0 ≡ b → visitAt (c .before .before .before .before .args .card .now) (c .before .before .before .before .args .n) (c .before .before .before .before .args .key) (c .before .before .before .before .args .p) ≡ visitOf (c .before .before .before .before .args .card .now) (c .before .before .before .before .args .key) (c .before .before .before .before .args .p) b
+looked : (c : tie.After-node-at) (b : Bool) → eqb (c .before .before .before .before .args .p .parent) 0 ≡ b → visitAt (c .before .before .before .before .args .card .now) (c .before .before .before .before .args .n) (c .before .before .before .before .args .key) (c .before .before .before .before .args .p) ≡ visitOf (nodeAt (c .before .before .before .before .args .card .now) (c .before .before .before .before .args .p .node)) b (childPosition (nodeAt (c .before .before .before .before .args .card .now) (c .before .before .before .before .args .p .node)) (c .before .before .before .before .args .key) (c .before .before .before .before .args .p))
 looked c b e = visit-node (c .before .before .before .before .args .card .now) (c .before .before .before .before .args .n) (c .before .before .before .before .args .key) (c .before .before .before .before .args .p) b (c .before .before .if1 .left) (omega arith) e
 
 -- where the tests on the kind meet
@@ -58,108 +53,83 @@ two-children c e =
 less : (c : tie.After-child-index) → c .child-index .result ≤ 10
 less c = omega (arith, c .child-index .ensures, index-le (c .before .before .before .before .before .before .before .before .node-at .result .now) (c .before .before .before .before .before .before .before .before .before .before .before .before .args .key) (words (c .before .before .before .before .before .before .before .before)))
 
--- src/lib.rt:160:9
 returns : tie.Need-returns
 returns c = sym (visit-zero _ _ _ _ (c .if1 .taken))
 
--- src/lib.rt:163:9
 returns-2 : tie.Need-returns-2
 returns-2 c = sym (visit-beyond _ _ _ _ (c .if2 .taken))
 
--- src/lib.rt:165:9
 node-at-requires : tie.Need-node-at-requires
 node-at-requires c κs = search needs
 
--- src/lib.rt:166:16
 shared-slice-read-kind : tie.Need-shared-slice-read-kind
 shared-slice-read-kind c = omega (arith, words (c .before))
 
--- src/lib.rt:170:13
 returns-3 : tie.Need-returns-3
-returns-3 c = sym (looked (c .before .before .before .before) true (c .if4 .taken) ∙ visit-root-leaf _ _ _ (same-kind (c .before .before .before .before) ∙ c .before .if3 .taken))
+returns-3 c = sym (looked (c .before .before .before .before) true (c .if4 .taken) ∙ visit-root-leaf _ _ (same-kind (c .before .before .before .before) ∙ c .before .if3 .taken))
 
--- src/lib.rt:172:12
 pair-count-requires : tie.Need-pair-count-requires
 pair-count-requires c κs = words (c .before .before .before .before)
 
--- src/lib.rt:173:13
 returns-4 : tie.Need-returns-4
-returns-4 c = sym (looked (c .before .before .before .before .before .before) false (c .before .before .if4 .left) ∙ visit-few _ _ _ (same-kind (c .before .before .before .before .before .before) ∙ c .before .before .before .if3 .taken) (omega (arith, same-pairs (c .before .before .before .before .before .before), c .before .pair-count .ensures, c .if5 .taken)))
+returns-4 c = sym (looked (c .before .before .before .before .before .before) false (c .before .before .if4 .left) ∙ visit-few _ _ (same-kind (c .before .before .before .before .before .before) ∙ c .before .before .before .if3 .taken) (omega (arith, same-pairs (c .before .before .before .before .before .before), c .before .pair-count .ensures, c .if5 .taken)))
 
--- src/lib.rt:175:9
 returns-5 : tie.Need-returns-5
-returns-5 c = sym (looked (c .before .before .before .before .before .before) false (c .before .before .if4 .left) ∙ visit-leaf _ _ _ (same-kind (c .before .before .before .before .before .before) ∙ c .before .before .before .if3 .taken) (omega (arith, same-pairs (c .before .before .before .before .before .before), c .before .pair-count .ensures, c .if5 .left)))
+returns-5 c = sym (looked (c .before .before .before .before .before .before) false (c .before .before .if4 .left) ∙ visit-leaf _ _ (same-kind (c .before .before .before .before .before .before) ∙ c .before .before .before .if3 .taken) (omega (arith, same-pairs (c .before .before .before .before .before .before), c .before .pair-count .ensures, c .if5 .left)))
 
--- src/lib.rt:179:13
 returns-6 : tie.Need-returns-6
-returns-6 c = sym (looked (c .before .before .before .before .before) false (not-true _ (c .if7 .taken)) ∙ visit-tagged _ _ _ (same-kind (c .before .before .before .before .before) ∙ c .before .if6 .taken))
+returns-6 c = sym (looked (c .before .before .before .before .before) false (not-true _ (c .if7 .taken)) ∙ visit-tagged _ _ (same-kind (c .before .before .before .before .before) ∙ c .before .if6 .taken))
 
--- src/lib.rt:182:9
 returns-7 : tie.Need-returns-7
-returns-7 c = let k = same-kind (c .before .before .before .before .before) in sym (looked (c .before .before .before .before .before) _ refl ∙ visit-unknown _ _ _ _ (λ q. c .before .before .if3 .left (sym k ∙ q)) (λ q. c .if8 .taken (sym k ∙ q)) (λ q. c .before .if6 .left (sym k ∙ q)))
+returns-7 c = let k = same-kind (c .before .before .before .before .before) in sym (looked (c .before .before .before .before .before) _ refl ∙ visit-unknown _ _ _ (λ q. c .before .before .if3 .left (sym k ∙ q)) (λ q. c .if8 .taken (sym k ∙ q)) (λ q. c .before .if6 .left (sym k ∙ q)))
 
--- src/lib.rt:184:8
 shared-slice-read-if9 : tie.Need-shared-slice-read-if9
 shared-slice-read-if9 c = omega (arith, words (c .before .before .before .before .before))
 
--- src/lib.rt:185:9
 returns-8 : tie.Need-returns-8
-returns-8 c = sym (looked (c .before .before .before .before .before .before) _ refl ∙ visit-childless _ _ _ _ (pass (c .before .before)) (omega (arith, children-stop (nodeAt (c .before .before .before .before .before .before .before .before .before .before .args .card .now) (c .before .before .before .before .before .before .before .before .before .before .args .p .node)) 0 (omega arith) (same-word (c .before .before .before .before .before .before) 12 ∙ c .if9 .taken))))
+returns-8 c = sym (looked (c .before .before .before .before .before .before) _ refl ∙ visit-childless _ _ _ (pass (c .before .before)) (omega (arith, children-stop (nodeAt (c .before .before .before .before .before .before .before .before .before .before .args .card .now) (c .before .before .before .before .before .before .before .before .before .before .args .p .node)) 0 (omega arith) (same-word (c .before .before .before .before .before .before) 12 ∙ c .if9 .taken))))
 
--- src/lib.rt:188:12
 shared-slice-read-if11 : tie.Need-shared-slice-read-if11
 shared-slice-read-if11 c = omega (arith, words (c .before .before .before .before .before .before .before .before))
 
--- src/lib.rt:189:13
 returns-9 : tie.Need-returns-9
-returns-9 c = sym (looked (c .before .before .before .before .before .before .before .before .before) _ refl ∙ visit-one-child _ _ _ _ (pass (c .before .before .before .before .before)) (not-true _ (c .before .before .if10 .taken)) (omega (arith, last-child (nodeAt (c .before .before .before .before .before .before .before .before .before .before .before .before .before .args .card .now) (c .before .before .before .before .before .before .before .before .before .before .before .before .before .args .p .node)) 0 (omega arith) (same-word (c .before .before .before .before .before .before .before .before .before) 13 ∙ c .if11 .taken), some-child (c .before .before .before))))
+returns-9 c = sym (looked (c .before .before .before .before .before .before .before .before .before) _ refl ∙ visit-one-child _ _ _ (pass (c .before .before .before .before .before)) (not-true _ (c .before .before .if10 .taken)) (omega (arith, last-child (nodeAt (c .before .before .before .before .before .before .before .before .before .before .before .before .before .args .card .now) (c .before .before .before .before .before .before .before .before .before .before .before .before .before .args .p .node)) 0 (omega arith) (same-word (c .before .before .before .before .before .before .before .before .before) 13 ∙ c .if11 .taken), some-child (c .before .before .before))))
 
--- src/lib.rt:192:9
 child-index-requires : tie.Need-child-index-requires
 child-index-requires c κs = (words (c .before .before .before .before .before .before .before), c .before .if9 .left)
 
--- src/lib.rt:194:20
 add-t21 : tie.Need-add-t21
 add-t21 c = omega (arith, less c)
 
--- src/lib.rt:194:15
 mul-t22 : tie.Need-mul-t22
 mul-t22 c = omega (arith, less c)
 
--- src/lib.rt:194:15
 shared-slice-read-t12 : tie.Need-shared-slice-read-t12
 shared-slice-read-t12 c = omega (arith, less (c .before), words (c .before .before .before .before .before .before .before .before .before))
 
--- src/lib.rt:194:15
 cast-t24 : tie.Need-cast-t24
 cast-t24 c = omega (arith, c .shared-slice-known5 .given (12 + c .before .child-index .result))
 
--- src/lib.rt:195:25
 sub-t25 : tie.Need-sub-t25
 sub-t25 c = search needs
 
--- src/lib.rt:195:19
 mul-t26 : tie.Need-mul-t26
 mul-t26 c = search needs
 
--- src/lib.rt:195:15
 add-t27 : tie.Need-add-t27
 add-t27 c = search needs
 
--- src/lib.rt:195:15
 add-t28 : tie.Need-add-t28
 add-t28 c = search needs
 
--- src/lib.rt:195:15
 add-t29 : tie.Need-add-t29
 add-t29 c = omega (arith, less (c .before))
 
--- src/lib.rt:154:1
 returns-10 : tie.Need-returns-10
 returns-10 c =
     sym
     (looked (c .before .before .before .before .before .before .before .before .before) _ refl
-    ∙ visit-down _ _ _ _ (pass (c .before .before .before .before .before)) (some-child (c .before .before .before)) (two-children (c .before .before))
+    ∙ visit-down _ _ _ (pass (c .before .before .before .before .before)) (some-child (c .before .before .before)) (two-children (c .before .before))
     ∙ ap VisitDown (child-position _ _ _ _ _ (c .before .before .before .before .before .before .before .before .before .node-at .ensures) (c .before .child-index .ensures)))
 
 pub visit-node-spec : {M : Type 1} → statement M

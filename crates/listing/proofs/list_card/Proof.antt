@@ -1,10 +1,7 @@
 -- `listing::list_card` meets its contract.
-use mathlib.Core.Path.{_≡_, ap, ap₂, sym, _∙_}
-use mathlib.Core.List.{List}
-use lib.ListN.{length}
+use mathlib.Core.Path.{ap, ap₂, sym, _∙_}
 use Rattle.card.specs.Header.{nodesOfLength}
-use Rattle.opening.specs.Opening.{openOf}
-use Rattle.repairing.specs.Repairing.{Repaired, openedCard, leftBy}
+use Rattle.repairing.specs.Repairing.{Repaired, leftBy}
 use Rattle.listing.specs.Listing.{Listed, listTable, listCard, layListed}
 use Rattle.listing.specs.Summaries.{summaryOf}
 use Rattle.listing.proofs.SummaryLaws.{summary-refused, card-refused, card-idle, card-started}

@@ -6,7 +6,7 @@ use borrow.Author.Needs.{needs}
 use Rattle.free_nodes.specs.NodeSet.{nodesOf}
 use Rattle.plans.specs.Change.{Together}
 use Rattle.siblings.proofs.SiblingLaws.{together-many, leaves-count, leaves-pooled}
-use Rattle.plans.proofs.PairLaws.{leaf-few}
+use Rattle.card.proofs.NodeLaws.{leaf-few}
 use Rattle.siblings.specs.Siblings.{mendTogether}
 use Rattle.siblings.proofs.mend_leaves.Statement.{statement}
 use Rattle.siblings.proofs.mend_leaves.Tie as tie

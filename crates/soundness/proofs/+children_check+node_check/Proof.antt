@@ -7,10 +7,10 @@ use lib.Dec.{eqb}
 use lib.ListN.{length, drop}
 use borrow.Author.Tests.{not-true, not-false}
 use borrow.Author.Needs.{needs}
-use Rattle.card.proofs.NodeLaws.{children-le, length-node}
+use Rattle.card.proofs.NodeLaws.{children-le, length-node, run-below-le}
 use Rattle.card.specs.Layout.{children, routingKeys}
 use Rattle.soundness.specs.declared.Entry.{Entry}
-use Rattle.soundness.proofs.CheckLaws.{Children, enter-children, checked-ok, checked-bad, turn-wrong, turn-bad, turn-uneven, turn-on, turn-end, check-bad, check-leaf, check-deep, check-inner, run-le}
+use Rattle.soundness.proofs.CheckLaws.{Children, enter-children, checked-ok, checked-bad, turn-wrong, turn-bad, turn-uneven, turn-on, turn-end, check-bad, check-leaf, check-deep, check-inner}
 use Rattle.soundness.specs.Check.{endOf, entryOf, lookOf, findingsOf, enterNode, inner, raised, childrenCheck, nodeCheck}
 use borrow.Fn.Kinds.{In}
 use borrow.Fn.PlainCycle.{Measures, is, falls, and}
@@ -199,7 +199,7 @@ node-check-children-check-requires : (t : ℕ) → node-check-lts.Need-children-
 node-check-children-check-requires t c κs =
     let s = c .before .before .before .before .before .before .before .before .before .before in
     let k = children-of t (c .before .before .before .before .before) in
-    (omega arith, (search needs, search needs, words t (c .before .before), k .counted ∙ ap (λ (l : List ℕ). length (children l)) (sym (c .before .before .node-at .ensures)), omega (arith, c .child-run .ensures, run-le (c .before .before .before .before .before .entry .given .0 .0) (s .args .run))))
+    (omega arith, (search needs, search needs, words t (c .before .before), k .counted ∙ ap (λ (l : List ℕ). length (children l)) (sym (c .before .before .node-at .ensures)), omega (arith, c .child-run .ensures, run-below-le (c .before .before .before .before .before .entry .given .0 .0) (s .args .run))))
 
 node-check-raise-requires : (t : ℕ) → node-check-lts.Need-raise-requires (enter-reads.Asked, enter-reads.Learnt, node-at-reads.Asked, node-at-reads.Learnt, child-run-reads.Asked, child-run-reads.Learnt, children-check-below t, children-check.Post, raise-reads.Asked, raise-reads.Learnt) (node-check-at t) node-check.Post
 node-check-raise-requires t c κs = omega (arith, c .children-check .ensures .1)

@@ -1,6 +1,6 @@
 use mathlib.Core.Path.{sym}
 use borrow.Author.Needs.{needs}
-use Rattle.soundness.proofs.CheckLaws.{run-more, run-none}
+use Rattle.card.proofs.NodeLaws.{run-more, run-none}
 use Rattle.soundness.proofs.child_run.Statement.{statement}
 use Rattle.soundness.proofs.child_run.Tie as tie
 

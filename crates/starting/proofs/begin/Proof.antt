@@ -1,7 +1,6 @@
 -- `starting::begin` meets its contract.
 use mathlib.Core.Path.{refl}
 use borrow.Author.Tests.{ne-eqb, eq-eqb}
-use borrow.Author.Needs.{needs}
 use Rattle.state.specs.Memory.{memoryOf}
 use Rattle.state.specs.Results.{handedOf}
 use Rattle.starting.specs.Starts.{startRefused, started}

@@ -9,7 +9,7 @@ use Rattle.laws.specs.Cases.{pick}
 use Rattle.card.specs.Header.{Sized}
 use Rattle.card.proofs.NodeLaws.{length-node}
 use Rattle.free_nodes.specs.NodeSet.{nodesOf}
-use Rattle.starting.specs.Refusals.{roomWhere, dueRefusal, landingRefusal}
+use Rattle.starting.specs.Refusals.{roomWhere, landingRefusal}
 use Rattle.starting.proofs.StartLaws.{start-sized, due-early, due-landing}
 use Rattle.updates.proofs.UpdateLaws.{Landed, landed}
 use Rattle.updates.specs.Updates.{landing, insertReason, roomFor, startRoom}

@@ -1,11 +1,7 @@
 -- `successor::in_next_leaf` meets its contract.
-use mathlib.Core.Path.{_≡_, ap, sym, _∙_}
-use Prim.Native.Nat.{ℕ}
+use mathlib.Core.Path.{ap, sym, _∙_}
 use native.Mathlib.Omega.{arith}
-use lib.ListN.{getD}
-use Rattle.card.specs.Layout.{depthLimit, rootPlace}
-use Rattle.descent.specs.Descent.{leafFor}
-use Rattle.successor.specs.Successor.{inLeaf, inNextLeaf}
+use Rattle.successor.specs.Successor.{inNextLeaf}
 use Rattle.successor.proofs.SuccessorLaws.{next-none, next-there}
 use borrow.Author.Needs.{needs}
 use Rattle.successor.proofs.in_next_leaf.Statement.{statement}

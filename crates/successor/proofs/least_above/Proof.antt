@@ -1,17 +1,17 @@
 -- `successor::least_above` meets its contract.
 use mathlib.Core.Path.{_≡_, ap, sym, _∙_}
-use mathlib.Core.Option.{Option}
 use Prim.Native.Nat.{ℕ, _+_, _-_, _≤_}
 use native.Mathlib.Omega.{arith}
 use lib.ListN.{length, getD}
-use Rattle.successor.specs.Successor.{nearerAbove, leastOf}
-use Rattle.successor.proofs.SuccessorLaws.{leastFrom, least-start, least-end, least-slot}
+use Rattle.successor.specs.Successor.{nearerAbove, leastOf, leastAbove}
+use Rattle.successor.proofs.SuccessorLaws.{least-end, least-slot}
 use borrow.Author.Needs.{needs}
 use Rattle.successor.proofs.least_above.Statement.{statement}
 use Rattle.successor.proofs.least_above.Tie as tie
+use Rattle.card.proofs.NodeLaws.{leafFrom, leaf-start}
 
 abbrev Inv-loop : tie.InvT-loop
-Inv-loop node after least₀ i₀ least i = (i ≤ 11) × (leastOf least ≡ leastFrom after node i)
+Inv-loop node after least₀ i₀ least i = (i ≤ 11) × (leastOf least ≡ leastAbove after (leafFrom node i))
 
 abbrev μ-loop : tie.MeasureT-loop
 μ-loop node after least₀ i₀ least i = i
@@ -54,15 +54,15 @@ loop-again c =
     let e : i + 1 ≡ c .before .before .before .before .loop .i = omega arith in (
       omega arith,
       c .nearer .ensures
-          ∙ ap (nearerAbove (c .before .before .before .before .before .before .args .after) (getD (c .before .before .before .before .before .before .args .node .now) (1 + i) 0, getD (c .before .before .before .before .before .before .args .node .now) (12 + i) 0)) (c .before .before .before .before .loop .inv .1 ∙ ap (leastFrom (c .before .before .before .before .before .before .args .after) (c .before .before .before .before .before .before .args .node .now)) (sym e))
+          ∙ ap (nearerAbove (c .before .before .before .before .before .before .args .after) (getD (c .before .before .before .before .before .before .args .node .now) (1 + i) 0, getD (c .before .before .before .before .before .before .args .node .now) (12 + i) 0)) (c .before .before .before .before .loop .inv .1 ∙ ap (λ (j : ℕ). leastAbove (c .before .before .before .before .before .before .args .after) (leafFrom (c .before .before .before .before .before .before .args .node .now) j)) (sym e))
           ∙ sym (least-slot (c .before .before .before .before .before .before .args .after) (c .before .before .before .before .before .before .args .node .now) len i (omega arith)),
     )
 
 returns : tie.Need-returns Inv-loop μ-loop
 returns c =
-    c .before .loop .inv .1
-    ∙ ap (leastFrom (c .before .before .before .args .after) (c .before .before .before .args .node .now)) (let z : c .before .loop .i ≡ 0 = omega arith in z)
-    ∙ least-start (c .before .before .before .args .after) (c .before .before .before .args .node .now)
+    let node = c .before .before .before .args .node .now in
+    let e : c .before .loop .i ≡ 0 = omega arith in
+    c .before .loop .inv .1 ∙ ap (leastAbove (c .before .before .before .args .after)) (ap (leafFrom node) e ∙ leaf-start node)
 
 pub least-above-spec : {M : Type 1} → statement M
 least-above-spec = tie.close (tie.spec Inv-loop μ-loop loop-holds sub-i add-nearer mul-nearer shared-slice-read-nearer add-nearer-2 mul-nearer-2 shared-slice-read-nearer-2 nearer-requires loop-less loop-again returns)

@@ -1,7 +1,5 @@
 -- `successor::nearer` meets its contract.
 use mathlib.Core.Path.{ap, sym, _∙_}
-use mathlib.Core.Option.{Option}
-use Prim.Native.Nat.{ℕ}
 use native.Mathlib.Omega.{arith}
 use Rattle.successor.specs.Successor.{nearerAbove, leastOf}
 use Rattle.successor.proofs.SuccessorLaws.{nearer-below, nearer-first, nearer-other, nearer-now}

@@ -1,5 +1,5 @@
 -- `successor::next_in` meets its contract.
-use mathlib.Core.Path.{_≡_, ap, sym, _∙_}
+use mathlib.Core.Path.{ap, sym, _∙_}
 use Rattle.successor.specs.Successor.{orNextLeaf, nextIn}
 use borrow.Author.Needs.{needs}
 use Rattle.successor.proofs.next_in.Statement.{statement}

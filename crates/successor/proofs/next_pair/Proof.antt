@@ -1,8 +1,6 @@
 -- `successor::next_pair` meets its contract.
-use mathlib.Core.Path.{_≡_, ap, sym, _∙_}
+use mathlib.Core.Path.{ap, sym, _∙_}
 use Prim.Native.Nat.{ℕ}
-use lib.ListN.{length}
-use Rattle.card.specs.Header.{Sized}
 use Rattle.card.proofs.HeaderLaws.{sized, card-sized}
 use Rattle.successor.specs.Successor.{nextIn}
 use Rattle.successor.proofs.SuccessorLaws.{next-refused, next-taken}

@@ -1,13 +1,11 @@
 -- `updates::change_at` meets its contract.
 use mathlib.Core.Path.{ap, sym, _∙_}
-use mathlib.Core.List.{List}
-use Prim.Native.Nat.{ℕ}
 use native.Mathlib.Omega.{arith}
 use lib.ListN.{length}
 use Rattle.card.proofs.NodeLaws.{length-node}
 use Rattle.free_nodes.specs.NodeSet.{nodesOf}
 use Rattle.updates.proofs.UpdateLaws.{Landed, landed}
-use Rattle.updates.specs.Updates.{landing, noChange, changeIn, changeAt}
+use Rattle.updates.specs.Updates.{landing, changeIn, changeAt}
 use borrow.Author.Needs.{needs}
 use Rattle.updates.proofs.change_at.Statement.{statement}
 use Rattle.updates.proofs.change_at.Tie as tie

@@ -4,22 +4,23 @@ use Prim.Native.Nat.{ℕ, _+_, _-_, _≤_}
 use native.Mathlib.Omega.{arith}
 use lib.ListN.{length}
 use Rattle.card.specs.Layout.{leafPairs}
+use Rattle.card.proofs.NodeLaws.{leafFrom, leaf-start, leaf-end}
 use Rattle.listing.specs.Listing.{laid, layPairs}
-use Rattle.listing.proofs.ListingLaws.{pairsAfter, leaf-start, leaf-next, leaf-end, lay-none}
+use Rattle.listing.proofs.ListingLaws.{leaf-laid, lay-none}
 use borrow.Author.Needs.{needs}
 use Rattle.listing.proofs.pairs.put_leaf.Statement.{statement}
 use Rattle.listing.proofs.pairs.put_leaf.Tie as tie
 
 abbrev Inv-loop : tie.InvT-loop
 Inv-loop node out₀ at next₀ i₀ out next i =
-    (i ≤ 11) × (next ≤ length out) × (length out ≡ length out₀) × (layPairs (leafPairs node) (laid next₀ out₀) ≡ layPairs (pairsAfter node i) (laid next out))
+    (i ≤ 11) × (next ≤ length out) × (length out ≡ length out₀) × (layPairs (leafPairs node) (laid next₀ out₀) ≡ layPairs (leafFrom node i) (laid next out))
 
 abbrev μ-loop : tie.MeasureT-loop
 μ-loop node out₀ at next₀ i₀ out next i = 11 - i
 
 loop-holds : tie.Need-loop-holds Inv-loop μ-loop
 loop-holds c = let s = c .before .before in
-    (search needs, search needs, refl, ap (λ (ps : List (ℕ × ℕ)). layPairs ps (laid (s .args .at) (s .args .out .now))) (leaf-start (s .args .node .now) (s .pre .0)))
+    (search needs, search needs, refl, ap (λ (ps : List (ℕ × ℕ)). layPairs ps (laid (s .args .at) (s .args .out .now))) (sym (leaf-start (s .args .node .now))))
 
 add-put-slot : tie.Need-add-put-slot Inv-loop μ-loop
 add-put-slot c = search needs
@@ -53,7 +54,7 @@ loop-again c =
     let s = c .before .before .before .before .before .before .before .before .before .before in
     let l = c .before .before .before .before .before .before .before .loop in
     let k = c .before .before .put-slot in
-    (search needs, omega (arith, k .kept .0, k .ensures .1), omega (arith, k .kept .0, l .inv .2), l .inv .3 ∙ leaf-next (s .args .node .now) (s .pre .0) (l .i) (omega arith) (laid (l .next) (l .out)) ∙ ap (layPairs (pairsAfter (s .args .node .now) (l .i + 1))) (sym (k .ensures .0)))
+    (search needs, omega (arith, k .kept .0, k .ensures .1), omega (arith, k .kept .0, l .inv .2), l .inv .3 ∙ leaf-laid (s .args .node .now) (s .pre .0) (l .i) (omega arith) (laid (l .next) (l .out)) ∙ ap (layPairs (leafFrom (s .args .node .now) (l .i + 1))) (sym (k .ensures .0)))
 
 same-length : tie.Need-same-length Inv-loop μ-loop
 same-length c = search needs

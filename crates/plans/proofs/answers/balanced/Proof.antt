@@ -1,6 +1,5 @@
 -- `plans::answers::balanced` meets its contract.
 use mathlib.Core.Path.{refl}
-use borrow.Author.Needs.{needs}
 use Rattle.plans.specs.Plan.{preparationOf, onOutcome}
 use Rattle.plans.proofs.answers.balanced.Statement.{statement}
 use Rattle.plans.proofs.answers.balanced.Tie as tie

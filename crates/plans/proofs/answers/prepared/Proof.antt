@@ -1,5 +1,4 @@
 -- `plans::answers::prepared` meets its contract.
-use borrow.Author.Needs.{needs}
 use mathlib.Core.Path.{refl}
 use Rattle.plans.specs.Plan.{preparationOf, onOutcome}
 use Rattle.plans.proofs.answers.prepared.Statement.{statement}

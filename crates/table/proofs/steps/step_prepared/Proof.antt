@@ -7,7 +7,7 @@ use Rattle.plans.specs.Planning.{Preparation, prepared}
 use Rattle.plans.specs.declared.Outcome.{Outcome}
 use Rattle.free_nodes.specs.NodeSet.{nodesOf}
 use Rattle.laws.specs.Lists.{before-zero}
-use Rattle.state.specs.Steps.{stepRefused, stepFinal, stepFirst}
+use Rattle.state.specs.Steps.{stepRefused, stepFinal}
 use Rattle.table.specs.Calls.{planning, stepPrepared}
 use Rattle.state.specs.Memory.{Memory, memoryOf}
 use Rattle.state.specs.Results.{stepLeft}
