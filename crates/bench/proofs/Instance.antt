@@ -17,7 +17,7 @@ use Rattle.change.specs.Mending.{mendTagged, isNode, mendUnderfull, mend, onSea
 use Rattle.siblings.specs.Siblings.{mendTogether, mendSiblings}
 use Rattle.descent.specs.Descent.{passed, childIndex, childFor, firstEqual, slotOf, turnInner, turnOf, turnAt, onTurn, leafFor, onTurnLanding, landingFor, rootPosition, childPosition, visitOf, visitAt, onVisit, seek, visitLeaf, visitInner, visitTagged}
 use Rattle.free_nodes.specs.NodeSet.{allNodes, countTrue, firstTrue, firstFrom, orElse, nextFree}
-use Rattle.laws.specs.Sorting.{insert-pair, insert-all, sort}
+use Rattle.laws.specs.Sorting.{insertPair, insertAll, sort}
 use Rattle.soundness.specs.Check.{member, leafSound, unusedZero, lookOf, noted, enterLeaf, innerSound, enterInner, enterKind, enterNode, childrenCheck, raised, onLook, nodeCheck, tableCheck, rangeEnd, slotSound}
 use Rattle.state.specs.Memory.{noMemory, resting, idled, advanced}
 use Rattle.updates.specs.Updates.{landing, emptyReason, reasonIn, insertReason, insertChange, changeAt, deleteChange, changeIn, roomFor, startRoom, repairs, nextChange}
@@ -33,107 +33,107 @@ use Rattle.state.specs.declared.Answer.the-variants.{Stored, Ready, Absent, Val
 use Rattle.card.specs.Replies.{holds, absent}
 use Rattle.demands.specs.Book.{book, empty, added, entered, started as inHand, stepped as counted, feed, outcome, told, kept}
 use Rattle.demands.specs.Demand3.{Survives}
-use Rattle.demands.specs.Events.{Event, World, reply-to, happens, run, LeftUncut, FormatsTo, ready-now, stored-first, Begins, from-format, insert, step, cut}
-use Rattle.demands.specs.RationTable.{ration-table}
-use Rattle.demands.specs.Refusals.{way, among, full-at}
+use Rattle.demands.specs.Events.{Event, World, replyTo, happens, run, LeftUncut, FormatsTo, ready-now, stored-first, Begins, from-format, insert, step, cut}
+use Rattle.demands.specs.RationTable.{rationTable}
+use Rattle.demands.specs.Refusals.{way, among, fullAt}
 use Rattle.demands.specs.Worked.{dictionary}
 use Rattle.demands.proofs.Demands.{demand-3}
 use Rattle.tree.specs.Pairs.{lookup}
 
-unfoldable pub is-stored : Answer → Bool
-is-stored Stored = true
-is-stored Ready = false
-is-stored Absent = false
-is-stored (Value v) = false
-is-stored (Refused r) = false
+unfoldable pub isStored : Answer → Bool
+isStored Stored = true
+isStored Ready = false
+isStored Absent = false
+isStored (Value v) = false
+isStored (Refused r) = false
 
-unfoldable pub is-ready : Answer → Bool
-is-ready Stored = false
-is-ready Ready = true
-is-ready Absent = false
-is-ready (Value v) = false
-is-ready (Refused r) = false
+unfoldable pub isReady : Answer → Bool
+isReady Stored = false
+isReady Ready = true
+isReady Absent = false
+isReady (Value v) = false
+isReady (Refused r) = false
 
 -- so many steps store a word each, and the next one answers "ready"
-unfoldable pub ready-in : ℕ → World ration-table → Bool
-ready-in zero w = is-ready (stepOf (w .card) (w .state) .answer)
-ready-in (suc k) w = pick (is-stored (stepOf (w .card) (w .state) .answer)) (ready-in k (happens ration-table step w)) false
+unfoldable pub readyIn : ℕ → World rationTable → Bool
+readyIn zero w = isReady (stepOf (w .card) (w .state) .answer)
+readyIn (suc k) w = pick (isStored (stepOf (w .card) (w .state) .answer)) (readyIn k (happens rationTable step w)) false
 
-unfoldable pub after : ℕ → World ration-table → World ration-table
-after zero w = happens ration-table step w
-after (suc k) w = after k (happens ration-table step w)
+unfoldable pub after : ℕ → World rationTable → World rationTable
+after zero w = happens rationTable step w
+after (suc k) w = after k (happens rationTable step w)
 
 not-true : _≡_ {A = Bool} false true → ⊥
 not-true z = let k : _≡_ {A = ℕ} 0 1 = cc in omega arith
 
-stored-is : (a : Answer) → is-stored a ≡ true → a ≡ Stored
-unfolding is-stored
+stored-is : (a : Answer) → isStored a ≡ true → a ≡ Stored
+unfolding isStored
 stored-is Stored e = refl
 stored-is Ready e = absurd (not-true e)
 stored-is Absent e = absurd (not-true e)
 stored-is (Value v) e = absurd (not-true e)
 stored-is (Refused r) e = absurd (not-true e)
 
-ready-is : (a : Answer) → is-ready a ≡ true → a ≡ Ready
-unfolding is-ready
+ready-is : (a : Answer) → isReady a ≡ true → a ≡ Ready
+unfolding isReady
 ready-is Stored e = absurd (not-true e)
 ready-is Ready e = refl
 ready-is Absent e = absurd (not-true e)
 ready-is (Value v) e = absurd (not-true e)
 ready-is (Refused r) e = absurd (not-true e)
 
-pub to-ready : (k : ℕ) (w : World ration-table) → ready-in k w ≡ true → FormatsTo ration-table w (after k w)
-unfolding ready-in after reply-to stepReply
+pub to-ready : (k : ℕ) (w : World rationTable) → readyIn k w ≡ true → FormatsTo rationTable w (after k w)
+unfolding readyIn after replyTo stepReply
 to-ready zero w e = ready-now (ap stepReply (ready-is _ e))
-to-ready (suc k) w e = bool-cases (is-stored (stepOf (w .card) (w .state) .answer)) (λ q. stored-first (ap stepReply (stored-is _ q)) (to-ready k (happens ration-table step w) (rw q at e))) (λ q. absurd (not-true (rw q at e)))
+to-ready (suc k) w e = bool-cases (isStored (stepOf (w .card) (w .state) .answer)) (λ q. stored-first (ap stepReply (stored-is _ q)) (to-ready k (happens rationTable step w) (rw q at e))) (λ q. absurd (not-true (rw q at e)))
 
 -- 152 words of anything, being formatted, and the card 153 steps on
-abbrev pub any-words : List ℕ
-any-words = replicate 152 9
+abbrev pub anyWords : List ℕ
+anyWords = replicate 152 9
 
-abbrev pub being-formatted : World ration-table
-being-formatted = record { card = any-words; state = formatOf any-words .memory }
+abbrev pub beingFormatted : World rationTable
+beingFormatted = record { card = anyWords; state = formatOf anyWords .memory }
 
 -- an insert that finds an empty slot: its start, its two stores and its final answer
-abbrev pub put-in : ℕ → List Event
-put-in k = insert k (10 * k) ∷ step ∷ step ∷ step ∷ []
+abbrev pub putNow : ℕ → List Event
+putNow k = insert k (10 * k) ∷ step ∷ step ∷ step ∷ []
 
 -- S, and so many steps of the insert of key 12; then power goes
-abbrev pub cut-after : ℕ → List Event
-cut-after k = put-in 1 ++ put-in 2 ++ put-in 3 ++ put-in 4 ++ put-in 5 ++ put-in 6 ++ put-in 7 ++ put-in 8 ++ put-in 9 ++ put-in 10 ++ put-in 11 ++ insert 12 120 ∷ (replicate k step ++ cut ∷ [])
+abbrev pub cutAfter : ℕ → List Event
+cutAfter k = putNow 1 ++ putNow 2 ++ putNow 3 ++ putNow 4 ++ putNow 5 ++ putNow 6 ++ putNow 7 ++ putNow 8 ++ putNow 9 ++ putNow 10 ++ putNow 11 ++ insert 12 120 ∷ (replicate k step ++ cut ∷ [])
 
 -- formatted: "root node 1, an empty leaf, all else 0"
-abbrev pub formatted : World ration-table
+abbrev pub formatted : World rationTable
 formatted = record { card = 1 ∷ 6 ∷ 8 ∷ 24 ∷ 1 ∷ 0 ∷ 0 ∷ 0 ∷ 1 ∷ replicate 143 0; state = resting 6 (withoutAll (1 ∷ []) (allNodes 6)) Idle }
 
 -- the pairs of S, the last put in first
-abbrev pub pairs-to-11 : List (ℕ × ℕ)
-pairs-to-11 = (11, 110) ∷ (10, 100) ∷ (9, 90) ∷ (8, 80) ∷ (7, 70) ∷ (6, 60) ∷ (5, 50) ∷ (4, 40) ∷ (3, 30) ∷ (2, 20) ∷ (1, 10) ∷ []
+abbrev pub pairsTo11 : List (ℕ × ℕ)
+pairsTo11 = (11, 110) ∷ (10, 100) ∷ (9, 90) ∷ (8, 80) ∷ (7, 70) ∷ (6, 60) ∷ (5, 50) ∷ (4, 40) ∷ (3, 30) ∷ (2, 20) ∷ (1, 10) ∷ []
 
 -- computed: 153 stores and "ready"; what formatting leaves; the book with the cut after 40 and after 73 of the stores
-pub computed : (ready-in 153 being-formatted ≡ true) × (after 153 being-formatted ≡ formatted) × (kept ration-table (cut-after 40) formatted (book [] empty) ≡ book pairs-to-11 empty) × (kept ration-table (cut-after 73) formatted (book [] empty) ≡ book ((12, 120) ∷ pairs-to-11) empty)
-unfolding ready-in is-stored is-ready after kept feed told outcome reply-to inHand counted entered added full-at way among stepReply startReply happens stepOf stepDoing stepFormat formatStore formattedWord formatOf stepFinal nodesOfLength formatting resting idled allNodes headerRefusal stepHeld isIdle stepWork stepPlan stepBegin stepPrepared changeAt landing landingFor onTurnLanding turnAt turnOf turnInner nodeAt children valueWords keyWords slotOf firstEqual insertReason reasonIn emptyReason insertChange stepFirst stepStore planning advanced repairs nextChange nextRepair onSearch seek onVisit visitAt visitOf rootPosition leafPairs insertOf startOf startChecked startRoom roomFor startLanded started stepRefused startRefused withAll giving overNumbers takeNumbers numbersFrom nextFree firstFrom firstTrue orElse withoutAll lastOf splitLeaf changeStores sort insert-all insert-pair kindAbove nodeImage countTrue childPosition childFor childIndex passed routingKeys runBelow deleteOf changeIn deleteChange mend mendTagged mendUnderfull mendSiblings mendTogether isNode share merge mergeRoot leavesTogether innersTogether half leftKeys keyBetween absorb splitParent joinedKeys joinedChildren findOf cardRefusal foundAt leafFor onTurn foundIn noBeginning noMemory openOf openChecked openSound tableCheck nodeCheck onLook enterNode enterKind enterLeaf enterInner innerSound noted lookOf leafSound member unusedZero childrenCheck raised halves copied visitLeaf visitInner visitTagged rangeEnd slotSound
+pub computed : (readyIn 153 beingFormatted ≡ true) × (after 153 beingFormatted ≡ formatted) × (kept rationTable (cutAfter 40) formatted (book [] empty) ≡ book pairsTo11 empty) × (kept rationTable (cutAfter 73) formatted (book [] empty) ≡ book ((12, 120) ∷ pairsTo11) empty)
+unfolding readyIn isStored isReady after kept feed told outcome replyTo inHand counted entered added fullAt way among stepReply startReply happens stepOf stepDoing stepFormat formatStore formattedWord formatOf stepFinal nodesOfLength formatting resting idled allNodes headerRefusal stepHeld isIdle stepWork stepPlan stepBegin stepPrepared changeAt landing landingFor onTurnLanding turnAt turnOf turnInner nodeAt children valueWords keyWords slotOf firstEqual insertReason reasonIn emptyReason insertChange stepFirst stepStore planning advanced repairs nextChange nextRepair onSearch seek onVisit visitAt visitOf rootPosition leafPairs insertOf startOf startChecked startRoom roomFor startLanded started stepRefused startRefused withAll giving overNumbers takeNumbers numbersFrom nextFree firstFrom firstTrue orElse withoutAll lastOf splitLeaf changeStores sort insertAll insertPair kindAbove nodeImage countTrue childPosition childFor childIndex passed routingKeys runBelow deleteOf changeIn deleteChange mend mendTagged mendUnderfull mendSiblings mendTogether isNode share merge mergeRoot leavesTogether innersTogether half leftKeys keyBetween absorb splitParent joinedKeys joinedChildren findOf cardRefusal foundAt leafFor onTurn foundIn noBeginning noMemory openOf openChecked openSound tableCheck nodeCheck onLook enterNode enterKind enterLeaf enterInner innerSound noted lookOf leafSound member unusedZero childrenCheck raised halves copied visitLeaf visitInner visitTagged rangeEnd slotSound
 computed = (refl, refl, refl, refl)
 
-begins : Begins ration-table formatted []
+begins : Begins rationTable formatted []
 unfolding formatOf nodesOfLength startReply
-begins = from-format any-words formatted refl (subst (λ w. FormatsTo ration-table being-formatted w) (computed .1) (to-ready 153 being-formatted (computed .0)))
+begins = from-format anyWords formatted refl (subst (λ w. FormatsTo rationTable beingFormatted w) (computed .1) (to-ready 153 beingFormatted (computed .0)))
 
 -- the demand at these two lists
 abbrev pub Survived : ℕ → Type 0
-Survived k = Survives ration-table (run ration-table (cut-after k) formatted .card) (kept ration-table (cut-after k) formatted (book [] empty) .held)
+Survived k = Survives rationTable (run rationTable (cutAfter k) formatted .card) (kept rationTable (cutAfter k) formatted (book [] empty) .held)
 
 pub survives-at-40 : Survived 40
-survives-at-40 = demand-3 formatted [] begins (cut-after 40) (omega arith, (omega arith, (omega arith, (omega arith, (omega arith, (omega arith, (omega arith, (omega arith, (omega arith, (omega arith, (omega arith, (omega arith, tt))))))))))))
+survives-at-40 = demand-3 formatted [] begins (cutAfter 40) (omega arith, (omega arith, (omega arith, (omega arith, (omega arith, (omega arith, (omega arith, (omega arith, (omega arith, (omega arith, (omega arith, (omega arith, tt))))))))))))
 
 pub survives-at-73 : Survived 73
-survives-at-73 = demand-3 formatted [] begins (cut-after 73) (omega arith, (omega arith, (omega arith, (omega arith, (omega arith, (omega arith, (omega arith, (omega arith, (omega arith, (omega arith, (omega arith, (omega arith, tt))))))))))))
+survives-at-73 = demand-3 formatted [] begins (cutAfter 73) (omega arith, (omega arith, (omega arith, (omega arith, (omega arith, (omega arith, (omega arith, (omega arith, (omega arith, (omega arith, (omega arith, (omega arith, tt))))))))))))
 
 -- what it says of key 12 then: with no step of the repair made, out or in
-pub out-at-40 : ration-table .find (run ration-table (cut-after 40) formatted .card) 12 ≡ absent
+pub out-at-40 : rationTable .find (run rationTable (cutAfter 40) formatted .card) 12 ≡ absent
 unfolding dictionary LeftUncut run
 out-at-40 = survives-at-40 .finds [] tt 12 (omega arith) (omega arith) ∙ ap (λ b. dictionary (lookup 12 (b .held))) (computed .2)
 
-pub in-at-73 : ration-table .find (run ration-table (cut-after 73) formatted .card) 12 ≡ holds 120
+pub in-at-73 : rationTable .find (run rationTable (cutAfter 73) formatted .card) 12 ≡ holds 120
 unfolding dictionary LeftUncut run
 in-at-73 = survives-at-73 .finds [] tt 12 (omega arith) (omega arith) ∙ ap (λ b. dictionary (lookup 12 (b .held))) (computed .3)

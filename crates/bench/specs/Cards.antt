@@ -6,7 +6,7 @@ use Prim.Native.Nat.{ℕ, zero, suc, _+_, _*_}
 use lib.ListN.{getD, replicate}
 use Rattle.card.specs.Layout.{nodeAt, children, routingKeys, leafPairs}
 use Rattle.free_nodes.specs.NodeSet.{countTrue}
-use Rattle.laws.specs.Sorting.{pair-keys}
+use Rattle.laws.specs.Sorting.{pairKeys}
 use Rattle.card.specs.Replies.{Reply, refusal, holds, absent, idle, started as begun}
 use Rattle.lookup.specs.Answers.{foundReply}
 use Rattle.state.specs.Answers.{stepReply, startReply}
@@ -167,17 +167,17 @@ unfoldable pub rowK : List ℕ
 rowK = cardK .stores ∷ getD (cardK .card) 4 0 ∷ (children (nodeAt (cardK .card) 1) ++ routingKeys (nodeAt (cardK .card) 1))
 
 unfoldable pub rowKleft : List ℕ
-rowKleft = pair-keys (leafPairs (nodeAt (cardK .card) 5))
+rowKleft = pairKeys (leafPairs (nodeAt (cardK .card) 5))
 
 unfoldable pub rowKright : List ℕ
-rowKright = pair-keys (leafPairs (nodeAt (cardK .card) 6))
+rowKright = pairKeys (leafPairs (nodeAt (cardK .card) 6))
 
 -- L2: then delete 7, 8, 10, 9: the last takes 26 stores, root is leaf 2 with 6, 11, 12, and 5 nodes are free
 unfoldable pub rowL2 : List ℕ
 rowL2 = cardL2 .stores ∷ getD (cardL2 .card) 4 0 ∷ countTrue (cardL2 .memory .free) ∷ said (stepReply (cardL2 .answer))
 
 unfoldable pub rowL2leaf : List ℕ
-rowL2leaf = pair-keys (leafPairs (nodeAt (cardL2 .card) 2))
+rowL2leaf = pairKeys (leafPairs (nodeAt (cardL2 .card) 2))
 
 -- power gone in the middle of I's split: opened idle, 12 absent; after its 73rd store: held
 unfoldable pub rowCutOpened : List ℕ

@@ -9,7 +9,7 @@ use lib.ListN.{length, getD, drop, set, length-take, length-drop}
 use lib.Seq.{getD-take, getD-drop}
 use lib.Dec.{ltb}
 use borrow.Author.Tests.{lt-ltb, eq-eqb}
-use Rattle.laws.specs.Lists.{before-zero}
+use Rattle.laws.specs.Lists.{beforeZero}
 use Rattle.card.specs.Header.{headerRefusal}
 use Rattle.card.specs.Stores.{Store}
 use Rattle.plans.specs.Plan.{storesOf}
@@ -33,14 +33,14 @@ part-word block from n i h = getD-take n (drop from block) i 0 h ∙ getD-drop f
 -- ---- "Nodes cut out of the tree are free after the store that cuts them out": those from the i-th on are still to be freed
 
 unfoldable pub leftToFree : List ℕ → ℕ → Memory
-leftToFree block i = withFree (memoryIn block) (withAll (before-zero (drop i (part block 8 3))) (memoryIn block .free))
+leftToFree block i = withFree (memoryIn block) (withAll (beforeZero (drop i (part block 8 3))) (memoryIn block .free))
 
 pub free-all : (block : List ℕ) → leftToFree block 0 ≡ withFree (memoryIn block) (withAll (memoryIn block .cut) (memoryIn block .free))
 unfolding leftToFree memoryOf unpacked
 free-all block = refl
 
 module _ (block : List ℕ) (l : length block ≡ stateWords) where
-  free-done : (i : ℕ) → before-zero (drop i (part block 8 3)) ≡ [] → leftToFree block i ≡ memoryIn block
+  free-done : (i : ℕ) → beforeZero (drop i (part block 8 3)) ≡ [] → leftToFree block i ≡ memoryIn block
   unfolding leftToFree withFree
   free-done i e = ap (λ (ms : List ℕ). withFree (memoryIn block) (withAll ms (memoryIn block .free))) e ∙ ap (withFree (memoryIn block)) (no-cut (memoryIn block .free))
 

@@ -10,9 +10,9 @@ use lib.Seq.{take-take, getD-take, getD-drop, length-take-le, drop-cons}
 use lib.Dec.{eqb}
 use borrow.Author.Tests.{eq-eqb, ne-eqb}
 use Rattle.laws.specs.Cases.{pick}
-use Rattle.laws.specs.Lists.{before-zero}
+use Rattle.laws.specs.Lists.{beforeZero}
 use Rattle.laws.proofs.Lists.{before-zero-length, before-zero-take}
-use Rattle.card.specs.Layout.{word, nodeAt, keyWords, valueWords, children, routingKeys, slot-pairs, isKey, leafPairs, runBelow}
+use Rattle.card.specs.Layout.{word, nodeAt, keyWords, valueWords, children, routingKeys, slotPairs, isKey, leafPairs, runBelow}
 
 -- the part that the code cuts out is the node
 pub node-part : (card : List ℕ) (m a b : ℕ) → a ≡ 8 + 24 * (m - 1) → b ≡ a + 24 → take (b - a) (drop a card) ≡ nodeAt card m
@@ -66,7 +66,7 @@ unfolding routingKeys
 length-routing node len = length-take-le (length (children node) - 1) (keyWords node) (omega (arith, children-le node, length-keyWords node len))
 
 -- where no word before c is 0 and the one at c is, there are c
-until : (xs : List ℕ) (c : ℕ) → c ≤ length xs → ((k : ℕ) → k < c → getD xs k 0 ≡ 0 → ⊥) → (c < length xs → getD xs c 0 ≡ 0) → length (before-zero xs) ≡ c
+until : (xs : List ℕ) (c : ℕ) → c ≤ length xs → ((k : ℕ) → k < c → getD xs k 0 ≡ 0 → ⊥) → (c < length xs → getD xs c 0 ≡ 0) → length (beforeZero xs) ≡ c
 until [] c h f z = omega arith
 until (zero ∷ xs) zero h f z = refl
 until (suc x ∷ xs) zero h f z = let e : suc x ≡ 0 = z (omega arith) in absurd (omega arith)
@@ -97,16 +97,16 @@ is-key-some zero e = absurd (e refl)
 is-key-some (suc k) e = refl
 
 -- a slot's own pair, if its key word is one, and those of the slots after it
-slot-pairs-cons : (k v : ℕ) (x y : List ℕ) → slot-pairs (k ∷ x) (v ∷ y) ≡ slot-pairs (k ∷ []) (v ∷ []) ++ slot-pairs x y
+slot-pairs-cons : (k v : ℕ) (x y : List ℕ) → slotPairs (k ∷ x) (v ∷ y) ≡ slotPairs (k ∷ []) (v ∷ []) ++ slotPairs x y
 slot-pairs-cons zero v x y = refl
 slot-pairs-cons (suc k) v x y = refl
 
-slot-length : (k v : ℕ) → length (slot-pairs (k ∷ []) (v ∷ [])) ≡ isKey k
+slot-length : (k v : ℕ) → length (slotPairs (k ∷ []) (v ∷ [])) ≡ isKey k
 unfolding isKey
 slot-length zero v = refl
 slot-length (suc k) v = refl
 
-pub slot-pairs-le : (ks vs : List ℕ) → length (slot-pairs ks vs) ≤ length ks
+pub slot-pairs-le : (ks vs : List ℕ) → length (slotPairs ks vs) ≤ length ks
 slot-pairs-le [] vs = omega arith
 slot-pairs-le (k ∷ ks) [] = omega arith
 slot-pairs-le (zero ∷ ks) (v ∷ vs) = omega (arith, slot-pairs-le ks vs)
@@ -119,14 +119,14 @@ leaf-few node = omega (arith, slot-pairs-le (take 11 (drop 1 node)) (valueWords 
 
 -- the pairs of a leaf from slot i on
 unfoldable pub leafFrom : List ℕ → ℕ → List (ℕ × ℕ)
-leafFrom node i = slot-pairs (drop i (keyWords node)) (drop i (valueWords node))
+leafFrom node i = slotPairs (drop i (keyWords node)) (drop i (valueWords node))
 
 pub leaf-start : (node : List ℕ) → leafFrom node 0 ≡ leafPairs node
 unfolding leafFrom leafPairs
 leaf-start node = refl
 
 module _ (node : List ℕ) (len : length node ≡ 24) where
-  pub leaf-next : (i : ℕ) → i < 11 → leafFrom node i ≡ slot-pairs (getD node (1 + i) 0 ∷ []) (getD node (12 + i) 0 ∷ []) ++ leafFrom node (i + 1)
+  pub leaf-next : (i : ℕ) → i < 11 → leafFrom node i ≡ slotPairs (getD node (1 + i) 0 ∷ []) (getD node (12 + i) 0 ∷ []) ++ leafFrom node (i + 1)
   unfolding leafFrom
   leaf-next i h =
       let a = length-keyWords node len in
@@ -137,7 +137,7 @@ module _ (node : List ℕ) (len : length node ≡ 24) where
   pub leaf-length : (i : ℕ) → i < 11 → length (leafFrom node i) ≡ isKey (getD node (1 + i) 0) + length (leafFrom node (i + 1))
   leaf-length i h =
       ap length (leaf-next i h)
-      ∙ length-append (slot-pairs (getD node (1 + i) 0 ∷ []) (getD node (12 + i) 0 ∷ [])) (leafFrom node (i + 1))
+      ∙ length-append (slotPairs (getD node (1 + i) 0 ∷ []) (getD node (12 + i) 0 ∷ [])) (leafFrom node (i + 1))
       ∙ ap (λ (n : ℕ). n + length (leafFrom node (i + 1))) (slot-length (getD node (1 + i) 0) (getD node (12 + i) 0))
 
   pub leaf-end : (i : ℕ) → 11 ≤ i → leafFrom node i ≡ []

@@ -12,7 +12,7 @@ use Rattle.laws.proofs.Lists.{length-pad, getD-pad, getD-left, getD-right}
 use Rattle.card.specs.Layout.{place, word, nodeImage}
 use Rattle.card.specs.NodeWords.{OnCard, NodeWords}
 use Rattle.card.proofs.NodeWords.{node-words-other, Keeps}
-use Rattle.card.specs.Stores.{Store, stores, NewNode, node-stores}
+use Rattle.card.specs.Stores.{Store, stores, NewNode, nodeStores}
 
 abbrev pub play : List Store → List ℕ → List ℕ
 play [] c = c
@@ -137,19 +137,19 @@ pub within-more : {w w′ : ℕ → ℕ} {P : List Store} → ((m : ℕ) → w m
 within-more h done = done
 within-more h (also i x v p e hi hx hw r) = also i x v p e hi hx (omega (arith, h i)) (within-more h r)
 
-pub within-node-stores : (c : List ℕ) (Xs : List NewNode) → AllFitCard c Xs → Within (numbered Xs) (node-stores Xs)
+pub within-node-stores : (c : List ℕ) (Xs : List NewNode) → AllFitCard c Xs → Within (numbered Xs) (nodeStores Xs)
 within-node-stores c [] h = done
 within-node-stores c (X ∷ Xs) h =
     within-append
     (within-stores (X .number) (h .0 .on .pos) (omega (arith, indicator-same (X .number))) (nodeImage (X .kind) (X .keys) (X .values)) 0 (place (X .number) 0) refl (omega (arith, length-node-image (X .kind) (X .keys) (X .values) (h .0 .few-keys) (h .0 .few-values))))
     (within-more (λ m. omega arith) (within-node-stores c Xs (h .1)))
 
-pub nodes-written : (c : List ℕ) (Xs : List NewNode) → AllFitCard c Xs → Distinct Xs → AllHaveWords (play (node-stores Xs) c) Xs
+pub nodes-written : (c : List ℕ) (Xs : List NewNode) → AllFitCard c Xs → Distinct Xs → AllHaveWords (play (nodeStores Xs) c) Xs
 nodes-written c [] h d = tt
 nodes-written c (X ∷ Xs) h d =
     let P = stores (place (X .number) 0) (nodeImage (X .kind) (X .keys) (X .values)) in
     let f = fits-play P c Xs (h .1) in
-    rw (play-append P (node-stores Xs) c) (
+    rw (play-append P (nodeStores Xs) c) (
       keeps-play (within-node-stores (play P c) Xs f) (play P c) (X .number) (X .kind) (X .keys) (X .values) (d .0) (node-words-new (X .kind) (X .keys) (X .values) (h .0 .few-keys) (h .0 .few-values) (X .number) c (h .0 .on)),
       nodes-written (play P c) Xs f (d .1),
     )

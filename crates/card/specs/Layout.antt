@@ -4,7 +4,7 @@ use Prim.Native.Nat.{ℕ, zero, suc, _+_, _-_, _*_}
 use lib.ListN.{length, getD, take, drop}
 use lib.Dec.{eqb}
 use Rattle.laws.specs.Cases.{pick}
-use Rattle.laws.specs.Lists.{before-zero, pad}
+use Rattle.laws.specs.Lists.{beforeZero, pad}
 
 -- "With N nodes (4 to 600)"
 abbrev pub leastNodes : ℕ
@@ -53,7 +53,7 @@ valueWords node = take 11 (drop 12 node)
 
 -- "words 12 to 22 are child numbers, its children being those before the first 0"
 unfoldable pub children : List ℕ → List ℕ
-children node = before-zero (valueWords node)
+children node = beforeZero (valueWords node)
 
 -- "With c children the routing keys are words 1 to c − 1"
 unfoldable pub routingKeys : List ℕ → List ℕ
@@ -65,11 +65,11 @@ unfoldable pub runBelow : ℕ → ℕ → ℕ
 runBelow c run = pick (eqb c 11) (suc run) 0
 
 -- the pairs of a row of key words and the row of values beside it: "A key word of 0 is an empty slot"
-abbrev pub slot-pairs : List ℕ → List ℕ → List (ℕ × ℕ)
-slot-pairs [] vs = []
-slot-pairs (k ∷ ks) [] = []
-slot-pairs (zero ∷ ks) (v ∷ vs) = slot-pairs ks vs
-slot-pairs (suc k ∷ ks) (v ∷ vs) = (suc k, v) ∷ slot-pairs ks vs
+abbrev pub slotPairs : List ℕ → List ℕ → List (ℕ × ℕ)
+slotPairs [] vs = []
+slotPairs (k ∷ ks) [] = []
+slotPairs (zero ∷ ks) (v ∷ vs) = slotPairs ks vs
+slotPairs (suc k ∷ ks) (v ∷ vs) = (suc k, v) ∷ slotPairs ks vs
 
 -- 1 for a key, 0 for an empty slot
 unfoldable pub isKey : ℕ → ℕ
@@ -78,7 +78,7 @@ isKey (suc k) = 1
 
 -- the pairs of a leaf, slots rising
 unfoldable pub leafPairs : List ℕ → List (ℕ × ℕ)
-leafPairs node = slot-pairs (keyWords node) (valueWords node)
+leafPairs node = slotPairs (keyWords node) (valueWords node)
 
 -- the 24 words of a node: its kind, eleven words of keys, eleven of values or children, and 0; "unused words are 0"
 unfoldable pub nodeImage : ℕ → List ℕ → List ℕ → List ℕ

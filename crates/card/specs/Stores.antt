@@ -18,9 +18,9 @@ pub record NewNode : Type 0 where
   pub keys : List ℕ
   pub values : List ℕ
 
-abbrev pub new-node : ℕ → ℕ → List ℕ → List ℕ → NewNode
-new-node i k a b = record { number = i; kind = k; keys = a; values = b }
+abbrev pub newNode : ℕ → ℕ → List ℕ → List ℕ → NewNode
+newNode i k a b = record { number = i; kind = k; keys = a; values = b }
 
-abbrev pub node-stores : List NewNode → List Store
-node-stores [] = []
-node-stores (X ∷ Xs) = stores (place (X .number) 0) (nodeImage (X .kind) (X .keys) (X .values)) ++ node-stores Xs
+abbrev pub nodeStores : List NewNode → List Store
+nodeStores [] = []
+nodeStores (X ∷ Xs) = stores (place (X .number) 0) (nodeImage (X .kind) (X .keys) (X .values)) ++ nodeStores Xs

@@ -16,7 +16,7 @@ use Rattle.siblings.specs.Siblings.{mendSiblings}
 use Rattle.change.specs.Mending.{mendTagged, isNode, mendUnderfull, mend}
 use Rattle.plans.specs.Rows.{pairsOf, PairRow}
 use Rattle.laws.proofs.Cases.{and-true}
-use Rattle.laws.specs.Sorting.{insert-pair, insert-all, sort, pair-keys, pair-values}
+use Rattle.laws.specs.Sorting.{insertPair, insertAll, sort, pairKeys, pairValues}
 use Rattle.plans.specs.declared.pairs.PairWords.{PairWords}
 use Rattle.descent.specs.declared.Position.{Position}
 use Rattle.siblings.proofs.SiblingLaws.{pairs-pooled}
@@ -84,13 +84,13 @@ module _ (card : List ℕ) (n : ℕ) (p : Position) (free : List Bool) (last : �
 
 -- a leaf's pairs and one more
 pub leaf-pooled : (node : List ℕ) (k v : ℕ) (empty held all : PairWords) (m n : ℕ) → length (all .keys .items) ≡ 12 → length (all .values .items) ≡ 12 → n ≤ 12
-    → PairRow empty 0 [] → PairRow held m (insert-all (leafPairs node) (pairsOf empty)) → PairRow all n (insert-pair (k, v) (pairsOf held))
-    → togetherOf (record { kind = 1; keys = all .keys; values = all .values }) ≡ record { kind = 1; keys = pair-keys (sort ((k, v) ∷ leafPairs node)); values = pair-values (sort ((k, v) ∷ leafPairs node)) }
-unfolding sort insert-all
+    → PairRow empty 0 [] → PairRow held m (insertAll (leafPairs node) (pairsOf empty)) → PairRow all n (insertPair (k, v) (pairsOf held))
+    → togetherOf (record { kind = 1; keys = all .keys; values = all .values }) ≡ record { kind = 1; keys = pairKeys (sort ((k, v) ∷ leafPairs node)); values = pairValues (sort ((k, v) ∷ leafPairs node)) }
+unfolding sort insertAll
 leaf-pooled node k v empty held all m n lk lv few z r s =
     pairs-pooled all n lk lv few (sort ((k, v) ∷ leafPairs node))
     (record {
       keys-counted = s .keys-counted;
       values-counted = s .values-counted;
-      listed = s .listed ∙ ap (insert-pair (k, v)) (r .listed ∙ ap (insert-all (leafPairs node)) (z .listed));
+      listed = s .listed ∙ ap (insertPair (k, v)) (r .listed ∙ ap (insertAll (leafPairs node)) (z .listed));
     })

@@ -17,7 +17,7 @@ ghost use mathlib.Core.Path.{_≡_};
 ghost use mathlib.Core.List.{[], _∷_};
 ghost use Prim.Native.Nat.{_+_, _≤_, _<_};
 ghost use lib.ListN.{length};
-ghost use Rattle.laws.specs.Lists.{before-zero};
+ghost use Rattle.laws.specs.Lists.{beforeZero};
 ghost use Rattle.card.specs.Layout.{children};
 ghost use Rattle.free_nodes.specs.NodeSet.{nodesOf};
 ghost use Rattle.plans.specs.Change.{absorb, splitParent, joinedKeys, joinedChildren};
@@ -29,7 +29,7 @@ ghost use Rattle.plans.specs.Plan.{preparationOf, Linked};
 // The nodes that leave the tree with a tagged node.
 fn cut_tagged(p: Position) -> [u32; 3]
     requires { ⌜ Linked p ⌝ }
-    ensures { λ r. ⌜ before-zero r ≡ p .parent ∷ p .node ∷ [] ⌝ }
+    ensures { λ r. ⌜ beforeZero r ≡ p .parent ∷ p .node ∷ [] ⌝ }
 {
     [p.parent as u32, p.node as u32, 0]
 }

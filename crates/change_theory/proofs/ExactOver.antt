@@ -8,7 +8,7 @@ use native.Mathlib.Omega.{arith}
 use lib.ListN.{length, getD}
 use lib.Seq.{ext-getD}
 use Rattle.plans.specs.Planning.{withoutAll, withAll}
-use Rattle.tree.specs.FreeNodes.{Exact, free-bit}
+use Rattle.tree.specs.FreeNodes.{Exact, freeBit}
 use Rattle.change_theory.proofs.Exact.{Freed, freed, number-outside}
 use Rattle.change_theory.proofs.Numbers.{Given}
 use Rattle.free_nodes.specs.NodeSet.{capacity, allNodes, countTrue}
@@ -18,15 +18,15 @@ use Rattle.laws.proofs.Bits.{bit-false, bit-zero}
 use Rattle.laws.proofs.Cases.{order}
 use Rattle.laws.specs.Totals.{indicator, total}
 use Rattle.tree.specs.Represent.{Represents}
-use Rattle.tree.specs.Tree.{Tree, node-total}
+use Rattle.tree.specs.Tree.{Tree, nodeTotal}
 
 pub record ExactOver (n : ℕ) (free : List Bool) (count : ℕ → ℕ) : Type 0 where
   pub size : length free ≡ capacity
-  pub within : (m : ℕ) → 1 ≤ m → m ≤ n → free-bit free m + count m ≡ 1
+  pub within : (m : ℕ) → 1 ≤ m → m ≤ n → freeBit free m + count m ≡ 1
   pub outside-none : (m : ℕ) → (m ≡ 0) ⊎ (n < m) → (getD free m false ≡ false) × (count m ≡ 0)
 
 -- the nodes that one tree reaches
-pub exact-one : (c : List ℕ) (n : ℕ) (free : List Bool) (t : Tree) → length c ≡ 8 + 24 * n → Represents c t → Exact n free t → ExactOver n free (λ m. node-total (indicator m) t)
+pub exact-one : (c : List ℕ) (n : ℕ) (free : List Bool) (t : Tree) → length c ≡ 8 + 24 * n → Represents c t → Exact n free t → ExactOver n free (λ m. nodeTotal (indicator m) t)
 exact-one c n free t len rep x = record { size = x .size; within = x .within; outside-none = λ m o. (x .outside-none m o, number-outside c n len m o t rep) }
 
 zero-sum : {a b : ℕ} → a ≡ 0 → b ≡ 0 → a + b ≡ 0
@@ -34,7 +34,7 @@ zero-sum p q = omega arith
 
 module _ (n : ℕ) (free : List Bool) (count : ℕ → ℕ) (x : ExactOver n free count) where
   -- a node is free or reached, and not both
-  pub over-once : (i : ℕ) → free-bit free i + count i ≤ 1
+  pub over-once : (i : ℕ) → freeBit free i + count i ≤ 1
   over-once i =
       order i 1 (λ o. let z = x .outside-none i (inl (omega arith)) in omega (arith, bit-false (getD free i false) (z .0), z .1))
       (λ o. order n i (λ p. let z = x .outside-none i (inr p) in omega (arith, bit-false (getD free i false) (z .0), z .1)) (λ p. omega (arith, x .within i o p)))

@@ -7,33 +7,33 @@ use Prim.Native.Nat.{ℕ, zero, suc, _+_, _-_, _≤_, _<_}
 use native.Mathlib.Omega.{arith}
 use lib.ListN.{length, getD, take, drop, length-append}
 use lib.Seq.{take-at, drop-at, getD-at}
-use Rattle.card.specs.Stores.{NewNode, new-node}
+use Rattle.card.specs.Stores.{NewNode, newNode}
 use Rattle.card.proofs.Stores.{HasWords, AllHaveWords}
 use Rattle.plans.specs.Change.{half}
-use Rattle.change_theory.proofs.Rewrite.{Shape, violations-in, own-in, SameHeight, AllFew, numbers, Rewrite}
+use Rattle.change_theory.proofs.Rewrite.{Shape, violationsIn, ownIn, SameHeight, AllFew, numbers, Rewrite}
 use Rattle.laws.proofs.Cases.{order}
 use Rattle.laws.proofs.Lists.{drop-past}
 use Rattle.laws.specs.Totals.{total}
-use Rattle.shapes.proofs.Bare.{bare-left, bare-right}
-use Rattle.shapes.proofs.Next.{rootOfTwo, tagged-in}
+use Rattle.shapes.proofs.Bare.{bareLeft, bareRight}
+use Rattle.shapes.proofs.Next.{rootOfTwo, taggedIn}
 use Rattle.tree.proofs.Cut.{cut, cut-join}
-use Rattle.tree.specs.Pairs.{forest-pairs}
+use Rattle.tree.specs.Pairs.{forestPairs}
 use Rattle.tree.proofs.Pairs.{AllInRange, routing-roots}
 use Rattle.tree.specs.Represent.{RepresentsAll}
 use Rattle.tree.proofs.Splice.{roots-splice, roots-join, routing-join, range-join, range-unjoin, pairs-splice, totals-splice, height-splice, represents-splice}
 use Rattle.tree.specs.Height.{Height, AllHeight}
-use Rattle.tree.specs.Tree.{Forest, roots, routing, node-totals, node, one, more}
+use Rattle.tree.specs.Tree.{Forest, roots, routing, nodeTotals, node, one, more}
 use Rattle.tree.proofs.Tree.{Left, Right, join, splice, Context, rightmost, followed, top, down}
-use Rattle.tree.specs.Violations.{few, forest-violations, AllWidths}
+use Rattle.tree.specs.Violations.{few, forestViolations, AllWidths}
 use Rattle.tree.proofs.Violations.{few-none, widths-splice}
 
 -- The children F give way to G: the nodes new are written for them, the nodes out are no longer there.
 pub record Exchange (F G : Forest) (new : List NewNode) (out : List ℕ) : Type 0 where
   pub range : (lo hi : ℕ) → 0 < lo → AllInRange lo hi F → AllInRange lo hi G
-  pub same-pairs : (w : ℕ × ℕ → ℕ) → total w (forest-pairs G) ≡ total w (forest-pairs F)
+  pub same-pairs : (w : ℕ × ℕ → ℕ) → total w (forestPairs G) ≡ total w (forestPairs F)
   pub height : (h : ℕ) → AllHeight h F → AllHeight h G
   pub widths : AllWidths F → AllWidths G
-  pub same-numbers : (w : ℕ → ℕ) → node-totals w G + total w out ≡ node-totals w F + total w (numbers new)
+  pub same-numbers : (w : ℕ → ℕ) → nodeTotals w G + total w out ≡ nodeTotals w F + total w (numbers new)
   pub few : AllFew new
   pub represented : (c : List ℕ) → RepresentsAll c F → AllHaveWords c new → RepresentsAll c G
 
@@ -91,12 +91,12 @@ remains-enough (down C i g l r) n m h e o = omega arith
 at-least : (l : Left) (F : Forest) (r : Right) → length (roots F) ≤ length (roots (splice l F r))
 at-least l F r = simp (roots-splice, length-append) (omega arith)
 
-pub alone : (l : Left) (F : Forest) (r : Right) → 2 ≤ length (roots F) → length (roots (splice l F r)) ≡ 2 → rootOfTwo false (bare-left l) (bare-right r) ≡ true
+pub alone : (l : Left) (F : Forest) (r : Right) → 2 ≤ length (roots F) → length (roots (splice l F r)) ≡ 2 → rootOfTwo false (bareLeft l) (bareRight r) ≡ true
 alone [] F rightmost h e = refl
 alone [] F (followed k f) h e = absurd (omega (arith, ap length (roots-join F k f), length-append (roots F) (roots f), routing-roots f))
 alone (a ∷ l) F r h e = absurd (omega (arith, at-least l F r))
 
-pub beside : (C : Context) (l : Left) (F : Forest) (r : Right) → length (roots F) ≡ 2 → Remains C (length (roots (splice l F r))) → rootOfTwo (tagged-in C) (bare-left l) (bare-right r) ≡ false
+pub beside : (C : Context) (l : Left) (F : Forest) (r : Right) → length (roots F) ≡ 2 → Remains C (length (roots (splice l F r))) → rootOfTwo (taggedIn C) (bareLeft l) (bareRight r) ≡ false
 beside top [] F rightmost h o = absurd (omega arith)
 beside top [] F (followed k f) h o = refl
 beside top (a ∷ l) F r h o = refl
@@ -107,7 +107,7 @@ pub record OneViolation (f : Forest) : Type 0 where
   pub least : 2 ≤ length (roots f)
   pub most : length (roots f) ≤ 11
   pub widths : AllWidths f
-  pub single : forest-violations f ≡ 1
+  pub single : forestViolations f ≡ 1
 
 -- Two siblings with a and b pairs or children, of which one is underfull: they have at most 12 together ..
 pub together-le : (a b : ℕ) → 1 ≤ few a + few b → a ≤ 11 → b ≤ 11 → a + b ≤ 12
@@ -123,11 +123,11 @@ plain-shape : (C : Context) (m : ℕ) (f : Forest) → Enough C (length (roots f
 plain-shape top m f a b w = (a, b, w)
 plain-shape (down C n g l r) m f a b w = ((a, b), w)
 
-plain-settled : (C : Context) (m : ℕ) (f : Forest) → forest-violations f ≡ 0 → violations-in C (node m false f) ≡ own-in C (node m false f)
+plain-settled : (C : Context) (m : ℕ) (f : Forest) → forestViolations f ≡ 0 → violationsIn C (node m false f) ≡ ownIn C (node m false f)
 plain-settled top m f z = z
 plain-settled (down C n g l r) m f z = omega arith
 
-plain-own : (C : Context) (m : ℕ) (f : Forest) → few (length (roots f)) ≤ 1 → own-in C (node m false f) ≤ 1
+plain-own : (C : Context) (m : ℕ) (f : Forest) → few (length (roots f)) ≤ 1 → ownIn C (node m false f) ≤ 1
 plain-own top m f h = omega arith
 plain-own (down C n g l r) m f h = omega arith
 
@@ -141,10 +141,10 @@ module _ (C : Context) (p p′ : ℕ) (f g : Forest) (new : List NewNode) (out :
   copied-height zero i = absurd i
   copied-height (suc h) i = (suc h, x .height h i, same-height C (suc h))
 
-  pub copied : AllWidths f → Enough C (length (roots g)) → length (roots g) ≤ 11 → forest-violations g ≡ 0 → few (length (roots g)) ≤ 1
-      → Rewrite C (node p false f) (node p′ false g) (new ++ new-node p′ 2 (routing g) (roots g) ∷ []) (p ∷ out)
+  pub copied : AllWidths f → Enough C (length (roots g)) → length (roots g) ≤ 11 → forestViolations g ≡ 0 → few (length (roots g)) ≤ 1
+      → Rewrite C (node p false f) (node p′ false g) (new ++ newNode p′ 2 (routing g) (roots g) ∷ []) (p ∷ out)
   copied w a b z o =
-      let P = new-node p′ 2 (routing g) (roots g) in
+      let P = newNode p′ 2 (routing g) (roots g) in
       record {
         range = x .range;
         same-pairs = x .same-pairs;

@@ -8,19 +8,19 @@ use native.Mathlib.Omega.{arith}
 use lib.ListN.{length, getD, take, drop}
 use borrow.Author.Tests.{lt-ltb, le-leb, lt-leb, eq-eqb}
 use Rattle.card.specs.Layout.{nodeAt, kindOf, children, routingKeys}
-use Rattle.card.specs.Stores.{new-node}
+use Rattle.card.specs.Stores.{newNode}
 use Rattle.plans.specs.Change.{joinedKeys, joinedChildren, absorb, splitParent, Together, innersTogether, half, leftKeys, keyBetween, share, merge, mergeRoot, halves, copied}
 use Rattle.plans.specs.Planning.{giving, first, second, third}
 use Rattle.change.specs.Mending.{mendTagged, mend}
 use Rattle.siblings.specs.Siblings.{mendTogether, mendSiblings}
 use Rattle.change_theory.proofs.Exchange.{Remains, OneViolation, together-le, Parts, left-roots, right-roots, right-routing, left-routing, middle-key}
-use Rattle.shapes.proofs.Next.{tagged-in}
-use Rattle.change_theory.proofs.InnerChanges.{inner-pair, new-siblings, parted-nodes, tagged-child, Underfull, together}
-use Rattle.change_theory.proofs.Mending.{StandsAt, change-at, giving-same, kind-above, mend-tagged, mend-siblings, share-due, merge-root-due, merge-due}
+use Rattle.shapes.proofs.Next.{taggedIn}
+use Rattle.change_theory.proofs.InnerChanges.{innerPair, newSiblings, partedNodes, taggedChild, Underfull, together}
+use Rattle.change_theory.proofs.Mending.{StandsAt, rewriteAt, giving-same, kind-above, mend-tagged, mend-siblings, share-due, merge-root-due, merge-due}
 use Rattle.change_theory.proofs.Siblings.{children-with, routing-with, first-child, second-child, key-between, two-represented, children-shared, routing-shared, children-merged, routing-merged}
 use Rattle.tree.proofs.Reading.{read-kind, node-children, node-routing}
 use Rattle.tree.specs.Represent.{kind, Represents}
-use Rattle.tree.proofs.Represent.{link-place}
+use Rattle.tree.proofs.Represent.{linkPlace}
 use Rattle.tree.proofs.Splice.{roots-join, routing-join, represents-splice}
 use Rattle.tree.specs.Tree.{Tree, Forest, roots, routing, node, one, more}
 use Rattle.tree.proofs.Tree.{Left, Right, join, splice, Context, top}
@@ -37,60 +37,60 @@ module _ (pos : Position) (P T : List ℕ) (free : List Bool) (last : ℕ) (keys
   unfolding mendTagged
   split-due h = rw (eq-eqb (length (children T)) 2 two, lt-leb (length (children P)) 10 h, ek, ec)
 
-module _ (pos : Position) (C : Context) (p q : ℕ) (ea : pos .above ≡ link-place C) (ep : pos .parent ≡ p) (en : pos .node ≡ q) (K : Forest) where
-  absorb-is : (a : ℕ) → absorb pos (routing K) (roots K) a ≡ change-at C (new-node a 2 (routing K) (roots K) ∷ []) a (p ∷ q ∷ [])
+module _ (pos : Position) (C : Context) (p q : ℕ) (ea : pos .above ≡ linkPlace C) (ep : pos .parent ≡ p) (en : pos .node ≡ q) (K : Forest) where
+  absorb-is : (a : ℕ) → absorb pos (routing K) (roots K) a ≡ rewriteAt C (newNode a 2 (routing K) (roots K) ∷ []) a (p ∷ q ∷ [])
   unfolding absorb
   absorb-is a = rw (ea, ep, en)
 
-  split-is : (L : Forest) (key : ℕ) (R : Forest) → Parts 6 K L key R → (a b c : ℕ) → splitParent pos (routing K) (roots K) a b c ≡ change-at C (parted-nodes (kind (tagged-in C)) a b c L key R) c (p ∷ q ∷ [])
+  split-is : (L : Forest) (key : ℕ) (R : Forest) → Parts 6 K L key R → (a b c : ℕ) → splitParent pos (routing K) (roots K) a b c ≡ rewriteAt C (partedNodes (kind (taggedIn C)) a b c L key R) c (p ∷ q ∷ [])
   unfolding splitParent
   split-is L key R u a b c = rw (ea, ep, en, kind-above C, left-routing 6 K L key R u 5 refl, middle-key 6 K L key R u 5 refl, left-roots 6 K L key R u, right-routing 6 K L key R u, right-roots 6 K L key R u)
 
-module _ (c : List ℕ) (n : ℕ) (pos : Position) (free : List Bool) (last : ℕ) (C : Context) (p : ℕ) (l : Left) (q : ℕ) (a : Tree) (k : ℕ) (b : Tree) (r : Right) (s : StandsAt pos C p l (node q true (more a k (one b)))) (w : Represents c (node p false (splice l (tagged-child q a k b) r))) where
+module _ (c : List ℕ) (n : ℕ) (pos : Position) (free : List Bool) (last : ℕ) (C : Context) (p : ℕ) (l : Left) (q : ℕ) (a : Tree) (k : ℕ) (b : Tree) (r : Right) (s : StandsAt pos C p l (node q true (more a k (one b)))) (w : Represents c (node p false (splice l (taggedChild q a k b) r))) where
   abbrev kids : Forest
   kids = splice l (more a k (one b)) r
 
   tagged-represented : Represents c (node q true (more a k (one b)))
-  tagged-represented = represents-splice c l (tagged-child q a k b) r (w .1) .0
+  tagged-represented = represents-splice c l (taggedChild q a k b) r (w .1) .0
 
   keys-read : joinedKeys (nodeAt c p) (pos .index) (nodeAt c q) ≡ routing kids
   unfolding joinedKeys
-  keys-read = rw (s .index-is) (routing-with c p l (tagged-child q a k b) r w (more a k (one b)) (routingKeys (nodeAt c q)) (length l) (sym (node-routing c q true (more a k (one b)) tagged-represented)) (omega arith))
+  keys-read = rw (s .index-is) (routing-with c p l (taggedChild q a k b) r w (more a k (one b)) (routingKeys (nodeAt c q)) (length l) (sym (node-routing c q true (more a k (one b)) tagged-represented)) (omega arith))
 
   children-read : joinedChildren (nodeAt c p) (pos .index) (nodeAt c q) ≡ roots kids
   unfolding joinedChildren
-  children-read = rw (s .index-is) (children-with c p l (tagged-child q a k b) r w (more a k (one b)) (children (nodeAt c q)) (suc (length l)) (sym (node-children c q true (more a k (one b)) tagged-represented)) (omega arith))
+  children-read = rw (s .index-is) (children-with c p l (taggedChild q a k b) r w (more a k (one b)) (children (nodeAt c q)) (suc (length l)) (sym (node-children c q true (more a k (one b)) tagged-represented)) (omega arith))
 
   two-read : length (children (nodeAt c q)) ≡ 2
   two-read = ap length (node-children c q true (more a k (one b)) tagged-represented)
 
-  count-read : length (children (nodeAt c p)) ≡ length (roots (splice l (tagged-child q a k b) r))
-  count-read = ap length (node-children c p false (splice l (tagged-child q a k b) r) w)
+  count-read : length (children (nodeAt c p)) ≡ length (roots (splice l (taggedChild q a k b) r))
+  count-read = ap length (node-children c p false (splice l (taggedChild q a k b) r) w)
 
   tagged-due : mend c n pos free last ≡ mendTagged pos (nodeAt c p) (nodeAt c q) free last
   tagged-due = mend-tagged c n pos free last p q (s .parent-is) (s .node-is) (read-kind c p 2 _ _ (w .0)) (read-kind c q 3 _ _ (tagged-represented .0))
 
   -- "parent with at most 10 children: a new copy of the parent takes its key and children in"
-  pub absorb-plan : length (roots (splice l (tagged-child q a k b) r)) ≤ 10
-      → mend c n pos free last ≡ giving 1 free last (λ ms. change-at C (new-node (first ms) 2 (routing kids) (roots kids) ∷ []) (first ms) (p ∷ q ∷ []))
+  pub absorb-plan : length (roots (splice l (taggedChild q a k b) r)) ≤ 10
+      → mend c n pos free last ≡ giving 1 free last (λ ms. rewriteAt C (newNode (first ms) 2 (routing kids) (roots kids) ∷ []) (first ms) (p ∷ q ∷ []))
   absorb-plan h =
       tagged-due
       ∙ absorb-due pos (nodeAt c p) (nodeAt c q) free last (routing kids) (roots kids) two-read keys-read children-read (omega (arith, count-read))
       ∙ giving-same 1 free last _ _ (λ ms. absorb-is pos C p q (s .above-is) (s .parent-is) (s .node-is) kids (first ms))
 
   -- "Parent with 11: the 12 children go 6 and 6 into two internal nodes, the middle key above them"
-  pub split-plan : (L : Forest) (key : ℕ) (R : Forest) → Parts 6 kids L key R → length (roots (splice l (tagged-child q a k b) r)) ≡ 11
-      → mend c n pos free last ≡ giving 3 free last (λ ms. change-at C (parted-nodes (kind (tagged-in C)) (first ms) (second ms) (third ms) L key R) (third ms) (p ∷ q ∷ []))
+  pub split-plan : (L : Forest) (key : ℕ) (R : Forest) → Parts 6 kids L key R → length (roots (splice l (taggedChild q a k b) r)) ≡ 11
+      → mend c n pos free last ≡ giving 3 free last (λ ms. rewriteAt C (partedNodes (kind (taggedIn C)) (first ms) (second ms) (third ms) L key R) (third ms) (p ∷ q ∷ []))
   split-plan L key R u h =
       tagged-due
       ∙ split-due pos (nodeAt c p) (nodeAt c q) free last (routing kids) (roots kids) two-read keys-read children-read (omega (arith, count-read))
       ∙ giving-same 3 free last _ _ (λ ms. split-is pos C p q (s .above-is) (s .parent-is) (s .node-is) kids L key R u (first ms) (second ms) (third ms))
 
 -- what two internal siblings hold together, where K are their children joined
-abbrev inner-together : Forest → Together
-inner-together K = record { kind = 2; keys = routing K; values = roots K }
+abbrev innerTogether : Forest → Together
+innerTogether K = record { kind = 2; keys = routing K; values = roots K }
 
-together-is : (X Y : List ℕ) (key : ℕ) (fx : Forest) (k : ℕ) (fy : Forest) → children X ≡ roots fx → children Y ≡ roots fy → routingKeys X ≡ routing fx → routingKeys Y ≡ routing fy → key ≡ k → innersTogether X key Y ≡ inner-together (join fx k fy)
+together-is : (X Y : List ℕ) (key : ℕ) (fx : Forest) (k : ℕ) (fy : Forest) → children X ≡ roots fx → children Y ≡ roots fy → routingKeys X ≡ routing fx → routingKeys Y ≡ routing fy → key ≡ k → innersTogether X key Y ≡ innerTogether (join fx k fy)
 unfolding innersTogether
 together-is X Y key fx k fy cx cy kx ky e = rw (cx, cy, kx, ky, e, roots-join fx k fy, routing-join fx k fy)
 
@@ -100,26 +100,26 @@ unfolding mendSiblings
 inners-due pos P j X Y free last kx ky hx hy = rw (kx, ky, lt-ltb 0 (length (children X)) hx, lt-ltb 0 (length (children Y)) hy)
 
 -- each change of two siblings, from the lists of the parent P: N are the children of its new copy
-module _ (pos : Position) (C : Context) (p : ℕ) (ea : pos .above ≡ link-place C) (ep : pos .parent ≡ p) (P : List ℕ) (j x y : ℕ) (ex : getD (children P) j 0 ≡ x) (ey : getD (children P) (suc j) 0 ≡ y) (K : Forest) where
+module _ (pos : Position) (C : Context) (p : ℕ) (ea : pos .above ≡ linkPlace C) (ep : pos .parent ≡ p) (P : List ℕ) (j x y : ℕ) (ex : getD (children P) j 0 ≡ x) (ey : getD (children P) (suc j) 0 ≡ y) (K : Forest) where
   share-is : (h : ℕ) → half (length (roots K)) ≡ h → (L : Forest) (key : ℕ) (R : Forest) → Parts h K L key R → (N : Forest) (a b c : ℕ)
       → take j (routingKeys P) ++ key ∷ drop (suc j) (routingKeys P) ≡ routing N → take j (children P) ++ a ∷ b ∷ drop (suc (suc j)) (children P) ≡ roots N
-      → share pos P j (inner-together K) a b c ≡ change-at C (new-siblings a L b R ++ new-node c 2 (routing N) (roots N) ∷ []) c (p ∷ x ∷ y ∷ [])
+      → share pos P j (innerTogether K) a b c ≡ rewriteAt C (newSiblings a L b R ++ newNode c 2 (routing N) (roots N) ∷ []) c (p ∷ x ∷ y ∷ [])
   unfolding share halves copied leftKeys keyBetween
   share-is h eh L key R q N a b c ek ec = rw (eh, left-routing h K L key R q (h - 1) refl, middle-key h K L key R q (h - 1) refl, left-roots h K L key R q, right-routing h K L key R q, right-roots h K L key R q, ek, ec, ea, ep, ex, ey)
 
   merge-is : (N : Forest) (a b : ℕ) → take j (routingKeys P) ++ drop (suc j) (routingKeys P) ≡ routing N → take j (children P) ++ a ∷ drop (suc (suc j)) (children P) ≡ roots N
-      → merge pos P j (inner-together K) a b ≡ change-at C (new-node a 2 (routing K) (roots K) ∷ new-node b 2 (routing N) (roots N) ∷ []) b (p ∷ x ∷ y ∷ [])
+      → merge pos P j (innerTogether K) a b ≡ rewriteAt C (newNode a 2 (routing K) (roots K) ∷ newNode b 2 (routing N) (roots N) ∷ []) b (p ∷ x ∷ y ∷ [])
   unfolding merge copied
   merge-is N a b ek ec = rw (ek, ec, ea, ep, ex, ey)
 
-  merge-root-is : (a : ℕ) → mergeRoot pos P j (inner-together K) a ≡ change-at C (new-node a 2 (routing K) (roots K) ∷ []) a (p ∷ x ∷ y ∷ [])
+  merge-root-is : (a : ℕ) → mergeRoot pos P j (innerTogether K) a ≡ rewriteAt C (newNode a 2 (routing K) (roots K) ∷ []) a (p ∷ x ∷ y ∷ [])
   unfolding mergeRoot
   merge-root-is a = rw (ea, ep, ex, ey)
 
 -- x and y are children of p side by side, of which the violation is one; their children together are K
 module _ (c : List ℕ) (n : ℕ) (pos : Position) (free : List Bool) (last : ℕ) (C : Context) (p : ℕ) (l : Left) (x : ℕ) (fx : Forest) (k y : ℕ) (fy : Forest) (r : Right)
-    (size : length c ≡ 8 + 24 * n) (w : Represents c (node p false (splice l (inner-pair x fx k y fy) r)))
-    (ea : pos .above ≡ link-place C) (ep : pos .parent ≡ p) (ei : pos .index - 1 ≡ length l) (en : (pos .node ≡ x) ⊎ (pos .node ≡ y)) where
+    (size : length c ≡ 8 + 24 * n) (w : Represents c (node p false (splice l (innerPair x fx k y fy) r)))
+    (ea : pos .above ≡ linkPlace C) (ep : pos .parent ≡ p) (ei : pos .index - 1 ≡ length l) (en : (pos .node ≡ x) ⊎ (pos .node ≡ y)) where
   two-kinds : (kindOf (nodeAt c x) ≡ 2) × (kindOf (nodeAt c y) ≡ 2)
   two-kinds = let s = two-represented c p l (node x false fx) k (node y false fy) r (length l) refl w in (read-kind c x 2 _ _ (s .0 .0), read-kind c y 2 _ _ (s .1 .0))
 
@@ -127,7 +127,7 @@ module _ (c : List ℕ) (n : ℕ) (pos : Position) (free : List Bool) (last : �
   violation-kind (inl e) = rw e (two-kinds .0)
   violation-kind (inr e) = rw e (two-kinds .1)
 
-  inner-siblings-due : 1 ≤ length (roots fx) → 1 ≤ length (roots fy) → mend c n pos free last ≡ mendTogether pos (nodeAt c p) (length l) (inner-together (join fx k fy)) free last
+  inner-siblings-due : 1 ≤ length (roots fx) → 1 ≤ length (roots fy) → mend c n pos free last ≡ mendTogether pos (nodeAt c p) (length l) (innerTogether (join fx k fy)) free last
   inner-siblings-due hx hy =
       let s = two-represented c p l (node x false fx) k (node y false fy) r (length l) refl w in
       let cx = node-children c x false fx (s .0) in
@@ -137,23 +137,23 @@ module _ (c : List ℕ) (n : ℕ) (pos : Position) (free : List Bool) (last : �
       ∙ ap (λ (both : Together). mendTogether pos (nodeAt c p) (length l) both free last)
       (together-is (nodeAt c x) (nodeAt c y) (getD (routingKeys (nodeAt c p)) (length l) 0) fx k fy cx cy (node-routing c x false fx (s .0)) (node-routing c y false fy (s .1)) (key-between c p l (node x false fx) k (node y false fy) r (length l) refl w))
 
-  module _ (v : OneViolation (splice l (inner-pair x fx k y fy) r)) (u : Underfull fx fy) where
+  module _ (v : OneViolation (splice l (innerPair x fx k y fy) r)) (u : Underfull fx fy) where
     abbrev both : Forest
     both = join fx k fy
 
-    abbrev one-child : ℕ → Forest
-    one-child a = splice l (one (node a false both)) r
+    abbrev oneChild : ℕ → Forest
+    oneChild a = splice l (one (node a false both)) r
 
-    abbrev two-children : ℕ → Forest → ℕ → ℕ → Forest → Forest
-    two-children a L key b R = splice l (inner-pair a L key b R) r
+    abbrev twoChildren : ℕ → Forest → ℕ → ℕ → Forest → Forest
+    twoChildren a L key b R = splice l (innerPair a L key b R) r
 
     sizes : (1 ≤ length (roots fx)) × (1 ≤ length (roots fy)) × (length (roots fx) + length (roots fy) ≤ 12)
-    sizes = let s = widths-splice l (inner-pair x fx k y fy) r (v .widths) .0 in (s .0 .0 .0, s .1 .0 .0, together-le (length (roots fx)) (length (roots fy)) u (s .0 .0 .1) (s .1 .0 .1))
+    sizes = let s = widths-splice l (innerPair x fx k y fy) r (v .widths) .0 in (s .0 .0 .0, s .1 .0 .0, together-le (length (roots fx)) (length (roots fy)) u (s .0 .0 .1) (s .1 .0 .1))
 
     both-size : length (roots both) ≡ length (roots fx) + length (roots fy)
     both-size = together x fx k y fy
 
-    due : mend c n pos free last ≡ mendTogether pos (nodeAt c p) (length l) (inner-together both) free last
+    due : mend c n pos free last ≡ mendTogether pos (nodeAt c p) (length l) (innerTogether both) free last
     due = inner-siblings-due (sizes .0) (sizes .1)
 
     x-read : getD (children (nodeAt c p)) (length l) 0 ≡ x
@@ -162,40 +162,40 @@ module _ (c : List ℕ) (n : ℕ) (pos : Position) (free : List Bool) (last : �
     y-read : getD (children (nodeAt c p)) (suc (length l)) 0 ≡ y
     y-read = second-child c p l (node x false fx) k (node y false fy) r (length l) refl w
 
-    count : length (children (nodeAt c p)) ≡ length (roots (splice l (inner-pair x fx k y fy) r))
-    count = ap length (node-children c p false (splice l (inner-pair x fx k y fy) r) w)
+    count : length (children (nodeAt c p)) ≡ length (roots (splice l (innerPair x fx k y fy) r))
+    count = ap length (node-children c p false (splice l (innerPair x fx k y fy) r) w)
 
     -- "Together 4 or more: shared out, the left one getting the larger half, under a new copy of the parent."
     pub share-plan : (m : ℕ) → m ≡ length (roots fx) + length (roots fy) → 4 ≤ m → (L : Forest) (key : ℕ) (R : Forest) → Parts (half m) both L key R
         → mend c n pos free last
-        ≡ giving 3 free last (λ ms. change-at C (new-siblings (first ms) L (second ms) R ++ new-node (third ms) 2 (routing (two-children (first ms) L key (second ms) R)) (roots (two-children (first ms) L key (second ms) R)) ∷ []) (third ms) (p ∷ x ∷ y ∷ []))
+        ≡ giving 3 free last (λ ms. rewriteAt C (newSiblings (first ms) L (second ms) R ++ newNode (third ms) 2 (routing (twoChildren (first ms) L key (second ms) R)) (roots (twoChildren (first ms) L key (second ms) R)) ∷ []) (third ms) (p ∷ x ∷ y ∷ []))
     share-plan m e h L key R q =
         let s = sizes in
         let j = both-size in
         due
-        ∙ share-due pos (nodeAt c p) (length l) (inner-together both) free last (omega arith) (omega arith)
+        ∙ share-due pos (nodeAt c p) (length l) (innerTogether both) free last (omega arith) (omega arith)
         ∙ giving-same 3 free last _ _
-        (λ ms. share-is pos C p ea ep (nodeAt c p) (length l) x y x-read y-read both (half m) (ap half (omega arith)) L key R q (two-children (first ms) L key (second ms) R) (first ms) (second ms) (third ms)
-        (routing-shared c p l (node x false fx) k (node y false fy) r (length l) refl w (inner-pair (first ms) L key (second ms) R) key refl)
-        (children-shared c p l (node x false fx) k (node y false fy) r (length l) refl w (inner-pair (first ms) L key (second ms) R) (first ms) (second ms) refl))
+        (λ ms. share-is pos C p ea ep (nodeAt c p) (length l) x y x-read y-read both (half m) (ap half (omega arith)) L key R q (twoChildren (first ms) L key (second ms) R) (first ms) (second ms) (third ms)
+        (routing-shared c p l (node x false fx) k (node y false fy) r (length l) refl w (innerPair (first ms) L key (second ms) R) key refl)
+        (children-shared c p l (node x false fx) k (node y false fy) r (length l) refl w (innerPair (first ms) L key (second ms) R) (first ms) (second ms) refl))
 
     -- "Together 3 or fewer: merged, the parent copied with one child less"
-    pub merge-plan : length (roots fx) + length (roots fy) ≤ 3 → Remains C (length (roots (splice l (inner-pair x fx k y fy) r)))
-        → mend c n pos free last ≡ giving 2 free last (λ ms. change-at C (new-node (first ms) 2 (routing both) (roots both) ∷ new-node (second ms) 2 (routing (one-child (first ms))) (roots (one-child (first ms))) ∷ []) (second ms) (p ∷ x ∷ y ∷ []))
+    pub merge-plan : length (roots fx) + length (roots fy) ≤ 3 → Remains C (length (roots (splice l (innerPair x fx k y fy) r)))
+        → mend c n pos free last ≡ giving 2 free last (λ ms. rewriteAt C (newNode (first ms) 2 (routing both) (roots both) ∷ newNode (second ms) 2 (routing (oneChild (first ms))) (roots (oneChild (first ms))) ∷ []) (second ms) (p ∷ x ∷ y ∷ []))
     merge-plan h o =
         let j = both-size in
         due
-        ∙ merge-due pos (nodeAt c p) (length l) (inner-together both) free last C (omega arith) ea (rw count o)
+        ∙ merge-due pos (nodeAt c p) (length l) (innerTogether both) free last C (omega arith) ea (rw count o)
         ∙ giving-same 2 free last _ _
-        (λ ms. merge-is pos C p ea ep (nodeAt c p) (length l) x y x-read y-read both (one-child (first ms)) (first ms) (second ms)
+        (λ ms. merge-is pos C p ea ep (nodeAt c p) (length l) x y x-read y-read both (oneChild (first ms)) (first ms) (second ms)
         (routing-merged c p l (node x false fx) k (node y false fy) r (length l) refl w (one (node (first ms) false both)) refl)
         (children-merged c p l (node x false fx) k (node y false fy) r (length l) refl w (one (node (first ms) false both)) (first ms) refl))
 
     -- "if that parent is the root with 2 children, the merged node becomes the root"
-    pub merge-root-plan : length (roots fx) + length (roots fy) ≤ 3 → C ≡ top → length (roots (splice l (inner-pair x fx k y fy) r)) ≡ 2
-        → mend c n pos free last ≡ giving 1 free last (λ ms. change-at C (new-node (first ms) 2 (routing both) (roots both) ∷ []) (first ms) (p ∷ x ∷ y ∷ []))
+    pub merge-root-plan : length (roots fx) + length (roots fy) ≤ 3 → C ≡ top → length (roots (splice l (innerPair x fx k y fy) r)) ≡ 2
+        → mend c n pos free last ≡ giving 1 free last (λ ms. rewriteAt C (newNode (first ms) 2 (routing both) (roots both) ∷ []) (first ms) (p ∷ x ∷ y ∷ []))
     merge-root-plan h t e =
         let j = both-size in
         due
-        ∙ merge-root-due pos (nodeAt c p) (length l) (inner-together both) free last (omega arith) (ea ∙ ap link-place t) (count ∙ e)
+        ∙ merge-root-due pos (nodeAt c p) (length l) (innerTogether both) free last (omega arith) (ea ∙ ap linkPlace t) (count ∙ e)
         ∙ giving-same 1 free last _ _ (λ ms. merge-root-is pos C p ea ep (nodeAt c p) (length l) x y x-read y-read both (first ms))

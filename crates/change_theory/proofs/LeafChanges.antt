@@ -10,8 +10,8 @@ use native.Mathlib.Omega.{arith}
 use lib.ListN.{length, take, drop, length-append, length-take, length-drop}
 use lib.Dec.{ltb}
 use borrow.Author.Tests.{lt-ltb, le-ltb}
-use Rattle.card.specs.Layout.{slot-pairs}
-use Rattle.card.specs.Stores.{NewNode, new-node}
+use Rattle.card.specs.Layout.{slotPairs}
+use Rattle.card.specs.Stores.{NewNode, newNode}
 use Rattle.card.proofs.NodeLaws.{slot-pairs-le}
 use Rattle.plans.specs.Change.{half}
 use Rattle.change_theory.proofs.Exchange.{Exchange, exchange-splice, Enough, enough, Remains, remains-enough, OneViolation, copied, half-size}
@@ -19,11 +19,11 @@ use Rattle.change_theory.proofs.LeafRows.{newLeaf, slot-keys, new-leaf-
 use Rattle.change_theory.proofs.Rewrite.{SameHeight, Rewrite}
 use Rattle.laws.proofs.Cases.{order}
 use Rattle.laws.specs.Cases.{pick}
-use Rattle.laws.specs.Sorting.{Pairs, sort, pair-keys, pair-values}
+use Rattle.laws.specs.Sorting.{Pairs, sort, pairKeys, pairValues}
 use Rattle.laws.proofs.Sorting.{total-sort, length-sort}
 use Rattle.laws.specs.Totals.{total}
 use Rattle.laws.proofs.Totals.{total-append, total-le}
-use Rattle.tree.specs.Pairs.{has-key, outside, LeafRange}
+use Rattle.tree.specs.Pairs.{hasKey, outside, LeafRange}
 use Rattle.tree.proofs.Pairs.{has-outside}
 use Rattle.tree.specs.Represent.{Represents}
 use Rattle.tree.proofs.Sorted.{outside-le, Rising, rising-sort}
@@ -32,29 +32,29 @@ use Rattle.tree.proofs.Splice.{represents-splice}
 use Rattle.tree.specs.Tree.{Forest, roots, routing, leaf, node, one, more}
 use Rattle.tree.proofs.Tree.{Left, Right, splice, Context, rightmost, top}
 use Rattle.tree.proofs.Violations.{few-le, few-none, few-zero, violations-splice, widths-splice, size-splice, violations-inside}
-use Rattle.tree.specs.Violations.{few, forest-violations}
+use Rattle.tree.specs.Violations.{few, forestViolations}
 
 -- two leaves side by side, and the pairs that they hold together, by rising key
 abbrev pub leaves : ℕ → List ℕ → List ℕ → ℕ → ℕ → List ℕ → List ℕ → Forest
 leaves x ks vs k y ks′ vs′ = more (leaf x ks vs) k (one (leaf y ks′ vs′))
 
 abbrev pub pairsTogether : List ℕ → List ℕ → List ℕ → List ℕ → Pairs
-pairsTogether ks vs ks′ vs′ = sort (slot-pairs ks vs ++ slot-pairs ks′ vs′)
+pairsTogether ks vs ks′ vs′ = sort (slotPairs ks vs ++ slotPairs ks′ vs′)
 
 -- the new nodes of the pairs, in one leaf and in two
 abbrev pub leafNode : ℕ → Pairs → NewNode
-leafNode m ps = new-node m 1 (pair-keys ps) (pair-values ps)
+leafNode m ps = newNode m 1 (pairKeys ps) (pairValues ps)
 
 abbrev pub leafNodes : ℕ → ℕ → ℕ → Pairs → List NewNode
 leafNodes a b n ps = leafNode a (take n ps) ∷ leafNode b (drop n ps) ∷ []
 
 -- and of an internal node over a forest
 abbrev pub innerNode : ℕ → Forest → NewNode
-innerNode m f = new-node m 2 (routing f) (roots f)
+innerNode m f = newNode m 2 (routing f) (roots f)
 
 -- "Underfull non-root node": one of the two leaves is
 abbrev pub UnderfullLeaf : List ℕ → List ℕ → List ℕ → List ℕ → Type 0
-UnderfullLeaf ks vs ks′ vs′ = 1 ≤ few (length (slot-pairs ks vs)) + few (length (slot-pairs ks′ vs′))
+UnderfullLeaf ks vs ks′ vs′ = 1 ≤ few (length (slotPairs ks vs)) + few (length (slotPairs ks′ vs′))
 
 -- a range may be wider
 outside-wider : (lo hi hi′ : ℕ) → hi ≤ hi′ → (p : ℕ × ℕ) → outside lo hi′ p ≤ outside lo hi p
@@ -72,22 +72,22 @@ range-append lo k hi ps qs h g u v =
     record {
       inside = omega (arith, total-append (outside lo hi) ps qs, total-le (outside lo hi) (outside lo k) (outside-wider lo k hi (omega arith)) ps, total-le (outside lo hi) (outside k hi) (outside-le lo k hi (omega arith)) qs, u .inside, v .inside);
       once = λ j. order j k
-          (λ o. omega (arith, total-append (has-key j) ps qs, u .once j, total-le (has-key j) (outside k hi) (has-outside k hi j (inl o)) qs, v .inside))
-          (λ o. omega (arith, total-append (has-key j) ps qs, v .once j, total-le (has-key j) (outside lo k) (has-outside lo k j (inr o)) ps, u .inside));
+          (λ o. omega (arith, total-append (hasKey j) ps qs, u .once j, total-le (hasKey j) (outside k hi) (has-outside k hi j (inl o)) qs, v .inside))
+          (λ o. omega (arith, total-append (hasKey j) ps qs, v .once j, total-le (hasKey j) (outside lo k) (has-outside lo k j (inr o)) ps, u .inside));
     }
 
 module _ (ks vs ks′ vs′ : List ℕ) where
-  pub together-total : (w : ℕ × ℕ → ℕ) → total w (pairsTogether ks vs ks′ vs′) ≡ total w (slot-pairs ks vs ++ slot-pairs ks′ vs′)
-  together-total w = total-sort w (slot-pairs ks vs ++ slot-pairs ks′ vs′)
+  pub together-total : (w : ℕ × ℕ → ℕ) → total w (pairsTogether ks vs ks′ vs′) ≡ total w (slotPairs ks vs ++ slotPairs ks′ vs′)
+  together-total w = total-sort w (slotPairs ks vs ++ slotPairs ks′ vs′)
 
-  pub together-length : length (pairsTogether ks vs ks′ vs′) ≡ length (slot-pairs ks vs) + length (slot-pairs ks′ vs′)
-  together-length = length-sort (slot-pairs ks vs ++ slot-pairs ks′ vs′) ∙ length-append (slot-pairs ks vs) (slot-pairs ks′ vs′)
+  pub together-length : length (pairsTogether ks vs ks′ vs′) ≡ length (slotPairs ks vs) + length (slotPairs ks′ vs′)
+  together-length = length-sort (slotPairs ks vs ++ slotPairs ks′ vs′) ∙ length-append (slotPairs ks vs) (slotPairs ks′ vs′)
 
-  pub together-nonzero : total (has-key 0) (pairsTogether ks vs ks′ vs′) ≡ 0
-  together-nonzero = omega (arith, together-total (has-key 0), total-append (has-key 0) (slot-pairs ks vs) (slot-pairs ks′ vs′), slot-keys ks vs, slot-keys ks′ vs′)
+  pub together-nonzero : total (hasKey 0) (pairsTogether ks vs ks′ vs′) ≡ 0
+  together-nonzero = omega (arith, together-total (hasKey 0), total-append (hasKey 0) (slotPairs ks vs) (slotPairs ks′ vs′), slot-keys ks vs, slot-keys ks′ vs′)
 
-  pub together-rising : (lo k hi : ℕ) → lo < k → k < hi → LeafRange lo k (slot-pairs ks vs) → LeafRange k hi (slot-pairs ks′ vs′) → Rising lo hi (pairsTogether ks vs ks′ vs′)
-  together-rising lo k hi h g u v = rising-sort lo hi (slot-pairs ks vs ++ slot-pairs ks′ vs′) (omega arith) (range-append lo k hi (slot-pairs ks vs) (slot-pairs ks′ vs′) h g u v)
+  pub together-rising : (lo k hi : ℕ) → lo < k → k < hi → LeafRange lo k (slotPairs ks vs) → LeafRange k hi (slotPairs ks′ vs′) → Rising lo hi (pairsTogether ks vs ks′ vs′)
+  together-rising lo k hi h g u v = rising-sort lo hi (slotPairs ks vs ++ slotPairs ks′ vs′) (omega arith) (range-append lo k hi (slotPairs ks vs) (slotPairs ks′ vs′) h g u v)
 
 module _ (x : ℕ) (ks vs : List ℕ) (k y : ℕ) (ks′ vs′ : List ℕ) where
   -- shared out: the first n pairs go left
@@ -131,10 +131,10 @@ module _ (x : ℕ) (ks vs : List ℕ) (k y : ℕ) (ks′ vs′ : List ℕ) where
 
 module _ (l : Left) (x : ℕ) (ks vs : List ℕ) (k y : ℕ) (ks′ vs′ : List ℕ) (r : Right) (one-violation : OneViolation (splice l (leaves x ks vs k y ks′ vs′) r)) (underfull : UnderfullLeaf ks vs ks′ vs′) where
   -- the one violation is that of the two
-  leaves-single : few (length (slot-pairs ks vs)) + few (length (slot-pairs ks′ vs′)) ≡ 1
+  leaves-single : few (length (slotPairs ks vs)) + few (length (slotPairs ks′ vs′)) ≡ 1
   leaves-single = omega (arith, violations-inside l (leaves x ks vs k y ks′ vs′) r, one-violation .single)
 
-  leaves-widths : (1 ≤ length (slot-pairs ks vs)) × (1 ≤ length (slot-pairs ks′ vs′))
+  leaves-widths : (1 ≤ length (slotPairs ks vs)) × (1 ≤ length (slotPairs ks′ vs′))
   leaves-widths = widths-splice l (leaves x ks vs k y ks′ vs′) r (one-violation .widths) .0
 
   -- so one has a single pair, the other two or more
@@ -143,24 +143,24 @@ module _ (l : Left) (x : ℕ) (ks vs : List ℕ) (k y : ℕ) (ks′ vs′ : List
       let w = leaves-widths in
       let s = leaves-single in
       let n = together-length ks vs ks′ vs′ in
-      order 0 (few (length (slot-pairs ks vs))) (λ o. omega (arith, few-zero (length (slot-pairs ks′ vs′)) (omega arith), w .0)) (λ o. omega (arith, few-zero (length (slot-pairs ks vs)) (omega arith), w .1))
+      order 0 (few (length (slotPairs ks vs))) (λ o. omega (arith, few-zero (length (slotPairs ks′ vs′)) (omega arith), w .0)) (λ o. omega (arith, few-zero (length (slotPairs ks vs)) (omega arith), w .1))
 
   -- and a leaf of eleven slots at most eleven
   pub leaves-most : (c : List ℕ) (p : ℕ) → Represents c (node p false (splice l (leaves x ks vs k y ks′ vs′) r)) → length (pairsTogether ks vs ks′ vs′) ≤ 12
   leaves-most c p q =
       let u = represents-splice c l (leaves x ks vs k y ks′ vs′) r (q .1) .0 in
       let n = together-length ks vs ks′ vs′ in
-      let h : length (slot-pairs ks vs) ≤ 11 = omega (arith, slot-pairs-le ks vs, u .0 .1) in
-      let h′ : length (slot-pairs ks′ vs′) ≤ 11 = omega (arith, slot-pairs-le ks′ vs′, u .1 .1) in
-      order (length (slot-pairs ks vs)) 2 (λ o. omega arith)
-      (λ o. order (length (slot-pairs ks′ vs′)) 2 (λ o′. omega arith) (λ o′. omega (arith, leaves-single, few-none (length (slot-pairs ks vs)) o, few-none (length (slot-pairs ks′ vs′)) o′)))
+      let h : length (slotPairs ks vs) ≤ 11 = omega (arith, slot-pairs-le ks vs, u .0 .1) in
+      let h′ : length (slotPairs ks′ vs′) ≤ 11 = omega (arith, slot-pairs-le ks′ vs′, u .1 .1) in
+      order (length (slotPairs ks vs)) 2 (λ o. omega arith)
+      (λ o. order (length (slotPairs ks′ vs′)) 2 (λ o′. omega arith) (λ o′. omega (arith, leaves-single, few-none (length (slotPairs ks vs)) o, few-none (length (slotPairs ks′ vs′)) o′)))
 
   -- leaves without violation in their place leave the parent's children none
-  leaves-settled : (g : Forest) → forest-violations g ≡ 0 → forest-violations (splice l g r) ≡ 0
+  leaves-settled : (g : Forest) → forestViolations g ≡ 0 → forestViolations (splice l g r) ≡ 0
   leaves-settled g z = omega (arith, violations-splice l (leaves x ks vs k y ks′ vs′) g r, one-violation .single, leaves-single)
 
   -- other leaves in their place, under a new copy of the parent
-  leaves-copied : (C : Context) (p c : ℕ) (g : Forest) (new : List NewNode) → Exchange (leaves x ks vs k y ks′ vs′) g new (x ∷ y ∷ []) → forest-violations g ≡ 0 → 1 ≤ length (roots g) → length (roots g) ≤ 2 → Enough C (length (roots (splice l g r)))
+  leaves-copied : (C : Context) (p c : ℕ) (g : Forest) (new : List NewNode) → Exchange (leaves x ks vs k y ks′ vs′) g new (x ∷ y ∷ []) → forestViolations g ≡ 0 → 1 ≤ length (roots g) → length (roots g) ≤ 2 → Enough C (length (roots (splice l g r)))
       → Rewrite C (node p false (splice l (leaves x ks vs k y ks′ vs′) r)) (node c false (splice l g r)) (new ++ innerNode c (splice l g r) ∷ []) (p ∷ x ∷ y ∷ [])
   leaves-copied C p c g new E z h h′ e =
       let s = size-splice l (leaves x ks vs k y ks′ vs′) g r in

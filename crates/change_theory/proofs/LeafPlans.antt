@@ -8,8 +8,8 @@ use Prim.Native.Nat.{ℕ, suc, _+_, _-_, _*_, _≤_}
 use native.Mathlib.Omega.{arith}
 use lib.ListN.{length, getD, take, drop}
 use borrow.Author.Tests.{eq-eqb}
-use Rattle.card.specs.Layout.{nodeAt, kindOf, children, routingKeys, slot-pairs, leafPairs}
-use Rattle.card.specs.Stores.{new-node}
+use Rattle.card.specs.Layout.{nodeAt, kindOf, children, routingKeys, slotPairs, leafPairs}
+use Rattle.card.specs.Stores.{newNode}
 use Rattle.plans.specs.Change.{Together, leavesTogether, half, leftKeys, keyBetween, share, merge, mergeRoot, halves, copied}
 use Rattle.plans.specs.Planning.{giving, first, second, third}
 use Rattle.change.specs.Mending.{mend}
@@ -17,26 +17,26 @@ use Rattle.siblings.specs.Siblings.{mendTogether, mendSiblings}
 use Rattle.change_theory.proofs.Exchange.{Remains}
 use Rattle.change_theory.proofs.LeafChanges.{leaves, pairsTogether, leafNode, innerNode}
 use Rattle.change_theory.proofs.LeafRows.{newLeaf, length-pair-values, keys-take, values-take, keys-drop, values-drop, key-at-row, twoLeaves}
-use Rattle.change_theory.proofs.Mending.{change-at, giving-same, mend-siblings, share-due, merge-root-due, merge-due}
+use Rattle.change_theory.proofs.Mending.{rewriteAt, giving-same, mend-siblings, share-due, merge-root-due, merge-due}
 use Rattle.change_theory.proofs.Siblings.{first-child, second-child, two-represented, children-shared, routing-shared, children-merged, routing-merged}
-use Rattle.laws.specs.Sorting.{Pairs, sort, pair-keys, pair-values, key-at}
+use Rattle.laws.specs.Sorting.{Pairs, sort, pairKeys, pairValues, keyAt}
 use Rattle.tree.proofs.Reading.{read-kind, leaf-pairs, node-children}
 use Rattle.tree.specs.Represent.{Represents}
-use Rattle.tree.proofs.Represent.{link-place}
+use Rattle.tree.proofs.Represent.{linkPlace}
 use Rattle.tree.specs.Tree.{roots, leaf, node, one}
 use Rattle.tree.proofs.Tree.{Left, Right, splice, Context, rightmost, top}
 use Rattle.descent.specs.declared.Position.{Position}
 
 -- The violation is at this position, one of the children x and y, which stand side by side below p in the context C.
 pub record AtSiblings (q : Position) (C : Context) (p : ℕ) (l : Left) (x y : ℕ) : Type 0 where
-  pub above : q .above ≡ link-place C
+  pub above : q .above ≡ linkPlace C
   pub parent : q .parent ≡ p
   pub index : q .index - 1 ≡ length l
   pub member : (q .node ≡ x) ⊎ (q .node ≡ y)
 
 -- two leaves together, as the rows of their sorted pairs
 abbrev pub rowsOf : Pairs → Together
-rowsOf ps = record { kind = 1; keys = pair-keys ps; values = pair-values ps }
+rowsOf ps = record { kind = 1; keys = pairKeys ps; values = pairValues ps }
 
 leaves-together : (x y : List ℕ) (ps qs : Pairs) → leafPairs x ≡ ps → leafPairs y ≡ qs → leavesTogether x y ≡ rowsOf (sort (ps ++ qs))
 unfolding leavesTogether
@@ -47,18 +47,18 @@ unfolding mendSiblings
 leaves-mended q parent j x y free last e f = rw (eq-eqb (kindOf x) 1 e, eq-eqb (kindOf y) 1 f)
 
 -- the changes at these rows; keys, kids and the numbers x and y are read off the parent
-module _ (q : Position) (parent : List ℕ) (j : ℕ) (ps : Pairs) (C : Context) (p x y : ℕ) (el : q .above ≡ link-place C) (ep : q .parent ≡ p) (ex : getD (children parent) j 0 ≡ x) (ey : getD (children parent) (suc j) 0 ≡ y) where
-  share-leaves : (a b c : ℕ) (keys kids : List ℕ) → take j (routingKeys parent) ++ key-at (half (length ps)) ps ∷ drop (suc j) (routingKeys parent) ≡ keys → take j (children parent) ++ a ∷ b ∷ drop (suc (suc j)) (children parent) ≡ kids
-      → share q parent j (rowsOf ps) a b c ≡ change-at C (leafNode a (take (half (length ps)) ps) ∷ leafNode b (drop (half (length ps)) ps) ∷ new-node c 2 keys kids ∷ []) c (p ∷ x ∷ y ∷ [])
+module _ (q : Position) (parent : List ℕ) (j : ℕ) (ps : Pairs) (C : Context) (p x y : ℕ) (el : q .above ≡ linkPlace C) (ep : q .parent ≡ p) (ex : getD (children parent) j 0 ≡ x) (ey : getD (children parent) (suc j) 0 ≡ y) where
+  share-leaves : (a b c : ℕ) (keys kids : List ℕ) → take j (routingKeys parent) ++ keyAt (half (length ps)) ps ∷ drop (suc j) (routingKeys parent) ≡ keys → take j (children parent) ++ a ∷ b ∷ drop (suc (suc j)) (children parent) ≡ kids
+      → share q parent j (rowsOf ps) a b c ≡ rewriteAt C (leafNode a (take (half (length ps)) ps) ∷ leafNode b (drop (half (length ps)) ps) ∷ newNode c 2 keys kids ∷ []) c (p ∷ x ∷ y ∷ [])
   unfolding share halves copied leftKeys keyBetween
   share-leaves a b c keys kids e f = rw (length-pair-values ps, keys-take, values-take, keys-drop, values-drop, key-at-row, e, f, ex, ey, el, ep)
 
   merge-leaves : (a b : ℕ) (keys kids : List ℕ) → take j (routingKeys parent) ++ drop (suc j) (routingKeys parent) ≡ keys → take j (children parent) ++ a ∷ drop (suc (suc j)) (children parent) ≡ kids
-      → merge q parent j (rowsOf ps) a b ≡ change-at C (leafNode a ps ∷ new-node b 2 keys kids ∷ []) b (p ∷ x ∷ y ∷ [])
+      → merge q parent j (rowsOf ps) a b ≡ rewriteAt C (leafNode a ps ∷ newNode b 2 keys kids ∷ []) b (p ∷ x ∷ y ∷ [])
   unfolding merge copied
   merge-leaves a b keys kids e f = rw (e, f, ex, ey, el, ep)
 
-  mergeRoot-leaves : (a : ℕ) → mergeRoot q parent j (rowsOf ps) a ≡ change-at C (leafNode a ps ∷ []) a (p ∷ x ∷ y ∷ [])
+  mergeRoot-leaves : (a : ℕ) → mergeRoot q parent j (rowsOf ps) a ≡ rewriteAt C (leafNode a ps ∷ []) a (p ∷ x ∷ y ∷ [])
   unfolding mergeRoot
   mergeRoot-leaves a = rw (ex, ey, el, ep)
 
@@ -84,20 +84,20 @@ module _ (c : List ℕ) (n : ℕ) (long : length c ≡ 8 + 24 * n) (C : Context)
   leaves-due =
       mend-siblings c n q free last p l (leaf x ks vs) k (leaf y ks′ vs′) r 1 long w (at .parent) (at .index) (violation-kind (at .member)) (omega arith)
       ∙ leaves-mended q (nodeAt c p) (length l) (nodeAt c x) (nodeAt c y) free last (read-kind c x 1 ks vs (first-leaf .0)) (read-kind c y 1 ks′ vs′ (second-leaf .0))
-      ∙ ap (λ (b : Together). mendTogether q (nodeAt c p) (length l) b free last) (leaves-together (nodeAt c x) (nodeAt c y) (slot-pairs ks vs) (slot-pairs ks′ vs′) (leaf-pairs c x ks vs first-leaf) (leaf-pairs c y ks′ vs′ second-leaf))
+      ∙ ap (λ (b : Together). mendTogether q (nodeAt c p) (length l) b free last) (leaves-together (nodeAt c x) (nodeAt c y) (slotPairs ks vs) (slotPairs ks′ vs′) (leaf-pairs c x ks vs first-leaf) (leaf-pairs c y ks′ vs′ second-leaf))
 
   leaf-share-due : (a b d : ℕ) → share q (nodeAt c p) (length l) (rowsOf (pairsTogether ks vs ks′ vs′)) a b d
-      ≡ change-at C (leafNode a (take (half (length (pairsTogether ks vs ks′ vs′))) (pairsTogether ks vs ks′ vs′))
+      ≡ rewriteAt C (leafNode a (take (half (length (pairsTogether ks vs ks′ vs′))) (pairsTogether ks vs ks′ vs′))
       ∷ leafNode b (drop (half (length (pairsTogether ks vs ks′ vs′))) (pairsTogether ks vs ks′ vs′))
       ∷ innerNode d (splice l (twoLeaves a b (half (length (pairsTogether ks vs ks′ vs′))) (pairsTogether ks vs ks′ vs′)) r)
       ∷ []) d (p ∷ x ∷ y ∷ [])
   leaf-share-due a b d =
       let ps = pairsTogether ks vs ks′ vs′ in
       share-leaves q (nodeAt c p) (length l) ps C p x y (at .above) (at .parent) first-number second-number a b d _ _
-      (routing-shared c p l (leaf x ks vs) k (leaf y ks′ vs′) r (length l) refl w (twoLeaves a b (half (length ps)) ps) (key-at (half (length ps)) ps) refl)
+      (routing-shared c p l (leaf x ks vs) k (leaf y ks′ vs′) r (length l) refl w (twoLeaves a b (half (length ps)) ps) (keyAt (half (length ps)) ps) refl)
       (children-shared c p l (leaf x ks vs) k (leaf y ks′ vs′) r (length l) refl w (twoLeaves a b (half (length ps)) ps) a b refl)
 
-  leaf-merge-due : (a b : ℕ) → merge q (nodeAt c p) (length l) (rowsOf (pairsTogether ks vs ks′ vs′)) a b ≡ change-at C (leafNode a (pairsTogether ks vs ks′ vs′) ∷ innerNode b (splice l (one (newLeaf a (pairsTogether ks vs ks′ vs′))) r) ∷ []) b (p ∷ x ∷ y ∷ [])
+  leaf-merge-due : (a b : ℕ) → merge q (nodeAt c p) (length l) (rowsOf (pairsTogether ks vs ks′ vs′)) a b ≡ rewriteAt C (leafNode a (pairsTogether ks vs ks′ vs′) ∷ innerNode b (splice l (one (newLeaf a (pairsTogether ks vs ks′ vs′))) r) ∷ []) b (p ∷ x ∷ y ∷ [])
   leaf-merge-due a b =
       let ps = pairsTogether ks vs ks′ vs′ in
       merge-leaves q (nodeAt c p) (length l) ps C p x y (at .above) (at .parent) first-number second-number a b _ _
@@ -109,7 +109,7 @@ module _ (c : List ℕ) (n : ℕ) (long : length c ≡ 8 + 24 * n) (C : Context)
 
   -- "Together 4 or more: shared out"
   pub leaf-share-plan : 4 ≤ length (pairsTogether ks vs ks′ vs′) → length (pairsTogether ks vs ks′ vs′) ≤ 12
-      → mend c n q free last ≡ giving 3 free last (λ ms. change-at C
+      → mend c n q free last ≡ giving 3 free last (λ ms. rewriteAt C
       (leafNode (first ms) (take (half (length (pairsTogether ks vs ks′ vs′))) (pairsTogether ks vs ks′ vs′))
       ∷ leafNode (second ms) (drop (half (length (pairsTogether ks vs ks′ vs′))) (pairsTogether ks vs ks′ vs′))
       ∷ innerNode (third ms) (splice l (twoLeaves (first ms) (second ms) (half (length (pairsTogether ks vs ks′ vs′))) (pairsTogether ks vs ks′ vs′)) r)
@@ -122,7 +122,7 @@ module _ (c : List ℕ) (n : ℕ) (long : length c ≡ 8 + 24 * n) (C : Context)
 
   -- "Together 3 or fewer: merged, the parent copied with one child less"
   pub leaf-merge-plan : length (pairsTogether ks vs ks′ vs′) ≤ 3 → Remains C (length (roots (splice l (leaves x ks vs k y ks′ vs′) r)))
-      → mend c n q free last ≡ giving 2 free last (λ ms. change-at C
+      → mend c n q free last ≡ giving 2 free last (λ ms. rewriteAt C
       (leafNode (first ms) (pairsTogether ks vs ks′ vs′) ∷ innerNode (second ms) (splice l (one (newLeaf (first ms) (pairsTogether ks vs ks′ vs′))) r) ∷ []) (second ms) (p ∷ x ∷ y ∷ []))
   leaf-merge-plan h g =
       let e = length-pair-values (pairsTogether ks vs ks′ vs′) in
@@ -132,7 +132,7 @@ module _ (c : List ℕ) (n : ℕ) (long : length c ≡ 8 + 24 * n) (C : Context)
 
 -- "if that parent is the root with 2 children, the merged node becomes the root"
 pub leaf-merge-root-plan : (c : List ℕ) (n : ℕ) → length c ≡ 8 + 24 * n → (p x : ℕ) (ks vs : List ℕ) (k y : ℕ) (ks′ vs′ : List ℕ) → Represents c (node p false (leaves x ks vs k y ks′ vs′)) → (q : Position) → AtSiblings q top p [] x y → (free : List Bool) (last : ℕ) → length (pairsTogether ks vs ks′ vs′) ≤ 3
-    → mend c n q free last ≡ giving 1 free last (λ ms. change-at top (leafNode (first ms) (pairsTogether ks vs ks′ vs′) ∷ []) (first ms) (p ∷ x ∷ y ∷ []))
+    → mend c n q free last ≡ giving 1 free last (λ ms. rewriteAt top (leafNode (first ms) (pairsTogether ks vs ks′ vs′) ∷ []) (first ms) (p ∷ x ∷ y ∷ []))
 leaf-merge-root-plan c n long p x ks vs k y ks′ vs′ w q at free last h =
     let ps = pairsTogether ks vs ks′ vs′ in
     let e = length-pair-values ps in

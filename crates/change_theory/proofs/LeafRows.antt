@@ -4,30 +4,30 @@ use mathlib.Core.List.{List, [], _∷_, _++_}
 use Prim.Native.Nat.{ℕ, zero, suc, _+_, _-_, _≤_, _<_}
 use native.Mathlib.Omega.{arith}
 use lib.ListN.{length, getD, take, drop, replicate, length-take, length-drop, length-map, take-append-drop, List·getD-map}
-use Rattle.card.specs.Layout.{slot-pairs}
+use Rattle.card.specs.Layout.{slotPairs}
 use Rattle.card.specs.NodeWords.{NodeWords}
-use Rattle.card.specs.Stores.{new-node}
+use Rattle.card.specs.Stores.{newNode}
 use Rattle.card.proofs.Stores.{HasWords}
 use Rattle.laws.specs.Lists.{pad}
 use Rattle.laws.proofs.Lists.{length-pad, getD-pad}
-use Rattle.laws.specs.Sorting.{Pairs, pair-keys, pair-values, key-at}
+use Rattle.laws.specs.Sorting.{Pairs, pairKeys, pairValues, keyAt}
 use Rattle.laws.proofs.Totals.{indicator-other, indicator-zero, total-append}
 use Rattle.laws.specs.Totals.{total}
 use Rattle.laws.proofs.Sorting.{map-take, map-drop}
-use Rattle.tree.specs.Pairs.{pairs, forest-pairs, has-key}
+use Rattle.tree.specs.Pairs.{pairs, forestPairs, hasKey}
 use Rattle.tree.proofs.Pairs.{InRange, AllInRange}
 use Rattle.tree.specs.Represent.{Represents}
 use Rattle.tree.proofs.Sorted.{Rising, rising-cut, rising-le, rising-leaf, slot-pairs-zeros, slot-pairs-cons}
 use Rattle.tree.specs.Tree.{Tree, Forest, leaf, one, more}
-use Rattle.tree.specs.Violations.{few, violations, forest-violations, AllWidths}
+use Rattle.tree.specs.Violations.{few, violations, forestViolations, AllWidths}
 use Rattle.tree.proofs.Violations.{few-none}
 
 -- a leaf whose slots are the pairs, the rest of both rows being 0
 abbrev pub newLeaf : ℕ → Pairs → Tree
-newLeaf m ps = leaf m (pad 11 (pair-keys ps)) (pad 11 (pair-values ps))
+newLeaf m ps = leaf m (pad 11 (pairKeys ps)) (pad 11 (pairValues ps))
 
 -- "A key word of 0 is an empty slot": no pair that is read from slots has the key 0
-pub slot-keys : (ks vs : List ℕ) → total (has-key 0) (slot-pairs ks vs) ≡ 0
+pub slot-keys : (ks vs : List ℕ) → total (hasKey 0) (slotPairs ks vs) ≡ 0
 slot-keys [] vs = refl
 slot-keys (k ∷ ks) [] = refl
 slot-keys (zero ∷ ks) (v ∷ vs) = slot-keys ks vs
@@ -35,7 +35,7 @@ slot-keys (suc k ∷ ks) (v ∷ vs) = omega (arith, indicator-other 0 (suc k) (o
 
 -- as many pairs as slots at most
 -- pairs without the key 0, put into slots and read again
-slots-read : (n m : ℕ) (ps : Pairs) → total (has-key 0) ps ≡ 0 → slot-pairs (pair-keys ps ++ replicate n 0) (pair-values ps ++ replicate m 0) ≡ ps
+slots-read : (n m : ℕ) (ps : Pairs) → total (hasKey 0) ps ≡ 0 → slotPairs (pairKeys ps ++ replicate n 0) (pairValues ps ++ replicate m 0) ≡ ps
 slots-read n m [] z = slot-pairs-zeros n m (replicate m 0)
 slots-read n m (p ∷ ps) z =
     let d = indicator-zero 0 (p .0) (omega arith) in
@@ -43,15 +43,15 @@ slots-read n m (p ∷ ps) z =
     rw (slot-pairs-cons (p .0) (p .1), slots-read n m ps (omega arith))
 
 -- the pairs of a new leaf; pairs that rise from a positive bound on have no key 0 (rising-below)
-pub new-leaf-pairs : (m : ℕ) (ps : Pairs) → total (has-key 0) ps ≡ 0 → pairs (newLeaf m ps) ≡ ps
-new-leaf-pairs m ps z = slots-read (11 - length (pair-keys ps)) (11 - length (pair-values ps)) ps z
+pub new-leaf-pairs : (m : ℕ) (ps : Pairs) → total (hasKey 0) ps ≡ 0 → pairs (newLeaf m ps) ≡ ps
+new-leaf-pairs m ps z = slots-read (11 - length (pairKeys ps)) (11 - length (pairValues ps)) ps z
 
 -- the range of a new leaf
-pub new-leaf-range : (m lo hi : ℕ) (ps : Pairs) → total (has-key 0) ps ≡ 0 → Rising lo hi ps → InRange lo hi (newLeaf m ps)
+pub new-leaf-range : (m lo hi : ℕ) (ps : Pairs) → total (hasKey 0) ps ≡ 0 → Rising lo hi ps → InRange lo hi (newLeaf m ps)
 new-leaf-range m lo hi ps z u = rw (new-leaf-pairs m ps z) (rising-leaf lo hi ps u)
 
 -- two pairs or more: no violation
-pub new-leaf-settled : (m : ℕ) (ps : Pairs) → total (has-key 0) ps ≡ 0 → 2 ≤ length ps → violations (newLeaf m ps) ≡ 0
+pub new-leaf-settled : (m : ℕ) (ps : Pairs) → total (hasKey 0) ps ≡ 0 → 2 ≤ length ps → violations (newLeaf m ps) ≡ 0
 new-leaf-settled m ps z h = ap few (ap length (new-leaf-pairs m ps z)) ∙ few-none (length ps) h
 
 -- rows are read with 0 past their end, so a node's words are those of its padded rows too
@@ -65,15 +65,15 @@ node-words-pad {c} {m} {k} {a} {b} w =
       last = w .last;
     }
 
-pub length-pair-keys : (ps : Pairs) → length (pair-keys ps) ≡ length ps
+pub length-pair-keys : (ps : Pairs) → length (pairKeys ps) ≡ length ps
 length-pair-keys ps = length-map ps (λ (p : ℕ × ℕ). p .0)
 
-pub length-pair-values : (ps : Pairs) → length (pair-values ps) ≡ length ps
+pub length-pair-values : (ps : Pairs) → length (pairValues ps) ≡ length ps
 length-pair-values ps = length-map ps (λ (p : ℕ × ℕ). p .1)
 
 -- the new node of the pairs, once written, is the new leaf
-pub new-leaf-represented : (c : List ℕ) (m : ℕ) (ps : Pairs) → length ps ≤ 11 → HasWords c (new-node m 1 (pair-keys ps) (pair-values ps)) → Represents c (newLeaf m ps)
-new-leaf-represented c m ps h w = (node-words-pad w, length-pad 11 (pair-keys ps) (omega (arith, length-pair-keys ps)), length-pad 11 (pair-values ps) (omega (arith, length-pair-values ps)))
+pub new-leaf-represented : (c : List ℕ) (m : ℕ) (ps : Pairs) → length ps ≤ 11 → HasWords c (newNode m 1 (pairKeys ps) (pairValues ps)) → Represents c (newLeaf m ps)
+new-leaf-represented c m ps h w = (node-words-pad w, length-pad 11 (pairKeys ps) (omega (arith, length-pair-keys ps)), length-pad 11 (pairValues ps) (omega (arith, length-pair-values ps)))
 
 -- totals over a list of pairs cut after the n-th
 total-cut : (w : ℕ × ℕ → ℕ) (n : ℕ) (ps : Pairs) → total w (take n ps) + total w (drop n ps) ≡ total w ps
@@ -82,19 +82,19 @@ total-cut w n ps = sym (total-append w (take n ps) (drop n ps)) ∙ ap (total w)
 -- a part of a mapped list
 -- so the rows of the parts are the parts of the rows
 module _ (n : ℕ) (ps : Pairs) where
-  pub keys-take : take n (pair-keys ps) ≡ pair-keys (take n ps)
+  pub keys-take : take n (pairKeys ps) ≡ pairKeys (take n ps)
   keys-take = map-take (λ p. p .0) n ps
 
-  pub values-take : take n (pair-values ps) ≡ pair-values (take n ps)
+  pub values-take : take n (pairValues ps) ≡ pairValues (take n ps)
   values-take = map-take (λ p. p .1) n ps
 
-  pub keys-drop : drop n (pair-keys ps) ≡ pair-keys (drop n ps)
+  pub keys-drop : drop n (pairKeys ps) ≡ pairKeys (drop n ps)
   keys-drop = map-drop (λ p. p .0) n ps
 
-  pub values-drop : drop n (pair-values ps) ≡ pair-values (drop n ps)
+  pub values-drop : drop n (pairValues ps) ≡ pairValues (drop n ps)
   values-drop = map-drop (λ p. p .1) n ps
 
-  pub key-at-row : getD (pair-keys ps) n 0 ≡ key-at n ps
+  pub key-at-row : getD (pairKeys ps) n 0 ≡ keyAt n ps
   key-at-row = List·getD-map (λ (p : ℕ × ℕ). p .0) ps n (0, 0)
 
 -- a range with a key in it is not empty
@@ -104,14 +104,14 @@ rising-strict lo hi (p ∷ ps) h u = omega (arith, u .0, rising-le (suc (p .0)) 
 
 -- sorted pairs in two new leaves side by side, cut at n: "Between shared leaves the routing key is the right one's smallest."
 abbrev pub twoLeaves : ℕ → ℕ → ℕ → Pairs → Forest
-twoLeaves a b n ps = more (newLeaf a (take n ps)) (key-at n ps) (one (newLeaf b (drop n ps)))
+twoLeaves a b n ps = more (newLeaf a (take n ps)) (keyAt n ps) (one (newLeaf b (drop n ps)))
 
-module _ (a b n : ℕ) (ps : Pairs) (z : total (has-key 0) ps ≡ 0) where
-  left-nonzero : total (has-key 0) (take n ps) ≡ 0
-  left-nonzero = omega (arith, total-cut (has-key 0) n ps)
+module _ (a b n : ℕ) (ps : Pairs) (z : total (hasKey 0) ps ≡ 0) where
+  left-nonzero : total (hasKey 0) (take n ps) ≡ 0
+  left-nonzero = omega (arith, total-cut (hasKey 0) n ps)
 
-  right-nonzero : total (has-key 0) (drop n ps) ≡ 0
-  right-nonzero = omega (arith, total-cut (has-key 0) n ps)
+  right-nonzero : total (hasKey 0) (drop n ps) ≡ 0
+  right-nonzero = omega (arith, total-cut (hasKey 0) n ps)
 
   left-pairs : pairs (newLeaf a (take n ps)) ≡ take n ps
   left-pairs = new-leaf-pairs a (take n ps) left-nonzero
@@ -119,20 +119,20 @@ module _ (a b n : ℕ) (ps : Pairs) (z : total (has-key 0) ps ≡ 0) where
   right-pairs : pairs (newLeaf b (drop n ps)) ≡ drop n ps
   right-pairs = new-leaf-pairs b (drop n ps) right-nonzero
 
-  pub two-leaves-pairs : forest-pairs (twoLeaves a b n ps) ≡ ps
+  pub two-leaves-pairs : forestPairs (twoLeaves a b n ps) ≡ ps
   two-leaves-pairs = ap₂ (λ (s t : Pairs). s ++ t) left-pairs right-pairs ∙ take-append-drop n ps
 
   pub two-leaves-range : (lo hi : ℕ) → 0 < n → n < length ps → Rising lo hi ps → AllInRange lo hi (twoLeaves a b n ps)
   two-leaves-range lo hi h h′ u =
       let c = rising-cut lo hi n ps u h′ in (
-        new-leaf-range a lo (key-at n ps) (take n ps) left-nonzero (c .0),
-        rising-strict lo (key-at n ps) (take n ps) (simp length-take (omega arith)) (c .0),
-        rising-strict (key-at n ps) hi (drop n ps) (simp length-drop (omega arith)) (c .1),
-        new-leaf-range b (key-at n ps) hi (drop n ps) right-nonzero (c .1),
+        new-leaf-range a lo (keyAt n ps) (take n ps) left-nonzero (c .0),
+        rising-strict lo (keyAt n ps) (take n ps) (simp length-take (omega arith)) (c .0),
+        rising-strict (keyAt n ps) hi (drop n ps) (simp length-drop (omega arith)) (c .1),
+        new-leaf-range b (keyAt n ps) hi (drop n ps) right-nonzero (c .1),
       )
 
   -- two pairs or more on each side: no violation
-  pub two-leaves-settled : 2 ≤ n → n + 2 ≤ length ps → forest-violations (twoLeaves a b n ps) ≡ 0
+  pub two-leaves-settled : 2 ≤ n → n + 2 ≤ length ps → forestViolations (twoLeaves a b n ps) ≡ 0
   two-leaves-settled h h′ = omega (arith, new-leaf-settled a (take n ps) left-nonzero (simp length-take (omega arith)), new-leaf-settled b (drop n ps) right-nonzero (simp length-drop (omega arith)))
 
   pub two-leaves-widths : 2 ≤ n → n + 2 ≤ length ps → AllWidths (twoLeaves a b n ps)

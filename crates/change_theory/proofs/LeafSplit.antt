@@ -7,27 +7,27 @@ use Prim.Native.Nat.{ℕ, suc, _+_, _≤_, _<_}
 use native.Mathlib.Omega.{arith}
 use native.Mathlib.Decide.{ℕ-discrete}
 use lib.ListN.{length, take, drop, length-take, length-drop}
-use Rattle.card.specs.Layout.{slot-pairs}
-use Rattle.card.specs.Stores.{NewNode, new-node}
+use Rattle.card.specs.Layout.{slotPairs}
+use Rattle.card.specs.Stores.{NewNode, newNode}
 use Rattle.card.proofs.Stores.{AllHaveWords}
 use Rattle.plans.specs.Change.{splitLeaf}
 use Rattle.change_theory.proofs.Above.{above-height, above-shape, above-settled, above-own}
-use Rattle.shapes.proofs.Next.{tagged-in}
+use Rattle.shapes.proofs.Next.{taggedIn}
 use Rattle.change_theory.proofs.LeafChanges.{leafNode}
 use Rattle.change_theory.proofs.LeafRows.{slot-keys, length-pair-keys, length-pair-values, new-leaf-represented, twoLeaves, two-leaves-pairs, two-leaves-range, two-leaves-settled, two-leaves-widths}
-use Rattle.change_theory.proofs.Mending.{change-at, kind-above}
-use Rattle.change_theory.proofs.Rewrite.{Shape, violations-in, own-in, SameHeight, AllFew, numbers}
-use Rattle.laws.specs.Sorting.{Pairs, sort, key-at}
+use Rattle.change_theory.proofs.Mending.{rewriteAt, kind-above}
+use Rattle.change_theory.proofs.Rewrite.{Shape, violationsIn, ownIn, SameHeight, AllFew, numbers}
+use Rattle.laws.specs.Sorting.{Pairs, sort, keyAt}
 use Rattle.laws.proofs.Sorting.{total-sort, length-sort}
 use Rattle.laws.proofs.Totals.{indicator-other, indicator-le}
 use Rattle.laws.specs.Totals.{total}
-use Rattle.tree.specs.Pairs.{pairs, has-key, LeafRange}
+use Rattle.tree.specs.Pairs.{pairs, hasKey, LeafRange}
 use Rattle.tree.proofs.Pairs.{InRange}
 use Rattle.tree.specs.Represent.{kind, Represents}
-use Rattle.tree.proofs.Represent.{link-place}
+use Rattle.tree.proofs.Represent.{linkPlace}
 use Rattle.tree.proofs.Sorted.{outside-none, rising-sort}
 use Rattle.tree.specs.Height.{Height}
-use Rattle.tree.specs.Tree.{Tree, node-total, leaf, node}
+use Rattle.tree.specs.Tree.{Tree, nodeTotal, leaf, node}
 use Rattle.tree.proofs.Tree.{Context}
 use Rattle.tree.specs.Violations.{few}
 
@@ -38,17 +38,17 @@ pub record Growth (C : Context) (o s : Tree) (k v : ℕ) (nodes : List NewNode) 
   pub pair-more : (w : ℕ × ℕ → ℕ) → total w (pairs s) ≡ w (k, v) + total w (pairs o)
   pub height : (h : ℕ) → Height h o → (h′ : ℕ) × Height h′ s × SameHeight C h h′
   pub shape : Shape C s
-  pub settled : violations-in C s ≡ own-in C s
-  pub at-most-one : own-in C s ≤ 1
-  pub same-numbers : (w : ℕ → ℕ) → node-total w s + total w out ≡ node-total w o + total w (numbers nodes)
+  pub settled : violationsIn C s ≡ ownIn C s
+  pub at-most-one : ownIn C s ≤ 1
+  pub same-numbers : (w : ℕ → ℕ) → nodeTotal w s + total w out ≡ nodeTotal w o + total w (numbers nodes)
   pub few : AllFew nodes
   pub represented : (c : List ℕ) → Represents c o → AllHaveWords c nodes → Represents c s
 
 -- the pairs of the leaf and the new one, by rising key
 abbrev pub withPair : ℕ → ℕ → List ℕ → List ℕ → Pairs
-withPair k v ks vs = sort ((k, v) ∷ slot-pairs ks vs)
+withPair k v ks vs = sort ((k, v) ∷ slotPairs ks vs)
 
-range-cons : (lo hi k v : ℕ) (ps : Pairs) → lo ≤ k → k < hi → total (has-key k) ps ≡ 0 → LeafRange lo hi ps → LeafRange lo hi ((k, v) ∷ ps)
+range-cons : (lo hi k v : ℕ) (ps : Pairs) → lo ≤ k → k < hi → total (hasKey k) ps ≡ 0 → LeafRange lo hi ps → LeafRange lo hi ((k, v) ∷ ps)
 range-cons lo hi k v ps a b z f =
     record {
       inside = omega (arith, outside-none lo hi (k, v) a b, f .inside);
@@ -57,16 +57,16 @@ range-cons lo hi k v ps a b z f =
 
 -- the leaves and the node above them, in the order in which they are written
 abbrev pub splitNodes : Context → ℕ → ℕ → ℕ → Pairs → List NewNode
-splitNodes C a b c ps = leafNode a (take 6 ps) ∷ leafNode b (drop 6 ps) ∷ new-node c (kind (tagged-in C)) (key-at 6 ps ∷ []) (a ∷ b ∷ []) ∷ []
+splitNodes C a b c ps = leafNode a (take 6 ps) ∷ leafNode b (drop 6 ps) ∷ newNode c (kind (taggedIn C)) (keyAt 6 ps ∷ []) (a ∷ b ∷ []) ∷ []
 
-module _ (C : Context) (m : ℕ) (ks vs : List ℕ) (k v : ℕ) (positive : 0 < k) (full : length (slot-pairs ks vs) ≡ 11) (absent-key : total (has-key k) (slot-pairs ks vs) ≡ 0) where
+module _ (C : Context) (m : ℕ) (ks vs : List ℕ) (k v : ℕ) (positive : 0 < k) (full : length (slotPairs ks vs) ≡ 11) (absent-key : total (hasKey k) (slotPairs ks vs) ≡ 0) where
   twelve-length : length (withPair k v ks vs) ≡ 12
-  twelve-length = length-sort ((k, v) ∷ slot-pairs ks vs) ∙ ap suc full
+  twelve-length = length-sort ((k, v) ∷ slotPairs ks vs) ∙ ap suc full
 
-  twelve-nonzero : total (has-key 0) (withPair k v ks vs) ≡ 0
-  twelve-nonzero = omega (arith, total-sort (has-key 0) ((k, v) ∷ slot-pairs ks vs), indicator-other 0 k (omega arith), slot-keys ks vs)
+  twelve-nonzero : total (hasKey 0) (withPair k v ks vs) ≡ 0
+  twelve-nonzero = omega (arith, total-sort (hasKey 0) ((k, v) ∷ slotPairs ks vs), indicator-other 0 k (omega arith), slot-keys ks vs)
 
-  pub leaf-split : (a b c : ℕ) → Growth C (leaf m ks vs) (node c (tagged-in C) (twoLeaves a b 6 (withPair k v ks vs))) k v (splitNodes C a b c (withPair k v ks vs)) (m ∷ [])
+  pub leaf-split : (a b c : ℕ) → Growth C (leaf m ks vs) (node c (taggedIn C) (twoLeaves a b 6 (withPair k v ks vs))) k v (splitNodes C a b c (withPair k v ks vs)) (m ∷ [])
   leaf-split a b c =
       let ps = withPair k v ks vs in
       let n = twelve-length in
@@ -75,8 +75,8 @@ module _ (C : Context) (m : ℕ) (ks vs : List ℕ) (k v : ℕ) (positive : 0 < 
       let lt : length (take 6 ps) ≤ 11 = simp length-take (omega arith) in
       let ld : length (drop 6 ps) ≤ 11 = simp length-drop (omega arith) in
       record {
-        range = λ lo hi h g i. two-leaves-range a b 6 ps z lo hi (omega arith) (omega arith) (rising-sort lo hi ((k, v) ∷ slot-pairs ks vs) (omega arith) (range-cons lo hi k v (slot-pairs ks vs) h g absent-key i));
-        pair-more = λ w. ap (total w) (two-leaves-pairs a b 6 ps z) ∙ total-sort w ((k, v) ∷ slot-pairs ks vs);
+        range = λ lo hi h g i. two-leaves-range a b 6 ps z lo hi (omega arith) (omega arith) (rising-sort lo hi ((k, v) ∷ slotPairs ks vs) (omega arith) (range-cons lo hi k v (slotPairs ks vs) h g absent-key i));
+        pair-more = λ w. ap (total w) (two-leaves-pairs a b 6 ps z) ∙ total-sort w ((k, v) ∷ slotPairs ks vs);
         height = λ h i. above-height C c h two (i, i);
         shape = above-shape C c two refl (two-leaves-widths a b 6 ps z (omega arith) (omega arith));
         settled = above-settled C c two (two-leaves-settled a b 6 ps z (omega arith) (omega arith));
@@ -90,6 +90,6 @@ module _ (C : Context) (m : ℕ) (ks vs : List ℕ) (k v : ℕ) (positive : 0 < 
       }
 
 -- the change that is written is this one
-pub split-change : (C : Context) (m : ℕ) (ps : Pairs) (a b c : ℕ) → splitLeaf m (link-place C) ps a b c ≡ change-at C (splitNodes C a b c ps) c (m ∷ [])
+pub split-change : (C : Context) (m : ℕ) (ps : Pairs) (a b c : ℕ) → splitLeaf m (linkPlace C) ps a b c ≡ rewriteAt C (splitNodes C a b c ps) c (m ∷ [])
 unfolding splitLeaf
 split-change C m ps a b c = rw (kind-above C)

@@ -17,7 +17,7 @@ use Rattle.plans.specs.Planning.{giving, first, second, third}
 use Rattle.change.specs.Mending.{mendTagged, isNode, mendUnderfull, mend}
 use Rattle.siblings.specs.Siblings.{mendTogether, mendSiblings}
 use Rattle.change_theory.proofs.Exchange.{Remains}
-use Rattle.shapes.proofs.Next.{tagged-in}
+use Rattle.shapes.proofs.Next.{taggedIn}
 use Rattle.change_theory.proofs.Rewrite.{numbers, Rewrite}
 use Rattle.change_theory.proofs.Siblings.{first-child, second-child, both-there, two-represented}
 use Rattle.laws.proofs.Cases.{order, and-intro}
@@ -25,7 +25,7 @@ use Rattle.shapes.proofs.Bare.{bare}
 use Rattle.tree.proofs.Path.{reserve}
 use Rattle.tree.proofs.Reading.{read-kind, root-on-card}
 use Rattle.tree.specs.Represent.{kind, Represents}
-use Rattle.tree.proofs.Represent.{link-place}
+use Rattle.tree.proofs.Represent.{linkPlace}
 use Rattle.tree.specs.Tree.{Tree, root, node, one, more}
 use Rattle.tree.proofs.Tree.{Left, Right, splice, Context, top, down}
 use Rattle.descent.specs.declared.Position.{Position}
@@ -35,11 +35,11 @@ pub record StandsAt (pos : Position) (C : Context) (p : ℕ) (l : Left) (s : Tre
   pub node-is : pos .node ≡ root s
   pub parent-is : pos .parent ≡ p
   pub index-is : pos .index ≡ length l
-  pub above-is : pos .above ≡ link-place C
+  pub above-is : pos .above ≡ linkPlace C
 
 -- the change that puts a part in the place of the context: its new nodes, the new number linked, and the nodes cut out
-abbrev pub change-at : Context → List NewNode → ℕ → List ℕ → Change
-change-at C nodes number out = record { nodes = nodes; link = link-place C; top = number; cut = out }
+abbrev pub rewriteAt : Context → List NewNode → ℕ → List ℕ → Change
+rewriteAt C nodes number out = record { nodes = nodes; link = linkPlace C; top = number; cut = out }
 
 -- The repair of the part o: so many numbers are given, the change over them is a rewrite of o, and with the nodes that it cuts
 -- out the free nodes are enough for what the new part keeps in reserve, where spare was kept for the old one.
@@ -48,7 +48,7 @@ pub record Planned (c : List ℕ) (n : ℕ) (pos : Position) (free : List Bool) 
   pub nodes : List ℕ → List NewNode
   pub part : List ℕ → Tree
   pub out : List ℕ
-  pub planned : mend c n pos free last ≡ giving given free last (λ ms. change-at C (nodes ms) (root (part ms)) out)
+  pub planned : mend c n pos free last ≡ giving given free last (λ ms. rewriteAt C (nodes ms) (root (part ms)) out)
   pub rewrites : (ms : List ℕ) → Rewrite C o (part ms) (nodes ms) out
   pub at-most-three : given ≤ 3
   pub in-order : (ms : List ℕ) → length ms ≡ given → numbers (nodes ms) ≡ ms
@@ -75,10 +75,10 @@ pub giving-same : (k : ℕ) (free : List Bool) (last : ℕ) (f g : List ℕ → 
 giving-same k free last f g e = ap (giving k free last) (λ i ms. e ms i)
 
 -- the kind of the node that a split puts above
-pub kind-above : (C : Context) → kindAbove (link-place C) ≡ kind (tagged-in C)
+pub kind-above : (C : Context) → kindAbove (linkPlace C) ≡ kind (taggedIn C)
 unfolding kindAbove
 kind-above top = refl
-kind-above (down C m g l r) = rw (ne-eqb (link-place (down C m g l r)) rootPlace (λ e. omega arith))
+kind-above (down C m g l r) = rw (ne-eqb (linkPlace (down C m g l r)) rootPlace (λ e. omega arith))
 
 module _ (c : List ℕ) (n : ℕ) (pos : Position) (free : List Bool) (last : ℕ) where
   pub mend-tagged : (p q : ℕ) → pos .parent ≡ p → pos .node ≡ q → kindOf (nodeAt c p) ≡ 2 → kindOf (nodeAt c q) ≡ 3 → mend c n pos free last ≡ mendTagged pos (nodeAt c p) (nodeAt c q) free last
@@ -119,13 +119,13 @@ module _ (pos : Position) (P : List ℕ) (j : ℕ) (both : Together) (free : Lis
   unfolding mendTogether
   merge-root-due h e f = rw (le-ltb 12 (length (both .values)) (omega arith), lt-leb 4 (length (both .values)) (omega arith), e, f)
 
-  pub merge-due : (C : Context) → length (both .values) ≤ 3 → pos .above ≡ link-place C → Remains C (length (children P)) → mendTogether pos P j both free last ≡ giving 2 free last (λ ms. merge pos P j both (first ms) (second ms))
+  pub merge-due : (C : Context) → length (both .values) ≤ 3 → pos .above ≡ linkPlace C → Remains C (length (children P)) → mendTogether pos P j both free last ≡ giving 2 free last (λ ms. merge pos P j both (first ms) (second ms))
   unfolding mendTogether
   merge-due C h e o = rw (le-ltb 12 (length (both .values)) (omega arith), lt-leb 4 (length (both .values)) (omega arith), e, not-that-root C (length (children P)) o)
     where
-      not-that-root : (C : Context) (n : ℕ) → Remains C n → (eqb (link-place C) rootPlace && eqb n 2) ≡ false
+      not-that-root : (C : Context) (n : ℕ) → Remains C n → (eqb (linkPlace C) rootPlace && eqb n 2) ≡ false
       not-that-root top n o = ne-eqb n 2 (λ e. omega arith)
-      not-that-root (down C m g l r) n o = rw (ne-eqb (link-place (down C m g l r)) rootPlace (λ e. omega arith))
+      not-that-root (down C m g l r) n o = rw (ne-eqb (linkPlace (down C m g l r)) rootPlace (λ e. omega arith))
 
 -- "if that parent is the root with 2 children", or not
 pub root-of-two : (C : Context) (m : ℕ) → 2 ≤ m → ((C ≡ top) × (m ≡ 2)) ⊎ Remains C m

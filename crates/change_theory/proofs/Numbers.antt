@@ -17,16 +17,16 @@ use Rattle.laws.specs.Totals.{indicator, total}
 use Rattle.laws.proofs.Totals.{indicator-same, indicator-other}
 use Rattle.free_nodes.specs.declared.Next.{Next}
 use Rattle.free_nodes.specs.declared.Next.the-variants.{Node}
-use Rattle.tree.specs.FreeNodes.{free-bit}
+use Rattle.tree.specs.FreeNodes.{freeBit}
 
 -- one node no longer free, or free again
-pub bit-removed : (free : List Bool) (m i : ℕ) → m < length free → free-bit free m ≡ 1 → free-bit (set free m false) i + indicator i m ≡ free-bit free i
+pub bit-removed : (free : List Bool) (m i : ℕ) → m < length free → freeBit free m ≡ 1 → freeBit (set free m false) i + indicator i m ≡ freeBit free i
 bit-removed free m i h e =
     by-cases (ℕ-discrete i m)
     (λ q. rw (q, getD-set-same free m false false h, indicator-same m) (sym e))
     (λ q. rw (getD-set-other free m i false false q, indicator-other i m q) (omega arith))
 
-pub bit-added : (free : List Bool) (m i : ℕ) → m < length free → free-bit free m ≡ 0 → free-bit (set free m true) i ≡ free-bit free i + indicator i m
+pub bit-added : (free : List Bool) (m i : ℕ) → m < length free → freeBit free m ≡ 0 → freeBit (set free m true) i ≡ freeBit free i + indicator i m
 bit-added free m i h e =
     by-cases (ℕ-discrete i m)
     (λ q. rw (q, getD-set-same free m true false h, indicator-same m, e))
@@ -34,9 +34,9 @@ bit-added free m i h e =
 
 -- the numbers given were free, each once
 pub record Given (free : List Bool) (ms : List ℕ) : Type 0 where
-  pub were-free : (i : ℕ) → total (indicator i) ms ≤ free-bit free i
+  pub were-free : (i : ℕ) → total (indicator i) ms ≤ freeBit free i
   pub positive : total (indicator 0) ms ≡ 0
-  pub left : (i : ℕ) → free-bit (withoutAll ms free) i + total (indicator i) ms ≡ free-bit free i
+  pub left : (i : ℕ) → freeBit (withoutAll ms free) i + total (indicator i) ms ≡ freeBit free i
   pub counted : countTrue (withoutAll ms free) + length ms ≡ countTrue free
   pub kept-length : length (withoutAll ms free) ≡ length free
 
@@ -57,7 +57,7 @@ numbers-given (suc k) free last z h = go (next-exists free last z (omega arith))
         let d : 0 ≢ m = omega (arith, f .1) in
         let r = count-remove free m (f .2) (f .0) in
         let q = ih m (getD-set-other free m 0 false false d ∙ z) (omega (arith, r, h)) in
-        let b : (i : ℕ) → free-bit (set free m false) i + indicator i m ≡ free-bit free i = λ i. bit-removed free m i (f .2) (bit-true (getD free m false) (f .0)) in (
+        let b : (i : ℕ) → freeBit (set free m false) i + indicator i m ≡ freeBit free i = λ i. bit-removed free m i (f .2) (bit-true (getD free m false) (f .0)) in (
           m ∷ q .0,
           numbers-step k free last m e ∙ rw (q .1),
           ap suc (q .2),

@@ -6,32 +6,32 @@ use native.Mathlib.Omega.{arith}
 use lib.ListN.{set, getD}
 use lib.Seq.{getD-set-other}
 use Rattle.card.specs.Layout.{rootPlace}
-use Rattle.card.specs.Stores.{NewNode, node-stores}
+use Rattle.card.specs.Stores.{NewNode, nodeStores}
 use Rattle.card.proofs.Stores.{play, numbered, Within, keeps-play}
 use Rattle.change_theory.proofs.Rewrite.{numbers}
 use Rattle.change_theory.proofs.Rewritten.{weight-apart, numbered-total}
 use Rattle.laws.specs.Totals.{indicator, total}
 use Rattle.tree.specs.Represent.{Represents}
-use Rattle.tree.proofs.Represent.{RepresentsContext, link-place, frame, frame-link}
-use Rattle.tree.specs.Tree.{Tree, node-total}
-use Rattle.tree.proofs.Tree.{Context, context-total, top, down}
+use Rattle.tree.proofs.Represent.{RepresentsContext, linkPlace, frame, frame-link}
+use Rattle.tree.specs.Tree.{Tree, nodeTotal}
+use Rattle.tree.proofs.Tree.{Context, contextTotal, top, down}
 
-module _ (c : List ℕ) (other : Tree) (kept : Represents c other) (nodes : List NewNode) (within : Within (numbered nodes) (node-stores nodes))
-    (fresh : (i : ℕ) → node-total (indicator i) other + total (indicator i) (numbers nodes) ≤ 1)
+module _ (c : List ℕ) (other : Tree) (kept : Represents c other) (nodes : List NewNode) (within : Within (numbered nodes) (nodeStores nodes))
+    (fresh : (i : ℕ) → nodeTotal (indicator i) other + total (indicator i) (numbers nodes) ≤ 1)
   where
-    apart : node-total (numbered nodes) other ≡ 0
+    apart : nodeTotal (numbered nodes) other ≡ 0
     apart = weight-apart (numbered nodes) other (λ i p. omega (arith, fresh i, numbered-total nodes i))
 
     -- all the new nodes written
-    pub other-written : Represents (play (node-stores nodes) c) other
-    other-written = frame c (play (node-stores nodes) c) (numbered nodes) (keeps-play within c) other apart kept
+    pub other-written : Represents (play (nodeStores nodes) c) other
+    other-written = frame c (play (nodeStores nodes) c) (numbered nodes) (keeps-play within c) other apart kept
 
     -- and the link stored: the part's place is of the own tree, which has no node of the other
-    pub other-linked : (C : Context) (x y : ℕ) → RepresentsContext (play (node-stores nodes) c) C x → ((i : ℕ) → context-total (indicator i) C + node-total (indicator i) other ≤ 1)
-        → Represents (set (play (node-stores nodes) c) (link-place C) y) other
-    other-linked C x y r d = frame-link (play (node-stores nodes) c) y C x other r d other-written
+    pub other-linked : (C : Context) (x y : ℕ) → RepresentsContext (play (nodeStores nodes) c) C x → ((i : ℕ) → contextTotal (indicator i) C + nodeTotal (indicator i) other ≤ 1)
+        → Represents (set (play (nodeStores nodes) c) (linkPlace C) y) other
+    other-linked C x y r d = frame-link (play (nodeStores nodes) c) y C x other r d other-written
 
 -- the word of the other root, which is not the own one's
-pub other-root : (c : List ℕ) (C : Context) (y p : ℕ) → p < 8 → (p ≡ rootPlace → ⊥) → getD (set c (link-place C) y) p 0 ≡ getD c p 0
+pub other-root : (c : List ℕ) (C : Context) (y p : ℕ) → p < 8 → (p ≡ rootPlace → ⊥) → getD (set c (linkPlace C) y) p 0 ≡ getD c p 0
 other-root c top y p h d = getD-set-other c rootPlace p y 0 d
-other-root c (down C m g l r) y p h d = getD-set-other c (link-place (down C m g l r)) p y 0 (λ e. omega arith)
+other-root c (down C m g l r) y p h d = getD-set-other c (linkPlace (down C m g l r)) p y 0 (λ e. omega arith)

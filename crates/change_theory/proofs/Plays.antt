@@ -22,7 +22,7 @@ use Rattle.tree.proofs.Cut.{cut}
 use Rattle.tree.specs.Pairs.{pairs}
 use Rattle.tree.proofs.Replace.{holds-frame}
 use Rattle.tree.specs.Represent.{Holds}
-use Rattle.tree.specs.Tree.{Tree, node-total}
+use Rattle.tree.specs.Tree.{Tree, nodeTotal}
 
 -- what opening must find: the nodes that the tree leaves free, enough of them, and where the violation is
 pub record Openable (n : ℕ) (t : Tree) : Type 0 where
@@ -43,7 +43,7 @@ pub data Plays (n : ℕ) (next : Tree) : List ℕ → Tree → List Store → Ty
       → Plays n next c t ((p, v) ∷ s ∷ rest)
 
 -- stores in nodes that the tree has not, and then the link
-pub writes-play : (n : ℕ) (next t : Tree) (w : ℕ → ℕ) (link value : ℕ) → Sound t → Openable n t → node-total w t ≡ 0 → (link ≡ 4) ⊎ (8 ≤ link) → (writes : List Store) (c : List ℕ) → Within w writes → Holds c t → ((i : ℕ) → 0 < w i → OnCard c i)
+pub writes-play : (n : ℕ) (next t : Tree) (w : ℕ → ℕ) (link value : ℕ) → Sound t → Openable n t → nodeTotal w t ≡ 0 → (link ≡ 4) ⊎ (8 ≤ link) → (writes : List Store) (c : List ℕ) → Within w writes → Holds c t → ((i : ℕ) → 0 < w i → OnCard c i)
     → link < length c → Holds (set (play writes c) link value) next → Plays n next c t (writes ++ (link, value) ∷ [])
 writes-play n next t w link value s o z a [] c h b on l e = last-store (record { inside = l; apart = a }) e
 writes-play n next t w link value s o z a (x ∷ writes) c h b on l e = first writes (within-one h) (writes-play n next t w link value s o z a writes (set c (x .0) (x .1)) (within-one h .1) kept (λ i q. on-card-set c (x .0) (x .1) i (on i q)) (rw (length-set c (x .0) (x .1)) l) e)

@@ -19,15 +19,15 @@ use Rattle.shapes.proofs.Bare.{bare}
 use Rattle.shapes.proofs.Next.{repairedBy}
 use Rattle.tree.proofs.Cut.{cut}
 use Rattle.tree.specs.Pairs.{pairs}
-use Rattle.tree.proofs.Path.{depth-of, reserve, Violation}
+use Rattle.tree.proofs.Path.{depthOf, reserve, Violation}
 use Rattle.tree.specs.Represent.{Holds}
-use Rattle.tree.specs.Tree.{Tree, node-total}
-use Rattle.tree.specs.Violations.{table-violations}
+use Rattle.tree.specs.Tree.{Tree, nodeTotal}
+use Rattle.tree.specs.Violations.{tableViolations}
 
 -- how far a repair that follows the key has come: nothing left to do, or a violation so deep, with the nodes that mending it needs
 pub data Mendable (key : ℕ) (free : List Bool) (t : Tree) : ℕ → Type 0 where
-  settled : table-violations t ≡ 0 → 3 ≤ countTrue free → Mendable key free t 0
-  violated : (v : Violation t key) → table-violations t ≡ 1 → 3 + reserve (v .context) (v .part) ≤ countTrue free → Mendable key free t (depth-of (v .context))
+  settled : tableViolations t ≡ 0 → 3 ≤ countTrue free → Mendable key free t 0
+  violated : (v : Violation t key) → tableViolations t ≡ 1 → 3 + reserve (v .context) (v .part) ≤ countTrue free → Mendable key free t (depthOf (v .context))
 
 -- The stores still to come on the card c, whose tree is t: all but the last are in nodes that t has not (those of positive
 -- weight); the last one puts the tree t′ there, whose free nodes are then exact.
@@ -39,7 +39,7 @@ pub record Pending (c : List ℕ) (n key : ℕ) (t : Tree) (rest : List Store) (
   pub value : ℕ
   pub is-rest : rest ≡ writes ++ (link, value) ∷ []
   pub inside : Within weight writes
-  pub fresh : node-total weight t ≡ 0
+  pub fresh : nodeTotal weight t ≡ 0
   pub on-card : (i : ℕ) → 0 < weight i → OnCard c i
   pub link-inside : link < length c
   pub link-free : (link ≡ 4) ⊎ (8 ≤ link)

@@ -5,11 +5,11 @@ use mathlib.Core.Bool.{Bool, true, false}
 use Prim.Native.Nat.{ℕ, _+_, _≤_, _<_}
 use native.Mathlib.Omega.{arith}
 use lib.ListN.{length}
-use Rattle.card.specs.Layout.{lowestKey, keyLimit, slot-pairs}
+use Rattle.card.specs.Layout.{lowestKey, keyLimit, slotPairs}
 use Rattle.card.specs.Stores.{NewNode}
 use Rattle.change_theory.proofs.LeafSplit.{Growth}
 use Rattle.change_theory.proofs.Parent.{violations-part}
-use Rattle.change_theory.proofs.Rewrite.{Shape, violations-in, own-in, SameHeight, numbers}
+use Rattle.change_theory.proofs.Rewrite.{Shape, violationsIn, ownIn, SameHeight, numbers}
 use Rattle.change_theory.proofs.Rewritten.{shape-plug, Sound, violations-in-plug, height-in-plug}
 use Rattle.descent_theory.proofs.Ranges.{in-range-of-path}
 use Rattle.descent_theory.proofs.Routing.{Leads, Untagged}
@@ -17,25 +17,25 @@ use Rattle.laws.specs.Totals.{indicator, total}
 use Rattle.tree.specs.Pairs.{LeafRange}
 use Rattle.tree.proofs.Pairs.{InRange}
 use Rattle.tree.specs.Height.{Height}
-use Rattle.tree.specs.Tree.{Tree, node-total, leaf, node}
+use Rattle.tree.specs.Tree.{Tree, nodeTotal, leaf, node}
 use Rattle.tree.proofs.Tree.{fill, Context, plug, total-plug, top, down}
 use Rattle.tree.proofs.Violations.{below, few-le}
-use Rattle.tree.specs.Violations.{RootOk, table-violations}
+use Rattle.tree.specs.Violations.{RootOk, tableViolations}
 
 pub record Reshape (C : Context) (o s : Tree) (key : ℕ) (nodes : List NewNode) (out : List ℕ) : Type 0 where
   pub range : (a b : ℕ) → a ≤ key → key < b → InRange a b o → InRange a b s
   pub height : (h : ℕ) → Height h o → (h′ : ℕ) × Height h′ s × SameHeight C h h′
   pub shape : Shape C s
-  pub settled : violations-in C s ≡ own-in C s
-  pub at-most-one : own-in C s ≤ 1
-  pub same-numbers : (w : ℕ → ℕ) → node-total w s + total w out ≡ node-total w o + total w (numbers nodes)
+  pub settled : violationsIn C s ≡ ownIn C s
+  pub at-most-one : ownIn C s ≤ 1
+  pub same-numbers : (w : ℕ → ℕ) → nodeTotal w s + total w out ≡ nodeTotal w o + total w (numbers nodes)
 
 -- the table after it is sound, and has no violation but its part's own
-pub reshaped : (C : Context) (o s : Tree) (key : ℕ) (nodes : List NewNode) (out : List ℕ) → Reshape C o s key nodes out → Sound (plug C o) → table-violations (plug C o) ≡ 0 → Leads key C → lowestKey ≤ key → key < keyLimit
-    → ((i : ℕ) → node-total (indicator i) (plug C o) + total (indicator i) (numbers nodes) ≤ 1) → Sound (plug C s) × (table-violations (plug C s) ≡ own-in C s)
+pub reshaped : (C : Context) (o s : Tree) (key : ℕ) (nodes : List NewNode) (out : List ℕ) → Reshape C o s key nodes out → Sound (plug C o) → tableViolations (plug C o) ≡ 0 → Leads key C → lowestKey ≤ key → key < keyLimit
+    → ((i : ℕ) → nodeTotal (indicator i) (plug C o) + total (indicator i) (numbers nodes) ≤ 1) → Sound (plug C s) × (tableViolations (plug C s) ≡ ownIn C s)
 reshaped C o s key nodes out r h z path low high fresh =
     let parts = violations-part C o in
-    let left : table-violations (plug C s) ≡ own-in C s = omega (arith, violations-in-plug C o s, r .settled) in
+    let left : tableViolations (plug C s) ≡ ownIn C s = omega (arith, violations-in-plug C o s, r .settled) in
     let u = in-range-of-path lowestKey keyLimit key C o (h .range) path low high in (
       record {
         once = λ i. omega (arith, fresh i, r .same-numbers (indicator i), total-plug (indicator i) C o, total-plug (indicator i) C s);
@@ -48,12 +48,12 @@ reshaped C o s key nodes out r h z path low high fresh =
     )
 
 -- in a balanced table no node on a way is tagged
-pub balanced-untagged : (C : Context) (s : Tree) → RootOk (plug C s) → table-violations (plug C s) ≡ 0 → Untagged C
+pub balanced-untagged : (C : Context) (s : Tree) → RootOk (plug C s) → tableViolations (plug C s) ≡ 0 → Untagged C
 balanced-untagged top s w z = tt
 balanced-untagged (down C m g l r) s w z =
     (untagged-here C g (shape-plug C (node m g (fill l s r)) w .0) (omega (arith, violations-part C (node m g (fill l s r)))), balanced-untagged C (node m g (fill l s r)) w z)
   where
-    untagged-here : (D : Context) (b : Bool) → Shape D (node m b (fill l s r)) → violations-in D (node m b (fill l s r)) ≤ 0 → b ≡ false
+    untagged-here : (D : Context) (b : Bool) → Shape D (node m b (fill l s r)) → violationsIn D (node m b (fill l s r)) ≤ 0 → b ≡ false
     untagged-here top true h e = absurd h
     untagged-here top false h e = refl
     untagged-here (down D i b₁ l₁ r₁) true h e = absurd (omega arith)
@@ -61,7 +61,7 @@ balanced-untagged (down C m g l r) s w z =
 
 -- a leaf that stays a leaf
 module _ (C : Context) (m : ℕ) (ks vs ks′ vs′ : List ℕ) (key : ℕ) where
-  pub leaf-reshape : ((a b : ℕ) → a ≤ key → key < b → LeafRange a b (slot-pairs ks vs) → LeafRange a b (slot-pairs ks′ vs′)) → (below C → 1 ≤ length (slot-pairs ks′ vs′)) → Reshape C (leaf m ks vs) (leaf m ks′ vs′) key [] []
+  pub leaf-reshape : ((a b : ℕ) → a ≤ key → key < b → LeafRange a b (slotPairs ks vs) → LeafRange a b (slotPairs ks′ vs′)) → (below C → 1 ≤ length (slotPairs ks′ vs′)) → Reshape C (leaf m ks vs) (leaf m ks′ vs′) key [] []
   leaf-reshape range some-pair =
       record {
         range = range;
@@ -76,17 +76,17 @@ module _ (C : Context) (m : ℕ) (ks vs ks′ vs′ : List ℕ) (key : ℕ) wher
       same top h = tt
       same (down D i g l r) h = refl
 
-      shape-of : (D : Context) → (below D → 1 ≤ length (slot-pairs ks′ vs′)) → Shape D (leaf m ks′ vs′)
+      shape-of : (D : Context) → (below D → 1 ≤ length (slotPairs ks′ vs′)) → Shape D (leaf m ks′ vs′)
       shape-of top f = tt
       shape-of (down D i g l r) f = f tt
 
-      settled-of : (D : Context) → violations-in D (leaf m ks′ vs′) ≡ own-in D (leaf m ks′ vs′)
+      settled-of : (D : Context) → violationsIn D (leaf m ks′ vs′) ≡ ownIn D (leaf m ks′ vs′)
       settled-of top = refl
       settled-of (down D i g l r) = refl
 
-      own-of : (D : Context) → own-in D (leaf m ks′ vs′) ≤ 1
+      own-of : (D : Context) → ownIn D (leaf m ks′ vs′) ≤ 1
       own-of top = omega arith
-      own-of (down D i g l r) = few-le (length (slot-pairs ks′ vs′))
+      own-of (down D i g l r) = few-le (length (slotPairs ks′ vs′))
 
 -- growth is one too
 pub growth-reshape : (C : Context) (o s : Tree) (k v : ℕ) (nodes : List NewNode) (out : List ℕ) → Growth C o s k v nodes out → Reshape C o s k nodes out

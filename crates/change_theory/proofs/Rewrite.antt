@@ -10,12 +10,12 @@ use Rattle.laws.specs.Totals.{total}
 use Rattle.tree.proofs.Cut.{cut}
 use Rattle.tree.specs.Pairs.{pairs}
 use Rattle.tree.proofs.Pairs.{InRange}
-use Rattle.tree.proofs.Path.{own-violation}
+use Rattle.tree.proofs.Path.{ownViolation}
 use Rattle.tree.specs.Represent.{Represents}
 use Rattle.tree.specs.Height.{Height}
-use Rattle.tree.specs.Tree.{Tree, node-total}
+use Rattle.tree.specs.Tree.{Tree, nodeTotal}
 use Rattle.tree.proofs.Tree.{Context, top, down}
-use Rattle.tree.specs.Violations.{violations, Widths, RootOk, table-violations}
+use Rattle.tree.specs.Violations.{violations, Widths, RootOk, tableViolations}
 
 -- the widths of a part, as the root of the table or below it
 abbrev pub Shape : Context → Tree → Type 0
@@ -23,14 +23,14 @@ Shape top s = RootOk s
 Shape (down C m g l r) s = Widths s
 
 -- the violations of a part, as the root of the table or below it
-abbrev pub violations-in : Context → Tree → ℕ
-violations-in top s = table-violations s
-violations-in (down C m g l r) s = violations s
+abbrev pub violationsIn : Context → Tree → ℕ
+violationsIn top s = tableViolations s
+violationsIn (down C m g l r) s = violations s
 
 -- and those of its root node itself
-abbrev pub own-in : Context → Tree → ℕ
-own-in top s = 0
-own-in (down C m g l r) s = own-violation s
+abbrev pub ownIn : Context → Tree → ℕ
+ownIn top s = 0
+ownIn (down C m g l r) s = ownViolation s
 
 -- heights stay, but that of the whole table may change
 abbrev pub SameHeight : Context → ℕ → ℕ → Type 0
@@ -52,10 +52,10 @@ pub record Rewrite (C : Context) (o s : Tree) (nodes : List NewNode) (cut : List
   pub height : (h : ℕ) → Height h o → (h′ : ℕ) × Height h′ s × SameHeight C h h′
   pub shape : Shape C s
   -- no violation is left but that of its root, if that is one
-  pub settled : violations-in C s ≡ own-in C s
-  pub at-most-one : own-in C s ≤ 1
+  pub settled : violationsIn C s ≡ ownIn C s
+  pub at-most-one : ownIn C s ≤ 1
   -- its nodes are those of o without the ones cut out, and the new ones
-  pub same-numbers : (w : ℕ → ℕ) → node-total w s + total w cut ≡ node-total w o + total w (numbers nodes)
+  pub same-numbers : (w : ℕ → ℕ) → nodeTotal w s + total w cut ≡ nodeTotal w o + total w (numbers nodes)
   pub few : AllFew nodes
   -- where the old nodes still stand and the new ones are written, the card represents it
   pub represented : (c : List ℕ) → Represents c o → AllHaveWords c nodes → Represents c s

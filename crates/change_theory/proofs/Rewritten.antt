@@ -8,8 +8,8 @@ use lib.ListN.{set, take}
 use Rattle.card.specs.Layout.{lowestKey, keyLimit}
 use Rattle.card.specs.NodeWords.{OnCard}
 use Rattle.card.proofs.Stores.{play, Within, keeps-play, numbered, AllFitCard, Distinct, AllHaveWords, within-node-stores, nodes-written}
-use Rattle.card.specs.Stores.{NewNode, node-stores}
-use Rattle.change_theory.proofs.Rewrite.{Shape, violations-in, own-in, SameHeight, AllFew, numbers, Rewrite}
+use Rattle.card.specs.Stores.{NewNode, nodeStores}
+use Rattle.change_theory.proofs.Rewrite.{Shape, violationsIn, ownIn, SameHeight, AllFew, numbers, Rewrite}
 use Rattle.laws.proofs.Cases.{order}
 use Rattle.laws.specs.Totals.{indicator, total}
 use Rattle.laws.proofs.Totals.{indicator-same, indicator-sym}
@@ -18,21 +18,21 @@ use Rattle.tree.specs.Pairs.{pairs}
 use Rattle.tree.proofs.Pairs.{InRange}
 use Rattle.tree.proofs.Replace.{before-link, changed}
 use Rattle.tree.specs.Represent.{Represents, Holds}
-use Rattle.tree.proofs.Represent.{link-place, frame, unplugged}
+use Rattle.tree.proofs.Represent.{linkPlace, frame, unplugged}
 use Rattle.tree.specs.Height.{Height}
 use Rattle.tree.proofs.Splice.{range-plug, plug-low, height-plug, pairs-plug}
-use Rattle.tree.specs.Tree.{Tree, Forest, root, node-total, node-totals, leaf, node, one, more}
+use Rattle.tree.specs.Tree.{Tree, Forest, root, nodeTotal, nodeTotals, leaf, node, one, more}
 use Rattle.tree.proofs.Tree.{fill, Context, plug, total-plug, top, down}
-use Rattle.tree.specs.Violations.{few, Widths, AllWidths, RootOk, table-violations}
+use Rattle.tree.specs.Violations.{few, Widths, AllWidths, RootOk, tableViolations}
 use Rattle.tree.proofs.Violations.{widths-splice, violations-plug, fill-width}
 
 -- what makes a tree sound, apart from the card: strict ranges, each node once, widths, equal depth, at most one violation
 pub record Sound (t : Tree) : Type 0 where
-  pub once : (i : ℕ) → node-total (indicator i) t ≤ 1
+  pub once : (i : ℕ) → nodeTotal (indicator i) t ≤ 1
   pub range : InRange lowestKey keyLimit t
   pub widths : RootOk t
   pub level : (h : ℕ) × Height h t
-  pub few-violations : table-violations t ≤ 1
+  pub few-violations : tableViolations t ≤ 1
 
 -- widths through a context
 pub shape-plug : (C : Context) (o : Tree) → RootOk (plug C o) → Shape C o × ((s : Tree) → Shape C s → RootOk (plug C s))
@@ -60,7 +60,7 @@ shape-plug (down C m g l r) o h = at C (shape-plug C (node m g (fill l o r)) h)
         let v = widths-splice l (one o) r (inside D (p .0)) in
         (v .0, λ s k. p .1 (node m g (fill l s r)) (again D (p .0) s (v .1 (one s) k)))
 
-pub violations-in-plug : (C : Context) (o s : Tree) → table-violations (plug C s) + violations-in C o ≡ table-violations (plug C o) + violations-in C s
+pub violations-in-plug : (C : Context) (o s : Tree) → tableViolations (plug C s) + violationsIn C o ≡ tableViolations (plug C o) + violationsIn C s
 violations-in-plug top o s = omega arith
 violations-in-plug (down C m g l r) o s = violations-plug (down C m g l r) o s tt
 
@@ -75,13 +75,13 @@ height-in-plug (down C m g l r) o s h i f =
 
 -- a weight that meets no number of the tree
 mutual
-  pub weight-apart : (w : ℕ → ℕ) (t : Tree) → ((i : ℕ) → 0 < w i → node-total (indicator i) t ≡ 0) → node-total w t ≡ 0
+  pub weight-apart : (w : ℕ → ℕ) (t : Tree) → ((i : ℕ) → 0 < w i → nodeTotal (indicator i) t ≡ 0) → nodeTotal w t ≡ 0
   weight-apart w (leaf m ks vs) h = order 0 (w m) (λ o. absurd (omega (arith, h m o, indicator-same m))) (λ o. omega arith)
   weight-apart w (node m g f) h =
-      let z : node-totals w f ≡ 0 = weights-apart w f (λ i o. omega (arith, h i o)) in
+      let z : nodeTotals w f ≡ 0 = weights-apart w f (λ i o. omega (arith, h i o)) in
       order 0 (w m) (λ o. absurd (omega (arith, h m o, indicator-same m))) (λ o. omega arith)
 
-  pub weights-apart : (w : ℕ → ℕ) (f : Forest) → ((i : ℕ) → 0 < w i → node-totals (indicator i) f ≡ 0) → node-totals w f ≡ 0
+  pub weights-apart : (w : ℕ → ℕ) (f : Forest) → ((i : ℕ) → 0 < w i → nodeTotals (indicator i) f ≡ 0) → nodeTotals w f ≡ 0
   weights-apart w (one t) h = weight-apart w t h
   weights-apart w (more t k f) h = omega (arith, weight-apart w t (λ i o. omega (arith, h i o)), weights-apart w f (λ i o. omega (arith, h i o)))
 
@@ -103,12 +103,12 @@ fit-of c (X ∷ Xs) h f =
 pub record After (C : Context) (o s : Tree) : Type 0 where
   pub sound : Sound (plug C s)
   pub same-pairs : (w : ℕ × ℕ → ℕ) → total w (pairs (plug C s)) ≡ total w (pairs (plug C o))
-  pub violations-left : table-violations (plug C s) ≡ own-in C s
+  pub violations-left : tableViolations (plug C s) ≡ ownIn C s
 
-pub rewritten : (C : Context) (o s : Tree) (nodes : List NewNode) (cut : List ℕ) → Rewrite C o s nodes cut → Sound (plug C o) → table-violations (plug C o) ≡ violations-in C o
-    → ((i : ℕ) → node-total (indicator i) (plug C o) + total (indicator i) (numbers nodes) ≤ 1) → After C o s
+pub rewritten : (C : Context) (o s : Tree) (nodes : List NewNode) (cut : List ℕ) → Rewrite C o s nodes cut → Sound (plug C o) → tableViolations (plug C o) ≡ violationsIn C o
+    → ((i : ℕ) → nodeTotal (indicator i) (plug C o) + total (indicator i) (numbers nodes) ≤ 1) → After C o s
 rewritten C o s nodes cut r h v fresh =
-    let left : table-violations (plug C s) ≡ own-in C s = omega (arith, violations-in-plug C o s, v, r .settled) in
+    let left : tableViolations (plug C s) ≡ ownIn C s = omega (arith, violations-in-plug C o s, v, r .settled) in
     let u = range-plug lowestKey keyLimit C o (h .range) in
     let low = plug-low lowestKey keyLimit C o (h .range) in
     record {
@@ -125,23 +125,23 @@ rewritten C o s nodes cut r h v fresh =
 
 -- On the card: every store before the link leaves the old tree, and the link puts the new one there.
 pub record OnTheCard (c : List ℕ) (C : Context) (o s : Tree) (nodes : List NewNode) : Type 0 where
-  pub before : (k : ℕ) → Holds (play (take k (node-stores nodes)) c) (plug C o)
-  pub after : Holds (set (play (node-stores nodes) c) (link-place C) (root s)) (plug C s)
-  pub within : Within (numbered nodes) (node-stores nodes)
+  pub before : (k : ℕ) → Holds (play (take k (nodeStores nodes)) c) (plug C o)
+  pub after : Holds (set (play (nodeStores nodes) c) (linkPlace C) (root s)) (plug C s)
+  pub within : Within (numbered nodes) (nodeStores nodes)
 
 pub on-the-card : (c : List ℕ) (C : Context) (o s : Tree) (nodes : List NewNode) → AllFew nodes → ((d : List ℕ) → Represents d o → AllHaveWords d nodes → Represents d s) → Holds c (plug C o)
-    → ((i : ℕ) → node-total (indicator i) (plug C o) + total (indicator i) (numbers nodes) ≤ 1) → ((i : ℕ) → node-total (indicator i) (plug C s) ≤ 1)
+    → ((i : ℕ) → nodeTotal (indicator i) (plug C o) + total (indicator i) (numbers nodes) ≤ 1) → ((i : ℕ) → nodeTotal (indicator i) (plug C s) ≤ 1)
     → ((i : ℕ) → 0 < total (indicator i) (numbers nodes) → OnCard c i) → OnTheCard c C o s nodes
 on-the-card c C o s nodes few represented h fresh once on =
     let fit = fit-of c nodes on few in
     let within = within-node-stores c nodes fit in
-    let zero-there : node-total (numbered nodes) (plug C o) ≡ 0 = weight-apart (numbered nodes) (plug C o) (λ i p. omega (arith, fresh i, numbered-total nodes i)) in
+    let zero-there : nodeTotal (numbered nodes) (plug C o) ≡ 0 = weight-apart (numbered nodes) (plug C o) (λ i p. omega (arith, fresh i, numbered-total nodes i)) in
     let have = nodes-written c nodes fit (distinct-of nodes (λ i. omega (arith, fresh i))) in
-    let now = play (node-stores nodes) c in
-    let old : Represents (play (node-stores nodes) c) o =
-    frame c (play (node-stores nodes) c) (numbered nodes) (keeps-play within c) o (omega (arith, total-plug (numbered nodes) C o)) (unplugged c C o h .1) in
+    let now = play (nodeStores nodes) c in
+    let old : Represents (play (nodeStores nodes) c) o =
+    frame c (play (nodeStores nodes) c) (numbered nodes) (keeps-play within c) o (omega (arith, total-plug (numbered nodes) C o)) (unplugged c C o h .1) in
     record {
-      before = λ k. before-link c C o s (numbered nodes) (node-stores nodes) within zero-there k h;
-      after = changed c C o s (numbered nodes) (node-stores nodes) within zero-there (λ i. omega (arith, once i, total-plug (indicator i) C s)) (represented (play (node-stores nodes) c) old have) h;
+      before = λ k. before-link c C o s (numbered nodes) (nodeStores nodes) within zero-there k h;
+      after = changed c C o s (numbered nodes) (nodeStores nodes) within zero-there (λ i. omega (arith, once i, total-plug (indicator i) C s)) (represented (play (nodeStores nodes) c) old have) h;
       within = within;
     }

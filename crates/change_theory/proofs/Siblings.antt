@@ -10,13 +10,13 @@ use lib.ListN.{length, getD, take, drop, length-append}
 use lib.Seq.{take-at, drop-at, getD-at}
 use Rattle.card.specs.Layout.{nodeAt, children, routingKeys}
 use Rattle.laws.proofs.Lists.{getD-right}
-use Rattle.tree.proofs.Path.{width-of}
+use Rattle.tree.proofs.Path.{widthOf}
 use Rattle.tree.proofs.Reading.{node-children, node-routing}
-use Rattle.shapes.proofs.Bare.{bare, bare-left, bare-right}
+use Rattle.shapes.proofs.Bare.{bare, bareLeft, bareRight}
 use Rattle.shapes.proofs.Next.{Siblings as Chosen, siblingsOf, mendTwo, mendAt}
 use Rattle.shapes.proofs.Shaped.{siblings-shaped}
 use Rattle.tree.specs.Represent.{Represents}
-use Rattle.tree.proofs.Represent.{roots-left, roots-right, routing-left, routing-right}
+use Rattle.tree.proofs.Represent.{rootsLeft, rootsRight, routingLeft, routingRight}
 use Rattle.tree.proofs.Splice.{represents-splice, roots-splice, routing-splice, length-roots-left, length-routing-left}
 use Rattle.tree.specs.Tree.{Tree, Forest, root, roots, routing, leaf, node, one, more}
 use Rattle.tree.proofs.Tree.{Left, Right, splice, fill, rightmost, followed}
@@ -34,7 +34,7 @@ pub record Pair (l₀ : Left) (s : Tree) (r₀ : Right) : Type 0 where
   pub member : (lesser ≡ s) ⊎ (greater ≡ s)
   pub chosen : siblingsOf l₀ s r₀ ≡ record { left = left; lesser = lesser; key = key; greater = greater; right = right }
 
-pub siblings : (l₀ : Left) (s : Tree) (r₀ : Right) → 2 ≤ width-of l₀ r₀ → Pair l₀ s r₀
+pub siblings : (l₀ : Left) (s : Tree) (r₀ : Right) → 2 ≤ widthOf l₀ r₀ → Pair l₀ s r₀
 unfolding siblingsOf
 siblings [] s rightmost h = absurd (omega arith)
 siblings [] s (followed k (one y)) h = record { left = []; lesser = s; key = k; greater = y; right = rightmost; whole = refl; index = refl; member = inl refl; chosen = refl }
@@ -57,12 +57,12 @@ siblings (a ∷ b ∷ l) s r h =
 
 -- without numbers, too, the two are those that the violation and its sibling are
 pub leaf-due : (below : Bool) (l : Left) (m : ℕ) (ks vs : List ℕ) (r : Right) (u : Pair l (leaf m ks vs) r)
-    → mendAt below (bare-left l) (bare (leaf m ks vs)) (bare-right r) ≡ mendTwo below (bare-left (u .left)) (bare (u .lesser)) (u .key) (bare (u .greater)) (bare-right (u .right))
+    → mendAt below (bareLeft l) (bare (leaf m ks vs)) (bareRight r) ≡ mendTwo below (bareLeft (u .left)) (bare (u .lesser)) (u .key) (bare (u .greater)) (bareRight (u .right))
 unfolding mendAt
 leaf-due below l m ks vs r u = rw (siblings-shaped l (leaf m ks vs) r, u .chosen)
 
 pub inner-due : (below : Bool) (l : Left) (m : ℕ) (f : Forest) (r : Right) (u : Pair l (node m false f) r)
-    → mendAt below (bare-left l) (bare (node m false f)) (bare-right r) ≡ mendTwo below (bare-left (u .left)) (bare (u .lesser)) (u .key) (bare (u .greater)) (bare-right (u .right))
+    → mendAt below (bareLeft l) (bare (node m false f)) (bareRight r) ≡ mendTwo below (bareLeft (u .left)) (bare (u .lesser)) (u .key) (bare (u .greater)) (bareRight (u .right))
 unfolding mendAt
 inner-due below l m f r u = rw (siblings-shaped l (node m false f) r, u .chosen)
 
@@ -75,17 +75,17 @@ swap-middle xs ys zs ms i n e f =
 -- The parent's children and routing keys, where the children F among them give way to G: the numbers of the new copy, from
 -- those read off the card.
 module _ (c : List ℕ) (p : ℕ) (l : Left) (F : Forest) (r : Right) (w : Represents c (node p false (splice l F r))) where
-  pub parent-children : children (nodeAt c p) ≡ roots-left l ++ (roots F ++ roots-right r)
+  pub parent-children : children (nodeAt c p) ≡ rootsLeft l ++ (roots F ++ rootsRight r)
   parent-children = node-children c p false (splice l F r) w ∙ roots-splice l F r
 
-  pub parent-routing : routingKeys (nodeAt c p) ≡ routing-left l ++ (routing F ++ routing-right r)
+  pub parent-routing : routingKeys (nodeAt c p) ≡ routingLeft l ++ (routing F ++ routingRight r)
   parent-routing = node-routing c p false (splice l F r) w ∙ routing-splice l F r
 
   pub children-with : (G : Forest) (ms : List ℕ) (n : ℕ) → roots G ≡ ms → n ≡ length l + length (roots F) → take (length l) (children (nodeAt c p)) ++ (ms ++ drop n (children (nodeAt c p))) ≡ roots (splice l G r)
-  children-with G ms n e f = rw (parent-children, ← e) (swap-middle (roots-left l) (roots F) (roots-right r) (roots G) (length l) n (length-roots-left l) f ∙ sym (roots-splice l G r))
+  children-with G ms n e f = rw (parent-children, ← e) (swap-middle (rootsLeft l) (roots F) (rootsRight r) (roots G) (length l) n (length-roots-left l) f ∙ sym (roots-splice l G r))
 
   pub routing-with : (G : Forest) (ks : List ℕ) (n : ℕ) → routing G ≡ ks → n ≡ length l + length (routing F) → take (length l) (routingKeys (nodeAt c p)) ++ (ks ++ drop n (routingKeys (nodeAt c p))) ≡ routing (splice l G r)
-  routing-with G ks n e f = rw (parent-routing, ← e) (swap-middle (routing-left l) (routing F) (routing-right r) (routing G) (length l) n (length-routing-left l) f ∙ sym (routing-splice l G r))
+  routing-with G ks n e f = rw (parent-routing, ← e) (swap-middle (routingLeft l) (routing F) (routingRight r) (routing G) (length l) n (length-routing-left l) f ∙ sym (routing-splice l G r))
 
 -- two children side by side, of which the first is child j
 module _ (c : List ℕ) (p : ℕ) (l : Left) (x : Tree) (k : ℕ) (y : Tree) (r : Right) (j : ℕ) (at-j : length l ≡ j) (w : Represents c (node p false (splice l (more x k (one y)) r))) where
@@ -93,16 +93,16 @@ module _ (c : List ℕ) (p : ℕ) (l : Left) (x : Tree) (k : ℕ) (y : Tree) (r 
   two = more x k (one y)
 
   pub first-child : getD (children (nodeAt c p)) j 0 ≡ root x
-  first-child = rw (parent-children c p l two r w) (getD-at (roots-left l) (root x) (root y ∷ roots-right r) 0 j (length-roots-left l ∙ at-j))
+  first-child = rw (parent-children c p l two r w) (getD-at (rootsLeft l) (root x) (root y ∷ rootsRight r) 0 j (length-roots-left l ∙ at-j))
 
   pub second-child : getD (children (nodeAt c p)) (suc j) 0 ≡ root y
-  second-child = rw (parent-children c p l two r w) (getD-right (roots-left l) (root x ∷ root y ∷ roots-right r) j (suc j) 1 (length-roots-left l ∙ at-j) (omega arith))
+  second-child = rw (parent-children c p l two r w) (getD-right (rootsLeft l) (root x ∷ root y ∷ rootsRight r) j (suc j) 1 (length-roots-left l ∙ at-j) (omega arith))
 
   pub key-between : getD (routingKeys (nodeAt c p)) j 0 ≡ k
-  key-between = rw (parent-routing c p l two r w) (getD-at (routing-left l) k (routing-right r) 0 j (length-routing-left l ∙ at-j))
+  key-between = rw (parent-routing c p l two r w) (getD-at (routingLeft l) k (routingRight r) 0 j (length-routing-left l ∙ at-j))
 
   pub both-there : suc j < length (children (nodeAt c p))
-  both-there = rw (parent-children c p l two r w) (omega (arith, length-append (roots-left l) (root x ∷ root y ∷ roots-right r), length-roots-left l))
+  both-there = rw (parent-children c p l two r w) (omega (arith, length-append (rootsLeft l) (root x ∷ root y ∷ rootsRight r), length-roots-left l))
 
   pub two-represented : Represents c x × Represents c y
   two-represented = represents-splice c l two r (w .1) .0

@@ -9,10 +9,10 @@ use Prim.Native.Nat.{ℕ, zero, suc, _≤_, _<_}
 use native.Mathlib.Omega.{arith}
 use lib.ListN.{length, set, drop, length-append}
 use Rattle.card.specs.Stores.{Store}
-use Rattle.demands.specs.Events.{Event, World, reply-to, happens, run, LeftUncut, steps-in, find, insert, delete, step, cut}
+use Rattle.demands.specs.Events.{Event, World, replyTo, happens, run, LeftUncut, stepsIn, find, insert, delete, step, cut}
 use Rattle.demands.specs.Demand2.{storeAt, StoresNow, Makes, Between, Repairs, Updates, done, mends as mends-by, no-change, changes}
 use Rattle.demands.specs.Rules.{Given, lastGivenOf, marked}
-use Rattle.demands.specs.RationTable.{ration-table}
+use Rattle.demands.specs.RationTable.{rationTable}
 use Rattle.demands.proofs.Making.{Nears, nearer, Left, find-same, same-insert, same-delete, run-left, stores-each}
 use Rattle.plans.specs.Planning.{Preparation, lastOf, withAll, refused, balanced, prepared}
 use Rattle.state.specs.Answers.{stepReply}
@@ -39,20 +39,20 @@ use Rattle.promises.proofs.Starting.{nodes-same}
 use Rattle.demands.proofs.SameBook.{worldly}
 use Rattle.demands.proofs.PowerCuts.{Covered}
 use Rattle.promises.proofs.Ledger.{Update, Hand, was-final}
-use Rattle.promises.proofs.Stepping.{Right, final-due, right-final, kept-step, mends, rests}
+use Rattle.promises.proofs.Stepping.{Right, finalDue, right-final, kept-step, mends, rests}
 use Rattle.promises.proofs.PowerLoss.{loosen}
 use Rattle.promises.proofs.Finished.{work-not-refused}
-use Rattle.promises.proofs.Feeding.{step-result}
+use Rattle.promises.proofs.Feeding.{stepResult}
 use Rattle.promises.proofs.Steps.{memory, step-repairs, prepared-ready, prepared-first, step-puts, step-removes}
-use Rattle.tree.proofs.Path.{depth-of}
+use Rattle.tree.proofs.Path.{depthOf}
 use Rattle.tree.specs.FreeNodes.{Exact}
 use Rattle.tree.specs.Tree.{Tree}
-use Rattle.tree.specs.Violations.{table-violations}
+use Rattle.tree.specs.Violations.{tableViolations}
 
 -- a run without a cut either has no step and leaves the world, or goes on from its first step
-first-step : (w : World ration-table) (qs : List Event) → LeftUncut ration-table qs w
-    → ((steps-in qs ≡ 0) × (run ration-table qs w ≡ w))
-    ⊎ ((rest : List Event) × LeftUncut ration-table rest (happens ration-table step w) × (steps-in qs ≡ suc (steps-in rest)) × (run ration-table qs w ≡ run ration-table rest (happens ration-table step w)))
+first-step : (w : World rationTable) (qs : List Event) → LeftUncut rationTable qs w
+    → ((stepsIn qs ≡ 0) × (run rationTable qs w ≡ w))
+    ⊎ ((rest : List Event) × LeftUncut rationTable rest (happens rationTable step w) × (stepsIn qs ≡ suc (stepsIn rest)) × (run rationTable qs w ≡ run rationTable rest (happens rationTable step w)))
 unfolding LeftUncut run
 first-step w [] u = inl (refl, refl)
 first-step w (find key ∷ qs) u = rw (find-same key w) (first-step w qs (rw (find-same key w) at (u .1)))
@@ -95,60 +95,60 @@ drop-some (s ∷ ss) zero h = omega arith
 drop-some (s ∷ ss) (suc k) h = drop-some ss k (omega arith)
 
 -- A change whose first store the next step makes, with m the plan and the rest of the stores to come.
-module _ (final : Answer) (most : ℕ) (w : World ration-table) (x : Nears final most w) (m : Memory) (s : Store) (rest : List Store)
+module _ (final : Answer) (most : ℕ) (w : World rationTable) (x : Nears final most w) (m : Memory) (s : Store) (rest : List Store)
     (first : stepOf (w .card) (w .state) ≡ record { answer = Stored; card = set (w .card) (s .0) (s .1); memory = advanced m rest })
   where
-    first-stored : StoresNow ration-table w s
-    unfolding reply-to happens stepReply
+    first-stored : StoresNow rationTable w s
+    unfolding replyTo happens stepReply
     first-stored = record { reply-given = rw first; one-store = rw first }
 
-    then-left : (few : ℕ) × (most ≡ suc few) × Left final m few rest (happens ration-table step w)
+    then-left : (few : ℕ) × (most ≡ suc few) × Left final m few rest (happens rationTable step w)
     unfolding happens
     then-left =
         let q = nearer final most w x (ap (λ z. z .answer) first) in
         (q .0, q .1, record { nears = q .2; is-left = ap (λ z. z .memory) first })
 
-    pub all-left : (qs : List Event) → LeftUncut ration-table qs w → steps-in qs ≡ suc (length rest) → (few : ℕ) × (few < most) × Left final m few [] (run ration-table qs w)
+    pub all-left : (qs : List Event) → LeftUncut rationTable qs w → stepsIn qs ≡ suc (length rest) → (few : ℕ) × (few < most) × Left final m few [] (run rationTable qs w)
     all-left qs u h = at (first-step w qs u)
       where
-        at : ((steps-in qs ≡ 0) × (run ration-table qs w ≡ w)) ⊎ ((more : List Event) × LeftUncut ration-table more (happens ration-table step w) × (steps-in qs ≡ suc (steps-in more)) × (run ration-table qs w ≡ run ration-table more (happens ration-table step w)))
-            → (few : ℕ) × (few < most) × Left final m few [] (run ration-table qs w)
+        at : ((stepsIn qs ≡ 0) × (run rationTable qs w ≡ w)) ⊎ ((more : List Event) × LeftUncut rationTable more (happens rationTable step w) × (stepsIn qs ≡ suc (stepsIn more)) × (run rationTable qs w ≡ run rationTable more (happens rationTable step w)))
+            → (few : ℕ) × (few < most) × Left final m few [] (run rationTable qs w)
         at (inl (z, e)) = absurd (omega (arith, z, h))
         at (inr (more, v, k, e)) =
             let l = then-left in
-            let r = run-left final m (l .0) rest (happens ration-table step w) (l .2) more v (omega (arith, k, h)) in
-            let d = drop-all rest (steps-in more) (omega (arith, k, h)) in
-            (r .0, omega (arith, r .1, l .1), rw e (subst (λ (y : List Store). Left final m (r .0) y (run ration-table more (happens ration-table step w))) d (r .2)))
+            let r = run-left final m (l .0) rest (happens rationTable step w) (l .2) more v (omega (arith, k, h)) in
+            let d = drop-all rest (stepsIn more) (omega (arith, k, h)) in
+            (r .0, omega (arith, r .1, l .1), rw e (subst (λ (y : List Store). Left final m (r .0) y (run rationTable more (happens rationTable step w))) d (r .2)))
 
     module _ (given out : List ℕ) (taken : Given (w .state .free) (w .state .last) given) (is-free : m .free ≡ marked false given (w .state .free)) (is-last : m .last ≡ lastGivenOf (w .state .last) given) (is-cut : m .cut ≡ out) (freed : withAll out (m .free) ≡ marked true out (m .free)) where
-      pub change-made : Makes ration-table w given out (s ∷ rest)
+      pub change-made : Makes rationTable w given out (s ∷ rest)
       change-made = record { taken = taken; last-taken = last; each = each; free-within = within; free-after = after }
         where
-          each : (qs : List Event) → LeftUncut ration-table qs w → steps-in qs < suc (length rest) → StoresNow ration-table (run ration-table qs w) (storeAt (s ∷ rest) (steps-in qs))
+          each : (qs : List Event) → LeftUncut rationTable qs w → stepsIn qs < suc (length rest) → StoresNow rationTable (run rationTable qs w) (storeAt (s ∷ rest) (stepsIn qs))
           each qs u h = at (first-step w qs u)
             where
-              at : ((steps-in qs ≡ 0) × (run ration-table qs w ≡ w)) ⊎ ((more : List Event) × LeftUncut ration-table more (happens ration-table step w) × (steps-in qs ≡ suc (steps-in more)) × (run ration-table qs w ≡ run ration-table more (happens ration-table step w)))
-                  → StoresNow ration-table (run ration-table qs w) (storeAt (s ∷ rest) (steps-in qs))
+              at : ((stepsIn qs ≡ 0) × (run rationTable qs w ≡ w)) ⊎ ((more : List Event) × LeftUncut rationTable more (happens rationTable step w) × (stepsIn qs ≡ suc (stepsIn more)) × (run rationTable qs w ≡ run rationTable more (happens rationTable step w)))
+                  → StoresNow rationTable (run rationTable qs w) (storeAt (s ∷ rest) (stepsIn qs))
               at (inl (z, e)) = rw (z, e) first-stored
-              at (inr (more, v, k, e)) = rw (k, e) (stores-each final m (then-left .0) rest (happens ration-table step w) (then-left .2) more v (omega (arith, k, h)))
+              at (inr (more, v, k, e)) = rw (k, e) (stores-each final m (then-left .0) rest (happens rationTable step w) (then-left .2) more v (omega (arith, k, h)))
 
-          state-at : (qs : List Event) → LeftUncut ration-table qs w → 0 < steps-in qs → steps-in qs ≤ suc (length rest) → (k : ℕ) × (steps-in qs ≡ suc k) × (run ration-table qs w .state ≡ advanced m (drop k rest))
+          state-at : (qs : List Event) → LeftUncut rationTable qs w → 0 < stepsIn qs → stepsIn qs ≤ suc (length rest) → (k : ℕ) × (stepsIn qs ≡ suc k) × (run rationTable qs w .state ≡ advanced m (drop k rest))
           state-at qs u p h = at (first-step w qs u)
             where
-              at : ((steps-in qs ≡ 0) × (run ration-table qs w ≡ w)) ⊎ ((more : List Event) × LeftUncut ration-table more (happens ration-table step w) × (steps-in qs ≡ suc (steps-in more)) × (run ration-table qs w ≡ run ration-table more (happens ration-table step w)))
-                  → (k : ℕ) × (steps-in qs ≡ suc k) × (run ration-table qs w .state ≡ advanced m (drop k rest))
+              at : ((stepsIn qs ≡ 0) × (run rationTable qs w ≡ w)) ⊎ ((more : List Event) × LeftUncut rationTable more (happens rationTable step w) × (stepsIn qs ≡ suc (stepsIn more)) × (run rationTable qs w ≡ run rationTable more (happens rationTable step w)))
+                  → (k : ℕ) × (stepsIn qs ≡ suc k) × (run rationTable qs w .state ≡ advanced m (drop k rest))
               at (inl (z, e)) = absurd (omega (arith, z, p))
-              at (inr (more, v, k, e)) = (steps-in more, k, rw e (run-left final m (then-left .0) rest (happens ration-table step w) (then-left .2) more v (omega (arith, k, h)) .2 .is-left))
+              at (inr (more, v, k, e)) = (stepsIn more, k, rw e (run-left final m (then-left .0) rest (happens rationTable step w) (then-left .2) more v (omega (arith, k, h)) .2 .is-left))
 
-          last : (qs : List Event) → LeftUncut ration-table qs w → 0 < steps-in qs → steps-in qs ≤ suc (length rest) → run ration-table qs w .state .last ≡ lastGivenOf (w .state .last) given
+          last : (qs : List Event) → LeftUncut rationTable qs w → 0 < stepsIn qs → stepsIn qs ≤ suc (length rest) → run rationTable qs w .state .last ≡ lastGivenOf (w .state .last) given
           last qs u p h = let a = state-at qs u p h in ap (λ (y : Memory). y .last) (a .2) ∙ advanced-last m (drop (a .0) rest) ∙ is-last
 
-          within : (qs : List Event) → LeftUncut ration-table qs w → 0 < steps-in qs → steps-in qs < suc (length rest) → run ration-table qs w .state .free ≡ marked false given (w .state .free)
+          within : (qs : List Event) → LeftUncut rationTable qs w → 0 < stepsIn qs → stepsIn qs < suc (length rest) → run rationTable qs w .state .free ≡ marked false given (w .state .free)
           within qs u p h =
               let a = state-at qs u p (omega arith) in
               ap (λ (y : Memory). y .free) (a .2) ∙ advanced-free m (drop (a .0) rest) (drop-some rest (a .0) (omega (arith, a .1, h))) ∙ is-free
 
-          after : (qs : List Event) → LeftUncut ration-table qs w → steps-in qs ≡ suc (length rest) → run ration-table qs w .state .free ≡ marked true out (marked false given (w .state .free))
+          after : (qs : List Event) → LeftUncut rationTable qs w → stepsIn qs ≡ suc (length rest) → run rationTable qs w .state .free ≡ marked true out (marked false given (w .state .free))
           after qs u h =
               let a = state-at qs u (omega arith) (omega arith) in
               ap (λ (y : Memory). y .free) (a .2 ∙ ap (advanced m) (drop-all rest (a .0) (omega (arith, a .1, h)))) ∙ advanced-all m ∙ ap (λ (y : List ℕ). withAll y (m .free)) is-cut ∙ freed ∙ ap (marked true out) is-free
@@ -177,9 +177,9 @@ record RepairNext (c : List ℕ) (n : ℕ) (m : Memory) : Type 0 where
 
 -- the final answer, or the next change
 abbrev Turns : List ℕ → ℕ → Tree → Memory → Option Answer → Type 0
-Turns c n t m due = Exact n (m .free) t × (((table-violations t ≡ 0) × (stepOf c m .answer ≡ final-due due)) ⊎ RepairNext c n m)
+Turns c n t m due = Exact n (m .free) t × (((tableViolations t ≡ 0) × (stepOf c m .answer ≡ finalDue due)) ⊎ RepairNext c n m)
 
-entered-due : {doing : Doing} {key : ℕ} {final : Answer} {u : Option Update} {h : Hand} {due : Option Answer} → Job doing key final u → Entered u final h due → final ≡ final-due due
+entered-due : {doing : Doing} {key : ℕ} {final : Answer} {u : Option Update} {h : Hand} {due : Option Answer} → Job doing key final u → Entered u final h due → final ≡ finalDue due
 entered-due job-repair no-update = refl
 entered-due job-insert updated = refl
 entered-due job-delete updated = refl
@@ -209,7 +209,7 @@ turns-at {c} {n} {t} {due = due} b o (stage-between {free} {last} {key} {doing} 
     (x, inl (z, ap (λ y. y .answer) (step-repairs c n (b .sized) (b .header) free last j ∙ prepared-ready c (memory n free last doing [] []) doing final (nextRepair c n key free last) (rests c n key t free last b z)) ∙ entered-due j en))
 turns-at {c} {n} {t} {due = due} b o (stage-between {free} {last} {key} {doing} {final} j en deep (violated v w r) x few hd) e k = (x, inr (apply (mends c n key t free last b x v w r)))
   where
-    apply : Repaired c n key t free last (depth-of (v .context)) → RepairNext c n (memory n free last doing [] [])
+    apply : Repaired c n key t free last (depthOf (v .context)) → RepairNext c n (memory n free last doing [] [])
     apply q = split (q .stores) refl
       where
         split : (ss : List Store) → q .stores ≡ ss → RepairNext c n (memory n free last doing [] [])
@@ -229,18 +229,18 @@ turns-at {c} {n} {t} {due = due} b o (stage-between {free} {last} {key} {doing} 
             }
 
 -- one turn of a repair, where all that come after it are by the rules
-repair-next : (final : Answer) (most : ℕ) (w : World ration-table) (x : Nears final most w) → Begun (w .state .doing) → Turns (w .card) (x .covered .size) (x .covered .inv .tree) (w .state) (x .covered .due)
-    → ((few : ℕ) (v : World ration-table) → few < most → Nears final few v → v .state .rest ≡ [] → Begun (v .state .doing) → Repairs ration-table (stepReply final) v) → Repairs ration-table (stepReply final) w
-unfolding reply-to
+repair-next : (final : Answer) (most : ℕ) (w : World rationTable) (x : Nears final most w) → Begun (w .state .doing) → Turns (w .card) (x .covered .size) (x .covered .inv .tree) (w .state) (x .covered .due)
+    → ((few : ℕ) (v : World rationTable) → few < most → Nears final few v → v .state .rest ≡ [] → Begun (v .state .doing) → Repairs rationTable (stepReply final) v) → Repairs rationTable (stepReply final) w
+unfolding replyTo
 repair-next final most w x k (exact, turn) later = at turn
   where
     v : Covered w (x .book-now)
     v = x .covered
 
-    between : Between ration-table w (v .inv .tree)
+    between : Between rationTable w (v .inv .tree)
     between = record { sound = table-well-formed (v .inv .table); free-exact = subst (λ y. Exact y (w .state .free) (v .inv .tree)) (sym (nodes-same (v .size) (v .steps) (worldly w) (v .was-kept) (v .due) (v .inv))) exact }
 
-    at : ((table-violations (v .inv .tree) ≡ 0) × (stepOf (w .card) (w .state) .answer ≡ final-due (v .due))) ⊎ RepairNext (w .card) (v .size) (w .state) → Repairs ration-table (stepReply final) w
+    at : ((tableViolations (v .inv .tree) ≡ 0) × (stepOf (w .card) (w .state) .answer ≡ finalDue (v .due))) ⊎ RepairNext (w .card) (v .size) (w .state) → Repairs rationTable (stepReply final) w
     at (inl (z, a)) = done (v .inv .tree) between z (ap stepReply (a ∙ x .is-due))
     at (inr q) =
         let r = repair-by-rule (w .card) (v .size) (q .key) (q .planned) in
@@ -248,10 +248,10 @@ repair-next final most w x k (exact, turn) later = at turn
         mends-by (v .inv .tree) between (r .rule)
         (change-made final most w x m (q .first) (q .rest) (q .first-made) (r .given) (q .out) (r .in-turn) (r .left) (r .given-last ∙ last-same (w .state .last) (r .given)) refl (cut-marked (q .out) (q .then-free)))
         (λ qs u n. let l = all-left final most w x m (q .first) (q .rest) (q .first-made) qs u n in
-        later (l .0) (run ration-table qs w) (l .1) (l .2 .nears) (ap (λ (y : Memory). y .rest) (l .2 .is-left) ∙ advanced-none m) (subst Begun (sym (ap (λ (y : Memory). y .doing) (l .2 .is-left) ∙ advanced-same m)) k))
+        later (l .0) (run rationTable qs w) (l .1) (l .2 .nears) (ap (λ (y : Memory). y .rest) (l .2 .is-left) ∙ advanced-none m) (subst Begun (sym (ap (λ (y : Memory). y .doing) (l .2 .is-left) ∙ advanced-same m)) k))
 
 -- "Repairs go on until balanced": as many changes as there are steps left, at most
-pub repairs-by-rules : (final : Answer) (bound most : ℕ) (w : World ration-table) → most < bound → Nears final most w → w .state .rest ≡ [] → Begun (w .state .doing) → Repairs ration-table (stepReply final) w
+pub repairs-by-rules : (final : Answer) (bound most : ℕ) (w : World rationTable) → most < bound → Nears final most w → w .state .rest ≡ [] → Begun (w .state .doing) → Repairs rationTable (stepReply final) w
 repairs-by-rules final zero most w h x e k = absurd (omega arith)
 repairs-by-rules final (suc bound) most w h x e k =
     repair-next final most w x k (turns-at (x .covered .inv .table) (x .covered .inv .openable) (x .covered .inv .stage) e k)
@@ -260,14 +260,14 @@ repairs-by-rules final (suc bound) most w h x e k =
 -- ---- the first change of an update
 
 -- a final answer is one that the book counts as final
-final-counts : (a : Answer) → Final a → step-result a ≡ was-final
-unfolding step-result
+final-counts : (a : Answer) → Final a → stepResult a ≡ was-final
+unfolding stepResult
 final-counts a (inl e) = rw e
 final-counts a (inr (inl (v, e))) = rw e
 final-counts a (inr (inr e)) = rw e
 
 -- The first step of an update: what is planned is by the rule, or there is nothing to change.
-module _ (final : Answer) (most : ℕ) (w : World ration-table) (x : Nears final most w) (busy : isIdle (w .state .doing) ≡ false) (Nothing : Type 0) (Rule : List ℕ → List ℕ → List Store → Type 0) where
+module _ (final : Answer) (most : ℕ) (w : World rationTable) (x : Nears final most w) (busy : isIdle (w .state .doing) ≡ false) (Nothing : Type 0) (Rule : List ℕ → List ℕ → List Store → Type 0) where
   not-refused : (r : ℕ) → stepOf (w .card) (w .state) ≡ stepRefused r (w .card) (w .state) → ⊥
   unfolding stepRefused
   not-refused r e = let v = x .covered in work-not-refused (v .size) (v .steps) (worldly w) (v .was-kept) (v .due) (v .inv) busy r (ap (λ y. y .answer) e)
@@ -280,11 +280,11 @@ module _ (final : Answer) (most : ℕ) (w : World ration-table) (x : Nears final
       right-final (subst (λ y. Right y (v .due)) (ap (λ y. y .answer) e) (q .1)) (final-counts a f) ∙ x .is-due
 
   pub first-by-rules : (f : FirstChange) → stepOf (w .card) (w .state) ≡ stepBegin (w .card) (w .state) f → Final (f .final) → (f .preparation ≡ balanced → f .final ≡ final → Nothing)
-      → ((ss : List Store) (fewer : List Bool) (now : ℕ) (out : List ℕ) → f .preparation ≡ prepared ss fewer now out → ByRule Rule (w .state .free) (w .state .last) ss fewer now out × Begun (f .doing)) → Updates ration-table Nothing Rule (stepReply final) w
-  unfolding stepBegin stepPrepared stepFirst stepStore planning reply-to stepFinal
+      → ((ss : List Store) (fewer : List Bool) (now : ℕ) (out : List ℕ) → f .preparation ≡ prepared ss fewer now out → ByRule Rule (w .state .free) (w .state .last) ss fewer now out × Begun (f .doing)) → Updates rationTable Nothing Rule (stepReply final) w
+  unfolding stepBegin stepPrepared stepFirst stepStore planning replyTo stepFinal
   first-by-rules f e fin none-due rule = at (f .preparation) refl
     where
-      at : (p : Preparation) → f .preparation ≡ p → Updates ration-table Nothing Rule (stepReply final) w
+      at : (p : Preparation) → f .preparation ≡ p → Updates rationTable Nothing Rule (stepReply final) w
       at refused q = absurd (not-refused 9 (e ∙ ap (stepPrepared (w .card) (w .state) (f .doing) (f .final)) q))
       at balanced q =
           let s : stepOf (w .card) (w .state) ≡ stepFinal (f .final) (w .card) (w .state) = e ∙ ap (stepPrepared (w .card) (w .state) (f .doing) (f .final)) q in
@@ -297,13 +297,13 @@ module _ (final : Answer) (most : ℕ) (w : World ration-table) (x : Nears final
           m : Memory
           m = memory (w .state .nodes) fewer now (f .doing) [] out
 
-          inside : s .0 < length (w .card) → Updates ration-table Nothing Rule (stepReply final) w
+          inside : s .0 < length (w .card) → Updates rationTable Nothing Rule (stepReply final) w
           inside o =
               let first : stepOf (w .card) (w .state) ≡ record { answer = Stored; card = set (w .card) (s .0) (s .1); memory = advanced (memory (w .state .nodes) fewer now (f .doing) [] out) rest } = e ∙ ap (stepPrepared (w .card) (w .state) (f .doing) (f .final)) q ∙ rw (lt-ltb (s .0) (length (w .card)) o) in
               let r = rule (s ∷ rest) fewer now out q in
               changes (r .0 .rule) (change-made final most w x m s rest first (r .0 .given) out (r .0 .in-turn) (r .0 .left) (r .0 .given-last ∙ last-same (w .state .last) (r .0 .given)) refl (cut-marked out fewer))
               (λ qs u n. let l = all-left final most w x m s rest first qs u n in
-              repairs-by-rules final (suc (l .0)) (l .0) (run ration-table qs w) (omega arith) (l .2 .nears) (ap (λ (y : Memory). y .rest) (l .2 .is-left) ∙ advanced-none m) (subst Begun (sym (ap (λ (y : Memory). y .doing) (l .2 .is-left) ∙ advanced-same m)) (r .1)))
+              repairs-by-rules final (suc (l .0)) (l .0) (run rationTable qs w) (omega arith) (l .2 .nears) (ap (λ (y : Memory). y .rest) (l .2 .is-left) ∙ advanced-none m) (subst Begun (sym (ap (λ (y : Memory). y .doing) (l .2 .is-left) ∙ advanced-same m)) (r .1)))
 
 -- where an update stands that has just been started
 pub put-turns : {c : List ℕ} {n : ℕ} {t goal : Tree} {steps : ℕ} {m : Memory} {h : Hand} {due : Option Answer} (key value : ℕ) → Table c n t → Stage c n t goal steps m h due → m .doing ≡ Inserting key value false

@@ -13,10 +13,10 @@ use Rattle.card.specs.Header.{nodesOfLength, cardRefusal, Sized, Formatted}
 use Rattle.card.specs.Layout.{depthLimit, rootPlace, nodeAt}
 use Rattle.card.specs.Replies.{Reply, refusal}
 use Rattle.demands.specs.Demand1.{Finds, HandsNone, StartsFormat, OpensTo}
-use Rattle.demands.specs.Refusals.{ByRows, nodes-on, NoCard, Unsound, Scarce, leads-to, find-rows, format-rows, open-rows, end, row}
-use Rattle.demands.specs.RationTable.{workOf, handed, ration-table}
+use Rattle.demands.specs.Refusals.{ByRows, nodesOn, NoCard, Unsound, Scarce, leadsTo, findRows, formatRows, openRows, end, row}
+use Rattle.demands.specs.RationTable.{workOf, handed, rationTable}
 use Rattle.demands.proofs.FirstRows.{sized?, no-nodes, by-card, card-one}
-use Rattle.demands.proofs.WayDown.{arrived, leaf-of, leaf-way}
+use Rattle.demands.proofs.WayDown.{arrived, reachedLeaf, leaf-way}
 use Rattle.descent.specs.Descent.{slotOf, leafFor}
 use Rattle.descent.specs.declared.Slot.{Slot}
 use Rattle.descent.specs.declared.Slot.the-variants.{At, Absent as NoSlot}
@@ -53,8 +53,8 @@ find-due c key r e d = rw (find-refused c key (λ z. d (sym e ∙ z)), e)
 pub none-some : {A P : Type 0} (x : A) → _≡_ {A = Option A} none (some x) → P
 none-some x e = let z : _≡_ {A = ℕ} 0 1 = cc in absurd (omega arith)
 
-leaf-none : (o : Option (ℕ × ℕ)) → leaf-of o ≡ none → o ≡ none
-unfolding leaf-of
+leaf-none : (o : Option (ℕ × ℕ)) → reachedLeaf o ≡ none → o ≡ none
+unfolding reachedLeaf
 leaf-none none e = refl
 leaf-none (some l) e = none-some (l .0) (sym e)
 
@@ -63,48 +63,48 @@ unfolding foundIn foundReply
 found-works words (At i) = inl (getD words (12 + i) 0, refl)
 found-works words NoSlot = inr refl
 
-pub finds : (c : List ℕ) (key : ℕ) → ByRows (find-rows c key) (λ r. ration-table .find c key ≡ refusal r) (Finds (ration-table .find c key))
-unfolding ByRows foundAt foundReply arrived leaf-of
+pub finds : (c : List ℕ) (key : ℕ) → ByRows (findRows c key) (λ r. rationTable .find c key ≡ refusal r) (Finds (rationTable .find c key))
+unfolding ByRows foundAt foundReply arrived reachedLeaf
 finds c key =
-    by-card (row 6 (key ≡ 0) (row 9 (leads-to c key ≡ none) end)) (λ r. foundReply (findOf c key) ≡ refusal r) (Finds (foundReply (findOf c key))) c (nodes-on c)
+    by-card (row 6 (key ≡ 0) (row 9 (leadsTo c key ≡ none) end)) (λ r. foundReply (findOf c key) ≡ refusal r) (Finds (foundReply (findOf c key))) c (nodesOn c)
     (λ p. find-due c key 1 (card-one c p) (λ z. omega (arith, z)))
-    (λ r s e d. find-due c key r (length-accepted c (nodes-on c) s ∙ e) d)
+    (λ r s e d. find-due c key r (length-accepted c (nodesOn c) s ∙ e) d)
     past
   where
-    past : Sized (length c) (nodes-on c) → Formatted c (nodes-on c) → ByRows (row 6 (key ≡ 0) (row 9 (leads-to c key ≡ none) end)) (λ r. foundReply (findOf c key) ≡ refusal r) (Finds (foundReply (findOf c key)))
+    past : Sized (length c) (nodesOn c) → Formatted c (nodesOn c) → ByRows (row 6 (key ≡ 0) (row 9 (leadsTo c key ≡ none) end)) (λ r. foundReply (findOf c key) ≡ refusal r) (Finds (foundReply (findOf c key)))
     past s f = keyed (ℕ-discrete key 0)
       where
-        a : (cardRefusal c ≡ 0) × (nodesOfLength (length c) ≡ nodes-on c)
+        a : (cardRefusal c ≡ 0) × (nodesOfLength (length c) ≡ nodesOn c)
         a = card-accepted s f
 
-        at : (key ≡ 0 → ⊥) → (x : Way) → leafFor c (nodes-on c) key depthLimit (getD c rootPlace 0) ≡ x → ((leads-to c key ≡ none) × (foundReply (findOf c key) ≡ refusal 9)) ⊎ ((leads-to c key ≡ none → ⊥) × Finds (foundReply (findOf c key)))
-        at d NoWay e = inl (leaf-none (leads-to c key) (sym (leaf-way c key depthLimit 0 (getD c rootPlace 0)) ∙ ap arrived e), rw (find-key c key (a .0) d, a .1, e))
+        at : (key ≡ 0 → ⊥) → (x : Way) → leafFor c (nodesOn c) key depthLimit (getD c rootPlace 0) ≡ x → ((leadsTo c key ≡ none) × (foundReply (findOf c key) ≡ refusal 9)) ⊎ ((leadsTo c key ≡ none → ⊥) × Finds (foundReply (findOf c key)))
+        at d NoWay e = inl (leaf-none (leadsTo c key) (sym (leaf-way c key depthLimit 0 (getD c rootPlace 0)) ∙ ap arrived e), rw (find-key c key (a .0) d, a .1, e))
         at d (LeafAt m deep) e = inr (
-          λ z. none-some m (sym (ap leaf-of z) ∙ sym (leaf-way c key depthLimit 0 (getD c rootPlace 0)) ∙ ap arrived e),
+          λ z. none-some m (sym (ap reachedLeaf z) ∙ sym (leaf-way c key depthLimit 0 (getD c rootPlace 0)) ∙ ap arrived e),
           rw (find-key c key (a .0) d, a .1, e) (found-works (nodeAt c m) (slotOf (nodeAt c m) key)),
         )
 
-        keyed : Dec (key ≡ 0) → ((key ≡ 0) × (foundReply (findOf c key) ≡ refusal 6)) ⊎ ((key ≡ 0 → ⊥) × (((leads-to c key ≡ none) × (foundReply (findOf c key) ≡ refusal 9)) ⊎ ((leads-to c key ≡ none → ⊥) × Finds (foundReply (findOf c key)))))
+        keyed : Dec (key ≡ 0) → ((key ≡ 0) × (foundReply (findOf c key) ≡ refusal 6)) ⊎ ((key ≡ 0 → ⊥) × (((leadsTo c key ≡ none) × (foundReply (findOf c key) ≡ refusal 9)) ⊎ ((leadsTo c key ≡ none → ⊥) × Finds (foundReply (findOf c key)))))
         keyed (yes z) = inl (z, rw (find-no-key c key (a .0) z))
-        keyed (no d) = inr (d, at d (leafFor c (nodes-on c) key depthLimit (getD c rootPlace 0)) refl)
+        keyed (no d) = inr (d, at d (leafFor c (nodesOn c) key depthLimit (getD c rootPlace 0)) refl)
 
 -- ---- formatting
 
-none-handed : (r : ℕ) → HandsNone ration-table (handed (noBeginning r)) r
+none-handed : (r : ℕ) → HandsNone rationTable (handed (noBeginning r)) r
 unfolding noBeginning noMemory workOf startReply
 none-handed r = record { number-given = refl; idle-state = refl; no-nodes = refl }
 
-format-begun : (c : List ℕ) → StartsFormat ration-table c (handed (record { begun = Started; memory = formatMemory (nodes-on c) 0 }))
+format-begun : (c : List ℕ) → StartsFormat rationTable c (handed (record { begun = Started; memory = formatMemory (nodesOn c) 0 }))
 unfolding resting workOf startReply
 format-begun c = record { reply-given = refl; in-progress = refl; nodes-noted = refl }
 
-pub formats : (c : List ℕ) → ByRows (format-rows c) (HandsNone ration-table (ration-table .format c)) (StartsFormat ration-table c (ration-table .format c))
+pub formats : (c : List ℕ) → ByRows (formatRows c) (HandsNone rationTable (rationTable .format c)) (StartsFormat rationTable c (rationTable .format c))
 unfolding ByRows
-formats c = go (sized? (length c) (nodes-on c))
+formats c = go (sized? (length c) (nodesOn c))
   where
-    go : Dec (Sized (length c) (nodes-on c)) → (NoCard c (nodes-on c) × HandsNone ration-table (handed (formatOf c)) 1) ⊎ ((NoCard c (nodes-on c) → ⊥) × StartsFormat ration-table c (handed (formatOf c)))
+    go : Dec (Sized (length c) (nodesOn c)) → (NoCard c (nodesOn c) × HandsNone rationTable (handed (formatOf c)) 1) ⊎ ((NoCard c (nodesOn c) → ⊥) × StartsFormat rationTable c (handed (formatOf c)))
     go (no p) = inl (p, rw (format-refused c (no-nodes c p)) (none-handed 1))
-    go (yes s) = inr (λ p. p s, rw (format-starts c (nodes-on c) s) (format-begun c))
+    go (yes s) = inr (λ p. p s, rw (format-starts c (nodesOn c) s) (format-begun c))
 
 -- ---- opening
 
@@ -120,49 +120,49 @@ reply-five : (c : List ℕ) (r : ℕ) → openOf c ≡ noBeginning r → startRe
 unfolding noBeginning startReply
 reply-five c r e = rw e
 
-pub opens : (c : List ℕ) → ByRows (open-rows c) (HandsNone ration-table (ration-table .openCard c)) (OpensTo ration-table c (ration-table .openCard c))
+pub opens : (c : List ℕ) → ByRows (openRows c) (HandsNone rationTable (rationTable .openCard c)) (OpensTo rationTable c (rationTable .openCard c))
 unfolding ByRows openOf openChecked noBeginning startReply resting workOf
 opens c =
-    by-card (row 4 (Unsound c) (row 5 (Scarce c) end)) (HandsNone ration-table (handed (openOf c))) (OpensTo ration-table c (handed (openOf c))) c (nodes-on c)
+    by-card (row 4 (Unsound c) (row 5 (Scarce c) end)) (HandsNone rationTable (handed (openOf c))) (OpensTo rationTable c (handed (openOf c))) c (nodesOn c)
     (λ p. rw (open-due c 1 (card-one c p) (λ z. omega (arith, z))) (none-handed 1))
-    (λ r s e d. rw (open-due c r (length-accepted c (nodes-on c) s ∙ e) d) (none-handed r))
+    (λ r s e d. rw (open-due c r (length-accepted c (nodesOn c) s ∙ e) d) (none-handed r))
     past
   where
-    past : Sized (length c) (nodes-on c) → Formatted c (nodes-on c) → ByRows (row 4 (Unsound c) (row 5 (Scarce c) end)) (HandsNone ration-table (handed (openOf c))) (OpensTo ration-table c (handed (openOf c)))
-    past s k = checked (tableCheck c (nodes-on c)) refl
+    past : Sized (length c) (nodesOn c) → Formatted c (nodesOn c) → ByRows (row 4 (Unsound c) (row 5 (Scarce c) end)) (HandsNone rationTable (handed (openOf c))) (OpensTo rationTable c (handed (openOf c)))
+    past s k = checked (tableCheck c (nodesOn c)) refl
       where
-        checked : (x : Option (ℕ × Findings)) → tableCheck c (nodes-on c) ≡ x → (Unsound c × HandsNone ration-table (handed (openOf c)) 4) ⊎ ((Unsound c → ⊥) × ((Scarce c × HandsNone ration-table (handed (openOf c)) 5) ⊎ ((Scarce c → ⊥) × OpensTo ration-table c (handed (openOf c)))))
+        checked : (x : Option (ℕ × Findings)) → tableCheck c (nodesOn c) ≡ x → (Unsound c × HandsNone rationTable (handed (openOf c)) 4) ⊎ ((Unsound c → ⊥) × ((Scarce c × HandsNone rationTable (handed (openOf c)) 5) ⊎ ((Scarce c → ⊥) × OpensTo rationTable c (handed (openOf c)))))
         checked none e =
             let a = card-accepted s k in
             let is : openOf c ≡ noBeginning 4 = rw (a .0, a .1, e) in
-            inl (refuses-unsound c (nodes-on c) s k .0 (reply-five c 4 is), rw is (none-handed 4))
+            inl (refuses-unsound c (nodesOn c) s k .0 (reply-five c 4 is), rw is (none-handed 4))
         checked (some (h, f)) e = inr (λ p. p (t .0, t .1), order (countTrue (f .free)) (3 + f .run) few enough)
           where
-            t : (t : Tree) × WellFormed c t × Facts c (nodes-on c) t h f
-            t = accepts-sound c (nodes-on c) (s .words) (s .most) h f e
+            t : (t : Tree) × WellFormed c t × Facts c (nodesOn c) t h f
+            t = accepts-sound c (nodesOn c) (s .words) (s .most) h f e
 
-            few : countTrue (f .free) < 3 + f .run → (Scarce c × HandsNone ration-table (handed (openOf c)) 5) ⊎ ((Scarce c → ⊥) × OpensTo ration-table c (handed (openOf c)))
+            few : countTrue (f .free) < 3 + f .run → (Scarce c × HandsNone rationTable (handed (openOf c)) 5) ⊎ ((Scarce c → ⊥) × OpensTo rationTable c (handed (openOf c)))
             few o =
-                let is : openOf c ≡ noBeginning 5 = open-sound c (nodes-on c) h f s k e ∙ sound-five (nodes-on c) f o in
-                inl (refuses-few c (nodes-on c) s k .0 (reply-five c 5 is), rw is (none-handed 5))
+                let is : openOf c ≡ noBeginning 5 = open-sound c (nodesOn c) h f s k e ∙ sound-five (nodesOn c) f o in
+                inl (refuses-few c (nodesOn c) s k .0 (reply-five c 5 is), rw is (none-handed 5))
 
-            enough : 3 + f .run ≤ countTrue (f .free) → (Scarce c × HandsNone ration-table (handed (openOf c)) 5) ⊎ ((Scarce c → ⊥) × OpensTo ration-table c (handed (openOf c)))
+            enough : 3 + f .run ≤ countTrue (f .free) → (Scarce c × HandsNone rationTable (handed (openOf c)) 5) ⊎ ((Scarce c → ⊥) × OpensTo rationTable c (handed (openOf c)))
             enough o = bool-cases (f .violated) broken whole
               where
-                broken : f .violated ≡ true → (Scarce c × HandsNone ration-table (handed (openOf c)) 5) ⊎ ((Scarce c → ⊥) × OpensTo ration-table c (handed (openOf c)))
+                broken : f .violated ≡ true → (Scarce c × HandsNone rationTable (handed (openOf c)) 5) ⊎ ((Scarce c → ⊥) × OpensTo rationTable c (handed (openOf c)))
                 broken q =
-                    let is = open-repair c (nodes-on c) h f s k e o q in
+                    let is = open-repair c (nodesOn c) h f s k e o q in
                     let code : startReply (openOf c .begun) .code ≡ 69 = rw is in
                     inr (
-                      λ p. omega (arith, code, ap (λ (x : Reply). x .code) (refuses-few c (nodes-on c) s k .1 p)),
+                      λ p. omega (arith, code, ap (λ (x : Reply). x .code) (refuses-few c (nodesOn c) s k .1 p)),
                       record { table = t .0; sound = t .1; hands = inr (omega (arith, t .2 .violated, bit-true (f .violated) q), rw is, rw is); nodes-noted = rw is; free-noted = rw is (facts-exact (t .2)); search-first = rw is },
                     )
 
-                whole : f .violated ≡ false → (Scarce c × HandsNone ration-table (handed (openOf c)) 5) ⊎ ((Scarce c → ⊥) × OpensTo ration-table c (handed (openOf c)))
+                whole : f .violated ≡ false → (Scarce c × HandsNone rationTable (handed (openOf c)) 5) ⊎ ((Scarce c → ⊥) × OpensTo rationTable c (handed (openOf c)))
                 whole q =
-                    let is = open-idle c (nodes-on c) h f s k e o q in
+                    let is = open-idle c (nodesOn c) h f s k e o q in
                     let code : startReply (openOf c .begun) .code ≡ 68 = rw is in
                     inr (
-                      λ p. omega (arith, code, ap (λ (x : Reply). x .code) (refuses-few c (nodes-on c) s k .1 p)),
+                      λ p. omega (arith, code, ap (λ (x : Reply). x .code) (refuses-few c (nodesOn c) s k .1 p)),
                       record { table = t .0; sound = t .1; hands = inl (omega (arith, t .2 .violated, bit-false (f .violated) q), rw is, rw is); nodes-noted = rw is; free-noted = rw is (facts-exact (t .2)); search-first = rw is },
                     )

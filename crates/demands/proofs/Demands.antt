@@ -5,7 +5,7 @@ use Rattle.demands.specs.Demand2.{Demand2}
 use Rattle.demands.specs.Demand3.{Demand3}
 use Rattle.demands.specs.Dumps.{Dumps}
 use Rattle.demands.specs.List.{ListProgram}
-use Rattle.demands.specs.RationTable.{ration-table}
+use Rattle.demands.specs.RationTable.{rationTable}
 use Rattle.demands.specs.W201.{W201}
 use Rattle.demands.specs.W202.{W202}
 use Rattle.demands.specs.W209.{W209}
@@ -30,33 +30,33 @@ use Rattle.reason_printing.specs.ReasonText.{checkText}
 use Rattle.records.specs.Records.{recordOf, fetchOf, fetchReply}
 use Rattle.successor.specs.Successor.{nextOf, nextReply}
 
-pub demand-1 : Demand1 ration-table
+pub demand-1 : Demand1 rationTable
 demand-1 = rows-kept
 
-pub demand-2 : Demand2 ration-table
+pub demand-2 : Demand2 rationTable
 demand-2 = dictionary-kept
 
-pub demand-3 : Demand3 ration-table
+pub demand-3 : Demand3 rationTable
 demand-3 = book-kept
 
 pub dumps : Dumps (λ dump lent. (dumpReply (readAnswer dump (length lent)), readOver dump lent))
     (λ card lent. (dumpReply (writeAnswer card (length lent)), writeOver card lent))
 dumps = dumps-kept
 
-pub list-program : ListProgram ration-table listCard dumpText
+pub list-program : ListProgram rationTable listCard dumpText
 list-program = list-kept
 
-pub w-201 : W201 ration-table (λ c number. nextReply (nextOf c number))
+pub w-201 : W201 rationTable (λ c number. nextReply (nextOf c number))
 w-201 = next-kept
 
 pub w-202 : W202 eightAt (λ dump lent. dumpReply (readAnswer dump lent))
 w-202 = padding-kept
 
-pub w-209 : W209 ration-table checkText
+pub w-209 : W209 rationTable checkText
 w-209 = reasons-kept
 
-pub w-213 : W213 ration-table recordOf (λ c key block. fetchReply (fetchOf c key block))
+pub w-213 : W213 rationTable recordOf (λ c key block. fetchReply (fetchOf c key block))
 w-213 = fetching-kept
 
-pub w-214 : W214 ration-table
+pub w-214 : W214 rationTable
 w-214 = depths-kept

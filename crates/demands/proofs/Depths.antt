@@ -9,11 +9,11 @@ use native.Mathlib.Numerals.{add-one}
 use lib.ListN.{length, replicate}
 use Rattle.demands.specs.Book.{Book}
 use Rattle.demands.specs.Demand2.{Finishes, Works}
-use Rattle.demands.specs.Events.{Event, World, reply-to, happens, LeftUncut, steps-in, insert, delete, step}
+use Rattle.demands.specs.Events.{Event, World, replyTo, happens, LeftUncut, stepsIn, insert, delete, step}
 use Rattle.demands.specs.Refusals.{Rows, ByRows, Idle}
 use Rattle.demands.specs.W214.{Levels, Line, storesAt, EndsByDepth, W214}
 use Rattle.demands.proofs.SameBook.{worldly, same-world}
-use Rattle.demands.specs.RationTable.{ration-table}
+use Rattle.demands.specs.RationTable.{rationTable}
 use Rattle.demands.proofs.Dictionary.{is-dictionary}
 use Rattle.demands.proofs.PowerCuts.{Covered, always, was-list, run-same, quiet-same, steps-same}
 use Rattle.demands.proofs.AnswerNumbers.{start-small}
@@ -23,7 +23,7 @@ use Rattle.card.specs.Layout.{keyLimit}
 use Rattle.card.specs.Replies.{Reply, refusal, stored, started}
 use Rattle.card.specs.Stores.{Store}
 use Rattle.laws.proofs.Cases.{order}
-use Rattle.promises.proofs.Feeding.{begun-result, dictionary-answer, due-after, due-after-start}
+use Rattle.promises.proofs.Feeding.{begunResult, dictionaryAnswer, dueAfter, dueAfterStart}
 use Rattle.promises.proofs.Finished.{work-finishes}
 use Rattle.promises.proofs.Finishing.{Finishes as WasFinishes}
 use Rattle.promises.proofs.Machine.{World as Worldly, happens as was-happens, insert as was-insert, delete as was-delete}
@@ -49,8 +49,8 @@ tree-levels c t b h level =
       few = λ n. let flat = few-pairs-flat h t level ok (b .none) n in (flat, flat-leaf t (subst (λ x. Height x t) flat level) ok);
     }
 
-module _ (w : World ration-table) (b : Book) (v : Covered w b) where
-  line : Idle ration-table (w .state) → Line (w .card) (b .held)
+module _ (w : World rationTable) (b : Book) (v : Covered w b) where
+  line : Idle rationTable (w .state) → Line (w .card) (b .held)
   line idle =
       let r = is-dictionary w b v .rests idle .right in
       let level = r .balanced .well-formed .level in
@@ -69,20 +69,20 @@ module _ (w : World ration-table) (b : Book) (v : Covered w b) where
 steps : ℕ → List Event
 steps k = replicate k step
 
-steps-uncut : (k : ℕ) (w : World ration-table) → LeftUncut ration-table (steps k) w
+steps-uncut : (k : ℕ) (w : World rationTable) → LeftUncut rationTable (steps k) w
 unfolding steps LeftUncut
 steps-uncut zero w = tt
-steps-uncut (suc k) w = (tt, steps-uncut k (happens ration-table step w))
+steps-uncut (suc k) w = (tt, steps-uncut k (happens rationTable step w))
 
-count-steps : (k : ℕ) → steps-in (steps k) ≡ k
+count-steps : (k : ℕ) → stepsIn (steps k) ≡ k
 unfolding steps
 count-steps zero = refl
 count-steps (suc k) = ap suc (count-steps k)
 
 -- the number of stores is one: where the final answer comes within fewer steps, they are no more
-sharpened : (few most : ℕ) (last final : Reply) (w : World ration-table) → (last .code ≡ 66 → ⊥) → WasFinishes few last (worldly w)
-    → Finishes ration-table most final w → Finishes ration-table few final w
-unfolding reply-to
+sharpened : (few most : ℕ) (last final : Reply) (w : World rationTable) → (last .code ≡ 66 → ⊥) → WasFinishes few last (worldly w)
+    → Finishes rationTable most final w → Finishes rationTable few final w
+unfolding replyTo
 sharpened few most last final w d g f =
     record {
       count = f .count;
@@ -100,19 +100,19 @@ sharpened few most last final w d g f =
         let still = subst (λ (x : Worldly). stepReply (stepOf (x .card) (x .memory) .answer) ≡ stored) (run-same qs w) (f .each-stores qs u (omega (arith, n))) in
         d (code-of (sym a ∙ still))
 
-final-code : (o : Option ℕ) → stepReply (dictionary-answer o) .code ≡ 66 → ⊥
-unfolding stepReply dictionary-answer
+final-code : (o : Option ℕ) → stepReply (dictionaryAnswer o) .code ≡ 66 → ⊥
+unfolding stepReply dictionaryAnswer
 final-code none e = omega arith
 final-code (some v) e = omega arith
 
-module _ (w : World ration-table) (b : Book) (v : Covered w b) (key : ℕ) (high : key < keyLimit) where
+module _ (w : World rationTable) (b : Book) (v : Covered w b) (key : ℕ) (high : key < keyLimit) where
   -- a call that is started was refused by no row
-  works : (e : Event) (Nothing : Type 0) (Rule : List ℕ → List ℕ → List Store → Type 0) (rows : Rows) → Numbers rows → ByRows rows (λ r. reply-to ration-table e w ≡ refusal r) (Works ration-table e Nothing Rule key w (b .held))
-      → reply-to ration-table e w ≡ started → Works ration-table e Nothing Rule key w (b .held)
+  works : (e : Event) (Nothing : Type 0) (Rule : List ℕ → List ℕ → List Store → Type 0) (rows : Rows) → Numbers rows → ByRows rows (λ r. replyTo rationTable e w ≡ refusal r) (Works rationTable e Nothing Rule key w (b .held))
+      → replyTo rationTable e w ≡ started → Works rationTable e Nothing Rule key w (b .held)
   works e Nothing Rule rows n p s = rows-elim rows n (λ r h q. absurd (omega (arith, code-of (sym q ∙ s)))) (λ q. q) p
 
-  insert-ends : (value : ℕ) → EndsByDepth ration-table (insert key value) key w (b .held)
-  unfolding reply-to was-happens due-after due-after-start begun-result insertOf
+  insert-ends : (value : ℕ) → EndsByDepth rationTable (insert key value) key w (b .held)
+  unfolding replyTo was-happens dueAfter dueAfterStart begunResult insertOf
   insert-ends value t sound h level s =
       let e =
       begun-started (insertOf (w .card) (w .state) key value .begun)
@@ -122,12 +122,12 @@ module _ (w : World ration-table) (b : Book) (v : Covered w b) (key : ℕ) (high
       let next = was-happens (was-insert key value) (worldly w) in
       let g = work-finishes (v .size) (q .0) (storesAt h) next _ _ (q .2 .0) (q .1 .busy e) (omega (arith, q .1 .steps-left e t sound h level)) in
       let due = lookup key (v .was-kept .held) in
-      sharpened (storesAt h) _ (stepReply (dictionary-answer due)) _ (happens ration-table (insert key value) w) (final-code due)
+      sharpened (storesAt h) _ (stepReply (dictionaryAnswer due)) _ (happens rationTable (insert key value) w) (final-code due)
       (rw (same-world (insert key value) w) (rw e at g))
       f
 
-  delete-ends : EndsByDepth ration-table (delete key) key w (b .held)
-  unfolding reply-to was-happens due-after due-after-start begun-result deleteOf
+  delete-ends : EndsByDepth rationTable (delete key) key w (b .held)
+  unfolding replyTo was-happens dueAfter dueAfterStart begunResult deleteOf
   delete-ends t sound h level s =
       let e = begun-started (deleteOf (w .card) (w .state) key .begun) (start-small (w .card) (w .state) key (Deleting key false 0) (λ l. true)) s in
       let q = kept-delete (v .size) (v .steps) (worldly w) (v .was-kept) (v .due) (v .inv) key high in
@@ -135,17 +135,17 @@ module _ (w : World ration-table) (b : Book) (v : Covered w b) (key : ℕ) (high
       let next = was-happens (was-delete key) (worldly w) in
       let g = work-finishes (v .size) (q .0) (storesAt h) next _ _ (q .2 .0) (q .1 .busy e) (omega (arith, q .1 .steps-left e t sound h level)) in
       let due = lookup key (v .was-kept .held) in
-      sharpened (storesAt h) _ (stepReply (dictionary-answer due)) _ (happens ration-table (delete key) w) (final-code due)
+      sharpened (storesAt h) _ (stepReply (dictionaryAnswer due)) _ (happens rationTable (delete key) w) (final-code due)
       (rw (same-world (delete key) w) (rw e at g))
       f
 
-pub w-214 : W214 ration-table
+pub w-214 : W214 rationTable
 w-214 =
     record {
       trees = tree-levels;
-      lines = always (λ w b. Idle ration-table (w .state) → Line (w .card) (b .held)) line;
+      lines = always (λ w b. Idle rationTable (w .state) → Line (w .card) (b .held)) line;
       inserts =
-          always (λ w b. (key value : ℕ) → key < keyLimit → EndsByDepth ration-table (insert key value) key w (b .held))
+          always (λ w b. (key value : ℕ) → key < keyLimit → EndsByDepth rationTable (insert key value) key w (b .held))
           (λ w b v key value high. insert-ends w b v key high value);
-      deletes = always (λ w b. (key : ℕ) → key < keyLimit → EndsByDepth ration-table (delete key) key w (b .held)) delete-ends;
+      deletes = always (λ w b. (key : ℕ) → key < keyLimit → EndsByDepth rationTable (delete key) key w (b .held)) delete-ends;
     }

@@ -9,23 +9,23 @@ use native.Mathlib.Omega.{arith}
 use lib.ListN.{length}
 use Rattle.card.specs.Header.{Sized, Formatted}
 use Rattle.promises.proofs.Machine.{Event as Was, World as Worldly, happens as was-happens, run as was-run, find as was-find, insert as was-insert, delete as was-delete, step as was-step, crash as was-crash}
-use Rattle.promises.proofs.Feeding.{begun-result, due-after, dictionary-answer, due-after-start}
+use Rattle.promises.proofs.Feeding.{begunResult, dueAfter, dictionaryAnswer, dueAfterStart}
 use Rattle.promises.proofs.Invariant.{Inv}
-use Rattle.demands.specs.Events.{Event, World, reply-to, happens, run, LeftUncut, steps-in, insert, delete, step}
+use Rattle.demands.specs.Events.{Event, World, replyTo, happens, run, LeftUncut, stepsIn, insert, delete, step}
 use Rattle.demands.specs.Book.{Book}
-use Rattle.demands.specs.RationTable.{workOf, ration-table}
+use Rattle.demands.specs.RationTable.{workOf, rationTable}
 use Rattle.demands.proofs.Work.{work-idle, idle-work, busy-work}
 use Rattle.card.specs.Layout.{keyLimit}
 use Rattle.card.specs.Replies.{Reply, refusal}
 use Rattle.demands.specs.Demand1.{HandsBack, Starts, Refuses}
 use Rattle.demands.specs.Worked.{dictionary}
-use Rattle.demands.specs.Demand2.{update-stores, Finishes, Updates, Rests, Works, Dictionary, Demand2}
+use Rattle.demands.specs.Demand2.{mostStores, Finishes, Updates, Rests, Works, Dictionary, Demand2}
 use Rattle.demands.specs.Table.{Work, noWork, formatting, inserting, deleting}
-use Rattle.demands.specs.Refusals.{Rows, ByRows, Idle as Resting, Busy, leads-to, NoRoom, on-card, row, end}
+use Rattle.demands.specs.Refusals.{Rows, ByRows, Idle as Resting, Busy, leadsTo, NoRoom, cardRows, row, end}
 use Rattle.demands.specs.Rules.{InsertRule, DeleteRule}
 use Rattle.demands.proofs.SameBook.{worldly, same-world}
 use Rattle.demands.proofs.CardRows.{none-some}
-use Rattle.demands.proofs.PowerCuts.{dictionary-same, Covered, always, was-list, run-same, quiet-same, steps-same, rests-right}
+use Rattle.demands.proofs.PowerCuts.{dictionary-same, Covered, always, was-list, run-same, quiet-same, steps-same, restsRight}
 use Rattle.demands.proofs.StartRows.{leads-is}
 use Rattle.demands.proofs.StepRows.{demand-1}
 use Rattle.demands.proofs.AnswerNumbers.{start-small}
@@ -37,8 +37,8 @@ use Rattle.demands.proofs.WayDown.{landed}
 use Rattle.laws.proofs.Cases.{bool-cases, order}
 use Rattle.promises.proofs.Accepting.{find-answers}
 use Rattle.promises.proofs.Finished.{work-finishes, finishes-within, work-not-refused, inv-rests}
-use Rattle.promises.proofs.Finishing.{updateStores, updateStoresAt, stores, stores-in, Finishes as WasFinishes, Rests as WasRests}
-use Rattle.promises.proofs.Promise.{Quiet, steps-in as was-steps-in}
+use Rattle.promises.proofs.Finishing.{updateStores, updateStoresAt, stores, storesIn, Finishes as WasFinishes, Rests as WasRests}
+use Rattle.promises.proofs.Promise.{Quiet, stepsIn as was-steps-in}
 use Rattle.promises.proofs.Starting.{nodes-same, lands, same-lookup, kept-insert, kept-delete}
 use Rattle.starting.specs.Starts.{insertOf, deleteOf}
 use Rattle.state.specs.Answers.{stepReply, startReply}
@@ -84,8 +84,8 @@ more-quiet (was-delete key ∷ qs) w u = (u .0, more-quiet qs (was-happens (was-
 more-quiet (was-step ∷ qs) w u = more-quiet qs (was-happens was-step w) u
 more-quiet (was-crash ∷ qs) w u = u
 
-more-stores : (qs : List Was) (w : Worldly) → stores-in (one-more qs) w ≡ stores-in qs w + stores (stepOf (was-run qs w .card) (was-run qs w .memory) .answer)
-unfolding one-more stores-in was-run
+more-stores : (qs : List Was) (w : Worldly) → storesIn (one-more qs) w ≡ storesIn qs w + stores (stepOf (was-run qs w .card) (was-run qs w .memory) .answer)
+unfolding one-more storesIn was-run
 more-stores [] w = omega arith
 more-stores (was-find key ∷ qs) w = more-stores qs (was-happens (was-find key) w)
 more-stores (was-insert key value ∷ qs) w = more-stores qs (was-happens (was-insert key value) w)
@@ -101,8 +101,8 @@ stores-one Absent e = absurd (omega arith)
 stores-one (Value v) e = absurd (omega arith)
 stores-one (Refused r) e = absurd (omega arith)
 
-finishes-same : (most : ℕ) (last : Reply) (w : World ration-table) → WasFinishes most last (worldly w) → Finishes ration-table most last w
-unfolding reply-to stepReply
+finishes-same : (most : ℕ) (last : Reply) (w : World rationTable) → WasFinishes most last (worldly w) → Finishes rationTable most last w
+unfolding replyTo stepReply
 finishes-same most last w f =
     record {
       count = f .count;
@@ -111,7 +111,7 @@ finishes-same most last w f =
       then-answers = λ qs u h. subst (λ (x : Worldly). stepReply (stepOf (x .card) (x .memory) .answer) ≡ last) (sym (run-same qs w)) (f .then-answers (was-list qs) (quiet-same qs w u) (steps-same qs ∙ h) .answer);
     }
   where
-    each : (qs : List Event) → LeftUncut ration-table qs w → steps-in qs < f .count → stepReply (stepOf (run ration-table qs w .card) (run ration-table qs w .state) .answer) ≡ stepReply Stored
+    each : (qs : List Event) → LeftUncut rationTable qs w → stepsIn qs < f .count → stepReply (stepOf (run rationTable qs w .card) (run rationTable qs w .state) .answer) ≡ stepReply Stored
     each qs u h =
         let q = quiet-same qs w u in
         let now = f .each-stores (was-list qs) q (omega (arith, h, steps-same qs)) in
@@ -121,7 +121,7 @@ finishes-same most last w f =
 
 -- ---- rows
 
-past-card : (rows : Rows) (refuses : ℕ → Type 0) (works : Type 0) (c : List ℕ) (n : ℕ) → Sized (length c) n → Formatted c n → ByRows (on-card c n rows) refuses works → ByRows rows refuses works
+past-card : (rows : Rows) (refuses : ℕ → Type 0) (works : Type 0) (c : List ℕ) (n : ℕ) → Sized (length c) n → Formatted c n → ByRows (cardRows c n rows) refuses works → ByRows rows refuses works
 unfolding ByRows
 past-card rows refuses works c n s f (inl p) = absurd (p .0 s)
 past-card rows refuses works c n s f (inr (_, inl p)) = absurd (p .0 (f .mark))
@@ -140,7 +140,7 @@ not-formatting : (d : Doing) → d ≡ Idle → workOf d ≡ formatting → ⊥
 unfolding workOf
 not-formatting d e f = let y : _≡_ {A = Work} noWork formatting = sym (ap workOf e) ∙ f in let z : _≡_ {A = ℕ} 0 1 = cc in omega arith
 
-module _ (w : World ration-table) (b : Book) (v : Covered w b) where
+module _ (w : World rationTable) (b : Book) (v : Covered w b) where
   abbrev n : ℕ
   n = v .size
 
@@ -159,11 +159,11 @@ module _ (w : World ration-table) (b : Book) (v : Covered w b) where
   header : Formatted (w .card) (w .state .nodes)
   header = subst (λ x. Formatted (w .card) x) (sym nodes-are) (i .table .header)
 
-  finds-right : (key : ℕ) → 0 < key → key < keyLimit → ration-table .find (w .card) key ≡ dictionary (lookup key (b .held))
+  finds-right : (key : ℕ) → 0 < key → key < keyLimit → rationTable .find (w .card) key ≡ dictionary (lookup key (b .held))
   finds-right key low high =
       find-answers (w .card) n (i .tree) key (i .table) low high ∙ dictionary-same (lookup key (pairs (i .tree))) ∙ ap dictionary (same-lookup i key) ∙ ap (λ (x : List (ℕ × ℕ)). dictionary (lookup key x)) (sym same-held)
 
-  leads-somewhere : (key : ℕ) → (key ≡ 0 → ⊥) → key < keyLimit → leads-to (w .card) key ≡ none → ⊥
+  leads-somewhere : (key : ℕ) → (key ≡ 0 → ⊥) → key < keyLimit → leadsTo (w .card) key ≡ none → ⊥
   unfolding landed
   leads-somewhere key d high e =
       let g = lands n (v .steps) (worldly w) (v .was-kept) (v .due) i key (order key 1 (λ o. absurd (d (omega arith))) (λ o. o)) high in
@@ -172,8 +172,8 @@ module _ (w : World ration-table) (b : Book) (v : Covered w b) where
   rests-now : w .state .doing ≡ Idle → WasRests (worldly w) (v .was-kept .held)
   rests-now e = inv-rests n (v .steps) (worldly w) (v .was-kept) (v .due) i e
 
-  insert-finishes : (key value : ℕ) → key < keyLimit → insertOf (w .card) (w .state) key value .begun ≡ Started → WasFinishes updateStores (stepReply (dictionary-answer (lookup key (v .was-kept .held)))) (was-happens (was-insert key value) (worldly w))
-  unfolding was-happens due-after due-after-start begun-result
+  insert-finishes : (key value : ℕ) → key < keyLimit → insertOf (w .card) (w .state) key value .begun ≡ Started → WasFinishes updateStores (stepReply (dictionaryAnswer (lookup key (v .was-kept .held)))) (was-happens (was-insert key value) (worldly w))
+  unfolding was-happens dueAfter dueAfterStart begunResult
   insert-finishes key value high e =
       let q = kept-insert n (v .steps) (worldly w) (v .was-kept) (v .due) i key value high in
       let r = rests-now (q .1 .idle-before e) in
@@ -181,8 +181,8 @@ module _ (w : World ration-table) (b : Book) (v : Covered w b) where
       finishes-within (updateStoresAt (level .0)) updateStores (omega (arith, r .levels (level .0) (level .1)))
       (rw e at (work-finishes n (q .0) (updateStoresAt (level .0)) (was-happens (was-insert key value) (worldly w)) _ _ (q .2 .0) (q .1 .busy e) (omega (arith, q .1 .steps-left e (r .table) (r .balanced .well-formed) (level .0) (level .1)))))
 
-  delete-finishes : (key : ℕ) → key < keyLimit → deleteOf (w .card) (w .state) key .begun ≡ Started → WasFinishes updateStores (stepReply (dictionary-answer (lookup key (v .was-kept .held)))) (was-happens (was-delete key) (worldly w))
-  unfolding was-happens due-after due-after-start begun-result
+  delete-finishes : (key : ℕ) → key < keyLimit → deleteOf (w .card) (w .state) key .begun ≡ Started → WasFinishes updateStores (stepReply (dictionaryAnswer (lookup key (v .was-kept .held)))) (was-happens (was-delete key) (worldly w))
+  unfolding was-happens dueAfter dueAfterStart begunResult
   delete-finishes key high e =
       let q = kept-delete n (v .steps) (worldly w) (v .was-kept) (v .due) i key high in
       let r = rests-now (q .1 .idle-before e) in
@@ -190,80 +190,80 @@ module _ (w : World ration-table) (b : Book) (v : Covered w b) where
       finishes-within (updateStoresAt (level .0)) updateStores (omega (arith, r .levels (level .0) (level .1)))
       (rw e at (work-finishes n (q .0) (updateStoresAt (level .0)) (was-happens (was-delete key) (worldly w)) _ _ (q .2 .0) (q .1 .busy e) (omega (arith, q .1 .steps-left e (r .table) (r .balanced .well-formed) (level .0) (level .1)))))
 
-  due-same : (key : ℕ) → stepReply (dictionary-answer (lookup key (v .was-kept .held))) ≡ dictionary (lookup key (b .held))
+  due-same : (key : ℕ) → stepReply (dictionaryAnswer (lookup key (v .was-kept .held))) ≡ dictionary (lookup key (b .held))
   due-same key = dictionary-same (lookup key (v .was-kept .held)) ∙ ap (λ (x : List (ℕ × ℕ)). dictionary (lookup key x)) (sym same-held)
 
-  insert-works : (key value : ℕ) → key < keyLimit → Starts ration-table (w .state) (ration-table .insert (w .card) (w .state) key value) (inserting key value) → Works ration-table (insert key value) ((a : ℕ) × (lookup key (b .held) ≡ some a)) (InsertRule (w .card) key value) key w (b .held)
-  unfolding reply-to insertOf startReply
+  insert-works : (key value : ℕ) → key < keyLimit → Starts rationTable (w .state) (rationTable .insert (w .card) (w .state) key value) (inserting key value) → Works rationTable (insert key value) ((a : ℕ) × (lookup key (b .held) ≡ some a)) (InsertRule (w .card) key value) key w (b .held)
+  unfolding replyTo insertOf startReply
   insert-works key value high s =
       let e = begun-started (insertOf (w .card) (w .state) key value .begun) (start-small (w .card) (w .state) key (Inserting key value false) (startRoom (w .card) key (w .state .free))) (s .reply-given) in
       record {
         begins = s .reply-given;
-        by-rules = subst (λ (l : List (ℕ × ℕ)). Updates ration-table ((a : ℕ) × (lookup key l ≡ some a)) (InsertRule (w .card) key value) (dictionary (lookup key l)) (happens ration-table (insert key value) w)) (sym same-held) (subst (λ (r : Reply). Updates ration-table ((a : ℕ) × (lookup key (v .was-kept .held) ≡ some a)) (InsertRule (w .card) key value) r (happens ration-table (insert key value) w)) (dictionary-same (lookup key (v .was-kept .held))) (insert-by-rules w b v key value high e));
-        finishes = finishes-same update-stores (dictionary (lookup key (b .held))) (happens ration-table (insert key value) w) (rw (same-world (insert key value) w, ← due-same key) (insert-finishes key value high e));
+        by-rules = subst (λ (l : List (ℕ × ℕ)). Updates rationTable ((a : ℕ) × (lookup key l ≡ some a)) (InsertRule (w .card) key value) (dictionary (lookup key l)) (happens rationTable (insert key value) w)) (sym same-held) (subst (λ (r : Reply). Updates rationTable ((a : ℕ) × (lookup key (v .was-kept .held) ≡ some a)) (InsertRule (w .card) key value) r (happens rationTable (insert key value) w)) (dictionary-same (lookup key (v .was-kept .held))) (insert-by-rules w b v key value high e));
+        finishes = finishes-same mostStores (dictionary (lookup key (b .held))) (happens rationTable (insert key value) w) (rw (same-world (insert key value) w, ← due-same key) (insert-finishes key value high e));
       }
 
-  delete-works : (key : ℕ) → key < keyLimit → Starts ration-table (w .state) (ration-table .delete (w .card) (w .state) key) (deleting key) → Works ration-table (delete key) (lookup key (b .held) ≡ none) (DeleteRule (w .card) key) key w (b .held)
-  unfolding reply-to deleteOf startReply
+  delete-works : (key : ℕ) → key < keyLimit → Starts rationTable (w .state) (rationTable .delete (w .card) (w .state) key) (deleting key) → Works rationTable (delete key) (lookup key (b .held) ≡ none) (DeleteRule (w .card) key) key w (b .held)
+  unfolding replyTo deleteOf startReply
   delete-works key high s =
       let e = begun-started (deleteOf (w .card) (w .state) key .begun) (start-small (w .card) (w .state) key (Deleting key false 0) (λ l. true)) (s .reply-given) in
       record {
         begins = s .reply-given;
-        by-rules = subst (λ (l : List (ℕ × ℕ)). Updates ration-table (lookup key l ≡ none) (DeleteRule (w .card) key) (dictionary (lookup key l)) (happens ration-table (delete key) w)) (sym same-held) (subst (λ (r : Reply). Updates ration-table (lookup key (v .was-kept .held) ≡ none) (DeleteRule (w .card) key) r (happens ration-table (delete key) w)) (dictionary-same (lookup key (v .was-kept .held))) (delete-by-rules w b v key high e));
-        finishes = finishes-same update-stores (dictionary (lookup key (b .held))) (happens ration-table (delete key) w) (rw (same-world (delete key) w, ← due-same key) (delete-finishes key high e));
+        by-rules = subst (λ (l : List (ℕ × ℕ)). Updates rationTable (lookup key l ≡ none) (DeleteRule (w .card) key) (dictionary (lookup key l)) (happens rationTable (delete key) w)) (sym same-held) (subst (λ (r : Reply). Updates rationTable (lookup key (v .was-kept .held) ≡ none) (DeleteRule (w .card) key) r (happens rationTable (delete key) w)) (dictionary-same (lookup key (v .was-kept .held))) (delete-by-rules w b v key high e));
+        finishes = finishes-same mostStores (dictionary (lookup key (b .held))) (happens rationTable (delete key) w) (rw (same-world (delete key) w, ← due-same key) (delete-finishes key high e));
       }
 
-  inserts-right : (key value : ℕ) → key < keyLimit → ByRows (row 7 (Busy ration-table (w .state)) (row 6 (key ≡ 0) (row 8 (NoRoom (w .card) (w .state .free) key) end)))
-      (λ r. reply-to ration-table (insert key value) w ≡ refusal r) (Works ration-table (insert key value) ((a : ℕ) × (lookup key (b .held) ≡ some a)) (InsertRule (w .card) key value) key w (b .held))
-  unfolding ByRows reply-to
+  inserts-right : (key value : ℕ) → key < keyLimit → ByRows (row 7 (Busy rationTable (w .state)) (row 6 (key ≡ 0) (row 8 (NoRoom (w .card) (w .state .free) key) end)))
+      (λ r. replyTo rationTable (insert key value) w ≡ refusal r) (Works rationTable (insert key value) ((a : ℕ) × (lookup key (b .held) ≡ some a)) (InsertRule (w .card) key value) key w (b .held))
+  unfolding ByRows replyTo
   inserts-right key value high =
-      go (past-card (row 7 (Busy ration-table (w .state)) (row 6 (key ≡ 0) (row 9 (leads-to (w .card) key ≡ none) (row 8 (NoRoom (w .card) (w .state .free) key) end)))) (HandsBack ration-table (w .state) (ration-table .insert (w .card) (w .state) key value))
-      (Starts ration-table (w .state) (ration-table .insert (w .card) (w .state) key value) (inserting key value)) (w .card) (w .state .nodes) sized header (demand-1 .inserts (w .card) (w .state) key value))
+      go (past-card (row 7 (Busy rationTable (w .state)) (row 6 (key ≡ 0) (row 9 (leadsTo (w .card) key ≡ none) (row 8 (NoRoom (w .card) (w .state .free) key) end)))) (HandsBack rationTable (w .state) (rationTable .insert (w .card) (w .state) key value))
+      (Starts rationTable (w .state) (rationTable .insert (w .card) (w .state) key value) (inserting key value)) (w .card) (w .state .nodes) sized header (demand-1 .inserts (w .card) (w .state) key value))
     where
-      go : ByRows (row 7 (Busy ration-table (w .state)) (row 6 (key ≡ 0) (row 9 (leads-to (w .card) key ≡ none) (row 8 (NoRoom (w .card) (w .state .free) key) end)))) (HandsBack ration-table (w .state) (ration-table .insert (w .card) (w .state) key value))
-          (Starts ration-table (w .state) (ration-table .insert (w .card) (w .state) key value) (inserting key value))
-          → ByRows (row 7 (Busy ration-table (w .state)) (row 6 (key ≡ 0) (row 8 (NoRoom (w .card) (w .state .free) key) end))) (λ r. reply-to ration-table (insert key value) w ≡ refusal r) (Works ration-table (insert key value) ((a : ℕ) × (lookup key (b .held) ≡ some a)) (InsertRule (w .card) key value) key w (b .held))
+      go : ByRows (row 7 (Busy rationTable (w .state)) (row 6 (key ≡ 0) (row 9 (leadsTo (w .card) key ≡ none) (row 8 (NoRoom (w .card) (w .state .free) key) end)))) (HandsBack rationTable (w .state) (rationTable .insert (w .card) (w .state) key value))
+          (Starts rationTable (w .state) (rationTable .insert (w .card) (w .state) key value) (inserting key value))
+          → ByRows (row 7 (Busy rationTable (w .state)) (row 6 (key ≡ 0) (row 8 (NoRoom (w .card) (w .state .free) key) end))) (λ r. replyTo rationTable (insert key value) w ≡ refusal r) (Works rationTable (insert key value) ((a : ℕ) × (lookup key (b .held) ≡ some a)) (InsertRule (w .card) key value) key w (b .held))
       go (inl (p, h)) = inl (p, h .number-given)
       go (inr (a, inl (p, h))) = inr (a, inl (p, h .number-given))
       go (inr (a, inr (d, inl (p, h)))) = absurd (leads-somewhere key d high p)
       go (inr (a, inr (d, inr (l, inl (p, h))))) = inr (a, inr (d, inl (p, h .number-given)))
       go (inr (a, inr (d, inr (l, inr (r, s))))) = inr (a, inr (d, inr (r, insert-works key value high s)))
 
-  deletes-right : (key : ℕ) → key < keyLimit → ByRows (row 7 (Busy ration-table (w .state)) (row 6 (key ≡ 0) end)) (λ r. reply-to ration-table (delete key) w ≡ refusal r) (Works ration-table (delete key) (lookup key (b .held) ≡ none) (DeleteRule (w .card) key) key w (b .held))
-  unfolding ByRows reply-to
+  deletes-right : (key : ℕ) → key < keyLimit → ByRows (row 7 (Busy rationTable (w .state)) (row 6 (key ≡ 0) end)) (λ r. replyTo rationTable (delete key) w ≡ refusal r) (Works rationTable (delete key) (lookup key (b .held) ≡ none) (DeleteRule (w .card) key) key w (b .held))
+  unfolding ByRows replyTo
   deletes-right key high =
-      go (past-card (row 7 (Busy ration-table (w .state)) (row 6 (key ≡ 0) (row 9 (leads-to (w .card) key ≡ none) end))) (HandsBack ration-table (w .state) (ration-table .delete (w .card) (w .state) key))
-      (Starts ration-table (w .state) (ration-table .delete (w .card) (w .state) key) (deleting key)) (w .card) (w .state .nodes) sized header (demand-1 .deletes (w .card) (w .state) key))
+      go (past-card (row 7 (Busy rationTable (w .state)) (row 6 (key ≡ 0) (row 9 (leadsTo (w .card) key ≡ none) end))) (HandsBack rationTable (w .state) (rationTable .delete (w .card) (w .state) key))
+      (Starts rationTable (w .state) (rationTable .delete (w .card) (w .state) key) (deleting key)) (w .card) (w .state .nodes) sized header (demand-1 .deletes (w .card) (w .state) key))
     where
-      go : ByRows (row 7 (Busy ration-table (w .state)) (row 6 (key ≡ 0) (row 9 (leads-to (w .card) key ≡ none) end))) (HandsBack ration-table (w .state) (ration-table .delete (w .card) (w .state) key)) (Starts ration-table (w .state) (ration-table .delete (w .card) (w .state) key) (deleting key))
-          → ByRows (row 7 (Busy ration-table (w .state)) (row 6 (key ≡ 0) end)) (λ r. reply-to ration-table (delete key) w ≡ refusal r) (Works ration-table (delete key) (lookup key (b .held) ≡ none) (DeleteRule (w .card) key) key w (b .held))
+      go : ByRows (row 7 (Busy rationTable (w .state)) (row 6 (key ≡ 0) (row 9 (leadsTo (w .card) key ≡ none) end))) (HandsBack rationTable (w .state) (rationTable .delete (w .card) (w .state) key)) (Starts rationTable (w .state) (rationTable .delete (w .card) (w .state) key) (deleting key))
+          → ByRows (row 7 (Busy rationTable (w .state)) (row 6 (key ≡ 0) end)) (λ r. replyTo rationTable (delete key) w ≡ refusal r) (Works rationTable (delete key) (lookup key (b .held) ≡ none) (DeleteRule (w .card) key) key w (b .held))
       go (inl (p, h)) = inl (p, h .number-given)
       go (inr (a, inl (p, h))) = inr (a, inl (p, h .number-given))
       go (inr (a, inr (d, inl (p, h)))) = absurd (leads-somewhere key d high p)
       go (inr (a, inr (d, inr (l, s)))) = inr (a, inr (d, delete-works key high s))
 
-  steps-right : ByRows (row 10 (Resting ration-table (w .state)) end) (λ r. reply-to ration-table step w ≡ refusal r) ((r : ℕ) → r < 64 → reply-to ration-table step w ≡ refusal r → ⊥)
-  unfolding ByRows reply-to
+  steps-right : ByRows (row 10 (Resting rationTable (w .state)) end) (λ r. replyTo rationTable step w ≡ refusal r) ((r : ℕ) → r < 64 → replyTo rationTable step w ≡ refusal r → ⊥)
+  unfolding ByRows replyTo
   steps-right =
       bool-cases (isIdle (w .state .doing))
       (λ q. inl (idle-work (w .state .doing) q, ten (idle-work (w .state .doing) q) (demand-1 .steps (w .card) (w .state) (not-formatting (w .state .doing) (idle-doing (w .state .doing) q)))))
       (λ q. inr (busy-work (w .state .doing) q, λ r h e. work-not-refused n (v .steps) (worldly w) (v .was-kept) (v .due) i q r (answer-refused (stepOf (w .card) (w .state) .answer) r h e)))
     where
-      ten : {works : Type 0} → Resting ration-table (w .state) → ByRows (on-card (w .card) (w .state .nodes) (row 10 (Resting ration-table (w .state)) end)) (Refuses ration-table (w .card) (w .state) (ration-table .step (w .card) (w .state))) works → stepReply (stepOf (w .card) (w .state) .answer) ≡ refusal 10
-      ten {works} q p = at (past-card (row 10 (Resting ration-table (w .state)) end) (Refuses ration-table (w .card) (w .state) (ration-table .step (w .card) (w .state))) works (w .card) (w .state .nodes) sized header p)
+      ten : {works : Type 0} → Resting rationTable (w .state) → ByRows (cardRows (w .card) (w .state .nodes) (row 10 (Resting rationTable (w .state)) end)) (Refuses rationTable (w .card) (w .state) (rationTable .step (w .card) (w .state))) works → stepReply (stepOf (w .card) (w .state) .answer) ≡ refusal 10
+      ten {works} q p = at (past-card (row 10 (Resting rationTable (w .state)) end) (Refuses rationTable (w .card) (w .state) (rationTable .step (w .card) (w .state))) works (w .card) (w .state .nodes) sized header p)
         where
-          at : ByRows (row 10 (Resting ration-table (w .state)) end) (Refuses ration-table (w .card) (w .state) (ration-table .step (w .card) (w .state))) works → stepReply (stepOf (w .card) (w .state) .answer) ≡ refusal 10
+          at : ByRows (row 10 (Resting rationTable (w .state)) end) (Refuses rationTable (w .card) (w .state) (rationTable .step (w .card) (w .state))) works → stepReply (stepOf (w .card) (w .state) .answer) ≡ refusal 10
           at (inl (z, h)) = h .number-given
           at (inr (z, h)) = absurd (z q)
 
-  rests-are : Resting ration-table (w .state) → Rests ration-table w (b .held)
+  rests-are : Resting rationTable (w .state) → Rests rationTable w (b .held)
   rests-are q =
       let r = rests-now (idle-doing (w .state .doing) (work-idle (w .state .doing) q)) in
-      rw same-held (record { right = rests-right r; levels = r .levels; free-exact = r .free-exact; three-kept = r .three-kept })
+      rw same-held (record { right = restsRight r; levels = r .levels; free-exact = r .free-exact; three-kept = r .three-kept })
 
-  pub is-dictionary : Dictionary ration-table w b
+  pub is-dictionary : Dictionary rationTable w b
   is-dictionary = record { finds = finds-right; inserts = inserts-right; deletes = deletes-right; repairs = opening-by-rules w b v; steps = steps-right; rests = rests-are }
 
 -- DEMAND 2 of the ration table
-pub demand-2 : Demand2 ration-table
-demand-2 = record { worked = always (Dictionary ration-table) is-dictionary; formats = formats-right }
+pub demand-2 : Demand2 rationTable
+demand-2 = record { worked = always (Dictionary rationTable) is-dictionary; formats = formats-right }

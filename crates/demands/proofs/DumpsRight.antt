@@ -12,7 +12,7 @@ use Rattle.card.specs.Header.{nodesOfLength, cardRefusal, Sized, Formatted}
 use Rattle.card.specs.Layout.{leastNodes, greatestNodes}
 use Rattle.card.specs.Replies.{Reply, long}
 use Rattle.demands.specs.Dumps.{wordOf, byteOf, PaddedLength, nodesIn, wordsIn, Damaged, empty, no-multiple, too-long, bad-nodes, other-length, not-zero, readRows, writeRows, Refuses, Reads, Writes, Dumps}
-use Rattle.demands.specs.Refusals.{ByRows, nodes-on, end, row}
+use Rattle.demands.specs.Refusals.{ByRows, nodesOn, end, row}
 use Rattle.demands.proofs.AnswerNumbers.{card-small}
 use Rattle.demands.proofs.FirstRows.{by-card, card-one}
 use Rattle.demands.proofs.ReplyLaws.{code-of}
@@ -25,7 +25,7 @@ use Rattle.dump.specs.Dump.{wordBytes, cardBytes, paddedLength, dumpOf, wordAt,
 use Rattle.dump.specs.declared.Answer.the-variants.{Length, Refused}
 use Rattle.laws.proofs.Cases.{bool-cases, order}
 use Rattle.laws.proofs.Lists.{getD-left, getD-right, getD-pad, getD-all-zero}
-use Rattle.laws.specs.Lists.{all-zero}
+use Rattle.laws.specs.Lists.{allZero}
 use Rattle.promises.proofs.Reopen.{length-accepted, card-accepted}
 
 -- ---- the padded length
@@ -43,7 +43,7 @@ word-same : (bytes : List ℕ) (i : ℕ) → wordOf bytes i ≡ wordAt bytes i
 unfolding wordAt
 word-same bytes i = refl
 
-byte-found : (l : List ℕ) → all-zero l ≡ false → (i : ℕ) × (i < length l) × (getD l i 0 ≡ 0 → ⊥)
+byte-found : (l : List ℕ) → allZero l ≡ false → (i : ℕ) × (i < length l) × (getD l i 0 ≡ 0 → ⊥)
 byte-found [] e = true-false e
 byte-found (zero ∷ l) e = let f = byte-found l e in (suc (f .0), omega (arith, f .1), f .2)
 byte-found (suc x ∷ l) e = (0, omega arith, λ z. omega (arith, z))
@@ -59,7 +59,7 @@ module _ (dump : List ℕ) where
   damaged-true (other-length h) = damaged-length dump (λ e. h (subst (λ (k : ℕ). PaddedLength (wordsIn dump) k) e (padded-is (wordsIn dump))))
   damaged-true (not-zero i a b d) =
       let from = 4 * wordsIn dump in
-      damaged-padding dump (bool-cases (all-zero (drop from dump))
+      damaged-padding dump (bool-cases (allZero (drop from dump))
       (λ t. absurd (d (ap (λ (j : ℕ). getD dump j 0) (let z : i ≡ from + (i - from) = omega arith in z) ∙ sym (getD-drop from dump (i - from) 0)
       ∙ getD-all-zero (drop from dump) (i - from) t)))
       (λ f. f))
@@ -70,7 +70,7 @@ module _ (dump : List ℕ) where
       order n leastNodes (λ a. bad-nodes (λ h. omega (arith, a, h .0)))
       (λ a. order greatestNodes n (λ b. bad-nodes (λ h. omega (arith, b, h .1)))
       (λ b. by-cases (ℕ-discrete (paddedLength (wordsFor n)) (length dump))
-      (λ p. bool-cases (all-zero (drop (4 * wordsFor n) dump))
+      (λ p. bool-cases (allZero (drop (4 * wordsFor n) dump))
       (λ t. true-false (sym e ∙ whole-undamaged dump (record { least = a; most = b; padded = p; zeros = t })))
       (λ t. at (byte-found (drop (4 * wordsFor n) dump) t)))
       (λ d. other-length (λ h. d (padded-one (padded-is (wordsFor n)) h)))))
@@ -219,9 +219,9 @@ module _ (card lent : List ℕ) where
   writing : ByRows (writeRows card (length lent)) (Refuses lent (write card lent)) (Writes lent (write card lent) card)
   unfolding ByRows
   writing =
-      by-card (row 12 Short end) (Refuses lent (write card lent)) (Writes lent (write card lent) card) card (nodes-on card)
+      by-card (row 12 Short end) (Refuses lent (write card lent)) (Writes lent (write card lent) card) card (nodesOn card)
       (λ p. not-written 1 (write-refuses card (length lent) 1 (card-one card p) (λ z. omega (arith, z))))
-      (λ r s e d. not-written r (write-refuses card (length lent) r (length-accepted card (nodes-on card) s ∙ e) d))
+      (λ r s e d. not-written r (write-refuses card (length lent) r (length-accepted card (nodesOn card) s ∙ e) d))
       (λ s f.
       let n = paddedLength (length card) in
       let e = write-good card (length lent) (card-accepted s f .0) in

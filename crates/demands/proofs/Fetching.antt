@@ -8,9 +8,9 @@ use native.Mathlib.Decide.{ℕ-discrete}
 use lib.ListN.{length, getD, length-take, length-drop}
 use borrow.Author.Tests.{eq-eqb, ne-eqb}
 use Rattle.demands.specs.Demand1.{Finds}
-use Rattle.demands.specs.Refusals.{ByRows, find-rows}
+use Rattle.demands.specs.Refusals.{ByRows, findRows}
 use Rattle.demands.specs.W213.{recordRows, NoRecord, IsRecord, AtOffset, ByFind, W213}
-use Rattle.demands.specs.RationTable.{ration-table}
+use Rattle.demands.specs.RationTable.{rationTable}
 use Rattle.demands.proofs.CardRows.{finds}
 use Rattle.demands.proofs.AnswerNumbers.{find-small}
 use Rattle.demands.proofs.ReplyLaws.{code-of, found-refused, found-absent, found-value}
@@ -89,24 +89,24 @@ module _ (c : List ℕ) (key : ℕ) (block : List ℕ) where
   held-at at e = rw e (at-offset block at)
 
   abbrev Works : Type 0
-  Works = ByFind (part c key block) (reply c key block) block (ration-table .find c key)
+  Works = ByFind (part c key block) (reply c key block) block (rationTable .find c key)
 
-  looked : Finds (ration-table .find c key) → Works
+  looked : Finds (rationTable .find c key) → Works
   looked (inl (at, e)) = inr (at, e, held-at at (found-value (findOf c key) at (find-small c key) e))
   looked (inr e) = inl (e, not-held (found-absent (findOf c key) (find-small c key) e))
 
-  find-numbers : Numbers (find-rows c key)
+  find-numbers : Numbers (findRows c key)
   find-numbers = (omega arith, (omega arith, (omega arith, (omega arith, (omega arith, tt)))))
 
-  all-answers : ByRows (find-rows c key) (λ r. (ration-table .find c key ≡ refusal r) × NoRecord (part c key block) (reply c key block) (refusal r)) Works
-  all-answers = rows-map (find-rows c key) find-numbers (λ r h e. (e, no-look r (found-refused (findOf c key) r h e))) looked (finds c key)
+  all-answers : ByRows (findRows c key) (λ r. (rationTable .find c key ≡ refusal r) × NoRecord (part c key block) (reply c key block) (refusal r)) Works
+  all-answers = rows-map (findRows c key) find-numbers (λ r h e. (e, no-look r (found-refused (findOf c key) r h e))) looked (finds c key)
 
   -- the two questions agree, by what they answer alone
   none-found : (why : Reply) → NoRecord (part c key block) (reply c key block) why → (why .code ≡ 74 → ⊥) → (reply c key block ≡ fetched) ↔ (1 ≤ length (part c key block))
   none-found why n d = (λ e. absurd (d (code-of (sym (n .told) ∙ e))), λ l. absurd (omega (arith, ap length (n .empty))))
 
   found-is : (reply c key block ≡ fetched) ↔ (1 ≤ length (part c key block))
-  found-is = rows-elim (find-rows c key) find-numbers (λ r h n. none-found (refusal r) (n .1) (λ z. omega (arith, z))) works all-answers
+  found-is = rows-elim (findRows c key) find-numbers (λ r h n. none-found (refusal r) (n .1) (λ z. omega (arith, z))) works all-answers
     where
       works : Works → (reply c key block ≡ fetched) ↔ (1 ≤ length (part c key block))
       works (inl (e, n)) = none-found absent n (λ z. omega (arith, z))
@@ -114,21 +114,21 @@ module _ (c : List ℕ) (key : ℕ) (block : List ℕ) where
           rows-elim (recordRows block at) (omega arith, (omega arith, tt)) (λ r h n. none-found (refusal r) n (λ z. omega (arith, z)))
           (λ i. (λ z. i .least, λ z. i .told)) q
 
-  absent-is : (reply c key block ≡ absent) ↔ (ration-table .find c key ≡ absent)
+  absent-is : (reply c key block ≡ absent) ↔ (rationTable .find c key ≡ absent)
   absent-is =
-      rows-elim (find-rows c key) find-numbers
+      rows-elim (findRows c key) find-numbers
       (λ r h n. neither (refusal r) (refusal r) (n .1 .told) (n .0) (λ z. omega (arith, z)) (λ z. omega (arith, z)))
       works all-answers
     where
-      neither : (a b : Reply) → reply c key block ≡ a → ration-table .find c key ≡ b → (a .code ≡ 65 → ⊥) → (b .code ≡ 65 → ⊥)
-          → (reply c key block ≡ absent) ↔ (ration-table .find c key ≡ absent)
+      neither : (a b : Reply) → reply c key block ≡ a → rationTable .find c key ≡ b → (a .code ≡ 65 → ⊥) → (b .code ≡ 65 → ⊥)
+          → (reply c key block ≡ absent) ↔ (rationTable .find c key ≡ absent)
       neither a b e f d g = (λ z. absurd (d (code-of (sym e ∙ z))), λ z. absurd (g (code-of (sym f ∙ z))))
 
-      works : Works → (reply c key block ≡ absent) ↔ (ration-table .find c key ≡ absent)
+      works : Works → (reply c key block ≡ absent) ↔ (rationTable .find c key ≡ absent)
       works (inl (e, n)) = (λ z. e, λ z. n .told)
       works (inr (at, e, q)) =
           rows-elim (recordRows block at) (omega arith, (omega arith, tt)) (λ r h n. neither (refusal r) (holds at) (n .told) e (λ z. omega (arith, z)) (λ z. omega (arith, z)))
           (λ i. neither fetched (holds at) (i .told) e (λ z. omega (arith, z)) (λ z. omega (arith, z))) q
 
-pub w-213 : W213 ration-table recordOf (λ c key block. fetchReply (fetchOf c key block))
+pub w-213 : W213 rationTable recordOf (λ c key block. fetchReply (fetchOf c key block))
 w-213 = record { answers = all-answers; found-exactly = found-is; absent-exactly = absent-is }

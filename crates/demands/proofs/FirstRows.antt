@@ -10,7 +10,7 @@ use lib.Dec.{eqb}
 use borrow.Author.Tests.{eq-eqb}
 use Rattle.card.specs.Header.{nodesOfLength, headerRefusal, must, cardRefusal, Sized, Formatted}
 use Rattle.card.proofs.HeaderLaws.{nodes-sized, sized-nodes, header-formatted, formatted-header, wrong-word0}
-use Rattle.demands.specs.Refusals.{Rows, ByRows, nodes-on, NoCard, NoMark, BadHeader, on-card}
+use Rattle.demands.specs.Refusals.{Rows, ByRows, nodesOn, NoCard, NoMark, BadHeader, cardRows}
 use Rattle.laws.proofs.Cases.{bool-cases}
 
 pub sized? : (len n : ℕ) → Dec (Sized len n)
@@ -21,11 +21,11 @@ sized? len n = go (ℕ-discrete (nodesOfLength len) n) (ℕ-discrete n 0)
     go (no d) (no z) = no (λ s. d (sized-nodes len n s))
     go (yes e) (no z) = yes (subst (λ x. Sized len x) e (nodes-sized len (λ q. z (sym e ∙ q))))
 
-pub sized-on : (c : List ℕ) (n : ℕ) → Sized (length c) n → nodes-on c ≡ n
+pub sized-on : (c : List ℕ) (n : ℕ) → Sized (length c) n → nodesOn c ≡ n
 sized-on c n s = omega (arith, s .words)
 
 -- no N fits the length
-pub no-nodes : (c : List ℕ) → NoCard c (nodes-on c) → nodesOfLength (length c) ≡ 0
+pub no-nodes : (c : List ℕ) → NoCard c (nodesOn c) → nodesOfLength (length c) ≡ 0
 no-nodes c p = go (ℕ-discrete (nodesOfLength (length c)) 0)
   where
     go : Dec (nodesOfLength (length c) ≡ 0) → nodesOfLength (length c) ≡ 0
@@ -42,7 +42,7 @@ header-three c n e =
 
 -- rows 1, 2 and 3, then the others
 pub by-card : (rows : Rows) (refuses : ℕ → Type 0) (works : Type 0) (c : List ℕ) (n : ℕ) → (NoCard c n → refuses 1) → ((r : ℕ) → Sized (length c) n → headerRefusal c n ≡ r → (r ≡ 0 → ⊥) → refuses r)
-    → (Sized (length c) n → Formatted c n → ByRows rows refuses works) → ByRows (on-card c n rows) refuses works
+    → (Sized (length c) n → Formatted c n → ByRows rows refuses works) → ByRows (cardRows c n rows) refuses works
 unfolding ByRows
 by-card rows refuses works c n one header next = go (sized? (length c) n)
   where
@@ -59,6 +59,6 @@ by-card rows refuses works c n one header next = go (sized? (length c) n)
     go (yes s) = inr (λ p. p s, marked s (ℕ-discrete (getD c 0 0) 1))
 
 -- what the calls without a state ask: the refusals 1, 2 and 3 of the card
-pub card-one : (c : List ℕ) → NoCard c (nodes-on c) → cardRefusal c ≡ 1
+pub card-one : (c : List ℕ) → NoCard c (nodesOn c) → cardRefusal c ≡ 1
 unfolding cardRefusal
 card-one c p = rw (eq-eqb (nodesOfLength (length c)) 0 (no-nodes c p))

@@ -12,9 +12,9 @@ use Rattle.card.specs.Header.{Sized}
 use Rattle.card.specs.Replies.{Reply, refusal, started}
 use Rattle.card.specs.Stores.{Store}
 use Rattle.demands.specs.Demand2.{StoresNow, freshWord, formatStore, formatBegun, Formats}
-use Rattle.demands.specs.Events.{Event, World, reply-to, happens, run, LeftUncut, steps-in, find, insert, delete, step, cut}
-use Rattle.demands.specs.Refusals.{nodes-on}
-use Rattle.demands.specs.RationTable.{ration-table}
+use Rattle.demands.specs.Events.{Event, World, replyTo, happens, run, LeftUncut, stepsIn, find, insert, delete, step, cut}
+use Rattle.demands.specs.Refusals.{nodesOn}
+use Rattle.demands.specs.RationTable.{rationTable}
 use Rattle.demands.proofs.Making.{find-same, same-insert, same-delete}
 use Rattle.demands.proofs.FirstRows.{sized?, no-nodes}
 use Rattle.formatting_theory.proofs.FormatSteps.{formatMemory, format-starts, format-refused, format-step-stores, format-step-ready}
@@ -40,20 +40,20 @@ same-store n words i s e =
     same-not-less : (a b : ℕ) → ltb a b ≡ true → a ≡ b → ⊥
     same-not-less a b h y = omega (arith, ltb-true a b h)
 
-module _ (c : List ℕ) (s : Sized (length c) (nodes-on c)) where
+module _ (c : List ℕ) (s : Sized (length c) (nodesOn c)) where
   -- the card and the state after so many stores
-  abbrev after : ℕ → World ration-table
-  after made = record { card = formatCard (nodes-on c) c made; state = formatMemory (nodes-on c) made }
+  abbrev after : ℕ → World rationTable
+  after made = record { card = formatCard (nodesOn c) c made; state = formatMemory (nodesOn c) made }
 
-  begun-after : formatBegun ration-table c ≡ after 0
+  begun-after : formatBegun rationTable c ≡ after 0
   unfolding formatCard
-  begun-after = ap (λ (h : Handed). record { card = c; state = h .memory }) (format-starts c (nodes-on c) s)
+  begun-after = ap (λ (h : Handed). record { card = c; state = h .memory }) (format-starts c (nodesOn c) s)
 
-  one-more : (made : ℕ) → made ≤ length c → happens ration-table step (after made) ≡ after (suc made)
+  one-more : (made : ℕ) → made ≤ length c → happens rationTable step (after made) ≡ after (suc made)
   unfolding happens
-  one-more made h = rw (format-step-stores c (nodes-on c) s made h)
+  one-more made h = rw (format-step-stores c (nodesOn c) s made h)
 
-  run-after : (qs : List Event) (made : ℕ) → LeftUncut ration-table qs (after made) → made + steps-in qs ≤ suc (length c) → run ration-table qs (after made) ≡ after (made + steps-in qs)
+  run-after : (qs : List Event) (made : ℕ) → LeftUncut rationTable qs (after made) → made + stepsIn qs ≤ suc (length c) → run rationTable qs (after made) ≡ after (made + stepsIn qs)
   unfolding LeftUncut run
   run-after [] made u h = ap after (omega arith)
   run-after (find key ∷ qs) made u h = rw (find-same key (after made)) (run-after qs made (rw (find-same key (after made)) at (u .1)) h)
@@ -62,33 +62,33 @@ module _ (c : List ℕ) (s : Sized (length c) (nodes-on c)) where
   run-after (step ∷ qs) made u h = let e = one-more made (omega arith) in rw e (run-after qs (suc made) (rw e at (u .1)) (omega arith) ∙ ap after (omega arith))
   run-after (cut ∷ qs) made u h = absurd (u .0)
 
-  runs-to : (qs : List Event) → LeftUncut ration-table qs (formatBegun ration-table c) → steps-in qs ≤ suc (length c) → run ration-table qs (formatBegun ration-table c) ≡ after (steps-in qs)
-  runs-to qs u h = ap (run ration-table qs) begun-after ∙ run-after qs 0 (subst (LeftUncut ration-table qs) begun-after u) (omega arith) ∙ ap after (omega arith)
+  runs-to : (qs : List Event) → LeftUncut rationTable qs (formatBegun rationTable c) → stepsIn qs ≤ suc (length c) → run rationTable qs (formatBegun rationTable c) ≡ after (stepsIn qs)
+  runs-to qs u h = ap (run rationTable qs) begun-after ∙ run-after qs 0 (subst (LeftUncut rationTable qs) begun-after u) (omega arith) ∙ ap after (omega arith)
 
-  stores-now : (made : ℕ) → made ≤ length c → StoresNow ration-table (after made) (formatStore (nodes-on c) (length c) made)
-  unfolding reply-to happens stepReply
+  stores-now : (made : ℕ) → made ≤ length c → StoresNow rationTable (after made) (formatStore (nodesOn c) (length c) made)
+  unfolding replyTo happens stepReply
   stores-now made h =
-      let f = some-store (nodes-on c) (length c) made (omega (arith, s .words)) h in
-      let e = same-store (nodes-on c) (length c) made (f .0) (f .1) in
+      let f = some-store (nodesOn c) (length c) made (omega (arith, s .words)) h in
+      let e = same-store (nodesOn c) (length c) made (f .0) (f .1) in
       record {
-        reply-given = rw (format-step-stores c (nodes-on c) s made h);
-        one-store = rw (format-step-stores c (nodes-on c) s made h, e) (format-next (nodes-on c) c made (f .0) (f .1));
+        reply-given = rw (format-step-stores c (nodesOn c) s made h);
+        one-store = rw (format-step-stores c (nodesOn c) s made h, e) (format-next (nodesOn c) c made (f .0) (f .1));
       }
 
-  pub formats-sized : Formats ration-table c
-  unfolding reply-to happens stepReply noBeginning startReply resting
+  pub formats-sized : Formats rationTable c
+  unfolding replyTo happens stepReply noBeginning startReply resting
   formats-sized =
       record {
-        each = λ qs u h. rw (runs-to qs u (omega arith)) (stores-now (steps-in qs) h);
-        then-ready = λ qs u h. rw (runs-to qs u (omega arith), h, format-step-ready c (nodes-on c) s);
-        search-first = λ qs u h. rw (runs-to qs u (omega arith), h, format-step-ready c (nodes-on c) s);
-        cut-refused = λ qs u low h. rw (runs-to qs u (omega arith), cut-refused c (nodes-on c) (steps-in qs) s low h);
+        each = λ qs u h. rw (runs-to qs u (omega arith)) (stores-now (stepsIn qs) h);
+        then-ready = λ qs u h. rw (runs-to qs u (omega arith), h, format-step-ready c (nodesOn c) s);
+        search-first = λ qs u h. rw (runs-to qs u (omega arith), h, format-step-ready c (nodesOn c) s);
+        cut-refused = λ qs u low h. rw (runs-to qs u (omega arith), cut-refused c (nodesOn c) (stepsIn qs) s low h);
       }
 
-pub formats-right : (c : List ℕ) → ration-table .format c .reply ≡ started → Formats ration-table c
+pub formats-right : (c : List ℕ) → rationTable .format c .reply ≡ started → Formats rationTable c
 unfolding noBeginning startReply
-formats-right c e = go (sized? (length c) (nodes-on c))
+formats-right c e = go (sized? (length c) (nodesOn c))
   where
-    go : Dec (Sized (length c) (nodes-on c)) → Formats ration-table c
+    go : Dec (Sized (length c) (nodesOn c)) → Formats rationTable c
     go (yes s) = formats-sized c s
     go (no p) = let z : refusal 1 ≡ started = rw (format-refused c (no-nodes c p)) at e in absurd (omega (arith, ap (λ (r : Reply). r .code) z))

@@ -10,11 +10,11 @@ use native.Mathlib.Decide.{ℕ-discrete}
 use lib.ListN.{length, drop, replicate, length-take}
 use borrow.Author.Tests.{ne-eqb}
 use Rattle.demands.specs.Demand1.{OpensTo}
-use Rattle.demands.specs.Demand3.{repair-steps, Survives}
+use Rattle.demands.specs.Demand3.{mostRepairSteps, Survives}
 use Rattle.demands.specs.Events.{World, opened, happens, run, Words, LeftUncut, Opens, Begins, step, from-open}
 use Rattle.demands.specs.Book.{kept}
-use Rattle.demands.specs.RationTable.{handed, ration-table}
-use Rattle.demands.specs.Refusals.{ByRows, nodes-on, leads-to, among, open-rows, end, row}
+use Rattle.demands.specs.RationTable.{handed, rationTable}
+use Rattle.demands.specs.Refusals.{ByRows, nodesOn, leadsTo, among, openRows, end, row}
 use Rattle.demands.specs.List.{repairedWorld}
 use Rattle.demands.proofs.ListRight.{repaired-world}
 use Rattle.demands.specs.W209.{SplitBelow, TellsHeld, LeadsAbsent, TellsSlot, TellsSplit, Told, OfCard, W209}
@@ -25,9 +25,9 @@ use Rattle.demands.proofs.ReplyLaws.{begun-refused}
 use Rattle.demands.proofs.RowLaws.{rows-map}
 use Rattle.demands.proofs.SameBook.{worldly}
 use Rattle.demands.proofs.StartRows.{leads-is, slot-is}
-use Rattle.demands.proofs.WayDown.{landed, is-slot}
+use Rattle.demands.proofs.WayDown.{landed, slotFound}
 use Rattle.demands.proofs.Work.{true-false}
-use Rattle.card.specs.Layout.{nodeAt, keyWords, valueWords, slot-pairs, leafPairs, keyLimit}
+use Rattle.card.specs.Layout.{nodeAt, keyWords, valueWords, slotPairs, leafPairs, keyLimit}
 use Rattle.card.specs.Replies.{refusal}
 use Rattle.descent.specs.Descent.{slotOf}
 use Rattle.descent.specs.declared.Slot.the-variants.{At}
@@ -48,7 +48,7 @@ use Rattle.promises.proofs.PowerLoss.{insert-same}
 use Rattle.promises.proofs.Room.{LeadsTo}
 use Rattle.reason_printing.specs.ReasonText.{splitLine, reasonText, checkText}
 use Rattle.repairing.specs.Repairing.{cardRoom, openedCard}
-use Rattle.repairing_theory.proofs.Repair.{world-of}
+use Rattle.repairing_theory.proofs.Repair.{worldFrom}
 use Rattle.starting.specs.Starts.{startRefused, insertOf}
 use Rattle.state.specs.Answers.{startReply}
 use Rattle.state.specs.Memory.{Memory}
@@ -62,13 +62,13 @@ use Rattle.tree.specs.WellFormed.{WellFormed}
 
 -- ---- a leaf of eleven pairs has no empty slot
 
-pairs-most : (ks vs : List ℕ) → length (slot-pairs ks vs) ≤ length ks
+pairs-most : (ks vs : List ℕ) → length (slotPairs ks vs) ≤ length ks
 pairs-most [] vs = omega arith
 pairs-most (k ∷ ks) [] = omega arith
 pairs-most (zero ∷ ks) (v ∷ vs) = omega (arith, pairs-most ks vs)
 pairs-most (suc k ∷ ks) (v ∷ vs) = omega (arith, pairs-most ks vs)
 
-pairs-fewer : (ks vs : List ℕ) → among 0 ks ≡ true → length (slot-pairs ks vs) < length ks
+pairs-fewer : (ks vs : List ℕ) → among 0 ks ≡ true → length (slotPairs ks vs) < length ks
 unfolding among
 pairs-fewer [] vs e = true-false (sym e)
 pairs-fewer (k ∷ ks) [] e = omega arith
@@ -80,10 +80,10 @@ unfolding leafPairs keyWords
 no-empty-slot leaf eleven =
     bool-cases (among 0 (keyWords leaf)) (λ q. absurd (omega (arith, eleven, pairs-fewer (keyWords leaf) (valueWords leaf) q, length-take 11 (drop 1 leaf)))) (λ q. q)
 
-steps-uncut : (k : ℕ) (w : World ration-table) → LeftUncut ration-table (replicate k step) w
+steps-uncut : (k : ℕ) (w : World rationTable) → LeftUncut rationTable (replicate k step) w
 unfolding LeftUncut
 steps-uncut zero w = tt
-steps-uncut (suc k) w = (tt, steps-uncut k (happens ration-table step w))
+steps-uncut (suc k) w = (tt, steps-uncut k (happens rationTable step w))
 
 steps-words : (k : ℕ) → Words (replicate k step)
 steps-words zero = tt
@@ -110,41 +110,41 @@ abbrev FullAt : ℕ → ℕ → Worldly → Type 0
 FullAt key j w = (leaf : ℕ) × LeadsTo w key leaf j × (length (leafPairs (nodeAt (w .card) leaf)) ≡ 11)
 
 module _ (c : List ℕ) where
-  abbrev after : World ration-table
-  after = repairedWorld ration-table c
+  abbrev after : World rationTable
+  after = repairedWorld rationTable c
 
-  is-after : world-of (openedCard c) ≡ worldly after
+  is-after : worldFrom (openedCard c) ≡ worldly after
   is-after = sym (repaired-world c)
 
-  module _ (t : Tree) (well : WellFormed c t) (opening : Opens ration-table c) where
-    begins : Begins ration-table (opened ration-table c) (pairs t)
+  module _ (t : Tree) (well : WellFormed c t) (opening : Opens rationTable c) where
+    begins : Begins rationTable (opened rationTable c) (pairs t)
     begins = from-open c t opening well
 
-    nodes-after : nodes-on (after .card) ≡ after .state .nodes
+    nodes-after : nodesOn (after .card) ≡ after .state .nodes
     unfolding repairedWorld
     nodes-after =
-        always (λ w b. nodes-on (w .card) ≡ w .state .nodes) (λ w b v. covered-nodes v) (opened ration-table c) (pairs t) begins (replicate repair-steps step) (steps-words repair-steps)
+        always (λ w b. nodesOn (w .card) ≡ w .state .nodes) (λ w b v. covered-nodes v) (opened rationTable c) (pairs t) begins (replicate mostRepairSteps step) (steps-words mostRepairSteps)
 
-    survives : Survives ration-table c (pairs t)
+    survives : Survives rationTable c (pairs t)
     unfolding run kept
-    survives = demand-3 (opened ration-table c) (pairs t) begins [] tt
+    survives = demand-3 (opened rationTable c) (pairs t) begins [] tt
 
-    leads-after : (key leaf j : ℕ) → LeadsTo (worldly after) key leaf j → leads-to (after .card) key ≡ some (leaf, j)
+    leads-after : (key leaf j : ℕ) → LeadsTo (worldly after) key leaf j → leadsTo (after .card) key ≡ some (leaf, j)
     unfolding landed
     leads-after key leaf j l = sym (leads-is (after .card) (after .state .nodes) key nodes-after) ∙ ap landed (l .1)
 
     module _ (key : ℕ) (low : 0 < key) (high : key < keyLimit) (out : List ℕ) where
-      found-after : (o : Option ℕ) → lookup key (pairs t) ≡ o → ration-table .find (after .card) key ≡ dictionary o
+      found-after : (o : Option ℕ) → lookup key (pairs t) ≡ o → rationTable .find (after .card) key ≡ dictionary o
       unfolding repairedWorld
-      found-after o e = survives .finds (replicate repair-steps step) (steps-uncut repair-steps (opened ration-table c)) key low high ∙ ap dictionary e
+      found-after o e = survives .finds (replicate mostRepairSteps step) (steps-uncut mostRepairSteps (opened rationTable c)) key low high ∙ ap dictionary e
 
-      absent-at : (leaf j : ℕ) → lookup key (pairs t) ≡ none → LeadsTo (worldly after) key leaf j → LeadsAbsent ration-table after key out leaf j
+      absent-at : (leaf j : ℕ) → lookup key (pairs t) ≡ none → LeadsTo (worldly after) key leaf j → LeadsAbsent rationTable after key out leaf j
       unfolding dictionary
       absent-at leaf j e l = record { not-held = found-after none e; leads = leads-after key leaf j l }
 
       -- the text of a reason that holds
-      tells : (r : Reason) → out ≡ reasonText r → ReasonHolds c t key r → TellsHeld ration-table after key out ⊎ (TellsSlot ration-table after key out ⊎ TellsSplit ration-table after key out)
-      unfolding ReasonHolds reasonText dictionary is-slot
+      tells : (r : Reason) → out ≡ reasonText r → ReasonHolds c t key r → TellsHeld rationTable after key out ⊎ (TellsSlot rationTable after key out ⊎ TellsSplit rationTable after key out)
+      unfolding ReasonHolds reasonText dictionary slotFound
       tells (Refused r) e h = absurd h
       tells NoKey e h = absurd h
       tells (Held v) e h = inl (record { value = v; found = found-after (some v) h; printed = e })
@@ -175,10 +175,10 @@ module _ (dump file : List ℕ) where
     read : readAnswer dump cardRoom ≡ Length size
     read = read-whole dump cardRoom whole ∙ room-long size cardRoom (omega (arith, undamaged-whole dump whole .most))
 
-    told : OpensTo ration-table card (handed (openOf card)) → Told ration-table (repairedWorld ration-table card) (keyIn file) (checkText dump file)
+    told : OpensTo rationTable card (handed (openOf card)) → Told rationTable (repairedWorld rationTable card) (keyIn file) (checkText dump file)
     told o = go (ℕ-discrete (keyIn file) 0)
       where
-        opening : Opens ration-table card
+        opening : Opens rationTable card
         opening = ⊎-map (λ z. z .1) (λ z. z .1) (o .hands)
 
         text : (keyIn file ≡ 0 → ⊥) → (value : ℕ) → (insertOf (after card .card) (after card .state) (keyIn file) value ≡ startRefused 8 (after card .state)) ↔ SplitBelow (checkText dump file)
@@ -191,7 +191,7 @@ module _ (dump file : List ℕ) where
             let reply = refused-eight (after card .card) (after card .state) (keyIn file) value in
             (λ e. text d value .0 (reply .0 e), λ p. reply .1 (text d value .1 p))
 
-        go : Dec (keyIn file ≡ 0) → Told ration-table (repairedWorld ration-table card) (keyIn file) (checkText dump file)
+        go : Dec (keyIn file ≡ 0) → Told rationTable (repairedWorld rationTable card) (keyIn file) (checkText dump file)
         go (yes z) = inl (z, no-key-text dump file size read (o .table) (accepted card opening) (o .sound) z)
         go (no d) =
             let (r, is, holding) = text-holds dump file size read (o .table) (accepted card opening) (o .sound) d in
@@ -203,16 +203,16 @@ module _ (dump file : List ℕ) where
               },
             )
 
-    of-card : OfCard ration-table card (keyIn file) (checkText dump file)
+    of-card : OfCard rationTable card (keyIn file) (checkText dump file)
     of-card =
-        rows-map (open-rows card) (omega arith, (omega arith, (omega arith, (omega arith, (omega arith, tt)))))
+        rows-map (openRows card) (omega arith, (omega arith, (omega arith, (omega arith, (omega arith, tt)))))
         (λ r h z. unopened-text dump file size read r (begun-refused (openOf card .begun) r h (z .number-given)))
         told (opens card)
 
-  of-dump : ByRows (row 11 (damaged dump ≡ true) end) (λ r. checkText dump file ≡ refusalLine r) (OfCard ration-table (dumpWords (wordsFor (dumpNodes dump)) dump) (keyIn file) (checkText dump file))
+  of-dump : ByRows (row 11 (damaged dump ≡ true) end) (λ r. checkText dump file ≡ refusalLine r) (OfCard rationTable (dumpWords (wordsFor (dumpNodes dump)) dump) (keyIn file) (checkText dump file))
   unfolding ByRows
   of-dump =
       bool-cases (damaged dump) (λ q. inl (q, unread-text dump file 11 (read-damaged dump cardRoom q))) (λ q. inr (λ z. true-false (sym z ∙ q), of-card q))
 
-pub w-209 : W209 ration-table checkText
+pub w-209 : W209 rationTable checkText
 w-209 = record { dumps = of-dump }

@@ -7,12 +7,12 @@ use Prim.Native.Nat.{ℕ, zero, suc, _^_, _<_}
 use native.Mathlib.Omega.{arith}
 use lib.ListN.{length, getD, replicate}
 use Rattle.demands.specs.Demand1.{OpensTo}
-use Rattle.demands.specs.Demand3.{repair-steps}
+use Rattle.demands.specs.Demand3.{mostRepairSteps}
 use Rattle.demands.specs.Events.{World, opened, happens, run, step}
 use Rattle.demands.specs.List.{repairedWorld, ListsRight, ListProgram}
-use Rattle.demands.specs.Refusals.{ByRows, nodes-on, open-rows, end, row}
+use Rattle.demands.specs.Refusals.{ByRows, nodesOn, openRows, end, row}
 use Rattle.demands.proofs.SameBook.{worldly, same-world}
-use Rattle.demands.specs.RationTable.{handed, ration-table}
+use Rattle.demands.specs.RationTable.{handed, rationTable}
 use Rattle.demands.proofs.CardRows.{opens}
 use Rattle.demands.proofs.ReplyLaws.{begun-refused}
 use Rattle.demands.proofs.Work.{true-false}
@@ -36,29 +36,29 @@ use Rattle.promises.proofs.Accepting.{accepted-card}
 use Rattle.promises.proofs.Machine.{World as Worldly, run as was-run}
 use Rattle.promises.proofs.Promise.{Accepted}
 use Rattle.repairing.specs.Repairing.{cardRoom, openedCard}
-use Rattle.repairing_theory.proofs.Repair.{world-of, steps, opened-run}
+use Rattle.repairing_theory.proofs.Repair.{worldFrom, steps, opened-run}
 use Rattle.shapes.proofs.Unique.{one-held}
 use Rattle.tree.specs.Tree.{Tree}
 use Rattle.tree.specs.WellFormed.{WellFormed}
 
 -- ---- the repaired card
 
-run-steps : (k : ℕ) (w : World ration-table) → worldly (run ration-table (replicate k step) w) ≡ was-run (steps k) (worldly w)
+run-steps : (k : ℕ) (w : World rationTable) → worldly (run rationTable (replicate k step) w) ≡ was-run (steps k) (worldly w)
 unfolding run was-run
 run-steps zero w = refl
-run-steps (suc k) w = run-steps k (happens ration-table step w) ∙ ap (was-run (steps k)) (same-world step w)
+run-steps (suc k) w = run-steps k (happens rationTable step w) ∙ ap (was-run (steps k)) (same-world step w)
 
-pub repaired-world : (c : List ℕ) → worldly (repairedWorld ration-table c) ≡ world-of (openedCard c)
+pub repaired-world : (c : List ℕ) → worldly (repairedWorld rationTable c) ≡ worldFrom (openedCard c)
 unfolding repairedWorld
-repaired-world c = run-steps repair-steps (opened ration-table c) ∙ sym (opened-run c)
+repaired-world c = run-steps mostRepairSteps (opened rationTable c) ∙ sym (opened-run c)
 
-repaired-is : (c : List ℕ) → repairedWorld ration-table c .card ≡ openedCard c .card
+repaired-is : (c : List ℕ) → repairedWorld rationTable c .card ≡ openedCard c .card
 repaired-is c = ap (λ (x : Worldly). x .card) (repaired-world c)
 
 -- ---- cards
 
 module _ (c : List ℕ) where
-  lists-right : Accepted c → (t : Tree) → WellFormed c t → (x : ListedRight c t) → ListsRight ration-table c (x .listing)
+  lists-right : Accepted c → (t : Tree) → WellFormed c t → (x : ListedRight c t) → ListsRight rationTable c (x .listing)
   lists-right a t w x =
       let n = sym (sized-on c (nodesOfLength (length c)) (accepted-card c a .1)) in
       record {
@@ -74,13 +74,13 @@ module _ (c : List ℕ) where
         as-many = λ s v. rw (x .all-pairs, one-held c s t (v .holds) (w .holds)) (x .map .as-many);
       }
 
-  of-card : ByRows (open-rows c) (λ r. (ration-table .openCard c .reply ≡ refusal r) × (listCard c ≡ refused r)) ((l : Listing) × (listCard c ≡ listed l) × ListsRight ration-table c l)
+  of-card : ByRows (openRows c) (λ r. (rationTable .openCard c .reply ≡ refusal r) × (listCard c ≡ refused r)) ((l : Listing) × (listCard c ≡ listed l) × ListsRight rationTable c l)
   of-card =
-      rows-map (open-rows c) (omega arith, (omega arith, (omega arith, (omega arith, (omega arith, tt)))))
+      rows-map (openRows c) (omega arith, (omega arith, (omega arith, (omega arith, (omega arith, tt)))))
       (λ r h z. (z .number-given, card-refused c r (begun-refused (openOf c .begun) r h (z .number-given))))
       works (opens c)
     where
-      works : OpensTo ration-table c (handed (openOf c)) → (l : Listing) × (listCard c ≡ listed l) × ListsRight ration-table c l
+      works : OpensTo rationTable c (handed (openOf c)) → (l : Listing) × (listCard c ≡ listed l) × ListsRight rationTable c l
       works o = let a = accepted c (⊎-map (λ z. z .1) (λ z. z .1) (o .hands)) in let x = listing-right c (o .table) (o .sound) a in (x .listing, x .is-listed, lists-right a (o .table) (o .sound) x)
 
 -- ---- dumps
@@ -97,13 +97,13 @@ module _ (dump : List ℕ) where
       bool-cases (damaged dump) (λ q. inl (q, text-right dump ∙ ap listText (dump-refused dump cardRoom 11 (read-damaged dump cardRoom q))))
       (λ q. inr (λ z. true-false (sym z ∙ q), text-right dump ∙ ap listText (read-room q)))
 
-own : (c : List ℕ) → ((i : ℕ) → getD c i 0 < 2 ^ 32) → Sized (length c) (nodes-on c) → Formatted c (nodes-on c) → dumpText (dumpOf c) ≡ listText (listCard c)
+own : (c : List ℕ) → ((i : ℕ) → getD c i 0 < 2 ^ 32) → Sized (length c) (nodesOn c) → Formatted c (nodesOn c) → dumpText (dumpOf c) ≡ listText (listCard c)
 own c fits s f =
-    let e = sized-nodes (length c) (nodes-on c) s in
+    let e = sized-nodes (length c) (nodesOn c) s in
     let good : Good c = record { sized = rw e s; header = rw e f } in
     let q = whole-undamaged (dumpOf c) (dump-whole c fits good) in
     let size : wordsFor (dumpNodes (dumpOf c)) ≡ length c = ap wordsFor (dump-nodes c fits good) ∙ sym (good .sized .words) in
     text-right (dumpOf c) ∙ ap listText (read-room (dumpOf c) q ∙ ap listCard (ap (λ (k : ℕ). dumpWords k (dumpOf c)) size ∙ dump-words c fits))
 
-pub list-program : ListProgram ration-table listCard dumpText
+pub list-program : ListProgram rationTable listCard dumpText
 list-program = record { cards = of-card; dumps = of-dump; own-dump = own }

@@ -8,20 +8,20 @@ use native.Mathlib.Omega.{arith}
 use lib.ListN.{length, set, drop}
 use Rattle.card.specs.Stores.{Store}
 use Rattle.demands.specs.Table.{Refused}
-use Rattle.demands.specs.Events.{Event, World, reply-to, happens, run, LeftUncut, steps-in, find, insert, delete, step, cut}
+use Rattle.demands.specs.Events.{Event, World, replyTo, happens, run, LeftUncut, stepsIn, find, insert, delete, step, cut}
 use Rattle.demands.specs.Book.{Book, feed, told}
 use Rattle.demands.specs.Demand2.{storeAt, StoresNow}
 use Rattle.demands.proofs.SameBook.{worldly, same-world, fed-same}
-use Rattle.demands.specs.RationTable.{ration-table}
+use Rattle.demands.specs.RationTable.{rationTable}
 use Rattle.demands.proofs.PowerCuts.{Covered, covered-nodes, refused-insert-same, refused-delete-same}
 use Rattle.demands.proofs.StepRows.{advanced-rest}
-use Rattle.promises.proofs.Feeding.{fed, due-after, stored-due}
+use Rattle.promises.proofs.Feeding.{fed, dueAfter, stored-due}
 use Rattle.promises.proofs.Invariant.{Stage, Table, stage-idle, stage-put, stage-remove, stage-first, stage-between, stage-within}
 use Rattle.promises.proofs.Kept.{first-storable}
 use Rattle.promises.proofs.Ledger.{Hand, feed as was-feed}
 use Rattle.promises.proofs.Machine.{World as Worldly, step as was-step}
 use Rattle.promises.proofs.PowerLoss.{loosen, at-rest}
-use Rattle.promises.proofs.Stepping.{final-due, kept-step}
+use Rattle.promises.proofs.Stepping.{finalDue, kept-step}
 use Rattle.promises.proofs.Steps.{job-busy, step-stores, idle-refused}
 use Rattle.state.specs.Answers.{stepReply}
 use Rattle.state.specs.Memory.{Memory, advanced}
@@ -33,14 +33,14 @@ use Rattle.table.specs.Calls.{stepOf}
 use Rattle.tree.specs.Tree.{Tree}
 
 -- A table that is worked, at most so many steps from the end of what is being done, with this final answer due.
-pub record Nears (final : Answer) (most : ℕ) (w : World ration-table) : Type 0 where
+pub record Nears (final : Answer) (most : ℕ) (w : World rationTable) : Type 0 where
   pub book-now : Book
   pub covered : Covered w book-now
   pub soon : covered .steps ≤ most
-  pub is-due : final-due (covered .due) ≡ final
+  pub is-due : finalDue (covered .due) ≡ final
 
 -- a store brings it one step nearer
-pub nearer : (final : Answer) (most : ℕ) (w : World ration-table) → Nears final most w → stepOf (w .card) (w .state) .answer ≡ Stored → (few : ℕ) × (most ≡ suc few) × Nears final few (happens ration-table step w)
+pub nearer : (final : Answer) (most : ℕ) (w : World rationTable) → Nears final most w → stepOf (w .card) (w .state) .answer ≡ Stored → (few : ℕ) × (most ≡ suc few) × Nears final few (happens rationTable step w)
 unfolding stepRefused
 nearer final zero w x e = absurd (never (idle-refused (w .card) (w .state) rested))
   where
@@ -59,18 +59,18 @@ nearer final (suc few) w x e =
       few,
       refl,
       record {
-        book-now = feed (told ration-table step w) (x .book-now);
+        book-now = feed (told rationTable step w) (x .book-now);
         covered = record {
           size = v .size;
           steps = few;
           was-kept = was-feed (fed was-step (worldly w)) (v .was-kept);
-          due = due-after was-step (worldly w) (v .was-kept) (v .due);
+          due = dueAfter was-step (worldly w) (v .was-kept) (v .due);
           inv = rw (same-world step w) (q .0 .0);
-          same-book = ap (feed (told ration-table step w)) (v .same-book) ∙ f .0;
+          same-book = ap (feed (told rationTable step w)) (v .same-book) ∙ f .0;
           flagged = f .1;
         };
         soon = omega arith;
-        is-due = ap final-due (stored-due (worldly w) (v .was-kept) (v .due) e) ∙ x .is-due;
+        is-due = ap finalDue (stored-due (worldly w) (v .was-kept) (v .due) e) ∙ x .is-due;
       },
     )
 
@@ -94,7 +94,7 @@ advanced-twice m s rest [] = refl
 advanced-twice m s rest (x ∷ more) = refl
 
 -- where the stores still to come are those of a plan, the next step makes the first of them
-pub makes-next : (w : World ration-table) (b : Book) → Covered w b → (m : Memory) (s : Store) (rest : List Store) → w .state ≡ advanced m (s ∷ rest)
+pub makes-next : (w : World rationTable) (b : Book) → Covered w b → (m : Memory) (s : Store) (rest : List Store) → w .state ≡ advanced m (s ∷ rest)
     → stepOf (w .card) (w .state) ≡ record { answer = Stored; card = set (w .card) (s .0) (s .1); memory = advanced m rest }
 makes-next w b v m s rest e = at (stage-storing (v .inv .table) (v .inv .stage))
   where
@@ -112,39 +112,39 @@ makes-next w b v m s rest e = at (stage-storing (v .inv .table) (v .inv .stage))
 -- ---- all stores that are left, with finds and refused calls between
 
 -- a find and a refused start leave the same world
-pub find-same : (key : ℕ) (w : World ration-table) → happens ration-table (find key) w ≡ w
+pub find-same : (key : ℕ) (w : World rationTable) → happens rationTable (find key) w ≡ w
 unfolding happens
 find-same key w = refl
 
-world-of : Worldly → World ration-table
+world-of : Worldly → World rationTable
 world-of x = record { card = x .card; state = x .memory }
 
-pub same-insert : (key value : ℕ) (w : World ration-table) → Refused (reply-to ration-table (insert key value) w) → happens ration-table (insert key value) w ≡ w
+pub same-insert : (key value : ℕ) (w : World rationTable) → Refused (replyTo rationTable (insert key value) w) → happens rationTable (insert key value) w ≡ w
 unfolding world-of
 same-insert key value w h = ap world-of (refused-insert-same key value w h)
 
-pub same-delete : (key : ℕ) (w : World ration-table) → Refused (reply-to ration-table (delete key) w) → happens ration-table (delete key) w ≡ w
+pub same-delete : (key : ℕ) (w : World rationTable) → Refused (replyTo rationTable (delete key) w) → happens rationTable (delete key) w ≡ w
 unfolding world-of
 same-delete key w h = ap world-of (refused-delete-same key w h)
 
 -- the plan m, of which the stores ss are still to come
 module _ (final : Answer) (m : Memory) where
-  pub record Left (most : ℕ) (ss : List Store) (w : World ration-table) : Type 0 where
+  pub record Left (most : ℕ) (ss : List Store) (w : World rationTable) : Type 0 where
     pub nears : Nears final most w
     pub is-left : w .state ≡ advanced m ss
 
-  stored-step : (w : World ration-table) (s : Store) (rest : List Store) → stepOf (w .card) (w .state) ≡ record { answer = Stored; card = set (w .card) (s .0) (s .1); memory = advanced m rest } → (StoresNow ration-table w s) × (happens ration-table step w .state ≡ advanced m rest)
-  unfolding reply-to happens stepReply
+  stored-step : (w : World rationTable) (s : Store) (rest : List Store) → stepOf (w .card) (w .state) ≡ record { answer = Stored; card = set (w .card) (s .0) (s .1); memory = advanced m rest } → (StoresNow rationTable w s) × (happens rationTable step w .state ≡ advanced m rest)
+  unfolding replyTo happens stepReply
   stored-step w s rest e = (record { reply-given = rw e; one-store = rw e }, rw e)
 
-  one-less : {most : ℕ} {w : World ration-table} (s : Store) (rest : List Store) → Left most (s ∷ rest) w → (few : ℕ) × (most ≡ suc few) × Left few rest (happens ration-table step w)
+  one-less : {most : ℕ} {w : World rationTable} (s : Store) (rest : List Store) → Left most (s ∷ rest) w → (few : ℕ) × (most ≡ suc few) × Left few rest (happens rationTable step w)
   one-less {most} {w} s rest x =
       let e = makes-next w (x .nears .book-now) (x .nears .covered) m s rest (x .is-left) in
       let q = nearer final most w (x .nears) (ap (λ z. z .answer) e) in
       (q .0, q .1, record { nears = q .2; is-left = stored-step w s rest e .1 })
 
   -- what is left after a run without a cut
-  pub run-left : (most : ℕ) (ss : List Store) (w : World ration-table) → Left most ss w → (qs : List Event) → LeftUncut ration-table qs w → steps-in qs ≤ length ss → (few : ℕ) × (few + steps-in qs ≡ most) × Left few (drop (steps-in qs) ss) (run ration-table qs w)
+  pub run-left : (most : ℕ) (ss : List Store) (w : World rationTable) → Left most ss w → (qs : List Event) → LeftUncut rationTable qs w → stepsIn qs ≤ length ss → (few : ℕ) × (few + stepsIn qs ≡ most) × Left few (drop (stepsIn qs) ss) (run rationTable qs w)
   unfolding LeftUncut run
   run-left most ss w x [] u h = (most, omega arith, x)
   run-left most ss w x (find key ∷ qs) u h = rw (find-same key w) (run-left most ss w x qs (rw (find-same key w) at (u .1)) h)
@@ -153,11 +153,11 @@ module _ (final : Answer) (m : Memory) where
   run-left most [] w x (step ∷ qs) u h = absurd (omega arith)
   run-left most (s ∷ rest) w x (step ∷ qs) u h =
       let q = one-less s rest x in
-      let r = run-left (q .0) rest (happens ration-table step w) (q .2) qs (u .1) (omega arith) in
+      let r = run-left (q .0) rest (happens rationTable step w) (q .2) qs (u .1) (omega arith) in
       (r .0, omega (arith, q .1, r .1), r .2)
   run-left most ss w x (cut ∷ qs) u h = absurd (u .0)
 
-  next-stored : (most : ℕ) (ss : List Store) (w : World ration-table) → Left most ss w → 0 < length ss → StoresNow ration-table w (storeAt ss 0)
+  next-stored : (most : ℕ) (ss : List Store) (w : World rationTable) → Left most ss w → 0 < length ss → StoresNow rationTable w (storeAt ss 0)
   next-stored most [] w x h = absurd (omega arith)
   next-stored most (s ∷ rest) w x h = stored-step w s rest (makes-next w (x .nears .book-now) (x .nears .covered) m s rest (x .is-left)) .0
 
@@ -166,8 +166,8 @@ module _ (final : Answer) (m : Memory) where
   drop-more (s ∷ ss) zero h = (omega arith, refl)
   drop-more (s ∷ ss) (suc k) h = drop-more ss k (omega arith)
 
-  pub stores-each : (most : ℕ) (ss : List Store) (w : World ration-table) → Left most ss w → (qs : List Event) → LeftUncut ration-table qs w → steps-in qs < length ss → StoresNow ration-table (run ration-table qs w) (storeAt ss (steps-in qs))
+  pub stores-each : (most : ℕ) (ss : List Store) (w : World rationTable) → Left most ss w → (qs : List Event) → LeftUncut rationTable qs w → stepsIn qs < length ss → StoresNow rationTable (run rationTable qs w) (storeAt ss (stepsIn qs))
   stores-each most ss w x qs u h =
       let r = run-left most ss w x qs u (omega arith) in
-      let d = drop-more ss (steps-in qs) h in
-      subst (StoresNow ration-table (run ration-table qs w)) (d .1) (next-stored (r .0) (drop (steps-in qs) ss) (run ration-table qs w) (r .2) (d .0))
+      let d = drop-more ss (stepsIn qs) h in
+      subst (StoresNow rationTable (run rationTable qs w)) (d .1) (next-stored (r .0) (drop (stepsIn qs) ss) (run rationTable qs w) (r .2) (d .0))

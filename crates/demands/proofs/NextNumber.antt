@@ -7,9 +7,9 @@ use native.Mathlib.Omega.{arith}
 use lib.ListN.{length}
 use Rattle.demands.specs.Book.{Book}
 use Rattle.demands.specs.Events.{World}
-use Rattle.demands.specs.Refusals.{ByRows, nodes-on, on-card, end}
+use Rattle.demands.specs.Refusals.{ByRows, nodesOn, cardRows, end}
 use Rattle.demands.specs.W201.{NextCall, AnswersNext, HeldTo, Rises, Walks, Walked, OnAnyCard, W201, ends, goes-on}
-use Rattle.demands.specs.RationTable.{ration-table}
+use Rattle.demands.specs.RationTable.{rationTable}
 use Rattle.demands.proofs.PowerCuts.{Covered, always}
 use Rattle.demands.proofs.FirstRows.{by-card, card-one}
 use Rattle.card.specs.Header.{cardRefusal}
@@ -94,17 +94,17 @@ refused : (c : List ℕ) (r : ℕ) → cardRefusal c ≡ r → (r ≡ 0 → ⊥)
 unfolding nextReply
 refused c r e d number = rw (next-refused c number (λ z. d (sym e ∙ z)), e)
 
-cards : (c : List ℕ) → ByRows (on-card c (nodes-on c) end) (λ r. (number : ℕ) → call c number ≡ (refusal r, 0)) (OnAnyCard call c)
+cards : (c : List ℕ) → ByRows (cardRows c (nodesOn c) end) (λ r. (number : ℕ) → call c number ≡ (refusal r, 0)) (OnAnyCard call c)
 unfolding ByRows
 cards c =
-    by-card end (λ r. (number : ℕ) → call c number ≡ (refusal r, 0)) (OnAnyCard call c) c (nodes-on c)
+    by-card end (λ r. (number : ℕ) → call c number ≡ (refusal r, 0)) (OnAnyCard call c) c (nodesOn c)
     (λ p. refused c 1 (card-one c p) (λ z. omega (arith, z)))
-    (λ r s e d. refused c r (length-accepted c (nodes-on c) s ∙ e) d)
+    (λ r s e d. refused c r (length-accepted c (nodesOn c) s ∙ e) d)
     (λ s f. on-any-card c (card-accepted s f .0))
 
 -- ---- every moment
 
-module _ (w : World ration-table) (b : Book) (v : Covered w b) where
+module _ (w : World rationTable) (b : Book) (v : Covered w b) where
   same-pairs : (key : ℕ) → lookup key (pairs (v .inv .tree)) ≡ lookup key (b .held)
   same-pairs key = map-is (v .inv) .alike key ∙ ap (λ (x : Book). lookup key (x .held)) (sym (v .same-book))
 
@@ -122,7 +122,7 @@ module _ (w : World ration-table) (b : Book) (v : Covered w b) where
   walk-now : Walked call (w .card) (b .held)
   walk-now = walked (w .card) (v .inv .tree) (table-well-formed (v .inv .table)) accepted (b .held) same-pairs as-many-pairs
 
-pub w-201 : W201 ration-table (λ c number. nextReply (nextOf c number))
+pub w-201 : W201 rationTable (λ c number. nextReply (nextOf c number))
 w-201 =
     record {
       moments = always (λ w b. (number : ℕ) → number < keyLimit → AnswersNext (b .held) number (call (w .card) number)) moment;

@@ -19,14 +19,14 @@ use Rattle.dump.specs.Dump.{wordsFor, dumpNodes, damaged, readAnswer}
 use Rattle.dump.specs.Padding.{eightAt}
 use Rattle.laws.proofs.Cases.{bool-cases, order}
 use Rattle.laws.proofs.Lists.{getD-all-zero}
-use Rattle.laws.specs.Lists.{all-zero}
+use Rattle.laws.specs.Lists.{allZero}
 
 fits : (dump : List ℕ) (k : ℕ) → ((i : ℕ) → getD dump i 0 < 256) → eightAt dump k < 2 ^ 64
 unfolding eightAt
 fits dump k bytes =
     omega (arith, bytes (8 * k), bytes (8 * k + 1), bytes (8 * k + 2), bytes (8 * k + 3), bytes (8 * k + 4), bytes (8 * k + 5), bytes (8 * k + 6), bytes (8 * k + 7))
 
-zeros-all : (l : List ℕ) → ((i : ℕ) → getD l i 0 ≡ 0) → all-zero l ≡ true
+zeros-all : (l : List ℕ) → ((i : ℕ) → getD l i 0 ≡ 0) → allZero l ≡ true
 zeros-all [] f = refl
 zeros-all (x ∷ l) f = rw (eq-eqb x 0 (f 0)) (zeros-all l (λ i. f (suc i)))
 

@@ -19,11 +19,11 @@ use Rattle.plans.specs.Change.{changeStores, kindAbove, splitLeaf}
 use Rattle.plans.specs.Planning.{prepared}
 use Rattle.state.specs.declared.Doing.the-variants.{Inserting, Deleting}
 use Rattle.updates.specs.Updates.{landing, emptyReason, reasonIn, insertReason, insertChange, deleteChange, noChange, changeIn, changeAt}
-use Rattle.demands.specs.Refusals.{nodes-on, leads-to, among}
+use Rattle.demands.specs.Refusals.{nodesOn, leadsTo, among}
 use Rattle.demands.specs.Rules.{InsertRule, in-slot, leaf-split, DeleteRule, key-cleared}
 use Rattle.demands.proofs.PlannedNumbers.{ByRule, not-refused, not-balanced, giving-three, none-taken}
 use Rattle.demands.proofs.Standing.{picked, landing-linked}
-use Rattle.demands.proofs.WayDown.{landed, landing-way, is-slot, slot-among}
+use Rattle.demands.proofs.WayDown.{landed, landing-way, slotFound, slot-among}
 
 -- ---- the slots of a leaf
 
@@ -53,8 +53,8 @@ unfolding slotOf
 slot-at node x i e = let r = first-at (keyWords node) x 0 i e in let s : r .0 ≡ i = omega (arith, r .1) in rw s at (r .2)
 
 no-slot : (node : List ℕ) (x : ℕ) → slotOf node x ≡ NoSlot → among x (keyWords node) ≡ false
-unfolding slotOf is-slot
-no-slot node x e = sym (slot-among (keyWords node) x 0) ∙ ap is-slot e
+unfolding slotOf slotFound
+no-slot node x e = sym (slot-among (keyWords node) x 0) ∙ ap slotFound e
 
 slots-of-eleven : (node : List ℕ) → length (keyWords node) < 12
 unfolding keyWords
@@ -63,8 +63,8 @@ slots-of-eleven node = omega (arith, length-take 11 (drop 1 node))
 -- ---- the leaf that the key leads to
 
 -- the demands' way down leads where the calls land
-module _ (c : List ℕ) (n key m link run : ℕ) (on : nodes-on c ≡ n) (lands : landing c n key ≡ LandingAt m link run) where
-  leads : leads-to c key ≡ some (m, run)
+module _ (c : List ℕ) (n key m link run : ℕ) (on : nodesOn c ≡ n) (lands : landing c n key ≡ LandingAt m link run) where
+  leads : leadsTo c key ≡ some (m, run)
   unfolding landing landed
   leads =
       sym (landing-way c key depthLimit rootPlace 0 (getD c rootPlace 0))
@@ -72,7 +72,7 @@ module _ (c : List ℕ) (n key m link run : ℕ) (on : nodes-on c ≡ n) (lands 
 
 -- ---- the first change
 
-module _ (c : List ℕ) (n key : ℕ) (on : nodes-on c ≡ n) {free : List Bool} {last : ℕ} {ss : List Store} {fewer : List Bool} {now : ℕ} {cut : List ℕ} where
+module _ (c : List ℕ) (n key : ℕ) (on : nodesOn c ≡ n) {free : List Bool} {last : ℕ} {ss : List Store} {fewer : List Bool} {now : ℕ} {cut : List ℕ} where
   -- "With an empty slot: value first, then key, in the lowest empty slot. Leaf full: the 12 pairs go 6 and 6 into two leaves .."
   insert-in : (value m link run : ℕ) → landing c n key ≡ LandingAt m link run → among key (keyWords (nodeAt c m)) ≡ false → (s : Slot) → slotOf (nodeAt c m) 0 ≡ s
       → insertChange key value free last m link (nodeAt c m) (emptyReason s) .preparation ≡ prepared ss fewer now cut → ByRule (InsertRule c key value) free last ss fewer now cut

@@ -16,12 +16,12 @@ use Rattle.card.specs.Layout.{depthLimit, rootPlace, nodeAt, keyWords}
 use Rattle.card.specs.Replies.{absent}
 use Rattle.demands.specs.Demand1.{HandsBack, Starts}
 use Rattle.demands.specs.Table.{inserting, deleting}
-use Rattle.demands.specs.Refusals.{Rows, ByRows, Busy, nodes-on, NoCard, leads-to, among, NoRoom, start-rows, insert-rows, delete-rows, end, row}
-use Rattle.demands.specs.RationTable.{workOf, handed, ration-table}
+use Rattle.demands.specs.Refusals.{Rows, ByRows, Busy, nodesOn, NoCard, leadsTo, among, NoRoom, startRows, insertRows, deleteRows, end, row}
+use Rattle.demands.specs.RationTable.{workOf, handed, rationTable}
 use Rattle.demands.proofs.Work.{true-false, idle-work, busy-work}
 use Rattle.demands.proofs.CardRows.{none-some}
 use Rattle.demands.proofs.FirstRows.{sized-on, by-card}
-use Rattle.demands.proofs.WayDown.{landed, landing-way, is-slot, slot-among}
+use Rattle.demands.proofs.WayDown.{landed, landing-way, slotFound, slot-among}
 use Rattle.descent.specs.Descent.{slotOf, landingFor}
 use Rattle.descent.specs.declared.Landing.{Landing}
 use Rattle.descent.specs.declared.Landing.the-variants.{Refused as NoLanding, Leaf as LandingAt}
@@ -42,9 +42,9 @@ use Rattle.updates.specs.Updates.{landing, reasonIn, emptyReason, insertReason,
 pub not-sized : (c : List ℕ) (n : ℕ) → NoCard c n → (nodesOfLength (length c) ≡ 0 → ⊥) → nodesOfLength (length c) ≡ n → ⊥
 not-sized c n p d e = p (subst (λ x. Sized (length c) x) e (nodes-sized (length c) d))
 
-pub leads-is : (c : List ℕ) (n key : ℕ) → nodes-on c ≡ n → landed (landing c n key) ≡ leads-to c key
+pub leads-is : (c : List ℕ) (n key : ℕ) → nodesOn c ≡ n → landed (landing c n key) ≡ leadsTo c key
 unfolding landing
-leads-is c n key e = subst (λ x. landed (landingFor c x key depthLimit rootPlace 0 (getD c rootPlace 0)) ≡ leads-to c key) e (landing-way c key depthLimit rootPlace 0 (getD c rootPlace 0))
+leads-is c n key e = subst (λ x. landed (landingFor c x key depthLimit rootPlace 0 (getD c rootPlace 0)) ≡ leadsTo c key) e (landing-way c key depthLimit rootPlace 0 (getD c rootPlace 0))
 
 module _ (c : List ℕ) (m : Memory) (key : ℕ) (doing : Doing) (room : Landing → Bool) where
   pub start-one : NoCard c (m .nodes) → startOf c m key doing room ≡ startRefused 1 m
@@ -61,46 +61,46 @@ module _ (c : List ℕ) (m : Memory) (key : ℕ) (doing : Doing) (room : Landing
   unfolding startOf
   start-passed s f = rw (sized-nodes (length c) (m .nodes) s, ne-eqb (m .nodes) 0 (λ z. omega (arith, z, s .least)), eq-eqb (m .nodes) (m .nodes) refl, formatted-header c (m .nodes) f)
 
-  pub refused-back : (r : ℕ) → HandsBack ration-table m (handed (startRefused r m)) r
+  pub refused-back : (r : ℕ) → HandsBack rationTable m (handed (startRefused r m)) r
   unfolding startRefused startReply
   refused-back r = record { number-given = refl; unchanged = refl }
 
-  start-begun : Starts ration-table m (handed (started m doing)) (workOf doing)
+  start-begun : Starts rationTable m (handed (started m doing)) (workOf doing)
   unfolding started startReply
   start-begun = record { reply-given = refl; in-progress = refl; all-kept = record { nodes-kept = refl; free-kept = refl; last-kept = refl } }
 
   -- the rows of a start, to where the key has led to its leaf
   by-start : (rows : Rows) (works : Type 0)
-      → ((leaf link j : ℕ) → leads-to c key ≡ some (leaf, j) → startOf c m key doing room ≡ pick (room (LandingAt leaf link j)) (started m doing) (startRefused 8 m) → ByRows rows (HandsBack ration-table m (handed (startOf c m key doing room))) works)
-      → ByRows (start-rows ration-table c m key rows) (HandsBack ration-table m (handed (startOf c m key doing room))) works
+      → ((leaf link j : ℕ) → leadsTo c key ≡ some (leaf, j) → startOf c m key doing room ≡ pick (room (LandingAt leaf link j)) (started m doing) (startRefused 8 m) → ByRows rows (HandsBack rationTable m (handed (startOf c m key doing room))) works)
+      → ByRows (startRows rationTable c m key rows) (HandsBack rationTable m (handed (startOf c m key doing room))) works
   unfolding ByRows startChecked startLanded landed
   by-start rows works next =
-      by-card (row 7 (Busy ration-table m) (row 6 (key ≡ 0) (row 9 (leads-to c key ≡ none) rows))) (HandsBack ration-table m (handed (startOf c m key doing room))) works c (m .nodes)
+      by-card (row 7 (Busy rationTable m) (row 6 (key ≡ 0) (row 9 (leadsTo c key ≡ none) rows))) (HandsBack rationTable m (handed (startOf c m key doing room))) works c (m .nodes)
       (λ p. rw (start-one p) (refused-back 1)) (λ r s e d. rw (start-header r s e d) (refused-back r)) past
     where
-      past : Sized (length c) (m .nodes) → Formatted c (m .nodes) → ByRows (row 7 (Busy ration-table m) (row 6 (key ≡ 0) (row 9 (leads-to c key ≡ none) rows))) (HandsBack ration-table m (handed (startOf c m key doing room))) works
+      past : Sized (length c) (m .nodes) → Formatted c (m .nodes) → ByRows (row 7 (Busy rationTable m) (row 6 (key ≡ 0) (row 9 (leadsTo c key ≡ none) rows))) (HandsBack rationTable m (handed (startOf c m key doing room))) works
       past s f =
           bool-cases (isIdle (m .doing)) (λ q. inr (λ b. b (idle-work (m .doing) q), keyed q (ℕ-discrete key 0))) (λ q. inl (busy-work (m .doing) q, rw (start-passed s f, q) (refused-back 7)))
         where
-          lands : landed (landing c (m .nodes) key) ≡ leads-to c key
+          lands : landed (landing c (m .nodes) key) ≡ leadsTo c key
           lands = leads-is c (m .nodes) key (sized-on c (m .nodes) s)
 
           at : isIdle (m .doing) ≡ true → (key ≡ 0 → ⊥) → (x : Landing) → landing c (m .nodes) key ≡ x
-              → ((leads-to c key ≡ none) × HandsBack ration-table m (handed (startOf c m key doing room)) 9) ⊎ ((leads-to c key ≡ none → ⊥) × ByRows rows (HandsBack ration-table m (handed (startOf c m key doing room))) works)
+              → ((leadsTo c key ≡ none) × HandsBack rationTable m (handed (startOf c m key doing room)) 9) ⊎ ((leadsTo c key ≡ none → ⊥) × ByRows rows (HandsBack rationTable m (handed (startOf c m key doing room))) works)
           at q d NoLanding e = inl (sym lands ∙ ap landed e, rw (start-passed s f, q, ne-eqb key 0 d, e) (refused-back 9))
           at q d (LandingAt leaf link j) e =
-              let to : leads-to c key ≡ some (leaf, j) = sym lands ∙ ap landed e in
+              let to : leadsTo c key ≡ some (leaf, j) = sym lands ∙ ap landed e in
               inr (λ z. none-some (leaf, j) (sym z ∙ to), next leaf link j to (start-passed s f ∙ rw (q, ne-eqb key 0 d, e)))
 
-          keyed : isIdle (m .doing) ≡ true → Dec (key ≡ 0) → ((key ≡ 0) × HandsBack ration-table m (handed (startOf c m key doing room)) 6)
-              ⊎ ((key ≡ 0 → ⊥) × (((leads-to c key ≡ none) × HandsBack ration-table m (handed (startOf c m key doing room)) 9) ⊎ ((leads-to c key ≡ none → ⊥) × ByRows rows (HandsBack ration-table m (handed (startOf c m key doing room))) works)))
+          keyed : isIdle (m .doing) ≡ true → Dec (key ≡ 0) → ((key ≡ 0) × HandsBack rationTable m (handed (startOf c m key doing room)) 6)
+              ⊎ ((key ≡ 0 → ⊥) × (((leadsTo c key ≡ none) × HandsBack rationTable m (handed (startOf c m key doing room)) 9) ⊎ ((leadsTo c key ≡ none → ⊥) × ByRows rows (HandsBack rationTable m (handed (startOf c m key doing room))) works)))
           keyed q (yes z) = inl (z, rw (start-passed s f, q, eq-eqb key 0 z) (refused-back 6))
           keyed q (no d) = inr (d, at q d (landing c (m .nodes) key) refl)
 
-pub deletes : (c : List ℕ) (m : Memory) (key : ℕ) → ByRows (delete-rows ration-table c m key) (HandsBack ration-table m (ration-table .delete c m key)) (Starts ration-table m (ration-table .delete c m key) (deleting key))
+pub deletes : (c : List ℕ) (m : Memory) (key : ℕ) → ByRows (deleteRows rationTable c m key) (HandsBack rationTable m (rationTable .delete c m key)) (Starts rationTable m (rationTable .delete c m key) (deleting key))
 unfolding ByRows deleteOf workOf
 deletes c m key =
-    by-start c m key (Deleting key false 0) (λ l. true) end (Starts ration-table m (handed (deleteOf c m key)) (deleting key))
+    by-start c m key (Deleting key false 0) (λ l. true) end (Starts rationTable m (handed (deleteOf c m key)) (deleting key))
     (λ leaf link j to e. rw e (start-begun c m key (Deleting key false 0) (λ l. true)))
 
 -- where a key leads is one place
@@ -112,18 +112,18 @@ at-run : Option (ℕ × ℕ) → ℕ
 at-run none = 0
 at-run (some l) = l .1
 
-pub one-leaf : (c : List ℕ) (key leaf j leaf′ j′ : ℕ) → leads-to c key ≡ some (leaf, j) → leads-to c key ≡ some (leaf′, j′) → (leaf ≡ leaf′) × (j ≡ j′)
+pub one-leaf : (c : List ℕ) (key leaf j leaf′ j′ : ℕ) → leadsTo c key ≡ some (leaf, j) → leadsTo c key ≡ some (leaf′, j′) → (leaf ≡ leaf′) × (j ≡ j′)
 unfolding at-leaf at-run
 one-leaf c key leaf j leaf′ j′ e f = (ap at-leaf (sym e ∙ f), ap at-run (sym e ∙ f))
 
-pub slot-is : (words : List ℕ) (x : ℕ) (s : Slot) → slotOf words x ≡ s → is-slot s ≡ among x (keyWords words)
+pub slot-is : (words : List ℕ) (x : ℕ) (s : Slot) → slotOf words x ≡ s → slotFound s ≡ among x (keyWords words)
 unfolding slotOf
-slot-is words x s e = ap is-slot (sym e) ∙ slot-among (keyWords words) x 0
+slot-is words x s e = ap slotFound (sym e) ∙ slot-among (keyWords words) x 0
 
 -- an insert has no room exactly by row 8
-pub room-row : (c : List ℕ) (free : List Bool) (key leaf link j : ℕ) → leads-to c key ≡ some (leaf, j)
+pub room-row : (c : List ℕ) (free : List Bool) (key leaf link j : ℕ) → leadsTo c key ≡ some (leaf, j)
     → (NoRoom c free key × (startRoom c key free (LandingAt leaf link j) ≡ false)) ⊎ ((NoRoom c free key → ⊥) × (startRoom c key free (LandingAt leaf link j) ≡ true))
-unfolding startRoom roomFor insertReason reasonIn emptyReason is-slot
+unfolding startRoom roomFor insertReason reasonIn emptyReason slotFound
 room-row c free key leaf link j to = at (slotOf (nodeAt c leaf) key) refl (slotOf (nodeAt c leaf) 0) refl
   where
     same : (r : NoRoom c free key) → (r .leaf ≡ leaf) × (r .j ≡ j)
@@ -138,14 +138,14 @@ room-row c free key leaf link j to = at (slotOf (nodeAt c leaf) key) refl (slotO
         (λ o. inl (record { leaf = leaf; j = j; leads = to; absent = sym (slot-is (nodeAt c leaf) key NoSlot e); full = sym (slot-is (nodeAt c leaf) 0 NoSlot f); few = o }, rw (e, f, lt-ltb (countTrue free) (splitNeed j) o)))
         (λ o. inr (λ r. omega (arith, r .few, same r .1), rw (e, f, le-ltb (countTrue free) (splitNeed j) o)))
 
-pub inserts : (c : List ℕ) (m : Memory) (key value : ℕ) → ByRows (insert-rows ration-table c m key) (HandsBack ration-table m (ration-table .insert c m key value)) (Starts ration-table m (ration-table .insert c m key value) (inserting key value))
+pub inserts : (c : List ℕ) (m : Memory) (key value : ℕ) → ByRows (insertRows rationTable c m key) (HandsBack rationTable m (rationTable .insert c m key value)) (Starts rationTable m (rationTable .insert c m key value) (inserting key value))
 unfolding ByRows insertOf workOf
 inserts c m key value =
-    by-start c m key (Inserting key value false) (startRoom c key (m .free)) (row 8 (NoRoom c (m .free) key) end) (Starts ration-table m (handed (insertOf c m key value)) (inserting key value))
+    by-start c m key (Inserting key value false) (startRoom c key (m .free)) (row 8 (NoRoom c (m .free) key) end) (Starts rationTable m (handed (insertOf c m key value)) (inserting key value))
     (λ leaf link j to e. at leaf link j e (room-row c (m .free) key leaf link j to))
   where
     at : (leaf link j : ℕ) → startOf c m key (Inserting key value false) (startRoom c key (m .free)) ≡ pick (startRoom c key (m .free) (LandingAt leaf link j)) (started m (Inserting key value false)) (startRefused 8 m)
         → (NoRoom c (m .free) key × (startRoom c key (m .free) (LandingAt leaf link j) ≡ false)) ⊎ ((NoRoom c (m .free) key → ⊥) × (startRoom c key (m .free) (LandingAt leaf link j) ≡ true))
-        → (NoRoom c (m .free) key × HandsBack ration-table m (handed (insertOf c m key value)) 8) ⊎ ((NoRoom c (m .free) key → ⊥) × Starts ration-table m (handed (insertOf c m key value)) (inserting key value))
+        → (NoRoom c (m .free) key × HandsBack rationTable m (handed (insertOf c m key value)) 8) ⊎ ((NoRoom c (m .free) key → ⊥) × Starts rationTable m (handed (insertOf c m key value)) (inserting key value))
     at leaf link j e (inl (r, q)) = inl (r, rw (e, q) (refused-back c m key (Inserting key value false) (startRoom c key (m .free)) 8))
     at leaf link j e (inr (r, q)) = inr (r, rw (e, q) (start-begun c m key (Inserting key value false) (startRoom c key (m .free))))

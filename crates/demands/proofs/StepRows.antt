@@ -14,8 +14,8 @@ use Rattle.card.specs.Layout.{nodeAt}
 use Rattle.card.specs.Stores.{Store}
 use Rattle.demands.specs.Demand1.{HandsBack, Stores, StoresNext, Answers, Refuses, Demand1}
 use Rattle.demands.specs.Table.{formatting, inserting, deleting}
-use Rattle.demands.specs.Refusals.{ByRows, Idle, NoCard, on-card, end, row}
-use Rattle.demands.specs.RationTable.{workOf, stepped, ration-table}
+use Rattle.demands.specs.Refusals.{ByRows, Idle, NoCard, cardRows, end, row}
+use Rattle.demands.specs.RationTable.{workOf, stepped, rationTable}
 use Rattle.demands.proofs.Work.{idle-work, busy-work, work-formatting}
 use Rattle.demands.proofs.CardRows.{finds, formats, opens}
 use Rattle.demands.proofs.StartRows.{not-sized, start-one, refused-back, inserts, deletes}
@@ -81,16 +81,16 @@ next-final c n free last (Repairing key) = inl refl
 -- ---- the three cases
 
 abbrev pub Cases : List ℕ → Memory → Step → Type 0
-Cases c m s = Stores ration-table c m (stepped s) ⊎ (Answers ration-table c m (stepped s) ⊎ Refuses ration-table c m (stepped s) 9)
+Cases c m s = Stores rationTable c m (stepped s) ⊎ (Answers rationTable c m (stepped s) ⊎ Refuses rationTable c m (stepped s) 9)
 
 abbrev pub FormatCases : List ℕ → Memory → Step → Type 0
-FormatCases c m s = Stores ration-table c m (stepped s) ⊎ Answers ration-table c m (stepped s)
+FormatCases c m s = Stores rationTable c m (stepped s) ⊎ Answers rationTable c m (stepped s)
 
-refused-same : (r : ℕ) (c : List ℕ) (m : Memory) → Refuses ration-table c m (stepped (stepRefused r c m)) r
+refused-same : (r : ℕ) (c : List ℕ) (m : Memory) → Refuses rationTable c m (stepped (stepRefused r c m)) r
 unfolding stepRefused stepReply
 refused-same r c m = record { number-given = refl; same-card = refl; unchanged = refl }
 
-final-idle : (a : Answer) (c : List ℕ) (m : Memory) → Final a → Answers ration-table c m (stepped (stepFinal a c m))
+final-idle : (a : Answer) (c : List ℕ) (m : Memory) → Final a → Answers rationTable c m (stepped (stepFinal a c m))
 unfolding stepFinal idled workOf stepReply
 final-idle a c m (inl e) = record { final = inl (ap stepReply e); same-card = refl; idle-then = refl; all-kept = record { nodes-kept = refl; free-kept = refl; last-kept = refl } }
 final-idle a c m (inr (inl (v, e))) = record { final = inr (inl (v, ap stepReply e)); same-card = refl; idle-then = refl; all-kept = record { nodes-kept = refl; free-kept = refl; last-kept = refl } }
@@ -202,18 +202,18 @@ held-doing c m (Deleting key begun value) e = refl
 held-doing c m (Repairing key) e = refl
 
 module _ (c : List ℕ) (m : Memory) where
-  pub formatting-rows : workOf (m .doing) ≡ formatting → ByRows (row 1 (NoCard c (m .nodes)) end) (Refuses ration-table c m (stepped (stepOf c m))) (FormatCases c m (stepOf c m))
+  pub formatting-rows : workOf (m .doing) ≡ formatting → ByRows (row 1 (NoCard c (m .nodes)) end) (Refuses rationTable c m (stepped (stepOf c m))) (FormatCases c m (stepOf c m))
   unfolding ByRows stepDoing
   formatting-rows q = go (sized? (length c) (m .nodes)) (work-formatting (m .doing) q)
     where
-      go : Dec (Sized (length c) (m .nodes)) → ((made : ℕ) × (m .doing ≡ Formatting made)) → (NoCard c (m .nodes) × Refuses ration-table c m (stepped (stepOf c m)) 1) ⊎ ((NoCard c (m .nodes) → ⊥) × FormatCases c m (stepOf c m))
+      go : Dec (Sized (length c) (m .nodes)) → ((made : ℕ) × (m .doing ≡ Formatting made)) → (NoCard c (m .nodes) × Refuses rationTable c m (stepped (stepOf c m)) 1) ⊎ ((NoCard c (m .nodes) → ⊥) × FormatCases c m (stepOf c m))
       go (no p) d = inl (p, rw (step-one c m p) (refused-same 1 c m))
       go (yes s) (made, e) = inr (λ p. p s, rw (step-sized c m s ∙ ap (stepDoing c m) e) (format-cases c m made q (omega (arith, s .words))))
 
-  pub held-rows : (workOf (m .doing) ≡ formatting → ⊥) → ByRows (on-card c (m .nodes) (row 10 (Idle ration-table m) end)) (Refuses ration-table c m (stepped (stepOf c m))) (Cases c m (stepOf c m))
+  pub held-rows : (workOf (m .doing) ≡ formatting → ⊥) → ByRows (cardRows c (m .nodes) (row 10 (Idle rationTable m) end)) (Refuses rationTable c m (stepped (stepOf c m))) (Cases c m (stepOf c m))
   unfolding ByRows stepHeld
   held-rows q =
-      by-card (row 10 (Idle ration-table m) end) (Refuses ration-table c m (stepped (stepOf c m))) (Cases c m (stepOf c m)) c (m .nodes)
+      by-card (row 10 (Idle rationTable m) end) (Refuses rationTable c m (stepped (stepOf c m))) (Cases c m (stepOf c m)) c (m .nodes)
       (λ p. rw (step-one c m p) (refused-same 1 c m))
       (λ r s e d. rw (step-sized c m s ∙ held-doing c m (m .doing) q, e, ne-eqb r 0 d) (refused-same r c m))
       (λ s f. bool-cases (isIdle (m .doing))
@@ -221,7 +221,7 @@ module _ (c : List ℕ) (m : Memory) where
       (λ i. inr (busy-work (m .doing) i, rw (step-sized c m s ∙ held-doing c m (m .doing) q, formatted-header c (m .nodes) f, i) (work-cases c m (m .rest)))))
 
 -- with a change in hand
-next-cases : (c : List ℕ) (m : Memory) (x : Store) (rest : List Store) → ByRows (row 9 (length c ≤ x .0) end) (Refuses ration-table c m (stepped (stepStore c m m x rest))) (StoresNext ration-table c m (stepped (stepStore c m m x rest)) x rest)
+next-cases : (c : List ℕ) (m : Memory) (x : Store) (rest : List Store) → ByRows (row 9 (length c ≤ x .0) end) (Refuses rationTable c m (stepped (stepStore c m m x rest))) (StoresNext rationTable c m (stepped (stepStore c m m x rest)) x rest)
 unfolding ByRows stepStore stepReply
 next-cases c m x rest =
     order (x .0) (length c)
@@ -229,22 +229,22 @@ next-cases c m x rest =
     (λ o. inl (o, rw (le-ltb (x .0) (length c) o) (refused-same 9 c m)))
 
 in-hand-rows : (c : List ℕ) (m : Memory) (x : Store) (rest : List Store) → m .rest ≡ x ∷ rest → (workOf (m .doing) ≡ formatting → ⊥)
-    → ByRows (on-card c (m .nodes) (row 10 (Idle ration-table m) (row 9 (length c ≤ x .0) end))) (Refuses ration-table c m (stepped (stepOf c m))) (StoresNext ration-table c m (stepped (stepOf c m)) x rest)
+    → ByRows (cardRows c (m .nodes) (row 10 (Idle rationTable m) (row 9 (length c ≤ x .0) end))) (Refuses rationTable c m (stepped (stepOf c m))) (StoresNext rationTable c m (stepped (stepOf c m)) x rest)
 unfolding ByRows stepHeld stepWork
 in-hand-rows c m x rest e q =
-    by-card (row 10 (Idle ration-table m) (row 9 (length c ≤ x .0) end)) (Refuses ration-table c m (stepped (stepOf c m))) (StoresNext ration-table c m (stepped (stepOf c m)) x rest) c (m .nodes)
+    by-card (row 10 (Idle rationTable m) (row 9 (length c ≤ x .0) end)) (Refuses rationTable c m (stepped (stepOf c m))) (StoresNext rationTable c m (stepped (stepOf c m)) x rest) c (m .nodes)
     (λ p. rw (step-one c m p) (refused-same 1 c m))
     (λ r s k d. rw (step-sized c m s ∙ held-doing c m (m .doing) q, k, ne-eqb r 0 d) (refused-same r c m))
     (λ s f. bool-cases (isIdle (m .doing))
     (λ i. inl (idle-work (m .doing) i, rw (step-sized c m s ∙ held-doing c m (m .doing) q, formatted-header c (m .nodes) f, i) (refused-same 10 c m)))
-    (λ i. inr (busy-work (m .doing) i, subst (λ (y : Step). ByRows (row 9 (length c ≤ x .0) end) (Refuses ration-table c m (stepped y)) (StoresNext ration-table c m (stepped y) x rest)) (sym (step-sized c m s ∙ held-doing c m (m .doing) q ∙ rw (formatted-header c (m .nodes) f, i) (ap (stepWork c m) e))) (next-cases c m x rest))))
+    (λ i. inr (busy-work (m .doing) i, subst (λ (y : Step). ByRows (row 9 (length c ≤ x .0) end) (Refuses rationTable c m (stepped y)) (StoresNext rationTable c m (stepped y) x rest)) (sym (step-sized c m s ∙ held-doing c m (m .doing) q ∙ rw (formatted-header c (m .nodes) f, i) (ap (stepWork c m) e))) (next-cases c m x rest))))
 
 -- no card has N = 0
 none-sized : (c : List ℕ) (n : ℕ) → n ≡ 0 → NoCard c n
 none-sized c n e s = omega (arith, e, s .least)
 
 none-refused : (c : List ℕ) (m : Memory) → m .nodes ≡ 0 → (key value : ℕ)
-    → HandsBack ration-table m (ration-table .insert c m key value) 1 × HandsBack ration-table m (ration-table .delete c m key) 1 × Refuses ration-table c m (ration-table .step c m) 1
+    → HandsBack rationTable m (rationTable .insert c m key value) 1 × HandsBack rationTable m (rationTable .delete c m key) 1 × Refuses rationTable c m (rationTable .step c m) 1
 unfolding insertOf deleteOf
 none-refused c m e key value =
     let p = none-sized c (m .nodes) e in (
@@ -254,5 +254,5 @@ none-refused c m e key value =
     )
 
 -- DEMAND 1 of the ration table
-pub demand-1 : Demand1 ration-table
+pub demand-1 : Demand1 rationTable
 demand-1 = record { finds = finds; formats = formats; opens = opens; inserts = inserts; deletes = deletes; format-steps = formatting-rows; steps-in-hand = in-hand-rows; steps = held-rows; none-refused = none-refused }

@@ -15,11 +15,11 @@ use Rattle.card.specs.Stores.{Store}
 use Rattle.demands.specs.Book.{Book, book, feed, told, empty}
 use Rattle.demands.specs.Demand2.{Repairs, Updates}
 use Rattle.demands.specs.Events.{World, opened, happens, insert, delete}
-use Rattle.demands.specs.Refusals.{nodes-on}
+use Rattle.demands.specs.Refusals.{nodesOn}
 use Rattle.demands.specs.Rules.{InsertRule, DeleteRule}
 use Rattle.demands.proofs.ByRules.{Begun, repairs-by-rules, first-by-rules, put-turns, remove-turns}
-use Rattle.demands.proofs.SameBook.{worldly, same-world, hand-of, Flagged, fed-same}
-use Rattle.demands.specs.RationTable.{ration-table}
+use Rattle.demands.proofs.SameBook.{worldly, same-world, handOf, Flagged, fed-same}
+use Rattle.demands.specs.RationTable.{rationTable}
 use Rattle.demands.proofs.PowerCuts.{Covered, covered-nodes}
 use Rattle.demands.proofs.StepRows.{at-final}
 use Rattle.demands.proofs.Making.{Nears}
@@ -35,7 +35,7 @@ use Rattle.laws.proofs.Cases.{bool-cases}
 use Rattle.opening.specs.Opening.{openSound, openChecked, openOf}
 use Rattle.plans.specs.Change.{Change}
 use Rattle.plans.specs.Planning.{takeNumbers, overNumbers, giving, balanced, prepared}
-use Rattle.promises.proofs.Feeding.{begun-result, fed, due-after, due-after-start, dictionary-answer}
+use Rattle.promises.proofs.Feeding.{begunResult, fed, dueAfter, dueAfterStart, dictionaryAnswer}
 use Rattle.promises.proofs.Invariant.{job-repair, job-insert, job-delete}
 use Rattle.promises.proofs.Ledger.{ledger, put, remove, empty as was-empty, feed as was-feed}
 use Rattle.promises.proofs.Machine.{insert as was-insert, delete as was-delete, happens as was-happens}
@@ -90,24 +90,24 @@ giving-not-balanced k free last change e = at (takeNumbers k free last) e
     at none q = let z : _≡_ {A = ℕ} 0 1 = cc in omega arith
     at (some ms) q = let z : _≡_ {A = ℕ} 0 1 = cc in omega arith
 
-module _ (w : World ration-table) (b : Book) (v : Covered w b) where
+module _ (w : World rationTable) (b : Book) (v : Covered w b) where
   -- a started update is near its end, and its answer is the dictionary's
   insert-nears : (key value : ℕ) → key < keyLimit → insertOf (w .card) (w .state) key value .begun ≡ Started
-      → (most : ℕ) × Nears (dictionary-answer (lookup key (v .was-kept .held))) most (happens ration-table (insert key value) w) × (isIdle (happens ration-table (insert key value) w .state .doing) ≡ false)
-  unfolding due-after due-after-start begun-result was-happens happens
+      → (most : ℕ) × Nears (dictionaryAnswer (lookup key (v .was-kept .held))) most (happens rationTable (insert key value) w) × (isIdle (happens rationTable (insert key value) w .state .doing) ≡ false)
+  unfolding dueAfter dueAfterStart begunResult was-happens happens
   insert-nears key value high e =
       let q = kept-insert (v .size) (v .steps) (worldly w) (v .was-kept) (v .due) (v .inv) key value high in
       let f = fed-same (insert key value) w (v .was-kept) (covered-nodes v) (v .flagged) in (
         q .0,
         record {
-          book-now = feed (told ration-table (insert key value) w) b;
+          book-now = feed (told rationTable (insert key value) w) b;
           covered = record {
             size = v .size;
             steps = q .0;
             was-kept = was-feed (fed (was-insert key value) (worldly w)) (v .was-kept);
-            due = due-after (was-insert key value) (worldly w) (v .was-kept) (v .due);
+            due = dueAfter (was-insert key value) (worldly w) (v .was-kept) (v .due);
             inv = rw (same-world (insert key value) w) (q .2 .0);
-            same-book = ap (feed (told ration-table (insert key value) w)) (v .same-book) ∙ f .0;
+            same-book = ap (feed (told rationTable (insert key value) w)) (v .same-book) ∙ f .0;
             flagged = f .1;
           };
           soon = omega arith;
@@ -117,21 +117,21 @@ module _ (w : World ration-table) (b : Book) (v : Covered w b) where
       )
 
   delete-nears : (key : ℕ) → key < keyLimit → deleteOf (w .card) (w .state) key .begun ≡ Started
-      → (most : ℕ) × Nears (dictionary-answer (lookup key (v .was-kept .held))) most (happens ration-table (delete key) w) × (isIdle (happens ration-table (delete key) w .state .doing) ≡ false)
-  unfolding due-after due-after-start begun-result was-happens happens
+      → (most : ℕ) × Nears (dictionaryAnswer (lookup key (v .was-kept .held))) most (happens rationTable (delete key) w) × (isIdle (happens rationTable (delete key) w .state .doing) ≡ false)
+  unfolding dueAfter dueAfterStart begunResult was-happens happens
   delete-nears key high e =
       let q = kept-delete (v .size) (v .steps) (worldly w) (v .was-kept) (v .due) (v .inv) key high in
       let f = fed-same (delete key) w (v .was-kept) (covered-nodes v) (v .flagged) in (
         q .0,
         record {
-          book-now = feed (told ration-table (delete key) w) b;
+          book-now = feed (told rationTable (delete key) w) b;
           covered = record {
             size = v .size;
             steps = q .0;
             was-kept = was-feed (fed (was-delete key) (worldly w)) (v .was-kept);
-            due = due-after (was-delete key) (worldly w) (v .was-kept) (v .due);
+            due = dueAfter (was-delete key) (worldly w) (v .was-kept) (v .due);
             inv = rw (same-world (delete key) w) (q .2 .0);
-            same-book = ap (feed (told ration-table (delete key) w)) (v .same-book) ∙ f .0;
+            same-book = ap (feed (told rationTable (delete key) w)) (v .same-book) ∙ f .0;
             flagged = f .1;
           };
           soon = omega arith;
@@ -183,37 +183,37 @@ module _ (w : World ration-table) (b : Book) (v : Covered w b) where
   prepared-delete c key free last (LandingAt m link run) e = let d = delete-begun key free last m (nodeAt c m) (slotOf (nodeAt c m) key) in subst Begun (sym (d .1)) (key, Value (d .0), some (remove key), job-delete)
 
   -- where nothing is planned, the key is held by an insert and absent to a delete
-  insert-nothing : (c : List ℕ) (key value : ℕ) (free : List Bool) (last : ℕ) (l : Landing) (o : Option ℕ) → changeAt c (Inserting key value false) free last l .preparation ≡ balanced → changeAt c (Inserting key value false) free last l .final ≡ dictionary-answer o → (a : ℕ) × (o ≡ some a)
-  unfolding changeAt changeIn noChange insertChange dictionary-answer
+  insert-nothing : (c : List ℕ) (key value : ℕ) (free : List Bool) (last : ℕ) (l : Landing) (o : Option ℕ) → changeAt c (Inserting key value false) free last l .preparation ≡ balanced → changeAt c (Inserting key value false) free last l .final ≡ dictionaryAnswer o → (a : ℕ) × (o ≡ some a)
+  unfolding changeAt changeIn noChange insertChange dictionaryAnswer
   insert-nothing c key value free last NoLanding o e q = let z : _≡_ {A = ℕ} 0 1 = cc in absurd (omega arith)
   insert-nothing c key value free last (LandingAt m link run) o e q = at (insertReason (nodeAt c m) key) e q o refl
     where
-      at : (r : Reason) → insertChange key value free last m link (nodeAt c m) r .preparation ≡ balanced → insertChange key value free last m link (nodeAt c m) r .final ≡ dictionary-answer o → (p : Option ℕ) → o ≡ p → (a : ℕ) × (o ≡ some a)
-      at (held a) e q none k = let y : _≡_ {A = Answer} (Value a) Absent = q ∙ ap dictionary-answer k in let z : _≡_ {A = ℕ} 0 1 = cc in absurd (omega arith)
+      at : (r : Reason) → insertChange key value free last m link (nodeAt c m) r .preparation ≡ balanced → insertChange key value free last m link (nodeAt c m) r .final ≡ dictionaryAnswer o → (p : Option ℕ) → o ≡ p → (a : ℕ) × (o ≡ some a)
+      at (held a) e q none k = let y : _≡_ {A = Answer} (Value a) Absent = q ∙ ap dictionaryAnswer k in let z : _≡_ {A = ℕ} 0 1 = cc in absurd (omega arith)
       at (held a) e q (some v) k = (v, k)
       at (slot i) e q p k = let z : _≡_ {A = ℕ} 0 1 = cc in absurd (omega arith)
       at full e q p k = absurd (giving-not-balanced 3 free last _ e)
 
-  delete-nothing : (c : List ℕ) (key : ℕ) (free : List Bool) (last : ℕ) (l : Landing) (o : Option ℕ) → changeAt c (Deleting key false 0) free last l .preparation ≡ balanced → changeAt c (Deleting key false 0) free last l .final ≡ dictionary-answer o → o ≡ none
-  unfolding changeAt changeIn noChange deleteChange dictionary-answer
+  delete-nothing : (c : List ℕ) (key : ℕ) (free : List Bool) (last : ℕ) (l : Landing) (o : Option ℕ) → changeAt c (Deleting key false 0) free last l .preparation ≡ balanced → changeAt c (Deleting key false 0) free last l .final ≡ dictionaryAnswer o → o ≡ none
+  unfolding changeAt changeIn noChange deleteChange dictionaryAnswer
   delete-nothing c key free last NoLanding o e q = let z : _≡_ {A = ℕ} 0 1 = cc in absurd (omega arith)
   delete-nothing c key free last (LandingAt m link run) o e q = at (slotOf (nodeAt c m) key) e q o refl
     where
-      at : (s : Slot) → deleteChange key free last m (nodeAt c m) s .preparation ≡ balanced → deleteChange key free last m (nodeAt c m) s .final ≡ dictionary-answer o → (p : Option ℕ) → o ≡ p → o ≡ none
+      at : (s : Slot) → deleteChange key free last m (nodeAt c m) s .preparation ≡ balanced → deleteChange key free last m (nodeAt c m) s .final ≡ dictionaryAnswer o → (p : Option ℕ) → o ≡ p → o ≡ none
       at (At i) e q p k = let z : _≡_ {A = ℕ} 0 1 = cc in absurd (omega arith)
       at NoSlot e q none k = k
-      at NoSlot e q (some v) k = let y : _≡_ {A = Answer} Absent (Value v) = q ∙ ap dictionary-answer k in let z : _≡_ {A = ℕ} 0 1 = cc in absurd (omega arith)
+      at NoSlot e q (some v) k = let y : _≡_ {A = Answer} Absent (Value v) = q ∙ ap dictionaryAnswer k in let z : _≡_ {A = ℕ} 0 1 = cc in absurd (omega arith)
 
   pub insert-by-rules : (key value : ℕ) → key < keyLimit → insertOf (w .card) (w .state) key value .begun ≡ Started
-      → Updates ration-table ((a : ℕ) × (lookup key (v .was-kept .held) ≡ some a)) (InsertRule (w .card) key value) (stepReply (dictionary-answer (lookup key (v .was-kept .held)))) (happens ration-table (insert key value) w)
+      → Updates rationTable ((a : ℕ) × (lookup key (v .was-kept .held) ≡ some a)) (InsertRule (w .card) key value) (stepReply (dictionaryAnswer (lookup key (v .was-kept .held)))) (happens rationTable (insert key value) w)
   unfolding happens insertOf
   insert-by-rules key value high e =
       let q = insert-nears key value high e in
       let u = q .1 .covered in
       let m = insertOf (w .card) (w .state) key value .memory in
       let d : m .doing ≡ Inserting key value false = started-doing (w .state) (Inserting key value false) (startRoom (w .card) key (w .state .free)) key e in
-      let n : nodes-on (w .card) ≡ u .size = covered-nodes u ∙ nodes-same (u .size) (u .steps) (worldly (happens ration-table (insert key value) w)) (u .was-kept) (u .due) (u .inv) in
-      first-by-rules (dictionary-answer (lookup key (v .was-kept .held))) (q .0) (happens ration-table (insert key value) w) (q .1) (q .2) ((a : ℕ) × (lookup key (v .was-kept .held) ≡ some a)) (InsertRule (w .card) key value)
+      let n : nodesOn (w .card) ≡ u .size = covered-nodes u ∙ nodes-same (u .size) (u .steps) (worldly (happens rationTable (insert key value) w)) (u .was-kept) (u .due) (u .inv) in
+      first-by-rules (dictionaryAnswer (lookup key (v .was-kept .held))) (q .0) (happens rationTable (insert key value) w) (q .1) (q .2) ((a : ℕ) × (lookup key (v .was-kept .held) ≡ some a)) (InsertRule (w .card) key value)
       (changeAt (w .card) (Inserting key value false) (m .free) (m .last) (landing (w .card) (u .size) key))
       (put-turns key value (u .inv .table) (u .inv .stage) d)
       (at-final (w .card) (Inserting key value false) (m .free) (m .last) (landing (w .card) (u .size) key))
@@ -221,15 +221,15 @@ module _ (w : World ration-table) (b : Book) (v : Covered w b) where
       (λ ss fewer now out p. (insert-by-rule (w .card) (u .size) key n value false p, prepared-insert (w .card) key value (m .free) (m .last) (landing (w .card) (u .size) key) p))
 
   pub delete-by-rules : (key : ℕ) → key < keyLimit → deleteOf (w .card) (w .state) key .begun ≡ Started
-      → Updates ration-table (lookup key (v .was-kept .held) ≡ none) (DeleteRule (w .card) key) (stepReply (dictionary-answer (lookup key (v .was-kept .held)))) (happens ration-table (delete key) w)
+      → Updates rationTable (lookup key (v .was-kept .held) ≡ none) (DeleteRule (w .card) key) (stepReply (dictionaryAnswer (lookup key (v .was-kept .held)))) (happens rationTable (delete key) w)
   unfolding happens deleteOf
   delete-by-rules key high e =
       let q = delete-nears key high e in
       let u = q .1 .covered in
       let m = deleteOf (w .card) (w .state) key .memory in
       let d : m .doing ≡ Deleting key false 0 = started-doing (w .state) (Deleting key false 0) (λ l. true) key e in
-      let n : nodes-on (w .card) ≡ u .size = covered-nodes u ∙ nodes-same (u .size) (u .steps) (worldly (happens ration-table (delete key) w)) (u .was-kept) (u .due) (u .inv) in
-      first-by-rules (dictionary-answer (lookup key (v .was-kept .held))) (q .0) (happens ration-table (delete key) w) (q .1) (q .2) (lookup key (v .was-kept .held) ≡ none) (DeleteRule (w .card) key)
+      let n : nodesOn (w .card) ≡ u .size = covered-nodes u ∙ nodes-same (u .size) (u .steps) (worldly (happens rationTable (delete key) w)) (u .was-kept) (u .due) (u .inv) in
+      first-by-rules (dictionaryAnswer (lookup key (v .was-kept .held))) (q .0) (happens rationTable (delete key) w) (q .1) (q .2) (lookup key (v .was-kept .held) ≡ none) (DeleteRule (w .card) key)
       (changeAt (w .card) (Deleting key false 0) (m .free) (m .last) (landing (w .card) (u .size) key))
       (remove-turns key (u .inv .table) (u .inv .stage) d)
       (at-final (w .card) (Deleting key false 0) (m .free) (m .last) (landing (w .card) (u .size) key))
@@ -237,14 +237,14 @@ module _ (w : World ration-table) (b : Book) (v : Covered w b) where
       (λ ss fewer now out p. (delete-by-rule (w .card) (u .size) key n false 0 p, prepared-delete (w .card) key (m .free) (m .last) (landing (w .card) (u .size) key) p))
 
   -- opening's repair
-  pub opening-by-rules : ration-table .openCard (w .card) .reply ≡ started → Repairs ration-table ready (opened ration-table (w .card))
-  unfolding startReply stepReply hand-of Flagged
+  pub opening-by-rules : rationTable .openCard (w .card) .reply ≡ started → Repairs rationTable ready (opened rationTable (w .card))
+  unfolding startReply stepReply handOf Flagged
   opening-by-rules e = at (open-doing (w .card))
     where
-      at : (openOf (w .card) .memory .rest ≡ []) × ((startReply (openOf (w .card) .begun) ≡ started → ⊥) ⊎ ((key : ℕ) × (openOf (w .card) .memory .doing ≡ Repairing key))) → Repairs ration-table ready (opened ration-table (w .card))
+      at : (openOf (w .card) .memory .rest ≡ []) × ((startReply (openOf (w .card) .begun) ≡ started → ⊥) ⊎ ((key : ℕ) × (openOf (w .card) .memory .doing ≡ Repairing key))) → Repairs rationTable ready (opened rationTable (w .card))
       at (r, inl not) = absurd (not e)
       at (r, inr (key, d)) =
-          repairs-by-rules Ready (suc repairSteps) repairSteps (opened ration-table (w .card)) (omega arith)
+          repairs-by-rules Ready (suc repairSteps) repairSteps (opened rationTable (w .card)) (omega arith)
           (record {
             book-now = book (v .was-kept .held) empty;
             covered = record {

@@ -7,7 +7,7 @@ use Prim.Native.Nat.{ℕ, zero, suc, _+_, _-_}
 use lib.ListN.{length}
 use lib.Dec.{eqb, ltb}
 use Rattle.card.specs.Layout.{depthLimit, place, nodeAt, kindOf, children, runBelow}
-use Rattle.demands.specs.Refusals.{nodes-on, is-internal, run-above, way, among}
+use Rattle.demands.specs.Refusals.{nodesOn, isInternal, runAbove, way, among}
 use Rattle.descent.specs.Descent.{childIndex, childFor, firstEqual, turnInner, turnOf, turnAt, onTurn, leafFor, onTurnLanding, landingFor}
 use Rattle.descent.specs.declared.Landing.{Landing}
 use Rattle.descent.specs.declared.Landing.the-variants.{Refused as NoLanding, Leaf as LandingAt}
@@ -27,9 +27,9 @@ unfoldable pub arrived : Way → Option ℕ
 arrived NoWay = none
 arrived (LeafAt m depth) = some m
 
-unfoldable pub leaf-of : Option (ℕ × ℕ) → Option ℕ
-leaf-of none = none
-leaf-of (some l) = some (l .0)
+unfoldable pub reachedLeaf : Option (ℕ × ℕ) → Option ℕ
+reachedLeaf none = none
+reachedLeaf (some l) = some (l .0)
 
 pick-same : {A : Type 0} (b : Bool) (x : A) → pick b x x ≡ x
 pick-same true x = refl
@@ -47,10 +47,10 @@ landing-shape false false false false z m link run child next = refl
 landing-shape false false false true true m link run child next = refl
 landing-shape false false false true false m link run child next = refl
 
-way-shape : (a b l i z : Bool) (m depth child run : ℕ) (next : ℕ → Way) (o : Option (ℕ × ℕ)) → arrived (next child) ≡ leaf-of o
+way-shape : (a b l i z : Bool) (m depth child run : ℕ) (next : ℕ → Way) (o : Option (ℕ × ℕ)) → arrived (next child) ≡ reachedLeaf o
     → arrived (onTurn m depth next (pick a NoTurn (pick b NoTurn (pick l TurnLeaf (pick i (pick z NoTurn (TurnDown child)) NoTurn)))))
-    ≡ leaf-of (pick (a || b) none (pick l (some (m, run)) (pick (i && not z) o none)))
-unfolding onTurn arrived leaf-of
+    ≡ reachedLeaf (pick (a || b) none (pick l (some (m, run)) (pick (i && not z) o none)))
+unfolding onTurn arrived reachedLeaf
 way-shape true b l i z m depth child run next o e = refl
 way-shape false true l i z m depth child run next o e = refl
 way-shape false false true i z m depth child run next o e = refl
@@ -60,34 +60,34 @@ way-shape false false false true false m depth child run next o e = e
 
 module _ (c : List ℕ) (key : ℕ) where
   tests : (x : Option (ℕ × ℕ)) (m run : ℕ) → Option (ℕ × ℕ)
-  tests x m run = pick (eqb m 0 || ltb (nodes-on c) m) none (pick (eqb (kindOf (nodeAt c m)) 1) (some (m, run)) (pick (is-internal (nodeAt c m)) x none))
+  tests x m run = pick (eqb m 0 || ltb (nodesOn c) m) none (pick (eqb (kindOf (nodeAt c m)) 1) (some (m, run)) (pick (isInternal (nodeAt c m)) x none))
 
-  pub landing-way : (levels link run m : ℕ) → landed (landingFor c (nodes-on c) key levels link run m) ≡ way c key levels run m
+  pub landing-way : (levels link run m : ℕ) → landed (landingFor c (nodesOn c) key levels link run m) ≡ way c key levels run m
   unfolding landingFor turnAt turnOf turnInner way landed runBelow
   landing-way zero link run m =
-      landing-shape (eqb m 0) (ltb (nodes-on c) m) (eqb (kindOf (nodeAt c m)) 1) (eqb (kindOf (nodeAt c m)) 2 || eqb (kindOf (nodeAt c m)) 3) (eqb (length (children (nodeAt c m))) 0) m link run (childFor (nodeAt c m) key) (λ child. NoLanding)
-      ∙ ap (λ (x : Option (ℕ × ℕ)). pick (eqb m 0 || ltb (nodes-on c) m) none (pick (eqb (kindOf (nodeAt c m)) 1) (some (m, run)) x)) (pick-same (is-internal (nodeAt c m)) none)
+      landing-shape (eqb m 0) (ltb (nodesOn c) m) (eqb (kindOf (nodeAt c m)) 1) (eqb (kindOf (nodeAt c m)) 2 || eqb (kindOf (nodeAt c m)) 3) (eqb (length (children (nodeAt c m))) 0) m link run (childFor (nodeAt c m) key) (λ child. NoLanding)
+      ∙ ap (λ (x : Option (ℕ × ℕ)). pick (eqb m 0 || ltb (nodesOn c) m) none (pick (eqb (kindOf (nodeAt c m)) 1) (some (m, run)) x)) (pick-same (isInternal (nodeAt c m)) none)
   landing-way (suc levels) link run m =
-      landing-shape (eqb m 0) (ltb (nodes-on c) m) (eqb (kindOf (nodeAt c m)) 1) (eqb (kindOf (nodeAt c m)) 2 || eqb (kindOf (nodeAt c m)) 3) (eqb (length (children (nodeAt c m))) 0) m link run (childFor (nodeAt c m) key)
-      (landingFor c (nodes-on c) key levels (place m (12 + childIndex (nodeAt c m) key)) (runBelow (length (children (nodeAt c m))) run))
-      ∙ ap (λ (x : Option (ℕ × ℕ)). pick (eqb m 0 || ltb (nodes-on c) m) none (pick (eqb (kindOf (nodeAt c m)) 1) (some (m, run)) (pick (is-internal (nodeAt c m)) x none)))
+      landing-shape (eqb m 0) (ltb (nodesOn c) m) (eqb (kindOf (nodeAt c m)) 1) (eqb (kindOf (nodeAt c m)) 2 || eqb (kindOf (nodeAt c m)) 3) (eqb (length (children (nodeAt c m))) 0) m link run (childFor (nodeAt c m) key)
+      (landingFor c (nodesOn c) key levels (place m (12 + childIndex (nodeAt c m) key)) (runBelow (length (children (nodeAt c m))) run))
+      ∙ ap (λ (x : Option (ℕ × ℕ)). pick (eqb m 0 || ltb (nodesOn c) m) none (pick (eqb (kindOf (nodeAt c m)) 1) (some (m, run)) (pick (isInternal (nodeAt c m)) x none)))
       (landing-way levels (place m (12 + childIndex (nodeAt c m) key)) (runBelow (length (children (nodeAt c m))) run) (childFor (nodeAt c m) key))
 
-  pub leaf-way : (levels run m : ℕ) → arrived (leafFor c (nodes-on c) key levels m) ≡ leaf-of (way c key levels run m)
-  unfolding leafFor turnAt turnOf turnInner way arrived leaf-of
+  pub leaf-way : (levels run m : ℕ) → arrived (leafFor c (nodesOn c) key levels m) ≡ reachedLeaf (way c key levels run m)
+  unfolding leafFor turnAt turnOf turnInner way arrived reachedLeaf
   leaf-way zero run m =
-      way-shape (eqb m 0) (ltb (nodes-on c) m) (eqb (kindOf (nodeAt c m)) 1) (eqb (kindOf (nodeAt c m)) 2 || eqb (kindOf (nodeAt c m)) 3) (eqb (length (children (nodeAt c m))) 0) m (depthLimit - 0) (childFor (nodeAt c m) key) run (λ child. NoWay) none refl
-      ∙ ap (λ (x : Option (ℕ × ℕ)). leaf-of (pick (eqb m 0 || ltb (nodes-on c) m) none (pick (eqb (kindOf (nodeAt c m)) 1) (some (m, run)) x))) (pick-same (is-internal (nodeAt c m)) none)
+      way-shape (eqb m 0) (ltb (nodesOn c) m) (eqb (kindOf (nodeAt c m)) 1) (eqb (kindOf (nodeAt c m)) 2 || eqb (kindOf (nodeAt c m)) 3) (eqb (length (children (nodeAt c m))) 0) m (depthLimit - 0) (childFor (nodeAt c m) key) run (λ child. NoWay) none refl
+      ∙ ap (λ (x : Option (ℕ × ℕ)). reachedLeaf (pick (eqb m 0 || ltb (nodesOn c) m) none (pick (eqb (kindOf (nodeAt c m)) 1) (some (m, run)) x))) (pick-same (isInternal (nodeAt c m)) none)
   leaf-way (suc levels) run m =
-      way-shape (eqb m 0) (ltb (nodes-on c) m) (eqb (kindOf (nodeAt c m)) 1) (eqb (kindOf (nodeAt c m)) 2 || eqb (kindOf (nodeAt c m)) 3) (eqb (length (children (nodeAt c m))) 0) m (depthLimit - suc levels) (childFor (nodeAt c m) key) run
-      (leafFor c (nodes-on c) key levels) _ (leaf-way levels (run-above (nodeAt c m) run) (childFor (nodeAt c m) key))
+      way-shape (eqb m 0) (ltb (nodesOn c) m) (eqb (kindOf (nodeAt c m)) 1) (eqb (kindOf (nodeAt c m)) 2 || eqb (kindOf (nodeAt c m)) 3) (eqb (length (children (nodeAt c m))) 0) m (depthLimit - suc levels) (childFor (nodeAt c m) key) run
+      (leafFor c (nodesOn c) key levels) _ (leaf-way levels (runAbove (nodeAt c m) run) (childFor (nodeAt c m) key))
 
 -- a word is among the words exactly where the look-up finds a slot
-unfoldable pub is-slot : Slot → Bool
-is-slot (At i) = true
-is-slot NoSlot = false
+unfoldable pub slotFound : Slot → Bool
+slotFound (At i) = true
+slotFound NoSlot = false
 
-pub slot-among : (ws : List ℕ) (x i : ℕ) → is-slot (firstEqual ws x i) ≡ among x ws
-unfolding firstEqual among is-slot
+pub slot-among : (ws : List ℕ) (x i : ℕ) → slotFound (firstEqual ws x i) ≡ among x ws
+unfolding firstEqual among slotFound
 slot-among [] x i = refl
 slot-among (y ∷ ws) x i = bool-cases (eqb y x) (λ q. rw q) (λ q. rw q (slot-among ws x (suc i)))

@@ -7,7 +7,7 @@ use lib.ListN.{length, getD, take}
 use Rattle.card.specs.Layout.{leastNodes, greatestNodes}
 use Rattle.card.specs.Replies.{Reply, refusal, long}
 use Rattle.dump.specs.Dump.{wordsFor}
-use Rattle.demands.specs.Refusals.{Rows, ByRows, end, row, nodes-on, on-card}
+use Rattle.demands.specs.Refusals.{Rows, ByRows, end, row, nodesOn, cardRows}
 
 -- "A dump is the card's words as bytes, low byte first": the word of the four bytes from number 4 × i on, and byte j of a word
 abbrev pub wordOf : List ℕ → ℕ → ℕ
@@ -48,7 +48,7 @@ abbrev pub readRows : List ℕ → ℕ → Rows
 readRows dump lent = row 11 (Damaged dump) (row 12 (lent < wordsIn dump) end)
 
 abbrev pub writeRows : List ℕ → ℕ → Rows
-writeRows card lent = on-card card (nodes-on card) (row 12 ((size : ℕ) × PaddedLength (length card) size × (lent < size)) end)
+writeRows card lent = cardRows card (nodesOn card) (row 12 ((size : ℕ) × PaddedLength (length card) size × (lent < size)) end)
 
 -- What a call gives back: its reply, and the lent slice as it is afterwards.
 module _ (lent : List ℕ) (result : Reply × List ℕ) where

@@ -17,23 +17,23 @@ use Rattle.tree.specs.Pairs.{pairs, lookup}
 use Rattle.tree.specs.Tree.{Tree}
 use Rattle.tree.specs.WellFormed.{WellFormed, Balanced}
 use Rattle.demands.specs.Table.{Table}
-use Rattle.demands.specs.Demand3.{repair-steps}
+use Rattle.demands.specs.Demand3.{mostRepairSteps}
 use Rattle.demands.specs.Events.{World, opened, run, step}
-use Rattle.demands.specs.Refusals.{ByRows, nodes-on, open-rows, end, row}
+use Rattle.demands.specs.Refusals.{ByRows, nodesOn, openRows, end, row}
 
 -- "opens and repairs it in memory": so many steps that the repair has ended (demand 3); those after its end store nothing
 unfoldable pub repairedWorld : (T : Table) → List ℕ → World T
-repairedWorld T c = run T (replicate repair-steps step) (opened T c)
+repairedWorld T c = run T (replicate mostRepairSteps step) (opened T c)
 
 -- "First line: N, free nodes, internal levels, pairs. Then key and value, leaves left to right, slots rising."
 pub record ListsRight (T : Table) (c : List ℕ) (l : Listing) : Type 0 where
   -- of the table on the repaired card
   pub table : Tree
   pub balanced : Balanced (repairedWorld T c .card) table
-  pub nodes : l .nodes ≡ nodes-on c
+  pub nodes : l .nodes ≡ nodesOn c
   -- the free nodes are exactly those that are not reached
   pub unreached : List Bool
-  pub exact : Exact (nodes-on c) unreached table
+  pub exact : Exact (nodesOn c) unreached table
   pub free : l .free ≡ countTrue unreached
   pub levels : Height (l .levels) table
   pub all-pairs : l .pairs ≡ pairs table
@@ -44,8 +44,8 @@ pub record ListsRight (T : Table) (c : List ℕ) (l : Listing) : Type 0 where
 -- `list` of a card's words, and the text that it prints of a dump's bytes
 pub record ListProgram (T : Table) (list : List ℕ → Listed) (text : List ℕ → List ℕ) : Type 0 where
   -- it refuses as opening does, and only then
-  pub cards : (c : List ℕ) → ByRows (open-rows c) (λ r. (T .openCard c .reply ≡ refusal r) × (list c ≡ refused r)) ((l : Listing) × (list c ≡ listed l) × ListsRight T c l)
+  pub cards : (c : List ℕ) → ByRows (openRows c) (λ r. (T .openCard c .reply ≡ refusal r) × (list c ≡ refused r)) ((l : Listing) × (list c ≡ listed l) × ListsRight T c l)
   -- 11 comes first; "12: lent slice shorter than the result" is never due
   pub dumps : (dump : List ℕ) → ByRows (row 11 (damaged dump ≡ true) end) (λ r. text dump ≡ listText (refused r)) (text dump ≡ listText (list (dumpWords (wordsFor (dumpNodes dump)) dump)))
   -- the dump of a card prints what the card does
-  pub own-dump : (c : List ℕ) → ((i : ℕ) → getD c i 0 < 2 ^ 32) → Sized (length c) (nodes-on c) → Formatted c (nodes-on c) → text (dumpOf c) ≡ listText (list c)
+  pub own-dump : (c : List ℕ) → ((i : ℕ) → getD c i 0 < 2 ^ 32) → Sized (length c) (nodesOn c) → Formatted c (nodesOn c) → text (dumpOf c) ≡ listText (list c)

@@ -26,8 +26,8 @@ handed h = record { reply = startReply (h .begun); state = h .memory }
 abbrev pub stepped : Step → Stepped Memory
 stepped s = record { reply = stepReply (s .answer); card = s .card; state = s .memory }
 
-abbrev pub ration-table : Table
-ration-table =
+abbrev pub rationTable : Table
+rationTable =
     record {
       State = Memory;
       nodes = λ m. m .nodes;

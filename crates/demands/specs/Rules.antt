@@ -10,10 +10,10 @@ use Prim.Native.Nat.{ℕ, suc, _+_, _-_, _/_, _≤_, _<_}
 use lib.Dec.{eqb}
 use lib.ListN.{length, getD, set, take, drop}
 use Rattle.card.specs.Layout.{rootPlace, place, nodeAt, kindOf, keyWords, children, routingKeys, leafPairs}
-use Rattle.card.specs.Stores.{Store, NewNode, new-node, node-stores}
+use Rattle.card.specs.Stores.{Store, NewNode, newNode, nodeStores}
 use Rattle.laws.specs.Cases.{pick}
-use Rattle.laws.specs.Sorting.{sort, pair-keys, pair-values, key-at}
-use Rattle.demands.specs.Refusals.{leads-to, among}
+use Rattle.laws.specs.Sorting.{sort, pairKeys, pairValues, keyAt}
+use Rattle.demands.specs.Refusals.{leadsTo, among}
 
 -- ---- the nodes that a change is given
 
@@ -56,11 +56,11 @@ kindUnder link = pick (eqb link rootPlace) 2 3
 
 -- "New nodes are given and written left, right, then above, words 0 to 23 of each in order; a single link store .. comes last."
 abbrev pub written : List NewNode → ℕ → ℕ → List Store
-written nodes link number = node-stores nodes ++ (link, number) ∷ []
+written nodes link number = nodeStores nodes ++ (link, number) ∷ []
 
 -- "Pairs in new leaves ascend from slot 0; unused words are 0."
 abbrev pub leafOf : ℕ → List (ℕ × ℕ) → NewNode
-leafOf a ps = new-node a 1 (pair-keys ps) (pair-values ps)
+leafOf a ps = newNode a 1 (pairKeys ps) (pairValues ps)
 
 -- the key words, the routing keys and the children of node m
 abbrev pub slots : List ℕ → ℕ → List ℕ
@@ -82,23 +82,23 @@ FirstSlot row x i = (i < 11) × (getD row i 0 ≡ x) × ((k : ℕ) → k < i →
 -- tagged node (internal if it is the root) whose routing key is the right leaf's smallest."
 pub data InsertRule (c : List ℕ) (key value : ℕ) : List ℕ → List ℕ → List Store → Type 0 where
   in-slot : {m j : ℕ} (i : ℕ)
-      → leads-to c key ≡ some (m, j)
+      → leadsTo c key ≡ some (m, j)
       → among key (slots c m) ≡ false
       → FirstSlot (slots c m) 0 i
       → InsertRule c key value [] [] ((place m (12 + i), value) ∷ (place m (1 + i), key) ∷ [])
   leaf-split : {m j link : ℕ} (a b d : ℕ) (twelve : List (ℕ × ℕ))
-      → leads-to c key ≡ some (m, j)
+      → leadsTo c key ≡ some (m, j)
       → among key (slots c m) ≡ false
       → among 0 (slots c m) ≡ false
       → LinkedAt c link m
       → twelve ≡ sort ((key, value) ∷ leafPairs (nodeAt c m))
       → InsertRule c key value (a ∷ b ∷ d ∷ []) (m ∷ [])
-      (written (leafOf a (take 6 twelve) ∷ leafOf b (drop 6 twelve) ∷ new-node d (kindUnder link) (key-at 6 twelve ∷ []) (a ∷ b ∷ []) ∷ []) link d)
+      (written (leafOf a (take 6 twelve) ∷ leafOf b (drop 6 twelve) ∷ newNode d (kindUnder link) (keyAt 6 twelve ∷ []) (a ∷ b ∷ []) ∷ []) link d)
 
 -- "Delete: key word to 0"; "In a leaf it is at the first slot whose key word equals the key."
 pub data DeleteRule (c : List ℕ) (key : ℕ) : List ℕ → List ℕ → List Store → Type 0 where
   key-cleared : {m j : ℕ} (i : ℕ)
-      → leads-to c key ≡ some (m, j)
+      → leadsTo c key ≡ some (m, j)
       → FirstSlot (slots c m) key i
       → DeleteRule c key [] [] ((place m (1 + i), 0) ∷ [])
 
@@ -108,7 +108,7 @@ pub data DeleteRule (c : List ℕ) (key : ℕ) : List ℕ → List ℕ → List 
 -- children. "Internal nodes bring the routing key between them down".
 pub data Together (c : List ℕ) (x k y : ℕ) : ℕ → List ℕ → List ℕ → Type 0 where
   two-leaves : kindOf (nodeAt c x) ≡ 1 → kindOf (nodeAt c y) ≡ 1
-      → Together c x k y 1 (pair-keys (sort (leafPairs (nodeAt c x) ++ leafPairs (nodeAt c y)))) (pair-values (sort (leafPairs (nodeAt c x) ++ leafPairs (nodeAt c y))))
+      → Together c x k y 1 (pairKeys (sort (leafPairs (nodeAt c x) ++ leafPairs (nodeAt c y)))) (pairValues (sort (leafPairs (nodeAt c x) ++ leafPairs (nodeAt c y))))
   two-internal : kindOf (nodeAt c x) ≡ 2 → kindOf (nodeAt c y) ≡ 2
       → Together c x k y 2 (routes c x ++ k ∷ routes c y) (kids c x ++ kids c y)
 
@@ -158,7 +158,7 @@ pub data RepairRule (c : List ℕ) : List ℕ → List ℕ → List Store → Ty
       → TaggedChild c link p i t
       → length (kids c p) ≤ 10
       → RepairRule c (a ∷ []) (p ∷ t ∷ [])
-      (written (new-node a 2 (keysWith (nodeAt c p) i (nodeAt c t)) (childrenWith (nodeAt c p) i (nodeAt c t)) ∷ []) link a)
+      (written (newNode a 2 (keysWith (nodeAt c p) i (nodeAt c t)) (childrenWith (nodeAt c p) i (nodeAt c t)) ∷ []) link a)
   -- "Parent with 11: the 12 children go 6 and 6 into two internal nodes, the middle key above them in a tagged node (internal if it
   -- is the root)."
   parent-split : {link p i t : ℕ} (a b d : ℕ) (keys twelve : List ℕ)
@@ -168,9 +168,9 @@ pub data RepairRule (c : List ℕ) : List ℕ → List ℕ → List Store → Ty
       → twelve ≡ childrenWith (nodeAt c p) i (nodeAt c t)
       → RepairRule c (a ∷ b ∷ d ∷ []) (p ∷ t ∷ [])
       (written (
-      new-node a 2 (take 5 keys) (take 6 twelve)
-      ∷ new-node b 2 (drop 6 keys) (drop 6 twelve)
-      ∷ new-node d (kindUnder link) (getD keys 5 0 ∷ []) (a ∷ b ∷ [])
+      newNode a 2 (take 5 keys) (take 6 twelve)
+      ∷ newNode b 2 (drop 6 keys) (drop 6 twelve)
+      ∷ newNode d (kindUnder link) (getD keys 5 0 ∷ []) (a ∷ b ∷ [])
       ∷ []
       ) link d)
   -- "Together 4 or more: shared out, the left one getting the larger half, under a new copy of the parent."
@@ -183,9 +183,9 @@ pub data RepairRule (c : List ℕ) : List ℕ → List ℕ → List Store → Ty
       → h ≡ largerHalf (length values)
       → RepairRule c (a ∷ b ∷ d ∷ []) (p ∷ x ∷ y ∷ [])
       (written (
-      new-node a kind (take (keysLeft kind h) keys) (take h values)
-      ∷ new-node b kind (drop h keys) (drop h values)
-      ∷ new-node d 2 (take j (routes c p) ++ getD keys (keysLeft kind h) 0 ∷ drop (suc j) (routes c p)) (take j (kids c p) ++ a ∷ b ∷ drop (suc (suc j)) (kids c p))
+      newNode a kind (take (keysLeft kind h) keys) (take h values)
+      ∷ newNode b kind (drop h keys) (drop h values)
+      ∷ newNode d 2 (take j (routes c p) ++ getD keys (keysLeft kind h) 0 ∷ drop (suc j) (routes c p)) (take j (kids c p) ++ a ∷ b ∷ drop (suc (suc j)) (kids c p))
       ∷ []
       ) link d)
   -- "Together 3 or fewer: merged, the parent copied with one child less";
@@ -198,8 +198,8 @@ pub data RepairRule (c : List ℕ) : List ℕ → List ℕ → List Store → Ty
       → ((link ≡ rootPlace) × (length (kids c p) ≡ 2) → ⊥)
       → RepairRule c (a ∷ b ∷ []) (p ∷ x ∷ y ∷ [])
       (written (
-      new-node a kind keys values
-      ∷ new-node b 2 (take j (routes c p) ++ drop (suc j) (routes c p)) (take j (kids c p) ++ a ∷ drop (suc (suc j)) (kids c p))
+      newNode a kind keys values
+      ∷ newNode b 2 (take j (routes c p) ++ drop (suc j) (routes c p)) (take j (kids c p) ++ a ∷ drop (suc (suc j)) (kids c p))
       ∷ []
       ) link b)
   -- "if that parent is the root with 2 children, the merged node becomes the root."
@@ -210,4 +210,4 @@ pub data RepairRule (c : List ℕ) : List ℕ → List ℕ → List Store → Ty
       → Together c x (getD (routes c p) j 0) y kind keys values
       → length values ≤ 3
       → length (kids c p) ≡ 2
-      → RepairRule c (a ∷ []) (p ∷ x ∷ y ∷ []) (written (new-node a kind keys values ∷ []) rootPlace a)
+      → RepairRule c (a ∷ []) (p ∷ x ∷ y ∷ []) (written (newNode a kind keys values ∷ []) rootPlace a)

@@ -13,7 +13,7 @@ use Rattle.tree.specs.Tree.{Tree}
 use Rattle.tree.specs.WellFormed.{WellFormed}
 use Rattle.demands.specs.Table.{Table}
 use Rattle.demands.specs.Worked.{Always}
-use Rattle.demands.specs.Refusals.{ByRows, nodes-on, on-card, end}
+use Rattle.demands.specs.Refusals.{ByRows, nodesOn, cardRows, end}
 
 -- The call: of a card and a number the reply, and beside it the key of the pair. "It reads the card only": no card comes back.
 abbrev pub NextCall : Type 0
@@ -66,4 +66,4 @@ pub record W201 (T : Table) (call : NextCall) : Type 0 where
   pub moments : Always T (λ w b. (number : ℕ) → number < keyLimit → AnswersNext (b .held) number (call (w .card) number))
   pub walks : Always T (λ w b. Walked call (w .card) (b .held))
   -- every card, whatever its words: 1, 2, 3, and past them never 6
-  pub cards : (c : List ℕ) → ByRows (on-card c (nodes-on c) end) (λ r. (number : ℕ) → call c number ≡ (refusal r, 0)) (OnAnyCard call c)
+  pub cards : (c : List ℕ) → ByRows (cardRows c (nodesOn c) end) (λ r. (number : ℕ) → call c number ≡ (refusal r, 0)) (OnAnyCard call c)

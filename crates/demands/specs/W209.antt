@@ -17,7 +17,7 @@ use Rattle.updates.specs.Updates.{splitNeed}
 use Rattle.demands.specs.List.{repairedWorld}
 use Rattle.demands.specs.Table.{Table}
 use Rattle.demands.specs.Events.{World}
-use Rattle.demands.specs.Refusals.{ByRows, leads-to, among, open-rows, end, row}
+use Rattle.demands.specs.Refusals.{ByRows, leadsTo, among, openRows, end, row}
 
 -- "`split` is printed with F below M"
 abbrev pub SplitBelow : List ℕ → Type 0
@@ -35,7 +35,7 @@ module _ (T : Table) (w : World T) (key : ℕ) (out : List ℕ) where
   -- the key is not held, and leads to this leaf, below j 11-child nodes without a break straight above
   pub record LeadsAbsent (leaf j : ℕ) : Type 0 where
     pub not-held : T .find (w .card) key ≡ absent
-    pub leads : leads-to (w .card) key ≡ some (leaf, j)
+    pub leads : leadsTo (w .card) key ≡ some (leaf, j)
 
   pub record TellsSlot : Type 0 where
     pub leaf : ℕ
@@ -66,7 +66,7 @@ module _ (T : Table) (w : World T) (key : ℕ) (out : List ℕ) where
 
 -- what is printed of a card
 abbrev pub OfCard : (T : Table) → List ℕ → ℕ → List ℕ → Type 0
-OfCard T c key out = ByRows (open-rows c) (λ r. out ≡ refusalLine r) (Told T (repairedWorld T c) key out)
+OfCard T c key out = ByRows (openRows c) (λ r. out ≡ refusalLine r) (Told T (repairedWorld T c) key out)
 
 -- The bytes of the dump and of the file `key`, none where it is missing, give the bytes printed.
 pub record W209 (T : Table) (text : List ℕ → List ℕ → List ℕ) : Type 0 where

@@ -6,7 +6,7 @@ use Prim.Native.Nat.{ℕ, _+_, _≤_, _<_}
 use lib.ListN.{length, getD, take, drop}
 use Rattle.card.specs.Replies.{Reply, refusal, holds, absent, fetched}
 use Rattle.demands.specs.Table.{Table}
-use Rattle.demands.specs.Refusals.{Rows, ByRows, find-rows, end, row}
+use Rattle.demands.specs.Refusals.{Rows, ByRows, findRows, end, row}
 
 -- "23: offset at or past the block's end. 24: length 0 or record running past the end."
 abbrev pub recordRows : List ℕ → ℕ → Rows
@@ -41,7 +41,7 @@ module _ (part : List ℕ) (reply : Reply) where
 -- For every card, key and block. Nothing lent is written: neither question gives a card or a block back.
 pub record W213 (T : Table) (part : List ℕ → ℕ → List ℕ → List ℕ) (reply : List ℕ → ℕ → List ℕ → Reply) : Type 0 where
   -- the find's own refusals, 1, 2, 3, 6 and 9, come first
-  pub answers : (c : List ℕ) (key : ℕ) (block : List ℕ) → ByRows (find-rows c key)
+  pub answers : (c : List ℕ) (key : ℕ) (block : List ℕ) → ByRows (findRows c key)
       (λ r. (T .find c key ≡ refusal r) × NoRecord (part c key block) (reply c key block) (refusal r)) (ByFind (part c key block) (reply c key block) block (T .find c key))
   -- the two questions agree: "found" exactly where the part is not empty
   pub found-exactly : (c : List ℕ) (key : ℕ) (block : List ℕ) → (reply c key block ≡ fetched) ↔ (1 ≤ length (part c key block))

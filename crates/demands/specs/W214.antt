@@ -10,7 +10,7 @@ use Rattle.tree.specs.Pairs.{pairs, lookup}
 use Rattle.tree.specs.Tree.{Tree, leaf}
 use Rattle.tree.specs.WellFormed.{WellFormed, Balanced}
 use Rattle.demands.specs.Table.{Table}
-use Rattle.demands.specs.Events.{Event, World, reply-to, happens, insert, delete}
+use Rattle.demands.specs.Events.{Event, World, replyTo, happens, insert, delete}
 use Rattle.demands.specs.Refusals.{Idle}
 use Rattle.demands.specs.Demand2.{Finishes}
 use Rattle.demands.specs.Worked.{dictionary, Always, BalancedWith}
@@ -44,7 +44,7 @@ module _ (T : Table) where
   -- the call e, about a key, begins on a card of depth h: where it is started, it ends within that bound with the dictionary's answer
   abbrev pub EndsByDepth : Event → ℕ → World T → List (ℕ × ℕ) → Type 0
   EndsByDepth e key w l =
-      (t : Tree) → WellFormed (w .card) t → (h : ℕ) → Height h t → reply-to T e w ≡ started → Finishes T (storesAt h) (dictionary (lookup key l)) (happens T e w)
+      (t : Tree) → WellFormed (w .card) t → (h : ℕ) → Height h t → replyTo T e w ≡ started → Finishes T (storesAt h) (dictionary (lookup key l)) (happens T e w)
 
 pub record W214 (T : Table) : Type 0 where
   -- "Show that on every balanced tree .."

@@ -16,7 +16,7 @@ use Rattle.card.proofs.NodeLaws.{length-keyWords, get-keyWord, get-valueWord, c
 use Rattle.descent.specs.Descent.{passed, childIndex, childFor, firstEqual, slotOf, turnInner, turnOf, turnAt, onTurn, leafFor, onTurnLanding, landingFor, childPosition, visitOf, visitAt, onVisit, seek, visitLeaf, visitInner, visitTagged}
 use Rattle.laws.specs.Cases.{pick}
 use Rattle.laws.proofs.Cases.{order, impossible}
-use Rattle.laws.specs.Lists.{before-zero}
+use Rattle.laws.specs.Lists.{beforeZero}
 use Rattle.descent.specs.declared.Slot.{Slot}
 use Rattle.descent.specs.declared.Slot.the-variants.{At, Absent}
 use Rattle.descent.specs.declared.Turn.the-variants.{Refused as NoTurn, Leaf as TurnLeaf, Down as TurnDown}
@@ -68,13 +68,13 @@ slot-below node key i len e = omega (arith, first-below (keyWords node) key 0 i 
 -- ---- which child a key takes
 
 -- a child word of 0 ends the children, any other goes on with them
-zero-stops : (l : List ℕ) (j : ℕ) → getD l j 0 ≡ 0 → length (before-zero l) ≤ j
+zero-stops : (l : List ℕ) (j : ℕ) → getD l j 0 ≡ 0 → length (beforeZero l) ≤ j
 zero-stops [] j e = omega arith
 zero-stops (zero ∷ l) j e = omega arith
 zero-stops (suc x ∷ l) zero e = absurd (omega arith)
 zero-stops (suc x ∷ l) (suc j) e = omega (arith, zero-stops l j e)
 
-other-goes-on : (l : List ℕ) (j : ℕ) → j ≤ length (before-zero l) → (getD l j 0 ≡ 0 → ⊥) → j < length (before-zero l)
+other-goes-on : (l : List ℕ) (j : ℕ) → j ≤ length (beforeZero l) → (getD l j 0 ≡ 0 → ⊥) → j < length (beforeZero l)
 other-goes-on [] j h p = absurd (p refl)
 other-goes-on (zero ∷ l) zero h p = absurd (p refl)
 other-goes-on (zero ∷ l) (suc j) h p = absurd (omega arith)

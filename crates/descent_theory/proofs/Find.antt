@@ -11,14 +11,14 @@ use native.Mathlib.Decide.{ℕ-discrete}
 use lib.ListN.{length, getD, drop, drop-of-length-le}
 use lib.Seq.{drop-cons}
 use borrow.Author.Tests.{ne-eqb, eq-eqb}
-use Rattle.card.specs.Layout.{nodeAt, slot-pairs, depthLimit}
+use Rattle.card.specs.Layout.{nodeAt, slotPairs, depthLimit}
 use Rattle.card.proofs.NodeLaws.{get-valueWord}
 use Rattle.descent.specs.Descent.{firstEqual, slotOf, turnAt, leafFor}
 use Rattle.descent.proofs.DescentLaws.{slot-below, turn-node, turn-leaf, turn-down, way-leaf, way-down}
 use Rattle.descent_theory.proofs.Routing.{Leads, Parted, parted, child-on-card, some-children, internal, number-on-card}
 use Rattle.tree.specs.Pairs.{pairs, lookup}
 use Rattle.tree.proofs.Pairs.{InRange, AllInRange, child, lookup-child, depth, slot-pairs-head, child-in, child-represents, child-depth}
-use Rattle.tree.proofs.Path.{depth-of}
+use Rattle.tree.proofs.Path.{depthOf}
 use Rattle.tree.proofs.Reading.{read-length, read-kind, leaf-keys, leaf-values}
 use Rattle.tree.specs.Represent.{Represents}
 use Rattle.tree.specs.Tree.{Tree, Forest, root, leaf, node}
@@ -39,7 +39,7 @@ rowAnswer vs Absent = none
 rowAnswer vs (At i) = some (getD vs i 0)
 
 -- from slot j on, with so many slots left
-row-lookup : (key : ℕ) (ks vs : List ℕ) → 0 < key → length ks ≡ length vs → (left j : ℕ) → j + left ≡ length ks → rowAnswer vs (firstEqual (drop j ks) key j) ≡ lookup key (slot-pairs (drop j ks) (drop j vs))
+row-lookup : (key : ℕ) (ks vs : List ℕ) → 0 < key → length ks ≡ length vs → (left j : ℕ) → j + left ≡ length ks → rowAnswer vs (firstEqual (drop j ks) key j) ≡ lookup key (slotPairs (drop j ks) (drop j vs))
 unfolding firstEqual rowAnswer
 row-lookup key ks vs pos e zero j h = rw (drop-of-length-le ks {i = j} (omega arith))
 row-lookup key ks vs pos e (suc left) j h =
@@ -61,7 +61,7 @@ module _ (c : List ℕ) (key m : ℕ) (ks vs : List ℕ) (pos : 0 < key) (r : Re
       ap some (sym (get-valueWord (nodeAt c m) i low) ∙ ap (λ (l : List ℕ). getD l i 0) (leaf-values c m ks vs r))
 
   -- the slot found in a leaf answers as the leaf's pairs do
-  pub leaf-answer : slotAnswer (nodeAt c m) (slotOf (nodeAt c m) key) ≡ lookup key (slot-pairs ks vs)
+  pub leaf-answer : slotAnswer (nodeAt c m) (slotOf (nodeAt c m) key) ≡ lookup key (slotPairs ks vs)
   unfolding slotOf
   leaf-answer =
       answer-row (slotOf (nodeAt c m) key) refl
@@ -95,7 +95,7 @@ pub record LeafFound (c : List ℕ) (n key levels : ℕ) (C : Context) (s : Tree
   pub leads : Leads key C → Leads key context
   pub on-card : Represents c (leaf number keys values)
   -- with all levels left at the root, the depth that is told is the number of internal nodes above the leaf
-  pub deep : above + levels + depth-of C ≡ depthLimit + depth-of context
+  pub deep : above + levels + depthOf C ≡ depthLimit + depthOf context
   pub shallow : above ≤ depthLimit
   pub answers : slotAnswer (nodeAt c number) (slotOf (nodeAt c number) key) ≡ lookup key (pairs s)
 

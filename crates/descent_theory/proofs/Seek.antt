@@ -9,22 +9,22 @@ use native.Mathlib.Omega.{arith}
 use lib.ListN.{length, getD}
 use lib.Dec.{eqb}
 use borrow.Author.Tests.{lt-ltb, le-ltb, ne-eqb}
-use Rattle.card.specs.Layout.{place, slot-pairs, nodeAt}
+use Rattle.card.specs.Layout.{place, slotPairs, nodeAt}
 use Rattle.descent.specs.Descent.{passed, rootPosition, childPosition, visitOf, visitAt, seek}
 use Rattle.descent.proofs.DescentLaws.{visit-node, visit-root-leaf, visit-few, visit-leaf, visit-tagged, visit-one-child, visit-down, search-balanced, search-violation, search-down}
 use Rattle.descent_theory.proofs.Routing.{Untagged, child-fill, passed-fill, index-on-card, child-on-card, children-on-card, some-children, number-on-card}
 use Rattle.laws.proofs.Cases.{order, impossible}
 use Rattle.laws.specs.Bits.{bit}
 use Rattle.tree.proofs.Pairs.{child, depth, depths, child-represents, child-depth, routing-roots}
-use Rattle.tree.proofs.Path.{Past, Short, OnPath, depth-of, width-of, own-violation, Violation, width-fill, own-violation-le}
+use Rattle.tree.proofs.Path.{Past, Short, OnPath, depthOf, widthOf, ownViolation, Violation, width-fill, own-violation-le}
 use Rattle.tree.proofs.Reading.{read-kind, leaf-pairs}
 use Rattle.tree.specs.Represent.{Represents, Holds}
-use Rattle.tree.proofs.Represent.{roots-left, RepresentsContext, link-place, unplugged}
+use Rattle.tree.proofs.Represent.{rootsLeft, RepresentsContext, linkPlace, unplugged}
 use Rattle.tree.proofs.Splice.{length-roots-left}
 use Rattle.tree.specs.Tree.{Tree, Forest, root, roots, routing, leaf, node, one, more}
 use Rattle.tree.proofs.Tree.{Left, Right, fill, Context, plug, rightmost, followed, top, down}
 use Rattle.tree.proofs.Violations.{few-below, below, few-zero, violations-inside}
-use Rattle.tree.specs.Violations.{violations, forest-violations, RootOk, table-violations}
+use Rattle.tree.specs.Violations.{violations, forestViolations, RootOk, tableViolations}
 use Rattle.descent.specs.declared.Position.{Position}
 use Rattle.descent.specs.declared.Visit.the-variants.{Violation as VisitViolation}
 use Rattle.descent.specs.declared.Search.the-variants.{Balanced as SearchBalanced, Violation as SearchViolation}
@@ -36,22 +36,22 @@ position number link parent index above = record { node = number; link = link; p
 -- the position of a part in its context
 unfoldable pub positionOf : Context → Tree → Position
 positionOf top s = rootPosition (root s)
-positionOf (down C m g l r) s = position (root s) (link-place (down C m g l r)) m (length l) (link-place C)
+positionOf (down C m g l r) s = position (root s) (linkPlace (down C m g l r)) m (length l) (linkPlace C)
 
 -- Each node above the hole that is not the root has at least two children: none is a violation by "a non-root node with
 -- fewer than 2 pairs or children". That none is tagged, `Untagged` says.
 abbrev pub WideAbove : Context → Type 0
 WideAbove top = Unit
-WideAbove (down C m g l r) = (below C → 2 ≤ width-of l r) × WideAbove C
+WideAbove (down C m g l r) = (below C → 2 ≤ widthOf l r) × WideAbove C
 
 -- ---- facts of the tree
 
-pub child-violations : (key : ℕ) (f : Forest) → violations (child key f) ≤ forest-violations f
+pub child-violations : (key : ℕ) (f : Forest) → violations (child key f) ≤ forestViolations f
 child-violations key (one t) = omega arith
 child-violations key (more t x f) = order key x (λ o. rw (lt-ltb key x o) (omega arith)) (λ o. rw (le-ltb key x o) (omega (arith, child-violations key f)))
 
 -- the violations of a part are violations of the table
-pub violations-part : (C : Context) (s : Tree) → below C → violations s ≤ table-violations (plug C s)
+pub violations-part : (C : Context) (s : Tree) → below C → violations s ≤ tableViolations (plug C s)
 violations-part top s b = absurd b
 violations-part (down top m g l r) s b = violations-inside l (one s) r
 violations-part (down (down C m′ g′ l′ r′) m g l r) s b = omega (arith, violations-part (down C m′ g′ l′ r′) (node m g (fill l s r)) tt, violations-inside l (one s) r)
@@ -61,7 +61,7 @@ untagged false e = refl
 untagged true e = absurd (omega arith)
 
 -- where a table has one violation only and a part has it, no node above that part is one
-pub sound-above : (C : Context) (s : Tree) → RootOk (plug C s) → table-violations (plug C s) ≤ 1 → 1 ≤ violations s → Untagged C × WideAbove C
+pub sound-above : (C : Context) (s : Tree) → RootOk (plug C s) → tableViolations (plug C s) ≤ 1 → 1 ≤ violations s → Untagged C × WideAbove C
 sound-above top s ok most has = (tt, tt)
 sound-above (down top m true l r) s ok most has = absurd ok
 sound-above (down top m false l r) s ok most has = ((refl, tt), ((λ b. absurd b), tt))
@@ -77,7 +77,7 @@ depth-fill [] s rightmost = omega arith
 depth-fill [] s (followed x f) = omega arith
 depth-fill (a ∷ l) s r = omega (arith, depth-fill l s r)
 
-pub depth-plug : (C : Context) (s : Tree) → depth-of C + depth s ≤ depth (plug C s)
+pub depth-plug : (C : Context) (s : Tree) → depthOf C + depth s ≤ depth (plug C s)
 depth-plug top s = omega arith
 depth-plug (down C m g l r) s = omega (arith, depth-plug C (node m g (fill l s r)), depth-fill l s r)
 
@@ -107,35 +107,35 @@ module _ (c : List ℕ) (n key : ℕ) (len : length c ≡ 8 + 24 * n) where
 
   -- ---- the way to a part
 
-  search-step : (levels m : ℕ) (C : Context) (l : Left) (s : Tree) (r : Right) → Holds c (plug C (node m false (fill l s r))) → Past key l → Short key r → (below C → 2 ≤ width-of l r)
+  search-step : (levels m : ℕ) (C : Context) (l : Left) (s : Tree) (r : Right) → Holds c (plug C (node m false (fill l s r))) → Past key l → Short key r → (below C → 2 ≤ widthOf l r)
       → seek c n key (suc levels) (positionOf C (node m false (fill l s r))) ≡ seek c n key levels (positionOf (down C m false l r) s)
   unfolding positionOf rootPosition
-  search-step levels m C l s r w past short wide = outer C (unplugged c C (node m false (fill l s r)) w) wide ∙ arrive (link-place C)
+  search-step levels m C l s r w past short wide = outer C (unplugged c C (node m false (fill l s r)) w) wide ∙ arrive (linkPlace C)
     where
-      arrive : (above : ℕ) → seek c n key levels (position (root (child key (fill l s r))) (place m (12 + passed (routing (fill l s r)) key)) m (passed (routing (fill l s r)) key) above) ≡ seek c n key levels (position (root s) (place m (12 + length (roots-left l))) m (length l) above)
+      arrive : (above : ℕ) → seek c n key levels (position (root (child key (fill l s r))) (place m (12 + passed (routing (fill l s r)) key)) m (passed (routing (fill l s r)) key) above) ≡ seek c n key levels (position (root s) (place m (12 + length (rootsLeft l))) m (length l) above)
       arrive above = rw (child-fill key l s r past short, passed-fill key l s r past short, length-roots-left l)
 
-      outer : (C : Context) → RepresentsContext c C m × Represents c (node m false (fill l s r)) → (below C → 2 ≤ width-of l r)
-          → seek c n key (suc levels) (positionOf C (node m false (fill l s r))) ≡ seek c n key levels (position (root (child key (fill l s r))) (place m (12 + passed (routing (fill l s r)) key)) m (passed (routing (fill l s r)) key) (link-place C))
+      outer : (C : Context) → RepresentsContext c C m × Represents c (node m false (fill l s r)) → (below C → 2 ≤ widthOf l r)
+          → seek c n key (suc levels) (positionOf C (node m false (fill l s r))) ≡ seek c n key levels (position (root (child key (fill l s r))) (place m (12 + passed (routing (fill l s r)) key)) m (passed (routing (fill l s r)) key) (linkPlace C))
       outer top u h = search-child levels m (fill l s r) (u .1) 4 0 0 0 (λ e. impossible (cc))
-      outer (down D m′ g′ l′ r′) u h = search-child levels m (fill l s r) (u .1) (link-place (down D m′ g′ l′ r′)) m′ (length l′) (link-place D) (λ e. omega (arith, h tt, width-fill l s r))
+      outer (down D m′ g′ l′ r′) u h = search-child levels m (fill l s r) (u .1) (linkPlace (down D m′ g′ l′ r′)) m′ (length l′) (linkPlace D) (λ e. omega (arith, h tt, width-fill l s r))
 
   -- the search goes down to every part on the key's path, past nodes that are no violations
-  pub search-path : (levels : ℕ) (C : Context) (s : Tree) → Holds c (plug C s) → OnPath key C → WideAbove C → seek c n key (depth-of C + levels) (rootPosition (getD c 4 0)) ≡ seek c n key levels (positionOf C s)
+  pub search-path : (levels : ℕ) (C : Context) (s : Tree) → Holds c (plug C s) → OnPath key C → WideAbove C → seek c n key (depthOf C + levels) (rootPosition (getD c 4 0)) ≡ seek c n key levels (positionOf C s)
   unfolding positionOf
   search-path levels top s w p wide = ap₂ (λ (x y : ℕ). seek c n key x (rootPosition y)) (let z : 0 + levels ≡ levels = omega arith in z) (w .0)
   search-path levels (down C m true l r) s w p wide = let e = p .0 in impossible (cc)
   search-path levels (down C m false l r) s w p wide =
-      ap (λ (x : ℕ). seek c n key x (rootPosition (getD c 4 0))) (let z : suc (depth-of C) + levels ≡ depth-of C + suc levels = omega arith in z)
+      ap (λ (x : ℕ). seek c n key x (rootPosition (getD c 4 0))) (let z : suc (depthOf C) + levels ≡ depthOf C + suc levels = omega arith in z)
       ∙ search-path (suc levels) C (node m false (fill l s r)) w (p .3) (wide .1)
       ∙ search-step levels m C l s r w (p .1) (p .2) (wide .0)
 
   -- ---- the violation is found
 
-  visit-violation : (s : Tree) → Represents c s → own-violation s ≡ 1 → (link parent index above : ℕ) → (parent ≡ 0 → ⊥) → visitAt c n key (position (root s) link parent index above) ≡ VisitViolation
+  visit-violation : (s : Tree) → Represents c s → ownViolation s ≡ 1 → (link parent index above : ℕ) → (parent ≡ 0 → ⊥) → visitAt c n key (position (root s) link parent index above) ≡ VisitViolation
   visit-violation (leaf m ks vs) r own link parent index above q =
       visit-part (leaf m ks vs) r link parent index above false (ne-eqb parent 0 q)
-      ∙ visit-few (nodeAt c m) _ (read-kind c m _ _ _ (r .0)) (omega (arith, ap length (leaf-pairs c m ks vs r), few-below (length (slot-pairs ks vs)) own))
+      ∙ visit-few (nodeAt c m) _ (read-kind c m _ _ _ (r .0)) (omega (arith, ap length (leaf-pairs c m ks vs r), few-below (length (slotPairs ks vs)) own))
   visit-violation (node m true f) r own link parent index above q =
       visit-part (node m true f) r link parent index above false (ne-eqb parent 0 q)
       ∙ visit-tagged (nodeAt c m) _ (read-kind c m _ _ _ (r .0))
@@ -145,22 +145,22 @@ module _ (c : List ℕ) (n key : ℕ) (len : length c ≡ 8 + 24 * n) where
       (omega (arith, children-on-card c key m false f r, few-below (length (roots f)) (omega arith), routing-roots f))
 
   -- the search by a key finds the violation on the key's path, where no node above it is one
-  pub seek-violation : (levels : ℕ) (C : Context) (s : Tree) → Holds c (plug C s) → below C → OnPath key C → WideAbove C → own-violation s ≡ 1 → depth-of C ≤ levels → seek c n key levels (rootPosition (getD c 4 0)) ≡ SearchViolation (positionOf C s)
+  pub seek-violation : (levels : ℕ) (C : Context) (s : Tree) → Holds c (plug C s) → below C → OnPath key C → WideAbove C → ownViolation s ≡ 1 → depthOf C ≤ levels → seek c n key levels (rootPosition (getD c 4 0)) ≡ SearchViolation (positionOf C s)
   unfolding positionOf
   seek-violation levels top s w b p wide own d = absurd b
   seek-violation levels (down C m g l r) s w b p wide own d =
       let u = unplugged c (down C m g l r) s w in
-      let left : ℕ = levels - suc (depth-of C) in
-      ap (λ (x : ℕ). seek c n key x (rootPosition (getD c 4 0))) (let z : levels ≡ suc (depth-of C) + (levels - suc (depth-of C)) = omega arith in z)
+      let left : ℕ = levels - suc (depthOf C) in
+      ap (λ (x : ℕ). seek c n key x (rootPosition (getD c 4 0))) (let z : levels ≡ suc (depthOf C) + (levels - suc (depthOf C)) = omega arith in z)
       ∙ search-path left (down C m g l r) s w p wide
       ∙ search-violation c n key (positionOf (down C m g l r) s) left
-      (visit-violation s (u .1) own (link-place (down C m g l r)) m (length l) (link-place C) (λ e. omega (arith, u .0 .0 .on .pos)))
+      (visit-violation s (u .1) own (linkPlace (down C m g l r)) m (length l) (linkPlace C) (λ e. omega (arith, u .0 .0 .on .pos)))
 
   -- the violation of a table that has one is found by every key that leads to it
-  pub violation-found : (levels : ℕ) (t : Tree) → Holds c t → RootOk t → table-violations t ≡ 1 → depth t ≤ levels → (v : Violation t key) → seek c n key levels (rootPosition (getD c 4 0)) ≡ SearchViolation (positionOf (v .context) (v .part))
+  pub violation-found : (levels : ℕ) (t : Tree) → Holds c t → RootOk t → tableViolations t ≡ 1 → depth t ≤ levels → (v : Violation t key) → seek c n key levels (rootPosition (getD c 4 0)) ≡ SearchViolation (positionOf (v .context) (v .part))
   violation-found levels t w ok count d v =
       seek-violation levels (v .context) (v .part) (subst (Holds c) (v .is-tree) w) (v .inside) (v .on-path)
-      (sound-above (v .context) (v .part) (subst RootOk (v .is-tree) ok) (omega (arith, ap table-violations (v .is-tree))) (omega (arith, own-violation-le (v .part), v .own)) .1)
+      (sound-above (v .context) (v .part) (subst RootOk (v .is-tree) ok) (omega (arith, ap tableViolations (v .is-tree))) (omega (arith, own-violation-le (v .part), v .own)) .1)
       (v .own)
       (omega (arith, depth-plug (v .context) (v .part), ap depth (v .is-tree)))
 
@@ -170,7 +170,7 @@ module _ (c : List ℕ) (n key : ℕ) (len : length c ≡ 8 + 24 * n) where
   balanced-leaf levels m ks vs r sound link parent index above q =
       search-balanced c n key (position m link parent index above) levels
       (visit-part (leaf m ks vs) r link parent index above false (ne-eqb parent 0 q)
-      ∙ visit-leaf (nodeAt c m) _ (read-kind c m _ _ _ (r .0)) (omega (arith, ap length (leaf-pairs c m ks vs r), few-zero (length (slot-pairs ks vs)) sound)))
+      ∙ visit-leaf (nodeAt c m) _ (read-kind c m _ _ _ (r .0)) (omega (arith, ap length (leaf-pairs c m ks vs r), few-zero (length (slotPairs ks vs)) sound)))
 
   balanced-part : (levels : ℕ) (s : Tree) → Represents c s → violations s ≡ 0 → depth s ≤ levels → (link parent index above : ℕ) → (parent ≡ 0 → ⊥) → seek c n key levels (position (root s) link parent index above) ≡ SearchBalanced
   balanced-part zero (leaf m ks vs) r sound d link parent index above q = balanced-leaf zero m ks vs r sound link parent index above q
@@ -182,7 +182,7 @@ module _ (c : List ℕ) (n key : ℕ) (len : length c ≡ 8 + 24 * n) where
       ∙ balanced-part levels (child key f) (child-represents c key f (r .1)) (omega (arith, child-violations key f)) (omega (arith, child-depth key f)) _ m _ link (λ e. omega (arith, r .0 .on .pos))
 
   -- in a table without violations every key's search ends in balance
-  pub seek-balanced : (levels : ℕ) (t : Tree) → Holds c t → RootOk t → table-violations t ≡ 0 → depth t ≤ levels → seek c n key levels (rootPosition (getD c 4 0)) ≡ SearchBalanced
+  pub seek-balanced : (levels : ℕ) (t : Tree) → Holds c t → RootOk t → tableViolations t ≡ 0 → depth t ≤ levels → seek c n key levels (rootPosition (getD c 4 0)) ≡ SearchBalanced
   unfolding rootPosition
   seek-balanced levels (leaf m ks vs) w ok sound d =
       ap (λ (x : ℕ). seek c n key levels (rootPosition x)) (w .0)

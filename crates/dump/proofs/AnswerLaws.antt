@@ -8,7 +8,7 @@ use native.Mathlib.Decide.{decLt, ℕ-discrete}
 use lib.ListN.{length, getD, drop}
 use borrow.Author.Tests.{lt-ltb, le-ltb, ltb-false, eq-eqb, ne-eqb, eqb-true, not-false}
 use Rattle.laws.proofs.Cases.{bool-cases, impossible}
-use Rattle.laws.specs.Lists.{all-zero}
+use Rattle.laws.specs.Lists.{allZero}
 use Rattle.card.specs.Layout.{leastNodes, greatestNodes}
 use Rattle.card.specs.Header.{nodesOfLength, cardRefusal, Sized, Formatted}
 use Rattle.card.proofs.HeaderLaws.{nodes-sized, header-formatted, card-no-length, card-header}
@@ -75,7 +75,7 @@ module _ (dump : List ℕ) where
   unfolding damaged faults
   damaged-length h = any-one (faults dump) 5 (ap not (ne-eqb _ _ h))
 
-  pub damaged-padding : all-zero (drop (4 * wordsFor (dumpNodes dump)) dump) ≡ false → damaged dump ≡ true
+  pub damaged-padding : allZero (drop (4 * wordsFor (dumpNodes dump)) dump) ≡ false → damaged dump ≡ true
   unfolding damaged faults
   damaged-padding h = any-one (faults dump) 6 (ap not h)
 
@@ -84,7 +84,7 @@ pub record Whole (dump : List ℕ) : Type 0 where
   pub least : leastNodes ≤ dumpNodes dump
   pub most : dumpNodes dump ≤ greatestNodes
   pub padded : paddedLength (wordsFor (dumpNodes dump)) ≡ length dump
-  pub zeros : all-zero (drop (4 * wordsFor (dumpNodes dump)) dump) ≡ true
+  pub zeros : allZero (drop (4 * wordsFor (dumpNodes dump)) dump) ≡ true
 
 pub undamaged-whole : (dump : List ℕ) → damaged dump ≡ false → Whole dump
 unfolding damaged faults

@@ -8,16 +8,16 @@ use native.Mathlib.Omega.{arith}
 use lib.ListN.{length, getD, take, drop, set, replicate, length-drop, drop-of-length-le}
 use lib.Seq.{drop-cons, drop-drop, drop-append-add, getD-drop, set-at, append-snoc, sets-eq, length-take-le, take-suc, take-all, take-at, drop-at}
 use borrow.Author.Tests.{eq-eqb}
-use Rattle.laws.specs.Lists.{pad, all-zero}
+use Rattle.laws.specs.Lists.{pad, allZero}
 use Rattle.dump.specs.Dump.{wordBytes, cardBytes, wordAt, dumpWords}
 
 -- ---- the padding's test
 
 -- after a 0 the rest decides it
-pub zero-here : (dump : List ℕ) (i : ℕ) → i < length dump → getD dump i 0 ≡ 0 → all-zero (drop i dump) ≡ all-zero (drop (i + 1) dump)
+pub zero-here : (dump : List ℕ) (i : ℕ) → i < length dump → getD dump i 0 ≡ 0 → allZero (drop i dump) ≡ allZero (drop (i + 1) dump)
 zero-here dump i inside h = rw (add-one i, drop-cons dump i 0 inside, eq-eqb (getD dump i 0) 0 h)
 
-pub no-bytes : (dump : List ℕ) (i : ℕ) → length dump ≤ i → all-zero (drop i dump) ≡ true
+pub no-bytes : (dump : List ℕ) (i : ℕ) → length dump ≤ i → allZero (drop i dump) ≡ true
 no-bytes dump i h = rw (drop-of-length-le dump {i = i} h)
 
 -- ---- reading

@@ -8,7 +8,7 @@ use native.Mathlib.Omega.{arith}
 use lib.ListN.{length, getD, drop}
 use lib.Seq.{getD-drop}
 use Rattle.laws.proofs.Cases.{bool-cases}
-use Rattle.laws.specs.Lists.{all-zero}
+use Rattle.laws.specs.Lists.{allZero}
 use Rattle.laws.proofs.Lists.{getD-all-zero}
 use Rattle.dump.proofs.ByteLaws.{zero-here}
 use Rattle.dump.specs.Dump.{paddedLength, wordsFor}
@@ -42,21 +42,21 @@ module _ (dump : List ℕ) (k : ℕ) where
   eight-exactly = (bytes-zero, number-zero)
 
 -- bytes that are 0 are passed by
-zeros-on : (dump : List ℕ) (at n : ℕ) → at + n ≤ length dump → ((i : ℕ) → i < n → getD dump (at + i) 0 ≡ 0) → all-zero (drop at dump) ≡ all-zero (drop (at + n) dump)
-zeros-on dump at zero h f = ap (λ (i : ℕ). all-zero (drop i dump)) (let z : at ≡ at + 0 = omega arith in z)
+zeros-on : (dump : List ℕ) (at n : ℕ) → at + n ≤ length dump → ((i : ℕ) → i < n → getD dump (at + i) 0 ≡ 0) → allZero (drop at dump) ≡ allZero (drop (at + n) dump)
+zeros-on dump at zero h f = ap (λ (i : ℕ). allZero (drop i dump)) (let z : at ≡ at + 0 = omega arith in z)
 zeros-on dump at (suc n) h f =
     zeros-on dump at n (omega arith) (λ i l. f i (omega arith))
     ∙ zero-here dump (at + n) (omega arith) (f n (omega arith))
-    ∙ ap (λ (i : ℕ). all-zero (drop i dump)) (let z : at + n + 1 ≡ at + suc n = omega arith in z)
+    ∙ ap (λ (i : ℕ). allZero (drop i dump)) (let z : at + n + 1 ≡ at + suc n = omega arith in z)
 
 module _ (dump : List ℕ) (k : ℕ) (room : 8 * k + 8 ≤ length dump) where
   -- eight bytes that are 0 decide nothing
-  pub eight-passed : eightAt dump k ≡ 0 → all-zero (drop (8 * k) dump) ≡ all-zero (drop (8 * (k + 1)) dump)
-  eight-passed e = zeros-on dump (8 * k) 8 room (bytes-zero dump k e) ∙ ap (λ (i : ℕ). all-zero (drop i dump)) (let z : 8 * k + 8 ≡ 8 * (k + 1) = omega arith in z)
+  pub eight-passed : eightAt dump k ≡ 0 → allZero (drop (8 * k) dump) ≡ allZero (drop (8 * (k + 1)) dump)
+  eight-passed e = zeros-on dump (8 * k) 8 room (bytes-zero dump k e) ∙ ap (λ (i : ℕ). allZero (drop i dump)) (let z : 8 * k + 8 ≡ 8 * (k + 1) = omega arith in z)
 
   -- a byte among eight that is not 0 decides
-  pub eight-found : (eightAt dump k ≡ 0 → ⊥) → all-zero (drop (8 * k) dump) ≡ false
-  eight-found d = bool-cases (all-zero (drop (8 * k) dump)) (λ t. absurd (d (number-zero dump k (λ i h. sym (getD-drop (8 * k) dump i 0) ∙ getD-all-zero (drop (8 * k) dump) i t)))) (λ f. f)
+  pub eight-found : (eightAt dump k ≡ 0 → ⊥) → allZero (drop (8 * k) dump) ≡ false
+  eight-found d = bool-cases (allZero (drop (8 * k) dump)) (λ t. absurd (d (number-zero dump k (λ i h. sym (getD-drop (8 * k) dump i 0) ∙ getD-all-zero (drop (8 * k) dump) i t)))) (λ f. f)
 
 -- "its length is always a multiple of 32": a card has 8 + 24 × N words, so its bytes and the dump's are both such a multiple
 pub padding-eights : (n : ℕ) → (paddedLength (wordsFor n) - 4 * wordsFor n) % 32 ≡ 0

@@ -6,7 +6,7 @@ use Prim.Native.Nat.{ℕ, zero, suc, _+_, _*_, _/_, _%_}
 use lib.ListN.{length, getD, drop}
 use lib.Dec.{eqb, ltb}
 use Rattle.laws.specs.Cases.{pick}
-use Rattle.laws.specs.Lists.{pad, all-zero}
+use Rattle.laws.specs.Lists.{pad, allZero}
 use Rattle.card.specs.Layout.{leastNodes, greatestNodes}
 use Rattle.card.specs.Header.{cardRefusal}
 use Rattle.dump.specs.declared.Answer.{Answer}
@@ -64,7 +64,7 @@ faults dump =
     ∷ ltb (dumpNodes dump) leastNodes
     ∷ ltb greatestNodes (dumpNodes dump)
     ∷ not (eqb (paddedLength (wordsFor (dumpNodes dump))) (length dump))
-    ∷ not (all-zero (drop (4 * wordsFor (dumpNodes dump)) dump))
+    ∷ not (allZero (drop (4 * wordsFor (dumpNodes dump)) dump))
     ∷ []
 
 -- one of the tests holds

@@ -5,7 +5,7 @@ ghost use mathlib.Core.Path.{_≡_};
 ghost use mathlib.Core.List.{_++_};
 ghost use Prim.Native.Nat.{_+_, _*_, _%_, _≤_, _<_};
 ghost use lib.ListN.{length, take, drop, replicate};
-ghost use Rattle.laws.specs.Lists.{all-zero};
+ghost use Rattle.laws.specs.Lists.{allZero};
 ghost use Rattle.card.specs.Layout.{greatestNodes};
 ghost use Rattle.dump.specs.Padding.{eightAt};
 ghost use Rattle.dump.specs.Dump.{wordBytes, cardBytes, paddedLength, dumpOf, wordAt, dumpWords, wordsFor, damaged, readAnswer, readOver, writeAnswer, writeOver};
@@ -91,7 +91,7 @@ fn is_damaged(dump: &[u8]) -> bool
 // Whether all bytes from number 8 × `from` on are 0, eight bytes at a time (document 02, W-202).
 fn padding_is_zero(dump: &[u8], from: usize) -> bool
     requires { ⌜ length (now dump) % 8 ≡ 0 ⌝ }
-    ensures { λ r. ⌜ r ≡ all-zero (drop (8 * from) (now (dump .entry))) ⌝ }
+    ensures { λ r. ⌜ r ≡ allZero (drop (8 * from) (now (dump .entry))) ⌝ }
 {
     let eights = dump.len() / 8;
     let mut k = from;

@@ -10,7 +10,7 @@ use lib.ListN.{length, getD, replicate, length-set, getD-replicate}
 use Rattle.card.specs.Header.{Sized, Formatted}
 use Rattle.card.specs.NodeWords.{NodeWords}
 use Rattle.card.specs.Layout.{leastNodes, greatestNodes, place, word}
-use Rattle.tree.specs.FreeNodes.{Exact, free-bit}
+use Rattle.tree.specs.FreeNodes.{Exact, freeBit}
 use Rattle.change_theory.proofs.Numbers.{bit-removed}
 use Rattle.change_theory.proofs.Rewritten.{Sound}
 use Rattle.formatting_theory.proofs.FormatCard.{formatCard, format-length, Finished, format-finished}
@@ -24,7 +24,7 @@ use Rattle.laws.proofs.Totals.{indicator-le}
 use Rattle.tree.specs.Pairs.{pairs}
 use Rattle.tree.specs.Represent.{Holds}
 use Rattle.tree.specs.Tree.{Tree, leaf}
-use Rattle.tree.specs.Violations.{table-violations}
+use Rattle.tree.specs.Violations.{tableViolations}
 use Rattle.tree.specs.WellFormed.{Balanced}
 
 abbrev pub freshTree : Tree
@@ -35,7 +35,7 @@ pub record FreshTable (card : List ℕ) (n : ℕ) : Type 0 where
   pub formatted : Formatted card n
   pub holds : Holds card freshTree
   pub sound : Sound freshTree
-  pub no-violations : table-violations freshTree ≡ 0
+  pub no-violations : tableViolations freshTree ≡ 0
   pub no-pairs : pairs freshTree ≡ []
   pub exact : Exact n (freshNodes n) freshTree
   pub room : countTrue (freshNodes n) ≡ n - 1
@@ -86,7 +86,7 @@ module _ (n : ℕ) (least : leastNodes ≤ n) (most : n ≤ greatestNodes) where
   fresh-exact =
       let all-places = length-all n (omega arith) in
       let was-free = bit-true (getD (allNodes n) 1 false) (all-get n 1 (omega arith) (omega arith) (omega arith)) in
-      let root-taken : (i : ℕ) → free-bit (freshNodes n) i + indicator i 1 ≡ free-bit (allNodes n) i = λ i. bit-removed (allNodes n) 1 i (omega arith) was-free in
+      let root-taken : (i : ℕ) → freeBit (freshNodes n) i + indicator i 1 ≡ freeBit (allNodes n) i = λ i. bit-removed (allNodes n) 1 i (omega arith) was-free in
       let none-out : (i : ℕ) → (i ≡ 0) ⊎ (n < i) → getD (allNodes n) i false ≡ false = λ i o. ⊎-elim (λ e. rw e (all-zero n)) (λ h. all-above n i h) o in
       record {
         size = simp length-set all-places;

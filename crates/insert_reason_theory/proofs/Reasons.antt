@@ -32,7 +32,7 @@ use Rattle.promises.proofs.Room.{LeadsTo, key-leads, splitting-insert-works, sp
 use Rattle.promises.proofs.Starting.{nodes-same}
 use Rattle.repairing.specs.Repairing.{openedCard}
 use Rattle.repairing_theory.proofs.ReadDump.{dump-answered}
-use Rattle.repairing_theory.proofs.Repair.{After, steps, all-words, world-of, opened-run, repaired}
+use Rattle.repairing_theory.proofs.Repair.{After, steps, all-words, worldFrom, opened-run, repaired}
 use Rattle.soundness_theory.proofs.Depth.{well-formed-depth}
 use Rattle.soundness_theory.proofs.Ranges.{root-in-range}
 use Rattle.state.specs.Steps.{Handed}
@@ -54,10 +54,10 @@ unfoldable pub ReasonHolds : List ℕ → Tree → ℕ → Reason → Type 0
 ReasonHolds c t key (Refused r) = ⊥
 ReasonHolds c t key NoKey = ⊥
 ReasonHolds c t key (Held v) = lookup key (pairs t) ≡ some v
-ReasonHolds c t key EmptySlot = (lookup key (pairs t) ≡ none) × ((leaf : ℕ) × (j : ℕ) × (i : ℕ) × LeadsTo (world-of (openedCard c)) key leaf j × (slotOf (nodeAt (openedCard c .card) leaf) 0 ≡ At i))
+ReasonHolds c t key EmptySlot = (lookup key (pairs t) ≡ none) × ((leaf : ℕ) × (j : ℕ) × (i : ℕ) × LeadsTo (worldFrom (openedCard c)) key leaf j × (slotOf (nodeAt (openedCard c .card) leaf) 0 ≡ At i))
 ReasonHolds c t key (Split j free need) =
     (lookup key (pairs t) ≡ none)
-    × ((leaf : ℕ) × LeadsTo (world-of (openedCard c)) key leaf j × (length (leafPairs (nodeAt (openedCard c .card) leaf)) ≡ 11))
+    × ((leaf : ℕ) × LeadsTo (worldFrom (openedCard c)) key leaf j × (length (leafPairs (nodeAt (openedCard c .card) leaf)) ≡ 11))
     × (countTrue (openedCard c .memory .free) ≡ free)
     × (need ≡ splitNeed j)
 
@@ -66,7 +66,7 @@ module _ (c : List ℕ) (t : Tree) (accepted : Accepted c) (well : WellFormed c 
   abbrev after : World
   after = run (steps repairSteps) (opened c)
 
-  is-after : world-of (openedCard c) ≡ after
+  is-after : worldFrom (openedCard c) ≡ after
   is-after = opened-run c
 
   left : After c t
@@ -96,20 +96,20 @@ module _ (c : List ℕ) (t : Tree) (accepted : Accepted c) (well : WellFormed c 
 
   module _ (key : ℕ) (low : lowestKey ≤ key) (high : key < keyLimit) where
     -- the leaf that the key leads to
-    leads : (leaf : ℕ) × (j : ℕ) × LeadsTo (world-of (openedCard c)) key leaf j
+    leads : (leaf : ℕ) × (j : ℕ) × LeadsTo (worldFrom (openedCard c)) key leaf j
     leads = subst (λ (w : World). (leaf : ℕ) × (j : ℕ) × LeadsTo w key leaf j) (sym is-after) (key-leads (opened c) (pairs t) (from-open c t accepted well) (steps repairSteps) (all-words repairSteps) key low high)
 
     abbrev leaf : ℕ
     leaf = leads .0
 
-    abbrev run-above : ℕ
-    run-above = leads .1
+    abbrev runAbove : ℕ
+    runAbove = leads .1
 
-    abbrev in-leaf : InLeaf
-    in-leaf = insertReason (nodeAt (openedCard c .card) leaf) key
+    abbrev leafReason : InLeaf
+    leafReason = insertReason (nodeAt (openedCard c .card) leaf) key
 
     -- the reason, by what the leaf holds
-    reason-is : reasonOf c key ≡ reasonFor in-leaf run-above (countTrue (openedCard c .memory .free))
+    reason-is : reasonOf c key ≡ reasonFor leafReason runAbove (countTrue (openedCard c .memory .free))
     unfolding reasonLanded
     reason-is =
         is-open key (openOf c .begun) refl
@@ -184,72 +184,72 @@ module _ (c : List ℕ) (t : Tree) (accepted : Accepted c) (well : WellFormed c 
     leaf-words : length (nodeAt (openedCard c .card) leaf) ≡ 24
     leaf-words =
         let whole : Sized (length (openedCard c .card)) (openedCard c .memory .nodes) = subst (Sized (length (openedCard c .card))) (sym same-nodes) (left .sized) in
-        let k = landed (openedCard c .card) (openedCard c .memory .nodes) key leaf (leads .2 .0) run-above whole (leads .2 .1) in
+        let k = landed (openedCard c .card) (openedCard c .memory .nodes) key leaf (leads .2 .0) runAbove whole (leads .2 .1) in
         length-node (openedCard c .card) leaf (k .inside .one) (omega (arith, k .inside .most, whole .words))
 
     -- "the reason handed over for printing is the one that holds"
     pub reason-holds : ReasonHolds c t key (reasonOf c key)
     unfolding ReasonHolds reasonFor emptyReason
-    reason-holds = subst (ReasonHolds c t key) (sym reason-is) (go in-leaf refl)
+    reason-holds = subst (ReasonHolds c t key) (sym reason-is) (go leafReason refl)
       where
-        go : (r : InLeaf) → in-leaf ≡ r → ReasonHolds c t key (reasonFor r run-above (countTrue (openedCard c .memory .free)))
+        go : (r : InLeaf) → leafReason ≡ r → ReasonHolds c t key (reasonFor r runAbove (countTrue (openedCard c .memory .free)))
         go (held v) e = sym answered ∙ leaf-held (nodeAt (openedCard c .card) leaf) key v e
-        go (slot i) e = (sym answered ∙ leaf-absent (nodeAt (openedCard c .card) leaf) key (At i) e, (leaf, run-above, i, leads .2, leaf-slot (nodeAt (openedCard c .card) leaf) key i e))
+        go (slot i) e = (sym answered ∙ leaf-absent (nodeAt (openedCard c .card) leaf) key (At i) e, (leaf, runAbove, i, leads .2, leaf-slot (nodeAt (openedCard c .card) leaf) key i e))
         go full e =
             (sym answered ∙ leaf-absent (nodeAt (openedCard c .card) leaf) key NoSlot e, (leaf, leads .2, leaf-full (nodeAt (openedCard c .card) leaf) leaf-words (leaf-no-slot (nodeAt (openedCard c .card) leaf) key e)), refl, refl)
 
     -- the insert of the key, with any value, after the repair
-    abbrev insert-of : ℕ → Handed
-    insert-of value = insertOf (openedCard c .card) (openedCard c .memory) key value
+    abbrev insertCall : ℕ → Handed
+    insertCall value = insertOf (openedCard c .card) (openedCard c .memory) key value
 
     abbrev begins : Begins (opened c) (pairs t)
     begins = from-open c t accepted well
 
-    leads-after : LeadsTo after key leaf run-above
-    leads-after = subst (λ (w : World). LeadsTo w key leaf run-above) is-after (leads .2)
+    leads-after : LeadsTo after key leaf runAbove
+    leads-after = subst (λ (w : World). LeadsTo w key leaf runAbove) is-after (leads .2)
 
     idle-after : after .memory .doing ≡ Idle
     idle-after = ap (λ (w : World). w .memory .doing) (sym is-after) ∙ left .idle
 
-    refused-eight : (value : ℕ) → in-leaf ≡ full → countTrue (openedCard c .memory .free) < splitNeed run-above → insert-of value ≡ startRefused 8 (openedCard c .memory)
+    refused-eight : (value : ℕ) → leafReason ≡ full → countTrue (openedCard c .memory .free) < splitNeed runAbove → insertCall value ≡ startRefused 8 (openedCard c .memory)
     refused-eight value =
-        subst (λ (w : World). insertReason (nodeAt (w .card) leaf) key ≡ full → countTrue (w .memory .free) < splitNeed run-above → insertOf (w .card) (w .memory) key value ≡ startRefused 8 (w .memory)) (sym is-after)
-        (splitting-insert-refused (opened c) (pairs t) begins (steps repairSteps) (all-words repairSteps) idle-after key value low high leaf run-above leads-after)
+        subst (λ (w : World). insertReason (nodeAt (w .card) leaf) key ≡ full → countTrue (w .memory .free) < splitNeed runAbove → insertOf (w .card) (w .memory) key value ≡ startRefused 8 (w .memory)) (sym is-after)
+        (splitting-insert-refused (opened c) (pairs t) begins (steps repairSteps) (all-words repairSteps) idle-after key value low high leaf runAbove leads-after)
 
-    started-room : (value : ℕ) → in-leaf ≡ full → splitNeed run-above ≤ countTrue (openedCard c .memory .free) → insert-of value .begun ≡ Started
+    started-room : (value : ℕ) → leafReason ≡ full → splitNeed runAbove ≤ countTrue (openedCard c .memory .free) → insertCall value .begun ≡ Started
     started-room value =
-        subst (λ (w : World). insertReason (nodeAt (w .card) leaf) key ≡ full → splitNeed run-above ≤ countTrue (w .memory .free) → insertOf (w .card) (w .memory) key value .begun ≡ Started) (sym is-after)
-        (λ e h. splitting-insert-works (opened c) (pairs t) begins (steps repairSteps) (all-words repairSteps) idle-after key value low high leaf run-above leads-after e h .0)
+        subst (λ (w : World). insertReason (nodeAt (w .card) leaf) key ≡ full → splitNeed runAbove ≤ countTrue (w .memory .free) → insertOf (w .card) (w .memory) key value .begun ≡ Started) (sym is-after)
+        (λ e h. splitting-insert-works (opened c) (pairs t) begins (steps repairSteps) (all-words repairSteps) idle-after key value low high leaf runAbove leads-after e h .0)
 
-    started-other : (value : ℕ) → (in-leaf ≡ full → ⊥) → insert-of value .begun ≡ Started
+    started-other : (value : ℕ) → (leafReason ≡ full → ⊥) → insertCall value .begun ≡ Started
     started-other value =
         subst (λ (w : World). (insertReason (nodeAt (w .card) leaf) key ≡ full → ⊥) → insertOf (w .card) (w .memory) key value .begun ≡ Started) (sym is-after)
-        (λ e. other-insert-works (opened c) (pairs t) begins (steps repairSteps) (all-words repairSteps) idle-after key value low high leaf run-above leads-after e .0)
+        (λ e. other-insert-works (opened c) (pairs t) begins (steps repairSteps) (all-words repairSteps) idle-after key value low high leaf runAbove leads-after e .0)
 
-    not-started : (value : ℕ) → insert-of value ≡ startRefused 8 (openedCard c .memory) → insert-of value .begun ≡ Started → ⊥
+    not-started : (value : ℕ) → insertCall value ≡ startRefused 8 (openedCard c .memory) → insertCall value .begun ≡ Started → ⊥
     unfolding startRefused
     not-started value e s = let z : _≡_ {A = ℕ} 0 1 = cc (sym (ap (λ (h : Handed). h .begun) e) ∙ s) in omega arith
 
     -- "an insert of that key would be refused 8 exactly when `split` is printed with F below M": F and M as they are handed over
-    pub refused-exactly : (value : ℕ) → (insert-of value ≡ startRefused 8 (openedCard c .memory)) ↔ ((j : ℕ) × (free : ℕ) × (need : ℕ) × (reasonOf c key ≡ Split j free need) × (free < need))
+    pub refused-exactly : (value : ℕ) → (insertCall value ≡ startRefused 8 (openedCard c .memory)) ↔ ((j : ℕ) × (free : ℕ) × (need : ℕ) × (reasonOf c key ≡ Split j free need) × (free < need))
     unfolding reasonFor
-    refused-exactly value = (to in-leaf refl, from in-leaf refl)
+    refused-exactly value = (to leafReason refl, from leafReason refl)
       where
-        to : (r : InLeaf) → in-leaf ≡ r → insert-of value ≡ startRefused 8 (openedCard c .memory) → (j : ℕ) × (free : ℕ) × (need : ℕ) × (reasonOf c key ≡ Split j free need) × (free < need)
+        to : (r : InLeaf) → leafReason ≡ r → insertCall value ≡ startRefused 8 (openedCard c .memory) → (j : ℕ) × (free : ℕ) × (need : ℕ) × (reasonOf c key ≡ Split j free need) × (free < need)
         to (held v) e q = absurd (not-started value q (started-other value (λ f. let z : _≡_ {A = ℕ} 0 1 = cc in omega arith)))
         to (slot i) e q = absurd (not-started value q (started-other value (λ f. let z : _≡_ {A = ℕ} 0 1 = cc in omega arith)))
         to full e q =
-            order (countTrue (openedCard c .memory .free)) (splitNeed run-above)
-            (λ h. (run-above, countTrue (openedCard c .memory .free), splitNeed run-above, reason-is ∙ ap (λ (r : InLeaf). reasonFor r run-above (countTrue (openedCard c .memory .free))) e, h))
+            order (countTrue (openedCard c .memory .free)) (splitNeed runAbove)
+            (λ h. (runAbove, countTrue (openedCard c .memory .free), splitNeed runAbove, reason-is ∙ ap (λ (r : InLeaf). reasonFor r runAbove (countTrue (openedCard c .memory .free))) e, h))
             (λ h. absurd (not-started value q (started-room value e h)))
 
-        from : (r : InLeaf) → in-leaf ≡ r → ((j : ℕ) × (free : ℕ) × (need : ℕ) × (reasonOf c key ≡ Split j free need) × (free < need)) → insert-of value ≡ startRefused 8 (openedCard c .memory)
-        from (held v) e (j, free, need, s, h) = let z : _≡_ {A = ℕ} 0 1 = cc (sym s ∙ reason-is ∙ ap (λ (r : InLeaf). reasonFor r run-above (countTrue (openedCard c .memory .free))) e) in absurd (omega arith)
-        from (slot i) e (j, free, need, s, h) = let z : _≡_ {A = ℕ} 0 1 = cc (sym s ∙ reason-is ∙ ap (λ (r : InLeaf). reasonFor r run-above (countTrue (openedCard c .memory .free))) e) in absurd (omega arith)
+        from : (r : InLeaf) → leafReason ≡ r → ((j : ℕ) × (free : ℕ) × (need : ℕ) × (reasonOf c key ≡ Split j free need) × (free < need)) → insertCall value ≡ startRefused 8 (openedCard c .memory)
+        from (held v) e (j, free, need, s, h) = let z : _≡_ {A = ℕ} 0 1 = cc (sym s ∙ reason-is ∙ ap (λ (r : InLeaf). reasonFor r runAbove (countTrue (openedCard c .memory .free))) e) in absurd (omega arith)
+        from (slot i) e (j, free, need, s, h) = let z : _≡_ {A = ℕ} 0 1 = cc (sym s ∙ reason-is ∙ ap (λ (r : InLeaf). reasonFor r runAbove (countTrue (openedCard c .memory .free))) e) in absurd (omega arith)
         from full e (j, free, need, s, h) =
-            let q = sym s ∙ reason-is ∙ ap (λ (r : InLeaf). reasonFor r run-above (countTrue (openedCard c .memory .free))) e in
+            let q = sym s ∙ reason-is ∙ ap (λ (r : InLeaf). reasonFor r runAbove (countTrue (openedCard c .memory .free))) e in
             let b : free ≡ countTrue (openedCard c .memory .free) = cc in
-            let n : need ≡ splitNeed run-above = cc in
+            let n : need ≡ splitNeed runAbove = cc in
             refused-eight value e (omega (arith, b, n))
 
 -- the dump of an accepted card gives the reason that the card gives

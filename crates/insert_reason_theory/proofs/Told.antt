@@ -10,31 +10,31 @@ use Rattle.insert_reason.specs.declared.Reason.the-variants.{Refused, NoKey, He
 use Rattle.reason_printing.specs.ReasonText.{noKeyWord, heldWord, slotWord, splitWord, needWord, splitLine, reasonText}
 
 -- the line byte by byte, from "need " on, from "free " on, and whole
-abbrev from-need : ℕ → List ℕ
-from-need need = 110 ∷ 101 ∷ 101 ∷ 100 ∷ 32 ∷ (decimal need ++ (10 ∷ []))
+abbrev fromNeed : ℕ → List ℕ
+fromNeed need = 110 ∷ 101 ∷ 101 ∷ 100 ∷ 32 ∷ (decimal need ++ (10 ∷ []))
 
-abbrev from-free : ℕ → ℕ → List ℕ
-from-free free need = 102 ∷ 114 ∷ 101 ∷ 101 ∷ 32 ∷ (decimal free ++ (32 ∷ from-need need))
+abbrev fromFree : ℕ → ℕ → List ℕ
+fromFree free need = 102 ∷ 114 ∷ 101 ∷ 101 ∷ 32 ∷ (decimal free ++ (32 ∷ fromNeed need))
 
-abbrev from-split : ℕ → ℕ → ℕ → List ℕ
-from-split run free need = 115 ∷ 112 ∷ 108 ∷ 105 ∷ 116 ∷ 32 ∷ (decimal run ++ (32 ∷ from-free free need))
+abbrev fromSplit : ℕ → ℕ → ℕ → List ℕ
+fromSplit run free need = 115 ∷ 112 ∷ 108 ∷ 105 ∷ 116 ∷ 32 ∷ (decimal run ++ (32 ∷ fromFree free need))
 
 regroup : (a b c d e f g : List ℕ) → (a ++ b) ++ (c ++ d) ++ (e ++ f) ++ g ≡ a ++ (b ++ (c ++ (d ++ (e ++ (f ++ g)))))
 regroup a b c d e f g = simp append-assoc
 
-line-is : (run free need : ℕ) → splitLine run free need ≡ from-split run free need
+line-is : (run free need : ℕ) → splitLine run free need ≡ fromSplit run free need
 unfolding splitLine splitWord freeWord needWord lineFeed
 line-is run free need = regroup splitWord (decimal run) freeWord (decimal free) needWord (decimal need) lineFeed
 
 same-numbers : (j f n j′ f′ n′ : ℕ) → splitLine j f n ≡ splitLine j′ f′ n′ → Split j f n ≡ Split j′ f′ n′
 same-numbers j f n j′ f′ n′ e =
-    let whole : from-split j f n ≡ from-split j′ f′ n′ = sym (line-is j f n) ∙ e ∙ line-is j′ f′ n′ in
-    let first : decimal j ++ (32 ∷ from-free f n) ≡ decimal j′ ++ (32 ∷ from-free f′ n′) = cc in
-    let a = number-told 32 (omega arith) j j′ (from-free f n) (from-free f′ n′) first in
-    let frees : from-free f n ≡ from-free f′ n′ = a .1 in
-    let second : decimal f ++ (32 ∷ from-need n) ≡ decimal f′ ++ (32 ∷ from-need n′) = cc in
-    let b = number-told 32 (omega arith) f f′ (from-need n) (from-need n′) second in
-    let needs : from-need n ≡ from-need n′ = b .1 in
+    let whole : fromSplit j f n ≡ fromSplit j′ f′ n′ = sym (line-is j f n) ∙ e ∙ line-is j′ f′ n′ in
+    let first : decimal j ++ (32 ∷ fromFree f n) ≡ decimal j′ ++ (32 ∷ fromFree f′ n′) = cc in
+    let a = number-told 32 (omega arith) j j′ (fromFree f n) (fromFree f′ n′) first in
+    let frees : fromFree f n ≡ fromFree f′ n′ = a .1 in
+    let second : decimal f ++ (32 ∷ fromNeed n) ≡ decimal f′ ++ (32 ∷ fromNeed n′) = cc in
+    let b = number-told 32 (omega arith) f f′ (fromNeed n) (fromNeed n′) second in
+    let needs : fromNeed n ≡ fromNeed n′ = b .1 in
     let third : decimal n ++ (10 ∷ []) ≡ decimal n′ ++ (10 ∷ []) = cc in
     let d = number-told 10 (omega arith) n n′ [] [] third in
     let x : j ≡ j′ = a .0 in

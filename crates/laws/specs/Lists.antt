@@ -10,17 +10,17 @@ abbrev pub pad : ℕ → List ℕ → List ℕ
 pad n l = l ++ replicate (n - length l) 0
 
 -- the numbers before the first 0
-abbrev pub before-zero : List ℕ → List ℕ
-before-zero [] = []
-before-zero (zero ∷ l) = []
-before-zero (suc x ∷ l) = suc x ∷ before-zero l
+abbrev pub beforeZero : List ℕ → List ℕ
+beforeZero [] = []
+beforeZero (zero ∷ l) = []
+beforeZero (suc x ∷ l) = suc x ∷ beforeZero l
 
 -- all 0; all 0 from the n-th on
-abbrev pub all-zero : List ℕ → Bool
-all-zero [] = true
-all-zero (x ∷ l) = eqb x 0 && all-zero l
+abbrev pub allZero : List ℕ → Bool
+allZero [] = true
+allZero (x ∷ l) = eqb x 0 && allZero l
 
-abbrev pub zero-after : ℕ → List ℕ → Bool
-zero-after zero l = all-zero l
-zero-after (suc n) [] = true
-zero-after (suc n) (x ∷ l) = zero-after n l
+abbrev pub zeroAfter : ℕ → List ℕ → Bool
+zeroAfter zero l = allZero l
+zeroAfter (suc n) [] = true
+zeroAfter (suc n) (x ∷ l) = zeroAfter n l

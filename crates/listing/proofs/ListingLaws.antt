@@ -5,7 +5,7 @@ use Prim.Native.Nat.{ℕ, zero, suc, _+_, _-_, _≤_, _<_}
 use native.Mathlib.Omega.{arith}
 use lib.ListN.{length, getD, set, drop, drop-of-length-le}
 use borrow.Author.Tests.{lt-ltb, le-ltb, ne-eqb, eq-eqb}
-use Rattle.card.specs.Layout.{nodeAt, kindOf, children, slot-pairs, leafPairs}
+use Rattle.card.specs.Layout.{nodeAt, kindOf, children, slotPairs, leafPairs}
 use Rattle.card.proofs.NodeLaws.{leafFrom, leaf-next}
 use Rattle.soundness.proofs.CheckLaws.{child-drop}
 use Rattle.listing.specs.Listing.{childPairs, nodePairs, onCard, pairsFrom, Laid, laid, layPair, layPairs, laySlot}
@@ -29,7 +29,7 @@ slot-stored key value at words d s = sym (slot-held key value (laid at words) d 
 
 -- ---- the slots of a leaf
 
-lay-slot : (k v : ℕ) (rest : List (ℕ × ℕ)) (l : Laid) → layPairs (slot-pairs (k ∷ []) (v ∷ []) ++ rest) l ≡ layPairs rest (laySlot k v l)
+lay-slot : (k v : ℕ) (rest : List (ℕ × ℕ)) (l : Laid) → layPairs (slotPairs (k ∷ []) (v ∷ []) ++ rest) l ≡ layPairs rest (laySlot k v l)
 unfolding laySlot layPairs
 lay-slot zero v rest l = refl
 lay-slot (suc k) v rest l = refl

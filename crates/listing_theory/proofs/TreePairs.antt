@@ -7,7 +7,7 @@ use native.Mathlib.Omega.{arith}
 use lib.ListN.{length}
 use Rattle.listing.specs.Listing.{childPairs, pairsFrom}
 use Rattle.listing.proofs.ListingLaws.{from-leaf, from-inner}
-use Rattle.tree.specs.Pairs.{pairs, forest-pairs}
+use Rattle.tree.specs.Pairs.{pairs, forestPairs}
 use Rattle.tree.proofs.Pairs.{depth, depths}
 use Rattle.tree.proofs.Reading.{read-kind, leaf-pairs, node-children}
 use Rattle.tree.specs.Represent.{kind, Represents, RepresentsAll}
@@ -39,7 +39,7 @@ module _ (c : List ℕ) (n : ℕ) (len : length c ≡ 8 + 24 * n) where
         ∙ ap₂ (λ (l : ℕ) (ms : List ℕ). childPairs (pairsFrom l c n) ms) e (node-children c m g f r)
         ∙ children-pairs levels f (r .1) (omega arith)
 
-    pub children-pairs : (levels : ℕ) (f : Forest) → RepresentsAll c f → depths f ≤ levels → childPairs (pairsFrom levels c n) (roots f) ≡ forest-pairs f
+    pub children-pairs : (levels : ℕ) (f : Forest) → RepresentsAll c f → depths f ≤ levels → childPairs (pairsFrom levels c n) (roots f) ≡ forestPairs f
     children-pairs levels (one t) r h = child-none (pairsFrom levels c n) (root t) ∙ tree-pairs levels t r h
     children-pairs levels (more t k f) r h =
         child-more (pairsFrom levels c n) (root t) (roots f) ∙ ap₂ (λ (a b : List (ℕ × ℕ)). a ++ b) (tree-pairs levels t (r .0) (omega arith)) (children-pairs levels f (r .1) (omega arith))

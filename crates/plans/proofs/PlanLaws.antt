@@ -7,7 +7,7 @@ use native.Mathlib.Numerals.{add-one}
 use lib.ListN.{length, set, getD, take}
 use lib.Seq.{length-take-le, take-suc, take-suc-set}
 use Rattle.card.specs.Layout.{place, word, nodeImage}
-use Rattle.card.specs.Stores.{Store, stores, NewNode, new-node, node-stores}
+use Rattle.card.specs.Stores.{Store, stores, NewNode, newNode, nodeStores}
 use Rattle.plans.specs.Plan.{storesOf, planIn, Extends}
 use Rattle.laws.specs.Lists.{pad}
 use Rattle.laws.proofs.Lists.{length-pad, getD-pad}
@@ -68,7 +68,7 @@ extends-row p q r at i row words x is few h same e f =
 module _ (p q r s t : Plan) (m at kind : ℕ) (keys values : List ℕ) where
   pub extends-node : at ≡ 8 + 24 * (m - 1) → length keys ≤ 11 → length values ≤ 11
       → Extends p q 1 ((at, kind) ∷ []) → Extends q r 11 (stores (at + 1) (pad 11 keys)) → Extends r s 11 (stores (at + 12) (pad 11 values)) → Extends s t 1 ((at + 23, 0) ∷ [])
-      → Extends p t 24 (node-stores (new-node m kind keys values ∷ []))
+      → Extends p t 24 (nodeStores (newNode m kind keys values ∷ []))
   unfolding nodeImage
   extends-node is fk fv e f g h =
       let inner : stores (suc at) (pad 11 keys ++ (pad 11 values ++ 0 ∷ [])) ≡ stores (at + 1) (pad 11 keys) ++ (stores (at + 12) (pad 11 values) ++ (at + 23, 0) ∷ []) =
@@ -77,24 +77,24 @@ module _ (p q r s t : Plan) (m at kind : ℕ) (keys values : List ℕ) where
       ∙ ap (λ (x : ℕ). stores (at + 1) (pad 11 keys) ++ stores x (pad 11 values ++ 0 ∷ [])) (let z : at + 1 + length (pad 11 keys) ≡ at + 12 = omega (arith, length-pad 11 keys fk) in z)
       ∙ ap (λ (l : List Store). stores (at + 1) (pad 11 keys) ++ l)
       (stores-append (at + 12) (pad 11 values) (0 ∷ []) ∙ ap (λ (x : ℕ). stores (at + 12) (pad 11 values) ++ (x, 0) ∷ []) (let z : at + 12 + length (pad 11 values) ≡ at + 23 = omega (arith, length-pad 11 values fv) in z)) in
-      let whole : node-stores (new-node m kind keys values ∷ []) ≡ stores at (nodeImage kind keys values) =
+      let whole : nodeStores (newNode m kind keys values ∷ []) ≡ stores at (nodeImage kind keys values) =
       append-nil (stores (place m 0) (nodeImage kind keys values)) ∙ ap (λ (x : ℕ). stores x (nodeImage kind keys values)) (let z : place m 0 ≡ at = omega arith in z) in
       subst (Extends p t 24) (sym (whole ∙ ap (λ (l : List Store). (at, kind) ∷ l) inner))
       (extends-then p q t 1 23 _ _ e (extends-then q r t 11 12 _ _ f (extends-then r s t 11 1 _ _ g h)))
 
 -- ---- nodes planned one after the other
 
-node-stores-append : (xs ys : List NewNode) → node-stores (xs ++ ys) ≡ node-stores xs ++ node-stores ys
+node-stores-append : (xs ys : List NewNode) → nodeStores (xs ++ ys) ≡ nodeStores xs ++ nodeStores ys
 node-stores-append [] ys = refl
 node-stores-append (x ∷ xs) ys =
     ap (λ (l : List Store). stores (place (x .number) 0) (nodeImage (x .kind) (x .keys) (x .values)) ++ l) (node-stores-append xs ys)
-    ∙ sym (append-assoc (stores (place (x .number) 0) (nodeImage (x .kind) (x .keys) (x .values))) (node-stores xs) (node-stores ys))
+    ∙ sym (append-assoc (stores (place (x .number) 0) (nodeImage (x .kind) (x .keys) (x .values))) (nodeStores xs) (nodeStores ys))
 
-pub extends-nodes : (p q r : Plan) (a b : ℕ) (xs ys : List NewNode) → Extends p q a (node-stores xs) → Extends q r b (node-stores ys) → Extends p r (a + b) (node-stores (xs ++ ys))
-extends-nodes p q r a b xs ys e f = subst (Extends p r (a + b)) (sym (node-stores-append xs ys)) (extends-then p q r a b (node-stores xs) (node-stores ys) e f)
+pub extends-nodes : (p q r : Plan) (a b : ℕ) (xs ys : List NewNode) → Extends p q a (nodeStores xs) → Extends q r b (nodeStores ys) → Extends p r (a + b) (nodeStores (xs ++ ys))
+extends-nodes p q r a b xs ys e f = subst (Extends p r (a + b)) (sym (node-stores-append xs ys)) (extends-then p q r a b (nodeStores xs) (nodeStores ys) e f)
 
-pub planned-nodes : (empty p : Plan) (k : ℕ) (xs : List NewNode) → storesOf empty ≡ [] → Extends empty p k (node-stores xs) → storesOf p ≡ node-stores xs
-planned-nodes empty p k xs z e = e .listed ∙ ap (λ (l : List Store). l ++ node-stores xs) z
+pub planned-nodes : (empty p : Plan) (k : ℕ) (xs : List NewNode) → storesOf empty ≡ [] → Extends empty p k (nodeStores xs) → storesOf p ≡ nodeStores xs
+planned-nodes empty p k xs z e = e .listed ∙ ap (λ (l : List Store). l ++ nodeStores xs) z
 
 -- one store more
 pub planned-store : (p q : Plan) (stored : List Store) (x v at : ℕ) → storesOf p ≡ stored → x ≡ at → Extends p q 1 ((x, v) ∷ []) → storesOf q ≡ stored ++ (at, v) ∷ []

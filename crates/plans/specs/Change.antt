@@ -4,9 +4,9 @@ use Prim.Native.Nat.{ℕ, suc, _+_, _-_, _/_}
 use lib.ListN.{length, getD, take, drop}
 use lib.Dec.{eqb}
 use Rattle.laws.specs.Cases.{pick}
-use Rattle.laws.specs.Sorting.{Pairs, sort, pair-keys, pair-values, key-at}
+use Rattle.laws.specs.Sorting.{Pairs, sort, pairKeys, pairValues, keyAt}
 use Rattle.card.specs.Layout.{rootPlace, children, routingKeys, leafPairs}
-use Rattle.card.specs.Stores.{Store, NewNode, new-node, node-stores}
+use Rattle.card.specs.Stores.{Store, NewNode, newNode, nodeStores}
 use Rattle.descent.specs.declared.Position.{Position}
 
 -- A change: its new nodes in the order in which they are given and written ("left, right, then above"), the place of the
@@ -19,7 +19,7 @@ pub record Change : Type 0 where
 
 -- "words 0 to 23 of each in order; a single link store, in the parent's child word or in word 4, comes last"
 unfoldable pub changeStores : Change → List Store
-changeStores ch = node-stores (ch .nodes) ++ (ch .link, ch .top) ∷ []
+changeStores ch = nodeStores (ch .nodes) ++ (ch .link, ch .top) ∷ []
 
 -- "under a tagged node (internal if it is the root)": the kind of a node whose number goes to the place
 unfoldable pub kindAbove : ℕ → ℕ
@@ -31,9 +31,9 @@ unfoldable pub splitLeaf : ℕ → ℕ → Pairs → ℕ → ℕ → ℕ → Cha
 splitLeaf m link twelve a b c =
     record {
       nodes =
-          new-node a 1 (pair-keys (take 6 twelve)) (pair-values (take 6 twelve))
-          ∷ new-node b 1 (pair-keys (drop 6 twelve)) (pair-values (drop 6 twelve))
-          ∷ new-node c (kindAbove link) (key-at 6 twelve ∷ []) (a ∷ b ∷ [])
+          newNode a 1 (pairKeys (take 6 twelve)) (pairValues (take 6 twelve))
+          ∷ newNode b 1 (pairKeys (drop 6 twelve)) (pairValues (drop 6 twelve))
+          ∷ newNode c (kindAbove link) (keyAt 6 twelve ∷ []) (a ∷ b ∷ [])
           ∷ [];
       link = link;
       top = c;
@@ -49,7 +49,7 @@ joinedChildren parent i tagged = take i (children parent) ++ (children tagged ++
 
 -- "parent with at most 10 children: a new copy of the parent takes its key and children in"
 unfoldable pub absorb : Position → List ℕ → List ℕ → ℕ → Change
-absorb p keys kids a = record { nodes = new-node a 2 keys kids ∷ []; link = p .above; top = a; cut = p .parent ∷ p .node ∷ [] }
+absorb p keys kids a = record { nodes = newNode a 2 keys kids ∷ []; link = p .above; top = a; cut = p .parent ∷ p .node ∷ [] }
 
 -- "Parent with 11: the 12 children go 6 and 6 into two internal nodes, the middle key above them in a tagged node (internal
 -- if it is the root)"
@@ -57,9 +57,9 @@ unfoldable pub splitParent : Position → List ℕ → List ℕ → ℕ → ℕ 
 splitParent p keys kids a b c =
     record {
       nodes =
-          new-node a 2 (take 5 keys) (take 6 kids)
-          ∷ new-node b 2 (drop 6 keys) (drop 6 kids)
-          ∷ new-node c (kindAbove (p .above)) (getD keys 5 0 ∷ []) (a ∷ b ∷ [])
+          newNode a 2 (take 5 keys) (take 6 kids)
+          ∷ newNode b 2 (drop 6 keys) (drop 6 kids)
+          ∷ newNode c (kindAbove (p .above)) (getD keys 5 0 ∷ []) (a ∷ b ∷ [])
           ∷ [];
       link = p .above;
       top = c;
@@ -74,7 +74,7 @@ pub record Together : Type 0 where
   pub values : List ℕ
 
 unfoldable pub leavesTogether : List ℕ → List ℕ → Together
-leavesTogether x y = record { kind = 1; keys = pair-keys (sort (leafPairs x ++ leafPairs y)); values = pair-values (sort (leafPairs x ++ leafPairs y)) }
+leavesTogether x y = record { kind = 1; keys = pairKeys (sort (leafPairs x ++ leafPairs y)); values = pairValues (sort (leafPairs x ++ leafPairs y)) }
 
 -- "Internal nodes bring the routing key between them down"
 unfoldable pub innersTogether : List ℕ → ℕ → List ℕ → Together
@@ -99,15 +99,15 @@ keyBetween both = getD (both .keys) (leftKeys both) 0
 -- the two nodes that share what there is
 unfoldable pub halves : Together → ℕ → ℕ → List NewNode
 halves both a b =
-    new-node a (both .kind) (take (leftKeys both) (both .keys)) (take (leftValues both) (both .values))
-    ∷ new-node b (both .kind) (drop (leftValues both) (both .keys)) (drop (leftValues both) (both .values))
+    newNode a (both .kind) (take (leftKeys both) (both .keys)) (take (leftValues both) (both .values))
+    ∷ newNode b (both .kind) (drop (leftValues both) (both .keys)) (drop (leftValues both) (both .values))
     ∷ []
 
 -- Children j and j + 1 of a parent are siblings. A copy of the parent, with other keys in the place of the routing key between
 -- them and other children in the place of the two; and the nodes that such a change cuts out.
 unfoldable pub copied : ℕ → List ℕ → ℕ → List ℕ → List ℕ → NewNode
 copied m parent j keys kids =
-    new-node m 2 (take j (routingKeys parent) ++ (keys ++ drop (suc j) (routingKeys parent))) (take j (children parent) ++ (kids ++ drop (suc (suc j)) (children parent)))
+    newNode m 2 (take j (routingKeys parent) ++ (keys ++ drop (suc j) (routingKeys parent))) (take j (children parent) ++ (kids ++ drop (suc (suc j)) (children parent)))
 
 abbrev pub siblingsCut : Position → List ℕ → ℕ → List ℕ
 siblingsCut p parent j = p .parent ∷ getD (children parent) j 0 ∷ getD (children parent) (suc j) 0 ∷ []
@@ -126,7 +126,7 @@ share p parent j both a b c =
 unfoldable pub merge : Position → List ℕ → ℕ → Together → ℕ → ℕ → Change
 merge p parent j both a b =
     record {
-      nodes = new-node a (both .kind) (both .keys) (both .values) ∷ copied b parent j [] (a ∷ []) ∷ [];
+      nodes = newNode a (both .kind) (both .keys) (both .values) ∷ copied b parent j [] (a ∷ []) ∷ [];
       link = p .above;
       top = b;
       cut = siblingsCut p parent j;
@@ -136,7 +136,7 @@ merge p parent j both a b =
 unfoldable pub mergeRoot : Position → List ℕ → ℕ → Together → ℕ → Change
 mergeRoot p parent j both a =
     record {
-      nodes = new-node a (both .kind) (both .keys) (both .values) ∷ [];
+      nodes = newNode a (both .kind) (both .keys) (both .values) ∷ [];
       link = p .above;
       top = a;
       cut = siblingsCut p parent j;

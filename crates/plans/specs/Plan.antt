@@ -6,13 +6,13 @@ use Prim.Native.Nat.{ℕ, _+_, _-_, _*_, _^_, _≤_, _<_}
 use lib.ListN.{length, take}
 use lib.Dec.{eqb}
 use Rattle.card.specs.Layout.{greatestNodes, nodeAt, children}
-use Rattle.card.specs.Stores.{Store, new-node}
+use Rattle.card.specs.Stores.{Store, newNode}
 use Rattle.plans.specs.Change.{Change, kindAbove, Together, keyBetween, halves}
 use Rattle.plans.specs.Planning.{Preparation, refused, balanced, prepared}
 use Rattle.plans.specs.Rows.{wordsOf}
 use Rattle.free_nodes.specs.NodeSet.{nodesOf}
 use Rattle.laws.specs.Cases.{pick}
-use Rattle.laws.specs.Lists.{before-zero}
+use Rattle.laws.specs.Lists.{beforeZero}
 use Rattle.plans.specs.declared.Plan.{Plan}
 use Rattle.plans.specs.declared.Planned.{Planned}
 use Rattle.plans.specs.declared.halves.Pool.{Pool}
@@ -44,7 +44,7 @@ onOutcome Balanced change = balanced
 onOutcome Prepared change = change
 
 unfoldable pub preparationOf : List ℕ → List ℕ → Planned → Preparation
-preparationOf places values r = onOutcome (r .outcome) (prepared (storesOf (planIn places values (r .count))) (nodesOf (r .free .words)) (r .last) (before-zero (r .cut)))
+preparationOf places values r = onOutcome (r .outcome) (prepared (storesOf (planIn places values (r .count))) (nodesOf (r .free .words)) (r .last) (beforeZero (r .cut)))
 
 -- what is planned whatever the rows hold
 abbrev pub InAnyRows : Planned → (List ℕ → List ℕ → Preparation) → Type 0
@@ -77,7 +77,7 @@ pub record Whole (b : Pool) : Type 0 where
 unfoldable pub splitUnder : ℕ → Together → List ℕ → ℕ → ℕ → ℕ → Change
 splitUnder link both cut a b c =
     record {
-      nodes = halves both a b ++ new-node c (kindAbove link) (keyBetween both ∷ []) (a ∷ b ∷ []) ∷ [];
+      nodes = halves both a b ++ newNode c (kindAbove link) (keyBetween both ∷ []) (a ∷ b ∷ []) ∷ [];
       link = link;
       top = c;
       cut = cut;

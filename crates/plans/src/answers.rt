@@ -7,7 +7,7 @@ ghost use mathlib.Core.Path.{_≡_};
 ghost use mathlib.Core.List.{[], _∷_, _++_};
 ghost use Prim.Native.Nat.{_^_, _<_};
 ghost use lib.ListN.{length};
-ghost use Rattle.laws.specs.Lists.{before-zero};
+ghost use Rattle.laws.specs.Lists.{beforeZero};
 ghost use Rattle.free_nodes.specs.NodeSet.{capacity, nodesOf};
 ghost use Rattle.plans.specs.Planning.{refused, balanced, prepared};
 ghost use Rattle.plans.specs.Plan.{planIn, storesOf, preparationOf, InAnyRows};
@@ -62,7 +62,7 @@ pub fn linked(
     cut: [u32; 3],
 ) -> Planned
     requires { ⌜ (count < 73) × (link < 2 ^ 32) × (top < capacity) × (length (now places) ≡ 73) × (length (now values) ≡ 73) ⌝ }
-    ensures { λ r. ⌜ preparationOf (now (places .exit)) (now (values .exit)) r ≡ prepared (storesOf (planIn (now (places .entry)) (now (values .entry)) count) ++ (link, top) ∷ []) (nodesOf (free .words)) top (before-zero cut) ⌝ }
+    ensures { λ r. ⌜ preparationOf (now (places .exit)) (now (values .exit)) r ≡ prepared (storesOf (planIn (now (places .entry)) (now (values .entry)) count) ++ (link, top) ∷ []) (nodesOf (free .words)) top (beforeZero cut) ⌝ }
 {
     let count = push_store(places, values, count, link as u32, top as u32);
     Planned {

@@ -18,8 +18,8 @@ ghost use Prim.Native.Nat.{_+_, _-_, _^_, _≤_, _<_};
 ghost use lib.ListN.{length};
 ghost use lib.Dec.{eqb};
 ghost use Rattle.laws.specs.Cases.{pick};
-ghost use Rattle.laws.specs.Lists.{before-zero};
-ghost use Rattle.card.specs.Stores.{node-stores};
+ghost use Rattle.laws.specs.Lists.{beforeZero};
+ghost use Rattle.card.specs.Stores.{nodeStores};
 ghost use Rattle.free_nodes.specs.NodeSet.{capacity, nodesOf};
 ghost use Rattle.plans.specs.Change.{kindAbove, halves, keyBetween};
 ghost use Rattle.plans.specs.Planning.{giving, first, second, third};
@@ -58,7 +58,7 @@ pub fn append_halves(
     right: usize,
 ) -> usize
     requires { ⌜ (count + 48 ≤ 73) × Whole both × (1 ≤ left) × (left < capacity) × (1 ≤ right) × (right < capacity) × (length (now places) ≡ 73) × (length (now values) ≡ 73) ⌝ }
-    ensures { λ r. ⌜ Extends (planIn (now (places .entry)) (now (values .entry)) count) (planIn (now (places .exit)) (now (values .exit)) r) 48 (node-stores (halves (togetherOf both) left right)) ⌝ }
+    ensures { λ r. ⌜ Extends (planIn (now (places .entry)) (now (values .entry)) count) (planIn (now (places .exit)) (now (values .exit)) r) 48 (nodeStores (halves (togetherOf both) left right)) ⌝ }
 {
     let kind = both.kind;
     let keys = both.keys;
@@ -106,7 +106,7 @@ pub fn split(
     values: &mut [u32],
 ) -> Planned
     requires { ⌜ Whole both × (link < 2 ^ 32) × (length (now places) ≡ 73) × (length (now values) ≡ 73) ⌝ }
-    ensures { λ r. ⌜ preparationOf (now (places .exit)) (now (values .exit)) r ≡ giving 3 (nodesOf (free .words)) last (λ ms. splitUnder link (togetherOf both) (before-zero cut) (first ms) (second ms) (third ms)) ⌝ }
+    ensures { λ r. ⌜ preparationOf (now (places .exit)) (now (values .exit)) r ≡ giving 3 (nodesOf (free .words)) last (λ ms. splitUnder link (togetherOf both) (beforeZero cut) (first ms) (second ms) (third ms)) ⌝ }
 {
     let Three::Nodes(left, right, above) = next_three(free, last) else {
         return refused(free, last);

@@ -7,7 +7,7 @@ ghost use mathlib.Core.Path.{_≡_};
 ghost use Prim.Native.Nat.{_+_, _≤_, _<_, _^_};
 ghost use lib.ListN.{length};
 ghost use Rattle.laws.specs.Lists.{pad};
-ghost use Rattle.card.specs.Stores.{stores, new-node, node-stores};
+ghost use Rattle.card.specs.Stores.{stores, newNode, nodeStores};
 ghost use Rattle.free_nodes.specs.NodeSet.{capacity};
 ghost use Rattle.plans.specs.Rows.{wordsOf};
 ghost use Rattle.plans.specs.Plan.{planIn, Extends};
@@ -53,7 +53,7 @@ pub fn append_node(
     beside: Words,
 ) -> usize
     requires { ⌜ (count + 24 ≤ 73) × (1 ≤ m) × (m < capacity) × (keys .count ≤ 11) × (beside .count ≤ 11) × (length (now places) ≡ 73) × (length (now values) ≡ 73) ⌝ }
-    ensures { λ r. ⌜ Extends (planIn (now (places .entry)) (now (values .entry)) count) (planIn (now (places .exit)) (now (values .exit)) r) 24 (node-stores (new-node m kind (wordsOf keys) (wordsOf beside) ∷ [])) ⌝ }
+    ensures { λ r. ⌜ Extends (planIn (now (places .entry)) (now (values .entry)) count) (planIn (now (places .exit)) (now (values .exit)) r) 24 (nodeStores (newNode m kind (wordsOf keys) (wordsOf beside) ∷ [])) ⌝ }
 {
     let at = (8 + 24 * (m - 1)) as u32;
     let with_kind = push_store(places, values, count, at, kind);

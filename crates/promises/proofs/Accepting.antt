@@ -9,7 +9,7 @@ use native.Mathlib.Decide.{ℕ-discrete}
 use lib.ListN.{length, getD}
 use borrow.Author.Tests.{ne-eqb, eq-eqb}
 use Rattle.descent.specs.declared.Way.{Way}
-use Rattle.promises.proofs.Feeding.{dictionary-answer}
+use Rattle.promises.proofs.Feeding.{dictionaryAnswer}
 use Rattle.lookup.specs.Answers.{foundReply}
 use Rattle.state.specs.Answers.{stepReply}
 use Rattle.lookup.specs.Find.{foundIn, foundAt, findOf}
@@ -33,7 +33,7 @@ use Rattle.soundness.specs.Check.{Findings, tableCheck}
 use Rattle.soundness_theory.proofs.Facts.{Facts}
 use Rattle.soundness_theory.proofs.Soundness.{accepts-sound, sound-accepted}
 use Rattle.tree.specs.Pairs.{pairs, lookup}
-use Rattle.tree.proofs.Path.{depth-of}
+use Rattle.tree.proofs.Path.{depthOf}
 use Rattle.tree.specs.Tree.{Tree}
 use Rattle.tree.specs.WellFormed.{WellFormed}
 use Rattle.descent.specs.declared.Slot.{Slot}
@@ -83,7 +83,7 @@ accepted-openable c t a w = go (sound-accepted c (nodesOfLength (length c)) (k .
         broken : f .violated ≡ true → Openable (nodesOfLength (length c)) t
         broken q =
             let v = x .violation q in
-            record { free = f .free; exact = facts-exact x; key = f .key; deep = depth-of (v .0 .context); ready = violated (v .0) (omega (arith, x .violated, bit-true (f .violated) q)) (omega (arith, room, v .1)) }
+            record { free = f .free; exact = facts-exact x; key = f .key; deep = depthOf (v .0 .context); ready = violated (v .0) (omega (arith, x .violated, bit-true (f .violated) q)) (omega (arith, room, v .1)) }
 
         whole : f .violated ≡ false → Openable (nodesOfLength (length c)) t
         whole q = record { free = f .free; exact = facts-exact x; key = f .key; deep = 0; ready = settled (omega (arith, x .violated, bit-false (f .violated) q)) (omega (arith, room)) }
@@ -94,12 +94,12 @@ find-is : (c : List ℕ) (n key : ℕ) → cardRefusal c ≡ 0 → nodesOfLength
 unfolding findOf
 find-is c n key e en h = rw (e, en, ne-eqb key 0 (omega arith))
 
-found-is : (words : List ℕ) (s : Slot) → foundReply (foundIn words s) ≡ stepReply (dictionary-answer (slotAnswer words s))
-unfolding foundIn slotAnswer foundReply stepReply dictionary-answer
+found-is : (words : List ℕ) (s : Slot) → foundReply (foundIn words s) ≡ stepReply (dictionaryAnswer (slotAnswer words s))
+unfolding foundIn slotAnswer foundReply stepReply dictionaryAnswer
 found-is words (At i) = refl
 found-is words NoSlot = refl
 
-pub find-answers : (c : List ℕ) (n : ℕ) (t : Tree) (key : ℕ) → Table c n t → 0 < key → key < keyLimit → foundReply (findOf c key) ≡ stepReply (dictionary-answer (lookup key (pairs t)))
+pub find-answers : (c : List ℕ) (n : ℕ) (t : Tree) (key : ℕ) → Table c n t → 0 < key → key < keyLimit → foundReply (findOf c key) ≡ stepReply (dictionaryAnswer (lookup key (pairs t)))
 unfolding foundAt
 find-answers c n t key b h l =
     let a = card-accepted (b .sized) (b .header) in
@@ -108,4 +108,4 @@ find-answers c n t key b h l =
     ∙ ap (λ (x : ℕ). foundReply (foundAt c key (leafFor c n key depthLimit x))) (b .holds .0)
     ∙ ap (λ (x : Way). foundReply (foundAt c key x)) (f .found)
     ∙ found-is (nodeAt c (f .number)) (slotOf (nodeAt c (f .number)) key)
-    ∙ ap (λ (x : Option ℕ). stepReply (dictionary-answer x)) (f .answers)
+    ∙ ap (λ (x : Option ℕ). stepReply (dictionaryAnswer x)) (f .answers)

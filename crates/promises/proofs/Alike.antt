@@ -21,7 +21,7 @@ use Rattle.descent.specs.declared.Landing.the-variants.{Leaf as LandingAt}
 use Rattle.free_nodes.specs.NodeSet.{countTrue}
 use Rattle.laws.specs.Cases.{pick}
 use Rattle.laws.proofs.Cases.{order, bool-cases, impossible}
-use Rattle.promises.proofs.Feeding.{begun-result, step-result, update-key, dictionary-answer, due-after, due-after-start, stored-due}
+use Rattle.promises.proofs.Feeding.{begunResult, stepResult, updateKey, dictionaryAnswer, dueAfter, dueAfterStart, stored-due}
 use Rattle.promises.proofs.FirstChanges.{leads-reach}
 use Rattle.promises.proofs.Invariant.{Inv}
 use Rattle.promises.proofs.Ledger.{Update, Ledger, put, remove, empty, was-final}
@@ -31,7 +31,7 @@ use Rattle.promises.proofs.Reopen.{table-depth-limited}
 use Rattle.promises.proofs.RoomLaws.{room-at}
 use Rattle.promises.proofs.Shapes.{afterShape}
 use Rattle.promises.proofs.Starting.{idle-or-busy, goalAfter, same-lookup, nodes-same, room-decides, kept-insert, kept-delete}
-use Rattle.promises.proofs.Stepping.{final-due, right-final, Moves, kept-step, was-idle, ends-now, goes-further}
+use Rattle.promises.proofs.Stepping.{finalDue, right-final, Moves, kept-step, was-idle, ends-now, goes-further}
 use Rattle.promises.proofs.Steps.{memory}
 use Rattle.shapes.proofs.Bare.{bare, bare-pairs, bare-size}
 use Rattle.shapes.proofs.Need.{leafNeed, needOf, need-leaf}
@@ -45,11 +45,11 @@ use Rattle.state.specs.declared.Begun.the-variants.{Started, Refused as BegunRe
 use Rattle.state.specs.declared.Doing.the-variants.{Idle, Inserting, Deleting}
 use Rattle.table.specs.Calls.{stepOf}
 use Rattle.tree.specs.Pairs.{pairs, lookup}
-use Rattle.tree.proofs.Path.{full-run}
+use Rattle.tree.proofs.Path.{fullRun}
 use Rattle.tree.proofs.Reading.{leaf-keys}
-use Rattle.tree.proofs.Represent.{link-place}
-use Rattle.tree.specs.Tree.{Tree, node-total}
-use Rattle.tree.specs.Violations.{table-violations}
+use Rattle.tree.proofs.Represent.{linkPlace}
+use Rattle.tree.specs.Tree.{Tree, nodeTotal}
+use Rattle.tree.specs.Violations.{tableViolations}
 use Rattle.updates.specs.Updates.{landing, insertReason, reasonIn, emptyReason, splitNeed, roomFor, startRoom}
 
 -- what a whole call comes to
@@ -67,7 +67,7 @@ event (remove key) = delete key
 
 -- steps that store, and then the one that gives the final answer
 pub data Ends : World → World → Answer → Type 0 where
-  ends-here : {w : World} {a : Answer} → stepOf (w .card) (w .memory) .answer ≡ a → step-result a ≡ was-final → Ends w (happens step w) a
+  ends-here : {w : World} {a : Answer} → stepOf (w .card) (w .memory) .answer ≡ a → stepResult a ≡ was-final → Ends w (happens step w) a
   stores-first : {w v : World} {a : Answer} → stepOf (w .card) (w .memory) .answer ≡ Stored → Ends (happens step w) v a → Ends w v a
 
 -- a whole call, and a list of them: "each call .. runs to its end before the next, without cuts"
@@ -81,20 +81,20 @@ pub data Runs : List Update → World → World → List Outcome → Type 0 wher
 
 -- ---- the function: what is refused, answered and left, by the tree without numbers
 
-abbrev pub is-absent : Option ℕ → Bool
-is-absent none = true
-is-absent (some v) = false
+abbrev pub isAbsent : Option ℕ → Bool
+isAbsent none = true
+isAbsent (some v) = false
 
 abbrev pub both : Bool → Bool → Bool
 both true b = b
 both false b = false
 
 unfoldable pub refuses : ℕ → Update → Tree → Bool
-refuses n (put key value) t = both (is-absent (lookup key (pairs t))) (ltb n (node-total (λ m. 1) t + needOf key 0 t))
+refuses n (put key value) t = both (isAbsent (lookup key (pairs t))) (ltb n (nodeTotal (λ m. 1) t + needOf key 0 t))
 refuses n (remove key) t = false
 
 unfoldable pub outcome : ℕ → Update → Tree → Outcome
-outcome n u t = pick (refuses n u t) (refused 8) (answered (dictionary-answer (lookup (update-key u) (pairs t))))
+outcome n u t = pick (refuses n u t) (refused 8) (answered (dictionaryAnswer (lookup (updateKey u) (pairs t))))
 
 unfoldable pub leaves : ℕ → Update → Tree → Tree
 leaves n u t = pick (refuses n u t) t (afterShape u t)
@@ -109,8 +109,8 @@ pub record Resting (n : ℕ) (w : World) (t : Tree) : Type 0 where
   pub idle : w .memory .doing ≡ Idle
   pub goal : inv .goal ≡ t
 
-not-goes-on : _≡_ {A = Answer} Stored Stored → step-result Stored ≡ was-final → ⊥
-unfolding step-result
+not-goes-on : _≡_ {A = Answer} Stored Stored → stepResult Stored ≡ was-final → ⊥
+unfolding stepResult
 not-goes-on e q = impossible (cc)
 
 after-idle : (w : World) → stepOf (w .card) (w .memory) .memory .doing ≡ Idle → happens step w .memory .doing ≡ Idle
@@ -118,24 +118,24 @@ unfolding happens
 after-idle w e = e
 
 -- the work in hand ends with the answer due, and at its goal
-pub ends-at : {w v : World} {a : Answer} → Ends w v a → (n steps : ℕ) (b : Ledger) (due : Option Answer) (i : Inv n steps w b due) (goal : Tree) → i .goal ≡ goal → isIdle (w .memory .doing) ≡ false → (a ≡ final-due due) × Resting n v goal
+pub ends-at : {w v : World} {a : Answer} → Ends w v a → (n steps : ℕ) (b : Ledger) (due : Option Answer) (i : Inv n steps w b due) (goal : Tree) → i .goal ≡ goal → isIdle (w .memory .doing) ≡ false → (a ≡ finalDue due) × Resting n v goal
 ends-at {w} {v} {a} (ends-here e f) n steps b due i goal eg busy =
     let q = kept-step n steps w b due (loosen n steps (suc steps) w b due (omega arith) i) in
-    let f′ : step-result (stepOf (w .card) (w .memory) .answer) ≡ was-final = ap step-result e ∙ f in
+    let f′ : stepResult (stepOf (w .card) (w .memory) .answer) ≡ was-final = ap stepResult e ∙ f in
     (sym e ∙ right-final (q .1) f′, record { steps = steps; book = _; due = _; inv = q .0 .0; idle = after-idle w (at (q .2) f′); goal = q .0 .1 ∙ loosen-goal n steps (suc steps) w b due (omega arith) i ∙ eg })
   where
-    at : Moves (w .card) (w .memory) (stepOf (w .card) (w .memory)) → step-result (stepOf (w .card) (w .memory) .answer) ≡ was-final → stepOf (w .card) (w .memory) .memory .doing ≡ Idle
+    at : Moves (w .card) (w .memory) (stepOf (w .card) (w .memory)) → stepResult (stepOf (w .card) (w .memory) .answer) ≡ was-final → stepOf (w .card) (w .memory) .memory .doing ≡ Idle
     at (was-idle d) g = absurd (idle-not-busy (w .memory .doing) d busy)
     at (ends-now d same idle) g = idle
-    at (goes-further s d) g = absurd (not-goes-on refl (sym (ap step-result s) ∙ g))
+    at (goes-further s d) g = absurd (not-goes-on refl (sym (ap stepResult s) ∙ g))
 ends-at {w} {v} {a} (stores-first e rest) n steps b due i goal eg busy =
     let q = kept-step n steps w b due (loosen n steps (suc steps) w b due (omega arith) i) in
-    let r = ends-at rest n steps _ (due-after step w b due) (q .0 .0) goal (q .0 .1 ∙ loosen-goal n steps (suc steps) w b due (omega arith) i ∙ eg) (at (q .2)) in
-    (r .0 ∙ ap final-due (stored-due w b due e), r .1)
+    let r = ends-at rest n steps _ (dueAfter step w b due) (q .0 .0) goal (q .0 .1 ∙ loosen-goal n steps (suc steps) w b due (omega arith) i ∙ eg) (at (q .2)) in
+    (r .0 ∙ ap finalDue (stored-due w b due e), r .1)
   where
     at : Moves (w .card) (w .memory) (stepOf (w .card) (w .memory)) → isIdle (happens step w .memory .doing) ≡ false
     at (was-idle d) = absurd (idle-not-busy (w .memory .doing) d busy)
-    at (ends-now d same idle) = absurd (not-goes-on refl (sym (ap step-result e) ∙ d))
+    at (ends-now d same idle) = absurd (not-goes-on refl (sym (ap stepResult e) ∙ d))
     at (goes-further s d) = after-step w d
 
 -- ---- the start, by the room
@@ -145,15 +145,15 @@ module _ (n steps : ℕ) (w : World) (b : Ledger) (due : Option Answer) (i : Inv
   t = bare (i .tree)
 
   -- the tree at rest is the goal, and the bits count the room
-  pub resting-goal : (bare (i .tree) ≡ i .goal) × (countTrue (w .memory .free) + node-total (λ m. 1) (bare (i .tree)) ≡ n)
+  pub resting-goal : (bare (i .tree) ≡ i .goal) × (countTrue (w .memory .free) + nodeTotal (λ m. 1) (bare (i .tree)) ≡ n)
   resting-goal = at (idle-or-busy (i .stage) .1)
     where
-      at : (isIdle (w .memory .doing) ≡ false) ⊎ ((free : List Bool) × (last : ℕ) × (w .memory ≡ memory n free last Idle [] []) × (b .in-hand ≡ empty) × (due ≡ none) × (table-violations (i .tree) ≡ 0) × (3 ≤ countTrue free) × Exact n free (i .tree) × (bare (i .tree) ≡ i .goal)) → (bare (i .tree) ≡ i .goal) × (countTrue (w .memory .free) + node-total (λ m. 1) (bare (i .tree)) ≡ n)
+      at : (isIdle (w .memory .doing) ≡ false) ⊎ ((free : List Bool) × (last : ℕ) × (w .memory ≡ memory n free last Idle [] []) × (b .inHand ≡ empty) × (due ≡ none) × (tableViolations (i .tree) ≡ 0) × (3 ≤ countTrue free) × Exact n free (i .tree) × (bare (i .tree) ≡ i .goal)) → (bare (i .tree) ≡ i .goal) × (countTrue (w .memory .free) + nodeTotal (λ m. 1) (bare (i .tree)) ≡ n)
       at (inl q) = absurd (idle-not-busy (w .memory .doing) idle q)
       at (inr (free, last, em, eh, ed, z, r, x, eg)) =
           (eg, rw em (omega (arith, bare-size (i .tree), count-exact (w .card) n free (i .tree) (i .table .sized .words) (omega (arith, i .table .sized .most)) (i .table .holds .2) x)))
 
-  landed : (key : ℕ) (g : LandedAt (w .card) n key (i .tree)) → landing (w .card) (w .memory .nodes) key ≡ LandingAt (g .number) (link-place (g .context)) (full-run (g .context))
+  landed : (key : ℕ) (g : LandedAt (w .card) n key (i .tree)) → landing (w .card) (w .memory .nodes) key ≡ LandingAt (g .number) (linkPlace (g .context)) (fullRun (g .context))
   unfolding landing
   landed key g = rw (nodes-same n steps w b due i) (g .landed)
 
@@ -166,7 +166,7 @@ module _ (n steps : ℕ) (w : World) (b : Ledger) (due : Option Answer) (i : Inv
   room-by-tree key value low high = go (landing-found (w .card) n key (i .table .sized .words) lowestKey keyLimit (i .tree) (i .table .holds) (i .table .sound .range) low high (omega arith) (table-depth-limited (i .table)))
     where
       go : LandedAt (w .card) n key (i .tree) → startRoom (w .card) key (w .memory .free) (landing (w .card) (w .memory .nodes) key) ≡ not (refuses n (put key value) t)
-      go g = room-at (w .card) (w .memory .nodes) key (w .memory .free) (g .number) (link-place (g .context)) (full-run (g .context)) (landed key g) ∙ by-key (slotOf (nodeAt (w .card) (g .number)) key) refl
+      go g = room-at (w .card) (w .memory .nodes) key (w .memory .free) (g .number) (linkPlace (g .context)) (fullRun (g .context)) (landed key g) ∙ by-key (slotOf (nodeAt (w .card) (g .number)) key) refl
         where
           found : (s : Slot) → slotOf (nodeAt (w .card) (g .number)) key ≡ s → lookup key (pairs t) ≡ slotAnswer (nodeAt (w .card) (g .number)) s
           found s e = ap (lookup key) (bare-pairs (i .tree)) ∙ sym (g .answers) ∙ ap (slotAnswer (nodeAt (w .card) (g .number))) e
@@ -174,26 +174,26 @@ module _ (n steps : ℕ) (w : World) (b : Ledger) (due : Option Answer) (i : Inv
           row : (k : ℕ) → firstEqual (g .keys) k 0 ≡ slotOf (nodeAt (w .card) (g .number)) k
           row k = row-slot key k g
 
-          need : (s : Slot) → slotOf (nodeAt (w .card) (g .number)) 0 ≡ s → needOf key 0 t ≡ leafNeed s (full-run (g .context))
-          need s e = ap (λ (x : Tree). needOf key 0 (bare x)) (sym (g .is-tree)) ∙ need-leaf key (g .context) (g .number) (g .keys) (g .values) (leads-reach key (g .context) (g .leads)) ∙ ap (λ (x : Slot). leafNeed x (full-run (g .context))) (row 0 ∙ e)
+          need : (s : Slot) → slotOf (nodeAt (w .card) (g .number)) 0 ≡ s → needOf key 0 t ≡ leafNeed s (fullRun (g .context))
+          need s e = ap (λ (x : Tree). needOf key 0 (bare x)) (sym (g .is-tree)) ∙ need-leaf key (g .context) (g .number) (g .keys) (g .values) (leads-reach key (g .context) (g .leads)) ∙ ap (λ (x : Slot). leafNeed x (fullRun (g .context))) (row 0 ∙ e)
 
           by-empty : (s : Slot) → slotOf (nodeAt (w .card) (g .number)) 0 ≡ s → slotOf (nodeAt (w .card) (g .number)) key ≡ NoSlot
-              → roomFor (w .memory .free) (full-run (g .context)) (insertReason (nodeAt (w .card) (g .number)) key) ≡ not (both (is-absent (lookup key (pairs t))) (ltb n (node-total (λ m. 1) t + needOf key 0 t)))
-          by-empty (At j) e₀ e = rw (e, e₀, found NoSlot e, need (At j) e₀, le-ltb n (node-total (λ m. 1) t + 0) (omega (arith, resting-goal .1)))
+              → roomFor (w .memory .free) (fullRun (g .context)) (insertReason (nodeAt (w .card) (g .number)) key) ≡ not (both (isAbsent (lookup key (pairs t))) (ltb n (nodeTotal (λ m. 1) t + needOf key 0 t)))
+          by-empty (At j) e₀ e = rw (e, e₀, found NoSlot e, need (At j) e₀, le-ltb n (nodeTotal (λ m. 1) t + 0) (omega (arith, resting-goal .1)))
           by-empty NoSlot e₀ e =
               let c = resting-goal .1 in
               rw (e, e₀, found NoSlot e, need NoSlot e₀)
-              (ap not (order (countTrue (w .memory .free)) (splitNeed (full-run (g .context)))
-              (λ o. lt-ltb (countTrue (w .memory .free)) (splitNeed (full-run (g .context))) o ∙ sym (lt-ltb n (node-total (λ m. 1) t + (splitNeed (full-run (g .context)))) (omega arith)))
-              (λ o. le-ltb (countTrue (w .memory .free)) (splitNeed (full-run (g .context))) o ∙ sym (le-ltb n (node-total (λ m. 1) t + (splitNeed (full-run (g .context)))) (omega arith)))))
+              (ap not (order (countTrue (w .memory .free)) (splitNeed (fullRun (g .context)))
+              (λ o. lt-ltb (countTrue (w .memory .free)) (splitNeed (fullRun (g .context))) o ∙ sym (lt-ltb n (nodeTotal (λ m. 1) t + (splitNeed (fullRun (g .context)))) (omega arith)))
+              (λ o. le-ltb (countTrue (w .memory .free)) (splitNeed (fullRun (g .context))) o ∙ sym (le-ltb n (nodeTotal (λ m. 1) t + (splitNeed (fullRun (g .context)))) (omega arith)))))
 
           by-key : (s : Slot) → slotOf (nodeAt (w .card) (g .number)) key ≡ s
-              → roomFor (w .memory .free) (full-run (g .context)) (insertReason (nodeAt (w .card) (g .number)) key) ≡ not (both (is-absent (lookup key (pairs t))) (ltb n (node-total (λ m. 1) t + needOf key 0 t)))
+              → roomFor (w .memory .free) (fullRun (g .context)) (insertReason (nodeAt (w .card) (g .number)) key) ≡ not (both (isAbsent (lookup key (pairs t))) (ltb n (nodeTotal (λ m. 1) t + needOf key 0 t)))
           by-key (At j) e = rw (e, found (At j) e)
           by-key NoSlot e = by-empty (slotOf (nodeAt (w .card) (g .number)) 0) refl e
 
   -- an update starts, or is refused 8
-  pub start-decided : (u : Update) → lowestKey ≤ update-key u → update-key u < keyLimit → (r : Bool) → refuses n u t ≡ r → starts u w ≡ pick r (BegunRefused 8) Started
+  pub start-decided : (u : Update) → lowestKey ≤ updateKey u → updateKey u < keyLimit → (r : Bool) → refuses n u t ≡ r → starts u w ≡ pick r (BegunRefused 8) Started
   unfolding refuses insertOf deleteOf started startRefused
   start-decided (put key value) low high r e =
       let d = room-decides n steps w b due i key (Inserting key value false) (startRoom (w .card) key (w .memory .free)) idle low high in
@@ -207,19 +207,19 @@ module _ (n steps : ℕ) (w : World) (b : Ledger) (due : Option Answer) (i : Inv
   start-decided (remove key) low high false e = ap (λ (x : Handed). x .begun) (room-decides n steps w b due i key (Deleting key false 0) (λ x. true) idle low high)
 
   -- what a start that is not refused leaves
-  pub begun-right : (u : Update) → update-key u < keyLimit → starts u w ≡ Started
-      → (k : ℕ) × (l : Ledger) × (d : Option Answer) × (j : Inv n k (happens (event u) w) l d) × (j .goal ≡ afterShape u (i .goal)) × (final-due d ≡ dictionary-answer (lookup (update-key u) (pairs t))) × (isIdle (happens (event u) w .memory .doing) ≡ false)
-  unfolding happens due-after due-after-start begun-result goalAfter
+  pub begun-right : (u : Update) → updateKey u < keyLimit → starts u w ≡ Started
+      → (k : ℕ) × (l : Ledger) × (d : Option Answer) × (j : Inv n k (happens (event u) w) l d) × (j .goal ≡ afterShape u (i .goal)) × (finalDue d ≡ dictionaryAnswer (lookup (updateKey u) (pairs t))) × (isIdle (happens (event u) w .memory .doing) ≡ false)
+  unfolding happens dueAfter dueAfterStart begunResult goalAfter
   begun-right (put key value) high e =
       let q = kept-insert n steps w b due i key value high in
       let g : q .2 .0 .goal ≡ afterShape (put key value) (i .goal) = q .2 .1 ∙ ap (λ (x : Begun). goalAfter x (put key value) (i .goal)) e in
-      let d : final-due (due-after (insert key value) w b due) ≡ dictionary-answer (lookup key (b .held)) = ap (λ (x : Begun). final-due (due-after-start (begun-result x) (put key value) (b .held) due)) e in
-      (q .0, _, _, q .2 .0, g, d ∙ ap dictionary-answer (sym (same-lookup i key) ∙ ap (lookup key) (sym (bare-pairs (i .tree)))), q .1 .busy e)
+      let d : finalDue (dueAfter (insert key value) w b due) ≡ dictionaryAnswer (lookup key (b .held)) = ap (λ (x : Begun). finalDue (dueAfterStart (begunResult x) (put key value) (b .held) due)) e in
+      (q .0, _, _, q .2 .0, g, d ∙ ap dictionaryAnswer (sym (same-lookup i key) ∙ ap (lookup key) (sym (bare-pairs (i .tree)))), q .1 .busy e)
   begun-right (remove key) high e =
       let q = kept-delete n steps w b due i key high in
       let g : q .2 .0 .goal ≡ afterShape (remove key) (i .goal) = q .2 .1 ∙ ap (λ (x : Begun). goalAfter x (remove key) (i .goal)) e in
-      let d : final-due (due-after (delete key) w b due) ≡ dictionary-answer (lookup key (b .held)) = ap (λ (x : Begun). final-due (due-after-start (begun-result x) (remove key) (b .held) due)) e in
-      (q .0, _, _, q .2 .0, g, d ∙ ap dictionary-answer (sym (same-lookup i key) ∙ ap (lookup key) (sym (bare-pairs (i .tree)))), q .1 .busy e)
+      let d : finalDue (dueAfter (delete key) w b due) ≡ dictionaryAnswer (lookup key (b .held)) = ap (λ (x : Begun). finalDue (dueAfterStart (begunResult x) (remove key) (b .held) due)) e in
+      (q .0, _, _, q .2 .0, g, d ∙ ap dictionaryAnswer (sym (same-lookup i key) ∙ ap (lookup key) (sym (bare-pairs (i .tree)))), q .1 .busy e)
 
 refused-same : {r s : ℕ} → _≡_ {A = Begun} (BegunRefused r) (BegunRefused s) → r ≡ s
 refused-same e = cc
@@ -228,12 +228,12 @@ outcome-refused : (n : ℕ) (u : Update) (t : Tree) → refuses n u t ≡ true �
 unfolding outcome leaves
 outcome-refused n u t e = (rw e, rw e)
 
-outcome-answered : (n : ℕ) (u : Update) (t : Tree) → refuses n u t ≡ false → (outcome n u t ≡ answered (dictionary-answer (lookup (update-key u) (pairs t)))) × (leaves n u t ≡ afterShape u t)
+outcome-answered : (n : ℕ) (u : Update) (t : Tree) → refuses n u t ≡ false → (outcome n u t ≡ answered (dictionaryAnswer (lookup (updateKey u) (pairs t)))) × (leaves n u t ≡ afterShape u t)
 unfolding outcome leaves
 outcome-answered n u t e = (rw e, rw e)
 
 -- ONE WHOLE UPDATE: its outcome, and what it leaves, are functions of N and of the tree without numbers
-pub one-whole : {u : Update} {w v : World} {o : Outcome} → Whole u w v o → (n : ℕ) (t : Tree) → Resting n w t → lowestKey ≤ update-key u → update-key u < keyLimit → (o ≡ outcome n u t) × Resting n v (leaves n u t)
+pub one-whole : {u : Update} {w v : World} {o : Outcome} → Whole u w v o → (n : ℕ) (t : Tree) → Resting n w t → lowestKey ≤ updateKey u → updateKey u < keyLimit → (o ≡ outcome n u t) × Resting n v (leaves n u t)
 one-whole {u} (not-begun {w} r e) n t x low high =
     let i = x .inv in
     let now : bare (i .tree) ≡ t = resting-goal n (x .steps) w (x .book) (x .due) i (x .idle) .0 ∙ x .goal in
@@ -248,7 +248,7 @@ one-whole {u} (worked {w} {v} {a} e ends) n t x low high =
     (λ d. let q = begun-right n (x .steps) w (x .book) (x .due) i (x .idle) u high e in
     let z = outcome-answered n u t d in
     let y = ends-at ends n (q .0) (q .1) (q .2) (q .3) (afterShape u t) (q .4 ∙ ap (afterShape u) (x .goal)) (q .6) in
-    (ap answered (y .0 ∙ q .5 ∙ ap (λ (p : Tree). dictionary-answer (lookup (update-key u) (pairs p))) now) ∙ sym (z .0), rw (z .1) (y .1)))
+    (ap answered (y .0 ∙ q .5 ∙ ap (λ (p : Tree). dictionaryAnswer (lookup (updateKey u) (pairs p))) now) ∙ sym (z .0), rw (z .1) (y .1)))
 
 -- ---- lists of calls
 
@@ -256,15 +256,15 @@ abbrev pub outcomes : ℕ → List Update → Tree → List Outcome
 outcomes n [] t = []
 outcomes n (u ∷ us) t = outcome n u t ∷ outcomes n us (leaves n u t)
 
-abbrev pub left-by : ℕ → List Update → Tree → Tree
-left-by n [] t = t
-left-by n (u ∷ us) t = left-by n us (leaves n u t)
+abbrev pub shapeLeft : ℕ → List Update → Tree → Tree
+shapeLeft n [] t = t
+shapeLeft n (u ∷ us) t = shapeLeft n us (leaves n u t)
 
 abbrev pub Keys : List Update → Type 0
 Keys [] = Unit
-Keys (u ∷ us) = (lowestKey ≤ update-key u) × (update-key u < keyLimit) × Keys us
+Keys (u ∷ us) = (lowestKey ≤ updateKey u) × (updateKey u < keyLimit) × Keys us
 
-pub whole-runs : {us : List Update} {w v : World} {os : List Outcome} → Runs us w v os → (n : ℕ) (t : Tree) → Resting n w t → Keys us → (os ≡ outcomes n us t) × Resting n v (left-by n us t)
+pub whole-runs : {us : List Update} {w v : World} {os : List Outcome} → Runs us w v os → (n : ℕ) (t : Tree) → Resting n w t → Keys us → (os ≡ outcomes n us t) × Resting n v (shapeLeft n us t)
 whole-runs no-more n t x k = (refl, x)
 whole-runs (one-more {u} {us} c rest) n t x k =
     let p = one-whole c n t x (k .0) (k .1) in
@@ -274,4 +274,4 @@ whole-runs (one-more {u} {us} c rest) n t x k =
 -- NODE NUMBERS DO NOT MATTER: two tables of the same N whose trees are alike give the same outcomes to the same calls, and stay alike
 pub same-outcomes : {us : List Update} {w v w′ v′ : World} {os os′ : List Outcome} → Runs us w v os → Runs us w′ v′ os′ → (n : ℕ) (t : Tree) → Resting n w t → Resting n w′ t → Keys us
     → (os ≡ os′) × (s : Tree) × Resting n v s × Resting n v′ s
-same-outcomes {us} a b n t x y k = let p = whole-runs a n t x k in let q = whole-runs b n t y k in (p .0 ∙ sym (q .0), left-by n us t, p .1, q .1)
+same-outcomes {us} a b n t x y k = let p = whole-runs a n t x k in let q = whole-runs b n t y k in (p .0 ∙ sym (q .0), shapeLeft n us t, p .1, q .1)

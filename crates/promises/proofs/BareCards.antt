@@ -3,10 +3,10 @@ use mathlib.Core.Path.{_≡_, refl}
 use mathlib.Core.List.{[], _∷_}
 use mathlib.Core.Bool.{false}
 use Rattle.descent.specs.Descent.{firstEqual}
-use Rattle.laws.specs.Sorting.{insert-pair, insert-all, sort}
+use Rattle.laws.specs.Sorting.{insertPair, insertAll, sort}
 use Rattle.plans.specs.Change.{half}
-use Rattle.promises.proofs.Alike.{refused, answered, refuses, outcome, leaves, left-by}
-use Rattle.promises.proofs.Feeding.{dictionary-answer}
+use Rattle.promises.proofs.Alike.{refused, answered, refuses, outcome, leaves, shapeLeft}
+use Rattle.promises.proofs.Feeding.{dictionaryAnswer}
 use Rattle.promises.proofs.Ledger.{put, remove}
 use Rattle.promises.proofs.Shapes.{firstShape, afterShape}
 use Rattle.shapes.proofs.Need.{leafNeed, needOf, needIn}
@@ -28,7 +28,7 @@ split =
     (one (leaf 0 (7 ∷ 8 ∷ 9 ∷ 10 ∷ 11 ∷ 12 ∷ 0 ∷ 0 ∷ 0 ∷ 0 ∷ 0 ∷ []) (70 ∷ 80 ∷ 90 ∷ 100 ∷ 110 ∷ 120 ∷ 0 ∷ 0 ∷ 0 ∷ 0 ∷ 0 ∷ []))))
 
 card-I : (outcome 6 (put 12 120) eleven ≡ answered Absent) × (leaves 6 (put 12 120) eleven ≡ split)
-unfolding outcome leaves refuses needOf needIn leafNeed firstEqual dictionary-answer afterShape firstShape changedBy changedIn putIn putAt sort insert-all insert-pair settledBy few
+unfolding outcome leaves refuses needOf needIn leafNeed firstEqual dictionaryAnswer afterShape firstShape changedBy changedIn putIn putAt sort insertAll insertPair settledBy few
 card-I = (refl, refl)
 
 -- J: with N = 5, refused 8
@@ -43,11 +43,11 @@ shared =
     (more (leaf 0 (6 ∷ 7 ∷ 8 ∷ 9 ∷ 0 ∷ 0 ∷ 0 ∷ 0 ∷ 0 ∷ 0 ∷ 0 ∷ []) (60 ∷ 70 ∷ 80 ∷ 90 ∷ 0 ∷ 0 ∷ 0 ∷ 0 ∷ 0 ∷ 0 ∷ 0 ∷ [])) 10
     (one (leaf 0 (10 ∷ 11 ∷ 12 ∷ 0 ∷ 0 ∷ 0 ∷ 0 ∷ 0 ∷ 0 ∷ 0 ∷ 0 ∷ []) (100 ∷ 110 ∷ 120 ∷ 0 ∷ 0 ∷ 0 ∷ 0 ∷ 0 ∷ 0 ∷ 0 ∷ 0 ∷ []))))
 
-card-K : left-by 6 (remove 1 ∷ remove 2 ∷ remove 3 ∷ remove 4 ∷ remove 5 ∷ []) split ≡ shared
-unfolding leaves refuses firstEqual afterShape firstShape changedBy changedIn takeOut takeAt sort insert-all insert-pair settledBy few apart repairedBy repairedIn mendAt siblingsOf mendTwo mendLeaves half
+card-K : shapeLeft 6 (remove 1 ∷ remove 2 ∷ remove 3 ∷ remove 4 ∷ remove 5 ∷ []) split ≡ shared
+unfolding leaves refuses firstEqual afterShape firstShape changedBy changedIn takeOut takeAt sort insertAll insertPair settledBy few apart repairedBy repairedIn mendAt siblingsOf mendTwo mendLeaves half
 card-K = refl
 
 -- L2: then delete 7, 8, 10, 9: the root is a leaf with 6, 11, 12
-card-L2 : left-by 6 (remove 7 ∷ remove 8 ∷ remove 10 ∷ remove 9 ∷ []) shared ≡ leaf 0 (6 ∷ 11 ∷ 12 ∷ 0 ∷ 0 ∷ 0 ∷ 0 ∷ 0 ∷ 0 ∷ 0 ∷ 0 ∷ []) (60 ∷ 110 ∷ 120 ∷ 0 ∷ 0 ∷ 0 ∷ 0 ∷ 0 ∷ 0 ∷ 0 ∷ 0 ∷ [])
-unfolding leaves refuses firstEqual afterShape firstShape changedBy changedIn takeOut takeAt sort insert-all insert-pair settledBy few apart repairedBy repairedIn mendAt siblingsOf mendTwo mendLeaves half
+card-L2 : shapeLeft 6 (remove 7 ∷ remove 8 ∷ remove 10 ∷ remove 9 ∷ []) shared ≡ leaf 0 (6 ∷ 11 ∷ 12 ∷ 0 ∷ 0 ∷ 0 ∷ 0 ∷ 0 ∷ 0 ∷ 0 ∷ 0 ∷ []) (60 ∷ 110 ∷ 120 ∷ 0 ∷ 0 ∷ 0 ∷ 0 ∷ 0 ∷ 0 ∷ 0 ∷ 0 ∷ [])
+unfolding leaves refuses firstEqual afterShape firstShape changedBy changedIn takeOut takeAt sort insertAll insertPair settledBy few apart repairedBy repairedIn mendAt siblingsOf mendTwo mendLeaves half
 card-L2 = refl

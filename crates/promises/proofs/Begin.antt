@@ -13,7 +13,7 @@ use Rattle.descent.specs.Descent.{slotOf}
 use Rattle.free_nodes.specs.NodeSet.{countTrue}
 use Rattle.laws.proofs.Cases.{order, impossible}
 use Rattle.laws.specs.Sorting.{sort}
-use Rattle.promises.proofs.Feeding.{is-none, full-at, leaf-full}
+use Rattle.promises.proofs.Feeding.{isNone, fullAt, leafFull}
 use Rattle.promises.proofs.Machine.{run}
 use Rattle.table.specs.Calls.{stepPrepared, stepBegin}
 use Rattle.state.specs.Memory.{Memory}
@@ -56,10 +56,10 @@ module _ (c : List ℕ) (n key : ℕ) (m link run : ℕ) (land : landing c n key
       never : countTrue free < splitNeed run → not (ltb (countTrue free) (splitNeed run)) ≡ true → ⊥
       never o q = let k : _≡_ {A = Bool} false true = rw (lt-ltb (countTrue free) (splitNeed run) o) at q in impossible (cc)
 
-  pub flag-slot : (i : ℕ) → slotOf (nodeAt c m) 0 ≡ At i → leaf-full c n key ≡ false
-  unfolding leaf-full full-at is-none
+  pub flag-slot : (i : ℕ) → slotOf (nodeAt c m) 0 ≡ At i → leafFull c n key ≡ false
+  unfolding leafFull fullAt isNone
   flag-slot i e = rw (land, e)
 
-  pub flag-full : slotOf (nodeAt c m) 0 ≡ NoSlot → leaf-full c n key ≡ true
-  unfolding leaf-full full-at is-none
+  pub flag-full : slotOf (nodeAt c m) 0 ≡ NoSlot → leafFull c n key ≡ true
+  unfolding leafFull fullAt isNone
   flag-full e = rw (land, e)

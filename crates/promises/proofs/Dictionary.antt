@@ -21,7 +21,7 @@ use Rattle.card.specs.Replies.{Reply, ready}
 use Rattle.card.specs.Header.{nodesOfLength}
 use Rattle.card.specs.Layout.{keyLimit, depthLimit}
 use Rattle.promises.proofs.Accepting.{accepted-card, accepted-table, accepted-openable}
-use Rattle.promises.proofs.Feeding.{begun-result, kept-ledger, dictionary-answer, due-after-start, due-after, kept-due}
+use Rattle.promises.proofs.Feeding.{begunResult, keptLedger, dictionaryAnswer, dueAfterStart, dueAfter, keptDue}
 use Rattle.promises.proofs.Finished.{work-finishes, finishes-within, work-not-refused, inv-rests}
 use Rattle.promises.proofs.Finishing.{updateStores, updateStoresAt, Finishes}
 use Rattle.promises.proofs.Ledger.{ledger, empty}
@@ -41,7 +41,7 @@ use Rattle.laws.proofs.Cases.{impossible}
 module _ (w : World) (l : List (ℕ × ℕ)) (begins : Begins w l) (es : List Event) (words : Words es) where
   -- After any list of events, a step that gives a final answer gives the one due: "ready" where opening's repair is in progress,
   -- and for an update what the dictionary answered when it was started, the value held under its key or "absent".
-  pub answers-right : Right (stepOf (run es w .card) (run es w .memory) .answer) (kept-due es w (ledger l empty) none)
+  pub answers-right : Right (stepOf (run es w .card) (run es w .memory) .answer) (keptDue es w (ledger l empty) none)
   answers-right = let k = kept-from w l begins es words in kept-step (k .0) (k .1) (run es w) _ _ (loosen (k .0) (k .1) (suc (k .1)) (run es w) _ _ (omega arith) (k .2)) .1
 
   -- While something is being done no step is refused: free nodes do not run out, and no store is outside the card.
@@ -53,19 +53,19 @@ module _ (w : World) (l : List (ℕ × ℕ)) (begins : Begins w l) (es : List Ev
   -- dictionary's, by the pairs held when it was started.
   module _ (t : Tree) (sound : WellFormed (run es w .card) t) (h : ℕ) (level : Height h t) where
     pub insert-finishes-by-depth : (key value : ℕ) → key < keyLimit → insertOf (run es w .card) (run es w .memory) key value .begun ≡ Started
-        → Finishes (updateStoresAt h) (stepReply (dictionary-answer (lookup key (kept-ledger es w (ledger l empty) .held)))) (happens (insert key value) (run es w))
-    unfolding happens due-after due-after-start begun-result
+        → Finishes (updateStoresAt h) (stepReply (dictionaryAnswer (lookup key (keptLedger es w (ledger l empty) .held)))) (happens (insert key value) (run es w))
+    unfolding happens dueAfter dueAfterStart begunResult
     insert-finishes-by-depth key value high e =
         let k = kept-from w l begins es words in
-        let q = kept-insert (k .0) (k .1) (run es w) (kept-ledger es w (ledger l empty)) (kept-due es w (ledger l empty) none) (k .2) key value high in
+        let q = kept-insert (k .0) (k .1) (run es w) (keptLedger es w (ledger l empty)) (keptDue es w (ledger l empty) none) (k .2) key value high in
         rw e at (work-finishes (k .0) (q .0) (updateStoresAt h) (happens (insert key value) (run es w)) _ _ (q .2 .0) (q .1 .busy e) (omega (arith, q .1 .steps-left e t sound h level)))
 
     pub delete-finishes-by-depth : (key : ℕ) → key < keyLimit → deleteOf (run es w .card) (run es w .memory) key .begun ≡ Started
-        → Finishes (updateStoresAt h) (stepReply (dictionary-answer (lookup key (kept-ledger es w (ledger l empty) .held)))) (happens (delete key) (run es w))
-    unfolding happens due-after due-after-start begun-result
+        → Finishes (updateStoresAt h) (stepReply (dictionaryAnswer (lookup key (keptLedger es w (ledger l empty) .held)))) (happens (delete key) (run es w))
+    unfolding happens dueAfter dueAfterStart begunResult
     delete-finishes-by-depth key high e =
         let k = kept-from w l begins es words in
-        let q = kept-delete (k .0) (k .1) (run es w) (kept-ledger es w (ledger l empty)) (kept-due es w (ledger l empty) none) (k .2) key high in
+        let q = kept-delete (k .0) (k .1) (run es w) (keptLedger es w (ledger l empty)) (keptDue es w (ledger l empty) none) (k .2) key high in
         rw e at (work-finishes (k .0) (q .0) (updateStoresAt h) (happens (delete key) (run es w)) _ _ (q .2 .0) (q .1 .busy e) (omega (arith, q .1 .steps-left e t sound h level)))
 
   -- "With 600 nodes a balanced tree has at most 8 internal levels"
@@ -78,13 +78,13 @@ module _ (w : World) (l : List (ℕ × ℕ)) (begins : Begins w l) (es : List Ev
 
   -- "an update stores at most 73 × 9 = 657 words"
   pub insert-finishes : (key value : ℕ) → key < keyLimit → insertOf (run es w .card) (run es w .memory) key value .begun ≡ Started
-      → Finishes updateStores (stepReply (dictionary-answer (lookup key (kept-ledger es w (ledger l empty) .held)))) (happens (insert key value) (run es w))
+      → Finishes updateStores (stepReply (dictionaryAnswer (lookup key (keptLedger es w (ledger l empty) .held)))) (happens (insert key value) (run es w))
   insert-finishes key value high e =
       let k = kept-from w l begins es words in
       within-bound (kept-insert (k .0) (k .1) (run es w) _ _ (k .2) key value high .1 .idle-before e) (λ t sound h level. insert-finishes-by-depth t sound h level key value high e)
 
   pub delete-finishes : (key : ℕ) → key < keyLimit → deleteOf (run es w .card) (run es w .memory) key .begun ≡ Started
-      → Finishes updateStores (stepReply (dictionary-answer (lookup key (kept-ledger es w (ledger l empty) .held)))) (happens (delete key) (run es w))
+      → Finishes updateStores (stepReply (dictionaryAnswer (lookup key (keptLedger es w (ledger l empty) .held)))) (happens (delete key) (run es w))
   delete-finishes key high e =
       let k = kept-from w l begins es words in
       within-bound (kept-delete (k .0) (k .1) (run es w) _ _ (k .2) key high .1 .idle-before e) (λ t sound h level. delete-finishes-by-depth t sound h level key high e)

@@ -12,7 +12,7 @@ use Rattle.card.specs.Replies.{Reply}
 use Rattle.tree.specs.FreeNodes.{Exact}
 use Rattle.free_nodes.specs.NodeSet.{countTrue}
 use Rattle.promises.proofs.Machine.{Event, World, happens, run, find, insert, delete, step, crash}
-use Rattle.promises.proofs.Promise.{Quiet, steps-in, MapIs}
+use Rattle.promises.proofs.Promise.{Quiet, stepsIn, MapIs}
 use Rattle.tree.specs.Height.{Height}
 use Rattle.tree.specs.Tree.{Tree}
 use Rattle.tree.specs.WellFormed.{Balanced}
@@ -33,13 +33,13 @@ stores Absent = 0
 stores (Value v) = 0
 stores (Refused r) = 0
 
-unfoldable pub stores-in : List Event → World → ℕ
-stores-in [] w = 0
-stores-in (find key ∷ es) w = stores-in es (happens (find key) w)
-stores-in (insert key value ∷ es) w = stores-in es (happens (insert key value) w)
-stores-in (delete key ∷ es) w = stores-in es (happens (delete key) w)
-stores-in (step ∷ es) w = stores (stepOf (w .card) (w .memory) .answer) + stores-in es (happens step w)
-stores-in (crash ∷ es) w = stores-in es (happens crash w)
+unfoldable pub storesIn : List Event → World → ℕ
+storesIn [] w = 0
+storesIn (find key ∷ es) w = storesIn es (happens (find key) w)
+storesIn (insert key value ∷ es) w = storesIn es (happens (insert key value) w)
+storesIn (delete key ∷ es) w = storesIn es (happens (delete key) w)
+storesIn (step ∷ es) w = stores (stepOf (w .card) (w .memory) .answer) + storesIn es (happens step w)
+storesIn (crash ∷ es) w = storesIn es (happens crash w)
 
 -- the next step stores nothing, "gives the final answer and makes the state idle"
 pub record Answers (final : Reply) (w : World) : Type 0 where
@@ -53,9 +53,9 @@ pub record Answers (final : Reply) (w : World) : Type 0 where
 pub record Finishes (most : ℕ) (final : Reply) (w : World) : Type 0 where
   pub count : ℕ
   pub few-stores : count ≤ most
-  pub each-stores : (qs : List Event) → Quiet qs w → steps-in qs ≤ count → stores-in qs w ≡ steps-in qs
-  pub then-answers : (qs : List Event) → Quiet qs w → steps-in qs ≡ count → Answers final (run qs w)
-  pub then-idle : (qs : List Event) → Quiet qs w → count < steps-in qs → (run qs w .memory .doing ≡ Idle) × (stores-in qs w ≡ count)
+  pub each-stores : (qs : List Event) → Quiet qs w → stepsIn qs ≤ count → storesIn qs w ≡ stepsIn qs
+  pub then-answers : (qs : List Event) → Quiet qs w → stepsIn qs ≡ count → Answers final (run qs w)
+  pub then-idle : (qs : List Event) → Quiet qs w → count < stepsIn qs → (run qs w .memory .doing ≡ Idle) × (storesIn qs w ≡ count)
 
 -- What an idle state has: a table whose map is these pairs.
 pub record Rests (w : World) (l : List (ℕ × ℕ)) : Type 0 where

@@ -13,7 +13,7 @@ use Rattle.change_theory.proofs.Plays.{Openable, Changing}
 use Rattle.change_theory.proofs.Repaired.{Mendable}
 use Rattle.change_theory.proofs.Rewritten.{Sound}
 use Rattle.free_nodes.specs.NodeSet.{countTrue}
-use Rattle.promises.proofs.Feeding.{leaf-full, dictionary-answer}
+use Rattle.promises.proofs.Feeding.{leafFull, dictionaryAnswer}
 use Rattle.promises.proofs.Finishing.{updateStoresAt}
 use Rattle.promises.proofs.Ledger.{Update, Hand, Ledger, deciding, put, remove, empty, hand}
 use Rattle.promises.proofs.LedgerLaws.{Enters, Same}
@@ -32,7 +32,7 @@ use Rattle.tree.specs.Pairs.{pairs, lookup}
 use Rattle.tree.specs.Represent.{Holds}
 use Rattle.tree.specs.Height.{Height}
 use Rattle.tree.specs.Tree.{Tree}
-use Rattle.tree.specs.Violations.{table-violations}
+use Rattle.tree.specs.Violations.{tableViolations}
 
 -- a card with n nodes that holds the tree
 pub record Table (c : List ℕ) (n : ℕ) (t : Tree) : Type 0 where
@@ -59,13 +59,13 @@ pub record UpdateSteps (t : Tree) (steps : ℕ) : Type 0 where
   pub enough : updateStoresAt height + 1 ≤ steps
 
 pub data Stage (c : List ℕ) (n : ℕ) (t goal : Tree) (steps : ℕ) : Memory → Hand → Option Answer → Type 0 where
-  stage-idle : {free : List Bool} {last : ℕ} → table-violations t ≡ 0 → 3 ≤ countTrue free → Exact n free t → bare t ≡ goal
+  stage-idle : {free : List Bool} {last : ℕ} → tableViolations t ≡ 0 → 3 ≤ countTrue free → Exact n free t → bare t ≡ goal
       → Stage c n t goal steps (record { nodes = n; free = free; last = last; doing = Idle; rest = []; cut = [] }) empty none
   -- started: nothing is planned yet
-  stage-put : {free : List Bool} {last key value : ℕ} → table-violations t ≡ 0 → 3 ≤ countTrue free → Exact n free t → lowestKey ≤ key → key < keyLimit → startRoom c key free (landing c n key) ≡ true → UpdateSteps t steps → afterShape (put key value) (bare t) ≡ goal
-      → Stage c n t goal steps (record { nodes = n; free = free; last = last; doing = Inserting key value false; rest = []; cut = [] }) (hand (put key value) (leaf-full c n key) 0 false) (some (dictionary-answer (lookup key (pairs t))))
-  stage-remove : {free : List Bool} {last key : ℕ} → table-violations t ≡ 0 → 3 ≤ countTrue free → Exact n free t → lowestKey ≤ key → key < keyLimit → UpdateSteps t steps → afterShape (remove key) (bare t) ≡ goal
-      → Stage c n t goal steps (record { nodes = n; free = free; last = last; doing = Deleting key false 0; rest = []; cut = [] }) (hand (remove key) false 0 false) (some (dictionary-answer (lookup key (pairs t))))
+  stage-put : {free : List Bool} {last key value : ℕ} → tableViolations t ≡ 0 → 3 ≤ countTrue free → Exact n free t → lowestKey ≤ key → key < keyLimit → startRoom c key free (landing c n key) ≡ true → UpdateSteps t steps → afterShape (put key value) (bare t) ≡ goal
+      → Stage c n t goal steps (record { nodes = n; free = free; last = last; doing = Inserting key value false; rest = []; cut = [] }) (hand (put key value) (leafFull c n key) 0 false) (some (dictionaryAnswer (lookup key (pairs t))))
+  stage-remove : {free : List Bool} {last key : ℕ} → tableViolations t ≡ 0 → 3 ≤ countTrue free → Exact n free t → lowestKey ≤ key → key < keyLimit → UpdateSteps t steps → afterShape (remove key) (bare t) ≡ goal
+      → Stage c n t goal steps (record { nodes = n; free = free; last = last; doing = Deleting key false 0; rest = []; cut = [] }) (hand (remove key) false 0 false) (some (dictionaryAnswer (lookup key (pairs t))))
   -- the first change of an update, whose last store enters it
   stage-first : {free : List Bool} {last key : ℕ} {doing : Doing} {final : Answer} {u : Update} {f : Bool} {k : ℕ} {cut : List ℕ} {s : Store} {rest : List Store} → Job doing key final (some u) → (p : Changing c n key t (s ∷ rest) free cut) → Enters u (pairs t) (pairs (p .next))
       → k + suc (length rest) ≡ deciding u f → suc (length rest) + (73 * p .level + 1) ≤ steps → Heads (p .level) (bare (p .next)) goal
@@ -85,7 +85,7 @@ pub record Inv (n steps : ℕ) (w : World) (b : Ledger) (due : Option Answer) : 
   pub same : Same (pairs tree) (b .held)
   -- what the work in hand comes to, without numbers
   pub goal : Tree
-  pub stage : Stage (w .card) n tree goal steps (w .memory) (b .in-hand) due
+  pub stage : Stage (w .card) n tree goal steps (w .memory) (b .inHand) due
 
 -- the invariant, with this goal
 abbrev pub Toward : Tree → ℕ → ℕ → World → Ledger → Option Answer → Type 0

@@ -5,24 +5,24 @@ use mathlib.Core.Bool.{Bool}
 use Prim.Native.Nat.{ℕ, _+_, _≤_, _<_}
 use native.Mathlib.Omega.{arith}
 use lib.ListN.{length}
-use Rattle.card.specs.Layout.{lowestKey, keyLimit, slot-pairs}
+use Rattle.card.specs.Layout.{lowestKey, keyLimit, slotPairs}
 use Rattle.plans.specs.Planning.{balanced}
 use Rattle.tree.specs.FreeNodes.{Exact}
 use Rattle.change_theory.proofs.Parent.{violations-part}
 use Rattle.change_theory.proofs.Repaired.{Mendable, settled, violated}
 use Rattle.change_theory.proofs.Reshape.{reshaped, balanced-untagged, leaf-reshape}
-use Rattle.change_theory.proofs.Rewrite.{violations-in, own-in}
+use Rattle.change_theory.proofs.Rewrite.{violationsIn, ownIn}
 use Rattle.change_theory.proofs.Rewritten.{Sound}
 use Rattle.descent_theory.proofs.Routing.{Leads, leads-on-path}
 use Rattle.free_nodes.specs.NodeSet.{countTrue}
 use Rattle.laws.proofs.Cases.{order}
 use Rattle.laws.specs.Totals.{indicator}
 use Rattle.tree.specs.Pairs.{LeafRange}
-use Rattle.tree.proofs.Path.{OnPath, depth-of, own-violation, reserve}
-use Rattle.tree.specs.Tree.{Tree, node-total, leaf}
+use Rattle.tree.proofs.Path.{OnPath, depthOf, ownViolation, reserve}
+use Rattle.tree.specs.Tree.{Tree, nodeTotal, leaf}
 use Rattle.tree.proofs.Tree.{Context, plug, total-plug, top, down}
 use Rattle.tree.proofs.Violations.{below, few-zero}
-use Rattle.tree.specs.Violations.{few, table-violations}
+use Rattle.tree.specs.Violations.{few, tableViolations}
 
 -- what holds of the table with the changed leaf
 pub record LeafAfter (n key : ℕ) (free : List Bool) (C : Context) (s : Tree) : Type 0 where
@@ -30,35 +30,35 @@ pub record LeafAfter (n key : ℕ) (free : List Bool) (C : Context) (s : Tree) :
   pub exact : Exact n free (plug C s)
   pub level : ℕ
   pub ready : Mendable key free (plug C s) level
-  pub shallow : level ≤ depth-of C
+  pub shallow : level ≤ depthOf C
 
 -- a part that is the table's only possible violation
-pub ready-after : (key : ℕ) (free : List Bool) (C : Context) (s : Tree) → table-violations (plug C s) ≡ own-in C s → own-in C s ≤ 1 → OnPath key C → 3 + reserve C s ≤ countTrue free → (level : ℕ) × Mendable key free (plug C s) level × (level ≤ depth-of C)
+pub ready-after : (key : ℕ) (free : List Bool) (C : Context) (s : Tree) → tableViolations (plug C s) ≡ ownIn C s → ownIn C s ≤ 1 → OnPath key C → 3 + reserve C s ≤ countTrue free → (level : ℕ) × Mendable key free (plug C s) level × (level ≤ depthOf C)
 ready-after key free top s v o p r = (0, settled v (omega arith), omega arith)
 ready-after key free (down C m g l r) s v o p room =
-    order 0 (own-violation s)
-    (λ a. (depth-of (down C m g l r), violated (record { context = down C m g l r; part = s; is-tree = refl; inside = tt; own = omega arith; on-path = p }) (omega arith) room, omega arith))
+    order 0 (ownViolation s)
+    (λ a. (depthOf (down C m g l r), violated (record { context = down C m g l r; part = s; is-tree = refl; inside = tt; own = omega arith; on-path = p }) (omega arith) room, omega arith))
     (λ a. (0, settled (omega arith) (omega arith), omega arith))
 
-module _ (n key : ℕ) (free : List Bool) (C : Context) (m : ℕ) (ks vs : List ℕ) (sound : Sound (plug C (leaf m ks vs))) (balanced : table-violations (plug C (leaf m ks vs)) ≡ 0) (exact : Exact n free (plug C (leaf m ks vs)))
+module _ (n key : ℕ) (free : List Bool) (C : Context) (m : ℕ) (ks vs : List ℕ) (sound : Sound (plug C (leaf m ks vs))) (balanced : tableViolations (plug C (leaf m ks vs)) ≡ 0) (exact : Exact n free (plug C (leaf m ks vs)))
     (room : 3 ≤ countTrue free) (leads : Leads key C) (low : lowestKey ≤ key) (high : key < keyLimit)
   where
     pub on-path : OnPath key C
     on-path = leads-on-path key C leads (balanced-untagged C (leaf m ks vs) (sound .widths) balanced)
 
     -- below the root its leaf has two pairs or more
-    pub two-pairs : below C → 2 ≤ length (slot-pairs ks vs)
-    two-pairs b = few-zero (length (slot-pairs ks vs)) (at C b (violations-part C (leaf m ks vs)))
+    pub two-pairs : below C → 2 ≤ length (slotPairs ks vs)
+    two-pairs b = few-zero (length (slotPairs ks vs)) (at C b (violations-part C (leaf m ks vs)))
       where
-        at : (D : Context) → below D → violations-in D (leaf m ks vs) ≤ table-violations (plug C (leaf m ks vs)) → few (length (slot-pairs ks vs)) ≡ 0
+        at : (D : Context) → below D → violationsIn D (leaf m ks vs) ≤ tableViolations (plug C (leaf m ks vs)) → few (length (slotPairs ks vs)) ≡ 0
         at top b q = absurd b
         at (down D i g l r) b q = omega arith
 
-    pub leaf-after : (ks′ vs′ : List ℕ) → ((a b : ℕ) → a ≤ key → key < b → LeafRange a b (slot-pairs ks vs) → LeafRange a b (slot-pairs ks′ vs′)) → (below C → 1 ≤ length (slot-pairs ks′ vs′)) → LeafAfter n key free C (leaf m ks′ vs′)
+    pub leaf-after : (ks′ vs′ : List ℕ) → ((a b : ℕ) → a ≤ key → key < b → LeafRange a b (slotPairs ks vs) → LeafRange a b (slotPairs ks′ vs′)) → (below C → 1 ≤ length (slotPairs ks′ vs′)) → LeafAfter n key free C (leaf m ks′ vs′)
     leaf-after ks′ vs′ range some-pair =
         let r = leaf-reshape C m ks vs ks′ vs′ key range some-pair in
         let q = reshaped C (leaf m ks vs) (leaf m ks′ vs′) key [] [] r sound balanced leads low high (λ i. omega (arith, sound .once i)) in
-        let e : (i : ℕ) → node-total (indicator i) (plug C (leaf m ks′ vs′)) ≡ node-total (indicator i) (plug C (leaf m ks vs)) = λ i. omega (arith, total-plug (indicator i) C (leaf m ks vs), total-plug (indicator i) C (leaf m ks′ vs′)) in
+        let e : (i : ℕ) → nodeTotal (indicator i) (plug C (leaf m ks′ vs′)) ≡ nodeTotal (indicator i) (plug C (leaf m ks vs)) = λ i. omega (arith, total-plug (indicator i) C (leaf m ks vs), total-plug (indicator i) C (leaf m ks′ vs′)) in
         let d = ready-after key free C (leaf m ks′ vs′) (q .1) (r .at-most-one) on-path (omega arith) in
         record {
           sound = q .0;

@@ -12,8 +12,8 @@ use Rattle.laws.proofs.Cases.{bool-cases}
 use Rattle.laws.specs.Cases.{pick}
 use Rattle.laws.proofs.Totals.{indicator-same, indicator-other, indicator-zero}
 use Rattle.laws.specs.Totals.{total}
-use Rattle.promises.proofs.Ledger.{Update, added-unless, added, taken-out, entered, put, remove}
-use Rattle.tree.specs.Pairs.{lookup, has-key}
+use Rattle.promises.proofs.Ledger.{Update, addedUnless, added, takenOut, entered, put, remove}
+use Rattle.tree.specs.Pairs.{lookup, hasKey}
 use Rattle.tree.proofs.Pairs.{lookup-none}
 
 -- one set of pairs
@@ -37,42 +37,42 @@ pub record Enters (u : Update) (a b : List (ℕ × ℕ)) : Type 0 where
 abbrev off : ℕ → (ℕ × ℕ → ℕ) → ℕ × ℕ → ℕ
 off k w p = pick (eqb k (p .0)) 0 (w p)
 
-out-total : (w : ℕ × ℕ → ℕ) (k : ℕ) (l : List (ℕ × ℕ)) → total w (taken-out k l) ≡ total (off k w) l
-unfolding taken-out
+out-total : (w : ℕ × ℕ → ℕ) (k : ℕ) (l : List (ℕ × ℕ)) → total w (takenOut k l) ≡ total (off k w) l
+unfolding takenOut
 out-total w k [] = refl
 out-total w k (p ∷ l) = let r = out-total w k l in bool-cases (eqb k (p .0)) (λ e. rw e (omega arith)) (λ e. rw e (omega arith))
 
-off-none : (w : ℕ × ℕ → ℕ) (k : ℕ) (l : List (ℕ × ℕ)) → total (has-key k) l ≡ 0 → total (off k w) l ≡ total w l
+off-none : (w : ℕ × ℕ → ℕ) (k : ℕ) (l : List (ℕ × ℕ)) → total (hasKey k) l ≡ 0 → total (off k w) l ≡ total w l
 off-none w k [] h = refl
 off-none w k (p ∷ l) h = rw (ne-eqb k (p .0) (λ e. indicator-zero k (p .0) (omega arith) (sym e))) (omega (arith, off-none w k l (omega arith)))
 
-lookup-held : (k : ℕ) (l : List (ℕ × ℕ)) → 0 < total (has-key k) l → (v : ℕ) × (lookup k l ≡ some v)
+lookup-held : (k : ℕ) (l : List (ℕ × ℕ)) → 0 < total (hasKey k) l → (v : ℕ) × (lookup k l ≡ some v)
 lookup-held k [] h = absurd (omega arith)
 lookup-held k (p ∷ l) h =
     by-cases (ℕ-discrete k (p .0))
     (λ e. (p .1, rw (eq-eqb k (p .0) e)))
     (λ d. let r = lookup-held k l (omega (arith, indicator-other k (p .0) d)) in (r .0, rw (ne-eqb k (p .0) d) (r .1)))
 
-added-new : (k v : ℕ) (l : List (ℕ × ℕ)) → total (has-key k) l ≡ 0 → added k v l ≡ (k, v) ∷ l
-unfolding added added-unless
-added-new k v l h = ap (λ (x : Option ℕ). added-unless x k v l) (lookup-none k l h)
+added-new : (k v : ℕ) (l : List (ℕ × ℕ)) → total (hasKey k) l ≡ 0 → added k v l ≡ (k, v) ∷ l
+unfolding added addedUnless
+added-new k v l h = ap (λ (x : Option ℕ). addedUnless x k v l) (lookup-none k l h)
 
-added-old : (k v : ℕ) (l : List (ℕ × ℕ)) → 0 < total (has-key k) l → added k v l ≡ l
-unfolding added added-unless
-added-old k v l h = ap (λ (x : Option ℕ). added-unless x k v l) (lookup-held k l h .1)
+added-old : (k v : ℕ) (l : List (ℕ × ℕ)) → 0 < total (hasKey k) l → added k v l ≡ l
+unfolding added addedUnless
+added-old k v l h = ap (λ (x : Option ℕ). addedUnless x k v l) (lookup-held k l h .1)
 
-pub enters-put : (k v : ℕ) (a b : List (ℕ × ℕ)) → total (has-key k) a ≡ 0 → ((w : ℕ × ℕ → ℕ) → total w b ≡ w (k, v) + total w a) → Enters (put k v) a b
+pub enters-put : (k v : ℕ) (a b : List (ℕ × ℕ)) → total (hasKey k) a ≡ 0 → ((w : ℕ × ℕ → ℕ) → total w b ≡ w (k, v) + total w a) → Enters (put k v) a b
 unfolding entered
-enters-put k v a b z h = record { to = λ l s. record { totals = λ w. rw (added-new k v l (sym (s .totals (has-key k)) ∙ z)) (omega (arith, h w, s .totals w)) } }
+enters-put k v a b z h = record { to = λ l s. record { totals = λ w. rw (added-new k v l (sym (s .totals (hasKey k)) ∙ z)) (omega (arith, h w, s .totals w)) } }
 
-pub enters-held : (k v : ℕ) (a : List (ℕ × ℕ)) → 0 < total (has-key k) a → Enters (put k v) a a
+pub enters-held : (k v : ℕ) (a : List (ℕ × ℕ)) → 0 < total (hasKey k) a → Enters (put k v) a a
 unfolding entered
-enters-held k v a h = record { to = λ l s. record { totals = λ w. rw (added-old k v l (omega (arith, s .totals (has-key k)))) (s .totals w) } }
+enters-held k v a h = record { to = λ l s. record { totals = λ w. rw (added-old k v l (omega (arith, s .totals (hasKey k)))) (s .totals w) } }
 
-pub enters-remove : (k x : ℕ) (a b : List (ℕ × ℕ)) → total (has-key k) a ≤ 1 → ((w : ℕ × ℕ → ℕ) → total w a ≡ w (k, x) + total w b) → Enters (remove k) a b
+pub enters-remove : (k x : ℕ) (a b : List (ℕ × ℕ)) → total (hasKey k) a ≤ 1 → ((w : ℕ × ℕ → ℕ) → total w a ≡ w (k, x) + total w b) → Enters (remove k) a b
 unfolding entered
 enters-remove k x a b o h =
-    let gone : total (has-key k) b ≡ 0 = omega (arith, h (has-key k), indicator-same k) in
+    let gone : total (hasKey k) b ≡ 0 = omega (arith, h (hasKey k), indicator-same k) in
     record {
       to = λ l s. record {
         totals = λ w.
@@ -81,9 +81,9 @@ enters-remove k x a b o h =
       };
     }
 
-pub enters-gone : (k : ℕ) (a : List (ℕ × ℕ)) → total (has-key k) a ≡ 0 → Enters (remove k) a a
+pub enters-gone : (k : ℕ) (a : List (ℕ × ℕ)) → total (hasKey k) a ≡ 0 → Enters (remove k) a a
 unfolding entered
-enters-gone k a z = record { to = λ l s. record { totals = λ w. s .totals w ∙ sym (out-total w k l ∙ off-none w k l (sym (s .totals (has-key k)) ∙ z)) } }
+enters-gone k a z = record { to = λ l s. record { totals = λ w. s .totals w ∙ sym (out-total w k l ∙ off-none w k l (sym (s .totals (hasKey k)) ∙ z)) } }
 
 -- before it, the pairs may be rearranged
 pub enters-from : {u : Update} {a a′ b : List (ℕ × ℕ)} → Same a a′ → Enters u a b → Enters u a′ b

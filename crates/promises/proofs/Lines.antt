@@ -4,8 +4,8 @@ use mathlib.Core.Path.{_≡_, refl, ap₂}
 use mathlib.Core.List.{List, [], _∷_}
 use Prim.Native.Nat.{ℕ, _≤_, _<_}
 use Rattle.card.specs.Layout.{lowestKey, keyLimit}
-use Rattle.promises.proofs.Alike.{Outcome, outcome, leaves, outcomes, left-by}
-use Rattle.promises.proofs.Feeding.{update-key}
+use Rattle.promises.proofs.Alike.{Outcome, outcome, leaves, outcomes, shapeLeft}
+use Rattle.promises.proofs.Feeding.{updateKey}
 use Rattle.promises.proofs.Ledger.{Update}
 use Rattle.tree.specs.Tree.{Tree}
 
@@ -31,14 +31,14 @@ pub data Works (World : Type 0) (Whole : Line → Update → World → World →
 
 abbrev pub AllKeys : List (Line × Update) → Type 0
 AllKeys [] = Unit
-AllKeys (u ∷ us) = (lowestKey ≤ update-key (u .1)) × (update-key (u .1) < keyLimit) × AllKeys us
+AllKeys (u ∷ us) = (lowestKey ≤ updateKey (u .1)) × (updateKey (u .1) < keyLimit) × AllKeys us
 
 module _ (World : Type 0) (Whole : Line → Update → World → World → Outcome → Type 0) (Resting : World → Tree → Tree → Type 0) (limit limit′ : ℕ)
-    (first-whole : (u : Update) (w v : World) (o : Outcome) (t s : Tree) → Whole first u w v o → Resting w t s → lowestKey ≤ update-key u → update-key u < keyLimit → (o ≡ outcome limit u t) × Resting v (leaves limit u t) s)
-    (second-whole : (u : Update) (w v : World) (o : Outcome) (t s : Tree) → Whole second u w v o → Resting w t s → lowestKey ≤ update-key u → update-key u < keyLimit → (o ≡ outcome limit′ u s) × Resting v t (leaves limit′ u s))
+    (first-whole : (u : Update) (w v : World) (o : Outcome) (t s : Tree) → Whole first u w v o → Resting w t s → lowestKey ≤ updateKey u → updateKey u < keyLimit → (o ≡ outcome limit u t) × Resting v (leaves limit u t) s)
+    (second-whole : (u : Update) (w v : World) (o : Outcome) (t s : Tree) → Whole second u w v o → Resting w t s → lowestKey ≤ updateKey u → updateKey u < keyLimit → (o ≡ outcome limit′ u s) × Resting v t (leaves limit′ u s))
   where
     pub lines-apart : {us : List (Line × Update)} {w v : World} {os : List (Line × Outcome)} → Works World Whole us w v os → (t s : Tree) → Resting w t s → AllKeys us
-        → (own first os ≡ outcomes limit (own first us) t) × (own second os ≡ outcomes limit′ (own second us) s) × Resting v (left-by limit (own first us) t) (left-by limit′ (own second us) s)
+        → (own first os ≡ outcomes limit (own first us) t) × (own second os ≡ outcomes limit′ (own second us) s) × Resting v (shapeLeft limit (own first us) t) (shapeLeft limit′ (own second us) s)
     lines-apart no-more t s r k = (refl, refl, r)
     lines-apart (one-more {l = first} {u} {us} {w} {v} {x} {o} c rest) t s r k =
         let p = first-whole u w v o t s c r (k .0) (k .1) in

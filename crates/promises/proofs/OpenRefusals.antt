@@ -32,7 +32,7 @@ use Rattle.opening.specs.Opening.{openSound, openChecked, openOf}
 use Rattle.state.specs.declared.Begun.{Begun}
 use Rattle.state.specs.declared.Begun.the-variants.{Idle as OpenedIdle, Started, Refused as BegunRefused}
 use Rattle.tree.specs.Tree.{Tree, roots, leaf, node}
-use Rattle.tree.specs.Violations.{RootOk, table-violations}
+use Rattle.tree.specs.Violations.{RootOk, tableViolations}
 use Rattle.tree.specs.WellFormed.{WellFormed}
 
 -- the answer's number is a refusal's exactly when the answer is that refusal: the other answers have numbers from 64 on
@@ -156,7 +156,7 @@ module _ (c : List ℕ) (n : ℕ) (s : Sized (length c) n) where
       )
 
 -- what the check notes is what the tree has: "the 11-child nodes without a break straight above a tagged node"
-balanced-reserves : (t : Tree) → RootOk t → table-violations t ≡ 0 → reserves 0 t ≡ 0
+balanced-reserves : (t : Tree) → RootOk t → tableViolations t ≡ 0 → reserves 0 t ≡ 0
 balanced-reserves (leaf m ks vs) w z = refl
 balanced-reserves (node m true f) w z = absurd w
 balanced-reserves (node m false f) w z = omega (arith, all-reserves-none (runBelow (length (roots f)) 0) f z)

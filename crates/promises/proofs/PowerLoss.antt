@@ -33,12 +33,12 @@ use Rattle.free_nodes.specs.NodeSet.{countTrue}
 use Rattle.laws.proofs.Cases.{bool-cases, order, impossible}
 use Rattle.laws.specs.Totals.{total}
 use Rattle.promises.proofs.Accepting.{accepted-card, accepted-openable, find-answers}
-use Rattle.promises.proofs.Feeding.{step-result, fed, kept-ledger, due-after-step, due-after, kept-due, dictionary-answer}
+use Rattle.promises.proofs.Feeding.{stepResult, fed, keptLedger, dueAfterStep, dueAfter, keptDue, dictionaryAnswer}
 use Rattle.promises.proofs.Invariant.{Table, UpdateSteps, Stage, Inv, stage-idle, stage-put, stage-remove, stage-first, stage-between, stage-within}
-use Rattle.promises.proofs.Ledger.{Result, Hand, Ledger, ledger, fed-a-step, feed, was-refused, was-final, goes-on, empty}
+use Rattle.promises.proofs.Ledger.{Result, Hand, Ledger, ledger, fedAStep, feed, was-refused, was-final, goes-on, empty}
 use Rattle.promises.proofs.LedgerLaws.{Same, same-refl}
 use Rattle.promises.proofs.Machine.{Event, World, opened, happens, run, find, insert, delete, step, crash}
-use Rattle.promises.proofs.Promise.{Accepted, ToReady, Begins, Words, Quiet, steps-in, Says-ready, MapIs, Ends, Kept, ready-now, stored-first, from-format, from-open}
+use Rattle.promises.proofs.Promise.{Accepted, ToReady, Begins, Words, Quiet, stepsIn, ReadySaid, MapIs, Ends, Kept, ready-now, stored-first, from-format, from-open}
 use Rattle.promises.proofs.Reopen.{table-well-formed, well-formed-table, reopened}
 use Rattle.promises.proofs.Starting.{same-lookup, kept-insert, kept-delete}
 use Rattle.promises.proofs.Stepping.{Right, right-final, Moves, kept-step, was-idle, ends-now, goes-further}
@@ -49,7 +49,7 @@ use Rattle.shapes.proofs.Bare.{bare}
 use Rattle.card.specs.Layout.{depthLimit}
 use Rattle.shapes.proofs.Whole.{settledBy}
 use Rattle.tree.specs.WellFormed.{WellFormed}
-use Rattle.tree.specs.Violations.{few, table-violations}
+use Rattle.tree.specs.Violations.{few, tableViolations}
 use Rattle.descent.specs.declared.Landing.{Landing}
 use Rattle.descent.specs.declared.Landing.the-variants.{Refused as NoLanding, Leaf as LandingAt}
 
@@ -88,13 +88,13 @@ crash-keeps : (n steps : ℕ) (w : World) (b : Ledger) (due : Option Answer) →
 unfolding happens feed fed
 crash-keeps n steps w b due i = reopened-inv n (w .card) (i .tree) (b .held) (i .table) (i .openable) (i .same)
 
-pub kept : (n : ℕ) (es : List Event) (steps : ℕ) (w : World) (b : Ledger) (due : Option Answer) → Words es → Inv n steps w b due → (k : ℕ) × Inv n k (run es w) (kept-ledger es w b) (kept-due es w b due)
-unfolding run kept-ledger kept-due due-after
+pub kept : (n : ℕ) (es : List Event) (steps : ℕ) (w : World) (b : Ledger) (due : Option Answer) → Words es → Inv n steps w b due → (k : ℕ) × Inv n k (run es w) (keptLedger es w b) (keptDue es w b due)
+unfolding run keptLedger keptDue dueAfter
 kept n [] steps w b due u i = (steps, i)
 kept n (find key ∷ es) steps w b due u i = kept n es steps (happens (find key) w) (feed (fed (find key) w) b) due u (find-keeps n steps w b due key i)
-kept n (insert key value ∷ es) steps w b due u i = let q = kept-insert n steps w b due i key value (u .0) in kept n es (q .0) (happens (insert key value) w) (feed (fed (insert key value) w) b) (due-after (insert key value) w b due) (u .1) (q .2 .0)
-kept n (delete key ∷ es) steps w b due u i = let q = kept-delete n steps w b due i key (u .0) in kept n es (q .0) (happens (delete key) w) (feed (fed (delete key) w) b) (due-after (delete key) w b due) (u .1) (q .2 .0)
-kept n (step ∷ es) steps w b due u i = kept n es steps (happens step w) (feed (fed step w) b) (due-after step w b due) u (kept-step n steps w b due (loosen n steps (suc steps) w b due (omega arith) i) .0 .0)
+kept n (insert key value ∷ es) steps w b due u i = let q = kept-insert n steps w b due i key value (u .0) in kept n es (q .0) (happens (insert key value) w) (feed (fed (insert key value) w) b) (dueAfter (insert key value) w b due) (u .1) (q .2 .0)
+kept n (delete key ∷ es) steps w b due u i = let q = kept-delete n steps w b due i key (u .0) in kept n es (q .0) (happens (delete key) w) (feed (fed (delete key) w) b) (dueAfter (delete key) w b due) (u .1) (q .2 .0)
+kept n (step ∷ es) steps w b due u i = kept n es steps (happens step w) (feed (fed step w) b) (dueAfter step w b due) u (kept-step n steps w b due (loosen n steps (suc steps) w b due (omega arith) i) .0 .0)
 kept n (crash ∷ es) steps w b due u i = kept n es repairSteps (happens crash w) (feed (fed crash w) b) none u (crash-keeps n steps w b due i)
 
 -- ---- where the list begins
@@ -160,7 +160,7 @@ opened-inv c t a k =
     (reopened-inv (nodesOfLength (length c)) c t (pairs t) b (accepted-openable c t a k) (same-refl (pairs t)), reopened-goal (nodesOfLength (length c)) c t (pairs t) b (accepted-openable c t a k) (same-refl (pairs t)))
 
 -- what holds after any list of events
-pub kept-from : (w : World) (l : List (ℕ × ℕ)) → Begins w l → (es : List Event) → Words es → (n : ℕ) × (k : ℕ) × Inv n k (run es w) (kept-ledger es w (ledger l empty)) (kept-due es w (ledger l empty) none)
+pub kept-from : (w : World) (l : List (ℕ × ℕ)) → Begins w l → (es : List Event) → Words es → (n : ℕ) × (k : ℕ) × Inv n k (run es w) (keptLedger es w (ledger l empty)) (keptDue es w (ledger l empty) none)
 kept-from w l s es u =
     let b = begins-inv w l s in
     let k = kept (b .0) es repairSteps w (ledger l empty) none u (b .1) in
@@ -189,10 +189,10 @@ start-unchanged c m key doing room r e =
     landed-unchanged x e = start-landed-unchanged m doing (room (landing c (m .nodes) key)) x r e
 
 -- no steps are left only where nothing is being done
-pub at-rest : (n steps : ℕ) (w : World) (b : Ledger) (due : Option Answer) → steps ≡ 0 → (i : Inv n steps w b due) → (w .memory .doing ≡ Idle) × (table-violations (i .tree) ≡ 0)
+pub at-rest : (n steps : ℕ) (w : World) (b : Ledger) (due : Option Answer) → steps ≡ 0 → (i : Inv n steps w b due) → (w .memory .doing ≡ Idle) × (tableViolations (i .tree) ≡ 0)
 at-rest n steps w b due none-left i = at (i .stage)
   where
-    at : {m : Memory} {h : Hand} {d : Option Answer} → Stage (w .card) n (i .tree) (i .goal) steps m h d → (m .doing ≡ Idle) × (table-violations (i .tree) ≡ 0)
+    at : {m : Memory} {h : Hand} {d : Option Answer} → Stage (w .card) n (i .tree) (i .goal) steps m h d → (m .doing ≡ Idle) × (tableViolations (i .tree) ≡ 0)
     at (stage-idle z r x g) = (refl, z)
     at (stage-put z r x low high room q g) = absurd (omega arith)
     at (stage-remove z r x low high q g) = absurd (omega arith)
@@ -201,14 +201,14 @@ at-rest n steps w b due none-left i = at (i .stage)
     at (stage-within j en p e q g) = absurd (omega arith)
 
 -- a step with an empty hand leaves it empty, whatever it answers
-empty-fed : (r : Result) (l : List (ℕ × ℕ)) → fed-a-step r l empty ≡ ledger l empty
-unfolding fed-a-step
+empty-fed : (r : Result) (l : List (ℕ × ℕ)) → fedAStep r l empty ≡ ledger l empty
+unfolding fedAStep
 empty-fed was-refused l = refl
 empty-fed was-final l = refl
 empty-fed goes-on l = refl
 
-none-due : (r : Result) → due-after-step r none ≡ none
-unfolding due-after-step
+none-due : (r : Result) → dueAfterStep r none ≡ none
+unfolding dueAfterStep
 none-due was-refused = refl
 none-due was-final = refl
 none-due goes-on = refl
@@ -224,10 +224,10 @@ find-same key w = refl
 -- one step of opening's repair
 repair-step : (n steps : ℕ) (w : World) (l : List (ℕ × ℕ)) → Inv n (suc steps) w (ledger l empty) none
     → Inv n steps (happens step w) (ledger l empty) none × ((w .memory .doing ≡ Idle) ⊎ ((stepOf (w .card) (w .memory) .answer ≡ Ready) ⊎ (isIdle (happens step w .memory .doing) ≡ false)))
-unfolding feed fed due-after
+unfolding feed fed dueAfter
 repair-step n steps w l i =
     let k = kept-step n steps w (ledger l empty) none i in
-    (rw (empty-fed (step-result (stepOf (w .card) (w .memory) .answer)) l, none-due (step-result (stepOf (w .card) (w .memory) .answer))) at (k .0 .0), moves w (k .2) (k .1))
+    (rw (empty-fed (stepResult (stepOf (w .card) (w .memory) .answer)) l, none-due (stepResult (stepOf (w .card) (w .memory) .answer))) at (k .0 .0), moves w (k .2) (k .1))
   where
     moves : (w : World) → Moves (w .card) (w .memory) (stepOf (w .card) (w .memory)) → Right (stepOf (w .card) (w .memory) .answer) none → (w .memory .doing ≡ Idle) ⊎ ((stepOf (w .card) (w .memory) .answer ≡ Ready) ⊎ (isIdle (happens step w .memory .doing) ≡ false))
     moves w (was-idle e) r = inl e
@@ -257,9 +257,9 @@ still-ends w q (inr (inl e)) = inr (inl (ap stepReply e))
 still-ends w q (inr (inr e)) = inr (inr (⊎-elim (λ z. absurd (idle-not-busy (happens step w .memory .doing) z e)) (λ z. z) q))
 
 -- a run without a cut comes to rest
-finishes : (n : ℕ) (l : List (ℕ × ℕ)) (qs : List Event) (steps : ℕ) (w : World) → Quiet qs w → steps ≤ steps-in qs → Inv n steps w (ledger l empty) none
-    → Inv n 0 (run qs w) (ledger l empty) none × ((w .memory .doing ≡ Idle) ⊎ Says-ready qs w)
-unfolding run Quiet Says-ready
+finishes : (n : ℕ) (l : List (ℕ × ℕ)) (qs : List Event) (steps : ℕ) (w : World) → Quiet qs w → steps ≤ stepsIn qs → Inv n steps w (ledger l empty) none
+    → Inv n 0 (run qs w) (ledger l empty) none × ((w .memory .doing ≡ Idle) ⊎ ReadySaid qs w)
+unfolding run Quiet ReadySaid
 finishes n l [] steps w u h i = (loosen n steps 0 w (ledger l empty) none (omega arith) i, inl (at-rest n steps w (ledger l empty) none (omega arith) i .0))
 finishes n l (find key ∷ qs) steps w u h i = rw (find-same key w) (finishes n l qs steps w u h i)
 finishes n l (insert key value ∷ qs) steps w u h i =
@@ -285,7 +285,7 @@ pub map-is : {n steps : ℕ} {w : World} {b : Ledger} {due : Option Answer} (i :
 map-is {b = b} i = record { alike = same-lookup i; as-many = length-total (pairs (i .tree)) ∙ i .same .totals (λ p. 1) ∙ sym (length-total (b .held)) }
 
 -- the run left uncut ends, balanced, with the ledger's pairs
-ends-right : (n : ℕ) (c : List ℕ) (l : List (ℕ × ℕ)) → Inv n repairSteps (opened c) (ledger l empty) none → (qs : List Event) → Quiet qs (opened c) → repairSteps ≤ steps-in qs → Ends (opened c) qs l
+ends-right : (n : ℕ) (c : List ℕ) (l : List (ℕ × ℕ)) → Inv n repairSteps (opened c) (ledger l empty) none → (qs : List Event) → Quiet qs (opened c) → repairSteps ≤ stepsIn qs → Ends (opened c) qs l
 ends-right n c l i qs q h =
     let f = finishes n l qs repairSteps (opened c) q h i in
     let r = at-rest n 0 (run qs (opened c)) (ledger l empty) none refl (f .0) in
@@ -301,12 +301,12 @@ ends-right n c l i qs q h =
 pub power-loss : (w : World) (l : List (ℕ × ℕ)) → Begins w l → (es : List Event) → Words es → Kept w es (ledger l empty)
 power-loss w l s es u = go (kept-from w l s es u)
   where
-    go : ((n : ℕ) × (k : ℕ) × Inv n k (run es w) (kept-ledger es w (ledger l empty)) (kept-due es w (ledger l empty) none)) → Kept w es (ledger l empty)
+    go : ((n : ℕ) × (k : ℕ) × Inv n k (run es w) (keptLedger es w (ledger l empty)) (keptDue es w (ledger l empty) none)) → Kept w es (ledger l empty)
     go (n, k, j) =
         let r = reopened (run es w .card) n (j .tree) (j .table) (j .openable) in
-        let i₁ = reopened-inv n (run es w .card) (j .tree) (kept-ledger es w (ledger l empty) .held) (j .table) (j .openable) (j .same) in
+        let i₁ = reopened-inv n (run es w .card) (j .tree) (keptLedger es w (ledger l empty) .held) (j .table) (j .openable) (j .same) in
         record {
           opens = record { not-refused = r .accepted };
-          ends = λ qs q h. ends-right n (run es w .card) (kept-ledger es w (ledger l empty) .held) i₁ qs q h;
-          finds = λ key a b. find-answers (run es w .card) n (j .tree) key (j .table) a b ∙ ap (λ (x : Option ℕ). stepReply (dictionary-answer x)) (same-lookup j key);
+          ends = λ qs q h. ends-right n (run es w .card) (keptLedger es w (ledger l empty) .held) i₁ qs q h;
+          finds = λ key a b. find-answers (run es w .card) n (j .tree) key (j .table) a b ∙ ap (λ (x : Option ℕ). stepReply (dictionaryAnswer x)) (same-lookup j key);
         }

@@ -16,7 +16,7 @@ use Rattle.state.specs.declared.Answer.the-variants.{Stored, Ready}
 use Rattle.state.specs.declared.Begun.the-variants.{Started, Refused as BegunRefused}
 use Rattle.card.specs.Replies.{ready}
 use Rattle.card.specs.Layout.{keyLimit}
-use Rattle.promises.proofs.Feeding.{kept-ledger, dictionary-answer}
+use Rattle.promises.proofs.Feeding.{keptLedger, dictionaryAnswer}
 use Rattle.promises.proofs.Ledger.{Ledger}
 use Rattle.promises.proofs.Machine.{Event, World, opened, happens, run, find, insert, delete, step, crash}
 use Rattle.tree.specs.Pairs.{pairs, lookup}
@@ -56,22 +56,22 @@ Quiet (delete key ∷ es) w = ((r : ℕ) × (deleteOf (w .card) (w .memory) key 
 Quiet (step ∷ es) w = Quiet es (happens step w)
 Quiet (crash ∷ es) w = ⊥
 
-abbrev pub steps-in : List Event → ℕ
-steps-in [] = 0
-steps-in (find key ∷ es) = steps-in es
-steps-in (insert key value ∷ es) = steps-in es
-steps-in (delete key ∷ es) = steps-in es
-steps-in (step ∷ es) = suc (steps-in es)
-steps-in (crash ∷ es) = steps-in es
+abbrev pub stepsIn : List Event → ℕ
+stepsIn [] = 0
+stepsIn (find key ∷ es) = stepsIn es
+stepsIn (insert key value ∷ es) = stepsIn es
+stepsIn (delete key ∷ es) = stepsIn es
+stepsIn (step ∷ es) = suc (stepsIn es)
+stepsIn (crash ∷ es) = stepsIn es
 
 -- some step of the events answers "ready"
-unfoldable pub Says-ready : List Event → World → Type 0
-Says-ready [] w = ⊥
-Says-ready (find key ∷ es) w = Says-ready es w
-Says-ready (insert key value ∷ es) w = Says-ready es (happens (insert key value) w)
-Says-ready (delete key ∷ es) w = Says-ready es (happens (delete key) w)
-Says-ready (step ∷ es) w = (stepReply (stepOf (w .card) (w .memory) .answer) ≡ ready) ⊎ Says-ready es (happens step w)
-Says-ready (crash ∷ es) w = Says-ready es (happens crash w)
+unfoldable pub ReadySaid : List Event → World → Type 0
+ReadySaid [] w = ⊥
+ReadySaid (find key ∷ es) w = ReadySaid es w
+ReadySaid (insert key value ∷ es) w = ReadySaid es (happens (insert key value) w)
+ReadySaid (delete key ∷ es) w = ReadySaid es (happens (delete key) w)
+ReadySaid (step ∷ es) w = (stepReply (stepOf (w .card) (w .memory) .answer) ≡ ready) ⊎ ReadySaid es (happens step w)
+ReadySaid (crash ∷ es) w = ReadySaid es (happens crash w)
 
 -- the tree's map is exactly these pairs: every key answers alike, and there are as many of them
 pub record MapIs (t : Tree) (l : List (ℕ × ℕ)) : Type 0 where
@@ -81,7 +81,7 @@ pub record MapIs (t : Tree) (l : List (ℕ × ℕ)) : Type 0 where
 -- "A repair ends when opening hands back an idle state or, some number of steps on, a step gives ready"
 pub record Ends (w : World) (qs : List Event) (l : List (ℕ × ℕ)) : Type 0 where
   pub idle : run qs w .memory .doing ≡ Idle
-  pub ready : (w .memory .doing ≡ Idle) ⊎ Says-ready qs w
+  pub ready : (w .memory .doing ≡ Idle) ⊎ ReadySaid qs w
   pub table : Tree
   pub balanced : Balanced (run qs w .card) table
   pub map : MapIs table l
@@ -91,6 +91,6 @@ pub record Kept (w : World) (es : List Event) (b : Ledger) : Type 0 where
   -- "After each cut opening succeeds."
   pub opens : Accepted (run es w .card)
   -- the repair, in the first run left uncut, ends; the table is then balanced and its map exactly the book's pairs
-  pub ends : (qs : List Event) → Quiet qs (opened (run es w .card)) → repairSteps ≤ steps-in qs → Ends (opened (run es w .card)) qs (kept-ledger es w b .held)
+  pub ends : (qs : List Event) → Quiet qs (opened (run es w .card)) → repairSteps ≤ stepsIn qs → Ends (opened (run es w .card)) qs (keptLedger es w b .held)
   -- "A find .. may come between steps and answers by the map at that moment."
-  pub finds : (key : ℕ) → 0 < key → key < keyLimit → foundReply (findOf (run es w .card) key) ≡ stepReply (dictionary-answer (lookup key (kept-ledger es w b .held)))
+  pub finds : (key : ℕ) → 0 < key → key < keyLimit → foundReply (findOf (run es w .card) key) ≡ stepReply (dictionaryAnswer (lookup key (keptLedger es w b .held)))

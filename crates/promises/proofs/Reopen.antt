@@ -33,11 +33,11 @@ use Rattle.state.specs.declared.Doing.the-variants.{Idle, Repairing}
 use Rattle.state.specs.declared.Begun.{Begun}
 use Rattle.state.specs.declared.Begun.the-variants.{Idle as OpenedIdle, Started, Refused as BegunRefused}
 use Rattle.tree.proofs.Pairs.{depth}
-use Rattle.tree.proofs.Path.{depth-of, reserve, Violation}
+use Rattle.tree.proofs.Path.{depthOf, reserve, Violation}
 use Rattle.tree.specs.Tree.{Tree}
 use Rattle.shapes.proofs.Bare.{bare, bare-table-violations}
 use Rattle.shapes.proofs.Whole.{settledBy, heads-done}
-use Rattle.tree.specs.Violations.{table-violations}
+use Rattle.tree.specs.Violations.{tableViolations}
 use Rattle.tree.specs.WellFormed.{WellFormed}
 
 -- a sound tree on the card is a well-formed table, and the other way round
@@ -100,7 +100,7 @@ pub record Reopened (c : List ℕ) (n : ℕ) (t : Tree) : Type 0 where
   pub goal-is : goal ≡ settledBy depthLimit (bare t)
   pub stage : Stage c n t goal steps (openOf c .memory) empty none
   pub accepted : (r : ℕ) → openOf c .begun ≡ BegunRefused r → ⊥
-  pub idle-when-balanced : openOf c .begun ≡ OpenedIdle → table-violations t ≡ 0
+  pub idle-when-balanced : openOf c .begun ≡ OpenedIdle → tableViolations t ≡ 0
   pub busy-when-started : openOf c .begun ≡ Started → isIdle (openOf c .memory .doing) ≡ false
 
 repair-busy : (n : ℕ) (free : List Bool) (key : ℕ) → isIdle (resting n free (Repairing key) .doing) ≡ false
@@ -108,7 +108,7 @@ unfolding resting isIdle
 repair-busy n free key = refl
 
 -- the violation lies above the depth limit
-violation-deep : (t : Tree) (key : ℕ) (v : Violation t key) → depth-of (v .context) ≤ depth t
+violation-deep : (t : Tree) (key : ℕ) (v : Violation t key) → depthOf (v .context) ≤ depth t
 violation-deep t key v = rw (v .is-tree) (omega (arith, depth-plug (v .context) (v .part)))
 
 pub reopened : (c : List ℕ) (n : ℕ) (t : Tree) → Table c n t → Openable n t → Reopened c n t
@@ -119,14 +119,14 @@ reopened c n t b o = go (sound-accepted c n (b .sized .words) (b .sized .most) t
     count-same f h x = ap countTrue (exact-same n (f .free) (o .free) t (facts-exact x) (o .exact))
 
     -- the nodes kept are enough, for whichever key leads to the violation
-    room-for : (count : ℕ) → countTrue (o .free) ≡ count → (key : ℕ) (v : Violation t key) → table-violations t ≡ 1 → 3 + reserve (v .context) (v .part) ≤ count
+    room-for : (count : ℕ) → countTrue (o .free) ≡ count → (key : ℕ) (v : Violation t key) → tableViolations t ≡ 1 → 3 + reserve (v .context) (v .part) ≤ count
     room-for count e key v w = at (o .deep) (o .ready)
       where
         at : (d : ℕ) → Mendable (o .key) (o .free) t d → 3 + reserve (v .context) (v .part) ≤ count
         at d (settled z r) = absurd (omega arith)
         at d (violated v₀ w₀ r) = omega (arith, reserve-total t (o .key) (b .sound .widths) w v₀, reserve-total t key (b .sound .widths) w v)
 
-    room-idle : table-violations t ≡ 0 → 3 ≤ countTrue (o .free)
+    room-idle : tableViolations t ≡ 0 → 3 ≤ countTrue (o .free)
     room-idle z = at (o .deep) (o .ready)
       where
         at : (d : ℕ) → Mendable (o .key) (o .free) t d → 3 ≤ countTrue (o .free)
@@ -138,14 +138,14 @@ reopened c n t b o = go (sound-accepted c n (b .sized .words) (b .sized .most) t
       where
         broken : f .violated ≡ true → Reopened c n t
         broken q =
-            let w : table-violations t ≡ 1 = omega (arith, x .violated, bit-true (f .violated) q) in
+            let w : tableViolations t ≡ 1 = omega (arith, x .violated, bit-true (f .violated) q) in
             let v = x .violation q in
             let room : 3 + reserve (v .0 .context) (v .0 .part) ≤ countTrue (f .free) = room-for (countTrue (f .free)) (sym (count-same f h x)) (f .key) (v .0) w in
             let is = open-repair c n h f (b .sized) (b .header) e (omega (arith, v .1)) q in
             record {
-              steps = 73 * depth-of (v .0 .context) + 1;
+              steps = 73 * depthOf (v .0 .context) + 1;
               few-steps = omega (arith, violation-deep t (f .key) (v .0), x .deep);
-              stage = rw is (stage-between job-repair no-update (depth-of (v .0 .context)) (violated (v .0) w room) (facts-exact x) (omega arith) (record { repairs = depthLimit; enough = omega (arith, violation-deep t (f .key) (v .0), x .deep); reaches = refl }));
+              stage = rw is (stage-between job-repair no-update (depthOf (v .0 .context)) (violated (v .0) w room) (facts-exact x) (omega arith) (record { repairs = depthLimit; enough = omega (arith, violation-deep t (f .key) (v .0), x .deep); reaches = refl }));
               goal = settledBy depthLimit (bare t);
               goal-is = refl;
               accepted = λ r z. let y : _≡_ {A = Begun} Started (BegunRefused r) = rw is at z in impossible (cc);
@@ -155,7 +155,7 @@ reopened c n t b o = go (sound-accepted c n (b .sized .words) (b .sized .most) t
 
         whole : f .violated ≡ false → Reopened c n t
         whole q =
-            let z : table-violations t ≡ 0 = omega (arith, x .violated, bit-false (f .violated) q) in
+            let z : tableViolations t ≡ 0 = omega (arith, x .violated, bit-false (f .violated) q) in
             let r : f .run ≡ 0 = x .no-run q in
             let is = open-idle c n h f (b .sized) (b .header) e (omega (arith, room-idle z, count-same f h x)) q in
             record {

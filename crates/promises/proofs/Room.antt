@@ -14,7 +14,7 @@ use Rattle.card.specs.Layout.{lowestKey, keyLimit, nodeAt}
 use Rattle.free_nodes.specs.NodeSet.{countTrue}
 use Rattle.laws.specs.Cases.{pick}
 use Rattle.promises.proofs.Dictionary.{insert-finishes, delete-finishes}
-use Rattle.promises.proofs.Feeding.{kept-ledger, dictionary-answer}
+use Rattle.promises.proofs.Feeding.{keptLedger, dictionaryAnswer}
 use Rattle.promises.proofs.Finished.{inv-rests}
 use Rattle.promises.proofs.Finishing.{updateStores, Finishes, Rests}
 use Rattle.promises.proofs.Ledger.{ledger, empty}
@@ -32,10 +32,10 @@ LeadsTo w key leaf j = (link : ℕ) × (landing (w .card) (w .memory .nodes) key
 
 -- the call is started, and finishes with the answer that the dictionary gives by these pairs
 abbrev pub InsertWorks : World → List (ℕ × ℕ) → ℕ → ℕ → Type 0
-InsertWorks w l key value = (insertOf (w .card) (w .memory) key value .begun ≡ Started) × Finishes updateStores (stepReply (dictionary-answer (lookup key l))) (happens (insert key value) w)
+InsertWorks w l key value = (insertOf (w .card) (w .memory) key value .begun ≡ Started) × Finishes updateStores (stepReply (dictionaryAnswer (lookup key l))) (happens (insert key value) w)
 
 abbrev pub DeleteWorks : World → List (ℕ × ℕ) → ℕ → Type 0
-DeleteWorks w l key = (deleteOf (w .card) (w .memory) key .begun ≡ Started) × Finishes updateStores (stepReply (dictionary-answer (lookup key l))) (happens (delete key) w)
+DeleteWorks w l key = (deleteOf (w .card) (w .memory) key .begun ≡ Started) × Finishes updateStores (stepReply (dictionaryAnswer (lookup key l))) (happens (delete key) w)
 
 module _ (w : World) (l : List (ℕ × ℕ)) (begins : Begins w l) (es : List Event) (words : Words es) where
   -- the leaf that a key leads to, at any moment
@@ -43,7 +43,7 @@ module _ (w : World) (l : List (ℕ × ℕ)) (begins : Begins w l) (es : List Ev
   key-leads key low high = let k = kept-from w l begins es words in let g = lands (k .0) (k .1) (run es w) _ _ (k .2) key low high in (g .0, g .2, (g .1, g .3))
 
   module _ (idle : run es w .memory .doing ≡ Idle) where
-    pub idle-rests : Rests (run es w) (kept-ledger es w (ledger l empty) .held)
+    pub idle-rests : Rests (run es w) (keptLedger es w (ledger l empty) .held)
     idle-rests = let k = kept-from w l begins es words in inv-rests (k .0) (k .1) (run es w) _ _ (k .2) idle
 
     -- an insert's start, by its room
@@ -54,14 +54,14 @@ module _ (w : World) (l : List (ℕ × ℕ)) (begins : Begins w l) (es : List Ev
         let k = kept-from w l begins es words in
         room-decides (k .0) (k .1) (run es w) _ _ (k .2) key (Inserting key value false) (startRoom (run es w .card) key (run es w .memory .free)) idle low high ∙ rw e
 
-    insert-works : (key value : ℕ) → lowestKey ≤ key → key < keyLimit → startRoom (run es w .card) key (run es w .memory .free) (landing (run es w .card) (run es w .memory .nodes) key) ≡ true → InsertWorks (run es w) (kept-ledger es w (ledger l empty) .held) key value
+    insert-works : (key value : ℕ) → lowestKey ≤ key → key < keyLimit → startRoom (run es w .card) key (run es w .memory .free) (landing (run es w .card) (run es w .memory .nodes) key) ≡ true → InsertWorks (run es w) (keptLedger es w (ledger l empty) .held) key value
     insert-works key value low high e =
         let s = ap (λ (x : Handed). x .begun) (insert-decided key value low high true e) ∙ begun-started _ (Inserting key value false) in
         (s, insert-finishes w l begins es words key value high s)
 
     module _ (key value : ℕ) (low : lowestKey ≤ key) (high : key < keyLimit) (leaf j : ℕ) (leads : LeadsTo (run es w) key leaf j) where
       -- "A splitting insert needs j + 5 free nodes", and with them it is started and finishes
-      pub splitting-insert-works : insertReason (nodeAt (run es w .card) leaf) key ≡ full → splitNeed j ≤ countTrue (run es w .memory .free) → InsertWorks (run es w) (kept-ledger es w (ledger l empty) .held) key value
+      pub splitting-insert-works : insertReason (nodeAt (run es w .card) leaf) key ≡ full → splitNeed j ≤ countTrue (run es w .memory .free) → InsertWorks (run es w) (keptLedger es w (ledger l empty) .held) key value
       splitting-insert-works e h = insert-works key value low high (room-at _ _ key _ leaf (leads .0) j (leads .1) ∙ room-enough _ j _ e h)
 
       -- "8: key absent, leaf full, free nodes fewer than j + 5"
@@ -69,11 +69,11 @@ module _ (w : World) (l : List (ℕ × ℕ)) (begins : Begins w l) (es : List Ev
       splitting-insert-refused e h = insert-decided key value low high false (room-at _ _ key _ leaf (leads .0) j (leads .1) ∙ room-short _ j _ e h)
 
       -- a key that is held, or a leaf with an empty slot, needs no room
-      pub other-insert-works : (insertReason (nodeAt (run es w .card) leaf) key ≡ full → ⊥) → InsertWorks (run es w) (kept-ledger es w (ledger l empty) .held) key value
+      pub other-insert-works : (insertReason (nodeAt (run es w .card) leaf) key ≡ full → ⊥) → InsertWorks (run es w) (keptLedger es w (ledger l empty) .held) key value
       other-insert-works e = insert-works key value low high (room-at _ _ key _ leaf (leads .0) j (leads .1) ∙ room-other _ j _ e)
 
     -- "Refusing a delete on a full card: three nodes are always kept for it."
-    pub delete-works : (key : ℕ) → lowestKey ≤ key → key < keyLimit → DeleteWorks (run es w) (kept-ledger es w (ledger l empty) .held) key
+    pub delete-works : (key : ℕ) → lowestKey ≤ key → key < keyLimit → DeleteWorks (run es w) (keptLedger es w (ledger l empty) .held) key
     unfolding deleteOf
     delete-works key low high =
         let k = kept-from w l begins es words in

@@ -4,7 +4,7 @@ use mathlib.Core.Path.{_≡_, ap, sym, _∙_, subst}
 use mathlib.Core.List.{List}
 use Prim.Native.Nat.{ℕ}
 use Rattle.promises.proofs.Alike.{Outcome, Ends, ends-at, Runs, Keys, Resting, resting-goal, same-outcomes}
-use Rattle.promises.proofs.Feeding.{kept-ledger, kept-due}
+use Rattle.promises.proofs.Feeding.{keptLedger, keptDue}
 use mathlib.Core.Option.{none}
 use Rattle.promises.proofs.Invariant.{Inv}
 use Rattle.promises.proofs.Ledger.{Update, ledger, empty}
@@ -41,7 +41,7 @@ pub record AtRest (w : World) : Type 0 where
 pub at-rest-resting : {w : World} → AtRest w → (t : Tree) → Holds (w .card) t → Resting (w .memory .nodes) w (bare t)
 at-rest-resting {w} a t h = go (rw (a .now) at (kept-from (a .begin) (a .map) (a .begins) (a .events) (a .words)))
   where
-    go : ((n : ℕ) × (k : ℕ) × Inv n k w (kept-ledger (a .events) (a .begin) (ledger (a .map) empty)) (kept-due (a .events) (a .begin) (ledger (a .map) empty) none)) → Resting (w .memory .nodes) w (bare t)
+    go : ((n : ℕ) × (k : ℕ) × Inv n k w (keptLedger (a .events) (a .begin) (ledger (a .map) empty)) (keptDue (a .events) (a .begin) (ledger (a .map) empty) none)) → Resting (w .memory .nodes) w (bare t)
     go (n, k, i) =
         let e = nodes-same n k w _ _ i in
         let r : Resting n w (bare t) =

@@ -6,7 +6,7 @@ use native.Mathlib.Omega.{arith}
 use lib.ListN.{length, getD}
 use lib.Dec.{eqb}
 use borrow.Author.Tests.{eqb-true, eqb-false}
-use Rattle.card.specs.Layout.{keyWords, slot-pairs}
+use Rattle.card.specs.Layout.{keyWords, slotPairs}
 use Rattle.card.proofs.NodeLaws.{length-keyWords}
 use Rattle.descent.specs.Descent.{firstEqual, slotOf}
 use Rattle.laws.proofs.Cases.{bool-cases, impossible}
@@ -37,12 +37,12 @@ unfolding slotOf
 slot-holds words x i len e = let r = first-hit (keyWords words) x 0 i e in let d : i - 0 ≡ i = omega arith in (omega (arith, r .1, length-keyWords words len), rw d at (r .2))
 
 -- no slot is empty: eleven pairs
-full-row : (ks vs : List ℕ) → length ks ≡ length vs → total (indicator 0) ks ≡ 0 → length (slot-pairs ks vs) ≡ length ks
+full-row : (ks vs : List ℕ) → length ks ≡ length vs → total (indicator 0) ks ≡ 0 → length (slotPairs ks vs) ≡ length ks
 full-row [] vs n z = refl
 full-row (k ∷ ks) [] n z = absurd (omega arith)
 full-row (zero ∷ ks) (v ∷ vs) n z = absurd (omega (arith, indicator-same 0))
 full-row (suc k ∷ ks) (v ∷ vs) n z = ap suc (full-row ks vs (omega arith) (omega arith))
 
-pub slots-full : (words ks vs : List ℕ) → keyWords words ≡ ks → length ks ≡ 11 → length vs ≡ 11 → slotOf words 0 ≡ NoSlot → length (slot-pairs ks vs) ≡ 11
+pub slots-full : (words ks vs : List ℕ) → keyWords words ≡ ks → length ks ≡ 11 → length vs ≡ 11 → slotOf words 0 ≡ NoSlot → length (slotPairs ks vs) ≡ 11
 unfolding slotOf
 slots-full words ks vs e lk lv n = full-row ks vs (omega arith) (ap (total (indicator 0)) (sym e) ∙ first-miss (keyWords words) 0 0 n) ∙ lk

@@ -7,8 +7,8 @@ use mathlib.Core.Logic.{inl}
 use Prim.Native.Nat.{ℕ, suc, _+_, _*_, _≤_, _<_}
 use native.Mathlib.Omega.{arith}
 use lib.ListN.{length, set, getD, length-append}
-use Rattle.card.specs.Layout.{lowestKey, keyLimit, depthLimit, place, nodeAt, slot-pairs, leafPairs}
-use Rattle.card.specs.Stores.{Store, stores, node-stores}
+use Rattle.card.specs.Layout.{lowestKey, keyLimit, depthLimit, place, nodeAt, slotPairs, leafPairs}
+use Rattle.card.specs.Stores.{Store, stores, nodeStores}
 use Rattle.plans.specs.Change.{splitLeaf}
 use Rattle.plans.specs.Planning.{Preparation, takeNumbers, withoutAll, lastOf, giving, first, second, third, balanced, prepared}
 use Rattle.plans.proofs.NumberLaws.{giving-some}
@@ -16,7 +16,7 @@ use Rattle.change.specs.Mending.{onSearch, nextRepair}
 use Rattle.tree.specs.FreeNodes.{Exact}
 use Rattle.change_theory.proofs.LeafSplit.{withPair, splitNodes, split-change}
 use Rattle.change_theory.proofs.Mended.{change-stores, mended}
-use Rattle.change_theory.proofs.Mending.{change-at, giving-same}
+use Rattle.change_theory.proofs.Mending.{rewriteAt, giving-same}
 use Rattle.change_theory.proofs.Numbers.{Given, numbers-given}
 use Rattle.change_theory.proofs.Plays.{Openable, Changing, pending-changing}
 use Rattle.change_theory.proofs.Repaired.{Mendable, Repaired, settled, violated}
@@ -34,11 +34,11 @@ use Rattle.laws.proofs.Cases.{order, impossible}
 use Rattle.laws.specs.Sorting.{sort}
 use Rattle.laws.specs.Totals.{total}
 use Rattle.promises.proofs.Begin.{put-held, put-slot, put-full, remove-held, remove-absent, room-full, flag-slot, flag-full}
-use Rattle.promises.proofs.Feeding.{step-result, leaf-full, fed, dictionary-answer, due-after-step, due-after}
+use Rattle.promises.proofs.Feeding.{stepResult, leafFull, fed, dictionaryAnswer, dueAfterStep, dueAfter}
 use Rattle.promises.proofs.FirstChanges.{slot-changing, slot-level, slot-enters, delete-changing, delete-level, delete-enters, slot-shaped, delete-shaped, split-shaped, split-changing, split-level, split-enters, split-count, First}
 use Rattle.promises.proofs.Invariant.{Toward, Table, Job, Entered, UpdateSteps, Stage, Inv, job-repair, job-insert, job-delete, no-update, updated, stage-idle, stage-put, stage-remove, stage-first, stage-between, stage-within}
 use Rattle.promises.proofs.Kept.{first-storable, repair-stored, update-stored}
-use Rattle.promises.proofs.Ledger.{Update, Hand, Ledger, ledger, entered, deciding, counted, fed-a-step, feed, put, remove, was-final, goes-on, empty, hand}
+use Rattle.promises.proofs.Ledger.{Update, Hand, Ledger, ledger, entered, deciding, counted, fedAStep, feed, put, remove, was-final, goes-on, empty, hand}
 use Rattle.promises.proofs.LedgerLaws.{Enters, Same, enters-held, enters-gone}
 use Rattle.promises.proofs.Machine.{World, happens, step}
 use Rattle.promises.proofs.Reopen.{table-depth-limited}
@@ -56,26 +56,26 @@ use Rattle.state.specs.declared.Answer.{Answer}
 use Rattle.state.specs.declared.Answer.the-variants.{Stored, Ready, Absent, Value, Refused}
 use Rattle.tree.proofs.Cut.{cut}
 use Rattle.tree.proofs.Lookup.{absent-counted}
-use Rattle.tree.specs.Pairs.{pairs, lookup, has-key}
+use Rattle.tree.specs.Pairs.{pairs, lookup, hasKey}
 use Rattle.tree.proofs.Pairs.{lookup-none, depth}
-use Rattle.tree.proofs.Path.{depth-of, full-run, reserve, Violation}
+use Rattle.tree.proofs.Path.{depthOf, fullRun, reserve, Violation}
 use Rattle.tree.proofs.Reading.{read-length, leaf-keys, leaf-pairs}
-use Rattle.tree.proofs.Represent.{link-place}
+use Rattle.tree.proofs.Represent.{linkPlace}
 use Rattle.tree.specs.Represent.{Holds}
 use Rattle.tree.specs.Tree.{Tree, leaf}
 use Rattle.tree.proofs.Tree.{Context, plug}
-use Rattle.tree.specs.Violations.{few, table-violations}
+use Rattle.tree.specs.Violations.{few, tableViolations}
 use Rattle.descent.specs.declared.Slot.{Slot}
 use Rattle.descent.specs.declared.Slot.the-variants.{At, Absent as NoSlot}
 use Rattle.descent.specs.declared.Landing.the-variants.{Leaf as LandingAt}
 
 -- a table with a violation has its next change planned
-pub mends : (c : List ℕ) (n key : ℕ) (t : Tree) (free : List Bool) (last : ℕ) → Table c n t → Exact n free t → (v : Violation t key) → table-violations t ≡ 1 → 3 + reserve (v .context) (v .part) ≤ countTrue free
-    → Repaired c n key t free last (depth-of (v .context))
+pub mends : (c : List ℕ) (n key : ℕ) (t : Tree) (free : List Bool) (last : ℕ) → Table c n t → Exact n free t → (v : Violation t key) → tableViolations t ≡ 1 → 3 + reserve (v .context) (v .part) ≤ countTrue free
+    → Repaired c n key t free last (depthOf (v .context))
 mends c n key t free last b x v single room = mended c n key t free last (b .sized .words) (omega (arith, b .sized .most)) (b .holds) (b .sound) (table-depth-limited b) x v single room
 
 -- a balanced table needs none
-pub rests : (c : List ℕ) (n key : ℕ) (t : Tree) (free : List Bool) (last : ℕ) → Table c n t → table-violations t ≡ 0 → nextRepair c n key free last ≡ balanced
+pub rests : (c : List ℕ) (n key : ℕ) (t : Tree) (free : List Bool) (last : ℕ) → Table c n t → tableViolations t ≡ 0 → nextRepair c n key free last ≡ balanced
 unfolding nextRepair onSearch
 rests c n key t free last b z = ap (onSearch c n free last) (seek-balanced c n key (b .sized .words) depthLimit t (b .holds) (b .sound .widths) z (table-depth-limited b))
 
@@ -83,7 +83,7 @@ rests c n key t free last b z = ap (onSearch c n free last) (seek-balanced c n k
 -- makes the state idle."
 pub data Moves (c : List ℕ) (m : Memory) (s : Step) : Type 0 where
   was-idle : m .doing ≡ Idle → Moves c m s
-  ends-now : step-result (s .answer) ≡ was-final → s .card ≡ c → s .memory .doing ≡ Idle → Moves c m s
+  ends-now : stepResult (s .answer) ≡ was-final → s .card ≡ c → s .memory .doing ≡ Idle → Moves c m s
   goes-further : s .answer ≡ Stored → isIdle (s .memory .doing) ≡ false → Moves c m s
 
 -- a store does not change what is being done
@@ -100,12 +100,12 @@ pub data Right : Answer → Option Answer → Type 0 where
   repair-answer : Right Ready none
 
 -- the final answer due; that of opening's repair is "ready"
-abbrev pub final-due : Option Answer → Answer
-final-due none = Ready
-final-due (some a) = a
+abbrev pub finalDue : Option Answer → Answer
+finalDue none = Ready
+finalDue (some a) = a
 
-pub right-final : {a : Answer} {due : Option Answer} → Right a due → step-result a ≡ was-final → a ≡ final-due due
-unfolding step-result
+pub right-final : {a : Answer} {due : Option Answer} → Right a due → stepResult a ≡ was-final → a ≡ finalDue due
+unfolding stepResult
 right-final no-answer e = impossible (cc)
 right-final no-call e = impossible (cc)
 right-final update-answer e = refl
@@ -115,33 +115,33 @@ module _ (n steps : ℕ) (c : List ℕ) (t : Tree) (b : Table c n t) (o : Openab
   -- what a step must leave
   abbrev Goal : Memory → Hand → Option Answer → Type 0
   Goal m h due =
-      Toward goal n steps (record { card = stepOf c m .card; memory = stepOf c m .memory }) (fed-a-step (step-result (stepOf c m .answer)) l h) (due-after-step (step-result (stepOf c m .answer)) due) × Right (stepOf c m .answer) due × Moves c m (stepOf c m)
+      Toward goal n steps (record { card = stepOf c m .card; memory = stepOf c m .memory }) (fedAStep (stepResult (stepOf c m .answer)) l h) (dueAfterStep (stepResult (stepOf c m .answer)) due) × Right (stepOf c m .answer) due × Moves c m (stepOf c m)
 
-  stored-goal : (m m′ : Memory) (c′ : List ℕ) (h : Hand) (due : Option Answer) → stepOf c m ≡ record { answer = Stored; card = c′; memory = m′ } → isIdle (m′ .doing) ≡ false → Toward goal n steps (record { card = c′; memory = m′ }) (fed-a-step goes-on l h) due → Goal m h due
-  unfolding step-result due-after-step
+  stored-goal : (m m′ : Memory) (c′ : List ℕ) (h : Hand) (due : Option Answer) → stepOf c m ≡ record { answer = Stored; card = c′; memory = m′ } → isIdle (m′ .doing) ≡ false → Toward goal n steps (record { card = c′; memory = m′ }) (fedAStep goes-on l h) due → Goal m h due
+  unfolding stepResult dueAfterStep
   stored-goal m m′ c′ h due e busy i = rw e (i, no-answer, goes-further refl busy)
 
-  final-goal : (m m′ : Memory) (a : Answer) (h : Hand) (due : Option Answer) → stepOf c m ≡ record { answer = a; card = c; memory = m′ } → m′ .doing ≡ Idle → step-result a ≡ was-final → Toward goal n steps (record { card = c; memory = m′ }) (fed-a-step was-final l h) none → Right a due → Goal m h due
-  unfolding due-after-step
+  final-goal : (m m′ : Memory) (a : Answer) (h : Hand) (due : Option Answer) → stepOf c m ≡ record { answer = a; card = c; memory = m′ } → m′ .doing ≡ Idle → stepResult a ≡ was-final → Toward goal n steps (record { card = c; memory = m′ }) (fedAStep was-final l h) none → Right a due → Goal m h due
+  unfolding dueAfterStep
   final-goal m m′ a h due e idle f i r = rw (e, f) (i, r, ends-now f refl idle)
 
   -- the state idle again
-  idle-inv : (free : List Bool) (last : ℕ) (l′ : List (ℕ × ℕ)) → Same (pairs t) l′ → table-violations t ≡ 0 → 3 ≤ countTrue free → Exact n free t → bare t ≡ goal → Toward goal n steps (record { card = c; memory = memory n free last Idle [] [] }) (ledger l′ empty) none
+  idle-inv : (free : List Bool) (last : ℕ) (l′ : List (ℕ × ℕ)) → Same (pairs t) l′ → tableViolations t ≡ 0 → 3 ≤ countTrue free → Exact n free t → bare t ≡ goal → Toward goal n steps (record { card = c; memory = memory n free last Idle [] [] }) (ledger l′ empty) none
   idle-inv free last l′ s z r x eg = (record { tree = t; goal = goal; table = b; openable = o; same = s; stage = stage-idle z r x eg }, refl)
 
   -- a repair that has nothing left to do gives its final answer
-  ended : {doing : Doing} {key : ℕ} {final : Answer} {u : Option Update} {h : Hand} {due : Option Answer} (free : List Bool) (last : ℕ) → Job doing key final u → Entered u final h due → table-violations t ≡ 0 → 3 ≤ countTrue free → Exact n free t → bare t ≡ goal → Goal (memory n free last doing [] []) h due
-  unfolding idled step-result fed-a-step
+  ended : {doing : Doing} {key : ℕ} {final : Answer} {u : Option Update} {h : Hand} {due : Option Answer} (free : List Bool) (last : ℕ) → Job doing key final u → Entered u final h due → tableViolations t ≡ 0 → 3 ≤ countTrue free → Exact n free t → bare t ≡ goal → Goal (memory n free last doing [] []) h due
+  unfolding idled stepResult fedAStep
   ended {doing} {key} {final} {u} {h} {due} free last j en z r x eg =
       final-goal (memory n free last doing [] []) (memory n free last Idle [] []) final h due
       (step-repairs c n (b .sized) (b .header) free last j ∙ prepared-ready c (memory n free last doing [] []) doing final (nextRepair c n key free last) (rests c n key t free last b z)) refl (is-final j) (entered-inv en) (right j en)
     where
-      is-final : {doing : Doing} {key : ℕ} {final : Answer} {u : Option Update} → Job doing key final u → step-result final ≡ was-final
+      is-final : {doing : Doing} {key : ℕ} {final : Answer} {u : Option Update} → Job doing key final u → stepResult final ≡ was-final
       is-final job-repair = refl
       is-final job-insert = refl
       is-final job-delete = refl
 
-      entered-inv : {u : Option Update} {final : Answer} {h : Hand} {due : Option Answer} → Entered u final h due → Toward goal n steps (record { card = c; memory = memory n free last Idle [] [] }) (fed-a-step was-final l h) none
+      entered-inv : {u : Option Update} {final : Answer} {h : Hand} {due : Option Answer} → Entered u final h due → Toward goal n steps (record { card = c; memory = memory n free last Idle [] [] }) (fedAStep was-final l h) none
       entered-inv no-update = idle-inv free last l same z r x eg
       entered-inv updated = idle-inv free last l same z r x eg
 
@@ -151,8 +151,8 @@ module _ (n steps : ℕ) (c : List ℕ) (t : Tree) (b : Table c n t) (o : Openab
       right job-delete updated = update-answer
 
   -- an entered update, or opening's repair, keeps its hand
-  entered-on : {u : Option Update} {final : Answer} {h : Hand} {due : Option Answer} → Entered u final h due → (h′ : Hand) × (fed-a-step goes-on l h ≡ ledger l h′) × Entered u final h′ due
-  unfolding fed-a-step counted
+  entered-on : {u : Option Update} {final : Answer} {h : Hand} {due : Option Answer} → Entered u final h due → (h′ : Hand) × (fedAStep goes-on l h ≡ ledger l h′) × Entered u final h′ due
+  unfolding fedAStep counted
   entered-on no-update = (empty, refl, no-update)
   entered-on (updated {u} {final} {f} {k}) = (hand u f (suc k) true, refl, updated)
 
@@ -162,7 +162,7 @@ module _ (n steps : ℕ) (c : List ℕ) (t : Tree) (b : Table c n t) (o : Openab
   repaired free last deep j en (settled z r) x few hd = ended free last j en z r x (heads-done hd (bare-table-violations t ∙ z))
   repaired {doing} {key} {final} {u} {h} {due} free last deep j en (violated v w r) x few hd = apply (mends c n key t free last b x v w r)
     where
-      apply : Repaired c n key t free last (depth-of (v .context)) → Goal (memory n free last doing [] []) h due
+      apply : Repaired c n key t free last (depthOf (v .context)) → Goal (memory n free last doing [] []) h due
       apply q = split (q .stores) refl
         where
           split : (s : List Store) → q .stores ≡ s → Goal (memory n free last doing [] []) h due
@@ -181,7 +181,7 @@ module _ (n steps : ℕ) (c : List ℕ) (t : Tree) (b : Table c n t) (o : Openab
   begins : {doing : Doing} {key : ℕ} {final : Answer} {u : Update} (f : Bool) (m : Memory) (s : Store) (rest : List Store) (free : List Bool) (last : ℕ) (cut : List ℕ) → Job doing key final (some u)
       → stepOf c m ≡ record { answer = Stored; card = set c (s .0) (s .1); memory = advanced (memory n free last doing [] cut) rest }
       → (p : Changing c n key t (s ∷ rest) free cut) → Enters u (pairs t) (pairs (p .next)) → suc (length rest) ≡ deciding u f → length rest + (73 * p .level + 1) ≤ steps → Heads (p .level) (bare (p .next)) goal → Goal m (hand u f 0 false) (some final)
-  unfolding fed-a-step
+  unfolding fedAStep
   begins {final = final} {u = u} f m s rest free last cut j e p en count few hd =
       let q : 0 + suc (length rest) ≡ deciding u f = omega arith in
       stored-goal m _ (set c (s .0) (s .1)) (hand u f 0 false) (some final) e (busy-after n free last [] cut (job-busy j) rest) (update-stored f 0 last steps [] l b same j p en q few hd)
@@ -190,18 +190,18 @@ module _ (n steps : ℕ) (c : List ℕ) (t : Tree) (b : Table c n t) (o : Openab
   lands : (key : ℕ) → lowestKey ≤ key → key < keyLimit → LandedAt c n key t
   lands key low high = landing-found c n key (b .sized .words) lowestKey keyLimit t (b .holds) (b .sound .range) low high (omega arith) (table-depth-limited b)
 
-  landed : (key : ℕ) (g : LandedAt c n key t) → landing c n key ≡ LandingAt (g .number) (link-place (g .context)) (full-run (g .context))
+  landed : (key : ℕ) (g : LandedAt c n key t) → landing c n key ≡ LandingAt (g .number) (linkPlace (g .context)) (fullRun (g .context))
   unfolding landing
   landed key g = g .landed
 
   -- the way to it is no longer than a balanced table is high, so that the steps are enough
-  way-short : (key : ℕ) (g : LandedAt c n key t) → table-violations t ≡ 0 → UpdateSteps t (suc steps) → 73 + 73 * depth-of (g .context) ≤ steps
+  way-short : (key : ℕ) (g : LandedAt c n key t) → tableViolations t ≡ 0 → UpdateSteps t (suc steps) → 73 + 73 * depthOf (g .context) ≤ steps
   way-short key g z few =
       let d = table-depth (few .height) t (few .level) (b .sound .widths) in
       let e : depth (plug (g .context) (leaf (g .number) (g .keys) (g .values))) ≡ depth t = ap depth (g .is-tree) in
       omega (arith, depth-plug (g .context) (leaf (g .number) (g .keys) (g .values)), few .enough)
 
-  way-limited : (key : ℕ) (g : LandedAt c n key t) → depth-of (g .context) ≤ depthLimit
+  way-limited : (key : ℕ) (g : LandedAt c n key t) → depthOf (g .context) ≤ depthLimit
   way-limited key g = omega (arith, ap depth (g .is-tree), depth-plug (g .context) (leaf (g .number) (g .keys) (g .values)), table-depth-limited b)
 
   -- the slot that the row of keys has
@@ -223,21 +223,21 @@ module _ (n steps : ℕ) (c : List ℕ) (t : Tree) (b : Table c n t) (o : Openab
   goal-absent key e eg = sym (after-by-map (remove key) t ∙ ap (λ (f : Option ℕ). changes (remove key) f (bare t) (settledBy depthLimit (firstShape (remove key) (bare t)))) e) ∙ eg
 
   -- "Insert, key held: answers the held value, no store."
-  put-answers : (free : List Bool) (last key value i : ℕ) → table-violations t ≡ 0 → 3 ≤ countTrue free → Exact n free t → (g : LandedAt c n key t) → slotOf (nodeAt c (g .number)) key ≡ At i → (f : Bool) → afterShape (put key value) (bare t) ≡ goal
-      → Goal (memory n free last (Inserting key value false) [] []) (hand (put key value) f 0 false) (some (dictionary-answer (lookup key (pairs t))))
-  unfolding idled step-result fed-a-step slotAnswer dictionary-answer
+  put-answers : (free : List Bool) (last key value i : ℕ) → tableViolations t ≡ 0 → 3 ≤ countTrue free → Exact n free t → (g : LandedAt c n key t) → slotOf (nodeAt c (g .number)) key ≡ At i → (f : Bool) → afterShape (put key value) (bare t) ≡ goal
+      → Goal (memory n free last (Inserting key value false) [] []) (hand (put key value) f 0 false) (some (dictionaryAnswer (lookup key (pairs t))))
+  unfolding idled stepResult fedAStep slotAnswer dictionaryAnswer
   put-answers free last key value i z r x g e f eg =
       let m = memory n free last (Inserting key value false) [] [] in
       let v = getD (nodeAt c (g .number)) (12 + i) 0 in
       let found : lookup key (pairs t) ≡ some (getD (nodeAt c (g .number)) (12 + i) 0) = sym (g .answers) ∙ ap (slotAnswer (nodeAt c (g .number))) e in
-      final-goal (memory n free last (Inserting key value false) [] []) (memory n free last Idle [] []) (Value v) (hand (put key value) f 0 false) (some (dictionary-answer (lookup key (pairs t))))
-      (step-puts c n (b .sized) (b .header) free last key value ∙ put-held c n key (g .number) (link-place (g .context)) (full-run (g .context)) (landed key g) value free last m i e ∙ prepared-ready c m (Inserting key value true) (Value v) balanced refl)
+      final-goal (memory n free last (Inserting key value false) [] []) (memory n free last Idle [] []) (Value v) (hand (put key value) f 0 false) (some (dictionaryAnswer (lookup key (pairs t))))
+      (step-puts c n (b .sized) (b .header) free last key value ∙ put-held c n key (g .number) (linkPlace (g .context)) (fullRun (g .context)) (landed key g) value free last m i e ∙ prepared-ready c m (Inserting key value true) (Value v) balanced refl)
       refl refl
       (idle-inv free last (entered (put key value) l) (enters-held key value (pairs t) (held-positive key (getD (nodeAt c (g .number)) (12 + i) 0) (pairs t) found) .to l same) z r x (goal-held key value (getD (nodeAt c (g .number)) (12 + i) 0) found eg))
       (rw found update-answer)
     where
-      held-positive : (k v : ℕ) (ps : List (ℕ × ℕ)) → lookup k ps ≡ some v → 0 < total (has-key k) ps
-      held-positive k v ps q = order 0 (total (has-key k) ps) (λ a. a) (λ a. absurd (Option·none-ne-some v (sym (lookup-none k ps (omega arith)) ∙ q)))
+      held-positive : (k v : ℕ) (ps : List (ℕ × ℕ)) → lookup k ps ≡ some v → 0 < total (hasKey k) ps
+      held-positive k v ps q = order 0 (total (hasKey k) ps) (λ a. a) (λ a. absurd (Option·none-ne-some v (sym (lookup-none k ps (omega arith)) ∙ q)))
 
   -- the first change is planned, and its first store made
   first-made : {doing : Doing} {key : ℕ} {final : Answer} {u : Update} (f : Bool) (m : Memory) (prep : Preparation) (s : Store) (rest : List Store) (free : List Bool) (last : ℕ) (cut : List ℕ) (deep : ℕ) → m .nodes ≡ n → Job doing key final (some u)
@@ -249,27 +249,27 @@ module _ (n steps : ℕ) (c : List ℕ) (t : Tree) (b : Table c n t) (o : Openab
       (record { repairs = depthLimit; enough = omega arith; reaches = ap (settledBy depthLimit) (p .shaped) ∙ eg })
 
   -- "With an empty slot: value first, then key, in the lowest empty slot."
-  put-into-slot : (free : List Bool) (last key value i : ℕ) → table-violations t ≡ 0 → 3 ≤ countTrue free → Exact n free t → lowestKey ≤ key → key < keyLimit → UpdateSteps t (suc steps) → (g : LandedAt c n key t) → slotOf (nodeAt c (g .number)) key ≡ NoSlot → slotOf (nodeAt c (g .number)) 0 ≡ At i → afterShape (put key value) (bare t) ≡ goal
-      → Goal (memory n free last (Inserting key value false) [] []) (hand (put key value) (leaf-full c n key) 0 false) (some (dictionary-answer (lookup key (pairs t))))
-  unfolding slotAnswer dictionary-answer deciding
+  put-into-slot : (free : List Bool) (last key value i : ℕ) → tableViolations t ≡ 0 → 3 ≤ countTrue free → Exact n free t → lowestKey ≤ key → key < keyLimit → UpdateSteps t (suc steps) → (g : LandedAt c n key t) → slotOf (nodeAt c (g .number)) key ≡ NoSlot → slotOf (nodeAt c (g .number)) 0 ≡ At i → afterShape (put key value) (bare t) ≡ goal
+      → Goal (memory n free last (Inserting key value false) [] []) (hand (put key value) (leafFull c n key) 0 false) (some (dictionaryAnswer (lookup key (pairs t))))
+  unfolding slotAnswer dictionaryAnswer deciding
   put-into-slot free last key value i z r x low high few g e e₀ eg =
       let m = memory n free last (Inserting key value false) [] [] in
       let none-there : lookup key (pairs t) ≡ none = sym (g .answers) ∙ ap (slotAnswer (nodeAt c (g .number))) e in
       let words = read-length c (g .number) 1 (g .keys) (g .values) (g .on-card .0) in
       let s = slot-holds (nodeAt c (g .number)) 0 i words e₀ in
       let empty-slot : getD (g .keys) i 0 ≡ 0 = ap (λ (q : List ℕ). getD q i 0) (sym (leaf-keys c (g .number) (g .keys) (g .values) (g .on-card))) ∙ s .1 in
-      let flag = flag-slot c n key (g .number) (link-place (g .context)) (full-run (g .context)) (landed key g) i e₀ in
+      let flag = flag-slot c n key (g .number) (linkPlace (g .context)) (fullRun (g .context)) (landed key g) i e₀ in
       let none-held = absent-counted key (pairs t) none-there in
       let is = g .is-tree in
       let way = way-short key g z few in
-      let p : First c n key (plug (g .context) (leaf (g .number) (g .keys) (g .values))) ((place (g .number) (12 + i), value) ∷ (place (g .number) (1 + i), key) ∷ []) free [] (put key value) (depth-of (g .context)) =
+      let p : First c n key (plug (g .context) (leaf (g .number) (g .keys) (g .values))) ((place (g .number) (12 + i), value) ∷ (place (g .number) (1 + i), key) ∷ []) free [] (put key value) (depthOf (g .context)) =
       at-slot (g .context) (g .number) (g .keys) (g .values) i (rw is (b .holds)) (rw is (b .sound)) (rw is z) (rw is x) r (g .leads) low high value (s .0) empty-slot (rw is none-held) (row-slot key 0 g ∙ e₀) in
       rw (none-there, flag)
-      (first-made false m _ (place (g .number) (12 + i), value) ((place (g .number) (1 + i), key) ∷ []) free last [] (depth-of (g .context)) refl job-insert
-      (step-puts c n (b .sized) (b .header) free last key value ∙ put-slot c n key (g .number) (link-place (g .context)) (full-run (g .context)) (landed key g) value free last m i e e₀) refl (rw is at p) refl (omega arith) (way-limited key g) (goal-put key value none-there eg))
+      (first-made false m _ (place (g .number) (12 + i), value) ((place (g .number) (1 + i), key) ∷ []) free last [] (depthOf (g .context)) refl job-insert
+      (step-puts c n (b .sized) (b .header) free last key value ∙ put-slot c n key (g .number) (linkPlace (g .context)) (fullRun (g .context)) (landed key g) value free last m i e e₀) refl (rw is at p) refl (omega arith) (way-limited key g) (goal-put key value none-there eg))
     where
-      at-slot : (C : Context) (m : ℕ) (ks vs : List ℕ) (i : ℕ) → Holds c (plug C (leaf m ks vs)) → Sound (plug C (leaf m ks vs)) → table-violations (plug C (leaf m ks vs)) ≡ 0 → Exact n free (plug C (leaf m ks vs)) → 3 ≤ countTrue free → Leads key C → lowestKey ≤ key → key < keyLimit
-          → (v : ℕ) → i < 11 → getD ks i 0 ≡ 0 → total (has-key key) (pairs (plug C (leaf m ks vs))) ≡ 0 → firstEqual ks 0 0 ≡ At i → First c n key (plug C (leaf m ks vs)) ((place m (12 + i), v) ∷ (place m (1 + i), key) ∷ []) free [] (put key v) (depth-of C)
+      at-slot : (C : Context) (m : ℕ) (ks vs : List ℕ) (i : ℕ) → Holds c (plug C (leaf m ks vs)) → Sound (plug C (leaf m ks vs)) → tableViolations (plug C (leaf m ks vs)) ≡ 0 → Exact n free (plug C (leaf m ks vs)) → 3 ≤ countTrue free → Leads key C → lowestKey ≤ key → key < keyLimit
+          → (v : ℕ) → i < 11 → getD ks i 0 ≡ 0 → total (hasKey key) (pairs (plug C (leaf m ks vs))) ≡ 0 → firstEqual ks 0 0 ≡ At i → First c n key (plug C (leaf m ks vs)) ((place m (12 + i), v) ∷ (place m (1 + i), key) ∷ []) free [] (put key v) (depthOf C)
       at-slot C m ks vs i h s z x r w lo hi v small e₁ a e₂ =
           record {
             changing = slot-changing c n key free C m ks vs h s z x r w lo hi i v small e₁ a;
@@ -279,9 +279,9 @@ module _ (n steps : ℕ) (c : List ℕ) (t : Tree) (b : Table c n t) (o : Openab
           }
 
   -- "Delete: key word to 0, answers the value"
-  remove-from-slot : (free : List Bool) (last key i : ℕ) → table-violations t ≡ 0 → 3 ≤ countTrue free → Exact n free t → lowestKey ≤ key → key < keyLimit → UpdateSteps t (suc steps) → (g : LandedAt c n key t) → slotOf (nodeAt c (g .number)) key ≡ At i → afterShape (remove key) (bare t) ≡ goal
-      → Goal (memory n free last (Deleting key false 0) [] []) (hand (remove key) false 0 false) (some (dictionary-answer (lookup key (pairs t))))
-  unfolding slotAnswer dictionary-answer deciding
+  remove-from-slot : (free : List Bool) (last key i : ℕ) → tableViolations t ≡ 0 → 3 ≤ countTrue free → Exact n free t → lowestKey ≤ key → key < keyLimit → UpdateSteps t (suc steps) → (g : LandedAt c n key t) → slotOf (nodeAt c (g .number)) key ≡ At i → afterShape (remove key) (bare t) ≡ goal
+      → Goal (memory n free last (Deleting key false 0) [] []) (hand (remove key) false 0 false) (some (dictionaryAnswer (lookup key (pairs t))))
+  unfolding slotAnswer dictionaryAnswer deciding
   remove-from-slot free last key i z r x low high few g e eg =
       let m = memory n free last (Deleting key false 0) [] [] in
       let found : lookup key (pairs t) ≡ some (getD (nodeAt c (g .number)) (12 + i) 0) = sym (g .answers) ∙ ap (slotAnswer (nodeAt c (g .number))) e in
@@ -290,14 +290,14 @@ module _ (n steps : ℕ) (c : List ℕ) (t : Tree) (b : Table c n t) (o : Openab
       let held-slot : getD (g .keys) i 0 ≡ key = ap (λ (q : List ℕ). getD q i 0) (sym (leaf-keys c (g .number) (g .keys) (g .values) (g .on-card))) ∙ s .1 in
       let is = g .is-tree in
       let way = way-short key g z few in
-      let p : First c n key (plug (g .context) (leaf (g .number) (g .keys) (g .values))) ((place (g .number) (1 + i), 0) ∷ []) free [] (remove key) (depth-of (g .context)) =
+      let p : First c n key (plug (g .context) (leaf (g .number) (g .keys) (g .values))) ((place (g .number) (1 + i), 0) ∷ []) free [] (remove key) (depthOf (g .context)) =
       at-slot (g .context) (g .number) (g .keys) (g .values) (rw is (b .holds)) (rw is (b .sound)) (rw is z) (rw is x) r (g .leads) low high (s .0) held-slot (row-slot key key g ∙ e) in
       rw found
-      (first-made false m _ (place (g .number) (1 + i), 0) [] free last [] (depth-of (g .context)) refl job-delete
-      (step-removes c n (b .sized) (b .header) free last key ∙ remove-held c n key (g .number) (link-place (g .context)) (full-run (g .context)) (landed key g) 0 free last m i e) refl (rw is at p) refl (omega arith) (way-limited key g) (goal-remove key (getD (nodeAt c (g .number)) (12 + i) 0) found eg))
+      (first-made false m _ (place (g .number) (1 + i), 0) [] free last [] (depthOf (g .context)) refl job-delete
+      (step-removes c n (b .sized) (b .header) free last key ∙ remove-held c n key (g .number) (linkPlace (g .context)) (fullRun (g .context)) (landed key g) 0 free last m i e) refl (rw is at p) refl (omega arith) (way-limited key g) (goal-remove key (getD (nodeAt c (g .number)) (12 + i) 0) found eg))
     where
-      at-slot : (C : Context) (m : ℕ) (ks vs : List ℕ) → Holds c (plug C (leaf m ks vs)) → Sound (plug C (leaf m ks vs)) → table-violations (plug C (leaf m ks vs)) ≡ 0 → Exact n free (plug C (leaf m ks vs)) → 3 ≤ countTrue free → Leads key C → lowestKey ≤ key → key < keyLimit
-          → i < 11 → getD ks i 0 ≡ key → firstEqual ks key 0 ≡ At i → First c n key (plug C (leaf m ks vs)) ((place m (1 + i), 0) ∷ []) free [] (remove key) (depth-of C)
+      at-slot : (C : Context) (m : ℕ) (ks vs : List ℕ) → Holds c (plug C (leaf m ks vs)) → Sound (plug C (leaf m ks vs)) → tableViolations (plug C (leaf m ks vs)) ≡ 0 → Exact n free (plug C (leaf m ks vs)) → 3 ≤ countTrue free → Leads key C → lowestKey ≤ key → key < keyLimit
+          → i < 11 → getD ks i 0 ≡ key → firstEqual ks key 0 ≡ At i → First c n key (plug C (leaf m ks vs)) ((place m (1 + i), 0) ∷ []) free [] (remove key) (depthOf C)
       at-slot C m ks vs h s z x r w lo hi small e₁ e₂ =
           record {
             changing = delete-changing c n key free C m ks vs h s z x r w lo hi i small e₁;
@@ -307,55 +307,55 @@ module _ (n steps : ℕ) (c : List ℕ) (t : Tree) (b : Table c n t) (o : Openab
           }
 
   -- "absent and no store if not held"
-  remove-answers : (free : List Bool) (last key : ℕ) → table-violations t ≡ 0 → 3 ≤ countTrue free → Exact n free t → (g : LandedAt c n key t) → slotOf (nodeAt c (g .number)) key ≡ NoSlot → afterShape (remove key) (bare t) ≡ goal
-      → Goal (memory n free last (Deleting key false 0) [] []) (hand (remove key) false 0 false) (some (dictionary-answer (lookup key (pairs t))))
-  unfolding idled step-result fed-a-step slotAnswer dictionary-answer
+  remove-answers : (free : List Bool) (last key : ℕ) → tableViolations t ≡ 0 → 3 ≤ countTrue free → Exact n free t → (g : LandedAt c n key t) → slotOf (nodeAt c (g .number)) key ≡ NoSlot → afterShape (remove key) (bare t) ≡ goal
+      → Goal (memory n free last (Deleting key false 0) [] []) (hand (remove key) false 0 false) (some (dictionaryAnswer (lookup key (pairs t))))
+  unfolding idled stepResult fedAStep slotAnswer dictionaryAnswer
   remove-answers free last key z r x g e eg =
       let m = memory n free last (Deleting key false 0) [] [] in
       let none-there : lookup key (pairs t) ≡ none = sym (g .answers) ∙ ap (slotAnswer (nodeAt c (g .number))) e in
-      final-goal (memory n free last (Deleting key false 0) [] []) (memory n free last Idle [] []) Absent (hand (remove key) false 0 false) (some (dictionary-answer (lookup key (pairs t))))
-      (step-removes c n (b .sized) (b .header) free last key ∙ remove-absent c n key (g .number) (link-place (g .context)) (full-run (g .context)) (landed key g) 0 free last m e ∙ prepared-ready c m (Deleting key true 0) Absent balanced refl)
+      final-goal (memory n free last (Deleting key false 0) [] []) (memory n free last Idle [] []) Absent (hand (remove key) false 0 false) (some (dictionaryAnswer (lookup key (pairs t))))
+      (step-removes c n (b .sized) (b .header) free last key ∙ remove-absent c n key (g .number) (linkPlace (g .context)) (fullRun (g .context)) (landed key g) 0 free last m e ∙ prepared-ready c m (Deleting key true 0) Absent balanced refl)
       refl refl
       (idle-inv free last (entered (remove key) l) (enters-gone key (pairs t) (absent-counted key (pairs t) none-there) .to l same) z r x (goal-absent key none-there eg))
       (rw none-there update-answer)
 
   -- "Leaf full: the 12 pairs go 6 and 6 into two leaves under a tagged node"
-  put-by-split : (free : List Bool) (last key value : ℕ) → table-violations t ≡ 0 → 3 ≤ countTrue free → Exact n free t → lowestKey ≤ key → key < keyLimit → UpdateSteps t (suc steps) → startRoom c key free (landing c n key) ≡ true → (g : LandedAt c n key t)
+  put-by-split : (free : List Bool) (last key value : ℕ) → tableViolations t ≡ 0 → 3 ≤ countTrue free → Exact n free t → lowestKey ≤ key → key < keyLimit → UpdateSteps t (suc steps) → startRoom c key free (landing c n key) ≡ true → (g : LandedAt c n key t)
       → slotOf (nodeAt c (g .number)) key ≡ NoSlot → slotOf (nodeAt c (g .number)) 0 ≡ NoSlot → afterShape (put key value) (bare t) ≡ goal
-      → Goal (memory n free last (Inserting key value false) [] []) (hand (put key value) (leaf-full c n key) 0 false) (some (dictionary-answer (lookup key (pairs t))))
-  unfolding slotAnswer dictionary-answer deciding
+      → Goal (memory n free last (Inserting key value false) [] []) (hand (put key value) (leafFull c n key) 0 false) (some (dictionaryAnswer (lookup key (pairs t))))
+  unfolding slotAnswer dictionaryAnswer deciding
   put-by-split free last key value z r x low high few room g e e₀ eg =
       let none-there : lookup key (pairs t) ≡ none = sym (g .answers) ∙ ap (slotAnswer (nodeAt c (g .number))) e in
-      let flag = flag-full c n key (g .number) (link-place (g .context)) (full-run (g .context)) (landed key g) e₀ in
+      let flag = flag-full c n key (g .number) (linkPlace (g .context)) (fullRun (g .context)) (landed key g) e₀ in
       let eleven = slots-full (nodeAt c (g .number)) (g .keys) (g .values) (leaf-keys c (g .number) (g .keys) (g .values) (g .on-card)) (g .on-card .1) (g .on-card .2) e₀ in
-      let spare = room-full c n key (g .number) (link-place (g .context)) (full-run (g .context)) (landed key g) free e e₀ room in
+      let spare = room-full c n key (g .number) (linkPlace (g .context)) (fullRun (g .context)) (landed key g) free e e₀ room in
       let none-held = absent-counted key (pairs t) none-there in
       let is = g .is-tree in
       rw (none-there, flag)
       (go (numbers-given 3 free last (x .outside-none 0 (inl refl)) r) (way-short key g z few) eleven spare none-held (goal-put key value none-there eg))
     where
       stores : List ℕ → List Store
-      stores ms = node-stores (splitNodes (g .context) (first ms) (second ms) (third ms) (withPair key value (g .keys) (g .values))) ++ (link-place (g .context), third ms) ∷ []
+      stores ms = nodeStores (splitNodes (g .context) (first ms) (second ms) (third ms) (withPair key value (g .keys) (g .values))) ++ (linkPlace (g .context), third ms) ∷ []
 
       planned-as : (ms : List ℕ) → takeNumbers 3 free last ≡ some ms
-          → giving 3 free last (λ ms. splitLeaf (g .number) (link-place (g .context)) (sort ((key, value) ∷ leafPairs (nodeAt c (g .number)))) (first ms) (second ms) (third ms)) ≡ prepared (stores ms) (withoutAll ms free) (lastOf last ms) (g .number ∷ [])
+          → giving 3 free last (λ ms. splitLeaf (g .number) (linkPlace (g .context)) (sort ((key, value) ∷ leafPairs (nodeAt c (g .number)))) (first ms) (second ms) (third ms)) ≡ prepared (stores ms) (withoutAll ms free) (lastOf last ms) (g .number ∷ [])
       planned-as ms e₁ =
-          giving-same 3 free last _ (λ ms. change-at (g .context) (splitNodes (g .context) (first ms) (second ms) (third ms) (withPair key value (g .keys) (g .values))) (third ms) (g .number ∷ []))
-          (λ ms. ap (λ (q : List (ℕ × ℕ)). splitLeaf (g .number) (link-place (g .context)) (sort ((key, value) ∷ q)) (first ms) (second ms) (third ms)) (leaf-pairs c (g .number) (g .keys) (g .values) (g .on-card))
+          giving-same 3 free last _ (λ ms. rewriteAt (g .context) (splitNodes (g .context) (first ms) (second ms) (third ms) (withPair key value (g .keys) (g .values))) (third ms) (g .number ∷ []))
+          (λ ms. ap (λ (q : List (ℕ × ℕ)). splitLeaf (g .number) (linkPlace (g .context)) (sort ((key, value) ∷ q)) (first ms) (second ms) (third ms)) (leaf-pairs c (g .number) (g .keys) (g .values) (g .on-card))
           ∙ split-change (g .context) (g .number) (withPair key value (g .keys) (g .values)) (first ms) (second ms) (third ms))
           ∙ giving-some 3 free last _ ms e₁
           ∙ ap (λ (q : List Store). prepared q (withoutAll ms free) (lastOf last ms) (g .number ∷ [])) (change-stores (g .context) _ (third ms) (g .number ∷ []))
 
-      go : ((ms : List ℕ) × (takeNumbers 3 free last ≡ some ms) × (length ms ≡ 3) × Given free ms) → 73 + 73 * depth-of (g .context) ≤ steps → length (slot-pairs (g .keys) (g .values)) ≡ 11 → splitNeed (full-run (g .context)) ≤ countTrue free → total (has-key key) (pairs t) ≡ 0 → settledBy depthLimit (firstShape (put key value) (bare t)) ≡ goal
+      go : ((ms : List ℕ) × (takeNumbers 3 free last ≡ some ms) × (length ms ≡ 3) × Given free ms) → 73 + 73 * depthOf (g .context) ≤ steps → length (slotPairs (g .keys) (g .values)) ≡ 11 → splitNeed (fullRun (g .context)) ≤ countTrue free → total (hasKey key) (pairs t) ≡ 0 → settledBy depthLimit (firstShape (put key value) (bare t)) ≡ goal
           → Goal (memory n free last (Inserting key value false) [] []) (hand (put key value) true 0 false) (some Absent)
       go (ms, e₁, three, gv) way eleven spare none-held reach = split (stores ms) refl
         where
-          p : First c n key (plug (g .context) (leaf (g .number) (g .keys) (g .values))) (stores ms) (withoutAll ms free) (g .number ∷ []) (put key value) (depth-of (g .context))
+          p : First c n key (plug (g .context) (leaf (g .number) (g .keys) (g .values))) (stores ms) (withoutAll ms free) (g .number ∷ []) (put key value) (depthOf (g .context))
           p = at (g .context) (g .number) (g .keys) (g .values) (rw (g .is-tree) (b .holds)) (rw (g .is-tree) (b .sound)) (rw (g .is-tree) z) (rw (g .is-tree) x) (g .leads) eleven (rw (g .is-tree) none-held) spare (row-slot key 0 g ∙ e₀)
             where
-              at : (C : Context) (m : ℕ) (ks vs : List ℕ) → Holds c (plug C (leaf m ks vs)) → Sound (plug C (leaf m ks vs)) → table-violations (plug C (leaf m ks vs)) ≡ 0 → Exact n free (plug C (leaf m ks vs)) → Leads key C → length (slot-pairs ks vs) ≡ 11
-                  → total (has-key key) (pairs (plug C (leaf m ks vs))) ≡ 0 → splitNeed (full-run C) ≤ countTrue free → firstEqual ks 0 0 ≡ NoSlot
-                  → First c n key (plug C (leaf m ks vs)) (node-stores (splitNodes C (first ms) (second ms) (third ms) (withPair key value ks vs)) ++ (link-place C, third ms) ∷ []) (withoutAll ms free) (m ∷ []) (put key value) (depth-of C)
+              at : (C : Context) (m : ℕ) (ks vs : List ℕ) → Holds c (plug C (leaf m ks vs)) → Sound (plug C (leaf m ks vs)) → tableViolations (plug C (leaf m ks vs)) ≡ 0 → Exact n free (plug C (leaf m ks vs)) → Leads key C → length (slotPairs ks vs) ≡ 11
+                  → total (hasKey key) (pairs (plug C (leaf m ks vs))) ≡ 0 → splitNeed (fullRun C) ≤ countTrue free → firstEqual ks 0 0 ≡ NoSlot
+                  → First c n key (plug C (leaf m ks vs)) (nodeStores (splitNodes C (first ms) (second ms) (third ms) (withPair key value ks vs)) ++ (linkPlace C, third ms) ∷ []) (withoutAll ms free) (m ∷ []) (put key value) (depthOf C)
               at C m ks vs h s z x w full-leaf a sp e₂ =
                   record {
                     changing = split-changing c n key free C m ks vs h s z x r w low high value ms three gv (b .sized .words) (omega (arith, b .sized .most)) full-leaf a sp;
@@ -371,42 +371,42 @@ module _ (n steps : ℕ) (c : List ℕ) (t : Tree) (b : Table c n t) (o : Openab
           split [] q = absurd (omega (arith, count, ap length q))
           split (s ∷ rest) q =
               let l₁ : suc (length rest) ≡ 73 = sym (ap length q) ∙ count in
-              let p₁ : First c n key t (s ∷ rest) (withoutAll ms free) (g .number ∷ []) (put key value) (depth-of (g .context)) = rw (g .is-tree, q) at p in
-              first-made true (memory n free last (Inserting key value false) [] []) _ s rest (withoutAll ms free) (lastOf last ms) (g .number ∷ []) (depth-of (g .context)) refl job-insert
+              let p₁ : First c n key t (s ∷ rest) (withoutAll ms free) (g .number ∷ []) (put key value) (depthOf (g .context)) = rw (g .is-tree, q) at p in
+              first-made true (memory n free last (Inserting key value false) [] []) _ s rest (withoutAll ms free) (lastOf last ms) (g .number ∷ []) (depthOf (g .context)) refl job-insert
               (step-puts c n (b .sized) (b .header) free last key value
-              ∙ put-full c n key (g .number) (link-place (g .context)) (full-run (g .context)) (landed key g) value free last (memory n free last (Inserting key value false) [] []) e e₀)
+              ∙ put-full c n key (g .number) (linkPlace (g .context)) (fullRun (g .context)) (landed key g) value free last (memory n free last (Inserting key value false) [] []) e e₀)
               (planned-as ms e₁ ∙ ap (λ (q : List Store). prepared q (withoutAll ms free) (lastOf last ms) (g .number ∷ [])) q) p₁ l₁ (omega arith) (way-limited key g) reach
 
   -- by what its leaf holds
-  put-begins : (free : List Bool) (last key value : ℕ) → table-violations t ≡ 0 → 3 ≤ countTrue free → Exact n free t → lowestKey ≤ key → key < keyLimit → UpdateSteps t (suc steps) → startRoom c key free (landing c n key) ≡ true → afterShape (put key value) (bare t) ≡ goal
-      → Goal (memory n free last (Inserting key value false) [] []) (hand (put key value) (leaf-full c n key) 0 false) (some (dictionary-answer (lookup key (pairs t))))
+  put-begins : (free : List Bool) (last key value : ℕ) → tableViolations t ≡ 0 → 3 ≤ countTrue free → Exact n free t → lowestKey ≤ key → key < keyLimit → UpdateSteps t (suc steps) → startRoom c key free (landing c n key) ≡ true → afterShape (put key value) (bare t) ≡ goal
+      → Goal (memory n free last (Inserting key value false) [] []) (hand (put key value) (leafFull c n key) 0 false) (some (dictionaryAnswer (lookup key (pairs t))))
   put-begins free last key value z r x low high few room eg = go (lands key low high)
     where
-      go : (g : LandedAt c n key t) → Goal (memory n free last (Inserting key value false) [] []) (hand (put key value) (leaf-full c n key) 0 false) (some (dictionary-answer (lookup key (pairs t))))
+      go : (g : LandedAt c n key t) → Goal (memory n free last (Inserting key value false) [] []) (hand (put key value) (leafFull c n key) 0 false) (some (dictionaryAnswer (lookup key (pairs t))))
       go g = at (slotOf (nodeAt c (g .number)) key) refl
         where
-          empty-at : (s : Slot) → slotOf (nodeAt c (g .number)) 0 ≡ s → slotOf (nodeAt c (g .number)) key ≡ NoSlot → Goal (memory n free last (Inserting key value false) [] []) (hand (put key value) (leaf-full c n key) 0 false) (some (dictionary-answer (lookup key (pairs t))))
+          empty-at : (s : Slot) → slotOf (nodeAt c (g .number)) 0 ≡ s → slotOf (nodeAt c (g .number)) key ≡ NoSlot → Goal (memory n free last (Inserting key value false) [] []) (hand (put key value) (leafFull c n key) 0 false) (some (dictionaryAnswer (lookup key (pairs t))))
           empty-at (At i) e₀ e = put-into-slot free last key value i z r x low high few g e e₀ eg
           empty-at NoSlot e₀ e = put-by-split free last key value z r x low high few room g e e₀ eg
 
-          at : (s : Slot) → slotOf (nodeAt c (g .number)) key ≡ s → Goal (memory n free last (Inserting key value false) [] []) (hand (put key value) (leaf-full c n key) 0 false) (some (dictionary-answer (lookup key (pairs t))))
-          at (At i) e = put-answers free last key value i z r x g e (leaf-full c n key) eg
+          at : (s : Slot) → slotOf (nodeAt c (g .number)) key ≡ s → Goal (memory n free last (Inserting key value false) [] []) (hand (put key value) (leafFull c n key) 0 false) (some (dictionaryAnswer (lookup key (pairs t))))
+          at (At i) e = put-answers free last key value i z r x g e (leafFull c n key) eg
           at NoSlot e = empty-at (slotOf (nodeAt c (g .number)) 0) refl e
 
-  remove-begins : (free : List Bool) (last key : ℕ) → table-violations t ≡ 0 → 3 ≤ countTrue free → Exact n free t → lowestKey ≤ key → key < keyLimit → UpdateSteps t (suc steps) → afterShape (remove key) (bare t) ≡ goal
-      → Goal (memory n free last (Deleting key false 0) [] []) (hand (remove key) false 0 false) (some (dictionary-answer (lookup key (pairs t))))
+  remove-begins : (free : List Bool) (last key : ℕ) → tableViolations t ≡ 0 → 3 ≤ countTrue free → Exact n free t → lowestKey ≤ key → key < keyLimit → UpdateSteps t (suc steps) → afterShape (remove key) (bare t) ≡ goal
+      → Goal (memory n free last (Deleting key false 0) [] []) (hand (remove key) false 0 false) (some (dictionaryAnswer (lookup key (pairs t))))
   remove-begins free last key z r x low high few eg = go (lands key low high)
     where
-      go : (g : LandedAt c n key t) → Goal (memory n free last (Deleting key false 0) [] []) (hand (remove key) false 0 false) (some (dictionary-answer (lookup key (pairs t))))
+      go : (g : LandedAt c n key t) → Goal (memory n free last (Deleting key false 0) [] []) (hand (remove key) false 0 false) (some (dictionaryAnswer (lookup key (pairs t))))
       go g = at (slotOf (nodeAt c (g .number)) key) refl
         where
-          at : (s : Slot) → slotOf (nodeAt c (g .number)) key ≡ s → Goal (memory n free last (Deleting key false 0) [] []) (hand (remove key) false 0 false) (some (dictionary-answer (lookup key (pairs t))))
+          at : (s : Slot) → slotOf (nodeAt c (g .number)) key ≡ s → Goal (memory n free last (Deleting key false 0) [] []) (hand (remove key) false 0 false) (some (dictionaryAnswer (lookup key (pairs t))))
           at (At i) e = remove-from-slot free last key i z r x low high few g e eg
           at NoSlot e = remove-answers free last key z r x g e eg
 
   -- a step at any stage
   pub stage-steps : (m : Memory) (h : Hand) (due : Option Answer) → Stage c n t goal (suc steps) m h due → Goal m h due
-  unfolding stepRefused step-result fed-a-step due-after-step
+  unfolding stepRefused stepResult fedAStep dueAfterStep
   stage-steps m h due (stage-idle {free} {last} z r x eg) = rw (step-idle c n (b .sized) (b .header) free last) (idle-inv free last l same z r x eg, no-call, was-idle refl)
   stage-steps m h due (stage-put {free} {last} {key} {value} z r x low high room few eg) = put-begins free last key value z r x low high few room eg
   stage-steps m h due (stage-remove {free} {last} {key} z r x low high few eg) = remove-begins free last key z r x low high few eg
@@ -420,6 +420,6 @@ module _ (n steps : ℕ) (c : List ℕ) (t : Tree) (b : Table c n t) (o : Openab
       (busy-after n free last (s ∷ rest) cut (job-busy j) rest) (rw (g .1) (repair-stored last steps (s ∷ rest) l b same j (g .2) p e (omega arith) hd))
 
 -- THE STEP: the invariant is kept, and an answer given is the one due
-pub kept-step : (n steps : ℕ) (w : World) (b : Ledger) (due : Option Answer) → (i : Inv n (suc steps) w b due) → Toward (i .goal) n steps (happens step w) (feed (fed step w) b) (due-after step w b due) × Right (stepOf (w .card) (w .memory) .answer) due × Moves (w .card) (w .memory) (stepOf (w .card) (w .memory))
-unfolding happens feed fed due-after
-kept-step n steps w b due i = stage-steps n steps (w .card) (i .tree) (i .table) (i .openable) (b .held) (i .same) (i .goal) (w .memory) (b .in-hand) due (i .stage)
+pub kept-step : (n steps : ℕ) (w : World) (b : Ledger) (due : Option Answer) → (i : Inv n (suc steps) w b due) → Toward (i .goal) n steps (happens step w) (feed (fed step w) b) (dueAfter step w b due) × Right (stepOf (w .card) (w .memory) .answer) due × Moves (w .card) (w .memory) (stepOf (w .card) (w .memory))
+unfolding happens feed fed dueAfter
+kept-step n steps w b due i = stage-steps n steps (w .card) (i .tree) (i .table) (i .openable) (b .held) (i .same) (i .goal) (w .memory) (b .inHand) due (i .stage)

@@ -9,10 +9,10 @@ use Rattle.laws.proofs.Cases.{bool-cases, impossible}
 use Rattle.card.specs.Header.{nodesOfLength, Sized}
 use Rattle.card.proofs.HeaderLaws.{sized-nodes}
 use Rattle.repairing.specs.Repairing.{Repaired, repairedCard, openedCard}
-use Rattle.promises.proofs.Feeding.{kept-ledger}
+use Rattle.promises.proofs.Feeding.{keptLedger}
 use Rattle.promises.proofs.Ledger.{ledger, empty}
 use Rattle.promises.proofs.Machine.{Event, World, opened, happens, run, step}
-use Rattle.promises.proofs.Promise.{Accepted, Words, Quiet, steps-in, MapIs, Ends, from-open}
+use Rattle.promises.proofs.Promise.{Accepted, Words, Quiet, stepsIn, MapIs, Ends, from-open}
 use Rattle.promises.proofs.PowerLoss.{kept, begins-inv, power-loss}
 use Rattle.promises.proofs.Steps.{idle-world}
 use Rattle.state.specs.Steps.{isIdle}
@@ -44,11 +44,11 @@ is-idle (Deleting key begun value) e = impossible (cc)
 is-idle (Repairing key) e = impossible (cc)
 
 -- the card and the state that a repair leaves
-abbrev pub world-of : Repaired → World
-world-of r = record { card = r .card; memory = r .memory }
+abbrev pub worldFrom : Repaired → World
+worldFrom r = record { card = r .card; memory = r .memory }
 
 -- the loop that stops when the state is idle is the run of all the steps
-repair-run : (k : ℕ) (c : List ℕ) (m : Memory) → world-of (repairedCard k c m) ≡ run (steps k) (record { card = c; memory = m })
+repair-run : (k : ℕ) (c : List ℕ) (m : Memory) → worldFrom (repairedCard k c m) ≡ run (steps k) (record { card = c; memory = m })
 unfolding repairedCard run happens
 repair-run zero c m = refl
 repair-run (suc k) c m = bool-cases (isIdle (m .doing)) (λ q. rw q (stays q)) (λ q. rw q (repair-run k (stepOf c m .card) (stepOf c m .memory)))
@@ -57,7 +57,7 @@ repair-run (suc k) c m = bool-cases (isIdle (m .doing)) (λ q. rw q (stays q)) (
     stays q = sym (rests (suc k) (record { card = c; memory = m }) (is-idle (m .doing) q))
 
 -- a card that was opened, once its repair is done
-pub opened-run : (c : List ℕ) → world-of (openedCard c) ≡ run (steps repairSteps) (opened c)
+pub opened-run : (c : List ℕ) → worldFrom (openedCard c) ≡ run (steps repairSteps) (opened c)
 unfolding openedCard
 opened-run c = repair-run repairSteps c (openOf c .memory)
 
@@ -70,7 +70,7 @@ unfolding Quiet
 all-quiet zero w = tt
 all-quiet (suc k) w = all-quiet k (happens step w)
 
-count-steps : (k : ℕ) → steps-in (steps k) ≡ k
+count-steps : (k : ℕ) → stepsIn (steps k) ≡ k
 count-steps zero = refl
 count-steps (suc k) = ap suc (count-steps k)
 
@@ -84,7 +84,7 @@ pub record After (c : List ℕ) (t : Tree) : Type 0 where
 
 module _ (c : List ℕ) (t : Tree) (a : Accepted c) (w : WellFormed c t) where
   ends : Ends (opened c) (steps repairSteps) (pairs t)
-  unfolding run kept-ledger
+  unfolding run keptLedger
   ends = power-loss (opened c) (pairs t) (from-open c t a w) [] tt .ends (steps repairSteps) (all-quiet repairSteps (opened c)) (omega (arith, count-steps repairSteps))
 
   size-kept : Sized (length (run (steps repairSteps) (opened c) .card)) (nodesOfLength (length c))

@@ -7,12 +7,12 @@ use Prim.Native.Nat.{ℕ, zero, suc}
 use native.Mathlib.Omega.{arith}
 use lib.ListN.{length}
 use Rattle.tree.proofs.Cut.{Cut, cut}
-use Rattle.tree.specs.Pairs.{pairs, forest-pairs}
-use Rattle.tree.proofs.Path.{depth-of, width-of, full-run, own-violation}
+use Rattle.tree.specs.Pairs.{pairs, forestPairs}
+use Rattle.tree.proofs.Path.{depthOf, widthOf, fullRun, ownViolation}
 use Rattle.tree.specs.Height.{Height, AllHeight}
-use Rattle.tree.specs.Tree.{Tree, Forest, roots, routing, node-total, node-totals, leaf, node, one, more}
+use Rattle.tree.specs.Tree.{Tree, Forest, roots, routing, nodeTotal, nodeTotals, leaf, node, one, more}
 use Rattle.tree.proofs.Tree.{Left, Right, join, splice, fill, Context, plug, rightmost, followed, top, down}
-use Rattle.tree.specs.Violations.{violations, forest-violations, table-violations}
+use Rattle.tree.specs.Violations.{violations, forestViolations, tableViolations}
 
 abbrev mutual
   pub bare : Tree → Tree
@@ -23,17 +23,17 @@ abbrev mutual
   bares (one t) = one (bare t)
   bares (more t k f) = more (bare t) k (bares f)
 
-abbrev pub bare-left : Left → Left
-bare-left [] = []
-bare-left (a ∷ l) = (bare (a .0), a .1) ∷ bare-left l
+abbrev pub bareLeft : Left → Left
+bareLeft [] = []
+bareLeft (a ∷ l) = (bare (a .0), a .1) ∷ bareLeft l
 
-abbrev pub bare-right : Right → Right
-bare-right rightmost = rightmost
-bare-right (followed k f) = followed k (bares f)
+abbrev pub bareRight : Right → Right
+bareRight rightmost = rightmost
+bareRight (followed k f) = followed k (bares f)
 
-abbrev pub bare-context : Context → Context
-bare-context top = top
-bare-context (down C m g l r) = down (bare-context C) 0 g (bare-left l) (bare-right r)
+abbrev pub bareContext : Context → Context
+bareContext top = top
+bareContext (down C m g l r) = down (bareContext C) 0 g (bareLeft l) (bareRight r)
 
 -- two trees that differ in their node numbers alone
 abbrev pub Alike : Tree → Tree → Type 0
@@ -44,12 +44,12 @@ pub bare-join : (f : Forest) (k : ℕ) (g : Forest) → bares (join f k g) ≡ j
 bare-join (one t) k g = refl
 bare-join (more t x f) k g = ap (λ (h : Forest). more (bare t) x h) (bare-join f k g)
 
-pub bare-splice : (l : Left) (f : Forest) (r : Right) → bares (splice l f r) ≡ splice (bare-left l) (bares f) (bare-right r)
+pub bare-splice : (l : Left) (f : Forest) (r : Right) → bares (splice l f r) ≡ splice (bareLeft l) (bares f) (bareRight r)
 bare-splice [] f rightmost = refl
 bare-splice [] f (followed k g) = bare-join f k g
 bare-splice (a ∷ l) f r = ap (λ (h : Forest). more (bare (a .0)) (a .1) h) (bare-splice l f r)
 
-pub bare-plug : (C : Context) (t : Tree) → bare (plug C t) ≡ plug (bare-context C) (bare t)
+pub bare-plug : (C : Context) (t : Tree) → bare (plug C t) ≡ plug (bareContext C) (bare t)
 bare-plug top t = refl
 bare-plug (down C m g l r) t = rw (bare-plug C (node m g (fill l t r)), bare-splice l (one t) r)
 
@@ -69,11 +69,11 @@ pub bare-routing : (f : Forest) → routing (bares f) ≡ routing f
 bare-routing (one t) = refl
 bare-routing (more t k f) = ap (λ (ks : List ℕ). k ∷ ks) (bare-routing f)
 
-pub bare-left-size : (l : Left) → length (bare-left l) ≡ length l
+pub bare-left-size : (l : Left) → length (bareLeft l) ≡ length l
 bare-left-size [] = refl
 bare-left-size (a ∷ l) = ap suc (bare-left-size l)
 
-pub bare-width-of : (l : Left) (r : Right) → width-of (bare-left l) (bare-right r) ≡ width-of l r
+pub bare-width-of : (l : Left) (r : Right) → widthOf (bareLeft l) (bareRight r) ≡ widthOf l r
 bare-width-of l rightmost = omega (arith, bare-left-size l)
 bare-width-of l (followed k f) = omega (arith, bare-left-size l, bare-width f)
 
@@ -82,11 +82,11 @@ mutual
   bare-pairs (leaf m ks vs) = refl
   bare-pairs (node m g f) = bares-pairs f
 
-  pub bares-pairs : (f : Forest) → forest-pairs (bares f) ≡ forest-pairs f
+  pub bares-pairs : (f : Forest) → forestPairs (bares f) ≡ forestPairs f
   bares-pairs (one t) = bare-pairs t
   bares-pairs (more t k f) = ap₂ (λ (a b : List (ℕ × ℕ)). a ++ b) (bare-pairs t) (bares-pairs f)
 
-pub bare-own : (t : Tree) → own-violation (bare t) ≡ own-violation t
+pub bare-own : (t : Tree) → ownViolation (bare t) ≡ ownViolation t
 bare-own (leaf m ks vs) = refl
 bare-own (node m g f) = rw (bare-width f)
 
@@ -95,31 +95,31 @@ mutual
   bare-violations (leaf m ks vs) = refl
   bare-violations (node m g f) = rw (bare-width f, bares-violations f)
 
-  pub bares-violations : (f : Forest) → forest-violations (bares f) ≡ forest-violations f
+  pub bares-violations : (f : Forest) → forestViolations (bares f) ≡ forestViolations f
   bares-violations (one t) = bare-violations t
   bares-violations (more t k f) = omega (arith, bare-violations t, bares-violations f)
 
-pub bare-table-violations : (t : Tree) → table-violations (bare t) ≡ table-violations t
+pub bare-table-violations : (t : Tree) → tableViolations (bare t) ≡ tableViolations t
 bare-table-violations (leaf m ks vs) = refl
 bare-table-violations (node m g f) = bares-violations f
 
 -- "the 11-child nodes without a break straight above"
-pub bare-run : (C : Context) → full-run (bare-context C) ≡ full-run C
-unfolding full-run
+pub bare-run : (C : Context) → fullRun (bareContext C) ≡ fullRun C
+unfolding fullRun
 bare-run top = refl
 bare-run (down C m g l r) = rw (bare-width-of l r, bare-run C)
 
-pub bare-depth : (C : Context) → depth-of (bare-context C) ≡ depth-of C
+pub bare-depth : (C : Context) → depthOf (bareContext C) ≡ depthOf C
 bare-depth top = refl
 bare-depth (down C m g l r) = ap suc (bare-depth C)
 
 -- how many nodes a tree has
 mutual
-  pub bare-size : (t : Tree) → node-total (λ m. 1) (bare t) ≡ node-total (λ m. 1) t
+  pub bare-size : (t : Tree) → nodeTotal (λ m. 1) (bare t) ≡ nodeTotal (λ m. 1) t
   bare-size (leaf m ks vs) = refl
   bare-size (node m g f) = omega (arith, bares-size f)
 
-  pub bares-size : (f : Forest) → node-totals (λ m. 1) (bares f) ≡ node-totals (λ m. 1) f
+  pub bares-size : (f : Forest) → nodeTotals (λ m. 1) (bares f) ≡ nodeTotals (λ m. 1) f
   bares-size (one t) = bare-size t
   bares-size (more t k f) = omega (arith, bare-size t, bares-size f)
 

@@ -11,9 +11,9 @@ use Rattle.descent.specs.Descent.{firstEqual}
 use Rattle.descent.specs.declared.Slot.{Slot}
 use Rattle.descent.specs.declared.Slot.the-variants.{At, Absent as NoSlot}
 use Rattle.laws.specs.Cases.{pick}
-use Rattle.shapes.proofs.Bare.{bare, bare-context, bare-plug, bare-run, bare-depth}
+use Rattle.shapes.proofs.Bare.{bare, bareContext, bare-plug, bare-run, bare-depth}
 use Rattle.shapes.proofs.Ways.{Reaches, bare-reaches}
-use Rattle.tree.proofs.Path.{Past, Short, depth-of, full-run, width-fill}
+use Rattle.tree.proofs.Path.{Past, Short, depthOf, fullRun, width-fill}
 use Rattle.tree.specs.Tree.{Tree, Forest, roots, leaf, node, one, more}
 use Rattle.tree.proofs.Tree.{Left, Right, fill, Context, plug, rightmost, followed, top, down}
 use Rattle.updates.specs.Updates.{splitNeed}
@@ -50,19 +50,19 @@ module _ (key : ℕ) where
   need-fill run [] s (followed k f) p q = rw (lt-ltb key k q)
   need-fill run (a ∷ l) s r p q = rw (le-ltb key (a .1) (p .0)) (need-fill run l s r (p .1) q)
 
-  need-through : (C : Context) (m : ℕ) (g : Bool) (l : Left) (s : Tree) (r : Right) → Past key l → Short key r → needOf key (full-run C) (node m g (fill l s r)) ≡ needOf key (full-run (down C m g l r)) s
-  unfolding needOf full-run
+  need-through : (C : Context) (m : ℕ) (g : Bool) (l : Left) (s : Tree) (r : Right) → Past key l → Short key r → needOf key (fullRun C) (node m g (fill l s r)) ≡ needOf key (fullRun (down C m g l r)) s
+  unfolding needOf fullRun
   need-through C m g l s r p q =
-      need-fill (runBelow (length (roots (fill l s r))) (full-run C)) l s r p q ∙ ap (λ (w : ℕ). needOf key (runBelow w (full-run C)) s) (width-fill l s r)
+      need-fill (runBelow (length (roots (fill l s r))) (fullRun C)) l s r p q ∙ ap (λ (w : ℕ). needOf key (runBelow w (fullRun C)) s) (width-fill l s r)
 
-  need-plug : (C : Context) (s : Tree) → Reaches key C → needOf key (full-run top) (plug C s) ≡ needOf key (full-run C) s
+  need-plug : (C : Context) (s : Tree) → Reaches key C → needOf key (fullRun top) (plug C s) ≡ needOf key (fullRun C) s
   need-plug top s p = refl
   need-plug (down C m g l r) s p = need-plug C (node m g (fill l s r)) (p .2) ∙ need-through C m g l s r (p .0) (p .1)
 
   -- the leaf that the key leads to
-  pub need-leaf : (C : Context) (m : ℕ) (ks vs : List ℕ) → Reaches key C → needOf key 0 (bare (plug C (leaf m ks vs))) ≡ leafNeed (firstEqual ks 0 0) (full-run C)
-  unfolding needOf full-run
-  need-leaf C m ks vs p = rw (bare-plug C (leaf m ks vs)) (need-plug (bare-context C) (leaf 0 ks vs) (bare-reaches key C p) ∙ ap (leafNeed (firstEqual ks 0 0)) (bare-run C))
+  pub need-leaf : (C : Context) (m : ℕ) (ks vs : List ℕ) → Reaches key C → needOf key 0 (bare (plug C (leaf m ks vs))) ≡ leafNeed (firstEqual ks 0 0) (fullRun C)
+  unfolding needOf fullRun
+  need-leaf C m ks vs p = rw (bare-plug C (leaf m ks vs)) (need-plug (bareContext C) (leaf 0 ks vs) (bare-reaches key C p) ∙ ap (leafNeed (firstEqual ks 0 0)) (bare-run C))
 
   way-fill : (l : Left) (s : Tree) (r : Right) → Past key l → Short key r → wayIn key (fill l s r) ≡ wayOf key s
   unfolding wayIn
@@ -70,11 +70,11 @@ module _ (key : ℕ) where
   way-fill [] s (followed k f) p q = rw (lt-ltb key k q)
   way-fill (a ∷ l) s r p q = rw (le-ltb key (a .1) (p .0)) (way-fill l s r (p .1) q)
 
-  way-plug : (C : Context) (s : Tree) → Reaches key C → wayOf key (plug C s) ≡ depth-of C + wayOf key s
+  way-plug : (C : Context) (s : Tree) → Reaches key C → wayOf key (plug C s) ≡ depthOf C + wayOf key s
   unfolding wayOf
   way-plug top s p = omega arith
   way-plug (down C m g l r) s p = omega (arith, way-plug C (node m g (fill l s r)) (p .2), way-fill l s r (p .0) (p .1))
 
-  pub way-leaf : (C : Context) (m : ℕ) (ks vs : List ℕ) → Reaches key C → wayOf key (bare (plug C (leaf m ks vs))) ≡ depth-of C
+  pub way-leaf : (C : Context) (m : ℕ) (ks vs : List ℕ) → Reaches key C → wayOf key (bare (plug C (leaf m ks vs))) ≡ depthOf C
   unfolding wayOf
-  way-leaf C m ks vs p = rw (bare-plug C (leaf m ks vs)) (omega (arith, way-plug (bare-context C) (leaf 0 ks vs) (bare-reaches key C p), bare-depth C))
+  way-leaf C m ks vs p = rw (bare-plug C (leaf m ks vs)) (omega (arith, way-plug (bareContext C) (leaf 0 ks vs) (bare-reaches key C p), bare-depth C))

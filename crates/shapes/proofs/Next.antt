@@ -6,26 +6,26 @@ use mathlib.Core.Bool.{Bool, true, false}
 use Prim.Native.Nat.{ℕ, _+_}
 use lib.ListN.{length, set, take, drop}
 use lib.Dec.{eqb, ltb, leb}
-use Rattle.card.specs.Layout.{slot-pairs}
+use Rattle.card.specs.Layout.{slotPairs}
 use Rattle.descent.specs.Descent.{firstEqual}
 use Rattle.descent.specs.declared.Slot.{Slot}
 use Rattle.descent.specs.declared.Slot.the-variants.{At, Absent as NoSlot}
 use Rattle.laws.specs.Cases.{pick}
 use Rattle.laws.specs.Lists.{pad}
-use Rattle.laws.specs.Sorting.{Pairs, sort, pair-keys, pair-values, key-at}
+use Rattle.laws.specs.Sorting.{Pairs, sort, pairKeys, pairValues, keyAt}
 use Rattle.plans.specs.Change.{half}
 use Rattle.tree.proofs.Cut.{cut}
-use Rattle.tree.proofs.Path.{own-violation}
+use Rattle.tree.proofs.Path.{ownViolation}
 use Rattle.tree.specs.Violations.{violations}
 use Rattle.tree.specs.Tree.{Tree, Forest, roots, leaf, node, one, more}
 use Rattle.tree.proofs.Tree.{Left, Right, join, splice, Context, rightmost, followed, top, down}
 
 -- a leaf of these pairs, and two side by side
 abbrev pub bareLeaf : Pairs → Tree
-bareLeaf ps = leaf 0 (pad 11 (pair-keys ps)) (pad 11 (pair-values ps))
+bareLeaf ps = leaf 0 (pad 11 (pairKeys ps)) (pad 11 (pairValues ps))
 
 abbrev pub bareLeaves : ℕ → Pairs → Forest
-bareLeaves n ps = more (bareLeaf (take n ps)) (key-at n ps) (one (bareLeaf (drop n ps)))
+bareLeaves n ps = more (bareLeaf (take n ps)) (keyAt n ps) (one (bareLeaf (drop n ps)))
 
 -- two internal nodes side by side, made of a forest cut after n children
 abbrev pub bareInners : ℕ → Forest → Forest
@@ -52,7 +52,7 @@ mendInners below l f k g r =
 
 -- the siblings x and y; they are of one kind
 unfoldable pub mendTwo : Bool → Left → Tree → ℕ → Tree → Right → Tree
-mendTwo below l (leaf x ks vs) k (leaf y ks′ vs′) r = mendLeaves below l (sort (slot-pairs ks vs ++ slot-pairs ks′ vs′)) r
+mendTwo below l (leaf x ks vs) k (leaf y ks′ vs′) r = mendLeaves below l (sort (slotPairs ks vs ++ slotPairs ks′ vs′)) r
 mendTwo below l (leaf x ks vs) k (node y h g) r = leaf x ks vs
 mendTwo below l (node x i f) k (leaf y ks vs) r = leaf y ks vs
 mendTwo below l (node x i f) k (node y h g) r = mendInners below l f k g r
@@ -96,15 +96,15 @@ apart (one t) = record { left = []; child = t; right = rightmost }
 apart (more t x f) = pick (ltb 0 (violations t)) (record { left = []; child = t; right = followed x f }) (record { left = (t, x) ∷ apart f .left; child = apart f .child; right = apart f .right })
 
 -- the place of a part: below the root, or not
-abbrev pub tagged-in : Context → Bool
-tagged-in top = false
-tagged-in (down C m g l r) = true
+abbrev pub taggedIn : Context → Bool
+taggedIn top = false
+taggedIn (down C m g l r) = true
 
 -- ONE REPAIR: the violation is mended in its parent. There is one at most, so no key is needed to find it.
 unfoldable mutual
   pub repairedBy : Bool → Tree → Tree
   repairedBy below (leaf m ks vs) = leaf m ks vs
-  repairedBy below (node m g f) = pick (eqb (own-violation (apart f .child)) 1) (mendAt below (apart f .left) (apart f .child) (apart f .right)) (node m g (repairedIn f))
+  repairedBy below (node m g f) = pick (eqb (ownViolation (apart f .child)) 1) (mendAt below (apart f .left) (apart f .child) (apart f .right)) (node m g (repairedIn f))
 
   pub repairedIn : Forest → Forest
   repairedIn (one t) = one (repairedBy true t)
@@ -124,7 +124,7 @@ module _ (change : Bool → List ℕ → List ℕ → Tree) (key : ℕ) where
 -- "With an empty slot: value first, then key, in the lowest empty slot. Leaf full: the 12 pairs go 6 and 6 .."
 unfoldable pub putAt : ℕ → ℕ → Slot → Bool → List ℕ → List ℕ → Tree
 putAt key value (At i) below ks vs = leaf 0 (set ks i key) (set vs i value)
-putAt key value NoSlot below ks vs = node 0 below (bareLeaves 6 (sort ((key, value) ∷ slot-pairs ks vs)))
+putAt key value NoSlot below ks vs = node 0 below (bareLeaves 6 (sort ((key, value) ∷ slotPairs ks vs)))
 
 unfoldable pub putIn : ℕ → ℕ → Bool → List ℕ → List ℕ → Tree
 putIn key value below ks vs = putAt key value (firstEqual ks 0 0) below ks vs

@@ -15,7 +15,7 @@ use Rattle.plans.specs.Planning.{giving, first, second, third, refused}
 use Rattle.siblings.specs.Siblings.{mendTogether, mendSiblings}
 use Rattle.plans.proofs.RowLaws.{length-words, row-then, row-then-part}
 use Rattle.plans.specs.Rows.{wordsOf, Row, pairsOf, PairRow}
-use Rattle.laws.specs.Sorting.{Pairs, insert-all, sort, pair-keys, pair-values}
+use Rattle.laws.specs.Sorting.{Pairs, insertAll, sort, pairKeys, pairValues}
 use Rattle.laws.proofs.Sorting.{length-sort}
 use Rattle.plans.specs.declared.words.Words.{Words}
 use Rattle.plans.specs.declared.pairs.PairWords.{PairWords}
@@ -67,7 +67,7 @@ module _ (p : Position) (parent : List ℕ) (j : ℕ) (x y : List ℕ) (free : L
 
 -- ---- what siblings hold together, in code
 
-sorted-twice : (a b : Pairs) → insert-all a (insert-all b []) ≡ sort (a ++ b)
+sorted-twice : (a b : Pairs) → insertAll a (insertAll b []) ≡ sort (a ++ b)
 unfolding sort
 sorted-twice a b = sym (insert-all-append a b [])
 
@@ -77,12 +77,12 @@ module _ (w : PairWords) (n : ℕ) (lk : length (w .keys .items) ≡ 12) (lv : l
       length-words (w .keys) lk (omega (arith, row .keys-counted)) ∙ row .keys-counted
       ∙ sym (length-words (w .values) lv (omega (arith, row .values-counted)) ∙ row .values-counted)
 
-  pub pairs-pooled : togetherOf (record { kind = 1; keys = w .keys; values = w .values }) ≡ record { kind = 1; keys = pair-keys pairs; values = pair-values pairs }
+  pub pairs-pooled : togetherOf (record { kind = 1; keys = w .keys; values = w .values }) ≡ record { kind = 1; keys = pairKeys pairs; values = pairValues pairs }
   unfolding togetherOf pairsOf
   pairs-pooled =
       ap₂ (λ (k v : List ℕ). record { kind = 1; keys = k; values = v })
-      (sym (zip-keys (wordsOf (w .keys)) (wordsOf (w .values)) long) ∙ ap pair-keys (row .listed))
-      (sym (zip-values (wordsOf (w .keys)) (wordsOf (w .values)) long) ∙ ap pair-values (row .listed))
+      (sym (zip-keys (wordsOf (w .keys)) (wordsOf (w .values)) long) ∙ ap pairKeys (row .listed))
+      (sym (zip-values (wordsOf (w .keys)) (wordsOf (w .values)) long) ∙ ap pairValues (row .listed))
 
 module _ (x y : List ℕ) where
   pub leaves-count : length (leavesTogether x y .values) ≡ length (leafPairs x) + length (leafPairs y)
@@ -90,7 +90,7 @@ module _ (x y : List ℕ) where
   leaves-count = length-map (sort (leafPairs x ++ leafPairs y)) (λ p. p .1) ∙ length-sort (leafPairs x ++ leafPairs y) ∙ length-append (leafPairs x) (leafPairs y)
 
   pub leaves-pooled : (empty right all : PairWords) (m n : ℕ) → length (all .keys .items) ≡ 12 → length (all .values .items) ≡ 12 → n ≤ 12
-      → PairRow empty 0 [] → PairRow right m (insert-all (leafPairs y) (pairsOf empty)) → PairRow all n (insert-all (leafPairs x) (pairsOf right))
+      → PairRow empty 0 [] → PairRow right m (insertAll (leafPairs y) (pairsOf empty)) → PairRow all n (insertAll (leafPairs x) (pairsOf right))
       → togetherOf (record { kind = 1; keys = all .keys; values = all .values }) ≡ leavesTogether x y
   unfolding leavesTogether
   leaves-pooled empty right all m n lk lv few z r s =
@@ -98,7 +98,7 @@ module _ (x y : List ℕ) where
       (record {
         keys-counted = s .keys-counted;
         values-counted = s .values-counted;
-        listed = s .listed ∙ ap (insert-all (leafPairs x)) (r .listed ∙ ap (insert-all (leafPairs y)) (z .listed)) ∙ sorted-twice (leafPairs x) (leafPairs y);
+        listed = s .listed ∙ ap (insertAll (leafPairs x)) (r .listed ∙ ap (insertAll (leafPairs y)) (z .listed)) ∙ sorted-twice (leafPairs x) (leafPairs y);
       })
 
   pub inners-count : (key : ℕ) → length (innersTogether x key y .values) ≡ length (children x) + length (children y)

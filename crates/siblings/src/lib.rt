@@ -33,9 +33,9 @@ ghost use mathlib.Core.List.{[], _∷_};
 ghost use Prim.Native.Nat.{suc, _+_, _≤_, _<_};
 ghost use lib.ListN.{length, getD};
 ghost use lib.Dec.{eqb};
-ghost use Rattle.laws.specs.Lists.{before-zero};
+ghost use Rattle.laws.specs.Lists.{beforeZero};
 ghost use Rattle.card.specs.Layout.{rootPlace, kindOf, children, routingKeys};
-ghost use Rattle.card.specs.Stores.{node-stores};
+ghost use Rattle.card.specs.Stores.{nodeStores};
 ghost use Rattle.free_nodes.specs.NodeSet.{capacity, nodesOf};
 ghost use Rattle.plans.specs.Change.{leavesTogether, innersTogether, copied, share, merge, mergeRoot};
 ghost use Rattle.plans.specs.Planning.{giving, first, second, third};
@@ -55,7 +55,7 @@ fn append_parent(
     kids: Words,
 ) -> usize
     requires { ⌜ (count + 24 ≤ 73) × (1 ≤ m) × (m < capacity) × (length (now parent) ≡ 24) × (suc j < length (children (now parent))) × (keys .count ≤ 1) × (kids .count ≤ 2) × (length (now places) ≡ 73) × (length (now values) ≡ 73) ⌝ }
-    ensures { λ r. ⌜ Extends (planIn (now (places .entry)) (now (values .entry)) count) (planIn (now (places .exit)) (now (values .exit)) r) 24 (node-stores (copied m (now (parent .entry)) j (wordsOf keys) (wordsOf kids) ∷ [])) ⌝ }
+    ensures { λ r. ⌜ Extends (planIn (now (places .entry)) (now (values .entry)) count) (planIn (now (places .exit)) (now (values .exit)) r) 24 (nodeStores (copied m (now (parent .entry)) j (wordsOf keys) (wordsOf kids) ∷ [])) ⌝ }
 {
     let routing = replaced(routing_keys(parent), j, j + 1, keys);
     let under = replaced(children(parent), j, j + 2, kids);
@@ -65,7 +65,7 @@ fn append_parent(
 // The nodes that leave the tree where siblings j and j + 1 are made anew.
 fn cut_siblings(p: Position, parent: &[u32], j: usize) -> [u32; 3]
     requires { ⌜ Linked p × (length (now parent) ≡ 24) × (suc j < length (children (now parent))) ⌝ }
-    ensures { λ r. ⌜ before-zero r ≡ p .parent ∷ getD (children (now (parent .entry))) j 0 ∷ getD (children (now (parent .entry))) (suc j) 0 ∷ [] ⌝ }
+    ensures { λ r. ⌜ beforeZero r ≡ p .parent ∷ getD (children (now (parent .entry))) j 0 ∷ getD (children (now (parent .entry))) (suc j) 0 ∷ [] ⌝ }
 {
     let kids = children(parent);
     [p.parent as u32, kids[j], kids[j + 1]]

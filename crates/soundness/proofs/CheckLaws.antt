@@ -14,7 +14,7 @@ use Rattle.card.specs.Layout.{nodeAt, kindOf, keyWords, valueWords, children, r
 use Rattle.card.proofs.NodeLaws.{length-keyWords, get-keyWord, children-words, routing-words, length-routing}
 use Rattle.laws.proofs.Cases.{order, guard-some, bind-some, impossible}
 use Rattle.laws.specs.Cases.{pick, guard, bind}
-use Rattle.laws.specs.Lists.{all-zero, zero-after}
+use Rattle.laws.specs.Lists.{allZero, zeroAfter}
 use Rattle.soundness.specs.Check.{Findings, findingsOf, checkedOf, member, leafSound, unusedZero, Look, lookOf, noted, enterLeaf, innerSound, enterInner, enterKind, enterNode, ChildCheck, childrenCheck, raised, onLook, nodeCheck, bad, leaf, inner, slotSound, rangeEnd}
 use Rattle.soundness.specs.declared.Checked.{Checked}
 use Rattle.soundness.specs.declared.Entry.{Entry}
@@ -73,16 +73,16 @@ module _ (node : List ℕ) (len : length node ≡ 24) (low high i : ℕ) where
 -- ---- words that must be 0
 
 module _ (node : List ℕ) (i to : ℕ) where
-  pub zero-stop : i < to → to ≤ length node → (getD node i 0 ≡ 0 → ⊥) → all-zero (slice i to node) ≡ false
-  zero-stop h l e = ap all-zero (slice-cons i to node 0 h l) ∙ rw (ne-eqb (getD node i 0) 0 e)
+  pub zero-stop : i < to → to ≤ length node → (getD node i 0 ≡ 0 → ⊥) → allZero (slice i to node) ≡ false
+  zero-stop h l e = ap allZero (slice-cons i to node 0 h l) ∙ rw (ne-eqb (getD node i 0) 0 e)
 
-  pub zero-next : i < to → to ≤ length node → getD node i 0 ≡ 0 → all-zero (slice i to node) ≡ all-zero (slice (i + 1) to node)
-  zero-next h l e = ap all-zero (slice-cons i to node 0 h l) ∙ rw (eq-eqb (getD node i 0) 0 e, add-one i)
+  pub zero-next : i < to → to ≤ length node → getD node i 0 ≡ 0 → allZero (slice i to node) ≡ allZero (slice (i + 1) to node)
+  zero-next h l e = ap allZero (slice-cons i to node 0 h l) ∙ rw (eq-eqb (getD node i 0) 0 e, add-one i)
 
-  pub zero-end : i ≡ to → all-zero (slice i to node) ≡ true
+  pub zero-end : i ≡ to → allZero (slice i to node) ≡ true
   zero-end e = rw (e, slice-empty to node)
 
-zero-after-drop : (k : ℕ) (l : List ℕ) → zero-after k l ≡ all-zero (drop k l)
+zero-after-drop : (k : ℕ) (l : List ℕ) → zeroAfter k l ≡ allZero (drop k l)
 zero-after-drop zero l = refl
 zero-after-drop (suc k) [] = refl
 zero-after-drop (suc k) (x ∷ l) = zero-after-drop k l
@@ -93,18 +93,18 @@ take-drop (suc d) t [] = take-nil t ∙ ap (drop (suc d)) (sym (take-nil (suc d 
 take-drop (suc d) t (x ∷ l) = take-drop d t l ∙ ap (λ (n : ℕ). drop (suc d) (take n (x ∷ l))) (let z : suc (d + t) ≡ suc d + t = omega arith in z)
 
 -- words d + k to d + t of a node, as the words from k on of the t from d on
-part-zero : (node : List ℕ) (d t k : ℕ) → zero-after k (take t (drop d node)) ≡ all-zero (slice (d + k) (d + t) node)
-part-zero node d t k = zero-after-drop k _ ∙ ap (λ (l : List ℕ). all-zero (drop k l)) (take-drop d t node) ∙ ap all-zero (drop-drop k d (take (d + t) node))
+part-zero : (node : List ℕ) (d t k : ℕ) → zeroAfter k (take t (drop d node)) ≡ allZero (slice (d + k) (d + t) node)
+part-zero node d t k = zero-after-drop k _ ∙ ap (λ (l : List ℕ). allZero (drop k l)) (take-drop d t node) ∙ ap allZero (drop-drop k d (take (d + t) node))
 
 module _ (node : List ℕ) (c : ℕ) (some-child : 1 ≤ c) where
-  unused-parts : unusedZero node c ≡ (all-zero (slice c 12 node) && all-zero (slice (12 + c) 23 node))
+  unused-parts : unusedZero node c ≡ (allZero (slice c 12 node) && allZero (slice (12 + c) 23 node))
   unfolding unusedZero keyWords valueWords
-  unused-parts = ap₂ _&&_ (part-zero node 1 11 (c - 1) ∙ ap (λ (x : ℕ). all-zero (slice x 12 node)) (let z : 1 + (c - 1) ≡ c = omega arith in z)) (part-zero node 12 11 c)
+  unused-parts = ap₂ _&&_ (part-zero node 1 11 (c - 1) ∙ ap (λ (x : ℕ). allZero (slice x 12 node)) (let z : 1 + (c - 1) ≡ c = omega arith in z)) (part-zero node 12 11 c)
 
-  pub unused-keys : all-zero (slice c 12 node) ≡ false → unusedZero node c ≡ false
+  pub unused-keys : allZero (slice c 12 node) ≡ false → unusedZero node c ≡ false
   unused-keys e = unused-parts ∙ rw e
 
-  pub unused-values : all-zero (slice c 12 node) ≡ true → unusedZero node c ≡ all-zero (slice (12 + c) 23 node)
+  pub unused-values : allZero (slice c 12 node) ≡ true → unusedZero node c ≡ allZero (slice (12 + c) 23 node)
   unused-values e = unused-parts ∙ rw e
 
 -- ---- a first look at a leaf

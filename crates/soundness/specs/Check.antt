@@ -6,7 +6,7 @@ use Prim.Native.Nat.{ℕ, zero, suc, _-_}
 use lib.ListN.{length, getD, set, drop}
 use lib.Dec.{eqb, ltb, leb}
 use Rattle.laws.specs.Cases.{pick, guard, bind}
-use Rattle.laws.specs.Lists.{zero-after}
+use Rattle.laws.specs.Lists.{zeroAfter}
 use Rattle.card.specs.Layout.{lowestKey, keyLimit, rootPlace, depthLimit, nodeAt, kindOf, keyWords, valueWords, children, routingKeys, leafPairs, runBelow}
 use Rattle.free_nodes.specs.NodeSet.{nodesOf, allNodes}
 use Rattle.soundness.specs.declared.Survey.{Survey}
@@ -47,7 +47,7 @@ leafSound low high (k ∷ ks) = slotSound low high k ks && leafSound low high ks
 
 -- "all other words but the kind are 0", for c children
 unfoldable pub unusedZero : List ℕ → ℕ → Bool
-unusedZero node c = zero-after (c - 1) (keyWords node) && zero-after c (valueWords node)
+unusedZero node c = zeroAfter (c - 1) (keyWords node) && zeroAfter c (valueWords node)
 
 -- what a first look at a node finds: a leaf, or an internal node with so many children
 pub data Look : Type 0 where

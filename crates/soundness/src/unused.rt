@@ -3,13 +3,13 @@ ghost use mathlib.Core.Path.{_≡_};
 ghost use Prim.Native.Nat.{_≤_};
 ghost use lib.ListN.{length};
 ghost use lib.Seq.{slice};
-ghost use Rattle.laws.specs.Lists.{all-zero};
+ghost use Rattle.laws.specs.Lists.{allZero};
 ghost use Rattle.soundness.specs.Check.{unusedZero};
 
 // Whether the words of a node from `from`, included, to `to`, excluded, are 0.
 fn are_zero(node: &[u32], from: usize, to: usize) -> bool
     requires { ⌜ (from ≤ to) × (to ≤ length (now node)) ⌝ }
-    ensures { λ r. ⌜ r ≡ all-zero (slice from to (now (node .entry))) ⌝ }
+    ensures { λ r. ⌜ r ≡ allZero (slice from to (now (node .entry))) ⌝ }
 {
     let mut i = from;
     while i < to {

@@ -7,7 +7,7 @@ use native.Mathlib.Omega.{arith}
 use lib.ListN.{length, getD}
 use lib.Dec.{ltb, eqb}
 use borrow.Author.Tests.{ltb-false, le-ltb, eqb-true, eqb-false, ne-eqb, eq-eqb}
-use Rattle.card.specs.Layout.{nodeAt, kindOf, keyWords, valueWords, children, slot-pairs, leafPairs}
+use Rattle.card.specs.Layout.{nodeAt, kindOf, keyWords, valueWords, children, slotPairs, leafPairs}
 use Rattle.laws.specs.Cases.{pick}
 use Rattle.laws.proofs.Cases.{impossible}
 use Rattle.soundness.specs.Check.{Findings, leafSound, unusedZero, Look, lookOf, noted, enterLeaf, innerSound, enterInner, enterKind, enterNode, bad, inner, leaf as leaf-look}
@@ -56,7 +56,7 @@ pub record Present (c : List ℕ) (n m : ℕ) (f : Findings) : Type 0 where
 
 -- a leaf's words: how many pairs they hold, and whether so few are a violation
 abbrev pub pairsIn : List ℕ → ℕ
-pairsIn words = length (slot-pairs (keyWords words) (valueWords words))
+pairsIn words = length (slotPairs (keyWords words) (valueWords words))
 
 abbrev pub fewPairs : Bool → List ℕ → Bool
 fewPairs isRoot words = pick isRoot false (ltb (pairsIn words) 2)

@@ -25,8 +25,8 @@ use Rattle.tree.proofs.Counting.{Upto, Uptos}
 use Rattle.tree.proofs.Pairs.{depth}
 use Rattle.tree.proofs.Path.{reserve, Violation}
 use Rattle.tree.specs.Height.{Height}
-use Rattle.tree.specs.Tree.{Tree, Forest, root, node-total, node-totals, leaf, node, one, more}
-use Rattle.tree.specs.Violations.{table-violations}
+use Rattle.tree.specs.Tree.{Tree, Forest, root, nodeTotal, nodeTotals, leaf, node, one, more}
+use Rattle.tree.specs.Violations.{tableViolations}
 use Rattle.tree.specs.WellFormed.{WellFormed}
 
 pub record Facts (c : List ℕ) (n : ℕ) (t : Tree) (h : ℕ) (f : Findings) : Type 0 where
@@ -34,9 +34,9 @@ pub record Facts (c : List ℕ) (n : ℕ) (t : Tree) (h : ℕ) (f : Findings) : 
   pub level : Height h t
   pub free-length : length (f .free) ≡ capacity
   -- a number from 1 to n is free or the tree's, not both
-  pub free-in : (m : ℕ) → 1 ≤ m → m ≤ n → bit (getD (f .free) m false) + node-total (indicator m) t ≡ 1
+  pub free-in : (m : ℕ) → 1 ≤ m → m ≤ n → bit (getD (f .free) m false) + nodeTotal (indicator m) t ≡ 1
   pub free-out : (m : ℕ) → (m ≡ 0) ⊎ (n < m) → getD (f .free) m false ≡ false
-  pub violated : bit (f .violated) ≡ table-violations t
+  pub violated : bit (f .violated) ≡ tableViolations t
   -- a violation, with a key that leads to it and the free nodes that its repair needs besides three
   pub violation : f .violated ≡ true → (v : Violation t (f .key)) × (f .run ≡ reserve (v .context) (v .part)) × (lowestKey ≤ f .key) × (f .key < keyLimit)
   pub no-run : f .violated ≡ false → f .run ≡ 0
@@ -76,15 +76,15 @@ apart n i m (inl e) a b = omega arith
 apart n i m (inr e) a b = omega arith
 
 mutual
-  no-number : (n i : ℕ) (t : Tree) → (i ≡ 0) ⊎ (n < i) → Upto n t → node-total (indicator i) t ≡ 0
+  no-number : (n i : ℕ) (t : Tree) → (i ≡ 0) ⊎ (n < i) → Upto n t → nodeTotal (indicator i) t ≡ 0
   no-number n i (leaf m ks vs) o u = indicator-other i m (apart n i m o (u .0) (u .1))
   no-number n i (node m g k) o u = omega (arith, indicator-other i m (apart n i m o (u .0) (u .1)), no-numbers n i k o (u .2))
 
-  no-numbers : (n i : ℕ) (k : Forest) → (i ≡ 0) ⊎ (n < i) → Uptos n k → node-totals (indicator i) k ≡ 0
+  no-numbers : (n i : ℕ) (k : Forest) → (i ≡ 0) ⊎ (n < i) → Uptos n k → nodeTotals (indicator i) k ≡ 0
   no-numbers n i (one t) o u = no-number n i t o u
   no-numbers n i (more t x k) o u = omega (arith, no-number n i t o (u .0), no-numbers n i k o (u .1))
 
-all-free : (n : ℕ) (t : Tree) → n ≤ greatestNodes → Upto n t → ((i : ℕ) → node-total (indicator i) t ≤ 1) → AllFree (start n) t
+all-free : (n : ℕ) (t : Tree) → n ≤ greatestNodes → Upto n t → ((i : ℕ) → nodeTotal (indicator i) t ≤ 1) → AllFree (start n) t
 all-free n t small u once i =
     order i 1 (λ a. omega (arith, no-number n i t (inl (omega arith)) u))
     (λ a. order n i (λ b. omega (arith, no-number n i t (inr b) u)) (λ b. omega (arith, once i, ap bit (all-get n i a b (omega arith)))))

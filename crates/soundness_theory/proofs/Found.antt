@@ -12,7 +12,7 @@ use lib.ListN.{length, set, getD, length-set}
 use lib.Seq.{getD-set-other}
 use lib.Dec.{ltb}
 use borrow.Author.Tests.{lt-ltb, le-ltb}
-use Rattle.card.specs.Layout.{slot-pairs, runBelow}
+use Rattle.card.specs.Layout.{slotPairs, runBelow}
 use Rattle.laws.specs.Bits.{bit}
 use Rattle.laws.proofs.Bits.{bit-le}
 use Rattle.laws.proofs.Cases.{order, impossible}
@@ -20,9 +20,9 @@ use Rattle.laws.specs.Cases.{pick}
 use Rattle.laws.specs.Totals.{indicator}
 use Rattle.laws.proofs.Totals.{indicator-same, indicator-other}
 use Rattle.soundness.specs.Check.{Findings}
-use Rattle.tree.proofs.Path.{own-violation}
-use Rattle.tree.specs.Tree.{Tree, Forest, root, roots, node-total, node-totals, leaf, node, one, more}
-use Rattle.tree.specs.Violations.{few, violations, forest-violations, Width, Widths, AllWidths, RootOk, table-violations}
+use Rattle.tree.proofs.Path.{ownViolation}
+use Rattle.tree.specs.Tree.{Tree, Forest, root, roots, nodeTotal, nodeTotals, leaf, node, one, more}
+use Rattle.tree.specs.Violations.{few, violations, forestViolations, Width, Widths, AllWidths, RootOk, tableViolations}
 use Rattle.tree.proofs.Violations.{few-none, few-one}
 
 -- at most one of two: where the second holds the first does not
@@ -47,26 +47,26 @@ note violates key run f = pick violates (record { free = f .free; violated = tru
 
 -- whether a tree's root node violates, as the root of the table or elsewhere
 abbrev pub violates : Bool → Tree → Bool
-violates isRoot (leaf m ks vs) = pick isRoot false (ltb (length (slot-pairs ks vs)) 2)
+violates isRoot (leaf m ks vs) = pick isRoot false (ltb (length (slotPairs ks vs)) 2)
 violates isRoot (node m g f) = g || ltb (length (roots f)) 2
 
 -- the run to note for a violation: only tagged nodes are split upwards
-abbrev pub noted-run : ℕ → Tree → ℕ
-noted-run run (leaf m ks vs) = 0
-noted-run run (node m g f) = pick g run 0
+abbrev pub notedRun : ℕ → Tree → ℕ
+notedRun run (leaf m ks vs) = 0
+notedRun run (node m g f) = pick g run 0
 
 -- what is found at a tree's root node, and then in the whole tree
-abbrev pub at-root : Bool → ℕ → ℕ → Tree → Findings → Findings
-at-root isRoot run low t f = note (violates isRoot t) low (noted-run run t) (taken (root t) f)
+abbrev pub atRoot : Bool → ℕ → ℕ → Tree → Findings → Findings
+atRoot isRoot run low t f = note (violates isRoot t) low (notedRun run t) (taken (root t) f)
 
 abbrev mutual
   pub found : Bool → ℕ → ℕ → Tree → Findings → Findings
-  found isRoot run low (leaf m ks vs) f = at-root isRoot run low (leaf m ks vs) f
-  found isRoot run low (node m g k) f = found-below (runBelow (length (roots k)) run) low k (at-root isRoot run low (node m g k) f)
+  found isRoot run low (leaf m ks vs) f = atRoot isRoot run low (leaf m ks vs) f
+  found isRoot run low (node m g k) f = foundBelow (runBelow (length (roots k)) run) low k (atRoot isRoot run low (node m g k) f)
 
-  pub found-below : ℕ → ℕ → Forest → Findings → Findings
-  found-below run low (one t) f = found false run low t f
-  found-below run low (more t k r) f = found-below run k r (found false run low t f)
+  pub foundBelow : ℕ → ℕ → Forest → Findings → Findings
+  foundBelow run low (one t) f = found false run low t f
+  foundBelow run low (more t k r) f = foundBelow run k r (found false run low t f)
 
 -- ---- the free nodes
 
@@ -80,7 +80,7 @@ isFree f i = bit (getD (f .free) i false)
 
 -- each number of a tree is free, once
 abbrev pub AllFree : Findings → Tree → Type 0
-AllFree f t = (i : ℕ) → node-total (indicator i) t ≤ isFree f i
+AllFree f t = (i : ℕ) → nodeTotal (indicator i) t ≤ isFree f i
 
 get-cleared : (l : List Bool) (m : ℕ) → getD (set l m false) m false ≡ false
 get-cleared [] m = refl
@@ -95,17 +95,17 @@ root-free b key run m f i h =
     (λ d. omega (arith, indicator-other i m d, ap bit (getD-set-other (f .free) m i false false d))))
 
 mutual
-  pub found-free : (isRoot : Bool) (run low : ℕ) (t : Tree) (f : Findings) → AllFree f t → (i : ℕ) → isFree (found isRoot run low t f) i + node-total (indicator i) t ≡ isFree f i
+  pub found-free : (isRoot : Bool) (run low : ℕ) (t : Tree) (f : Findings) → AllFree f t → (i : ℕ) → isFree (found isRoot run low t f) i + nodeTotal (indicator i) t ≡ isFree f i
   found-free isRoot run low (leaf m ks vs) f h i = root-free (violates isRoot (leaf m ks vs)) low 0 m f i (h i)
   found-free isRoot run low (node m g k) f h i =
-      let p : (i : ℕ) → isFree (at-root isRoot run low (node m g k) f) i + indicator i m ≡ isFree f i = λ i. root-free (violates isRoot (node m g k)) low (pick g run 0) m f i (omega (arith, h i)) in
-      let q = found-below-free (runBelow (length (roots k)) run) low k (at-root isRoot run low (node m g k) f) (λ i. omega (arith, p i, h i)) i in
+      let p : (i : ℕ) → isFree (atRoot isRoot run low (node m g k) f) i + indicator i m ≡ isFree f i = λ i. root-free (violates isRoot (node m g k)) low (pick g run 0) m f i (omega (arith, h i)) in
+      let q = found-below-free (runBelow (length (roots k)) run) low k (atRoot isRoot run low (node m g k) f) (λ i. omega (arith, p i, h i)) i in
       omega (arith, p i)
 
-  pub found-below-free : (run low : ℕ) (k : Forest) (f : Findings) → ((i : ℕ) → node-totals (indicator i) k ≤ isFree f i) → (i : ℕ) → isFree (found-below run low k f) i + node-totals (indicator i) k ≡ isFree f i
+  pub found-below-free : (run low : ℕ) (k : Forest) (f : Findings) → ((i : ℕ) → nodeTotals (indicator i) k ≤ isFree f i) → (i : ℕ) → isFree (foundBelow run low k f) i + nodeTotals (indicator i) k ≡ isFree f i
   found-below-free run low (one t) f h i = found-free false run low t f h i
   found-below-free run low (more t x k) f h i =
-      let p : (i : ℕ) → isFree (found false run low t f) i + node-total (indicator i) t ≡ isFree f i = λ j. found-free false run low t f (λ i. omega (arith, h i)) j in
+      let p : (i : ℕ) → isFree (found false run low t f) i + nodeTotal (indicator i) t ≡ isFree f i = λ j. found-free false run low t f (λ i. omega (arith, h i)) j in
       let q = found-below-free run x k (found false run low t f) (λ i. omega (arith, p i, h i)) i in
       omega (arith, p i)
 
@@ -113,10 +113,10 @@ mutual
   pub found-length : (isRoot : Bool) (run low : ℕ) (t : Tree) (f : Findings) → length (found isRoot run low t f .free) ≡ length (f .free)
   found-length isRoot run low (leaf m ks vs) f = ap length (note-free (violates isRoot (leaf m ks vs)) low 0 (taken m f)) ∙ length-set (f .free) m false
   found-length isRoot run low (node m g k) f =
-      found-below-length (runBelow (length (roots k)) run) low k (at-root isRoot run low (node m g k) f)
+      found-below-length (runBelow (length (roots k)) run) low k (atRoot isRoot run low (node m g k) f)
       ∙ ap length (note-free (violates isRoot (node m g k)) low (pick g run 0) (taken m f)) ∙ length-set (f .free) m false
 
-  pub found-below-length : (run low : ℕ) (k : Forest) (f : Findings) → length (found-below run low k f .free) ≡ length (f .free)
+  pub found-below-length : (run low : ℕ) (k : Forest) (f : Findings) → length (foundBelow run low k f .free) ≡ length (f .free)
   found-below-length run low (one t) f = found-length false run low t f
   found-below-length run low (more t x k) f = found-below-length run x k (found false run low t f) ∙ found-length false run low t f
 
@@ -127,9 +127,9 @@ abbrev pub WidthsAt : Bool → Tree → Type 0
 WidthsAt true t = RootOk t
 WidthsAt false t = Widths t
 
-abbrev pub violations-at : Bool → Tree → ℕ
-violations-at true t = table-violations t
-violations-at false t = violations t
+abbrev pub violationsAt : Bool → Tree → ℕ
+violationsAt true t = tableViolations t
+violationsAt false t = violations t
 
 pub widths-below : (isRoot : Bool) (m : ℕ) (g : Bool) (f : Forest) → WidthsAt isRoot (node m g f) → AllWidths f
 widths-below true m true f w = absurd w
@@ -161,47 +161,47 @@ inner-own true n w = omega (arith, few-none n (omega arith))
 inner-own false n w = omega (arith, few-bit n)
 
 -- a tree's root node adds one violation where it violates, and none else
-pub own-at : (isRoot : Bool) (t : Tree) → WidthsAt isRoot t → violations-at isRoot t ≡ bit (violates isRoot t) + table-violations t
+pub own-at : (isRoot : Bool) (t : Tree) → WidthsAt isRoot t → violationsAt isRoot t ≡ bit (violates isRoot t) + tableViolations t
 own-at true (leaf m ks vs) w = refl
-own-at false (leaf m ks vs) w = omega (arith, few-bit (length (slot-pairs ks vs)))
+own-at false (leaf m ks vs) w = omega (arith, few-bit (length (slotPairs ks vs)))
 own-at true (node m true f) w = absurd w
 own-at true (node m false f) w = rw (le-ltb (length (roots f)) 2 (w .0)) (omega arith)
 own-at false (node m g f) w = omega (arith, inner-own g (length (roots f)) (w .0))
 
-pub own-one : (t : Tree) → Widths t → own-violation t ≡ bit (violates false t)
-own-one (leaf m ks vs) w = few-bit (length (slot-pairs ks vs))
+pub own-one : (t : Tree) → Widths t → ownViolation t ≡ bit (violates false t)
+own-one (leaf m ks vs) w = few-bit (length (slotPairs ks vs))
 own-one (node m g f) w = inner-own g (length (roots f)) (w .0)
 
 mutual
-  pub found-violated : (isRoot : Bool) (run low : ℕ) (t : Tree) (f : Findings) → WidthsAt isRoot t → bit (f .violated) + violations-at isRoot t ≤ 1
-      → bit (found isRoot run low t f .violated) ≡ bit (f .violated) + violations-at isRoot t
+  pub found-violated : (isRoot : Bool) (run low : ℕ) (t : Tree) (f : Findings) → WidthsAt isRoot t → bit (f .violated) + violationsAt isRoot t ≤ 1
+      → bit (found isRoot run low t f .violated) ≡ bit (f .violated) + violationsAt isRoot t
   found-violated isRoot run low (leaf m ks vs) f w h =
       let o = own-at isRoot (leaf m ks vs) w in
       omega (arith, note-one (violates isRoot (leaf m ks vs)) low 0 (taken m f) (omega arith))
   found-violated isRoot run low (node m g k) f w h =
       let o = own-at isRoot (node m g k) w in
       let p = note-one (violates isRoot (node m g k)) low (pick g run 0) (taken m f) (omega arith) in
-      omega (arith, found-below-violated (runBelow (length (roots k)) run) low k (at-root isRoot run low (node m g k) f) (widths-below isRoot m g k w) (omega arith))
+      omega (arith, found-below-violated (runBelow (length (roots k)) run) low k (atRoot isRoot run low (node m g k) f) (widths-below isRoot m g k w) (omega arith))
 
-  pub found-below-violated : (run low : ℕ) (k : Forest) (f : Findings) → AllWidths k → bit (f .violated) + forest-violations k ≤ 1
-      → bit (found-below run low k f .violated) ≡ bit (f .violated) + forest-violations k
+  pub found-below-violated : (run low : ℕ) (k : Forest) (f : Findings) → AllWidths k → bit (f .violated) + forestViolations k ≤ 1
+      → bit (foundBelow run low k f .violated) ≡ bit (f .violated) + forestViolations k
   found-below-violated run low (one t) f w h = found-violated false run low t f w h
   found-below-violated run low (more t x k) f w h =
       let p = found-violated false run low t f (w .0) (omega arith) in
       omega (arith, found-below-violated run x k (found false run low t f) (w .1) (omega arith))
 
 mutual
-  pub found-same : (isRoot : Bool) (run low : ℕ) (t : Tree) (f : Findings) → WidthsAt isRoot t → violations-at isRoot t ≡ 0 → Same (found isRoot run low t f) f
+  pub found-same : (isRoot : Bool) (run low : ℕ) (t : Tree) (f : Findings) → WidthsAt isRoot t → violationsAt isRoot t ≡ 0 → Same (found isRoot run low t f) f
   found-same isRoot run low (leaf m ks vs) f w h = note-none (violates isRoot (leaf m ks vs)) low 0 m f (omega (arith, own-at isRoot (leaf m ks vs) w))
   found-same isRoot run low (node m g k) f w h =
       let o = own-at isRoot (node m g k) w in
-      same-over (found isRoot run low (node m g k) f) (at-root isRoot run low (node m g k) f) f
-      (found-below-same (runBelow (length (roots k)) run) low k (at-root isRoot run low (node m g k) f) (widths-below isRoot m g k w) (omega arith))
+      same-over (found isRoot run low (node m g k) f) (atRoot isRoot run low (node m g k) f) f
+      (found-below-same (runBelow (length (roots k)) run) low k (atRoot isRoot run low (node m g k) f) (widths-below isRoot m g k w) (omega arith))
       (note-none (violates isRoot (node m g k)) low (pick g run 0) m f (omega arith))
 
-  pub found-below-same : (run low : ℕ) (k : Forest) (f : Findings) → AllWidths k → forest-violations k ≡ 0 → Same (found-below run low k f) f
+  pub found-below-same : (run low : ℕ) (k : Forest) (f : Findings) → AllWidths k → forestViolations k ≡ 0 → Same (foundBelow run low k f) f
   found-below-same run low (one t) f w h = found-same false run low t f w h
   found-below-same run low (more t x k) f w h =
-      same-over (found-below run x k (found false run low t f)) (found false run low t f) f
+      same-over (foundBelow run x k (found false run low t f)) (found false run low t f) f
       (found-below-same run x k (found false run low t f) (w .1) (omega arith))
       (found-same false run low t f (w .0) (omega arith))

@@ -9,16 +9,16 @@ use native.Mathlib.Decide.{ℕ-discrete}
 use lib.ListN.{length}
 use lib.Dec.{ltb, leb, eqb}
 use borrow.Author.Tests.{ltb-true, lt-ltb, leb-true, le-leb, eqb-false, ne-eqb, not-true}
-use Rattle.card.specs.Layout.{slot-pairs}
+use Rattle.card.specs.Layout.{slotPairs}
 use Rattle.laws.proofs.Cases.{and-true, impossible}
 use Rattle.laws.proofs.Totals.{indicator-same, indicator-other, indicator-zero, indicator-le}
 use Rattle.laws.specs.Totals.{total}
 use Rattle.soundness.specs.Check.{member, leafSound, slotSound}
-use Rattle.tree.specs.Pairs.{has-key, LeafRange}
+use Rattle.tree.specs.Pairs.{hasKey, LeafRange}
 use Rattle.tree.proofs.Sorted.{outside-none, outside-zero}
 
 -- a key that is none of the words is the key of no pair, and conversely
-pub member-none : (k : ℕ) (ks vs : List ℕ) → member k ks ≡ false → total (has-key k) (slot-pairs ks vs) ≡ 0
+pub member-none : (k : ℕ) (ks vs : List ℕ) → member k ks ≡ false → total (hasKey k) (slotPairs ks vs) ≡ 0
 unfolding member
 member-none k [] vs e = refl
 member-none k (x ∷ ks) [] e = refl
@@ -28,11 +28,11 @@ member-none k (x ∷ ks) (v ∷ vs) e = let o = or-false (eqb x k) (member k ks)
     or-false true b e = impossible (cc)
     or-false false b e = (refl, e)
 
-    go : (x : ℕ) → eqb x k ≡ false → total (has-key k) (slot-pairs ks vs) ≡ 0 → total (has-key k) (slot-pairs (x ∷ ks) (v ∷ vs)) ≡ 0
+    go : (x : ℕ) → eqb x k ≡ false → total (hasKey k) (slotPairs ks vs) ≡ 0 → total (hasKey k) (slotPairs (x ∷ ks) (v ∷ vs)) ≡ 0
     go zero o h = h
     go (suc x) o h = omega (arith, indicator-other k (suc x) (λ q. eqb-false (suc x) k o (sym q)))
 
-pub none-member : (k : ℕ) (ks vs : List ℕ) → 0 < k → length ks ≡ length vs → total (has-key k) (slot-pairs ks vs) ≡ 0 → member k ks ≡ false
+pub none-member : (k : ℕ) (ks vs : List ℕ) → 0 < k → length ks ≡ length vs → total (hasKey k) (slotPairs ks vs) ≡ 0 → member k ks ≡ false
 unfolding member
 none-member k [] vs p n e = refl
 none-member k (x ∷ ks) [] p n e = absurd (omega arith)
@@ -40,14 +40,14 @@ none-member k (zero ∷ ks) (v ∷ vs) p n e = rw (ne-eqb 0 k (omega arith)) (no
 none-member k (suc x ∷ ks) (v ∷ vs) p n e = rw (ne-eqb (suc x) k (indicator-zero k (suc x) (omega arith))) (none-member k ks vs p (omega arith) (omega arith))
 
 module _ (low high : ℕ) where
-  leaf-more : (k v : ℕ) (ks vs : List ℕ) → low ≤ k → k < high → member k ks ≡ false → LeafRange low high (slot-pairs ks vs) → LeafRange low high ((k, v) ∷ slot-pairs ks vs)
+  leaf-more : (k v : ℕ) (ks vs : List ℕ) → low ≤ k → k < high → member k ks ≡ false → LeafRange low high (slotPairs ks vs) → LeafRange low high ((k, v) ∷ slotPairs ks vs)
   leaf-more k v ks vs a b c r =
       record {
         inside = omega (arith, outside-none low high (k, v) a b, r .inside);
         once = λ j. by-cases (ℕ-discrete j k) (λ e. omega (arith, indicator-le j k, member-none j ks vs (rw e c))) (λ d. omega (arith, indicator-other j k d, r .once j));
       }
 
-  pub leaf-range : (ks vs : List ℕ) → leafSound low high ks ≡ true → LeafRange low high (slot-pairs ks vs)
+  pub leaf-range : (ks vs : List ℕ) → leafSound low high ks ≡ true → LeafRange low high (slotPairs ks vs)
   unfolding leafSound slotSound
   leaf-range [] vs e = record { inside = refl; once = λ k. omega arith }
   leaf-range (k ∷ ks) [] e = record { inside = refl; once = λ k. omega arith }
@@ -58,7 +58,7 @@ module _ (low high : ℕ) where
       let b = and-true (ltb (suc k) high) (not (member (suc k) ks)) (a .1) in
       leaf-more (suc k) v ks vs (leb-true low (suc k) (a .0)) (ltb-true (suc k) high (b .0)) (not-true (member (suc k) ks) (b .1)) (leaf-range ks vs (s .1))
 
-  pub leaf-passes : (ks vs : List ℕ) → length ks ≡ length vs → LeafRange low high (slot-pairs ks vs) → leafSound low high ks ≡ true
+  pub leaf-passes : (ks vs : List ℕ) → length ks ≡ length vs → LeafRange low high (slotPairs ks vs) → leafSound low high ks ≡ true
   unfolding leafSound slotSound
   leaf-passes [] vs n r = refl
   leaf-passes (k ∷ ks) [] n r = absurd (omega arith)
@@ -66,5 +66,5 @@ module _ (low high : ℕ) where
   leaf-passes (suc k ∷ ks) (v ∷ vs) n r =
       let o = outside-zero low high (suc k, v) (omega (arith, r .inside)) in
       let z = none-member (suc k) ks vs (omega arith) (omega arith) (omega (arith, r .once (suc k), indicator-same (suc k))) in
-      let rest : LeafRange low high (slot-pairs ks vs) = record { inside = omega (arith, r .inside); once = λ j. omega (arith, r .once j) } in
+      let rest : LeafRange low high (slotPairs ks vs) = record { inside = omega (arith, r .inside); once = λ j. omega (arith, r .once j) } in
       rw (ne-eqb (suc k) 0 (omega arith), le-leb low (suc k) (o .0), lt-ltb (suc k) high (o .1), z) (leaf-passes ks vs (omega arith) rest)

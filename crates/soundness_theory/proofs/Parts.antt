@@ -14,12 +14,12 @@ use Rattle.laws.specs.Cases.{pick}
 use Rattle.laws.specs.Totals.{indicator}
 use Rattle.laws.proofs.Cases.{impossible}
 use Rattle.soundness.specs.Check.{Findings, innerSound}
-use Rattle.soundness_theory.proofs.Found.{one-of, taken, violates, at-root, found, isFree, AllFree, root-free, found-free, WidthsAt, violations-at, widths-below, note-one, own-at, found-violated}
+use Rattle.soundness_theory.proofs.Found.{one-of, taken, violates, atRoot, found, isFree, AllFree, root-free, found-free, WidthsAt, violationsAt, widths-below, note-one, own-at, found-violated}
 use Rattle.tree.proofs.Pairs.{InRange, AllInRange, depth, depths}
 use Rattle.tree.specs.Represent.{kind, Represents, RepresentsAll}
 use Rattle.tree.specs.Height.{Height, AllHeight}
-use Rattle.tree.specs.Tree.{Tree, Forest, roots, routing, node-totals, node, one, more}
-use Rattle.tree.specs.Violations.{forest-violations, AllWidths}
+use Rattle.tree.specs.Tree.{Tree, Forest, roots, routing, nodeTotals, node, one, more}
+use Rattle.tree.specs.Violations.{forestViolations, AllWidths}
 
 -- a tree below `bound` levels that the check accepts, beginning with the findings f; and a forest of such trees, side by side
 pub record SoundPart (c : List ℕ) (isRoot : Bool) (low high h bound : ℕ) (f : Findings) (t : Tree) : Type 0 where
@@ -27,7 +27,7 @@ pub record SoundPart (c : List ℕ) (isRoot : Bool) (low high h bound : ℕ) (f 
   pub range : InRange low high t
   pub widths : WidthsAt isRoot t
   pub height : Height h t
-  pub once-violated : bit (f .violated) + violations-at isRoot t ≤ 1
+  pub once-violated : bit (f .violated) + violationsAt isRoot t ≤ 1
   pub free : AllFree f t
   pub deep : depth t < bound
 
@@ -36,8 +36,8 @@ pub record SoundParts (c : List ℕ) (low high h bound : ℕ) (f : Findings) (k 
   pub ranges : AllInRange low high k
   pub widths : AllWidths k
   pub heights : AllHeight h k
-  pub once-violated : bit (f .violated) + forest-violations k ≤ 1
-  pub free : (i : ℕ) → node-totals (indicator i) k ≤ isFree f i
+  pub once-violated : bit (f .violated) + forestViolations k ≤ 1
+  pub free : (i : ℕ) → nodeTotals (indicator i) k ≤ isFree f i
   pub deep : depths k < bound
 
 pub part-one : {c : List ℕ} {low high h bound : ℕ} {f : Findings} {t : Tree} → SoundPart c false low high h bound f t → SoundParts c low high h bound f (one t)
@@ -111,7 +111,7 @@ module _ {c : List ℕ} where
   -- an internal node over its children, which are checked with what was found at the node
   module _ (isRoot : Bool) (run m : ℕ) (g : Bool) {low high h bound : ℕ} {f : Findings} {k : Forest} where
     pub part-node : NodeWords c m (kind g) (routing k) (roots k) → length (roots k) ≤ 11 → WidthsAt isRoot (node m g k) → (violates isRoot (node m g k) ≡ true → f .violated ≡ false) → ((i : ℕ) → indicator i m ≤ isFree f i)
-        → SoundParts c low high h bound (at-root isRoot run low (node m g k) f) k → SoundPart c isRoot low high (pick g h (suc h)) (suc bound) f (node m g k)
+        → SoundParts c low high h bound (atRoot isRoot run low (node m g k) f) k → SoundPart c isRoot low high (pick g h (suc h)) (suc bound) f (node m g k)
     part-node words n w v u q =
         let o = note-one (violates isRoot (node m g k)) low (pick g run 0) (taken m f) (one-of (f .violated) (violates isRoot (node m g k)) v) in
         record {
@@ -124,7 +124,7 @@ module _ {c : List ℕ} where
           deep = omega (arith, q .deep);
         }
 
-    pub node-part : SoundPart c isRoot low high h (suc bound) f (node m g k) → (b : ℕ) × (h ≡ pick g b (suc b)) × SoundParts c low high b bound (at-root isRoot run low (node m g k) f) k
+    pub node-part : SoundPart c isRoot low high h (suc bound) f (node m g k) → (b : ℕ) × (h ≡ pick g b (suc b)) × SoundParts c low high b bound (atRoot isRoot run low (node m g k) f) k
     node-part p =
         let d = height-down h m g k (p .height) in
         let e = own-at isRoot (node m g k) (p .widths) in

@@ -9,19 +9,19 @@ use native.Mathlib.Omega.{arith}
 use lib.ListN.{length, getD}
 use lib.Dec.{ltb, eqb}
 use borrow.Author.Tests.{lt-ltb, eq-eqb}
-use Rattle.card.specs.Layout.{nodeAt, kindOf, keyWords, valueWords, children, routingKeys, slot-pairs, runBelow}
+use Rattle.card.specs.Layout.{nodeAt, kindOf, keyWords, valueWords, children, routingKeys, slotPairs, runBelow}
 use Rattle.card.proofs.NodeLaws.{node-word}
 use Rattle.card.specs.NodeWords.{NodeWords}
 use Rattle.laws.proofs.Bits.{bit-positive}
 use Rattle.laws.specs.Cases.{pick}
 use Rattle.laws.proofs.Cases.{and-intro, impossible}
-use Rattle.laws.specs.Lists.{zero-after}
+use Rattle.laws.specs.Lists.{zeroAfter}
 use Rattle.laws.proofs.Lists.{zero-after-pad}
 use Rattle.laws.specs.Totals.{indicator}
 use Rattle.laws.proofs.Totals.{indicator-same}
 use Rattle.soundness.specs.Check.{Findings, unusedZero, enterNode, ChildCheck, childrenCheck, raised, onLook, nodeCheck, inner, leaf as leaf-look, rangeEnd}
 use Rattle.soundness_theory.proofs.Entering.{Present, pairsIn, fewPairs, width, Enters, enter-accepts, as-leaf, as-inner}
-use Rattle.soundness_theory.proofs.Found.{one-of-not, taken, note, violates, at-root, found, found-below, isFree, WidthsAt, own-at}
+use Rattle.soundness_theory.proofs.Found.{one-of-not, taken, note, violates, atRoot, found, foundBelow, isFree, WidthsAt, own-at}
 use Rattle.soundness_theory.proofs.Leaves.{leaf-passes}
 use Rattle.soundness_theory.proofs.Parts.{node-part, SoundPart, SoundParts, one-part, part-first, node-widths, part-rest}
 use Rattle.soundness_theory.proofs.Shown.{zero-step, suc-step, kind-tagged}
@@ -56,7 +56,7 @@ module _ (c : List ℕ) (n : ℕ) (len : length c ≡ 8 + 24 * n) where
       → Enters c n m low high run isRoot f (leaf-look (note (fewPairs isRoot (nodeAt c m)) low 0 (taken m f))) × (fewPairs isRoot (nodeAt c m) ≡ violates isRoot (leaf m ks vs))
   leaf-enters isRoot run low high h bound m ks vs f p =
       let r = p .represents in
-      let q : pairsIn (nodeAt c m) ≡ length (slot-pairs ks vs) = ap₂ (λ (a b : List ℕ). length (slot-pairs a b)) (leaf-keys c m ks vs r) (leaf-values c m ks vs r) in
+      let q : pairsIn (nodeAt c m) ≡ length (slotPairs ks vs) = ap₂ (λ (a b : List ℕ). length (slotPairs a b)) (leaf-keys c m ks vs r) (leaf-values c m ks vs r) in
       let e : fewPairs isRoot (nodeAt c m) ≡ violates isRoot (leaf m ks vs) = ap (λ (x : ℕ). pick isRoot false (ltb x 2)) q in (
         as-leaf (present m 1 ks vs f (r .0) (p .free m))
             (record {
@@ -68,7 +68,7 @@ module _ (c : List ℕ) (n : ℕ) (len : length c ≡ 8 + 24 * n) where
         e,
       )
     where
-      filled : (isRoot : Bool) → isRoot ≡ false → WidthsAt isRoot (leaf m ks vs) → 1 ≤ length (slot-pairs ks vs)
+      filled : (isRoot : Bool) → isRoot ≡ false → WidthsAt isRoot (leaf m ks vs) → 1 ≤ length (slotPairs ks vs)
       filled true z w = impossible (cc)
       filled false z w = w
 
@@ -81,8 +81,8 @@ module _ (c : List ℕ) (n : ℕ) (len : length c ≡ 8 + 24 * n) where
       let q : width words ≡ length (roots k) = ap length (node-children c m g k r) in
       let w = node-widths isRoot m g k (p .widths) in
       let e : (g || ltb (width words) 2) ≡ (g || ltb (length (roots k)) 2) = ap (λ (x : ℕ). g || ltb x 2) q in
-      let a : zero-after (length (roots k) - 1) (keyWords words) ≡ true = rw (read-keyWords c m (kind g) (routing k) (roots k) (r .0) (omega (arith, routing-roots k, r .2))) (zero-after-pad (routing k) (length (roots k) - 1) (11 - length (routing k)) (omega (arith, routing-roots k))) in
-      let b : zero-after (length (roots k)) (valueWords words) ≡ true = rw (read-valueWords c m (kind g) (routing k) (roots k) (r .0) (r .2)) (zero-after-pad (roots k) (length (roots k)) (11 - length (roots k)) refl) in
+      let a : zeroAfter (length (roots k) - 1) (keyWords words) ≡ true = rw (read-keyWords c m (kind g) (routing k) (roots k) (r .0) (omega (arith, routing-roots k, r .2))) (zero-after-pad (routing k) (length (roots k) - 1) (11 - length (routing k)) (omega (arith, routing-roots k))) in
+      let b : zeroAfter (length (roots k)) (valueWords words) ≡ true = rw (read-valueWords c m (kind g) (routing k) (roots k) (r .0) (r .2)) (zero-after-pad (roots k) (length (roots k)) (11 - length (roots k)) refl) in
       as-inner g (present m (kind g) (routing k) (roots k) f (r .0) (omega (arith, p .free m)))
       (record {
         kind-is = read-kind c m (kind g) (routing k) (roots k) (r .0);
@@ -94,10 +94,10 @@ module _ (c : List ℕ) (n : ℕ) (len : length c ≡ 8 + 24 * n) where
 
   children-pass : (bound run : ℕ) (check : ChildCheck) → ((low high h : ℕ) (f : Findings) (t : Tree) → SoundPart c false low high h bound f t → check low high (root t) f ≡ some (h, found false run low t f))
       → (first : Bool) (height low high h : ℕ) (f : Findings) (k : Forest) → SoundParts c low high h bound f k → (first || eqb h height) ≡ true
-      → childrenCheck check first height low high (routing k) (roots k) f ≡ some (h, found-below run low k f)
+      → childrenCheck check first height low high (routing k) (roots k) f ≡ some (h, foundBelow run low k f)
   children-pass bound run check ih first height low high h f (one t) p e = one-step check first height low high (root t) f (h, found false run low t f) (ih low high h f t (one-part p)) e
   children-pass bound run check ih first height low high h f (more t x k) p e =
-      more-step check first height low high x (root t) (routing k) (roots k) f (h, found false run low t f) (h, found-below run x k (found false run low t f)) (p .ranges .1) (p .ranges .2) (ih low x h f t (part-first p)) e
+      more-step check first height low high x (root t) (routing k) (roots k) f (h, found false run low t f) (h, foundBelow run x k (found false run low t f)) (p .ranges .1) (p .ranges .2) (ih low x h f t (part-first p)) e
       (children-pass bound run check ih false h x high h (found false run low t f) k (part-rest run p) (eq-eqb h h refl))
 
   look-passes : (child : ℕ → ChildCheck) (bound : ℕ) → ((run low high h : ℕ) (f : Findings) (t : Tree) → SoundPart c false low high h bound f t → child run low high (root t) f ≡ some (h, found false run low t f))
@@ -111,10 +111,10 @@ module _ (c : List ℕ) (n : ℕ) (len : length c ≡ 8 + 24 * n) where
   look-passes child bound ih isRoot run low high h f (node m g k) p =
       let q = node-part isRoot run m g p in
       inside (q .0) (q .1) (enter-accepts c n m low high run isRoot f (inner (width (nodeAt c m)) (note (g || ltb (width (nodeAt c m)) 2) low (pick g run 0) (taken m f))) (node-enters isRoot run low high h (suc bound) m g k f p))
-      (children-pass bound (runBelow (length (roots k)) run) (child (runBelow (length (roots k)) run)) (ih (runBelow (length (roots k)) run)) true 0 low high (q .0) (at-root isRoot run low (node m g k) f) k (q .2) refl)
+      (children-pass bound (runBelow (length (roots k)) run) (child (runBelow (length (roots k)) run)) (ih (runBelow (length (roots k)) run)) true 0 low high (q .0) (atRoot isRoot run low (node m g k) f) k (q .2) refl)
     where
       inside : (b : ℕ) → h ≡ pick g b (suc b) → enterNode c n m low high run isRoot f ≡ inner (width (nodeAt c m)) (note (g || ltb (width (nodeAt c m)) 2) low (pick g run 0) (taken m f))
-          → childrenCheck (child (runBelow (length (roots k)) run)) true 0 low high (routing k) (roots k) (at-root isRoot run low (node m g k) f) ≡ some (b, found isRoot run low (node m g k) f)
+          → childrenCheck (child (runBelow (length (roots k)) run)) true 0 low high (routing k) (roots k) (atRoot isRoot run low (node m g k) f) ≡ some (b, found isRoot run low (node m g k) f)
           → onLook (nodeAt c m) low high child run (enterNode c n m low high run isRoot f) ≡ some (h, found isRoot run low (node m g k) f)
       inside b e l s =
           ap (onLook (nodeAt c m) low high child run) l

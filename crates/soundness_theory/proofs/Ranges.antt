@@ -7,7 +7,7 @@ use mathlib.Core.Bool.{true, false}
 use Prim.Native.Nat.{ℕ, _≤_, _<_}
 use native.Mathlib.Omega.{arith}
 use lib.ListN.{length}
-use Rattle.card.specs.Layout.{lowestKey, keyLimit, slot-pairs}
+use Rattle.card.specs.Layout.{lowestKey, keyLimit, slotPairs}
 use Rattle.laws.specs.Totals.{total}
 use Rattle.tree.specs.Pairs.{outside}
 use Rattle.tree.proofs.Pairs.{InRange, AllInRange}
@@ -23,7 +23,7 @@ pair-between lo hi (p ∷ ps) e h = let b = outside-zero lo hi p (omega arith) i
 -- a sound part below the root: the same ranges, and they are not empty
 mutual
   pub strict : (lo hi : ℕ) (t : Tree) → SoundIn lo hi t → Widths t → InRange lo hi t × (lo < hi)
-  strict lo hi (leaf m ks vs) s w = (s, pair-between lo hi (slot-pairs ks vs) (s .inside) w)
+  strict lo hi (leaf m ks vs) s w = (s, pair-between lo hi (slotPairs ks vs) (s .inside) w)
   strict lo hi (node m g f) s w = stricts lo hi f (s .0) (w .1)
 
   pub stricts : (lo hi : ℕ) (f : Forest) → SoundChildren lo hi f → AllWidths f → AllInRange lo hi f × (lo < hi)

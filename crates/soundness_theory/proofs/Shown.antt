@@ -11,19 +11,19 @@ use native.Mathlib.Decide.{ℕ-discrete}
 use lib.ListN.{length, getD}
 use lib.Dec.{ltb, eqb}
 use borrow.Author.Tests.{ltb-true, eqb-true}
-use Rattle.card.specs.Layout.{nodeAt, kindOf, keyWords, valueWords, children, routingKeys, slot-pairs, runBelow}
+use Rattle.card.specs.Layout.{nodeAt, kindOf, keyWords, valueWords, children, routingKeys, slotPairs, runBelow}
 use Rattle.card.proofs.NodeLaws.{length-node, node-word, length-keyWords, length-valueWords, get-keyWord, get-valueWord, children-le, length-routing}
 use Rattle.card.specs.NodeWords.{OnCard, NodeWords}
 use Rattle.laws.specs.Bits.{bit}
 use Rattle.laws.specs.Cases.{pick, guard, bind}
 use Rattle.laws.proofs.Cases.{and-true, guard-some, bind-some, impossible}
 use Rattle.laws.proofs.Lists.{before-zero-take, getD-zero-after}
-use Rattle.laws.specs.Lists.{zero-after}
+use Rattle.laws.specs.Lists.{zeroAfter}
 use Rattle.laws.specs.Totals.{indicator}
 use Rattle.laws.proofs.Totals.{indicator-other, indicator-le}
 use Rattle.soundness.specs.Check.{Findings, unusedZero, Look, enterNode, ChildCheck, childrenCheck, raised, onLook, nodeCheck, bad, inner, leaf as leaf-look, rangeEnd}
 use Rattle.soundness_theory.proofs.Entering.{Present, fewPairs, LeafEntry, width, InnerEntry, Enters, enter-shown, as-leaf, as-inner}
-use Rattle.soundness_theory.proofs.Found.{one-of, taken, note, at-root, found, found-below, isFree, WidthsAt, own-at}
+use Rattle.soundness_theory.proofs.Found.{one-of, taken, note, atRoot, found, foundBelow, isFree, WidthsAt, own-at}
 use Rattle.soundness_theory.proofs.Leaves.{leaf-range}
 use Rattle.soundness_theory.proofs.Parts.{SoundPart, SoundParts, part-one, widths-node, part-more, part-node}
 use Rattle.tree.proofs.Pairs.{child}
@@ -70,7 +70,7 @@ pub record AllShown (c : List ℕ) (first : Bool) (height run low high : ℕ) (k
   pub are-keys : routing forest ≡ ks
   pub parts : SoundParts c low high (r .0) bound f forest
   pub same : first ≡ false → r .0 ≡ height
-  pub after : r .1 ≡ found-below run low forest f
+  pub after : r .1 ≡ foundBelow run low forest f
 
 module _ (c : List ℕ) (n : ℕ) (len : length c ≡ 8 + 24 * n) where
   on-card : (m : ℕ) → 0 < m → m ≤ n → OnCard c m
@@ -94,7 +94,7 @@ module _ (c : List ℕ) (n : ℕ) (len : length c ≡ 8 + 24 * n) where
   present-length : (m : ℕ) (f : Findings) → Present c n m f → length (nodeAt c m) ≡ 24
   present-length m f p = length-node c m (p .pos) (on-card m (p .pos) (p .within) .fits)
 
-  leaf-widths : (isRoot : Bool) (m : ℕ) (ks vs : List ℕ) → (isRoot ≡ false → 1 ≤ length (slot-pairs ks vs)) → WidthsAt isRoot (leaf m ks vs)
+  leaf-widths : (isRoot : Bool) (m : ℕ) (ks vs : List ℕ) → (isRoot ≡ false → 1 ≤ length (slotPairs ks vs)) → WidthsAt isRoot (leaf m ks vs)
   leaf-widths true m ks vs h = tt
   leaf-widths false m ks vs h = h refl
 
@@ -164,7 +164,7 @@ module _ (c : List ℕ) (n : ℕ) (len : length c ≡ 8 + 24 * n) where
             are-keys = ap (λ (y : List ℕ). k ∷ y) (t .are-keys);
             parts = part-more run (rw e (s .part)) a b (rw (s .after) at (t .parts));
             same = λ z. e ∙ h z;
-            after = t .after ∙ ap (found-below run k (t .forest)) (s .after);
+            after = t .after ∙ ap (foundBelow run k (t .forest)) (s .after);
           }
 
   inner-shown : (isRoot : Bool) (run low high m bound : ℕ) (f : Findings) (g : Bool) (r : ℕ × Findings) → Present c n m f → InnerEntry (nodeAt c m) g isRoot (f .violated)
@@ -175,11 +175,11 @@ module _ (c : List ℕ) (n : ℕ) (len : length c ≡ 8 + 24 * n) where
       let words : List ℕ = nodeAt c m in
       let k : Forest = s .forest in
       let size = present-length m f p in
-      let u = and-true (zero-after (width words - 1) (keyWords words)) (zero-after (width words) (valueWords words)) (e .unused) in
+      let u = and-true (zeroAfter (width words - 1) (keyWords words)) (zeroAfter (width words) (valueWords words)) (e .unused) in
       let q : length (roots k) ≡ width words = ap length (s .are-roots) in
       let w : WidthsAt isRoot (node m g k) = widths-node isRoot m g k (width words) (sym q) (e .sound) (e .filled) (children-le words) (s .parts .widths) in
       let v : (g || ltb (length (roots k)) 2) ≡ (g || ltb (width words) 2) = ap (λ (x : ℕ). g || ltb x 2) q in
-      let a : at-root isRoot run low (node m g k) f ≡ note (g || ltb (width words) 2) low (pick g run 0) (taken m f) = ap (λ (b : Bool). note b low (pick g run 0) (taken m f)) v in
+      let a : atRoot isRoot run low (node m g k) f ≡ note (g || ltb (width words) 2) low (pick g run 0) (taken m f) = ap (λ (b : Bool). note b low (pick g run 0) (taken m f)) v in
       record {
         tree = node m g k;
         is-root = refl;
@@ -189,7 +189,7 @@ module _ (c : List ℕ) (n : ℕ) (len : length c ≡ 8 + 24 * n) where
             (λ j h. getD-zero-after (width words - 1) (keyWords words) j (u .0) ∙ ap (λ (l : List ℕ). getD l j 0) (sym (s .are-keys)))
             (λ j h. getD-zero-after (width words) (valueWords words) j (u .1) ∙ ap (λ (l : List ℕ). getD l j 0) (before-zero-take (valueWords words) ∙ sym (s .are-roots))))
             (omega (arith, children-le words)) w (λ z. e .first (sym v ∙ z)) (present-free m f p) (rw a (s .parts));
-        after = s .after ∙ ap₂ (λ (x : ℕ) (y : Findings). found-below (runBelow x run) low k y) (sym q) (sym a);
+        after = s .after ∙ ap₂ (λ (x : ℕ) (y : Findings). foundBelow (runBelow x run) low k y) (sym q) (sym a);
       }
 
   look-shown : (child : ℕ → ChildCheck) (bound : ℕ) → ((run low high m : ℕ) (f : Findings) (r : ℕ × Findings) → child run low high m f ≡ some r → Shown c false run low high m bound f r)

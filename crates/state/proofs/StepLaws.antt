@@ -15,7 +15,7 @@ use Rattle.plans.specs.Plan.{storesOf}
 use Rattle.plans.specs.Planning.{withAll}
 use Rattle.plans.specs.declared.Plan.{Plan}
 use Rattle.laws.proofs.Cases.{order, impossible}
-use Rattle.laws.specs.Lists.{before-zero}
+use Rattle.laws.specs.Lists.{beforeZero}
 use Rattle.state.specs.Steps.{Step, stepRefused, formattedWord, formatStore, stepStore, stepFirst}
 use Rattle.state.specs.Memory.{Memory, memoryOf, advanced}
 use Rattle.state.specs.Results.{stepLeft, more}
@@ -80,23 +80,23 @@ more-none [] e = refl
 more-none (s ∷ rest) e = impossible (cc)
 
 -- the nodes that are cut out, one after the other
-with-first : (x : ℕ) (l : List ℕ) (free : List Bool) → (x ≡ 0 → ⊥) → withAll (before-zero (x ∷ l)) free ≡ withAll (before-zero l) (set free x true)
+with-first : (x : ℕ) (l : List ℕ) (free : List Bool) → (x ≡ 0 → ⊥) → withAll (beforeZero (x ∷ l)) free ≡ withAll (beforeZero l) (set free x true)
 unfolding withAll
 with-first zero l free q = absurd (q refl)
 with-first (suc x) l free q = refl
 
 module _ (cut : List ℕ) (i : ℕ) where
-  pub cut-end : length cut ≤ i → before-zero (drop i cut) ≡ []
-  cut-end h = ap before-zero (drop-of-length-le cut {i = i} h)
+  pub cut-end : length cut ≤ i → beforeZero (drop i cut) ≡ []
+  cut-end h = ap beforeZero (drop-of-length-le cut {i = i} h)
 
-  pub cut-zero : i < length cut → getD cut i 0 ≡ 0 → before-zero (drop i cut) ≡ []
-  cut-zero h z = ap before-zero (drop-cons cut i 0 h) ∙ ap (λ (x : ℕ). before-zero (x ∷ drop (suc i) cut)) z
+  pub cut-zero : i < length cut → getD cut i 0 ≡ 0 → beforeZero (drop i cut) ≡ []
+  cut-zero h z = ap beforeZero (drop-cons cut i 0 h) ∙ ap (λ (x : ℕ). beforeZero (x ∷ drop (suc i) cut)) z
 
-  pub cut-next : (free : List Bool) → i < length cut → (getD cut i 0 ≡ 0 → ⊥) → withAll (before-zero (drop i cut)) free ≡ withAll (before-zero (drop (i + 1) cut)) (set free (getD cut i 0) true)
+  pub cut-next : (free : List Bool) → i < length cut → (getD cut i 0 ≡ 0 → ⊥) → withAll (beforeZero (drop i cut)) free ≡ withAll (beforeZero (drop (i + 1) cut)) (set free (getD cut i 0) true)
   unfolding withAll
   cut-next free h p =
-      ap (λ (l : List ℕ). withAll (before-zero l) free) (drop-cons cut i 0 h) ∙ with-first (getD cut i 0) (drop (suc i) cut) free p
-      ∙ ap (λ (j : ℕ). withAll (before-zero (drop j cut)) (set free (getD cut i 0) true)) (sym (add-one i))
+      ap (λ (l : List ℕ). withAll (beforeZero l) free) (drop-cons cut i 0 h) ∙ with-first (getD cut i 0) (drop (suc i) cut) free p
+      ∙ ap (λ (j : ℕ). withAll (beforeZero (drop j cut)) (set free (getD cut i 0) true)) (sym (add-one i))
 
 pub no-cut : (free : List Bool) → withAll [] free ≡ free
 unfolding withAll

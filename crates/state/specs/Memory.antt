@@ -3,7 +3,7 @@ use mathlib.Core.Bool.{Bool}
 use mathlib.Core.List.{List, [], _∷_}
 use Prim.Native.Nat.{ℕ}
 use lib.ListN.{drop}
-use Rattle.laws.specs.Lists.{before-zero}
+use Rattle.laws.specs.Lists.{beforeZero}
 use Rattle.card.specs.Stores.{Store}
 use Rattle.free_nodes.specs.NodeSet.{nodesOf, allNodes}
 use Rattle.plans.specs.Planning.{withAll}
@@ -30,7 +30,7 @@ memoryOf s =
       last = s .last;
       doing = s .doing;
       rest = drop (s .made) (storesOf (s .plan));
-      cut = before-zero (s .cut);
+      cut = beforeZero (s .cut);
     }
 
 -- "after formatting or opening the search starts at node 1": the node taken for given last then

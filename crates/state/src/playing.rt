@@ -8,7 +8,7 @@ ghost use mathlib.Core.Path.{_≡_};
 ghost use Prim.Native.Nat.{_+_, _<_};
 ghost use mathlib.Core.Bool.{true};
 ghost use lib.ListN.{drop, set};
-ghost use Rattle.laws.specs.Lists.{before-zero};
+ghost use Rattle.laws.specs.Lists.{beforeZero};
 ghost use Rattle.free_nodes.specs.NodeSet.{nodesOf};
 ghost use Rattle.plans.specs.Planning.{withAll};
 ghost use Rattle.plans.specs.Plan.{storesOf};
@@ -41,7 +41,7 @@ fn with_one(free: NodeSet, m: usize) -> NodeSet
 
 // "Nodes cut out of the tree are free after the store that cuts them out": those before the first 0.
 fn with_cut(free: NodeSet, cut: [u32; 3]) -> NodeSet
-    ensures { λ r. ⌜ nodesOf (r .words) ≡ withAll (before-zero cut) (nodesOf (free .words)) ⌝ }
+    ensures { λ r. ⌜ nodesOf (r .words) ≡ withAll (beforeZero cut) (nodesOf (free .words)) ⌝ }
 {
     let mut freed = free;
     let mut i: usize = 0;

@@ -10,7 +10,7 @@ use lib.Bits.{bitOr, or-zero-r, or-block}
 use lib.Pow.{pow-add, pow-lt, pow-pos}
 use Rattle.laws.proofs.Cases.{order}
 use Rattle.laws.proofs.Digits.{one-shl}
-use Rattle.laws.specs.Lists.{before-zero}
+use Rattle.laws.specs.Lists.{beforeZero}
 use Rattle.free_nodes.specs.NodeSet.{capacity, nodesOf}
 use Rattle.free_nodes.proofs.NodeSetLaws.{length-nodes}
 use Rattle.free_nodes.proofs.Words.{node-added}
@@ -97,7 +97,7 @@ memory-formatting block v l e =
 
 -- ---- the nodes cut out
 
-memory-cut : (block : List ℕ) (i v : ℕ) → 8 ≤ i → i < 11 → memoryIn (set block i v) ≡ withCut (memoryIn block) (before-zero (part (set block i v) 8 3))
+memory-cut : (block : List ℕ) (i v : ℕ) → 8 ≤ i → i < 11 → memoryIn (set block i v) ≡ withCut (memoryIn block) (beforeZero (part (set block i v) 8 3))
 unfolding unpacked stateFrom memoryOf withCut
 memory-cut block i v h k =
     let stays : (from n : ℕ) → i < from → part (set block i v) from n ≡ part block from n = part-above block i v in
@@ -112,7 +112,7 @@ memory-cleared block l =
     let all : List ℕ = set two 10 0 in
     let first : word all 8 ≡ 0 = word-other two 10 0 8 (λ z. omega arith) ∙ word-other one 9 0 8 (λ z. omega arith) ∙ getD-set-same block 8 0 0 (omega arith) in
     let long : 8 < length all = omega (arith, length-set two 10 0, length-set one 9 0, length-set block 8 0) in
-    let none : before-zero (part all 8 3) ≡ [] = ap (λ (x : List ℕ). before-zero (take 3 x)) (drop-cons all 8 0 long) ∙ ap (λ (x : ℕ). before-zero (x ∷ take 2 (drop 9 all))) first in
+    let none : beforeZero (part all 8 3) ≡ [] = ap (λ (x : List ℕ). beforeZero (take 3 x)) (drop-cons all 8 0 long) ∙ ap (λ (x : ℕ). beforeZero (x ∷ take 2 (drop 9 all))) first in
     memory-cut two 10 0 (omega arith) (omega arith)
     ∙ ap₂ withCut (memory-cut one 9 0 (omega arith) (omega arith)) none
     ∙ ap (λ (m : Memory). withCut m []) (memory-cut block 8 0 (omega arith) (omega arith))

@@ -9,7 +9,7 @@ use lib.Seq.{take-at, drop-at, take-all, drop-append-add}
 use lib.Pow.{recompose}
 use Rattle.laws.specs.Bits.{bit}
 use Rattle.laws.proofs.Cases.{order}
-use Rattle.laws.specs.Lists.{before-zero}
+use Rattle.laws.specs.Lists.{beforeZero}
 use Rattle.free_nodes.specs.NodeSet.{nodesOf}
 use Rattle.card.specs.Stores.{Store}
 use Rattle.plans.specs.Plan.{storesOf}
@@ -216,4 +216,4 @@ pub packed-kept : (s : State) → HasRows s → Kept s (packed s)
 unfolding memoryOf narrowed stateFrom
 packed-kept s h small =
     ap memoryOf (unpacked-packed s h small)
-    ∙ ap (λ (r : List Store). record { nodes = s .nodes; free = nodesOf (s .free .words); last = s .last; doing = s .doing; rest = r; cut = before-zero (s .cut) }) (stores-narrowed (s .plan) (s .made) (h .places-row) (h .values-row))
+    ∙ ap (λ (r : List Store). record { nodes = s .nodes; free = nodesOf (s .free .words); last = s .last; doing = s .doing; rest = r; cut = beforeZero (s .cut) }) (stores-narrowed (s .plan) (s .made) (h .places-row) (h .values-row))

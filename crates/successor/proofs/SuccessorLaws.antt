@@ -9,7 +9,7 @@ use lib.Seq.{getD-take}
 use borrow.Author.Tests.{lt-ltb, le-ltb, eq-eqb, ne-eqb}
 use Rattle.laws.proofs.Lists.{getD-any-default}
 use Rattle.card.specs.Header.{cardRefusal, nodesOfLength}
-use Rattle.card.specs.Layout.{rootPlace, depthLimit, keyLimit, nodeAt, keyWords, children, routingKeys, slot-pairs}
+use Rattle.card.specs.Layout.{rootPlace, depthLimit, keyLimit, nodeAt, keyWords, children, routingKeys, slotPairs}
 use Rattle.card.proofs.NodeLaws.{length-keyWords, get-keyWord, children-le, length-routing, leafFrom, leaf-next, leaf-end}
 use Rattle.descent.specs.Descent.{childIndex, turnAt, leafFor}
 use Rattle.descent.specs.declared.Turn.the-variants.{Refused as NoTurn, Leaf as TurnLeaf, Down as TurnDown}
@@ -37,7 +37,7 @@ module _ (after : ℕ) (p : ℕ × ℕ) where
 
 -- ---- the slots from number i on
 
-slot-more : (after k v : ℕ) (rest : List (ℕ × ℕ)) → leastAbove after (slot-pairs (k ∷ []) (v ∷ []) ++ rest) ≡ nearerAbove after (k, v) (leastAbove after rest)
+slot-more : (after k v : ℕ) (rest : List (ℕ × ℕ)) → leastAbove after (slotPairs (k ∷ []) (v ∷ []) ++ rest) ≡ nearerAbove after (k, v) (leastAbove after rest)
 unfolding leastAbove
 slot-more after zero v rest = sym (nearer-below after (0, v) (leastAbove after rest) (omega arith))
 slot-more after (suc k) v rest = refl

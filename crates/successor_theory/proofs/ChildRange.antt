@@ -4,7 +4,7 @@ use Prim.Native.Nat.{ℕ, _≤_, _<_}
 use native.Mathlib.Omega.{arith}
 use lib.ListN.{getD}
 use borrow.Author.Tests.{lt-ltb, le-ltb}
-use Rattle.card.specs.Layout.{slot-pairs}
+use Rattle.card.specs.Layout.{slotPairs}
 use Rattle.descent.specs.Descent.{passed}
 use Rattle.laws.proofs.Cases.{order}
 use Rattle.laws.proofs.Totals.{total-le}
@@ -64,7 +64,7 @@ child-widths key (more t k f) w = order key k (λ o. rw (lt-ltb key k o) (w .0))
 mutual
   pub lower : (a lo hi : ℕ) → a ≤ lo → (t : Tree) → InRange lo hi t → InRange a hi t
   lower a lo hi h (leaf m ks vs) i =
-      record { inside = omega (arith, total-le (outside a hi) (outside lo hi) (outside-le a lo hi h) (slot-pairs ks vs), i .inside); once = i .once }
+      record { inside = omega (arith, total-le (outside a hi) (outside lo hi) (outside-le a lo hi h) (slotPairs ks vs), i .inside); once = i .once }
   lower a lo hi h (node m g f) i = lowers a lo hi h f i
 
   lowers : (a lo hi : ℕ) → a ≤ lo → (f : Forest) → AllInRange lo hi f → AllInRange a hi f

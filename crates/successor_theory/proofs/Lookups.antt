@@ -9,7 +9,7 @@ use borrow.Author.Tests.{ne-eqb, eq-eqb}
 use Rattle.descent_theory.proofs.Ranges.{held-in-range}
 use Rattle.laws.proofs.Cases.{order}
 use Rattle.laws.specs.Totals.{total}
-use Rattle.tree.specs.Pairs.{pairs, lookup, has-key}
+use Rattle.tree.specs.Pairs.{pairs, lookup, hasKey}
 use Rattle.tree.proofs.Pairs.{lookup-none, InRange}
 use Rattle.tree.specs.Tree.{Tree}
 
@@ -24,8 +24,8 @@ pub some-pair : (ps : List (ℕ × ℕ)) → 1 ≤ length ps → (p : ℕ × ℕ
 some-pair [] h = absurd (omega arith)
 some-pair (p ∷ ps) h = (p, lookup-head p ps)
 
-some-counted : (k v : ℕ) (ps : List (ℕ × ℕ)) → lookup k ps ≡ some v → 0 < total (has-key k) ps
-some-counted k v ps e = order 0 (total (has-key k) ps) (λ o. o) (λ o. absurd (Option·none-ne-some v (sym (lookup-none k ps (omega arith)) ∙ e)))
+some-counted : (k v : ℕ) (ps : List (ℕ × ℕ)) → lookup k ps ≡ some v → 0 < total (hasKey k) ps
+some-counted k v ps e = order 0 (total (hasKey k) ps) (λ o. o) (λ o. absurd (Option·none-ne-some v (sym (lookup-none k ps (omega arith)) ∙ e)))
 
 pub found-in-range : (lo hi k v : ℕ) (t : Tree) → InRange lo hi t → lookup k (pairs t) ≡ some v → (lo ≤ k) × (k < hi)
 found-in-range lo hi k v t i e = held-in-range lo hi k t i (some-counted k v (pairs t) e)

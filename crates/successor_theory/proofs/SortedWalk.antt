@@ -17,7 +17,7 @@ use Rattle.successor.specs.Successor.{walkFrom}
 use Rattle.successor_theory.proofs.Lookups.{lookup-head}
 use Rattle.successor_theory.proofs.Walk.{walk-rises, walk-lists}
 use Rattle.tree.proofs.Lookup.{key-once, lookup-same}
-use Rattle.tree.specs.Pairs.{pairs, lookup, has-key, outside, LeafRange}
+use Rattle.tree.specs.Pairs.{pairs, lookup, hasKey, outside, LeafRange}
 use Rattle.tree.proofs.Sorted.{Rising, rising-sort, rising-inside, rising-below, rising-once}
 use Rattle.tree.specs.Tree.{Tree}
 use Rattle.tree.specs.WellFormed.{WellFormed}
@@ -31,7 +31,7 @@ Same a b = (w : ℕ × ℕ → ℕ) → total w a ≡ total w b
 head-le : (lo hi : ℕ) (p q : ℕ × ℕ) (a b : Pairs) → Rising lo hi (q ∷ b) → Same (p ∷ a) (q ∷ b) → q .0 ≤ p .0
 head-le lo hi p q a b r s =
     order (p .0) (q .0)
-    (λ o. absurd (omega (arith, s (has-key (p .0)), indicator-same (p .0), rising-below (q .0) hi (p .0) (q ∷ b) o (omega arith, r .1))))
+    (λ o. absurd (omega (arith, s (hasKey (p .0)), indicator-same (p .0), rising-below (q .0) hi (p .0) (q ∷ b) o (omega arith, r .1))))
     (λ o. o)
 
 pub rising-same : (lo hi lo′ hi′ : ℕ) (a b : Pairs) → Rising lo hi a → Rising lo′ hi′ b → Same a b → a ≡ b

@@ -10,18 +10,18 @@ use native.Mathlib.Decide.{ℕ-discrete}
 use lib.ListN.{length, set, getD}
 use lib.Dec.{ltb, eqb}
 use borrow.Author.Tests.{lt-ltb, le-ltb, ne-eqb}
-use Rattle.card.specs.Layout.{slot-pairs}
+use Rattle.card.specs.Layout.{slotPairs}
 use Rattle.laws.proofs.Cases.{bool-cases, order}
 use Rattle.laws.specs.Cases.{pick}
 use Rattle.laws.specs.Totals.{total}
 use Rattle.laws.proofs.Totals.{indicator-other, indicator-zero, indicator-le, total-append, total-le}
 use Rattle.tree.specs.Represent.{Represents, RepresentsAll}
 use Rattle.tree.specs.Tree.{Tree, Forest, root, roots, routing, leaf, node, one, more}
-use Rattle.tree.specs.Pairs.{pairs, forest-pairs, lookup, has-key, outside, LeafRange}
+use Rattle.tree.specs.Pairs.{pairs, forestPairs, lookup, hasKey, outside, LeafRange}
 
 -- stores in a leaf
 module _ (w : ℕ × ℕ → ℕ) where
-  pub slot-pairs-value : (ks vs : List ℕ) (i v : ℕ) → getD ks i 0 ≡ 0 → total w (slot-pairs ks (set vs i v)) ≡ total w (slot-pairs ks vs)
+  pub slot-pairs-value : (ks vs : List ℕ) (i v : ℕ) → getD ks i 0 ≡ 0 → total w (slotPairs ks (set vs i v)) ≡ total w (slotPairs ks vs)
   slot-pairs-value [] vs i v e = refl
   slot-pairs-value (k ∷ ks) [] i v e = refl
   slot-pairs-value (zero ∷ ks) (x ∷ vs) zero v e = refl
@@ -29,7 +29,7 @@ module _ (w : ℕ × ℕ → ℕ) where
   slot-pairs-value (zero ∷ ks) (x ∷ vs) (suc i) v e = slot-pairs-value ks vs i v e
   slot-pairs-value (suc k ∷ ks) (x ∷ vs) (suc i) v e = omega (arith, slot-pairs-value ks vs i v e)
 
-  pub slot-pairs-key : (ks vs : List ℕ) (i k : ℕ) → getD ks i 0 ≡ 0 → i < length ks → length ks ≡ length vs → total w (slot-pairs (set ks i (suc k)) vs) ≡ w (suc k, getD vs i 0) + total w (slot-pairs ks vs)
+  pub slot-pairs-key : (ks vs : List ℕ) (i k : ℕ) → getD ks i 0 ≡ 0 → i < length ks → length ks ≡ length vs → total w (slotPairs (set ks i (suc k)) vs) ≡ w (suc k, getD vs i 0) + total w (slotPairs ks vs)
   slot-pairs-key [] vs i k e h n = omega arith
   slot-pairs-key (x ∷ ks) [] i k e h n = omega arith
   slot-pairs-key (zero ∷ ks) (x ∷ vs) zero k e h n = refl
@@ -49,13 +49,13 @@ lookup-append k (p ∷ a) b = go (eqb k (p .0)) (lookup-append k a b)
     go true e = refl
     go false e = e
 
-pub lookup-none : (k : ℕ) (a : List (ℕ × ℕ)) → total (has-key k) a ≡ 0 → lookup k a ≡ none
+pub lookup-none : (k : ℕ) (a : List (ℕ × ℕ)) → total (hasKey k) a ≡ 0 → lookup k a ≡ none
 lookup-none k [] h = refl
 lookup-none k (p ∷ a) h = rw (ne-eqb k (p .0) (λ e. omega (arith, indicator-zero k (p .0) (omega arith) (sym e)))) (lookup-none k a (omega arith))
 
 abbrev mutual
   pub InRange : ℕ → ℕ → Tree → Type 0
-  InRange lo hi (leaf m ks vs) = LeafRange lo hi (slot-pairs ks vs)
+  InRange lo hi (leaf m ks vs) = LeafRange lo hi (slotPairs ks vs)
   InRange lo hi (node m g f) = AllInRange lo hi f
 
   pub AllInRange : ℕ → ℕ → Forest → Type 0
@@ -64,34 +64,34 @@ abbrev mutual
 
 -- a key out of range is nowhere in the tree
 
-pub has-outside : (lo hi k : ℕ) → (k < lo) ⊎ (hi ≤ k) → (p : ℕ × ℕ) → has-key k p ≤ outside lo hi p
+pub has-outside : (lo hi k : ℕ) → (k < lo) ⊎ (hi ≤ k) → (p : ℕ × ℕ) → hasKey k p ≤ outside lo hi p
 has-outside lo hi k o p = go (ℕ-discrete k (p .0)) o
   where
-    go : Dec (k ≡ p .0) → (k < lo) ⊎ (hi ≤ k) → has-key k p ≤ outside lo hi p
+    go : Dec (k ≡ p .0) → (k < lo) ⊎ (hi ≤ k) → hasKey k p ≤ outside lo hi p
     go (no d) c = rw (indicator-other k (p .0) d) (omega arith)
     go (yes e) (inl c) = rw (lt-ltb (p .0) lo (omega arith)) (indicator-le k (p .0))
     go (yes e) (inr c) = bool-cases (ltb (p .0) lo) (λ b. rw b (indicator-le k (p .0))) (λ b. rw (b, le-ltb (p .0) hi (omega arith)) (indicator-le k (p .0)))
 
 mutual
-  pub absent : (lo hi k : ℕ) → (k < lo) ⊎ (hi ≤ k) → (t : Tree) → InRange lo hi t → total (has-key k) (pairs t) ≡ 0
-  absent lo hi k o (leaf m ks vs) h = omega (arith, total-le (has-key k) (outside lo hi) (has-outside lo hi k o) (slot-pairs ks vs), h .inside)
+  pub absent : (lo hi k : ℕ) → (k < lo) ⊎ (hi ≤ k) → (t : Tree) → InRange lo hi t → total (hasKey k) (pairs t) ≡ 0
+  absent lo hi k o (leaf m ks vs) h = omega (arith, total-le (hasKey k) (outside lo hi) (has-outside lo hi k o) (slotPairs ks vs), h .inside)
   absent lo hi k o (node m g f) h = absents lo hi k o f h
 
-  pub absents : (lo hi k : ℕ) → (k < lo) ⊎ (hi ≤ k) → (f : Forest) → AllInRange lo hi f → total (has-key k) (forest-pairs f) ≡ 0
+  pub absents : (lo hi k : ℕ) → (k < lo) ⊎ (hi ≤ k) → (f : Forest) → AllInRange lo hi f → total (hasKey k) (forestPairs f) ≡ 0
   absents lo hi k o (one t) h = absent lo hi k o t h
-  absents lo hi k o (more t r f) h = omega (arith, total-append (has-key k) (pairs t) (forest-pairs f), absent lo r k (⊎-map (λ a. a) (λ a. omega arith) o) t (h .0), absents r hi k (⊎-map (λ a. omega arith) (λ a. a) o) f (h .3))
+  absents lo hi k o (more t r f) h = omega (arith, total-append (hasKey k) (pairs t) (forestPairs f), absent lo r k (⊎-map (λ a. a) (λ a. omega arith) o) t (h .0), absents r hi k (⊎-map (λ a. omega arith) (λ a. a) o) f (h .3))
 
 -- the child that a key leads to
 abbrev pub child : ℕ → Forest → Tree
 child k (one t) = t
 child k (more t r f) = pick (ltb k r) t (child k f)
 
-pub lookup-child : (lo hi k : ℕ) (f : Forest) → AllInRange lo hi f → lookup k (forest-pairs f) ≡ lookup k (pairs (child k f))
+pub lookup-child : (lo hi k : ℕ) (f : Forest) → AllInRange lo hi f → lookup k (forestPairs f) ≡ lookup k (pairs (child k f))
 lookup-child lo hi k (one t) h = refl
 lookup-child lo hi k (more t r f) h =
-    lookup-append k (pairs t) (forest-pairs f)
+    lookup-append k (pairs t) (forestPairs f)
     ∙ order k r
-    (λ o. rw (lt-ltb k r o, lookup-none k (forest-pairs f) (absents r hi k (inl o) f (h .3))) (else-none _))
+    (λ o. rw (lt-ltb k r o, lookup-none k (forestPairs f) (absents r hi k (inl o) f (h .3))) (else-none _))
     (λ o. rw (le-ltb k r o, lookup-none k (pairs t) (absent lo r k (inr o) t (h .0))) (lookup-child r hi k f (h .3)))
   where
     else-none : (a : Option ℕ) → orElse a none ≡ a
@@ -108,7 +108,7 @@ abbrev mutual
   depths (more t k f) = max (depth t) (depths f)
 
 -- one slot more
-pub slot-pairs-head : (k x v : ℕ) (ks vs : List ℕ) → 0 < k → lookup k (slot-pairs (x ∷ ks) (v ∷ vs)) ≡ pick (eqb k x) (some v) (lookup k (slot-pairs ks vs))
+pub slot-pairs-head : (k x v : ℕ) (ks vs : List ℕ) → 0 < k → lookup k (slotPairs (x ∷ ks) (v ∷ vs)) ≡ pick (eqb k x) (some v) (lookup k (slotPairs ks vs))
 slot-pairs-head k zero v ks vs hk = rw (ne-eqb k 0 (λ e. omega arith))
 slot-pairs-head k (suc x) v ks vs hk = refl
 

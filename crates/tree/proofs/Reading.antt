@@ -6,10 +6,10 @@ use Prim.Native.Nat.{ℕ, _+_, _-_, _≤_, _<_}
 use native.Mathlib.Omega.{arith}
 use lib.ListN.{length, take, replicate}
 use lib.Seq.{ext-getD, take-at}
-use Rattle.card.specs.Layout.{nodeAt, kindOf, keyWords, valueWords, children, routingKeys, slot-pairs, leafPairs}
+use Rattle.card.specs.Layout.{nodeAt, kindOf, keyWords, valueWords, children, routingKeys, slotPairs, leafPairs}
 use Rattle.card.proofs.NodeLaws.{length-node, node-word, length-keyWords, length-valueWords, get-keyWord, get-valueWord}
 use Rattle.card.specs.NodeWords.{OnCard, NodeWords}
-use Rattle.laws.specs.Lists.{pad, before-zero}
+use Rattle.laws.specs.Lists.{pad, beforeZero}
 use Rattle.laws.proofs.Lists.{length-pad, getD-pad, before-zero-pad}
 use Rattle.laws.specs.Totals.{indicator, total}
 use Rattle.laws.proofs.Totals.{indicator-other}
@@ -47,9 +47,9 @@ module _ (c : List ℕ) (m : ℕ) (ks vs : List ℕ) (r : Represents c (leaf m k
   pub leaf-values : valueWords (nodeAt c m) ≡ vs
   leaf-values = read-valueWords c m 1 ks vs (r .0) (omega (arith, r .2)) ∙ pad-full vs (r .2)
 
-  pub leaf-pairs : leafPairs (nodeAt c m) ≡ slot-pairs ks vs
+  pub leaf-pairs : leafPairs (nodeAt c m) ≡ slotPairs ks vs
   unfolding leafPairs
-  leaf-pairs = ap₂ slot-pairs leaf-keys leaf-values
+  leaf-pairs = ap₂ slotPairs leaf-keys leaf-values
 
 pub roots-nonzero : (c : List ℕ) (f : Forest) → RepresentsAll c f → total (indicator 0) (roots f) ≡ 0
 roots-nonzero c (one t) r = omega (arith, indicator-other 0 (root t) (omega (arith, root-positive c t r)))
@@ -59,7 +59,7 @@ roots-nonzero c (more t k f) r = omega (arith, indicator-other 0 (root t) (omega
 module _ (c : List ℕ) (m : ℕ) (g : Bool) (f : Forest) (r : Represents c (node m g f)) where
   pub node-children : children (nodeAt c m) ≡ roots f
   unfolding children
-  node-children = ap before-zero (read-valueWords c m (kind g) (routing f) (roots f) (r .0) (r .2)) ∙ before-zero-pad (roots f) (11 - length (roots f)) (roots-nonzero c f (r .1))
+  node-children = ap beforeZero (read-valueWords c m (kind g) (routing f) (roots f) (r .0) (r .2)) ∙ before-zero-pad (roots f) (11 - length (roots f)) (roots-nonzero c f (r .1))
 
   pub node-routing : routingKeys (nodeAt c m) ≡ routing f
   unfolding routingKeys

@@ -9,29 +9,29 @@ use Rattle.card.proofs.Stores.{play, length-play, Within, within-take, keeps-pl
 use Rattle.laws.specs.Totals.{indicator}
 use Rattle.laws.proofs.Totals.{indicator-other}
 use Rattle.tree.specs.Represent.{Represents, Holds}
-use Rattle.tree.proofs.Represent.{link-place, frame, replaced}
-use Rattle.tree.specs.Tree.{Tree, Forest, root, node-total, node-totals, leaf, node, one, more}
-use Rattle.tree.proofs.Tree.{Context, plug, context-total}
+use Rattle.tree.proofs.Represent.{linkPlace, frame, replaced}
+use Rattle.tree.specs.Tree.{Tree, Forest, root, nodeTotal, nodeTotals, leaf, node, one, more}
+use Rattle.tree.proofs.Tree.{Context, plug, contextTotal}
 
 pub play-head : {w : ℕ → ℕ} {ss : List (ℕ × ℕ)} → Within w ss → (c : List ℕ) (p : ℕ) → p < 8 → getD (play ss c) p 0 ≡ getD c p 0
 play-head done c p h = refl
 play-head (also i x v a e hi hx hw r) c p h = play-head r _ p h ∙ getD-set-other c a p v 0 (omega arith)
 
-pub holds-frame : {w : ℕ → ℕ} {ss : List (ℕ × ℕ)} → Within w ss → (c : List ℕ) (t : Tree) → node-total w t ≡ 0 → Holds c t → Holds (play ss c) t
+pub holds-frame : {w : ℕ → ℕ} {ss : List (ℕ × ℕ)} → Within w ss → (c : List ℕ) (t : Tree) → nodeTotal w t ≡ 0 → Holds c t → Holds (play ss c) t
 holds-frame {w} {ss} h c t z r = (play-head h c 4 (omega arith) ∙ r .0, rw length-play (r .1), frame c (play ss c) w (keeps-play h c) t z (r .2))
 
-module _ (c : List ℕ) (C : Context) (s s′ : Tree) (w : ℕ → ℕ) (P : List (ℕ × ℕ)) (inside : Within w P) (fresh : node-total w (plug C s) ≡ 0) where
+module _ (c : List ℕ) (C : Context) (s s′ : Tree) (w : ℕ → ℕ) (P : List (ℕ × ℕ)) (inside : Within w P) (fresh : nodeTotal w (plug C s) ≡ 0) where
   pub before-link : (n : ℕ) → Holds c (plug C s) → Holds (play (take n P) c) (plug C s)
   before-link n r = holds-frame (within-take n inside) c (plug C s) fresh r
 
-  pub changed : ((i : ℕ) → context-total (indicator i) C + node-total (indicator i) s′ ≤ 1) → Represents (play P c) s′ → Holds c (plug C s) → Holds (set (play P c) (link-place C) (root s′)) (plug C s′)
+  pub changed : ((i : ℕ) → contextTotal (indicator i) C + nodeTotal (indicator i) s′ ≤ 1) → Represents (play P c) s′ → Holds c (plug C s) → Holds (set (play P c) (linkPlace C) (root s′)) (plug C s′)
   changed d q r = replaced (play P c) C s s′ d (holds-frame inside c (plug C s) fresh r) q
 
 mutual
-  pub total-apart : (w : ℕ → ℕ) (i : ℕ) → 0 < w i → (t : Tree) → node-total w t ≡ 0 → node-total (indicator i) t ≡ 0
+  pub total-apart : (w : ℕ → ℕ) (i : ℕ) → 0 < w i → (t : Tree) → nodeTotal w t ≡ 0 → nodeTotal (indicator i) t ≡ 0
   total-apart w i h (leaf m ks vs) z = indicator-other i m (λ e. omega (arith, ap w e))
   total-apart w i h (node m g f) z = omega (arith, indicator-other i m (λ e. omega (arith, ap w e)), totals-apart w i h f (omega arith))
 
-  pub totals-apart : (w : ℕ → ℕ) (i : ℕ) → 0 < w i → (f : Forest) → node-totals w f ≡ 0 → node-totals (indicator i) f ≡ 0
+  pub totals-apart : (w : ℕ → ℕ) (i : ℕ) → 0 < w i → (f : Forest) → nodeTotals w f ≡ 0 → nodeTotals (indicator i) f ≡ 0
   totals-apart w i h (one t) z = total-apart w i h t z
   totals-apart w i h (more t k f) z = omega (arith, total-apart w i h t (omega arith), totals-apart w i h f (omega arith))

@@ -8,13 +8,13 @@ use native.Mathlib.Decide.{ℕ-discrete}
 use lib.ListN.{length, take, drop, replicate}
 use lib.Dec.{ltb}
 use borrow.Author.Tests.{ltb-true, ltb-false, lt-ltb, le-ltb}
-use Rattle.card.specs.Layout.{slot-pairs}
+use Rattle.card.specs.Layout.{slotPairs}
 use Rattle.laws.proofs.Cases.{bool-cases, order}
-use Rattle.laws.specs.Sorting.{Pairs, insert-pair, sort, pair-keys, pair-values, key-at}
+use Rattle.laws.specs.Sorting.{Pairs, insertPair, sort, pairKeys, pairValues, keyAt}
 use Rattle.laws.proofs.Sorting.{insert-pair-step, sort-nil, sort-cons, total-sort}
 use Rattle.laws.proofs.Totals.{indicator-same, indicator-other, indicator-zero, indicator-le, total-le}
 use Rattle.laws.specs.Totals.{total}
-use Rattle.tree.specs.Pairs.{has-key, outside, LeafRange}
+use Rattle.tree.specs.Pairs.{hasKey, outside, LeafRange}
 
 -- the test of a range, in and out
 pub outside-none : (lo hi : ℕ) (p : ℕ × ℕ) → lo ≤ p .0 → p .0 < hi → outside lo hi p ≡ 0
@@ -39,8 +39,8 @@ abbrev pub Rising : ℕ → ℕ → Pairs → Type 0
 Rising lo hi [] = lo ≤ hi
 Rising lo hi (p ∷ l) = (lo ≤ p .0) × Rising (suc (p .0)) hi l
 
-pub rising-insert : (lo hi : ℕ) (p : ℕ × ℕ) (l : Pairs) → lo ≤ p .0 → p .0 < hi → total (has-key (p .0)) l ≡ 0 → Rising lo hi l → Rising lo hi (insert-pair p l)
-unfolding insert-pair
+pub rising-insert : (lo hi : ℕ) (p : ℕ × ℕ) (l : Pairs) → lo ≤ p .0 → p .0 < hi → total (hasKey (p .0)) l ≡ 0 → Rising lo hi l → Rising lo hi (insertPair p l)
+unfolding insertPair
 rising-insert lo hi p [] h g n u = (h, g)
 rising-insert lo hi p (q ∷ l) h g n u =
     bool-cases (ltb (p .0) (q .0))
@@ -54,10 +54,10 @@ rising-sort lo hi [] h i = rw sort-nil h
 rising-sort lo hi (p ∷ l) h i =
     let o = outside-zero lo hi p (omega (arith, i .inside)) in
     rw (sort-cons p l)
-    (rising-insert lo hi p (sort l) (o .0) (o .1) (total-sort (has-key (p .0)) l ∙ omega (arith, i .once (p .0), indicator-same (p .0))) (rising-sort lo hi l h (record { inside = omega (arith, i .inside); once = λ k. omega (arith, i .once k) })))
+    (rising-insert lo hi p (sort l) (o .0) (o .1) (total-sort (hasKey (p .0)) l ∙ omega (arith, i .once (p .0), indicator-same (p .0))) (rising-sort lo hi l h (record { inside = omega (arith, i .inside); once = λ k. omega (arith, i .once k) })))
 
 -- the n first and the others, around the key of the first other
-pub rising-cut : (lo hi n : ℕ) (l : Pairs) → Rising lo hi l → n < length l → Rising lo (key-at n l) (take n l) × Rising (key-at n l) hi (drop n l)
+pub rising-cut : (lo hi n : ℕ) (l : Pairs) → Rising lo hi l → n < length l → Rising lo (keyAt n l) (take n l) × Rising (keyAt n l) hi (drop n l)
 rising-cut lo hi n [] u h = absurd (omega arith)
 rising-cut lo hi zero (p ∷ l) u h = (u .0, (omega arith, u .1))
 rising-cut lo hi (suc n) (p ∷ l) u h = let r = rising-cut (suc (p .0)) hi n l (u .1) (omega arith) in ((u .0, r .0), r .1)
@@ -72,11 +72,11 @@ rising-inside lo hi [] u = refl
 rising-inside lo hi (p ∷ l) u =
     omega (arith, outside-none lo hi p (u .0) (rising-le _ _ l (u .1)), rising-inside (suc (p .0)) hi l (u .1), total-le (outside lo hi) (outside (suc (p .0)) hi) (outside-le lo (suc (p .0)) hi (omega (arith, u .0))) l)
 
-pub rising-below : (lo hi k : ℕ) (l : Pairs) → k < lo → Rising lo hi l → total (has-key k) l ≡ 0
+pub rising-below : (lo hi k : ℕ) (l : Pairs) → k < lo → Rising lo hi l → total (hasKey k) l ≡ 0
 rising-below lo hi k [] h u = refl
 rising-below lo hi k (p ∷ l) h u = omega (arith, indicator-other k (p .0) (omega (arith, u .0)), rising-below (suc (p .0)) hi k l (omega (arith, u .0)) (u .1))
 
-pub rising-once : (lo hi k : ℕ) (l : Pairs) → Rising lo hi l → total (has-key k) l ≤ 1
+pub rising-once : (lo hi k : ℕ) (l : Pairs) → Rising lo hi l → total (hasKey k) l ≤ 1
 rising-once lo hi k [] u = omega arith
 rising-once lo hi k (p ∷ l) u =
     by-cases (ℕ-discrete k (p .0))
@@ -86,16 +86,16 @@ rising-once lo hi k (p ∷ l) u =
 pub rising-leaf : (lo hi : ℕ) (l : Pairs) → Rising lo hi l → LeafRange lo hi l
 rising-leaf lo hi l u = record { inside = rising-inside lo hi l u; once = λ k. rising-once lo hi k l u }
 
-pub slot-pairs-zeros : (n m : ℕ) (vs : List ℕ) → slot-pairs (replicate n 0) vs ≡ []
+pub slot-pairs-zeros : (n m : ℕ) (vs : List ℕ) → slotPairs (replicate n 0) vs ≡ []
 slot-pairs-zeros zero m vs = refl
 slot-pairs-zeros (suc n) m [] = refl
 slot-pairs-zeros (suc n) m (v ∷ vs) = slot-pairs-zeros n m vs
 
-pub slot-pairs-cons : (k v : ℕ) (ks vs : List ℕ) → 0 < k → slot-pairs (k ∷ ks) (v ∷ vs) ≡ (k, v) ∷ slot-pairs ks vs
+pub slot-pairs-cons : (k v : ℕ) (ks vs : List ℕ) → 0 < k → slotPairs (k ∷ ks) (v ∷ vs) ≡ (k, v) ∷ slotPairs ks vs
 slot-pairs-cons zero v ks vs h = absurd (omega arith)
 slot-pairs-cons (suc k) v ks vs h = refl
 
-pub slot-pairs-new : (n m lo hi : ℕ) (l : Pairs) → 0 < lo → Rising lo hi l → slot-pairs (pair-keys l ++ replicate n 0) (pair-values l ++ replicate m 0) ≡ l
+pub slot-pairs-new : (n m lo hi : ℕ) (l : Pairs) → 0 < lo → Rising lo hi l → slotPairs (pairKeys l ++ replicate n 0) (pairValues l ++ replicate m 0) ≡ l
 slot-pairs-new n m lo hi [] h u = slot-pairs-zeros n m (replicate m 0)
 slot-pairs-new n m lo hi (p ∷ l) h u =
     let h₀ : 0 < p .0 = omega (arith, u .0) in

@@ -8,12 +8,12 @@ use lib.ListN.{length}
 use Rattle.card.specs.Layout.{place}
 use Rattle.laws.specs.Totals.{total}
 use Rattle.laws.proofs.Totals.{total-append}
-use Rattle.tree.specs.Pairs.{pairs, forest-pairs}
+use Rattle.tree.specs.Pairs.{pairs, forestPairs}
 use Rattle.tree.proofs.Pairs.{InRange, AllInRange}
 use Rattle.tree.specs.Represent.{RepresentsAll}
-use Rattle.tree.proofs.Represent.{roots-left, roots-right, routing-left, routing-right}
-use Rattle.tree.specs.Tree.{Tree, Forest, root, roots, routing, node-totals, node, one, more}
-use Rattle.tree.proofs.Tree.{Left, Right, join, splice, fill, Context, plug, left-total, right-total, rightmost, followed, top, down}
+use Rattle.tree.proofs.Represent.{rootsLeft, rootsRight, routingLeft, routingRight}
+use Rattle.tree.specs.Tree.{Tree, Forest, root, roots, routing, nodeTotals, node, one, more}
+use Rattle.tree.proofs.Tree.{Left, Right, join, splice, fill, Context, plug, leftTotal, rightTotal, rightmost, followed, top, down}
 use Rattle.tree.specs.Height.{Height, AllHeight}
 
 pub roots-join : (f : Forest) (k : ℕ) (g : Forest) → roots (join f k g) ≡ roots f ++ roots g
@@ -24,11 +24,11 @@ pub routing-join : (f : Forest) (k : ℕ) (g : Forest) → routing (join f k g) 
 routing-join (one t) k g = refl
 routing-join (more t x f) k g = rw (routing-join f k g)
 
-pub pairs-join : (f : Forest) (k : ℕ) (g : Forest) → forest-pairs (join f k g) ≡ forest-pairs f ++ forest-pairs g
+pub pairs-join : (f : Forest) (k : ℕ) (g : Forest) → forestPairs (join f k g) ≡ forestPairs f ++ forestPairs g
 pairs-join (one t) k g = refl
 pairs-join (more t x f) k g = rw (pairs-join f k g, append-assoc)
 
-pub totals-join : (w : ℕ → ℕ) (f : Forest) (k : ℕ) (g : Forest) → node-totals w (join f k g) ≡ node-totals w f + node-totals w g
+pub totals-join : (w : ℕ → ℕ) (f : Forest) (k : ℕ) (g : Forest) → nodeTotals w (join f k g) ≡ nodeTotals w f + nodeTotals w g
 totals-join w (one t) k g = refl
 totals-join w (more t x f) k g = omega (arith, totals-join w f k g)
 
@@ -50,12 +50,12 @@ range-splice lo hi [] f rightmost i = (lo, hi, i, λ g j. j)
 range-splice lo hi [] f (followed k e) i = let u = range-unjoin lo hi f k e i in (lo, k, u .0, λ g j. range-join lo hi g k e j (u .1) (u .2) (u .3))
 range-splice lo hi (x ∷ l) f r i = let u = range-splice (x .1) hi l f r (i .3) in (u .0, u .1, u .2, λ g j. (i .0, i .1, i .2, u .3 g j))
 
-pub pairs-splice : (w : ℕ × ℕ → ℕ) (l : Left) (f g : Forest) (r : Right) → total w (forest-pairs (splice l g r)) + total w (forest-pairs f) ≡ total w (forest-pairs (splice l f r)) + total w (forest-pairs g)
+pub pairs-splice : (w : ℕ × ℕ → ℕ) (l : Left) (f g : Forest) (r : Right) → total w (forestPairs (splice l g r)) + total w (forestPairs f) ≡ total w (forestPairs (splice l f r)) + total w (forestPairs g)
 pairs-splice w [] f g rightmost = omega arith
 pairs-splice w [] f g (followed k e) = simp (pairs-join, total-append) (omega arith)
 pairs-splice w (x ∷ l) f g r = simp total-append (omega (arith, pairs-splice w l f g r))
 
-pub totals-splice : (w : ℕ → ℕ) (l : Left) (f : Forest) (r : Right) → node-totals w (splice l f r) ≡ left-total w l + node-totals w f + right-total w r
+pub totals-splice : (w : ℕ → ℕ) (l : Left) (f : Forest) (r : Right) → nodeTotals w (splice l f r) ≡ leftTotal w l + nodeTotals w f + rightTotal w r
 totals-splice w [] f rightmost = omega arith
 totals-splice w [] f (followed k e) = simp totals-join (omega arith)
 totals-splice w (x ∷ l) f r = omega (arith, totals-splice w l f r)
@@ -141,20 +141,20 @@ represents-splice c [] f (followed k e) i = let u = unjoin f i in (u .0, λ g j.
 represents-splice c (x ∷ l) f r i = let u = represents-splice c l f r (i .1) in (u .0, λ g j. (i .0, u .1 g j))
 
 -- splices, in lists
-pub roots-splice : (l : Left) (f : Forest) (r : Right) → roots (splice l f r) ≡ roots-left l ++ (roots f ++ roots-right r)
+pub roots-splice : (l : Left) (f : Forest) (r : Right) → roots (splice l f r) ≡ rootsLeft l ++ (roots f ++ rootsRight r)
 roots-splice [] f rightmost = sym (append-nil (roots f))
 roots-splice [] f (followed k g) = roots-join f k g
 roots-splice (a ∷ l) f r = ap (λ (x : List ℕ). root (a .0) ∷ x) (roots-splice l f r)
 
-pub routing-splice : (l : Left) (f : Forest) (r : Right) → routing (splice l f r) ≡ routing-left l ++ (routing f ++ routing-right r)
+pub routing-splice : (l : Left) (f : Forest) (r : Right) → routing (splice l f r) ≡ routingLeft l ++ (routing f ++ routingRight r)
 routing-splice [] f rightmost = sym (append-nil (routing f))
 routing-splice [] f (followed k g) = routing-join f k g
 routing-splice (a ∷ l) f r = ap (λ (x : List ℕ). a .1 ∷ x) (routing-splice l f r)
 
-pub length-roots-left : (l : Left) → length (roots-left l) ≡ length l
+pub length-roots-left : (l : Left) → length (rootsLeft l) ≡ length l
 length-roots-left [] = refl
 length-roots-left (a ∷ l) = ap suc (length-roots-left l)
 
-pub length-routing-left : (l : Left) → length (routing-left l) ≡ length l
+pub length-routing-left : (l : Left) → length (routingLeft l) ≡ length l
 length-routing-left [] = refl
 length-routing-left (a ∷ l) = ap suc (length-routing-left l)

@@ -4,7 +4,7 @@ use mathlib.Core.List.{List, [], _∷_}
 use mathlib.Core.Bool.{Bool}
 use Prim.Native.Nat.{ℕ, _+_}
 use native.Mathlib.Omega.{arith}
-use Rattle.tree.specs.Tree.{Tree, Forest, node, one, more, node-total, node-totals}
+use Rattle.tree.specs.Tree.{Tree, Forest, node, one, more, nodeTotal, nodeTotals}
 
 -- the children left of a hole, each with the key after it
 abbrev pub Left : Type 0
@@ -37,23 +37,23 @@ abbrev pub plug : Context → Tree → Tree
 plug top t = t
 plug (down C m g l r) t = plug C (node m g (fill l t r))
 
-abbrev pub left-total : (ℕ → ℕ) → Left → ℕ
-left-total w [] = 0
-left-total w (a ∷ l) = node-total w (a .0) + left-total w l
+abbrev pub leftTotal : (ℕ → ℕ) → Left → ℕ
+leftTotal w [] = 0
+leftTotal w (a ∷ l) = nodeTotal w (a .0) + leftTotal w l
 
-abbrev pub right-total : (ℕ → ℕ) → Right → ℕ
-right-total w rightmost = 0
-right-total w (followed k f) = node-totals w f
+abbrev pub rightTotal : (ℕ → ℕ) → Right → ℕ
+rightTotal w rightmost = 0
+rightTotal w (followed k f) = nodeTotals w f
 
-abbrev pub context-total : (ℕ → ℕ) → Context → ℕ
-context-total w top = 0
-context-total w (down C m g l r) = w m + left-total w l + right-total w r + context-total w C
+abbrev pub contextTotal : (ℕ → ℕ) → Context → ℕ
+contextTotal w top = 0
+contextTotal w (down C m g l r) = w m + leftTotal w l + rightTotal w r + contextTotal w C
 
-pub totals-fill : (w : ℕ → ℕ) (l : Left) (t : Tree) (r : Right) → node-totals w (fill l t r) ≡ left-total w l + node-total w t + right-total w r
+pub totals-fill : (w : ℕ → ℕ) (l : Left) (t : Tree) (r : Right) → nodeTotals w (fill l t r) ≡ leftTotal w l + nodeTotal w t + rightTotal w r
 totals-fill w [] t rightmost = omega arith
 totals-fill w [] t (followed k f) = omega arith
 totals-fill w (a ∷ l) t r = omega (arith, totals-fill w l t r)
 
-pub total-plug : (w : ℕ → ℕ) (C : Context) (t : Tree) → node-total w (plug C t) ≡ context-total w C + node-total w t
+pub total-plug : (w : ℕ → ℕ) (C : Context) (t : Tree) → nodeTotal w (plug C t) ≡ contextTotal w C + nodeTotal w t
 total-plug w top t = omega arith
 total-plug w (down C m g l r) t = omega (arith, total-plug w C (node m g (fill l t r)), totals-fill w l t r)

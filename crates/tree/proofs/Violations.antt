@@ -9,7 +9,7 @@ use Rattle.laws.proofs.Cases.{order}
 use Rattle.tree.proofs.Splice.{roots-splice}
 use Rattle.tree.specs.Tree.{Tree, Forest, roots, node, one, more}
 use Rattle.tree.proofs.Tree.{Left, Right, join, splice, fill, Context, plug, rightmost, followed, top, down}
-use Rattle.tree.specs.Violations.{few, violations, forest-violations, AllWidths, table-violations}
+use Rattle.tree.specs.Violations.{few, violations, forestViolations, AllWidths, tableViolations}
 
 pub few-none : (n : ℕ) → 2 ≤ n → few n ≡ 0
 unfolding few
@@ -30,11 +30,11 @@ pub few-below : (n : ℕ) → few n ≡ 1 → n < 2
 few-below n e = order n 2 (λ o. o) (λ o. absurd (omega (arith, few-none n o)))
 
 -- additive over joins and splices
-pub violations-join : (f : Forest) (k : ℕ) (g : Forest) → forest-violations (join f k g) ≡ forest-violations f + forest-violations g
+pub violations-join : (f : Forest) (k : ℕ) (g : Forest) → forestViolations (join f k g) ≡ forestViolations f + forestViolations g
 violations-join (one t) k g = refl
 violations-join (more t x f) k g = omega (arith, violations-join f k g)
 
-pub violations-splice : (l : Left) (f g : Forest) (r : Right) → forest-violations (splice l g r) + forest-violations f ≡ forest-violations (splice l f r) + forest-violations g
+pub violations-splice : (l : Left) (f g : Forest) (r : Right) → forestViolations (splice l g r) + forestViolations f ≡ forestViolations (splice l f r) + forestViolations g
 violations-splice [] f g rightmost = omega arith
 violations-splice [] f g (followed k e) = omega (arith, violations-join f k e, violations-join g k e)
 violations-splice (a ∷ l) f g r = omega (arith, violations-splice l f g r)
@@ -59,7 +59,7 @@ size-splice l f g r = simp (roots-splice, length-append) (omega arith)
 pub fill-width : (l : Left) (s s′ : Tree) (r : Right) → length (roots (fill l s′ r)) ≡ length (roots (fill l s r))
 fill-width l s s′ r = omega (arith, size-splice l (one s) (one s′) r)
 
-pub violations-inside : (l : Left) (f : Forest) (r : Right) → forest-violations f ≤ forest-violations (splice l f r)
+pub violations-inside : (l : Left) (f : Forest) (r : Right) → forestViolations f ≤ forestViolations (splice l f r)
 violations-inside [] f rightmost = omega arith
 violations-inside [] f (followed k e) = omega (arith, violations-join f k e)
 violations-inside (x ∷ l) f r = omega (arith, violations-inside l f r)
@@ -69,7 +69,7 @@ abbrev pub below : Context → Type 0
 below top = ⊥
 below (down C m g l r) = Unit
 
-pub violations-plug : (C : Context) (s s′ : Tree) → below C → table-violations (plug C s′) + violations s ≡ table-violations (plug C s) + violations s′
+pub violations-plug : (C : Context) (s s′ : Tree) → below C → tableViolations (plug C s′) + violations s ≡ tableViolations (plug C s) + violations s′
 violations-plug top s s′ b = absurd b
 violations-plug (down top m g l r) s s′ b = violations-splice l (one s) (one s′) r
 violations-plug (down (down C m′ g′ l′ r′) m g l r) s s′ b =

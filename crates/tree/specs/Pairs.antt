@@ -4,19 +4,19 @@ use mathlib.Core.List.{List, [], _∷_, _++_}
 use mathlib.Core.Option.{Option, none, some}
 use Prim.Native.Nat.{ℕ, _≤_}
 use lib.Dec.{ltb, eqb}
-use Rattle.card.specs.Layout.{slot-pairs}
+use Rattle.card.specs.Layout.{slotPairs}
 use Rattle.laws.specs.Cases.{pick}
 use Rattle.laws.specs.Totals.{indicator, total}
 use Rattle.tree.specs.Tree.{Tree, Forest, leaf, node, one, more}
 
 abbrev mutual
   pub pairs : Tree → List (ℕ × ℕ)
-  pairs (leaf m ks vs) = slot-pairs ks vs
-  pairs (node m g f) = forest-pairs f
+  pairs (leaf m ks vs) = slotPairs ks vs
+  pairs (node m g f) = forestPairs f
 
-  pub forest-pairs : Forest → List (ℕ × ℕ)
-  forest-pairs (one t) = pairs t
-  forest-pairs (more t k f) = pairs t ++ forest-pairs f
+  pub forestPairs : Forest → List (ℕ × ℕ)
+  forestPairs (one t) = pairs t
+  forestPairs (more t k f) = pairs t ++ forestPairs f
 
 -- first match
 abbrev pub lookup : ℕ → List (ℕ × ℕ) → Option ℕ
@@ -24,8 +24,8 @@ lookup k [] = none
 lookup k (p ∷ ps) = pick (eqb k (p .0)) (some (p .1)) (lookup k ps)
 
 -- the number of pairs with key k
-abbrev pub has-key : ℕ → ℕ × ℕ → ℕ
-has-key k p = indicator k (p .0)
+abbrev pub hasKey : ℕ → ℕ × ℕ → ℕ
+hasKey k p = indicator k (p .0)
 
 -- outside the range [lo, hi): 1, else 0
 abbrev pub outside : ℕ → ℕ → ℕ × ℕ → ℕ
@@ -33,4 +33,4 @@ outside lo hi p = pick (ltb (p .0) lo) 1 (pick (ltb (p .0) hi) 0 1)
 
 pub record LeafRange (lo hi : ℕ) (ps : List (ℕ × ℕ)) : Type 0 where
   pub inside : total (outside lo hi) ps ≡ 0
-  pub once : (k : ℕ) → total (has-key k) ps ≤ 1
+  pub once : (k : ℕ) → total (hasKey k) ps ≤ 1

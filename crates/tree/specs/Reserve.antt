@@ -8,8 +8,8 @@ use Rattle.tree.specs.Tree.{Tree, Forest, roots, leaf, node, one, more}
 abbrev mutual
   pub reserves : ℕ → Tree → ℕ
   reserves run (leaf m ks vs) = 0
-  reserves run (node m g f) = pick g run 0 + all-reserves (runBelow (length (roots f)) run) f
+  reserves run (node m g f) = pick g run 0 + allReserves (runBelow (length (roots f)) run) f
 
-  pub all-reserves : ℕ → Forest → ℕ
-  all-reserves run (one t) = reserves run t
-  all-reserves run (more t k f) = reserves run t + all-reserves run f
+  pub allReserves : ℕ → Forest → ℕ
+  allReserves run (one t) = reserves run t
+  allReserves run (more t k f) = reserves run t + allReserves run f

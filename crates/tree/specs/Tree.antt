@@ -27,10 +27,10 @@ routing (more t k f) = k ∷ routing f
 
 -- the total of a weight over the node numbers
 abbrev mutual
-  pub node-total : (ℕ → ℕ) → Tree → ℕ
-  node-total w (leaf m ks vs) = w m
-  node-total w (node m g f) = w m + node-totals w f
+  pub nodeTotal : (ℕ → ℕ) → Tree → ℕ
+  nodeTotal w (leaf m ks vs) = w m
+  nodeTotal w (node m g f) = w m + nodeTotals w f
 
-  pub node-totals : (ℕ → ℕ) → Forest → ℕ
-  node-totals w (one t) = node-total w t
-  node-totals w (more t k f) = node-total w t + node-totals w f
+  pub nodeTotals : (ℕ → ℕ) → Forest → ℕ
+  nodeTotals w (one t) = nodeTotal w t
+  nodeTotals w (more t k f) = nodeTotal w t + nodeTotals w f

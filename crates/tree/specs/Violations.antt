@@ -4,7 +4,7 @@ use mathlib.Core.Bool.{Bool, true, false}
 use Prim.Native.Nat.{ℕ, _+_, _≤_}
 use lib.ListN.{length}
 use lib.Dec.{ltb}
-use Rattle.card.specs.Layout.{slot-pairs}
+use Rattle.card.specs.Layout.{slotPairs}
 use Rattle.laws.specs.Bits.{bit}
 use Rattle.laws.specs.Cases.{pick}
 use Rattle.tree.specs.Tree.{Tree, Forest, roots, leaf, node, one, more}
@@ -15,12 +15,12 @@ few n = pick (ltb n 2) 1 0
 -- the faults of a tree that is not the root
 abbrev mutual
   pub violations : Tree → ℕ
-  violations (leaf m ks vs) = few (length (slot-pairs ks vs))
-  violations (node m g f) = bit g + few (length (roots f)) + forest-violations f
+  violations (leaf m ks vs) = few (length (slotPairs ks vs))
+  violations (node m g f) = bit g + few (length (roots f)) + forestViolations f
 
-  pub forest-violations : Forest → ℕ
-  forest-violations (one t) = violations t
-  forest-violations (more t k f) = violations t + forest-violations f
+  pub forestViolations : Forest → ℕ
+  forestViolations (one t) = violations t
+  forestViolations (more t k f) = violations t + forestViolations f
 
 -- widths of trees that are not the root
 abbrev pub Width : Bool → ℕ → Type 0
@@ -29,7 +29,7 @@ Width false n = (1 ≤ n) × (n ≤ 11)
 
 abbrev mutual
   pub Widths : Tree → Type 0
-  Widths (leaf m ks vs) = 1 ≤ length (slot-pairs ks vs)
+  Widths (leaf m ks vs) = 1 ≤ length (slotPairs ks vs)
   Widths (node m g f) = Width g (length (roots f)) × AllWidths f
 
   pub AllWidths : Forest → Type 0
@@ -42,6 +42,6 @@ RootOk (leaf m ks vs) = Unit
 RootOk (node m true f) = ⊥
 RootOk (node m false f) = (2 ≤ length (roots f)) × (length (roots f) ≤ 11) × AllWidths f
 
-abbrev pub table-violations : Tree → ℕ
-table-violations (leaf m ks vs) = 0
-table-violations (node m g f) = forest-violations f
+abbrev pub tableViolations : Tree → ℕ
+tableViolations (leaf m ks vs) = 0
+tableViolations (node m g f) = forestViolations f

@@ -4,13 +4,13 @@ use mathlib.Core.Path.{_≡_}
 use mathlib.Core.List.{List, [], _∷_}
 use mathlib.Core.Option.{none}
 use Prim.Native.Nat.{ℕ, _≤_, _<_}
-use Rattle.card.specs.Layout.{lowestKey, keyLimit, slot-pairs}
+use Rattle.card.specs.Layout.{lowestKey, keyLimit, slotPairs}
 use Rattle.laws.specs.Totals.{indicator}
 use Rattle.tree.specs.Pairs.{LeafRange}
 use Rattle.tree.specs.Represent.{Holds}
 use Rattle.tree.specs.Height.{Height}
-use Rattle.tree.specs.Tree.{Tree, Forest, routing, node-total, leaf, node, one, more}
-use Rattle.tree.specs.Violations.{RootOk, table-violations}
+use Rattle.tree.specs.Tree.{Tree, Forest, routing, nodeTotal, leaf, node, one, more}
+use Rattle.tree.specs.Violations.{RootOk, tableViolations}
 
 -- "its routing keys rise strictly"
 abbrev pub RisingKeys : List ℕ → Type 0
@@ -28,7 +28,7 @@ KeysWithin lo hi (k ∷ ks) = (lo ≤ k) × (k < hi) × KeysWithin lo hi ks
 -- after it, excluded ..)"
 abbrev mutual
   pub SoundIn : ℕ → ℕ → Tree → Type 0
-  SoundIn lo hi (leaf m ks vs) = LeafRange lo hi (slot-pairs ks vs)
+  SoundIn lo hi (leaf m ks vs) = LeafRange lo hi (slotPairs ks vs)
   SoundIn lo hi (node m g f) = SoundChildren lo hi f × RisingKeys (routing f) × KeysWithin lo hi (routing f)
 
   pub SoundChildren : ℕ → ℕ → Forest → Type 0
@@ -40,7 +40,7 @@ pub record WellFormed (c : List ℕ) (t : Tree) : Type 0 where
   -- "Every node number followed is 1 to N .. and in reached nodes the words called 0 above are 0"
   pub holds : Holds c t
   -- "no node is reached twice"
-  pub once : (i : ℕ) → node-total (indicator i) t ≤ 1
+  pub once : (i : ℕ) → nodeTotal (indicator i) t ≤ 1
   -- "the root's is all keys"
   pub sound : SoundIn lowestKey keyLimit t
   -- "The root is not tagged; if internal it has 2 to 11 children, if a leaf 0 to 11 pairs. Other leaves have 1 to 11 pairs,
@@ -49,9 +49,9 @@ pub record WellFormed (c : List ℕ) (t : Tree) : Type 0 where
   -- "All leaves are equally deep when tagged nodes are not counted."
   pub level : (h : ℕ) × Height h t
   -- "A sound table has at most one fault."
-  pub few-violations : table-violations t ≤ 1
+  pub few-violations : tableViolations t ≤ 1
 
 -- "Balanced means sound with none."
 pub record Balanced (c : List ℕ) (t : Tree) : Type 0 where
   pub well-formed : WellFormed c t
-  pub none : table-violations t ≡ 0
+  pub none : tableViolations t ≡ 0

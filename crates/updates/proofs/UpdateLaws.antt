@@ -8,7 +8,7 @@ use lib.ListN.{length, getD}
 use lib.Dec.{eqb}
 use borrow.Author.Tests.{ne-eqb}
 use Rattle.card.specs.Header.{Sized}
-use Rattle.card.specs.Layout.{depthLimit, rootPlace, place, nodeAt, keyWords, valueWords, children, slot-pairs, leafPairs, runBelow}
+use Rattle.card.specs.Layout.{depthLimit, rootPlace, place, nodeAt, keyWords, valueWords, children, slotPairs, leafPairs, runBelow}
 use Rattle.card.proofs.NodeLaws.{length-node, length-keyWords, length-valueWords}
 use Rattle.descent.specs.Descent.{childIndex, firstEqual, slotOf, turnAt, onTurnLanding, landingFor}
 use Rattle.descent.proofs.DescentLaws.{index-le, turn-inside}
@@ -27,7 +27,7 @@ use Rattle.state.specs.declared.Doing.the-variants.{Idle, Formatting, Inserting
 use Rattle.state.specs.declared.Answer.the-variants.{Absent, Value, Refused}
 
 -- a leaf without an empty slot has eleven pairs
-full-pairs : (ks vs : List ℕ) (a : ℕ) → length ks ≡ length vs → firstEqual ks 0 a ≡ NoSlot → length (slot-pairs ks vs) ≡ length ks
+full-pairs : (ks vs : List ℕ) (a : ℕ) → length ks ≡ length vs → firstEqual ks 0 a ≡ NoSlot → length (slotPairs ks vs) ≡ length ks
 unfolding firstEqual
 full-pairs [] vs a l e = refl
 full-pairs (k ∷ ks) [] a l e = absurd (omega arith)

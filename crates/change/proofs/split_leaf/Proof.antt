@@ -5,7 +5,7 @@ use Prim.Native.Nat.{suc}
 use native.Mathlib.Omega.{arith}
 use lib.ListN.{length}
 use borrow.Author.Needs.{needs}
-use Rattle.laws.specs.Lists.{before-zero}
+use Rattle.laws.specs.Lists.{beforeZero}
 use Rattle.laws.specs.Sorting.{sort}
 use Rattle.laws.proofs.Sorting.{length-sort}
 use Rattle.card.specs.Layout.{leafPairs}
@@ -53,7 +53,7 @@ returns c =
     let held = c .before .before .before .before .before .before .before .before .before .before .with-leaf .ensures in
     let none = c .before .before .before .before .before .before .before .before .before .before .before .no-pairs .ensures in
     c .before .before .before .before .split .ensures
-    ∙ ap (λ (b : Together). giving 3 (nodesOf (s .args .free .words)) (s .args .last) (λ ms. splitUnder (s .args .link) b (before-zero (s .args .m ∷ 0 ∷ 0 ∷ [])) (first ms) (second ms) (third ms)))
+    ∙ ap (λ (b : Together). giving 3 (nodesOf (s .args .free .words)) (s .args .last) (λ ms. splitUnder (s .args .link) b (beforeZero (s .args .m ∷ 0 ∷ 0 ∷ [])) (first ms) (second ms) (third ms)))
     (leaf-pooled leaf (s .args .key) (s .args .value) _ _ (c .before .before .before .before .before .before .before .before .before .with-pair .result) _ _ (room-keys (c .before .before .before .before .before .before .before .before .before)) (room-values (c .before .before .before .before .before .before .before .before .before)) (omega (arith, held .keys-counted, none .keys-counted, s .pre .1)) none held (c .before .before .before .before .before .before .before .before .before .with-pair .ensures))
     ∙ split-leaf (s .args .m) (s .args .link) (sort ((s .args .key, s .args .value) ∷ leafPairs leaf)) _ _ _ (length-sort ((s .args .key, s .args .value) ∷ leafPairs leaf) ∙ ap suc (s .pre .1)) (cut-one (s .args .m) (s .pre .2))
 

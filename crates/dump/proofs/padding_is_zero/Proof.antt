@@ -4,7 +4,7 @@ use Prim.Native.Nat.{_*_, _-_, _/_}
 use native.Mathlib.Omega.{arith}
 use lib.ListN.{length, drop}
 use borrow.Author.Needs.{needs}
-use Rattle.laws.specs.Lists.{all-zero}
+use Rattle.laws.specs.Lists.{allZero}
 use Rattle.dump.proofs.ByteLaws.{no-bytes}
 use Rattle.dump.proofs.Padding.{eight-passed, eight-found}
 use Rattle.dump.proofs.padding_is_zero.Statement.{statement}
@@ -12,7 +12,7 @@ use Rattle.dump.proofs.padding_is_zero.Tie as tie
 
 -- the bytes passed were 0, so what is left decides
 abbrev Inv-loop : tie.InvT-loop
-Inv-loop dump from eights k₀ k = (eights ≡ length dump / 8) × (all-zero (drop (8 * from) dump) ≡ all-zero (drop (8 * k) dump))
+Inv-loop dump from eights k₀ k = (eights ≡ length dump / 8) × (allZero (drop (8 * from) dump) ≡ allZero (drop (8 * k) dump))
 
 abbrev μ-loop : tie.MeasureT-loop
 μ-loop dump from eights k₀ k = length dump - k

@@ -1,6 +1,5 @@
 -- `records::fetch_record` meets its contract.
-use mathlib.Core.Path.{_≡_, ap, sym, _∙_}
-use native.Mathlib.Omega.{arith}
+use mathlib.Core.Path.{ap, sym, _∙_}
 use Rattle.records.specs.Records.{recordFor, recordOf}
 use borrow.Author.Needs.{needs}
 use Rattle.records.proofs.fetch_record.Statement.{statement}

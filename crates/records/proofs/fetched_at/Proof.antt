@@ -1,5 +1,5 @@
 -- `records::fetched_at` meets its contract.
-use mathlib.Core.Path.{_≡_, ap, sym, _∙_}
+use mathlib.Core.Path.{ap, sym, _∙_}
 use Rattle.records.proofs.RecordLaws.{fetched-found, fetched-refused}
 use Rattle.records.specs.declared.Fetched.the-variants.{Refused}
 use borrow.Author.Needs.{needs}

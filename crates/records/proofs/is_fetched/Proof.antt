@@ -1,5 +1,5 @@
 -- `records::is_fetched` meets its contract.
-use mathlib.Core.Path.{_≡_, ap, sym, _∙_}
+use mathlib.Core.Path.{ap, sym, _∙_}
 use Rattle.records.specs.Records.{fetchedFor, fetchOf}
 use borrow.Author.Needs.{needs}
 use Rattle.records.proofs.is_fetched.Statement.{statement}

@@ -1,7 +1,6 @@
 -- `records::record_at` meets its contract.
-use mathlib.Core.Path.{_≡_, refl, ap, sym, _∙_}
+use mathlib.Core.Path.{refl, sym, _∙_}
 use native.Mathlib.Omega.{arith}
-use lib.ListN.{length}
 use borrow.Author.Tests.{eq-eqb, ne-eqb}
 use Rattle.records.specs.Records.{recordRefusal}
 use Rattle.records.proofs.RecordLaws.{RecordInside, record-inside, record-part}

@@ -2,7 +2,7 @@
 use mathlib.Core.List.{List}
 use mathlib.Core.Path.{ap}
 use borrow.Author.Needs.{needs}
-use Rattle.laws.specs.Lists.{before-zero}
+use Rattle.laws.specs.Lists.{beforeZero}
 use Rattle.card.specs.Stores.{Store}
 use Rattle.free_nodes.specs.NodeSet.{nodesOf}
 use Rattle.plans.specs.Plan.{preparationOf, onOutcome}
@@ -27,7 +27,7 @@ same-length-2 c = search needs
 
 returns : tie.Need-returns
 unfolding preparationOf onOutcome
-returns c = let s = c .before .before .before .before .before .before .before .before .before in ap (λ (x : List Store). prepared x (nodesOf (s .args .free .words)) (s .args .top) (before-zero (s .args .cut))) (c .before .before .before .before .push-store .ensures .listed)
+returns c = let s = c .before .before .before .before .before .before .before .before .before in ap (λ (x : List Store). prepared x (nodesOf (s .args .free .words)) (s .args .top) (beforeZero (s .args .cut))) (c .before .before .before .before .push-store .ensures .listed)
 
 pub linked-spec : {M : Type 1} → statement M
 linked-spec =

@@ -4,14 +4,14 @@ use native.Mathlib.Omega.{arith}
 use lib.Seq.{slice}
 use lib.ListN.{length}
 use borrow.Author.Needs.{needs}
-use Rattle.laws.specs.Lists.{all-zero}
+use Rattle.laws.specs.Lists.{allZero}
 use Rattle.soundness.proofs.CheckLaws.{zero-stop, zero-next, zero-end}
 use Rattle.soundness.proofs.unused.are_zero.Statement.{statement}
 use Rattle.soundness.proofs.unused.are_zero.Tie as tie
 
 -- the whole of the definition equals what is left of it
 abbrev Inv-loop : tie.InvT-loop
-Inv-loop node from to i₀ i = (from ≤ i) × (i ≤ to) × (to ≤ length node) × (all-zero (slice from to node) ≡ all-zero (slice i to node))
+Inv-loop node from to i₀ i = (from ≤ i) × (i ≤ to) × (to ≤ length node) × (allZero (slice from to node) ≡ allZero (slice i to node))
 
 abbrev μ-loop : tie.MeasureT-loop
 μ-loop node from to i₀ i = to - i

@@ -7,7 +7,7 @@ use native.Mathlib.Omega.{arith}
 use lib.ListN.{length, drop}
 use Rattle.plans.specs.Planning.{withAll}
 use Rattle.free_nodes.specs.NodeSet.{nodesOf}
-use Rattle.laws.specs.Lists.{before-zero}
+use Rattle.laws.specs.Lists.{beforeZero}
 use Rattle.state.proofs.StepLaws.{cut-end, cut-zero, cut-next, no-cut}
 use borrow.Author.Needs.{needs}
 use Rattle.state.proofs.playing.with_cut.Statement.{statement}
@@ -15,7 +15,7 @@ use Rattle.state.proofs.playing.with_cut.Tie as tie
 
 abbrev Inv-loop : tie.InvT-loop
 Inv-loop cut freed₀ i₀ freed i =
-    (i ≤ 3) × (withAll (before-zero cut) (nodesOf (freed₀ .words)) ≡ withAll (before-zero (drop i cut)) (nodesOf (freed .words)))
+    (i ≤ 3) × (withAll (beforeZero cut) (nodesOf (freed₀ .words)) ≡ withAll (beforeZero (drop i cut)) (nodesOf (freed .words)))
 
 abbrev μ-loop : tie.MeasureT-loop
 μ-loop cut freed₀ i₀ freed i = 3 - i
@@ -53,7 +53,7 @@ loop-again c =
     let l = c .before .before .before .loop in (
       search needs,
       l .inv .1 ∙ cut-next (c .before .before .before .before .args .t2) (l .i) (nodesOf (l .freed .words)) (omega arith) (c .before .if1 .left)
-          ∙ ap (λ (x : List Bool). withAll (before-zero (drop (l .i + 1) (c .before .before .before .before .args .t2))) x) (sym (c .with-one .ensures)),
+          ∙ ap (λ (x : List Bool). withAll (beforeZero (drop (l .i + 1) (c .before .before .before .before .args .t2))) x) (sym (c .with-one .ensures)),
     )
 
 returns-2 : tie.Need-returns-2 Inv-loop μ-loop

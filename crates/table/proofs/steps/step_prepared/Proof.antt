@@ -6,7 +6,7 @@ use Rattle.plans.specs.Plan.{storesOf, planIn, onOutcome, preparationOf}
 use Rattle.plans.specs.Planning.{Preparation, prepared}
 use Rattle.plans.specs.declared.Outcome.{Outcome}
 use Rattle.free_nodes.specs.NodeSet.{nodesOf}
-use Rattle.laws.specs.Lists.{before-zero}
+use Rattle.laws.specs.Lists.{beforeZero}
 use Rattle.state.specs.Steps.{stepRefused, stepFinal}
 use Rattle.table.specs.Calls.{planning, stepPrepared}
 use Rattle.state.specs.Memory.{Memory, memoryOf}
@@ -18,7 +18,7 @@ use Rattle.table.proofs.steps.step_prepared.Tie as tie
 
 -- the change prepared, with so many stores
 abbrev change : tie.Start → ℕ → Preparation
-change s k = prepared (storesOf (planIn (s .args .plan .places) (s .args .plan .values) k)) (nodesOf (s .args .p .free .words)) (s .args .p .last) (before-zero (s .args .p .cut))
+change s k = prepared (storesOf (planIn (s .args .plan .places) (s .args .plan .values) k)) (nodesOf (s .args .p .free .words)) (s .args .p .last) (beforeZero (s .args .p .cut))
 
 enum-told : tie.Need-enum-told
 enum-told c = search needs
@@ -55,7 +55,7 @@ unfolding stepPrepared planning memoryOf preparationOf onOutcome
 returns-3 c =
     let s = c .before .before .before .before .before .before .before .before .before in (
       c .before .before .store-next .ensures .0
-          ∙ sym (first-same (s .args .card .now) (memoryOf (s .args .s)) (record { nodes = s .args .s .nodes; free = nodesOf (s .args .p .free .words); last = s .args .p .last; doing = s .args .doing; rest = storesOf (s .args .plan); cut = before-zero (s .args .p .cut) }) [] (storesOf (s .args .plan)))
+          ∙ sym (first-same (s .args .card .now) (memoryOf (s .args .s)) (record { nodes = s .args .s .nodes; free = nodesOf (s .args .p .free .words); last = s .args .p .last; doing = s .args .doing; rest = storesOf (s .args .plan); cut = beforeZero (s .args .p .cut) }) [] (storesOf (s .args .plan)))
           ∙ ap (λ (k : ℕ). stepPrepared (s .args .card .now) (memoryOf (s .args .s)) (s .args .doing) (s .args .answer) (change s k)) (s .pre .1)
           ∙ ap (λ (o : Outcome). stepPrepared (s .args .card .now) (memoryOf (s .args .s)) (s .args .doing) (s .args .answer) (onOutcome o (change s (s .args .p .count)))) (sym (c .before .before .before .before .before .before .enum-told3 .given .1)),
       c .before .before .store-next .ensures .1,
