@@ -27,7 +27,7 @@ use Rattle.state.specs.Steps.{isIdle, stepRefused, stepFinal, stepFirst, stepSt
 use Rattle.table.specs.Calls.{planning, stepPrepared, stepBegin, stepOf}
 use Rattle.updates.specs.Updates.{FirstChange, landing, changeAt}
 use Rattle.demands.proofs.StepRows.{Final}
-use Rattle.laws.proofs.Cases.{order}
+use Rattle.laws.proofs.Cases.{order, impossible}
 use borrow.Author.Tests.{lt-ltb, le-ltb}
 use Rattle.change.specs.Mending.{nextRepair}
 use Rattle.change_theory.proofs.Plays.{Openable, pending-changing}
@@ -185,26 +185,26 @@ entered-due job-insert updated = refl
 entered-due job-delete updated = refl
 
 idle-no-job : {doing : Doing} {key : ℕ} {final : Answer} {u : Option Update} → Job doing key final u → doing ≡ Idle → ⊥
-idle-no-job job-repair e = let z : _≡_ {A = ℕ} 0 1 = cc in omega arith
-idle-no-job job-insert e = let z : _≡_ {A = ℕ} 0 1 = cc in omega arith
-idle-no-job job-delete e = let z : _≡_ {A = ℕ} 0 1 = cc in omega arith
+idle-no-job job-repair e = impossible (cc)
+idle-no-job job-insert e = impossible (cc)
+idle-no-job job-delete e = impossible (cc)
 
 put-no-job : (k v : ℕ) {doing : Doing} {key : ℕ} {final : Answer} {u : Option Update} → Job doing key final u → doing ≡ Inserting k v false → ⊥
-put-no-job k v job-repair e = let z : _≡_ {A = ℕ} 0 1 = cc in omega arith
-put-no-job k v job-insert e = let z : _≡_ {A = ℕ} 0 1 = cc in omega arith
-put-no-job k v job-delete e = let z : _≡_ {A = ℕ} 0 1 = cc in omega arith
+put-no-job k v job-repair e = impossible (cc)
+put-no-job k v job-insert e = impossible (cc)
+put-no-job k v job-delete e = impossible (cc)
 
 remove-no-job : (k : ℕ) {doing : Doing} {key : ℕ} {final : Answer} {u : Option Update} → Job doing key final u → doing ≡ Deleting k false 0 → ⊥
-remove-no-job k job-repair e = let z : _≡_ {A = ℕ} 0 1 = cc in omega arith
-remove-no-job k job-insert e = let z : _≡_ {A = ℕ} 0 1 = cc in omega arith
-remove-no-job k job-delete e = let z : _≡_ {A = ℕ} 0 1 = cc in omega arith
+remove-no-job k job-repair e = impossible (cc)
+remove-no-job k job-insert e = impossible (cc)
+remove-no-job k job-delete e = impossible (cc)
 
 turns-at : {c : List ℕ} {n : ℕ} {t goal : Tree} {steps : ℕ} {m : Memory} {h : Hand} {due : Option Answer} → Table c n t → Openable n t → Stage c n t goal steps m h due → m .rest ≡ [] → Begun (m .doing) → Turns c n t m due
 turns-at b o (stage-idle z r x g) e k = absurd (idle-no-job (k .3) refl)
 turns-at b o (stage-put {key = key} {value = value} z r x low high room q g) e k = absurd (put-no-job key value (k .3) refl)
 turns-at b o (stage-remove {key = key} z r x low high q g) e k = absurd (remove-no-job key (k .3) refl)
-turns-at b o (stage-first {s = s} {rest = rest} j p en count few hd) e k = let y : _≡_ {A = List Store} (s ∷ rest) [] = e in let z : _≡_ {A = ℕ} 0 1 = cc in absurd (omega arith)
-turns-at b o (stage-within {s = s} {rest = rest} j en p q few hd) e k = let y : _≡_ {A = List Store} (s ∷ rest) [] = e in let z : _≡_ {A = ℕ} 0 1 = cc in absurd (omega arith)
+turns-at b o (stage-first {s = s} {rest = rest} j p en count few hd) e k = let y : _≡_ {A = List Store} (s ∷ rest) [] = e in impossible (cc)
+turns-at b o (stage-within {s = s} {rest = rest} j en p q few hd) e k = let y : _≡_ {A = List Store} (s ∷ rest) [] = e in impossible (cc)
 turns-at {c} {n} {t} {due = due} b o (stage-between {free} {last} {key} {doing} {final} j en deep (settled z r) x few hd) e k =
     (x, inl (z, ap (λ y. y .answer) (step-repairs c n (b .sized) (b .header) free last j ∙ prepared-ready c (memory n free last doing [] []) doing final (nextRepair c n key free last) (rests c n key t free last b z)) ∙ entered-due j en))
 turns-at {c} {n} {t} {due = due} b o (stage-between {free} {last} {key} {doing} {final} j en deep (violated v w r) x few hd) e k = (x, inr (apply (mends c n key t free last b x v w r)))
@@ -308,20 +308,20 @@ module _ (final : Answer) (most : ℕ) (w : World rationTable) (x : Nears final 
 -- where an update stands that has just been started
 pub put-turns : {c : List ℕ} {n : ℕ} {t goal : Tree} {steps : ℕ} {m : Memory} {h : Hand} {due : Option Answer} (key value : ℕ) → Table c n t → Stage c n t goal steps m h due → m .doing ≡ Inserting key value false
     → stepOf c m ≡ stepBegin c m (changeAt c (Inserting key value false) (m .free) (m .last) (landing c n key))
-put-turns key value b (stage-idle z r x g) e = let q : _≡_ {A = ℕ} 0 1 = cc in absurd (omega arith)
+put-turns key value b (stage-idle z r x g) e = impossible (cc)
 put-turns {c} {n} key value b (stage-put {free} {last} {key = k} {value = v} z r x low high room q g) e =
     let ek : k ≡ key = cc in
     let ev : v ≡ value = cc in
     rw (← ek, ← ev) (step-puts c n (b .sized) (b .header) free last k v)
-put-turns key value b (stage-remove z r x low high q g) e = let y : _≡_ {A = ℕ} 0 1 = cc in absurd (omega arith)
+put-turns key value b (stage-remove z r x low high q g) e = impossible (cc)
 put-turns key value b (stage-first j p en count few hd) e = absurd (put-no-job key value j e)
 put-turns key value b (stage-between j en deep k x few hd) e = absurd (put-no-job key value j e)
 put-turns key value b (stage-within j en p q few hd) e = absurd (put-no-job key value j e)
 
 pub remove-turns : {c : List ℕ} {n : ℕ} {t goal : Tree} {steps : ℕ} {m : Memory} {h : Hand} {due : Option Answer} (key : ℕ) → Table c n t → Stage c n t goal steps m h due → m .doing ≡ Deleting key false 0
     → stepOf c m ≡ stepBegin c m (changeAt c (Deleting key false 0) (m .free) (m .last) (landing c n key))
-remove-turns key b (stage-idle z r x g) e = let q : _≡_ {A = ℕ} 0 1 = cc in absurd (omega arith)
-remove-turns key b (stage-put z r x low high room q g) e = let y : _≡_ {A = ℕ} 0 1 = cc in absurd (omega arith)
+remove-turns key b (stage-idle z r x g) e = impossible (cc)
+remove-turns key b (stage-put z r x low high room q g) e = impossible (cc)
 remove-turns {c} {n} key b (stage-remove {free} {last} {key = k} z r x low high q g) e =
     let ek : k ≡ key = cc in
     rw (← ek) (step-removes c n (b .sized) (b .header) free last k)

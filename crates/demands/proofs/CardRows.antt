@@ -25,7 +25,7 @@ use Rattle.descent.specs.declared.Way.the-variants.{Refused as NoWay, Leaf as L
 use Rattle.formatting_theory.proofs.FormatSteps.{formatMemory, format-starts, format-refused}
 use Rattle.free_nodes.specs.NodeSet.{countTrue}
 use Rattle.laws.proofs.Bits.{bit-true, bit-false}
-use Rattle.laws.proofs.Cases.{bool-cases, order}
+use Rattle.laws.proofs.Cases.{bool-cases, order, impossible}
 use Rattle.lookup.specs.Answers.{foundReply}
 use Rattle.lookup.specs.Find.{foundIn, foundAt, findOf}
 use Rattle.lookup.proofs.FindLaws.{find-refused, find-no-key, find-key}
@@ -51,7 +51,7 @@ unfolding foundReply
 find-due c key r e d = rw (find-refused c key (λ z. d (sym e ∙ z)), e)
 
 pub none-some : {A P : Type 0} (x : A) → _≡_ {A = Option A} none (some x) → P
-none-some x e = let z : _≡_ {A = ℕ} 0 1 = cc in absurd (omega arith)
+none-some x e = impossible (cc)
 
 leaf-none : (o : Option (ℕ × ℕ)) → reachedLeaf o ≡ none → o ≡ none
 unfolding reachedLeaf

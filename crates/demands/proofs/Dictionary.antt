@@ -34,7 +34,7 @@ use Rattle.demands.proofs.FirstRows.{sized-on}
 use Rattle.demands.proofs.UpdatesByRules.{insert-by-rules, delete-by-rules, opening-by-rules}
 use Rattle.demands.proofs.Formatting.{formats-right}
 use Rattle.demands.proofs.WayDown.{landed}
-use Rattle.laws.proofs.Cases.{bool-cases, order}
+use Rattle.laws.proofs.Cases.{bool-cases, order, impossible}
 use Rattle.promises.proofs.Accepting.{find-answers}
 use Rattle.promises.proofs.Finished.{work-finishes, finishes-within, work-not-refused, inv-rests}
 use Rattle.promises.proofs.Finishing.{updateStores, updateStoresAt, stores, storesIn, Finishes as WasFinishes, Rests as WasRests}
@@ -55,10 +55,10 @@ use Rattle.updates.specs.Updates.{startRoom}
 idle-doing : (d : Doing) → isIdle d ≡ true → d ≡ Idle
 unfolding isIdle
 idle-doing Idle e = refl
-idle-doing (Formatting made) e = let z : _≡_ {A = ℕ} 0 1 = cc in absurd (omega arith)
-idle-doing (Inserting key value begun) e = let z : _≡_ {A = ℕ} 0 1 = cc in absurd (omega arith)
-idle-doing (Deleting key begun value) e = let z : _≡_ {A = ℕ} 0 1 = cc in absurd (omega arith)
-idle-doing (Repairing key) e = let z : _≡_ {A = ℕ} 0 1 = cc in absurd (omega arith)
+idle-doing (Formatting made) e = impossible (cc)
+idle-doing (Inserting key value begun) e = impossible (cc)
+idle-doing (Deleting key begun value) e = impossible (cc)
+idle-doing (Repairing key) e = impossible (cc)
 
 -- ---- one step more
 
@@ -138,7 +138,7 @@ answer-refused (Refused k) r h e = ap Refused (ap (λ (x : Reply). x .code) e)
 
 not-formatting : (d : Doing) → d ≡ Idle → workOf d ≡ formatting → ⊥
 unfolding workOf
-not-formatting d e f = let y : _≡_ {A = Work} noWork formatting = sym (ap workOf e) ∙ f in let z : _≡_ {A = ℕ} 0 1 = cc in omega arith
+not-formatting d e f = let y : _≡_ {A = Work} noWork formatting = sym (ap workOf e) ∙ f in impossible (cc)
 
 module _ (w : World rationTable) (b : Book) (v : Covered w b) where
   abbrev n : ℕ

@@ -21,7 +21,7 @@ use Rattle.formatting_theory.proofs.FormatSteps.{formatMemory, format-starts, f
 use Rattle.formatting_theory.proofs.FormatCard.{formatCard, format-next}
 use Rattle.formatting_theory.proofs.FormatCut.{cut-refused}
 use Rattle.formatting_theory.proofs.FormatStores.{some-store}
-use Rattle.laws.proofs.Cases.{bool-cases}
+use Rattle.laws.proofs.Cases.{bool-cases, impossible}
 use Rattle.state.specs.Answers.{stepReply, startReply}
 use Rattle.state.specs.Memory.{resting}
 use Rattle.state.specs.Steps.{formattedWord, formatStore as formatStoreOf, noBeginning, Handed}
@@ -35,7 +35,7 @@ same-store n words i s e =
     (λ q₁. let k : some (i, freshWord n i) ≡ some s = rw (q, q₁) at e in let z : (i, freshWord n i) ≡ s = cc in rw (q, ne-eqb i words (λ y. absurd (same-not-less i words q₁ y))) z)
     (λ q₁. bool-cases (eqb i words)
     (λ q₂. let k : some (0, 1) ≡ some s = rw (q, q₁, q₂) at e in let z : (0, 1) ≡ s = cc in rw (q, q₂) z)
-    (λ q₂. let k : none ≡ some s = rw (q, q₁, q₂) at e in let z : _≡_ {A = ℕ} 0 1 = cc in absurd (omega arith))))
+    (λ q₂. let k : none ≡ some s = rw (q, q₁, q₂) at e in impossible (cc))))
   where
     same-not-less : (a b : ℕ) → ltb a b ≡ true → a ≡ b → ⊥
     same-not-less a b h y = omega (arith, ltb-true a b h)

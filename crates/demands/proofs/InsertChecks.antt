@@ -22,6 +22,8 @@ use Rattle.demands.specs.Worked.{dictionary}
 use Rattle.demands.proofs.CardRows.{opens}
 use Rattle.demands.proofs.PowerCuts.{accepted, covered-nodes, always, demand-3}
 use Rattle.demands.proofs.ReplyLaws.{begun-refused}
+use Rattle.demands.specs.Dumps.{Damaged}
+use Rattle.demands.proofs.DumpsRight.{damaged-exactly}
 use Rattle.demands.proofs.RowLaws.{rows-map}
 use Rattle.demands.proofs.SameBook.{worldly}
 use Rattle.demands.proofs.StartRows.{leads-is, slot-is}
@@ -209,10 +211,10 @@ module _ (dump file : List ℕ) where
         (λ r h z. unopened-text dump file size read r (begun-refused (openOf card .begun) r h (z .number-given)))
         told (opens card)
 
-  of-dump : ByRows (row 11 (damaged dump ≡ true) end) (λ r. checkText dump file ≡ refusalLine r) (OfCard rationTable (dumpWords (wordsFor (dumpNodes dump)) dump) (keyIn file) (checkText dump file))
+  of-dump : ByRows (row 11 (Damaged dump) end) (λ r. checkText dump file ≡ refusalLine r) (OfCard rationTable (dumpWords (wordsFor (dumpNodes dump)) dump) (keyIn file) (checkText dump file))
   unfolding ByRows
   of-dump =
-      bool-cases (damaged dump) (λ q. inl (q, unread-text dump file 11 (read-damaged dump cardRoom q))) (λ q. inr (λ z. true-false (sym z ∙ q), of-card q))
+      bool-cases (damaged dump) (λ q. inl (damaged-exactly dump .1 q, unread-text dump file 11 (read-damaged dump cardRoom q))) (λ q. inr (λ z. true-false (sym (damaged-exactly dump .0 z) ∙ q), of-card q))
 
 pub w-209 : W209 rationTable checkText
 w-209 = record { dumps = of-dump }

@@ -17,6 +17,8 @@ use Rattle.demands.proofs.CardRows.{opens}
 use Rattle.demands.proofs.ReplyLaws.{begun-refused}
 use Rattle.demands.proofs.Work.{true-false}
 use Rattle.demands.proofs.PowerCuts.{accepted}
+use Rattle.demands.specs.Dumps.{Damaged}
+use Rattle.demands.proofs.DumpsRight.{damaged-exactly}
 use Rattle.demands.proofs.RowLaws.{rows-map}
 use Rattle.demands.proofs.FirstRows.{sized-on}
 use Rattle.card.proofs.HeaderLaws.{sized-nodes}
@@ -91,11 +93,11 @@ module _ (dump : List ℕ) where
       let size = wordsFor (dumpNodes dump) in
       dump-read dump cardRoom size (read-whole dump cardRoom q ∙ room-long size cardRoom (omega (arith, undamaged-whole dump q .most)))
 
-  of-dump : ByRows (row 11 (damaged dump ≡ true) end) (λ r. dumpText dump ≡ listText (refused r)) (dumpText dump ≡ listText (listCard (dumpWords (wordsFor (dumpNodes dump)) dump)))
+  of-dump : ByRows (row 11 (Damaged dump) end) (λ r. dumpText dump ≡ listText (refused r)) (dumpText dump ≡ listText (listCard (dumpWords (wordsFor (dumpNodes dump)) dump)))
   unfolding ByRows
   of-dump =
-      bool-cases (damaged dump) (λ q. inl (q, text-right dump ∙ ap listText (dump-refused dump cardRoom 11 (read-damaged dump cardRoom q))))
-      (λ q. inr (λ z. true-false (sym z ∙ q), text-right dump ∙ ap listText (read-room q)))
+      bool-cases (damaged dump) (λ q. inl (damaged-exactly dump .1 q, text-right dump ∙ ap listText (dump-refused dump cardRoom 11 (read-damaged dump cardRoom q))))
+      (λ q. inr (λ z. true-false (sym (damaged-exactly dump .0 z) ∙ q), text-right dump ∙ ap listText (read-room q)))
 
 own : (c : List ℕ) → ((i : ℕ) → getD c i 0 < 2 ^ 32) → Sized (length c) (nodesOn c) → Formatted c (nodesOn c) → dumpText (dumpOf c) ≡ listText (listCard c)
 own c fits s f =

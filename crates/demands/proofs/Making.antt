@@ -31,6 +31,7 @@ use Rattle.state.specs.declared.Answer.the-variants.{Stored, Refused as WasRefu
 use Rattle.state.specs.declared.Doing.the-variants.{Idle}
 use Rattle.table.specs.Calls.{stepOf}
 use Rattle.tree.specs.Tree.{Tree}
+use Rattle.laws.proofs.Cases.{impossible}
 
 -- A table that is worked, at most so many steps from the end of what is being done, with this final answer due.
 pub record Nears (final : Answer) (most : ℕ) (w : World rationTable) : Type 0 where
@@ -51,7 +52,7 @@ nearer final zero w x e = absurd (never (idle-refused (w .card) (w .state) reste
     rested = at-rest (v .size) (v .steps) (worldly w) (v .was-kept) (v .due) (omega (arith, x .soon)) (v .inv) .0
 
     never : ((r : ℕ) × (stepOf (w .card) (w .state) ≡ stepRefused r (w .card) (w .state))) → ⊥
-    never (r, q) = let y : _≡_ {A = Answer} (WasRefused r) Stored = sym (ap (λ z. z .answer) q) ∙ e in let z : _≡_ {A = ℕ} 0 1 = cc in omega arith
+    never (r, q) = let y : _≡_ {A = Answer} (WasRefused r) Stored = sym (ap (λ z. z .answer) q) ∙ e in impossible (cc)
 nearer final (suc few) w x e =
     let v = x .covered in
     let q = kept-step (v .size) few (worldly w) (v .was-kept) (v .due) (loosen (v .size) (v .steps) (suc few) (worldly w) (v .was-kept) (v .due) (x .soon) (v .inv)) in
@@ -102,7 +103,7 @@ makes-next w b v m s rest e = at (stage-storing (v .inv .table) (v .inv .stage))
     is-rest = ap (λ (x : Memory). x .rest) e ∙ advanced-rest m (s ∷ rest)
 
     at : (w .state .rest ≡ []) ⊎ Storing (w .card) (w .state) → stepOf (w .card) (w .state) ≡ record { answer = Stored; card = set (w .card) (s .0) (s .1); memory = advanced m rest }
-    at (inl q) = let y : _≡_ {A = List Store} [] (s ∷ rest) = sym q ∙ is-rest in let z : _≡_ {A = ℕ} 0 1 = cc in absurd (omega arith)
+    at (inl q) = let y : _≡_ {A = List Store} [] (s ∷ rest) = sym q ∙ is-rest in impossible (cc)
     at (inr (x, r, q, k)) =
         let y : (x ∷ r) ≡ (s ∷ rest) = sym q ∙ is-rest in
         let ex : x ≡ s = cc in

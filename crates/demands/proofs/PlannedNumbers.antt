@@ -14,7 +14,7 @@ use Rattle.free_nodes.specs.NodeSet.{firstTrue, firstFrom, orElse, nextFree}
 use Rattle.free_nodes.specs.declared.Next.{Next}
 use Rattle.free_nodes.specs.declared.Next.the-variants.{Node, Nothing}
 use Rattle.free_nodes.proofs.NodeSetLaws.{from-found, next-found}
-use Rattle.laws.proofs.Cases.{order}
+use Rattle.laws.proofs.Cases.{order, impossible}
 use Rattle.plans.specs.Change.{Change, changeStores}
 use Rattle.plans.specs.Planning.{numbersFrom, takeNumbers, withoutAll, lastOf, overNumbers, giving, withAll, refused, balanced, prepared}
 use Rattle.demands.specs.Rules.{NextFree, Given, none-given, then-given, marked}
@@ -32,7 +32,7 @@ first-before (false ∷ bits) a m e (suc x) h = first-before bits (suc a) m e x 
 first-nothing : (bits : List Bool) (a : ℕ) → firstTrue bits a ≡ Nothing → (x : ℕ) → getD bits x false ≡ false
 unfolding firstTrue
 first-nothing [] a e x = refl
-first-nothing (true ∷ bits) a e x = let z : _≡_ {A = ℕ} 0 1 = cc in absurd (omega arith)
+first-nothing (true ∷ bits) a e x = impossible (cc)
 first-nothing (false ∷ bits) a e zero = refl
 first-nothing (false ∷ bits) a e (suc x) = first-nothing bits (suc a) e x
 
@@ -58,7 +58,7 @@ next-by-rule free last m e = go (firstFrom free (last + 1)) refl e
 
     -- a node after the last one would have been found first
     round : firstFrom free (last + 1) ≡ Nothing → m ≤ last
-    round f = order last m (λ o. let a = is-free in let b = from-nothing free (last + 1) f m (omega arith) in let z : _≡_ {A = ℕ} 0 1 = cc in absurd (omega arith)) (λ o. o)
+    round f = order last m (λ o. let a = is-free in let b = from-nothing free (last + 1) f m (omega arith) in impossible (cc)) (λ o. o)
 
     go : (first : Next) → firstFrom free (last + 1) ≡ first → orElse first (firstFrom free 1) ≡ Node m → NextFree free last m
     go (Node k) f g =
@@ -76,12 +76,12 @@ taken k free last ms e = on-next (nextFree free last) refl e
   where
     on-rest : (m : ℕ) → nextFree free last ≡ Node m → (o : Option (List ℕ)) → takeNumbers k (set free m false) m ≡ o → numbersFrom (Node m) (λ x. o) ≡ some ms
         → (m : ℕ) × (rest : List ℕ) × (ms ≡ m ∷ rest) × (nextFree free last ≡ Node m) × (takeNumbers k (set free m false) m ≡ some rest)
-    on-rest m f none g h = let z : _≡_ {A = ℕ} 0 1 = cc in absurd (omega arith)
+    on-rest m f none g h = impossible (cc)
     on-rest m f (some rest) g h = (m, rest, cc, f, g)
 
     on-next : (x : Next) → nextFree free last ≡ x → numbersFrom x (λ m. takeNumbers k (set free m false) m) ≡ some ms
         → (m : ℕ) × (rest : List ℕ) × (ms ≡ m ∷ rest) × (nextFree free last ≡ Node m) × (takeNumbers k (set free m false) m ≡ some rest)
-    on-next Nothing f g = let z : _≡_ {A = ℕ} 0 1 = cc in absurd (omega arith)
+    on-next Nothing f g = impossible (cc)
     on-next (Node m) f g = on-rest m f (takeNumbers k (set free m false) m) refl g
 
 pub numbers-by-rule : (k : ℕ) (free : List Bool) (last : ℕ) (ms : List ℕ) → takeNumbers k free last ≡ some ms → Given free last ms
@@ -120,10 +120,10 @@ pub record ByRule (Rule : List ℕ → List ℕ → List Store → Type 0) (free
 
 -- what is refused is not planned, and what is balanced neither
 pub not-refused : {ss : List Store} {fewer : List Bool} {now : ℕ} {cut : List ℕ} → refused ≡ prepared ss fewer now cut → ⊥
-not-refused e = let z : _≡_ {A = ℕ} 0 1 = cc in omega arith
+not-refused e = impossible (cc)
 
 pub not-balanced : {ss : List Store} {fewer : List Bool} {now : ℕ} {cut : List ℕ} → balanced ≡ prepared ss fewer now cut → ⊥
-not-balanced e = let z : _≡_ {A = ℕ} 0 1 = cc in omega arith
+not-balanced e = impossible (cc)
 
 -- so many numbers, one by one
 one-of : (P : List ℕ → Type 0) → ((a : ℕ) → P (a ∷ [])) → (ms : List ℕ) → length ms ≡ 1 → P ms
@@ -150,7 +150,7 @@ module _ {Rule : List ℕ → List ℕ → List Store → Type 0} {free : List B
   giving-by-rule k change e h = go (takeNumbers k free last) refl e
     where
       go : (o : Option (List ℕ)) → takeNumbers k free last ≡ o → overNumbers free last change o ≡ prepared stores fewer now cut → ByRule Rule free last stores fewer now cut
-      go none t p = let z : _≡_ {A = ℕ} 0 1 = cc in absurd (omega arith)
+      go none t p = impossible (cc)
       go (some ms) t p =
           let s : stores ≡ changeStores (change ms) = cc in
           let f : fewer ≡ withoutAll ms free = cc in

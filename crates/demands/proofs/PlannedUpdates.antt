@@ -24,6 +24,7 @@ use Rattle.demands.specs.Rules.{InsertRule, in-slot, leaf-split, DeleteR
 use Rattle.demands.proofs.PlannedNumbers.{ByRule, not-refused, not-balanced, giving-three, none-taken}
 use Rattle.demands.proofs.Standing.{picked, landing-linked}
 use Rattle.demands.proofs.WayDown.{landed, landing-way, slotFound, slot-among}
+use Rattle.laws.proofs.Cases.{impossible}
 
 -- ---- the slots of a leaf
 
@@ -35,7 +36,7 @@ record FirstAt (ws : List ℕ) (x i : ℕ) : Type 0 where
 
 first-at : (ws : List ℕ) (x j i : ℕ) → firstEqual ws x j ≡ At i → (k : ℕ) × (i ≡ j + k) × FirstAt ws x k
 unfolding firstEqual
-first-at [] x j i e = let z : _≡_ {A = ℕ} 0 1 = cc in absurd (omega arith)
+first-at [] x j i e = impossible (cc)
 first-at (w ∷ ws) x j i e = go (λ z. first-at ws x (suc j) i z) e
   where
     later : (k : ℕ) → eqb w x ≡ false → FirstAt ws x k → (y : ℕ) → y < suc k → getD (w ∷ ws) y 0 ≡ x → ⊥

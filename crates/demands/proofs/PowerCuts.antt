@@ -25,7 +25,7 @@ use Rattle.demands.proofs.AnswerNumbers.{SmallBegun, open-small, step-s
 use Rattle.demands.proofs.ReplyLaws.{is-ready, is-stored, is-refused}
 use Rattle.demands.proofs.FirstRows.{sized-on}
 use Rattle.free_nodes.specs.NodeSet.{countTrue}
-use Rattle.laws.proofs.Cases.{bool-cases}
+use Rattle.laws.proofs.Cases.{bool-cases, impossible}
 use Rattle.opening.specs.Opening.{openSound, openChecked, openOf}
 use Rattle.promises.proofs.Finished.{inv-rests}
 use Rattle.promises.proofs.Finishing.{Rests}
@@ -264,7 +264,7 @@ module _ (n k : ℕ) (l : List (ℕ × ℕ)) where
   unfolding was-happens
   ready-idle w (was-idle e) r = ap (λ (x : Worldly). x .memory .doing) (idle-world w e) ∙ e
   ready-idle w (ends-now f same e) r = e
-  ready-idle w (goes-further s e) r = let a = is-ready (stepOf (w .card) (w .memory) .answer) (step-small (w .card) (w .memory)) r in let y : _≡_ {A = Answer} Stored Ready = sym s ∙ a in let z : _≡_ {A = ℕ} 0 1 = cc in absurd (omega arith)
+  ready-idle w (goes-further s e) r = let a = is-ready (stepOf (w .card) (w .memory) .answer) (step-small (w .card) (w .memory)) r in let y : _≡_ {A = Answer} Stored Ready = sym s ∙ a in impossible (cc)
 
   rest-idle : (qs : List Was) (w : Worldly) → Quiet qs w → Held w → (w .memory .doing ≡ Idle) ⊎ ReadySaid qs w → Held (was-run qs w) × (was-run qs w .memory .doing ≡ Idle)
   unfolding was-run Quiet ReadySaid

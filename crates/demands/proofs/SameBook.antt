@@ -23,7 +23,7 @@ use Rattle.descent.specs.declared.Landing.{Landing}
 use Rattle.descent.specs.declared.Landing.the-variants.{Refused as NoLanding, Leaf as LandingAt}
 use Rattle.descent.specs.declared.Slot.{Slot}
 use Rattle.descent.specs.declared.Slot.the-variants.{At, Absent as NoSlot}
-use Rattle.laws.proofs.Cases.{bool-cases, order}
+use Rattle.laws.proofs.Cases.{bool-cases, order, impossible}
 use Rattle.laws.specs.Cases.{pick}
 use Rattle.starting.specs.Starts.{insertOf, deleteOf}
 use Rattle.state.specs.Answers.{stepReply, startReply}
@@ -89,7 +89,7 @@ entered-same (was-remove key) l = taken-same key l
 
 -- a step
 true-not : {P : Type 0} → _≡_ {A = Bool} true false → P
-true-not e = let z : _≡_ {A = ℕ} 0 1 = cc in absurd (omega arith)
+true-not e = impossible (cc)
 
 not-true : (b : Bool) → true ≡ not b → b ≡ false
 not-true true e = true-not e

@@ -22,7 +22,7 @@ use Rattle.descent.specs.declared.Turn.{Turn}
 use Rattle.descent.specs.declared.Turn.the-variants.{Refused as NoTurn, Leaf as TurnLeaf, Down as TurnDown}
 use Rattle.descent.specs.declared.Visit.{Visit}
 use Rattle.descent.specs.declared.Visit.the-variants.{Refused as NoVisit, Balanced as VisitBalanced, Violation as VisitViolation, Down as VisitDown}
-use Rattle.laws.proofs.Cases.{and-true}
+use Rattle.laws.proofs.Cases.{and-true, impossible}
 use Rattle.laws.specs.Cases.{pick}
 use Rattle.updates.specs.Updates.{landing}
 use Rattle.demands.specs.Rules.{LinkedAt, root-linked, child-linked, width}
@@ -68,15 +68,15 @@ turned-down c n key m child e =
     (λ q₃ z. absurd (none z)))))
   where
     none : NoTurn ≡ TurnDown child → ⊥
-    none z = let o : _≡_ {A = ℕ} 0 1 = cc in omega arith
+    none z = impossible (cc)
 
     leaf : TurnLeaf ≡ TurnDown child → ⊥
-    leaf z = let o : _≡_ {A = ℕ} 0 1 = cc in omega arith
+    leaf z = impossible (cc)
 
 -- a way ends at a node of the card
 turned-leaf : (c : List ℕ) (n key m : ℕ) → turnAt c n key m ≡ TurnLeaf → 0 < m
 unfolding turnAt
-turned-leaf c n key m e = picked (eqb m 0) e (λ q z. let o : _≡_ {A = ℕ} 0 1 = cc in absurd (omega arith)) (λ q z. let other = eqb-false m 0 q in omega (arith, other))
+turned-leaf c n key m e = picked (eqb m 0) e (λ q z. impossible (cc)) (λ q z. let other = eqb-false m 0 q in omega (arith, other))
 
 -- the leaf that a key leads to is linked where the landing says
 abbrev Landed : List ℕ → ℕ → ℕ → Type 0
@@ -91,9 +91,9 @@ module _ (c : List ℕ) (n key : ℕ) where
   landed-below zero link run m leaf spot j l e = go (turnAt c n key m) refl e
     where
       go : (t : Turn) → turnAt c n key m ≡ t → onTurnLanding m link run (λ child. NoLanding) t ≡ LandingAt leaf spot j → Landed c spot leaf
-      go NoTurn f z = let o : _≡_ {A = ℕ} 0 1 = cc in absurd (omega arith)
+      go NoTurn f z = impossible (cc)
       go TurnLeaf f z = landed-here link run m leaf spot j l f z
-      go (TurnDown child) f z = let o : _≡_ {A = ℕ} 0 1 = cc in absurd (omega arith)
+      go (TurnDown child) f z = impossible (cc)
   landed-below (suc levels) link run m leaf spot j l e = go (λ child f h. landed-below levels _ _ child leaf spot j h f) (turnAt c n key m) refl e
     where
       next : ℕ → Landing
@@ -101,7 +101,7 @@ module _ (c : List ℕ) (n key : ℕ) where
 
       go : ((child : ℕ) → next child ≡ LandingAt leaf spot j → LinkedAt c (place m (12 + childIndex (nodeAt c m) key)) child → Landed c spot leaf)
           → (t : Turn) → turnAt c n key m ≡ t → onTurnLanding m link run next t ≡ LandingAt leaf spot j → Landed c spot leaf
-      go ih NoTurn f z = let o : _≡_ {A = ℕ} 0 1 = cc in absurd (omega arith)
+      go ih NoTurn f z = impossible (cc)
       go ih TurnLeaf f z = landed-here link run m leaf spot j l f z
       go ih (TurnDown child) f z = let d = turned-down c n key m child f in ih child z (rw (d .1) (child-on-way c key link m l (d .0)))
 
@@ -146,13 +146,13 @@ module _ (c : List ℕ) (n key : ℕ) (p : Position) where
       (λ q₄ z. absurd (none z))))))
     where
       none : NoVisit ≡ VisitViolation → ⊥
-      none z = let o : _≡_ {A = ℕ} 0 1 = cc in omega arith
+      none z = impossible (cc)
 
       balanced : VisitBalanced ≡ VisitViolation → ⊥
-      balanced z = let o : _≡_ {A = ℕ} 0 1 = cc in omega arith
+      balanced z = impossible (cc)
 
       down : {q : Position} → VisitDown q ≡ VisitViolation → ⊥
-      down z = let o : _≡_ {A = ℕ} 0 1 = cc in omega arith
+      down z = impossible (cc)
 
       there : eqb (p .node) 0 ≡ false → 0 < p .node
       there q = let ne = eqb-false (p .node) 0 q in omega (arith, ne)
@@ -181,13 +181,13 @@ module _ (c : List ℕ) (n key : ℕ) (p : Position) where
       picked (eqb (p .parent) 0) e₅ (λ h₅ e₆. inner h e₆) (λ h₅ z. absurd (violation z))) (λ h₄ z. absurd (none z))))))
     where
       none : NoVisit ≡ VisitDown q → ⊥
-      none z = let o : _≡_ {A = ℕ} 0 1 = cc in omega arith
+      none z = impossible (cc)
 
       balanced : VisitBalanced ≡ VisitDown q → ⊥
-      balanced z = let o : _≡_ {A = ℕ} 0 1 = cc in omega arith
+      balanced z = impossible (cc)
 
       violation : VisitViolation ≡ VisitDown q → ⊥
-      violation z = let o : _≡_ {A = ℕ} 0 1 = cc in omega arith
+      violation z = impossible (cc)
 
       inner : eqb (p .node) 0 ≡ false → visitInner (nodeAt c (p .node)) (eqb (p .parent) 0) (childPosition (nodeAt c (p .node)) key p) ≡ VisitDown q
           → (0 < p .node) × (0 < length (children (nodeAt c (p .node)))) × (q ≡ childPosition (nodeAt c (p .node)) key p)
@@ -217,16 +217,16 @@ module _ (c : List ℕ) (n key : ℕ) where
   seek-fault zero p q s e = go (visitAt c n key p) refl e
     where
       go : (v : Visit) → visitAt c n key p ≡ v → onVisit p (λ x. NoSearch) v ≡ SearchViolation q → Fault c q
-      go NoVisit f z = let o : _≡_ {A = ℕ} 0 1 = cc in absurd (omega arith)
-      go VisitBalanced f z = let o : _≡_ {A = ℕ} 0 1 = cc in absurd (omega arith)
+      go NoVisit f z = impossible (cc)
+      go VisitBalanced f z = impossible (cc)
       go VisitViolation f z = let r : p ≡ q = cc in rw r at (fault-here c n key p s f)
-      go (VisitDown x) f z = let o : _≡_ {A = ℕ} 0 1 = cc in absurd (omega arith)
+      go (VisitDown x) f z = impossible (cc)
   seek-fault (suc levels) p q s e = go (λ x h z. seek-fault levels x q h z) (visitAt c n key p) refl e
     where
       go : ((x : Position) → Stands c x → seek c n key levels x ≡ SearchViolation q → Fault c q)
           → (v : Visit) → visitAt c n key p ≡ v → onVisit p (seek c n key levels) v ≡ SearchViolation q → Fault c q
-      go ih NoVisit f z = let o : _≡_ {A = ℕ} 0 1 = cc in absurd (omega arith)
-      go ih VisitBalanced f z = let o : _≡_ {A = ℕ} 0 1 = cc in absurd (omega arith)
+      go ih NoVisit f z = impossible (cc)
+      go ih VisitBalanced f z = impossible (cc)
       go ih VisitViolation f z = let r : p ≡ q = cc in rw r at (fault-here c n key p s f)
       go ih (VisitDown x) f z = let d = gone-down c n key p x f in ih x (rw (d .2) (child-stands c key p (s .0) (d .0) (d .1))) z
 

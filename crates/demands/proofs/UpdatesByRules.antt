@@ -31,7 +31,7 @@ use Rattle.descent.specs.declared.Landing.the-variants.{Refused as NoLanding, L
 use Rattle.descent.specs.declared.Slot.{Slot}
 use Rattle.descent.specs.declared.Slot.the-variants.{At, Absent as NoSlot}
 use Rattle.free_nodes.specs.NodeSet.{countTrue}
-use Rattle.laws.proofs.Cases.{bool-cases}
+use Rattle.laws.proofs.Cases.{bool-cases, impossible}
 use Rattle.opening.specs.Opening.{openSound, openChecked, openOf}
 use Rattle.plans.specs.Change.{Change}
 use Rattle.plans.specs.Planning.{takeNumbers, overNumbers, giving, balanced, prepared}
@@ -87,8 +87,8 @@ unfolding giving overNumbers
 giving-not-balanced k free last change e = at (takeNumbers k free last) e
   where
     at : (o : Option (List ℕ)) → overNumbers free last change o ≡ balanced → ⊥
-    at none q = let z : _≡_ {A = ℕ} 0 1 = cc in omega arith
-    at (some ms) q = let z : _≡_ {A = ℕ} 0 1 = cc in omega arith
+    at none q = impossible (cc)
+    at (some ms) q = impossible (cc)
 
 module _ (w : World rationTable) (b : Book) (v : Covered w b) where
   -- a started update is near its end, and its answer is the dictionary's
@@ -154,7 +154,7 @@ module _ (w : World rationTable) (b : Book) (v : Covered w b) where
       (λ q₁. absurd (never 1 (rw (q, q₁) at e))))
     where
       never : (r : ℕ) → _≡_ {A = Beginning} (BegunRefused r) Started → ⊥
-      never r y = let z : _≡_ {A = ℕ} 0 1 = cc in omega arith
+      never r y = impossible (cc)
 
       at : (l : Landing) → startLanded m doing (room l) l .begun ≡ Started → startLanded m doing (room l) l .memory .doing ≡ doing
       at NoLanding y = absurd (never 9 y)
@@ -174,35 +174,35 @@ module _ (w : World rationTable) (b : Book) (v : Covered w b) where
 
   prepared-insert : (c : List ℕ) (key value : ℕ) (free : List Bool) (last : ℕ) (l : Landing) {ss : List Store} {fewer : List Bool} {now : ℕ} {out : List ℕ} → changeAt c (Inserting key value false) free last l .preparation ≡ prepared ss fewer now out → Begun (changeAt c (Inserting key value false) free last l .doing)
   unfolding changeAt changeIn noChange
-  prepared-insert c key value free last NoLanding e = let z : _≡_ {A = ℕ} 0 1 = cc in absurd (omega arith)
+  prepared-insert c key value free last NoLanding e = impossible (cc)
   prepared-insert c key value free last (LandingAt m link run) e = subst Begun (sym (insert-begun key value free last m link (nodeAt c m) (insertReason (nodeAt c m) key))) (key, Absent, some (put key value), job-insert)
 
   prepared-delete : (c : List ℕ) (key : ℕ) (free : List Bool) (last : ℕ) (l : Landing) {ss : List Store} {fewer : List Bool} {now : ℕ} {out : List ℕ} → changeAt c (Deleting key false 0) free last l .preparation ≡ prepared ss fewer now out → Begun (changeAt c (Deleting key false 0) free last l .doing)
   unfolding changeAt changeIn noChange
-  prepared-delete c key free last NoLanding e = let z : _≡_ {A = ℕ} 0 1 = cc in absurd (omega arith)
+  prepared-delete c key free last NoLanding e = impossible (cc)
   prepared-delete c key free last (LandingAt m link run) e = let d = delete-begun key free last m (nodeAt c m) (slotOf (nodeAt c m) key) in subst Begun (sym (d .1)) (key, Value (d .0), some (remove key), job-delete)
 
   -- where nothing is planned, the key is held by an insert and absent to a delete
   insert-nothing : (c : List ℕ) (key value : ℕ) (free : List Bool) (last : ℕ) (l : Landing) (o : Option ℕ) → changeAt c (Inserting key value false) free last l .preparation ≡ balanced → changeAt c (Inserting key value false) free last l .final ≡ dictionaryAnswer o → (a : ℕ) × (o ≡ some a)
   unfolding changeAt changeIn noChange insertChange dictionaryAnswer
-  insert-nothing c key value free last NoLanding o e q = let z : _≡_ {A = ℕ} 0 1 = cc in absurd (omega arith)
+  insert-nothing c key value free last NoLanding o e q = impossible (cc)
   insert-nothing c key value free last (LandingAt m link run) o e q = at (insertReason (nodeAt c m) key) e q o refl
     where
       at : (r : Reason) → insertChange key value free last m link (nodeAt c m) r .preparation ≡ balanced → insertChange key value free last m link (nodeAt c m) r .final ≡ dictionaryAnswer o → (p : Option ℕ) → o ≡ p → (a : ℕ) × (o ≡ some a)
-      at (held a) e q none k = let y : _≡_ {A = Answer} (Value a) Absent = q ∙ ap dictionaryAnswer k in let z : _≡_ {A = ℕ} 0 1 = cc in absurd (omega arith)
+      at (held a) e q none k = let y : _≡_ {A = Answer} (Value a) Absent = q ∙ ap dictionaryAnswer k in impossible (cc)
       at (held a) e q (some v) k = (v, k)
-      at (slot i) e q p k = let z : _≡_ {A = ℕ} 0 1 = cc in absurd (omega arith)
+      at (slot i) e q p k = impossible (cc)
       at full e q p k = absurd (giving-not-balanced 3 free last _ e)
 
   delete-nothing : (c : List ℕ) (key : ℕ) (free : List Bool) (last : ℕ) (l : Landing) (o : Option ℕ) → changeAt c (Deleting key false 0) free last l .preparation ≡ balanced → changeAt c (Deleting key false 0) free last l .final ≡ dictionaryAnswer o → o ≡ none
   unfolding changeAt changeIn noChange deleteChange dictionaryAnswer
-  delete-nothing c key free last NoLanding o e q = let z : _≡_ {A = ℕ} 0 1 = cc in absurd (omega arith)
+  delete-nothing c key free last NoLanding o e q = impossible (cc)
   delete-nothing c key free last (LandingAt m link run) o e q = at (slotOf (nodeAt c m) key) e q o refl
     where
       at : (s : Slot) → deleteChange key free last m (nodeAt c m) s .preparation ≡ balanced → deleteChange key free last m (nodeAt c m) s .final ≡ dictionaryAnswer o → (p : Option ℕ) → o ≡ p → o ≡ none
-      at (At i) e q p k = let z : _≡_ {A = ℕ} 0 1 = cc in absurd (omega arith)
+      at (At i) e q p k = impossible (cc)
       at NoSlot e q none k = k
-      at NoSlot e q (some v) k = let y : _≡_ {A = Answer} Absent (Value v) = q ∙ ap dictionaryAnswer k in let z : _≡_ {A = ℕ} 0 1 = cc in absurd (omega arith)
+      at NoSlot e q (some v) k = let y : _≡_ {A = Answer} Absent (Value v) = q ∙ ap dictionaryAnswer k in impossible (cc)
 
   pub insert-by-rules : (key value : ℕ) → key < keyLimit → insertOf (w .card) (w .state) key value .begun ≡ Started
       → Updates rationTable ((a : ℕ) × (lookup key (v .was-kept .held) ≡ some a)) (InsertRule (w .card) key value) (stepReply (dictionaryAnswer (lookup key (v .was-kept .held)))) (happens rationTable (insert key value) w)

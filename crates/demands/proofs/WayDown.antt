@@ -7,7 +7,7 @@ use Prim.Native.Nat.{ℕ, zero, suc, _+_, _-_}
 use lib.ListN.{length}
 use lib.Dec.{eqb, ltb}
 use Rattle.card.specs.Layout.{depthLimit, place, nodeAt, kindOf, children, runBelow}
-use Rattle.demands.specs.Refusals.{nodesOn, isInternal, runAbove, way, among}
+use Rattle.demands.specs.Refusals.{nodesOn, isInternal, way, among}
 use Rattle.descent.specs.Descent.{childIndex, childFor, firstEqual, turnInner, turnOf, turnAt, onTurn, leafFor, onTurnLanding, landingFor}
 use Rattle.descent.specs.declared.Landing.{Landing}
 use Rattle.descent.specs.declared.Landing.the-variants.{Refused as NoLanding, Leaf as LandingAt}
@@ -80,7 +80,7 @@ module _ (c : List ℕ) (key : ℕ) where
       ∙ ap (λ (x : Option (ℕ × ℕ)). reachedLeaf (pick (eqb m 0 || ltb (nodesOn c) m) none (pick (eqb (kindOf (nodeAt c m)) 1) (some (m, run)) x))) (pick-same (isInternal (nodeAt c m)) none)
   leaf-way (suc levels) run m =
       way-shape (eqb m 0) (ltb (nodesOn c) m) (eqb (kindOf (nodeAt c m)) 1) (eqb (kindOf (nodeAt c m)) 2 || eqb (kindOf (nodeAt c m)) 3) (eqb (length (children (nodeAt c m))) 0) m (depthLimit - suc levels) (childFor (nodeAt c m) key) run
-      (leafFor c (nodesOn c) key levels) _ (leaf-way levels (runAbove (nodeAt c m) run) (childFor (nodeAt c m) key))
+      (leafFor c (nodesOn c) key levels) _ (leaf-way levels (runBelow (length (children (nodeAt c m))) run) (childFor (nodeAt c m) key))
 
 -- a word is among the words exactly where the look-up finds a slot
 unfoldable pub slotFound : Slot → Bool

@@ -8,9 +8,10 @@ use Rattle.demands.specs.Table.{noWork, formatting}
 use Rattle.state.specs.Steps.{isIdle}
 use Rattle.state.specs.declared.Doing.{Doing}
 use Rattle.state.specs.declared.Doing.the-variants.{Idle, Formatting, Inserting, Deleting, Repairing}
+use Rattle.laws.proofs.Cases.{impossible}
 
 pub true-false : {P : Type 0} → _≡_ {A = Bool} true false → P
-true-false e = let z : _≡_ {A = ℕ} 0 1 = cc in absurd (omega arith)
+true-false e = impossible (cc)
 
 -- the work tells whether the state is idle, and whether it is formatting
 pub idle-work : (d : Doing) → isIdle d ≡ true → workOf d ≡ noWork
@@ -24,18 +25,18 @@ idle-work (Repairing key) e = true-false (sym e)
 pub work-idle : (d : Doing) → workOf d ≡ noWork → isIdle d ≡ true
 unfolding workOf isIdle
 work-idle Idle e = refl
-work-idle (Formatting made) e = let z : _≡_ {A = ℕ} 0 1 = cc in absurd (omega arith)
-work-idle (Inserting key value begun) e = let z : _≡_ {A = ℕ} 0 1 = cc in absurd (omega arith)
-work-idle (Deleting key begun value) e = let z : _≡_ {A = ℕ} 0 1 = cc in absurd (omega arith)
-work-idle (Repairing key) e = let z : _≡_ {A = ℕ} 0 1 = cc in absurd (omega arith)
+work-idle (Formatting made) e = impossible (cc)
+work-idle (Inserting key value begun) e = impossible (cc)
+work-idle (Deleting key begun value) e = impossible (cc)
+work-idle (Repairing key) e = impossible (cc)
 
 pub busy-work : (d : Doing) → isIdle d ≡ false → workOf d ≡ noWork → ⊥
 busy-work d b e = true-false (sym (work-idle d e) ∙ b)
 
 pub work-formatting : (d : Doing) → workOf d ≡ formatting → (made : ℕ) × (d ≡ Formatting made)
 unfolding workOf
-work-formatting Idle e = let z : _≡_ {A = ℕ} 0 1 = cc in absurd (omega arith)
+work-formatting Idle e = impossible (cc)
 work-formatting (Formatting made) e = (made, refl)
-work-formatting (Inserting key value begun) e = let z : _≡_ {A = ℕ} 0 1 = cc in absurd (omega arith)
-work-formatting (Deleting key begun value) e = let z : _≡_ {A = ℕ} 0 1 = cc in absurd (omega arith)
-work-formatting (Repairing key) e = let z : _≡_ {A = ℕ} 0 1 = cc in absurd (omega arith)
+work-formatting (Inserting key value begun) e = impossible (cc)
+work-formatting (Deleting key begun value) e = impossible (cc)
+work-formatting (Repairing key) e = impossible (cc)

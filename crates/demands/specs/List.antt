@@ -7,7 +7,7 @@ use Prim.Native.Nat.{ℕ, _^_, _<_}
 use lib.ListN.{length, getD, replicate}
 use Rattle.card.specs.Header.{Sized, Formatted}
 use Rattle.card.specs.Replies.{refusal}
-use Rattle.dump.specs.Dump.{dumpOf, dumpWords, wordsFor, dumpNodes, damaged}
+use Rattle.dump.specs.Dump.{dumpOf, dumpWords, wordsFor, dumpNodes}
 use Rattle.free_nodes.specs.NodeSet.{countTrue}
 use Rattle.listing.specs.Listing.{Listing, Listed, refused, listed}
 use Rattle.printing.specs.Text.{listText}
@@ -18,6 +18,7 @@ use Rattle.tree.specs.Tree.{Tree}
 use Rattle.tree.specs.WellFormed.{WellFormed, Balanced}
 use Rattle.demands.specs.Table.{Table}
 use Rattle.demands.specs.Demand3.{mostRepairSteps}
+use Rattle.demands.specs.Dumps.{Damaged}
 use Rattle.demands.specs.Events.{World, opened, run, step}
 use Rattle.demands.specs.Refusals.{ByRows, nodesOn, openRows, end, row}
 
@@ -46,6 +47,7 @@ pub record ListProgram (T : Table) (list : List ℕ → Listed) (text : List ℕ
   -- it refuses as opening does, and only then
   pub cards : (c : List ℕ) → ByRows (openRows c) (λ r. (T .openCard c .reply ≡ refusal r) × (list c ≡ refused r)) ((l : Listing) × (list c ≡ listed l) × ListsRight T c l)
   -- 11 comes first; "12: lent slice shorter than the result" is never due
-  pub dumps : (dump : List ℕ) → ByRows (row 11 (damaged dump ≡ true) end) (λ r. text dump ≡ listText (refused r)) (text dump ≡ listText (list (dumpWords (wordsFor (dumpNodes dump)) dump)))
+  pub dumps : (dump : List ℕ)
+      → ByRows (row 11 (Damaged dump) end) (λ r. text dump ≡ listText (refused r)) (text dump ≡ listText (list (dumpWords (wordsFor (dumpNodes dump)) dump)))
   -- the dump of a card prints what the card does
   pub own-dump : (c : List ℕ) → ((i : ℕ) → getD c i 0 < 2 ^ 32) → Sized (length c) (nodesOn c) → Formatted c (nodesOn c) → text (dumpOf c) ≡ listText (list c)

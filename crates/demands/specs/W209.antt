@@ -8,12 +8,13 @@ use mathlib.Core.Option.{some}
 use Prim.Native.Nat.{ℕ, _<_}
 use Rattle.card.specs.Layout.{nodeAt, keyWords}
 use Rattle.card.specs.Replies.{refusal, holds, absent}
-use Rattle.dump.specs.Dump.{dumpWords, wordsFor, dumpNodes, damaged}
+use Rattle.dump.specs.Dump.{dumpWords, wordsFor, dumpNodes}
 use Rattle.free_nodes.specs.NodeSet.{countTrue}
 use Rattle.key_file.specs.KeyFile.{keyIn}
 use Rattle.reason_printing.specs.ReasonText.{noKeyWord, heldWord, slotWord, splitLine}
 use Rattle.text_row.specs.Lines.{lineFeed, numberLine, refusalLine}
 use Rattle.updates.specs.Updates.{splitNeed}
+use Rattle.demands.specs.Dumps.{Damaged}
 use Rattle.demands.specs.List.{repairedWorld}
 use Rattle.demands.specs.Table.{Table}
 use Rattle.demands.specs.Events.{World}
@@ -71,5 +72,5 @@ OfCard T c key out = ByRows (openRows c) (λ r. out ≡ refusalLine r) (Told T (
 -- The bytes of the dump and of the file `key`, none where it is missing, give the bytes printed.
 pub record W209 (T : Table) (text : List ℕ → List ℕ → List ℕ) : Type 0 where
   -- "refusals print first, as `list` prints them": 11 of the dump, then those of opening
-  pub dumps : (dump file : List ℕ) → ByRows (row 11 (damaged dump ≡ true) end) (λ r. text dump file ≡ refusalLine r)
+  pub dumps : (dump file : List ℕ) → ByRows (row 11 (Damaged dump) end) (λ r. text dump file ≡ refusalLine r)
       (OfCard T (dumpWords (wordsFor (dumpNodes dump)) dump) (keyIn file) (text dump file))
