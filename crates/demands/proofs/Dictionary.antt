@@ -47,18 +47,11 @@ use Rattle.state.specs.declared.Answer.{Answer}
 use Rattle.state.specs.declared.Answer.the-variants.{Stored, Ready, Absent, Value, Refused}
 use Rattle.state.specs.declared.Begun.the-variants.{Started}
 use Rattle.state.specs.declared.Doing.{Doing}
-use Rattle.state.specs.declared.Doing.the-variants.{Idle, Formatting, Inserting, Deleting, Repairing}
+use Rattle.state.specs.declared.Doing.the-variants.{Idle, Inserting, Deleting}
 use Rattle.table.specs.Calls.{stepOf}
 use Rattle.tree.specs.Pairs.{pairs, lookup}
 use Rattle.updates.specs.Updates.{startRoom}
-
-idle-doing : (d : Doing) → isIdle d ≡ true → d ≡ Idle
-unfolding isIdle
-idle-doing Idle e = refl
-idle-doing (Formatting made) e = impossible (cc)
-idle-doing (Inserting key value begun) e = impossible (cc)
-idle-doing (Deleting key begun value) e = impossible (cc)
-idle-doing (Repairing key) e = impossible (cc)
+use Rattle.repairing_theory.proofs.Repair.{is-idle}
 
 -- ---- one step more
 
@@ -246,7 +239,7 @@ module _ (w : World rationTable) (b : Book) (v : Covered w b) where
   unfolding ByRows replyTo
   steps-right =
       bool-cases (isIdle (w .state .doing))
-      (λ q. inl (idle-work (w .state .doing) q, ten (idle-work (w .state .doing) q) (demand-1 .steps (w .card) (w .state) (not-formatting (w .state .doing) (idle-doing (w .state .doing) q)))))
+      (λ q. inl (idle-work (w .state .doing) q, ten (idle-work (w .state .doing) q) (demand-1 .steps (w .card) (w .state) (not-formatting (w .state .doing) (is-idle (w .state .doing) q)))))
       (λ q. inr (busy-work (w .state .doing) q, λ r h e. work-not-refused n (v .steps) (worldly w) (v .was-kept) (v .due) i q r (answer-refused (stepOf (w .card) (w .state) .answer) r h e)))
     where
       ten : {works : Type 0} → Resting rationTable (w .state) → ByRows (cardRows (w .card) (w .state .nodes) (row 10 (Resting rationTable (w .state)) end)) (Refuses rationTable (w .card) (w .state) (rationTable .step (w .card) (w .state))) works → stepReply (stepOf (w .card) (w .state) .answer) ≡ refusal 10
@@ -258,7 +251,7 @@ module _ (w : World rationTable) (b : Book) (v : Covered w b) where
 
   rests-are : Resting rationTable (w .state) → Rests rationTable w (b .held)
   rests-are q =
-      let r = rests-now (idle-doing (w .state .doing) (work-idle (w .state .doing) q)) in
+      let r = rests-now (is-idle (w .state .doing) (work-idle (w .state .doing) q)) in
       rw same-held (record { right = restsRight r; levels = r .levels; free-exact = r .free-exact; three-kept = r .three-kept })
 
   pub is-dictionary : Dictionary rationTable w b

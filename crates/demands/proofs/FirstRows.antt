@@ -1,17 +1,16 @@
 -- The rows 1, 2 and 3, for every call that goes through them.
-use mathlib.Core.Path.{_≡_, refl, sym, subst, _∙_}
+use mathlib.Core.Path.{_≡_, sym, subst, _∙_}
 use mathlib.Core.List.{List}
 use mathlib.Core.Logic.{_⊎_, inl, inr}
 use Prim.Native.Nat.{ℕ}
 use native.Mathlib.Omega.{arith}
 use native.Mathlib.Decide.{ℕ-discrete}
 use lib.ListN.{length, getD}
-use lib.Dec.{eqb}
 use borrow.Author.Tests.{eq-eqb}
-use Rattle.card.specs.Header.{nodesOfLength, headerRefusal, must, cardRefusal, Sized, Formatted}
+use Rattle.card.specs.Header.{nodesOfLength, headerRefusal, cardRefusal, Sized, Formatted}
 use Rattle.card.proofs.HeaderLaws.{nodes-sized, sized-nodes, header-formatted, formatted-header, wrong-word0}
 use Rattle.demands.specs.Refusals.{Rows, ByRows, nodesOn, NoCard, NoMark, BadHeader, cardRows}
-use Rattle.laws.proofs.Cases.{bool-cases}
+use Rattle.promises.proofs.OpenRefusals.{header-three}
 
 pub sized? : (len n : ℕ) → Dec (Sized len n)
 sized? len n = go (ℕ-discrete (nodesOfLength len) n) (ℕ-discrete n 0)
@@ -31,14 +30,6 @@ no-nodes c p = go (ℕ-discrete (nodesOfLength (length c)) 0)
     go : Dec (nodesOfLength (length c) ≡ 0) → nodesOfLength (length c) ≡ 0
     go (yes z) = z
     go (no d) = let s = nodes-sized (length c) d in absurd (p (subst (λ x. Sized (length c) x) (sym (sized-on c (nodesOfLength (length c)) s)) s))
-
-must-three : (c : List ℕ) (i v next : ℕ) → (next ≡ 0) ⊎ (next ≡ 3) → (must c i v 3 next ≡ 0) ⊎ (must c i v 3 next ≡ 3)
-must-three c i v next o = bool-cases (eqb (getD c i 0) v) (λ q. rw q o) (λ q. rw q (inr refl))
-
-header-three : (c : List ℕ) (n : ℕ) → getD c 0 0 ≡ 1 → (headerRefusal c n ≡ 0) ⊎ (headerRefusal c n ≡ 3)
-unfolding headerRefusal
-header-three c n e =
-    rw (eq-eqb (getD c 0 0) 1 e) (must-three c 1 n _ (must-three c 2 8 _ (must-three c 3 24 _ (must-three c 5 0 _ (must-three c 6 0 _ (must-three c 7 0 0 (inl refl)))))))
 
 -- rows 1, 2 and 3, then the others
 pub by-card : (rows : Rows) (refuses : ℕ → Type 0) (works : Type 0) (c : List ℕ) (n : ℕ) → (NoCard c n → refuses 1) → ((r : ℕ) → Sized (length c) n → headerRefusal c n ≡ r → (r ≡ 0 → ⊥) → refuses r)

@@ -1,6 +1,6 @@
 -- The program `list`, of the ration table.
 use mathlib.Core.Path.{_≡_, refl, ap, sym, _∙_}
-use mathlib.Core.Bool.{true, false}
+use mathlib.Core.Bool.{false}
 use mathlib.Core.List.{List}
 use mathlib.Core.Logic.{⊎-map, inl, inr}
 use Prim.Native.Nat.{ℕ, zero, suc, _^_, _<_}

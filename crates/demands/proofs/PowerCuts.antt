@@ -11,7 +11,7 @@ use lib.Dec.{eqb, ltb}
 use Rattle.card.specs.Header.{nodesOfLength, cardRefusal}
 use Rattle.promises.proofs.Machine.{Event as Was, World as Worldly, opened as was-opened, happens as was-happens, run as was-run, find as was-find, insert as was-insert, delete as was-delete, step as was-step, crash as was-crash}
 use Rattle.promises.proofs.Ledger.{Result, Ledger, ledger, fedAStep, feed as was-feed, was-refused, was-final, goes-on as was-goes-on, empty as was-empty}
-use Rattle.promises.proofs.Feeding.{dictionaryAnswer, stepResult, fed, keptLedger, dueAfter, dueAfterStep, keptDue}
+use Rattle.promises.proofs.Feeding.{dictionaryAnswer, stepResult, fed, keptLedger, dueAfter, keptDue}
 use Rattle.promises.proofs.Invariant.{Inv}
 use Rattle.demands.specs.Events.{Event, World, opened, replyTo, happens, run, Words, LeftUncut, stepsIn, SaysReady, FormatsTo, Opens, Begins, find, insert, delete, step, cut, ready-now, stored-first, found-first, refused-insert, refused-delete, from-format, from-open}
 use Rattle.demands.specs.Book.{Book, book, feed, told, kept, empty}
@@ -29,7 +29,7 @@ use Rattle.laws.proofs.Cases.{bool-cases, impossible}
 use Rattle.opening.specs.Opening.{openSound, openChecked, openOf}
 use Rattle.promises.proofs.Finished.{inv-rests}
 use Rattle.promises.proofs.Finishing.{Rests}
-use Rattle.promises.proofs.PowerLoss.{loosen, reopened-inv, kept as inv-kept, begins-inv, power-loss, find-same, insert-same, delete-same, idle-not-busy}
+use Rattle.promises.proofs.PowerLoss.{none-due, loosen, reopened-inv, kept as inv-kept, begins-inv, power-loss, find-same, insert-same, delete-same, idle-not-busy}
 use Rattle.promises.proofs.Promise.{Accepted, ToReady, Begins as WasBegins, Words as WasWords, Quiet, stepsIn as was-steps-in, ReadySaid, ready-now as was-ready-now, stored-first as was-stored-first, from-format as was-from-format, from-open as was-from-open}
 use Rattle.promises.proofs.Reopen.{table-well-formed, reopened}
 use Rattle.promises.proofs.Starting.{nodes-same, same-lookup}
@@ -230,12 +230,6 @@ unfolding fedAStep
 empty-fed was-refused l = refl
 empty-fed was-final l = refl
 empty-fed was-goes-on l = refl
-
-none-due : (r : Result) → dueAfterStep r none ≡ none
-unfolding dueAfterStep
-none-due was-refused = refl
-none-due was-final = refl
-none-due was-goes-on = refl
 
 module _ (n k : ℕ) (l : List (ℕ × ℕ)) where
   abbrev Held : Worldly → Type 0

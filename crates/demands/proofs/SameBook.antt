@@ -17,13 +17,14 @@ use Rattle.demands.specs.RationTable.{rationTable}
 use Rattle.demands.specs.Refusals.{nodesOn, fullAt, leafFull}
 use Rattle.demands.proofs.StartRows.{leads-is, slot-is}
 use Rattle.demands.proofs.AnswerNumbers.{SmallBegun, SmallAnswer, start-small, step-small}
+use Rattle.demands.proofs.Work.{true-false}
 use Rattle.demands.proofs.WayDown.{landed, slotFound}
 use Rattle.descent.specs.Descent.{slotOf}
 use Rattle.descent.specs.declared.Landing.{Landing}
 use Rattle.descent.specs.declared.Landing.the-variants.{Refused as NoLanding, Leaf as LandingAt}
 use Rattle.descent.specs.declared.Slot.{Slot}
 use Rattle.descent.specs.declared.Slot.the-variants.{At, Absent as NoSlot}
-use Rattle.laws.proofs.Cases.{bool-cases, order, impossible}
+use Rattle.laws.proofs.Cases.{bool-cases, order}
 use Rattle.laws.specs.Cases.{pick}
 use Rattle.starting.specs.Starts.{insertOf, deleteOf}
 use Rattle.state.specs.Answers.{stepReply, startReply}
@@ -87,17 +88,13 @@ unfolding entered was-entered updateOf was-added
 entered-same (was-put key value) l = added-same (lookup key l) key value l
 entered-same (was-remove key) l = taken-same key l
 
--- a step
-true-not : {P : Type 0} → _≡_ {A = Bool} true false → P
-true-not e = impossible (cc)
-
 not-true : (b : Bool) → true ≡ not b → b ≡ false
-not-true true e = true-not e
+not-true true e = true-false e
 not-true false e = refl
 
 not-false : (b : Bool) → false ≡ not b → b ≡ true
 not-false true e = refl
-not-false false e = true-not (sym e)
+not-false false e = true-false (sym e)
 
 counted-same : (u : WasUpdate) (f : Bool) (n : ℕ) (e : Bool) (l : List (ℕ × ℕ)) → e ≡ not (ltb n (deciding u f))
     → (stepped goesOn l (holding (updateOf u) (deciding u f) n) ≡ bookOf (counted u f n e l)) × Flagged (counted u f n e l .inHand)

@@ -2,7 +2,6 @@
 use mathlib.Core.Path.{_≡_, refl, sym, _∙_}
 use mathlib.Core.Bool.{Bool, true, false}
 use Prim.Native.Nat.{ℕ}
-use native.Mathlib.Omega.{arith}
 use Rattle.demands.specs.RationTable.{workOf}
 use Rattle.demands.specs.Table.{noWork, formatting}
 use Rattle.state.specs.Steps.{isIdle}

@@ -1,7 +1,7 @@
 -- Document 01, "Dumps and the list program": "The program `list` reads a dump from standard input, opens and repairs it in memory,
 -- and prints."
 use mathlib.Core.Path.{_≡_}
-use mathlib.Core.Bool.{Bool, true}
+use mathlib.Core.Bool.{Bool}
 use mathlib.Core.List.{List}
 use Prim.Native.Nat.{ℕ, _^_, _<_}
 use lib.ListN.{length, getD, replicate}

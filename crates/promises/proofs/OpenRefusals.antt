@@ -93,7 +93,7 @@ card-refused c r a b = (
 must-three : (c : List ℕ) (i v next : ℕ) → (next ≡ 0) ⊎ (next ≡ 3) → (must c i v 3 next ≡ 0) ⊎ (must c i v 3 next ≡ 3)
 must-three c i v next o = bool-cases (eqb (getD c i 0) v) (λ q. rw q o) (λ q. rw q (inr refl))
 
-header-three : (c : List ℕ) (n : ℕ) → getD c 0 0 ≡ 1 → (headerRefusal c n ≡ 0) ⊎ (headerRefusal c n ≡ 3)
+pub header-three : (c : List ℕ) (n : ℕ) → getD c 0 0 ≡ 1 → (headerRefusal c n ≡ 0) ⊎ (headerRefusal c n ≡ 3)
 unfolding headerRefusal
 header-three c n e =
     rw (eq-eqb (getD c 0 0) 1 e) (must-three c 1 n _ (must-three c 2 8 _ (must-three c 3 24 _ (must-three c 5 0 _ (must-three c 6 0 _ (must-three c 7 0 0 (inl refl)))))))

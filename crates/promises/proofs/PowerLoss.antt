@@ -207,7 +207,7 @@ empty-fed was-refused l = refl
 empty-fed was-final l = refl
 empty-fed goes-on l = refl
 
-none-due : (r : Result) → dueAfterStep r none ≡ none
+pub none-due : (r : Result) → dueAfterStep r none ≡ none
 unfolding dueAfterStep
 none-due was-refused = refl
 none-due was-final = refl

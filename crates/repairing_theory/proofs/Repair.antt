@@ -35,7 +35,7 @@ unfolding run
 rests zero w e = refl
 rests (suc k) w e = ap (run (steps k)) (idle-world w e) ∙ rests k w e
 
-is-idle : (d : Doing) → isIdle d ≡ true → d ≡ Idle
+pub is-idle : (d : Doing) → isIdle d ≡ true → d ≡ Idle
 unfolding isIdle
 is-idle Idle e = refl
 is-idle (Formatting made) e = impossible (cc)
