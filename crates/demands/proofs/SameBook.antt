@@ -12,7 +12,7 @@ use Rattle.promises.proofs.Machine.{Event as Was, World as Worldly, happens as 
 use Rattle.promises.proofs.Ledger.{Update as WasUpdate, Hand as WasHand, Ledger, addedUnless, added as was-added, takenOut as was-taken-out, entered as was-entered, deciding, counted, fedAStep, fedAStart, feed as was-feed, put as was-put, remove as was-remove, was-refused, was-final, goes-on as was-goes-on, empty as was-empty, hand}
 use Rattle.promises.proofs.Feeding.{begunResult, stepResult, isNone, fullAt as was-full-at, leafFull as was-leaf-full, fed}
 use Rattle.demands.specs.Events.{Event, World, replyTo, happens, run, find, insert, delete, step, cut}
-use Rattle.demands.specs.Book.{Update, Hand, Book, book, added, takenOut, entered, started, stepped, feed, outcome, told, put, remove, refused, final, goesOn, empty, holding}
+use Rattle.demands.specs.Book.{Update, Hand, Book, book, added, takenOut, entered, started, stepped, feed, outcome, told, put, remove, refused, final, goesOn, empty, holding, isRefused}
 use Rattle.demands.specs.RationTable.{rationTable}
 use Rattle.demands.specs.Refusals.{nodesOn, fullAt, leafFull}
 use Rattle.demands.proofs.StartRows.{leads-is, slot-is}
@@ -137,7 +137,7 @@ step-same (Refused r) s l h g = rw (lt-ltb r 64 s) (refusing l h g)
 -- a start
 begun-same : (u : WasUpdate) (f : Bool) (l : Ledger) (b : Begun) → SmallBegun b → 0 < deciding u f → Flagged (l .inHand)
     → (started (outcome (startReply b)) (updateOf u) (deciding u f) (bookOf l) ≡ bookOf (fedAStart u f (begunResult b) (l .held) (l .inHand))) × Flagged (fedAStart u f (begunResult b) (l .held) (l .inHand) .inHand)
-unfolding outcome startReply begunResult started fedAStart handOf Flagged
+unfolding outcome startReply begunResult started isRefused fedAStart handOf Flagged
 begun-same u f l OpenedIdle s d g = (refl, rw (lt-ltb 0 (deciding u f) d))
 begun-same u f l Started s d g = (refl, rw (lt-ltb 0 (deciding u f) d))
 begun-same u f l (BegunRefused r) s d g = rw (lt-ltb r 64 s) (refl, g)
