@@ -87,8 +87,8 @@ class Module:
 
 
 class Belief:
-    def __init__(self):
-        self.modules, self.seen, self.counted, self.made = {}, set(), {}, set()
+    def __init__(self, unread):
+        self.unread, self.modules, self.seen, self.counted, self.made = unread, {}, set(), {}, set()
 
     def module(self, crate, name):
         path = CRATES / crate / "specs" / f"{name}.antt"
@@ -104,7 +104,7 @@ class Belief:
             return
         if definition not in module.lines:
             definition = module.owner.get(definition)
-        if definition is None or (crate, name, definition) in self.seen or (crate, name, definition) in MET:
+        if definition is None or (crate, name, definition) in self.seen or (crate, name, definition) in self.unread:
             return
         self.seen.add((crate, name, definition))
         lines = module.lines[definition]
@@ -157,9 +157,11 @@ def table(with_modules):
     calls = [TABLE] + [cited for crate, functions in CALLS.items() for cited in contract_names(crate, functions)]
     rows.append(("the contracts of the calls, as a table", calls))
     rows.append(("all three demands with the contracts of the calls", STATEMENTS[3][1] + calls))
+    last = "the same, with the text of the six definitions that the calls are proved to meet, which need not be read"
+    rows.append((last, STATEMENTS[3][1] + calls))
     print("| what is stated | lines of definition | modules | made from the code's types |\n|---|---|---|---|")
     for title, goals in rows:
-        belief = Belief()
+        belief = Belief(set() if title == last else MET)
         for goal in goals:
             belief.visit(*(goal.split("/") if isinstance(goal, str) else goal))
         print(f"| {title} | {belief.total()} | {len(belief.counted)} | {', '.join(sorted(belief.made)) or 'none'} |")

@@ -1,4 +1,4 @@
-// Replays the traces of /work/shared/vectors: standard input is a stream of calls that tools/make_replay.py wrote, and for each
+// Replays traces of document 01: standard input is a stream of calls that tools/make_replay.py wrote from them, and for each
 // trace this prints its number and a hash of all results.
 mod crc;
 mod dumps;
