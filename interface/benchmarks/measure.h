@@ -7,6 +7,8 @@
 #include <stdio.h>
 #include <time.h>
 
+#include "even_stack.h"
+
 static uint64_t measured_calls;
 static double measured_ns;
 static double clock_cost; // of an empty batch

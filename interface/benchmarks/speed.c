@@ -1,52 +1,15 @@
 // The calls of ration_table.h measured on cards of several sizes.
-#include <stdbool.h>
-#include <stdlib.h>
 #include <string.h>
 
 #include "measure.h"
-#include "ration_table.h"
-#include "workload.h"
+#include "table_in_use.h"
 
-static uint32_t card[RATION_MOST_CARD_WORDS], base_card[RATION_MOST_CARD_WORDS];
-static uint32_t state[RATION_STATE_WORDS], base_state[RATION_STATE_WORDS];
-static size_t words;
+static uint32_t base_card[RATION_MOST_CARD_WORDS], base_state[RATION_STATE_WORDS];
 
-#define CARD card, words
-#define STATE state, RATION_STATE_WORDS
-
-static void expect(bool right)
+static void keep(void)
 {
-    if (!right) {
-        fprintf(stderr, "speed: a call did not answer as it should\n");
-        exit(1);
-    }
-}
-
-static ration_answer finish(void)
-{
-    ration_answer answer;
-    do
-        answer = ration_step(CARD, STATE);
-    while (answer.code == RATION_STORED);
-    return answer;
-}
-
-static void insert(uint32_t key)
-{
-    expect(ration_start_insert(CARD, STATE, key, key + 1).code == RATION_STARTED);
-    expect(finish().code == RATION_ABSENT);
-}
-
-static void delete (uint32_t key)
-{
-    expect(ration_start_delete(CARD, STATE, key).code == RATION_STARTED);
-    expect(finish().code == RATION_VALUE);
-}
-
-static void format(void)
-{
-    expect(ration_start_format(CARD, STATE).code == RATION_STARTED);
-    expect(finish().code == RATION_READY);
+    memcpy(base_card, card, sizeof card);
+    memcpy(base_state, state, sizeof state);
 }
 
 static void restore(void)
@@ -55,40 +18,37 @@ static void restore(void)
     memcpy(state, base_state, sizeof state);
 }
 
-static void prepare(const workload *w)
+static void end_row(const workload *w, const char *name)
 {
-    words = RATION_CARD_WORDS(w->nodes);
-    format();
-    for (uint32_t i = 0; i < w->pairs; i++)
-        insert(workload_key(i));
-    memcpy(base_card, card, sizeof card);
-    memcpy(base_state, state, sizeof state);
+    char whole[80];
+    snprintf(whole, sizeof whole, "%s%s", name, w->order);
+    row_end(w->nodes, whole);
 }
 
-typedef uint32_t key_order(const workload *w, uint32_t i);
+typedef uint32_t which_key(const workload *w, uint32_t i);
 
-static const uint32_t *keys_of(const workload *w, key_order *order)
+static const uint32_t *keys_of(const workload *w, which_key *which)
 {
     static uint32_t keys[MOST_KEYS];
     for (uint32_t i = 0; i < MOST_KEYS; i++)
-        keys[i] = order(w, i);
+        keys[i] = which(w, i);
     return keys;
 }
 
-static void measure_finds(const workload *w, key_order *order, const char *name)
+static void measure_finds(const workload *w, which_key *which, const char *name)
 {
-    const uint32_t *keys = keys_of(w, order);
+    const uint32_t *keys = keys_of(w, which);
     batch_begin();
     for (uint32_t i = 0; i < MOST_KEYS; i++)
         CALL(ration_find(CARD, keys[i]));
     batch_end();
-    row_end(w->nodes, name);
+    end_row(w, name);
 }
 
-static void measure_updates(const workload *w, key_order *order, uint32_t count, void update(uint32_t),
+static void measure_updates(const workload *w, which_key *which, uint32_t count, void update(uint32_t),
                             const char *name)
 {
-    const uint32_t *keys = keys_of(w, order);
+    const uint32_t *keys = keys_of(w, which);
     for (uint32_t round = 0; round < w->rounds; round++) {
         restore();
         batch_begin();
@@ -96,7 +56,7 @@ static void measure_updates(const workload *w, key_order *order, uint32_t count,
             CALL(update(keys[i]));
         batch_end();
     }
-    row_end(w->nodes, name);
+    end_row(w, name);
 }
 
 // How many stores the insert of a key takes from the base card on.
@@ -110,8 +70,8 @@ static uint32_t stores_of_insert(uint32_t key)
     return stores;
 }
 
-// The start of an insert, or one of its steps after so many others, for each of the keys.
-static void measure_step_after(const uint32_t *keys, uint32_t count, int steps_before, int steps, uint32_t nodes,
+// Steps of the insert of each key, after so many others.
+static void measure_step_after(const workload *w, const uint32_t *keys, uint32_t count, int steps_before, int steps,
                                const char *name)
 {
     for (uint32_t i = 0; i < count; i++) {
@@ -124,7 +84,26 @@ static void measure_step_after(const uint32_t *keys, uint32_t count, int steps_b
             CALL(ration_step(CARD, STATE));
         batch_end();
     }
-    row_end(nodes, name);
+    end_row(w, name);
+}
+
+static void measure_starts(const workload *w, const uint32_t *keys, uint32_t count)
+{
+    for (uint32_t i = 0; i < count; i++) {
+        restore();
+        batch_begin();
+        CALL(ration_start_insert(CARD, STATE, keys[i], 1));
+        batch_end();
+    }
+    end_row(w, "start of an insert");
+    for (uint32_t i = 0; i < count; i++) {
+        restore();
+        uint32_t key = held_key(w, i);
+        batch_begin();
+        CALL(ration_start_delete(CARD, STATE, key));
+        batch_end();
+    }
+    end_row(w, "start of a delete");
 }
 
 static void measure_steps(const workload *w)
@@ -140,48 +119,85 @@ static void measure_steps(const workload *w)
             splits[split_count++] = key;
     }
 
-    for (uint32_t i = 0; i < pair_count; i++) {
-        restore();
-        batch_begin();
-        CALL(ration_start_insert(CARD, STATE, pairs[i], 1));
-        batch_end();
-    }
-    row_end(w->nodes, "start of an insert");
-    measure_step_after(pairs, pair_count, 0, 1, w->nodes, "step that plans a pair (2 stores)");
-    measure_step_after(splits, split_count, 0, 1, w->nodes, "step that plans a split (73 stores)");
-    if (split_count > 0)
-        measure_step_after(splits, split_count, 1, 71, w->nodes, "step of a plan in hand");
-    else
-        measure_step_after(pairs, pair_count, 1, 1, w->nodes, "step of a plan in hand");
-    measure_step_after(pairs, pair_count, 2, 1, w->nodes, "step that gives the final answer");
+    measure_starts(w, pairs, pair_count);
+    measure_step_after(w, pairs, pair_count, 0, 1, "step that plans a pair (2 stores)");
+    measure_step_after(w, splits, split_count, 0, 1, "step that plans a split (73 stores)");
+    measure_step_after(w, splits, split_count, 1, 71, "store of a plan in hand");
+    measure_step_after(w, pairs, pair_count, 1, 1, "last store of a plan, a pair's key");
+    measure_step_after(w, splits, split_count, 72, 1, "last store of a plan, frees a node");
+    measure_step_after(w, pairs, pair_count, 2, 1, "final answer");
 }
 
-static void measure_opening(const workload *w)
+static void measure_opening(const workload *w, const char *name)
 {
-    restore();
     batch_begin();
     for (int i = 0; i < 10; i++)
         CALL(expect(ration_open(CARD, STATE).code == RATION_IDLE));
     batch_end();
-    row_end(w->nodes, "opening");
+    end_row(w, name);
+}
+
+static void measure_formatting(const workload *w)
+{
+    batch_begin();
+    for (int i = 0; i < 3; i++)
+        CALL(expect(ration_start_format(CARD, STATE).code == RATION_STARTED));
+    batch_end();
+    end_row(w, "start of a formatting");
     batch_begin();
     for (int i = 0; i < 3; i++)
         CALL(format());
     batch_end();
-    row_end(w->nodes, "formatting, whole");
+    end_row(w, "formatting, whole");
+}
+
+static void measure_dumps(const workload *w)
+{
+    static uint8_t dump[RATION_MOST_DUMP_BYTES];
+    static uint32_t copy[RATION_MOST_CARD_WORDS];
+    size_t bytes = RATION_DUMP_BYTES(w->nodes);
+    batch_begin();
+    for (int i = 0; i < 3; i++)
+        CALL(expect(ration_write_dump(CARD, dump, sizeof dump).value == bytes));
+    batch_end();
+    end_row(w, "writing a dump");
+    batch_begin();
+    for (int i = 0; i < 3; i++)
+        CALL(expect(ration_read_dump(dump, bytes, copy, RATION_MOST_CARD_WORDS).value == words));
+    batch_end();
+    end_row(w, "reading a dump");
+    expect(memcmp(copy, card, 4 * words) == 0);
+}
+
+static void measure(void)
+{
+    measure_the_measuring();
+    for (const workload *w = workloads; w < workloads + WORKLOADS; w++) {
+        bool random = w < workloads + RANDOM_WORKLOADS;
+        prepare(w);
+        keep();
+        measure_finds(w, held_key, "find, key held");
+        if (random)
+            measure_finds(w, absent_key, "find, key absent");
+        // The next pair in order has its rows here once there is a call for it.
+        measure_updates(w, absent_key, w->inserts, insert, "insert, whole");
+        measure_updates(w, held_key, w->pairs, delete, "delete, whole");
+        if (!random)
+            continue;
+        measure_steps(w);
+        restore();
+        measure_opening(w, "opening");
+        if (w->nodes == RATION_MOST_NODES) {
+            prepare_full(w->nodes);
+            measure_opening(w, "opening a full card");
+        }
+        measure_dumps(w);
+        measure_formatting(w);
+    }
 }
 
 int main(void)
 {
-    measure_the_measuring();
-    for (int i = 0; i < WORKLOADS; i++) {
-        prepare(&workloads[i]);
-        measure_finds(&workloads[i], held_key, "find, key held");
-        measure_finds(&workloads[i], absent_key, "find, key absent");
-        measure_updates(&workloads[i], absent_key, workloads[i].inserts, insert, "insert, whole");
-        measure_updates(&workloads[i], held_key, workloads[i].pairs, delete, "delete, whole");
-        measure_steps(&workloads[i]);
-        measure_opening(&workloads[i]);
-    }
+    on_an_even_stack(measure);
     return 0;
 }

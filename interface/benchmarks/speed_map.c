@@ -10,7 +10,7 @@ uint32_t map_find(const map *m, uint32_t key);
 uint32_t map_insert(map *m, uint32_t key, uint32_t value);
 uint32_t map_delete(map *m, uint32_t key);
 
-static void measure(const workload *w)
+static void measure_one(const workload *w)
 {
     static uint32_t held[MOST_KEYS], absent[MOST_KEYS];
     for (uint32_t i = 0; i < MOST_KEYS; i++) {
@@ -19,7 +19,7 @@ static void measure(const workload *w)
     }
     map *base = map_new();
     for (uint32_t i = 0; i < w->pairs; i++)
-        map_insert(base, workload_key(i), workload_key(i) + 1);
+        map_insert(base, w->key(i), w->key(i) + 1);
     batch_begin();
     for (uint32_t i = 0; i < MOST_KEYS; i++)
         CALL(map_find(base, held[i]));
@@ -51,10 +51,15 @@ static void measure(const workload *w)
     map_free(base);
 }
 
-int main(void)
+static void measure(void)
 {
     measure_the_measuring();
-    for (int i = 0; i < WORKLOADS; i++)
-        measure(&workloads[i]);
+    for (int i = 0; i < RANDOM_WORKLOADS; i++)
+        measure_one(&workloads[i]);
+}
+
+int main(void)
+{
+    on_an_even_stack(measure);
     return 0;
 }

@@ -17,9 +17,11 @@ static inline void spread_add(spread *s, uint64_t number)
         s->most = number;
 }
 
-static inline void spread_print(uint32_t nodes, const char *name, const spread *s)
+// Nodes, what it is, average, most.
+static inline void spread_print(uint32_t nodes, const char *what, const char *update, const char *order, const spread *s)
 {
-    printf("%u\t%s\t%.0f\t%llu\n", nodes, name, (double)s->sum / (double)s->count, (unsigned long long)s->most);
+    printf("%u\t%s%s%s\t%.1f\t%llu\n", nodes, what, update, order, (double)s->sum / (double)s->count,
+           (unsigned long long)s->most);
 }
 
 #endif

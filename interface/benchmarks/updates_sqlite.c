@@ -1,13 +1,13 @@
-// Bytes that SQLite writes for a durable update of the same keys: bytes_sqlite DIRECTORY JOURNAL_MODE.
+// What SQLite writes for a durable update of the same keys: updates_sqlite DIRECTORY JOURNAL_MODE.
 #include <sqlite3.h>
 #include <stdio.h>
 #include <stdlib.h>
 
-#include "spread.h"
 #include "workload.h"
 #include "written.h"
 
 static sqlite3 *database;
+static sqlite3_stmt *insert_statement, *delete_statement;
 
 static void run(const char *sql)
 {
@@ -18,22 +18,23 @@ static void run(const char *sql)
     }
 }
 
-// One statement with two numbers is one durable transaction.
-static uint64_t bytes_of(sqlite3_stmt *statement, uint32_t key)
+// One statement alone is one durable transaction.
+static void run_with(sqlite3_stmt *statement, uint32_t key)
 {
-    uint64_t before = bytes_written();
     sqlite3_bind_int64(statement, 1, key);
     if (sqlite3_step(statement) != SQLITE_DONE)
         exit(1);
     sqlite3_reset(statement);
-    return bytes_written() - before;
 }
+
+static void insert(uint32_t key) { run_with(insert_statement, key); }
+static void delete (uint32_t key) { run_with(delete_statement, key); }
 
 int main(int count, char **arguments)
 {
     if (count != 3)
         return 2;
-    for (int i = 0; i < WORKLOADS; i++) {
+    for (int i = 0; i < RANDOM_WORKLOADS; i++) {
         const workload *w = &workloads[i];
         char path[500], pragma[100];
         snprintf(path, sizeof path, "%s/%s-%u.sqlite", arguments[1], arguments[2], w->nodes);
@@ -43,22 +44,16 @@ int main(int count, char **arguments)
         run(pragma);
         run("PRAGMA synchronous = FULL");
         run("CREATE TABLE ration (number INTEGER PRIMARY KEY, record INTEGER)");
-        sqlite3_stmt *insert, *delete;
-        sqlite3_prepare_v2(database, "INSERT OR IGNORE INTO ration VALUES (?, 1)", -1, &insert, NULL);
-        sqlite3_prepare_v2(database, "DELETE FROM ration WHERE number = ?", -1, &delete, NULL);
+        sqlite3_prepare_v2(database, "INSERT OR IGNORE INTO ration VALUES (?, 1)", -1, &insert_statement, NULL);
+        sqlite3_prepare_v2(database, "DELETE FROM ration WHERE number = ?", -1, &delete_statement, NULL);
         run("BEGIN");
         for (uint32_t pair = 0; pair < w->pairs; pair++)
-            bytes_of(insert, workload_key(pair));
+            insert(w->key(pair));
         run("COMMIT");
-        spread inserts = {0}, deletes = {0};
-        for (uint32_t update = 0; update < w->inserts; update++)
-            spread_add(&inserts, bytes_of(insert, absent_key(w, update)));
-        for (uint32_t update = 0; update < w->pairs; update++)
-            spread_add(&deletes, bytes_of(delete, held_key(w, update)));
-        spread_print(w->nodes, "insert", &inserts);
-        spread_print(w->nodes, "delete", &deletes);
-        sqlite3_finalize(insert);
-        sqlite3_finalize(delete);
+        measure_updates(w, insert, absent_key, w->inserts, "an insert");
+        measure_updates(w, delete, held_key, w->pairs, "a delete");
+        sqlite3_finalize(insert_statement);
+        sqlite3_finalize(delete_statement);
         sqlite3_close(database);
     }
     return 0;
