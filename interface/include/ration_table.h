@@ -21,8 +21,8 @@
  *      update takes at most 657 stores.
  *   3. ration_find at any time, also between steps and before opening.
  *   4. Power was cut, or the block was lost: back to ration_open.
- *   5. To abandon an update, call ration_open again, with power on: to the card it is a cut. The update is then
- *      wholly in, where the store that decides it was made, or wholly out.
+ *   5. To abandon an update, call ration_open again, with power on: to the card it is a cut. Go on as in
+ *      1; the update is wholly in, where the store that decides it was made, or wholly out.
  *
  *
  * A VALUE CHANGED
@@ -42,6 +42,9 @@
  *   block first. A word must be written whole: power that goes within a write leaves the old word or the new.
  * - A card's words are in the byte order of the machine that works it. A dump is the same on every machine:
  *   carry a table to a machine of another order by ration_write_dump and ration_read_dump.
+ * - Pairs until the first insert refused with 8, with keys rising and, in 20 tries each, with keys at random:
+ *   12 nodes 47 and 53 to 68; 60 nodes 287 and 362 to 405; 200 nodes 989 and 1,300 to 1,392; 600 nodes 2,987
+ *   and 3,996 to 4,172.
  * - There is no checksum. Opening sees damage that leaves no sound table; a value that wore is a value.
  * - The proved archive is for x86-64 Linux. From the folder above interface/:
  *
@@ -49,8 +52,8 @@
  *     cc -std=c11 -Iinterface/include controller.c target/staticlib/libration_table.a -o controller
  *
  *   For other machines interface/baseline/table.c is the same table in plain C: it takes the archive's place
- *   in the second line, and the tests give it the same calls as the proved archive and compare every answer
- *   and every word stored. It is not proved.
+ *   in the second line. The tests give both the same calls and compare every answer and, after each call, every
+ *   word of the card; it is not proved.
  *
  *
  * WHAT THE CALLER SEES TO
