@@ -21,12 +21,45 @@
  *      update takes at most 657 stores.
  *   3. ration_find at any time, also between steps and before opening.
  *   4. Power was cut, or the block was lost: back to ration_open.
+ *   5. To abandon an update, call ration_open again, with power on: to the card it is a cut. Go on as in
+ *      1; the update is wholly in, where the store that decides it was made, or wholly out.
+ *
+ *
+ * A VALUE CHANGED
+ *
+ * An insert does not overwrite. To change a value delete the key, to the final answer, and then insert it
+ * again; but THESE ARE TWO UPDATES AND NOT ONE CHANGE: power lost between the two leaves the key absent, and
+ * the card does not tell what its value was or was to be. Where the key must not be lost, keep key and new
+ * value elsewhere, without power too, from before the delete until the insert's final answer; where power
+ * went between, make both again after opening. With no other insert between the two the key's leaf has an
+ * empty slot, so that the insert is not refused with 8.
+ *
+ *
+ * WHICH MEMORY, WHICH MACHINE
+ *
+ * - The card is memory that keeps its words without power and in which a single word is rewritten in place,
+ *   any number of times: FRAM, MRAM, SRAM with a battery. Not NOR or NAND flash, which must be erased by the
+ *   block first. A word must be written whole: power that goes within a write leaves the old word or the new.
+ * - A card's words are in the byte order of the machine that works it. A dump is the same on every machine:
+ *   carry a table to a machine of another order by ration_write_dump and ration_read_dump.
+ * - Pairs until the first insert refused with 8, with keys rising and, in 20 tries each, with keys at random:
+ *   12 nodes 47 and 53 to 68; 60 nodes 287 and 362 to 405; 200 nodes 989 and 1,300 to 1,392; 600 nodes 2,987
+ *   and 3,996 to 4,172.
+ * - There is no checksum. Opening sees damage that leaves no sound table; a value that wore is a value.
+ * - The proved archive is for x86-64 Linux. From the folder above interface/:
+ *
+ *     rt staticlib ration_table
+ *     cc -std=c11 -Iinterface/include controller.c target/staticlib/libration_table.a -o controller
+ *
+ *   For other machines interface/baseline/table.c is the same table in plain C: it takes the archive's place
+ *   in the second line. The tests give both the same calls and compare every answer and, after each call, every
+ *   word of the card; it is not proved.
  *
  *
  * WHAT THE CALLER SEES TO
  *
- * - Each word stored is on the card before the next call. Where a cache stands before the card, write it
- *   back after each RATION_STORED. A word is stored whole.
+ * - Each word stored is on the card, whole, before the next call. Where a cache stands before the card, write
+ *   it back after each RATION_STORED.
  * - Between ration_open or ration_start_format and the next one nothing else writes the card or the block,
  *   and the card keeps the block it was opened with. Otherwise open the card anew.
  * - Lengths are in elements: words for card, state and words, bytes for dump and bytes.
@@ -137,6 +170,34 @@ typedef struct ration_answer {
 
 #define RATION_IS_REFUSAL(code) ((code) <= 12 || (code) == RATION_NO_STATE)
 
+/* A few words for each code, for a log. */
+static inline const char *ration_text(uint32_t code)
+{
+    switch (code) {
+    case RATION_VALUE: return "the value held";
+    case RATION_ABSENT: return "absent";
+    case RATION_STORED: return "one word was stored";
+    case RATION_READY: return "ready";
+    case RATION_IDLE: return "idle";
+    case RATION_STARTED: return "started";
+    case RATION_LENGTH: return "the length of the result";
+    case RATION_WRONG_LENGTH: return "the length is no card's, or the state is another card's";
+    case RATION_NOT_FORMATTED: return "the card is not formatted";
+    case RATION_WRONG_HEADER: return "the card's header is wrong";
+    case RATION_NOT_SOUND: return "the table on the card is not sound";
+    case RATION_FEW_FREE: return "too few free nodes for the repair";
+    case RATION_KEY_ZERO: return "0 is no key";
+    case RATION_BUSY: return "something is in progress";
+    case RATION_NO_ROOM: return "too few free nodes for the insert";
+    case RATION_BROKEN_WAY: return "the card was changed by something else";
+    case RATION_NOTHING_TO_STEP: return "nothing is in progress";
+    case RATION_WRONG_DUMP: return "no dump, or a damaged one";
+    case RATION_TOO_SHORT: return "too short for the result";
+    case RATION_NO_STATE: return "the state block has another length";
+    default: return "no code of the ration table";
+    }
+}
+
 /*
  * Starts to format the card: nothing is stored yet. The formatting takes 8 + 24 * N + 1 steps that store and
  * one that answers RATION_READY. Cut before its first store the card is as it was; cut between its first and
@@ -161,8 +222,9 @@ ration_answer ration_find(const uint32_t *card, size_t card_words, uint32_t key)
 
 /*
  * Starts to insert a pair: nothing is stored yet. A key that is held keeps its value, which the first step
- * then answers with RATION_VALUE; to change a value, delete the key and insert it again. Else the final
- * answer is RATION_ABSENT. The pair is in with the second store, where the leaf is full with the 73rd.
+ * then answers with RATION_VALUE; before you delete it, to insert it again with another, see A VALUE CHANGED.
+ * Else the final answer is RATION_ABSENT. The pair is in with the second store, where the leaf is full with
+ * the 73rd.
  * Answers RATION_STARTED. Refusals, in this order: RATION_NO_STATE, 1, 2, 3, 7, 6, 9, 8.
  */
 ration_answer ration_start_insert(const uint32_t *card, size_t card_words, uint32_t *state, size_t state_words,

@@ -1,6 +1,8 @@
 // Tests a table behind ration_table.h: test_table TRACES [PERCENT [GUARD_WORDS]]. PERCENT below 100 makes fewer random
 // events; GUARD_WORDS 0 leaves the watch over memory to a memory checker.
+#include <stdbool.h>
 #include <stdlib.h>
+#include <string.h>
 
 #include "check.h"
 #include "guarded.h"
@@ -47,16 +49,30 @@ static void check_all_answers_seen(void)
     }
 }
 
+// Each code has a text of its own, and nothing else has one.
+static void check_texts(void)
+{
+    for (uint32_t code = 0; code <= 80; code++) {
+        bool is_code = (code >= 1 && code <= 12) || (code >= RATION_VALUE && code <= RATION_NO_STATE);
+        bool has_text = strcmp(ration_text(code), ration_text(UINT32_MAX)) != 0;
+        CHECK(has_text == is_code, "code %u: %s", code, ration_text(code));
+        for (uint32_t other = 1; is_code && other < code; other++)
+            CHECK(strcmp(ration_text(code), ration_text(other)) != 0, "codes %u and %u have one text", code, other);
+    }
+}
+
 int main(int count, char **arguments)
 {
     CHECK(count >= 2, "usage: test_table TRACES [PERCENT [GUARD_WORDS]]");
     scale s = {count > 2 ? (uint32_t)atoi(arguments[2]) : 100};
     if (count > 3)
         guard_words = (size_t)atoi(arguments[3]);
+    check_texts();
     test_traces(arguments[1]);
     test_lengths();
     test_lists(s);
     test_cuts(s);
+    test_changed(s);
     test_damage(s);
     test_agreement(s);
     check_all_answers_seen();

@@ -7,10 +7,12 @@ mod lists;
 mod random;
 mod reader;
 mod traces;
+mod wrapper;
 
 fn main() {
     let path = std::env::args().nth(1).expect("usage: tests TRACES");
     let text = std::fs::read_to_string(path).expect("cannot read the traces");
+    wrapper::test();
     let mut events = traces::test(&text);
     let (list_events, cuts) = lists::test();
     events += list_events + damage::test();

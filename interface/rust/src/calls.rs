@@ -6,7 +6,7 @@ use crate::Refusal;
 const STATE_WORDS: usize = 177;
 
 /// The state block. Its words are the table's own.
-#[derive(Clone, PartialEq, Eq)]
+#[derive(Clone, Debug, PartialEq, Eq)]
 pub struct StateBlock([u32; STATE_WORDS]);
 
 impl StateBlock {
@@ -115,6 +115,7 @@ pub fn find(card: &[u32], key: u32) -> Result<Option<u32>, Refusal> {
     }
 }
 
+/// A key that is held keeps its value. To delete it first is an update of its own: see [`crate::Table::insert`].
 pub fn start_insert(card: &[u32], state: &mut StateBlock, key: u32, value: u32) -> Result<(), Refusal> {
     started(unsafe { ration_start_insert(card.as_ptr(), card.len(), state.0.as_mut_ptr(), STATE_WORDS, key, value) })
 }

@@ -8,36 +8,89 @@
 //! - `find` and `write_dump` work on all of them.
 //! - [`calls`] are the same calls one by one, without that order.
 //!
-//! No allocation, no dependencies, no `std`. It links the archive `libration_table.a`; with plain `rustc`:
-//!
-//! ```text
-//! rustc --edition 2021 -O --crate-type rlib --crate-name ration_table -L target/staticlib interface/rust/src/lib.rs
-//! rustc --edition 2021 -O --extern ration_table=libration_table.rlib your_program.rs
-//! ```
-//!
 //! A card is formatted, a ration put in, power cut and the card opened again:
 //!
 //! ```
 //! use core::num::NonZeroU32;
-//! use ration_table::{card_words, Opened, Progress, StateBlock, Table};
+//! use ration_table::{card_words, Opened, Progress, Refusal, StateBlock, Table};
 //!
-//! let mut card = [0; card_words(12)]; // kept without power
-//! let key = NonZeroU32::new(7).unwrap();
-//! {
-//!     let mut state = StateBlock::new(); // lost with power
-//!     let formatting = Table::format(&mut card, &mut state).unwrap();
-//!     let (table, ()) = formatting.finish().ok().unwrap();
-//!     let update = table.insert(key, 70).ok().unwrap();
-//!     let Ok(Progress::Stored(update)) = update.step() else { panic!() }; // the value
-//!     let Ok(Progress::Stored(update)) = update.step() else { panic!() }; // the key: now the pair is in
-//!     drop(update); // power goes before the final answer
+//! fn main() -> Result<(), Refusal> {
+//!     let mut card = [0; card_words(12)]; // kept without power
+//!     let key = NonZeroU32::new(7).unwrap();
+//!     {
+//!         let mut state = StateBlock::new(); // lost with power
+//!         let (table, ()) = Table::format(&mut card, &mut state)?.finish()?;
+//!         let update = table.insert(key, 70)?;
+//!         let Progress::Stored(update) = update.step()? else { panic!() }; // the value
+//!         let Progress::Stored(update) = update.step()? else { panic!() }; // the key: now the pair is in
+//!         drop(update); // power goes before the final answer
+//!     }
+//!     let mut state = StateBlock::new();
+//!     let table = match Table::open(&mut card, &mut state)? {
+//!         Opened::Idle(table) => table,
+//!         Opened::Repairing(repair) => repair.finish()?.0,
+//!     };
+//!     assert_eq!(table.find(key), Ok(Some(70)));
+//!     Ok(())
 //! }
-//! let mut state = StateBlock::new();
-//! let table = match Table::open(&mut card, &mut state).unwrap() {
-//!     Opened::Idle(table) => table,
-//!     Opened::Repairing(repair) => repair.finish().ok().unwrap().0,
-//! };
-//! assert_eq!(table.find(key), Ok(Some(70)));
+//! ```
+//!
+//! # To change a value
+//!
+//! An insert does not overwrite. A delete and then an insert are two updates and not one change: **where power goes between
+//! them the key is absent**. [`Table::insert`] says more.
+//!
+//! # To keep an update across calls
+//!
+//! A step takes the update and hands it back, so what keeps it, say from one tick of a controller to the next, is an
+//! `Option` that each tick takes it out of and puts it back into:
+//!
+//! ```
+//! use ration_table::{Progress, Refusal, Table, Update};
+//!
+//! enum Work<'a> {
+//!     Idle(Table<'a>),
+//!     Updating(Update<'a>),
+//! }
+//!
+//! struct Controller<'a> {
+//!     work: Option<Work<'a>>, // taken out only within a tick
+//! }
+//!
+//! impl Controller<'_> {
+//!     fn tick(&mut self) -> Result<(), Refusal> {
+//!         let (work, answer) = match self.work.take() {
+//!             Some(Work::Updating(update)) => match update.step() {
+//!                 Ok(Progress::Stored(update)) => (Some(Work::Updating(update)), Ok(())),
+//!                 Ok(Progress::Done(table, _answer)) => (Some(Work::Idle(table)), Ok(())),
+//!                 Err(refused) => (Some(Work::Updating(refused.unchanged)), Err(refused.refusal)),
+//!             },
+//!             idle => (idle, Ok(())),
+//!         };
+//!         self.work = work;
+//!         answer
+//!     }
+//! }
+//! ```
+//!
+//! The card and the block have to outlive it; in static memory they do, and it is a `Controller<'static>`. Where they stand in
+//! one struct with what is in progress, which no borrow allows, keep the words and the [`StateBlock`] there and use [`calls`]:
+//! the block remembers what is in progress. `examples/controller` is a whole program.
+//!
+//! # To abandon an update
+//!
+//! Open the card again: [`InProgress::into_parts`].
+//!
+//! # To build
+//!
+//! No allocation, no dependencies, no `std`; Rust 1.81 or newer, on x86-64 Linux. It links the archive `libration_table.a`, which
+//! `rt staticlib ration_table` makes. As a dependency, `ration_table = { path = ".../interface/rust" }`, it takes it from the
+//! repository's `target/staticlib`, or from the folder that the environment variable `RATION_TABLE_LIB` names. With plain
+//! `rustc`:
+//!
+//! ```text
+//! rustc --edition 2021 -O --crate-type rlib --crate-name ration_table -L target/staticlib interface/rust/src/lib.rs
+//! rustc --edition 2021 -O --extern ration_table=libration_table.rlib your_program.rs
 //! ```
 #![no_std]
 
@@ -47,7 +100,7 @@ mod table;
 
 pub use calls::StateBlock;
 pub use refusal::Refusal;
-pub use table::{Formatting, InProgress, Opened, Progress, Refused, Repair, Table, Update};
+pub use table::{FinalAnswer, Formatting, InProgress, Opened, Progress, Refused, Repair, Table, Update};
 
 pub const LEAST_NODES: usize = 4;
 pub const MOST_NODES: usize = 600;

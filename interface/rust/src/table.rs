@@ -1,5 +1,6 @@
 //! The calls in their order, kept by types.
 
+use core::fmt;
 use core::marker::PhantomData;
 use core::num::NonZeroU32;
 
@@ -49,6 +50,7 @@ pub type Repair<'a> = InProgress<'a, ()>;
 pub type Formatting<'a> = InProgress<'a, ()>;
 
 /// What opening hands back.
+#[derive(Debug)]
 #[must_use]
 pub enum Opened<'a> {
     Idle(Table<'a>),
@@ -56,6 +58,7 @@ pub enum Opened<'a> {
 }
 
 /// What a step hands back.
+#[derive(Debug)]
 #[must_use]
 pub enum Progress<'a, A> {
     /// One word was stored. It has to be on the card before the next step.
@@ -64,14 +67,45 @@ pub enum Progress<'a, A> {
     Done(Table<'a>, A),
 }
 
-/// A refusal, with what was refused, unchanged.
+/// A refusal, with what was refused, unchanged. In a function that answers `Result<_, Refusal>` a `?` makes it a [`Refusal`].
+/// What was refused borrows the card, so that a `Box<dyn Error>` cannot hold it: `map_err(Refusal::from)?` there.
+#[derive(Debug)]
 #[must_use]
 pub struct Refused<T> {
     pub unchanged: T,
     pub refusal: Refusal,
 }
 
-/// The final answers of what can be in progress.
+impl<T> From<Refused<T>> for Refusal {
+    fn from(refused: Refused<T>) -> Self {
+        refused.refusal
+    }
+}
+
+impl<T> fmt::Display for Refused<T> {
+    fn fmt(&self, f: &mut fmt::Formatter<'_>) -> fmt::Result {
+        self.refusal.fmt(f)
+    }
+}
+
+impl<T: fmt::Debug> core::error::Error for Refused<T> {}
+
+/// The final answers of what can be in progress: a loop of your own over the steps of any of them asks for it.
+///
+/// ```
+/// use ration_table::{FinalAnswer, InProgress, Progress, Refusal, Table};
+///
+/// /// Steps to the final answer, with something to do after each store.
+/// fn finish<'a, A: FinalAnswer>(mut work: InProgress<'a, A>, mut stored: impl FnMut(&[u32])) -> Result<(Table<'a>, A), Refusal> {
+///     loop {
+///         match work.step()? {
+///             Progress::Stored(more) => work = more,
+///             Progress::Done(table, answer) => return Ok((table, answer)),
+///         }
+///         stored(work.card());
+///     }
+/// }
+/// ```
 pub trait FinalAnswer: Sized + sealed::Sealed {
     #[doc(hidden)]
     fn of(step: Step) -> Self;
@@ -118,6 +152,9 @@ impl<'a> Table<'a> {
     }
 
     /// Starts an insert. A key that is held keeps its value, which is then the answer.
+    ///
+    /// A delete and then an insert change the value, but they are two updates: **where power goes between them the key is
+    /// absent**, and nothing on the card tells what its value was or was to be. Keep both elsewhere until the insert is done.
     pub fn insert(self, key: NonZeroU32, value: u32) -> Result<Update<'a>, Refused<Self>> {
         match calls::start_insert(self.card, self.state, key.get(), value) {
             Ok(()) => Ok(InProgress::on(self)),
@@ -125,7 +162,7 @@ impl<'a> Table<'a> {
         }
     }
 
-    /// Starts a delete.
+    /// Starts a delete. Before a delete that an insert of the same key is to follow see [`Table::insert`].
     pub fn delete(self, key: NonZeroU32) -> Result<Update<'a>, Refused<Self>> {
         match calls::start_delete(self.card, self.state, key.get()) {
             Ok(()) => Ok(InProgress::on(self)),
@@ -143,6 +180,18 @@ impl<'a> Table<'a> {
 
     pub fn card(&self) -> &[u32] {
         self.card
+    }
+
+    /// The card and the block, to use anew; [`Table::open`] takes them.
+    pub fn into_parts(self) -> (&'a mut [u32], &'a mut StateBlock) {
+        (self.card, self.state)
+    }
+}
+
+/// Without the card's words, which are up to 14,408.
+impl fmt::Debug for Table<'_> {
+    fn fmt(&self, f: &mut fmt::Formatter<'_>) -> fmt::Result {
+        f.debug_struct("Table").field("card_words", &self.card.len()).finish_non_exhaustive()
     }
 }
 
@@ -181,5 +230,28 @@ impl<'a, A: FinalAnswer> InProgress<'a, A> {
 
     pub fn card(&self) -> &[u32] {
         self.table.card
+    }
+
+    /// Abandons it, as a power cut would: opening the card again is all that is needed. An update is then wholly in, where
+    /// the store that decides it was made, or wholly out.
+    ///
+    /// ```
+    /// # use ration_table::{Opened, Refusal, Table, Update};
+    /// fn abandon(update: Update) -> Result<Table, Refusal> {
+    ///     let (card, state) = update.into_parts();
+    ///     match Table::open(card, state)? {
+    ///         Opened::Idle(table) => Ok(table),
+    ///         Opened::Repairing(repair) => Ok(repair.finish()?.0),
+    ///     }
+    /// }
+    /// ```
+    pub fn into_parts(self) -> (&'a mut [u32], &'a mut StateBlock) {
+        self.table.into_parts()
+    }
+}
+
+impl<A> fmt::Debug for InProgress<'_, A> {
+    fn fmt(&self, f: &mut fmt::Formatter<'_>) -> fmt::Result {
+        f.debug_struct("InProgress").field("table", &self.table).finish_non_exhaustive()
     }
 }

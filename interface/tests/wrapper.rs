@@ -1,0 +1,116 @@
+//! What the wrapper's types offer their caller: a loop of one's own, `?`, `unwrap`, what is printed, the parts given back.
+
+use std::error::Error;
+use std::num::NonZeroU32;
+
+use ration_table::{card_words, FinalAnswer, InProgress, Opened, Progress, Refusal, Refused, StateBlock, Table};
+
+const NODES: usize = 4;
+
+fn key(key: u32) -> NonZeroU32 {
+    NonZeroU32::new(key).unwrap()
+}
+
+/// Steps to the final answer, and counts the stores.
+fn finish<A: FinalAnswer>(mut work: InProgress<A>) -> Result<(Table, A, usize), Refused<InProgress<A>>> {
+    let mut stores = 0;
+    loop {
+        match work.step()? {
+            Progress::Stored(more) => work = more,
+            Progress::Done(table, answer) => return Ok((table, answer, stores)),
+        }
+        stores += 1;
+    }
+}
+
+/// A `?` on what a call refuses, as a number alone.
+fn put_in(table: Table, pair: u32) -> Result<Table, Refusal> {
+    let (table, held, _) = finish(table.insert(key(pair), 10 * pair)?)?;
+    assert_eq!(held, None);
+    Ok(table)
+}
+
+fn boxed(table: Table) -> Result<(), Box<dyn Error>> {
+    let _ = table.insert(key(12), 120).map_err(Refusal::from)?;
+    Ok(())
+}
+
+/// A box that may borrow holds the whole of it.
+fn boxed_whole<'a>(table: Table<'a>) -> Result<(), Box<dyn Error + 'a>> {
+    let _ = table.insert(key(12), 120)?;
+    Ok(())
+}
+
+fn full<'a>(card: &'a mut [u32], state: &'a mut StateBlock) -> Table<'a> {
+    let (mut table, (), stores) = finish(Table::format(card, state).unwrap()).unwrap();
+    assert_eq!(stores, card_words(NODES) + 1);
+    for pair in 1..=11 {
+        table = put_in(table, pair).unwrap();
+    }
+    table
+}
+
+fn refusals() {
+    let (mut card, mut state) = ([0; card_words(NODES)], StateBlock::new());
+    let table = full(&mut card, &mut state);
+    let refused = table.insert(key(12), 120).unwrap_err();
+    let text = "refused 8: too few free nodes for the insert";
+    assert_eq!(refused.to_string(), text);
+    assert_eq!(format!("{refused:?}"), "Refused { unchanged: Table { card_words: 104, .. }, refusal: NoRoom }");
+    let table = refused.unchanged;
+    assert_eq!(put_in(table, 12).unwrap_err(), Refusal::NoRoom);
+    let (mut card, mut state) = ([0; card_words(NODES)], StateBlock::new());
+    assert_eq!(boxed(full(&mut card, &mut state)).unwrap_err().to_string(), text);
+    assert_eq!(boxed_whole(full(&mut card, &mut state)).unwrap_err().to_string(), text);
+}
+
+/// Abandoned with one of its two stores made an insert is out, with both it is in.
+fn abandoned() {
+    let (mut card, mut state) = ([0; card_words(NODES)], StateBlock::new());
+    let (mut table, (), _) = finish(Table::format(&mut card, &mut state).unwrap()).unwrap();
+    for (stores, found) in [(0, None), (1, None), (2, Some(70))] {
+        let mut update = table.insert(key(7), 70).unwrap();
+        for _ in 0..stores {
+            let Ok(Progress::Stored(more)) = update.step() else { panic!("no store") };
+            update = more;
+        }
+        assert_eq!(format!("{update:?}"), "InProgress { table: Table { card_words: 104, .. }, .. }");
+        let (card, state) = update.into_parts();
+        let Opened::Idle(opened) = Table::open(card, state).unwrap() else { panic!("a repair") };
+        assert_eq!(opened.find(key(7)), Ok(found));
+        table = opened;
+    }
+    let (_, state) = table.into_parts();
+    assert!(format!("{state:?}").starts_with("StateBlock(["));
+}
+
+/// The manual's text for each refusal is the one that is printed here.
+fn texts() {
+    let manual = include_str!("../include/ration_table.h");
+    let refusals = [
+        Refusal::WrongLength,
+        Refusal::NotFormatted,
+        Refusal::WrongHeader,
+        Refusal::NotSound,
+        Refusal::FewFree,
+        Refusal::KeyZero,
+        Refusal::Busy,
+        Refusal::NoRoom,
+        Refusal::BrokenWay,
+        Refusal::NothingToStep,
+        Refusal::WrongDump,
+        Refusal::TooShort,
+    ];
+    for (refusal, number) in refusals.into_iter().zip(1..) {
+        assert_eq!(refusal.number(), number);
+        let printed = refusal.to_string();
+        let text = printed.strip_prefix(&format!("refused {number}: ")).unwrap();
+        assert!(manual.contains(&format!("return \"{text}\";")), "{printed}: not the manual's text");
+    }
+}
+
+pub fn test() {
+    refusals();
+    abandoned();
+    texts();
+}
