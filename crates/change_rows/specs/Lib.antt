@@ -1,0 +1,2 @@
+-- the places of a new node's words
+pub mod Nodes

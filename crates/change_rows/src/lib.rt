@@ -1,0 +1,3 @@
+// The new nodes of a change, laid out in rows that the caller lends (document 01, "The changes").
+pub mod nodes;
+pub mod words;
