@@ -6,3 +6,5 @@ pub mod NodeLaws
 pub mod RoomLaws
 -- laws of pairs by rising key
 pub mod PairLaws
+-- laws of what two nodes hold together, shared out
+pub mod HalfLaws

@@ -8,9 +8,10 @@ use lib.Seq.{drop-cons, set-at, take-at, drop-at}
 use Rattle.laws.specs.Lists.{pad}
 use Rattle.laws.proofs.Lists.{length-pad}
 use Rattle.card.specs.Layout.{place, nodeImage}
-use Rattle.card.specs.Stores.{Store, stores, newNode, nodeStores}
+use Rattle.card.specs.Stores.{Store, stores, NewNode, newNode, nodeStores}
 use Rattle.card.proofs.Stores.{length-node-image}
-use Rattle.change_rows.specs.Nodes.{countFrom, nodePlaces}
+use Rattle.change_rows.specs.Nodes.{countFrom, nodePlaces, newPlaces, newWords}
+use Rattle.change_rows.proofs.RowLaws.{lay-next}
 
 length-count : (k p : ℕ) → length (countFrom k p) ≡ k
 unfolding countFrom
@@ -39,25 +40,87 @@ zip-stores (suc k) p [] e = absurd (omega arith)
 zip-stores (suc k) p (w ∷ ws) e = ap (λ (l : List Store). (p, w) ∷ l) (zip-stores k (suc p) ws (omega arith))
 
 -- the two rows of a node are its stores
+node-stores : (m kind : ℕ) (keys beside : List ℕ) → length keys ≤ 11 → length beside ≤ 11
+    → zip (nodePlaces m) (nodeImage kind keys beside) ≡ stores (place m 0) (nodeImage kind keys beside)
+unfolding nodePlaces
+node-stores m kind keys beside h l = zip-stores 24 (place m 0) (nodeImage kind keys beside) (length-node-image kind keys beside h l)
+
 pub rows-stores : (m kind : ℕ) (keys beside : List ℕ) → length keys ≤ 11 → length beside ≤ 11
     → zip (nodePlaces m) (nodeImage kind keys beside) ≡ nodeStores (newNode m kind keys beside ∷ [])
-unfolding nodePlaces
-rows-stores m kind keys beside h l =
-    zip-stores 24 (place m 0) (nodeImage kind keys beside) (length-node-image kind keys beside h l) ∙ sym (append-nil (stores (place m 0) (nodeImage kind keys beside)))
+rows-stores m kind keys beside h l = node-stores m kind keys beside h l ∙ sym (append-nil (stores (place m 0) (nodeImage kind keys beside)))
 
--- rows of nodes, one after the other
-pub zip-append : (a b c d : List ℕ) → length a ≡ length c → zip (a ++ b) (c ++ d) ≡ zip a c ++ zip b d
+-- ---- nodes one after the other
+
+zip-append : (a b c d : List ℕ) → length a ≡ length c → zip (a ++ b) (c ++ d) ≡ zip a c ++ zip b d
 unfolding zip zipWith
 zip-append [] b [] d e = refl
 zip-append [] b (z ∷ c) d e = absurd (omega arith)
 zip-append (x ∷ a) b [] d e = absurd (omega arith)
 zip-append (x ∷ a) b (z ∷ c) d e = ap (λ (l : List Store). (x, z) ∷ l) (zip-append a b c d (omega arith))
 
+-- each node has at most eleven keys and eleven values or children
+abbrev pub AllFew : List NewNode → Type 0
+AllFew [] = Unit
+AllFew (x ∷ xs) = (length (x .keys) ≤ 11) × (length (x .values) ≤ 11) × AllFew xs
+
+pub length-new-places : (xs : List NewNode) → length (newPlaces xs) ≡ 24 * length xs
+length-new-places [] = refl
+length-new-places (x ∷ xs) = length-append (nodePlaces (x .number)) (newPlaces xs) ∙ omega (arith, length-places (x .number), length-new-places xs)
+
+pub length-new-words : (xs : List NewNode) → AllFew xs → length (newWords xs) ≡ 24 * length xs
+length-new-words [] h = refl
+length-new-words (x ∷ xs) h =
+    length-append (nodeImage (x .kind) (x .keys) (x .values)) (newWords xs)
+    ∙ omega (arith, length-node-image (x .kind) (x .keys) (x .values) (h .0) (h .1), length-new-words xs (h .2))
+
+new-stores : (xs : List NewNode) → AllFew xs → zip (newPlaces xs) (newWords xs) ≡ nodeStores xs
+unfolding zip zipWith
+new-stores [] h = refl
+new-stores (x ∷ xs) h =
+    zip-append (nodePlaces (x .number)) (newPlaces xs) (nodeImage (x .kind) (x .keys) (x .values)) (newWords xs)
+    (length-places (x .number) ∙ sym (length-node-image (x .kind) (x .keys) (x .values) (h .0) (h .1)))
+    ∙ ap₂ (λ (a b : List Store). a ++ b) (node-stores (x .number) (x .kind) (x .keys) (x .values) (h .0) (h .1)) (new-stores xs (h .2))
+
+-- the rows of nodes at the front of two rows are their stores
+pub front-stores : (xs : List NewNode) (n : ℕ) (a b : List ℕ) → AllFew xs → n ≡ 24 * length xs
+    → zip (take n (newPlaces xs ++ a)) (take n (newWords xs ++ b)) ≡ nodeStores xs
+front-stores xs n a b h e =
+    ap₂ zip (take-at (newPlaces xs) a n (length-new-places xs ∙ sym e)) (take-at (newWords xs) b n (length-new-words xs h ∙ sym e)) ∙ new-stores xs h
+
+-- one node more after those at the front of a row
+new-places-more : (xs : List NewNode) (x : NewNode) → newPlaces (xs ++ x ∷ []) ≡ newPlaces xs ++ nodePlaces (x .number)
+new-places-more [] x = append-nil (nodePlaces (x .number))
+new-places-more (y ∷ xs) x =
+    ap (λ (l : List ℕ). nodePlaces (y .number) ++ l) (new-places-more xs x)
+    ∙ sym (append-assoc (nodePlaces (y .number)) (newPlaces xs) (nodePlaces (x .number)))
+
+new-words-more : (xs : List NewNode) (x : NewNode) → newWords (xs ++ x ∷ []) ≡ newWords xs ++ nodeImage (x .kind) (x .keys) (x .values)
+new-words-more [] x = append-nil (nodeImage (x .kind) (x .keys) (x .values))
+new-words-more (y ∷ xs) x =
+    ap (λ (l : List ℕ). nodeImage (y .kind) (y .keys) (y .values) ++ l) (new-words-more xs x)
+    ∙ sym (append-assoc (nodeImage (y .kind) (y .keys) (y .values)) (newWords xs) (nodeImage (x .kind) (x .keys) (x .values)))
+
+module _ (xs : List NewNode) (x : NewNode) (n : ℕ) (d part : List ℕ) (size : n ≡ 24 * length xs) where
+  pub places-next : part ≡ nodePlaces (x .number)
+      → take n (newPlaces xs ++ drop n d) ++ (part ++ drop 24 (drop n (newPlaces xs ++ drop n d))) ≡ newPlaces (xs ++ x ∷ []) ++ drop (n + 24) d
+  places-next e =
+      lay-next d (newPlaces xs) part n 24 (length-new-places xs ∙ sym size)
+      ∙ ap (λ (l : List ℕ). l ++ drop (n + 24) d) (ap (λ (l : List ℕ). newPlaces xs ++ l) e ∙ sym (new-places-more xs x))
+
+  pub words-next : AllFew xs → part ≡ nodeImage (x .kind) (x .keys) (x .values)
+      → take n (newWords xs ++ drop n d) ++ (part ++ drop 24 (drop n (newWords xs ++ drop n d))) ≡ newWords (xs ++ x ∷ []) ++ drop (n + 24) d
+  words-next h e =
+      lay-next d (newWords xs) part n 24 (length-new-words xs h ∙ sym size)
+      ∙ ap (λ (l : List ℕ). l ++ drop (n + 24) d) (ap (λ (l : List ℕ). newWords xs ++ l) e ∙ sym (new-words-more xs x))
+
+-- ---- a node's own words
+
 -- a node's words from its two rows, laid between its kind and a 0
 laid-last : (kind : ℕ) (a b rest : List ℕ) → length a ≡ 11 → length b ≡ 11 → length rest ≡ 12
     → set (kind ∷ (a ++ (b ++ drop 11 rest))) 23 0 ≡ kind ∷ (a ++ (b ++ 0 ∷ []))
 laid-last kind a b rest la lb lr =
-    let end : drop 11 rest ≡ getD rest 11 0 ∷ [] = drop-cons rest 11 0 (omega arith) ∙ ap (λ (l : List ℕ). getD rest 11 0 ∷ l) (drop-of-length-le rest {i = 12} (omega arith)) in
+    let end : drop 11 rest ≡ getD rest 11 0 ∷ [] =
+    drop-cons rest 11 0 (omega arith) ∙ ap (λ (l : List ℕ). getD rest 11 0 ∷ l) (drop-of-length-le rest {i = 12} (omega arith)) in
     ap (λ (l : List ℕ). set (kind ∷ (a ++ (b ++ l))) 23 0) end
     ∙ ap (λ (l : List ℕ). kind ∷ set l 22 0) (sym (append-assoc a b (getD rest 11 0 ∷ [])))
     ∙ ap (λ (l : List ℕ). kind ∷ l) (set-at (a ++ b) (getD rest 11 0) [] 0 22 (length-append a b ∙ omega arith) ∙ append-assoc a b (0 ∷ []))

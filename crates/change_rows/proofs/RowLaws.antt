@@ -1,11 +1,11 @@
 -- Laws of rows that are laid out word by word.
-use mathlib.Core.Path.{_≡_, refl, ap, ap₂, sym, _∙_}
+use mathlib.Core.Path.{_≡_, ap, ap₂, sym, _∙_}
 use mathlib.Core.List.{List, [], _∷_, _++_, append-assoc, append-nil}
-use Prim.Native.Nat.{ℕ, zero, suc, _+_, _-_, _≤_, _<_}
+use Prim.Native.Nat.{ℕ, suc, _+_, _-_, _≤_, _<_}
 use native.Mathlib.Omega.{arith}
 use native.Mathlib.Numerals.{add-one}
 use lib.ListN.{length, set, getD, take, drop, replicate, drop-of-length-le, length-append, length-drop}
-use lib.Seq.{length-take-le, take-all, take-append-seam, drop-append-seam, take-at, take-length, take-suc-set, paste, paste-suc}
+use lib.Seq.{length-take-le, take-all, take-append-seam, drop-append-seam, take-at, drop-at, drop-drop, take-length, take-suc-set, paste, paste-suc}
 use Rattle.laws.specs.Lists.{pad}
 
 -- one word of s more at the front
@@ -38,7 +38,8 @@ pub push-held : (row : List ℕ) (n x : ℕ) → n < length row → take (n + 1)
 push-held row n x h = rw (add-one n) (take-suc-set row n x h)
 
 -- a part, then 0 to the end of the row
-pub padded : (n : ℕ) (d s row zeros : List ℕ) → length d ≡ n → length s ≤ n → row ≡ s ++ drop (0 + length s) d → zeros ≡ replicate (length (take (n - length s) (drop (length s) row))) 0
+pub padded : (n : ℕ) (d s row zeros : List ℕ) → length d ≡ n → length s ≤ n → row ≡ s ++ drop (0 + length s) d
+    → zeros ≡ replicate (length (take (n - length s) (drop (length s) row))) 0
     → take (length s) row ++ (zeros ++ drop (n - length s) (drop (length s) row)) ≡ pad n s
 padded n d s row zeros ld h e z =
     let from : 0 + length s ≡ length s = omega arith in
@@ -72,3 +73,11 @@ module _ (part others one two three : List ℕ) (from to b m r : ℕ) (h : from 
             ∙ ap₂ (λ (x y : List ℕ). x ++ y) (q .1 ∙ ap (λ (x : List ℕ). x ++ others) first) (drop-end to part)
             ∙ append-assoc (take from part) others (drop to part),
       )
+
+-- a part of k words after the n that are laid out
+pub lay-next : (d front part : List ℕ) (n k : ℕ) → length front ≡ n
+    → take n (front ++ drop n d) ++ (part ++ drop k (drop n (front ++ drop n d))) ≡ front ++ part ++ drop (n + k) d
+lay-next d front part n k e =
+    let first : take n (front ++ drop n d) ≡ front = take-at front (drop n d) n e in
+    let rest : drop k (drop n (front ++ drop n d)) ≡ drop (n + k) d = ap (drop k) (drop-at front (drop n d) n e) ∙ drop-drop k n d in
+    rw (first, rest) (sym (append-assoc front part (drop (n + k) d)))

@@ -1,4 +1,6 @@
--- the places of a new node's words
+-- new nodes as rows of places and of words
 pub mod Nodes
 -- pairs of a key and a value by rising key, in two rows
 pub mod Pairs
+-- what two nodes hold together, shared out
+pub mod Halves

@@ -2,15 +2,16 @@
 use crate::words::clear;
 use crate::words::copy;
 ghost use mathlib.Core.Path.{_≡_};
-ghost use Prim.Native.Nat.{_≤_, _<_, _^_};
+ghost use Prim.Native.Nat.{_≤_};
 ghost use lib.ListN.{length};
 ghost use Rattle.laws.specs.Lists.{pad};
 ghost use Rattle.card.specs.Layout.{nodeImage};
-ghost use Rattle.change_rows.specs.Nodes.{nodePlaces};
+ghost use Rattle.card.specs.Stores.{newNode};
+ghost use Rattle.change_rows.specs.Nodes.{IsNumber, nodePlaces, IsNew};
 
 // The places of node m's words.
 pub fn write_places(places: &mut [u32], m: usize)
-    requires { ⌜ (length (now places) ≡ 24) × (1 ≤ m) × (m < 2 ^ 20) ⌝ }
+    requires { ⌜ (length (now places) ≡ 24) × IsNumber m ⌝ }
     ensures { λ _. ⌜ now (places .exit) ≡ nodePlaces m ⌝ }
 {
     let at = (8 + 24 * (m - 1)) as u32;
@@ -40,4 +41,20 @@ pub fn write_node(words: &mut [u32], kind: u32, keys: &[u32], beside: &[u32])
     write_row(&mut words[12..23], beside);
     words[0] = kind;
     words[23] = 0;
+}
+
+// The places and the words of a new node.
+pub fn write_new(
+    places: &mut [u32],
+    words: &mut [u32],
+    m: usize,
+    kind: u32,
+    keys: &[u32],
+    beside: &[u32],
+)
+    requires { ⌜ (length (now places) ≡ 24) × (length (now words) ≡ 24) × IsNumber m × (length (now keys) ≤ 11) × (length (now beside) ≤ 11) ⌝ }
+    ensures { λ _. ⌜ IsNew (now (places .exit)) (now (words .exit)) (newNode m kind (now (keys .entry)) (now (beside .entry))) ⌝ }
+{
+    write_places(places, m);
+    write_node(words, kind, keys, beside);
 }

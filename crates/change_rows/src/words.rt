@@ -49,7 +49,8 @@ pub fn push(row: &mut [u32], count: usize, word: u32) -> usize
 // A part, with other words in the place of those from `from` to before `to`.
 pub fn replaced(row: &mut [u32], part: &[u32], from: usize, to: usize, others: &[u32]) -> usize
     requires { ⌜ (length (now row) ≡ 12) × (from ≤ to) × (to ≤ length (now part)) × (from + length (now others) + (length (now part) - to) ≤ 12) ⌝ }
-    ensures { λ r. ⌜ (r ≡ from + length (now (others .entry)) + (length (now (part .entry)) - to)) × (take r (now (row .exit)) ≡ take from (now (part .entry)) ++ (now (others .entry) ++ drop to (now (part .entry)))) ⌝ }
+    ensures { λ r. ⌜ (r ≡ from + length (now (others .entry)) + (length (now (part .entry)) - to))
+        × (take r (now (row .exit)) ≡ take from (now (part .entry)) ++ (now (others .entry) ++ drop to (now (part .entry)))) ⌝ }
 {
     let before = append(row, 0, &part[0..from]);
     let middle = append(row, before, others);

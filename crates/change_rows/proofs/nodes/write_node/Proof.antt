@@ -35,7 +35,9 @@ slice-write-words : tie.Need-slice-write-words
 slice-write-words c = search needs
 
 slice-write-words-2 : tie.Need-slice-write-words-2
-slice-write-words-2 c = rw length-set (omega (arith, c .before .words2 .given .1, c .before .before .before .before .before .words .given .1, c .before .before .before .before .before .before .before .before .before .before .before .pre .0))
+slice-write-words-2 c =
+    let long = c .before .before .before .before .before .before .before .before .before .before .before .pre .0 in
+    rw length-set (omega (arith, c .before .words2 .given .1, c .before .before .before .before .before .words .given .1))
 
 same-length : tie.Need-same-length
 same-length c = rw (length-set, length-set) (c .before .words2 .given .1 ∙ c .before .before .before .before .before .words .given .1)
@@ -45,7 +47,8 @@ returns c =
     let s = c .before .before .before .before .before .before .before .before .before .before .before in
     let a = c .before .before .before .before .before .before .write-row in
     let b = c .before .before .write-row2 in
-    node-laid (s .args .kind) (s .args .words .now) (a .last .0) (b .last .0) (s .args .keys .now) (s .args .beside .now) (s .pre .0) (s .pre .1) (s .pre .2) (a .ensures) (b .ensures)
+    node-laid (s .args .kind) (s .args .words .now) (a .last .0) (b .last .0) (s .args .keys .now) (s .args .beside .now) (s .pre .0) (s .pre .1)
+    (s .pre .2) (a .ensures) (b .ensures)
 
 pub write-node-spec : {M : Type 1} → statement M
 write-node-spec =

@@ -1,9 +1,9 @@
 -- `change_rows::nodes::write_places` meets its contract.
-use mathlib.Core.Path.{_≡_, ap, ap₂, sym, _∙_}
+use mathlib.Core.Path.{_≡_, ap₂, sym, _∙_}
 use mathlib.Core.List.{List, _++_}
 use Prim.Native.Nat.{ℕ, _+_, _-_, _*_, _≤_}
 use native.Mathlib.Omega.{arith}
-use lib.ListN.{length, getD, drop, take, set, length-set}
+use lib.ListN.{length, drop, take, set, length-set}
 use Rattle.change_rows.proofs.RowLaws.{lay-more, lay-all}
 use Rattle.change_rows.proofs.NodeLaws.{length-places, place-at}
 use Rattle.change_rows.specs.Nodes.{nodePlaces}

@@ -28,7 +28,9 @@ same-length c = search needs
 returns : tie.Need-returns
 returns c =
     let s = c .before .before .before .before .before .before .before .before .before .before in
-    padded 11 (s .args .row .now) (s .args .part .now) (c .before .before .before .before .before .before .copy .last .0) (c .before .before .clear .last .0) (s .pre .0) (s .pre .1) (c .before .before .before .before .before .before .copy .ensures) (c .before .before .clear .ensures)
+    padded 11 (s .args .row .now) (s .args .part .now) (c .before .before .before .before .before .before .copy .last .0)
+    (c .before .before .clear .last .0) (s .pre .0) (s .pre .1) (c .before .before .before .before .before .before .copy .ensures)
+    (c .before .before .clear .ensures)
 
 pub write-row-spec : {M : Type 1} → statement M
 write-row-spec =

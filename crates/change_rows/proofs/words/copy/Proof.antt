@@ -52,7 +52,10 @@ same-length : tie.Need-same-length Inv-loop μ-loop
 same-length c = search needs
 
 returns : tie.Need-returns Inv-loop μ-loop
-returns c = let l = c .before .loop in let s = c .before .before in copy-all (s .args .row .now) (l .row) (s .args .part .now) (s .args .from) (l .i) (l .inv .1) (omega arith)
+returns c =
+    let l = c .before .loop in
+    let s = c .before .before in
+    copy-all (s .args .row .now) (l .row) (s .args .part .now) (s .args .from) (l .i) (l .inv .1) (omega arith)
 
 pub copy-spec : {M : Type 1} → statement M
 copy-spec =

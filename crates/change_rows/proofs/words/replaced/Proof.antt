@@ -43,7 +43,8 @@ returns c =
     let one = c .before .before .before .before .before .before .before .before .before .before .before .append in
     let two = c .before .before .before .before .before .before .before .append2 in
     let three = c .before .before .append3 in
-    replaced-held (s .args .part .now) (s .args .others .now) (one .last .0) (two .last .0) (three .last .0) (s .args .from) (s .args .to) (one .result) (two .result) (three .result) (s .pre .1) (s .pre .2) (one .ensures) (two .ensures) (three .ensures)
+    replaced-held (s .args .part .now) (s .args .others .now) (one .last .0) (two .last .0) (three .last .0) (s .args .from) (s .args .to) (one .result)
+    (two .result) (three .result) (s .pre .1) (s .pre .2) (one .ensures) (two .ensures) (three .ensures)
 
 pub replaced-spec : {M : Type 1} → statement M
 replaced-spec =
