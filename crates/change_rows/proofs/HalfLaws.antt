@@ -9,7 +9,7 @@ use lib.Dec.{eqb}
 use borrow.Author.Tests.{ne-eqb, eq-eqb}
 use Rattle.laws.specs.Cases.{pick}
 use Rattle.card.specs.Stores.{newNode}
-use Rattle.change_rows.specs.Nodes.{IsNew}
+use Rattle.change_rows.specs.Nodes.{IsNew, newPlaces, newWords}
 use Rattle.change_rows.specs.Halves.{keysFor, largerHalf, Whole, leftOf, rightOf, halved}
 use Rattle.change_rows.proofs.NodeLaws.{AllFew}
 use Rattle.change_rows.proofs.RowLaws.{take-start, drop-end, lay-next}
@@ -81,14 +81,25 @@ module _ (places words keys beside : List ℕ) (kind m : ℕ) where
   right-new = subst (IsNew places words) (ap₂ (newNode m kind) (drop-end ((length beside + 1) / 2) keys) (drop-end ((length beside + 1) / 2) beside))
 
 -- the rows of the two nodes, at the front of both rows
-pub two-laid : (d a b one two : List ℕ) → length a ≡ 24 → a ≡ one → b ≡ two
+two-laid : (d a b one two : List ℕ) → length a ≡ 24 → a ≡ one → b ≡ two
     → take 24 (a ++ drop 24 d) ++ (b ++ drop 24 (drop 24 (a ++ drop 24 d))) ≡ one ++ (two ++ []) ++ drop 48 d
 two-laid d a b one two l e f =
     lay-next d a b 24 24 l ∙ ap₂ (λ (x y : List ℕ). x ++ y ++ drop 48 d) e (f ∙ sym (append-nil two))
 
+module _ (places words places₁ words₁ places₂ words₂ : List ℕ) (kind : ℕ) (keys beside : List ℕ) (a b : ℕ) where
+  pub halves-laid : length places₁ ≡ 24 → length words₁ ≡ 24 → IsNew places₁ words₁ (leftOf kind keys beside a)
+      → IsNew places₂ words₂ (rightOf kind keys beside b)
+      → (take 24 (places₁ ++ drop 24 places) ++ (places₂ ++ drop 24 (drop 24 (places₁ ++ drop 24 places)))
+      ≡ newPlaces (halved kind keys beside a b) ++ drop 48 places)
+      × (take 24 (words₁ ++ drop 24 words) ++ (words₂ ++ drop 24 (drop 24 (words₁ ++ drop 24 words)))
+      ≡ newWords (halved kind keys beside a b) ++ drop 48 words)
+  unfolding newPlaces newWords halved
+  halves-laid h l left right =
+      (two-laid places places₁ places₂ _ _ h (left .at) (right .at), two-laid words words₁ words₂ _ _ l (left .image) (right .image))
+
 -- each of the two has at most eleven of both
 pub halved-few : (kind : ℕ) (keys beside : List ℕ) (a b : ℕ) → Whole kind keys beside → AllFew (halved kind keys beside a b)
-unfolding leftOf rightOf largerHalf
+unfolding halved leftOf rightOf largerHalf
 halved-few kind keys beside a b w =
     let n = whole-counts kind keys beside (keysFor kind ((length beside + 1) / 2)) w refl in (
       omega (arith, length-take (keysFor kind ((length beside + 1) / 2)) keys),

@@ -64,17 +64,19 @@ AllFew [] = Unit
 AllFew (x ∷ xs) = (length (x .keys) ≤ 11) × (length (x .values) ≤ 11) × AllFew xs
 
 pub length-new-places : (xs : List NewNode) → length (newPlaces xs) ≡ 24 * length xs
+unfolding newPlaces
 length-new-places [] = refl
 length-new-places (x ∷ xs) = length-append (nodePlaces (x .number)) (newPlaces xs) ∙ omega (arith, length-places (x .number), length-new-places xs)
 
 pub length-new-words : (xs : List NewNode) → AllFew xs → length (newWords xs) ≡ 24 * length xs
+unfolding newWords
 length-new-words [] h = refl
 length-new-words (x ∷ xs) h =
     length-append (nodeImage (x .kind) (x .keys) (x .values)) (newWords xs)
     ∙ omega (arith, length-node-image (x .kind) (x .keys) (x .values) (h .0) (h .1), length-new-words xs (h .2))
 
 new-stores : (xs : List NewNode) → AllFew xs → zip (newPlaces xs) (newWords xs) ≡ nodeStores xs
-unfolding zip zipWith
+unfolding newPlaces newWords zip zipWith
 new-stores [] h = refl
 new-stores (x ∷ xs) h =
     zip-append (nodePlaces (x .number)) (newPlaces xs) (nodeImage (x .kind) (x .keys) (x .values)) (newWords xs)
@@ -89,12 +91,14 @@ front-stores xs n a b h e =
 
 -- one node more after those at the front of a row
 new-places-more : (xs : List NewNode) (x : NewNode) → newPlaces (xs ++ x ∷ []) ≡ newPlaces xs ++ nodePlaces (x .number)
+unfolding newPlaces
 new-places-more [] x = append-nil (nodePlaces (x .number))
 new-places-more (y ∷ xs) x =
     ap (λ (l : List ℕ). nodePlaces (y .number) ++ l) (new-places-more xs x)
     ∙ sym (append-assoc (nodePlaces (y .number)) (newPlaces xs) (nodePlaces (x .number)))
 
 new-words-more : (xs : List NewNode) (x : NewNode) → newWords (xs ++ x ∷ []) ≡ newWords xs ++ nodeImage (x .kind) (x .keys) (x .values)
+unfolding newWords
 new-words-more [] x = append-nil (nodeImage (x .kind) (x .keys) (x .values))
 new-words-more (y ∷ xs) x =
     ap (λ (l : List ℕ). nodeImage (y .kind) (y .keys) (y .values) ++ l) (new-words-more xs x)

@@ -27,5 +27,5 @@ leftOf kind keys beside m = newNode m kind (take (keysFor kind (largerHalf (leng
 unfoldable pub rightOf : ℕ → List ℕ → List ℕ → ℕ → NewNode
 rightOf kind keys beside m = newNode m kind (drop (largerHalf (length beside)) keys) (drop (largerHalf (length beside)) beside)
 
-abbrev pub halved : ℕ → List ℕ → List ℕ → ℕ → ℕ → List NewNode
+unfoldable pub halved : ℕ → List ℕ → List ℕ → ℕ → ℕ → List NewNode
 halved kind keys beside a b = leftOf kind keys beside a ∷ rightOf kind keys beside b ∷ []

@@ -25,10 +25,10 @@ pub record IsNew (places words : List ℕ) (x : NewNode) : Type 0 where
   pub image : words ≡ nodeImage (x .kind) (x .keys) (x .values)
 
 -- the places and the words of new nodes, one node after the other
-abbrev pub newPlaces : List NewNode → List ℕ
+unfoldable pub newPlaces : List NewNode → List ℕ
 newPlaces [] = []
 newPlaces (x ∷ xs) = nodePlaces (x .number) ++ newPlaces xs
 
-abbrev pub newWords : List NewNode → List ℕ
+unfoldable pub newWords : List NewNode → List ℕ
 newWords [] = []
 newWords (x ∷ xs) = nodeImage (x .kind) (x .keys) (x .values) ++ newWords xs

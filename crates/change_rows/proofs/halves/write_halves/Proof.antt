@@ -2,7 +2,7 @@
 use mathlib.Core.Path.{_∙_}
 use native.Mathlib.Omega.{arith}
 use lib.Seq.{length-take-le}
-use Rattle.change_rows.proofs.HalfLaws.{two-laid}
+use Rattle.change_rows.proofs.HalfLaws.{halves-laid}
 use borrow.Author.Needs.{needs}
 use Rattle.change_rows.proofs.halves.write_halves.Statement.{statement}
 use Rattle.change_rows.proofs.halves.write_halves.Tie as tie
@@ -71,12 +71,10 @@ returns : tie.Need-returns
 returns c =
     let s = c .before .before .before .before .before .before .before .before .before .before .before .before .before .before .before .before .before .before in
     let a = c .before .before .before .before .before .before .before .before .before .before .before .write-left in
-    let b = c .before .before .before .before .write-right in (
-      two-laid (s .args .places .now) (a .last .0) (b .last .0) _ _ (a .kept .0 ∙ length-take-le 24 (s .args .places .now) (omega arith)) (a .ensures .at)
-          (b .ensures .at),
-      two-laid (s .args .words .now) (a .last .1 .0) (b .last .1 .0) _ _ (a .kept .1 .0 ∙ length-take-le 24 (s .args .words .now) (omega arith))
-          (a .ensures .image) (b .ensures .image),
-    )
+    let b = c .before .before .before .before .write-right in
+    halves-laid (s .args .places .now) (s .args .words .now) (a .last .0) (a .last .1 .0) (b .last .0) (b .last .1 .0) (s .args .kind)
+    (s .args .keys .now) (s .args .beside .now) _ _ (a .kept .0 ∙ length-take-le 24 (s .args .places .now) (omega arith))
+    (a .kept .1 .0 ∙ length-take-le 24 (s .args .words .now) (omega arith)) (a .ensures) (b .ensures)
 
 pub write-halves-spec : {M : Type 1} → statement M
 write-halves-spec =
