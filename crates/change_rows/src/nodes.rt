@@ -1,0 +1,60 @@
+// A new node, word by word: "words 0 to 23 of each in order". Its places go into one row of 24, its words into another.
+use crate::words::clear;
+use crate::words::copy;
+ghost use mathlib.Core.Path.{_≡_};
+ghost use Prim.Native.Nat.{_≤_};
+ghost use lib.ListN.{length};
+ghost use Rattle.laws.specs.Lists.{pad};
+ghost use Rattle.card.specs.Layout.{nodeImage};
+ghost use Rattle.card.specs.Stores.{newNode};
+ghost use Rattle.change_rows.specs.Nodes.{IsNumber, nodePlaces, IsNew};
+
+// The places of node m's words.
+pub fn write_places(places: &mut [u32], m: usize)
+    requires { ⌜ (length (now places) ≡ 24) × IsNumber m ⌝ }
+    ensures { λ _. ⌜ now (places .exit) ≡ nodePlaces m ⌝ }
+{
+    let at = (8 + 24 * (m - 1)) as u32;
+    let mut i: usize = 0;
+    while i < 24 {
+        places[i] = at + i as u32;
+        i += 1;
+    }
+}
+
+// Eleven words, those of a part and 0 after them: "unused words are 0".
+fn write_row(row: &mut [u32], part: &[u32])
+    requires { ⌜ (length (now row) ≡ 11) × (length (now part) ≤ 11) ⌝ }
+    ensures { λ _. ⌜ now (row .exit) ≡ pad 11 (now (part .entry)) ⌝ }
+{
+    copy(row, 0, part);
+    let used = part.len();
+    clear(&mut row[used..11]);
+}
+
+// The 24 words of a node: its kind, its keys, what is beside them, and 0.
+pub fn write_node(words: &mut [u32], kind: u32, keys: &[u32], beside: &[u32])
+    requires { ⌜ (length (now words) ≡ 24) × (length (now keys) ≤ 11) × (length (now beside) ≤ 11) ⌝ }
+    ensures { λ _. ⌜ now (words .exit) ≡ nodeImage kind (now (keys .entry)) (now (beside .entry)) ⌝ }
+{
+    write_row(&mut words[1..12], keys);
+    write_row(&mut words[12..23], beside);
+    words[0] = kind;
+    words[23] = 0;
+}
+
+// The places and the words of a new node.
+pub fn write_new(
+    places: &mut [u32],
+    words: &mut [u32],
+    m: usize,
+    kind: u32,
+    keys: &[u32],
+    beside: &[u32],
+)
+    requires { ⌜ (length (now places) ≡ 24) × (length (now words) ≡ 24) × IsNumber m × (length (now keys) ≤ 11) × (length (now beside) ≤ 11) ⌝ }
+    ensures { λ _. ⌜ IsNew (now (places .exit)) (now (words .exit)) (newNode m kind (now (keys .entry)) (now (beside .entry))) ⌝ }
+{
+    write_places(places, m);
+    write_node(words, kind, keys, beside);
+}
