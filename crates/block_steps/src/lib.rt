@@ -41,9 +41,7 @@ fn free_node(block: &mut [u32], m: usize)
     if free_nodes::CAPACITY <= m {
         return;
     }
-    let at = FREE + m / 32;
-    let word = block[at];
-    block[at] = word | (1u32 << (m % 32));
+    free_nodes::put_in(&mut block[FREE..PLACES], m);
 }
 
 // "Nodes cut out of the tree are free after the store that cuts them out": those before the first 0.

@@ -68,7 +68,7 @@ fn absorb_tagged(
     requires { ⌜ Linked p × (keys .count ≤ 11) × (kids .count ≤ 11) × (length (now places) ≡ 73) × (length (now values) ≡ 73) ⌝ }
     ensures { λ r. ⌜ preparationOf (now (places .exit)) (now (values .exit)) r ≡ giving 1 (nodesOf (free .words)) last (λ ms. absorb p (wordsOf keys) (wordsOf kids) (first ms)) ⌝ }
 {
-    let Next::Node(copy) = free_nodes::next_free(free, last) else {
+    let Next::Node(copy) = free_nodes::next_free(&free.words, last) else {
         return refused(free, last);
     };
     let one = append_node(places, values, 0, copy, 2, keys, kids);

@@ -4,3 +4,5 @@ pub mod NodeSetLaws
 pub mod Words
 -- the search for the first free node, word by word
 pub mod Search
+-- the set of all nodes, made word by word
+pub mod Filling

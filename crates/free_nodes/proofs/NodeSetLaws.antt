@@ -4,10 +4,9 @@ use mathlib.Core.Bool.{Bool, true, false}
 use mathlib.Core.List.{List, [], _∷_, _++_}
 use Prim.Native.Nat.{ℕ, zero, suc, _+_, _-_, _*_, _≤_, _<_}
 use native.Mathlib.Nat.{le-of-suc-le-suc, not-suc-le-zero}
-use native.Mathlib.Numerals.{add-one}
 use native.Mathlib.Omega.{arith}
-use lib.ListN.{length, getD, set, drop, replicate, length-drop, length-append, drop-of-length-le, length-replicate, getD-replicate, replicate-append-replicate, List·getD-append}
-use lib.Seq.{getD-append-add, getD-drop, append-snoc, set-at}
+use lib.ListN.{length, getD, set, drop, replicate, length-drop, length-append, drop-of-length-le, length-replicate, getD-replicate, List·getD-append}
+use lib.Seq.{getD-append-add, getD-drop}
 use Rattle.laws.specs.Digits.{digitsOf}
 use Rattle.laws.proofs.Digits.{length-digits}
 use Rattle.laws.proofs.Cases.{impossible}
@@ -15,10 +14,10 @@ use Rattle.free_nodes.specs.NodeSet.{capacity, nodesOf, allNodes, countT
 use Rattle.free_nodes.specs.declared.Next.{Next}
 use Rattle.free_nodes.specs.declared.Next.the-variants.{Node, Nothing}
 
-pub length-nodes : (words : List ℕ) → length (nodesOf words) ≡ 64 * length words
+pub length-nodes : (words : List ℕ) → length (nodesOf words) ≡ 32 * length words
 unfolding nodesOf
 length-nodes [] = refl
-length-nodes (word ∷ words) = omega (arith, length-append (digitsOf 64 word) (nodesOf words), length-digits 64 word, length-nodes words)
+length-nodes (word ∷ words) = omega (arith, length-append (digitsOf 32 word) (nodesOf words), length-digits 32 word, length-nodes words)
 
 -- ---- what a search finds
 
@@ -117,7 +116,7 @@ count-remove bits m h e = omega (arith, count-set bits m false h, ap (λ (b : Bo
 
 -- ---- the set of all nodes
 
-get-falses : (k i : ℕ) → getD (replicate k false) i false ≡ false
+pub get-falses : (k i : ℕ) → getD (replicate k false) i false ≡ false
 get-falses zero i = refl
 get-falses (suc k) zero = refl
 get-falses (suc k) (suc i) = get-falses k i
@@ -166,14 +165,3 @@ pub count-all : (n : ℕ) → countTrue (allNodes n) ≡ n
 unfolding allNodes countTrue
 count-all n =
     omega (arith, count-append (replicate n true) (replicate (capacity - 1 - n) false), count-trues n, count-falses (capacity - 1 - n))
-
--- one node more
-pub all-next : (n : ℕ) → suc n < capacity → set (allNodes n) (suc n) true ≡ allNodes (suc n)
-unfolding allNodes
-all-next n h =
-    let s : capacity - 1 - n ≡ suc (capacity - 1 - suc n) = omega arith in
-    let rest : List Bool = replicate (capacity - 1 - suc n) false in
-    rw s (ap (λ (bits : List Bool). false ∷ bits)
-    (set-at (replicate n true) false rest true n (length-replicate n true)
-    ∙ sym (append-snoc (replicate n true) true rest)
-    ∙ ap (λ (front : List Bool). front ++ rest) (replicate-append-replicate n 1 true ∙ ap (λ (k : ℕ). replicate k true) (add-one n))))

@@ -63,74 +63,74 @@ from-none bits a f =
 
 -- word is word q of the set without its digits for nodes before a
 pub record Masked (words : List ℕ) (a q word : ℕ) : Type 0 where
-  pub low : (i : ℕ) → 64 * q + i < a → digit word i ≡ 0
-  pub high : (i : ℕ) → i < 64 → a ≤ 64 * q + i → digit word i ≡ digit (getD words q 0) i
+  pub low : (i : ℕ) → 32 * q + i < a → digit word i ≡ 0
+  pub high : (i : ℕ) → i < 32 → a ≤ 32 * q + i → digit word i ≡ digit (getD words q 0) i
 
 -- no node from a on is free in the words before q
 unfoldable pub Passed : List ℕ → ℕ → ℕ → Type 0
-Passed words a q = (k : ℕ) → a ≤ k → k < 64 * q → bitAt words k ≡ false
+Passed words a q = (k : ℕ) → a ≤ k → k < 32 * q → bitAt words k ≡ false
 
-pub masked-start : (words : List ℕ) (a : ℕ) → Masked words a (a / 64) (bitAnd (getD words (a / 64) 0) (((2 ^ 64 - 1) * 2 ^ (a % 64)) % 2 ^ 64))
+pub masked-start : (words : List ℕ) (a : ℕ) → Masked words a (a / 32) (bitAnd (getD words (a / 32) 0) (((2 ^ 32 - 1) * 2 ^ (a % 32)) % 2 ^ 32))
 masked-start words a =
-    let word : ℕ = getD words (a / 64) 0 in
-    let mask : ℕ = ((2 ^ 64 - 1) * 2 ^ (a % 64)) % 2 ^ 64 in
+    let word : ℕ = getD words (a / 32) 0 in
+    let mask : ℕ = ((2 ^ 32 - 1) * 2 ^ (a % 32)) % 2 ^ 32 in
     record {
-      low = λ i l. omega (arith, digit-and word mask i, mask-low 64 (a % 64) i (omega arith) (omega arith));
-      high = λ i h l. omega (arith, digit-and word mask i, mask-high 64 (a % 64) i (omega arith) h, digit-lt word i);
+      low = λ i l. omega (arith, digit-and word mask i, mask-low 32 (a % 32) i (omega arith) (omega arith));
+      high = λ i h l. omega (arith, digit-and word mask i, mask-high 32 (a % 32) i (omega arith) h, digit-lt word i);
     }
 
-pub passed-start : (words : List ℕ) (a : ℕ) → Passed words a (a / 64)
+pub passed-start : (words : List ℕ) (a : ℕ) → Passed words a (a / 32)
 unfolding Passed
 passed-start words a k l h = absurd (omega arith)
 
 -- where the masked word has 0 at node k's digit, the node is not free
-masked-clear : (words : List ℕ) (a q word k : ℕ) → Masked words a q word → a ≤ k → 64 * q ≤ k → k < 64 * (q + 1) → digit word (k % 64) ≡ 0
+masked-clear : (words : List ℕ) (a q word k : ℕ) → Masked words a q word → a ≤ k → 32 * q ≤ k → k < 32 * (q + 1) → digit word (k % 32) ≡ 0
     → bitAt words k ≡ false
 unfolding bitAt
 masked-clear words a q word k m l b u z =
-    let s : k / 64 ≡ q = omega arith in
-    let d : digit word (k % 64) ≡ digit (getD words q 0) (k % 64) = m .high (k % 64) (omega arith) (omega arith) in
-    rw s (ne-eqb (digit (getD words q 0) (k % 64)) 1 (λ x. omega arith))
+    let s : k / 32 ≡ q = omega arith in
+    let d : digit word (k % 32) ≡ digit (getD words q 0) (k % 32) = m .high (k % 32) (omega arith) (omega arith) in
+    rw s (ne-eqb (digit (getD words q 0) (k % 32)) 1 (λ x. omega arith))
 
 -- a word that is 0 has no free node from a on
 pub passed-next : (words : List ℕ) (a q word : ℕ) → Masked words a q word → word ≡ 0 → Passed words a q → Passed words a (q + 1)
 unfolding Passed
-passed-next words a q word m e p k l h = go (decLt k (64 * q))
+passed-next words a q word m e p k l h = go (decLt k (32 * q))
   where
-    go : Dec (k < 64 * q) → bitAt words k ≡ false
+    go : Dec (k < 32 * q) → bitAt words k ≡ false
     go (yes b) = p k l b
-    go (no b) = masked-clear words a q word k m l (omega arith) (omega arith) (ap (λ (x : ℕ). digit x (k % 64)) e ∙ digit-zero (k % 64))
+    go (no b) = masked-clear words a q word k m l (omega arith) (omega arith) (ap (λ (x : ℕ). digit x (k % 32)) e ∙ digit-zero (k % 32))
 
-pub masked-next : (words : List ℕ) (a q : ℕ) → a ≤ 64 * q → Masked words a q (getD words q 0)
+pub masked-next : (words : List ℕ) (a q : ℕ) → a ≤ 32 * q → Masked words a q (getD words q 0)
 masked-next words a q h = record { low = λ i l. absurd (omega arith); high = λ i l g. refl }
 
-pub search-found : (words : List ℕ) (a q word : ℕ) → q < length words → a < 64 * (q + 1) → word < 2 ^ 64 → (word ≡ 0 → ⊥)
+pub search-found : (words : List ℕ) (a q word : ℕ) → q < length words → a < 32 * (q + 1) → word < 2 ^ 32 → (word ≡ 0 → ⊥)
     → Masked words a q word → Passed words a q
-    → firstFrom (nodesOf words) a ≡ Node (q * 64 + trailingZeros 64 word)
+    → firstFrom (nodesOf words) a ≡ Node (q * 32 + trailingZeros 32 word)
 unfolding Passed bitAt
 search-found words a q word h b fits n m p =
-    let tl : trailingZeros 64 word < 64 = trailing-lt 64 word fits n in
-    let ts : digit word (trailingZeros 64 word) ≡ 1 = trailing-set 64 word tl in
-    let ge : a ≤ 64 * q + trailingZeros 64 word = reach ts (decLt (64 * q + trailingZeros 64 word) a) in
-    from-at (nodesOf words) a (q * 64 + trailingZeros 64 word) (omega arith) (omega (arith, length-nodes words))
-    (nodes-get words (q * 64 + trailingZeros 64 word) (omega arith) ∙ at-found tl ts ge)
-    (λ k l u. nodes-get words k (omega arith) ∙ before k l u tl (decLt k (64 * q)))
+    let tl : trailingZeros 32 word < 32 = trailing-lt 32 word fits n in
+    let ts : digit word (trailingZeros 32 word) ≡ 1 = trailing-set 32 word tl in
+    let ge : a ≤ 32 * q + trailingZeros 32 word = reach ts (decLt (32 * q + trailingZeros 32 word) a) in
+    from-at (nodesOf words) a (q * 32 + trailingZeros 32 word) (omega arith) (omega (arith, length-nodes words))
+    (nodes-get words (q * 32 + trailingZeros 32 word) (omega arith) ∙ at-found tl ts ge)
+    (λ k l u. nodes-get words k (omega arith) ∙ before k l u tl (decLt k (32 * q)))
   where
-    reach : digit word (trailingZeros 64 word) ≡ 1 → Dec (64 * q + trailingZeros 64 word < a) → a ≤ 64 * q + trailingZeros 64 word
-    reach ts (yes l) = let z : digit word (trailingZeros 64 word) ≡ 0 = m .low (trailingZeros 64 word) l in absurd (omega arith)
+    reach : digit word (trailingZeros 32 word) ≡ 1 → Dec (32 * q + trailingZeros 32 word < a) → a ≤ 32 * q + trailingZeros 32 word
+    reach ts (yes l) = let z : digit word (trailingZeros 32 word) ≡ 0 = m .low (trailingZeros 32 word) l in absurd (omega arith)
     reach ts (no l) = omega arith
 
-    at-found : trailingZeros 64 word < 64 → digit word (trailingZeros 64 word) ≡ 1 → a ≤ 64 * q + trailingZeros 64 word
-        → bitAt words (q * 64 + trailingZeros 64 word) ≡ true
+    at-found : trailingZeros 32 word < 32 → digit word (trailingZeros 32 word) ≡ 1 → a ≤ 32 * q + trailingZeros 32 word
+        → bitAt words (q * 32 + trailingZeros 32 word) ≡ true
     at-found tl ts ge =
-        let s : (q * 64 + trailingZeros 64 word) / 64 ≡ q = omega arith in
-        let r : (q * 64 + trailingZeros 64 word) % 64 ≡ trailingZeros 64 word = omega arith in
-        rw (s, r) (eq-eqb (digit (getD words q 0) (trailingZeros 64 word)) 1 (sym (m .high (trailingZeros 64 word) tl ge) ∙ ts))
+        let s : (q * 32 + trailingZeros 32 word) / 32 ≡ q = omega arith in
+        let r : (q * 32 + trailingZeros 32 word) % 32 ≡ trailingZeros 32 word = omega arith in
+        rw (s, r) (eq-eqb (digit (getD words q 0) (trailingZeros 32 word)) 1 (sym (m .high (trailingZeros 32 word) tl ge) ∙ ts))
 
-    before : (k : ℕ) → a ≤ k → k < q * 64 + trailingZeros 64 word → trailingZeros 64 word < 64 → Dec (k < 64 * q) → bitAt words k ≡ false
+    before : (k : ℕ) → a ≤ k → k < q * 32 + trailingZeros 32 word → trailingZeros 32 word < 32 → Dec (k < 32 * q) → bitAt words k ≡ false
     before k l u tl (yes b) = p k l b
     before k l u tl (no b) =
-        masked-clear words a q word k m l (omega arith) (omega arith) (trailing-below 64 word (k % 64) (omega arith))
+        masked-clear words a q word k m l (omega arith) (omega arith) (trailing-below 32 word (k % 32) (omega arith))
 
 pub search-none : (words : List ℕ) (a q : ℕ) → length words ≤ q → Passed words a q → firstFrom (nodesOf words) a ≡ Nothing
 unfolding Passed

@@ -7,18 +7,22 @@ use Rattle.laws.specs.Digits.{digitsOf}
 use Rattle.free_nodes.specs.declared.Next.{Next}
 use Rattle.free_nodes.specs.declared.Next.the-variants.{Node, Nothing}
 
--- How many words of 64 bits a set has; the code's `WORDS` says the same.
+-- How many words of 32 bits a set has; the code's `WORDS` says the same.
 abbrev pub wordCount : ℕ
-wordCount = 10
+wordCount = 20
 
 -- How many bits that makes. There is no node 0: its bit only spares a subtraction.
 abbrev pub capacity : ℕ
-capacity = wordCount * 64
+capacity = wordCount * 32
 
 -- "The free nodes are one bit each": the bits of all words, lowest first.
 unfoldable pub nodesOf : List ℕ → List Bool
 nodesOf [] = []
-nodesOf (word ∷ words) = digitsOf 64 word ++ nodesOf words
+nodesOf (word ∷ words) = digitsOf 32 word ++ nodesOf words
+
+-- Nodes 0 to n.
+unfoldable pub upTo : ℕ → List Bool
+upTo n = replicate (suc n) true ++ replicate (capacity - 1 - n) false
 
 -- Nodes 1 to n.
 unfoldable pub allNodes : ℕ → List Bool

@@ -105,8 +105,8 @@ fn any_plan(row: &mut [u64; 32]) -> Plan {
 fn any_state(row: &mut [u64; 32], n: u64) -> State {
     let doing = any_doing(row);
     let plan = any_plan(row);
-    let bits = random::word(row) as u64;
-    let free = NodeSet { words: [bits; 10] };
+    let bits = random::word(row);
+    let free = NodeSet { words: [bits; 20] };
     let last = any_number(row);
     let made = any_number(row);
     let cut = narrow(any_number(row) as u64);

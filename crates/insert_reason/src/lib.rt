@@ -39,7 +39,7 @@ fn reason_absent(leaf: &[u32], free: NodeSet, run: usize) -> Reason
         Slot::At(_) => Reason::Slot,
         Slot::Absent => Reason::Split {
             run,
-            free: free_nodes::count(free),
+            free: free_nodes::count(&free.words),
             need: run + updates::SPLIT_NEED,
         },
     }

@@ -49,7 +49,7 @@ fn list_table(card: &[u32], out: &mut [u32]) -> Summary
     }
     let survey = checked.survey;
     let unreached = survey.free;
-    let free = free_nodes::count(unreached);
+    let free = free_nodes::count(&unreached.words);
     let root = card[card::ROOT_PLACE] as usize;
     let words = collect(card, n, root, card::DEPTH_LIMIT, out, 0);
     Summary {

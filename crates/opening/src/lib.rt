@@ -18,7 +18,7 @@ fn open_sound(n: usize, found: Survey) -> Beginning
     ensures { λ r. ⌜ handedOf r ≡ openSound n (findingsOf found) ⌝ }
 {
     let free = found.free;
-    let count = free_nodes::count(free);
+    let count = free_nodes::count(&free.words);
     if count < 3 {
         return no_beginning(5);
     }

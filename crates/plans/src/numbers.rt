@@ -22,11 +22,11 @@ pub enum Three {
 pub fn next_two(free: NodeSet, last: usize) -> Two
     ensures { λ r. ⌜ twoOf r ≡ takeNumbers 2 (nodesOf (free .words)) last ⌝ }
 {
-    let Next::Node(first) = free_nodes::next_free(free, last) else {
+    let Next::Node(first) = free_nodes::next_free(&free.words, last) else {
         return Two::Nothing;
     };
-    let Next::Node(second) = free_nodes::next_free(free_nodes::without_node(free, first), first)
-    else {
+    let rest = free_nodes::without_node(free, first);
+    let Next::Node(second) = free_nodes::next_free(&rest.words, first) else {
         return Two::Nothing;
     };
     Two::Nodes(first, second)
@@ -36,7 +36,7 @@ pub fn next_two(free: NodeSet, last: usize) -> Two
 pub fn next_three(free: NodeSet, last: usize) -> Three
     ensures { λ r. ⌜ threeOf r ≡ takeNumbers 3 (nodesOf (free .words)) last ⌝ }
 {
-    let Next::Node(first) = free_nodes::next_free(free, last) else {
+    let Next::Node(first) = free_nodes::next_free(&free.words, last) else {
         return Three::Nothing;
     };
     let Two::Nodes(second, third) = next_two(free_nodes::without_node(free, first), first) else {

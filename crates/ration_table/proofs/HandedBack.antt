@@ -6,7 +6,7 @@ use mathlib.Core.List.{List, [], _∷_}
 use mathlib.Core.Option.{Option, none, some}
 use Prim.Native.Nat.{ℕ, zero, suc, _+_, _-_, _*_, _^_, _≤_, _<_}
 use native.Mathlib.Omega.{arith}
-use lib.ListN.{length, getD, set, length-set}
+use lib.ListN.{length, getD, set, drop, length-set, length-take}
 use lib.Dec.{eqb, ltb, leb}
 use borrow.Author.Tests.{eq-eqb}
 use Rattle.laws.specs.Cases.{pick}
@@ -44,9 +44,8 @@ use Rattle.state.specs.declared.Doing.the-variants.{Idle, Formatting, Inserting
 use Rattle.state.specs.declared.Answer.{Answer}
 use Rattle.state.specs.declared.Answer.the-variants.{Stored, Ready}
 use Rattle.state.specs.declared.Begun.the-variants.{Idle as OpenedIdle, Started}
-use Rattle.state_block.specs.Block.{word, part, joined, isTrue, doingIn, unpacked, memoryIn, formatted, Small}
+use Rattle.state_block.specs.Block.{word, part, isTrue, doingIn, unpacked, memoryIn, formatted, Small}
 use Rattle.state_block.proofs.Block.{Words}
-use Rattle.state_block.proofs.Rows.{length-joined}
 
 -- either of two
 either : {A : Type 0} (P : A → Type 0) (t : Bool) (x y : A) → P x → P y → P (pick t x y)
@@ -355,7 +354,7 @@ module _ (card block : List ℕ) (words : Words block) where
 
   bits-in : length (memoryIn block .free) ≤ 2 ^ 32
   unfolding memoryOf unpacked
-  bits-in = omega (arith, length-nodes (joined 10 (part block 11 20)), length-joined 10 (part block 11 20))
+  bits-in = omega (arith, length-nodes (part block 11 20), length-take 20 (drop 11 block))
 
   pub insert-small : (key value : ℕ) → Small (insertOf card (memoryIn block) key value .memory)
   insert-small key value = small-insert (memoryIn block) small-in card key value

@@ -160,7 +160,7 @@ fn open(card: &Words, n: usize, row: &mut [u64; 8]) -> State {
     let state = opened.state;
     let free = state.free;
     let begun = opened.begun;
-    feed_opening(row, begun, free_nodes::count(free));
+    feed_opening(row, begun, free_nodes::count(&free.words));
     state
 }
 

@@ -166,7 +166,7 @@ fn merge_into_root(
     requires { ⌜ Linked p × (length (now parent) ≡ 24) × (suc j < length (children (now parent))) × (both .keys .count ≤ 3) × (both .values .count ≤ 3) × (length (now places) ≡ 73) × (length (now values) ≡ 73) ⌝ }
     ensures { λ r. ⌜ preparationOf (now (places .exit)) (now (values .exit)) r ≡ giving 1 (nodesOf (free .words)) last (λ ms. mergeRoot p (now (parent .entry)) j (togetherOf both) (first ms)) ⌝ }
 {
-    let Next::Node(merged) = free_nodes::next_free(free, last) else {
+    let Next::Node(merged) = free_nodes::next_free(&free.words, last) else {
         return refused(free, last);
     };
     let keys = both.keys;

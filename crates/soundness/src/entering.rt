@@ -158,7 +158,7 @@ pub fn enter(
         };
     }
     let f = s.free;
-    if !free_nodes::contains(f, m) {
+    if !free_nodes::contains(&f.words, m) {
         return Entered {
             entry: Entry::Refused,
             survey: s,

@@ -69,7 +69,7 @@ fn has_room(leaf: &[u32], key: u32, free: NodeSet, run: usize) -> bool
     if has_word(leaf, 0) {
         return true;
     }
-    let count = free_nodes::count(free);
+    let count = free_nodes::count(&free.words);
     if count < updates::SPLIT_NEED {
         return false;
     }

@@ -2,11 +2,10 @@
 use mathlib.Core.Path.{_≡_, refl, sym, ap, ap₂, _∙_}
 use mathlib.Core.Bool.{Bool, true, false}
 use mathlib.Core.List.{List, [], _∷_, _++_, zip}
-use Prim.Native.Nat.{ℕ, zero, suc, _+_, _^_, _<_}
+use Prim.Native.Nat.{ℕ, _+_, _^_, _<_}
 use native.Mathlib.Omega.{arith}
 use lib.ListN.{length, getD, take, drop}
 use lib.Seq.{take-at, drop-at, take-all, drop-append-add}
-use lib.Pow.{recompose}
 use Rattle.laws.specs.Bits.{bit}
 use Rattle.laws.proofs.Cases.{order}
 use Rattle.laws.specs.Lists.{beforeZero}
@@ -19,28 +18,18 @@ use Rattle.state.proofs.StepLaws.{stores-full}
 use Rattle.state.specs.declared.State.{State}
 use Rattle.state.specs.declared.Doing.{Doing}
 use Rattle.state.specs.declared.Doing.the-variants.{Idle, Formatting, Inserting, Deleting, Repairing}
-use Rattle.state_block.proofs.Rows.{length-halves, placed, placed-all}
-use Rattle.state_block.specs.Block.{stateWords, word, part, joined, isTrue, doingIn, unpacked, narrow, halves, doingWords, numberWords, packed, formatted, Small, Kept}
+use Rattle.state_block.proofs.Rows.{placed, placed-all}
+use Rattle.state_block.specs.Block.{stateWords, word, part, isTrue, doingIn, unpacked, narrow, doingWords, numberWords, packed, formatted, Small, Kept}
 
--- the rows of a state have their lengths, and the words of its free nodes 64 bits
+-- the rows of a state have their lengths
 pub record HasRows (s : State) : Type 0 where
-  pub free : (i : ℕ) → getD (s .free .words) i 0 < 2 ^ 64
-  pub free-row : length (s .free .words) ≡ 10
+  pub free-row : length (s .free .words) ≡ 20
   pub places-row : length (s .plan .places) ≡ 73
   pub values-row : length (s .plan .values) ≡ 73
   pub cut-row : length (s .cut) ≡ 3
 
 narrow-fits : (x : ℕ) → x < 2 ^ 32 → narrow x ≡ x
 narrow-fits x h = omega arith
-
--- ---- the free nodes
-
-joined-halves : (n : ℕ) (words : List ℕ) → length words ≡ n → ((i : ℕ) → getD words i 0 < 2 ^ 64) → joined n (halves words) ≡ words
-unfolding joined halves
-joined-halves zero [] e h = refl
-joined-halves zero (w ∷ words) e h = absurd (omega arith)
-joined-halves (suc n) [] e h = absurd (omega arith)
-joined-halves (suc n) (w ∷ words) e h = ap₂ (λ (x : ℕ) (l : List ℕ). x ∷ l) (recompose 32 32 (h 0)) (joined-halves n words (omega arith) (λ i. h (suc i)))
 
 -- ---- what is being done
 
@@ -166,29 +155,28 @@ unpacked-packed : (s : State) → HasRows s → Small (memoryOf s) → unpacked 
 unfolding unpacked packed narrowed stateFrom memoryOf
 unpacked-packed s h small =
     let numbers : List ℕ = numberWords (s .nodes) (s .last) (s .doing) (s .made) (s .plan .count) in
-    let free : List ℕ = halves (s .free .words) in
+    let free : List ℕ = s .free .words in
     let rest : List ℕ = s .cut ++ (free ++ (s .plan .places ++ s .plan .values)) in
-    let lf : length free ≡ 20 = omega (arith, length-halves (s .free .words), h .free-row) in
     let ln : length numbers ≡ 8 = numbers-length (s .nodes) (s .last) (s .doing) (s .made) (s .plan .count) in
     let nodes = word-nodes (s .nodes) (s .last) (s .made) (s .plan .count) rest (s .doing) ∙ narrow-fits (s .nodes) (small .nodes) in
     let last = word-last (s .nodes) (s .last) (s .made) (s .plan .count) rest (s .doing) ∙ narrow-fits (s .last) (small .last) in
     let doing = words-doing (s .nodes) (s .last) (s .made) (s .plan .count) rest (s .doing) (small .formatting) in
     let made = word-made (s .nodes) (s .last) (s .made) (s .plan .count) rest (s .doing) in
     let count = word-count (s .nodes) (s .last) (s .made) (s .plan .count) rest (s .doing) in
-    let cut = part-cut numbers (s .cut) free (s .plan .places) (s .plan .values) ln (h .cut-row) lf (h .places-row) (h .values-row) in
-    let bits = part-free numbers (s .cut) free (s .plan .places) (s .plan .values) ln (h .cut-row) lf (h .places-row) (h .values-row) in
-    let places = part-places numbers (s .cut) free (s .plan .places) (s .plan .values) ln (h .cut-row) lf (h .places-row) (h .values-row) in
-    let values = part-values numbers (s .cut) free (s .plan .places) (s .plan .values) ln (h .cut-row) lf (h .places-row) (h .values-row) in
-    same-state nodes (ap (joined 10) bits ∙ joined-halves 10 (s .free .words) (h .free-row) (h .free)) last doing places values count made cut
+    let cut = part-cut numbers (s .cut) free (s .plan .places) (s .plan .values) ln (h .cut-row) (h .free-row) (h .places-row) (h .values-row) in
+    let bits = part-free numbers (s .cut) free (s .plan .places) (s .plan .values) ln (h .cut-row) (h .free-row) (h .places-row) (h .values-row) in
+    let places = part-places numbers (s .cut) free (s .plan .places) (s .plan .values) ln (h .cut-row) (h .free-row) (h .places-row) (h .values-row) in
+    let values = part-values numbers (s .cut) free (s .plan .places) (s .plan .values) ln (h .cut-row) (h .free-row) (h .places-row) (h .values-row) in
+    same-state nodes bits last doing places values count made cut
 
 -- what is left of a block after its five parts were stored
 pub packed-stored : (block : List ℕ) (s : State) → HasRows s → length block ≡ stateWords → {numbers cut free places values : List ℕ}
-    → numbers ≡ numberWords (s .nodes) (s .last) (s .doing) (s .made) (s .plan .count) → cut ≡ s .cut → free ≡ halves (s .free .words) → places ≡ s .plan .places → values ≡ s .plan .values
+    → numbers ≡ numberWords (s .nodes) (s .last) (s .doing) (s .made) (s .plan .count) → cut ≡ s .cut → free ≡ s .free .words → places ≡ s .plan .places → values ≡ s .plan .values
     → placed 104 73 (placed 31 73 (placed 11 20 (placed 8 3 (numbers ++ drop 8 block) cut) free) places) values ≡ packed s
 unfolding packed
 packed-stored block s rows l e f g h i =
     rw (e, f, g, h, i)
-    (placed-all block (numberWords (s .nodes) (s .last) (s .doing) (s .made) (s .plan .count)) (s .cut) (halves (s .free .words)) (s .plan .places) (s .plan .values) l (numbers-length (s .nodes) (s .last) (s .doing) (s .made) (s .plan .count)) (rows .cut-row) (omega (arith, length-halves (s .free .words), rows .free-row)) (rows .places-row) (rows .values-row))
+    (placed-all block (numberWords (s .nodes) (s .last) (s .doing) (s .made) (s .plan .count)) (s .cut) (s .free .words) (s .plan .places) (s .plan .values) l (numbers-length (s .nodes) (s .last) (s .doing) (s .made) (s .plan .count)) (rows .cut-row) (rows .free-row) (rows .places-row) (rows .values-row))
 
 -- Every state whose numbers all fit comes back as it was.
 pub round-trip : (s : State) → HasRows s → Small (memoryOf s) → s .made < 2 ^ 32 → s .plan .count < 2 ^ 32 → unpacked (packed s) ≡ s

@@ -1,12 +1,12 @@
--- Laws of the loops that copy a block's rows, a word or two a turn.
-use mathlib.Core.Path.{_≡_, refl, sym, ap, ap₂, _∙_}
+-- Laws of the loop that copies a block's rows, and of a part of a block stored anew.
+use mathlib.Core.Path.{_≡_, sym, ap, ap₂, _∙_}
 use mathlib.Core.List.{List, [], _∷_, _++_, append-assoc, append-nil}
-use Prim.Native.Nat.{ℕ, zero, suc, _+_, _*_, _/_, _%_, _^_, _≤_, _<_}
+use Prim.Native.Nat.{ℕ, suc, _+_, _-_, _≤_, _<_, min}
 use native.Mathlib.Omega.{arith}
 use native.Mathlib.Numerals.{add-one}
-use lib.ListN.{length, getD, take, drop, set, length-append, length-drop, length-set, drop-of-length-le}
-use lib.Seq.{take-at, drop-at, drop-cons, take-suc, take-suc-set, take-all, getD-drop}
-use Rattle.state_block.specs.Block.{part, joined, halves}
+use lib.ListN.{length, getD, take, drop, set, length-append, length-take, length-drop, drop-of-length-le, List·getD-append}
+use lib.Seq.{take-at, drop-at, drop-cons, take-suc, take-suc-set, take-all, getD-take, getD-drop, getD-append-add, ext-getD}
+use Rattle.state_block.specs.Block.{part}
 
 -- ---- a row copied word by word
 
@@ -53,55 +53,56 @@ placed-all block numbers cut free places values lb ln lc lf lp lv =
     ∙ e4
     ∙ rw (e5, append-nil) (append-assoc ((numbers ++ cut) ++ free) places values ∙ append-assoc (numbers ++ cut) free (places ++ values) ∙ append-assoc numbers cut (free ++ (places ++ values)))
 
--- ---- the halves of the free nodes' words
+-- ---- a part of a block stored anew
 
-pub length-joined : (n : ℕ) (words : List ℕ) → length (joined n words) ≡ n
-unfolding joined
-length-joined zero words = refl
-length-joined (suc n) words = ap suc (length-joined n (drop 2 words))
+module _ (block row : List ℕ) (from count : ℕ) (l : length row ≡ count) (fits : from + count ≤ length block) where
+  abbrev rest : List ℕ
+  rest = drop count (drop from block)
 
-joined-next : (q : ℕ) (words : List ℕ) → joined (suc q) words ≡ joined q words ++ ((getD words (2 * q + 1) 0 * 2 ^ 32 + getD words (2 * q) 0) ∷ [])
-unfolding joined
-joined-next zero words = refl
-joined-next (suc q) words =
-    let low : 2 + 2 * q ≡ 2 * suc q = omega arith in
-    let high : 2 + (2 * q + 1) ≡ 2 * suc q + 1 = omega arith in
-    let first : ℕ = getD words 1 0 * 2 ^ 32 + getD words 0 0 in
-    ap (λ (l : List ℕ). first ∷ l) (joined-next q (drop 2 words))
-    ∙ ap₂ (λ (a b : ℕ). first ∷ joined q (drop 2 words) ++ ((a * 2 ^ 32 + b) ∷ [])) (getD-drop 2 words (2 * q + 1) 0 ∙ ap (λ (k : ℕ). getD words k 0) high) (getD-drop 2 words (2 * q) 0 ∙ ap (λ (k : ℕ). getD words k 0) low)
+  pub placed-length : length (placed from count block row) ≡ length block
+  placed-length =
+      omega (
+        arith,
+        length-append (take from block) (row ++ rest),
+        length-append row rest,
+        length-take from block,
+        length-drop count (drop from block),
+        length-drop from block,
+      )
 
-pub joined-more : (free words : List ℕ) (q : ℕ) → q < length free → take q free ≡ joined q words
-    → take (q + 1) (set free q (getD words (2 * q + 1) 0 * 2 ^ 32 + getD words (2 * q) 0)) ≡ joined (q + 1) words
-joined-more free words q h e =
-    rw (add-one q)
-    (take-suc-set free q (getD words (2 * q + 1) 0 * 2 ^ 32 + getD words (2 * q) 0) h ∙ ap (λ (l : List ℕ). l ++ (getD words (2 * q + 1) 0 * 2 ^ 32 + getD words (2 * q) 0) ∷ []) e ∙ sym (joined-next q words))
+  -- the words before it and after it stay
+  pub placed-before : (j : ℕ) → j < from → getD (placed from count block row) j 0 ≡ getD block j 0
+  placed-before j h = List·getD-append (take from block) (row ++ rest) 0 j (omega (arith, length-take from block)) ∙ getD-take from block j 0 h
 
-half-low : (words : List ℕ) (q : ℕ) → getD (halves words) (2 * q) 0 ≡ getD words q 0 % 2 ^ 32
-unfolding halves
-half-low [] q = refl
-half-low (w ∷ words) zero = refl
-half-low (w ∷ words) (suc q) =
-    let e : 2 * suc q ≡ suc (suc (2 * q)) = omega arith in
-    ap (λ (k : ℕ). getD (halves (w ∷ words)) k 0) e ∙ half-low words q
+  pub placed-after : (j : ℕ) → from + count ≤ j → getD (placed from count block row) j 0 ≡ getD block j 0
+  placed-after j h =
+      let k : ℕ = j - (from + count) in
+      let e : j ≡ length (take from block) + (length row + k) = omega (arith, length-take from block) in
+      let s : from + (count + k) ≡ j = omega arith in
+      ap (λ (x : ℕ). getD (placed from count block row) x 0) e
+      ∙ getD-append-add (take from block) (row ++ rest) (length row + k) 0
+      ∙ getD-append-add row rest k 0
+      ∙ getD-drop count (drop from block) k 0
+      ∙ getD-drop from block (count + k) 0
+      ∙ ap (λ (x : ℕ). getD block x 0) s
 
-half-high : (words : List ℕ) (q : ℕ) → getD (halves words) (2 * q + 1) 0 ≡ getD words q 0 / 2 ^ 32 % 2 ^ 32
-unfolding halves
-half-high [] q = refl
-half-high (w ∷ words) zero = refl
-half-high (w ∷ words) (suc q) =
-    let e : 2 * suc q + 1 ≡ suc (suc (2 * q + 1)) = omega arith in
-    ap (λ (k : ℕ). getD (halves (w ∷ words)) k 0) e ∙ half-high words q
+  pub placed-part : part (placed from count block row) from count ≡ row
+  placed-part = ap (take count) (drop-at (take from block) (row ++ rest) from (omega (arith, length-take from block))) ∙ take-at row rest count l
 
-pub length-halves : (words : List ℕ) → length (halves words) ≡ 2 * length words
-unfolding halves
-length-halves [] = refl
-length-halves (w ∷ words) = omega (arith, length-halves words)
+-- parts of two blocks that have the same words there
+pub same-part : (a b : List ℕ) (from n : ℕ) → length a ≡ length b → ((j : ℕ) → from ≤ j → j < from + n → getD a j 0 ≡ getD b j 0)
+    → part a from n ≡ part b from n
+same-part a b from n e same =
+    ext-getD 0 (part a from n) (part b from n) (omega (arith, longs a, longs b)) (λ i h. at a i (small i h) ∙ same (from + i) (omega arith) (up i (small i h)) ∙ sym (at b i (small i h)))
+  where
+    longs : (l : List ℕ) → length (part l from n) ≡ min n (length l - from)
+    longs l = length-take n (drop from l) ∙ ap (λ (k : ℕ). min n k) (length-drop from l)
 
--- both halves of one word more
-pub halves-more : (row words : List ℕ) (q : ℕ) → length row ≡ 20 → length words ≡ 10 → q < 10 → take (2 * q) row ≡ take (2 * q) (halves words)
-    → take (2 * (q + 1)) (set (set row (2 * q) (getD words q 0 % 2 ^ 32)) (2 * q + 1) (getD words q 0 / 2 ^ 32 % 2 ^ 32)) ≡ take (2 * (q + 1)) (halves words)
-halves-more row words q e f h k =
-    let s : 2 * (q + 1) ≡ 2 * q + 1 + 1 = omega arith in
-    let l : length (halves words) ≡ 20 = omega (arith, length-halves words) in
-    let low : take (2 * q + 1) (set row (2 * q) (getD words q 0 % 2 ^ 32)) ≡ take (2 * q + 1) (halves words) = rw half-low at (copy-more row (halves words) (2 * q) (omega arith) (omega arith) k) in
-    rw s (rw half-high at (copy-more (set row (2 * q) (getD words q 0 % 2 ^ 32)) (halves words) (2 * q + 1) (omega (arith, length-set row (2 * q) (getD words q 0 % 2 ^ 32))) (omega arith) low))
+    small : (i : ℕ) → i < length (part a from n) → i < n
+    small i h = omega (arith, longs a)
+
+    up : (i : ℕ) → i < n → from + i < from + n
+    up i h = omega arith
+
+    at : (l : List ℕ) (i : ℕ) → i < n → getD (part l from n) i 0 ≡ getD l (from + i) 0
+    at l i h = getD-take n (drop from l) i 0 h ∙ getD-drop from l i 0

@@ -3,7 +3,7 @@
 use mathlib.Core.Path.{_≡_}
 use mathlib.Core.Bool.{Bool, not}
 use mathlib.Core.List.{List, [], _∷_, _++_}
-use Prim.Native.Nat.{ℕ, zero, suc, _+_, _-_, _*_, _/_, _%_, _^_, _<_, min}
+use Prim.Native.Nat.{ℕ, _-_, _^_, _<_, min}
 use lib.ListN.{getD, take, drop}
 use lib.Dec.{eqb}
 use Rattle.laws.specs.Bits.{bit}
@@ -24,12 +24,7 @@ word block i = getD block i 0
 abbrev pub part : List ℕ → ℕ → ℕ → List ℕ
 part block from count = take count (drop from block)
 
--- READING. So many 64-bit words, each in two halves, the low one first: "The free nodes are one bit each".
-unfoldable pub joined : ℕ → List ℕ → List ℕ
-joined zero halves = []
-joined (suc n) halves = (getD halves 1 0 * 2 ^ 32 + getD halves 0 0) ∷ joined n (drop 2 halves)
-
--- a word that is not 0 is true
+-- READING. A word that is not 0 is true.
 abbrev pub isTrue : ℕ → Bool
 isTrue w = not (eqb w 0)
 
@@ -38,12 +33,13 @@ unfoldable pub doingIn : ℕ → ℕ → ℕ → ℕ → Doing
 doingIn what a b c =
     pick (eqb what 1) (Formatting a) (pick (eqb what 2) (Inserting a b (isTrue c)) (pick (eqb what 3) (Deleting a (isTrue c) b) (pick (eqb what 4) (Repairing a) Idle)))
 
--- "N, the free nodes, the node given last, and what is being done", and the plan of the change in hand
+-- "N, the free nodes, the node given last, and what is being done", and the plan of the change in hand. "The free nodes are
+-- one bit each": the block's own words.
 unfoldable pub unpacked : List ℕ → State
 unpacked block =
     record {
       nodes = word block 0;
-      free = record { words = joined 10 (part block 11 20) };
+      free = record { words = part block 11 20 };
       last = word block 1;
       doing = doingIn (word block 2) (word block 3) (word block 4) (word block 5);
       plan = record { places = part block 31 73; values = part block 104 73; count = word block 7 };
@@ -59,10 +55,6 @@ memoryIn block = memoryOf (unpacked block)
 abbrev pub narrow : ℕ → ℕ
 narrow x = min x (2 ^ 32 - 1)
 
-unfoldable pub halves : List ℕ → List ℕ
-halves [] = []
-halves (w ∷ words) = w % 2 ^ 32 ∷ w / 2 ^ 32 % 2 ^ 32 ∷ halves words
-
 -- words 2 to 5
 unfoldable pub doingWords : Doing → List ℕ
 doingWords Idle = 0 ∷ 0 ∷ 0 ∷ 0 ∷ []
@@ -77,7 +69,7 @@ numberWords nodes last doing made count = narrow nodes ∷ narrow last ∷ doing
 
 unfoldable pub packed : State → List ℕ
 packed s =
-    numberWords (s .nodes) (s .last) (s .doing) (s .made) (s .plan .count) ++ (s .cut ++ (halves (s .free .words) ++ (s .plan .places ++ s .plan .values)))
+    numberWords (s .nodes) (s .last) (s .doing) (s .made) (s .plan .count) ++ (s .cut ++ (s .free .words ++ (s .plan .places ++ s .plan .values)))
 
 -- WHAT HAS TO FIT. How many stores a formatting made
 unfoldable pub formatted : Doing → ℕ

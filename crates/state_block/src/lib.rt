@@ -4,14 +4,13 @@ use plans::Plan;
 use state::Doing;
 use state::State;
 ghost use mathlib.Core.Path.{_≡_};
-ghost use Prim.Native.Nat.{_+_, _/_, _%_, _^_, _≤_, _<_};
-ghost use lib.ListN.{length, set};
+ghost use lib.ListN.{length};
+ghost use Rattle.free_nodes.specs.NodeSet.{wordCount};
 ghost use Rattle.laws.specs.Bits.{bit};
-ghost use Rattle.state_block.specs.Block.{stateWords, joined, doingIn, unpacked, narrow, halves, doingWords, numberWords, packed, Kept};
+ghost use Rattle.state_block.specs.Block.{stateWords, doingIn, unpacked, narrow, doingWords, numberWords, packed, Kept};
 
 // The words of a block: N and the node given last; what is being done by its number, and its three numbers; the stores of the
-// plan made and planned; the nodes that the last store cuts out; the free nodes, two words for each of theirs; the plan's
-// places and values.
+// plan made and planned; the nodes that the last store cuts out; the free nodes; the plan's places and values.
 pub const NODES: usize = 0;
 
 const LAST: usize = 1;
@@ -57,25 +56,14 @@ pub fn wide(word: u32) -> usize
     word as usize
 }
 
-// A word as half of a word of the free nodes.
-fn half(word: u32) -> u64
-    ensures { λ r. ⌜ (r ≡ word) × (r < 2 ^ 32) ⌝ }
+// The free nodes, "one bit each".
+fn free_in(words: &[u32]) -> NodeSet
+    requires { ⌜ length (now words) ≡ wordCount ⌝ }
+    ensures { λ r. ⌜ r .words ≡ now (words .entry) ⌝ }
 {
-    word as u64
-}
-
-// The ten words of the free nodes, "one bit each", from their halves.
-fn join(words: &[u32]) -> NodeSet
-    requires { ⌜ length (now words) ≡ 20 ⌝ }
-    ensures { λ r. ⌜ r .words ≡ joined 10 (now (words .entry)) ⌝ }
-{
-    let mut free = NodeSet { words: [0; 10] };
-    let mut q: usize = 0;
-    while q < 10 {
-        free.words[q] = half(words[2 * q + 1]) * 4294967296 + half(words[2 * q]);
-        q += 1;
-    }
-    free
+    let mut copy: [u32; free_nodes::WORDS] = [0; free_nodes::WORDS];
+    store_words(&mut copy, words);
+    NodeSet { words: copy }
 }
 
 // "what is being done" by its number and three words.
@@ -118,7 +106,7 @@ pub fn unpack(block: &[u32]) -> State
     requires { ⌜ length (now block) ≡ stateWords ⌝ }
     ensures { λ r. ⌜ r ≡ unpacked (now (block .entry)) ⌝ }
 {
-    let free = join(&block[FREE..PLACES]);
+    let free = free_in(&block[FREE..PLACES]);
     let doing = doing_in(block[DOING], block[FIRST], block[SECOND], block[THIRD]);
     let places = row(&block[PLACES..VALUES]);
     let values = row(&block[VALUES..STATE_WORDS]);
@@ -185,27 +173,6 @@ fn number_words(nodes: usize, last: usize, doing: Doing, made: usize, count: usi
     ]
 }
 
-// The halves of the ten words of the free nodes.
-fn split(words: &mut [u32], free: NodeSet)
-    requires { ⌜ length (now words) ≡ 20 ⌝ }
-    ensures { λ _. ⌜ now (words .exit) ≡ halves (free .words) ⌝ }
-{
-    let mut q: usize = 0;
-    while q < 10 {
-        let word = free.words[q];
-        store_halves(words, 2 * q, word);
-        q += 1;
-    }
-}
-
-fn store_halves(words: &mut [u32], at: usize, word: u64)
-    requires { ⌜ at + 2 ≤ length (now words) ⌝ }
-    ensures { λ _. ⌜ now (words .exit) ≡ set (set (now (words .entry)) at (word % 2 ^ 32)) (at + 1) (word / 2 ^ 32 % 2 ^ 32) ⌝ }
-{
-    words[at] = (word % 4294967296) as u32;
-    words[at + 1] = (word / 4294967296 % 4294967296) as u32;
-}
-
 // The words of one slice into another.
 fn store_words(words: &mut [u32], from: &[u32])
     requires { ⌜ length (now words) ≡ length (now from) ⌝ }
@@ -231,7 +198,7 @@ pub fn pack(block: &mut [u32], s: State)
     let numbers = number_words(s.nodes, s.last, doing, s.made, plan.count);
     store_words(&mut block[NODES..CUT], &numbers);
     store_words(&mut block[CUT..FREE], &cut);
-    split(&mut block[FREE..PLACES], free);
+    store_words(&mut block[FREE..PLACES], &free.words);
     store_words(&mut block[PLACES..VALUES], &plan.places);
     store_words(&mut block[VALUES..STATE_WORDS], &plan.values);
 }

@@ -1,52 +1,50 @@
 -- `block_steps::free_node` meets its contract.
-use mathlib.Core.Path.{refl}
-use native.Mathlib.Omega.{arith}
+use mathlib.Core.Path.{_≡_, refl, ap, _∙_}
+use lib.ListN.{length}
 use borrow.Author.Needs.{needs}
+use Rattle.state.specs.Memory.{memoryOf}
+use Rattle.state_block.specs.Block.{unpacked, memoryIn}
+use Rattle.state_block.specs.InPlace.{withFree}
 use Rattle.state_block.proofs.InPlace.{memory-freed, memory-no-node, cut-kept}
 use Rattle.block_steps.proofs.free_node.Statement.{statement}
 use Rattle.block_steps.proofs.free_node.Tie as tie
 
 returns : tie.Need-returns
-returns c = (memory-no-node (c .before .args .block .now) (c .before .args .m) (c .if1 .taken), refl)
+returns c = (memory-no-node (c .before .before .args .block .now) (c .before .before .args .m) (c .if1 .taken), refl)
 
-add-at : tie.Need-add-at
-add-at c = search needs
+sub-put-in : tie.Need-sub-put-in
+sub-put-in c = search needs
 
-mul-word : tie.Need-mul-word
-mul-word c = search needs
+part-put-in-start : tie.Need-part-put-in-start
+part-put-in-start c = search needs
 
-slice-read-word : tie.Need-slice-read-word
-slice-read-word c = search needs
+part-put-in-end : tie.Need-part-put-in-end
+part-put-in-end c = search needs
 
-cast-block : tie.Need-cast-block
-cast-block c = search needs
-
-shl-block : tie.Need-shl-block
-shl-block c = search needs
-
-mul-block : tie.Need-mul-block
-mul-block c = search needs
-
-slice-write-block : tie.Need-slice-write-block
-slice-write-block c = search needs
+put-in-requires : tie.Need-put-in-requires
+put-in-requires c κs = search needs
 
 same-length : tie.Need-same-length
 same-length c = search needs
 
 returns-2 : tie.Need-returns-2
-returns-2 c = (memory-freed (c .before .before .args .block .now) (c .before .before .args .m) (c .before .before .pre) (λ i. omega (arith, c .slice-known .given i)) (c .before .if1 .left), cut-kept (c .before .before .args .block .now) (c .before .before .args .m) (c .before .before .pre) (λ i. omega (arith, c .slice-known .given i)) (c .before .if1 .left) _)
+unfolding unpacked memoryOf
+returns-2 c =
+    let block = c .before .before .before .before .before .before .args .block .now in
+    let row = c .before .before .put-in .last .0 in
+    let long : length (c .before .before .put-in .last .0) ≡ 20 = search needs in (
+      memory-freed block row (c .before .before .before .before .before .before .pre) long ∙ ap (withFree (memoryIn block)) (c .before .before .put-in .ensures),
+      cut-kept block row (c .before .before .before .before .before .before .pre) long,
+    )
 
 pub free-node-spec : {M : Type 1} → statement M
 free-node-spec =
     tie.close
     (tie.spec
     returns
-    add-at
-    mul-word
-    slice-read-word
-    cast-block
-    shl-block
-    mul-block
-    slice-write-block
+    sub-put-in
+    part-put-in-start
+    part-put-in-end
+    put-in-requires
     same-length
     returns-2)

@@ -3,10 +3,8 @@ use mathlib.Core.Path.{_≡_, ap, _∙_}
 use mathlib.Core.List.{List}
 use Prim.Native.Nat.{ℕ, _*_, _-_, _^_, _≤_, _<_}
 use native.Mathlib.Omega.{arith}
-use mir.Syntax.{w64}
-use mir.Val.{Fits}
 use lib.Count.{ones, ones-le}
-use lib.ListN.{length, take, getD}
+use lib.ListN.{take, getD}
 use lib.Seq.{take-all}
 use Rattle.free_nodes.specs.NodeSet.{wordCount, nodesOf, countTrue}
 use Rattle.free_nodes.proofs.Words.{count-next-word}
@@ -15,10 +13,10 @@ use Rattle.free_nodes.proofs.count.Statement.{statement}
 use Rattle.free_nodes.proofs.count.Tie as tie
 
 abbrev Inv-loop : tie.InvT-loop
-Inv-loop nodes sum₀ q₀ sum q = (q ≤ wordCount) × (sum ≤ 64 * q) × (sum ≡ countTrue (nodesOf (take q (nodes .words))))
+Inv-loop words sum₀ q₀ sum q = (q ≤ wordCount) × (sum ≤ 32 * q) × (sum ≡ countTrue (nodesOf (take q words)))
 
 abbrev μ-loop : tie.MeasureT-loop
-μ-loop nodes sum₀ q₀ sum q = wordCount - q
+μ-loop words sum₀ q₀ sum q = wordCount - q
 
 loop-holds : tie.Need-loop-holds Inv-loop μ-loop
 unfolding nodesOf countTrue
@@ -27,15 +25,17 @@ loop-holds c = search needs
 mul-sum : tie.Need-mul-sum Inv-loop μ-loop
 mul-sum c = search needs
 
-element-copy-out-sum : tie.Need-element-copy-out-sum Inv-loop μ-loop
-element-copy-out-sum c = search needs
+shared-slice-read-sum : tie.Need-shared-slice-read-sum Inv-loop μ-loop
+shared-slice-read-sum c = search needs
 
--- the word fits, so its count is at most 64
-word-fits : (c : tie.After-sum Inv-loop μ-loop) → getD (c .before .before .before .args .t1 .words) (c .before .before .loop .q) 0 < 2 ^ 64
-word-fits c = let fit : Fits w64 (getD (c .before .before .before .args .t1 .words) (c .before .before .loop .q) 0) = search needs in fit .fits
+-- the word fits, so its count is at most 32
+word-fits : (c : tie.After-shared-slice-known Inv-loop μ-loop)
+    → getD (c .before .before .before .args .words .now) (c .before .before .loop .q) 0 < 2 ^ 32
+word-fits c = omega (arith, c .shared-slice-known .given (c .before .before .loop .q))
 
-few : (c : tie.After-sum Inv-loop μ-loop) → ones (getD (c .before .before .before .args .t1 .words) (c .before .before .loop .q) 0) ≤ 64
-few c = ones-le 64 _ (word-fits c)
+few : (c : tie.After-shared-slice-known Inv-loop μ-loop)
+    → ones (getD (c .before .before .before .args .words .now) (c .before .before .loop .q) 0) ≤ 32
+few c = ones-le 32 _ (word-fits c)
 
 cast-sum : tie.Need-cast-sum Inv-loop μ-loop
 cast-sum c = omega (arith, few c)
@@ -51,14 +51,14 @@ loop-less c = search needs
 
 loop-again : tie.Need-loop-again Inv-loop μ-loop
 loop-again c =
-    let len : length (c .before .before .before .args .t1 .words) ≡ wordCount = search needs in
-    let more = count-next-word (c .before .before .before .args .t1 .words) (c .before .before .loop .q) (omega arith) (word-fits c) in
+    let l = c .before .before .loop in
+    let more = count-next-word (c .before .before .before .args .words .now) (l .q) (omega arith) (word-fits c) in
     (omega arith, omega (arith, few c), omega arith)
 
 returns : tie.Need-returns Inv-loop μ-loop
 returns c =
-    let len : length (c .before .before .args .t1 .words) ≡ wordCount = search needs in
-    c .before .loop .inv .2 ∙ ap (λ (x : List ℕ). countTrue (nodesOf x)) (take-all (c .before .loop .q) (c .before .before .args .t1 .words) (omega arith))
+    let words = c .before .before .args .words .now in
+    c .before .loop .inv .2 ∙ ap (λ (x : List ℕ). countTrue (nodesOf x)) (take-all (c .before .loop .q) words (omega arith))
 
 pub count-spec : {M : Type 1} → statement M
 count-spec =
@@ -68,7 +68,7 @@ count-spec =
     μ-loop
     loop-holds
     mul-sum
-    element-copy-out-sum
+    shared-slice-read-sum
     cast-sum
     add-sum
     add-q

@@ -1,8 +1,7 @@
 -- `free_nodes::next_free` meets its contract. Assumes nothing.
-use mathlib.Core.Path.{_≡_, sym, _∙_}
+use mathlib.Core.Path.{sym, _∙_}
 use native.Mathlib.Omega.{arith}
-use lib.ListN.{length}
-use Rattle.free_nodes.specs.NodeSet.{wordCount, nodesOf}
+use Rattle.free_nodes.specs.NodeSet.{nodesOf}
 use Rattle.free_nodes.proofs.NodeSetLaws.{length-nodes, next-after, next-round, from-past}
 use borrow.Author.Needs.{needs}
 use Rattle.free_nodes.proofs.next_free.Statement.{statement}
@@ -16,8 +15,7 @@ first-from-requires c κs = search needs
 
 returns : tie.Need-returns
 returns c =
-    let words = c .before .before .args .nodes .words in
-    let len : length (c .before .before .args .nodes .words) ≡ wordCount = search needs in
+    let words = c .before .before .before .args .words .now in
     c .first-from .ensures ∙ sym (next-round (nodesOf words) _ (from-past (nodesOf words) _ (omega (arith, length-nodes words))))
 
 add-first-from : tie.Need-add-first-from

@@ -31,7 +31,7 @@ returns c =
     (c .refusing .ensures ∙ q .0, q .1)
 
 check-table-requires : tie.Need-check-table-requires
-check-table-requires c κs = (sized c .words, sized c .most)
+check-table-requires c κs = let k = sized c in (k .words, k .most)
 
 refusing-requires-2 : tie.Need-refusing-requires-2
 refusing-requires-2 c κs = search needs
@@ -49,13 +49,13 @@ count-requires : tie.Need-count-requires
 count-requires c κs = search needs
 
 shared-slice-read-root : tie.Need-shared-slice-read-root
-shared-slice-read-root c = omega (arith, sized (c .before .before .before .before .before .before .before) .words)
+shared-slice-read-root c = omega (arith, sized (c .before .before .before .before .before .before .before .before .before .before) .words)
 
 cast-root : tie.Need-cast-root
 cast-root c = omega (arith, c .shared-slice-known2 .given 4)
 
 collect-requires : tie.Need-collect-requires
-collect-requires c κs = let z = sized (c .before .before .before .before .before .before .before .before) in (z .words, z .most, omega arith)
+collect-requires c κs = let z = sized (c .before .before .before .before .before .before .before .before .before .before .before) in (z .words, z .most, omega arith)
 
 same-length : tie.Need-same-length
 same-length c = search needs
@@ -63,14 +63,14 @@ same-length c = search needs
 returns-3 : tie.Need-returns-3
 unfolding findingsOf
 returns-3 c =
-    let s = c .before .before .before .before .before .before .before .before .before .before .before .before .before .before .before in
-    let n = c .before .before .before .before .before .before .before .before .before .before .before .before .nodes-of in
-    let k = c .before .before .before .before .before .before .before .before .before .before .check-table in
-    let found = sym (k .ensures) ∙ checked-ok (k .result) (not-false _ (c .before .before .before .before .before .before .before .before .if2 .left)) in
+    let s = c .before .before .before .before .before .before .before .before .before .before .before .before .before .before .before .before .before .before in
+    let n = c .before .before .before .before .before .before .before .before .before .before .before .before .before .before .before .nodes-of in
+    let k = c .before .before .before .before .before .before .before .before .before .before .before .before .before .check-table in
+    let found = sym (k .ensures) ∙ checked-ok (k .result) (not-false _ (c .before .before .before .before .before .before .before .before .before .before .before .if2 .left)) in
     let card = s .args .card .now in
     let x : Listing = record { nodes = n .result; free = c .before .before .before .before .before .count .result; levels = k .result .height; pairs = pairsFrom depthLimit (s .args .card .now) (n .result) (getD (s .args .card .now) rootPlace 0) } in
     let is : listTable (s .args .card .now) (nodesOfLength (length (s .args .card .now))) ≡ listed x =
-    ap (listTable card) (sym (n .ensures)) ∙ table-sound card (n .result) (k .result .height) (findingsOf (k .result .survey)) (c .before .before .before .before .before .before .before .before .before .before .before .if1 .left) found ∙ rw (c .before .before .before .before .before .count .ensures) in
+    ap (listTable card) (sym (n .ensures)) ∙ table-sound card (n .result) (k .result .height) (findingsOf (k .result .survey)) (c .before .before .before .before .before .before .before .before .before .before .before .before .before .before .if1 .left) found ∙ rw (c .before .before .before .before .before .count .ensures) in
     summary-listed x (listTable card (nodesOfLength (length card))) (s .args .out .now) (c .before .before .collect .result) (c .before .before .collect .last .1 .1 .1 .1 .0) is (c .before .before .collect .ensures .0)
 
 pub list-table-spec : {M : Type 1} → statement M

@@ -32,14 +32,14 @@ resting-requires c κs = search needs
 
 returns-3 : tie.Need-returns-3
 unfolding handedOf findingsOf
-returns-3 c = ap (λ (x : Memory). record { begun = Started; memory = x }) (c .resting .ensures) ∙ sym (open-repair _ (findingsOf (c .before .before .before .before .before .before .before .args .found)) (omega (arith, c .before .before .before .before .before .count .ensures)) (c .before .if3 .taken))
+returns-3 c = ap (λ (x : Memory). record { begun = Started; memory = x }) (c .resting .ensures) ∙ sym (open-repair _ (findingsOf (c .before .before .before .before .before .before .before .before .before .before .args .found)) (omega (arith, c .before .before .before .before .before .count .ensures)) (c .before .if3 .taken))
 
 resting-requires-2 : tie.Need-resting-requires-2
 resting-requires-2 c κs = search needs
 
 returns-4 : tie.Need-returns-4
 unfolding handedOf findingsOf
-returns-4 c = ap (λ (x : Memory). record { begun = OpenedIdle; memory = x }) (c .resting2 .ensures) ∙ sym (open-idle _ (findingsOf (c .before .before .before .before .before .before .before .args .found)) (omega (arith, c .before .before .before .before .before .count .ensures)) (c .before .if3 .left))
+returns-4 c = ap (λ (x : Memory). record { begun = OpenedIdle; memory = x }) (c .resting2 .ensures) ∙ sym (open-idle _ (findingsOf (c .before .before .before .before .before .before .before .before .before .before .args .found)) (omega (arith, c .before .before .before .before .before .count .ensures)) (c .before .if3 .left))
 
 pub open-sound-spec : {M : Type 1} → statement M
 open-sound-spec =

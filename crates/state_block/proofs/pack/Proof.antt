@@ -1,9 +1,7 @@
 -- `state_block::pack` meets its contract.
 use mathlib.Core.Path.{_≡_, sym, subst, _∙_}
 use native.Mathlib.Omega.{arith}
-use lib.ListN.{length, length-take, length-drop, length-append, getD}
-use mir.Val.{Fits}
-use mir.Syntax.{w64}
+use lib.ListN.{length, length-take, length-drop, length-append}
 use borrow.Author.Needs.{needs}
 use Rattle.state_block.proofs.RoundTrip.{HasRows, packed-stored, packed-kept}
 use Rattle.state_block.specs.Block.{Kept}
@@ -13,7 +11,6 @@ use Rattle.state_block.proofs.pack.Tie as tie
 rows : (c : tie.Start) → HasRows (c .args .s)
 rows c =
     record {
-      free = λ i. let f : Fits w64 (getD (c .args .s .free .words) i 0) = search needs in f .fits;
       free-row = search needs;
       places-row = search needs;
       values-row = search needs;
@@ -55,18 +52,6 @@ store-words-requires-2 c κs =
     let e : length (c .before .before .before .before .before .before .before .before .before .before .before .before .args .s .cut) ≡ 3 = search needs in
     simp (length-take, length-drop, length-append) (omega (arith, e, c .before .before .before .before .before .before .before .before .before .before .before .before .pre, simp (length-take, length-drop) at (c .before .before .before .before .store-words .kept .0)))
 
-sub-split : tie.Need-sub-split
-sub-split c = search needs
-
-part-split-start : tie.Need-part-split-start
-part-split-start c = search needs
-
-part-split-end : tie.Need-part-split-end
-part-split-end c = search needs
-
-split-requires : tie.Need-split-requires
-split-requires c κs = search needs
-
 sub-store-words-3 : tie.Need-sub-store-words-3
 sub-store-words-3 c = search needs
 
@@ -91,14 +76,26 @@ part-store-words-end-4 c = search needs
 store-words-requires-4 : tie.Need-store-words-requires-4
 store-words-requires-4 c κs = search needs
 
+sub-store-words-5 : tie.Need-sub-store-words-5
+sub-store-words-5 c = search needs
+
+part-store-words-start-5 : tie.Need-part-store-words-start-5
+part-store-words-start-5 c = search needs
+
+part-store-words-end-5 : tie.Need-part-store-words-end-5
+part-store-words-end-5 c = search needs
+
+store-words-requires-5 : tie.Need-store-words-requires-5
+store-words-requires-5 c κs = search needs
+
 same-length : tie.Need-same-length
 same-length c = search needs
 
 returns : tie.Need-returns
 returns c =
-    let l = rows (c .before .before .before .before .before .before .before .before .before .before .before .before .before .before .before .before .before .before .before .before .before .before .before .before .before .before .before .before .before .before .before .before .before) in
-    let e = packed-stored (c .before .before .before .before .before .before .before .before .before .before .before .before .before .before .before .before .before .before .before .before .before .before .before .before .before .before .before .before .before .before .before .before .before .args .block .now) (c .before .before .before .before .before .before .before .before .before .before .before .before .before .before .before .before .before .before .before .before .before .before .before .before .before .before .before .before .before .before .before .before .before .args .s) l (c .before .before .before .before .before .before .before .before .before .before .before .before .before .before .before .before .before .before .before .before .before .before .before .before .before .before .before .before .before .before .before .before .before .pre) (c .before .before .before .before .before .before .before .before .before .before .before .before .before .before .before .before .before .before .before .before .before .before .before .before .before .store-words .ensures ∙ c .before .before .before .before .before .before .before .before .before .before .before .before .before .before .before .before .before .before .before .before .before .before .before .before .before .before .before .before .number-words .ensures) (c .before .before .before .before .before .before .before .before .before .before .before .before .before .before .before .before .before .before .before .before .store-words2 .ensures) (c .before .before .before .before .before .before .before .before .before .before .before .before .before .before .before .before .split .ensures) (c .before .before .before .before .before .before .before .before .before .store-words3 .ensures) (c .before .before .store-words4 .ensures) in
-    (e, subst (Kept (c .before .before .before .before .before .before .before .before .before .before .before .before .before .before .before .before .before .before .before .before .before .before .before .before .before .before .before .before .before .before .before .before .before .args .s)) (sym e) (packed-kept (c .before .before .before .before .before .before .before .before .before .before .before .before .before .before .before .before .before .before .before .before .before .before .before .before .before .before .before .before .before .before .before .before .before .args .s) l))
+    let l = rows (c .before .before .before .before .before .before .before .before .before .before .before .before .before .before .before .before .before .before .before .before .before .before .before .before .before .before .before .before .before .before .before .before .before .before .before .before) in
+    let e = packed-stored (c .before .before .before .before .before .before .before .before .before .before .before .before .before .before .before .before .before .before .before .before .before .before .before .before .before .before .before .before .before .before .before .before .before .before .before .before .args .block .now) (c .before .before .before .before .before .before .before .before .before .before .before .before .before .before .before .before .before .before .before .before .before .before .before .before .before .before .before .before .before .before .before .before .before .before .before .before .args .s) l (c .before .before .before .before .before .before .before .before .before .before .before .before .before .before .before .before .before .before .before .before .before .before .before .before .before .before .before .before .before .before .before .before .before .before .before .before .pre) (c .before .before .before .before .before .before .before .before .before .before .before .before .before .before .before .before .before .before .before .before .before .before .before .before .before .before .before .before .store-words .ensures ∙ c .before .before .before .before .before .before .before .before .before .before .before .before .before .before .before .before .before .before .before .before .before .before .before .before .before .before .before .before .before .before .before .number-words .ensures) (c .before .before .before .before .before .before .before .before .before .before .before .before .before .before .before .before .before .before .before .before .before .before .before .store-words2 .ensures) (c .before .before .before .before .before .before .before .before .before .before .before .before .before .before .before .before .store-words3 .ensures) (c .before .before .before .before .before .before .before .before .before .store-words4 .ensures) (c .before .before .store-words5 .ensures) in
+    (e, subst (Kept (c .before .before .before .before .before .before .before .before .before .before .before .before .before .before .before .before .before .before .before .before .before .before .before .before .before .before .before .before .before .before .before .before .before .before .before .before .args .s)) (sym e) (packed-kept (c .before .before .before .before .before .before .before .before .before .before .before .before .before .before .before .before .before .before .before .before .before .before .before .before .before .before .before .before .before .before .before .before .before .before .before .before .args .s) l))
 
 pub pack-spec : {M : Type 1} → statement M
 pack-spec =
@@ -115,10 +112,6 @@ pack-spec =
     part-store-words-end-2
     slice-aggregate-store-words-2
     store-words-requires-2
-    sub-split
-    part-split-start
-    part-split-end
-    split-requires
     sub-store-words-3
     part-store-words-start-3
     part-store-words-end-3
@@ -127,5 +120,9 @@ pack-spec =
     part-store-words-start-4
     part-store-words-end-4
     store-words-requires-4
+    sub-store-words-5
+    part-store-words-start-5
+    part-store-words-end-5
+    store-words-requires-5
     same-length
     returns)

@@ -7,17 +7,17 @@ use Rattle.state_block.proofs.RoundTrip.{stateFrom, same-state}
 use Rattle.state_block.proofs.unpack.Statement.{statement}
 use Rattle.state_block.proofs.unpack.Tie as tie
 
-sub-join : tie.Need-sub-join
-sub-join c = search needs
+sub-free-in : tie.Need-sub-free-in
+sub-free-in c = search needs
 
-part-join-start : tie.Need-part-join-start
-part-join-start c = search needs
+part-free-in-start : tie.Need-part-free-in-start
+part-free-in-start c = search needs
 
-part-join-end : tie.Need-part-join-end
-part-join-end c = search needs
+part-free-in-end : tie.Need-part-free-in-end
+part-free-in-end c = search needs
 
-join-requires : tie.Need-join-requires
-join-requires c κs = search needs
+free-in-requires : tie.Need-free-in-requires
+free-in-requires c κs = search needs
 
 shared-slice-read-doing-in : tie.Need-shared-slice-read-doing-in
 shared-slice-read-doing-in c = search needs
@@ -106,16 +106,16 @@ shared-slice-read-t39 c = search needs
 returns : tie.Need-returns
 unfolding unpacked stateFrom
 returns c =
-    same-state (c .before .before .before .before .before .before .before .wide2 .ensures) (c .before .before .before .before .before .before .before .before .before .before .before .before .before .before .before .before .before .before .before .before .join .ensures) (c .before .before .before .before .before .wide3 .ensures) (c .before .before .before .before .before .before .before .before .before .before .before .before .before .before .before .doing-in .ensures) (c .before .before .before .before .before .before .before .before .before .before .before .before .before .row .ensures) (c .before .before .before .before .before .before .before .before .before .before .before .row2 .ensures) (c .before .before .before .before .before .before .before .before .before .wide .ensures) (c .before .before .before .wide4 .ensures) (three (c .before .before .before .before .before .before .before .before .before .before .before .before .before .before .before .before .before .before .before .before .before .before .before .args .block .now) 8 (omega (arith, c .before .before .before .before .before .before .before .before .before .before .before .before .before .before .before .before .before .before .before .before .before .before .before .pre)))
+    same-state (c .before .before .before .before .before .before .before .wide2 .ensures) (c .before .before .before .before .before .before .before .before .before .before .before .before .before .before .before .before .before .before .before .before .free-in .ensures) (c .before .before .before .before .before .wide3 .ensures) (c .before .before .before .before .before .before .before .before .before .before .before .before .before .before .before .doing-in .ensures) (c .before .before .before .before .before .before .before .before .before .before .before .before .before .row .ensures) (c .before .before .before .before .before .before .before .before .before .before .before .row2 .ensures) (c .before .before .before .before .before .before .before .before .before .wide .ensures) (c .before .before .before .wide4 .ensures) (three (c .before .before .before .before .before .before .before .before .before .before .before .before .before .before .before .before .before .before .before .before .before .before .before .args .block .now) 8 (omega (arith, c .before .before .before .before .before .before .before .before .before .before .before .before .before .before .before .before .before .before .before .before .before .before .before .pre)))
 
 pub unpack-spec : {M : Type 1} → statement M
 unpack-spec =
     tie.close
     (tie.spec
-    sub-join
-    part-join-start
-    part-join-end
-    join-requires
+    sub-free-in
+    part-free-in-start
+    part-free-in-end
+    free-in-requires
     shared-slice-read-doing-in
     shared-slice-read-doing-in-2
     shared-slice-read-doing-in-3

@@ -14,11 +14,11 @@ use Rattle.change.proofs.tagged.absorb_tagged.Statement.{statement}
 use Rattle.change.proofs.tagged.absorb_tagged.Tie as tie
 
 -- the number found
-number : (c : tie.After-known-told) → takeNumbers 1 (nodesOf (c .before .before .before .before .before .before .args .free .words)) (c .before .before .before .before .before .before .args .last) ≡ some (c .before .copy .given .0 .0 ∷ [])
+number : (c : tie.After-known-told) → takeNumbers 1 (nodesOf (c .before .before .before .before .before .before .before .before .before .args .t4 .words)) (c .before .before .before .before .before .before .before .before .before .args .last) ≡ some (c .before .copy .given .0 .0 ∷ [])
 number c = take-one _ _ _ (sym (c .before .before .before .next-free .ensures) ∙ c .before .copy .given .1)
 
 given : (c : tie.After-known-told) → Given (c .before .copy .given .0 .0)
-given c = let len : length (c .before .before .before .before .before .before .args .free .words) ≡ wordCount = search needs in one-given (c .before .before .before .before .before .before .args .free .words) len (c .before .before .before .before .before .before .args .last) _ (number c)
+given c = let len : length (c .before .before .before .before .before .before .before .before .before .args .t4 .words) ≡ wordCount = search needs in one-given (c .before .before .before .before .before .before .before .before .before .args .t4 .words) len (c .before .before .before .before .before .before .before .before .before .args .last) _ (number c)
 
 next-free-requires : tie.Need-next-free-requires
 next-free-requires c κs = search needs
@@ -45,7 +45,7 @@ cut-tagged-requires : tie.Need-cut-tagged-requires
 cut-tagged-requires c κs = search needs
 
 linked-requires : tie.Need-linked-requires
-linked-requires c κs = (omega (arith, c .before .before .before .before .before .before .before .before .append-node .ensures .counted), c .before .before .before .before .before .before .before .before .before .before .before .before .before .before .before .before .before .pre .0 .link, given (c .before .before .before .before .before .before .before .before .before .before .before) .below, search needs, search needs)
+linked-requires c κs = (omega (arith, c .before .before .before .before .before .before .before .before .append-node .ensures .counted), c .before .before .before .before .before .before .before .before .before .before .before .before .before .before .before .before .before .before .before .before .pre .0 .link, given (c .before .before .before .before .before .before .before .before .before .before .before) .below, search needs, search needs)
 
 same-length : tie.Need-same-length
 same-length c = search needs
@@ -54,7 +54,7 @@ same-length-2 : tie.Need-same-length-2
 same-length-2 c = search needs
 
 returns-2 : tie.Need-returns-2
-returns-2 c = c .before .before .before .before .linked .ensures ∙ planned-absorb _ _ _ _ (c .before .before .before .before .before .before .before .before .before .before .before .before .before .before .before .before .before .before .before .before .before .before .args .p) _ _ _ _ _ (number (c .before .before .before .before .before .before .before .before .before .before .before .before .before .before .before .before)) (none-planned _ _) (c .before .before .before .before .before .before .before .before .before .before .before .before .before .append-node .ensures) (c .before .before .before .before .before .before .without-node .ensures) (c .before .before .before .before .before .cut-tagged .ensures)
+returns-2 c = c .before .before .before .before .linked .ensures ∙ planned-absorb _ _ _ _ (c .before .before .before .before .before .before .before .before .before .before .before .before .before .before .before .before .before .before .before .before .before .before .before .before .before .args .p) _ _ _ _ _ (number (c .before .before .before .before .before .before .before .before .before .before .before .before .before .before .before .before)) (none-planned _ _) (c .before .before .before .before .before .before .before .before .before .before .before .before .before .append-node .ensures) (c .before .before .before .before .before .before .without-node .ensures) (c .before .before .before .before .before .cut-tagged .ensures)
 
 pub absorb-tagged-spec : {M : Type 1} → statement M
 absorb-tagged-spec =

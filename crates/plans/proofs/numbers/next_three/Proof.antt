@@ -25,9 +25,9 @@ returns c = sym (take-none 2 _ _ (sym (c .before .before .next-free .ensures) �
 
 without-node-requires : tie.Need-without-node-requires
 without-node-requires c κs =
-    let words = c .before .before .before .before .args .free .words in
-    let len : length (c .before .before .before .before .args .free .words) ≡ wordCount = search needs in
-    omega (arith, length-nodes words, next-found (nodesOf words) (c .before .before .before .before .args .last) (c .before .first .given .0 .0) (sym (c .before .before .before .next-free .ensures) ∙ c .before .first .given .1))
+    let words = c .before .before .before .before .before .before .before .args .t1 .words in
+    let len : length (c .before .before .before .before .before .before .before .args .t1 .words) ≡ wordCount = search needs in
+    omega (arith, length-nodes words, next-found (nodesOf words) (c .before .before .before .before .before .before .before .args .last) (c .before .first .given .0 .0) (sym (c .before .before .before .next-free .ensures) ∙ c .before .first .given .1))
 
 next-two-requires : tie.Need-next-two-requires
 next-two-requires c κs = search needs

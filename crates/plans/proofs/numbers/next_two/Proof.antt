@@ -25,9 +25,9 @@ returns c = sym (take-none 1 _ _ (sym (c .before .before .next-free .ensures) �
 
 without-node-requires : tie.Need-without-node-requires
 without-node-requires c κs =
-    let words = c .before .before .before .before .args .free .words in
-    let len : length (c .before .before .before .before .args .free .words) ≡ wordCount = search needs in
-    omega (arith, length-nodes words, next-found (nodesOf words) (c .before .before .before .before .args .last) (c .before .first .given .0 .0) (sym (c .before .before .before .next-free .ensures) ∙ c .before .first .given .1))
+    let words = c .before .before .before .before .before .before .before .args .t1 .words in
+    let len : length (c .before .before .before .before .before .before .before .args .t1 .words) ≡ wordCount = search needs in
+    omega (arith, length-nodes words, next-found (nodesOf words) (c .before .before .before .before .before .before .before .args .last) (c .before .first .given .0 .0) (sym (c .before .before .before .next-free .ensures) ∙ c .before .first .given .1))
 
 next-free-requires-2 : tie.Need-next-free-requires-2
 next-free-requires-2 c κs = search needs
@@ -40,11 +40,11 @@ enum-told-2 c = search needs
 
 returns-2 : tie.Need-returns-2
 unfolding twoOf
-returns-2 c = sym (take-short 1 _ _ _ _ (sym (c .before .before .before .before .before .before .before .next-free .ensures) ∙ c .before .before .before .before .before .first .given .1) (c .before .before .before .without-node .ensures) (take-none 0 _ _ (sym (c .before .before .next-free2 .ensures) ∙ c .enum-told2 .given .1)))
+returns-2 c = sym (take-short 1 _ _ _ _ (sym (c .before .before .before .before .before .before .before .before .before .before .next-free .ensures) ∙ c .before .before .before .before .before .before .before .before .first .given .1) (c .before .before .before .before .before .before .without-node .ensures) (take-none 0 _ _ (sym (c .before .before .next-free2 .ensures) ∙ c .enum-told2 .given .1)))
 
 returns-3 : tie.Need-returns-3
 unfolding twoOf
-returns-3 c = sym (take-more 1 _ _ _ _ _ (sym (c .before .before .before .before .before .before .before .before .next-free .ensures) ∙ c .before .before .before .before .before .before .first .given .1) (c .before .before .before .before .without-node .ensures) (take-one _ _ _ (sym (c .before .before .before .next-free2 .ensures) ∙ c .before .second .given .1)))
+returns-3 c = sym (take-more 1 _ _ _ _ _ (sym (c .before .before .before .before .before .before .before .before .before .before .before .next-free .ensures) ∙ c .before .before .before .before .before .before .before .before .before .first .given .1) (c .before .before .before .before .before .before .before .without-node .ensures) (take-one _ _ _ (sym (c .before .before .before .next-free2 .ensures) ∙ c .before .second .given .1)))
 
 pub next-two-spec : {M : Type 1} → statement M
 next-two-spec =

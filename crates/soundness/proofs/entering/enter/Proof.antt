@@ -14,7 +14,7 @@ use Rattle.soundness.proofs.entering.enter.Tie as tie
 -- the part that `node_at` handed back has 24 words
 words : (c : tie.After-node-at) → length (c .node-at .result .now) ≡ 24
 words c =
-    let s = c .before .before .before .before .before .before .before in
+    let s = c .before .before .before .before .before .before .before .before .before .before in
     ap length (c .node-at .ensures) ∙ length-node (s .args .card .now) (s .args .m) (omega arith) (omega arith)
 
 returns : tie.Need-returns
@@ -30,7 +30,7 @@ contains-requires c κs = search needs
 
 returns-3 : tie.Need-returns-3
 unfolding entryOf lookOf findingsOf
-returns-3 c = sym (enter-again (c .before .before .before .before .before .before .args .card .now) (c .before .before .before .before .before .before .args .n) (c .before .before .before .before .before .before .args .m) (c .before .before .before .before .before .before .args .low) (c .before .before .before .before .before .before .args .high) (c .before .before .before .before .before .before .args .run) (c .before .before .before .before .before .before .args .root) (findingsOf (c .before .before .before .before .before .before .args .s)) (c .before .before .before .before .if1 .left) (omega arith) (sym (c .before .contains .ensures) ∙ not-true _ (c .if3 .taken)))
+returns-3 c = sym (enter-again (c .before .before .before .before .before .before .before .before .before .args .card .now) (c .before .before .before .before .before .before .before .before .before .args .n) (c .before .before .before .before .before .before .before .before .before .args .m) (c .before .before .before .before .before .before .before .before .before .args .low) (c .before .before .before .before .before .before .before .before .before .args .high) (c .before .before .before .before .before .before .before .before .before .args .run) (c .before .before .before .before .before .before .before .before .before .args .root) (findingsOf (c .before .before .before .before .before .before .before .before .before .args .s)) (c .before .before .before .before .before .before .before .if1 .left) (omega arith) (sym (c .before .contains .ensures) ∙ not-true _ (c .if3 .taken)))
 
 node-at-requires : tie.Need-node-at-requires
 node-at-requires c κs = search needs
@@ -40,7 +40,7 @@ shared-slice-read-if4 c = omega (arith, words (c .before))
 
 returns-4 : tie.Need-returns-4
 unfolding entryOf lookOf findingsOf
-returns-4 c = sym (enter-last-word (c .before .before .before .before .before .before .before .before .before .args .card .now) (c .before .before .before .before .before .before .before .before .before .args .n) (c .before .before .before .before .before .before .before .before .before .args .m) (c .before .before .before .before .before .before .before .before .before .args .low) (c .before .before .before .before .before .before .before .before .before .args .high) (c .before .before .before .before .before .before .before .before .before .args .run) (c .before .before .before .before .before .before .before .before .before .args .root) (findingsOf (c .before .before .before .before .before .before .before .before .before .args .s)) (c .before .before .before .before .before .before .before .if1 .left) (omega arith) (sym (c .before .before .before .before .contains .ensures) ∙ not-false _ (c .before .before .before .if3 .left)) (λ e. c .if4 .taken (ap (λ (l : List ℕ). getD l 23 0) (c .before .before .node-at .ensures) ∙ e)))
+returns-4 c = sym (enter-last-word (c .before .before .before .before .before .before .before .before .before .before .before .before .args .card .now) (c .before .before .before .before .before .before .before .before .before .before .before .before .args .n) (c .before .before .before .before .before .before .before .before .before .before .before .before .args .m) (c .before .before .before .before .before .before .before .before .before .before .before .before .args .low) (c .before .before .before .before .before .before .before .before .before .before .before .before .args .high) (c .before .before .before .before .before .before .before .before .before .before .before .before .args .run) (c .before .before .before .before .before .before .before .before .before .before .before .before .args .root) (findingsOf (c .before .before .before .before .before .before .before .before .before .before .before .before .args .s)) (c .before .before .before .before .before .before .before .before .before .before .if1 .left) (omega arith) (sym (c .before .before .before .before .contains .ensures) ∙ not-false _ (c .before .before .before .if3 .left)) (λ e. c .if4 .taken (ap (λ (l : List ℕ). getD l 23 0) (c .before .before .node-at .ensures) ∙ e)))
 
 without-node-requires : tie.Need-without-node-requires
 without-node-requires c κs = search needs
@@ -50,7 +50,7 @@ enter-kind-requires c κs = words (c .before .before .before)
 
 returns-5 : tie.Need-returns-5
 unfolding findingsOf reached
-returns-5 c = c .enter-kind .ensures ∙ rw (c .before .before .before .before .node-at .ensures, c .before .without-node .ensures) (sym (enter-new (c .before .before .before .before .before .before .before .before .before .before .before .args .card .now) (c .before .before .before .before .before .before .before .before .before .before .before .args .n) (c .before .before .before .before .before .before .before .before .before .before .before .args .m) (c .before .before .before .before .before .before .before .before .before .before .before .args .low) (c .before .before .before .before .before .before .before .before .before .before .before .args .high) (c .before .before .before .before .before .before .before .before .before .before .before .args .run) (c .before .before .before .before .before .before .before .before .before .before .before .args .root) (findingsOf (c .before .before .before .before .before .before .before .before .before .before .before .args .s)) (c .before .before .before .before .before .before .before .before .before .if1 .left) (omega arith) (sym (c .before .before .before .before .before .before .contains .ensures) ∙ not-false _ (c .before .before .before .before .before .if3 .left)) (sym (ap (λ (l : List ℕ). getD l 23 0) (c .before .before .before .before .node-at .ensures)) ∙ c .before .before .if4 .left)))
+returns-5 c = c .enter-kind .ensures ∙ rw (c .before .before .before .before .node-at .ensures, c .before .without-node .ensures) (sym (enter-new (c .before .before .before .before .before .before .before .before .before .before .before .before .before .before .args .card .now) (c .before .before .before .before .before .before .before .before .before .before .before .before .before .before .args .n) (c .before .before .before .before .before .before .before .before .before .before .before .before .before .before .args .m) (c .before .before .before .before .before .before .before .before .before .before .before .before .before .before .args .low) (c .before .before .before .before .before .before .before .before .before .before .before .before .before .before .args .high) (c .before .before .before .before .before .before .before .before .before .before .before .before .before .before .args .run) (c .before .before .before .before .before .before .before .before .before .before .before .before .before .before .args .root) (findingsOf (c .before .before .before .before .before .before .before .before .before .before .before .before .before .before .args .s)) (c .before .before .before .before .before .before .before .before .before .before .before .before .if1 .left) (omega arith) (sym (c .before .before .before .before .before .before .contains .ensures) ∙ not-false _ (c .before .before .before .before .before .if3 .left)) (sym (ap (λ (l : List ℕ). getD l 23 0) (c .before .before .before .before .node-at .ensures)) ∙ c .before .before .if4 .left)))
 
 pub enter-spec : {M : Type 1} → statement M
 enter-spec =

@@ -4,7 +4,7 @@ use mathlib.Core.Bool.{true}
 use native.Mathlib.Omega.{arith}
 use lib.ListN.{length}
 use lib.Seq.{set-out}
-use Rattle.free_nodes.specs.NodeSet.{nodesOf}
+use Rattle.free_nodes.specs.NodeSet.{wordCount, nodesOf}
 use Rattle.free_nodes.proofs.NodeSetLaws.{length-nodes}
 use borrow.Author.Needs.{needs}
 use Rattle.state.proofs.playing.with_one.Statement.{statement}
@@ -18,7 +18,7 @@ returns c = c .with-node .ensures
 
 returns-2 : tie.Need-returns-2
 returns-2 c =
-    let len : length (c .before .args .free .words) ≡ 10 = search needs in
+    let len : length (c .before .args .free .words) ≡ wordCount = search needs in
     sym (set-out (nodesOf (c .before .args .free .words)) (c .before .args .m) true (omega (arith, length-nodes (c .before .args .free .words))))
 
 pub with-one-spec : {M : Type 1} → statement M
