@@ -1,14 +1,13 @@
 -- Laws of the stores: one for each branch of the code.
-use mathlib.Core.Path.{_≡_, refl, ap, ap₂, sym, subst, _∙_}
+use mathlib.Core.Path.{_≡_, refl, ap, ap₂, sym, _∙_}
 use mathlib.Core.List.{List, [], _∷_, zip, zipWith}
 use mathlib.Core.Bool.{Bool, true, false}
 use mathlib.Core.Option.{none, some}
 use Prim.Native.Nat.{ℕ, zero, suc, _+_, _≤_, _<_}
 use native.Mathlib.Omega.{arith}
-use native.Mathlib.Nat.{add-zero}
 use native.Mathlib.Numerals.{add-one}
 use lib.ListN.{length, set, getD, take, drop, length-take, drop-of-length-le}
-use lib.Seq.{drop-cons, getD-take, getD-drop}
+use lib.Seq.{drop-cons, getD-take}
 use lib.Dec.{ltb}
 use borrow.Author.Tests.{ltb-true, lt-ltb, le-ltb, ne-eqb, eq-eqb}
 use Rattle.card.specs.Stores.{Store}
@@ -48,9 +47,6 @@ module _ (p : Plan) (k : ℕ) (lp : length (p .places) ≡ 73) (lv : length (p .
       ∙ ap₂ (λ (x y : ℕ). (x, y) ∷ zip (drop (suc k) (take (p .count) (p .places))) (drop (suc k) (take (p .count) (p .values)))) (getD-take (p .count) (p .places) k 0 h) (getD-take (p .count) (p .values) k 0 h)
       ∙ ap (λ (r : List Store). (getD (p .places) k 0, getD (p .values) k 0) ∷ r) (sym (zip-drop (suc k) (take (p .count) (p .places)) (take (p .count) (p .values))))
       ∙ ap (λ (j : ℕ). (getD (p .places) k 0, getD (p .values) k 0) ∷ drop j (zip (take (p .count) (p .places)) (take (p .count) (p .values)))) (sym (add-one k))
-
-  pub next-store : k < p .count → k < 73 → getD (storesOf p) k (0, 0) ≡ (getD (p .places) k 0, getD (p .values) k 0)
-  next-store h l = sym (subst (λ (j : ℕ). getD (drop k (storesOf p)) 0 (0, 0) ≡ getD (storesOf p) j (0, 0)) (add-zero k) (getD-drop k (storesOf p) 0 (0, 0))) ∙ ap (λ (ss : List Store). getD ss 0 (0, 0)) (store-at h l)
 
   pub stores-full : 73 ≤ k → drop k (storesOf p) ≡ []
   unfolding storesOf zip zipWith

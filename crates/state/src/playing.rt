@@ -80,8 +80,8 @@ fn advance(s: State) -> State
 // The next store of the plan of `planned`, which has one; "or its store is outside the card": refused, and `s` is handed back.
 // The place is looked at before the store, so that a refusal stores nothing.
 pub fn store_next(card: &mut [u32], s: State, planned: State) -> Stepped
-    requires { ⌜ more (drop (planned .made) (storesOf (planned .plan))) ≡ true ⌝ }
-    ensures { λ r. ⌜ stepLeft (now (card .exit)) r ≡ stepStore (now (card .entry)) (memoryOf s) (getD (storesOf (planned .plan)) (planned .made) (0, 0)) (advanced (memoryOf planned) (drop (planned .made + 1) (storesOf (planned .plan)))) ⌝ }
+    requires { ⌜ more (memoryOf planned .rest) ≡ true ⌝ }
+    ensures { λ r. ⌜ stepLeft (now (card .exit)) r ≡ stepStore (now (card .entry)) (memoryOf s) (getD (memoryOf planned .rest) 0 (0, 0)) (advanced (memoryOf planned) (drop 1 (memoryOf planned .rest))) ⌝ }
     ensures { λ r. ⌜ Unchanged s r ⌝ }
 {
     let plan = planned.plan;

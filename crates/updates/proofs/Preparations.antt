@@ -19,7 +19,7 @@ use Rattle.descent.specs.declared.Slot.the-variants.{At, Absent as NoSlot}
 use Rattle.descent.specs.declared.Landing.{Landing}
 use Rattle.descent.specs.declared.Landing.the-variants.{Refused as NoLanding, Leaf as LandingAt}
 use Rattle.plans.specs.Change.{Change, Together, changeStores}
-use Rattle.plans.specs.Planning.{Preparation, refused, balanced, prepared, overNumbers, takeNumbers, giving}
+use Rattle.plans.specs.Planning.{Preparation, refused, balanced, overNumbers, takeNumbers, giving}
 use Rattle.siblings.specs.Siblings.{mendTogether, mendSiblings}
 use Rattle.change.specs.Mending.{mendTagged, isNode, mendUnderfull, mend, onSearch, nextRepair}
 use Rattle.state.specs.Results.{more}
@@ -27,6 +27,7 @@ use Rattle.state.specs.declared.Doing.{Doing}
 use Rattle.state.specs.declared.Task.{Task}
 use Rattle.state.specs.declared.Task.the-variants.{PutIn, TakeOut, Repair}
 use Rattle.updates.specs.Updates.{Reason, held, slot, full, landing, insertReason, insertChange, deleteChange, noWay, inLeaf, nextChange}
+use Rattle.updates.specs.Results.{Storing}
 
 -- either of two
 pub either : {A : Type 0} (P : A → Type 0) (t : Bool) (x y : A) → P x → P y → P (pick t x y)
@@ -80,11 +81,6 @@ module _ (P : Preparation → Type 0) (none-planned : P refused) (free : List Bo
   repair-by b card n key = search-by b card n (seek card n key depthLimit (rootPosition (getD card rootPlace 0)))
 
 -- ---- a change that is prepared has a store: its link, or a pair's key
-
-pub Storing : Preparation → Type 0
-Storing refused = Unit {0}
-Storing balanced = Unit {0}
-Storing (prepared stores free last cut) = more stores ≡ true
 
 more-end : (ss : List Store) (s : Store) → more (ss ++ s ∷ []) ≡ true
 unfolding more

@@ -1,36 +1,41 @@
 -- `state::playing::store_next` meets its contract.
 use mathlib.Core.Path.{_≡_, refl, ap, sym, _∙_}
+use mathlib.Core.List.{List}
 use Prim.Native.Nat.{_+_, _<_}
 use native.Mathlib.Omega.{arith}
 use lib.ListN.{length, set, getD, drop}
 use Rattle.card.specs.Stores.{Store}
 use Rattle.plans.specs.Plan.{storesOf}
-use Rattle.state.specs.Steps.{Step, stepRefused, stepStore}
+use Rattle.state.specs.Steps.{stepRefused, stepStore}
 use Rattle.state.specs.Memory.{Memory, memoryOf, advanced}
 use Rattle.state.specs.Results.{stepLeft}
-use Rattle.state.proofs.StepLaws.{next-store, more-below, store-outside, store-inside, stored-no-refusal}
+use Rattle.state.proofs.StepLaws.{store-at, more-below, store-outside, store-inside, stored-no-refusal}
 use Rattle.state.specs.declared.Answer.the-variants.{Stored}
 use borrow.Author.Needs.{needs}
 use Rattle.state.proofs.playing.store_next.Statement.{statement}
 use Rattle.state.proofs.playing.store_next.Tie as tie
 
 below : (c : tie.Start) → (c .args .planned .made < c .args .planned .plan .count) × (c .args .planned .made < 73)
+unfolding memoryOf
 below c =
     let lp : length (c .args .planned .plan .places) ≡ 73 = search needs in
     let lv : length (c .args .planned .plan .values) ≡ 73 = search needs in
     more-below (c .args .planned .plan) (c .args .planned .made) lp lv (c .pre)
 
--- the store that is next
-next : (c : tie.Start) → getD (storesOf (c .args .planned .plan)) (c .args .planned .made) (0, 0) ≡ (getD (c .args .planned .plan .places) (c .args .planned .made) 0, getD (c .args .planned .plan .values) (c .args .planned .made) 0)
-next c =
+-- the store that is next, and what comes of it
+abbrev next : tie.Start → Store
+next s = (getD (s .args .planned .plan .places) (s .args .planned .made) 0, getD (s .args .planned .plan .values) (s .args .planned .made) 0)
+
+abbrev then : tie.Start → Memory
+then s = advanced (memoryOf (s .args .planned)) (drop (s .args .planned .made + 1) (storesOf (s .args .planned .plan)))
+
+due : (c : tie.Start) → stepStore (c .args .card .now) (memoryOf (c .args .s)) (getD (memoryOf (c .args .planned) .rest) 0 (0, 0)) (advanced (memoryOf (c .args .planned)) (drop 1 (memoryOf (c .args .planned) .rest))) ≡ stepStore (c .args .card .now) (memoryOf (c .args .s)) (next c) (then c)
+unfolding memoryOf
+due c =
     let lp : length (c .args .planned .plan .places) ≡ 73 = search needs in
     let lv : length (c .args .planned .plan .values) ≡ 73 = search needs in
     let h = below c in
-    next-store (c .args .planned .plan) (c .args .planned .made) lp lv (h .0) (h .1)
-
--- and what comes of it
-abbrev due : tie.Start → Store → Memory → Step
-due s x next = stepStore (s .args .card .now) (memoryOf (s .args .s)) x next
+    ap (λ (rest : List Store). stepStore (c .args .card .now) (memoryOf (c .args .s)) (getD rest 0 (0, 0)) (advanced (memoryOf (c .args .planned)) (drop 1 rest))) (store-at (c .args .planned .plan) (c .args .planned .made) lp lv (h .0) (h .1))
 
 mul-at : tie.Need-mul-at
 mul-at c = let s = c .before .before in omega (arith, below s .1)
@@ -43,10 +48,7 @@ cast-at c = search needs
 
 returns : tie.Need-returns
 unfolding stepLeft stepRefused
-returns c =
-    let s = c .before .before .before .before in
-    let then = advanced (memoryOf (s .args .planned)) (drop (s .args .planned .made + 1) (storesOf (s .args .planned .plan))) in
-    (sym (ap (λ (x : Store). due s x then) (next s) ∙ store-outside (s .args .card .now) (memoryOf (s .args .s)) _ then (c .if1 .taken)), (λ n e. refl))
+returns c = let s = c .before .before .before .before in (sym (due s ∙ store-outside (s .args .card .now) (memoryOf (s .args .s)) (next s) (then s) (c .if1 .taken)), (λ n e. refl))
 
 mul-card : tie.Need-mul-card
 mul-card c = let s = c .before .before .before .before in omega (arith, below s .1)
@@ -69,10 +71,9 @@ same-length c = search needs
 returns-2 : tie.Need-returns-2
 unfolding stepLeft
 returns-2 c =
-    let s = c .before .before .before .before .before .before in
-    let then = advanced (memoryOf (s .args .planned)) (drop (s .args .planned .made + 1) (storesOf (s .args .planned .plan))) in (
-      ap (λ (m : Memory). record { answer = Stored; card = set (s .args .card .now) (getD (s .args .planned .plan .places) (s .args .planned .made) 0) (getD (s .args .planned .plan .values) (s .args .planned .made) 0); memory = m }) (c .advance .ensures)
-          ∙ sym (ap (λ (x : Store). due s x then) (next s) ∙ store-inside (s .args .card .now) (memoryOf (s .args .s)) _ then (omega (arith, c .before .before .if1 .left))),
+    let s = c .before .before .before .before .before .before in (
+      ap (λ (m : Memory). record { answer = Stored; card = set (s .args .card .now) (next s .0) (next s .1); memory = m }) (c .advance .ensures)
+          ∙ sym (due s ∙ store-inside (s .args .card .now) (memoryOf (s .args .s)) (next s) (then s) (omega (arith, c .before .before .if1 .left))),
       (λ n e. absurd (stored-no-refusal n e)),
     )
 
