@@ -26,7 +26,7 @@ use Rattle.state.specs.Results.{more}
 use Rattle.state.specs.declared.Doing.{Doing}
 use Rattle.state.specs.declared.Task.{Task}
 use Rattle.state.specs.declared.Task.the-variants.{PutIn, TakeOut, Repair}
-use Rattle.updates.specs.Updates.{Reason, held, slot, full, landing, insertReason, insertChange, deleteChange, noWay, inLeaf, nextChange}
+use Rattle.updates.specs.Updates.{Reason, held, slot, full, landing, insertReason, insertChange, deleteChange, insertIn, deleteIn, noWay, inLeaf, nextChange}
 use Rattle.updates.specs.Results.{Storing}
 
 -- either of two
@@ -108,12 +108,12 @@ module _ (free : List Bool) (last : ℕ) where
   delete-stores key m node (At i) = refl
   delete-stores key m node NoSlot = tt
 
-  insert-stores-at : (card : List ℕ) (doing : Doing) (key value : ℕ) (l : Landing) → Storing (inLeaf card doing (λ m link leaf. insertChange key value free last m link leaf (insertReason leaf key)) l .preparation)
+  insert-stores-at : (card : List ℕ) (doing : Doing) (key value : ℕ) (l : Landing) → Storing (inLeaf card doing (insertIn key value free last) l .preparation)
   unfolding inLeaf noWay Storing
   insert-stores-at card doing key value NoLanding = tt
   insert-stores-at card doing key value (LandingAt m link run) = insert-stores key value m link (nodeAt card m) (insertReason (nodeAt card m) key)
 
-  delete-stores-at : (card : List ℕ) (doing : Doing) (key : ℕ) (l : Landing) → Storing (inLeaf card doing (λ m link leaf. deleteChange key free last m leaf (slotOf leaf key)) l .preparation)
+  delete-stores-at : (card : List ℕ) (doing : Doing) (key : ℕ) (l : Landing) → Storing (inLeaf card doing (deleteIn key free last) l .preparation)
   unfolding inLeaf noWay Storing
   delete-stores-at card doing key NoLanding = tt
   delete-stores-at card doing key (LandingAt m link run) = delete-stores key m (nodeAt card m) (slotOf (nodeAt card m) key)

@@ -14,7 +14,7 @@ use Rattle.descent.specs.Descent.{childIndex, firstEqual, slotOf, turnAt, onTur
 use Rattle.descent.proofs.DescentLaws.{index-le, turn-inside}
 use Rattle.laws.proofs.Cases.{bool-cases, impossible}
 use Rattle.descent.proofs.Inside.{Inside, landing-inside}
-use Rattle.updates.specs.Updates.{landing, Reason, insertReason, FirstChange, insertChange, deleteChange, noWay, inLeaf, nextChange, held, slot, full}
+use Rattle.updates.specs.Updates.{landing, Reason, insertReason, FirstChange, insertChange, deleteChange, insertIn, deleteIn, noWay, inLeaf, nextChange, held, slot, full}
 use Rattle.descent.specs.declared.Slot.{Slot}
 use Rattle.descent.specs.declared.Slot.the-variants.{At, Absent as NoSlot}
 use Rattle.descent.specs.declared.Landing.{Landing}
@@ -135,9 +135,9 @@ module _ (card : List ℕ) (doing : Doing) (change : ℕ → ℕ → List ℕ �
 pub next-final : (card : List ℕ) (nodes : ℕ) (free : List Bool) (last : ℕ) {doing : Doing} {task : Task} → TaskOf doing task → (n : ℕ) → nextChange card nodes free last doing task .final ≡ Refused n → ⊥
 unfolding nextChange
 next-final card nodes free last (putting {key} {value}) n e =
-    leaf-final card (Inserting key value false) (λ m link leaf. insertChange key value free last m link leaf (insertReason leaf key)) (λ m link node k. insert-final-in key value free last m link node (insertReason node key) k) (landing card nodes key) n e
+    leaf-final card (Inserting key value false) (insertIn key value free last) (λ m link node k. insert-final-in key value free last m link node (insertReason node key) k) (landing card nodes key) n e
 next-final card nodes free last (taking {key} {value}) n e =
-    leaf-final card (Deleting key false value) (λ m link leaf. deleteChange key free last m leaf (slotOf leaf key)) (λ m link node k. delete-final-in key free last m node (slotOf node key) k) (landing card nodes key) n e
+    leaf-final card (Deleting key false value) (deleteIn key free last) (λ m link node k. delete-final-in key free last m node (slotOf node key) k) (landing card nodes key) n e
 next-final card nodes free last put n e = impossible (cc)
 next-final card nodes free last taken n e = impossible (cc)
 next-final card nodes free last opened n e = impossible (cc)

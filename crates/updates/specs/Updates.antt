@@ -63,23 +63,27 @@ deleteChange key free last m node (At i) =
     record { doing = Deleting key true (getD node (12 + i) 0); final = Value (getD node (12 + i) 0); preparation = prepared ((place m (1 + i), 0) ∷ []) free last [] }
 deleteChange key free last m node NoSlot = record { doing = Deleting key true 0; final = Absent; preparation = balanced }
 
+-- what the two make of the leaf that their key leads to
+abbrev pub insertIn : ℕ → ℕ → List Bool → ℕ → ℕ → ℕ → List ℕ → FirstChange
+insertIn key value free last m link leaf = insertChange key value free last m link leaf (insertReason leaf key)
+
+abbrev pub deleteIn : ℕ → List Bool → ℕ → ℕ → ℕ → List ℕ → FirstChange
+deleteIn key free last m link leaf = deleteChange key free last m leaf (slotOf leaf key)
+
 -- where the way down is refused no change can be planned, and nothing is answered
 unfoldable pub noWay : Doing → FirstChange
 noWay doing = record { doing = doing; final = Absent; preparation = refused }
 
--- the first change of an update, in the leaf that its key leads to
+-- the first change of an update, in that leaf
 unfoldable pub inLeaf : List ℕ → Doing → (ℕ → ℕ → List ℕ → FirstChange) → Landing → FirstChange
 inLeaf card doing change NoLanding = noWay doing
 inLeaf card doing change (LandingAt m link run) = change m link (nodeAt card m)
 
 -- the next change of a task, for a state that is doing this; "Repairs go on until balanced", and then the answer is given
 unfoldable pub nextChange : List ℕ → ℕ → List Bool → ℕ → Doing → Task → FirstChange
-nextChange card n free last doing (PutIn key value) =
-    inLeaf card doing (λ m link leaf. insertChange key value free last m link leaf (insertReason leaf key)) (landing card n key)
-nextChange card n free last doing (TakeOut key) =
-    inLeaf card doing (λ m link leaf. deleteChange key free last m leaf (slotOf leaf key)) (landing card n key)
-nextChange card n free last doing (Repair key answer) =
-    record { doing = doing; final = answer; preparation = nextRepair card n key free last }
+nextChange card n free last doing (PutIn key value) = inLeaf card doing (insertIn key value free last) (landing card n key)
+nextChange card n free last doing (TakeOut key) = inLeaf card doing (deleteIn key free last) (landing card n key)
+nextChange card n free last doing (Repair key answer) = record { doing = doing; final = answer; preparation = nextRepair card n key free last }
 
 -- "A splitting insert needs j + 5 free nodes."
 abbrev pub splitNeed : ℕ → ℕ

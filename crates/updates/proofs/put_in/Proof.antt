@@ -5,7 +5,7 @@ use Prim.Native.Nat.{ℕ}
 use native.Mathlib.Omega.{arith}
 use lib.ListN.{length}
 use Rattle.card.proofs.NodeLaws.{length-node}
-use Rattle.updates.specs.Updates.{landing, insertReason, FirstChange, insertChange, nextChange}
+use Rattle.updates.specs.Updates.{landing, FirstChange, insertIn, nextChange}
 use Rattle.free_nodes.specs.NodeSet.{nodesOf}
 use Rattle.updates.proofs.UpdateLaws.{Landed, landed, no-way, in-leaf}
 use borrow.Author.Needs.{needs}
@@ -14,7 +14,7 @@ use Rattle.updates.proofs.put_in.Tie as tie
 
 -- what an insert makes of a leaf
 abbrev due : tie.Start → ℕ → ℕ → List ℕ → FirstChange
-due s m link leaf = insertChange (s .args .key) (s .args .value) (nodesOf (s .args .free .words)) (s .args .last) m link leaf (insertReason leaf (s .args .key))
+due s = insertIn (s .args .key) (s .args .value) (nodesOf (s .args .free .words)) (s .args .last)
 
 leaf : (c : tie.After-node) → Landed (c .before .before .before .before .before .before .before .args .n) (c .node .given .0 .0) (c .node .given .0 .1 .0)
 unfolding landing

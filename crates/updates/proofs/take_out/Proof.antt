@@ -5,8 +5,7 @@ use Prim.Native.Nat.{ℕ}
 use native.Mathlib.Omega.{arith}
 use lib.ListN.{length}
 use Rattle.card.proofs.NodeLaws.{length-node}
-use Rattle.descent.specs.Descent.{slotOf}
-use Rattle.updates.specs.Updates.{landing, FirstChange, deleteChange, nextChange}
+use Rattle.updates.specs.Updates.{landing, FirstChange, deleteIn, nextChange}
 use Rattle.free_nodes.specs.NodeSet.{nodesOf}
 use Rattle.updates.proofs.UpdateLaws.{Landed, landed, no-way, in-leaf}
 use borrow.Author.Needs.{needs}
@@ -15,7 +14,7 @@ use Rattle.updates.proofs.take_out.Tie as tie
 
 -- what a delete makes of a leaf
 abbrev due : tie.Start → ℕ → ℕ → List ℕ → FirstChange
-due s m link leaf = deleteChange (s .args .key) (nodesOf (s .args .free .words)) (s .args .last) m leaf (slotOf leaf (s .args .key))
+due s = deleteIn (s .args .key) (nodesOf (s .args .free .words)) (s .args .last)
 
 leaf : (c : tie.After-node) → Landed (c .before .before .before .before .before .before .before .args .n) (c .node .given .0 .0) (c .node .given .0 .1 .0)
 unfolding landing
