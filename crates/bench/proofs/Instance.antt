@@ -13,7 +13,7 @@ use Rattle.card.specs.Header.{nodesOfLength, headerRefusal, cardRefusal}
 use Rattle.card.specs.Layout.{runBelow, nodeAt, keyWords, valueWords, children, routingKeys, leafPairs, nodeImage}
 use Rattle.plans.specs.Change.{changeStores, kindAbove, splitLeaf, joinedKeys, joinedChildren, absorb, splitParent, leavesTogether, innersTogether, half, leftKeys, keyBetween, share, merge, mergeRoot, halves, copied}
 use Rattle.plans.specs.Planning.{numbersFrom, takeNumbers, withoutAll, lastOf, overNumbers, giving, withAll}
-use Rattle.change_decide.specs.Decide.{decideTagged, decideTogether, decideSiblings, isNode, decideUnderfull, decideAt, onSearch}
+use Rattle.change_decide.specs.Decide.{nextRepair as decidedRepair}
 use Rattle.change_decide.specs.Decide.{nextRepair as decidedRepair}
 use Rattle.change.specs.LayOut.{layOut}
 use Rattle.change.specs.Mending.{nextRepair}
@@ -23,13 +23,13 @@ use Rattle.free_nodes.specs.NodeSet.{allNodes, countTrue, firstTrue, firstFrom,
 use Rattle.laws.specs.Sorting.{insertPair, insertAll, sort}
 use Rattle.soundness.specs.Check.{member, leafSound, unusedZero, lookOf, noted, enterLeaf, innerSound, enterInner, enterKind, enterNode, childrenCheck, raised, onLook, nodeCheck, tableCheck, rangeEnd, slotSound}
 use Rattle.state.specs.Memory.{noMemory, resting, idled, advanced}
-use Rattle.updates.specs.Updates.{landing, emptyReason, reasonIn, insertReason, insertChange, changeAt, deleteChange, changeIn, roomFor, startRoom, repairs, nextChange}
+use Rattle.updates.specs.Updates.{landing, emptyReason, reasonIn, insertReason, insertChange, deleteChange, inLeaf, noWay, roomFor, startRoom, nextChange}
 use Rattle.state.specs.Answers.{stepReply, startReply}
 use Rattle.lookup.specs.Find.{foundIn, foundAt, findOf}
 use Rattle.opening.specs.Opening.{openSound, openChecked, openOf}
 use Rattle.starting.specs.Starts.{formatOf, startRefused, started, startLanded, startChecked, startOf, insertOf, deleteOf}
-use Rattle.table.specs.Calls.{stepOf, planning, stepPrepared, stepBegin, stepPlan, stepWork, stepHeld, stepDoing}
-use Rattle.state.specs.Steps.{noBeginning, stepRefused, stepFinal, formattedWord, formatStore, formatting, stepFormat, stepStore, stepFirst, isIdle}
+use Rattle.table.specs.Calls.{planning, stepPrepared, stepBegin, stepTask, stepChecked, stepHeld, stepOf}
+use Rattle.state.specs.Steps.{noBeginning, stepRefused, stepFinal, formattedWord, formatStore, formatting, stepFormat, stepStore, isIdle, heldBy}
 use Rattle.state.specs.declared.Doing.the-variants.{Idle}
 use Rattle.state.specs.declared.Answer.{Answer}
 use Rattle.state.specs.declared.Answer.the-variants.{Stored, Ready, Absent, Value, Refused}
@@ -115,7 +115,7 @@ pairsTo11 = (11, 110) ∷ (10, 100) ∷ (9, 90) ∷ (8, 80) ∷ (7, 70) ∷ (6, 
 
 -- computed: 153 stores and "ready"; what formatting leaves; the book with the cut after 40 and after 73 of the stores
 pub computed : (readyIn 153 beingFormatted ≡ true) × (after 153 beingFormatted ≡ formatted) × (kept rationTable (cutAfter 40) formatted (book [] empty) ≡ book pairsTo11 empty) × (kept rationTable (cutAfter 73) formatted (book [] empty) ≡ book ((12, 120) ∷ pairsTo11) empty)
-unfolding readyIn isStored isReady after kept feed told outcome replyTo inHand isRefused counted entered added fullAt way among stepReply startReply happens stepOf stepDoing stepFormat formatStore formattedWord formatOf stepFinal nodesOfLength formatting resting idled allNodes headerRefusal stepHeld isIdle stepWork stepPlan stepBegin stepPrepared changeAt landing landingFor onTurnLanding turnAt turnOf turnInner nodeAt children valueWords keyWords slotOf firstEqual insertReason reasonIn emptyReason insertChange stepFirst stepStore planning advanced repairs nextChange nextRepair layOut decidedRepair onSearch seek onVisit visitAt visitOf rootPosition leafPairs insertOf startOf startChecked startRoom roomFor startLanded started stepRefused startRefused withAll giving overNumbers takeNumbers numbersFrom nextFree firstFrom firstTrue orElse withoutAll lastOf splitLeaf changeStores sort insertAll insertPair kindAbove nodeImage countTrue childPosition childFor childIndex passed routingKeys runBelow deleteOf changeIn deleteChange decideAt decideTagged decideUnderfull decideSiblings decideTogether togetherAt isNode share merge mergeRoot leavesTogether innersTogether half leftKeys keyBetween absorb splitParent joinedKeys joinedChildren findOf cardRefusal foundAt leafFor onTurn foundIn noBeginning noMemory openOf openChecked openSound tableCheck nodeCheck onLook enterNode enterKind enterLeaf enterInner innerSound noted lookOf leafSound member unusedZero childrenCheck raised halves copied visitLeaf visitInner visitTagged rangeEnd slotSound
+unfolding readyIn isStored isReady after kept feed told outcome replyTo inHand isRefused counted entered added fullAt way among stepReply startReply happens stepOf stepHeld heldBy stepFormat formatStore formattedWord formatOf stepFinal nodesOfLength formatting resting idled allNodes headerRefusal stepChecked isIdle stepTask stepBegin stepPrepared inLeaf landing landingFor onTurnLanding turnAt turnOf turnInner nodeAt children valueWords keyWords slotOf firstEqual insertReason reasonIn emptyReason insertChange stepStore planning advanced nextChange nextRepair onSearch seek onVisit visitAt visitOf rootPosition leafPairs insertOf startOf startChecked startRoom roomFor startLanded started stepRefused startRefused withAll giving overNumbers takeNumbers numbersFrom nextFree firstFrom firstTrue orElse withoutAll lastOf splitLeaf changeStores sort insertAll insertPair kindAbove nodeImage countTrue childPosition childFor childIndex passed routingKeys runBelow deleteOf noWay deleteChange isNode share merge mergeRoot leavesTogether innersTogether half leftKeys keyBetween absorb splitParent joinedKeys joinedChildren findOf cardRefusal foundAt leafFor onTurn foundIn noBeginning noMemory openOf openChecked openSound tableCheck nodeCheck onLook enterNode enterKind enterLeaf enterInner innerSound noted lookOf leafSound member unusedZero childrenCheck raised halves copied visitLeaf visitInner visitTagged rangeEnd slotSound layOut decidedRepair decideAt decideTagged decideUnderfull decideSiblings decideTogether togetherAt
 computed = (refl, refl, refl, refl)
 
 begins : Begins rationTable formatted []

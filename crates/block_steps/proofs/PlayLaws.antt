@@ -1,6 +1,6 @@
 -- Laws of the steps that are played in place: one for each branch of the code.
 use mathlib.Core.Path.{_≡_, refl, sym, ap, _∙_}
-use mathlib.Core.Bool.{true, false}
+use mathlib.Core.Bool.{Bool, true, false}
 use mathlib.Core.List.{List, [], _∷_}
 use Prim.Native.Nat.{ℕ, zero, suc, _+_, _≤_, _<_}
 use native.Mathlib.Omega.{arith}
@@ -8,19 +8,24 @@ use native.Mathlib.Numerals.{add-one}
 use lib.ListN.{length, getD, drop, set, length-take, length-drop}
 use lib.Seq.{getD-take, getD-drop}
 use lib.Dec.{ltb}
-use borrow.Author.Tests.{lt-ltb, eq-eqb}
+use borrow.Author.Tests.{lt-ltb}
 use Rattle.laws.specs.Lists.{beforeZero}
 use Rattle.card.specs.Header.{headerRefusal}
 use Rattle.card.specs.Stores.{Store}
 use Rattle.plans.specs.Plan.{storesOf}
 use Rattle.plans.specs.Planning.{withAll}
 use Rattle.state.specs.Memory.{Memory, memoryOf, advanced}
-use Rattle.state.specs.Steps.{formatting, formatStore, stepFormat, stepStore, isIdle}
-use Rattle.table.specs.Calls.{stepWork, stepHeld, stepDoing}
+use Rattle.state.specs.Steps.{heldBy, formatting, formatStore, stepFormat, stepStore}
+use Rattle.table.specs.Calls.{stepTask, stepHeld}
+use Rattle.table.proofs.StepLaws.{task-due}
 use Rattle.state.specs.Results.{more}
 use Rattle.state.proofs.StepLaws.{store-at, more-full, more-test, more-below, more-none, cut-end, cut-zero, cut-next, no-cut, advance-on, advance-last, format-middle, word-other}
-use Rattle.state.specs.declared.Answer.the-variants.{Stored}
-use Rattle.state_block.specs.Block.{stateWords, word, part, doingIn, unpacked, memoryIn}
+use Rattle.state.specs.declared.Answer.the-variants.{Stored, Ready, Absent, Value}
+use Rattle.state.specs.declared.Doing.the-variants.{Inserting, Deleting}
+use Rattle.state.specs.declared.Task.{Task}
+use Rattle.state.specs.declared.Task.the-variants.{PutIn, TakeOut, Repair}
+use Rattle.state.specs.declared.Held.the-variants.{Task as HeldTask}
+use Rattle.state_block.specs.Block.{stateWords, word, part, isTrue, doingIn, unpacked, memoryIn}
 use Rattle.state_block.specs.InPlace.{withFree, withCut}
 use Rattle.state_block.proofs.InPlace.{withRest, memory-made, memory-formatting}
 
@@ -98,11 +103,11 @@ module _ (block : List ℕ) (l : length block ≡ stateWords) where
   unfolding withRest withFree withCut
   plan-last k e freed cleared f g = g ∙ rw (f, memory-made block k l) (sym (advance-last (memoryIn block) (drop k stores) (more-none (drop k stores) e)))
 
-  pub work-stored : (card : List ℕ) (k at : ℕ) → k ≡ word block 6 → more (drop k stores) ≡ true → at ≡ word block (31 + k) → at < length card
-      → stepWork card (memoryIn block) (memoryIn block .rest) ≡ record { answer = Stored; card = set card at (word block (104 + k)); memory = advanced (memoryIn block) (drop (k + 1) stores) }
-  unfolding stepWork stepStore
-  work-stored card k at e h f b =
-      ap (stepWork card (memoryIn block)) (rest-in block ∙ ap (λ (i : ℕ). drop i stores) (sym e) ∙ plan-next k h) ∙ rw (← f) (simp (lt-ltb at (length card) b))
+  pub task-stored : (card : List ℕ) (task : Task) (k at : ℕ) → k ≡ word block 6 → more (drop k stores) ≡ true → at ≡ word block (31 + k) → at < length card
+      → stepTask card (memoryIn block) task (memoryIn block .rest) ≡ record { answer = Stored; card = set card at (word block (104 + k)); memory = advanced (memoryIn block) (drop (k + 1) stores) }
+  unfolding stepTask stepStore
+  task-stored card task k at e h f b =
+      ap (stepTask card (memoryIn block) task) (rest-in block ∙ ap (λ (i : ℕ). drop i stores) (sym e) ∙ plan-next k h) ∙ rw (← f) (simp (lt-ltb at (length card) b))
 
 -- ---- formatting
 
@@ -115,26 +120,36 @@ format-stored card block made l e f h b =
 
 -- ---- a step of either
 
-held-kind : (card : List ℕ) (m : Memory) (what a b c : ℕ) → (what ≡ 1 → ⊥) → (what ≡ 0 → ⊥) → what ≤ 4 → (stepDoing card m (doingIn what a b c) ≡ stepHeld card m) × (isIdle (doingIn what a b c) ≡ false)
-unfolding stepDoing isIdle doingIn
-held-kind card m zero a b c p q h = absurd (q refl)
-held-kind card m (suc zero) a b c p q h = absurd (p refl)
-held-kind card m (suc (suc zero)) a b c p q h = (refl, refl)
-held-kind card m (suc (suc (suc zero))) a b c p q h = (refl, refl)
-held-kind card m (suc (suc (suc (suc zero)))) a b c p q h = (refl, refl)
-held-kind card m (suc (suc (suc (suc (suc what))))) a b c p q h = absurd (omega arith)
+-- whether its first change was planned or not, an update holds a task
+inserting-held : (key value : ℕ) (begun : Bool) → (t : Task) × (heldBy (Inserting key value begun) ≡ HeldTask t)
+unfolding heldBy
+inserting-held key value false = (PutIn key value, refl)
+inserting-held key value true = (Repair key Absent, refl)
+
+deleting-held : (key value : ℕ) (begun : Bool) → (t : Task) × (heldBy (Deleting key begun value) ≡ HeldTask t)
+unfolding heldBy
+deleting-held key value false = (TakeOut key, refl)
+deleting-held key value true = (Repair key (Value value), refl)
+
+kind-held : (what a b c : ℕ) → (what ≡ 1 → ⊥) → (what ≡ 0 → ⊥) → what ≤ 4 → (t : Task) × (heldBy (doingIn what a b c) ≡ HeldTask t)
+unfolding heldBy doingIn
+kind-held zero a b c p q h = absurd (q refl)
+kind-held (suc zero) a b c p q h = absurd (p refl)
+kind-held (suc (suc zero)) a b c p q h = inserting-held a b (isTrue c)
+kind-held (suc (suc (suc zero))) a b c p q h = deleting-held a b (isTrue c)
+kind-held (suc (suc (suc (suc zero)))) a b c p q h = (Repair a Ready, refl)
+kind-held (suc (suc (suc (suc (suc what))))) a b c p q h = absurd (omega arith)
 
 module _ (card block : List ℕ) where
-  pub doing-format : word block 2 ≡ 1 → stepDoing card (memoryIn block) (memoryIn block .doing) ≡ stepFormat card (memoryIn block) (word block 3) (formatStore (memoryIn block .nodes) (length card) (word block 3))
-  unfolding memoryOf unpacked doingIn stepDoing
-  doing-format e = ap (λ (what : ℕ). stepDoing card (memoryIn block) (doingIn what (word block 3) (word block 4) (word block 5))) e
+  pub doing-format : word block 2 ≡ 1 → stepHeld card (memoryIn block) (heldBy (memoryIn block .doing)) ≡ stepFormat card (memoryIn block) (word block 3) (formatStore (memoryIn block .nodes) (length card) (word block 3))
+  unfolding memoryOf unpacked doingIn heldBy stepHeld
+  doing-format e = ap (λ (what : ℕ). stepHeld card (memoryIn block) (heldBy (doingIn what (word block 3) (word block 4) (word block 5)))) e
 
   -- inserting, deleting or repairing
-  pub doing-held : (word block 2 ≡ 1 → ⊥) → (word block 2 ≡ 0 → ⊥) → word block 2 ≤ 4
-      → (stepDoing card (memoryIn block) (memoryIn block .doing) ≡ stepHeld card (memoryIn block)) × (isIdle (memoryIn block .doing) ≡ false)
+  pub doing-held : (word block 2 ≡ 1 → ⊥) → (word block 2 ≡ 0 → ⊥) → word block 2 ≤ 4 → (t : Task) × (heldBy (memoryIn block .doing) ≡ HeldTask t)
   unfolding memoryOf unpacked
-  doing-held p q h = held-kind card (memoryIn block) (word block 2) (word block 3) (word block 4) (word block 5) p q h
+  doing-held p q h = kind-held (word block 2) (word block 3) (word block 4) (word block 5) p q h
 
-  pub held-work : (n : ℕ) → n ≡ memoryIn block .nodes → headerRefusal card n ≡ 0 → isIdle (memoryIn block .doing) ≡ false → stepHeld card (memoryIn block) ≡ stepWork card (memoryIn block) (memoryIn block .rest)
-  unfolding stepHeld
-  held-work n e w i = simp (eq-eqb (headerRefusal card (memoryIn block .nodes)) 0 (ap (headerRefusal card) (sym e) ∙ w), i)
+  pub held-due : (n : ℕ) (task : Task) → n ≡ memoryIn block .nodes → headerRefusal card n ≡ 0 → heldBy (memoryIn block .doing) ≡ HeldTask task
+      → stepHeld card (memoryIn block) (heldBy (memoryIn block .doing)) ≡ stepTask card (memoryIn block) task (memoryIn block .rest)
+  held-due n task e w d = ap (stepHeld card (memoryIn block)) d ∙ task-due card (memoryIn block) (ap (headerRefusal card) (sym e) ∙ w) task

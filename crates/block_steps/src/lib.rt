@@ -22,7 +22,8 @@ ghost use Rattle.card.specs.Layout.{greatestNodes};
 ghost use Rattle.plans.specs.Plan.{storesOf};
 ghost use Rattle.plans.specs.Planning.{withAll};
 ghost use Rattle.state.specs.Memory.{advanced};
-ghost use Rattle.table.specs.Calls.{stepWork, stepOf};
+ghost use Rattle.table.specs.Calls.{stepTask, stepOf};
+ghost use Rattle.state.specs.declared.Task.{Task};
 ghost use Rattle.state.specs.Steps.{formatStore, stepFormat};
 ghost use Rattle.state.specs.Results.{more};
 ghost use Rattle.state_block.specs.Block.{stateWords, word, part, unpacked, memoryIn};
@@ -95,10 +96,10 @@ fn advance(block: &mut [u32], made: usize)
     clear_cut(block);
 }
 
-// The next store of the plan, where one is to come and its place is on the card.
+// The next store of the plan, where one is to come and its place is on the card: whatever the task, it is due.
 fn play_store(card: &mut [u32], block: &mut [u32]) -> bool
     requires { ⌜ length (now block) ≡ stateWords ⌝ }
-    ensures { λ r. ⌜ Played r (stepWork (now (card .entry)) (memoryIn (now (block .entry))) (memoryIn (now (block .entry)) .rest)) (now (card .entry)) (now (card .exit)) (now (block .entry)) (now (block .exit)) ⌝ }
+    ensures { λ r. ⌜ ((task : Task) → Played r (stepTask (now (card .entry)) (memoryIn (now (block .entry))) task (memoryIn (now (block .entry)) .rest)) (now (card .entry)) (now (card .exit)) (now (block .entry)) (now (block .exit))) ⌝ }
 {
     let made = wide(block[MADE]);
     if !in_hand(block, made) {

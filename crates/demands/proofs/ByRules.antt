@@ -23,9 +23,13 @@ use Rattle.state.specs.declared.Doing.{Doing}
 use Rattle.state.specs.declared.Doing.the-variants.{Idle, Inserting, Deleting}
 use Rattle.demands.proofs.PlannedNumbers.{ByRule, cut-marked}
 use Rattle.demands.proofs.PlannedRepairs.{repair-by-rule}
-use Rattle.state.specs.Steps.{isIdle, stepRefused, stepFinal, stepFirst, stepStore}
+use Rattle.state.specs.Steps.{isIdle, stepRefused, stepFinal, stepStore}
 use Rattle.table.specs.Calls.{planning, stepPrepared, stepBegin, stepOf}
-use Rattle.updates.specs.Updates.{FirstChange, landing, changeAt}
+use Rattle.updates.specs.Updates.{FirstChange, nextChange}
+use Rattle.updates.specs.Results.{Storing}
+use Rattle.state.specs.Results.{more}
+use Rattle.state.specs.declared.Task.the-variants.{PutIn, TakeOut}
+use Rattle.demands.proofs.Work.{true-false}
 use Rattle.demands.proofs.StepRows.{Final}
 use Rattle.laws.proofs.Cases.{order, impossible}
 use borrow.Author.Tests.{lt-ltb, le-ltb}
@@ -279,18 +283,18 @@ module _ (final : Answer) (most : ℕ) (w : World rationTable) (x : Nears final 
       let q = kept-step (v .size) (v .steps) (worldly w) (v .was-kept) (v .due) (loosen (v .size) (v .steps) (suc (v .steps)) (worldly w) (v .was-kept) (v .due) (omega arith) (v .inv)) in
       right-final (subst (λ y. Right y (v .due)) (ap (λ y. y .answer) e) (q .1)) (final-counts a f) ∙ x .is-due
 
-  pub first-by-rules : (f : FirstChange) → stepOf (w .card) (w .state) ≡ stepBegin (w .card) (w .state) f → Final (f .final) → (f .preparation ≡ balanced → f .final ≡ final → Nothing)
+  pub first-by-rules : (f : FirstChange) → stepOf (w .card) (w .state) ≡ stepBegin (w .card) (w .state) f → Final (f .final) → Storing (f .preparation) → (f .preparation ≡ balanced → f .final ≡ final → Nothing)
       → ((ss : List Store) (fewer : List Bool) (now : ℕ) (out : List ℕ) → f .preparation ≡ prepared ss fewer now out → ByRule Rule (w .state .free) (w .state .last) ss fewer now out × Begun (f .doing)) → Updates rationTable Nothing Rule (stepReply final) w
-  unfolding stepBegin stepPrepared stepFirst stepStore planning replyTo stepFinal
-  first-by-rules f e fin none-due rule = at (f .preparation) refl
+  unfolding stepBegin stepPrepared stepStore planning replyTo stepFinal Storing more
+  first-by-rules f e fin stores none-due rule = at (f .preparation) refl stores
     where
-      at : (p : Preparation) → f .preparation ≡ p → Updates rationTable Nothing Rule (stepReply final) w
-      at refused q = absurd (not-refused 9 (e ∙ ap (stepPrepared (w .card) (w .state) (f .doing) (f .final)) q))
-      at balanced q =
+      at : (p : Preparation) → f .preparation ≡ p → Storing p → Updates rationTable Nothing Rule (stepReply final) w
+      at refused q st = absurd (not-refused 9 (e ∙ ap (stepPrepared (w .card) (w .state) (f .doing) (f .final)) q))
+      at balanced q st =
           let s : stepOf (w .card) (w .state) ≡ stepFinal (f .final) (w .card) (w .state) = e ∙ ap (stepPrepared (w .card) (w .state) (f .doing) (f .final)) q in
           no-change (none-due q (ends-due (f .final) fin s)) (ap (λ y. stepReply (y .answer)) s ∙ ap stepReply (ends-due (f .final) fin s))
-      at (prepared [] fewer now out) q = absurd (not-refused 9 (e ∙ ap (stepPrepared (w .card) (w .state) (f .doing) (f .final)) q))
-      at (prepared (s ∷ rest) fewer now out) q =
+      at (prepared [] fewer now out) q st = true-false (sym st)
+      at (prepared (s ∷ rest) fewer now out) q st =
           order (s .0) (length (w .card)) inside
           (λ o. absurd (not-refused 9 (e ∙ ap (stepPrepared (w .card) (w .state) (f .doing) (f .final)) q ∙ rw (le-ltb (s .0) (length (w .card)) o))))
         where
@@ -307,7 +311,7 @@ module _ (final : Answer) (most : ℕ) (w : World rationTable) (x : Nears final 
 
 -- where an update stands that has just been started
 pub put-turns : {c : List ℕ} {n : ℕ} {t goal : Tree} {steps : ℕ} {m : Memory} {h : Hand} {due : Option Answer} (key value : ℕ) → Table c n t → Stage c n t goal steps m h due → m .doing ≡ Inserting key value false
-    → stepOf c m ≡ stepBegin c m (changeAt c (Inserting key value false) (m .free) (m .last) (landing c n key))
+    → stepOf c m ≡ stepBegin c m (nextChange c n (m .free) (m .last) (Inserting key value false) (PutIn key value))
 put-turns key value b (stage-idle z r x g) e = impossible (cc)
 put-turns {c} {n} key value b (stage-put {free} {last} {key = k} {value = v} z r x low high room q g) e =
     let ek : k ≡ key = cc in
@@ -319,7 +323,7 @@ put-turns key value b (stage-between j en deep k x few hd) e = absurd (put-no-jo
 put-turns key value b (stage-within j en p q few hd) e = absurd (put-no-job key value j e)
 
 pub remove-turns : {c : List ℕ} {n : ℕ} {t goal : Tree} {steps : ℕ} {m : Memory} {h : Hand} {due : Option Answer} (key : ℕ) → Table c n t → Stage c n t goal steps m h due → m .doing ≡ Deleting key false 0
-    → stepOf c m ≡ stepBegin c m (changeAt c (Deleting key false 0) (m .free) (m .last) (landing c n key))
+    → stepOf c m ≡ stepBegin c m (nextChange c n (m .free) (m .last) (Deleting key false 0) (TakeOut key))
 remove-turns key b (stage-idle z r x g) e = impossible (cc)
 remove-turns key b (stage-put z r x low high room q g) e = impossible (cc)
 remove-turns {c} {n} key b (stage-remove {free} {last} {key = k} z r x low high q g) e =

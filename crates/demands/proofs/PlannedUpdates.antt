@@ -17,8 +17,9 @@ use Rattle.descent.specs.declared.Slot.{Slot}
 use Rattle.descent.specs.declared.Slot.the-variants.{At, Absent as NoSlot}
 use Rattle.plans.specs.Change.{changeStores, kindAbove, splitLeaf}
 use Rattle.plans.specs.Planning.{prepared}
-use Rattle.state.specs.declared.Doing.the-variants.{Inserting, Deleting}
-use Rattle.updates.specs.Updates.{landing, emptyReason, reasonIn, insertReason, insertChange, deleteChange, noChange, changeIn, changeAt}
+use Rattle.updates.specs.Updates.{landing, emptyReason, reasonIn, insertReason, insertChange, deleteChange, insertIn, deleteIn, noWay, inLeaf, nextChange}
+use Rattle.state.specs.declared.Doing.{Doing}
+use Rattle.state.specs.declared.Task.the-variants.{PutIn, TakeOut}
 use Rattle.demands.specs.Refusals.{nodesOn, leadsTo, among}
 use Rattle.demands.specs.Rules.{InsertRule, in-slot, leaf-split, DeleteRule, key-cleared}
 use Rattle.demands.proofs.PlannedNumbers.{ByRule, not-refused, not-balanced, giving-three, none-taken}
@@ -85,26 +86,26 @@ module _ (c : List ℕ) (n key : ℕ) (on : nodesOn c ≡ n) {free : List Bool} 
       let there = landing-linked c n key m link run l in
       giving-three _ e (λ x y z. leaf-split x y z _ (leads c n key m link run on l) absent (no-slot (nodeAt c m) 0 f) (there .0) refl)
 
-  pub insert-by-rule : (value : ℕ) (begun : Bool) → changeAt c (Inserting key value begun) free last (landing c n key) .preparation ≡ prepared ss fewer now cut
+  pub insert-by-rule : (doing : Doing) (value : ℕ) → nextChange c n free last doing (PutIn key value) .preparation ≡ prepared ss fewer now cut
       → ByRule (InsertRule c key value) free last ss fewer now cut
-  unfolding changeAt changeIn noChange insertReason reasonIn insertChange
-  insert-by-rule value begun e = on-landing (landing c n key) refl e
+  unfolding nextChange inLeaf noWay insertReason reasonIn insertChange
+  insert-by-rule doing value e = on-landing (landing c n key) refl e
     where
       on-slot : (m link run : ℕ) → landing c n key ≡ LandingAt m link run → (s : Slot) → slotOf (nodeAt c m) key ≡ s
           → insertChange key value free last m link (nodeAt c m) (reasonIn (nodeAt c m) s) .preparation ≡ prepared ss fewer now cut → ByRule (InsertRule c key value) free last ss fewer now cut
       on-slot m link run l (At i) f z = absurd (not-balanced z)
       on-slot m link run l NoSlot f z = insert-in value m link run l (no-slot (nodeAt c m) key f) (slotOf (nodeAt c m) 0) refl z
 
-      on-landing : (l : Landing) → landing c n key ≡ l → changeAt c (Inserting key value begun) free last l .preparation ≡ prepared ss fewer now cut
+      on-landing : (l : Landing) → landing c n key ≡ l → inLeaf c doing (insertIn key value free last) l .preparation ≡ prepared ss fewer now cut
           → ByRule (InsertRule c key value) free last ss fewer now cut
       on-landing NoLanding f z = absurd (not-refused z)
       on-landing (LandingAt m link run) f z = on-slot m link run f (slotOf (nodeAt c m) key) refl z
 
   -- "Delete: key word to 0"
-  pub delete-by-rule : (begun : Bool) (value : ℕ) → changeAt c (Deleting key begun value) free last (landing c n key) .preparation ≡ prepared ss fewer now cut
+  pub delete-by-rule : (doing : Doing) → nextChange c n free last doing (TakeOut key) .preparation ≡ prepared ss fewer now cut
       → ByRule (DeleteRule c key) free last ss fewer now cut
-  unfolding changeAt changeIn noChange deleteChange
-  delete-by-rule begun value e = on-landing (landing c n key) refl e
+  unfolding nextChange inLeaf noWay deleteChange
+  delete-by-rule doing e = on-landing (landing c n key) refl e
     where
       on-slot : (m link run : ℕ) → landing c n key ≡ LandingAt m link run → (s : Slot) → slotOf (nodeAt c m) key ≡ s
           → deleteChange key free last m (nodeAt c m) s .preparation ≡ prepared ss fewer now cut → ByRule (DeleteRule c key) free last ss fewer now cut
@@ -113,7 +114,7 @@ module _ (c : List ℕ) (n key : ℕ) (on : nodesOn c ≡ n) {free : List Bool} 
           none-taken (key-cleared i (leads c n key m link run on l) (omega (arith, slot .within, slots-of-eleven (nodeAt c m)), slot .stands, slot .first)) z
       on-slot m link run l NoSlot f z = absurd (not-balanced z)
 
-      on-landing : (l : Landing) → landing c n key ≡ l → changeAt c (Deleting key begun value) free last l .preparation ≡ prepared ss fewer now cut
+      on-landing : (l : Landing) → landing c n key ≡ l → inLeaf c doing (deleteIn key free last) l .preparation ≡ prepared ss fewer now cut
           → ByRule (DeleteRule c key) free last ss fewer now cut
       on-landing NoLanding f z = absurd (not-refused z)
       on-landing (LandingAt m link run) f z = on-slot m link run f (slotOf (nodeAt c m) key) refl z

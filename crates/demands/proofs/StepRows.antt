@@ -5,7 +5,7 @@ use mathlib.Core.List.{List, [], _∷_}
 use mathlib.Core.Logic.{_⊎_, inl, inr}
 use Prim.Native.Nat.{ℕ, _+_, _≤_, _<_}
 use native.Mathlib.Omega.{arith}
-use lib.ListN.{length, getD}
+use lib.ListN.{length, getD, drop}
 use lib.Dec.{eqb, ltb}
 use borrow.Author.Tests.{eq-eqb, ne-eqb, lt-ltb, le-ltb, ltb-true, eqb-true, eqb-false}
 use Rattle.card.specs.Header.{nodesOfLength, Sized}
@@ -13,10 +13,10 @@ use Rattle.card.proofs.HeaderLaws.{sized-nodes, formatted-header}
 use Rattle.card.specs.Layout.{nodeAt}
 use Rattle.card.specs.Stores.{Store}
 use Rattle.demands.specs.Demand1.{HandsBack, Stores, StoresNext, Answers, Refuses, Demand1}
-use Rattle.demands.specs.Table.{formatting, inserting, deleting}
-use Rattle.demands.specs.Refusals.{ByRows, Idle, NoCard, cardRows, end, row}
+use Rattle.demands.specs.Table.{noWork, formatting, inserting, deleting}
+use Rattle.demands.specs.Refusals.{Rows, ByRows, Idle, NoCard, cardRows, end, row}
 use Rattle.demands.specs.RationTable.{workOf, stepped, rationTable}
-use Rattle.demands.proofs.Work.{idle-work, busy-work, work-formatting}
+use Rattle.demands.proofs.Work.{IdleOrTask, idle-or-task, work-formatting}
 use Rattle.demands.proofs.CardRows.{finds, formats, opens}
 use Rattle.demands.proofs.StartRows.{not-sized, start-one, refused-back, inserts, deletes}
 use Rattle.demands.proofs.FirstRows.{sized?, by-card}
@@ -29,14 +29,18 @@ use Rattle.laws.proofs.Cases.{bool-cases, order}
 use Rattle.plans.specs.Planning.{Preparation, refused, balanced, prepared}
 use Rattle.state.specs.Answers.{stepReply}
 use Rattle.state.specs.Memory.{Memory, idled, advanced}
-use Rattle.state.specs.Steps.{isIdle, Step, stepRefused, stepFinal, formatStore, stepFormat, stepStore, stepFirst, formatting as formattingThen}
+use Rattle.state.specs.Steps.{heldBy, Step, stepRefused, stepFinal, formatStore, stepFormat, stepStore, formatting as formattingThen}
+use Rattle.state.specs.declared.Task.{Task}
+use Rattle.state.specs.declared.Held.the-variants.{Nothing as NoneHeld, Task as HeldTask}
+use Rattle.state.proofs.Tasks.{TaskOf, putting, taking, put, taken, opened, task-of}
 use Rattle.state.specs.declared.Answer.{Answer}
 use Rattle.state.specs.declared.Answer.the-variants.{Ready, Absent, Value}
 use Rattle.state.specs.declared.Doing.{Doing}
-use Rattle.state.specs.declared.Doing.the-variants.{Idle as NoDoing, Formatting, Inserting, Deleting, Repairing}
+use Rattle.state.specs.declared.Doing.the-variants.{Formatting, Inserting, Deleting}
 use Rattle.starting.specs.Starts.{insertOf, deleteOf}
-use Rattle.table.specs.Calls.{planning, stepPrepared, stepBegin, stepPlan, stepWork, stepHeld, stepDoing, stepOf}
-use Rattle.updates.specs.Updates.{Reason, landing, startRoom, insertReason, insertChange, deleteChange, repairs, noChange, changeIn, changeAt, nextChange, held, slot, full}
+use Rattle.table.specs.Calls.{planning, stepPrepared, stepBegin, stepTask, stepHeld, stepOf}
+use Rattle.table.proofs.StepLaws.{idle-refused, idle-unchecked, task-due, task-unchecked}
+use Rattle.updates.specs.Updates.{Reason, FirstChange, landing, startRoom, insertReason, insertChange, deleteChange, insertIn, deleteIn, noWay, inLeaf, nextChange, held, slot, full}
 
 -- an answer that is final
 abbrev pub Final : Answer → Type 0
@@ -55,28 +59,18 @@ unfolding deleteChange stepReply
 delete-final key free last m words (At i) = inr (inl (getD words (12 + i) 0, refl))
 delete-final key free last m words NoSlot = inr (inr refl)
 
-change-final : (doing : Doing) (free : List Bool) (last m link : ℕ) (words : List ℕ) → Final (changeIn doing free last m link words .final)
-unfolding changeIn noChange stepReply
-change-final NoDoing free last m link words = inl refl
-change-final (Formatting made) free last m link words = inl refl
-change-final (Inserting key value begun) free last m link words = insert-final key value free last m link words (insertReason words key)
-change-final (Deleting key begun value) free last m link words = delete-final key free last m words (slotOf words key)
-change-final (Repairing key) free last m link words = inl refl
+leaf-final : (c : List ℕ) (doing : Doing) (change : ℕ → ℕ → List ℕ → FirstChange) → ((m link : ℕ) (words : List ℕ) → Final (change m link words .final)) → (l : Landing) → Final (inLeaf c doing change l .final)
+unfolding inLeaf noWay
+leaf-final c doing change f NoLanding = inr (inr refl)
+leaf-final c doing change f (LandingAt m link run) = f m link (nodeAt c m)
 
-pub at-final : (c : List ℕ) (doing : Doing) (free : List Bool) (last : ℕ) (l : Landing) → Final (changeAt c doing free last l .final)
-unfolding changeAt noChange stepReply
-at-final c doing free last NoLanding = inl refl
-at-final c doing free last (LandingAt m link run) = change-final doing free last m link (nodeAt c m)
-
-pub next-final : (c : List ℕ) (n : ℕ) (free : List Bool) (last : ℕ) (doing : Doing) → Final (nextChange c n free last doing .final)
-unfolding nextChange noChange repairs stepReply
-next-final c n free last NoDoing = inl refl
-next-final c n free last (Formatting made) = inl refl
-next-final c n free last (Inserting key value false) = at-final c (Inserting key value false) free last (landing c n key)
-next-final c n free last (Inserting key value true) = inr (inr refl)
-next-final c n free last (Deleting key false value) = at-final c (Deleting key false value) free last (landing c n key)
-next-final c n free last (Deleting key true value) = inr (inl (value, refl))
-next-final c n free last (Repairing key) = inl refl
+pub next-final : (c : List ℕ) (n : ℕ) (free : List Bool) (last : ℕ) {doing : Doing} {task : Task} → TaskOf doing task → Final (nextChange c n free last doing task .final)
+unfolding nextChange
+next-final c n free last (putting {key} {value}) = leaf-final c (Inserting key value false) (insertIn key value free last) (λ m link words. insert-final key value free last m link words (insertReason words key)) (landing c n key)
+next-final c n free last (taking {key} {value}) = leaf-final c (Deleting key false value) (deleteIn key free last) (λ m link words. delete-final key free last m words (slotOf words key)) (landing c n key)
+next-final c n free last put = inr (inr refl)
+next-final c n free last (taken {value = value}) = inr (inl (value, refl))
+next-final c n free last opened = inl refl
 
 -- ---- the three cases
 
@@ -112,23 +106,20 @@ unfolding advanced
 advanced-rest m [] = refl
 advanced-rest m (s ∷ rest) = refl
 
-store-cases : (c : List ℕ) (old m : Memory) (s : Store) (rest : List Store) → m .nodes ≡ old .nodes → workOf (m .doing) ≡ workOf (old .doing) → Cases c old (stepStore c old m s rest)
+store-cases : (c : List ℕ) (m : Memory) (s : Store) (next : Memory) → next .nodes ≡ m .nodes → workOf (next .doing) ≡ workOf (m .doing) → Cases c m (stepStore c m s next)
 unfolding stepStore stepReply
-store-cases c old m s rest en ew =
+store-cases c m s next en ew =
     order (s .0) (length c)
-    (λ o. inl (rw (lt-ltb (s .0) (length c) o) (record { reply-given = refl; place = s .0; word = s .1; inside = o; one-store = refl; nodes-kept = advanced-nodes m rest ∙ en; work-kept = ap workOf (advanced-doing m rest) ∙ ew })))
-    (λ o. inr (inr (rw (le-ltb (s .0) (length c) o) (refused-same 9 c old))))
-
-first-cases : (c : List ℕ) (old m : Memory) (stores : List Store) → m .nodes ≡ old .nodes → workOf (m .doing) ≡ workOf (old .doing) → Cases c old (stepFirst c old m stores)
-unfolding stepFirst
-first-cases c old m [] en ew = inr (inr (refused-same 9 c old))
-first-cases c old m (s ∷ rest) en ew = store-cases c old m s rest en ew
+    (λ o. inl (rw (lt-ltb (s .0) (length c) o) (record { reply-given = refl; place = s .0; word = s .1; inside = o; one-store = refl; nodes-kept = en; work-kept = ew })))
+    (λ o. inr (inr (rw (le-ltb (s .0) (length c) o) (refused-same 9 c m))))
 
 prepared-cases : (c : List ℕ) (m : Memory) (doing : Doing) (a : Answer) → workOf doing ≡ workOf (m .doing) → Final a → (p : Preparation) → Cases c m (stepPrepared c m doing a p)
 unfolding stepPrepared planning
 prepared-cases c m doing a ew f refused = inr (inr (refused-same 9 c m))
 prepared-cases c m doing a ew f balanced = inr (inl (final-idle a c m f))
-prepared-cases c m doing a ew f (prepared stores free last cut) = first-cases c m (planning m doing free last cut) stores refl ew
+prepared-cases c m doing a ew f (prepared stores free last cut) =
+    let then = planning m doing free last cut in
+    store-cases c m (getD stores 0 (0, 0)) (advanced then (drop 1 stores)) (advanced-nodes then (drop 1 stores)) (ap workOf (advanced-doing then (drop 1 stores)) ∙ ew)
 
 -- planning a change leaves what is being done
 insert-work : (key value : ℕ) (free : List Bool) (last m link : ℕ) (words : List ℕ) (r : Reason) → workOf (insertChange key value free last m link words r .doing) ≡ inserting key value
@@ -142,35 +133,25 @@ unfolding deleteChange workOf
 delete-work key free last m words (At i) = refl
 delete-work key free last m words NoSlot = refl
 
-change-work : (doing : Doing) (free : List Bool) (last m link : ℕ) (words : List ℕ) → workOf (changeIn doing free last m link words .doing) ≡ workOf doing
-unfolding changeIn noChange workOf
-change-work NoDoing free last m link words = refl
-change-work (Formatting made) free last m link words = refl
-change-work (Inserting key value begun) free last m link words = insert-work key value free last m link words (insertReason words key)
-change-work (Deleting key begun value) free last m link words = delete-work key free last m words (slotOf words key)
-change-work (Repairing key) free last m link words = refl
+leaf-work : (c : List ℕ) (doing : Doing) (change : ℕ → ℕ → List ℕ → FirstChange) → ((m link : ℕ) (words : List ℕ) → workOf (change m link words .doing) ≡ workOf doing) → (l : Landing) → workOf (inLeaf c doing change l .doing) ≡ workOf doing
+unfolding inLeaf noWay
+leaf-work c doing change e NoLanding = refl
+leaf-work c doing change e (LandingAt m link run) = e m link (nodeAt c m)
 
-at-work : (c : List ℕ) (doing : Doing) (free : List Bool) (last : ℕ) (l : Landing) → workOf (changeAt c doing free last l .doing) ≡ workOf doing
-unfolding changeAt noChange
-at-work c doing free last NoLanding = refl
-at-work c doing free last (LandingAt m link run) = change-work doing free last m link (nodeAt c m)
+next-work : (c : List ℕ) (n : ℕ) (free : List Bool) (last : ℕ) {doing : Doing} {task : Task} → TaskOf doing task → workOf (nextChange c n free last doing task .doing) ≡ workOf doing
+unfolding nextChange workOf
+next-work c n free last (putting {key} {value}) = leaf-work c (Inserting key value false) (insertIn key value free last) (λ m link words. insert-work key value free last m link words (insertReason words key)) (landing c n key)
+next-work c n free last (taking {key} {value}) = leaf-work c (Deleting key false value) (deleteIn key free last) (λ m link words. delete-work key free last m words (slotOf words key)) (landing c n key)
+next-work c n free last put = refl
+next-work c n free last taken = refl
+next-work c n free last opened = refl
 
-next-work : (c : List ℕ) (n : ℕ) (free : List Bool) (last : ℕ) (doing : Doing) → workOf (nextChange c n free last doing .doing) ≡ workOf doing
-unfolding nextChange noChange repairs
-next-work c n free last NoDoing = refl
-next-work c n free last (Formatting made) = refl
-next-work c n free last (Inserting key value false) = at-work c (Inserting key value false) free last (landing c n key)
-next-work c n free last (Inserting key value true) = refl
-next-work c n free last (Deleting key false value) = at-work c (Deleting key false value) free last (landing c n key)
-next-work c n free last (Deleting key true value) = refl
-next-work c n free last (Repairing key) = refl
-
-work-cases : (c : List ℕ) (m : Memory) (rest : List Store) → Cases c m (stepWork c m rest)
-unfolding stepWork stepPlan stepBegin
-work-cases c m [] =
-    let f = nextChange c (m .nodes) (m .free) (m .last) (m .doing) in
-    prepared-cases c m (f .doing) (f .final) (next-work c (m .nodes) (m .free) (m .last) (m .doing)) (next-final c (m .nodes) (m .free) (m .last) (m .doing)) (f .preparation)
-work-cases c m (s ∷ rest) = store-cases c m m s rest refl refl
+task-cases : (c : List ℕ) (m : Memory) (task : Task) → TaskOf (m .doing) task → (rest : List Store) → Cases c m (stepTask c m task rest)
+unfolding stepTask stepBegin
+task-cases c m task o [] =
+    let f = nextChange c (m .nodes) (m .free) (m .last) (m .doing) task in
+    prepared-cases c m (f .doing) (f .final) (next-work c (m .nodes) (m .free) (m .last) o) (next-final c (m .nodes) (m .free) (m .last) o) (f .preparation)
+task-cases c m task o (s ∷ rest) = store-cases c m s (advanced m rest) (advanced-nodes m rest) (ap workOf (advanced-doing m rest))
 
 -- formatting: its place is always on the card
 format-cases : (c : List ℕ) (m : Memory) (made : ℕ) → workOf (m .doing) ≡ formatting → 0 < length c → FormatCases c m (stepFormat c m made (formatStore (m .nodes) (length c) made))
@@ -189,39 +170,47 @@ step-one c m p =
     bool-cases (eqb (nodesOfLength (length c)) 0) (λ q. rw q) (λ q.
     bool-cases (eqb (nodesOfLength (length c)) (m .nodes)) (λ q₁. absurd (not-sized c (m .nodes) p (eqb-false (nodesOfLength (length c)) 0 q) (eqb-true (nodesOfLength (length c)) (m .nodes) q₁))) (λ q₁. rw (q, q₁)))
 
-pub step-sized : (c : List ℕ) (m : Memory) → Sized (length c) (m .nodes) → stepOf c m ≡ stepDoing c m (m .doing)
+pub step-sized : (c : List ℕ) (m : Memory) → Sized (length c) (m .nodes) → stepOf c m ≡ stepHeld c m (heldBy (m .doing))
 unfolding stepOf
 step-sized c m s = rw (sized-nodes (length c) (m .nodes) s, ne-eqb (m .nodes) 0 (λ z. omega (arith, z, s .least)), eq-eqb (m .nodes) (m .nodes) refl)
 
-held-doing : (c : List ℕ) (m : Memory) (doing : Doing) → (workOf doing ≡ formatting → ⊥) → stepDoing c m doing ≡ stepHeld c m
-unfolding workOf stepDoing
-held-doing c m NoDoing e = refl
-held-doing c m (Formatting made) e = absurd (e refl)
-held-doing c m (Inserting key value begun) e = refl
-held-doing c m (Deleting key begun value) e = refl
-held-doing c m (Repairing key) e = refl
-
 module _ (c : List ℕ) (m : Memory) where
   pub formatting-rows : workOf (m .doing) ≡ formatting → ByRows (row 1 (NoCard c (m .nodes)) end) (Refuses rationTable c m (stepped (stepOf c m))) (FormatCases c m (stepOf c m))
-  unfolding ByRows stepDoing
+  unfolding ByRows heldBy stepHeld
   formatting-rows q = go (sized? (length c) (m .nodes)) (work-formatting (m .doing) q)
     where
       go : Dec (Sized (length c) (m .nodes)) → ((made : ℕ) × (m .doing ≡ Formatting made)) → (NoCard c (m .nodes) × Refuses rationTable c m (stepped (stepOf c m)) 1) ⊎ ((NoCard c (m .nodes) → ⊥) × FormatCases c m (stepOf c m))
       go (no p) d = inl (p, rw (step-one c m p) (refused-same 1 c m))
-      go (yes s) (made, e) = inr (λ p. p s, rw (step-sized c m s ∙ ap (stepDoing c m) e) (format-cases c m made q (omega (arith, s .words))))
+      go (yes s) (made, e) = inr (λ p. p s, rw (step-sized c m s ∙ ap (λ (d : Doing). stepHeld c m (heldBy d)) e) (format-cases c m made q (omega (arith, s .words))))
+
+  -- 1, 2 and 3, and then 10 where nothing is held, whatever comes after it, or what comes after it where a task is
+  idle-rows : heldBy (m .doing) ≡ NoneHeld → workOf (m .doing) ≡ noWork → (rows : Rows) (works : Type 0) → ByRows (cardRows c (m .nodes) (row 10 (Idle rationTable m) rows)) (Refuses rationTable c m (stepped (stepOf c m))) works
+  unfolding ByRows
+  idle-rows e w rows works =
+      by-card (row 10 (Idle rationTable m) rows) (Refuses rationTable c m (stepped (stepOf c m))) works c (m .nodes)
+      (λ p. rw (step-one c m p) (refused-same 1 c m))
+      (λ r s k d. rw (step-sized c m s ∙ ap (stepHeld c m) e ∙ idle-unchecked c m r (sym k) d) (refused-same r c m))
+      (λ s f. inl (w, rw (step-sized c m s ∙ ap (stepHeld c m) e ∙ idle-refused c m (formatted-header c (m .nodes) f)) (refused-same 10 c m)))
+
+  task-rows : (task : Task) → heldBy (m .doing) ≡ HeldTask task → (workOf (m .doing) ≡ noWork → ⊥) → (rows : Rows) (works : Type 0)
+      → (stepOf c m ≡ stepTask c m task (m .rest) → ByRows rows (Refuses rationTable c m (stepped (stepOf c m))) works) → ByRows (cardRows c (m .nodes) (row 10 (Idle rationTable m) rows)) (Refuses rationTable c m (stepped (stepOf c m))) works
+  unfolding ByRows
+  task-rows task e w rows works next =
+      by-card (row 10 (Idle rationTable m) rows) (Refuses rationTable c m (stepped (stepOf c m))) works c (m .nodes)
+      (λ p. rw (step-one c m p) (refused-same 1 c m))
+      (λ r s k d. rw (step-sized c m s ∙ ap (stepHeld c m) e ∙ task-unchecked c m r (sym k) d task) (refused-same r c m))
+      (λ s f. inr (w, next (step-sized c m s ∙ ap (stepHeld c m) e ∙ task-due c m (formatted-header c (m .nodes) f) task)))
 
   pub held-rows : (workOf (m .doing) ≡ formatting → ⊥) → ByRows (cardRows c (m .nodes) (row 10 (Idle rationTable m) end)) (Refuses rationTable c m (stepped (stepOf c m))) (Cases c m (stepOf c m))
-  unfolding ByRows stepHeld
-  held-rows q =
-      by-card (row 10 (Idle rationTable m) end) (Refuses rationTable c m (stepped (stepOf c m))) (Cases c m (stepOf c m)) c (m .nodes)
-      (λ p. rw (step-one c m p) (refused-same 1 c m))
-      (λ r s e d. rw (step-sized c m s ∙ held-doing c m (m .doing) q, e, ne-eqb r 0 d) (refused-same r c m))
-      (λ s f. bool-cases (isIdle (m .doing))
-      (λ i. inl (idle-work (m .doing) i, rw (step-sized c m s ∙ held-doing c m (m .doing) q, formatted-header c (m .nodes) f, i) (refused-same 10 c m)))
-      (λ i. inr (busy-work (m .doing) i, rw (step-sized c m s ∙ held-doing c m (m .doing) q, formatted-header c (m .nodes) f, i) (work-cases c m (m .rest)))))
+  unfolding ByRows
+  held-rows q = go (idle-or-task (m .doing) q)
+    where
+      go : IdleOrTask (m .doing) → ByRows (cardRows c (m .nodes) (row 10 (Idle rationTable m) end)) (Refuses rationTable c m (stepped (stepOf c m))) (Cases c m (stepOf c m))
+      go (inl (e, w)) = idle-rows e w end (Cases c m (stepOf c m))
+      go (inr (task, e, w)) = task-rows task e w end (Cases c m (stepOf c m)) (λ due. subst (Cases c m) (sym due) (task-cases c m task (task-of (m .doing) task e) (m .rest)))
 
 -- with a change in hand
-next-cases : (c : List ℕ) (m : Memory) (x : Store) (rest : List Store) → ByRows (row 9 (length c ≤ x .0) end) (Refuses rationTable c m (stepped (stepStore c m m x rest))) (StoresNext rationTable c m (stepped (stepStore c m m x rest)) x rest)
+next-cases : (c : List ℕ) (m : Memory) (x : Store) (rest : List Store) → ByRows (row 9 (length c ≤ x .0) end) (Refuses rationTable c m (stepped (stepStore c m x (advanced m rest)))) (StoresNext rationTable c m (stepped (stepStore c m x (advanced m rest))) x rest)
 unfolding ByRows stepStore stepReply
 next-cases c m x rest =
     order (x .0) (length c)
@@ -230,14 +219,14 @@ next-cases c m x rest =
 
 in-hand-rows : (c : List ℕ) (m : Memory) (x : Store) (rest : List Store) → m .rest ≡ x ∷ rest → (workOf (m .doing) ≡ formatting → ⊥)
     → ByRows (cardRows c (m .nodes) (row 10 (Idle rationTable m) (row 9 (length c ≤ x .0) end))) (Refuses rationTable c m (stepped (stepOf c m))) (StoresNext rationTable c m (stepped (stepOf c m)) x rest)
-unfolding ByRows stepHeld stepWork
-in-hand-rows c m x rest e q =
-    by-card (row 10 (Idle rationTable m) (row 9 (length c ≤ x .0) end)) (Refuses rationTable c m (stepped (stepOf c m))) (StoresNext rationTable c m (stepped (stepOf c m)) x rest) c (m .nodes)
-    (λ p. rw (step-one c m p) (refused-same 1 c m))
-    (λ r s k d. rw (step-sized c m s ∙ held-doing c m (m .doing) q, k, ne-eqb r 0 d) (refused-same r c m))
-    (λ s f. bool-cases (isIdle (m .doing))
-    (λ i. inl (idle-work (m .doing) i, rw (step-sized c m s ∙ held-doing c m (m .doing) q, formatted-header c (m .nodes) f, i) (refused-same 10 c m)))
-    (λ i. inr (busy-work (m .doing) i, subst (λ (y : Step). ByRows (row 9 (length c ≤ x .0) end) (Refuses rationTable c m (stepped y)) (StoresNext rationTable c m (stepped y) x rest)) (sym (step-sized c m s ∙ held-doing c m (m .doing) q ∙ rw (formatted-header c (m .nodes) f, i) (ap (stepWork c m) e))) (next-cases c m x rest))))
+unfolding stepTask
+in-hand-rows c m x rest r q = go (idle-or-task (m .doing) q)
+  where
+    go : IdleOrTask (m .doing) → ByRows (cardRows c (m .nodes) (row 10 (Idle rationTable m) (row 9 (length c ≤ x .0) end))) (Refuses rationTable c m (stepped (stepOf c m))) (StoresNext rationTable c m (stepped (stepOf c m)) x rest)
+    go (inl (e, w)) = idle-rows c m e w (row 9 (length c ≤ x .0) end) (StoresNext rationTable c m (stepped (stepOf c m)) x rest)
+    go (inr (task, e, w)) =
+        task-rows c m task e w (row 9 (length c ≤ x .0) end) (StoresNext rationTable c m (stepped (stepOf c m)) x rest)
+        (λ due. subst (λ (y : Step). ByRows (row 9 (length c ≤ x .0) end) (Refuses rationTable c m (stepped y)) (StoresNext rationTable c m (stepped y) x rest)) (sym (due ∙ ap (stepTask c m task) r)) (next-cases c m x rest))
 
 -- no card has N = 0
 none-sized : (c : List ℕ) (n : ℕ) → n ≡ 0 → NoCard c n

@@ -21,7 +21,7 @@ use Rattle.demands.proofs.ByRules.{Begun, repairs-by-rules, first-by-ru
 use Rattle.demands.proofs.SameBook.{worldly, same-world, handOf, Flagged, fed-same}
 use Rattle.demands.specs.RationTable.{rationTable}
 use Rattle.demands.proofs.PowerCuts.{Covered, covered-nodes}
-use Rattle.demands.proofs.StepRows.{at-final}
+use Rattle.demands.proofs.StepRows.{next-final}
 use Rattle.demands.proofs.Making.{Nears}
 use Rattle.demands.proofs.AnswerNumbers.{card-small}
 use Rattle.demands.proofs.PlannedUpdates.{insert-by-rule, delete-by-rule}
@@ -54,7 +54,10 @@ use Rattle.state.specs.declared.Doing.{Doing}
 use Rattle.state.specs.declared.Doing.the-variants.{Inserting, Deleting, Repairing}
 use Rattle.table.specs.Calls.{repairSteps}
 use Rattle.tree.specs.Pairs.{lookup}
-use Rattle.updates.specs.Updates.{Reason, landing, insertReason, insertChange, deleteChange, noChange, changeIn, changeAt, startRoom, held, slot, full}
+use Rattle.updates.proofs.Preparations.{next-stores}
+use Rattle.state.proofs.Tasks.{putting, taking}
+use Rattle.state.specs.declared.Task.the-variants.{PutIn, TakeOut}
+use Rattle.updates.specs.Updates.{Reason, landing, insertReason, insertChange, deleteChange, insertIn, deleteIn, noWay, inLeaf, nextChange, startRoom, held, slot, full}
 
 -- what opening hands back: no stores to come, and a repair where it says so
 abbrev OpenDoing : Handed → Type 0
@@ -172,19 +175,19 @@ module _ (w : World rationTable) (b : Book) (v : Covered w b) where
   delete-begun key free last m words (At i) = (getD words (12 + i) 0, refl)
   delete-begun key free last m words NoSlot = (0, refl)
 
-  prepared-insert : (c : List ℕ) (key value : ℕ) (free : List Bool) (last : ℕ) (l : Landing) {ss : List Store} {fewer : List Bool} {now : ℕ} {out : List ℕ} → changeAt c (Inserting key value false) free last l .preparation ≡ prepared ss fewer now out → Begun (changeAt c (Inserting key value false) free last l .doing)
-  unfolding changeAt changeIn noChange
+  prepared-insert : (c : List ℕ) (key value : ℕ) (free : List Bool) (last : ℕ) (l : Landing) {ss : List Store} {fewer : List Bool} {now : ℕ} {out : List ℕ} → inLeaf c (Inserting key value false) (insertIn key value free last) l .preparation ≡ prepared ss fewer now out → Begun (inLeaf c (Inserting key value false) (insertIn key value free last) l .doing)
+  unfolding inLeaf noWay
   prepared-insert c key value free last NoLanding e = impossible (cc)
   prepared-insert c key value free last (LandingAt m link run) e = subst Begun (sym (insert-begun key value free last m link (nodeAt c m) (insertReason (nodeAt c m) key))) (key, Absent, some (put key value), job-insert)
 
-  prepared-delete : (c : List ℕ) (key : ℕ) (free : List Bool) (last : ℕ) (l : Landing) {ss : List Store} {fewer : List Bool} {now : ℕ} {out : List ℕ} → changeAt c (Deleting key false 0) free last l .preparation ≡ prepared ss fewer now out → Begun (changeAt c (Deleting key false 0) free last l .doing)
-  unfolding changeAt changeIn noChange
+  prepared-delete : (c : List ℕ) (key : ℕ) (free : List Bool) (last : ℕ) (l : Landing) {ss : List Store} {fewer : List Bool} {now : ℕ} {out : List ℕ} → inLeaf c (Deleting key false 0) (deleteIn key free last) l .preparation ≡ prepared ss fewer now out → Begun (inLeaf c (Deleting key false 0) (deleteIn key free last) l .doing)
+  unfolding inLeaf noWay
   prepared-delete c key free last NoLanding e = impossible (cc)
   prepared-delete c key free last (LandingAt m link run) e = let d = delete-begun key free last m (nodeAt c m) (slotOf (nodeAt c m) key) in subst Begun (sym (d .1)) (key, Value (d .0), some (remove key), job-delete)
 
   -- where nothing is planned, the key is held by an insert and absent to a delete
-  insert-nothing : (c : List ℕ) (key value : ℕ) (free : List Bool) (last : ℕ) (l : Landing) (o : Option ℕ) → changeAt c (Inserting key value false) free last l .preparation ≡ balanced → changeAt c (Inserting key value false) free last l .final ≡ dictionaryAnswer o → (a : ℕ) × (o ≡ some a)
-  unfolding changeAt changeIn noChange insertChange dictionaryAnswer
+  insert-nothing : (c : List ℕ) (key value : ℕ) (free : List Bool) (last : ℕ) (l : Landing) (o : Option ℕ) → inLeaf c (Inserting key value false) (insertIn key value free last) l .preparation ≡ balanced → inLeaf c (Inserting key value false) (insertIn key value free last) l .final ≡ dictionaryAnswer o → (a : ℕ) × (o ≡ some a)
+  unfolding inLeaf noWay insertChange dictionaryAnswer
   insert-nothing c key value free last NoLanding o e q = impossible (cc)
   insert-nothing c key value free last (LandingAt m link run) o e q = at (insertReason (nodeAt c m) key) e q o refl
     where
@@ -194,8 +197,8 @@ module _ (w : World rationTable) (b : Book) (v : Covered w b) where
       at (slot i) e q p k = impossible (cc)
       at full e q p k = absurd (giving-not-balanced 3 free last _ e)
 
-  delete-nothing : (c : List ℕ) (key : ℕ) (free : List Bool) (last : ℕ) (l : Landing) (o : Option ℕ) → changeAt c (Deleting key false 0) free last l .preparation ≡ balanced → changeAt c (Deleting key false 0) free last l .final ≡ dictionaryAnswer o → o ≡ none
-  unfolding changeAt changeIn noChange deleteChange dictionaryAnswer
+  delete-nothing : (c : List ℕ) (key : ℕ) (free : List Bool) (last : ℕ) (l : Landing) (o : Option ℕ) → inLeaf c (Deleting key false 0) (deleteIn key free last) l .preparation ≡ balanced → inLeaf c (Deleting key false 0) (deleteIn key free last) l .final ≡ dictionaryAnswer o → o ≡ none
+  unfolding inLeaf noWay deleteChange dictionaryAnswer
   delete-nothing c key free last NoLanding o e q = impossible (cc)
   delete-nothing c key free last (LandingAt m link run) o e q = at (slotOf (nodeAt c m) key) e q o refl
     where
@@ -206,7 +209,7 @@ module _ (w : World rationTable) (b : Book) (v : Covered w b) where
 
   pub insert-by-rules : (key value : ℕ) → key < keyLimit → insertOf (w .card) (w .state) key value .begun ≡ Started
       → Updates rationTable ((a : ℕ) × (lookup key (v .was-kept .held) ≡ some a)) (InsertRule (w .card) key value) (stepReply (dictionaryAnswer (lookup key (v .was-kept .held)))) (happens rationTable (insert key value) w)
-  unfolding happens insertOf
+  unfolding happens insertOf nextChange
   insert-by-rules key value high e =
       let q = insert-nears key value high e in
       let u = q .1 .covered in
@@ -214,15 +217,16 @@ module _ (w : World rationTable) (b : Book) (v : Covered w b) where
       let d : m .doing ≡ Inserting key value false = started-doing (w .state) (Inserting key value false) (startRoom (w .card) key (w .state .free)) key e in
       let n : nodesOn (w .card) ≡ u .size = covered-nodes u ∙ nodes-same (u .size) (u .steps) (worldly (happens rationTable (insert key value) w)) (u .was-kept) (u .due) (u .inv) in
       first-by-rules (dictionaryAnswer (lookup key (v .was-kept .held))) (q .0) (happens rationTable (insert key value) w) (q .1) (q .2) ((a : ℕ) × (lookup key (v .was-kept .held) ≡ some a)) (InsertRule (w .card) key value)
-      (changeAt (w .card) (Inserting key value false) (m .free) (m .last) (landing (w .card) (u .size) key))
+      (nextChange (w .card) (u .size) (m .free) (m .last) (Inserting key value false) (PutIn key value))
       (put-turns key value (u .inv .table) (u .inv .stage) d)
-      (at-final (w .card) (Inserting key value false) (m .free) (m .last) (landing (w .card) (u .size) key))
+      (next-final (w .card) (u .size) (m .free) (m .last) putting)
+      (next-stores (m .free) (m .last) (w .card) (u .size) (Inserting key value false) (PutIn key value))
       (insert-nothing (w .card) key value (m .free) (m .last) (landing (w .card) (u .size) key) (lookup key (v .was-kept .held)))
-      (λ ss fewer now out p. (insert-by-rule (w .card) (u .size) key n value false p, prepared-insert (w .card) key value (m .free) (m .last) (landing (w .card) (u .size) key) p))
+      (λ ss fewer now out p. (insert-by-rule (w .card) (u .size) key n (Inserting key value false) value p, prepared-insert (w .card) key value (m .free) (m .last) (landing (w .card) (u .size) key) p))
 
   pub delete-by-rules : (key : ℕ) → key < keyLimit → deleteOf (w .card) (w .state) key .begun ≡ Started
       → Updates rationTable (lookup key (v .was-kept .held) ≡ none) (DeleteRule (w .card) key) (stepReply (dictionaryAnswer (lookup key (v .was-kept .held)))) (happens rationTable (delete key) w)
-  unfolding happens deleteOf
+  unfolding happens deleteOf nextChange
   delete-by-rules key high e =
       let q = delete-nears key high e in
       let u = q .1 .covered in
@@ -230,11 +234,12 @@ module _ (w : World rationTable) (b : Book) (v : Covered w b) where
       let d : m .doing ≡ Deleting key false 0 = started-doing (w .state) (Deleting key false 0) (λ l. true) key e in
       let n : nodesOn (w .card) ≡ u .size = covered-nodes u ∙ nodes-same (u .size) (u .steps) (worldly (happens rationTable (delete key) w)) (u .was-kept) (u .due) (u .inv) in
       first-by-rules (dictionaryAnswer (lookup key (v .was-kept .held))) (q .0) (happens rationTable (delete key) w) (q .1) (q .2) (lookup key (v .was-kept .held) ≡ none) (DeleteRule (w .card) key)
-      (changeAt (w .card) (Deleting key false 0) (m .free) (m .last) (landing (w .card) (u .size) key))
+      (nextChange (w .card) (u .size) (m .free) (m .last) (Deleting key false 0) (TakeOut key))
       (remove-turns key (u .inv .table) (u .inv .stage) d)
-      (at-final (w .card) (Deleting key false 0) (m .free) (m .last) (landing (w .card) (u .size) key))
+      (next-final (w .card) (u .size) (m .free) (m .last) taking)
+      (next-stores (m .free) (m .last) (w .card) (u .size) (Deleting key false 0) (TakeOut key))
       (delete-nothing (w .card) key (m .free) (m .last) (landing (w .card) (u .size) key) (lookup key (v .was-kept .held)))
-      (λ ss fewer now out p. (delete-by-rule (w .card) (u .size) key n false 0 p, prepared-delete (w .card) key (m .free) (m .last) (landing (w .card) (u .size) key) p))
+      (λ ss fewer now out p. (delete-by-rule (w .card) (u .size) key n (Deleting key false 0) p, prepared-delete (w .card) key (m .free) (m .last) (landing (w .card) (u .size) key) p))
 
   -- opening's repair
   pub opening-by-rules : rationTable .openCard (w .card) .reply ≡ started → Repairs rationTable ready (opened rationTable (w .card))

@@ -1,12 +1,17 @@
 -- What the work that a state tells says of what is being done.
 use mathlib.Core.Path.{_≡_, refl, sym, _∙_}
 use mathlib.Core.Bool.{Bool, true, false}
+use mathlib.Core.Logic.{_⊎_, inl, inr}
 use Prim.Native.Nat.{ℕ}
 use Rattle.demands.specs.RationTable.{workOf}
 use Rattle.demands.specs.Table.{noWork, formatting}
-use Rattle.state.specs.Steps.{isIdle}
+use Rattle.state.specs.Steps.{isIdle, heldBy}
 use Rattle.state.specs.declared.Doing.{Doing}
 use Rattle.state.specs.declared.Doing.the-variants.{Idle, Formatting, Inserting, Deleting, Repairing}
+use Rattle.state.specs.declared.Answer.the-variants.{Ready, Absent, Value}
+use Rattle.state.specs.declared.Task.{Task}
+use Rattle.state.specs.declared.Task.the-variants.{PutIn, TakeOut, Repair}
+use Rattle.state.specs.declared.Held.the-variants.{Nothing as NoneHeld, Task as HeldTask}
 use Rattle.laws.proofs.Cases.{impossible}
 
 pub true-false : {P : Type 0} → _≡_ {A = Bool} true false → P
@@ -39,3 +44,17 @@ work-formatting (Formatting made) e = (made, refl)
 work-formatting (Inserting key value begun) e = impossible (cc)
 work-formatting (Deleting key begun value) e = impossible (cc)
 work-formatting (Repairing key) e = impossible (cc)
+
+-- what is not formatting holds nothing, or a task
+abbrev pub IdleOrTask : Doing → Type 0
+IdleOrTask d = ((heldBy d ≡ NoneHeld) × (workOf d ≡ noWork)) ⊎ ((task : Task) × (heldBy d ≡ HeldTask task) × (workOf d ≡ noWork → ⊥))
+
+pub idle-or-task : (d : Doing) → (workOf d ≡ formatting → ⊥) → IdleOrTask d
+unfolding workOf heldBy
+idle-or-task Idle q = inl (refl, refl)
+idle-or-task (Formatting made) q = absurd (q refl)
+idle-or-task (Inserting key value false) q = inr (PutIn key value, refl, λ e. impossible (cc))
+idle-or-task (Inserting key value true) q = inr (Repair key Absent, refl, λ e. impossible (cc))
+idle-or-task (Deleting key false value) q = inr (TakeOut key, refl, λ e. impossible (cc))
+idle-or-task (Deleting key true value) q = inr (Repair key (Value value), refl, λ e. impossible (cc))
+idle-or-task (Repairing key) q = inr (Repair key Ready, refl, λ e. impossible (cc))

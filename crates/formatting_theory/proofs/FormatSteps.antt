@@ -14,9 +14,9 @@ use Rattle.card.specs.Stores.{Store}
 use Rattle.formatting_theory.proofs.FormatCard.{formatCard, format-untouched, format-next, format-length}
 use Rattle.formatting_theory.proofs.FormatStores.{some-store}
 use Rattle.free_nodes.specs.NodeSet.{allNodes}
-use Rattle.state.specs.Steps.{Handed, noBeginning, Step, stepFinal, formatStore, formatting, stepFormat}
+use Rattle.state.specs.Steps.{heldBy, Handed, noBeginning, Step, stepFinal, formatStore, formatting, stepFormat}
 use Rattle.starting.specs.Starts.{formatOf}
-use Rattle.table.specs.Calls.{stepDoing, stepOf}
+use Rattle.table.specs.Calls.{stepHeld, stepOf}
 use Rattle.state.specs.Memory.{Memory, resting, idled}
 use Rattle.state.specs.declared.Doing.the-variants.{Idle, Formatting}
 use Rattle.state.specs.declared.Answer.the-variants.{Stored, Ready}
@@ -48,7 +48,7 @@ format-refused c e = rw e
 -- ONE STEP: "Formatting steps check only 1."
 step-formats : (card : List ℕ) (n made : ℕ) (free : List Bool) (o : Option Store) → Sized (length card) n → formatStore n (length card) made ≡ o
     → stepOf card (resting n free (Formatting made)) ≡ stepFormat card (resting n free (Formatting made)) made o
-unfolding stepOf stepDoing resting
+unfolding stepOf heldBy stepHeld resting
 step-formats card n made free o s e = rw (sized-nodes (length card) n s, ne-eqb n 0 (omega (arith, s .least)), eq-eqb n n refl, e)
 
 format-stores : (card : List ℕ) (n made : ℕ) (free : List Bool) (s : Store)

@@ -17,35 +17,36 @@ use Rattle.promises.proofs.Feeding.{isNone, fullAt, leafFull}
 use Rattle.promises.proofs.Machine.{run}
 use Rattle.table.specs.Calls.{stepPrepared, stepBegin}
 use Rattle.state.specs.Memory.{Memory}
-use Rattle.updates.specs.Updates.{landing, emptyReason, reasonIn, insertReason, insertChange, deleteChange, splitNeed, roomFor, startRoom, changeIn, changeAt}
+use Rattle.updates.specs.Updates.{landing, emptyReason, reasonIn, insertReason, insertChange, deleteChange, splitNeed, roomFor, startRoom, inLeaf, nextChange}
 use Rattle.state.specs.declared.Doing.the-variants.{Inserting, Deleting}
+use Rattle.state.specs.declared.Task.the-variants.{PutIn, TakeOut}
 use Rattle.state.specs.declared.Answer.the-variants.{Absent, Value}
 use Rattle.descent.specs.declared.Slot.the-variants.{At, Absent as NoSlot}
 use Rattle.descent.specs.declared.Landing.the-variants.{Leaf as LandingAt}
 
 module _ (c : List ℕ) (n key : ℕ) (m link run : ℕ) (land : landing c n key ≡ LandingAt m link run) where
   module _ (value : ℕ) (free : List Bool) (last : ℕ) (mem : Memory) where
-    pub put-held : (i : ℕ) → slotOf (nodeAt c m) key ≡ At i → stepBegin c mem (changeAt c (Inserting key value false) free last (landing c n key)) ≡ stepPrepared c mem (Inserting key value true) (Value (getD (nodeAt c m) (12 + i) 0)) balanced
-    unfolding stepBegin changeAt changeIn insertReason reasonIn insertChange
+    pub put-held : (i : ℕ) → slotOf (nodeAt c m) key ≡ At i → stepBegin c mem (nextChange c n free last (Inserting key value false) (PutIn key value)) ≡ stepPrepared c mem (Inserting key value true) (Value (getD (nodeAt c m) (12 + i) 0)) balanced
+    unfolding stepBegin nextChange inLeaf insertReason reasonIn insertChange
     put-held i e = rw (land, e)
 
     pub put-slot : (i : ℕ) → slotOf (nodeAt c m) key ≡ NoSlot → slotOf (nodeAt c m) 0 ≡ At i
-        → stepBegin c mem (changeAt c (Inserting key value false) free last (landing c n key)) ≡ stepPrepared c mem (Inserting key value true) Absent (prepared ((place m (12 + i), value) ∷ (place m (1 + i), key) ∷ []) free last [])
-    unfolding stepBegin changeAt changeIn insertReason reasonIn emptyReason insertChange
+        → stepBegin c mem (nextChange c n free last (Inserting key value false) (PutIn key value)) ≡ stepPrepared c mem (Inserting key value true) Absent (prepared ((place m (12 + i), value) ∷ (place m (1 + i), key) ∷ []) free last [])
+    unfolding stepBegin nextChange inLeaf insertReason reasonIn emptyReason insertChange
     put-slot i e z = rw (land, e, z)
 
     pub put-full : slotOf (nodeAt c m) key ≡ NoSlot → slotOf (nodeAt c m) 0 ≡ NoSlot
-        → stepBegin c mem (changeAt c (Inserting key value false) free last (landing c n key)) ≡ stepPrepared c mem (Inserting key value true) Absent (giving 3 free last (λ ms. splitLeaf m link (sort ((key, value) ∷ leafPairs (nodeAt c m))) (first ms) (second ms) (third ms)))
-    unfolding stepBegin changeAt changeIn insertReason reasonIn emptyReason insertChange
+        → stepBegin c mem (nextChange c n free last (Inserting key value false) (PutIn key value)) ≡ stepPrepared c mem (Inserting key value true) Absent (giving 3 free last (λ ms. splitLeaf m link (sort ((key, value) ∷ leafPairs (nodeAt c m))) (first ms) (second ms) (third ms)))
+    unfolding stepBegin nextChange inLeaf insertReason reasonIn emptyReason insertChange
     put-full e z = rw (land, e, z)
 
     pub remove-held : (i : ℕ) → slotOf (nodeAt c m) key ≡ At i
-        → stepBegin c mem (changeAt c (Deleting key false 0) free last (landing c n key)) ≡ stepPrepared c mem (Deleting key true (getD (nodeAt c m) (12 + i) 0)) (Value (getD (nodeAt c m) (12 + i) 0)) (prepared ((place m (1 + i), 0) ∷ []) free last [])
-    unfolding stepBegin changeAt changeIn deleteChange
+        → stepBegin c mem (nextChange c n free last (Deleting key false 0) (TakeOut key)) ≡ stepPrepared c mem (Deleting key true (getD (nodeAt c m) (12 + i) 0)) (Value (getD (nodeAt c m) (12 + i) 0)) (prepared ((place m (1 + i), 0) ∷ []) free last [])
+    unfolding stepBegin nextChange inLeaf deleteChange
     remove-held i e = rw (land, e)
 
-    pub remove-absent : slotOf (nodeAt c m) key ≡ NoSlot → stepBegin c mem (changeAt c (Deleting key false 0) free last (landing c n key)) ≡ stepPrepared c mem (Deleting key true 0) Absent balanced
-    unfolding stepBegin changeAt changeIn deleteChange
+    pub remove-absent : slotOf (nodeAt c m) key ≡ NoSlot → stepBegin c mem (nextChange c n free last (Deleting key false 0) (TakeOut key)) ≡ stepPrepared c mem (Deleting key true 0) Absent balanced
+    unfolding stepBegin nextChange inLeaf deleteChange
     remove-absent e = rw (land, e)
 
   -- "A splitting insert needs j + 5 free nodes."

@@ -6,7 +6,7 @@ use mathlib.Core.List.{List, [], _∷_}
 use mathlib.Core.Option.{Option, none, some}
 use Prim.Native.Nat.{ℕ, zero, suc, _+_, _*_, _^_, _≤_, _<_}
 use native.Mathlib.Omega.{arith}
-use lib.ListN.{length, set, drop, length-set, length-take}
+use lib.ListN.{length, drop, set, length-set, length-take}
 use lib.Dec.{eqb, ltb}
 use borrow.Author.Tests.{eq-eqb}
 use Rattle.laws.specs.Cases.{pick}
@@ -26,31 +26,26 @@ use Rattle.descent.specs.declared.Landing.{Landing}
 use Rattle.descent.specs.declared.Landing.the-variants.{Refused as NoLanding, Leaf as LandingAt}
 use Rattle.plans.specs.Change.{Change}
 use Rattle.plans.specs.Planning.{Preparation, refused, balanced, prepared, numbersFrom, takeNumbers, lastOf, overNumbers, giving}
-use Rattle.change_decide.specs.Decide.{nextRepair as decidedRepair}
-use Rattle.change_decide.specs.declared.Decision.{Decision}
-use Rattle.change_decide.specs.declared.Decision.the-variants.{Refused as NoChange, Balanced as NothingDue, Absorb, SplitParent, Share, Merge, MergeRoot}
-use Rattle.change.specs.LayOut.{layOut}
-use Rattle.change.specs.Mending.{nextRepair}
 use Rattle.soundness.specs.Check.{Findings, tableCheck}
 use Rattle.state.specs.Memory.{Memory, memoryOf, noMemory, resting, idled, advanced}
-use Rattle.updates.specs.Updates.{Reason, held, slot, full, FirstChange, landing, insertReason, insertChange, deleteChange, repairs, noChange, nextChange, startRoom, changeIn, changeAt}
-use Rattle.state.specs.Steps.{Handed, Step, noBeginning, stepRefused, stepFinal, formatStore, formatting, stepFormat, stepStore, stepFirst, isIdle}
+use Rattle.updates.specs.Updates.{Reason, held, slot, full, FirstChange, landing, insertReason, insertChange, deleteChange, insertIn, deleteIn, noWay, inLeaf, nextChange, startRoom}
+use Rattle.updates.proofs.Preparations.{either, repair-by}
+use Rattle.state.specs.Steps.{heldBy, Handed, Step, noBeginning, stepRefused, stepFinal, formatStore, formatting, stepFormat, stepStore, isIdle}
 use Rattle.opening.specs.Opening.{openSound, openChecked, openOf}
 use Rattle.starting.specs.Starts.{formatOf, startRefused, started, startLanded, startChecked, startOf, insertOf, deleteOf}
-use Rattle.table.specs.Calls.{planning, stepPrepared, stepBegin, stepPlan, stepWork, stepHeld, stepDoing, stepOf}
+use Rattle.table.specs.Calls.{planning, stepPrepared, stepBegin, stepTask, stepChecked, stepHeld, stepOf}
 use Rattle.state.proofs.StepLaws.{format-end}
 use Rattle.state.specs.declared.Doing.{Doing}
 use Rattle.state.specs.declared.Doing.the-variants.{Idle, Formatting, Inserting, Deleting, Repairing}
+use Rattle.state.specs.declared.Task.{Task}
+use Rattle.state.specs.declared.Task.the-variants.{PutIn, TakeOut, Repair}
+use Rattle.state.specs.declared.Held.{Held}
+use Rattle.state.specs.declared.Held.the-variants.{Nothing as NoneHeld, Formatting as HeldFormatting, Task as HeldTask}
 use Rattle.state.specs.declared.Answer.{Answer}
 use Rattle.state.specs.declared.Answer.the-variants.{Stored, Ready}
 use Rattle.state.specs.declared.Begun.the-variants.{Idle as OpenedIdle, Started}
 use Rattle.state_block.specs.Block.{word, part, isTrue, doingIn, unpacked, memoryIn, formatted, Small}
 use Rattle.state_block.proofs.Block.{Words}
-
--- either of two
-either : {A : Type 0} (P : A → Type 0) (t : Bool) (x y : A) → P x → P y → P (pick t x y)
-either P true x y h k = h
-either P false x y h k = k
 
 -- ---- opening and starting to format
 
@@ -178,20 +173,6 @@ module _ (free : List Bool) (last : ℕ) (bits : length free ≤ 2 ^ 32) (small 
   unfolding giving
   low-giving k change = low-over change (takeNumbers k free last) (λ ms e. last-taken k free last ms bits small e)
 
-  low-laid : (card : List ℕ) (decision : Decision) → LowLast (layOut card decision free last)
-  unfolding layOut LowLast
-  low-laid card NoChange = tt
-  low-laid card NothingDue = tt
-  low-laid card (Absorb p) = low-giving 1 _
-  low-laid card (SplitParent p) = low-giving 3 _
-  low-laid card (Share p) = low-giving 3 _
-  low-laid card (Merge p) = low-giving 2 _
-  low-laid card (MergeRoot p) = low-giving 1 _
-
-  low-repair : (card : List ℕ) (n key : ℕ) → LowLast (nextRepair card n key free last)
-  unfolding nextRepair
-  low-repair card n key = low-laid card (decidedRepair card n key)
-
   -- the change planned, and what is done from then on
   low-insert-in : (key value m link : ℕ) (node : List ℕ) (reason : Reason) → LowFirst (insertChange key value free last m link node reason)
   unfolding insertChange formatted LowFirst LowLast
@@ -204,24 +185,16 @@ module _ (free : List Bool) (last : ℕ) (bits : length free ≤ 2 ^ 32) (small 
   low-delete-in key m node (At i) = (small, omega arith)
   low-delete-in key m node NoSlot = (tt, omega arith)
 
-  low-change : (card : List ℕ) (doing : Doing) (l : Landing) → formatted doing < 2 ^ 32 → LowFirst (changeAt card doing free last l)
-  unfolding changeAt changeIn noChange LowFirst LowLast
-  low-change card doing NoLanding h = (tt, h)
-  low-change card Idle (LandingAt m link run) h = (tt, h)
-  low-change card (Formatting made) (LandingAt m link run) h = (tt, h)
-  low-change card (Inserting key value begun) (LandingAt m link run) h = low-insert-in key value m link (nodeAt card m) (insertReason (nodeAt card m) key)
-  low-change card (Deleting key begun value) (LandingAt m link run) h = low-delete-in key m (nodeAt card m) (slotOf (nodeAt card m) key)
-  low-change card (Repairing key) (LandingAt m link run) h = (tt, h)
+  low-leaf : (card : List ℕ) (doing : Doing) (change : ℕ → ℕ → List ℕ → FirstChange) → ((m link : ℕ) (node : List ℕ) → LowFirst (change m link node)) → (l : Landing) → formatted doing < 2 ^ 32 → LowFirst (inLeaf card doing change l)
+  unfolding inLeaf noWay LowFirst LowLast
+  low-leaf card doing change low NoLanding h = (tt, h)
+  low-leaf card doing change low (LandingAt m link run) h = low m link (nodeAt card m)
 
-  low-next : (card : List ℕ) (n : ℕ) (doing : Doing) → formatted doing < 2 ^ 32 → LowFirst (nextChange card n free last doing)
-  unfolding nextChange repairs noChange LowFirst LowLast
-  low-next card n Idle h = (tt, h)
-  low-next card n (Formatting made) h = (tt, h)
-  low-next card n (Inserting key value false) h = low-change card (Inserting key value false) (landing card n key) h
-  low-next card n (Inserting key value true) h = (low-repair card n key, h)
-  low-next card n (Deleting key false value) h = low-change card (Deleting key false value) (landing card n key) h
-  low-next card n (Deleting key true value) h = (low-repair card n key, h)
-  low-next card n (Repairing key) h = (low-repair card n key, h)
+  low-next : (card : List ℕ) (n : ℕ) (doing : Doing) (task : Task) → formatted doing < 2 ^ 32 → LowFirst (nextChange card n free last doing task)
+  unfolding nextChange LowFirst LowLast
+  low-next card n doing (PutIn key value) h = low-leaf card doing (insertIn key value free last) (λ m link node. low-insert-in key value m link node (insertReason node key)) (landing card n key) h
+  low-next card n doing (TakeOut key) h = low-leaf card doing (deleteIn key free last) (λ m link node. low-delete-in key m node (slotOf node key)) (landing card n key) h
+  low-next card n doing (Repair key answer) h = (repair-by LowLast tt free last low-giving tt card n key, h)
 
 -- ---- a step
 
@@ -242,39 +215,29 @@ module _ (card : List ℕ) (m : Memory) (small : Small m) where
   unfolding stepFinal idled SmallStep formatted
   small-final a = record { nodes = small .nodes; last = small .last; formatting = omega arith }
 
-  small-store : (planned : Memory) (s : Store) (rest : List Store) → Small planned → SmallStep (stepStore card m planned s rest)
+  small-store : (s : Store) (next : Memory) → Small next → SmallStep (stepStore card m s next)
   unfolding stepStore SmallStep
-  small-store planned s rest h = either SmallStep (ltb (s .0) (length card)) (record { answer = Stored; card = set card (s .0) (s .1); memory = advanced planned rest }) (stepRefused 9 card m) (small-advanced planned rest h) (small-refusal 9)
-
-  small-first : (planned : Memory) (stores : List Store) → Small planned → SmallStep (stepFirst card m planned stores)
-  unfolding stepFirst
-  small-first planned [] h = small-refusal 9
-  small-first planned (s ∷ rest) h = small-store planned s rest h
+  small-store s next h = either SmallStep (ltb (s .0) (length card)) (record { answer = Stored; card = set card (s .0) (s .1); memory = next }) (stepRefused 9 card m) h (small-refusal 9)
 
   small-prepared : (doing : Doing) (final : Answer) (p : Preparation) → LowLast p → formatted doing < 2 ^ 32 → SmallStep (stepPrepared card m doing final p)
   unfolding stepPrepared planning LowLast
   small-prepared doing final refused h e = small-refusal 9
   small-prepared doing final balanced h e = small-final final
-  small-prepared doing final (prepared stores free last cut) h e = small-first (planning m doing free last cut) stores (record { nodes = small .nodes; last = h; formatting = e })
+  small-prepared doing final (prepared stores free last cut) h e =
+      small-store (getD stores 0 (0, 0)) (advanced (planning m doing free last cut) (drop 1 stores)) (small-advanced (planning m doing free last cut) (drop 1 stores) (record { nodes = small .nodes; last = h; formatting = e }))
 
   module _ (bits : length (m .free) ≤ 2 ^ 32) where
-    small-plan : SmallStep (stepPlan card m (m .doing))
-    unfolding stepPlan stepBegin LowFirst
-    small-plan =
-        let f : FirstChange = nextChange card (m .nodes) (m .free) (m .last) (m .doing) in
-        let low : LowFirst f = low-next (m .free) (m .last) bits (small .last) card (m .nodes) (m .doing) (small .formatting) in
+    small-task : (task : Task) (rest : List Store) → SmallStep (stepTask card m task rest)
+    unfolding stepTask stepBegin LowFirst
+    small-task task [] =
+        let f : FirstChange = nextChange card (m .nodes) (m .free) (m .last) (m .doing) task in
+        let low : LowFirst f = low-next (m .free) (m .last) bits (small .last) card (m .nodes) (m .doing) task (small .formatting) in
         small-prepared (f .doing) (f .final) (f .preparation) (low .0) (low .1)
+    small-task task (s ∷ rest) = small-store s (advanced m rest) (small-advanced m rest small)
 
-    small-work : (rest : List Store) → SmallStep (stepWork card m rest)
-    unfolding stepWork
-    small-work [] = small-plan
-    small-work (s ∷ rest) = small-store m s rest small
-
-    small-held : SmallStep (stepHeld card m)
-    unfolding stepHeld
-    small-held =
-        let r : ℕ = headerRefusal card (m .nodes) in
-        either SmallStep (eqb r 0) _ _ (either SmallStep (isIdle (m .doing)) _ _ (small-refusal 10) (small-work (m .rest))) (small-refusal r)
+    small-headed : (due : Step) → SmallStep due → SmallStep (stepChecked card m due)
+    unfolding stepChecked
+    small-headed due h = either SmallStep (eqb (headerRefusal card (m .nodes)) 0) _ _ h (small-refusal (headerRefusal card (m .nodes)))
 
     -- "so 8 + 24 × N + 1 stores, then ready"
     small-counted : (made : ℕ) (s : Option Store) → made ≤ 8 + 24 * greatestNodes → SmallStep (stepFormat card m made s)
@@ -286,21 +249,19 @@ module _ (card : List ℕ) (m : Memory) (small : Small m) where
     unfolding stepFormat
     small-formatting made l = order (length card) made (λ h. rw (format-end (m .nodes) (length card) made h) (small-final Ready)) (λ h. small-counted made (formatStore (m .nodes) (length card) made) (omega arith))
 
-    small-doing : (doing : Doing) → length card ≤ 8 + 24 * greatestNodes → SmallStep (stepDoing card m doing)
-    unfolding stepDoing
-    small-doing Idle l = small-held
-    small-doing (Formatting made) l = small-formatting made l
-    small-doing (Inserting key value begun) l = small-held
-    small-doing (Deleting key begun value) l = small-held
-    small-doing (Repairing key) l = small-held
+    small-held : (held : Held) → length card ≤ 8 + 24 * greatestNodes → SmallStep (stepHeld card m held)
+    unfolding stepHeld
+    small-held NoneHeld l = small-headed (stepRefused 10 card m) (small-refusal 10)
+    small-held (HeldFormatting made) l = small-formatting made l
+    small-held (HeldTask task) l = small-headed (stepTask card m task (m .rest)) (small-task task (m .rest))
 
     small-step : Small (stepOf card m .memory)
     unfolding stepOf SmallStep
     small-step =
         let n : ℕ = nodesOfLength (length card) in
         order n 1 (λ h. rw (eq-eqb n 0 (omega arith)) (small-refusal 1))
-        (λ h. let s = nodes-sized (length card) (λ z. omega arith) in either SmallStep (eqb n 0) (stepRefused 1 card m) (pick (eqb n (m .nodes)) (stepDoing card m (m .doing)) (stepRefused 1 card m)) (small-refusal 1)
-        (either SmallStep (eqb n (m .nodes)) (stepDoing card m (m .doing)) (stepRefused 1 card m) (small-doing (m .doing) (omega (arith, s .words, s .most))) (small-refusal 1)))
+        (λ h. let s = nodes-sized (length card) (λ z. omega arith) in either SmallStep (eqb n 0) (stepRefused 1 card m) (pick (eqb n (m .nodes)) (stepHeld card m (heldBy (m .doing))) (stepRefused 1 card m)) (small-refusal 1)
+        (either SmallStep (eqb n (m .nodes)) (stepHeld card m (heldBy (m .doing))) (stepRefused 1 card m) (small-held (heldBy (m .doing)) (omega (arith, s .words, s .most))) (small-refusal 1)))
 
 -- ---- from what a block holds
 

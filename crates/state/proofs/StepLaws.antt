@@ -16,7 +16,7 @@ use Rattle.plans.specs.Planning.{withAll}
 use Rattle.plans.specs.declared.Plan.{Plan}
 use Rattle.laws.proofs.Cases.{order, impossible}
 use Rattle.laws.specs.Lists.{beforeZero}
-use Rattle.state.specs.Steps.{Step, stepRefused, formattedWord, formatStore, stepStore, stepFirst}
+use Rattle.state.specs.Steps.{Step, stepRefused, formattedWord, formatStore, stepStore}
 use Rattle.state.specs.Memory.{Memory, memoryOf, advanced}
 use Rattle.state.specs.Results.{stepLeft, more}
 use Rattle.state.specs.declared.Stepped.{Stepped}
@@ -111,28 +111,21 @@ pub advance-last : (m : Memory) (ss : List Store) → ss ≡ [] → advanced m s
 unfolding advanced
 advance-last m ss e = ap (advanced m) e ∙ ap (λ (x : List Store). record { nodes = m .nodes; free = withAll (m .cut) (m .free); last = m .last; doing = m .doing; rest = x; cut = [] }) (sym e)
 
--- the first store of a list
-module _ (card : List ℕ) (old m : Memory) (ss : List Store) where
-  pub first-none : ss ≡ [] → stepFirst card old m ss ≡ stepRefused 9 card old
-  unfolding stepFirst
-  first-none e = ap (stepFirst card old m) e
+-- one store, by whether its place is on the card
+module _ (card : List ℕ) (m : Memory) (s : Store) (next : Memory) where
+  pub store-outside : length card ≤ s .0 → stepStore card m s next ≡ stepRefused 9 card m
+  unfolding stepStore
+  store-outside h = simp (le-ltb (s .0) (length card) h)
 
-  module _ (x v : ℕ) (rest : List Store) (e : ss ≡ (x, v) ∷ rest) where
-    pub first-outside : length card ≤ x → stepFirst card old m ss ≡ stepRefused 9 card old
-    unfolding stepFirst stepStore
-    first-outside h = ap (stepFirst card old m) e ∙ simp (le-ltb x (length card) h)
+  pub store-inside : s .0 < length card → stepStore card m s next ≡ record { answer = Stored; card = set card (s .0) (s .1); memory = next }
+  unfolding stepStore
+  store-inside h = simp (lt-ltb (s .0) (length card) h)
 
-    pub first-stored : x < length card → stepFirst card old m ss ≡ record { answer = Stored; card = set card x v; memory = advanced m rest }
-    unfolding stepFirst stepStore
-    first-stored h = ap (stepFirst card old m) e ∙ simp (lt-ltb x (length card) h)
-
--- what is left of a state but the stores to come decides the next state
-pub first-same : (card : List ℕ) (old m : Memory) (r : List Store) (ss : List Store)
-    → stepFirst card old (record { nodes = m .nodes; free = m .free; last = m .last; doing = m .doing; rest = r; cut = m .cut }) ss ≡ stepFirst card old m ss
-unfolding stepFirst stepStore advanced
-first-same card old m r [] = refl
-first-same card old m r (s ∷ []) = refl
-first-same card old m r (s ∷ t ∷ rest) = refl
+-- the stores to come that a state tells of do not bear on the next state
+pub advance-same : (m : Memory) (r ss : List Store) → advanced (record { nodes = m .nodes; free = m .free; last = m .last; doing = m .doing; rest = r; cut = m .cut }) ss ≡ advanced m ss
+unfolding advanced
+advance-same m r [] = refl
+advance-same m r (s ∷ rest) = refl
 
 -- formatting
 module _ (n len made : ℕ) where

@@ -1,17 +1,20 @@
 -- Document 01: a store of formatting and of the change in hand, and what a step and a start hand back.
 use mathlib.Core.Bool.{Bool, true, false}
-use mathlib.Core.List.{List, [], _∷_}
+use mathlib.Core.List.{List}
 use mathlib.Core.Option.{Option, none, some}
 use Prim.Native.Nat.{ℕ, suc}
 use lib.ListN.{length, set}
 use lib.Dec.{eqb, ltb}
 use Rattle.laws.specs.Cases.{pick}
 use Rattle.card.specs.Stores.{Store}
-use Rattle.state.specs.Memory.{Memory, noMemory, idled, advanced}
+use Rattle.state.specs.Memory.{Memory, noMemory, idled}
 use Rattle.state.specs.declared.Doing.{Doing}
 use Rattle.state.specs.declared.Doing.the-variants.{Idle, Formatting, Inserting, Deleting, Repairing}
 use Rattle.state.specs.declared.Answer.{Answer}
-use Rattle.state.specs.declared.Answer.the-variants.{Stored, Ready, Refused}
+use Rattle.state.specs.declared.Answer.the-variants.{Stored, Ready, Absent, Value, Refused}
+use Rattle.state.specs.declared.Task.the-variants.{PutIn, TakeOut, Repair}
+use Rattle.state.specs.declared.Held.{Held}
+use Rattle.state.specs.declared.Held.the-variants.{Nothing, Formatting as HeldFormatting, Task as HeldTask}
 use Rattle.state.specs.declared.Begun.{Begun}
 use Rattle.state.specs.declared.Begun.the-variants.{Refused as BegunRefused}
 
@@ -21,6 +24,17 @@ isIdle (Formatting made) = false
 isIdle (Inserting key value begun) = false
 isIdle (Deleting key begun value) = false
 isIdle (Repairing key) = false
+
+-- what a state holds that is doing this: an insert or a delete has its first change to make, and then, as opening's repair has from
+-- the start, the repairs on its key's way, after which it answers
+unfoldable pub heldBy : Doing → Held
+heldBy Idle = Nothing
+heldBy (Formatting made) = HeldFormatting made
+heldBy (Inserting key value false) = HeldTask (PutIn key value)
+heldBy (Inserting key value true) = HeldTask (Repair key Absent)
+heldBy (Deleting key false value) = HeldTask (TakeOut key)
+heldBy (Deleting key true value) = HeldTask (Repair key (Value value))
+heldBy (Repairing key) = HeldTask (Repair key Ready)
 
 -- What opening and starting hand back: the answer and the state.
 pub record Handed : Type 0 where
@@ -61,12 +75,7 @@ unfoldable pub stepFormat : List ℕ → Memory → ℕ → Option Store → Ste
 stepFormat card m made none = stepFinal Ready card m
 stepFormat card m made (some s) = record { answer = Stored; card = set card (s .0) (s .1); memory = formatting m (suc made) }
 
--- one store of the change in hand; "or its store is outside the card"
-unfoldable pub stepStore : List ℕ → Memory → Memory → Store → List Store → Step
-stepStore card old m s rest =
-    pick (ltb (s .0) (length card)) (record { answer = Stored; card = set card (s .0) (s .1); memory = advanced m rest }) (stepRefused 9 card old)
-
--- the first store of a change just planned
-unfoldable pub stepFirst : List ℕ → Memory → Memory → List Store → Step
-stepFirst card old m [] = stepRefused 9 card old
-stepFirst card old m (s ∷ rest) = stepStore card old m s rest
+-- one store; "or its store is outside the card": refused, the state is handed back, and stored, the next one is
+unfoldable pub stepStore : List ℕ → Memory → Store → Memory → Step
+stepStore card m s next =
+    pick (ltb (s .0) (length card)) (record { answer = Stored; card = set card (s .0) (s .1); memory = next }) (stepRefused 9 card m)

@@ -8,6 +8,7 @@ use free_nodes::NodeSet;
 use plans::Plan;
 pub use playing::in_hand;
 pub use playing::store_next;
+pub use states::held_by;
 pub use states::idled;
 pub use states::is_idle;
 pub use states::no_beginning;
@@ -24,6 +25,21 @@ pub enum Doing {
     Deleting { key: u32, begun: bool, value: u32 },
     // a key that leads to the violation
     Repairing { key: u32 },
+}
+
+// What is to be changed next: an insert's or a delete's first change, or what is still to be repaired on a key's way, after which
+// the call or repair answers.
+pub enum Task {
+    PutIn { key: u32, value: u32 },
+    TakeOut { key: u32 },
+    Repair { key: u32, answer: Answer },
+}
+
+// What a state holds: nothing, a formatting with so many stores made, or a task.
+pub enum Held {
+    Nothing,
+    Formatting(usize),
+    Task(Task),
 }
 
 // "The state is held off the card and lost with power: N, the free nodes, the node given last, and what is being done."

@@ -7,13 +7,13 @@ use plans::Plan;
 ghost use mathlib.Core.Path.{_≡_};
 ghost use Prim.Native.Nat.{_+_, _<_};
 ghost use mathlib.Core.Bool.{true};
-ghost use lib.ListN.{drop, set};
+ghost use lib.ListN.{drop, getD, set};
 ghost use Rattle.laws.specs.Lists.{beforeZero};
 ghost use Rattle.free_nodes.specs.NodeSet.{nodesOf};
 ghost use Rattle.plans.specs.Planning.{withAll};
 ghost use Rattle.plans.specs.Plan.{storesOf};
 ghost use Rattle.state.specs.Memory.{memoryOf, advanced};
-ghost use Rattle.state.specs.Steps.{stepFirst};
+ghost use Rattle.state.specs.Steps.{stepStore};
 ghost use Rattle.state.specs.Results.{stepLeft, Unchanged, more};
 
 // How many stores a plan has room for: "So a change is at most 73 stores."
@@ -77,20 +77,15 @@ fn advance(s: State) -> State
     }
 }
 
-// The next store of the plan of `planned`; "or its store is outside the card": refused, and `s` is handed back. The place
-// is looked at before the store, so that a refusal stores nothing.
+// The next store of the plan of `planned`, which has one; "or its store is outside the card": refused, and `s` is handed back.
+// The place is looked at before the store, so that a refusal stores nothing.
 pub fn store_next(card: &mut [u32], s: State, planned: State) -> Stepped
-    ensures { λ r. ⌜ stepLeft (now (card .exit)) r ≡ stepFirst (now (card .entry)) (memoryOf s) (memoryOf planned) (drop (planned .made) (storesOf (planned .plan))) ⌝ }
+    requires { ⌜ more (memoryOf planned .rest) ≡ true ⌝ }
+    ensures { λ r. ⌜ stepLeft (now (card .exit)) r ≡ stepStore (now (card .entry)) (memoryOf s) (getD (memoryOf planned .rest) 0 (0, 0)) (advanced (memoryOf planned) (drop 1 (memoryOf planned .rest))) ⌝ }
     ensures { λ r. ⌜ Unchanged s r ⌝ }
 {
     let plan = planned.plan;
     let made = planned.made;
-    if !in_hand(plan, made) {
-        return Stepped {
-            answer: Answer::Refused(9),
-            state: s,
-        };
-    }
     let at = plan.places[made] as usize;
     if card.len() <= at {
         return Stepped {

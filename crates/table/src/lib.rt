@@ -12,11 +12,14 @@ pub use state::Answer;
 pub use state::Beginning;
 pub use state::Begun;
 pub use state::Doing;
+use state::Held;
 pub use state::State;
 pub use state::Stepped;
+use state::held_by;
 pub use state::is_idle;
 use state::step_format;
-use steps::step_held;
+use steps::step_idle;
+use steps::step_task;
 ghost use mathlib.Core.Path.{_≡_};
 ghost use Rattle.state.specs.Memory.{memoryOf};
 ghost use Rattle.table.specs.Calls.{stepOf};
@@ -43,19 +46,9 @@ pub fn step(card: &mut [u32], s: State) -> Stepped
         };
     }
     let doing = s.doing;
-    match doing {
-        Doing::Formatting { made } => step_format(card, s, made),
-        Doing::Idle => step_held(card, s),
-        Doing::Inserting {
-            key: _,
-            value: _,
-            begun: _,
-        } => step_held(card, s),
-        Doing::Deleting {
-            key: _,
-            begun: _,
-            value: _,
-        } => step_held(card, s),
-        Doing::Repairing { key: _ } => step_held(card, s),
+    match held_by(doing) {
+        Held::Nothing => step_idle(card, s),
+        Held::Formatting(made) => step_format(card, s, made),
+        Held::Task(task) => step_task(card, s, task),
     }
 }

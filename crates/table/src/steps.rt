@@ -1,4 +1,4 @@
-// A step of anything but formatting: a store of the change in hand, or the next change.
+// The steps of anything but formatting.
 use plans::Outcome;
 use plans::Plan;
 use plans::Planned;
@@ -6,18 +6,21 @@ use state::Answer;
 use state::Doing;
 use state::State;
 use state::Stepped;
+use state::Task;
 use state::idled;
 use state::in_hand;
-use state::is_idle;
 use state::store_next;
 use updates::next_change;
 ghost use mathlib.Core.Path.{_≡_};
+ghost use mathlib.Core.List.{[]};
 ghost use lib.ListN.{length};
 ghost use Rattle.card.specs.Header.{Sized};
 ghost use Rattle.plans.specs.Plan.{preparationOf};
 ghost use Rattle.state.specs.Memory.{memoryOf};
-ghost use Rattle.state.specs.Steps.{isIdle};
-ghost use Rattle.table.specs.Calls.{stepPrepared, stepPlan, stepHeld};
+ghost use Rattle.state.specs.Steps.{heldBy};
+ghost use Rattle.state.specs.declared.Held.the-variants.{Nothing, Task as HeldTask};
+ghost use Rattle.updates.specs.Results.{Storing};
+ghost use Rattle.table.specs.Calls.{stepPrepared, stepTask, stepHeld};
 ghost use Rattle.state.specs.Results.{stepLeft, Unchanged, Final};
 
 // Where no change is in hand: refused, the final answer, or the first store of the change prepared.
@@ -29,7 +32,7 @@ fn step_prepared(
     plan: Plan,
     p: Planned,
 ) -> Stepped
-    requires { ⌜ Final answer × (plan .count ≡ p .count) ⌝ }
+    requires { ⌜ Final answer × (plan .count ≡ p .count) × Storing (preparationOf (plan .places) (plan .values) p) ⌝ }
     ensures { λ r. ⌜ stepLeft (now (card .exit)) r ≡ stepPrepared (now (card .entry)) (memoryOf s) doing answer (preparationOf (plan .places) (plan .values) p) ⌝ }
     ensures { λ r. ⌜ Unchanged s r ⌝ }
 {
@@ -61,16 +64,25 @@ fn step_prepared(
 }
 
 // A step that has no store left to make. The rows of the plan are lent to the planning from here.
-fn step_plan(card: &mut [u32], s: State) -> Stepped
-    requires { ⌜ Sized (length (now card)) (s .nodes) ⌝ }
-    ensures { λ r. ⌜ stepLeft (now (card .exit)) r ≡ stepPlan (now (card .entry)) (memoryOf s) (s .doing) ⌝ }
+fn step_plan(card: &mut [u32], s: State, task: Task) -> Stepped
+    requires { ⌜ Sized (length (now card)) (s .nodes) × (heldBy (s .doing) ≡ HeldTask task) ⌝ }
+    ensures { λ r. ⌜ stepLeft (now (card .exit)) r ≡ stepTask (now (card .entry)) (memoryOf s) task [] ⌝ }
     ensures { λ r. ⌜ Unchanged s r ⌝ }
 {
     let mut places = [0; 73];
     let mut values = [0; 73];
     let doing = s.doing;
     let free = s.free;
-    let next = next_change(card, s.nodes, doing, free, s.last, &mut places, &mut values);
+    let next = next_change(
+        card,
+        s.nodes,
+        doing,
+        task,
+        free,
+        s.last,
+        &mut places,
+        &mut values,
+    );
     let then = next.doing;
     let answer = next.answer;
     let planned = next.planned;
@@ -82,10 +94,10 @@ fn step_plan(card: &mut [u32], s: State) -> Stepped
     step_prepared(card, s, then, answer, plan, planned)
 }
 
-// A step of anything but formatting: the refusals 2, 3 and 10, then a store or the next change.
-pub fn step_held(card: &mut [u32], s: State) -> Stepped
+// A step of a state that holds nothing: the refusals 2 and 3, then 10.
+pub fn step_idle(card: &mut [u32], s: State) -> Stepped
     requires { ⌜ Sized (length (now card)) (s .nodes) ⌝ }
-    ensures { λ r. ⌜ stepLeft (now (card .exit)) r ≡ stepHeld (now (card .entry)) (memoryOf s) ⌝ }
+    ensures { λ r. ⌜ stepLeft (now (card .exit)) r ≡ stepHeld (now (card .entry)) (memoryOf s) Nothing ⌝ }
     ensures { λ r. ⌜ Unchanged s r ⌝ }
 {
     let refusal = card::header_refusal(card, s.nodes);
@@ -95,10 +107,22 @@ pub fn step_held(card: &mut [u32], s: State) -> Stepped
             state: s,
         };
     }
-    let doing = s.doing;
-    if is_idle(doing) {
+    Stepped {
+        answer: Answer::Refused(10),
+        state: s,
+    }
+}
+
+// A step of a task: the refusals 2 and 3, then a store of the change in hand or the next change.
+pub fn step_task(card: &mut [u32], s: State, task: Task) -> Stepped
+    requires { ⌜ Sized (length (now card)) (s .nodes) × (heldBy (s .doing) ≡ HeldTask task) ⌝ }
+    ensures { λ r. ⌜ stepLeft (now (card .exit)) r ≡ stepHeld (now (card .entry)) (memoryOf s) (HeldTask task) ⌝ }
+    ensures { λ r. ⌜ Unchanged s r ⌝ }
+{
+    let refusal = card::header_refusal(card, s.nodes);
+    if refusal != 0 {
         return Stepped {
-            answer: Answer::Refused(10),
+            answer: Answer::Refused(refusal),
             state: s,
         };
     }
@@ -106,5 +130,5 @@ pub fn step_held(card: &mut [u32], s: State) -> Stepped
     if in_hand(plan, s.made) {
         return store_next(card, s, s);
     }
-    step_plan(card, s)
+    step_plan(card, s, task)
 }

@@ -1,2 +1,4 @@
+-- what a step finds that has no store left to make, by cases; a change that is prepared has a store
+pub mod Preparations
 -- laws of the updates: one for each branch of the code
 pub mod UpdateLaws

@@ -1,7 +1,7 @@
 -- Laws of the updates: one for each branch of the code.
 use mathlib.Core.Path.{_≡_, refl, ap, sym, _∙_}
 use mathlib.Core.List.{List, [], _∷_}
-use mathlib.Core.Bool.{Bool, true, false}
+use mathlib.Core.Bool.{Bool, false}
 use Prim.Native.Nat.{ℕ, zero, suc, _+_, _^_, _≤_, _<_}
 use native.Mathlib.Omega.{arith}
 use lib.ListN.{length, getD}
@@ -12,10 +12,9 @@ use Rattle.card.specs.Layout.{depthLimit, rootPlace, place, nodeAt, keyWords, v
 use Rattle.card.proofs.NodeLaws.{length-node, length-keyWords, length-valueWords}
 use Rattle.descent.specs.Descent.{childIndex, firstEqual, slotOf, turnAt, onTurnLanding, landingFor}
 use Rattle.descent.proofs.DescentLaws.{index-le, turn-inside}
-use Rattle.laws.specs.Cases.{pick}
 use Rattle.laws.proofs.Cases.{bool-cases, impossible}
 use Rattle.descent.proofs.Inside.{Inside, landing-inside}
-use Rattle.updates.specs.Updates.{landing, Reason, insertReason, insertChange, deleteChange, noChange, changeIn, changeAt, repairs, nextChange, held, slot, full}
+use Rattle.updates.specs.Updates.{landing, Reason, insertReason, FirstChange, insertChange, deleteChange, insertIn, deleteIn, noWay, inLeaf, nextChange, held, slot, full}
 use Rattle.descent.specs.declared.Slot.{Slot}
 use Rattle.descent.specs.declared.Slot.the-variants.{At, Absent as NoSlot}
 use Rattle.descent.specs.declared.Landing.{Landing}
@@ -23,8 +22,10 @@ use Rattle.descent.specs.declared.Landing.the-variants.{Refused as NoLanding, L
 use Rattle.descent.specs.declared.Turn.{Turn}
 use Rattle.descent.specs.declared.Turn.the-variants.{Refused as NoTurn, Leaf as TurnLeaf, Down as TurnDown}
 use Rattle.state.specs.declared.Doing.{Doing}
-use Rattle.state.specs.declared.Doing.the-variants.{Idle, Formatting, Inserting, Deleting, Repairing}
-use Rattle.state.specs.declared.Answer.the-variants.{Absent, Value, Refused}
+use Rattle.state.specs.declared.Doing.the-variants.{Inserting, Deleting}
+use Rattle.state.specs.declared.Task.{Task}
+use Rattle.state.specs.declared.Answer.the-variants.{Refused}
+use Rattle.state.proofs.Tasks.{TaskOf, putting, taking, put, taken, opened}
 
 -- a leaf without an empty slot has eleven pairs
 full-pairs : (ks vs : List ℕ) (a : ℕ) → length ks ≡ length vs → firstEqual ks 0 a ≡ NoSlot → length (slotPairs ks vs) ≡ length ks
@@ -115,34 +116,28 @@ unfolding deleteChange
 delete-final-in key free last m node (At i) n e = impossible (cc)
 delete-final-in key free last m node NoSlot n e = impossible (cc)
 
-change-final : (card : List ℕ) (doing : Doing) (free : List Bool) (last : ℕ) (l : Landing) (n : ℕ) → changeAt card doing free last l .final ≡ Refused n → ⊥
-unfolding changeAt changeIn noChange
-change-final card doing free last NoLanding n e = impossible (cc)
-change-final card Idle free last (LandingAt m link run) n e = impossible (cc)
-change-final card (Formatting made) free last (LandingAt m link run) n e = impossible (cc)
-change-final card (Inserting key value begun) free last (LandingAt m link run) n e = insert-final-in key value free last m link (nodeAt card m) (insertReason (nodeAt card m) key) n e
-change-final card (Deleting key begun value) free last (LandingAt m link run) n e = delete-final-in key free last m (nodeAt card m) (slotOf (nodeAt card m) key) n e
-change-final card (Repairing key) free last (LandingAt m link run) n e = impossible (cc)
+-- the first change of an update, by where its key leads to
+module _ (card : List ℕ) (doing : Doing) (change : ℕ → ℕ → List ℕ → FirstChange) where
+  pub no-way : {l : Landing} → l ≡ NoLanding → inLeaf card doing change l ≡ noWay doing
+  unfolding inLeaf
+  no-way e = ap (inLeaf card doing change) e
 
-pub next-final : (card : List ℕ) (nodes : ℕ) (free : List Bool) (last : ℕ) (doing : Doing) (n : ℕ) → nextChange card nodes free last doing .final ≡ Refused n → ⊥
-unfolding nextChange repairs noChange
-next-final card nodes free last Idle n e = impossible (cc)
-next-final card nodes free last (Formatting made) n e = impossible (cc)
-next-final card nodes free last (Inserting key value false) n e = change-final card (Inserting key value false) free last (landing card nodes key) n e
-next-final card nodes free last (Inserting key value true) n e = impossible (cc)
-next-final card nodes free last (Deleting key false value) n e = change-final card (Deleting key false value) free last (landing card nodes key) n e
-next-final card nodes free last (Deleting key true value) n e = impossible (cc)
-next-final card nodes free last (Repairing key) n e = impossible (cc)
+  pub in-leaf : {l : Landing} {m link run : ℕ} → l ≡ LandingAt m link run → inLeaf card doing change l ≡ change m link (nodeAt card m)
+  unfolding inLeaf
+  in-leaf e = ap (inLeaf card doing change) e
 
--- an update's next change: its first, or a repair
-pub next-insert : (card : List ℕ) (n key value : ℕ) (begun : Bool) (free : List Bool) (last : ℕ)
-    → pick begun (repairs card n key (Inserting key value begun) Absent free last) (changeAt card (Inserting key value begun) free last (landing card n key)) ≡ nextChange card n free last (Inserting key value begun)
+  leaf-final : ((m link : ℕ) (node : List ℕ) (n : ℕ) → change m link node .final ≡ Refused n → ⊥) → (l : Landing) (n : ℕ) → inLeaf card doing change l .final ≡ Refused n → ⊥
+  unfolding inLeaf noWay
+  leaf-final h NoLanding n e = impossible (cc)
+  leaf-final h (LandingAt m link run) n e = h m link (nodeAt card m) n e
+
+-- nor is that of any task
+pub next-final : (card : List ℕ) (nodes : ℕ) (free : List Bool) (last : ℕ) {doing : Doing} {task : Task} → TaskOf doing task → (n : ℕ) → nextChange card nodes free last doing task .final ≡ Refused n → ⊥
 unfolding nextChange
-next-insert card n key value true free last = refl
-next-insert card n key value false free last = refl
-
-pub next-delete : (card : List ℕ) (n key value : ℕ) (begun : Bool) (free : List Bool) (last : ℕ)
-    → pick begun (repairs card n key (Deleting key begun value) (Value value) free last) (changeAt card (Deleting key begun value) free last (landing card n key)) ≡ nextChange card n free last (Deleting key begun value)
-unfolding nextChange
-next-delete card n key value true free last = refl
-next-delete card n key value false free last = refl
+next-final card nodes free last (putting {key} {value}) n e =
+    leaf-final card (Inserting key value false) (insertIn key value free last) (λ m link node k. insert-final-in key value free last m link node (insertReason node key) k) (landing card nodes key) n e
+next-final card nodes free last (taking {key} {value}) n e =
+    leaf-final card (Deleting key false value) (deleteIn key free last) (λ m link node k. delete-final-in key free last m node (slotOf node key) k) (landing card nodes key) n e
+next-final card nodes free last put n e = impossible (cc)
+next-final card nodes free last taken n e = impossible (cc)
+next-final card nodes free last opened n e = impossible (cc)

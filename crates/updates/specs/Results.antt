@@ -2,7 +2,10 @@
 use mathlib.Core.Path.{_≡_}
 use mathlib.Core.List.{List}
 use Prim.Native.Nat.{ℕ}
+use mathlib.Core.Bool.{true}
 use Rattle.plans.specs.Plan.{preparationOf}
+use Rattle.plans.specs.Planning.{Preparation, refused, balanced, prepared}
+use Rattle.state.specs.Results.{more}
 use Rattle.updates.specs.Updates.{FirstChange}
 use Rattle.updates.specs.declared.First.{First}
 
@@ -13,3 +16,9 @@ firstOf places values f = record { doing = f .doing; final = f .answer; preparat
 -- the same whatever the rows hold
 abbrev pub InAnyRows : First → FirstChange → Type 0
 InAnyRows f change = (places values : List ℕ) → firstOf places values f ≡ change
+
+-- a change that is prepared has a store
+unfoldable pub Storing : Preparation → Type 0
+Storing refused = Unit {0}
+Storing balanced = Unit {0}
+Storing (prepared stores free last cut) = more stores ≡ true

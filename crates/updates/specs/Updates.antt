@@ -1,5 +1,5 @@
 -- Document 01, "The changes", insert and delete: what an update makes of the leaf that its key leads to.
-use mathlib.Core.Bool.{Bool, true, false, not}
+use mathlib.Core.Bool.{Bool, true, not}
 use mathlib.Core.List.{List, [], _∷_}
 use Prim.Native.Nat.{ℕ, _+_}
 use lib.ListN.{getD}
@@ -16,9 +16,11 @@ use Rattle.plans.specs.Change.{splitLeaf}
 use Rattle.plans.specs.Planning.{Preparation, refused, balanced, prepared, giving, first, second, third}
 use Rattle.change.specs.Mending.{nextRepair}
 use Rattle.state.specs.declared.Doing.{Doing}
-use Rattle.state.specs.declared.Doing.the-variants.{Idle, Formatting, Inserting, Deleting, Repairing}
+use Rattle.state.specs.declared.Doing.the-variants.{Inserting, Deleting}
+use Rattle.state.specs.declared.Task.{Task}
+use Rattle.state.specs.declared.Task.the-variants.{PutIn, TakeOut, Repair}
 use Rattle.state.specs.declared.Answer.{Answer}
-use Rattle.state.specs.declared.Answer.the-variants.{Ready, Absent, Value}
+use Rattle.state.specs.declared.Answer.the-variants.{Absent, Value}
 
 -- the leaf that a key leads to
 unfoldable pub landing : List ℕ → ℕ → ℕ → Landing
@@ -41,7 +43,7 @@ reasonIn node NoSlot = emptyReason (slotOf node 0)
 unfoldable pub insertReason : List ℕ → ℕ → Reason
 insertReason node key = reasonIn node (slotOf node key)
 
--- the next change of what is being done, what is done from then on, and the final answer where there is nothing to change
+-- the next change, what is being done from then on, and the final answer where there is nothing to change
 pub record FirstChange : Type 0 where
   pub doing : Doing
   pub final : Answer
@@ -61,35 +63,27 @@ deleteChange key free last m node (At i) =
     record { doing = Deleting key true (getD node (12 + i) 0); final = Value (getD node (12 + i) 0); preparation = prepared ((place m (1 + i), 0) ∷ []) free last [] }
 deleteChange key free last m node NoSlot = record { doing = Deleting key true 0; final = Absent; preparation = balanced }
 
--- "Repairs go on until balanced", and then the answer is given
-unfoldable pub repairs : List ℕ → ℕ → ℕ → Doing → Answer → List Bool → ℕ → FirstChange
-repairs card n key doing final free last = record { doing = doing; final = final; preparation = nextRepair card n key free last }
+-- what the two make of the leaf that their key leads to
+abbrev pub insertIn : ℕ → ℕ → List Bool → ℕ → ℕ → ℕ → List ℕ → FirstChange
+insertIn key value free last m link leaf = insertChange key value free last m link leaf (insertReason leaf key)
 
--- no change can be planned
-unfoldable pub noChange : Doing → FirstChange
-noChange doing = record { doing = doing; final = Ready; preparation = refused }
+abbrev pub deleteIn : ℕ → List Bool → ℕ → ℕ → ℕ → List ℕ → FirstChange
+deleteIn key free last m link leaf = deleteChange key free last m leaf (slotOf leaf key)
 
--- the first change of an update in the leaf that its key leads to; what is no update has none
-unfoldable pub changeIn : Doing → List Bool → ℕ → ℕ → ℕ → List ℕ → FirstChange
-changeIn Idle free last m link node = noChange Idle
-changeIn (Formatting made) free last m link node = noChange (Formatting made)
-changeIn (Inserting key value begun) free last m link node = insertChange key value free last m link node (insertReason node key)
-changeIn (Deleting key begun value) free last m link node = deleteChange key free last m node (slotOf node key)
-changeIn (Repairing key) free last m link node = noChange (Repairing key)
+-- where the way down is refused no change can be planned, and nothing is answered
+unfoldable pub noWay : Doing → FirstChange
+noWay doing = record { doing = doing; final = Absent; preparation = refused }
 
-unfoldable pub changeAt : List ℕ → Doing → List Bool → ℕ → Landing → FirstChange
-changeAt card doing free last NoLanding = noChange doing
-changeAt card doing free last (LandingAt m link run) = changeIn doing free last m link (nodeAt card m)
+-- the first change of an update, in that leaf
+unfoldable pub inLeaf : List ℕ → Doing → (ℕ → ℕ → List ℕ → FirstChange) → Landing → FirstChange
+inLeaf card doing change NoLanding = noWay doing
+inLeaf card doing change (LandingAt m link run) = change m link (nodeAt card m)
 
--- the next change of what is being done
-unfoldable pub nextChange : List ℕ → ℕ → List Bool → ℕ → Doing → FirstChange
-nextChange card n free last Idle = noChange Idle
-nextChange card n free last (Formatting made) = noChange (Formatting made)
-nextChange card n free last (Inserting key value false) = changeAt card (Inserting key value false) free last (landing card n key)
-nextChange card n free last (Inserting key value true) = repairs card n key (Inserting key value true) Absent free last
-nextChange card n free last (Deleting key false value) = changeAt card (Deleting key false value) free last (landing card n key)
-nextChange card n free last (Deleting key true value) = repairs card n key (Deleting key true value) (Value value) free last
-nextChange card n free last (Repairing key) = repairs card n key (Repairing key) Ready free last
+-- the next change of a task, for a state that is doing this; "Repairs go on until balanced", and then the answer is given
+unfoldable pub nextChange : List ℕ → ℕ → List Bool → ℕ → Doing → Task → FirstChange
+nextChange card n free last doing (PutIn key value) = inLeaf card doing (insertIn key value free last) (landing card n key)
+nextChange card n free last doing (TakeOut key) = inLeaf card doing (deleteIn key free last) (landing card n key)
+nextChange card n free last doing (Repair key answer) = record { doing = doing; final = answer; preparation = nextRepair card n key free last }
 
 -- "A splitting insert needs j + 5 free nodes."
 abbrev pub splitNeed : ℕ → ℕ

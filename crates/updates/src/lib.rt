@@ -1,4 +1,4 @@
-// "Insert" and "Delete" of document 01, "The changes": the next change of what is being done.
+// "Insert" and "Delete" of document 01, "The changes": the next change of a task.
 use descent::Landing;
 use descent::Slot;
 use free_nodes::NodeSet;
@@ -7,6 +7,7 @@ use plans::answers::balanced;
 use plans::answers::refused;
 use state::Answer;
 use state::Doing;
+use state::Task;
 ghost use mathlib.Core.Path.{_≡_};
 ghost use Prim.Native.Nat.{_^_, _≤_, _<_};
 ghost use lib.ListN.{length};
@@ -14,8 +15,8 @@ ghost use Rattle.card.specs.Layout.{greatestNodes};
 ghost use Rattle.card.specs.Header.{Sized};
 ghost use Rattle.free_nodes.specs.NodeSet.{nodesOf};
 ghost use Rattle.descent.specs.Descent.{slotOf};
-ghost use Rattle.laws.specs.Cases.{pick};
-ghost use Rattle.updates.specs.Updates.{landing, emptyReason, insertReason, insertChange, deleteChange, repairs, noChange, changeIn, changeAt, nextChange};
+ghost use Rattle.state.specs.declared.Task.the-variants.{PutIn, TakeOut, Repair};
+ghost use Rattle.updates.specs.Updates.{emptyReason, insertReason, insertChange, deleteChange, noWay, nextChange};
 ghost use Rattle.updates.specs.Results.{firstOf, InAnyRows};
 
 // "A splitting insert needs j + 5 free nodes": those that it needs beyond j. The only place in code where the number stands.
@@ -146,70 +147,73 @@ fn delete_in(
     }
 }
 
-// Nothing to plan: the tree is not as the change needs it, or nothing is asked for.
-fn no_change(doing: Doing, free: NodeSet, last: usize) -> First
-    ensures { λ r. ⌜ InAnyRows r (noChange doing) ⌝ }
+// "on the way down": refused, the first change of an update is refused too.
+fn no_way(doing: Doing, free: NodeSet, last: usize) -> First
+    ensures { λ r. ⌜ InAnyRows r (noWay doing) ⌝ }
 {
     let planned = refused(free, last);
     First {
         doing,
-        answer: Answer::Ready,
+        answer: Answer::Absent,
         planned,
     }
 }
 
-// The first change of an update in its leaf.
-fn change_in(
-    leaf: &[u32],
-    m: usize,
-    link: usize,
-    doing: Doing,
-    free: NodeSet,
-    last: usize,
-    places: &mut [u32],
-    values: &mut [u32],
-) -> First
-    requires { ⌜ (length (now leaf) ≡ 24) × (1 ≤ m) × (m ≤ greatestNodes) × (link < 2 ^ 32) × (length (now places) ≡ 73) × (length (now values) ≡ 73) ⌝ }
-    ensures { λ r. ⌜ firstOf (now (places .exit)) (now (values .exit)) r ≡ changeIn doing (nodesOf (free .words)) last m link (now (leaf .entry)) ⌝ }
-{
-    match doing {
-        Doing::Idle => no_change(doing, free, last),
-        Doing::Formatting { made: _ } => no_change(doing, free, last),
-        Doing::Inserting {
-            key,
-            value,
-            begun: _,
-        } => insert_in(leaf, m, link, key, value, free, last, places, values),
-        Doing::Deleting {
-            key,
-            begun: _,
-            value: _,
-        } => delete_in(leaf, m, key, free, last, places, values),
-        Doing::Repairing { key: _ } => no_change(doing, free, last),
-    }
-}
-
-// The first change of an update, in the leaf that its key leads to.
-fn change_at(
+// The first change of an insert, in the leaf that its key leads to.
+fn put_in(
     card: &[u32],
     n: usize,
-    key: u32,
     doing: Doing,
+    key: u32,
+    value: u32,
     free: NodeSet,
     last: usize,
     places: &mut [u32],
     values: &mut [u32],
 ) -> First
     requires { ⌜ Sized (length (now card)) n × (length (now places) ≡ 73) × (length (now values) ≡ 73) ⌝ }
-    ensures { λ r. ⌜ firstOf (now (places .exit)) (now (values .exit)) r ≡ changeAt (now (card .entry)) doing (nodesOf (free .words)) last (landing (now (card .entry)) n key) ⌝ }
+    ensures { λ r. ⌜ firstOf (now (places .exit)) (now (values .exit)) r ≡ nextChange (now (card .entry)) n (nodesOf (free .words)) last doing (PutIn key value) ⌝ }
 {
     match descent::find_landing(card, n, key, card[card::ROOT_PLACE] as usize) {
-        Landing::Refused => no_change(doing, free, last),
-        Landing::Leaf { node, link, run: _ } => change_in(
+        Landing::Refused => no_way(doing, free, last),
+        Landing::Leaf { node, link, run: _ } => insert_in(
             card::node_at(card, node),
             node,
             link,
-            doing,
+            key,
+            value,
+            free,
+            last,
+            places,
+            values,
+        ),
+    }
+}
+
+// The first change of a delete, in the leaf that its key leads to.
+fn take_out(
+    card: &[u32],
+    n: usize,
+    doing: Doing,
+    key: u32,
+    free: NodeSet,
+    last: usize,
+    places: &mut [u32],
+    values: &mut [u32],
+) -> First
+    requires { ⌜ Sized (length (now card)) n × (length (now places) ≡ 73) × (length (now values) ≡ 73) ⌝ }
+    ensures { λ r. ⌜ firstOf (now (places .exit)) (now (values .exit)) r ≡ nextChange (now (card .entry)) n (nodesOf (free .words)) last doing (TakeOut key) ⌝ }
+{
+    match descent::find_landing(card, n, key, card[card::ROOT_PLACE] as usize) {
+        Landing::Refused => no_way(doing, free, last),
+        Landing::Leaf {
+            node,
+            link: _,
+            run: _,
+        } => delete_in(
+            card::node_at(card, node),
+            node,
+            key,
             free,
             last,
             places,
@@ -222,8 +226,8 @@ fn change_at(
 fn repair(
     card: &[u32],
     n: usize,
-    key: u32,
     doing: Doing,
+    key: u32,
     answer: Answer,
     free: NodeSet,
     last: usize,
@@ -231,7 +235,7 @@ fn repair(
     values: &mut [u32],
 ) -> First
     requires { ⌜ Sized (length (now card)) n × (length (now places) ≡ 73) × (length (now values) ≡ 73) ⌝ }
-    ensures { λ r. ⌜ firstOf (now (places .exit)) (now (values .exit)) r ≡ repairs (now (card .entry)) n key doing answer (nodesOf (free .words)) last ⌝ }
+    ensures { λ r. ⌜ firstOf (now (places .exit)) (now (values .exit)) r ≡ nextChange (now (card .entry)) n (nodesOf (free .words)) last doing (Repair key answer) ⌝ }
 {
     let planned = change::next_repair(card, n, key, free, last, places, values);
     First {
@@ -241,83 +245,28 @@ fn repair(
     }
 }
 
-// The next change of an update: its first, or a repair.
-fn next_update(
-    card: &[u32],
-    n: usize,
-    key: u32,
-    begun: bool,
-    doing: Doing,
-    answer: Answer,
-    free: NodeSet,
-    last: usize,
-    places: &mut [u32],
-    values: &mut [u32],
-) -> First
-    requires { ⌜ Sized (length (now card)) n × (length (now places) ≡ 73) × (length (now values) ≡ 73) ⌝ }
-    ensures { λ r. ⌜ firstOf (now (places .exit)) (now (values .exit)) r ≡ pick begun (repairs (now (card .entry)) n key doing answer (nodesOf (free .words)) last) (changeAt (now (card .entry)) doing (nodesOf (free .words)) last (landing (now (card .entry)) n key)) ⌝ }
-{
-    if begun {
-        return repair(card, n, key, doing, answer, free, last, places, values);
-    }
-    change_at(card, n, key, doing, free, last, places, values)
-}
-
-// The next change of what is being done. It is planned from the parts of the state that it goes by, and not from the state,
-// which is large: the stack that a step needs would grow with each call that the state is handed to.
+// The next change of a task, for a state that is doing this. It is planned from the parts of the state that it goes by, and not
+// from the state, which is large: the stack that a step needs would grow with each call that the state is handed to.
 pub fn next_change(
     card: &[u32],
     n: usize,
     doing: Doing,
+    task: Task,
     free: NodeSet,
     last: usize,
     places: &mut [u32],
     values: &mut [u32],
 ) -> First
     requires { ⌜ Sized (length (now card)) n × (length (now places) ≡ 73) × (length (now values) ≡ 73) ⌝ }
-    ensures { λ r. ⌜ firstOf (now (places .exit)) (now (values .exit)) r ≡ nextChange (now (card .entry)) n (nodesOf (free .words)) last doing ⌝ }
+    ensures { λ r. ⌜ firstOf (now (places .exit)) (now (values .exit)) r ≡ nextChange (now (card .entry)) n (nodesOf (free .words)) last doing task ⌝ }
 {
-    match doing {
-        Doing::Idle => no_change(doing, free, last),
-        Doing::Formatting { made: _ } => no_change(doing, free, last),
-        Doing::Inserting {
-            key,
-            value: _,
-            begun,
-        } => next_update(
-            card,
-            n,
-            key,
-            begun,
-            doing,
-            Answer::Absent,
-            free,
-            last,
-            places,
-            values,
-        ),
-        Doing::Deleting { key, begun, value } => next_update(
-            card,
-            n,
-            key,
-            begun,
-            doing,
-            Answer::Value(value),
-            free,
-            last,
-            places,
-            values,
-        ),
-        Doing::Repairing { key } => repair(
-            card,
-            n,
-            key,
-            doing,
-            Answer::Ready,
-            free,
-            last,
-            places,
-            values,
-        ),
+    match task {
+        Task::PutIn { key, value } => {
+            put_in(card, n, doing, key, value, free, last, places, values)
+        }
+        Task::TakeOut { key } => take_out(card, n, doing, key, free, last, places, values),
+        Task::Repair { key, answer } => {
+            repair(card, n, doing, key, answer, free, last, places, values)
+        }
     }
 }

@@ -4,18 +4,18 @@ use native.Mathlib.Omega.{arith}
 use lib.ListN.{length}
 use borrow.Author.Needs.{needs}
 use Rattle.card.proofs.HeaderLaws.{sized-nodes}
-use Rattle.state.specs.Steps.{Step}
-use Rattle.table.specs.Calls.{stepDoing, stepOf}
+use Rattle.state.specs.Steps.{Step, heldBy}
+use Rattle.table.specs.Calls.{stepHeld, stepOf}
 use Rattle.state.specs.Memory.{memoryOf}
 use Rattle.table.proofs.StepLaws.{step-same}
 use Rattle.state_block.specs.Block.{unpacked, memoryIn}
 use Rattle.block_steps.specs.Playing.{Played}
-use Rattle.block_steps.proofs.PlayLaws.{doing-format, doing-held, held-work}
+use Rattle.block_steps.proofs.PlayLaws.{doing-format, doing-held, held-due}
 use Rattle.block_steps.proofs.play.Statement.{statement}
 use Rattle.block_steps.proofs.play.Tie as tie
 
 -- the card has the length that the state's N asks for
-due : (c : tie.Else3) → stepOf (c .before .before .before .before .before .before .before .args .card .now) (memoryIn (c .before .before .before .before .before .before .before .args .block .now)) ≡ stepDoing (c .before .before .before .before .before .before .before .args .card .now) (memoryIn (c .before .before .before .before .before .before .before .args .block .now)) (memoryIn (c .before .before .before .before .before .before .before .args .block .now) .doing)
+due : (c : tie.Else3) → stepOf (c .before .before .before .before .before .before .before .args .card .now) (memoryIn (c .before .before .before .before .before .before .before .args .block .now)) ≡ stepHeld (c .before .before .before .before .before .before .before .args .card .now) (memoryIn (c .before .before .before .before .before .before .before .args .block .now)) (heldBy (memoryIn (c .before .before .before .before .before .before .before .args .block .now) .doing))
 unfolding memoryOf unpacked
 due c =
     step-same (c .before .before .before .before .before .before .before .args .card .now) (memoryIn (c .before .before .before .before .before .before .before .args .block .now)) (c .before .before .before .wide .result)
@@ -89,8 +89,8 @@ returns-8 : tie.Need-returns-8
 unfolding memoryOf unpacked
 returns-8 c =
     let h = doing-held (c .before .before .before .before .before .before .before .before .before .before .before .before .before .before .before .before .before .before .before .before .before .args .card .now) (c .before .before .before .before .before .before .before .before .before .before .before .before .before .before .before .before .before .before .before .before .before .args .block .now) (c .before .before .before .before .before .before .before .before .before .before .before .before .if4 .left) (c .before .before .before .before .before .before .before .before .before .before .before .if5 .left) (c .before .before .before .before .before .before .before .before .before .before .if6 .left) in
-    let w = held-work (c .before .before .before .before .before .before .before .before .before .before .before .before .before .before .before .before .before .before .before .before .before .args .card .now) (c .before .before .before .before .before .before .before .before .before .before .before .before .before .before .before .before .before .before .before .before .before .args .block .now) (c .before .before .before .before .before .before .before .before .before .before .before .before .before .before .before .before .before .wide .result) (c .before .before .before .before .before .before .before .before .before .before .before .before .before .before .before .before .before .wide .ensures) (sym (c .before .before .before .before .before .before .before .before .header-refusal .ensures) ∙ c .before .before .before .before .before .before .before .if7 .left) (h .1) in
-    subst (λ (x : Step). Played (c .before .before .before .before .play-store .result) x (c .before .before .before .before .before .before .before .before .before .before .before .before .before .before .before .before .before .before .before .before .before .args .card .now) (c .before .before .before .before .play-store .last .0) (c .before .before .before .before .before .before .before .before .before .before .before .before .before .before .before .before .before .before .before .before .before .args .block .now) (c .before .before .before .before .play-store .last .1 .0)) (sym (due (c .before .before .before .before .before .before .before .before .before .before .before .before .before .before) ∙ h .0 ∙ w)) (c .before .before .before .before .play-store .ensures)
+    let w = held-due (c .before .before .before .before .before .before .before .before .before .before .before .before .before .before .before .before .before .before .before .before .before .args .card .now) (c .before .before .before .before .before .before .before .before .before .before .before .before .before .before .before .before .before .before .before .before .before .args .block .now) (c .before .before .before .before .before .before .before .before .before .before .before .before .before .before .before .before .before .wide .result) (h .0) (c .before .before .before .before .before .before .before .before .before .before .before .before .before .before .before .before .before .wide .ensures) (sym (c .before .before .before .before .before .before .before .before .header-refusal .ensures) ∙ c .before .before .before .before .before .before .before .if7 .left) (h .1) in
+    subst (λ (x : Step). Played (c .before .before .before .before .play-store .result) x (c .before .before .before .before .before .before .before .before .before .before .before .before .before .before .before .before .before .before .before .before .before .args .card .now) (c .before .before .before .before .play-store .last .0) (c .before .before .before .before .before .before .before .before .before .before .before .before .before .before .before .before .before .before .before .before .before .args .block .now) (c .before .before .before .before .play-store .last .1 .0)) (sym (due (c .before .before .before .before .before .before .before .before .before .before .before .before .before .before) ∙ w)) (c .before .before .before .before .play-store .ensures (h .0))
 
 pub play-spec : {M : Type 1} → statement M
 play-spec =

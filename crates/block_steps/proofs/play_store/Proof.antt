@@ -11,7 +11,7 @@ use Rattle.state.specs.Memory.{Memory}
 use Rattle.state.specs.Results.{more}
 use Rattle.state.specs.declared.Answer.the-variants.{Stored}
 use Rattle.state_block.specs.Block.{unpacked}
-use Rattle.block_steps.proofs.PlayLaws.{plan-below, work-stored}
+use Rattle.block_steps.proofs.PlayLaws.{plan-below, task-stored}
 use Rattle.block_steps.proofs.play_store.Statement.{statement}
 use Rattle.block_steps.proofs.play_store.Tie as tie
 
@@ -35,7 +35,7 @@ same-length : tie.Need-same-length
 same-length c = search needs
 
 returns : tie.Need-returns
-returns c = search needs
+returns c task = search needs
 
 add-wide : tie.Need-add-wide
 add-wide c = record { fits = omega (arith, below c) }
@@ -53,7 +53,7 @@ same-length-2 : tie.Need-same-length-2
 same-length-2 c = search needs
 
 returns-2 : tie.Need-returns-2
-returns-2 c = search needs
+returns-2 c task = search needs
 
 add-card : tie.Need-add-card
 add-card c = record { fits = omega (arith, below (c .before .before .before)) }
@@ -83,8 +83,8 @@ same-length-4 : tie.Need-same-length-4
 same-length-4 c = search needs
 
 returns-3 : tie.Need-returns-3
-returns-3 c =
-    work-stored (c .before .before .before .before .before .before .before .before .before .before .before .before .before .before .before .args .block .now) (c .before .before .before .before .before .before .before .before .before .before .before .before .before .before .before .pre) (c .before .before .before .before .before .before .before .before .before .before .before .before .before .before .before .args .card .now) (c .before .before .before .before .before .before .before .before .before .before .before .wide .result) (c .before .before .before .before .before .before .wide2 .result) (c .before .before .before .before .before .before .before .before .before .before .before .wide .ensures) (hand (c .before .before .before .before .before .before .before .before)) (c .before .before .before .before .before .before .wide2 .ensures) (omega (arith, c .before .before .before .before .before .if2 .left))
+returns-3 c task =
+    task-stored (c .before .before .before .before .before .before .before .before .before .before .before .before .before .before .before .args .block .now) (c .before .before .before .before .before .before .before .before .before .before .before .before .before .before .before .pre) (c .before .before .before .before .before .before .before .before .before .before .before .before .before .before .before .args .card .now) task (c .before .before .before .before .before .before .before .before .before .before .before .wide .result) (c .before .before .before .before .before .before .wide2 .result) (c .before .before .before .before .before .before .before .before .before .before .before .wide .ensures) (hand (c .before .before .before .before .before .before .before .before)) (c .before .before .before .before .before .before .wide2 .ensures) (omega (arith, c .before .before .before .before .before .if2 .left))
     ∙ ap (λ (m : Memory). record { answer = Stored; card = set (c .before .before .before .before .before .before .before .before .before .before .before .before .before .before .before .args .card .now) (c .before .before .before .before .before .before .wide2 .result) (getD (c .before .before .before .before .before .before .before .before .before .before .before .before .before .before .before .args .block .now) (104 + c .before .before .before .before .before .before .before .before .before .before .before .wide .result) 0); memory = m }) (sym (c .before .before .advance .ensures))
 
 pub play-store-spec : {M : Type 1} → statement M

@@ -2,7 +2,7 @@
 use mathlib.Core.Path.{ap}
 use Rattle.plans.specs.Planning.{Preparation}
 use Rattle.updates.specs.Results.{firstOf}
-use Rattle.updates.specs.Updates.{repairs}
+use Rattle.updates.specs.Updates.{nextChange}
 use borrow.Author.Needs.{needs}
 use Rattle.updates.proofs.repair.Statement.{statement}
 use Rattle.updates.proofs.repair.Tie as tie
@@ -17,7 +17,7 @@ same-length-2 : tie.Need-same-length-2
 same-length-2 c = search needs
 
 returns : tie.Need-returns
-unfolding firstOf repairs
+unfolding firstOf nextChange
 returns c = ap (λ (x : Preparation). record { doing = c .before .before .before .before .before .before .before .before .before .before .args .doing; final = c .before .before .before .before .before .before .before .before .before .before .args .answer; preparation = x }) (c .before .before .before .before .next-repair .ensures)
 
 pub repair-spec : {M : Type 1} → statement M

@@ -1,57 +1,60 @@
 -- `state::playing::store_next` meets its contract.
 use mathlib.Core.Path.{_≡_, refl, ap, sym, _∙_}
+use mathlib.Core.List.{List}
 use Prim.Native.Nat.{_+_, _<_}
 use native.Mathlib.Omega.{arith}
 use lib.ListN.{length, set, getD, drop}
-use borrow.Author.Tests.{not-true, not-false}
+use Rattle.card.specs.Stores.{Store}
 use Rattle.plans.specs.Plan.{storesOf}
-use Rattle.state.specs.Steps.{stepRefused}
-use Rattle.state.specs.Memory.{Memory, memoryOf}
+use Rattle.state.specs.Steps.{stepRefused, stepStore}
+use Rattle.state.specs.Memory.{Memory, memoryOf, advanced}
 use Rattle.state.specs.Results.{stepLeft}
-use Rattle.state.proofs.StepLaws.{store-at, more-below, more-none, first-none, first-outside, first-stored, stored-no-refusal}
+use Rattle.state.proofs.StepLaws.{store-at, more-below, store-outside, store-inside, stored-no-refusal}
 use Rattle.state.specs.declared.Answer.the-variants.{Stored}
 use borrow.Author.Needs.{needs}
 use Rattle.state.proofs.playing.store_next.Statement.{statement}
 use Rattle.state.proofs.playing.store_next.Tie as tie
 
-sizes : (c : tie.Else1) → (length (c .before .before .before .before .args .planned .plan .places) ≡ 73) × (length (c .before .before .before .before .args .planned .plan .values) ≡ 73)
-sizes c = (search needs, search needs)
-
-below : (c : tie.Else1) → (c .before .before .before .before .args .planned .made < c .before .before .before .before .args .planned .plan .count) × (c .before .before .before .before .args .planned .made < 73)
+below : (c : tie.Start) → (c .args .planned .made < c .args .planned .plan .count) × (c .args .planned .made < 73)
+unfolding memoryOf
 below c =
-    let lp : length (c .before .before .before .before .args .planned .plan .places) ≡ 73 = search needs in
-    let lv : length (c .before .before .before .before .args .planned .plan .values) ≡ 73 = search needs in
-    more-below (c .before .before .before .before .args .planned .plan) (c .before .before .before .before .args .planned .made) lp lv (sym (c .before .in-hand .ensures) ∙ not-false _ (c .if1 .left))
+    let lp : length (c .args .planned .plan .places) ≡ 73 = search needs in
+    let lv : length (c .args .planned .plan .values) ≡ 73 = search needs in
+    more-below (c .args .planned .plan) (c .args .planned .made) lp lv (c .pre)
 
-in-hand-requires : tie.Need-in-hand-requires
-in-hand-requires c κs = search needs
+-- the store that is next, and what comes of it
+abbrev next : tie.Start → Store
+next s = (getD (s .args .planned .plan .places) (s .args .planned .made) 0, getD (s .args .planned .plan .values) (s .args .planned .made) 0)
 
-returns : tie.Need-returns
-unfolding stepLeft stepRefused
-returns c = (sym (first-none (c .before .before .before .before .args .card .now) (memoryOf (c .before .before .before .before .args .s)) (memoryOf (c .before .before .before .before .args .planned)) (drop (c .before .before .before .before .args .planned .made) (storesOf (c .before .before .before .before .args .planned .plan))) (more-none _ (sym (c .before .in-hand .ensures) ∙ not-true _ (c .if1 .taken)))), (λ n e. refl))
+abbrev then : tie.Start → Memory
+then s = advanced (memoryOf (s .args .planned)) (drop (s .args .planned .made + 1) (storesOf (s .args .planned .plan)))
+
+due : (c : tie.Start) → stepStore (c .args .card .now) (memoryOf (c .args .s)) (getD (memoryOf (c .args .planned) .rest) 0 (0, 0)) (advanced (memoryOf (c .args .planned)) (drop 1 (memoryOf (c .args .planned) .rest))) ≡ stepStore (c .args .card .now) (memoryOf (c .args .s)) (next c) (then c)
+unfolding memoryOf
+due c =
+    let lp : length (c .args .planned .plan .places) ≡ 73 = search needs in
+    let lv : length (c .args .planned .plan .values) ≡ 73 = search needs in
+    let h = below c in
+    ap (λ (rest : List Store). stepStore (c .args .card .now) (memoryOf (c .args .s)) (getD rest 0 (0, 0)) (advanced (memoryOf (c .args .planned)) (drop 1 rest))) (store-at (c .args .planned .plan) (c .args .planned .made) lp lv (h .0) (h .1))
 
 mul-at : tie.Need-mul-at
-mul-at c = omega (arith, below c .1)
+mul-at c = let s = c .before .before in omega (arith, below s .1)
 
 element-copy-out-at : tie.Need-element-copy-out-at
-element-copy-out-at c = below c .1
+element-copy-out-at c = let s = c .before .before in below s .1
 
 cast-at : tie.Need-cast-at
 cast-at c = search needs
 
-returns-2 : tie.Need-returns-2
+returns : tie.Need-returns
 unfolding stepLeft stepRefused
-returns-2 c =
-    let lp : length (c .before .before .before .before .before .before .args .planned .plan .places) ≡ 73 = search needs in
-    let lv : length (c .before .before .before .before .before .before .args .planned .plan .values) ≡ 73 = search needs in
-    let h = below (c .before .before) in
-    (sym (first-outside (c .before .before .before .before .before .before .args .card .now) (memoryOf (c .before .before .before .before .before .before .args .s)) (memoryOf (c .before .before .before .before .before .before .args .planned)) (drop (c .before .before .before .before .before .before .args .planned .made) (storesOf (c .before .before .before .before .before .before .args .planned .plan))) (getD (c .before .before .before .before .before .before .args .planned .plan .places) (c .before .before .before .before .before .before .args .planned .made) 0) (getD (c .before .before .before .before .before .before .args .planned .plan .values) (c .before .before .before .before .before .before .args .planned .made) 0) (drop (c .before .before .before .before .before .before .args .planned .made + 1) (storesOf (c .before .before .before .before .before .before .args .planned .plan))) (store-at (c .before .before .before .before .before .before .args .planned .plan) (c .before .before .before .before .before .before .args .planned .made) lp lv (h .0) (h .1)) (c .if2 .taken)), (λ n e. refl))
+returns c = let s = c .before .before .before .before in (sym (due s ∙ store-outside (s .args .card .now) (memoryOf (s .args .s)) (next s) (then s) (c .if1 .taken)), (λ n e. refl))
 
 mul-card : tie.Need-mul-card
-mul-card c = omega (arith, below (c .before .before) .1)
+mul-card c = let s = c .before .before .before .before in omega (arith, below s .1)
 
 element-copy-out-card : tie.Need-element-copy-out-card
-element-copy-out-card c = below (c .before .before) .1
+element-copy-out-card c = let s = c .before .before .before .before in below s .1
 
 mul-card-2 : tie.Need-mul-card-2
 mul-card-2 c = search needs
@@ -60,18 +63,17 @@ slice-write-card : tie.Need-slice-write-card
 slice-write-card c = search needs
 
 advance-requires : tie.Need-advance-requires
-advance-requires c κs = below (c .before .before .before) .1
+advance-requires c κs = let s = c .before .before .before .before .before in below s .1
 
 same-length : tie.Need-same-length
 same-length c = search needs
 
-returns-3 : tie.Need-returns-3
+returns-2 : tie.Need-returns-2
 unfolding stepLeft
-returns-3 c =
-    let l = sizes (c .before .before .before .before) in
-    let h = below (c .before .before .before .before) in (
-      ap (λ (m : Memory). record { answer = Stored; card = set (c .before .before .before .before .before .before .before .before .args .card .now) (getD (c .before .before .before .before .before .before .before .before .args .planned .plan .places) (c .before .before .before .before .before .before .before .before .args .planned .made) 0) (getD (c .before .before .before .before .before .before .before .before .args .planned .plan .values) (c .before .before .before .before .before .before .before .before .args .planned .made) 0); memory = m }) (c .advance .ensures)
-          ∙ sym (first-stored (c .before .before .before .before .before .before .before .before .args .card .now) (memoryOf (c .before .before .before .before .before .before .before .before .args .s)) (memoryOf (c .before .before .before .before .before .before .before .before .args .planned)) (drop (c .before .before .before .before .before .before .before .before .args .planned .made) (storesOf (c .before .before .before .before .before .before .before .before .args .planned .plan))) (getD (c .before .before .before .before .before .before .before .before .args .planned .plan .places) (c .before .before .before .before .before .before .before .before .args .planned .made) 0) (getD (c .before .before .before .before .before .before .before .before .args .planned .plan .values) (c .before .before .before .before .before .before .before .before .args .planned .made) 0) (drop (c .before .before .before .before .before .before .before .before .args .planned .made + 1) (storesOf (c .before .before .before .before .before .before .before .before .args .planned .plan))) (store-at (c .before .before .before .before .before .before .before .before .args .planned .plan) (c .before .before .before .before .before .before .before .before .args .planned .made) (l .0) (l .1) (h .0) (h .1)) (omega (arith, c .before .before .if2 .left))),
+returns-2 c =
+    let s = c .before .before .before .before .before .before in (
+      ap (λ (m : Memory). record { answer = Stored; card = set (s .args .card .now) (next s .0) (next s .1); memory = m }) (c .advance .ensures)
+          ∙ sym (due s ∙ store-inside (s .args .card .now) (memoryOf (s .args .s)) (next s) (then s) (omega (arith, c .before .before .if1 .left))),
       (λ n e. absurd (stored-no-refusal n e)),
     )
 
@@ -79,16 +81,14 @@ pub store-next-spec : {M : Type 1} → statement M
 store-next-spec =
     tie.close
     (tie.spec
-    in-hand-requires
-    returns
     mul-at
     element-copy-out-at
     cast-at
-    returns-2
+    returns
     mul-card
     element-copy-out-card
     mul-card-2
     slice-write-card
     advance-requires
     same-length
-    returns-3)
+    returns-2)

@@ -1,9 +1,11 @@
 -- `table::steps::step_plan` meets its contract.
-use mathlib.Core.Path.{refl, ap, sym, _∙_}
+use mathlib.Core.Path.{refl, ap, sym, subst, _∙_}
 use Rattle.free_nodes.specs.NodeSet.{nodesOf}
-use Rattle.table.specs.Calls.{stepBegin, stepPlan}
+use Rattle.table.specs.Calls.{stepBegin, stepTask}
 use Rattle.state.specs.Memory.{memoryOf}
-use Rattle.updates.specs.Results.{firstOf}
+use Rattle.state.proofs.Tasks.{task-of}
+use Rattle.updates.specs.Results.{firstOf, Storing}
+use Rattle.updates.proofs.Preparations.{next-stores}
 use Rattle.updates.proofs.UpdateLaws.{next-final}
 use Rattle.updates.specs.Updates.{FirstChange}
 use borrow.Author.Needs.{needs}
@@ -22,14 +24,17 @@ next-change-requires c κs = search needs
 step-prepared-requires : tie.Need-step-prepared-requires
 unfolding firstOf
 step-prepared-requires c κs =
-    let s = c .before .before .before .before .before .before .before .before .before .before in
-    (λ n e. next-final (s .args .card .now) (s .args .s .nodes) (nodesOf (s .args .s .free .words)) (s .args .s .last) (s .args .s .doing) n (sym (ap (λ (f : FirstChange). f .final) (c .before .before .before .before .next-change .ensures)) ∙ e), refl)
+    let s = c .before .before .before .before .before .before .before .before .before .before in (
+      (λ n e. next-final (s .args .card .now) (s .args .s .nodes) (nodesOf (s .args .s .free .words)) (s .args .s .last) (task-of (s .args .s .doing) (s .args .task) (s .pre .1)) n (sym (ap (λ (f : FirstChange). f .final) (c .before .before .before .before .next-change .ensures)) ∙ e)),
+      refl,
+      subst Storing (sym (ap (λ (f : FirstChange). f .preparation) (c .before .before .before .before .next-change .ensures))) (next-stores (nodesOf (s .args .s .free .words)) (s .args .s .last) (s .args .card .now) (s .args .s .nodes) (s .args .s .doing) (s .args .task)),
+    )
 
 same-length : tie.Need-same-length
 same-length c = search needs
 
 returns : tie.Need-returns
-unfolding stepPlan stepBegin firstOf memoryOf
+unfolding stepTask stepBegin firstOf memoryOf
 returns c = let s = c .before .before .before .before .before .before .before .before .before .before .before .before .before in (c .before .before .step-prepared .ensures .0 ∙ ap (stepBegin (s .args .card .now) (memoryOf (s .args .s))) (c .before .before .before .before .before .before .before .next-change .ensures), c .before .before .step-prepared .ensures .1)
 
 pub step-plan-spec : {M : Type 1} → statement M

@@ -1,17 +1,20 @@
 -- `table::steps::step_prepared` meets its contract.
-use mathlib.Core.Path.{refl, ap, sym, _∙_}
+use mathlib.Core.Path.{_≡_, refl, ap, sym, subst, _∙_}
+use mathlib.Core.Bool.{true}
 use mathlib.Core.List.{[]}
 use Prim.Native.Nat.{ℕ}
+use lib.ListN.{getD, drop}
 use Rattle.plans.specs.Plan.{storesOf, planIn, onOutcome, preparationOf}
 use Rattle.plans.specs.Planning.{Preparation, prepared}
 use Rattle.plans.specs.declared.Outcome.{Outcome}
 use Rattle.free_nodes.specs.NodeSet.{nodesOf}
 use Rattle.laws.specs.Lists.{beforeZero}
-use Rattle.state.specs.Steps.{stepRefused, stepFinal}
+use Rattle.state.specs.Steps.{stepRefused, stepFinal, stepStore}
 use Rattle.table.specs.Calls.{planning, stepPrepared}
 use Rattle.state.specs.Memory.{Memory, memoryOf}
-use Rattle.state.specs.Results.{stepLeft}
-use Rattle.state.proofs.StepLaws.{first-same}
+use Rattle.state.specs.Results.{stepLeft, more}
+use Rattle.state.proofs.StepLaws.{advance-same}
+use Rattle.updates.specs.Results.{Storing}
 use borrow.Author.Needs.{needs}
 use Rattle.table.proofs.steps.step_prepared.Statement.{statement}
 use Rattle.table.proofs.steps.step_prepared.Tie as tie
@@ -33,7 +36,11 @@ enum-told-3 : tie.Need-enum-told-3
 enum-told-3 c = search needs
 
 store-next-requires : tie.Need-store-next-requires
-store-next-requires c κs = search needs
+unfolding preparationOf onOutcome Storing memoryOf
+store-next-requires c κs =
+    let s = c .before .before .before .before .before .before in
+    let has : more (storesOf (planIn (s .args .plan .places) (s .args .plan .values) (s .args .p .count))) ≡ true = subst (λ (o : Outcome). Storing (onOutcome o (change s (s .args .p .count)))) (c .before .before .before .enum-told3 .given .1) (s .pre .2) in
+    subst (λ (k : ℕ). more (storesOf (planIn (s .args .plan .places) (s .args .plan .values) k)) ≡ true) (sym (s .pre .1)) has
 
 returns : tie.Need-returns
 unfolding stepLeft stepPrepared stepRefused preparationOf onOutcome
@@ -55,7 +62,8 @@ unfolding stepPrepared planning memoryOf preparationOf onOutcome
 returns-3 c =
     let s = c .before .before .before .before .before .before .before .before .before in (
       c .before .before .store-next .ensures .0
-          ∙ sym (first-same (s .args .card .now) (memoryOf (s .args .s)) (record { nodes = s .args .s .nodes; free = nodesOf (s .args .p .free .words); last = s .args .p .last; doing = s .args .doing; rest = storesOf (s .args .plan); cut = beforeZero (s .args .p .cut) }) [] (storesOf (s .args .plan)))
+          ∙ ap (stepStore (s .args .card .now) (memoryOf (s .args .s)) (getD (storesOf (s .args .plan)) 0 (0, 0)))
+          (sym (advance-same (record { nodes = s .args .s .nodes; free = nodesOf (s .args .p .free .words); last = s .args .p .last; doing = s .args .doing; rest = storesOf (s .args .plan); cut = beforeZero (s .args .p .cut) }) [] (drop 1 (storesOf (s .args .plan)))))
           ∙ ap (λ (k : ℕ). stepPrepared (s .args .card .now) (memoryOf (s .args .s)) (s .args .doing) (s .args .answer) (change s k)) (s .pre .1)
           ∙ ap (λ (o : Outcome). stepPrepared (s .args .card .now) (memoryOf (s .args .s)) (s .args .doing) (s .args .answer) (onOutcome o (change s (s .args .p .count)))) (sym (c .before .before .before .before .before .before .enum-told3 .given .1)),
       c .before .before .store-next .ensures .1,

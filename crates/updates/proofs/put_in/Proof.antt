@@ -1,14 +1,20 @@
--- `updates::change_at` meets its contract.
+-- `updates::put_in` meets its contract.
 use mathlib.Core.Path.{ap, sym, _∙_}
+use mathlib.Core.List.{List}
+use Prim.Native.Nat.{ℕ}
 use native.Mathlib.Omega.{arith}
 use lib.ListN.{length}
 use Rattle.card.proofs.NodeLaws.{length-node}
+use Rattle.updates.specs.Updates.{landing, FirstChange, insertIn, nextChange}
 use Rattle.free_nodes.specs.NodeSet.{nodesOf}
-use Rattle.updates.proofs.UpdateLaws.{Landed, landed}
-use Rattle.updates.specs.Updates.{landing, changeIn, changeAt}
+use Rattle.updates.proofs.UpdateLaws.{Landed, landed, no-way, in-leaf}
 use borrow.Author.Needs.{needs}
-use Rattle.updates.proofs.change_at.Statement.{statement}
-use Rattle.updates.proofs.change_at.Tie as tie
+use Rattle.updates.proofs.put_in.Statement.{statement}
+use Rattle.updates.proofs.put_in.Tie as tie
+
+-- what an insert makes of a leaf
+abbrev due : tie.Start → ℕ → ℕ → List ℕ → FirstChange
+due s = insertIn (s .args .key) (s .args .value) (nodesOf (s .args .free .words)) (s .args .last)
 
 leaf : (c : tie.After-node) → Landed (c .before .before .before .before .before .before .before .args .n) (c .node .given .0 .0) (c .node .given .0 .1 .0)
 unfolding landing
@@ -26,8 +32,8 @@ find-landing-requires c κs = search needs
 enum-told : tie.Need-enum-told
 enum-told c = search needs
 
-no-change-requires : tie.Need-no-change-requires
-no-change-requires c κs = search needs
+no-way-requires : tie.Need-no-way-requires
+no-way-requires c κs = search needs
 
 enum-known-node : tie.Need-enum-known-node
 enum-known-node c = search needs
@@ -35,15 +41,15 @@ enum-known-node c = search needs
 node-at-requires : tie.Need-node-at-requires
 node-at-requires c κs = let k = leaf (c .before) in let z = c .before .before .before .before .before .before .before .before .pre .0 in (k .inside .one, omega (arith, k .inside .most, z .most), omega (arith, k .inside .most, z .words))
 
-change-in-requires : tie.Need-change-in-requires
-change-in-requires c κs =
+insert-in-requires : tie.Need-insert-in-requires
+insert-in-requires c κs =
     let k = leaf (c .before .before .before .before) in
     let z = c .before .before .before .before .before .before .before .before .before .before .before .pre .0 in
     (ap length (c .before .before .node-at .ensures) ∙ length-node (c .before .before .before .before .before .before .before .before .before .before .before .args .card .now) (c .before .before .before .before .node .given .0 .0) (k .inside .one) (omega (arith, k .inside .most, z .words)), k .inside .one, omega (arith, k .inside .most, z .most), k .linked, search needs, search needs)
 
 returns : tie.Need-returns
-unfolding changeAt landing
-returns c = let s = c .before .before .before .before .before .before .before .before in c .no-change .ensures _ _ ∙ ap (changeAt (s .args .card .now) (s .args .doing) (nodesOf (s .args .free .words)) (s .args .last)) (sym (sym (c .before .before .before .find-landing .ensures) ∙ c .before .enum-told .given .1))
+unfolding nextChange landing
+returns c = let s = c .before .before .before .before .before .before .before .before in c .no-way .ensures _ _ ∙ sym (no-way (s .args .card .now) (s .args .doing) (due s) (sym (c .before .before .before .find-landing .ensures) ∙ c .before .enum-told .given .1))
 
 same-length : tie.Need-same-length
 same-length c = search needs
@@ -52,25 +58,25 @@ same-length-2 : tie.Need-same-length-2
 same-length-2 c = search needs
 
 returns-2 : tie.Need-returns-2
-unfolding changeAt landing
+unfolding nextChange landing
 returns-2 c =
     let s = c .before .before .before .before .before .before .before .before .before .before .before .before .before .before .before .before in
-    c .before .before .before .before .change-in .ensures
-    ∙ ap (changeIn (s .args .doing) (nodesOf (s .args .free .words)) (s .args .last) (c .before .before .before .before .before .before .before .before .before .node .given .0 .0) (c .before .before .before .before .before .before .before .before .before .node .given .0 .1 .0)) (c .before .before .before .before .before .before .before .node-at .ensures)
-    ∙ ap (changeAt (s .args .card .now) (s .args .doing) (nodesOf (s .args .free .words)) (s .args .last)) (sym (sym (c .before .before .before .before .before .before .before .before .before .before .before .find-landing .ensures) ∙ c .before .before .before .before .before .before .before .before .before .node .given .1))
+    c .before .before .before .before .insert-in .ensures
+    ∙ ap (due s (c .before .before .before .before .before .before .before .before .before .node .given .0 .0) (c .before .before .before .before .before .before .before .before .before .node .given .0 .1 .0)) (c .before .before .before .before .before .before .before .node-at .ensures)
+    ∙ sym (in-leaf (s .args .card .now) (s .args .doing) (due s) (sym (c .before .before .before .before .before .before .before .before .before .before .before .find-landing .ensures) ∙ c .before .before .before .before .before .before .before .before .before .node .given .1))
 
-pub change-at-spec : {M : Type 1} → statement M
-change-at-spec =
+pub put-in-spec : {M : Type 1} → statement M
+put-in-spec =
     tie.close
     (tie.spec
     shared-slice-read-find-landing
     cast-find-landing
     find-landing-requires
     enum-told
-    no-change-requires
+    no-way-requires
     enum-known-node
     node-at-requires
-    change-in-requires
+    insert-in-requires
     returns
     same-length
     same-length-2
