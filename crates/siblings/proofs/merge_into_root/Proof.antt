@@ -20,11 +20,11 @@ use Rattle.siblings.proofs.merge_into_root.Statement.{statement}
 use Rattle.siblings.proofs.merge_into_root.Tie as tie
 
 -- the number found
-number : (c : tie.After-known-told) → takeNumbers 1 (nodesOf (c .before .before .before .before .before .before .before .before .before .before .args .t2 .words)) (c .before .before .before .before .before .before .before .before .before .before .args .last) ≡ some (c .before .merged .given .0 .0 ∷ [])
+number : (c : tie.After-known-told) → takeNumbers 1 (nodesOf (c .before .before .before .before .before .before .before .before .before .before .args .t3 .words)) (c .before .before .before .before .before .before .before .before .before .before .args .last) ≡ some (c .before .merged .given .0 .0 ∷ [])
 number c = take-one _ _ _ (sym (c .before .before .before .next-free .ensures) ∙ c .before .merged .given .1)
 
 given : (c : tie.After-known-told) → Given (c .before .merged .given .0 .0)
-given c = let s = c .before .before .before .before .before .before .before .before .before .before in let len : length (s .args .t2 .words) ≡ wordCount = search needs in one-given (s .args .t2 .words) len (s .args .last) _ (number c)
+given c = let s = c .before .before .before .before .before .before .before .before .before .before in let len : length (s .args .t3 .words) ≡ wordCount = search needs in one-given (s .args .t3 .words) len (s .args .last) _ (number c)
 
 -- what there is together fits a node
 small : (c : tie.After-together-at) → (c .together-at .result .keys .count ≤ 11) × (c .together-at .result .values .count ≤ 11)
@@ -58,7 +58,7 @@ without-node-requires : tie.Need-without-node-requires
 without-node-requires c κs = given (c .before .before .before .before .before .before .before .before .before .before .before .before) .below
 
 cut-siblings-requires : tie.Need-cut-siblings-requires
-cut-siblings-requires c κs = search needs
+cut-siblings-requires c κs = c .before .before .before .before .before .before .before .before .before .before .before .before .before .before .before .before .before .before .before .before .before .before .before .pre .0
 
 linked-requires : tie.Need-linked-requires
 linked-requires c κs =
@@ -78,7 +78,7 @@ returns-2 c =
     let parent = parentAt (s .args .card .now) (s .args .p) in
     c .before .before .before .before .linked .ensures
     ∙ planned-root _ _ _ _ (s .args .p) parent (leftSibling (s .args .p)) (togetherOf (c .before .before .before .before .before .before .before .before .before .before .before .before .before .before .before .before .before .before .together-at .result)) _ _ _ (number (c .before .before .before .before .before .before .before .before .before .before .before .before .before .before .before .before .before .before .before)) (none-planned _ _) (c .before .before .before .before .before .before .before .before .before .before .before .before .before .append-node .ensures) (c .before .before .before .before .before .before .without-node .ensures) (c .before .before .before .before .before .cut-siblings .ensures)
-    ∙ ap (λ (b : Together). giving 1 (nodesOf (s .args .t2 .words)) (s .args .last) (λ ms. mergeRoot (s .args .p) parent (leftSibling (s .args .p)) b (first ms)))
+    ∙ ap (λ (b : Together). giving 1 (nodesOf (s .args .t3 .words)) (s .args .last) (λ ms. mergeRoot (s .args .p) parent (leftSibling (s .args .p)) b (first ms)))
     (c .before .before .before .before .before .before .before .before .before .before .before .before .before .before .before .before .before .before .together-at .ensures .listed)
 
 pub merge-into-root-spec : {M : Type 1} → statement M

@@ -16,11 +16,11 @@ use Rattle.change.proofs.tagged.absorb_tagged.Statement.{statement}
 use Rattle.change.proofs.tagged.absorb_tagged.Tie as tie
 
 -- the number found
-number : (c : tie.After-known-told) → takeNumbers 1 (nodesOf (c .before .before .before .before .before .before .before .before .before .before .args .t2 .words)) (c .before .before .before .before .before .before .before .before .before .before .args .last) ≡ some (c .before .copy .given .0 .0 ∷ [])
+number : (c : tie.After-known-told) → takeNumbers 1 (nodesOf (c .before .before .before .before .before .before .before .before .before .before .args .t3 .words)) (c .before .before .before .before .before .before .before .before .before .before .args .last) ≡ some (c .before .copy .given .0 .0 ∷ [])
 number c = take-one _ _ _ (sym (c .before .before .before .next-free .ensures) ∙ c .before .copy .given .1)
 
 given : (c : tie.After-known-told) → Given (c .before .copy .given .0 .0)
-given c = let s = c .before .before .before .before .before .before .before .before .before .before in let len : length (s .args .t2 .words) ≡ wordCount = search needs in one-given (s .args .t2 .words) len (s .args .last) _ (number c)
+given c = let s = c .before .before .before .before .before .before .before .before .before .before in let len : length (s .args .t3 .words) ≡ wordCount = search needs in one-given (s .args .t3 .words) len (s .args .last) _ (number c)
 
 next-free-requires : tie.Need-next-free-requires
 next-free-requires c κs = search needs
@@ -70,7 +70,7 @@ returns-2 c =
     let s = c .before .before .before .before .before .before .before .before .before .before .before .before .before .before .before .before .before .before .before .before .before .before .before .before .before .before .before .before .before in
     c .before .before .before .before .linked .ensures
     ∙ planned-absorb _ _ _ _ (s .args .p) _ _ _ _ _ (number (c .before .before .before .before .before .before .before .before .before .before .before .before .before .before .before .before .before .before .before)) (none-planned _ _) (c .before .before .before .before .before .before .before .before .before .before .before .before .before .append-node .ensures) (c .before .before .before .before .before .before .without-node .ensures) (c .before .before .before .before .before .cut-tagged .ensures)
-    ∙ ap₂ (λ (k v : List ℕ). giving 1 (nodesOf (s .args .t2 .words)) (s .args .last) (λ ms. absorb (s .args .p) k v (first ms))) (c .before .before .before .before .before .before .before .before .before .before .before .before .before .before .before .before .before .before .taken-in .ensures .keys .listed) (c .before .before .before .before .before .before .before .before .before .before .before .before .before .before .before .before .before .before .taken-in .ensures .kids .listed)
+    ∙ ap₂ (λ (k v : List ℕ). giving 1 (nodesOf (s .args .t3 .words)) (s .args .last) (λ ms. absorb (s .args .p) k v (first ms))) (c .before .before .before .before .before .before .before .before .before .before .before .before .before .before .before .before .before .before .taken-in .ensures .keys .listed) (c .before .before .before .before .before .before .before .before .before .before .before .before .before .before .before .before .before .before .taken-in .ensures .kids .listed)
 
 pub absorb-tagged-spec : {M : Type 1} → statement M
 absorb-tagged-spec =
