@@ -2,23 +2,18 @@
 -- nodes given holds of the next repair; and a change that is prepared has a store.
 use mathlib.Core.Path.{_≡_, refl}
 use mathlib.Core.List.{List, [], _∷_, _++_}
-use mathlib.Core.Bool.{Bool, true, false, _&&_}
+use mathlib.Core.Bool.{Bool, true, false}
 use mathlib.Core.Option.{Option, none, some}
-use Prim.Native.Nat.{ℕ, suc, _-_}
-use lib.ListN.{length, getD}
-use lib.Dec.{eqb, ltb, leb}
+use Prim.Native.Nat.{ℕ}
 use Rattle.laws.specs.Cases.{pick}
-use Rattle.card.specs.Layout.{rootPlace, depthLimit, nodeAt, kindOf, children}
+use Rattle.card.specs.Layout.{nodeAt}
 use Rattle.card.specs.Stores.{Store, nodeStores}
-use Rattle.descent.specs.Descent.{rootPosition, seek, slotOf}
-use Rattle.descent.specs.declared.Position.{Position}
-use Rattle.descent.specs.declared.Search.{Search}
-use Rattle.descent.specs.declared.Search.the-variants.{Refused as NoSearch, Balanced as SearchBalanced, Violation as SearchViolation}
+use Rattle.descent.specs.Descent.{slotOf}
 use Rattle.descent.specs.declared.Slot.{Slot}
 use Rattle.descent.specs.declared.Slot.the-variants.{At, Absent as NoSlot}
 use Rattle.descent.specs.declared.Landing.{Landing}
 use Rattle.descent.specs.declared.Landing.the-variants.{Refused as NoLanding, Leaf as LandingAt}
-use Rattle.plans.specs.Change.{Change, Together, changeStores}
+use Rattle.plans.specs.Change.{Change, changeStores}
 use Rattle.plans.specs.Planning.{Preparation, refused, balanced, overNumbers, takeNumbers, giving}
 use Rattle.change_decide.specs.Decide.{nextRepair as decidedRepair}
 use Rattle.change_decide.specs.declared.Decision.{Decision}
