@@ -9,13 +9,14 @@ use native.Mathlib.Decide.{ℕ-discrete}
 use lib.ListN.{length}
 use lib.Dec.{eqb}
 use Rattle.card.specs.Layout.{nodeAt, children, runBelow}
-use Rattle.descent.specs.Descent.{lookAt, childPosition, Way, nowhere, past, wayFrom, runOver, isFault, firstFault, ended, toList, endOf}
-use Rattle.descent.proofs.DescentLaws.{way-nowhere, way-leaf, way-childless, way-too-deep, way-down}
+use Rattle.descent.specs.Descent.{lookAt, childPosition, Way, nowhere, past, wayFrom, runOver, isFault, firstFault, ended, toList, endOf, reachedAt, leafOf}
+use Rattle.descent.proofs.DescentLaws.{Inside, leaf-inside, way-nowhere, way-leaf, way-childless, way-too-deep, way-down}
 use Rattle.laws.specs.Cases.{pick}
 use Rattle.laws.proofs.Cases.{bool-cases, and-true, impossible}
 use Rattle.descent.specs.declared.Position.{Position}
 use Rattle.descent.specs.declared.Look.{Look}
 use Rattle.descent.specs.declared.Look.the-variants.{Nowhere, Leaf as IsLeaf, Inner as IsInner}
+use Rattle.descent.specs.declared.Reached.the-variants.{Leaf as ReachedLeaf}
 use Rattle.descent.specs.declared.End.{End}
 use Rattle.descent.specs.declared.End.the-variants.{Refused as EndRefused, Leaf as EndLeaf, Fault as EndFault}
 
@@ -119,3 +120,15 @@ unfolding runOver
 run-over-le card run [] = omega arith
 run-over-le card run (p ∷ ps) =
     omega (arith, run-over-le card (runBelow (length (children (nodeAt card (p .node)))) run) ps, run-short (length (children (nodeAt card (p .node)))) run)
+
+-- a leaf that a way comes to is a node of the card
+pub way-inside : (card : List ℕ) (n key levels : ℕ) (p q : Position) → wayFrom card n key levels p .leaf ≡ some q → Inside n (q .node)
+way-inside card n key levels p q e = leaf-inside card n (q .node) (along card n (λ x. Unit {0}) key (λ x h l s. tt) levels p tt .leaf q e .1)
+
+pub reached-inside : (card : List ℕ) (n key levels : ℕ) (p : Position) (m depth : ℕ) → leafOf (wayFrom card n key levels p) ≡ ReachedLeaf m depth → Inside n m
+unfolding leafOf reachedAt
+reached-inside card n key levels p m depth e = go (wayFrom card n key levels p .leaf) (λ q h. way-inside card n key levels p q h) e
+  where
+    go : (l : Option Position) → ((q : Position) → l ≡ some q → Inside n (q .node)) → reachedAt (length (wayFrom card n key levels p .inner)) l ≡ ReachedLeaf m depth → Inside n m
+    go none h z = impossible (cc)
+    go (some q) h z = let w : q .node ≡ m = cc in rw w at (h q refl)

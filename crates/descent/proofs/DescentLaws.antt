@@ -321,6 +321,10 @@ module _ (node : List ℕ) (parent : ℕ) where
     unfolding isFault countOf
     fault-inner q r = simp (ne-eqb parent 0 below, ne-eqb _ _ q, ne-eqb _ _ r)
 
+-- the root is no fault
+pub fault-below : (node : List ℕ) (parent : ℕ) → isFault node parent ≡ true → parent ≡ 0 → ⊥
+fault-below node parent f z = let e = sym f ∙ fault-root node parent z in impossible (cc)
+
 -- fewer than 2 children, where there is a first one: there is no second
 pub second-child : (node : List ℕ) → (getD node 12 0 ≡ 0 → ⊥) → eqb (getD node 13 0) 0 ≡ ltb (length (children node)) 2
 second-child node first =
@@ -355,6 +359,16 @@ module _ (card : List ℕ) (seeks : Bool) where
     pub end-fault : (w : Way) → stops p ≡ true → endOf card seeks (past p w) ≡ EndFault p
     unfolding endOf firstFault past
     end-fault w e = rw e
+
+-- what a search finds is a fault of the way
+pub search-fault : (card : List ℕ) (n key levels : ℕ) (p q : Position) → seek card n key levels p ≡ SearchViolation q → endOf card true (wayFrom card n key levels p) ≡ EndFault q
+unfolding seek searchOf
+search-fault card n key levels p q e = go (endOf card true (wayFrom card n key levels p)) e
+  where
+    go : (x : End) → searchOf x ≡ SearchViolation q → x ≡ EndFault q
+    go EndRefused z = impossible (cc)
+    go (EndLeaf r) z = impossible (cc)
+    go (EndFault r) z = let w : r ≡ q = cc in ap EndFault w
 
 -- an internal node where a search stops
 pub fault-at : (card : List ℕ) (n key : ℕ) (seeks : Bool) (levels : ℕ) (p : Position) → lookAt card n (p .node) ≡ IsInner → stops card seeks p ≡ true → endOf card seeks (wayFrom card n key levels p) ≡ EndFault p
