@@ -1,5 +1,5 @@
 // "Insert" and "Delete" of document 01, "The changes": the next change of what is being done.
-use descent::Landing;
+use descent::End;
 use descent::Slot;
 use free_nodes::NodeSet;
 use plans::Planned;
@@ -203,12 +203,13 @@ fn change_at(
     requires { ⌜ Sized (length (now card)) n × (length (now places) ≡ 73) × (length (now values) ≡ 73) ⌝ }
     ensures { λ r. ⌜ firstOf (now (places .exit)) (now (values .exit)) r ≡ changeAt (now (card .entry)) doing (nodesOf (free .words)) last (landing (now (card .entry)) n key) ⌝ }
 {
-    match descent::find_landing(card, n, key, card[card::ROOT_PLACE] as usize) {
-        Landing::Refused => no_change(doing, free, last),
-        Landing::Leaf { node, link, run: _ } => change_in(
-            card::node_at(card, node),
-            node,
-            link,
+    match descent::descend(card, n, key, card[card::ROOT_PLACE] as usize, false) {
+        End::Refused => no_change(doing, free, last),
+        End::Fault(_) => no_change(doing, free, last),
+        End::Leaf(p) => change_in(
+            card::node_at(card, p.node),
+            p.node,
+            p.link,
             doing,
             free,
             last,
