@@ -13,6 +13,7 @@ use Rattle.starting.specs.Refusals.{roomWhere, landingRefusal}
 use Rattle.starting.proofs.StartLaws.{start-sized, due-early, due-landing}
 use Rattle.updates.proofs.UpdateLaws.{Landed, landed}
 use Rattle.updates.specs.Updates.{landing, insertReason, roomFor, startRoom}
+use Rattle.descent.specs.Descent.{way}
 use Rattle.descent.specs.declared.Landing.{Landing}
 use borrow.Author.Needs.{needs}
 use Rattle.starting.proofs.start_refusal.Statement.{statement}
@@ -22,7 +23,7 @@ whole : (c : tie.Else1) → Sized (length (c .before .before .before .args .card
 whole c = start-sized (c .before .before .before .args .card .now) (c .before .before .before .args .nodes) (c .before .before .before .args .doing) (c .before .before .before .args .key) (sym (c .before .early-refusal .ensures) ∙ c .if1 .left)
 
 leaf : (c : tie.After-node) → Landed (c .before .before .before .before .before .before .before .args .nodes) (c .node .given .0 .0) (c .node .given .0 .1 .0)
-unfolding landing
+unfolding landing way
 leaf c = landed (c .before .before .before .before .before .before .before .args .card .now) (c .before .before .before .before .before .before .before .args .nodes) (c .before .before .before .before .before .before .before .args .key) (c .node .given .0 .0) (c .node .given .0 .1 .0) (c .node .given .0 .1 .1 .0) (whole (c .before .before .before .before)) (sym (c .before .before .find-landing .ensures) ∙ c .node .given .1)
 
 early-refusal-requires : tie.Need-early-refusal-requires
@@ -58,7 +59,7 @@ room-refusal-requires : tie.Need-room-refusal-requires
 room-refusal-requires c κs = search needs
 
 returns-2 : tie.Need-returns-2
-unfolding landing landingRefusal
+unfolding landing way landingRefusal
 returns-2 c =
     let room = roomWhere (c .before .before .before .before .before .before .before .args .splits) (c .before .before .before .before .before .before .before .args .card .now) (c .before .before .before .before .before .before .before .args .key) (nodesOf (c .before .before .before .before .before .before .before .args .free .words)) in
     sym
@@ -66,7 +67,7 @@ returns-2 c =
     ∙ ap (λ (l : Landing). landingRefusal (room l) l) (sym (c .before .before .find-landing .ensures) ∙ c .enum-told .given .1))
 
 returns-3 : tie.Need-returns-3
-unfolding landing landingRefusal startRoom
+unfolding landing way landingRefusal startRoom
 returns-3 c =
     let free = nodesOf (c .before .before .before .before .before .before .before .before .before .before .before .args .free .words) in
     let room = roomWhere (c .before .before .before .before .before .before .before .before .before .before .before .args .splits) (c .before .before .before .before .before .before .before .before .before .before .before .args .card .now) (c .before .before .before .before .before .before .before .before .before .before .before .args .key) free in
