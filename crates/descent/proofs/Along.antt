@@ -1,6 +1,6 @@
 -- What holds at the start of a way, and is handed on to the child that the key takes, holds all along the way.
-use mathlib.Core.Path.{_≡_, refl, ap, sym, _∙_, subst}
-use mathlib.Core.Bool.{Bool, true, false, _&&_}
+use mathlib.Core.Path.{_≡_, refl, sym, _∙_, subst}
+use mathlib.Core.Bool.{Bool, true, _&&_}
 use mathlib.Core.List.{List, [], _∷_, _++_}
 use mathlib.Core.Option.{Option, none, some}
 use Prim.Native.Nat.{ℕ, zero, suc, _+_, _≤_, _<_}
@@ -18,7 +18,7 @@ use Rattle.descent.specs.declared.Look.{Look}
 use Rattle.descent.specs.declared.Look.the-variants.{Nowhere, Leaf as IsLeaf, Inner as IsInner}
 use Rattle.descent.specs.declared.Reached.the-variants.{Leaf as ReachedLeaf}
 use Rattle.descent.specs.declared.End.{End}
-use Rattle.descent.specs.declared.End.the-variants.{Refused as EndRefused, Leaf as EndLeaf, Fault as EndFault}
+use Rattle.descent.specs.declared.End.the-variants.{Leaf as EndLeaf, Fault as EndFault}
 
 -- of each position of a list
 abbrev pub All : (Position → Type 0) → List Position → Type 0
@@ -55,7 +55,7 @@ module _ (card : List ℕ) (n : ℕ) (P : Position → Type 0) where
       }
 
   module _ (key : ℕ)
-    (on : (q : Position) → P q → lookAt card n (q .node) ≡ IsInner → 0 < length (children (nodeAt card (q .node))) → P (childPosition (nodeAt card (q .node)) key q)) where
+      (on : (q : Position) → P q → lookAt card n (q .node) ≡ IsInner → 0 < length (children (nodeAt card (q .node))) → P (childPosition (nodeAt card (q .node)) key q)) where
     pub along : (levels : ℕ) (p : Position) → P p → Along levels (wayFrom card n key levels p)
     along zero p h = go (lookAt card n (p .node)) refl
       where

@@ -1,6 +1,6 @@
 -- Laws of the way down, one for each branch of the code: what is left of a search after each word read, and what each
 -- node makes of a key.
-use mathlib.Core.Path.{_≡_, refl, ap, ap₂, sym, _∙_}
+use mathlib.Core.Path.{_≡_, refl, ap, sym, _∙_}
 use mathlib.Core.List.{List, [], _∷_, _++_}
 use mathlib.Core.Option.{Option, none, some}
 use mathlib.Core.Bool.{Bool, true, false, _&&_}
@@ -13,23 +13,21 @@ use lib.ListN.{length, getD, drop, drop-of-length-le}
 use lib.Seq.{drop-cons, getD-take}
 use lib.Dec.{ltb, eqb}
 use borrow.Author.Tests.{lt-ltb, le-ltb, ne-eqb, eq-eqb}
-use Rattle.card.specs.Layout.{place, nodeAt, kindOf, keyWords, valueWords, children, routingKeys, leafPairs, depthLimit, runBelow}
+use Rattle.card.specs.Layout.{nodeAt, kindOf, keyWords, valueWords, children, routingKeys, leafPairs, depthLimit, runBelow}
 use Rattle.card.proofs.NodeLaws.{length-keyWords, get-keyWord, get-valueWord, children-le, length-routing}
-use Rattle.descent.specs.Descent.{passed, childIndex, childFor, firstEqual, slotOf, lookAt, rootPosition, childPosition, Way, nowhere, past, byLook, wayFrom, reachedAt, leafOf, runOver, landingOf, landedAt, countOf, isFault, firstFault, ended, toList, endOf, searchOf, seek}
+use Rattle.descent.specs.Descent.{passed, childIndex, childFor, firstEqual, slotOf, lookAt, rootPosition, childPosition, Way, nowhere, past, byLook, wayFrom, reachedAt, leafOf, runOver, countOf, isFault, firstFault, ended, toList, endOf, searchOf, seek}
 use Rattle.laws.specs.Cases.{pick}
 use Rattle.laws.proofs.Cases.{order, impossible}
 use Rattle.laws.specs.Lists.{beforeZero}
 use Rattle.descent.specs.declared.Slot.{Slot}
 use Rattle.descent.specs.declared.Slot.the-variants.{At, Absent}
 use Rattle.descent.specs.declared.Position.{Position}
-use Rattle.descent.specs.declared.Look.{Look}
 use Rattle.descent.specs.declared.Look.the-variants.{Nowhere, Leaf as IsLeaf, Inner as IsInner}
 use Rattle.descent.specs.declared.Reached.{Reached}
 use Rattle.descent.specs.declared.Reached.the-variants.{Refused as NotReached, Leaf as ReachedLeaf}
-use Rattle.descent.specs.declared.Landing.the-variants.{Refused as NoLanding, Leaf as LandingAt}
 use Rattle.descent.specs.declared.End.{End}
 use Rattle.descent.specs.declared.End.the-variants.{Refused as EndRefused, Leaf as EndLeaf, Fault as EndFault}
-use Rattle.descent.specs.declared.Search.the-variants.{Refused as NoSearch, Balanced as SearchBalanced, Violation as SearchViolation}
+use Rattle.descent.specs.declared.Search.the-variants.{Violation as SearchViolation}
 
 -- ---- the slot of a key
 

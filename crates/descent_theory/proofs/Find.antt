@@ -5,23 +5,22 @@ use mathlib.Core.List.{List}
 use mathlib.Core.Bool.{Bool}
 use mathlib.Core.Option.{Option, none, some}
 use mathlib.Core.Logic.{by-cases}
-use Prim.Native.Nat.{ℕ, zero, suc, _+_, _-_, _*_, _≤_, _<_}
+use Prim.Native.Nat.{ℕ, zero, suc, _+_, _≤_, _<_}
 use native.Mathlib.Omega.{arith}
 use native.Mathlib.Decide.{ℕ-discrete}
 use lib.ListN.{length, getD, drop, drop-of-length-le}
 use lib.Seq.{drop-cons}
 use borrow.Author.Tests.{ne-eqb, eq-eqb}
-use Rattle.card.specs.Layout.{nodeAt, slotPairs, depthLimit}
+use Rattle.card.specs.Layout.{nodeAt, slotPairs}
 use Rattle.card.proofs.NodeLaws.{get-valueWord}
 use Rattle.descent.specs.Descent.{firstEqual, slotOf}
 use Rattle.descent.proofs.DescentLaws.{slot-below}
-use Rattle.descent_theory.proofs.Routing.{Leads, Parted, parted, child-on-card, some-children, internal, number-on-card}
+use Rattle.descent_theory.proofs.Routing.{Leads, Parted, parted}
 use Rattle.tree.specs.Pairs.{pairs, lookup}
 use Rattle.tree.proofs.Pairs.{InRange, AllInRange, child, lookup-child, depth, slot-pairs-head, child-in, child-represents, child-depth}
-use Rattle.tree.proofs.Path.{depthOf}
-use Rattle.tree.proofs.Reading.{read-length, read-kind, leaf-keys, leaf-values}
+use Rattle.tree.proofs.Reading.{read-length, leaf-keys, leaf-values}
 use Rattle.tree.specs.Represent.{Represents}
-use Rattle.tree.specs.Tree.{Tree, Forest, root, leaf, node}
+use Rattle.tree.specs.Tree.{Tree, Forest, leaf, node}
 use Rattle.tree.proofs.Tree.{Context, plug, top, down}
 use Rattle.descent.specs.declared.Slot.{Slot}
 use Rattle.descent.specs.declared.Slot.the-variants.{At, Absent}

@@ -1,7 +1,7 @@
 -- The search for a violation on the card is the way of the key through the tree: it comes to the violation that lies on
 -- the key's path, and finds nothing in a table without violations.
 use mathlib.Core.Path.{_≡_, refl, ap, sym, _∙_, subst}
-use mathlib.Core.List.{List, [], _∷_}
+use mathlib.Core.List.{List}
 use mathlib.Core.Bool.{Bool, true, false}
 use mathlib.Core.Logic.{by-cases}
 use Prim.Native.Nat.{ℕ, zero, suc, _+_, _-_, _*_, _≤_}
@@ -16,14 +16,13 @@ use Rattle.descent_theory.proofs.Routing.{Untagged, path-leads, childre
 use Rattle.descent_theory.proofs.Way.{position, positionOf, positionsAbove, position-node, pastAll, pastAll-past, depth-plug, look-at-node, way-child, way-at-leaf, way-path}
 use Rattle.laws.proofs.Cases.{order, impossible}
 use Rattle.laws.specs.Bits.{bit}
-use Rattle.tree.proofs.Pairs.{child, depth, depths, child-represents, child-depth, routing-roots}
-use Rattle.tree.proofs.Path.{Past, Short, OnPath, depthOf, widthOf, ownViolation, Violation, width-fill, own-violation-le}
+use Rattle.tree.proofs.Pairs.{child, depth, child-represents, child-depth}
+use Rattle.tree.proofs.Path.{OnPath, depthOf, widthOf, ownViolation, Violation, width-fill, own-violation-le}
 use Rattle.tree.proofs.Reading.{read-kind, leaf-pairs}
 use Rattle.tree.specs.Represent.{Represents, Holds}
-use Rattle.tree.proofs.Represent.{rootsLeft, RepresentsContext, linkPlace, unplugged}
-use Rattle.tree.proofs.Splice.{length-roots-left}
+use Rattle.tree.proofs.Represent.{RepresentsContext, unplugged}
 use Rattle.tree.specs.Tree.{Tree, Forest, root, roots, routing, leaf, node, one, more}
-use Rattle.tree.proofs.Tree.{Left, Right, fill, Context, plug, rightmost, followed, top, down}
+use Rattle.tree.proofs.Tree.{fill, Context, plug, top, down}
 use Rattle.tree.proofs.Violations.{few-below, below, few-zero, violations-inside}
 use Rattle.tree.specs.Violations.{violations, forestViolations, RootOk, tableViolations}
 use Rattle.descent.specs.declared.Position.{Position}

@@ -12,7 +12,7 @@ use Rattle.descent.specs.Descent.{passed, lookAt, rootPosition, childPosition, 
 use Rattle.descent.proofs.DescentLaws.{look-leaf, look-inner, way-leaf, way-down}
 use Rattle.descent_theory.proofs.Routing.{Leads, child-fill, passed-fill, index-on-card, child-on-card, children-on-card, some-children, internal, number-on-card}
 use Rattle.tree.proofs.Pairs.{child, depth, depths}
-use Rattle.tree.proofs.Path.{Past, Short, depthOf, widthOf, fullRun, width-fill}
+use Rattle.tree.proofs.Path.{Past, Short, depthOf, fullRun, width-fill}
 use Rattle.tree.proofs.Reading.{read-kind}
 use Rattle.tree.specs.Represent.{Represents, Holds}
 use Rattle.tree.proofs.Represent.{rootsLeft, linkPlace, unplugged}

@@ -6,7 +6,7 @@ use mathlib.Core.Option.{Option, none, some}
 use Prim.Native.Nat.{ℕ, _+_, _≤_, _<_}
 use native.Mathlib.Omega.{arith}
 use native.Mathlib.Decide.{ℕ-discrete}
-use lib.ListN.{length, getD}
+use lib.ListN.{length}
 use borrow.Author.Tests.{ne-eqb, eq-eqb}
 use Rattle.descent.specs.declared.Reached.{Reached}
 use Rattle.promises.proofs.Feeding.{dictionaryAnswer}
@@ -18,7 +18,7 @@ use Rattle.opening.proofs.OpeningLaws.{open-unrefused, open-scarce}
 use Rattle.state.specs.Steps.{noBeginning}
 use Rattle.card.specs.Header.{nodesOfLength, cardRefusal, Sized, Formatted}
 use Rattle.card.proofs.HeaderLaws.{nodes-sized, header-formatted}
-use Rattle.card.specs.Layout.{lowestKey, keyLimit, depthLimit, rootPlace, nodeAt}
+use Rattle.card.specs.Layout.{lowestKey, keyLimit, nodeAt}
 use Rattle.change_theory.proofs.Plays.{Openable}
 use Rattle.change_theory.proofs.Repaired.{settled, violated}
 use Rattle.descent.specs.Descent.{slotOf, way, leafOf}

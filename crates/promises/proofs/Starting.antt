@@ -6,11 +6,11 @@ use mathlib.Core.Option.{Option, none}
 use mathlib.Core.Logic.{_⊎_, inl, inr}
 use Prim.Native.Nat.{ℕ, _+_, _≤_, _<_}
 use native.Mathlib.Omega.{arith}
-use lib.ListN.{length, getD}
+use lib.ListN.{length}
 use borrow.Author.Tests.{ne-eqb, eq-eqb}
 use Rattle.card.specs.Header.{nodesOfLength, Sized, Formatted}
 use Rattle.card.proofs.HeaderLaws.{sized-nodes, formatted-header}
-use Rattle.card.specs.Layout.{lowestKey, keyLimit, depthLimit, rootPlace}
+use Rattle.card.specs.Layout.{lowestKey, keyLimit}
 use Rattle.tree.specs.FreeNodes.{Exact}
 use Rattle.descent.specs.Descent.{way, landingOf}
 use Rattle.descent_theory.proofs.Landing.{landing-found}

@@ -3,19 +3,18 @@ use mathlib.Core.Path.{_≡_, refl, ap, sym, _∙_}
 use mathlib.Core.List.{List, [], _∷_}
 use mathlib.Core.Bool.{Bool, true, false}
 use mathlib.Core.Option.{Option, none, some}
-use Prim.Native.Nat.{ℕ, zero, suc, _+_, _^_, _≤_, _<_}
+use Prim.Native.Nat.{ℕ, zero, suc, _^_, _≤_, _<_}
 use native.Mathlib.Omega.{arith}
 use lib.ListN.{length, getD}
-use lib.Dec.{eqb}
 use borrow.Author.Tests.{ne-eqb}
 use Rattle.card.specs.Header.{Sized}
-use Rattle.card.specs.Layout.{depthLimit, rootPlace, place, nodeAt, keyWords, valueWords, children, slotPairs, leafPairs, runBelow}
+use Rattle.card.specs.Layout.{depthLimit, rootPlace, nodeAt, keyWords, valueWords, children, slotPairs, leafPairs}
 use Rattle.card.proofs.NodeLaws.{length-node, length-keyWords, length-valueWords}
 use Rattle.descent.specs.Descent.{firstEqual, slotOf, lookAt, rootPosition, childPosition, Way, way, runOver, landedAt, landingOf, endOf}
 use Rattle.descent.proofs.DescentLaws.{Inside, index-le, leaf-inside, inner-inside, unsought-refused, unsought-leaf}
 use Rattle.descent.proofs.Along.{along, run-over-le}
 use Rattle.laws.specs.Cases.{pick}
-use Rattle.laws.proofs.Cases.{bool-cases, impossible}
+use Rattle.laws.proofs.Cases.{impossible}
 use Rattle.updates.specs.Updates.{landing, Reason, insertReason, insertChange, deleteChange, noChange, changeIn, changeAt, repairs, nextChange, held, slot, full}
 use Rattle.descent.specs.declared.Slot.{Slot}
 use Rattle.descent.specs.declared.Slot.the-variants.{At, Absent as NoSlot}
@@ -46,14 +45,14 @@ pub record Landed (n m link : ℕ) : Type 0 where
   pub linked : link < 2 ^ 32
 
 -- a landing is at the leaf of the way
-record LeafOn (w : Way) (card : List ℕ) (m link run : ℕ) : Type 0 where
+pub record LeafOn (w : Way) (card : List ℕ) (m link run : ℕ) : Type 0 where
   pub position : Position
   pub on-way : w .leaf ≡ some position
   pub node-is : position .node ≡ m
   pub link-is : position .link ≡ link
   pub run-is : runOver card 0 (w .inner) ≡ run
 
-leaf-on : (card : List ℕ) (w : Way) (m link run : ℕ) → landingOf card w ≡ LandingAt m link run → LeafOn w card m link run
+pub leaf-on : (card : List ℕ) (w : Way) (m link run : ℕ) → landingOf card w ≡ LandingAt m link run → LeafOn w card m link run
 unfolding landingOf landedAt
 leaf-on card w m link run e = go (w .leaf) refl e
   where

@@ -6,7 +6,7 @@ use mathlib.Core.Bool.{true, _&&_}
 use mathlib.Core.List.{List}
 use Prim.Native.Nat.{ℕ, _-_, _≤_}
 use lib.ListN.{length}
-use Rattle.card.specs.Layout.{depthLimit, nodeAt}
+use Rattle.card.specs.Layout.{depthLimit}
 use Rattle.card.proofs.NodeLaws.{length-node}
 use Rattle.descent.specs.Descent.{lookAt, childPosition, rootPosition, wayFrom, isFault, endOf}
 use Rattle.descent.proofs.DescentLaws.{Inside, leaf-inside, inner-inside, way-nowhere, way-leaf, way-childless, way-too-deep, way-on, no-child, some-child, stops, end-nowhere, end-leaf, end-leaf-fault, end-past, fault-at}

@@ -1,7 +1,6 @@
 -- `descent::find_landing` meets its contract.
 use borrow.Author.Needs.{needs}
 use mathlib.Core.Path.{sym, _∙_, ap}
-use Prim.Native.Nat.{ℕ}
 use Rattle.descent.specs.Descent.{landedAt, landingOf}
 use Rattle.descent.specs.declared.Landing.the-variants.{Leaf as LandingAt}
 use Rattle.descent.proofs.DescentLaws.{unsought-refused, unsought-leaf, unsought-fault}

@@ -1,16 +1,15 @@
 -- `descent::find_leaf` meets its contract.
 use borrow.Author.Needs.{needs}
 use native.Mathlib.Omega.{arith}
-use mathlib.Core.Path.{_≡_, refl, sym, _∙_, ap, ap₂}
-use mathlib.Core.List.{List}
+use mathlib.Core.Path.{_≡_, sym, _∙_, ap, ap₂}
 use Prim.Native.Nat.{ℕ, _+_, _-_, _≤_}
-use lib.ListN.{length, getD}
+use lib.ListN.{length}
 use Rattle.card.specs.Layout.{depthLimit, nodeAt}
 use Rattle.card.proofs.NodeLaws.{length-node}
 use Rattle.descent.specs.Descent.{lookAt, childPosition, rootPosition, Way, past, wayFrom, reachedAt, leafOf}
 use Rattle.descent.proofs.DescentLaws.{Inside, inner-inside, index-le, way-nowhere, way-leaf, way-childless, way-too-deep, way-on, no-child, some-child, next-node, deeper, deeper-none, leaf-past, deeper-on, root-node}
 use Rattle.descent.specs.declared.Position.{Position}
-use Rattle.descent.specs.declared.Look.the-variants.{Leaf as IsLeaf, Inner as IsInner}
+use Rattle.descent.specs.declared.Look.the-variants.{Inner as IsInner}
 use Rattle.descent.specs.declared.Reached.the-variants.{Leaf as ReachedLeaf}
 use Rattle.descent.proofs.find_leaf.Statement.{statement}
 use Rattle.descent.proofs.find_leaf.Tie as tie

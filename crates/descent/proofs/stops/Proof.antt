@@ -1,6 +1,6 @@
 -- `descent::stops` meets its contract.
 use borrow.Author.Needs.{needs}
-use mathlib.Core.Path.{refl, sym, _∙_, ap}
+use mathlib.Core.Path.{sym, _∙_, ap}
 use mathlib.Core.Bool.{Bool, _&&_}
 use Rattle.descent.specs.Descent.{isFault}
 use Rattle.descent.proofs.stops.Statement.{statement}

@@ -4,9 +4,9 @@ use mathlib.Core.List.{List}
 use Prim.Native.Nat.{ℕ, _+_, _-_, _*_, _≤_}
 use native.Mathlib.Omega.{arith}
 use lib.ListN.{length, getD}
-use Rattle.card.specs.Layout.{depthLimit, keyLimit, nodeAt, children}
+use Rattle.card.specs.Layout.{depthLimit, keyLimit, nodeAt}
 use Rattle.card.proofs.NodeLaws.{length-node}
-use Rattle.descent.specs.Descent.{childIndex, lookAt, childPosition, rootPosition, Way, past, wayFrom}
+use Rattle.descent.specs.Descent.{lookAt, childPosition, rootPosition, Way, past, wayFrom}
 use Rattle.descent.proofs.DescentLaws.{Inside, inner-inside, index-le, children-stop, way-nowhere, way-leaf, way-childless, way-too-deep, way-on, root-node, held, no-child, some-child, next-node}
 use Rattle.descent.specs.declared.Position.{Position}
 use Rattle.descent.specs.declared.Look.the-variants.{Inner as IsInner}
