@@ -15,7 +15,7 @@ use Rattle.plans.specs.Change.{changeStores, kindAbove, splitLeaf, joinedKeys, 
 use Rattle.plans.specs.Planning.{numbersFrom, takeNumbers, withoutAll, lastOf, overNumbers, giving, withAll}
 use Rattle.change.specs.Mending.{mendTagged, isNode, mendUnderfull, mend, onSearch, nextRepair}
 use Rattle.siblings.specs.Siblings.{mendTogether, mendSiblings}
-use Rattle.descent.specs.Descent.{passed, childIndex, childFor, firstEqual, slotOf, turnInner, turnOf, turnAt, onTurn, leafFor, onTurnLanding, landingFor, rootPosition, childPosition, visitOf, visitAt, onVisit, seek, visitLeaf, visitInner, visitTagged}
+use Rattle.descent.specs.Descent.{passed, childIndex, childFor, firstEqual, slotOf, lookAt, rootPosition, childPosition, past, byLook, wayFrom, way, reachedAt, leafOf, runOver, landedAt, landingOf, countOf, isFault, firstFault, ended, toList, endOf, searchOf, seek}
 use Rattle.free_nodes.specs.NodeSet.{allNodes, countTrue, firstTrue, firstFrom, orElse, nextFree}
 use Rattle.laws.specs.Sorting.{insertPair, insertAll, sort}
 use Rattle.soundness.specs.Check.{member, leafSound, unusedZero, lookOf, noted, enterLeaf, innerSound, enterInner, enterKind, enterNode, childrenCheck, raised, onLook, nodeCheck, tableCheck, rangeEnd, slotSound}
@@ -35,7 +35,7 @@ use Rattle.demands.specs.Book.{book, empty, added, entered, started as inHand, 
 use Rattle.demands.specs.Demand3.{Survives}
 use Rattle.demands.specs.Events.{Event, World, replyTo, happens, run, LeftUncut, FormatsTo, ready-now, stored-first, Begins, from-format, insert, step, cut}
 use Rattle.demands.specs.RationTable.{rationTable}
-use Rattle.demands.specs.Refusals.{way, among, fullAt}
+use Rattle.demands.specs.Refusals.{ledTo, among, fullAt}
 use Rattle.demands.specs.Worked.{dictionary}
 use Rattle.demands.proofs.Demands.{demand-3}
 use Rattle.tree.specs.Pairs.{lookup}
@@ -112,7 +112,7 @@ pairsTo11 = (11, 110) ∷ (10, 100) ∷ (9, 90) ∷ (8, 80) ∷ (7, 70) ∷ (6, 
 
 -- computed: 153 stores and "ready"; what formatting leaves; the book with the cut after 40 and after 73 of the stores
 pub computed : (readyIn 153 beingFormatted ≡ true) × (after 153 beingFormatted ≡ formatted) × (kept rationTable (cutAfter 40) formatted (book [] empty) ≡ book pairsTo11 empty) × (kept rationTable (cutAfter 73) formatted (book [] empty) ≡ book ((12, 120) ∷ pairsTo11) empty)
-unfolding readyIn isStored isReady after kept feed told outcome replyTo inHand isRefused counted entered added fullAt way among stepReply startReply happens stepOf stepDoing stepFormat formatStore formattedWord formatOf stepFinal nodesOfLength formatting resting idled allNodes headerRefusal stepHeld isIdle stepWork stepPlan stepBegin stepPrepared changeAt landing landingFor onTurnLanding turnAt turnOf turnInner nodeAt children valueWords keyWords slotOf firstEqual insertReason reasonIn emptyReason insertChange stepFirst stepStore planning advanced repairs nextChange nextRepair onSearch seek onVisit visitAt visitOf rootPosition leafPairs insertOf startOf startChecked startRoom roomFor startLanded started stepRefused startRefused withAll giving overNumbers takeNumbers numbersFrom nextFree firstFrom firstTrue orElse withoutAll lastOf splitLeaf changeStores sort insertAll insertPair kindAbove nodeImage countTrue childPosition childFor childIndex passed routingKeys runBelow deleteOf changeIn deleteChange mend mendTagged mendUnderfull mendSiblings mendTogether isNode share merge mergeRoot leavesTogether innersTogether half leftKeys keyBetween absorb splitParent joinedKeys joinedChildren findOf cardRefusal foundAt leafFor onTurn foundIn noBeginning noMemory openOf openChecked openSound tableCheck nodeCheck onLook enterNode enterKind enterLeaf enterInner innerSound noted lookOf leafSound member unusedZero childrenCheck raised halves copied visitLeaf visitInner visitTagged rangeEnd slotSound
+unfolding readyIn isStored isReady after kept feed told outcome replyTo inHand isRefused counted entered added fullAt ledTo among stepReply startReply happens stepOf stepDoing stepFormat formatStore formattedWord formatOf stepFinal nodesOfLength formatting resting idled allNodes headerRefusal stepHeld isIdle stepWork stepPlan stepBegin stepPrepared changeAt landing landingOf landedAt way wayFrom byLook past lookAt runOver nodeAt children valueWords keyWords slotOf firstEqual insertReason reasonIn emptyReason insertChange stepFirst stepStore planning advanced repairs nextChange nextRepair onSearch seek searchOf endOf firstFault ended toList isFault countOf rootPosition leafPairs insertOf startOf startChecked startRoom roomFor startLanded started stepRefused startRefused withAll giving overNumbers takeNumbers numbersFrom nextFree firstFrom firstTrue orElse withoutAll lastOf splitLeaf changeStores sort insertAll insertPair kindAbove nodeImage countTrue childPosition childFor childIndex passed routingKeys runBelow deleteOf changeIn deleteChange mend mendTagged mendUnderfull mendSiblings mendTogether isNode share merge mergeRoot leavesTogether innersTogether half leftKeys keyBetween absorb splitParent joinedKeys joinedChildren findOf cardRefusal foundAt leafOf reachedAt foundIn noBeginning noMemory openOf openChecked openSound tableCheck nodeCheck onLook enterNode enterKind enterLeaf enterInner innerSound noted lookOf leafSound member unusedZero childrenCheck raised halves copied rangeEnd slotSound
 computed = (refl, refl, refl, refl)
 
 begins : Begins rationTable formatted []

@@ -287,11 +287,14 @@ leaf-past p w = go (length (w .inner)) (w .leaf)
     go d none = refl
     go d (some q) = ap (ReachedLeaf (q .node)) (omega arith)
 
--- a level less, as the code counts them
-pub deeper-on : (left : ℕ) (r : Reached) → left ≤ depthLimit → (left ≡ 0 → ⊥) → deeper (depthLimit - left) (deeper 1 r) ≡ deeper (depthLimit - (left - 1)) r
+-- a level more, as the code counts them
+pub deeper-on : (way : ℕ → Reached) (depth : ℕ) → depth ≤ depthLimit → (depth ≡ depthLimit → ⊥) → deeper depth (deeper 1 (way (depthLimit - depth - 1))) ≡ deeper (depth + 1) (way (depthLimit - (depth + 1)))
 unfolding deeper
-deeper-on left NotReached l h = refl
-deeper-on left (ReachedLeaf m depth) l h = ap (ReachedLeaf m) (omega arith)
+deeper-on way depth l h = deeper-twice (way (depthLimit - depth - 1)) ∙ ap (λ (x : ℕ). deeper (depth + 1) (way x)) (omega arith)
+  where
+    deeper-twice : (r : Reached) → deeper depth (deeper 1 r) ≡ deeper (depth + 1) r
+    deeper-twice NotReached = refl
+    deeper-twice (ReachedLeaf m d) = ap (ReachedLeaf m) (omega arith)
 
 -- ---- the run, read off the way
 

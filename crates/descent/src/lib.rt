@@ -284,27 +284,24 @@ pub fn find_leaf(card: &[u32], n: usize, key: u32, root: usize) -> Reached
     ensures { λ r. ⌜ r ≡ leafOf (wayFrom (now (card .entry)) n key depthLimit (rootPosition root)) ⌝ }
 {
     let mut m = root;
-    let mut left: usize = card::DEPTH_LIMIT;
+    let mut depth: usize = 0;
     loop {
         match look_at(card, n, m) {
             Look::Nowhere => {
                 return Reached::Refused;
             }
             Look::Leaf => {
-                return Reached::Leaf {
-                    node: m,
-                    depth: card::DEPTH_LIMIT - left,
-                };
+                return Reached::Leaf { node: m, depth };
             }
             Look::Inner => {
                 let node = card::node_at(card, m);
                 if node[12] == 0 {
                     return Reached::Refused;
                 }
-                if left == 0 {
+                if depth == card::DEPTH_LIMIT {
                     return Reached::Refused;
                 }
-                left -= 1;
+                depth += 1;
                 m = node[12 + child_index(node, key)] as usize;
             }
         }

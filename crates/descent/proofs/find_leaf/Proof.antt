@@ -16,11 +16,11 @@ use Rattle.descent.proofs.find_leaf.Tie as tie
 
 -- the node stands at some position, and the rest of the way goes on from there
 abbrev Inv-loop : tie.InvT-loop
-Inv-loop card n key root m₀ left₀ m left =
-    (left ≤ depthLimit) × (p : Position) × (p .node ≡ m) × (leafOf (wayFrom card n key depthLimit (rootPosition root)) ≡ deeper (depthLimit - left) (leafOf (wayFrom card n key left p)))
+Inv-loop card n key root m₀ depth₀ m depth =
+    (depth ≤ depthLimit) × (p : Position) × (p .node ≡ m) × (leafOf (wayFrom card n key depthLimit (rootPosition root)) ≡ deeper depth (leafOf (wayFrom card n key (depthLimit - depth) p)))
 
 abbrev μ-loop : tie.MeasureT-loop
-μ-loop card n key root m₀ left₀ m left = left
+μ-loop card n key root m₀ depth₀ m depth = depthLimit - depth
 
 -- what stands at the node
 inner : (c : tie.After-node-at Inv-loop μ-loop) → lookAt (c .before .before .before .before .before .before .args .card .now) (c .before .before .before .before .before .before .args .n) (c .before .before .before .before .loop .inv .1 .node) ≡ IsInner
@@ -47,17 +47,14 @@ enum-told c = search needs
 
 returns : tie.Need-returns Inv-loop μ-loop
 unfolding leafOf reachedAt deeper past
-returns c = sym (c .before .before .before .loop .inv .3 ∙ ap (λ (w : Way). deeper (depthLimit - c .before .before .before .loop .left) (leafOf w)) (way-nowhere _ _ _ _ _ (ap (lookAt (c .before .before .before .before .before .args .card .now) (c .before .before .before .before .before .args .n)) (c .before .before .before .loop .inv .2) ∙ sym (c .before .before .look-at .ensures) ∙ c .enum-told .given .1)))
+returns c = sym (c .before .before .before .loop .inv .3 ∙ ap (λ (w : Way). deeper (c .before .before .before .loop .depth) (leafOf w)) (way-nowhere _ _ _ _ _ (ap (lookAt (c .before .before .before .before .before .args .card .now) (c .before .before .before .before .before .args .n)) (c .before .before .before .loop .inv .2) ∙ sym (c .before .before .look-at .ensures) ∙ c .enum-told .given .1)))
 
 enum-told-2 : tie.Need-enum-told-2 Inv-loop μ-loop
 enum-told-2 c = search needs
 
-sub-t9 : tie.Need-sub-t9 Inv-loop μ-loop
-sub-t9 c = search needs
-
 returns-2 : tie.Need-returns-2 Inv-loop μ-loop
 unfolding leafOf reachedAt deeper past
-returns-2 c = sym (c .before .before .before .loop .inv .3 ∙ ap (λ (w : Way). deeper (depthLimit - c .before .before .before .loop .left) (leafOf w)) (way-leaf _ _ _ _ _ (ap (lookAt (c .before .before .before .before .before .args .card .now) (c .before .before .before .before .before .args .n)) (c .before .before .before .loop .inv .2) ∙ sym (c .before .before .look-at .ensures) ∙ c .enum-told2 .given .1)) ∙ ap₂ (λ (x d : ℕ). ReachedLeaf x d) (c .before .before .before .loop .inv .2) (omega arith))
+returns-2 c = sym (c .before .before .before .loop .inv .3 ∙ ap (λ (w : Way). deeper (c .before .before .before .loop .depth) (leafOf w)) (way-leaf _ _ _ _ _ (ap (lookAt (c .before .before .before .before .before .args .card .now) (c .before .before .before .before .before .args .n)) (c .before .before .before .loop .inv .2) ∙ sym (c .before .before .look-at .ensures) ∙ c .enum-told2 .given .1)) ∙ ap₂ (λ (x d : ℕ). ReachedLeaf x d) (c .before .before .before .loop .inv .2) (omega arith))
 
 enum-told-3 : tie.Need-enum-told-3 Inv-loop μ-loop
 enum-told-3 c = search needs
@@ -70,14 +67,14 @@ shared-slice-read-if1 c = omega (arith, words (c .before))
 
 returns-3 : tie.Need-returns-3 Inv-loop μ-loop
 unfolding leafOf reachedAt deeper past
-returns-3 c = sym (c .before .before .before .before .before .before .loop .inv .3 ∙ ap (λ (w : Way). deeper (depthLimit - c .before .before .before .before .before .before .loop .left) (leafOf w)) (way-childless _ _ _ _ _ (inner (c .before .before)) (no-child _ (c .before .before .before .before .before .before .before .before .args .key) (c .before .before .before .before .before .before .loop .inv .1) _ _ (c .before .before .before .before .before .before .loop .inv .2) (c .before .before .node-at .ensures) (c .if1 .taken))))
+returns-3 c = sym (c .before .before .before .before .before .before .loop .inv .3 ∙ ap (λ (w : Way). deeper (c .before .before .before .before .before .before .loop .depth) (leafOf w)) (way-childless _ _ _ _ _ (inner (c .before .before)) (no-child _ (c .before .before .before .before .before .before .before .before .args .key) (c .before .before .before .before .before .before .loop .inv .1) _ _ (c .before .before .before .before .before .before .loop .inv .2) (c .before .before .node-at .ensures) (c .if1 .taken))))
 
 returns-4 : tie.Need-returns-4 Inv-loop μ-loop
 unfolding leafOf reachedAt deeper past
-returns-4 c = sym (c .before .before .before .before .before .before .before .loop .inv .3 ∙ ap (λ (w : Way). deeper (depthLimit - c .before .before .before .before .before .before .before .loop .left) (leafOf w)) (way-too-deep _ _ _ _ _ (inner (c .before .before .before)) (c .if2 .taken)))
+returns-4 c = sym (c .before .before .before .before .before .before .before .loop .inv .3 ∙ ap (λ (w : Way). deeper (c .before .before .before .before .before .before .before .loop .depth) (leafOf w)) (way-too-deep _ _ _ _ _ (inner (c .before .before .before)) (let e = c .if2 .taken in omega arith)))
 
-sub-left : tie.Need-sub-left Inv-loop μ-loop
-sub-left c = search needs
+add-depth : tie.Need-add-depth Inv-loop μ-loop
+add-depth c = search needs
 
 child-index-requires : tie.Need-child-index-requires Inv-loop μ-loop
 child-index-requires c κs = (words (c .before .before .before), c .before .if1 .left)
@@ -103,9 +100,9 @@ loop-again c = (
   childPosition (nodeAt (c .before .before .before .before .before .before .before .before .before .before .before .args .card .now) (c .before .before .before .before .before .before .before .before .before .loop .inv .1 .node)) (c .before .before .before .before .before .before .before .before .before .before .before .args .key) (c .before .before .before .before .before .before .before .before .before .loop .inv .1),
   next-node _ _ (c .before .before .before .before .before .before .before .before .before .loop .inv .1) _ _ (c .before .before .before .before .before .before .before .before .before .loop .inv .2) (c .before .before .before .before .before .node-at .ensures) _ (c .before .child-index .ensures),
   c .before .before .before .before .before .before .before .before .before .loop .inv .3
-      ∙ ap (λ (w : Way). deeper (depthLimit - c .before .before .before .before .before .before .before .before .before .loop .left) (leafOf w)) (way-on _ _ _ _ _ (inner (c .before .before .before .before .before)) (c .before .before .if2 .left) (some-child _ (c .before .before .before .before .before .before .before .before .before .before .before .args .key) (c .before .before .before .before .before .before .before .before .before .loop .inv .1) _ _ (c .before .before .before .before .before .before .before .before .before .loop .inv .2) (c .before .before .before .before .before .node-at .ensures) (c .before .before .before .if1 .left)))
-      ∙ ap (deeper (depthLimit - c .before .before .before .before .before .before .before .before .before .loop .left)) (leaf-past _ _)
-      ∙ deeper-on _ _ (c .before .before .before .before .before .before .before .before .before .loop .inv .0) (c .before .before .if2 .left),
+      ∙ ap (λ (w : Way). deeper (c .before .before .before .before .before .before .before .before .before .loop .depth) (leafOf w)) (way-on _ _ _ _ _ (inner (c .before .before .before .before .before)) (λ z. c .before .before .if2 .left (omega (arith, c .before .before .before .before .before .before .before .before .before .loop .inv .0))) (some-child _ (c .before .before .before .before .before .before .before .before .before .before .before .args .key) (c .before .before .before .before .before .before .before .before .before .loop .inv .1) _ _ (c .before .before .before .before .before .before .before .before .before .loop .inv .2) (c .before .before .before .before .before .node-at .ensures) (c .before .before .before .if1 .left)))
+      ∙ ap (deeper (c .before .before .before .before .before .before .before .before .before .loop .depth)) (leaf-past _ _)
+      ∙ deeper-on (λ (x : ℕ). leafOf (wayFrom (c .before .before .before .before .before .before .before .before .before .before .before .args .card .now) (c .before .before .before .before .before .before .before .before .before .before .before .args .n) (c .before .before .before .before .before .before .before .before .before .before .before .args .key) x (childPosition (nodeAt (c .before .before .before .before .before .before .before .before .before .before .before .args .card .now) (c .before .before .before .before .before .before .before .before .before .loop .inv .1 .node)) (c .before .before .before .before .before .before .before .before .before .before .before .args .key) (c .before .before .before .before .before .before .before .before .before .loop .inv .1)))) (c .before .before .before .before .before .before .before .before .before .loop .depth) (c .before .before .before .before .before .before .before .before .before .loop .inv .0) (c .before .before .if2 .left),
 )
 
 pub find-leaf-spec : {M : Type 1} → statement M
@@ -119,14 +116,13 @@ find-leaf-spec =
     enum-told
     returns
     enum-told-2
-    sub-t9
     returns-2
     enum-told-3
     node-at-requires
     shared-slice-read-if1
     returns-3
     returns-4
-    sub-left
+    add-depth
     child-index-requires
     add-m
     mul-m
