@@ -18,17 +18,17 @@ use Rattle.change_decide.specs.Decide.{nextRepair as decidedRepair}
 use Rattle.change.specs.LayOut.{layOut}
 use Rattle.change.specs.Mending.{nextRepair}
 use Rattle.siblings.specs.Siblings.{togetherAt}
-use Rattle.descent.specs.Descent.{passed, childIndex, childFor, firstEqual, slotOf, turnInner, turnOf, turnAt, onTurn, leafFor, onTurnLanding, landingFor, rootPosition, childPosition, visitOf, visitAt, onVisit, seek, visitLeaf, visitInner, visitTagged}
+use Rattle.descent.specs.Descent.{passed, childIndex, childFor, firstEqual, slotOf, lookAt, rootPosition, childPosition, past, byLook, wayFrom, way, reachedAt, leafOf, runOver, landedAt, landingOf, countOf, isFault, firstFault, ended, toList, endOf, searchOf, seek}
 use Rattle.free_nodes.specs.NodeSet.{allNodes, countTrue, firstTrue, firstFrom, orElse, nextFree}
 use Rattle.laws.specs.Sorting.{insertPair, insertAll, sort}
 use Rattle.soundness.specs.Check.{member, leafSound, unusedZero, lookOf, noted, enterLeaf, innerSound, enterInner, enterKind, enterNode, childrenCheck, raised, onLook, nodeCheck, tableCheck, rangeEnd, slotSound}
 use Rattle.state.specs.Memory.{noMemory, resting, idled, advanced}
-use Rattle.updates.specs.Updates.{landing, emptyReason, reasonIn, insertReason, insertChange, deleteChange, inLeaf, noWay, roomFor, startRoom, nextChange}
+use Rattle.updates.specs.Updates.{landing, emptyReason, reasonIn, insertReason, insertChange, deleteChange, roomFor, startRoom, nextChange, inLeaf, noWay}
 use Rattle.state.specs.Answers.{stepReply, startReply}
 use Rattle.lookup.specs.Find.{foundIn, foundAt, findOf}
 use Rattle.opening.specs.Opening.{openSound, openChecked, openOf}
 use Rattle.starting.specs.Starts.{formatOf, startRefused, started, startLanded, startChecked, startOf, insertOf, deleteOf}
-use Rattle.table.specs.Calls.{planning, stepPrepared, stepBegin, stepTask, stepChecked, stepHeld, stepOf}
+use Rattle.table.specs.Calls.{stepOf, planning, stepPrepared, stepBegin, stepHeld, stepTask, stepChecked}
 use Rattle.state.specs.Steps.{noBeginning, stepRefused, stepFinal, formattedWord, formatStore, formatting, stepFormat, stepStore, isIdle, heldBy}
 use Rattle.state.specs.declared.Doing.the-variants.{Idle}
 use Rattle.state.specs.declared.Answer.{Answer}
@@ -38,7 +38,7 @@ use Rattle.demands.specs.Book.{book, empty, added, entered, started as inHand, 
 use Rattle.demands.specs.Demand3.{Survives}
 use Rattle.demands.specs.Events.{Event, World, replyTo, happens, run, LeftUncut, FormatsTo, ready-now, stored-first, Begins, from-format, insert, step, cut}
 use Rattle.demands.specs.RationTable.{rationTable}
-use Rattle.demands.specs.Refusals.{way, among, fullAt}
+use Rattle.demands.specs.Refusals.{ledTo, among, fullAt}
 use Rattle.demands.specs.Worked.{dictionary}
 use Rattle.demands.proofs.Demands.{demand-3}
 use Rattle.tree.specs.Pairs.{lookup}
@@ -115,7 +115,7 @@ pairsTo11 = (11, 110) ∷ (10, 100) ∷ (9, 90) ∷ (8, 80) ∷ (7, 70) ∷ (6, 
 
 -- computed: 153 stores and "ready"; what formatting leaves; the book with the cut after 40 and after 73 of the stores
 pub computed : (readyIn 153 beingFormatted ≡ true) × (after 153 beingFormatted ≡ formatted) × (kept rationTable (cutAfter 40) formatted (book [] empty) ≡ book pairsTo11 empty) × (kept rationTable (cutAfter 73) formatted (book [] empty) ≡ book ((12, 120) ∷ pairsTo11) empty)
-unfolding readyIn isStored isReady after kept feed told outcome replyTo inHand isRefused counted entered added fullAt way among stepReply startReply happens stepOf stepHeld heldBy stepFormat formatStore formattedWord formatOf stepFinal nodesOfLength formatting resting idled allNodes headerRefusal stepChecked isIdle stepTask stepBegin stepPrepared inLeaf landing landingFor onTurnLanding turnAt turnOf turnInner nodeAt children valueWords keyWords slotOf firstEqual insertReason reasonIn emptyReason insertChange stepStore planning advanced nextChange nextRepair onSearch seek onVisit visitAt visitOf rootPosition leafPairs insertOf startOf startChecked startRoom roomFor startLanded started stepRefused startRefused withAll giving overNumbers takeNumbers numbersFrom nextFree firstFrom firstTrue orElse withoutAll lastOf splitLeaf changeStores sort insertAll insertPair kindAbove nodeImage countTrue childPosition childFor childIndex passed routingKeys runBelow deleteOf noWay deleteChange isNode share merge mergeRoot leavesTogether innersTogether half leftKeys keyBetween absorb splitParent joinedKeys joinedChildren findOf cardRefusal foundAt leafFor onTurn foundIn noBeginning noMemory openOf openChecked openSound tableCheck nodeCheck onLook enterNode enterKind enterLeaf enterInner innerSound noted lookOf leafSound member unusedZero childrenCheck raised halves copied visitLeaf visitInner visitTagged rangeEnd slotSound layOut decidedRepair decideAt decideTagged decideUnderfull decideSiblings decideTogether togetherAt
+unfolding readyIn isStored isReady after kept feed told outcome replyTo inHand isRefused counted entered added fullAt ledTo among stepReply startReply happens stepOf stepFormat formatStore formattedWord formatOf stepFinal nodesOfLength formatting resting idled allNodes headerRefusal stepHeld isIdle stepBegin stepPrepared landing landingOf landedAt way wayFrom byLook past lookAt runOver nodeAt children valueWords keyWords slotOf firstEqual insertReason reasonIn emptyReason insertChange stepStore planning advanced nextChange nextRepair onSearch seek searchOf endOf firstFault ended toList isFault countOf rootPosition leafPairs insertOf startOf startChecked startRoom roomFor startLanded started stepRefused startRefused withAll giving overNumbers takeNumbers numbersFrom nextFree firstFrom firstTrue orElse withoutAll lastOf splitLeaf changeStores sort insertAll insertPair kindAbove nodeImage countTrue childPosition childFor childIndex passed routingKeys runBelow deleteOf deleteChange isNode share merge mergeRoot leavesTogether innersTogether half leftKeys keyBetween absorb splitParent joinedKeys joinedChildren findOf cardRefusal foundAt leafOf reachedAt foundIn noBeginning noMemory openOf openChecked openSound tableCheck nodeCheck onLook enterNode enterKind enterLeaf enterInner innerSound noted lookOf leafSound member unusedZero childrenCheck raised halves copied rangeEnd slotSound heldBy stepChecked stepTask inLeaf noWay layOut decidedRepair decideAt decideTagged decideUnderfull decideSiblings decideTogether togetherAt
 computed = (refl, refl, refl, refl)
 
 begins : Begins rationTable formatted []

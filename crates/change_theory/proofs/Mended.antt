@@ -29,7 +29,8 @@ use Rattle.change_theory.proofs.Repaired.{Mendable, Repaired, settled, 
 use Rattle.change_theory.proofs.Rewrite.{violationsIn, ownIn, AllFew, numbers, Rewrite}
 use Rattle.change_theory.proofs.Rewritten.{Sound, weight-apart, numbered-total, After, rewritten, OnTheCard, on-the-card}
 use Rattle.descent.specs.Descent.{rootPosition, seek}
-use Rattle.descent_theory.proofs.Seek.{positionOf, violation-found}
+use Rattle.descent_theory.proofs.Seek.{violation-found}
+use Rattle.descent_theory.proofs.Way.{positionOf}
 use Rattle.free_nodes.specs.NodeSet.{capacity, countTrue}
 use Rattle.laws.proofs.Bits.{bit-false, bit-le}
 use Rattle.laws.proofs.Cases.{order, impossible}

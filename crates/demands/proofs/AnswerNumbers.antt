@@ -14,15 +14,15 @@ use Rattle.demands.proofs.StepRows.{Final, next-final}
 use Rattle.descent.specs.declared.Landing.{Landing}
 use Rattle.descent.specs.declared.Landing.the-variants.{Refused as NoLanding, Leaf as LandingAt}
 use Rattle.free_nodes.specs.NodeSet.{countTrue}
-use Rattle.descent.specs.Descent.{slotOf, leafFor}
+use Rattle.descent.specs.Descent.{slotOf, way, leafOf}
 use Rattle.descent.specs.declared.Slot.{Slot}
 use Rattle.descent.specs.declared.Slot.the-variants.{At, Absent as NoSlot}
-use Rattle.descent.specs.declared.Way.{Way}
-use Rattle.descent.specs.declared.Way.the-variants.{Refused as NoWay, Leaf as LeafAt}
+use Rattle.descent.specs.declared.Reached.{Reached}
+use Rattle.descent.specs.declared.Reached.the-variants.{Refused as NotReached, Leaf as ReachedLeaf}
 use Rattle.lookup.specs.Find.{foundIn, foundAt, findOf}
 use Rattle.lookup.specs.declared.Found.{Found}
 use Rattle.lookup.specs.declared.Found.the-variants.{Value as FoundValue, Absent as FoundAbsent, Refused as FoundRefused}
-use Rattle.card.specs.Layout.{depthLimit, rootPlace, nodeAt}
+use Rattle.card.specs.Layout.{nodeAt}
 use Rattle.laws.proofs.Cases.{bool-cases}
 use Rattle.opening.specs.Opening.{openSound, openChecked, openOf}
 use Rattle.plans.specs.Planning.{Preparation, refused, balanced, prepared}
@@ -152,14 +152,14 @@ unfolding foundIn
 in-small words (At i) = tt
 in-small words NoSlot = tt
 
-at-small : (c : List ℕ) (key : ℕ) (x : Way) → SmallFound (foundAt c key x)
+at-small : (c : List ℕ) (key : ℕ) (x : Reached) → SmallFound (foundAt c key x)
 unfolding foundAt
-at-small c key NoWay = omega arith
-at-small c key (LeafAt m depth) = in-small (nodeAt c m) (slotOf (nodeAt c m) key)
+at-small c key NotReached = omega arith
+at-small c key (ReachedLeaf m depth) = in-small (nodeAt c m) (slotOf (nodeAt c m) key)
 
 pub find-small : (c : List ℕ) (key : ℕ) → SmallFound (findOf c key)
 unfolding findOf
 find-small c key =
     bool-cases (eqb (cardRefusal c) 0)
-    (λ q. bool-cases (eqb key 0) (λ z. rw (q, z) (omega arith)) (λ z. rw (q, z) (at-small c key (leafFor c (nodesOfLength (length c)) key depthLimit (getD c rootPlace 0)))))
+    (λ q. bool-cases (eqb key 0) (λ z. rw (q, z) (omega arith)) (λ z. rw (q, z) (at-small c key (leafOf (way c (nodesOfLength (length c)) key)))))
     (λ q. rw q (card-small c))

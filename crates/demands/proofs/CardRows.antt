@@ -10,18 +10,18 @@ use native.Mathlib.Decide.{ℕ-discrete}
 use lib.ListN.{length, getD}
 use borrow.Author.Tests.{ne-eqb, lt-ltb}
 use Rattle.card.specs.Header.{nodesOfLength, cardRefusal, Sized, Formatted}
-use Rattle.card.specs.Layout.{depthLimit, rootPlace, nodeAt}
+use Rattle.card.specs.Layout.{nodeAt}
 use Rattle.card.specs.Replies.{Reply, refusal}
 use Rattle.demands.specs.Demand1.{Finds, HandsNone, StartsFormat, OpensTo}
 use Rattle.demands.specs.Refusals.{ByRows, nodesOn, NoCard, Unsound, Scarce, leadsTo, findRows, formatRows, openRows, end, row}
 use Rattle.demands.specs.RationTable.{workOf, handed, rationTable}
 use Rattle.demands.proofs.FirstRows.{sized?, no-nodes, by-card, card-one}
 use Rattle.demands.proofs.WayDown.{arrived, reachedLeaf, leaf-way}
-use Rattle.descent.specs.Descent.{slotOf, leafFor}
+use Rattle.descent.specs.Descent.{slotOf, way, leafOf}
 use Rattle.descent.specs.declared.Slot.{Slot}
 use Rattle.descent.specs.declared.Slot.the-variants.{At, Absent as NoSlot}
-use Rattle.descent.specs.declared.Way.{Way}
-use Rattle.descent.specs.declared.Way.the-variants.{Refused as NoWay, Leaf as LeafAt}
+use Rattle.descent.specs.declared.Reached.{Reached}
+use Rattle.descent.specs.declared.Reached.the-variants.{Refused as NotReached, Leaf as ReachedLeaf}
 use Rattle.formatting_theory.proofs.FormatSteps.{formatMemory, format-starts, format-refused}
 use Rattle.free_nodes.specs.NodeSet.{countTrue}
 use Rattle.laws.proofs.Bits.{bit-true, bit-false}
@@ -77,16 +77,16 @@ finds c key =
         a : (cardRefusal c ≡ 0) × (nodesOfLength (length c) ≡ nodesOn c)
         a = card-accepted s f
 
-        at : (key ≡ 0 → ⊥) → (x : Way) → leafFor c (nodesOn c) key depthLimit (getD c rootPlace 0) ≡ x → ((leadsTo c key ≡ none) × (foundReply (findOf c key) ≡ refusal 9)) ⊎ ((leadsTo c key ≡ none → ⊥) × Finds (foundReply (findOf c key)))
-        at d NoWay e = inl (leaf-none (leadsTo c key) (sym (leaf-way c key depthLimit 0 (getD c rootPlace 0)) ∙ ap arrived e), rw (find-key c key (a .0) d, a .1, e))
-        at d (LeafAt m deep) e = inr (
-          λ z. none-some m (sym (ap reachedLeaf z) ∙ sym (leaf-way c key depthLimit 0 (getD c rootPlace 0)) ∙ ap arrived e),
+        at : (key ≡ 0 → ⊥) → (x : Reached) → leafOf (way c (nodesOn c) key) ≡ x → ((leadsTo c key ≡ none) × (foundReply (findOf c key) ≡ refusal 9)) ⊎ ((leadsTo c key ≡ none → ⊥) × Finds (foundReply (findOf c key)))
+        at d NotReached e = inl (leaf-none (leadsTo c key) (sym (leaf-way c key) ∙ ap arrived e), rw (find-key c key (a .0) d, a .1, e))
+        at d (ReachedLeaf m deep) e = inr (
+          λ z. none-some m (sym (ap reachedLeaf z) ∙ sym (leaf-way c key) ∙ ap arrived e),
           rw (find-key c key (a .0) d, a .1, e) (found-works (nodeAt c m) (slotOf (nodeAt c m) key)),
         )
 
         keyed : Dec (key ≡ 0) → ((key ≡ 0) × (foundReply (findOf c key) ≡ refusal 6)) ⊎ ((key ≡ 0 → ⊥) × (((leadsTo c key ≡ none) × (foundReply (findOf c key) ≡ refusal 9)) ⊎ ((leadsTo c key ≡ none → ⊥) × Finds (foundReply (findOf c key)))))
         keyed (yes z) = inl (z, rw (find-no-key c key (a .0) z))
-        keyed (no d) = inr (d, at d (leafFor c (nodesOn c) key depthLimit (getD c rootPlace 0)) refl)
+        keyed (no d) = inr (d, at d (leafOf (way c (nodesOn c) key)) refl)
 
 -- ---- formatting
 

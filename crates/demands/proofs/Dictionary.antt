@@ -26,14 +26,13 @@ use Rattle.demands.specs.Rules.{InsertRule, DeleteRule}
 use Rattle.demands.proofs.SameBook.{worldly, same-world}
 use Rattle.demands.proofs.CardRows.{none-some}
 use Rattle.demands.proofs.PowerCuts.{dictionary-same, Covered, always, was-list, run-same, quiet-same, steps-same, restsRight}
-use Rattle.demands.proofs.StartRows.{leads-is}
 use Rattle.demands.proofs.StepRows.{demand-1}
 use Rattle.demands.proofs.AnswerNumbers.{start-small}
 use Rattle.demands.proofs.ReplyLaws.{begun-started}
 use Rattle.demands.proofs.FirstRows.{sized-on}
 use Rattle.demands.proofs.UpdatesByRules.{insert-by-rules, delete-by-rules, opening-by-rules}
 use Rattle.demands.proofs.Formatting.{formats-right}
-use Rattle.demands.proofs.WayDown.{landed}
+use Rattle.demands.proofs.WayDown.{landed, leads-is}
 use Rattle.laws.proofs.Cases.{bool-cases, order, impossible}
 use Rattle.promises.proofs.Accepting.{find-answers}
 use Rattle.promises.proofs.Finished.{work-finishes, finishes-within, work-not-refused, inv-rests}

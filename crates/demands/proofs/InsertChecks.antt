@@ -26,8 +26,8 @@ use Rattle.demands.specs.Dumps.{Damaged}
 use Rattle.demands.proofs.DumpsRight.{damaged-exactly}
 use Rattle.demands.proofs.RowLaws.{rows-map}
 use Rattle.demands.proofs.SameBook.{worldly}
-use Rattle.demands.proofs.StartRows.{leads-is, slot-is}
-use Rattle.demands.proofs.WayDown.{landed, slotFound}
+use Rattle.demands.proofs.StartRows.{slot-is}
+use Rattle.demands.proofs.WayDown.{landed, leads-is, slotFound}
 use Rattle.demands.proofs.Work.{true-false}
 use Rattle.card.specs.Layout.{nodeAt, keyWords, valueWords, slotPairs, leafPairs, keyLimit}
 use Rattle.card.specs.Replies.{refusal}

@@ -1,5 +1,5 @@
 -- Document 01, "The changes", insert and delete: the first change that the calls plan of an update is by the rules, on any card.
-use mathlib.Core.Path.{_≡_, refl, sym, subst, ap, _∙_}
+use mathlib.Core.Path.{_≡_, refl, sym, ap, _∙_}
 use mathlib.Core.Bool.{Bool, false}
 use mathlib.Core.List.{List, [], _∷_}
 use mathlib.Core.Option.{some}
@@ -8,9 +8,9 @@ use native.Mathlib.Omega.{arith}
 use lib.ListN.{length, getD, drop, length-take}
 use lib.Dec.{eqb}
 use borrow.Author.Tests.{eqb-true, eqb-false}
-use Rattle.card.specs.Layout.{rootPlace, depthLimit, nodeAt, keyWords}
+use Rattle.card.specs.Layout.{nodeAt, keyWords}
 use Rattle.card.specs.Stores.{Store}
-use Rattle.descent.specs.Descent.{firstEqual, slotOf, landingFor}
+use Rattle.descent.specs.Descent.{firstEqual, slotOf}
 use Rattle.descent.specs.declared.Landing.{Landing}
 use Rattle.descent.specs.declared.Landing.the-variants.{Refused as NoLanding, Leaf as LandingAt}
 use Rattle.descent.specs.declared.Slot.{Slot}
@@ -24,7 +24,7 @@ use Rattle.demands.specs.Refusals.{nodesOn, leadsTo, among}
 use Rattle.demands.specs.Rules.{InsertRule, in-slot, leaf-split, DeleteRule, key-cleared}
 use Rattle.demands.proofs.PlannedNumbers.{ByRule, not-refused, not-balanced, giving-three, none-taken}
 use Rattle.demands.proofs.Standing.{picked, landing-linked}
-use Rattle.demands.proofs.WayDown.{landed, landing-way, slotFound, slot-among}
+use Rattle.demands.proofs.WayDown.{landed, leads-is, slotFound, slot-among}
 use Rattle.laws.proofs.Cases.{impossible}
 
 -- ---- the slots of a leaf
@@ -67,10 +67,8 @@ slots-of-eleven node = omega (arith, length-take 11 (drop 1 node))
 -- the demands' way down leads where the calls land
 module _ (c : List ℕ) (n key m link run : ℕ) (on : nodesOn c ≡ n) (lands : landing c n key ≡ LandingAt m link run) where
   leads : leadsTo c key ≡ some (m, run)
-  unfolding landing landed
-  leads =
-      sym (landing-way c key depthLimit rootPlace 0 (getD c rootPlace 0))
-      ∙ ap landed (subst (λ x. landingFor c x key depthLimit rootPlace 0 (getD c rootPlace 0) ≡ LandingAt m link run) (sym on) lands)
+  unfolding landed
+  leads = sym (leads-is c n key on) ∙ ap landed lands
 
 -- ---- the first change
 

@@ -15,10 +15,10 @@ use Rattle.demands.specs.Events.{Event, World, replyTo, happens, run, fi
 use Rattle.demands.specs.Book.{Update, Hand, Book, book, added, takenOut, entered, started, stepped, feed, outcome, told, put, remove, refused, final, goesOn, empty, holding, isRefused}
 use Rattle.demands.specs.RationTable.{rationTable}
 use Rattle.demands.specs.Refusals.{nodesOn, fullAt, leafFull}
-use Rattle.demands.proofs.StartRows.{leads-is, slot-is}
+use Rattle.demands.proofs.StartRows.{slot-is}
 use Rattle.demands.proofs.AnswerNumbers.{SmallBegun, SmallAnswer, start-small, step-small}
 use Rattle.demands.proofs.Work.{true-false}
-use Rattle.demands.proofs.WayDown.{landed, slotFound}
+use Rattle.demands.proofs.WayDown.{landed, leads-is, slotFound}
 use Rattle.descent.specs.Descent.{slotOf}
 use Rattle.descent.specs.declared.Landing.{Landing}
 use Rattle.descent.specs.declared.Landing.the-variants.{Refused as NoLanding, Leaf as LandingAt}

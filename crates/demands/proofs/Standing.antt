@@ -1,30 +1,27 @@
 -- Where the ways down stand: each node on them is reached from the root, and below the root its number is a child's of the node
 -- before it. So on any card.
 use mathlib.Core.Path.{_≡_, refl, ap, _∙_}
-use mathlib.Core.Bool.{Bool, true, false, _&&_, _||_, not}
+use mathlib.Core.Bool.{Bool, true, false, _||_, not}
 use mathlib.Core.List.{List}
 use mathlib.Core.Logic.{_⊎_, inl, inr}
-use Prim.Native.Nat.{ℕ, zero, suc, _+_, _-_, _<_}
+use Prim.Native.Nat.{ℕ, _+_, _-_, _≤_, _<_}
 use native.Mathlib.Omega.{arith}
 use lib.ListN.{length, getD, drop, length-take}
 use lib.Dec.{eqb, ltb}
 use lib.Seq.{getD-take, getD-drop}
-use borrow.Author.Tests.{eqb-true, eqb-false, ltb-true, not-true}
-use Rattle.card.specs.Layout.{rootPlace, depthLimit, place, nodeAt, kindOf, keyWords, children, routingKeys, leafPairs, runBelow}
+use borrow.Author.Tests.{eqb-true, ltb-true}
+use Rattle.card.specs.Layout.{rootPlace, depthLimit, place, nodeAt, kindOf, keyWords, children, routingKeys}
 use Rattle.card.proofs.NodeLaws.{children-words}
-use Rattle.descent.specs.Descent.{childIndex, childFor, turnInner, turnOf, turnAt, onTurnLanding, landingFor, rootPosition, childPosition, visitOf, visitAt, onVisit, seek, visitLeaf, visitInner, visitTagged}
-use Rattle.descent.proofs.DescentLaws.{passed-le}
+use Rattle.descent.specs.Descent.{childIndex, childFor, rootPosition, childPosition, way, countOf, isFault, seek}
+use Rattle.descent.proofs.DescentLaws.{passed-le, look-inside, leaf-inside, inner-inside, fault-below, search-fault}
+use Rattle.descent.proofs.Along.{Along, along, fault-along}
 use Rattle.descent.specs.declared.Position.{Position}
-use Rattle.descent.specs.declared.Landing.{Landing}
-use Rattle.descent.specs.declared.Landing.the-variants.{Refused as NoLanding, Leaf as LandingAt}
-use Rattle.descent.specs.declared.Search.the-variants.{Refused as NoSearch, Violation as SearchViolation}
-use Rattle.descent.specs.declared.Turn.{Turn}
-use Rattle.descent.specs.declared.Turn.the-variants.{Refused as NoTurn, Leaf as TurnLeaf, Down as TurnDown}
-use Rattle.descent.specs.declared.Visit.{Visit}
-use Rattle.descent.specs.declared.Visit.the-variants.{Refused as NoVisit, Balanced as VisitBalanced, Violation as VisitViolation, Down as VisitDown}
-use Rattle.laws.proofs.Cases.{and-true, impossible}
+use Rattle.descent.specs.declared.Landing.the-variants.{Leaf as LandingAt}
+use Rattle.descent.specs.declared.Search.the-variants.{Violation as SearchViolation}
+use Rattle.laws.proofs.Cases.{bool-cases, and-true}
 use Rattle.laws.specs.Cases.{pick}
 use Rattle.updates.specs.Updates.{landing}
+use Rattle.updates.proofs.UpdateLaws.{leaf-on}
 use Rattle.demands.specs.Rules.{LinkedAt, root-linked, child-linked, width}
 
 -- what a test came to, and what was picked then
@@ -53,63 +50,7 @@ child-number node key h = child-word node (childIndex node key) (index-within no
 child-on-way : (c : List ℕ) (key link m : ℕ) → LinkedAt c link m → 0 < length (children (nodeAt c m)) → LinkedAt c (place m (12 + childIndex (nodeAt c m) key)) (childFor (nodeAt c m) key)
 child-on-way c key link m l h = rw (child-number (nodeAt c m) key h) at (child-linked (childIndex (nodeAt c m) key) l (index-within (nodeAt c m) key h))
 
--- ---- where an update lands
-
--- a way goes down from a node that has children, to the child that the key takes
-turned-down : (c : List ℕ) (n key m child : ℕ) → turnAt c n key m ≡ TurnDown child → (0 < length (children (nodeAt c m))) × (child ≡ childFor (nodeAt c m) key)
-unfolding turnAt turnOf turnInner
-turned-down c n key m child e =
-    picked (eqb m 0) e (λ q z. absurd (none z)) (λ q e₁.
-    picked (ltb n m) e₁ (λ q₁ z. absurd (none z)) (λ q₁ e₂.
-    picked (eqb (kindOf (nodeAt c m)) 1) e₂ (λ q₂ z. absurd (leaf z)) (λ q₂ e₃.
-    picked (eqb (kindOf (nodeAt c m)) 2 || eqb (kindOf (nodeAt c m)) 3) e₃ (λ q₃ e₄.
-    picked (eqb (length (children (nodeAt c m))) 0) e₄ (λ q₄ z. absurd (none z)) (λ q₄ z.
-    (let ne = eqb-false (length (children (nodeAt c m))) 0 q₄ in omega (arith, ne), cc)))
-    (λ q₃ z. absurd (none z)))))
-  where
-    none : NoTurn ≡ TurnDown child → ⊥
-    none z = impossible (cc)
-
-    leaf : TurnLeaf ≡ TurnDown child → ⊥
-    leaf z = impossible (cc)
-
--- a way ends at a node of the card
-turned-leaf : (c : List ℕ) (n key m : ℕ) → turnAt c n key m ≡ TurnLeaf → 0 < m
-unfolding turnAt
-turned-leaf c n key m e = picked (eqb m 0) e (λ q z. impossible (cc)) (λ q z. let other = eqb-false m 0 q in omega (arith, other))
-
--- the leaf that a key leads to is linked where the landing says
-abbrev Landed : List ℕ → ℕ → ℕ → Type 0
-Landed c link leaf = LinkedAt c link leaf × (0 < leaf)
-
-module _ (c : List ℕ) (n key : ℕ) where
-  landed-here : (link run m leaf spot j : ℕ) → LinkedAt c link m → turnAt c n key m ≡ TurnLeaf → LandingAt m link run ≡ LandingAt leaf spot j → Landed c spot leaf
-  landed-here link run m leaf spot j l f e = let a : m ≡ leaf = cc in let b : link ≡ spot = cc in rw (a, b) at (let r : Landed c link m = (l, turned-leaf c n key m f) in r)
-
-  landed-below : (levels link run m leaf spot j : ℕ) → LinkedAt c link m → landingFor c n key levels link run m ≡ LandingAt leaf spot j → Landed c spot leaf
-  unfolding landingFor onTurnLanding
-  landed-below zero link run m leaf spot j l e = go (turnAt c n key m) refl e
-    where
-      go : (t : Turn) → turnAt c n key m ≡ t → onTurnLanding m link run (λ child. NoLanding) t ≡ LandingAt leaf spot j → Landed c spot leaf
-      go NoTurn f z = impossible (cc)
-      go TurnLeaf f z = landed-here link run m leaf spot j l f z
-      go (TurnDown child) f z = impossible (cc)
-  landed-below (suc levels) link run m leaf spot j l e = go (λ child f h. landed-below levels _ _ child leaf spot j h f) (turnAt c n key m) refl e
-    where
-      next : ℕ → Landing
-      next = landingFor c n key levels (place m (12 + childIndex (nodeAt c m) key)) (runBelow (length (children (nodeAt c m))) run)
-
-      go : ((child : ℕ) → next child ≡ LandingAt leaf spot j → LinkedAt c (place m (12 + childIndex (nodeAt c m) key)) child → Landed c spot leaf)
-          → (t : Turn) → turnAt c n key m ≡ t → onTurnLanding m link run next t ≡ LandingAt leaf spot j → Landed c spot leaf
-      go ih NoTurn f z = impossible (cc)
-      go ih TurnLeaf f z = landed-here link run m leaf spot j l f z
-      go ih (TurnDown child) f z = let d = turned-down c n key m child f in ih child z (rw (d .1) (child-on-way c key link m l (d .0)))
-
-  pub landing-linked : (leaf spot j : ℕ) → landing c n key ≡ LandingAt leaf spot j → LinkedAt c spot leaf × (0 < leaf)
-  unfolding landing
-  landing-linked leaf spot j e = landed-below depthLimit rootPlace 0 (getD c rootPlace 0) leaf spot j root-linked e
-
--- ---- where a search stands
+-- ---- where the nodes on a way stand
 
 -- below the root: the parent is linked where the position says, and the node is its child
 pub record Below (c : List ℕ) (p : Position) : Type 0 where
@@ -127,74 +68,14 @@ pub record Fault (c : List ℕ) (p : Position) : Type 0 where
   pub node-there : 0 < p .node
   pub tagged-or-few : (kindOf (nodeAt c (p .node)) ≡ 3) ⊎ (width (nodeAt c (p .node)) < 2)
 
-module _ (c : List ℕ) (n key : ℕ) (p : Position) where
-  -- what a visit tells of the node
-  violated : visitAt c n key p ≡ VisitViolation → (0 < p .node) × (p .parent ≡ 0 → ⊥) × ((kindOf (nodeAt c (p .node)) ≡ 3) ⊎ (width (nodeAt c (p .node)) < 2))
-  unfolding visitAt visitOf visitLeaf visitInner visitTagged
-  violated e =
-      picked (eqb (p .node) 0) e (λ q z. absurd (none z)) (λ q e₁.
-      picked (ltb n (p .node)) e₁ (λ q₁ z. absurd (none z)) (λ q₁ e₂.
-      picked (eqb (kindOf (nodeAt c (p .node))) 1) e₂ (λ q₂ e₃.
-      picked (not (eqb (p .parent) 0) && ltb (length (leafPairs (nodeAt c (p .node)))) 2) e₃ (λ q₃ z.
-      let t = and-true (not (eqb (p .parent) 0)) (ltb (length (leafPairs (nodeAt c (p .node)))) 2) q₃ in
-      (there q, other (t .0), inr (rw q₂ (ltb-true (length (leafPairs (nodeAt c (p .node)))) 2 (t .1))))) (λ q₃ z. absurd (balanced z)))
-      (λ q₂ e₃.
-      picked (eqb (kindOf (nodeAt c (p .node))) 2) e₃ (λ q₃ e₄. inner q q₂ e₄) (λ q₃ e₄.
-      picked (eqb (kindOf (nodeAt c (p .node))) 3) e₄ (λ q₄ e₅.
-      picked (eqb (p .parent) 0) e₅ (λ q₅ e₆. inner q q₂ e₆) (λ q₅ z.
-      (there q, eqb-false (p .parent) 0 q₅, inl (eqb-true (kindOf (nodeAt c (p .node))) 3 q₄))))
-      (λ q₄ z. absurd (none z))))))
-    where
-      none : NoVisit ≡ VisitViolation → ⊥
-      none z = impossible (cc)
-
-      balanced : VisitBalanced ≡ VisitViolation → ⊥
-      balanced z = impossible (cc)
-
-      down : {q : Position} → VisitDown q ≡ VisitViolation → ⊥
-      down z = impossible (cc)
-
-      there : eqb (p .node) 0 ≡ false → 0 < p .node
-      there q = let ne = eqb-false (p .node) 0 q in omega (arith, ne)
-
-      other : not (eqb (p .parent) 0) ≡ true → p .parent ≡ 0 → ⊥
-      other q = eqb-false (p .parent) 0 (not-true (eqb (p .parent) 0) q)
-
-      inner : eqb (p .node) 0 ≡ false → eqb (kindOf (nodeAt c (p .node))) 1 ≡ false → visitInner (nodeAt c (p .node)) (eqb (p .parent) 0) (childPosition (nodeAt c (p .node)) key p) ≡ VisitViolation
-          → (0 < p .node) × (p .parent ≡ 0 → ⊥) × ((kindOf (nodeAt c (p .node)) ≡ 3) ⊎ (width (nodeAt c (p .node)) < 2))
-      inner q q₂ e₅ =
-          picked (eqb (length (children (nodeAt c (p .node)))) 0) e₅ (λ q₅ z. absurd (none z)) (λ q₅ e₆.
-          picked (not (eqb (p .parent) 0) && ltb (length (children (nodeAt c (p .node)))) 2) e₆ (λ q₆ z.
-          let t = and-true (not (eqb (p .parent) 0)) (ltb (length (children (nodeAt c (p .node)))) 2) q₆ in
-          (there q, other (t .0), inr (rw q₂ (ltb-true (length (children (nodeAt c (p .node)))) 2 (t .1))))) (λ q₆ z. absurd (down z)))
-
-  gone-down : (q : Position) → visitAt c n key p ≡ VisitDown q → (0 < p .node) × (0 < length (children (nodeAt c (p .node)))) × (q ≡ childPosition (nodeAt c (p .node)) key p)
-  unfolding visitAt visitOf visitLeaf visitInner visitTagged
-  gone-down q e =
-      picked (eqb (p .node) 0) e (λ h z. absurd (none z)) (λ h e₁.
-      picked (ltb n (p .node)) e₁ (λ h₁ z. absurd (none z)) (λ h₁ e₂.
-      picked (eqb (kindOf (nodeAt c (p .node))) 1) e₂ (λ h₂ e₃.
-      picked (not (eqb (p .parent) 0) && ltb (length (leafPairs (nodeAt c (p .node)))) 2) e₃ (λ h₃ z. absurd (violation z)) (λ h₃ z. absurd (balanced z)))
-      (λ h₂ e₃.
-      picked (eqb (kindOf (nodeAt c (p .node))) 2) e₃ (λ h₃ e₄. inner h e₄) (λ h₃ e₄.
-      picked (eqb (kindOf (nodeAt c (p .node))) 3) e₄ (λ h₄ e₅.
-      picked (eqb (p .parent) 0) e₅ (λ h₅ e₆. inner h e₆) (λ h₅ z. absurd (violation z))) (λ h₄ z. absurd (none z))))))
-    where
-      none : NoVisit ≡ VisitDown q → ⊥
-      none z = impossible (cc)
-
-      balanced : VisitBalanced ≡ VisitDown q → ⊥
-      balanced z = impossible (cc)
-
-      violation : VisitViolation ≡ VisitDown q → ⊥
-      violation z = impossible (cc)
-
-      inner : eqb (p .node) 0 ≡ false → visitInner (nodeAt c (p .node)) (eqb (p .parent) 0) (childPosition (nodeAt c (p .node)) key p) ≡ VisitDown q
-          → (0 < p .node) × (0 < length (children (nodeAt c (p .node)))) × (q ≡ childPosition (nodeAt c (p .node)) key p)
-      inner h e₅ =
-          picked (eqb (length (children (nodeAt c (p .node)))) 0) e₅ (λ h₅ z. absurd (none z)) (λ h₅ e₆.
-          picked (not (eqb (p .parent) 0) && ltb (length (children (nodeAt c (p .node)))) 2) e₆ (λ h₆ z. absurd (violation z)) (λ h₆ z.
-          (let ne = eqb-false (p .node) 0 h in omega (arith, ne), let ne = eqb-false (length (children (nodeAt c (p .node)))) 0 h₅ in omega (arith, ne), cc)))
+-- what the test of a fault tells
+fault-parts : (node : List ℕ) (parent : ℕ) → isFault node parent ≡ true → (parent ≡ 0 → ⊥) × ((kindOf node ≡ 3) ⊎ (width node < 2))
+unfolding isFault countOf
+fault-parts node parent e = (
+  fault-below node parent e,
+  bool-cases (eqb (kindOf node) 3) (λ q. inl (eqb-true (kindOf node) 3 q))
+      (λ q. inr (ltb-true (width node) 2 (rw q at (and-true (not (eqb parent 0)) (eqb (kindOf node) 3 || ltb (width node) 2) e .1)))),
+)
 
 -- the child that a key takes stands below a node that stands
 child-stands : (c : List ℕ) (key : ℕ) (p : Position) → LinkedAt c (p .link) (p .node) → 0 < p .node → 0 < length (children (nodeAt c (p .node))) → Stands c (childPosition (nodeAt c (p .node)) key p)
@@ -204,33 +85,29 @@ child-stands c key p l m h = (
   inr (record { parent-linked = l; parent-there = m; is-child = index-within (nodeAt c (p .node)) key h; child-is = child-number (nodeAt c (p .node)) key h }),
 )
 
-fault-here : (c : List ℕ) (n key : ℕ) (p : Position) → Stands c p → visitAt c n key p ≡ VisitViolation → Fault c p
-fault-here c n key p s e = go (violated c n key p e) (s .1)
-  where
-    go : (0 < p .node) × (p .parent ≡ 0 → ⊥) × ((kindOf (nodeAt c (p .node)) ≡ 3) ⊎ (width (nodeAt c (p .node)) < 2)) → (p .parent ≡ 0) ⊎ Below c p → Fault c p
-    go v (inl z) = absurd (v .1 z)
-    go v (inr b) = record { below = b; node-there = v .0; tagged-or-few = v .2 }
-
 module _ (c : List ℕ) (n key : ℕ) where
-  seek-fault : (levels : ℕ) (p q : Position) → Stands c p → seek c n key levels p ≡ SearchViolation q → Fault c q
-  unfolding seek onVisit
-  seek-fault zero p q s e = go (visitAt c n key p) refl e
-    where
-      go : (v : Visit) → visitAt c n key p ≡ v → onVisit p (λ x. NoSearch) v ≡ SearchViolation q → Fault c q
-      go NoVisit f z = impossible (cc)
-      go VisitBalanced f z = impossible (cc)
-      go VisitViolation f z = let r : p ≡ q = cc in rw r at (fault-here c n key p s f)
-      go (VisitDown x) f z = impossible (cc)
-  seek-fault (suc levels) p q s e = go (λ x h z. seek-fault levels x q h z) (visitAt c n key p) refl e
-    where
-      go : ((x : Position) → Stands c x → seek c n key levels x ≡ SearchViolation q → Fault c q)
-          → (v : Visit) → visitAt c n key p ≡ v → onVisit p (seek c n key levels) v ≡ SearchViolation q → Fault c q
-      go ih NoVisit f z = impossible (cc)
-      go ih VisitBalanced f z = impossible (cc)
-      go ih VisitViolation f z = let r : p ≡ q = cc in rw r at (fault-here c n key p s f)
-      go ih (VisitDown x) f z = let d = gone-down c n key p x f in ih x (rw (d .2) (child-stands c key p (s .0) (d .0) (d .1))) z
+  -- all along the way
+  stands : Along c n (Stands c) depthLimit (way c n key)
+  unfolding way rootPosition
+  stands =
+      along c n (Stands c) key (λ q s e h. child-stands c key q (s .0) (omega (arith, inner-inside c n (q .node) e .one)) h) depthLimit (rootPosition (getD c rootPlace 0)) (root-linked, inl refl)
+
+  -- the leaf that a key leads to is linked where the landing says
+  pub landing-linked : (leaf spot j : ℕ) → landing c n key ≡ LandingAt leaf spot j → LinkedAt c spot leaf × (0 < leaf)
+  unfolding landing
+  landing-linked leaf spot j e =
+      let f = leaf-on c (way c n key) leaf spot j e in
+      let on = stands .leaf (f .position) (f .on-way) in
+      let there = leaf-inside c n (f .position .node) (on .1) .one in
+      rw (f .node-is, f .link-is) at (let r : LinkedAt c (f .position .link) (f .position .node) × (0 < f .position .node) = (on .0 .0, omega (arith, there)) in r)
 
   -- the search from the root finds faults below it
   pub fault-found : (q : Position) → seek c n key depthLimit (rootPosition (getD c rootPlace 0)) ≡ SearchViolation q → Fault c q
-  unfolding rootPosition
-  fault-found q e = seek-fault depthLimit (rootPosition (getD c rootPlace 0)) q (root-linked, inl refl) e
+  unfolding way
+  fault-found q e =
+      let f = fault-along c n (Stands c) depthLimit (way c n key) true q stands (search-fault c n key depthLimit (rootPosition (getD c rootPlace 0)) q e) in
+      go (f .holds .1) (look-inside c n (q .node) (f .there) .one) (fault-parts (nodeAt c (q .node)) (q .parent) (f .fault))
+    where
+      go : (q .parent ≡ 0) ⊎ Below c q → 1 ≤ q .node → (q .parent ≡ 0 → ⊥) × ((kindOf (nodeAt c (q .node)) ≡ 3) ⊎ (width (nodeAt c (q .node)) < 2)) → Fault c q
+      go (inl z) one p = absurd (p .0 z)
+      go (inr b) one p = record { below = b; node-there = omega arith; tagged-or-few = p .1 }

@@ -7,22 +7,22 @@ use mathlib.Core.Option.{Option, none, some}
 use Prim.Native.Nat.{ℕ}
 use native.Mathlib.Omega.{arith}
 use native.Mathlib.Decide.{ℕ-discrete}
-use lib.ListN.{length, getD}
+use lib.ListN.{length}
 use lib.Dec.{eqb}
 use borrow.Author.Tests.{eq-eqb, ne-eqb, lt-ltb, le-ltb, eqb-true, eqb-false}
 use Rattle.card.specs.Header.{nodesOfLength, headerRefusal, Sized, Formatted}
 use Rattle.card.proofs.HeaderLaws.{nodes-sized, sized-nodes, formatted-header}
-use Rattle.card.specs.Layout.{depthLimit, rootPlace, nodeAt, keyWords}
+use Rattle.card.specs.Layout.{nodeAt, keyWords}
 use Rattle.card.specs.Replies.{absent}
 use Rattle.demands.specs.Demand1.{HandsBack, Starts}
 use Rattle.demands.specs.Table.{inserting, deleting}
-use Rattle.demands.specs.Refusals.{Rows, ByRows, Busy, nodesOn, NoCard, leadsTo, among, NoRoom, startRows, insertRows, deleteRows, end, row}
+use Rattle.demands.specs.Refusals.{Rows, ByRows, Busy, NoCard, leadsTo, among, NoRoom, startRows, insertRows, deleteRows, end, row}
 use Rattle.demands.specs.RationTable.{workOf, handed, rationTable}
 use Rattle.demands.proofs.Work.{true-false, idle-work, busy-work}
 use Rattle.demands.proofs.CardRows.{none-some}
 use Rattle.demands.proofs.FirstRows.{sized-on, by-card}
-use Rattle.demands.proofs.WayDown.{landed, landing-way, slotFound, slot-among}
-use Rattle.descent.specs.Descent.{slotOf, landingFor}
+use Rattle.demands.proofs.WayDown.{landed, leads-is, slotFound, slot-among}
+use Rattle.descent.specs.Descent.{slotOf}
 use Rattle.descent.specs.declared.Landing.{Landing}
 use Rattle.descent.specs.declared.Landing.the-variants.{Refused as NoLanding, Leaf as LandingAt}
 use Rattle.descent.specs.declared.Slot.{Slot}
@@ -41,10 +41,6 @@ use Rattle.updates.specs.Updates.{landing, reasonIn, emptyReason, insertReason,
 -- a state whose N does not fit the card
 pub not-sized : (c : List ℕ) (n : ℕ) → NoCard c n → (nodesOfLength (length c) ≡ 0 → ⊥) → nodesOfLength (length c) ≡ n → ⊥
 not-sized c n p d e = p (subst (λ x. Sized (length c) x) e (nodes-sized (length c) d))
-
-pub leads-is : (c : List ℕ) (n key : ℕ) → nodesOn c ≡ n → landed (landing c n key) ≡ leadsTo c key
-unfolding landing
-leads-is c n key e = subst (λ x. landed (landingFor c x key depthLimit rootPlace 0 (getD c rootPlace 0)) ≡ leadsTo c key) e (landing-way c key depthLimit rootPlace 0 (getD c rootPlace 0))
 
 module _ (c : List ℕ) (m : Memory) (key : ℕ) (doing : Doing) (room : Landing → Bool) where
   pub start-one : NoCard c (m .nodes) → startOf c m key doing room ≡ startRefused 1 m

@@ -1,30 +1,33 @@
 -- Laws of the way down, one for each branch of the code: what is left of a search after each word read, and what each
 -- node makes of a key.
-use mathlib.Core.Path.{_≡_, refl, ap, ap₂, sym, _∙_}
-use mathlib.Core.List.{List, [], _∷_}
-use mathlib.Core.Bool.{Bool, true, false, _||_, not}
-use mathlib.Core.Logic.{_⊎_, inl, inr}
+use mathlib.Core.Path.{_≡_, refl, ap, sym, _∙_}
+use mathlib.Core.List.{List, [], _∷_, _++_}
+use mathlib.Core.Option.{Option, none, some}
+use mathlib.Core.Bool.{Bool, true, false, _&&_}
+use mathlib.Core.Logic.{_⊎_, inl, inr, by-cases}
 use Prim.Native.Nat.{ℕ, zero, suc, _+_, _-_, _*_, _≤_, _<_}
 use native.Mathlib.Omega.{arith}
 use native.Mathlib.Numerals.{add-one}
+use native.Mathlib.Decide.{ℕ-discrete}
 use lib.ListN.{length, getD, drop, drop-of-length-le}
 use lib.Seq.{drop-cons, getD-take}
 use lib.Dec.{ltb, eqb}
 use borrow.Author.Tests.{lt-ltb, le-ltb, ne-eqb, eq-eqb}
-use Rattle.card.specs.Layout.{place, nodeAt, kindOf, keyWords, valueWords, children, routingKeys, leafPairs, depthLimit, runBelow}
+use Rattle.card.specs.Layout.{nodeAt, kindOf, keyWords, valueWords, children, routingKeys, leafPairs, depthLimit, runBelow}
 use Rattle.card.proofs.NodeLaws.{length-keyWords, get-keyWord, get-valueWord, children-le, length-routing}
-use Rattle.descent.specs.Descent.{passed, childIndex, childFor, firstEqual, slotOf, turnInner, turnOf, turnAt, onTurn, leafFor, onTurnLanding, landingFor, childPosition, visitOf, visitAt, onVisit, seek, visitLeaf, visitInner, visitTagged}
+use Rattle.descent.specs.Descent.{passed, childIndex, childFor, firstEqual, slotOf, lookAt, rootPosition, childPosition, Way, nowhere, past, byLook, wayFrom, reachedAt, leafOf, runOver, countOf, isFault, firstFault, ended, toList, endOf, searchOf, seek}
 use Rattle.laws.specs.Cases.{pick}
 use Rattle.laws.proofs.Cases.{order, impossible}
 use Rattle.laws.specs.Lists.{beforeZero}
 use Rattle.descent.specs.declared.Slot.{Slot}
 use Rattle.descent.specs.declared.Slot.the-variants.{At, Absent}
-use Rattle.descent.specs.declared.Turn.the-variants.{Refused as NoTurn, Leaf as TurnLeaf, Down as TurnDown}
-use Rattle.descent.specs.declared.Way.the-variants.{Refused as NoWay, Leaf as LeafAt}
-use Rattle.descent.specs.declared.Landing.the-variants.{Refused as NoLanding, Leaf as LandingAt}
 use Rattle.descent.specs.declared.Position.{Position}
-use Rattle.descent.specs.declared.Visit.the-variants.{Refused as NoVisit, Balanced as VisitBalanced, Violation as VisitViolation, Down as VisitDown}
-use Rattle.descent.specs.declared.Search.the-variants.{Refused as NoSearch, Balanced as SearchBalanced, Violation as SearchViolation}
+use Rattle.descent.specs.declared.Look.the-variants.{Nowhere, Leaf as IsLeaf, Inner as IsInner}
+use Rattle.descent.specs.declared.Reached.{Reached}
+use Rattle.descent.specs.declared.Reached.the-variants.{Refused as NotReached, Leaf as ReachedLeaf}
+use Rattle.descent.specs.declared.End.{End}
+use Rattle.descent.specs.declared.End.the-variants.{Refused as EndRefused, Leaf as EndLeaf, Fault as EndFault}
+use Rattle.descent.specs.declared.Search.the-variants.{Violation as SearchViolation}
 
 -- ---- the slot of a key
 
@@ -146,223 +149,267 @@ pub index-le : (node : List ℕ) (key : ℕ) → length node ≡ 24 → childInd
 unfolding childIndex
 index-le node key len = omega (arith, passed-le (routingKeys node) key, length-routing node len, children-le node)
 
--- ---- what a node makes of a key's way down
+-- ---- what stands where a node number leads
 
 -- an internal node, tagged or not
 abbrev pub Internal : List ℕ → Type 0
 Internal node = (kindOf node ≡ 2) ⊎ (kindOf node ≡ 3)
 
-module _ (card : List ℕ) (n key m : ℕ) where
-  pub turn-zero : m ≡ 0 → turnAt card n key m ≡ NoTurn
-  unfolding turnAt
-  turn-zero e = simp (eq-eqb m 0 e)
+module _ (card : List ℕ) (n m : ℕ) where
+  pub look-zero : m ≡ 0 → lookAt card n m ≡ Nowhere
+  unfolding lookAt
+  look-zero e = simp (eq-eqb m 0 e)
 
-  pub turn-beyond : n < m → turnAt card n key m ≡ NoTurn
-  unfolding turnAt
-  turn-beyond l = simp (ne-eqb m 0 (λ e. omega arith), lt-ltb n m l)
+  pub look-beyond : n < m → lookAt card n m ≡ Nowhere
+  unfolding lookAt
+  look-beyond l = simp (ne-eqb m 0 (λ e. omega arith), lt-ltb n m l)
 
-  pub turn-node : (m ≡ 0 → ⊥) → m ≤ n → turnAt card n key m ≡ turnOf (nodeAt card m) key
-  unfolding turnAt
-  turn-node p l = simp (ne-eqb m 0 p, le-ltb n m l)
+  module _ (on : m ≡ 0 → ⊥) (to : m ≤ n) where
+    pub look-leaf : kindOf (nodeAt card m) ≡ 1 → lookAt card n m ≡ IsLeaf
+    unfolding lookAt
+    look-leaf e = simp (ne-eqb m 0 on, le-ltb n m to, eq-eqb _ _ e)
 
-module _ (node : List ℕ) (key : ℕ) where
-  pub turn-leaf : kindOf node ≡ 1 → turnOf node key ≡ TurnLeaf
-  unfolding turnOf
-  turn-leaf e = simp (eq-eqb _ _ e)
+    pub look-inner : Internal (nodeAt card m) → lookAt card n m ≡ IsInner
+    unfolding lookAt
+    look-inner (inl e) = simp (ne-eqb m 0 on, le-ltb n m to, ne-eqb (kindOf (nodeAt card m)) 1 (λ q. omega arith), eq-eqb _ _ e)
+    look-inner (inr e) =
+        simp (ne-eqb m 0 on, le-ltb n m to, ne-eqb (kindOf (nodeAt card m)) 1 (λ q. omega arith), ne-eqb (kindOf (nodeAt card m)) 2 (λ q. omega arith), eq-eqb _ _ e)
 
-  pub turn-unknown : (kindOf node ≡ 1 → ⊥) → (kindOf node ≡ 2 → ⊥) → (kindOf node ≡ 3 → ⊥) → turnOf node key ≡ NoTurn
-  unfolding turnOf
-  turn-unknown p q r = simp (ne-eqb _ _ p, ne-eqb _ _ q, ne-eqb _ _ r)
+    pub look-unknown : (kindOf (nodeAt card m) ≡ 1 → ⊥) → (kindOf (nodeAt card m) ≡ 2 → ⊥) → (kindOf (nodeAt card m) ≡ 3 → ⊥) → lookAt card n m ≡ Nowhere
+    unfolding lookAt
+    look-unknown p q r = simp (ne-eqb m 0 on, le-ltb n m to, ne-eqb _ _ p, ne-eqb _ _ q, ne-eqb _ _ r)
 
-  turn-internal : Internal node → turnOf node key ≡ turnInner node key
-  unfolding turnOf
-  turn-internal (inl e) = simp (ne-eqb (getD node 0 0) 1 (λ q. omega arith), eq-eqb _ _ e)
-  turn-internal (inr e) = simp (ne-eqb (getD node 0 0) 1 (λ q. omega arith), ne-eqb (getD node 0 0) 2 (λ q. omega arith), eq-eqb _ _ e)
+-- where something stands is a node of the card
+pub record Inside (n m : ℕ) : Type 0 where
+  pub one : 1 ≤ m
+  pub most : m ≤ n
 
-  pub turn-childless : Internal node → length (children node) ≡ 0 → turnOf node key ≡ NoTurn
-  unfolding turnInner
-  turn-childless k e = turn-internal k ∙ simp (eq-eqb (length (children node)) 0 e)
+pub look-inside : (card : List ℕ) (n m : ℕ) → (lookAt card n m ≡ Nowhere → ⊥) → Inside n m
+look-inside card n m there =
+    order m 1 (λ o. absurd (there (look-zero card n m (omega arith))))
+    (λ from. order n m (λ o. absurd (there (look-beyond card n m o))) (λ to. record { one = from; most = to }))
 
-  pub turn-down : Internal node → 0 < length (children node) → turnOf node key ≡ TurnDown (childFor node key)
-  unfolding turnInner
-  turn-down k h = turn-internal k ∙ simp (ne-eqb (length (children node)) 0 (λ e. omega arith))
+pub leaf-inside : (card : List ℕ) (n m : ℕ) → lookAt card n m ≡ IsLeaf → Inside n m
+leaf-inside card n m e = look-inside card n m (λ z. let q = sym z ∙ e in impossible (cc))
+
+pub inner-inside : (card : List ℕ) (n m : ℕ) → lookAt card n m ≡ IsInner → Inside n m
+inner-inside card n m e = look-inside card n m (λ z. let q = sym z ∙ e in impossible (cc))
+
+-- ---- the way, by what stands at a position
+
+pick-same : {A : Type 0} (b : Bool) (x : A) → pick b x x ≡ x
+pick-same true x = refl
+pick-same false x = refl
+
+module _ (card : List ℕ) (n key : ℕ) (p : Position) where
+  pub way-nowhere : (levels : ℕ) → lookAt card n (p .node) ≡ Nowhere → wayFrom card n key levels p ≡ nowhere
+  unfolding wayFrom byLook
+  way-nowhere zero e = ap (byLook (nodeAt card (p .node)) key p (λ q. nowhere)) e
+  way-nowhere (suc levels) e = ap (byLook (nodeAt card (p .node)) key p (wayFrom card n key levels)) e
+
+  pub way-leaf : (levels : ℕ) → lookAt card n (p .node) ≡ IsLeaf → wayFrom card n key levels p ≡ record { inner = []; leaf = some p }
+  unfolding wayFrom byLook
+  way-leaf zero e = ap (byLook (nodeAt card (p .node)) key p (λ q. nowhere)) e
+  way-leaf (suc levels) e = ap (byLook (nodeAt card (p .node)) key p (wayFrom card n key levels)) e
+
+  pub way-childless : (levels : ℕ) → lookAt card n (p .node) ≡ IsInner → length (children (nodeAt card (p .node))) ≡ 0 → wayFrom card n key levels p ≡ past p nowhere
+  unfolding wayFrom byLook
+  way-childless zero e z = ap (byLook (nodeAt card (p .node)) key p (λ q. nowhere)) e ∙ simp (eq-eqb (length (children (nodeAt card (p .node)))) 0 z)
+  way-childless (suc levels) e z = ap (byLook (nodeAt card (p .node)) key p (wayFrom card n key levels)) e ∙ simp (eq-eqb (length (children (nodeAt card (p .node)))) 0 z)
+
+  pub way-too-deep : (levels : ℕ) → lookAt card n (p .node) ≡ IsInner → levels ≡ 0 → wayFrom card n key levels p ≡ past p nowhere
+  unfolding wayFrom byLook
+  way-too-deep zero e z = ap (byLook (nodeAt card (p .node)) key p (λ q. nowhere)) e ∙ ap (past p) (pick-same (eqb (length (children (nodeAt card (p .node)))) 0) nowhere)
+  way-too-deep (suc levels) e z = absurd (omega arith)
+
+  pub way-down : (levels : ℕ) → lookAt card n (p .node) ≡ IsInner → 0 < length (children (nodeAt card (p .node)))
+      → wayFrom card n key (suc levels) p ≡ past p (wayFrom card n key levels (childPosition (nodeAt card (p .node)) key p))
+  unfolding wayFrom byLook
+  way-down levels e h = ap (byLook (nodeAt card (p .node)) key p (wayFrom card n key levels)) e ∙ simp (ne-eqb (length (children (nodeAt card (p .node)))) 0 (λ z. omega arith))
+
+  -- the same as the code counts levels
+  pub way-on : (levels : ℕ) → lookAt card n (p .node) ≡ IsInner → (levels ≡ 0 → ⊥) → 0 < length (children (nodeAt card (p .node)))
+      → wayFrom card n key levels p ≡ past p (wayFrom card n key (levels - 1) (childPosition (nodeAt card (p .node)) key p))
+  way-on zero e l h = absurd (l refl)
+  way-on (suc levels) e l h =
+      way-down levels e h ∙ ap (λ (x : ℕ). past p (wayFrom card n key x (childPosition (nodeAt card (p .node)) key p))) (let z : levels ≡ suc levels - 1 = omega arith in z)
 
 -- the child's number, by the number of the child
 pub child-word : (node : List ℕ) (key i : ℕ) → i ≡ childIndex node key → getD node (12 + i) 0 ≡ childFor node key
 unfolding childFor
 child-word node key i e = ap (λ (x : ℕ). getD node (12 + x) 0) e
 
--- ---- the way to a leaf
-
-module _ (card : List ℕ) (n key m : ℕ) where
-  pub way-refused : (levels : ℕ) → turnAt card n key m ≡ NoTurn → leafFor card n key levels m ≡ NoWay
-  unfolding leafFor onTurn
-  way-refused zero e = ap (onTurn m (depthLimit - 0) (λ child. NoWay)) e
-  way-refused (suc levels) e = ap (onTurn m (depthLimit - suc levels) (leafFor card n key levels)) e
-
-  pub way-leaf : (levels : ℕ) → turnAt card n key m ≡ TurnLeaf → leafFor card n key levels m ≡ LeafAt m (depthLimit - levels)
-  unfolding leafFor onTurn
-  way-leaf zero e = ap (onTurn m (depthLimit - 0) (λ child. NoWay)) e
-  way-leaf (suc levels) e = ap (onTurn m (depthLimit - suc levels) (leafFor card n key levels)) e
-
-  pub way-too-deep : (levels child : ℕ) → turnAt card n key m ≡ TurnDown child → levels ≡ 0 → leafFor card n key levels m ≡ NoWay
-  unfolding leafFor onTurn
-  way-too-deep zero child e z = ap (onTurn m (depthLimit - 0) (λ x. NoWay)) e
-  way-too-deep (suc levels) child e z = absurd (omega arith)
-
-  pub way-down : (levels child : ℕ) → turnAt card n key m ≡ TurnDown child → (levels ≡ 0 → ⊥) → leafFor card n key levels m ≡ leafFor card n key (levels - 1) child
-  unfolding leafFor onTurn
-  way-down zero child e p = absurd (p refl)
-  way-down (suc levels) child e p = ap (onTurn m (depthLimit - suc levels) (leafFor card n key levels)) e ∙ ap (λ (x : ℕ). leafFor card n key x child) (let z : levels ≡ suc levels - 1 = omega arith in z)
-
--- ---- where an update lands
-
-no-turn-down : (child : ℕ) → NoTurn ≡ TurnDown child → ⊥
-no-turn-down child e = impossible (cc)
-
--- whatever its kind, a node without children leads nowhere
-childless-stays : (leaf inner : Bool) (child : ℕ) → pick leaf TurnLeaf (pick inner NoTurn NoTurn) ≡ TurnDown child → ⊥
-childless-stays true inner child e = impossible (cc)
-childless-stays false true child e = no-turn-down child e
-childless-stays false false child e = no-turn-down child e
-
-down-first-child : (node : List ℕ) (key child : ℕ) → turnOf node key ≡ TurnDown child → getD node 12 0 ≡ 0 → ⊥
-unfolding turnOf turnInner
-down-first-child node key child e z =
-    childless-stays (eqb (kindOf node) 1) (eqb (kindOf node) 2 || eqb (kindOf node) 3) child
-    (rw (eq-eqb (length (children node)) 0 (omega (arith, children-stop node 0 (omega arith) z))) at e)
-
--- a way goes down only from a node of the card that has a child, so the code may read that node and choose among its children
-pub turn-inside : (card : List ℕ) (n key m child : ℕ) → turnAt card n key m ≡ TurnDown child → (1 ≤ m) × (m ≤ n) × (getD (nodeAt card m) 12 0 ≡ 0 → ⊥)
-turn-inside card n key m child e =
-    order m 1 (λ o. absurd (no-turn-down child (sym (turn-zero card n key m (omega arith)) ∙ e)))
-    (λ from. order n m (λ o. absurd (no-turn-down child (sym (turn-beyond card n key m o) ∙ e)))
-    (λ to. (from, to, down-first-child (nodeAt card m) key child (sym (turn-node card n key m (λ z. omega arith) to) ∙ e))))
-
-module _ (card : List ℕ) (n key link run m : ℕ) where
-  pub landing-refused : (levels : ℕ) → turnAt card n key m ≡ NoTurn → landingFor card n key levels link run m ≡ NoLanding
-  unfolding landingFor onTurnLanding
-  landing-refused zero e = ap (onTurnLanding m link run (λ child. NoLanding)) e
-  landing-refused (suc levels) e = ap (onTurnLanding m link run (landingFor card n key levels (place m (12 + childIndex (nodeAt card m) key)) (runBelow (length (children (nodeAt card m))) run))) e
-
-  pub landing-leaf : (levels : ℕ) → turnAt card n key m ≡ TurnLeaf → landingFor card n key levels link run m ≡ LandingAt m link run
-  unfolding landingFor onTurnLanding
-  landing-leaf zero e = ap (onTurnLanding m link run (λ child. NoLanding)) e
-  landing-leaf (suc levels) e = ap (onTurnLanding m link run (landingFor card n key levels (place m (12 + childIndex (nodeAt card m) key)) (runBelow (length (children (nodeAt card m))) run))) e
-
-  pub landing-too-deep : (levels child : ℕ) → turnAt card n key m ≡ TurnDown child → levels ≡ 0 → landingFor card n key levels link run m ≡ NoLanding
-  unfolding landingFor onTurnLanding
-  landing-too-deep zero child e z = ap (onTurnLanding m link run (λ x. NoLanding)) e
-  landing-too-deep (suc levels) child e z = absurd (omega arith)
-
-  -- the node, the number of the child and the run are named as the code holds them
-  pub landing-down : (levels child : ℕ) (node : List ℕ) (i further : ℕ) → turnAt card n key m ≡ TurnDown child → (levels ≡ 0 → ⊥) → node ≡ nodeAt card m → i ≡ childIndex node key → further ≡ runBelow (length (children node)) run
-      → landingFor card n key levels link run m ≡ landingFor card n key (levels - 1) (8 + 24 * (m - 1) + 12 + i) further child
-  unfolding landingFor onTurnLanding
-  landing-down zero child node i further e p at-m at-i at-run = absurd (p refl)
-  landing-down (suc levels) child node i further e p at-m at-i at-run =
-      ap (onTurnLanding m link run (landingFor card n key levels (place m (12 + childIndex (nodeAt card m) key)) (runBelow (length (children (nodeAt card m))) run))) e
-      ∙ rw (at-run, at-i, at-m)
-      (ap₂ (λ (x y : ℕ). landingFor card n key x y (runBelow (length (children (nodeAt card m))) run) child) (let z : levels ≡ suc levels - 1 = omega arith in z) (omega arith))
-
--- ---- what a node makes of the search for a violation
-
-module _ (card : List ℕ) (n key : ℕ) (p : Position) where
-  pub visit-zero : p .node ≡ 0 → visitAt card n key p ≡ NoVisit
-  unfolding visitAt
-  visit-zero e = simp (eq-eqb (p .node) 0 e)
-
-  pub visit-beyond : n < p .node → visitAt card n key p ≡ NoVisit
-  unfolding visitAt
-  visit-beyond l = simp (ne-eqb (p .node) 0 (λ e. omega arith), lt-ltb n (p .node) l)
-
-  pub visit-node : (b : Bool) → (p .node ≡ 0 → ⊥) → p .node ≤ n → eqb (p .parent) 0 ≡ b
-      → visitAt card n key p ≡ visitOf (nodeAt card (p .node)) b (childPosition (nodeAt card (p .node)) key p)
-  unfolding visitAt
-  visit-node b q l e = simp (ne-eqb (p .node) 0 q, le-ltb n (p .node) l, e)
-
-module _ (node : List ℕ) (next : Position) where
-  pub visit-root-leaf : kindOf node ≡ 1 → visitOf node true next ≡ VisitBalanced
-  unfolding visitOf visitLeaf
-  visit-root-leaf e = simp (eq-eqb _ _ e)
-
-  pub visit-few : kindOf node ≡ 1 → length (leafPairs node) < 2 → visitOf node false next ≡ VisitViolation
-  unfolding visitOf visitLeaf
-  visit-few e l = simp (eq-eqb _ _ e, lt-ltb _ _ l)
-
-  pub visit-leaf : kindOf node ≡ 1 → 2 ≤ length (leafPairs node) → visitOf node false next ≡ VisitBalanced
-  unfolding visitOf visitLeaf
-  visit-leaf e l = simp (eq-eqb _ _ e, le-ltb _ _ l)
-
-  pub visit-tagged : kindOf node ≡ 3 → visitOf node false next ≡ VisitViolation
-  unfolding visitOf visitTagged
-  visit-tagged e = simp (e)
-
-  pub visit-unknown : (b : Bool) → (kindOf node ≡ 1 → ⊥) → (kindOf node ≡ 2 → ⊥) → (kindOf node ≡ 3 → ⊥) → visitOf node b next ≡ NoVisit
-  unfolding visitOf
-  visit-unknown b q r s = simp (ne-eqb _ _ q, ne-eqb _ _ r, ne-eqb _ _ s)
-
--- a node that is no violation by its tag: not tagged, or the root
-abbrev pub Passable : List ℕ → Bool → Type 0
-Passable node isRoot = (kindOf node ≡ 2) ⊎ ((kindOf node ≡ 3) × (isRoot ≡ true))
-
-module _ (node : List ℕ) (next : Position) where
-  passable : (b : Bool) → Passable node b → visitOf node b next ≡ visitInner node b next
-  unfolding visitOf visitTagged
-  passable b (inl e) = simp (e)
-  passable b (inr e) = simp (e .0, e .1)
-
-  pub visit-childless : (b : Bool) → Passable node b → length (children node) ≡ 0 → visitOf node b next ≡ NoVisit
-  unfolding visitInner
-  visit-childless b k e = passable b k ∙ simp (e)
-
-  pub visit-one-child : (b : Bool) → Passable node b → b ≡ false → length (children node) ≡ 1 → visitOf node b next ≡ VisitViolation
-  unfolding visitInner
-  visit-one-child b k r e = passable b k ∙ simp (r, e)
-
-  pub visit-down : (b : Bool) → Passable node b → 0 < length (children node) → (b ≡ false → 2 ≤ length (children node)) → visitOf node b next ≡ VisitDown next
-  unfolding visitInner
-  visit-down true k h g = passable true k ∙ simp (ne-eqb (length (children node)) 0 (λ q. omega arith))
-  visit-down false k h g = passable false k ∙ simp (ne-eqb (length (children node)) 0 (λ q. omega arith), le-ltb (length (children node)) 2 (g refl))
-
 -- the child's position, as the code makes it
-pub child-position : (card : List ℕ) (key : ℕ) (p : Position) (node : List ℕ) (i : ℕ) → node ≡ nodeAt card (p .node) → i ≡ childIndex node key
-    → childPosition (nodeAt card (p .node)) key p ≡ record { node = getD node (12 + i) 0; link = 8 + 24 * (p .node - 1) + 12 + i; parent = p .node; index = i; above = p .link }
+pub child-position : (node : List ℕ) (key : ℕ) (p : Position) (i : ℕ) → i ≡ childIndex node key
+    → record { node = getD node (12 + i) 0; link = 8 + 24 * (p .node - 1) + 12 + i; parent = p .node; index = i; above = p .link } ≡ childPosition node key p
 unfolding childPosition childFor
-child-position card key p node i e f =
-    rw (f, e)
-    (ap (λ (a : ℕ). record { node = getD (nodeAt card (p .node)) (12 + childIndex (nodeAt card (p .node)) key) 0; link = a; parent = p .node; index = childIndex (nodeAt card (p .node)) key; above = p .link })
-    (omega arith))
+child-position node key p i e =
+    rw e
+    (ap (λ (a : ℕ). record { node = getD node (12 + childIndex node key) 0; link = a; parent = p .node; index = childIndex node key; above = p .link }) (omega arith))
 
--- what a test by `!` tells of the flag
-pub not-both : (b : Bool) → not b ≡ false → b ≡ false → ⊥
-not-both true e f = impossible (cc)
-not-both false e f = impossible (cc)
+pub root-node : (root : ℕ) → rootPosition root .node ≡ root
+unfolding rootPosition
+root-node root = refl
 
--- ---- the search for a violation
+-- ---- a node on the way, as the code holds it: by its number and its words
 
-module _ (card : List ℕ) (n key : ℕ) (p : Position) where
-  pub search-refused : (levels : ℕ) → visitAt card n key p ≡ NoVisit → seek card n key levels p ≡ NoSearch
-  unfolding seek onVisit
-  search-refused zero e = ap (onVisit p (λ q. NoSearch)) e
-  search-refused (suc levels) e = ap (onVisit p (seek card n key levels)) e
+module _ (card : List ℕ) (key : ℕ) (p : Position) (m : ℕ) (node : List ℕ) (at : p .node ≡ m) (same : node ≡ nodeAt card m) where
+  pub held : nodeAt card (p .node) ≡ node
+  held = ap (nodeAt card) at ∙ sym same
 
-  pub search-balanced : (levels : ℕ) → visitAt card n key p ≡ VisitBalanced → seek card n key levels p ≡ SearchBalanced
-  unfolding seek onVisit
-  search-balanced zero e = ap (onVisit p (λ q. NoSearch)) e
-  search-balanced (suc levels) e = ap (onVisit p (seek card n key levels)) e
+  pub no-child : getD node 12 0 ≡ 0 → length (children (nodeAt card (p .node))) ≡ 0
+  no-child e = rw held (omega (arith, children-stop node 0 (omega arith) e))
 
-  pub search-violation : (levels : ℕ) → visitAt card n key p ≡ VisitViolation → seek card n key levels p ≡ SearchViolation p
-  unfolding seek onVisit
-  search-violation zero e = ap (onVisit p (λ q. NoSearch)) e
-  search-violation (suc levels) e = ap (onVisit p (seek card n key levels)) e
+  pub some-child : (getD node 12 0 ≡ 0 → ⊥) → 0 < length (children (nodeAt card (p .node)))
+  some-child e = rw held (children-more node 0 (omega arith) (omega arith) e)
 
-  pub search-too-deep : (levels : ℕ) (q : Position) → visitAt card n key p ≡ VisitDown q → levels ≡ 0 → seek card n key levels p ≡ NoSearch
-  unfolding seek onVisit
-  search-too-deep zero q e z = ap (onVisit p (λ x. NoSearch)) e
-  search-too-deep (suc levels) q e z = absurd (omega arith)
+  pub next-node : (i : ℕ) → i ≡ childIndex node key → childPosition (nodeAt card (p .node)) key p .node ≡ getD node (12 + i) 0
+  unfolding childPosition
+  next-node i e = ap (λ (x : List ℕ). childFor x key) held ∙ sym (child-word node key i e)
 
-  pub search-down : (levels : ℕ) (q : Position) → visitAt card n key p ≡ VisitDown q → (levels ≡ 0 → ⊥) → seek card n key levels p ≡ seek card n key (levels - 1) q
-  unfolding seek onVisit
-  search-down zero q e r = absurd (r refl)
-  search-down (suc levels) q e r = ap (onVisit p (seek card n key levels)) e ∙ ap (λ (x : ℕ). seek card n key x q) (let z : levels ≡ suc levels - 1 = omega arith in z)
+-- ---- the leaf, read off the way
+
+-- below so many internal nodes more
+unfoldable pub deeper : ℕ → Reached → Reached
+deeper d NotReached = NotReached
+deeper d (ReachedLeaf m depth) = ReachedLeaf m (d + depth)
+
+pub deeper-none : (r : Reached) → r ≡ deeper 0 r
+unfolding deeper
+deeper-none NotReached = refl
+deeper-none (ReachedLeaf m depth) = ap (ReachedLeaf m) (omega arith)
+
+pub leaf-past : (p : Position) (w : Way) → leafOf (past p w) ≡ deeper 1 (leafOf w)
+unfolding leafOf past reachedAt deeper
+leaf-past p w = go (length (w .inner)) (w .leaf)
+  where
+    go : (d : ℕ) (l : Option Position) → reachedAt (suc d) l ≡ deeper 1 (reachedAt d l)
+    go d none = refl
+    go d (some q) = ap (ReachedLeaf (q .node)) (omega arith)
+
+-- a level more, as the code counts them
+pub deeper-on : (way : ℕ → Reached) (depth : ℕ) → depth ≤ depthLimit → (depth ≡ depthLimit → ⊥) → deeper depth (deeper 1 (way (depthLimit - depth - 1))) ≡ deeper (depth + 1) (way (depthLimit - (depth + 1)))
+unfolding deeper
+deeper-on way depth l h = deeper-twice (way (depthLimit - depth - 1)) ∙ ap (λ (x : ℕ). deeper (depth + 1) (way x)) (omega arith)
+  where
+    deeper-twice : (r : Reached) → deeper depth (deeper 1 r) ≡ deeper (depth + 1) r
+    deeper-twice NotReached = refl
+    deeper-twice (ReachedLeaf m d) = ap (ReachedLeaf m) (omega arith)
+
+-- ---- the run, read off the way
+
+pub run-past : (card : List ℕ) (run : ℕ) (p : Position) (w : Way) → runOver card run (past p w .inner) ≡ runOver card (runBelow (length (children (nodeAt card (p .node)))) run) (w .inner)
+unfolding runOver past
+run-past card run p w = refl
+
+-- ---- faults
+
+module _ (node : List ℕ) (parent : ℕ) where
+  pub fault-root : parent ≡ 0 → isFault node parent ≡ false
+  unfolding isFault
+  fault-root e = simp (eq-eqb parent 0 e)
+
+  module _ (below : parent ≡ 0 → ⊥) where
+    pub fault-tagged : kindOf node ≡ 3 → isFault node parent ≡ true
+    unfolding isFault
+    fault-tagged e = simp (ne-eqb parent 0 below, eq-eqb _ _ e)
+
+    pub fault-leaf : kindOf node ≡ 1 → isFault node parent ≡ ltb (length (leafPairs node)) 2
+    unfolding isFault countOf
+    fault-leaf e = simp (ne-eqb parent 0 below, ne-eqb (kindOf node) 3 (λ q. omega arith), eq-eqb _ _ e)
+
+    pub fault-inner : (kindOf node ≡ 3 → ⊥) → (kindOf node ≡ 1 → ⊥) → isFault node parent ≡ ltb (length (children node)) 2
+    unfolding isFault countOf
+    fault-inner q r = simp (ne-eqb parent 0 below, ne-eqb _ _ q, ne-eqb _ _ r)
+
+-- the root is no fault
+pub fault-below : (node : List ℕ) (parent : ℕ) → isFault node parent ≡ true → parent ≡ 0 → ⊥
+fault-below node parent f z = let e = sym f ∙ fault-root node parent z in impossible (cc)
+
+-- fewer than 2 children, where there is a first one: there is no second
+pub second-child : (node : List ℕ) → (getD node 12 0 ≡ 0 → ⊥) → eqb (getD node 13 0) 0 ≡ ltb (length (children node)) 2
+second-child node first =
+    by-cases (ℕ-discrete (getD node 13 0) 0)
+    (λ z. eq-eqb (getD node 13 0) 0 z ∙ sym (lt-ltb (length (children node)) 2 (omega (arith, last-child node 0 (omega arith) z))))
+    (λ z. ne-eqb (getD node 13 0) 0 z ∙ sym (le-ltb (length (children node)) 2 (next-child node 0 (omega arith) (children-more node 0 (omega arith) (omega arith) first) z)))
+
+-- ---- where a way ends
+
+module _ (card : List ℕ) (seeks : Bool) where
+  -- whether a search stops at a position
+  abbrev pub stops : Position → Bool
+  stops p = seeks && isFault (nodeAt card (p .node)) (p .parent)
+
+  pub end-nowhere : endOf card seeks nowhere ≡ EndRefused
+  unfolding endOf firstFault ended toList
+  end-nowhere = refl
+
+  module _ (p : Position) where
+    pub end-leaf : stops p ≡ false → endOf card seeks (record { inner = []; leaf = some p }) ≡ EndLeaf p
+    unfolding endOf firstFault ended toList
+    end-leaf e = rw e
+
+    pub end-leaf-fault : stops p ≡ true → endOf card seeks (record { inner = []; leaf = some p }) ≡ EndFault p
+    unfolding endOf firstFault ended toList
+    end-leaf-fault e = rw e
+
+    pub end-past : (w : Way) → stops p ≡ false → endOf card seeks (past p w) ≡ endOf card seeks w
+    unfolding endOf firstFault past
+    end-past w e = rw e
+
+    pub end-fault : (w : Way) → stops p ≡ true → endOf card seeks (past p w) ≡ EndFault p
+    unfolding endOf firstFault past
+    end-fault w e = rw e
+
+-- what a search finds is a fault of the way
+pub search-fault : (card : List ℕ) (n key levels : ℕ) (p q : Position) → seek card n key levels p ≡ SearchViolation q → endOf card true (wayFrom card n key levels p) ≡ EndFault q
+unfolding seek searchOf
+search-fault card n key levels p q e = go (endOf card true (wayFrom card n key levels p)) e
+  where
+    go : (x : End) → searchOf x ≡ SearchViolation q → x ≡ EndFault q
+    go EndRefused z = impossible (cc)
+    go (EndLeaf r) z = impossible (cc)
+    go (EndFault r) z = let w : r ≡ q = cc in ap EndFault w
+
+-- an internal node where a search stops
+pub fault-at : (card : List ℕ) (n key : ℕ) (seeks : Bool) (levels : ℕ) (p : Position) → lookAt card n (p .node) ≡ IsInner → stops card seeks p ≡ true → endOf card seeks (wayFrom card n key levels p) ≡ EndFault p
+fault-at card n key seeks zero p e f = ap (endOf card seeks) (way-too-deep card n key p zero e refl) ∙ end-fault card seeks p nowhere f
+fault-at card n key seeks (suc levels) p e f =
+    by-cases (ℕ-discrete (length (children (nodeAt card (p .node)))) 0)
+    (λ z. ap (endOf card seeks) (way-childless card n key p (suc levels) e z) ∙ end-fault card seeks p nowhere f)
+    (λ z. ap (endOf card seeks) (way-down card n key p levels e (omega arith)) ∙ end-fault card seeks p _ f)
+
+-- where no fault is sought the way ends at its leaf
+unsought : (card : List ℕ) (end : End) (ps : List Position) → firstFault card false end ps ≡ end
+unfolding firstFault
+unsought card end [] = refl
+unsought card end (p ∷ ps) = unsought card end ps
+
+pub end-unsought : (card : List ℕ) (w : Way) → endOf card false w ≡ ended (w .leaf)
+unfolding endOf
+end-unsought card w = unsought card (ended (w .leaf)) (w .inner ++ toList (w .leaf))
+
+module _ (card : List ℕ) (w : Way) where
+  pub unsought-refused : endOf card false w ≡ EndRefused → w .leaf ≡ none
+  unfolding ended
+  unsought-refused e = go (w .leaf) (sym (end-unsought card w) ∙ e)
+    where
+      go : (l : Option Position) → ended l ≡ EndRefused → l ≡ none
+      go none f = refl
+      go (some p) f = impossible (cc)
+
+  pub unsought-leaf : (p : Position) → endOf card false w ≡ EndLeaf p → w .leaf ≡ some p
+  unfolding ended
+  unsought-leaf p e = go (w .leaf) (sym (end-unsought card w) ∙ e)
+    where
+      go : (l : Option Position) → ended l ≡ EndLeaf p → l ≡ some p
+      go none f = impossible (cc)
+      go (some q) f = let z : q ≡ p = cc in ap some z
+
+  pub unsought-fault : (p : Position) → endOf card false w ≡ EndFault p → ⊥
+  unfolding ended
+  unsought-fault p e = go (w .leaf) (sym (end-unsought card w) ∙ e)
+    where
+      go : (l : Option Position) → ended l ≡ EndFault p → ⊥
+      go none f = impossible (cc)
+      go (some q) f = impossible (cc)

@@ -1,4 +1,4 @@
--- laws of the way down, one for each branch of the code: what is left of a search after each word read, and what each node makes of a key
+-- laws of the way down, one for each branch of the code: what is left of a search after each word read, and what stands where a node number leads
 pub mod DescentLaws
--- A leaf that a key leads to is a node of the card
-pub mod Inside
+-- what holds at the start of a way, and is handed on to the child that the key takes, holds all along the way
+pub mod Along

@@ -1,22 +1,23 @@
 -- Document 01, "The card", last paragraph, and the row "on the way down" of "Refusal by place".
-use mathlib.Core.Bool.{Bool, _&&_, _||_, not}
-use mathlib.Core.List.{List, [], _∷_}
-use Prim.Native.Nat.{ℕ, zero, suc, _+_, _-_}
+use mathlib.Core.Bool.{Bool, true, _&&_, _||_, not}
+use mathlib.Core.List.{List, [], _∷_, _++_}
+use mathlib.Core.Option.{Option, none, some}
+use Prim.Native.Nat.{ℕ, zero, suc, _+_}
 use lib.ListN.{length, getD}
 use lib.Dec.{eqb, ltb}
 use Rattle.laws.specs.Cases.{pick}
 use Rattle.card.specs.Layout.{rootPlace, depthLimit, place, nodeAt, kindOf, keyWords, children, routingKeys, leafPairs, runBelow}
 use Rattle.descent.specs.declared.Slot.{Slot}
 use Rattle.descent.specs.declared.Slot.the-variants.{At, Absent}
-use Rattle.descent.specs.declared.Turn.{Turn}
-use Rattle.descent.specs.declared.Turn.the-variants.{Refused as NoTurn, Leaf as TurnLeaf, Down as TurnDown}
-use Rattle.descent.specs.declared.Way.{Way}
-use Rattle.descent.specs.declared.Way.the-variants.{Refused as NoWay, Leaf as LeafAt}
+use Rattle.descent.specs.declared.Position.{Position}
+use Rattle.descent.specs.declared.Look.{Look}
+use Rattle.descent.specs.declared.Look.the-variants.{Nowhere, Leaf as IsLeaf, Inner as IsInner}
+use Rattle.descent.specs.declared.Reached.{Reached}
+use Rattle.descent.specs.declared.Reached.the-variants.{Refused as NotReached, Leaf as ReachedLeaf}
 use Rattle.descent.specs.declared.Landing.{Landing}
 use Rattle.descent.specs.declared.Landing.the-variants.{Refused as NoLanding, Leaf as LandingAt}
-use Rattle.descent.specs.declared.Position.{Position}
-use Rattle.descent.specs.declared.Visit.{Visit}
-use Rattle.descent.specs.declared.Visit.the-variants.{Refused as NoVisit, Balanced as VisitBalanced, Violation as VisitViolation, Down as VisitDown}
+use Rattle.descent.specs.declared.End.{End}
+use Rattle.descent.specs.declared.End.the-variants.{Refused as EndRefused, Leaf as EndLeaf, Fault as EndFault}
 use Rattle.descent.specs.declared.Search.{Search}
 use Rattle.descent.specs.declared.Search.the-variants.{Refused as NoSearch, Balanced as SearchBalanced, Violation as SearchViolation}
 
@@ -41,37 +42,13 @@ firstEqual (w ∷ ws) key i = pick (eqb w key) (At i) (firstEqual ws key (suc i)
 unfoldable pub slotOf : List ℕ → ℕ → Slot
 slotOf node key = firstEqual (keyWords node) key 0
 
--- "9: node number 0 or above N, kind not 1 to 3, no children .."
-unfoldable pub turnInner : List ℕ → ℕ → Turn
-turnInner node key = pick (eqb (length (children node)) 0) NoTurn (TurnDown (childFor node key))
+-- ---- the way down
 
-unfoldable pub turnOf : List ℕ → ℕ → Turn
-turnOf node key = pick (eqb (kindOf node) 1) TurnLeaf (pick (eqb (kindOf node) 2 || eqb (kindOf node) 3) (turnInner node key) NoTurn)
-
-unfoldable pub turnAt : List ℕ → ℕ → ℕ → ℕ → Turn
-turnAt card n key m = pick (eqb m 0) NoTurn (pick (ltb n m) NoTurn (turnOf (nodeAt card m) key))
-
-unfoldable pub onTurn : ℕ → ℕ → (ℕ → Way) → Turn → Way
-onTurn m depth next NoTurn = NoWay
-onTurn m depth next TurnLeaf = LeafAt m depth
-onTurn m depth next (TurnDown child) = next child
-
--- the leaf that a key leads to from node m, past at most so many internal nodes ("or more than 10 internal nodes")
-unfoldable pub leafFor : List ℕ → ℕ → ℕ → ℕ → ℕ → Way
-leafFor card n key zero m = onTurn m (depthLimit - 0) (λ child. NoWay) (turnAt card n key m)
-leafFor card n key (suc levels) m = onTurn m (depthLimit - suc levels) (leafFor card n key levels) (turnAt card n key m)
-
--- Where an update's key leads: the leaf, the word that links to it, and how many 11-child nodes stand without a break straight
--- above it (document 01: "Let j be the number of 11-child nodes without a break straight above a full leaf").
-unfoldable pub onTurnLanding : ℕ → ℕ → ℕ → (ℕ → Landing) → Turn → Landing
-onTurnLanding m link run next NoTurn = NoLanding
-onTurnLanding m link run next TurnLeaf = LandingAt m link run
-onTurnLanding m link run next (TurnDown child) = next child
-
-unfoldable pub landingFor : List ℕ → ℕ → ℕ → ℕ → ℕ → ℕ → ℕ → Landing
-landingFor card n key zero link run m = onTurnLanding m link run (λ child. NoLanding) (turnAt card n key m)
-landingFor card n key (suc levels) link run m =
-    onTurnLanding m link run (landingFor card n key levels (place m (12 + childIndex (nodeAt card m) key)) (runBelow (length (children (nodeAt card m))) run)) (turnAt card n key m)
+-- What stands where a node number leads: "9: node number 0 or above N, kind not 1 to 3".
+unfoldable pub lookAt : List ℕ → ℕ → ℕ → Look
+lookAt card n m =
+    pick (eqb m 0 || ltb n m) Nowhere
+    (pick (eqb (kindOf (nodeAt card m)) 1) IsLeaf (pick (eqb (kindOf (nodeAt card m)) 2 || eqb (kindOf (nodeAt card m)) 3) IsInner Nowhere))
 
 -- the root: no parent
 unfoldable pub rootPosition : ℕ → Position
@@ -82,35 +59,88 @@ unfoldable pub childPosition : List ℕ → ℕ → Position → Position
 childPosition node key p =
     record { node = childFor node key; link = place (p .node) (12 + childIndex node key); parent = p .node; index = childIndex node key; above = p .link }
 
--- A fault is "a tagged node, or a non-root node with fewer than 2 pairs or children". What the words of a node make of the
--- search for the first one on a key's way, by the node's kind; `next` is the child that the key takes.
-unfoldable pub visitLeaf : List ℕ → Bool → Visit
-visitLeaf node isRoot = pick (not isRoot && ltb (length (leafPairs node)) 2) VisitViolation VisitBalanced
+-- A key's way down: the internal nodes that it passes, the first one first, and the leaf that it ends at; none where 9 is due:
+-- "node number 0 or above N, kind not 1 to 3, no children, or more than 10 internal nodes".
+pub record Way : Type 0 where
+  pub inner : List Position
+  pub leaf : Option Position
 
-unfoldable pub visitInner : List ℕ → Bool → Position → Visit
-visitInner node isRoot next = pick (eqb (length (children node)) 0) NoVisit (pick (not isRoot && ltb (length (children node)) 2) VisitViolation (VisitDown next))
+abbrev pub nowhere : Way
+nowhere = record { inner = []; leaf = none }
 
-unfoldable pub visitTagged : List ℕ → Bool → Position → Visit
-visitTagged node isRoot next = pick isRoot (visitInner node isRoot next) VisitViolation
+-- the way goes past an internal node first
+unfoldable pub past : Position → Way → Way
+past p w = record { inner = p ∷ w .inner; leaf = w .leaf }
 
--- "9: node number 0 or above N, kind not 1 to 3 .."
-unfoldable pub visitOf : List ℕ → Bool → Position → Visit
-visitOf node isRoot next =
-    pick (eqb (kindOf node) 1) (visitLeaf node isRoot)
-    (pick (eqb (kindOf node) 2) (visitInner node isRoot next) (pick (eqb (kindOf node) 3) (visitTagged node isRoot next) NoVisit))
+-- by what stands at a position; `next` is the way on from the child that the key takes
+unfoldable pub byLook : List ℕ → ℕ → Position → (Position → Way) → Look → Way
+byLook node key p next Nowhere = nowhere
+byLook node key p next IsLeaf = record { inner = []; leaf = some p }
+byLook node key p next IsInner = past p (pick (eqb (length (children node)) 0) nowhere (next (childPosition node key p)))
 
-unfoldable pub visitAt : List ℕ → ℕ → ℕ → Position → Visit
-visitAt card n key p =
-    pick (eqb (p .node) 0) NoVisit
-    (pick (ltb n (p .node)) NoVisit (visitOf (nodeAt card (p .node)) (eqb (p .parent) 0) (childPosition (nodeAt card (p .node)) key p)))
+-- from a position, with at most so many internal nodes left
+unfoldable pub wayFrom : List ℕ → ℕ → ℕ → ℕ → Position → Way
+wayFrom card n key zero p = byLook (nodeAt card (p .node)) key p (λ q. nowhere) (lookAt card n (p .node))
+wayFrom card n key (suc levels) p = byLook (nodeAt card (p .node)) key p (wayFrom card n key levels) (lookAt card n (p .node))
 
-unfoldable pub onVisit : Position → (Position → Search) → Visit → Search
-onVisit p next NoVisit = NoSearch
-onVisit p next VisitBalanced = SearchBalanced
-onVisit p next VisitViolation = SearchViolation p
-onVisit p next (VisitDown q) = next q
+unfoldable pub way : List ℕ → ℕ → ℕ → Way
+way card n key = wayFrom card n key depthLimit (rootPosition (getD card rootPlace 0))
+
+-- ---- what is read off it
+
+-- the leaf, and how many internal nodes stand above it
+unfoldable pub reachedAt : ℕ → Option Position → Reached
+reachedAt depth none = NotReached
+reachedAt depth (some p) = ReachedLeaf (p .node) depth
+
+unfoldable pub leafOf : Way → Reached
+leafOf w = reachedAt (length (w .inner)) (w .leaf)
+
+-- "Let j be the number of 11-child nodes without a break straight above a full leaf": over the internal nodes of a way, where so
+-- many stand above the first of them
+unfoldable pub runOver : List ℕ → ℕ → List Position → ℕ
+runOver card run [] = run
+runOver card run (p ∷ ps) = runOver card (runBelow (length (children (nodeAt card (p .node)))) run) ps
+
+-- where an update's key leads: the leaf, the word that links to it, and j
+unfoldable pub landedAt : ℕ → Option Position → Landing
+landedAt run none = NoLanding
+landedAt run (some p) = LandingAt (p .node) (p .link) run
+
+unfoldable pub landingOf : List ℕ → Way → Landing
+landingOf card w = landedAt (runOver card 0 (w .inner)) (w .leaf)
+
+-- how many pairs or children a node has
+unfoldable pub countOf : List ℕ → ℕ
+countOf node = pick (eqb (kindOf node) 1) (length (leafPairs node)) (length (children node))
+
+-- A fault is "a tagged node, or a non-root node with fewer than 2 pairs or children", by the words of the node and the number of its
+-- parent. "The root is not tagged", so that the root is none.
+unfoldable pub isFault : List ℕ → ℕ → Bool
+isFault node parent = not (eqb parent 0) && (eqb (kindOf node) 3 || ltb (countOf node) 2)
+
+-- the first fault among positions where faults are sought, else what the way ends with
+unfoldable pub firstFault : List ℕ → Bool → End → List Position → End
+firstFault card seeks end [] = end
+firstFault card seeks end (p ∷ ps) = pick (seeks && isFault (nodeAt card (p .node)) (p .parent)) (EndFault p) (firstFault card seeks end ps)
+
+unfoldable pub ended : Option Position → End
+ended none = EndRefused
+ended (some p) = EndLeaf p
+
+unfoldable pub toList : Option Position → List Position
+toList none = []
+toList (some p) = p ∷ []
+
+unfoldable pub endOf : List ℕ → Bool → Way → End
+endOf card seeks w = firstFault card seeks (ended (w .leaf)) (w .inner ++ toList (w .leaf))
+
+-- what a search for the first violation on a way answers
+unfoldable pub searchOf : End → Search
+searchOf EndRefused = NoSearch
+searchOf (EndLeaf p) = SearchBalanced
+searchOf (EndFault p) = SearchViolation p
 
 -- the first violation on a key's way from a position, past at most so many internal nodes
 unfoldable pub seek : List ℕ → ℕ → ℕ → ℕ → Position → Search
-seek card n key zero p = onVisit p (λ q. NoSearch) (visitAt card n key p)
-seek card n key (suc levels) p = onVisit p (seek card n key levels) (visitAt card n key p)
+seek card n key levels p = searchOf (endOf card true (wayFrom card n key levels p))

@@ -1,9 +1,10 @@
-// The way down: routing, the look-up in a leaf, and the walks to a leaf or to a violation (document 01, "The card").
+// The way down (document 01, "The card"): routing, the look-up in a leaf, and the walk to a leaf or to the first fault.
 ghost use mathlib.Core.Path.{_≡_};
+ghost use mathlib.Core.Bool.{_&&_};
 ghost use Prim.Native.Nat.{_+_, _*_, _≤_};
 ghost use lib.ListN.{length, getD};
-ghost use Rattle.card.specs.Layout.{greatestNodes, depthLimit, rootPlace, children, runBelow};
-ghost use Rattle.descent.specs.Descent.{childIndex, slotOf, turnAt, leafFor, landingFor, visitAt, rootPosition, seek};
+ghost use Rattle.card.specs.Layout.{greatestNodes, depthLimit, children, runBelow};
+ghost use Rattle.descent.specs.Descent.{childIndex, childPosition, slotOf, lookAt, isFault, rootPosition, wayFrom, leafOf, runOver, landingOf, endOf, seek};
 
 // The slot of a key in a leaf.
 pub enum Slot {
@@ -46,69 +47,199 @@ pub fn child_index(node: &[u32], key: u32) -> usize
     i
 }
 
-// What a node makes of a key's way down.
-pub enum Turn {
-    Refused,
+// What stands where a node number leads.
+pub enum Look {
+    Nowhere,
     Leaf,
-    Down(usize),
+    Inner,
 }
 
-pub fn turn_at(card: &[u32], n: usize, key: u32, m: usize) -> Turn
+// "9: node number 0 or above N, kind not 1 to 3".
+pub fn look_at(card: &[u32], n: usize, m: usize) -> Look
     requires { ⌜ (length (now card) ≡ 8 + 24 * n) × (n ≤ greatestNodes) ⌝ }
-    ensures { λ r. ⌜ r ≡ turnAt (now (card .entry)) n key m ⌝ }
+    ensures { λ r. ⌜ r ≡ lookAt (now (card .entry)) n m ⌝ }
 {
     if m == 0 {
-        return Turn::Refused;
+        return Look::Nowhere;
     }
     if n < m {
-        return Turn::Refused;
+        return Look::Nowhere;
     }
-    let node = card::node_at(card, m);
-    let kind = node[0];
+    let kind = card::node_at(card, m)[0];
     if kind == 1 {
-        return Turn::Leaf;
+        return Look::Leaf;
     }
     if kind != 2 {
         if kind != 3 {
-            return Turn::Refused;
+            return Look::Nowhere;
         }
     }
-    if node[12] == 0 {
-        return Turn::Refused;
-    }
-    let i = child_index(node, key);
-    Turn::Down(node[12 + i] as usize)
+    Look::Inner
 }
 
-// The leaf that a key leads to, and how many internal nodes stand above it; or refusal 9.
-pub enum Way {
-    Refused,
-    Leaf { node: usize, depth: usize },
+// A node on a key's way: its number, the word that links to it, its parent (0 for the root), which child of its parent
+// it is, and the word that links to its parent.
+pub struct Position {
+    pub node: usize,
+    pub link: usize,
+    pub parent: usize,
+    pub index: usize,
+    pub above: usize,
 }
 
-pub fn find_leaf(card: &[u32], n: usize, key: u32, root: usize) -> Way
-    requires { ⌜ (length (now card) ≡ 8 + 24 * n) × (n ≤ greatestNodes) ⌝ }
-    ensures { λ r. ⌜ r ≡ leafFor (now (card .entry)) n key depthLimit root ⌝ }
+// The child that a key takes from the node at a position.
+fn child_of(node: &[u32], key: u32, p: Position) -> Position
+    requires { ⌜ (length (now node) ≡ 24) × (getD (now node) 12 0 ≡ 0 → ⊥) × (1 ≤ p .node) × (p .node ≤ greatestNodes) ⌝ }
+    ensures { λ r. ⌜ r ≡ childPosition (now (node .entry)) key p ⌝ }
 {
-    let mut m = root;
+    let i = child_index(node, key);
+    Position {
+        node: node[12 + i] as usize,
+        link: 8 + 24 * (p.node - 1) + 12 + i,
+        parent: p.node,
+        index: i,
+        above: p.link,
+    }
+}
+
+// "a tagged node, or a non-root node with fewer than 2 pairs or children"
+fn is_fault(node: &[u32], parent: usize) -> bool
+    requires { ⌜ length (now node) ≡ 24 ⌝ }
+    ensures { λ r. ⌜ r ≡ isFault (now (node .entry)) parent ⌝ }
+{
+    if parent == 0 {
+        return false;
+    }
+    let kind = node[0];
+    if kind == 3 {
+        return true;
+    }
+    if kind == 1 {
+        return card::pair_count(node) < 2;
+    }
+    if node[12] == 0 {
+        return true;
+    }
+    node[13] == 0
+}
+
+// Whether a walk that seeks faults stops here.
+fn stops(node: &[u32], parent: usize, seeks: bool) -> bool
+    requires { ⌜ length (now node) ≡ 24 ⌝ }
+    ensures { λ r. ⌜ r ≡ seeks && isFault (now (node .entry)) parent ⌝ }
+{
+    if seeks {
+        return is_fault(node, parent);
+    }
+    false
+}
+
+// Where a way ends: at refusal 9, at its leaf, or at the first fault.
+pub enum End {
+    Refused,
+    Leaf(Position),
+    Fault(Position),
+}
+
+// A key's way down from the root, to its end; faults are passed by where none is sought.
+pub fn descend(card: &[u32], n: usize, key: u32, root: usize, seeks: bool) -> End
+    requires { ⌜ (length (now card) ≡ 8 + 24 * n) × (n ≤ greatestNodes) ⌝ }
+    ensures { λ r. ⌜ r ≡ endOf (now (card .entry)) seeks (wayFrom (now (card .entry)) n key depthLimit (rootPosition root)) ⌝ }
+{
+    let mut p = Position {
+        node: root,
+        link: card::ROOT_PLACE,
+        parent: 0,
+        index: 0,
+        above: 0,
+    };
     let mut left: usize = card::DEPTH_LIMIT;
     loop {
-        match turn_at(card, n, key, m) {
-            Turn::Refused => {
-                return Way::Refused;
+        match look_at(card, n, p.node) {
+            Look::Nowhere => {
+                return End::Refused;
             }
-            Turn::Leaf => {
-                return Way::Leaf {
-                    node: m,
-                    depth: card::DEPTH_LIMIT - left,
-                };
+            Look::Leaf => {
+                if stops(card::node_at(card, p.node), p.parent, seeks) {
+                    return End::Fault(p);
+                }
+                return End::Leaf(p);
             }
-            Turn::Down(child) => {
+            Look::Inner => {
+                let node = card::node_at(card, p.node);
+                if stops(node, p.parent, seeks) {
+                    return End::Fault(p);
+                }
+                if node[12] == 0 {
+                    return End::Refused;
+                }
                 if left == 0 {
-                    return Way::Refused;
+                    return End::Refused;
                 }
                 left -= 1;
-                m = child;
+                p = child_of(node, key, p);
+            }
+        }
+    }
+}
+
+// The first violation on a key's way, if there is one.
+pub enum Search {
+    Refused,
+    Balanced,
+    Violation(Position),
+}
+
+pub fn find_violation(card: &[u32], n: usize, key: u32, root: usize) -> Search
+    requires { ⌜ (length (now card) ≡ 8 + 24 * n) × (n ≤ greatestNodes) ⌝ }
+    ensures { λ r. ⌜ r ≡ seek (now (card .entry)) n key depthLimit (rootPosition root) ⌝ }
+{
+    match descend(card, n, key, root, true) {
+        End::Refused => Search::Refused,
+        End::Leaf(_) => Search::Balanced,
+        End::Fault(p) => Search::Violation(p),
+    }
+}
+
+// How many 11-child nodes stand without a break straight above the children of a node.
+fn run_below(node: &[u32], run: usize) -> usize
+    requires { ⌜ (length (now node) ≡ 24) × (run ≤ depthLimit) ⌝ }
+    ensures { λ r. ⌜ r ≡ runBelow (length (children (now (node .entry)))) run ⌝ }
+{
+    if card::child_count(node) == 11 {
+        run + 1
+    } else {
+        0
+    }
+}
+
+// The same of the leaf that a key leads to. It is asked only where a leaf may be split, so that no other way counts children.
+pub fn run_above(card: &[u32], n: usize, key: u32, root: usize) -> usize
+    requires { ⌜ (length (now card) ≡ 8 + 24 * n) × (n ≤ greatestNodes) ⌝ }
+    ensures { λ r. ⌜ r ≡ runOver (now (card .entry)) 0 (wayFrom (now (card .entry)) n key depthLimit (rootPosition root) .inner) ⌝ }
+{
+    let mut m = root;
+    let mut run: usize = 0;
+    let mut left: usize = card::DEPTH_LIMIT;
+    loop {
+        match look_at(card, n, m) {
+            Look::Nowhere => {
+                return run;
+            }
+            Look::Leaf => {
+                return run;
+            }
+            Look::Inner => {
+                let node = card::node_at(card, m);
+                run = run_below(node, run);
+                if node[12] == 0 {
+                    return run;
+                }
+                if left == 0 {
+                    return run;
+                }
+                left -= 1;
+                m = node[12 + child_index(node, key)] as usize;
             }
         }
     }
@@ -125,151 +256,53 @@ pub enum Landing {
     },
 }
 
-// How many 11-child nodes stand without a break straight above the children of a node.
-fn run_below(node: &[u32], run: usize) -> usize
-    requires { ⌜ (length (now node) ≡ 24) × (run ≤ depthLimit) ⌝ }
-    ensures { λ r. ⌜ r ≡ runBelow (length (children (now (node .entry)))) run ⌝ }
-{
-    if card::child_count(node) == 11 {
-        run + 1
-    } else {
-        0
-    }
-}
-
 pub fn find_landing(card: &[u32], n: usize, key: u32, root: usize) -> Landing
     requires { ⌜ (length (now card) ≡ 8 + 24 * n) × (n ≤ greatestNodes) ⌝ }
-    ensures { λ r. ⌜ r ≡ landingFor (now (card .entry)) n key depthLimit rootPlace 0 root ⌝ }
+    ensures { λ r. ⌜ r ≡ landingOf (now (card .entry)) (wayFrom (now (card .entry)) n key depthLimit (rootPosition root)) ⌝ }
+{
+    match descend(card, n, key, root, false) {
+        End::Refused => Landing::Refused,
+        End::Fault(_) => Landing::Refused,
+        End::Leaf(p) => Landing::Leaf {
+            node: p.node,
+            link: p.link,
+            run: run_above(card, n, key, root),
+        },
+    }
+}
+
+// The leaf that a key leads to, and how many internal nodes stand above it; or refusal 9.
+pub enum Reached {
+    Refused,
+    Leaf { node: usize, depth: usize },
+}
+
+// A find needs the leaf alone. Its loop is its own: through `descend`, which keeps a position, a find took 243 instructions in the
+// place of 167.
+pub fn find_leaf(card: &[u32], n: usize, key: u32, root: usize) -> Reached
+    requires { ⌜ (length (now card) ≡ 8 + 24 * n) × (n ≤ greatestNodes) ⌝ }
+    ensures { λ r. ⌜ r ≡ leafOf (wayFrom (now (card .entry)) n key depthLimit (rootPosition root)) ⌝ }
 {
     let mut m = root;
-    let mut link: usize = card::ROOT_PLACE;
-    let mut run: usize = 0;
-    let mut left: usize = card::DEPTH_LIMIT;
+    let mut depth: usize = 0;
     loop {
-        match turn_at(card, n, key, m) {
-            Turn::Refused => {
-                return Landing::Refused;
+        match look_at(card, n, m) {
+            Look::Nowhere => {
+                return Reached::Refused;
             }
-            Turn::Leaf => {
-                return Landing::Leaf { node: m, link, run };
+            Look::Leaf => {
+                return Reached::Leaf { node: m, depth };
             }
-            Turn::Down(child) => {
-                if left == 0 {
-                    return Landing::Refused;
-                }
+            Look::Inner => {
                 let node = card::node_at(card, m);
-                let i = child_index(node, key);
-                link = 8 + 24 * (m - 1) + 12 + i;
-                run = run_below(node, run);
-                left -= 1;
-                m = child;
-            }
-        }
-    }
-}
-
-// A node on a key's way: its number, the word that links to it, its parent (0 for the root), which child of its parent
-// it is, and the word that links to its parent.
-pub struct Position {
-    pub node: usize,
-    pub link: usize,
-    pub parent: usize,
-    pub index: usize,
-    pub above: usize,
-}
-
-// What a node makes of the search for a violation on a key's way.
-pub enum Visit {
-    Refused,
-    Balanced,
-    Violation,
-    Down(Position),
-}
-
-fn visit_node(card: &[u32], n: usize, key: u32, p: Position) -> Visit
-    requires { ⌜ (length (now card) ≡ 8 + 24 * n) × (n ≤ greatestNodes) ⌝ }
-    ensures { λ r. ⌜ r ≡ visitAt (now (card .entry)) n key p ⌝ }
-{
-    let m = p.node;
-    if m == 0 {
-        return Visit::Refused;
-    }
-    if n < m {
-        return Visit::Refused;
-    }
-    let node = card::node_at(card, m);
-    let kind = node[0];
-    let is_root = p.parent == 0;
-    if kind == 1 {
-        if is_root {
-            return Visit::Balanced;
-        }
-        if card::pair_count(node) < 2 {
-            return Visit::Violation;
-        }
-        return Visit::Balanced;
-    }
-    if kind == 3 {
-        if !is_root {
-            return Visit::Violation;
-        }
-    } else if kind != 2 {
-        return Visit::Refused;
-    }
-    if node[12] == 0 {
-        return Visit::Refused;
-    }
-    if !is_root {
-        if node[13] == 0 {
-            return Visit::Violation;
-        }
-    }
-    let i = child_index(node, key);
-    Visit::Down(Position {
-        node: node[12 + i] as usize,
-        link: 8 + 24 * (m - 1) + 12 + i,
-        parent: m,
-        index: i,
-        above: p.link,
-    })
-}
-
-// The first violation on a key's way, if there is one.
-pub enum Search {
-    Refused,
-    Balanced,
-    Violation(Position),
-}
-
-pub fn find_violation(card: &[u32], n: usize, key: u32, root: usize) -> Search
-    requires { ⌜ (length (now card) ≡ 8 + 24 * n) × (n ≤ greatestNodes) ⌝ }
-    ensures { λ r. ⌜ r ≡ seek (now (card .entry)) n key depthLimit (rootPosition root) ⌝ }
-{
-    let mut p = Position {
-        node: root,
-        link: card::ROOT_PLACE,
-        parent: 0,
-        index: 0,
-        above: 0,
-    };
-    let mut left: usize = card::DEPTH_LIMIT;
-    loop {
-        match visit_node(card, n, key, p) {
-            Visit::Refused => {
-                return Search::Refused;
-            }
-            Visit::Balanced => {
-                return Search::Balanced;
-            }
-            Visit::Violation => {
-                return Search::Violation(p);
-            }
-            Visit::Down(next) => {
-                if left == 0 {
-                    return Search::Refused;
+                if node[12] == 0 {
+                    return Reached::Refused;
                 }
-                left -= 1;
-                p = next;
+                if depth == card::DEPTH_LIMIT {
+                    return Reached::Refused;
+                }
+                depth += 1;
+                m = node[12 + child_index(node, key)] as usize;
             }
         }
     }

@@ -1,32 +1,29 @@
--- Find on the card is look-up in the map: the way down comes to the leaf that the key leads to, and the slot there
--- answers as the pairs of the whole tree do.
+-- Find on the card is look-up in the map: the key leads to a leaf of the tree, and the slot there answers as the pairs of the whole
+-- tree do.
 use mathlib.Core.Path.{_≡_, refl, ap, sym, _∙_}
 use mathlib.Core.List.{List}
 use mathlib.Core.Bool.{Bool}
 use mathlib.Core.Option.{Option, none, some}
 use mathlib.Core.Logic.{by-cases}
-use Prim.Native.Nat.{ℕ, zero, suc, _+_, _-_, _*_, _≤_, _<_}
+use Prim.Native.Nat.{ℕ, zero, suc, _+_, _≤_, _<_}
 use native.Mathlib.Omega.{arith}
 use native.Mathlib.Decide.{ℕ-discrete}
 use lib.ListN.{length, getD, drop, drop-of-length-le}
 use lib.Seq.{drop-cons}
 use borrow.Author.Tests.{ne-eqb, eq-eqb}
-use Rattle.card.specs.Layout.{nodeAt, slotPairs, depthLimit}
+use Rattle.card.specs.Layout.{nodeAt, slotPairs}
 use Rattle.card.proofs.NodeLaws.{get-valueWord}
-use Rattle.descent.specs.Descent.{firstEqual, slotOf, turnAt, leafFor}
-use Rattle.descent.proofs.DescentLaws.{slot-below, turn-node, turn-leaf, turn-down, way-leaf, way-down}
-use Rattle.descent_theory.proofs.Routing.{Leads, Parted, parted, child-on-card, some-children, internal, number-on-card}
+use Rattle.descent.specs.Descent.{firstEqual, slotOf}
+use Rattle.descent.proofs.DescentLaws.{slot-below}
+use Rattle.descent_theory.proofs.Routing.{Leads, Parted, parted}
 use Rattle.tree.specs.Pairs.{pairs, lookup}
 use Rattle.tree.proofs.Pairs.{InRange, AllInRange, child, lookup-child, depth, slot-pairs-head, child-in, child-represents, child-depth}
-use Rattle.tree.proofs.Path.{depthOf}
-use Rattle.tree.proofs.Reading.{read-length, read-kind, leaf-keys, leaf-values}
+use Rattle.tree.proofs.Reading.{read-length, leaf-keys, leaf-values}
 use Rattle.tree.specs.Represent.{Represents}
-use Rattle.tree.specs.Tree.{Tree, Forest, root, leaf, node}
+use Rattle.tree.specs.Tree.{Tree, Forest, leaf, node}
 use Rattle.tree.proofs.Tree.{Context, plug, top, down}
 use Rattle.descent.specs.declared.Slot.{Slot}
 use Rattle.descent.specs.declared.Slot.the-variants.{At, Absent}
-use Rattle.descent.specs.declared.Turn.the-variants.{Leaf as TurnLeaf, Down as TurnDown}
-use Rattle.descent.specs.declared.Way.the-variants.{Leaf as LeafAt}
 
 -- what a leaf's words answer for a slot: the value beside the key, or nothing
 -- ("In a leaf it is at the first slot whose key word equals the key.")
@@ -68,87 +65,47 @@ module _ (c : List ℕ) (key m : ℕ) (ks vs : List ℕ) (pos : 0 < key) (r : Re
       ∙ ap (λ (l : List ℕ). rowAnswer vs (firstEqual l key 0)) (leaf-keys c m ks vs r)
       ∙ row-lookup key ks vs pos (r .1 ∙ sym (r .2)) 11 0 (sym (r .1))
 
--- what a node makes of a key, where it is a leaf of the tree, and where it is not
-module _ (c : List ℕ) (n key : ℕ) (len : length c ≡ 8 + 24 * n) where
-  pub turn-at-leaf : (m : ℕ) (ks vs : List ℕ) → Represents c (leaf m ks vs) → turnAt c n key m ≡ TurnLeaf
-  turn-at-leaf m ks vs r =
-      let on = number-on-card c n (leaf m ks vs) len r in
-      turn-node c n key m (λ e. omega (arith, on .0)) (on .1) ∙ turn-leaf (nodeAt c m) key (read-kind c m _ _ _ (r .0))
-
-  pub turn-at-node : (m : ℕ) (g : Bool) (f : Forest) → Represents c (node m g f) → turnAt c n key m ≡ TurnDown (root (child key f))
-  turn-at-node m g f r =
-      let on = number-on-card c n (node m g f) len r in
-      turn-node c n key m (λ e. omega (arith, on .0)) (on .1)
-      ∙ turn-down (nodeAt c m) key (internal c key m g f r) (some-children c key m g f r)
-      ∙ ap TurnDown (child-on-card c key m g f r)
-
--- the leaf that a key leads to from the part s below the context C: where it stands, that the card's way down comes to
--- it, and that its words answer as the part's pairs do
-pub record LeafFound (c : List ℕ) (n key levels : ℕ) (C : Context) (s : Tree) : Type 0 where
+-- the leaf that a key leads to from the part s below the context C: where it stands, and that its words answer as the part's pairs do
+pub record LeafFound (c : List ℕ) (key : ℕ) (C : Context) (s : Tree) : Type 0 where
   pub number : ℕ
-  pub above : ℕ
   pub context : Context
   pub keys : List ℕ
   pub values : List ℕ
-  pub found : leafFor c n key levels (root s) ≡ LeafAt number above
   pub is-tree : plug context (leaf number keys values) ≡ plug C s
   pub leads : Leads key C → Leads key context
   pub on-card : Represents c (leaf number keys values)
-  -- with all levels left at the root, the depth that is told is the number of internal nodes above the leaf
-  pub deep : above + levels + depthOf C ≡ depthLimit + depthOf context
-  pub shallow : above ≤ depthLimit
   pub answers : slotAnswer (nodeAt c number) (slotOf (nodeAt c number) key) ≡ lookup key (pairs s)
 
-module _ (c : List ℕ) (n key : ℕ) (len : length c ≡ 8 + 24 * n) (pos : 0 < key) where
+module _ (c : List ℕ) (key : ℕ) (pos : 0 < key) where
   -- a leaf is come to at once
-  found-leaf : (levels : ℕ) (C : Context) (m : ℕ) (ks vs : List ℕ) → Represents c (leaf m ks vs) → levels ≤ depthLimit → LeafFound c n key levels C (leaf m ks vs)
-  found-leaf levels C m ks vs r most =
-      record {
-        number = m;
-        above = depthLimit - levels;
-        context = C;
-        keys = ks;
-        values = vs;
-        found = way-leaf c n key m levels (turn-at-leaf c n key len m ks vs r);
-        is-tree = refl;
-        leads = λ p. p;
-        on-card = r;
-        deep = omega arith;
-        shallow = omega arith;
-        answers = leaf-answer c key m ks vs pos r;
-      }
+  found-leaf : (C : Context) (m : ℕ) (ks vs : List ℕ) → Represents c (leaf m ks vs) → LeafFound c key C (leaf m ks vs)
+  found-leaf C m ks vs r =
+      record { number = m; context = C; keys = ks; values = vs; is-tree = refl; leads = λ p. p; on-card = r; answers = leaf-answer c key m ks vs pos r }
 
   -- through an internal node, by the child that the key leads to
-  found-child : (levels lo hi : ℕ) (C : Context) (m : ℕ) (g : Bool) (f : Forest) (p : Parted key f) → Represents c (node m g f) → AllInRange lo hi f → LeafFound c n key levels (down C m g (p .left) (p .right)) (child key f) → LeafFound c n key (suc levels) C (node m g f)
-  found-child levels lo hi C m g f p r i s =
+  found-child : (lo hi : ℕ) (C : Context) (m : ℕ) (g : Bool) (f : Forest) (p : Parted key f) → AllInRange lo hi f → LeafFound c key (down C m g (p .left) (p .right)) (child key f) → LeafFound c key C (node m g f)
+  found-child lo hi C m g f p i s =
       record {
         number = s .number;
-        above = s .above;
         context = s .context;
         keys = s .keys;
         values = s .values;
-        found =
-            way-down c n key m (suc levels) (root (child key f)) (turn-at-node c n key len m g f r) (λ e. omega arith)
-            ∙ ap (λ (x : ℕ). leafFor c n key x (root (child key f))) (let z : suc levels - 1 ≡ levels = omega arith in z)
-            ∙ s .found;
         is-tree = s .is-tree ∙ ap (λ (e : Forest). plug C (node m g e)) (p .whole);
         leads = λ q. s .leads (p .past, p .short, q);
         on-card = s .on-card;
-        deep = omega (arith, s .deep);
-        shallow = s .shallow;
         answers = s .answers ∙ sym (lookup-child lo hi key f i);
       }
 
-  pub find-from : (levels lo hi : ℕ) (C : Context) (s : Tree) → Represents c s → InRange lo hi s → lo ≤ key → key < hi → depth s ≤ levels → levels ≤ depthLimit → LeafFound c n key levels C s
-  find-from zero lo hi C (leaf m ks vs) r i l h d most = found-leaf zero C m ks vs r most
-  find-from zero lo hi C (node m g f) r i l h d most = absurd (omega arith)
-  find-from (suc levels) lo hi C (leaf m ks vs) r i l h d most = found-leaf (suc levels) C m ks vs r most
-  find-from (suc levels) lo hi C (node m g f) r i l h d most =
+  find-from : (levels lo hi : ℕ) (C : Context) (s : Tree) → Represents c s → InRange lo hi s → lo ≤ key → key < hi → depth s ≤ levels → LeafFound c key C s
+  find-from zero lo hi C (leaf m ks vs) r i l h d = found-leaf C m ks vs r
+  find-from zero lo hi C (node m g f) r i l h d = absurd (omega arith)
+  find-from (suc levels) lo hi C (leaf m ks vs) r i l h d = found-leaf C m ks vs r
+  find-from (suc levels) lo hi C (node m g f) r i l h d =
       let p = parted key f in
       let range = child-in key lo hi f i l h in
-      found-child levels lo hi C m g f p r i
-      (find-from levels (range .0) (range .1) (down C m g (p .left) (p .right)) (child key f) (child-represents c key f (r .1)) (range .2) (range .3) (range .4) (omega (arith, child-depth key f)) (omega arith))
+      found-child lo hi C m g f p i
+      (find-from levels (range .0) (range .1) (down C m g (p .left) (p .right)) (child key f) (child-represents c key f (r .1)) (range .2) (range .3) (range .4) (omega (arith, child-depth key f)))
 
   -- FIND: the card answers every key by the map of its tree
-  pub find-map : (levels lo hi : ℕ) (t : Tree) → Represents c t → InRange lo hi t → lo ≤ key → key < hi → depth t ≤ levels → levels ≤ depthLimit → LeafFound c n key levels top t
-  find-map levels lo hi t r i l h d most = find-from levels lo hi top t r i l h d most
+  pub find-map : (lo hi : ℕ) (t : Tree) → Represents c t → InRange lo hi t → lo ≤ key → key < hi → LeafFound c key top t
+  find-map lo hi t r i l h = find-from (depth t) lo hi top t r i l h (omega arith)

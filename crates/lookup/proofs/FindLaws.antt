@@ -2,11 +2,10 @@
 use mathlib.Core.Path.{_≡_}
 use mathlib.Core.List.{List}
 use Prim.Native.Nat.{ℕ}
-use lib.ListN.{length, getD}
+use lib.ListN.{length}
 use borrow.Author.Tests.{ne-eqb, eq-eqb}
 use Rattle.card.specs.Header.{nodesOfLength, cardRefusal}
-use Rattle.card.specs.Layout.{depthLimit, rootPlace}
-use Rattle.descent.specs.Descent.{leafFor}
+use Rattle.descent.specs.Descent.{way, leafOf}
 use Rattle.lookup.specs.Find.{foundAt, findOf}
 use Rattle.lookup.specs.declared.Found.the-variants.{Refused as FoundRefused}
 
@@ -19,6 +18,6 @@ module _ (card : List ℕ) (key : ℕ) where
   unfolding findOf
   find-no-key r z = simp (eq-eqb (cardRefusal card) 0 r, eq-eqb key 0 z)
 
-  pub find-key : cardRefusal card ≡ 0 → (key ≡ 0 → ⊥) → findOf card key ≡ foundAt card key (leafFor card (nodesOfLength (length card)) key depthLimit (getD card rootPlace 0))
+  pub find-key : cardRefusal card ≡ 0 → (key ≡ 0 → ⊥) → findOf card key ≡ foundAt card key (leafOf (way card (nodesOfLength (length card)) key))
   unfolding findOf
   find-key r p = simp (eq-eqb (cardRefusal card) 0 r, ne-eqb key 0 p)

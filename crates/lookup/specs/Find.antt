@@ -4,13 +4,13 @@ use Prim.Native.Nat.{ℕ, _+_}
 use lib.ListN.{length, getD}
 use lib.Dec.{eqb}
 use Rattle.laws.specs.Cases.{pick}
-use Rattle.card.specs.Layout.{rootPlace, depthLimit, nodeAt}
+use Rattle.card.specs.Layout.{nodeAt}
 use Rattle.card.specs.Header.{nodesOfLength, cardRefusal}
-use Rattle.descent.specs.Descent.{slotOf, leafFor}
+use Rattle.descent.specs.Descent.{slotOf, way, leafOf}
 use Rattle.descent.specs.declared.Slot.{Slot}
 use Rattle.descent.specs.declared.Slot.the-variants.{At, Absent as NoSlot}
-use Rattle.descent.specs.declared.Way.{Way}
-use Rattle.descent.specs.declared.Way.the-variants.{Refused as NoWay, Leaf as LeafAt}
+use Rattle.descent.specs.declared.Reached.{Reached}
+use Rattle.descent.specs.declared.Reached.the-variants.{Refused as NotReached, Leaf as ReachedLeaf}
 use Rattle.lookup.specs.declared.Found.{Found}
 use Rattle.lookup.specs.declared.Found.the-variants.{Value as FoundValue, Absent as FoundAbsent, Refused as FoundRefused}
 
@@ -20,13 +20,13 @@ foundIn node (At i) = FoundValue (getD node (12 + i) 0)
 foundIn node NoSlot = FoundAbsent
 
 -- "9: on the way down"
-unfoldable pub foundAt : List ℕ → ℕ → Way → Found
-foundAt card key NoWay = FoundRefused 9
-foundAt card key (LeafAt m depth) = foundIn (nodeAt card m) (slotOf (nodeAt card m) key)
+unfoldable pub foundAt : List ℕ → ℕ → Reached → Found
+foundAt card key NotReached = FoundRefused 9
+foundAt card key (ReachedLeaf m depth) = foundIn (nodeAt card m) (slotOf (nodeAt card m) key)
 
 -- 1, 2, 3, then "6: key 0"
 unfoldable pub findOf : List ℕ → ℕ → Found
 findOf card key =
     pick (eqb (cardRefusal card) 0)
-    (pick (eqb key 0) (FoundRefused 6) (foundAt card key (leafFor card (nodesOfLength (length card)) key depthLimit (getD card rootPlace 0))))
+    (pick (eqb key 0) (FoundRefused 6) (foundAt card key (leafOf (way card (nodesOfLength (length card)) key))))
     (FoundRefused (cardRefusal card))

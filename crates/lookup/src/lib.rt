@@ -1,12 +1,12 @@
 // The look-up of a key, on the card alone (document 01, "The card", "State, steps and free nodes").
+use descent::Reached;
 use descent::Slot;
-use descent::Way;
 ghost use mathlib.Core.Path.{_≡_};
 ghost use Prim.Native.Nat.{_+_, _*_, _≤_};
-ghost use lib.ListN.{length, getD};
+ghost use lib.ListN.{length};
 ghost use Rattle.card.specs.Header.{cardRefusal};
-ghost use Rattle.card.specs.Layout.{greatestNodes, depthLimit, rootPlace};
-ghost use Rattle.descent.specs.Descent.{slotOf, leafFor};
+ghost use Rattle.card.specs.Layout.{greatestNodes};
+ghost use Rattle.descent.specs.Descent.{slotOf, way, leafOf};
 ghost use Rattle.lookup.specs.Find.{foundIn, foundAt, findOf};
 
 // What a find answers.
@@ -30,11 +30,11 @@ fn found_in(node: &[u32], key: u32) -> Found
 // The value of a key that is not 0, on a card of n nodes.
 fn found_at(card: &[u32], n: usize, key: u32) -> Found
     requires { ⌜ (length (now card) ≡ 8 + 24 * n) × (n ≤ greatestNodes) ⌝ }
-    ensures { λ r. ⌜ r ≡ foundAt (now (card .entry)) key (leafFor (now (card .entry)) n key depthLimit (getD (now (card .entry)) rootPlace 0)) ⌝ }
+    ensures { λ r. ⌜ r ≡ foundAt (now (card .entry)) key (leafOf (way (now (card .entry)) n key)) ⌝ }
 {
     match descent::find_leaf(card, n, key, card[card::ROOT_PLACE] as usize) {
-        Way::Refused => Found::Refused(9),
-        Way::Leaf { node, depth: _ } => found_in(card::node_at(card, node), key),
+        Reached::Refused => Found::Refused(9),
+        Reached::Leaf { node, depth: _ } => found_in(card::node_at(card, node), key),
     }
 }
 

@@ -6,9 +6,9 @@ use mathlib.Core.Option.{Option, none, some}
 use Prim.Native.Nat.{ℕ, _+_, _≤_, _<_}
 use native.Mathlib.Omega.{arith}
 use native.Mathlib.Decide.{ℕ-discrete}
-use lib.ListN.{length, getD}
+use lib.ListN.{length}
 use borrow.Author.Tests.{ne-eqb, eq-eqb}
-use Rattle.descent.specs.declared.Way.{Way}
+use Rattle.descent.specs.declared.Reached.{Reached}
 use Rattle.promises.proofs.Feeding.{dictionaryAnswer}
 use Rattle.lookup.specs.Answers.{foundReply}
 use Rattle.state.specs.Answers.{stepReply}
@@ -18,11 +18,12 @@ use Rattle.opening.proofs.OpeningLaws.{open-unrefused, open-scarce}
 use Rattle.state.specs.Steps.{noBeginning}
 use Rattle.card.specs.Header.{nodesOfLength, cardRefusal, Sized, Formatted}
 use Rattle.card.proofs.HeaderLaws.{nodes-sized, header-formatted}
-use Rattle.card.specs.Layout.{lowestKey, keyLimit, depthLimit, rootPlace, nodeAt}
+use Rattle.card.specs.Layout.{lowestKey, keyLimit, nodeAt}
 use Rattle.change_theory.proofs.Plays.{Openable}
 use Rattle.change_theory.proofs.Repaired.{settled, violated}
-use Rattle.descent.specs.Descent.{slotOf, leafFor}
-use Rattle.descent_theory.proofs.Find.{slotAnswer, find-map}
+use Rattle.descent.specs.Descent.{slotOf, way, leafOf}
+use Rattle.descent_theory.proofs.Find.{slotAnswer}
+use Rattle.descent_theory.proofs.Landing.{landing-found}
 use Rattle.free_nodes.specs.NodeSet.{countTrue}
 use Rattle.laws.proofs.Bits.{bit-true, bit-false}
 use Rattle.laws.proofs.Cases.{bool-cases, order}
@@ -90,7 +91,7 @@ accepted-openable c t a w = go (sound-accepted c (nodesOfLength (length c)) (k .
 
 -- ---- finds
 
-find-is : (c : List ℕ) (n key : ℕ) → cardRefusal c ≡ 0 → nodesOfLength (length c) ≡ n → 0 < key → findOf c key ≡ foundAt c key (leafFor c n key depthLimit (getD c rootPlace 0))
+find-is : (c : List ℕ) (n key : ℕ) → cardRefusal c ≡ 0 → nodesOfLength (length c) ≡ n → 0 < key → findOf c key ≡ foundAt c key (leafOf (way c n key))
 unfolding findOf
 find-is c n key e en h = rw (e, en, ne-eqb key 0 (omega arith))
 
@@ -103,9 +104,8 @@ pub find-answers : (c : List ℕ) (n : ℕ) (t : Tree) (key : ℕ) → Table c n
 unfolding foundAt
 find-answers c n t key b h l =
     let a = card-accepted (b .sized) (b .header) in
-    let f = find-map c n key (b .sized .words) h depthLimit lowestKey keyLimit t (b .holds .2) (b .sound .range) (omega arith) l (table-depth-limited b) (omega arith) in
+    let f = landing-found c n key (b .sized .words) lowestKey keyLimit t (b .holds) (b .sound .range) (omega arith) l h (table-depth-limited b) in
     ap foundReply (find-is c n key (a .0) (a .1) h)
-    ∙ ap (λ (x : ℕ). foundReply (foundAt c key (leafFor c n key depthLimit x))) (b .holds .0)
-    ∙ ap (λ (x : Way). foundReply (foundAt c key x)) (f .found)
+    ∙ ap (λ (x : Reached). foundReply (foundAt c key x)) (f .reached)
     ∙ found-is (nodeAt c (f .number)) (slotOf (nodeAt c (f .number)) key)
     ∙ ap (λ (x : Option ℕ). stepReply (dictionaryAnswer x)) (f .answers)

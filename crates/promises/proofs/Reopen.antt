@@ -15,7 +15,7 @@ use Rattle.change_theory.proofs.Exact.{exact-same}
 use Rattle.change_theory.proofs.Plays.{Openable}
 use Rattle.change_theory.proofs.Repaired.{Mendable, settled, violated}
 use Rattle.change_theory.proofs.Reserve.{reserve-total}
-use Rattle.descent_theory.proofs.Seek.{depth-plug}
+use Rattle.descent_theory.proofs.Way.{depth-plug}
 use Rattle.free_nodes.specs.NodeSet.{countTrue}
 use Rattle.laws.proofs.Bits.{bit-true, bit-false}
 use Rattle.laws.proofs.Cases.{bool-cases, impossible}

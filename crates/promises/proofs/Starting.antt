@@ -6,13 +6,13 @@ use mathlib.Core.Option.{Option, none}
 use mathlib.Core.Logic.{_⊎_, inl, inr}
 use Prim.Native.Nat.{ℕ, _+_, _≤_, _<_}
 use native.Mathlib.Omega.{arith}
-use lib.ListN.{length, getD}
+use lib.ListN.{length}
 use borrow.Author.Tests.{ne-eqb, eq-eqb}
 use Rattle.card.specs.Header.{nodesOfLength, Sized, Formatted}
 use Rattle.card.proofs.HeaderLaws.{sized-nodes, formatted-header}
-use Rattle.card.specs.Layout.{lowestKey, keyLimit, depthLimit, rootPlace}
+use Rattle.card.specs.Layout.{lowestKey, keyLimit}
 use Rattle.tree.specs.FreeNodes.{Exact}
-use Rattle.descent.specs.Descent.{landingFor}
+use Rattle.descent.specs.Descent.{way, landingOf}
 use Rattle.descent_theory.proofs.Landing.{landing-found}
 use Rattle.free_nodes.specs.NodeSet.{countTrue}
 use Rattle.laws.proofs.Cases.{bool-cases, order, impossible}
@@ -71,7 +71,7 @@ is-idle : {doing : Doing} → doing ≡ Idle → isIdle doing ≡ true
 unfolding isIdle
 is-idle e = rw e
 
-landing-is : (c : List ℕ) (n key : ℕ) {x : Landing} → landingFor c n key depthLimit rootPlace 0 (getD c rootPlace 0) ≡ x → landing c n key ≡ x
+landing-is : (c : List ℕ) (n key : ℕ) {x : Landing} → landingOf c (way c n key) ≡ x → landing c n key ≡ x
 unfolding landing
 landing-is c n key e = e
 

@@ -29,7 +29,8 @@ use Rattle.shapes.proofs.Whole.{settledBy, Heads, heads-done, heads-on}
 use Rattle.descent_theory.proofs.Find.{slotAnswer}
 use Rattle.descent_theory.proofs.Landing.{LandedAt, landing-found}
 use Rattle.descent_theory.proofs.Routing.{Leads}
-use Rattle.descent_theory.proofs.Seek.{depth-plug, seek-balanced}
+use Rattle.descent_theory.proofs.Seek.{seek-balanced}
+use Rattle.descent_theory.proofs.Way.{depth-plug}
 use Rattle.free_nodes.specs.NodeSet.{countTrue}
 use Rattle.laws.proofs.Cases.{order, impossible}
 use Rattle.laws.specs.Sorting.{sort}

@@ -1,6 +1,6 @@
 // Starting to format, and starting an update: its refusals, the room it needs, and the state it hands back (document 01, "State, steps
 // and free nodes").
-use descent::Landing;
+use descent::End;
 use descent::Slot;
 use free_nodes::NodeSet;
 use state::Beginning;
@@ -12,9 +12,12 @@ use state::no_beginning;
 use state::resting;
 ghost use mathlib.Core.Path.{_≡_};
 ghost use mathlib.Core.Bool.{true};
+ghost use Prim.Native.Nat.{_≤_};
 ghost use lib.ListN.{length};
-ghost use Rattle.free_nodes.specs.NodeSet.{nodesOf};
-ghost use Rattle.descent.specs.Descent.{slotOf};
+ghost use Rattle.card.specs.Header.{Sized};
+ghost use Rattle.card.specs.Layout.{nodeAt};
+ghost use Rattle.free_nodes.specs.NodeSet.{countTrue, nodesOf};
+ghost use Rattle.descent.specs.Descent.{slotOf, way, runOver};
 ghost use Rattle.laws.specs.Cases.{pick};
 ghost use Rattle.state.specs.Memory.{memoryOf};
 ghost use Rattle.state.specs.Results.{handedOf, UnchangedStart};
@@ -58,31 +61,41 @@ fn has_word(leaf: &[u32], word: u32) -> bool
     }
 }
 
-// "A splitting insert needs j + 5 free nodes." The run may be any number here, so the 5 are taken from the free nodes.
-fn has_room(leaf: &[u32], key: u32, free: NodeSet, run: usize) -> bool
-    requires { ⌜ length (now leaf) ≡ 24 ⌝ }
-    ensures { λ r. ⌜ r ≡ roomFor (nodesOf (free .words)) run (insertReason (now (leaf .entry)) key) ⌝ }
+// How many nodes are free.
+fn free_count(free: NodeSet) -> usize
+    ensures { λ r. ⌜ r ≡ countTrue (nodesOf (free .words)) ⌝ }
 {
+    free_nodes::count(&free.words)
+}
+
+// "A splitting insert needs j + 5 free nodes." The 11-child nodes above leaf m are counted only where it is full; they may be any
+// number here, so the 5 are taken from the free nodes.
+fn has_room(card: &[u32], n: usize, m: usize, key: u32, free: NodeSet) -> bool
+    requires { ⌜ Sized (length (now card)) n × (1 ≤ m) × (m ≤ n) ⌝ }
+    ensures { λ r. ⌜ r ≡ roomFor (nodesOf (free .words)) (runOver (now (card .entry)) 0 (way (now (card .entry)) n key .inner)) (insertReason (nodeAt (now (card .entry)) m) key) ⌝ }
+{
+    let leaf = card::node_at(card, m);
     if has_word(leaf, key) {
         return true;
     }
     if has_word(leaf, 0) {
         return true;
     }
-    let count = free_nodes::count(&free.words);
+    let count = free_count(free);
     if count < updates::SPLIT_NEED {
         return false;
     }
+    let run = descent::run_above(card, n, key, card[card::ROOT_PLACE] as usize);
     run <= count - updates::SPLIT_NEED
 }
 
 // The same of an update that may split its leaf, or of one that never does and so needs no room.
-fn has_room_where(splits: bool, leaf: &[u32], key: u32, free: NodeSet, run: usize) -> bool
-    requires { ⌜ length (now leaf) ≡ 24 ⌝ }
-    ensures { λ r. ⌜ r ≡ pick splits (roomFor (nodesOf (free .words)) run (insertReason (now (leaf .entry)) key)) true ⌝ }
+fn has_room_where(splits: bool, card: &[u32], n: usize, m: usize, key: u32, free: NodeSet) -> bool
+    requires { ⌜ Sized (length (now card)) n × (1 ≤ m) × (m ≤ n) ⌝ }
+    ensures { λ r. ⌜ r ≡ pick splits (roomFor (nodesOf (free .words)) (runOver (now (card .entry)) 0 (way (now (card .entry)) n key .inner)) (insertReason (nodeAt (now (card .entry)) m) key)) true ⌝ }
 {
     if splits {
-        return has_room(leaf, key, free, run);
+        return has_room(card, n, m, key, free);
     }
     true
 }
@@ -110,15 +123,10 @@ fn start_refusal(
     if early != 0 {
         return early;
     }
-    match descent::find_landing(card, nodes, key, card[card::ROOT_PLACE] as usize) {
-        Landing::Refused => 9,
-        Landing::Leaf { node, link: _, run } => room_refusal(has_room_where(
-            splits,
-            card::node_at(card, node),
-            key,
-            free,
-            run,
-        )),
+    match descent::descend(card, nodes, key, card[card::ROOT_PLACE] as usize, false) {
+        End::Refused => 9,
+        End::Fault(_) => 9,
+        End::Leaf(p) => room_refusal(has_room_where(splits, card, nodes, p.node, key, free)),
     }
 }
 

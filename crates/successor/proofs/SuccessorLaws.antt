@@ -9,11 +9,10 @@ use lib.Seq.{getD-take}
 use borrow.Author.Tests.{lt-ltb, le-ltb, eq-eqb, ne-eqb}
 use Rattle.laws.proofs.Lists.{getD-any-default}
 use Rattle.card.specs.Header.{cardRefusal, nodesOfLength}
-use Rattle.card.specs.Layout.{rootPlace, depthLimit, keyLimit, nodeAt, keyWords, children, routingKeys, slotPairs}
+use Rattle.card.specs.Layout.{keyLimit, keyWords, children, routingKeys, slotPairs}
 use Rattle.card.proofs.NodeLaws.{length-keyWords, get-keyWord, children-le, length-routing, leafFrom, leaf-next, leaf-end}
-use Rattle.descent.specs.Descent.{childIndex, turnAt, leafFor}
-use Rattle.descent.specs.declared.Turn.the-variants.{Refused as NoTurn, Leaf as TurnLeaf, Down as TurnDown}
-use Rattle.successor.specs.Successor.{nearer, nearerAbove, leastAbove, endBelow, onTurnEnd, rangeEnd, inLeaf, inNextLeaf, nextIn, nextOf}
+use Rattle.descent.specs.Descent.{childIndex, way, leafOf}
+use Rattle.successor.specs.Successor.{nearer, nearerAbove, leastAbove, endBelow, inLeaf, inNextLeaf, nextIn, nextOf}
 use Rattle.successor.specs.declared.Successor.the-variants.{Nothing, Refused}
 
 -- ---- a slot more
@@ -65,29 +64,6 @@ module _ (node : List ℕ) (key end i : ℕ) (l : length node ≡ 24) (e : i ≡
       ∙ getD-any-default (keyWords node) i end 0 (omega (arith, length-keyWords node l, children-le node))
       ∙ get-keyWord node i (omega (arith, children-le node)))
 
--- ---- the way down
-
-module _ (card : List ℕ) (n key end m : ℕ) where
-  pub range-zero : (levels : ℕ) → levels ≡ 0 → rangeEnd card n key levels end m ≡ end
-  unfolding rangeEnd
-  range-zero zero e = refl
-  range-zero (suc levels) e = absurd (omega arith)
-
-  pub range-refused : (levels : ℕ) → turnAt card n key m ≡ NoTurn → rangeEnd card n key levels end m ≡ end
-  unfolding rangeEnd onTurnEnd
-  range-refused zero e = refl
-  range-refused (suc levels) e = rw e refl
-
-  pub range-leaf : (levels : ℕ) → turnAt card n key m ≡ TurnLeaf → rangeEnd card n key levels end m ≡ end
-  unfolding rangeEnd onTurnEnd
-  range-leaf zero e = refl
-  range-leaf (suc levels) e = rw e refl
-
-  pub range-down : (levels child : ℕ) → 0 < levels → turnAt card n key m ≡ TurnDown child → rangeEnd card n key levels end m ≡ rangeEnd card n key (levels - 1) (endBelow (nodeAt card m) key end) child
-  unfolding rangeEnd onTurnEnd
-  range-down zero child h e = absurd (omega arith)
-  range-down (suc levels) child h e = let z : suc levels - 1 ≡ levels = omega arith in rw (z, e) refl
-
 -- ---- the call
 
 module _ (card : List ℕ) (n after end : ℕ) where
@@ -95,7 +71,7 @@ module _ (card : List ℕ) (n after end : ℕ) where
   unfolding inNextLeaf
   next-none e = rw (eq-eqb end keyLimit e)
 
-  pub next-there : (end ≡ keyLimit → ⊥) → inNextLeaf card n after end ≡ inLeaf card after (leafFor card n end depthLimit (getD card rootPlace 0))
+  pub next-there : (end ≡ keyLimit → ⊥) → inNextLeaf card n after end ≡ inLeaf card after (leafOf (way card n end))
   unfolding inNextLeaf
   next-there h = rw (ne-eqb end keyLimit h)
 

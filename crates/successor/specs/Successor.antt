@@ -7,13 +7,12 @@ use lib.ListN.{length, getD}
 use lib.Dec.{eqb, ltb}
 use Rattle.laws.specs.Cases.{pick}
 use Rattle.card.specs.Header.{cardRefusal, nodesOfLength}
-use Rattle.card.specs.Layout.{rootPlace, depthLimit, keyLimit, nodeAt, routingKeys, leafPairs}
+use Rattle.card.specs.Layout.{keyLimit, nodeAt, routingKeys, leafPairs}
 use Rattle.card.specs.Replies.{Reply, refusal, nothing, next}
-use Rattle.descent.specs.Descent.{childIndex, turnAt, leafFor}
-use Rattle.descent.specs.declared.Turn.{Turn}
-use Rattle.descent.specs.declared.Turn.the-variants.{Refused as NoTurn, Leaf as TurnLeaf, Down as TurnDown}
-use Rattle.descent.specs.declared.Way.{Way}
-use Rattle.descent.specs.declared.Way.the-variants.{Refused as NoWay, Leaf as LeafAt}
+use Rattle.descent.specs.Descent.{childIndex, way, leafOf}
+use Rattle.descent.specs.declared.Position.{Position}
+use Rattle.descent.specs.declared.Reached.{Reached}
+use Rattle.descent.specs.declared.Reached.the-variants.{Refused as NotReached, Leaf as ReachedLeaf}
 use Rattle.successor.specs.declared.Least.{Least}
 use Rattle.successor.specs.declared.Least.the-variants.{Pair as LeastPair, Nothing as NoLeast}
 use Rattle.successor.specs.declared.Successor.{Successor}
@@ -47,15 +46,10 @@ leastOf (LeastPair key value) = some (key, value)
 unfoldable pub endBelow : List ℕ → ℕ → ℕ → ℕ
 endBelow node key end = getD (routingKeys node) (childIndex node key) end
 
-unfoldable pub onTurnEnd : ℕ → (ℕ → ℕ) → Turn → ℕ
-onTurnEnd end next NoTurn = end
-onTurnEnd end next TurnLeaf = end
-onTurnEnd end next (TurnDown child) = next child
-
--- the end of the range of the leaf that a key leads to from node m, whose own range ends at `end`
-unfoldable pub rangeEnd : List ℕ → ℕ → ℕ → ℕ → ℕ → ℕ → ℕ
-rangeEnd card n key zero end m = end
-rangeEnd card n key (suc levels) end m = onTurnEnd end (rangeEnd card n key levels (endBelow (nodeAt card m) key end)) (turnAt card n key m)
+-- the end of the range below the internal nodes of a way, where the range of the first of them ends at `end`
+unfoldable pub rangeEnd : List ℕ → ℕ → ℕ → List Position → ℕ
+rangeEnd card key end [] = end
+rangeEnd card key end (p ∷ ps) = rangeEnd card key (endBelow (nodeAt card (p .node)) key end) ps
 
 -- ---- the call
 
@@ -63,23 +57,23 @@ unfoldable pub found : Option (ℕ × ℕ) → Successor
 found none = Nothing
 found (some p) = Pair (p .0) (p .1)
 
--- in the leaf that a way leads to
-unfoldable pub inLeaf : List ℕ → ℕ → Way → Successor
-inLeaf card after NoWay = Refused 9
-inLeaf card after (LeafAt m depth) = found (leastAbove after (leafPairs (nodeAt card m)))
+-- in the leaf that was reached
+unfoldable pub inLeaf : List ℕ → ℕ → Reached → Successor
+inLeaf card after NotReached = Refused 9
+inLeaf card after (ReachedLeaf m depth) = found (leastAbove after (leafPairs (nodeAt card m)))
 
 -- in the leaf whose range begins where another's ends; "the root's is all keys", and beyond them there is none
 unfoldable pub inNextLeaf : List ℕ → ℕ → ℕ → ℕ → Successor
-inNextLeaf card n after end = pick (eqb end keyLimit) Nothing (inLeaf card after (leafFor card n end depthLimit (getD card rootPlace 0)))
+inNextLeaf card n after end = pick (eqb end keyLimit) Nothing (inLeaf card after (leafOf (way card n end)))
 
 -- in the leaf that the number leads to, else in the next one
 unfoldable pub orNextLeaf : List ℕ → ℕ → ℕ → Successor → Successor
-orNextLeaf card n after Nothing = inNextLeaf card n after (rangeEnd card n after depthLimit keyLimit (getD card rootPlace 0))
+orNextLeaf card n after Nothing = inNextLeaf card n after (rangeEnd card after keyLimit (way card n after .inner))
 orNextLeaf card n after (Pair key value) = Pair key value
 orNextLeaf card n after (Refused r) = Refused r
 
 unfoldable pub nextIn : List ℕ → ℕ → ℕ → Successor
-nextIn card n after = orNextLeaf card n after (inLeaf card after (leafFor card n after depthLimit (getD card rootPlace 0)))
+nextIn card n after = orNextLeaf card n after (inLeaf card after (leafOf (way card n after)))
 
 -- "It reads the card only, like a find": 1, 2, 3 and 9; "6 is not given"
 unfoldable pub nextOf : List ℕ → ℕ → Successor

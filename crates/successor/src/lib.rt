@@ -1,12 +1,12 @@
 // The next ration number (document 02, W-201): the pair with the smallest key above a number.
-use descent::Turn;
-use descent::Way;
+use descent::Look;
+use descent::Reached;
 ghost use mathlib.Core.Path.{_≡_};
 ghost use Prim.Native.Nat.{_+_, _*_, _≤_, _<_};
 ghost use lib.ListN.{length, getD};
-ghost use Rattle.card.specs.Layout.{greatestNodes, depthLimit, keyLimit, rootPlace, leafPairs};
+ghost use Rattle.card.specs.Layout.{greatestNodes, depthLimit, keyLimit, leafPairs};
 ghost use Rattle.card.specs.Header.{Sized};
-ghost use Rattle.descent.specs.Descent.{leafFor};
+ghost use Rattle.descent.specs.Descent.{rootPosition, wayFrom, way, leafOf};
 ghost use Rattle.successor.specs.Successor.{nearerAbove, leastAbove, leastOf, endBelow, rangeEnd, found, inLeaf, inNextLeaf, nextIn, nextOf};
 
 // What the call answers.
@@ -80,27 +80,33 @@ fn end_below(node: &[u32], key: u32, end: u64) -> u64
 // Where the range of the leaf that a key leads to ends.
 fn range_end(card: &[u32], n: usize, key: u32, root: usize) -> u64
     requires { ⌜ (length (now card) ≡ 8 + 24 * n) × (n ≤ greatestNodes) ⌝ }
-    ensures { λ r. ⌜ (r ≡ rangeEnd (now (card .entry)) n key depthLimit keyLimit root) × (r ≤ keyLimit) ⌝ }
+    ensures { λ r. ⌜ (r ≡ rangeEnd (now (card .entry)) key keyLimit (wayFrom (now (card .entry)) n key depthLimit (rootPosition root) .inner)) × (r ≤ keyLimit) ⌝ }
 {
     let mut m = root;
     let mut end: u64 = card::KEY_LIMIT;
     let mut left: usize = card::DEPTH_LIMIT;
-    while 0 < left {
-        match descent::turn_at(card, n, key, m) {
-            Turn::Refused => {
+    loop {
+        match descent::look_at(card, n, m) {
+            Look::Nowhere => {
                 return end;
             }
-            Turn::Leaf => {
+            Look::Leaf => {
                 return end;
             }
-            Turn::Down(child) => {
-                end = end_below(card::node_at(card, m), key, end);
+            Look::Inner => {
+                let node = card::node_at(card, m);
+                if node[12] == 0 {
+                    return end;
+                }
+                end = end_below(node, key, end);
+                if left == 0 {
+                    return end;
+                }
                 left -= 1;
-                m = child;
+                m = node[12 + descent::child_index(node, key)] as usize;
             }
         }
     }
-    end
 }
 
 fn found(least: Least) -> Successor
@@ -115,18 +121,18 @@ fn found(least: Least) -> Successor
 // In the leaf that a key leads to.
 fn in_leaf(card: &[u32], n: usize, key: u32, after: u32) -> Successor
     requires { ⌜ Sized (length (now card)) n ⌝ }
-    ensures { λ r. ⌜ r ≡ inLeaf (now (card .entry)) after (leafFor (now (card .entry)) n key depthLimit (getD (now (card .entry)) rootPlace 0)) ⌝ }
+    ensures { λ r. ⌜ r ≡ inLeaf (now (card .entry)) after (leafOf (way (now (card .entry)) n key)) ⌝ }
 {
     match descent::find_leaf(card, n, key, card[card::ROOT_PLACE] as usize) {
-        Way::Refused => Successor::Refused(9),
-        Way::Leaf { node, depth: _ } => found(least_above(card::node_at(card, node), after)),
+        Reached::Refused => Successor::Refused(9),
+        Reached::Leaf { node, depth: _ } => found(least_above(card::node_at(card, node), after)),
     }
 }
 
 // In the leaf whose range begins where that of the number's leaf ends.
 fn in_next_leaf(card: &[u32], n: usize, after: u32) -> Successor
     requires { ⌜ Sized (length (now card)) n ⌝ }
-    ensures { λ r. ⌜ r ≡ inNextLeaf (now (card .entry)) n after (rangeEnd (now (card .entry)) n after depthLimit keyLimit (getD (now (card .entry)) rootPlace 0)) ⌝ }
+    ensures { λ r. ⌜ r ≡ inNextLeaf (now (card .entry)) n after (rangeEnd (now (card .entry)) after keyLimit (way (now (card .entry)) n after .inner)) ⌝ }
 {
     let end = range_end(card, n, after, card[card::ROOT_PLACE] as usize);
     if end == card::KEY_LIMIT {

@@ -3,13 +3,13 @@
 use mathlib.Core.Path.{_≡_, refl}
 use mathlib.Core.List.{List}
 use Prim.Native.Nat.{ℕ, _<_}
-use lib.ListN.{length, getD}
+use lib.ListN.{length}
 use lib.Dec.{eqb}
 use Rattle.card.specs.Header.{cardRefusal, nodesOfLength}
-use Rattle.card.specs.Layout.{rootPlace, depthLimit, keyLimit, nodeAt, leafPairs}
-use Rattle.descent.specs.Descent.{leafFor}
-use Rattle.descent.specs.declared.Way.{Way}
-use Rattle.descent.specs.declared.Way.the-variants.{Refused as NoWay, Leaf as LeafAt}
+use Rattle.card.specs.Layout.{keyLimit, nodeAt, leafPairs}
+use Rattle.descent.specs.Descent.{way, leafOf}
+use Rattle.descent.specs.declared.Reached.{Reached}
+use Rattle.descent.specs.declared.Reached.the-variants.{Refused as NotReached, Leaf as ReachedLeaf}
 use Rattle.laws.proofs.Cases.{bool-cases}
 use Rattle.successor.proofs.SuccessorLaws.{next-taken}
 use Rattle.successor.specs.Successor.{leastAbove, rangeEnd, found, inLeaf, inNextLeaf, orNextLeaf, nextIn, nextOf}
@@ -30,21 +30,21 @@ next-is-above ps after Nothing i = tt
 next-is-above ps after (Refused r) i = absurd i
 
 module _ (card : List ℕ) (after : ℕ) where
-  in-leaf-above : (w : Way) → AboveOrNine after (inLeaf card after w)
+  in-leaf-above : (w : Reached) → AboveOrNine after (inLeaf card after w)
   unfolding inLeaf
-  in-leaf-above NoWay = refl
-  in-leaf-above (LeafAt m depth) =
+  in-leaf-above NotReached = refl
+  in-leaf-above (ReachedLeaf m depth) =
       let ps = leafPairs (nodeAt card m) in
       next-is-above ps after (found (leastAbove after ps)) (least-next after ps)
 
   in-next-leaf-above : (n end : ℕ) → AboveOrNine after (inNextLeaf card n after end)
   unfolding inNextLeaf
-  in-next-leaf-above n end = bool-cases (eqb end keyLimit) (λ e. rw e tt) (λ e. rw e (in-leaf-above (leafFor card n end depthLimit (getD card rootPlace 0))))
+  in-next-leaf-above n end = bool-cases (eqb end keyLimit) (λ e. rw e tt) (λ e. rw e (in-leaf-above (leafOf (way card n end))))
 
   or-next-leaf-above : (n : ℕ) (s : Successor) → AboveOrNine after s → AboveOrNine after (orNextLeaf card n after s)
   unfolding orNextLeaf
   or-next-leaf-above n (Pair key value) a = a
-  or-next-leaf-above n Nothing a = in-next-leaf-above n (rangeEnd card n after depthLimit keyLimit (getD card rootPlace 0))
+  or-next-leaf-above n Nothing a = in-next-leaf-above n (rangeEnd card after keyLimit (way card n after .inner))
   or-next-leaf-above n (Refused r) a = a
 
   -- where 1, 2 and 3 are not due
@@ -52,5 +52,5 @@ module _ (card : List ℕ) (after : ℕ) where
   unfolding nextIn
   next-above e =
       let n = nodesOfLength (length card) in
-      let w = leafFor card n after depthLimit (getD card rootPlace 0) in
+      let w = leafOf (way card n after) in
       rw (next-taken card after e) (or-next-leaf-above n (inLeaf card after w) (in-leaf-above w))

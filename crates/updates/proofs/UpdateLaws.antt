@@ -2,29 +2,30 @@
 use mathlib.Core.Path.{_≡_, refl, ap, sym, _∙_}
 use mathlib.Core.List.{List, [], _∷_}
 use mathlib.Core.Bool.{Bool, false}
-use Prim.Native.Nat.{ℕ, zero, suc, _+_, _^_, _≤_, _<_}
+use mathlib.Core.Option.{Option, none, some}
+use Prim.Native.Nat.{ℕ, zero, suc, _^_, _≤_, _<_}
 use native.Mathlib.Omega.{arith}
 use lib.ListN.{length, getD}
-use lib.Dec.{eqb}
 use borrow.Author.Tests.{ne-eqb}
 use Rattle.card.specs.Header.{Sized}
-use Rattle.card.specs.Layout.{depthLimit, rootPlace, place, nodeAt, keyWords, valueWords, children, slotPairs, leafPairs, runBelow}
+use Rattle.card.specs.Layout.{depthLimit, rootPlace, nodeAt, keyWords, valueWords, children, slotPairs, leafPairs}
 use Rattle.card.proofs.NodeLaws.{length-node, length-keyWords, length-valueWords}
-use Rattle.descent.specs.Descent.{childIndex, firstEqual, slotOf, turnAt, onTurnLanding, landingFor}
-use Rattle.descent.proofs.DescentLaws.{index-le, turn-inside}
-use Rattle.laws.proofs.Cases.{bool-cases, impossible}
-use Rattle.descent.proofs.Inside.{Inside, landing-inside}
-use Rattle.updates.specs.Updates.{landing, Reason, insertReason, FirstChange, insertChange, deleteChange, insertIn, deleteIn, noWay, inLeaf, nextChange, held, slot, full}
+use Rattle.descent.specs.Descent.{firstEqual, slotOf, lookAt, rootPosition, childPosition, Way, way, runOver, landedAt, landingOf, endOf}
+use Rattle.descent.proofs.DescentLaws.{Inside, index-le, leaf-inside, inner-inside, unsought-refused, unsought-leaf}
+use Rattle.descent.proofs.Along.{along, run-over-le}
+use Rattle.laws.proofs.Cases.{impossible}
+use Rattle.updates.specs.Updates.{landing, Reason, insertReason, insertChange, deleteChange, nextChange, held, slot, full, FirstChange, insertIn, deleteIn, noWay, inLeaf}
 use Rattle.descent.specs.declared.Slot.{Slot}
 use Rattle.descent.specs.declared.Slot.the-variants.{At, Absent as NoSlot}
 use Rattle.descent.specs.declared.Landing.{Landing}
 use Rattle.descent.specs.declared.Landing.the-variants.{Refused as NoLanding, Leaf as LandingAt}
-use Rattle.descent.specs.declared.Turn.{Turn}
-use Rattle.descent.specs.declared.Turn.the-variants.{Refused as NoTurn, Leaf as TurnLeaf, Down as TurnDown}
+use Rattle.descent.specs.declared.Position.{Position}
+use Rattle.descent.specs.declared.Look.the-variants.{Inner as IsInner}
+use Rattle.descent.specs.declared.End.the-variants.{Refused as EndRefused, Leaf as EndLeaf}
 use Rattle.state.specs.declared.Doing.{Doing}
 use Rattle.state.specs.declared.Doing.the-variants.{Inserting, Deleting}
-use Rattle.state.specs.declared.Task.{Task}
 use Rattle.state.specs.declared.Answer.the-variants.{Refused}
+use Rattle.state.specs.declared.Task.{Task}
 use Rattle.state.proofs.Tasks.{TaskOf, putting, taking, put, taken, opened}
 
 -- a leaf without an empty slot has eleven pairs
@@ -44,65 +45,56 @@ pub record Landed (n m link : ℕ) : Type 0 where
   pub inside : Inside n m
   pub linked : link < 2 ^ 32
 
+-- a landing is at the leaf of the way
+pub record LeafOn (w : Way) (card : List ℕ) (m link run : ℕ) : Type 0 where
+  pub position : Position
+  pub on-way : w .leaf ≡ some position
+  pub node-is : position .node ≡ m
+  pub link-is : position .link ≡ link
+  pub run-is : runOver card 0 (w .inner) ≡ run
+
+pub leaf-on : (card : List ℕ) (w : Way) (m link run : ℕ) → landingOf card w ≡ LandingAt m link run → LeafOn w card m link run
+unfolding landingOf landedAt
+leaf-on card w m link run e = go (w .leaf) refl e
+  where
+    go : (l : Option Position) → w .leaf ≡ l → landedAt (runOver card 0 (w .inner)) l ≡ LandingAt m link run → LeafOn w card m link run
+    go none f z = impossible (cc)
+    go (some p) f z = record { position = p; on-way = f; node-is = cc; link-is = cc; run-is = cc }
+
+module _ (card : List ℕ) (n key : ℕ) where
+  -- what the walk to a leaf tells of the landing
+  pub land-refused : endOf card false (way card n key) ≡ EndRefused → landing card n key ≡ NoLanding
+  unfolding landing landingOf landedAt
+  land-refused e = ap (landedAt _) (unsought-refused card (way card n key) e)
+
+  pub land-leaf : (p : Position) → endOf card false (way card n key) ≡ EndLeaf p → landing card n key ≡ LandingAt (p .node) (p .link) (runOver card 0 (way card n key .inner))
+  unfolding landing landingOf landedAt
+  land-leaf p e = ap (landedAt _) (unsought-leaf card (way card n key) p e)
+
 module _ (card : List ℕ) (n key m link run : ℕ) (fits : Sized (length card) n) where
-  landing-linked : (levels from above at : ℕ) → from < 2 ^ 32 → landingFor card n key levels from above at ≡ LandingAt m link run → link < 2 ^ 32
-  unfolding landingFor onTurnLanding
-  landing-linked zero from above at f e = go (turnAt card n key at) e
-    where
-      go : (t : Turn) → onTurnLanding at from above (λ child. NoLanding) t ≡ LandingAt m link run → link < 2 ^ 32
-      go NoTurn r = impossible (cc)
-      go TurnLeaf r = let z : from ≡ link = cc in rw z at f
-      go (TurnDown child) r = impossible (cc)
-  landing-linked (suc levels) from above at f e =
-      go (λ child below. landing-linked levels (place at (12 + childIndex (nodeAt card at) key)) (runBelow (length (children (nodeAt card at))) above) child below) (turnAt card n key at) refl e
-    where
-      go : ((child : ℕ) → place at (12 + childIndex (nodeAt card at) key) < 2 ^ 32
-          → landingFor card n key levels (place at (12 + childIndex (nodeAt card at) key)) (runBelow (length (children (nodeAt card at))) above) child ≡ LandingAt m link run → link < 2 ^ 32)
-          → (t : Turn) → turnAt card n key at ≡ t
-          → onTurnLanding at from above (landingFor card n key levels (place at (12 + childIndex (nodeAt card at) key)) (runBelow (length (children (nodeAt card at))) above)) t ≡ LandingAt m link run → link < 2 ^ 32
-      go next NoTurn q r = impossible (cc)
-      go next TurnLeaf q r = let z : from ≡ link = cc in rw z at f
-      go next (TurnDown child) q r =
-          let i = turn-inside card n key at child q in
-          let w : length (nodeAt card at) ≡ 24 = length-node card at (i .0) (omega (arith, i .1, fits .words)) in
-          next child (omega (arith, i .0, i .1, fits .most, index-le (nodeAt card at) key w)) r
+  child-linked : (q : Position) → q .link < 2 ^ 32 → lookAt card n (q .node) ≡ IsInner → 0 < length (children (nodeAt card (q .node))) → childPosition (nodeAt card (q .node)) key q .link < 2 ^ 32
+  unfolding childPosition
+  child-linked q l e h =
+      let on = inner-inside card n (q .node) e in
+      let w : length (nodeAt card (q .node)) ≡ 24 = length-node card (q .node) (on .one) (omega (arith, on .most, fits .words)) in
+      omega (arith, on .one, on .most, fits .most, index-le (nodeAt card (q .node)) key w)
 
   pub landed : landing card n key ≡ LandingAt m link run → Landed n m link
-  unfolding landing
+  unfolding landing way rootPosition
   landed e =
-      record {
-        inside = landing-inside card n key m link run depthLimit rootPlace 0 (getD card rootPlace 0) e;
-        linked = landing-linked depthLimit rootPlace 0 (getD card rootPlace 0) (omega arith) e;
-      }
-
--- each level passed adds at most one to the run of 11-child nodes above
-run-short : (width above : ℕ) → runBelow width above ≤ suc above
-unfolding runBelow
-run-short width above = bool-cases (eqb width 11) (λ yes. rw yes (omega arith)) (λ no. rw no (omega arith))
+      let f = leaf-on card (way card n key) m link run e in
+      let a = along card n (λ q. q .link < 2 ^ 32) key child-linked depthLimit (rootPosition (getD card rootPlace 0)) (omega arith) in
+      let on = a .leaf (f .position) (f .on-way) in
+      record { inside = rw (f .node-is) at (leaf-inside card n (f .position .node) (on .1)); linked = rw (f .link-is) at (on .0) }
 
 module _ (card : List ℕ) (n key m link run : ℕ) where
-  landing-run : (levels from above at : ℕ) → landingFor card n key levels from above at ≡ LandingAt m link run → run ≤ above + levels
-  unfolding landingFor onTurnLanding
-  landing-run zero from above at e = go (turnAt card n key at) e
-    where
-      go : (t : Turn) → onTurnLanding at from above (λ child. NoLanding) t ≡ LandingAt m link run → run ≤ above + 0
-      go NoTurn r = let z : _≡_ {A = ℕ} 0 1 = cc in absurd (omega arith)
-      go TurnLeaf r = let z : above ≡ run = cc in omega arith
-      go (TurnDown child) r = let z : _≡_ {A = ℕ} 0 1 = cc in absurd (omega arith)
-  landing-run (suc levels) from above at e = go (landing-run levels (place at (12 + childIndex (nodeAt card at) key)) (runBelow (length (children (nodeAt card at))) above)) (turnAt card n key at) e
-    where
-      go : ((child : ℕ) → landingFor card n key levels (place at (12 + childIndex (nodeAt card at) key)) (runBelow (length (children (nodeAt card at))) above) child ≡ LandingAt m link run
-          → run ≤ runBelow (length (children (nodeAt card at))) above + levels)
-          → (t : Turn)
-          → onTurnLanding at from above (landingFor card n key levels (place at (12 + childIndex (nodeAt card at) key)) (runBelow (length (children (nodeAt card at))) above)) t ≡ LandingAt m link run → run ≤ above + suc levels
-      go next NoTurn r = let z : _≡_ {A = ℕ} 0 1 = cc in absurd (omega arith)
-      go next TurnLeaf r = let z : above ≡ run = cc in omega arith
-      go next (TurnDown child) r = omega (arith, next child r, run-short (length (children (nodeAt card at))) above)
-
   -- the run above a leaf is no longer than the way to it
   pub landed-run : landing card n key ≡ LandingAt m link run → run ≤ depthLimit
-  unfolding landing
-  landed-run e = omega (arith, landing-run depthLimit rootPlace 0 (getD card rootPlace 0) e)
+  unfolding landing way
+  landed-run e =
+      let f = leaf-on card (way card n key) m link run e in
+      let a = along card n (λ q. Unit {0}) key (λ q l z h. tt) depthLimit (rootPosition (getD card rootPlace 0)) tt in
+      omega (arith, f .run-is, run-over-le card 0 (way card n key .inner), a .short (f .position) (f .on-way))
 
 -- the final answer of a first change is no refusal
 insert-final-in : (key value : ℕ) (free : List Bool) (last m link : ℕ) (node : List ℕ) (r : Reason) (n : ℕ) → insertChange key value free last m link node r .final ≡ Refused n → ⊥

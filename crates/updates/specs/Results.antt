@@ -8,6 +8,10 @@ use Rattle.plans.specs.Planning.{Preparation, refused, balanced, prepared}
 use Rattle.state.specs.Results.{more}
 use Rattle.updates.specs.Updates.{FirstChange}
 use Rattle.updates.specs.declared.First.{First}
+use Rattle.updates.specs.declared.Arrival.{Arrival}
+use Rattle.updates.specs.declared.Arrival.the-variants.{Refused, Leaf}
+use Rattle.descent.specs.declared.Landing.{Landing}
+use Rattle.descent.specs.declared.Landing.the-variants.{Refused as NoLanding, Leaf as LandingAt}
 
 -- the next change, its stores being in the rows that the step lends
 unfoldable pub firstOf : List ℕ → List ℕ → First → FirstChange
@@ -22,3 +26,8 @@ unfoldable pub Storing : Preparation → Type 0
 Storing refused = Unit {0}
 Storing balanced = Unit {0}
 Storing (prepared stores free last cut) = more stores ≡ true
+
+-- where the way of an update's key ends: at the landing, whatever the 11-child nodes above it
+unfoldable pub Arrives : Arrival → Landing → Type 0
+Arrives Refused l = l ≡ NoLanding
+Arrives (Leaf node link) l = (run : ℕ) × (l ≡ LandingAt node link run)

@@ -5,9 +5,9 @@ use Prim.Native.Nat.{ℕ, _+_}
 use lib.ListN.{getD}
 use lib.Dec.{ltb}
 use Rattle.laws.specs.Sorting.{sort}
-use Rattle.card.specs.Layout.{rootPlace, depthLimit, place, nodeAt, leafPairs}
+use Rattle.card.specs.Layout.{place, nodeAt, leafPairs}
 use Rattle.free_nodes.specs.NodeSet.{countTrue}
-use Rattle.descent.specs.Descent.{slotOf, landingFor}
+use Rattle.descent.specs.Descent.{slotOf, way, landingOf}
 use Rattle.descent.specs.declared.Slot.{Slot}
 use Rattle.descent.specs.declared.Slot.the-variants.{At, Absent as NoSlot}
 use Rattle.descent.specs.declared.Landing.{Landing}
@@ -24,7 +24,7 @@ use Rattle.state.specs.declared.Answer.the-variants.{Absent, Value}
 
 -- the leaf that a key leads to
 unfoldable pub landing : List ℕ → ℕ → ℕ → Landing
-landing card n key = landingFor card n key depthLimit rootPlace 0 (getD card rootPlace 0)
+landing card n key = landingOf card (way card n key)
 
 -- What an insert finds in its leaf: the key with its value, an empty slot ("the lowest empty slot"), or neither.
 pub data Reason : Type 0 where

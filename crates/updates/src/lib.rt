@@ -1,5 +1,5 @@
 // "Insert" and "Delete" of document 01, "The changes": the next change of a task.
-use descent::Landing;
+use descent::End;
 use descent::Slot;
 use free_nodes::NodeSet;
 use plans::Planned;
@@ -16,8 +16,8 @@ ghost use Rattle.card.specs.Header.{Sized};
 ghost use Rattle.free_nodes.specs.NodeSet.{nodesOf};
 ghost use Rattle.descent.specs.Descent.{slotOf};
 ghost use Rattle.state.specs.declared.Task.the-variants.{PutIn, TakeOut, Repair};
-ghost use Rattle.updates.specs.Updates.{emptyReason, insertReason, insertChange, deleteChange, noWay, nextChange};
-ghost use Rattle.updates.specs.Results.{firstOf, InAnyRows};
+ghost use Rattle.updates.specs.Updates.{landing, emptyReason, insertReason, insertChange, deleteChange, noWay, nextChange};
+ghost use Rattle.updates.specs.Results.{firstOf, InAnyRows, Arrives};
 
 // "A splitting insert needs j + 5 free nodes": those that it needs beyond j. The only place in code where the number stands.
 pub const SPLIT_NEED: usize = 5;
@@ -159,6 +159,27 @@ fn no_way(doing: Doing, free: NodeSet, last: usize) -> First
     }
 }
 
+// Where the way of an update's key ends: refusal 9, or its leaf and the word that links to it.
+pub enum Arrival {
+    Refused,
+    Leaf { node: usize, link: usize },
+}
+
+// The leaf that an update's key leads to. The walk is asked for no violation, so it stops at none.
+fn arrive(card: &[u32], n: usize, key: u32) -> Arrival
+    requires { ⌜ Sized (length (now card)) n ⌝ }
+    ensures { λ r. ⌜ Arrives r (landing (now (card .entry)) n key) ⌝ }
+{
+    match descent::descend(card, n, key, card[card::ROOT_PLACE] as usize, false) {
+        End::Refused => Arrival::Refused,
+        End::Fault(_) => Arrival::Refused,
+        End::Leaf(p) => Arrival::Leaf {
+            node: p.node,
+            link: p.link,
+        },
+    }
+}
+
 // The first change of an insert, in the leaf that its key leads to.
 fn put_in(
     card: &[u32],
@@ -174,9 +195,9 @@ fn put_in(
     requires { ⌜ Sized (length (now card)) n × (length (now places) ≡ 73) × (length (now values) ≡ 73) ⌝ }
     ensures { λ r. ⌜ firstOf (now (places .exit)) (now (values .exit)) r ≡ nextChange (now (card .entry)) n (nodesOf (free .words)) last doing (PutIn key value) ⌝ }
 {
-    match descent::find_landing(card, n, key, card[card::ROOT_PLACE] as usize) {
-        Landing::Refused => no_way(doing, free, last),
-        Landing::Leaf { node, link, run: _ } => insert_in(
+    match arrive(card, n, key) {
+        Arrival::Refused => no_way(doing, free, last),
+        Arrival::Leaf { node, link } => insert_in(
             card::node_at(card, node),
             node,
             link,
@@ -204,13 +225,9 @@ fn take_out(
     requires { ⌜ Sized (length (now card)) n × (length (now places) ≡ 73) × (length (now values) ≡ 73) ⌝ }
     ensures { λ r. ⌜ firstOf (now (places .exit)) (now (values .exit)) r ≡ nextChange (now (card .entry)) n (nodesOf (free .words)) last doing (TakeOut key) ⌝ }
 {
-    match descent::find_landing(card, n, key, card[card::ROOT_PLACE] as usize) {
-        Landing::Refused => no_way(doing, free, last),
-        Landing::Leaf {
-            node,
-            link: _,
-            run: _,
-        } => delete_in(
+    match arrive(card, n, key) {
+        Arrival::Refused => no_way(doing, free, last),
+        Arrival::Leaf { node, link: _ } => delete_in(
             card::node_at(card, node),
             node,
             key,

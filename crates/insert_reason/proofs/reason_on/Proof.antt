@@ -10,6 +10,7 @@ use Rattle.card.proofs.HeaderLaws.{sized}
 use Rattle.card.proofs.NodeLaws.{length-node}
 use Rattle.free_nodes.specs.NodeSet.{nodesOf, countTrue}
 use Rattle.updates.proofs.UpdateLaws.{Landed, landed, landed-run}
+use Rattle.descent.specs.Descent.{way}
 use Rattle.updates.specs.Updates.{landing, insertReason}
 use Rattle.insert_reason.specs.InsertReason.{reasonFor, reasonLanded}
 use Rattle.insert_reason.proofs.InsertReasonLaws.{on-no-length, on-no-key, on-key}
@@ -21,12 +22,12 @@ whole : (c : tie.Else1) → Sized (length (c .before .before .before .args .card
 whole c = sized (c .before .before .before .args .card .now) (c .before .nodes-of .result) (c .before .nodes-of .ensures) (c .if1 .left)
 
 leaf : (c : tie.After-node) → Landed (c .before .before .before .before .before .before .nodes-of .result) (c .node .given .0 .0) (c .node .given .0 .1 .0)
-unfolding landing
+unfolding landing way
 leaf c = landed (c .before .before .before .before .before .before .before .before .args .card .now) (c .before .before .before .before .before .before .nodes-of .result) (c .before .before .before .before .before .before .before .before .args .key) (c .node .given .0 .0) (c .node .given .0 .1 .0) (c .node .given .0 .1 .1 .0) (whole (c .before .before .before .before .before)) (sym (c .before .before .find-landing .ensures) ∙ c .node .given .1)
 
 -- the run above the leaf
 few : (c : tie.After-node) → c .node .given .0 .1 .1 .0 ≤ depthLimit
-unfolding landing
+unfolding landing way
 few c =
     let s = c .before .before .before .before .before .before .before .before in
     landed-run (s .args .card .now) (c .before .before .before .before .before .before .nodes-of .result) (s .args .key) (c .node .given .0 .0) (c .node .given .0 .1 .0) (c .node .given .0 .1 .1 .0) (sym (c .before .before .find-landing .ensures) ∙ c .node .given .1)
@@ -66,14 +67,14 @@ reason-in-requires c κs =
     (ap length (c .node-at .ensures) ∙ length-node (s .args .card .now) (c .before .before .node .given .0 .0) (k .inside .one) (omega (arith, k .inside .most, h .words)), few (c .before .before))
 
 returns-3 : tie.Need-returns-3
-unfolding landing reasonLanded
+unfolding landing way reasonLanded
 returns-3 c =
     sym
     (on-key (c .before .before .before .before .before .before .before .before .args .card .now) (nodesOf (c .before .before .before .before .before .before .before .before .args .free .words)) (c .before .before .before .before .before .before .before .before .args .key) (c .before .before .before .before .before .before .nodes-of .result) (c .before .before .before .before .before .before .nodes-of .ensures) (c .before .before .before .before .before .if1 .left) (c .before .before .before .before .if2 .left)
     ∙ ap (reasonLanded (c .before .before .before .before .before .before .before .before .args .card .now) (nodesOf (c .before .before .before .before .before .before .before .before .args .free .words)) (c .before .before .before .before .before .before .before .before .args .key)) (sym (c .before .before .find-landing .ensures) ∙ c .enum-told .given .1))
 
 returns-4 : tie.Need-returns-4
-unfolding landing reasonLanded
+unfolding landing way reasonLanded
 returns-4 c =
     c .reason-in .ensures
     ∙ ap (λ (x : List ℕ). reasonFor (insertReason x (c .before .before .before .before .before .before .before .before .before .before .before .args .key)) (c .before .before .before .node .given .0 .1 .1 .0) (countTrue (nodesOf (c .before .before .before .before .before .before .before .before .before .before .before .args .free .words)))) (c .before .node-at .ensures)

@@ -1,11 +1,10 @@
 -- `lookup::find` meets its contract.
 use mathlib.Core.Path.{ap, sym, _∙_}
 use Prim.Native.Nat.{ℕ}
-use lib.ListN.{length, getD}
+use lib.ListN.{length}
 use Rattle.card.specs.Header.{Sized}
 use Rattle.card.proofs.HeaderLaws.{sized, card-sized}
-use Rattle.card.specs.Layout.{depthLimit, rootPlace}
-use Rattle.descent.specs.Descent.{leafFor}
+use Rattle.descent.specs.Descent.{way, leafOf}
 use Rattle.lookup.proofs.FindLaws.{find-refused, find-no-key, find-key}
 use Rattle.lookup.specs.Find.{foundAt}
 use Rattle.lookup.specs.declared.Found.the-variants.{Refused as FoundRefused}
@@ -33,7 +32,7 @@ found-at-requires c κs = let k = whole c in (k .words, k .most)
 
 returns-3 : tie.Need-returns-3
 returns-3 c =
-    c .found-at .ensures ∙ ap (λ (n : ℕ). foundAt (c .before .before .before .before .before .before .args .card .now) (c .before .before .before .before .before .before .args .key) (leafFor (c .before .before .before .before .before .before .args .card .now) n (c .before .before .before .before .before .before .args .key) depthLimit (getD (c .before .before .before .before .before .before .args .card .now) rootPlace 0))) (c .before .nodes-of .ensures)
+    c .found-at .ensures ∙ ap (λ (n : ℕ). foundAt (c .before .before .before .before .before .before .args .card .now) (c .before .before .before .before .before .before .args .key) (leafOf (way (c .before .before .before .before .before .before .args .card .now) n (c .before .before .before .before .before .before .args .key)))) (c .before .nodes-of .ensures)
     ∙ sym (find-key _ _ (sym (c .before .before .before .before .card-refusal .ensures) ∙ c .before .before .before .if1 .left) (c .before .before .if2 .left))
 
 pub find-spec : {M : Type 1} → statement M

@@ -6,15 +6,16 @@ use native.Mathlib.Omega.{arith}
 use lib.ListN.{length, getD}
 use Rattle.card.specs.Layout.{depthLimit, rootPlace}
 use Rattle.card.proofs.NodeLaws.{length-node}
-use Rattle.descent.specs.Descent.{slotOf}
-use Rattle.descent.proofs.Inside.{Inside, leaf-inside}
+use Rattle.descent.specs.Descent.{slotOf, rootPosition, way}
+use Rattle.descent.proofs.Along.{reached-inside}
+use Rattle.descent.proofs.DescentLaws.{Inside}
 use Rattle.lookup.specs.Find.{foundIn, foundAt}
 use borrow.Author.Needs.{needs}
 use Rattle.lookup.proofs.found_at.Statement.{statement}
 use Rattle.lookup.proofs.found_at.Tie as tie
 
 leaf : (c : tie.After-node) → Inside (c .before .before .before .before .before .args .n) (c .node .given .0 .0)
-leaf c = leaf-inside (c .before .before .before .before .before .args .card .now) (c .before .before .before .before .before .args .n) (c .before .before .before .before .before .args .key) (c .node .given .0 .0) (c .node .given .0 .1 .0) depthLimit (getD (c .before .before .before .before .before .args .card .now) rootPlace 0) (sym (c .before .before .find-leaf .ensures) ∙ c .node .given .1)
+leaf c = reached-inside (c .before .before .before .before .before .args .card .now) (c .before .before .before .before .before .args .n) (c .before .before .before .before .before .args .key) depthLimit (rootPosition (getD (c .before .before .before .before .before .args .card .now) rootPlace 0)) (c .node .given .0 .0) (c .node .given .0 .1 .0) (sym (c .before .before .find-leaf .ensures) ∙ c .node .given .1)
 
 shared-slice-read-find-leaf : tie.Need-shared-slice-read-find-leaf
 shared-slice-read-find-leaf c = search needs
@@ -38,11 +39,11 @@ found-in-requires : tie.Need-found-in-requires
 found-in-requires c κs = let k = leaf (c .before .before) in ap length (c .node-at .ensures) ∙ length-node (c .before .before .before .before .before .before .before .args .card .now) (c .before .before .node .given .0 .0) (k .one) (omega (arith, k .most))
 
 returns : tie.Need-returns
-unfolding foundAt
+unfolding foundAt way
 returns c = ap (foundAt (c .before .before .before .before .before .args .card .now) (c .before .before .before .before .before .args .key)) (sym (sym (c .before .before .find-leaf .ensures) ∙ c .enum-told .given .1))
 
 returns-2 : tie.Need-returns-2
-unfolding foundAt
+unfolding foundAt way
 returns-2 c =
     let s = c .before .before .before .before .before .before .before .before in
     c .found-in .ensures ∙ ap (λ (x : List ℕ). foundIn x (slotOf x (s .args .key))) (c .before .node-at .ensures)

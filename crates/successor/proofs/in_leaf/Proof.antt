@@ -7,14 +7,16 @@ use lib.ListN.{length, getD}
 use Rattle.card.specs.Header.{Sized}
 use Rattle.card.specs.Layout.{depthLimit, rootPlace, leafPairs}
 use Rattle.card.proofs.NodeLaws.{length-node}
-use Rattle.descent.proofs.Inside.{Inside, leaf-inside}
+use Rattle.descent.specs.Descent.{rootPosition, way}
+use Rattle.descent.proofs.Along.{reached-inside}
+use Rattle.descent.proofs.DescentLaws.{Inside}
 use Rattle.successor.specs.Successor.{leastAbove, found, inLeaf}
 use borrow.Author.Needs.{needs}
 use Rattle.successor.proofs.in_leaf.Statement.{statement}
 use Rattle.successor.proofs.in_leaf.Tie as tie
 
 leaf : (c : tie.After-node) → Inside (c .before .before .before .before .before .args .n) (c .node .given .0 .0)
-leaf c = leaf-inside (c .before .before .before .before .before .args .card .now) (c .before .before .before .before .before .args .n) (c .before .before .before .before .before .args .key) (c .node .given .0 .0) (c .node .given .0 .1 .0) depthLimit (getD (c .before .before .before .before .before .args .card .now) rootPlace 0) (sym (c .before .before .find-leaf .ensures) ∙ c .node .given .1)
+leaf c = reached-inside (c .before .before .before .before .before .args .card .now) (c .before .before .before .before .before .args .n) (c .before .before .before .before .before .args .key) depthLimit (rootPosition (getD (c .before .before .before .before .before .args .card .now) rootPlace 0)) (c .node .given .0 .0) (c .node .given .0 .1 .0) (sym (c .before .before .find-leaf .ensures) ∙ c .node .given .1)
 
 shared-slice-read-find-leaf : tie.Need-shared-slice-read-find-leaf
 shared-slice-read-find-leaf c = search needs
@@ -44,11 +46,11 @@ found-requires : tie.Need-found-requires
 found-requires c κs = search needs
 
 returns : tie.Need-returns
-unfolding inLeaf
+unfolding inLeaf way
 returns c = ap (inLeaf (c .before .before .before .before .before .args .card .now) (c .before .before .before .before .before .args .after)) (sym (sym (c .before .before .find-leaf .ensures) ∙ c .enum-told .given .1))
 
 returns-2 : tie.Need-returns-2
-unfolding inLeaf
+unfolding inLeaf way
 returns-2 c =
     c .found .ensures
     ∙ ap found (c .before .least-above .ensures ∙ ap (λ (x : List ℕ). leastAbove (c .before .before .before .before .before .before .before .before .before .args .after) (leafPairs x)) (c .before .before .node-at .ensures))

@@ -3,6 +3,7 @@ use mathlib.Core.Path.{ap, sym, _∙_}
 use native.Mathlib.Omega.{arith}
 use Rattle.successor.specs.Successor.{inNextLeaf}
 use Rattle.successor.proofs.SuccessorLaws.{next-none, next-there}
+use Rattle.descent.specs.Descent.{way}
 use borrow.Author.Needs.{needs}
 use Rattle.successor.proofs.in_next_leaf.Statement.{statement}
 use Rattle.successor.proofs.in_next_leaf.Tie as tie
@@ -17,6 +18,7 @@ range-end-requires : tie.Need-range-end-requires
 range-end-requires c κs = search needs
 
 returns : tie.Need-returns
+unfolding way
 returns c = sym (next-none (c .before .before .before .before .args .card .now) (c .before .before .before .before .args .n) (c .before .before .before .before .args .after) _ (sym (c .before .range-end .ensures .0) ∙ c .if1 .taken))
 
 cast-in-leaf : tie.Need-cast-in-leaf
@@ -26,6 +28,7 @@ in-leaf-requires : tie.Need-in-leaf-requires
 in-leaf-requires c κs = search needs
 
 returns-2 : tie.Need-returns-2
+unfolding way
 returns-2 c =
     c .in-leaf .ensures
     ∙ sym (next-there (c .before .before .before .before .before .args .card .now) (c .before .before .before .before .before .args .n) (c .before .before .before .before .before .args .after) (c .before .before .range-end .result) (c .before .if1 .left))

@@ -1,5 +1,5 @@
 -- `updates::put_in` meets its contract.
-use mathlib.Core.Path.{ap, sym, _∙_}
+use mathlib.Core.Path.{_≡_, ap, sym, _∙_, subst}
 use mathlib.Core.List.{List}
 use Prim.Native.Nat.{ℕ}
 use native.Mathlib.Omega.{arith}
@@ -7,6 +7,10 @@ use lib.ListN.{length}
 use Rattle.card.proofs.NodeLaws.{length-node}
 use Rattle.updates.specs.Updates.{landing, FirstChange, insertIn, nextChange}
 use Rattle.free_nodes.specs.NodeSet.{nodesOf}
+use Rattle.descent.specs.declared.Landing.the-variants.{Refused as NoLanding, Leaf as LandingAt}
+use Rattle.updates.specs.Results.{Arrives}
+use Rattle.updates.specs.declared.Arrival.{Arrival}
+use Rattle.updates.specs.declared.Arrival.the-variants.{Leaf as ArrivesAt}
 use Rattle.updates.proofs.UpdateLaws.{Landed, landed, no-way, in-leaf}
 use borrow.Author.Needs.{needs}
 use Rattle.updates.proofs.put_in.Statement.{statement}
@@ -16,18 +20,19 @@ use Rattle.updates.proofs.put_in.Tie as tie
 abbrev due : tie.Start → ℕ → ℕ → List ℕ → FirstChange
 due s = insertIn (s .args .key) (s .args .value) (nodesOf (s .args .free .words)) (s .args .last)
 
-leaf : (c : tie.After-node) → Landed (c .before .before .before .before .before .before .before .args .n) (c .node .given .0 .0) (c .node .given .0 .1 .0)
-unfolding landing
-leaf c = landed (c .before .before .before .before .before .before .before .args .card .now) (c .before .before .before .before .before .before .before .args .n) (c .before .before .before .before .before .before .before .args .key) (c .node .given .0 .0) (c .node .given .0 .1 .0) (c .node .given .0 .1 .1 .0) (c .before .before .before .before .before .before .before .pre .0) (sym (c .before .before .find-landing .ensures) ∙ c .node .given .1)
+-- where the key leads to
+lands : (c : tie.After-node) → Arrives (ArrivesAt (c .node .given .0 .0) (c .node .given .0 .1 .0)) (landing (c .before .before .before .before .before .before .args .card .now) (c .before .before .before .before .before .before .args .n) (c .before .before .before .before .before .before .args .key))
+lands c = subst (λ (r : Arrival). Arrives r (landing (c .before .before .before .before .before .before .args .card .now) (c .before .before .before .before .before .before .args .n) (c .before .before .before .before .before .before .args .key))) (c .node .given .1) (c .before .before .arrive .ensures)
 
-shared-slice-read-find-landing : tie.Need-shared-slice-read-find-landing
-shared-slice-read-find-landing c = search needs
+at : (c : tie.After-node) → (run : ℕ) × (landing (c .before .before .before .before .before .before .args .card .now) (c .before .before .before .before .before .before .args .n) (c .before .before .before .before .before .before .args .key) ≡ LandingAt (c .node .given .0 .0) (c .node .given .0 .1 .0) run)
+unfolding Arrives
+at c = lands (c)
 
-cast-find-landing : tie.Need-cast-find-landing
-cast-find-landing c = omega (arith, c .shared-slice-known2 .given 4)
+leaf : (c : tie.After-node) → Landed (c .before .before .before .before .before .before .args .n) (c .node .given .0 .0) (c .node .given .0 .1 .0)
+leaf c = landed (c .before .before .before .before .before .before .args .card .now) (c .before .before .before .before .before .before .args .n) (c .before .before .before .before .before .before .args .key) _ _ (at (c) .0) (c .before .before .before .before .before .before .pre .0) (at (c) .1)
 
-find-landing-requires : tie.Need-find-landing-requires
-find-landing-requires c κs = search needs
+arrive-requires : tie.Need-arrive-requires
+arrive-requires c κs = search needs
 
 enum-told : tie.Need-enum-told
 enum-told c = search needs
@@ -39,17 +44,21 @@ enum-known-node : tie.Need-enum-known-node
 enum-known-node c = search needs
 
 node-at-requires : tie.Need-node-at-requires
-node-at-requires c κs = let k = leaf (c .before) in let z = c .before .before .before .before .before .before .before .before .pre .0 in (k .inside .one, omega (arith, k .inside .most, z .most), omega (arith, k .inside .most, z .words))
+node-at-requires c κs = let k = leaf (c .before) in let z = c .before .before .before .before .before .before .before .pre .0 in (k .inside .one, omega (arith, k .inside .most, z .most), omega (arith, k .inside .most, z .words))
 
 insert-in-requires : tie.Need-insert-in-requires
 insert-in-requires c κs =
     let k = leaf (c .before .before .before .before) in
-    let z = c .before .before .before .before .before .before .before .before .before .before .before .pre .0 in
-    (ap length (c .before .before .node-at .ensures) ∙ length-node (c .before .before .before .before .before .before .before .before .before .before .before .args .card .now) (c .before .before .before .before .node .given .0 .0) (k .inside .one) (omega (arith, k .inside .most, z .words)), k .inside .one, omega (arith, k .inside .most, z .most), k .linked, search needs, search needs)
+    let z = c .before .before .before .before .before .before .before .before .before .before .pre .0 in
+    (ap length (c .before .before .node-at .ensures) ∙ length-node (c .before .before .before .before .before .before .before .before .before .before .args .card .now) (c .before .before .before .before .node .given .0 .0) (k .inside .one) (omega (arith, k .inside .most, z .words)), k .inside .one, omega (arith, k .inside .most, z .most), k .linked, search needs, search needs)
+
+nowhere : (c : tie.After-no-way) → landing (c .before .before .before .before .before .before .before .args .card .now) (c .before .before .before .before .before .before .before .args .n) (c .before .before .before .before .before .before .before .args .key) ≡ NoLanding
+unfolding Arrives
+nowhere c = subst (λ (r : Arrival). Arrives r (landing (c .before .before .before .before .before .before .before .args .card .now) (c .before .before .before .before .before .before .before .args .n) (c .before .before .before .before .before .before .before .args .key))) (c .before .enum-told .given .1) (c .before .before .before .arrive .ensures)
 
 returns : tie.Need-returns
-unfolding nextChange landing
-returns c = let s = c .before .before .before .before .before .before .before .before in c .no-way .ensures _ _ ∙ sym (no-way (s .args .card .now) (s .args .doing) (due s) (sym (c .before .before .before .find-landing .ensures) ∙ c .before .enum-told .given .1))
+unfolding nextChange
+returns c = let s = c .before .before .before .before .before .before .before in c .no-way .ensures _ _ ∙ sym (no-way (s .args .card .now) (s .args .doing) (due s) (nowhere (c)))
 
 same-length : tie.Need-same-length
 same-length c = search needs
@@ -58,20 +67,18 @@ same-length-2 : tie.Need-same-length-2
 same-length-2 c = search needs
 
 returns-2 : tie.Need-returns-2
-unfolding nextChange landing
+unfolding nextChange
 returns-2 c =
-    let s = c .before .before .before .before .before .before .before .before .before .before .before .before .before .before .before .before in
+    let s = c .before .before .before .before .before .before .before .before .before .before .before .before .before .before .before in
     c .before .before .before .before .insert-in .ensures
     ∙ ap (due s (c .before .before .before .before .before .before .before .before .before .node .given .0 .0) (c .before .before .before .before .before .before .before .before .before .node .given .0 .1 .0)) (c .before .before .before .before .before .before .before .node-at .ensures)
-    ∙ sym (in-leaf (s .args .card .now) (s .args .doing) (due s) (sym (c .before .before .before .before .before .before .before .before .before .before .before .find-landing .ensures) ∙ c .before .before .before .before .before .before .before .before .before .node .given .1))
+    ∙ sym (in-leaf (s .args .card .now) (s .args .doing) (due s) (at (c .before .before .before .before .before .before .before .before .before) .1))
 
 pub put-in-spec : {M : Type 1} → statement M
 put-in-spec =
     tie.close
     (tie.spec
-    shared-slice-read-find-landing
-    cast-find-landing
-    find-landing-requires
+    arrive-requires
     enum-told
     no-way-requires
     enum-known-node
