@@ -14,7 +14,7 @@ use Rattle.demands.specs.W214.{W214}
 use Rattle.demands.proofs.Depths.{w-214 as depths-kept}
 use Rattle.demands.proofs.Fetching.{w-213 as fetching-kept}
 use Rattle.demands.proofs.InsertChecks.{w-209 as reasons-kept}
-use Rattle.demands.proofs.StepRows.{demand-1 as rows-kept}
+use Rattle.demands.proofs.FirstSteps.{demand-1 as rows-kept}
 use Rattle.demands.proofs.Dictionary.{demand-2 as dictionary-kept}
 use Rattle.demands.proofs.PowerCuts.{demand-3 as book-kept}
 use Rattle.demands.proofs.DumpsRight.{dumps-right as dumps-kept}

@@ -4,7 +4,7 @@ pub mod Work
 -- the way down, and the rows 1, 2 and 3
 pub mod WayDown
 pub mod FirstRows
--- DEMAND 1: find, formatting, opening; the starts; the steps, and `demand-1`
+-- DEMAND 1: find, formatting, opening; the starts; the steps
 pub mod CardRows
 pub mod StartRows
 pub mod StepRows
@@ -17,6 +17,8 @@ pub mod SameBook
 pub mod PowerCuts
 -- what the calls plan is by the rules, on any card: the nodes given, where nodes stand, repairs, first changes
 pub mod PlannedNumbers
+-- the first step of an update, and DEMAND 1 whole, `demand-1`
+pub mod FirstSteps
 pub mod Standing
 pub mod PlannedRepairs
 pub mod PlannedUpdates

@@ -3,7 +3,7 @@
 use mathlib.Core.Path.{_≡_, refl, sym, ap, _∙_}
 use mathlib.Core.Bool.{Bool, true, false}
 use mathlib.Core.List.{List, [], _∷_}
-use mathlib.Core.Logic.{inl, inr}
+use mathlib.Core.Logic.{_⊎_, inl, inr}
 use mathlib.Core.Option.{Option, none, some}
 use Prim.Native.Nat.{ℕ, zero, suc, _+_, _-_, _≤_, _<_}
 use native.Mathlib.Omega.{arith}
@@ -63,8 +63,40 @@ next-by-rule free last m e = go (firstFrom free (last + 1)) refl e
     go : (first : Next) → firstFrom free (last + 1) ≡ first → orElse first (firstFrom free 1) ≡ Node m → NextFree free last m
     go (Node k) f g =
         let found : firstFrom free (last + 1) ≡ Node m = f ∙ g in
-        record { is-free = is-free; is-next = inl (omega (arith, from-found free (last + 1) m found .1), λ x a b. from-before free (last + 1) m found x (omega arith) b) }
-    go Nothing f g = record { is-free = is-free; is-next = inr (round f, (λ x a. from-nothing free (last + 1) f x (omega arith)), from-before free 1 m g) }
+        record { is-node = next-found free last m e .1; is-free = is-free; is-next = inl (omega (arith, from-found free (last + 1) m found .1), λ x a b. from-before free (last + 1) m found x (omega arith) b) }
+    go Nothing f g = record { is-node = next-found free last m e .1; is-free = is-free; is-next = inr (round f, (λ x a. from-nothing free (last + 1) f x (omega arith)), from-before free 1 m g) }
+
+-- and no other is: a node free before it would be next
+same-next : (free : List Bool) (last m k : ℕ) → NextFree free last m → NextFree free last k → m ≡ k
+same-next free last m k x y = order m k (λ o. absurd (before m k x y o)) (λ o. order k m (λ o₁. absurd (before k m y x o₁)) (λ o₁. omega arith))
+  where
+    before : (a b : ℕ) → NextFree free last a → NextFree free last b → a < b → ⊥
+    before a b x y o = go (x .is-next) (y .is-next)
+      where
+        never : getD free a false ≡ false → ⊥
+        never z = let t = x .is-free in impossible (cc)
+
+        also : getD free b false ≡ false → ⊥
+        also z = let t = y .is-free in impossible (cc)
+
+        go : ((last < a) × ((i : ℕ) → last < i → i < a → getD free i false ≡ false)) ⊎ ((a ≤ last) × ((i : ℕ) → last < i → getD free i false ≡ false) × ((i : ℕ) → 1 ≤ i → i < a → getD free i false ≡ false))
+            → ((last < b) × ((i : ℕ) → last < i → i < b → getD free i false ≡ false)) ⊎ ((b ≤ last) × ((i : ℕ) → last < i → getD free i false ≡ false) × ((i : ℕ) → 1 ≤ i → i < b → getD free i false ≡ false)) → ⊥
+        go (inl (p, f)) (inl (q, g)) = never (g a p o)
+        go (inl (p, f)) (inr (q, g, h)) = never (g a p)
+        go (inr (p, f, f₁)) (inl (q, g)) = also (f b q)
+        go (inr (p, f, f₁)) (inr (q, g, h)) = never (h a (x .is-node) o)
+
+pub next-only : (free : List Bool) (last m : ℕ) → NextFree free last m → nextFree free last ≡ Node m
+unfolding nextFree orElse
+next-only free last m x = go (nextFree free last) refl
+  where
+    none-free : (first : Next) → orElse first (firstFrom free 1) ≡ Nothing → ⊥
+    none-free (Node k) f = impossible (cc)
+    none-free Nothing f = let a = x .is-free in let b = from-nothing free 1 f m (x .is-node) in impossible (cc)
+
+    go : (found : Next) → nextFree free last ≡ found → nextFree free last ≡ Node m
+    go Nothing f = absurd (none-free (firstFrom free (last + 1)) f)
+    go (Node k) f = f ∙ ap Node (same-next free last k m (next-by-rule free last k f) x)
 
 -- ---- so many of them
 
@@ -90,6 +122,12 @@ numbers-by-rule zero free last ms e = let z : ms ≡ [] = cc in rw z none-given
 numbers-by-rule (suc k) free last ms e =
     let t = taken k free last ms e in
     rw (t .2) (then-given (next-by-rule free last (t .0) (t .3)) (numbers-by-rule k (set free (t .0) false) (t .0) (t .1) (t .4)))
+
+-- those given are those taken
+pub given-taken : {free : List Bool} {last : ℕ} {ms : List ℕ} → Given free last ms → takeNumbers (length ms) free last ≡ some ms
+unfolding takeNumbers numbersFrom
+given-taken none-given = refl
+given-taken {free} {last} (then-given {m = m} x g) = rw (next-only free last m x, given-taken g)
 
 pub numbers-counted : (k : ℕ) (free : List Bool) (last : ℕ) (ms : List ℕ) → takeNumbers k free last ≡ some ms → length ms ≡ k
 unfolding takeNumbers
@@ -135,7 +173,7 @@ two-of : (P : List ℕ → Type 0) → ((a b : ℕ) → P (a ∷ b ∷ [])) → 
 two-of P f [] e = absurd (omega arith)
 two-of P f (a ∷ ms) e = one-of (λ (rest : List ℕ). P (a ∷ rest)) (f a) ms (omega arith)
 
-three-of : (P : List ℕ → Type 0) → ((a b d : ℕ) → P (a ∷ b ∷ d ∷ [])) → (ms : List ℕ) → length ms ≡ 3 → P ms
+pub three-of : (P : List ℕ → Type 0) → ((a b d : ℕ) → P (a ∷ b ∷ d ∷ [])) → (ms : List ℕ) → length ms ≡ 3 → P ms
 three-of P f [] e = absurd (omega arith)
 three-of P f (a ∷ ms) e = two-of (λ (rest : List ℕ). P (a ∷ rest)) (f a) ms (omega arith)
 

@@ -28,11 +28,13 @@ use Rattle.descent.specs.declared.Landing.the-variants.{Refused as NoLanding, L
 use Rattle.descent.specs.declared.Slot.{Slot}
 use Rattle.descent.specs.declared.Slot.the-variants.{At, Absent as NoSlot}
 use Rattle.free_nodes.specs.NodeSet.{countTrue}
-use Rattle.laws.proofs.Cases.{bool-cases, order}
+use Rattle.laws.proofs.Cases.{bool-cases, order, impossible}
 use Rattle.laws.specs.Cases.{pick}
 use Rattle.starting.specs.Starts.{startRefused, started, startLanded, startChecked, startOf, insertOf, deleteOf}
 use Rattle.state.specs.Answers.{startReply}
 use Rattle.state.specs.Memory.{Memory}
+use Rattle.state.specs.declared.Begun.{Begun}
+use Rattle.state.specs.declared.Begun.the-variants.{Started, Refused as BegunRefused}
 use Rattle.state.specs.Steps.{isIdle}
 use Rattle.state.specs.declared.Doing.{Doing}
 use Rattle.state.specs.declared.Doing.the-variants.{Inserting, Deleting}
@@ -92,6 +94,28 @@ module _ (c : List ℕ) (m : Memory) (key : ℕ) (doing : Doing) (room : Landing
               ⊎ ((key ≡ 0 → ⊥) × (((leadsTo c key ≡ none) × HandsBack rationTable m (handed (startOf c m key doing room)) 9) ⊎ ((leadsTo c key ≡ none → ⊥) × ByRows rows (HandsBack rationTable m (handed (startOf c m key doing room))) works)))
           keyed q (yes z) = inl (z, rw (start-passed s f, q, eq-eqb key 0 z) (refused-back 6))
           keyed q (no d) = inr (d, at q d (landing c (m .nodes) key) refl)
+
+-- what a started update is doing
+pub started-doing : (c : List ℕ) (m : Memory) (doing : Doing) (room : Landing → Bool) (key : ℕ) → startOf c m key doing room .begun ≡ Started → startOf c m key doing room .memory .doing ≡ doing
+unfolding startOf startChecked startLanded startRefused started
+started-doing c m doing room key e =
+    bool-cases (eqb (nodesOfLength (length c)) 0) (λ q. absurd (never 1 (rw q at e))) (λ q.
+    bool-cases (eqb (nodesOfLength (length c)) (m .nodes)) (λ q₁.
+    bool-cases (eqb (headerRefusal c (m .nodes)) 0) (λ q₂.
+    bool-cases (isIdle (m .doing)) (λ q₃.
+    bool-cases (eqb key 0) (λ q₄. absurd (never 6 (rw (q, q₁, q₂, q₃, q₄) at e))) (λ q₄. rw (q, q₁, q₂, q₃, q₄) (at (landing c (m .nodes) key) (rw (q, q₁, q₂, q₃, q₄) at e))))
+    (λ q₃. absurd (never 7 (rw (q, q₁, q₂, q₃) at e))))
+    (λ q₂. absurd (never (headerRefusal c (m .nodes)) (rw (q, q₁, q₂) at e))))
+    (λ q₁. absurd (never 1 (rw (q, q₁) at e))))
+  where
+    never : (r : ℕ) → _≡_ {A = Begun} (BegunRefused r) Started → ⊥
+    never r y = impossible (cc)
+
+    at : (l : Landing) → startLanded m doing (room l) l .begun ≡ Started → startLanded m doing (room l) l .memory .doing ≡ doing
+    at NoLanding y = absurd (never 9 y)
+    at (LandingAt node link run) y = bool-cases (room (LandingAt node link run)) (λ k. rw k) (λ k. absurd (never 8 (rw k at y)))
+
+-- an update's first change leaves it begun
 
 pub deletes : (c : List ℕ) (m : Memory) (key : ℕ) → ByRows (deleteRows rationTable c m key) (HandsBack rationTable m (rationTable .delete c m key)) (Starts rationTable m (rationTable .delete c m key) (deleting key))
 unfolding ByRows deleteOf workOf

@@ -12,13 +12,12 @@ use Rattle.card.specs.Header.{nodesOfLength, Sized}
 use Rattle.card.proofs.HeaderLaws.{sized-nodes, formatted-header}
 use Rattle.card.specs.Layout.{nodeAt}
 use Rattle.card.specs.Stores.{Store}
-use Rattle.demands.specs.Demand1.{HandsBack, Stores, StoresNext, Answers, Refuses, Demand1}
+use Rattle.demands.specs.Demand1.{HandsBack, Stores, StoresNext, Answers, Refuses}
 use Rattle.demands.specs.Table.{noWork, formatting, inserting, deleting}
 use Rattle.demands.specs.Refusals.{Rows, ByRows, Idle, NoCard, cardRows, end, row}
 use Rattle.demands.specs.RationTable.{workOf, stepped, rationTable}
 use Rattle.demands.proofs.Work.{IdleOrTask, idle-or-task, work-formatting}
-use Rattle.demands.proofs.CardRows.{finds, formats, opens}
-use Rattle.demands.proofs.StartRows.{not-sized, start-one, refused-back, inserts, deletes}
+use Rattle.demands.proofs.StartRows.{not-sized, start-one, refused-back}
 use Rattle.demands.proofs.FirstRows.{sized?, by-card}
 use Rattle.descent.specs.Descent.{slotOf}
 use Rattle.descent.specs.declared.Landing.{Landing}
@@ -80,23 +79,23 @@ Cases c m s = Stores rationTable c m (stepped s) ⊎ (Answers rationTable c m (s
 abbrev pub FormatCases : List ℕ → Memory → Step → Type 0
 FormatCases c m s = Stores rationTable c m (stepped s) ⊎ Answers rationTable c m (stepped s)
 
-refused-same : (r : ℕ) (c : List ℕ) (m : Memory) → Refuses rationTable c m (stepped (stepRefused r c m)) r
+pub refused-same : (r : ℕ) (c : List ℕ) (m : Memory) → Refuses rationTable c m (stepped (stepRefused r c m)) r
 unfolding stepRefused stepReply
 refused-same r c m = record { number-given = refl; same-card = refl; unchanged = refl }
 
-final-idle : (a : Answer) (c : List ℕ) (m : Memory) → Final a → Answers rationTable c m (stepped (stepFinal a c m))
+pub final-idle : (a : Answer) (c : List ℕ) (m : Memory) → Final a → Answers rationTable c m (stepped (stepFinal a c m))
 unfolding stepFinal idled workOf stepReply
 final-idle a c m (inl e) = record { final = inl (ap stepReply e); same-card = refl; idle-then = refl; all-kept = record { nodes-kept = refl; free-kept = refl; last-kept = refl } }
 final-idle a c m (inr (inl (v, e))) = record { final = inr (inl (v, ap stepReply e)); same-card = refl; idle-then = refl; all-kept = record { nodes-kept = refl; free-kept = refl; last-kept = refl } }
 final-idle a c m (inr (inr e)) = record { final = inr (inr (ap stepReply e)); same-card = refl; idle-then = refl; all-kept = record { nodes-kept = refl; free-kept = refl; last-kept = refl } }
 
 -- a store leaves N and what is being done
-advanced-nodes : (m : Memory) (rest : List Store) → advanced m rest .nodes ≡ m .nodes
+pub advanced-nodes : (m : Memory) (rest : List Store) → advanced m rest .nodes ≡ m .nodes
 unfolding advanced
 advanced-nodes m [] = refl
 advanced-nodes m (s ∷ rest) = refl
 
-advanced-doing : (m : Memory) (rest : List Store) → advanced m rest .doing ≡ m .doing
+pub advanced-doing : (m : Memory) (rest : List Store) → advanced m rest .doing ≡ m .doing
 unfolding advanced
 advanced-doing m [] = refl
 advanced-doing m (s ∷ rest) = refl
@@ -106,12 +105,16 @@ unfolding advanced
 advanced-rest m [] = refl
 advanced-rest m (s ∷ rest) = refl
 
-store-cases : (c : List ℕ) (m : Memory) (s : Store) (next : Memory) → next .nodes ≡ m .nodes → workOf (next .doing) ≡ workOf (m .doing) → Cases c m (stepStore c m s next)
+pub store-inside : (c : List ℕ) (m : Memory) (s : Store) (next : Memory) → next .nodes ≡ m .nodes → workOf (next .doing) ≡ workOf (m .doing) → s .0 < length c → Stores rationTable c m (stepped (stepStore c m s next))
 unfolding stepStore stepReply
-store-cases c m s next en ew =
-    order (s .0) (length c)
-    (λ o. inl (rw (lt-ltb (s .0) (length c) o) (record { reply-given = refl; place = s .0; word = s .1; inside = o; one-store = refl; nodes-kept = en; work-kept = ew })))
-    (λ o. inr (inr (rw (le-ltb (s .0) (length c) o) (refused-same 9 c m))))
+store-inside c m s next en ew o = rw (lt-ltb (s .0) (length c) o) (record { reply-given = refl; place = s .0; word = s .1; inside = o; one-store = refl; nodes-kept = en; work-kept = ew })
+
+pub store-outside : (c : List ℕ) (m : Memory) (s : Store) (next : Memory) → length c ≤ s .0 → Refuses rationTable c m (stepped (stepStore c m s next)) 9
+unfolding stepStore
+store-outside c m s next o = rw (le-ltb (s .0) (length c) o) (refused-same 9 c m)
+
+store-cases : (c : List ℕ) (m : Memory) (s : Store) (next : Memory) → next .nodes ≡ m .nodes → workOf (next .doing) ≡ workOf (m .doing) → Cases c m (stepStore c m s next)
+store-cases c m s next en ew = order (s .0) (length c) (λ o. inl (store-inside c m s next en ew o)) (λ o. inr (inr (store-outside c m s next o)))
 
 prepared-cases : (c : List ℕ) (m : Memory) (doing : Doing) (a : Answer) → workOf doing ≡ workOf (m .doing) → Final a → (p : Preparation) → Cases c m (stepPrepared c m doing a p)
 unfolding stepPrepared planning
@@ -217,7 +220,7 @@ next-cases c m x rest =
     (λ o. inr (λ z. omega (arith, o, z), rw (lt-ltb (x .0) (length c) o) (record { reply-given = refl; one-store = refl; rest-to-come = advanced-rest m rest; nodes-kept = advanced-nodes m rest; work-kept = ap workOf (advanced-doing m rest) })))
     (λ o. inl (o, rw (le-ltb (x .0) (length c) o) (refused-same 9 c m)))
 
-in-hand-rows : (c : List ℕ) (m : Memory) (x : Store) (rest : List Store) → m .rest ≡ x ∷ rest → (workOf (m .doing) ≡ formatting → ⊥)
+pub in-hand-rows : (c : List ℕ) (m : Memory) (x : Store) (rest : List Store) → m .rest ≡ x ∷ rest → (workOf (m .doing) ≡ formatting → ⊥)
     → ByRows (cardRows c (m .nodes) (row 10 (Idle rationTable m) (row 9 (length c ≤ x .0) end))) (Refuses rationTable c m (stepped (stepOf c m))) (StoresNext rationTable c m (stepped (stepOf c m)) x rest)
 unfolding stepTask
 in-hand-rows c m x rest r q = go (idle-or-task (m .doing) q)
@@ -232,7 +235,7 @@ in-hand-rows c m x rest r q = go (idle-or-task (m .doing) q)
 none-sized : (c : List ℕ) (n : ℕ) → n ≡ 0 → NoCard c n
 none-sized c n e s = omega (arith, e, s .least)
 
-none-refused : (c : List ℕ) (m : Memory) → m .nodes ≡ 0 → (key value : ℕ)
+pub none-refused : (c : List ℕ) (m : Memory) → m .nodes ≡ 0 → (key value : ℕ)
     → HandsBack rationTable m (rationTable .insert c m key value) 1 × HandsBack rationTable m (rationTable .delete c m key) 1 × Refuses rationTable c m (rationTable .step c m) 1
 unfolding insertOf deleteOf
 none-refused c m e key value =
@@ -241,7 +244,3 @@ none-refused c m e key value =
       rw (start-one c m key (Deleting key false 0) (λ l. true) p) (refused-back c m key (Deleting key false 0) (λ l. true) 1),
       rw (step-one c m p) (refused-same 1 c m),
     )
-
--- DEMAND 1 of the ration table
-pub demand-1 : Demand1 rationTable
-demand-1 = record { finds = finds; formats = formats; opens = opens; inserts = inserts; deletes = deletes; format-steps = formatting-rows; steps-in-hand = in-hand-rows; steps = held-rows; none-refused = none-refused }

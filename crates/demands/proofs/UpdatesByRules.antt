@@ -8,7 +8,7 @@ use Prim.Native.Nat.{ℕ, suc, _+_, _<_}
 use native.Mathlib.Omega.{arith}
 use lib.Dec.{eqb, ltb}
 use lib.ListN.{length, getD}
-use Rattle.card.specs.Header.{nodesOfLength, headerRefusal, cardRefusal}
+use Rattle.card.specs.Header.{nodesOfLength, cardRefusal}
 use Rattle.card.specs.Layout.{keyLimit, nodeAt}
 use Rattle.card.specs.Replies.{Reply, ready, started}
 use Rattle.card.specs.Stores.{Store}
@@ -21,6 +21,7 @@ use Rattle.demands.proofs.ByRules.{Begun, repairs-by-rules, first-by-ru
 use Rattle.demands.proofs.SameBook.{worldly, same-world, handOf, Flagged, fed-same}
 use Rattle.demands.specs.RationTable.{rationTable}
 use Rattle.demands.proofs.PowerCuts.{Covered, covered-nodes}
+use Rattle.demands.proofs.StartRows.{started-doing}
 use Rattle.demands.proofs.StepRows.{next-final}
 use Rattle.demands.proofs.Making.{Nears}
 use Rattle.demands.proofs.AnswerNumbers.{card-small}
@@ -42,15 +43,13 @@ use Rattle.promises.proofs.Machine.{insert as was-insert, delete as was-delete,
 use Rattle.promises.proofs.PowerLoss.{reopened-inv}
 use Rattle.promises.proofs.Starting.{nodes-same, kept-insert, kept-delete}
 use Rattle.soundness.specs.Check.{Findings, tableCheck}
-use Rattle.starting.specs.Starts.{startRefused, started as startedWith, startLanded, startChecked, startOf, insertOf, deleteOf}
+use Rattle.starting.specs.Starts.{insertOf, deleteOf}
 use Rattle.state.specs.Answers.{stepReply, startReply}
-use Rattle.state.specs.Memory.{Memory, noMemory, resting}
+use Rattle.state.specs.Memory.{noMemory, resting}
 use Rattle.state.specs.Steps.{isIdle, Handed, noBeginning}
 use Rattle.state.specs.declared.Answer.{Answer}
 use Rattle.state.specs.declared.Answer.the-variants.{Ready, Absent, Value}
-use Rattle.state.specs.declared.Begun.{Begun as Beginning}
-use Rattle.state.specs.declared.Begun.the-variants.{Started, Refused as BegunRefused}
-use Rattle.state.specs.declared.Doing.{Doing}
+use Rattle.state.specs.declared.Begun.the-variants.{Started}
 use Rattle.state.specs.declared.Doing.the-variants.{Inserting, Deleting, Repairing}
 use Rattle.table.specs.Calls.{repairSteps}
 use Rattle.tree.specs.Pairs.{lookup}
@@ -144,26 +143,6 @@ module _ (w : World rationTable) (b : Book) (v : Covered w b) where
       )
 
   -- what is planned for a started update
-  started-doing : (m : Memory) (doing : Doing) (room : Landing → Bool) (key : ℕ) → startOf (w .card) m key doing room .begun ≡ Started → startOf (w .card) m key doing room .memory .doing ≡ doing
-  unfolding startOf startChecked startLanded startRefused startedWith
-  started-doing m doing room key e =
-      bool-cases (eqb (nodesOfLength (length (w .card))) 0) (λ q. absurd (never 1 (rw q at e))) (λ q.
-      bool-cases (eqb (nodesOfLength (length (w .card))) (m .nodes)) (λ q₁.
-      bool-cases (eqb (headerRefusal (w .card) (m .nodes)) 0) (λ q₂.
-      bool-cases (isIdle (m .doing)) (λ q₃.
-      bool-cases (eqb key 0) (λ q₄. absurd (never 6 (rw (q, q₁, q₂, q₃, q₄) at e))) (λ q₄. rw (q, q₁, q₂, q₃, q₄) (at (landing (w .card) (m .nodes) key) (rw (q, q₁, q₂, q₃, q₄) at e))))
-      (λ q₃. absurd (never 7 (rw (q, q₁, q₂, q₃) at e))))
-      (λ q₂. absurd (never (headerRefusal (w .card) (m .nodes)) (rw (q, q₁, q₂) at e))))
-      (λ q₁. absurd (never 1 (rw (q, q₁) at e))))
-    where
-      never : (r : ℕ) → _≡_ {A = Beginning} (BegunRefused r) Started → ⊥
-      never r y = impossible (cc)
-
-      at : (l : Landing) → startLanded m doing (room l) l .begun ≡ Started → startLanded m doing (room l) l .memory .doing ≡ doing
-      at NoLanding y = absurd (never 9 y)
-      at (LandingAt node link run) y = bool-cases (room (LandingAt node link run)) (λ k. rw k) (λ k. absurd (never 8 (rw k at y)))
-
-  -- an update's first change leaves it begun
   insert-begun : (key value : ℕ) (free : List Bool) (last m link : ℕ) (words : List ℕ) (r : Reason) → insertChange key value free last m link words r .doing ≡ Inserting key value true
   unfolding insertChange
   insert-begun key value free last m link words (held a) = refl
@@ -214,7 +193,7 @@ module _ (w : World rationTable) (b : Book) (v : Covered w b) where
       let q = insert-nears key value high e in
       let u = q .1 .covered in
       let m = insertOf (w .card) (w .state) key value .memory in
-      let d : m .doing ≡ Inserting key value false = started-doing (w .state) (Inserting key value false) (startRoom (w .card) key (w .state .free)) key e in
+      let d : m .doing ≡ Inserting key value false = started-doing (w .card) (w .state) (Inserting key value false) (startRoom (w .card) key (w .state .free)) key e in
       let n : nodesOn (w .card) ≡ u .size = covered-nodes u ∙ nodes-same (u .size) (u .steps) (worldly (happens rationTable (insert key value) w)) (u .was-kept) (u .due) (u .inv) in
       first-by-rules (dictionaryAnswer (lookup key (v .was-kept .held))) (q .0) (happens rationTable (insert key value) w) (q .1) (q .2) ((a : ℕ) × (lookup key (v .was-kept .held) ≡ some a)) (InsertRule (w .card) key value)
       (nextChange (w .card) (u .size) (m .free) (m .last) (Inserting key value false) (PutIn key value))
@@ -231,7 +210,7 @@ module _ (w : World rationTable) (b : Book) (v : Covered w b) where
       let q = delete-nears key high e in
       let u = q .1 .covered in
       let m = deleteOf (w .card) (w .state) key .memory in
-      let d : m .doing ≡ Deleting key false 0 = started-doing (w .state) (Deleting key false 0) (λ l. true) key e in
+      let d : m .doing ≡ Deleting key false 0 = started-doing (w .card) (w .state) (Deleting key false 0) (λ l. true) key e in
       let n : nodesOn (w .card) ≡ u .size = covered-nodes u ∙ nodes-same (u .size) (u .steps) (worldly (happens rationTable (delete key) w)) (u .was-kept) (u .due) (u .inv) in
       first-by-rules (dictionaryAnswer (lookup key (v .was-kept .held))) (q .0) (happens rationTable (delete key) w) (q .1) (q .2) (lookup key (v .was-kept .held) ≡ none) (DeleteRule (w .card) key)
       (nextChange (w .card) (u .size) (m .free) (m .last) (Deleting key false 0) (TakeOut key))

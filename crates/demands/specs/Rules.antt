@@ -19,6 +19,7 @@ use Rattle.demands.specs.Refusals.{leadsTo, among}
 
 -- "A change takes the next free node after the one given last, going round from N to 1"
 pub record NextFree (free : List Bool) (last m : ℕ) : Type 0 where
+  pub is-node : 1 ≤ m
   pub is-free : getD free m false ≡ true
   pub is-next : ((last < m) × ((x : ℕ) → last < x → x < m → getD free x false ≡ false))
       ⊎ ((m ≤ last) × ((x : ℕ) → last < x → getD free x false ≡ false) × ((x : ℕ) → 1 ≤ x → x < m → getD free x false ≡ false))
