@@ -43,12 +43,14 @@ module _ (card : List ℕ) (n : ℕ) (free : List Bool) (last : ℕ) where
     -- a tagged node
     module _ (inner : kindOf (parentAt card p) ≡ 2) (tagged : kindOf (nodeAt card (p .node)) ≡ 3) (two : length (children (nodeAt card (p .node))) ≡ 2) where
       pub mend-absorbs : length (children (parentAt card p)) ≤ 10
-          → mend card n p free last ≡ giving 1 free last (λ ms. absorb p (keysTakenIn card p) (childrenTakenIn card p) (first ms))
+          → mend card n p free last
+          ≡ giving 1 free last (λ ms. absorb p (keysTakenIn card p) (childrenTakenIn card p) (first ms))
       unfolding mend layOut
       mend-absorbs h = decided (decided-tagged card n p inner tagged ∙ tagged-absorbed p _ _ two h)
 
       pub mend-splits : 10 < length (children (parentAt card p))
-          → mend card n p free last ≡ giving 3 free last (λ ms. splitParent p (keysTakenIn card p) (childrenTakenIn card p) (first ms) (second ms) (third ms))
+          → mend card n p free last
+          ≡ giving 3 free last (λ ms. splitParent p (keysTakenIn card p) (childrenTakenIn card p) (first ms) (second ms) (third ms))
       unfolding mend layOut
       mend-splits h = decided (decided-tagged card n p inner tagged ∙ tagged-split p _ _ two h)
 

@@ -21,9 +21,9 @@ ghost use Rattle.laws.specs.Lists.{beforeZero};
 ghost use Rattle.card.specs.Layout.{greatestNodes, children};
 ghost use Rattle.change_decide.specs.Places.{parentAt, TaggedAt};
 ghost use Rattle.free_nodes.specs.NodeSet.{nodesOf};
-ghost use Rattle.plans.specs.Change.{absorb, splitParent, joinedKeys, joinedChildren};
-ghost use Rattle.plans.specs.Planning.{giving, first, second, third};
-ghost use Rattle.change.specs.LayOut.{keysTakenIn, childrenTakenIn, TakenIn};
+ghost use Rattle.plans.specs.Change.{joinedKeys, joinedChildren};
+ghost use Rattle.plans.specs.Planning.{giving};
+ghost use Rattle.change.specs.LayOut.{absorbAt, splitParentAt, TakenIn};
 ghost use Rattle.plans.specs.Rows.{Row};
 ghost use Rattle.plans.specs.Plan.{preparationOf};
 
@@ -77,7 +77,7 @@ pub fn absorb_tagged(
     values: &mut [u32],
 ) -> Planned
     requires { ⌜ TaggedAt (now card) p × (length (children (parentAt (now card) p)) ≤ 10) × (length (now places) ≡ 73) × (length (now values) ≡ 73) ⌝ }
-    ensures { λ r. ⌜ preparationOf (now (places .exit)) (now (values .exit)) r ≡ giving 1 (nodesOf (free .words)) last (λ ms. absorb p (keysTakenIn (now (card .entry)) p) (childrenTakenIn (now (card .entry)) p) (first ms)) ⌝ }
+    ensures { λ r. ⌜ preparationOf (now (places .exit)) (now (values .exit)) r ≡ giving 1 (nodesOf (free .words)) last (absorbAt (now (card .entry)) p) ⌝ }
 {
     let Next::Node(copy) = free_nodes::next_free(&free.words, last) else {
         return refused(free, last);
@@ -107,7 +107,7 @@ pub fn split_parent(
     values: &mut [u32],
 ) -> Planned
     requires { ⌜ TaggedAt (now card) p × (10 < length (children (parentAt (now card) p))) × (length (now places) ≡ 73) × (length (now values) ≡ 73) ⌝ }
-    ensures { λ r. ⌜ preparationOf (now (places .exit)) (now (values .exit)) r ≡ giving 3 (nodesOf (free .words)) last (λ ms. splitParent p (keysTakenIn (now (card .entry)) p) (childrenTakenIn (now (card .entry)) p) (first ms) (second ms) (third ms)) ⌝ }
+    ensures { λ r. ⌜ preparationOf (now (places .exit)) (now (values .exit)) r ≡ giving 3 (nodesOf (free .words)) last (splitParentAt (now (card .entry)) p) ⌝ }
 {
     let all = taken_in(card, p);
     split(all, p.above, cut_tagged(p), free, last, places, values)

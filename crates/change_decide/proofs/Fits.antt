@@ -14,8 +14,9 @@ use Rattle.descent.specs.Descent.{rootPosition, seek}
 use Rattle.descent.specs.declared.Position.{Position}
 use Rattle.descent.specs.declared.Search.{Search}
 use Rattle.descent.specs.declared.Search.the-variants.{Refused as NoSearch, Balanced as SearchBalanced, Violation as SearchViolation}
-use Rattle.change_decide.specs.Decide.{decideTagged, decideTogether, decideSiblings, isNode, leftSibling, leftNumber, rightNumber, decideUnderfull, decideAt, onSearch, nextRepair}
-use Rattle.change_decide.specs.Places.{PositionWithin, parentAt, TaggedAt, leftAt, rightAt, countTogether, SiblingsAt, Fits}
+use Rattle.change_decide.specs.Decide.{isNode, leftSibling, leftNumber, rightNumber}
+use Rattle.change_decide.specs.Decide.{decideTagged, decideTogether, decideSiblings, decideUnderfull, decideAt, onSearch, nextRepair}
+use Rattle.change_decide.specs.Places.{PositionWithin, parentAt, TaggedAt, leftAt, rightAt, countTogether, togetherCount, SiblingsAt, Fits}
 use Rattle.change_decide.specs.declared.Decision.{Decision}
 use Rattle.change_decide.specs.declared.Decision.the-variants.{Refused}
 use Rattle.change_decide.proofs.DecideLaws.{node-numbered}
@@ -50,33 +51,44 @@ module _ (card : List ℕ) (n : ℕ) (p : Position) (w : PositionWithin card n p
       fits-either card (leb (length (children (parentAt card p))) 10) _ _ (λ u. (at, leb-true _ 10 u)) (λ u. (at, leb-false _ 10 u)))
       (λ t. tt)
 
-  together-fits : (count : ℕ) → (count ≤ 12 → SiblingsAt card p) → countTogether (leftAt card p) (rightAt card p) ≡ count → Fits card (decideTogether p (parentAt card p) count)
+  together-fits : (count : ℕ) → (count ≤ 12 → SiblingsAt card p) → togetherCount card p ≡ count → Fits card (decideTogether p (parentAt card p) count)
   unfolding decideTogether Fits
   together-fits count at e =
       fits-either card (ltb 12 count) _ _ (λ t. tt)
       (λ t. let s = at (ltb-false 12 count t) in
       fits-either card (leb 4 count) _ _ (λ u. (s, rw e (leb-true 4 count u)))
-      (λ u. let l : countTogether (leftAt card p) (rightAt card p) < 4 = rw e (leb-false 4 count u) in
+      (λ u. let l : togetherCount card p < 4 = rw e (leb-false 4 count u) in
       fits-either card (eqb (p .above) rootPlace && eqb (length (children (parentAt card p))) 2) _ _ (λ r. (s, l)) (λ r. (s, l))))
 
-  siblings-fit : suc (leftSibling p) < length (children (parentAt card p)) → OnCard card (leftNumber (parentAt card p) p) → OnCard card (rightNumber (parentAt card p) p)
+  siblings-fit : suc (leftSibling p) < length (children (parentAt card p))
+      → OnCard card (leftNumber (parentAt card p) p) → OnCard card (rightNumber (parentAt card p) p)
       → Fits card (decideSiblings p (parentAt card p) (leftAt card p) (rightAt card p))
   unfolding decideSiblings
   siblings-fit b x y =
       fits-either card (eqb (kindOf (leftAt card p)) 1 && eqb (kindOf (rightAt card p)) 1) _ _
       (λ t.
       let k = eqb-true _ 1 (and-true _ _ t .0) in
-      together-fits _ (λ few. record { nodes = n; within = w; beside = b; left = x; right = y; inner = λ no. absurd (no k); few = rw (leaves-counted (leftAt card p) (rightAt card p) k) few }) (leaves-counted (leftAt card p) (rightAt card p) k))
+      let e = leaves-counted (leftAt card p) (rightAt card p) k in
+      together-fits _ (λ few. record { nodes = n; within = w; beside = b; left = x; right = y; inner = λ no. absurd (no k); few = rw e few }) e)
       (λ t.
-      fits-either card ((eqb (kindOf (leftAt card p)) 2 && eqb (kindOf (rightAt card p)) 2) && (ltb 0 (length (children (leftAt card p))) && ltb 0 (length (children (rightAt card p))))) _ _
+      fits-either card
+      ((eqb (kindOf (leftAt card p)) 2 && eqb (kindOf (rightAt card p)) 2) && (ltb 0 (length (children (leftAt card p))) && ltb 0 (length (children (rightAt card p))))) _ _
       (λ u.
       let v = and-true (eqb (kindOf (leftAt card p)) 2 && eqb (kindOf (rightAt card p)) 2) _ u in
       let two = eqb-true (kindOf (leftAt card p)) 2 (and-true _ _ (v .0) .0) in
       let some = and-true (ltb 0 (length (children (leftAt card p)))) _ (v .1) in
       let not-one : kindOf (leftAt card p) ≡ 1 → ⊥ = λ e. omega (arith, e, two) in
+      let e = inners-counted (leftAt card p) (rightAt card p) not-one in
       together-fits _
-      (λ few. record { nodes = n; within = w; beside = b; left = x; right = y; inner = λ no. (ltb-true 0 _ (some .0), ltb-true 0 _ (some .1)); few = rw (inners-counted (leftAt card p) (rightAt card p) not-one) few })
-      (inners-counted (leftAt card p) (rightAt card p) not-one))
+      (λ few. record {
+        nodes = n;
+        within = w;
+        beside = b;
+        left = x;
+        right = y;
+        inner = λ no. (ltb-true 0 _ (some .0), ltb-true 0 _ (some .1));
+        few = rw e few;
+      }) e)
       (λ u. no-change card))
 
   on-card : (m : ℕ) → isNode n m ≡ true → OnCard card m

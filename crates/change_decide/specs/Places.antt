@@ -44,6 +44,9 @@ rightAt card p = nodeAt card (rightNumber (parentAt card p) p)
 unfoldable pub countTogether : List ℕ → List ℕ → ℕ
 countTogether x y = pick (eqb (kindOf x) 1) (length (leafPairs x) + length (leafPairs y)) (length (children x) + length (children y))
 
+abbrev pub togetherCount : List ℕ → Position → ℕ
+togetherCount card p = countTogether (leftAt card p) (rightAt card p)
+
 -- two siblings, leaves or internal nodes with children, whose pairs or children go into two nodes
 pub record SiblingsAt (card : List ℕ) (p : Position) : Type 0 where
   pub nodes : ℕ
@@ -52,7 +55,7 @@ pub record SiblingsAt (card : List ℕ) (p : Position) : Type 0 where
   pub left : OnCard card (leftNumber (parentAt card p) p)
   pub right : OnCard card (rightNumber (parentAt card p) p)
   pub inner : (kindOf (leftAt card p) ≡ 1 → ⊥) → (0 < length (children (leftAt card p))) × (0 < length (children (rightAt card p)))
-  pub few : countTogether (leftAt card p) (rightAt card p) ≤ 12
+  pub few : togetherCount card p ≤ 12
 
 -- what each decision says of the card
 unfoldable pub Fits : List ℕ → Decision → Type 0
@@ -60,6 +63,6 @@ Fits card Refused = Unit {0}
 Fits card Balanced = Unit {0}
 Fits card (Absorb p) = TaggedAt card p × (length (children (parentAt card p)) ≤ 10)
 Fits card (SplitParent p) = TaggedAt card p × (10 < length (children (parentAt card p)))
-Fits card (Share p) = SiblingsAt card p × (4 ≤ countTogether (leftAt card p) (rightAt card p))
-Fits card (Merge p) = SiblingsAt card p × (countTogether (leftAt card p) (rightAt card p) < 4)
-Fits card (MergeRoot p) = SiblingsAt card p × (countTogether (leftAt card p) (rightAt card p) < 4)
+Fits card (Share p) = SiblingsAt card p × (4 ≤ togetherCount card p)
+Fits card (Merge p) = SiblingsAt card p × (togetherCount card p < 4)
+Fits card (MergeRoot p) = SiblingsAt card p × (togetherCount card p < 4)

@@ -1,9 +1,9 @@
 -- Document 01, "The changes": what the calls plan to repair a fault is by the rules, on any card.
 use mathlib.Core.Path.{_≡_, refl, ap, sym, subst, _∙_}
 use mathlib.Core.Bool.{Bool, true, false, _&&_}
-use mathlib.Core.List.{List}
+use mathlib.Core.List.{List, [], _∷_}
 use mathlib.Core.Logic.{_⊎_, inl, inr}
-use Prim.Native.Nat.{ℕ, suc, _<_}
+use Prim.Native.Nat.{ℕ, suc, _≤_, _<_}
 use native.Mathlib.Omega.{arith}
 use lib.ListN.{length, getD}
 use lib.Dec.{eqb, ltb, leb}
@@ -24,11 +24,11 @@ use Rattle.laws.specs.Cases.{pick}
 use Rattle.laws.proofs.Cases.{and-true, and-intro}
 use Rattle.plans.specs.Change.{changeStores, kindAbove, joinedKeys, joinedChildren, absorb, splitParent, halves, copied}
 use Rattle.plans.specs.Change.{Together as Both, leavesTogether, innersTogether, half, leftKeys, keyBetween, share, merge, mergeRoot}
-use Rattle.plans.specs.Planning.{prepared}
+use Rattle.plans.specs.Planning.{prepared, first}
 use Rattle.siblings.specs.Siblings.{togetherAt}
 use Rattle.siblings.proofs.SiblingLaws.{leaves-count, inners-count, leaves-together, inners-together}
 use Rattle.demands.specs.Rules.{Together, two-leaves, two-internal, Underfull, TaggedChild, RepairRule, taken-in, parent-split, shared, merged, merged-root, width}
-use Rattle.demands.proofs.PlannedNumbers.{ByRule, not-refused, not-balanced, giving-one, giving-two, giving-three}
+use Rattle.demands.proofs.PlannedNumbers.{ByRule, RightOver, not-refused, not-balanced, giving-one, giving-two, giving-three}
 use Rattle.demands.proofs.Standing.{Below, Fault, fault-found}
 
 module _ (c : List ℕ) (free : List Bool) (last : ℕ) (ss : List Store) (fewer : List Bool) (now : ℕ) (cut : List ℕ) where
@@ -62,11 +62,21 @@ module _ (c : List ℕ) (free : List Bool) (last : ℕ) (ss : List Store) (fewer
       (λ r e₂. giving-three _ e₂ (λ x y z. parent-split x y z _ _ t (leb-false (length (children (parentAt c p))) 10 r) refl refl)))
       (λ q z. absurd (not-refused z))
 
-  -- "Together 4 or more: shared out .. Together 3 or fewer: merged .. if that parent is the root with 2 children .."
+  -- what two siblings hold together, as the rules have it
+  abbrev Held : Position → Both → Type 0
+  Held p b =
+      Together c (leftNumber (parentAt c p) p) (getD (routingKeys (parentAt c p)) (leftSibling p) 0) (rightNumber (parentAt c p) p) (b .kind) (b .keys) (b .values)
+
+  -- "if that parent is the root with 2 children, the merged node becomes the root"
+  into-root : (p : Position) (both : Both) → p .above ≡ rootPlace → Underfull c (p .above) (p .parent) (leftSibling p) → Held p both
+      → length (both .values) ≤ 3 → length (children (parentAt c p)) ≡ 2
+      → (x : ℕ) → RightOver (RepairRule c) (λ ms. mergeRoot p (parentAt c p) (leftSibling p) both (first ms)) (x ∷ [])
+  unfolding changeStores mergeRoot
+  into-root p both above u t few two x = rw above (merged-root x _ _ (rw above at u) refl refl t few two)
+
+  -- "Together 4 or more: shared out .. Together 3 or fewer: merged .."
   together-mended : (p : Position) (count : ℕ) → length (togetherAt c p .values) ≡ count → 0 < p .parent → Underfull c (p .above) (p .parent) (leftSibling p)
-      → Together c (leftNumber (parentAt c p) p) (getD (routingKeys (parentAt c p)) (leftSibling p) 0) (rightNumber (parentAt c p) p)
-      (togetherAt c p .kind) (togetherAt c p .keys) (togetherAt c p .values)
-      → Laid (decideTogether p (parentAt c p) count) → Repairs
+      → Held p (togetherAt c p) → Laid (decideTogether p (parentAt c p) count) → Repairs
   unfolding decideTogether layOut changeStores share merge mergeRoot halves copied half leftKeys keyBetween
   together-mended p count n m u t e =
       decided (ltb 12 count) _ _ e (λ q z. absurd (not-refused z)) (λ q e₁.
@@ -77,7 +87,7 @@ module _ (c : List ℕ) (free : List Bool) (last : ℕ) (ss : List Store) (fewer
       (λ s e₃.
       let root = and-true (eqb (p .above) rootPlace) (eqb (length (children (parentAt c p))) 2) s in
       let above = eqb-true (p .above) rootPlace (root .0) in
-      giving-one _ e₃ (λ x. rw above (merged-root x _ _ (rw above at u) refl refl t (omega (arith, n, few)) (eqb-true (length (children (parentAt c p))) 2 (root .1)))))
+      giving-one _ e₃ (into-root p (togetherAt c p) above u t (omega (arith, n, few)) (eqb-true (length (children (parentAt c p))) 2 (root .1))))
       (λ s e₃. giving-two _ e₃ (λ x y. merged x y _ _ u refl refl t (omega (arith, n, few)) (not-that-root s)))))
     where
       not-that-root : (eqb (p .above) rootPlace && eqb (length (children (parentAt c p))) 2) ≡ false → (p .above ≡ rootPlace) × (length (children (parentAt c p)) ≡ 2) → ⊥
@@ -88,17 +98,13 @@ module _ (c : List ℕ) (free : List Bool) (last : ℕ) (ss : List Store) (fewer
 
   -- two siblings of one kind
   module _ (p : Position) where
-    abbrev Holds : Both → Type 0
-    Holds b =
-        Together c (leftNumber (parentAt c p) p) (getD (routingKeys (parentAt c p)) (leftSibling p) 0) (rightNumber (parentAt c p) p) (b .kind) (b .keys) (b .values)
-
-    two-leaves-there : kindOf (leftAt c p) ≡ 1 → kindOf (rightAt c p) ≡ 1 → Holds (togetherAt c p)
+    two-leaves-there : kindOf (leftAt c p) ≡ 1 → kindOf (rightAt c p) ≡ 1 → Held p (togetherAt c p)
     unfolding leavesTogether
-    two-leaves-there x y = subst Holds (sym (leaves-together c p x)) (two-leaves x y)
+    two-leaves-there x y = subst (Held p) (sym (leaves-together c p x)) (two-leaves x y)
 
-    two-inners-there : kindOf (leftAt c p) ≡ 2 → kindOf (rightAt c p) ≡ 2 → Holds (togetherAt c p)
+    two-inners-there : kindOf (leftAt c p) ≡ 2 → kindOf (rightAt c p) ≡ 2 → Held p (togetherAt c p)
     unfolding innersTogether
-    two-inners-there x y = subst Holds (sym (inners-together c p (λ t. omega (arith, t, x)))) (two-internal x y)
+    two-inners-there x y = subst (Held p) (sym (inners-together c p (λ t. omega (arith, t, x)))) (two-internal x y)
 
   siblings-mended : (p : Position) → 0 < p .parent → Underfull c (p .above) (p .parent) (leftSibling p)
       → Laid (decideSiblings p (parentAt c p) (leftAt c p) (rightAt c p)) → Repairs

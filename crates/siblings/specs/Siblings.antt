@@ -10,7 +10,8 @@ use Rattle.card.specs.Stores.{newNode}
 use Rattle.descent.specs.declared.Position.{Position}
 use Rattle.change_decide.specs.Decide.{leftSibling}
 use Rattle.change_decide.specs.Places.{parentAt, leftAt, rightAt}
-use Rattle.plans.specs.Change.{Together, leavesTogether, innersTogether, copied}
+use Rattle.plans.specs.Change.{Change, Together, leavesTogether, innersTogether, copied, share, merge, mergeRoot}
+use Rattle.plans.specs.Planning.{first, second, third}
 use Rattle.plans.specs.Rows.{wordsOf}
 use Rattle.plans.specs.Plan.{togetherOf, Keyed}
 use Rattle.plans.specs.declared.halves.Pool.{Pool}
@@ -21,6 +22,16 @@ togetherAt card p =
     pick (eqb (kindOf (leftAt card p)) 1)
     (leavesTogether (leftAt card p) (rightAt card p))
     (innersTogether (leftAt card p) (getD (routingKeys (parentAt card p)) (leftSibling p) 0) (rightAt card p))
+
+-- the changes of the two, over the numbers that they are given
+abbrev pub shareAt : List ℕ → Position → List ℕ → Change
+shareAt card p = λ ms. share p (parentAt card p) (leftSibling p) (togetherAt card p) (first ms) (second ms) (third ms)
+
+abbrev pub mergeAt : List ℕ → Position → List ℕ → Change
+mergeAt card p = λ ms. merge p (parentAt card p) (leftSibling p) (togetherAt card p) (first ms) (second ms)
+
+abbrev pub mergeRootAt : List ℕ → Position → List ℕ → Change
+mergeRootAt card p = λ ms. mergeRoot p (parentAt card p) (leftSibling p) (togetherAt card p) (first ms)
 
 -- so many values or children together, and what they are
 pub record Pooled (b : Pool) (count : ℕ) (both : Together) : Type 0 where

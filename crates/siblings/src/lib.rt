@@ -32,13 +32,13 @@ ghost use Prim.Native.Nat.{_≤_, _<_};
 ghost use lib.ListN.{length};
 ghost use Rattle.laws.specs.Lists.{beforeZero};
 ghost use Rattle.change_decide.specs.Decide.{leftSibling};
-ghost use Rattle.change_decide.specs.Places.{parentAt, leftAt, rightAt, countTogether, SiblingsAt};
+ghost use Rattle.change_decide.specs.Places.{parentAt, togetherCount, SiblingsAt};
 ghost use Rattle.free_nodes.specs.NodeSet.{nodesOf};
-ghost use Rattle.plans.specs.Change.{siblingsCut, share, merge, mergeRoot};
-ghost use Rattle.plans.specs.Planning.{giving, first, second, third};
+ghost use Rattle.plans.specs.Change.{siblingsCut};
+ghost use Rattle.plans.specs.Planning.{giving};
 ghost use Rattle.plans.specs.Rows.{wordsOf};
 ghost use Rattle.plans.specs.Plan.{preparationOf};
-ghost use Rattle.siblings.specs.Siblings.{Copied, togetherAt};
+ghost use Rattle.siblings.specs.Siblings.{shareAt, mergeAt, mergeRootAt, Copied};
 
 // The keys and children of a new copy of the parent, with others in the place of the two siblings and of the routing key between them.
 fn copied_parent(card: &[u32], p: Position, keys: Words, kids: Words) -> Pool
@@ -75,8 +75,8 @@ pub fn share_out(
     places: &mut [u32],
     values: &mut [u32],
 ) -> Planned
-    requires { ⌜ SiblingsAt (now card) p × (4 ≤ countTogether (leftAt (now card) p) (rightAt (now card) p)) × (length (now places) ≡ 73) × (length (now values) ≡ 73) ⌝ }
-    ensures { λ r. ⌜ preparationOf (now (places .exit)) (now (values .exit)) r ≡ giving 3 (nodesOf (free .words)) last (λ ms. share p (parentAt (now (card .entry)) p) (leftSibling p) (togetherAt (now (card .entry)) p) (first ms) (second ms) (third ms)) ⌝ }
+    requires { ⌜ SiblingsAt (now card) p × (4 ≤ togetherCount (now card) p) × (length (now places) ≡ 73) × (length (now values) ≡ 73) ⌝ }
+    ensures { λ r. ⌜ preparationOf (now (places .exit)) (now (values .exit)) r ≡ giving 3 (nodesOf (free .words)) last (shareAt (now (card .entry)) p) ⌝ }
 {
     let Three::Nodes(left, right, above) = next_three(free, last) else {
         return refused(free, last);
@@ -108,8 +108,8 @@ pub fn merge_siblings(
     places: &mut [u32],
     values: &mut [u32],
 ) -> Planned
-    requires { ⌜ SiblingsAt (now card) p × (countTogether (leftAt (now card) p) (rightAt (now card) p) < 4) × (length (now places) ≡ 73) × (length (now values) ≡ 73) ⌝ }
-    ensures { λ r. ⌜ preparationOf (now (places .exit)) (now (values .exit)) r ≡ giving 2 (nodesOf (free .words)) last (λ ms. merge p (parentAt (now (card .entry)) p) (leftSibling p) (togetherAt (now (card .entry)) p) (first ms) (second ms)) ⌝ }
+    requires { ⌜ SiblingsAt (now card) p × (togetherCount (now card) p < 4) × (length (now places) ≡ 73) × (length (now values) ≡ 73) ⌝ }
+    ensures { λ r. ⌜ preparationOf (now (places .exit)) (now (values .exit)) r ≡ giving 2 (nodesOf (free .words)) last (mergeAt (now (card .entry)) p) ⌝ }
 {
     let Two::Nodes(merged, above) = next_two(free, last) else {
         return refused(free, last);
@@ -142,8 +142,8 @@ pub fn merge_into_root(
     places: &mut [u32],
     values: &mut [u32],
 ) -> Planned
-    requires { ⌜ SiblingsAt (now card) p × (countTogether (leftAt (now card) p) (rightAt (now card) p) < 4) × (length (now places) ≡ 73) × (length (now values) ≡ 73) ⌝ }
-    ensures { λ r. ⌜ preparationOf (now (places .exit)) (now (values .exit)) r ≡ giving 1 (nodesOf (free .words)) last (λ ms. mergeRoot p (parentAt (now (card .entry)) p) (leftSibling p) (togetherAt (now (card .entry)) p) (first ms)) ⌝ }
+    requires { ⌜ SiblingsAt (now card) p × (togetherCount (now card) p < 4) × (length (now places) ≡ 73) × (length (now values) ≡ 73) ⌝ }
+    ensures { λ r. ⌜ preparationOf (now (places .exit)) (now (values .exit)) r ≡ giving 1 (nodesOf (free .words)) last (mergeRootAt (now (card .entry)) p) ⌝ }
 {
     let Next::Node(merged) = free_nodes::next_free(&free.words, last) else {
         return refused(free, last);

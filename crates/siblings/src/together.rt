@@ -13,7 +13,7 @@ ghost use mathlib.Core.Path.{_≡_};
 ghost use Prim.Native.Nat.{_+_, _≤_, _<_};
 ghost use lib.ListN.{length};
 ghost use Rattle.card.specs.Layout.{children, leafPairs};
-ghost use Rattle.change_decide.specs.Places.{leftAt, rightAt, countTogether, SiblingsAt};
+ghost use Rattle.change_decide.specs.Places.{togetherCount, SiblingsAt};
 ghost use Rattle.plans.specs.Change.{leavesTogether, innersTogether};
 ghost use Rattle.siblings.specs.Siblings.{Pooled, togetherAt};
 
@@ -49,7 +49,7 @@ fn inners_together(x: &[u32], between: u32, y: &[u32]) -> Pool
 // The two siblings at a position, by their kind.
 pub fn together_at(card: &[u32], p: Position) -> Pool
     requires { ⌜ SiblingsAt (now card) p ⌝ }
-    ensures { λ r. ⌜ Pooled r (countTogether (leftAt (now (card .entry)) p) (rightAt (now (card .entry)) p)) (togetherAt (now (card .entry)) p) ⌝ }
+    ensures { λ r. ⌜ Pooled r (togetherCount (now (card .entry)) p) (togetherAt (now (card .entry)) p) ⌝ }
 {
     let parent = card::node_at(card, p.parent);
     let j = left_sibling(p);
