@@ -26,12 +26,7 @@ use Rattle.demands.specs.Rules.{InsertRule, DeleteRule}
 use Rattle.demands.proofs.SameBook.{worldly, same-world}
 use Rattle.demands.proofs.CardRows.{none-some}
 use Rattle.demands.proofs.PowerCuts.{dictionary-same, Covered, always, was-list, run-same, quiet-same, steps-same, restsRight}
-<<<<<<< /tmp/tmp62eonqhw/o
-use Rattle.demands.proofs.StepRows.{demand-1}
-=======
-use Rattle.demands.proofs.StartRows.{leads-is}
 use Rattle.demands.proofs.FirstSteps.{demand-1}
->>>>>>> /tmp/tmp62eonqhw/t
 use Rattle.demands.proofs.AnswerNumbers.{start-small}
 use Rattle.demands.proofs.ReplyLaws.{begun-started}
 use Rattle.demands.proofs.FirstRows.{sized-on}
