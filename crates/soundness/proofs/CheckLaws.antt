@@ -6,7 +6,7 @@ use mathlib.Core.Option.{Option, none, some}
 use Prim.Native.Nat.{ℕ, zero, suc, _+_, _-_, _≤_, _<_}
 use native.Mathlib.Omega.{arith}
 use native.Mathlib.Numerals.{add-one}
-use lib.ListN.{length, set, getD, take, drop, drop-of-length-le}
+use lib.ListN.{length, length-set, set, getD, take, drop, drop-of-length-le}
 use lib.Seq.{take-nil, drop-cons, getD-take, getD-drop, slice, slice-cons, slice-empty, drop-drop}
 use lib.Dec.{ltb, eqb}
 use borrow.Author.Tests.{ltb-false, lt-ltb, le-ltb, le-leb, lt-leb, eqb-false, ne-eqb, eq-eqb}
@@ -15,8 +15,9 @@ use Rattle.card.proofs.NodeLaws.{length-keyWords, get-keyWord, children-words, 
 use Rattle.laws.proofs.Cases.{order, guard-some, bind-some, impossible}
 use Rattle.laws.specs.Cases.{pick, guard, bind}
 use Rattle.laws.specs.Lists.{allZero, zeroAfter}
-use Rattle.soundness.specs.Check.{Findings, findingsOf, checkedOf, member, leafSound, unusedZero, Look, lookOf, noted, enterLeaf, innerSound, enterInner, enterKind, enterNode, ChildCheck, childrenCheck, raised, onLook, nodeCheck, bad, leaf, inner, slotSound, rangeEnd}
+use Rattle.soundness.specs.Check.{Findings, findingsOf, checkedOf, heightOf, member, leafSound, unusedZero, Look, lookOf, noted, enterLeaf, innerSound, enterInner, enterKind, enterNode, ChildCheck, childrenCheck, raised, onLook, nodeCheck, bad, leaf, inner, slotSound, rangeEnd}
 use Rattle.soundness.specs.declared.Checked.{Checked}
+use Rattle.soundness.specs.declared.Checked.the-variants.{Unsound, Sound}
 use Rattle.soundness.specs.declared.Entry.{Entry}
 use Rattle.soundness.specs.declared.Entry.the-variants.{Refused, Leaf, Inner}
 
@@ -299,28 +300,52 @@ enter-children card n m low high run root f c g e =
     let nz : m ≡ 0 → ⊥ = eqb-false m 0 (p .0) in
     record { one = omega arith; within = ltb-false n m (q .0); counted = k .0; some-child = k .1 }
 
--- ---- what the code answers, as a height and what was learnt
+-- ---- the words of findings
 
-pub checked-ok : (r : Checked) → r .ok ≡ true → checkedOf r ≡ some (r .height, findingsOf (r .survey))
-unfolding checkedOf
-checked-ok r e = rw e
+-- all three stored anew
+pub found-stored : (free : List Bool) (found : List ℕ) (v key run : ℕ) → length found ≡ 3
+    → findingsOf free (set (set (set found 0 v) 1 key) 2 run) ≡ record { free = free; violated = not (eqb v 0); key = key; run = run }
+unfolding findingsOf
+found-stored free [] v key run e = absurd (omega arith)
+found-stored free (a ∷ []) v key run e = absurd (omega arith)
+found-stored free (a ∷ b ∷ []) v key run e = absurd (omega arith)
+found-stored free (a ∷ b ∷ c ∷ found) v key run e = refl
 
-pub checked-bad : (r : Checked) → r .ok ≡ false → checkedOf r ≡ none
-unfolding checkedOf
-checked-bad r e = rw e
+pub stored-length : (found : List ℕ) (v key run : ℕ) → length (set (set (set found 0 v) 1 key) 2 run) ≡ length found
+stored-length found v key run = length-set (set (set found 0 v) 1 key) 2 run ∙ length-set (set found 0 v) 1 key ∙ length-set found 0 v
 
-pub raised-tagged : (r : Option (ℕ × Findings)) → raised true r ≡ r
-unfolding raised
-raised-tagged none = refl
-raised-tagged (some r) = refl
+-- the first violation is noted, a second one is refused
+module _ (free : List Bool) (found : List ℕ) (entry : Entry) (key run : ℕ) where
+  pub noted-first : length found ≡ 3 → getD found 0 0 ≡ 0
+      → lookOf entry (findingsOf free (set (set (set found 0 1) 1 key) 2 run)) ≡ noted true entry (findingsOf free found) key run
+  unfolding noted findingsOf
+  noted-first l e = ap (lookOf entry) (found-stored free found 1 key run l) ∙ rw (eq-eqb (getD found 0 0) 0 e)
 
-pub raised-more : (r : Checked) → pick (r .ok) (some (r .height + 1, findingsOf (r .survey))) none ≡ raised false (checkedOf r)
-unfolding raised checkedOf
-raised-more r = go (r .ok)
-  where
-    go : (ok : Bool) → pick ok (some (r .height + 1, findingsOf (r .survey))) none ≡ raised false (pick ok (some (r .height, findingsOf (r .survey))) none)
-    go true = rw (add-one (r .height))
-    go false = refl
+  pub noted-again : (getD found 0 0 ≡ 0 → ⊥) → bad ≡ noted true entry (findingsOf free found) key run
+  unfolding noted findingsOf
+  noted-again p = rw (ne-eqb (getD found 0 0) 0 p)
+
+-- ---- the answer for the children as the answer for their parent
+
+abbrev Raise : Bool → Checked → Checked → Type 0
+Raise tagged r a = ((f : Findings) → checkedOf a f ≡ raised tagged (checkedOf r f)) × (heightOf a ≤ heightOf r + 1)
+
+pub raise-unsound : (tagged : Bool) (r : Checked) → r ≡ Unsound → Raise tagged r Unsound
+unfolding checkedOf heightOf raised
+raise-unsound tagged r e = (λ f. rw e, omega arith)
+
+pub sound-height : (r : Checked) (height : ℕ) → r ≡ Sound height → heightOf r ≡ height
+unfolding heightOf
+sound-height r height e = ap heightOf e
+
+module _ (tagged : Bool) (r : Checked) (height : ℕ) (e : r ≡ Sound height) where
+  pub raise-tagged : tagged ≡ true → Raise tagged r (Sound height)
+  unfolding checkedOf heightOf raised
+  raise-tagged t = (λ f. rw (e, t), omega (arith, sound-height r height e))
+
+  pub raise-more : tagged ≡ false → Raise tagged r (Sound (height + 1))
+  unfolding checkedOf heightOf raised
+  raise-more t = (λ f. rw (e, t, add-one height), omega (arith, sound-height r height e))
 
 -- no check of a child succeeds, and there is a child
 pub children-none : (check : ChildCheck) → ((low high m : ℕ) (f : Findings) → check low high m f ≡ none)
