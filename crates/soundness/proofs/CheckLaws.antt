@@ -8,14 +8,14 @@ use native.Mathlib.Omega.{arith}
 use native.Mathlib.Numerals.{add-one}
 use lib.ListN.{length, length-set, set, getD, take, drop, drop-of-length-le}
 use lib.Seq.{take-nil, drop-cons, getD-take, getD-drop, slice, slice-cons, slice-empty, drop-drop}
-use lib.Dec.{ltb, eqb}
-use borrow.Author.Tests.{ltb-false, lt-ltb, le-ltb, le-leb, lt-leb, eqb-false, ne-eqb, eq-eqb}
+use lib.Dec.{ltb, leb, eqb}
+use borrow.Author.Tests.{ltb-false, lt-ltb, le-ltb, eqb-false, ne-eqb, eq-eqb}
 use Rattle.card.specs.Layout.{nodeAt, kindOf, keyWords, valueWords, children, routingKeys, leafPairs, runBelow}
 use Rattle.card.proofs.NodeLaws.{length-keyWords, get-keyWord, children-words, routing-words, length-routing}
 use Rattle.laws.proofs.Cases.{order, guard-some, bind-some, impossible}
 use Rattle.laws.specs.Cases.{pick, guard, bind}
 use Rattle.laws.specs.Lists.{allZero, zeroAfter}
-use Rattle.soundness.specs.Check.{Findings, findingsOf, checkedOf, heightOf, member, leafSound, unusedZero, Look, lookOf, noted, enterLeaf, innerSound, enterInner, enterKind, enterNode, ChildCheck, childrenCheck, raised, onLook, nodeCheck, bad, leaf, inner, slotSound, rangeEnd}
+use Rattle.soundness.specs.Check.{Least, Findings, findingsOf, checkedOf, heightOf, member, leafSound, unusedZero, Look, lookOf, noted, enterLeaf, innerSound, enterInner, enterKind, enterNode, ChildCheck, childrenCheck, raised, onLook, nodeCheck, bad, leaf, inner, slotSound, rangeEnd}
 use Rattle.soundness.specs.declared.Checked.{Checked}
 use Rattle.soundness.specs.declared.Checked.the-variants.{Unsound, Sound}
 use Rattle.soundness.specs.declared.Entry.{Entry}
@@ -40,36 +40,73 @@ module _ (node : List ℕ) (len : length node ≡ 24) (k j : ℕ) where
   unfolding member
   member-end h = rw (drop-of-length-le (keyWords node) {i = j} (omega (arith, length-keyWords node len)))
 
+-- what is not sound from slot i on is not sound
+from-slot : (low high i : ℕ) (ks : List ℕ) → leafSound low high (drop i ks) ≡ false → leafSound low high ks ≡ false
+unfolding leafSound
+from-slot low high zero ks e = e
+from-slot low high (suc i) [] e = e
+from-slot low high (suc i) (k ∷ ks) e = rw (from-slot low high i ks e) (go (slotSound low high k ks))
+  where
+    go : (b : Bool) → (b && false) ≡ false
+    go true = refl
+    go false = refl
+
 module _ (low high k : ℕ) (ks : List ℕ) where
-  pub slot-empty : k ≡ 0 → slotSound low high k ks ≡ true
+  slot-empty : k ≡ 0 → slotSound low high k ks ≡ true
   unfolding slotSound
   slot-empty e = simp (eq-eqb k 0 e)
 
-  pub slot-below : (k ≡ 0 → ⊥) → k < low → slotSound low high k ks ≡ false
+  slot-key : (k ≡ 0 → ⊥) → slotSound low high k ks ≡ ((leb low k && ltb k high) && not (member k ks))
   unfolding slotSound
-  slot-below p h = simp (ne-eqb k 0 p, lt-leb low k h)
+  slot-key p = rw (ne-eqb k 0 p) (go (leb low k))
+    where
+      go : (b : Bool) → (b && (ltb k high && not (member k ks))) ≡ ((b && ltb k high) && not (member k ks))
+      go true = refl
+      go false = refl
 
-  pub slot-above : (k ≡ 0 → ⊥) → low ≤ k → high ≤ k → slotSound low high k ks ≡ false
-  unfolding slotSound
-  slot-above p h g = simp (ne-eqb k 0 p, le-leb low k h, le-ltb k high g)
-
-  pub slot-within : (k ≡ 0 → ⊥) → low ≤ k → k < high → slotSound low high k ks ≡ not (member k ks)
-  unfolding slotSound
-  slot-within p h g = simp (ne-eqb k 0 p, le-leb low k h, lt-ltb k high g)
-
-module _ (node : List ℕ) (len : length node ≡ 24) (low high i : ℕ) where
-  pub leaf-stop : i < 11 → slotSound low high (getD node (1 + i) 0) (drop (i + 1) (keyWords node)) ≡ false → leafSound low high (drop i (keyWords node)) ≡ false
+module _ (node : List ℕ) (len : length node ≡ 24) (low high i : ℕ) (h : i < 11) where
+  leaf-slot : leafSound low high (drop i (keyWords node))
+      ≡ (slotSound low high (getD node (1 + i) 0) (drop (i + 1) (keyWords node)) && leafSound low high (drop (i + 1) (keyWords node)))
   unfolding leafSound
-  leaf-stop h e = ap (leafSound low high) (key-drop node len i h) ∙ rw e
+  leaf-slot = ap (leafSound low high) (key-drop node len i h)
 
-  pub leaf-next : i < 11 → slotSound low high (getD node (1 + i) 0) (drop (i + 1) (keyWords node)) ≡ true
-      → leafSound low high (drop i (keyWords node)) ≡ leafSound low high (drop (i + 1) (keyWords node))
-  unfolding leafSound
-  leaf-next h e = ap (leafSound low high) (key-drop node len i h) ∙ rw e
+  pub leaf-empty : getD node (1 + i) 0 ≡ 0 → leafSound low high (drop i (keyWords node)) ≡ leafSound low high (drop (i + 1) (keyWords node))
+  leaf-empty e = leaf-slot ∙ rw (slot-empty low high (getD node (1 + i) 0) (drop (i + 1) (keyWords node)) e)
 
-  pub leaf-end : 11 ≤ i → leafSound low high (drop i (keyWords node)) ≡ true
-  unfolding leafSound
-  leaf-end h = rw (drop-of-length-le (keyWords node) {i = i} (omega (arith, length-keyWords node len)))
+  module _ (p : getD node (1 + i) 0 ≡ 0 → ⊥) where
+    pub leaf-key : (leb low (getD node (1 + i) 0) && ltb (getD node (1 + i) 0) high) ≡ true
+        → not (member (getD node (1 + i) 0) (drop (i + 1) (keyWords node))) ≡ true
+        → leafSound low high (drop i (keyWords node)) ≡ leafSound low high (drop (i + 1) (keyWords node))
+    leaf-key e f = leaf-slot ∙ rw (slot-key low high (getD node (1 + i) 0) (drop (i + 1) (keyWords node)) p, e, f)
+
+    pub leaf-outside : (leb low (getD node (1 + i) 0) && ltb (getD node (1 + i) 0) high) ≡ false → leafSound low high (keyWords node) ≡ false
+    leaf-outside e = from-slot low high i (keyWords node) (leaf-slot ∙ rw (slot-key low high (getD node (1 + i) 0) (drop (i + 1) (keyWords node)) p, e))
+
+    pub leaf-repeated : not (member (getD node (1 + i) 0) (drop (i + 1) (keyWords node))) ≡ false → leafSound low high (keyWords node) ≡ false
+    leaf-repeated e =
+        from-slot low high i (keyWords node)
+        (leaf-slot ∙ rw (slot-key low high (getD node (1 + i) 0) (drop (i + 1) (keyWords node)) p, e) (go (leb low (getD node (1 + i) 0) && ltb (getD node (1 + i) 0) high)))
+      where
+        go : (b : Bool) → ((b && false) && leafSound low high (drop (i + 1) (keyWords node))) ≡ false
+        go true = refl
+        go false = refl
+
+pub leaf-none : (node : List ℕ) → length node ≡ 24 → (low high i : ℕ) → 11 ≤ i → leafSound low high (drop i (keyWords node)) ≡ true
+unfolding leafSound
+leaf-none node len low high i h = rw (drop-of-length-le (keyWords node) {i = i} (omega (arith, length-keyWords node len)))
+
+-- ---- the least key of the later slots
+
+module _ (node : List ℕ) (len : length node ≡ 24) where
+  pub least-none : (least i : ℕ) → 11 ≤ i → Least least (drop i (keyWords node))
+  least-none least i h k p l = member-end node len k i h
+
+  module _ (least i : ℕ) (h : i < 11) (all : Least least (drop (i + 1) (keyWords node))) where
+    pub least-empty : getD node (1 + i) 0 ≡ 0 → Least least (drop i (keyWords node))
+    least-empty e k p l = member-next node len k i h (λ z. p (sym z ∙ e)) ∙ all k p l
+
+    pub least-more : (new : ℕ) → new ≤ getD node (1 + i) 0 → new ≤ least → Least new (drop i (keyWords node))
+    least-more new a b k p l = member-next node len k i h (λ z. omega arith) ∙ all k p (omega arith)
 
 -- ---- words that must be 0
 

@@ -3,7 +3,7 @@ use mathlib.Core.Path.{_≡_}
 use mathlib.Core.Bool.{Bool, true, false, _&&_, _||_, not}
 use mathlib.Core.List.{List, [], _∷_}
 use mathlib.Core.Option.{Option, none, some}
-use Prim.Native.Nat.{ℕ, zero, suc, _-_}
+use Prim.Native.Nat.{ℕ, zero, suc, _-_, _<_}
 use lib.ListN.{length, getD, set, drop}
 use lib.Dec.{eqb, ltb, leb}
 use Rattle.laws.specs.Cases.{pick, guard, bind}
@@ -12,6 +12,8 @@ use Rattle.card.specs.Layout.{lowestKey, keyLimit, rootPlace, depthLimit, nodeA
 use Rattle.free_nodes.specs.NodeSet.{allNodes}
 use Rattle.soundness.specs.declared.Checked.{Checked}
 use Rattle.soundness.specs.declared.Checked.the-variants.{Unsound, Sound}
+use Rattle.soundness.specs.declared.leaves.Counted.{Counted}
+use Rattle.soundness.specs.declared.leaves.Counted.the-variants.{Unsound as Miscounted, Pairs}
 use Rattle.soundness.specs.declared.Entry.{Entry}
 use Rattle.soundness.specs.declared.Entry.the-variants.{Refused, Leaf, Inner}
 use Rattle.soundness.specs.declared.RangeEnd.{RangeEnd}
@@ -50,6 +52,15 @@ slotSound low high k ks = pick (eqb k 0) true (leb low k && (ltb k high && not (
 unfoldable pub leafSound : ℕ → ℕ → List ℕ → Bool
 leafSound low high [] = true
 leafSound low high (k ∷ ks) = slotSound low high k ks && leafSound low high ks
+
+-- no key below `least` is one of the words
+abbrev pub Least : ℕ → List ℕ → Type 0
+Least least ks = (k : ℕ) → (k ≡ 0 → ⊥) → k < least → member k ks ≡ false
+
+-- what the code's count of a leaf's pairs tells
+abbrev pub Counts : Counted → Bool → ℕ → Type 0
+Counts Miscounted sound pairs = sound ≡ false
+Counts (Pairs n) sound pairs = (sound ≡ true) × (n ≡ pairs)
 
 -- "all other words but the kind are 0", for c children
 unfoldable pub unusedZero : List ℕ → ℕ → Bool

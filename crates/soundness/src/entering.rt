@@ -3,7 +3,8 @@ use crate::Entry;
 use crate::KEY;
 use crate::RUN;
 use crate::VIOLATED;
-use crate::leaves::leaf_is_sound;
+use crate::leaves::Counted;
+use crate::leaves::leaf_pairs;
 use crate::unused::unused_is_zero;
 ghost use mathlib.Core.Path.{_≡_};
 ghost use mathlib.Core.Bool.{true};
@@ -32,13 +33,12 @@ fn enter_leaf(node: &[u32], low: u32, high: u64, root: bool, found: &mut [u32]) 
     requires { ⌜ (length (now node) ≡ 24) × (length (now found) ≡ 3) ⌝ }
     ensures { λ r. ⌜ Looks r (now (found .entry)) (now (found .exit)) (enterLeaf (now (node .entry)) low high root) ⌝ }
 {
-    if !leaf_is_sound(node, low, high) {
+    let Counted::Pairs(count) = leaf_pairs(node, low, high) else {
         return Entry::Refused;
-    }
+    };
     if root {
         return Entry::Leaf;
     }
-    let count = card::pair_count(node);
     if count == 0 {
         return Entry::Refused;
     }
