@@ -3,6 +3,7 @@ mod pairs;
 
 use pairs::collect;
 use repairing::open_repaired;
+use soundness::Checked;
 use table::Begun;
 ghost use mathlib.Core.Path.{_≡_};
 ghost use lib.ListN.{length};
@@ -43,20 +44,19 @@ fn list_table(card: &[u32], out: &mut [u32]) -> Summary
     if n == 0 {
         return refusing(1);
     }
-    let checked = soundness::check_table(card, n);
-    if !checked.ok {
+    let mut unreached: [u32; free_nodes::WORDS] = [0; free_nodes::WORDS];
+    let mut found: [u32; 3] = [0; 3];
+    let Checked::Sound(levels) = soundness::check_table(card, n, &mut unreached, &mut found) else {
         return refusing(4);
-    }
-    let survey = checked.survey;
-    let unreached = survey.free;
-    let free = free_nodes::count(&unreached.words);
+    };
+    let free = free_nodes::count(&unreached);
     let root = card[card::ROOT_PLACE] as usize;
     let words = collect(card, n, root, card::DEPTH_LIMIT, out, 0);
     Summary {
         refusal: 0,
         nodes: n,
         free,
-        levels: checked.height,
+        levels,
         words,
     }
 }

@@ -1,5 +1,9 @@
 // Opening: "works out the free nodes, and hands back an idle state, or one with the repair in progress".
-use soundness::Survey;
+use free_nodes::NodeSet;
+use soundness::Checked;
+use soundness::KEY;
+use soundness::RUN;
+use soundness::VIOLATED;
 use state::Beginning;
 use state::Begun;
 use state::Doing;
@@ -9,24 +13,25 @@ ghost use mathlib.Core.Path.{_≡_};
 ghost use Prim.Native.Nat.{_+_, _*_, _≤_};
 ghost use lib.ListN.{length};
 ghost use Rattle.card.specs.Layout.{greatestNodes};
+ghost use Rattle.free_nodes.specs.NodeSet.{nodesOf};
 ghost use Rattle.soundness.specs.Check.{findingsOf, tableCheck};
 ghost use Rattle.opening.specs.Opening.{openSound, openChecked, openOf};
 ghost use Rattle.state.specs.Results.{handedOf};
 
 // A sound table is opened. The run may be any number here, so 3 is taken from the free nodes and not added to it.
-fn open_sound(n: usize, found: Survey) -> Beginning
-    ensures { λ r. ⌜ handedOf r ≡ openSound n (findingsOf found) ⌝ }
+fn open_sound(n: usize, free: NodeSet, found: [u32; 3]) -> Beginning
+    ensures { λ r. ⌜ handedOf r ≡ openSound n (findingsOf (nodesOf (free .words)) found) ⌝ }
 {
-    let free = found.free;
     let count = free_nodes::count(&free.words);
     if count < 3 {
         return no_beginning(5);
     }
-    if count - 3 < found.run {
+    let run = found[RUN] as usize;
+    if count - 3 < run {
         return no_beginning(5);
     }
-    if found.violated {
-        let state = resting(n, free, Doing::Repairing { key: found.key });
+    if found[VIOLATED] != 0 {
+        let state = resting(n, free, Doing::Repairing { key: found[KEY] });
         return Beginning {
             begun: Begun::Started,
             state,
@@ -44,12 +49,13 @@ fn open_checked(card: &[u32], n: usize) -> Beginning
     requires { ⌜ (length (now card) ≡ 8 + 24 * n) × (n ≤ greatestNodes) ⌝ }
     ensures { λ r. ⌜ handedOf r ≡ openChecked n (tableCheck (now (card .entry)) n) ⌝ }
 {
-    let checked = soundness::check_table(card, n);
-    if !checked.ok {
-        return no_beginning(4);
+    let mut words: [u32; free_nodes::WORDS] = [0; free_nodes::WORDS];
+    let mut found: [u32; 3] = [0; 3];
+    let checked = soundness::check_table(card, n, &mut words, &mut found);
+    match checked {
+        Checked::Unsound => no_beginning(4),
+        Checked::Sound(_) => open_sound(n, NodeSet { words }, found),
     }
-    let found = checked.survey;
-    open_sound(n, found)
 }
 
 // "Opening stores nothing, works out the free nodes, and hands back an idle state, or one with the repair in progress".

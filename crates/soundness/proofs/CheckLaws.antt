@@ -6,17 +6,18 @@ use mathlib.Core.Option.{Option, none, some}
 use Prim.Native.Nat.{ℕ, zero, suc, _+_, _-_, _≤_, _<_}
 use native.Mathlib.Omega.{arith}
 use native.Mathlib.Numerals.{add-one}
-use lib.ListN.{length, set, getD, take, drop, drop-of-length-le}
+use lib.ListN.{length, length-set, set, getD, take, drop, drop-of-length-le}
 use lib.Seq.{take-nil, drop-cons, getD-take, getD-drop, slice, slice-cons, slice-empty, drop-drop}
-use lib.Dec.{ltb, eqb}
-use borrow.Author.Tests.{ltb-false, lt-ltb, le-ltb, le-leb, lt-leb, eqb-false, ne-eqb, eq-eqb}
+use lib.Dec.{ltb, leb, eqb}
+use borrow.Author.Tests.{ltb-false, lt-ltb, le-ltb, eqb-false, ne-eqb, eq-eqb}
 use Rattle.card.specs.Layout.{nodeAt, kindOf, keyWords, valueWords, children, routingKeys, leafPairs, runBelow}
 use Rattle.card.proofs.NodeLaws.{length-keyWords, get-keyWord, children-words, routing-words, length-routing}
 use Rattle.laws.proofs.Cases.{order, guard-some, bind-some, impossible}
 use Rattle.laws.specs.Cases.{pick, guard, bind}
 use Rattle.laws.specs.Lists.{allZero, zeroAfter}
-use Rattle.soundness.specs.Check.{Findings, findingsOf, checkedOf, member, leafSound, unusedZero, Look, lookOf, noted, enterLeaf, innerSound, enterInner, enterKind, enterNode, ChildCheck, childrenCheck, raised, onLook, nodeCheck, bad, leaf, inner, slotSound, rangeEnd}
+use Rattle.soundness.specs.Check.{Least, Findings, findingsOf, checkedOf, heightOf, member, leafSound, unusedZero, Look, lookOf, noted, enterLeaf, innerSound, enterInner, enterKind, enterNode, ChildCheck, childrenCheck, raised, onLook, nodeCheck, bad, leaf, inner, slotSound, rangeEnd}
 use Rattle.soundness.specs.declared.Checked.{Checked}
+use Rattle.soundness.specs.declared.Checked.the-variants.{Unsound, Sound}
 use Rattle.soundness.specs.declared.Entry.{Entry}
 use Rattle.soundness.specs.declared.Entry.the-variants.{Refused, Leaf, Inner}
 
@@ -39,36 +40,73 @@ module _ (node : List ℕ) (len : length node ≡ 24) (k j : ℕ) where
   unfolding member
   member-end h = rw (drop-of-length-le (keyWords node) {i = j} (omega (arith, length-keyWords node len)))
 
+-- what is not sound from slot i on is not sound
+from-slot : (low high i : ℕ) (ks : List ℕ) → leafSound low high (drop i ks) ≡ false → leafSound low high ks ≡ false
+unfolding leafSound
+from-slot low high zero ks e = e
+from-slot low high (suc i) [] e = e
+from-slot low high (suc i) (k ∷ ks) e = rw (from-slot low high i ks e) (go (slotSound low high k ks))
+  where
+    go : (b : Bool) → (b && false) ≡ false
+    go true = refl
+    go false = refl
+
 module _ (low high k : ℕ) (ks : List ℕ) where
-  pub slot-empty : k ≡ 0 → slotSound low high k ks ≡ true
+  slot-empty : k ≡ 0 → slotSound low high k ks ≡ true
   unfolding slotSound
   slot-empty e = simp (eq-eqb k 0 e)
 
-  pub slot-below : (k ≡ 0 → ⊥) → k < low → slotSound low high k ks ≡ false
+  slot-key : (k ≡ 0 → ⊥) → slotSound low high k ks ≡ ((leb low k && ltb k high) && not (member k ks))
   unfolding slotSound
-  slot-below p h = simp (ne-eqb k 0 p, lt-leb low k h)
+  slot-key p = rw (ne-eqb k 0 p) (go (leb low k))
+    where
+      go : (b : Bool) → (b && (ltb k high && not (member k ks))) ≡ ((b && ltb k high) && not (member k ks))
+      go true = refl
+      go false = refl
 
-  pub slot-above : (k ≡ 0 → ⊥) → low ≤ k → high ≤ k → slotSound low high k ks ≡ false
-  unfolding slotSound
-  slot-above p h g = simp (ne-eqb k 0 p, le-leb low k h, le-ltb k high g)
-
-  pub slot-within : (k ≡ 0 → ⊥) → low ≤ k → k < high → slotSound low high k ks ≡ not (member k ks)
-  unfolding slotSound
-  slot-within p h g = simp (ne-eqb k 0 p, le-leb low k h, lt-ltb k high g)
-
-module _ (node : List ℕ) (len : length node ≡ 24) (low high i : ℕ) where
-  pub leaf-stop : i < 11 → slotSound low high (getD node (1 + i) 0) (drop (i + 1) (keyWords node)) ≡ false → leafSound low high (drop i (keyWords node)) ≡ false
+module _ (node : List ℕ) (len : length node ≡ 24) (low high i : ℕ) (h : i < 11) where
+  leaf-slot : leafSound low high (drop i (keyWords node))
+      ≡ (slotSound low high (getD node (1 + i) 0) (drop (i + 1) (keyWords node)) && leafSound low high (drop (i + 1) (keyWords node)))
   unfolding leafSound
-  leaf-stop h e = ap (leafSound low high) (key-drop node len i h) ∙ rw e
+  leaf-slot = ap (leafSound low high) (key-drop node len i h)
 
-  pub leaf-next : i < 11 → slotSound low high (getD node (1 + i) 0) (drop (i + 1) (keyWords node)) ≡ true
-      → leafSound low high (drop i (keyWords node)) ≡ leafSound low high (drop (i + 1) (keyWords node))
-  unfolding leafSound
-  leaf-next h e = ap (leafSound low high) (key-drop node len i h) ∙ rw e
+  pub leaf-empty : getD node (1 + i) 0 ≡ 0 → leafSound low high (drop i (keyWords node)) ≡ leafSound low high (drop (i + 1) (keyWords node))
+  leaf-empty e = leaf-slot ∙ rw (slot-empty low high (getD node (1 + i) 0) (drop (i + 1) (keyWords node)) e)
 
-  pub leaf-end : 11 ≤ i → leafSound low high (drop i (keyWords node)) ≡ true
-  unfolding leafSound
-  leaf-end h = rw (drop-of-length-le (keyWords node) {i = i} (omega (arith, length-keyWords node len)))
+  module _ (p : getD node (1 + i) 0 ≡ 0 → ⊥) where
+    pub leaf-key : (leb low (getD node (1 + i) 0) && ltb (getD node (1 + i) 0) high) ≡ true
+        → not (member (getD node (1 + i) 0) (drop (i + 1) (keyWords node))) ≡ true
+        → leafSound low high (drop i (keyWords node)) ≡ leafSound low high (drop (i + 1) (keyWords node))
+    leaf-key e f = leaf-slot ∙ rw (slot-key low high (getD node (1 + i) 0) (drop (i + 1) (keyWords node)) p, e, f)
+
+    pub leaf-outside : (leb low (getD node (1 + i) 0) && ltb (getD node (1 + i) 0) high) ≡ false → leafSound low high (keyWords node) ≡ false
+    leaf-outside e = from-slot low high i (keyWords node) (leaf-slot ∙ rw (slot-key low high (getD node (1 + i) 0) (drop (i + 1) (keyWords node)) p, e))
+
+    pub leaf-repeated : not (member (getD node (1 + i) 0) (drop (i + 1) (keyWords node))) ≡ false → leafSound low high (keyWords node) ≡ false
+    leaf-repeated e =
+        from-slot low high i (keyWords node)
+        (leaf-slot ∙ rw (slot-key low high (getD node (1 + i) 0) (drop (i + 1) (keyWords node)) p, e) (go (leb low (getD node (1 + i) 0) && ltb (getD node (1 + i) 0) high)))
+      where
+        go : (b : Bool) → ((b && false) && leafSound low high (drop (i + 1) (keyWords node))) ≡ false
+        go true = refl
+        go false = refl
+
+pub leaf-none : (node : List ℕ) → length node ≡ 24 → (low high i : ℕ) → 11 ≤ i → leafSound low high (drop i (keyWords node)) ≡ true
+unfolding leafSound
+leaf-none node len low high i h = rw (drop-of-length-le (keyWords node) {i = i} (omega (arith, length-keyWords node len)))
+
+-- ---- the least key of the later slots
+
+module _ (node : List ℕ) (len : length node ≡ 24) where
+  pub least-none : (least i : ℕ) → 11 ≤ i → Least least (drop i (keyWords node))
+  least-none least i h k p l = member-end node len k i h
+
+  module _ (least i : ℕ) (h : i < 11) (all : Least least (drop (i + 1) (keyWords node))) where
+    pub least-empty : getD node (1 + i) 0 ≡ 0 → Least least (drop i (keyWords node))
+    least-empty e k p l = member-next node len k i h (λ z. p (sym z ∙ e)) ∙ all k p l
+
+    pub least-more : (new : ℕ) → new ≤ getD node (1 + i) 0 → new ≤ least → Least new (drop i (keyWords node))
+    least-more new a b k p l = member-next node len k i h (λ z. omega arith) ∙ all k p (omega arith)
 
 -- ---- words that must be 0
 
@@ -299,28 +337,52 @@ enter-children card n m low high run root f c g e =
     let nz : m ≡ 0 → ⊥ = eqb-false m 0 (p .0) in
     record { one = omega arith; within = ltb-false n m (q .0); counted = k .0; some-child = k .1 }
 
--- ---- what the code answers, as a height and what was learnt
+-- ---- the words of findings
 
-pub checked-ok : (r : Checked) → r .ok ≡ true → checkedOf r ≡ some (r .height, findingsOf (r .survey))
-unfolding checkedOf
-checked-ok r e = rw e
+-- all three stored anew
+pub found-stored : (free : List Bool) (found : List ℕ) (v key run : ℕ) → length found ≡ 3
+    → findingsOf free (set (set (set found 0 v) 1 key) 2 run) ≡ record { free = free; violated = not (eqb v 0); key = key; run = run }
+unfolding findingsOf
+found-stored free [] v key run e = absurd (omega arith)
+found-stored free (a ∷ []) v key run e = absurd (omega arith)
+found-stored free (a ∷ b ∷ []) v key run e = absurd (omega arith)
+found-stored free (a ∷ b ∷ c ∷ found) v key run e = refl
 
-pub checked-bad : (r : Checked) → r .ok ≡ false → checkedOf r ≡ none
-unfolding checkedOf
-checked-bad r e = rw e
+pub stored-length : (found : List ℕ) (v key run : ℕ) → length (set (set (set found 0 v) 1 key) 2 run) ≡ length found
+stored-length found v key run = length-set (set (set found 0 v) 1 key) 2 run ∙ length-set (set found 0 v) 1 key ∙ length-set found 0 v
 
-pub raised-tagged : (r : Option (ℕ × Findings)) → raised true r ≡ r
-unfolding raised
-raised-tagged none = refl
-raised-tagged (some r) = refl
+-- the first violation is noted, a second one is refused
+module _ (free : List Bool) (found : List ℕ) (entry : Entry) (key run : ℕ) where
+  pub noted-first : length found ≡ 3 → getD found 0 0 ≡ 0
+      → lookOf entry (findingsOf free (set (set (set found 0 1) 1 key) 2 run)) ≡ noted true entry (findingsOf free found) key run
+  unfolding noted findingsOf
+  noted-first l e = ap (lookOf entry) (found-stored free found 1 key run l) ∙ rw (eq-eqb (getD found 0 0) 0 e)
 
-pub raised-more : (r : Checked) → pick (r .ok) (some (r .height + 1, findingsOf (r .survey))) none ≡ raised false (checkedOf r)
-unfolding raised checkedOf
-raised-more r = go (r .ok)
-  where
-    go : (ok : Bool) → pick ok (some (r .height + 1, findingsOf (r .survey))) none ≡ raised false (pick ok (some (r .height, findingsOf (r .survey))) none)
-    go true = rw (add-one (r .height))
-    go false = refl
+  pub noted-again : (getD found 0 0 ≡ 0 → ⊥) → bad ≡ noted true entry (findingsOf free found) key run
+  unfolding noted findingsOf
+  noted-again p = rw (ne-eqb (getD found 0 0) 0 p)
+
+-- ---- the answer for the children as the answer for their parent
+
+abbrev Raise : Bool → Checked → Checked → Type 0
+Raise tagged r a = ((f : Findings) → checkedOf a f ≡ raised tagged (checkedOf r f)) × (heightOf a ≤ heightOf r + 1)
+
+pub raise-unsound : (tagged : Bool) (r : Checked) → r ≡ Unsound → Raise tagged r Unsound
+unfolding checkedOf heightOf raised
+raise-unsound tagged r e = (λ f. rw e, omega arith)
+
+pub sound-height : (r : Checked) (height : ℕ) → r ≡ Sound height → heightOf r ≡ height
+unfolding heightOf
+sound-height r height e = ap heightOf e
+
+module _ (tagged : Bool) (r : Checked) (height : ℕ) (e : r ≡ Sound height) where
+  pub raise-tagged : tagged ≡ true → Raise tagged r (Sound height)
+  unfolding checkedOf heightOf raised
+  raise-tagged t = (λ f. rw (e, t), omega (arith, sound-height r height e))
+
+  pub raise-more : tagged ≡ false → Raise tagged r (Sound (height + 1))
+  unfolding checkedOf heightOf raised
+  raise-more t = (λ f. rw (e, t, add-one height), omega (arith, sound-height r height e))
 
 -- no check of a child succeeds, and there is a child
 pub children-none : (check : ChildCheck) → ((low high m : ℕ) (f : Findings) → check low high m f ≡ none)

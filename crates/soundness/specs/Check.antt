@@ -1,17 +1,19 @@
 -- The check of a table as it is computed. That it accepts exactly the sound tables is a theorem of the crate soundness_theory.
+use mathlib.Core.Path.{_≡_}
 use mathlib.Core.Bool.{Bool, true, false, _&&_, _||_, not}
 use mathlib.Core.List.{List, [], _∷_}
 use mathlib.Core.Option.{Option, none, some}
-use Prim.Native.Nat.{ℕ, zero, suc, _-_}
+use Prim.Native.Nat.{ℕ, zero, suc, _-_, _<_}
 use lib.ListN.{length, getD, set, drop}
 use lib.Dec.{eqb, ltb, leb}
 use Rattle.laws.specs.Cases.{pick, guard, bind}
 use Rattle.laws.specs.Lists.{zeroAfter}
 use Rattle.card.specs.Layout.{lowestKey, keyLimit, rootPlace, depthLimit, nodeAt, kindOf, keyWords, valueWords, children, routingKeys, leafPairs, runBelow}
-use Rattle.free_nodes.specs.NodeSet.{nodesOf, allNodes}
-use Rattle.soundness.specs.declared.Survey.{Survey}
+use Rattle.free_nodes.specs.NodeSet.{allNodes}
 use Rattle.soundness.specs.declared.Checked.{Checked}
-use Rattle.soundness.specs.declared.Entered.{Entered}
+use Rattle.soundness.specs.declared.Checked.the-variants.{Unsound, Sound}
+use Rattle.soundness.specs.declared.leaves.Counted.{Counted}
+use Rattle.soundness.specs.declared.leaves.Counted.the-variants.{Unsound as Miscounted, Pairs}
 use Rattle.soundness.specs.declared.Entry.{Entry}
 use Rattle.soundness.specs.declared.Entry.the-variants.{Refused, Leaf, Inner}
 use Rattle.soundness.specs.declared.RangeEnd.{RangeEnd}
@@ -24,12 +26,18 @@ pub record Findings : Type 0 where
   pub key : ℕ
   pub run : ℕ
 
-unfoldable pub findingsOf : Survey → Findings
-findingsOf s = record { free = nodesOf (s .free .words); violated = s .violated; key = s .key; run = s .run }
+-- the same as the code holds it: the free nodes, and the three words of findings
+unfoldable pub findingsOf : List Bool → List ℕ → Findings
+findingsOf free found = record { free = free; violated = not (eqb (getD found 0 0) 0); key = getD found 1 0; run = getD found 2 0 }
 
 -- the height of a sound part, and what was learnt
-unfoldable pub checkedOf : Checked → Option (ℕ × Findings)
-checkedOf r = pick (r .ok) (some (r .height, findingsOf (r .survey))) none
+unfoldable pub checkedOf : Checked → Findings → Option (ℕ × Findings)
+checkedOf Unsound f = none
+checkedOf (Sound height) f = some (height, f)
+
+unfoldable pub heightOf : Checked → ℕ
+heightOf Unsound = 0
+heightOf (Sound height) = height
 
 -- whether a key is one of the words
 unfoldable pub member : ℕ → List ℕ → Bool
@@ -44,6 +52,15 @@ slotSound low high k ks = pick (eqb k 0) true (leb low k && (ltb k high && not (
 unfoldable pub leafSound : ℕ → ℕ → List ℕ → Bool
 leafSound low high [] = true
 leafSound low high (k ∷ ks) = slotSound low high k ks && leafSound low high ks
+
+-- no key below `least` is one of the words
+abbrev pub Least : ℕ → List ℕ → Type 0
+Least least ks = (k : ℕ) → (k ≡ 0 → ⊥) → k < least → member k ks ≡ false
+
+-- what the code's count of a leaf's pairs tells
+abbrev pub Counts : Counted → Bool → ℕ → Type 0
+Counts Miscounted sound pairs = sound ≡ false
+Counts (Pairs n) sound pairs = (sound ≡ true) × (n ≡ pairs)
 
 -- "all other words but the kind are 0", for c children
 unfoldable pub unusedZero : List ℕ → ℕ → Bool
@@ -60,8 +77,9 @@ lookOf Refused f = bad
 lookOf Leaf f = leaf f
 lookOf (Inner c) f = inner c f
 
-unfoldable pub entryOf : Entered → Look
-entryOf r = lookOf (r .entry) (findingsOf (r .survey))
+-- a look that leaves the words of findings so, whatever nodes are free
+abbrev pub Looks : Entry → List ℕ → List ℕ → (Findings → Look) → Type 0
+Looks entry before after look = (free : List Bool) → lookOf entry (findingsOf free after) ≡ look (findingsOf free before)
 
 -- "A sound table has at most one fault": the entry with a violation noted where there is one, bad where it is the second
 unfoldable pub noted : Bool → Entry → Findings → ℕ → ℕ → Look

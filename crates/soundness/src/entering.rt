@@ -1,133 +1,101 @@
 // A first look at a node: its number, its kind, its words, and whether it is a violation.
-use crate::Entered;
 use crate::Entry;
-use crate::Survey;
-use crate::leaves::leaf_is_sound;
+use crate::KEY;
+use crate::RUN;
+use crate::VIOLATED;
+use crate::leaves::Counted;
+use crate::leaves::leaf_pairs;
 use crate::unused::unused_is_zero;
 ghost use mathlib.Core.Path.{_≡_};
 ghost use mathlib.Core.Bool.{true};
 ghost use Prim.Native.Nat.{_+_, _*_, _≤_};
 ghost use lib.ListN.{length};
 ghost use Rattle.card.specs.Layout.{greatestNodes};
-ghost use Rattle.soundness.specs.Check.{findingsOf, noted, entryOf, enterLeaf, enterInner, enterKind, enterNode};
+ghost use Rattle.free_nodes.specs.NodeSet.{wordCount, nodesOf};
+ghost use Rattle.soundness.specs.Check.{findingsOf, noted, lookOf, Looks, enterLeaf, enterInner, enterKind, enterNode};
 
-// The survey with one violation more; refused where there was one before.
-fn with_violation(s: Survey, entry: Entry, key: u32, run: usize) -> Entered
-    ensures { λ r. ⌜ entryOf r ≡ noted true entry (findingsOf s) key run ⌝ }
+// One violation more goes into the findings; refused where there was one before.
+fn with_violation(found: &mut [u32], entry: Entry, key: u32, run: u32) -> Entry
+    requires { ⌜ length (now found) ≡ 3 ⌝ }
+    ensures { λ r. ⌜ Looks r (now (found .entry)) (now (found .exit)) (λ f. noted true entry f key run) ⌝ }
 {
-    if s.violated {
-        return Entered {
-            entry: Entry::Refused,
-            survey: s,
-        };
+    if found[VIOLATED] != 0 {
+        return Entry::Refused;
     }
-    let f = s.free;
-    Entered {
-        entry,
-        survey: Survey {
-            free: f,
-            violated: true,
-            key,
-            run,
-        },
-    }
+    found[VIOLATED] = 1;
+    found[KEY] = key;
+    found[RUN] = run;
+    entry
 }
 
 // A leaf is looked at, its number already taken off the free nodes.
-fn enter_leaf(node: &[u32], low: u32, high: u64, root: bool, s: Survey) -> Entered
-    requires { ⌜ length (now node) ≡ 24 ⌝ }
-    ensures { λ r. ⌜ entryOf r ≡ enterLeaf (now (node .entry)) low high root (findingsOf s) ⌝ }
+fn enter_leaf(node: &[u32], low: u32, high: u64, root: bool, found: &mut [u32]) -> Entry
+    requires { ⌜ (length (now node) ≡ 24) × (length (now found) ≡ 3) ⌝ }
+    ensures { λ r. ⌜ Looks r (now (found .entry)) (now (found .exit)) (enterLeaf (now (node .entry)) low high root) ⌝ }
 {
-    if !leaf_is_sound(node, low, high) {
-        return Entered {
-            entry: Entry::Refused,
-            survey: s,
-        };
-    }
+    let Counted::Pairs(count) = leaf_pairs(node, low, high) else {
+        return Entry::Refused;
+    };
     if root {
-        return Entered {
-            entry: Entry::Leaf,
-            survey: s,
-        };
+        return Entry::Leaf;
     }
-    let count = card::pair_count(node);
     if count == 0 {
-        return Entered {
-            entry: Entry::Refused,
-            survey: s,
-        };
+        return Entry::Refused;
     }
     if count < 2 {
-        return with_violation(s, Entry::Leaf, low, 0);
+        return with_violation(found, Entry::Leaf, low, 0);
     }
-    Entered {
-        entry: Entry::Leaf,
-        survey: s,
-    }
+    Entry::Leaf
 }
 
 // An internal node, tagged or not, is looked at, its number already taken off the free nodes.
-fn enter_inner(node: &[u32], tagged: bool, low: u32, run: usize, root: bool, s: Survey) -> Entered
-    requires { ⌜ length (now node) ≡ 24 ⌝ }
-    ensures { λ r. ⌜ entryOf r ≡ enterInner (now (node .entry)) tagged low run root (findingsOf s) ⌝ }
+fn enter_inner(
+    node: &[u32],
+    tagged: bool,
+    low: u32,
+    run: u32,
+    root: bool,
+    found: &mut [u32],
+) -> Entry
+    requires { ⌜ (length (now node) ≡ 24) × (length (now found) ≡ 3) ⌝ }
+    ensures { λ r. ⌜ Looks r (now (found .entry)) (now (found .exit)) (enterInner (now (node .entry)) tagged low run root) ⌝ }
 {
     let c = card::child_count(node);
     if c == 0 {
-        return Entered {
-            entry: Entry::Refused,
-            survey: s,
-        };
+        return Entry::Refused;
     }
     if !unused_is_zero(node, c) {
-        return Entered {
-            entry: Entry::Refused,
-            survey: s,
-        };
+        return Entry::Refused;
     }
     if tagged {
         if root {
-            return Entered {
-                entry: Entry::Refused,
-                survey: s,
-            };
+            return Entry::Refused;
         }
         if c != 2 {
-            return Entered {
-                entry: Entry::Refused,
-                survey: s,
-            };
+            return Entry::Refused;
         }
-        return with_violation(s, Entry::Inner(c), low, run);
+        return with_violation(found, Entry::Inner(c), low, run);
     }
     if c < 2 {
         if root {
-            return Entered {
-                entry: Entry::Refused,
-                survey: s,
-            };
+            return Entry::Refused;
         }
-        return with_violation(s, Entry::Inner(c), low, 0);
+        return with_violation(found, Entry::Inner(c), low, 0);
     }
-    Entered {
-        entry: Entry::Inner(c),
-        survey: s,
-    }
+    Entry::Inner(c)
 }
 
 // A node is looked at by its kind, its number already taken off the free nodes.
-fn enter_kind(node: &[u32], low: u32, high: u64, run: usize, root: bool, s: Survey) -> Entered
-    requires { ⌜ length (now node) ≡ 24 ⌝ }
-    ensures { λ r. ⌜ entryOf r ≡ enterKind (now (node .entry)) low high run root (findingsOf s) ⌝ }
+fn enter_kind(node: &[u32], low: u32, high: u64, run: u32, root: bool, found: &mut [u32]) -> Entry
+    requires { ⌜ (length (now node) ≡ 24) × (length (now found) ≡ 3) ⌝ }
+    ensures { λ r. ⌜ Looks r (now (found .entry)) (now (found .exit)) (enterKind (now (node .entry)) low high run root) ⌝ }
 {
     let kind = node[0];
     match kind {
-        1 => enter_leaf(node, low, high, root, s),
-        2 => enter_inner(node, false, low, run, root, s),
-        3 => enter_inner(node, true, low, run, root, s),
-        _ => Entered {
-            entry: Entry::Refused,
-            survey: s,
-        },
+        1 => enter_leaf(node, low, high, root, found),
+        2 => enter_inner(node, false, low, run, root, found),
+        3 => enter_inner(node, true, low, run, root, found),
+        _ => Entry::Refused,
     }
 }
 
@@ -138,39 +106,27 @@ pub fn enter(
     m: usize,
     low: u32,
     high: u64,
-    run: usize,
+    run: u32,
     root: bool,
-    s: Survey,
-) -> Entered
-    requires { ⌜ (length (now card) ≡ 8 + 24 * n) × (n ≤ greatestNodes) ⌝ }
-    ensures { λ r. ⌜ entryOf r ≡ enterNode (now (card .entry)) n m low high run root (findingsOf s) ⌝ }
+    free: &mut [u32],
+    found: &mut [u32],
+) -> Entry
+    requires { ⌜ (length (now card) ≡ 8 + 24 * n) × (n ≤ greatestNodes) × (length (now free) ≡ wordCount) × (length (now found) ≡ 3) ⌝ }
+    ensures { λ r. ⌜ lookOf r (findingsOf (nodesOf (now (free .exit))) (now (found .exit))) ≡ enterNode (now (card .entry)) n m low high run root (findingsOf (nodesOf (now (free .entry))) (now (found .entry))) ⌝ }
 {
     if m == 0 {
-        return Entered {
-            entry: Entry::Refused,
-            survey: s,
-        };
+        return Entry::Refused;
     }
     if n < m {
-        return Entered {
-            entry: Entry::Refused,
-            survey: s,
-        };
+        return Entry::Refused;
     }
-    let f = s.free;
-    if !free_nodes::contains(&f.words, m) {
-        return Entered {
-            entry: Entry::Refused,
-            survey: s,
-        };
+    if !free_nodes::contains(free, m) {
+        return Entry::Refused;
     }
     let node = card::node_at(card, m);
     if node[23] != 0 {
-        return Entered {
-            entry: Entry::Refused,
-            survey: s,
-        };
+        return Entry::Refused;
     }
-    let left = free_nodes::without_node(f, m);
-    enter_kind(node, low, high, run, root, Survey { free: left, ..s })
+    free_nodes::take_out(free, m);
+    enter_kind(node, low, high, run, root, found)
 }

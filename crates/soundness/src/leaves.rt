@@ -1,10 +1,12 @@
 // One leaf: "A leaf is sound when its keys are distinct and in its range".
 use crate::wide;
 ghost use mathlib.Core.Path.{_≡_};
-ghost use Prim.Native.Nat.{_+_, _<_};
+ghost use mathlib.Core.Bool.{_&&_, not};
+ghost use Prim.Native.Nat.{_+_, _≤_, _<_};
+ghost use lib.Dec.{ltb, leb};
 ghost use lib.ListN.{length, getD, drop};
-ghost use Rattle.card.specs.Layout.{keyWords};
-ghost use Rattle.soundness.specs.Check.{member, leafSound, slotSound};
+ghost use Rattle.card.specs.Layout.{keyWords, leafPairs};
+ghost use Rattle.soundness.specs.Check.{member, leafSound, Least, Counts};
 
 // Whether the key of slot i stands in a later slot too.
 fn is_repeated(node: &[u32], i: usize) -> bool
@@ -22,35 +24,60 @@ fn is_repeated(node: &[u32], i: usize) -> bool
     false
 }
 
-// Whether slot i is empty, or its key lies in the range from `low`, included, to `high`, excluded, and in no later slot.
-fn slot_is_sound(node: &[u32], i: usize, low: u32, high: u64) -> bool
-    requires { ⌜ (length (now node) ≡ 24) × (i < 11) ⌝ }
-    ensures { λ r. ⌜ r ≡ slotSound low high (getD (now (node .entry)) (1 + i) 0) (drop (i + 1) (keyWords (now (node .entry)))) ⌝ }
+// Whether a key lies in the range from `low`, included, to `high`, excluded.
+fn is_in_range(key: u32, low: u32, high: u64) -> bool
+    ensures { λ r. ⌜ r ≡ (leb low key && ltb key high) ⌝ }
 {
-    let key = node[1 + i];
-    if key == 0 {
-        return true;
-    }
     if key < low {
         return false;
     }
-    if high <= wide(key) {
-        return false;
+    wide(key) < high
+}
+
+// Whether the key of slot i stands in no later slot. Keys mostly rise from slot to slot: one below all later ones needs no search.
+fn is_new(node: &[u32], i: usize, least: u32) -> bool
+    requires { ⌜ (length (now node) ≡ 24) × (i < 11) × ((getD (now node) (1 + i) 0 ≡ 0) → ⊥) × Least least (drop (i + 1) (keyWords (now node))) ⌝ }
+    ensures { λ r. ⌜ r ≡ not (member (getD (now (node .entry)) (1 + i) 0) (drop (i + 1) (keyWords (now (node .entry))))) ⌝ }
+{
+    if node[1 + i] < least {
+        return true;
     }
     !is_repeated(node, i)
 }
 
-// Whether the keys of a leaf are distinct and in its range.
-pub fn leaf_is_sound(node: &[u32], low: u32, high: u64) -> bool
-    requires { ⌜ length (now node) ≡ 24 ⌝ }
-    ensures { λ r. ⌜ r ≡ leafSound low high (keyWords (now (node .entry))) ⌝ }
+fn lesser(a: u32, b: u32) -> u32
+    ensures { λ r. ⌜ (r ≤ a) × (r ≤ b) ⌝ }
 {
-    let mut i: usize = 0;
-    while i < 11 {
-        if !slot_is_sound(node, i, low, high) {
-            return false;
+    if a < b { a } else { b }
+}
+
+// What a look at all slots of a leaf finds.
+pub enum Counted {
+    Unsound,
+    Pairs(usize),
+}
+
+// How many pairs a leaf holds whose keys are distinct and in its range.
+pub fn leaf_pairs(node: &[u32], low: u32, high: u64) -> Counted
+    requires { ⌜ length (now node) ≡ 24 ⌝ }
+    ensures { λ r. ⌜ Counts r (leafSound low high (keyWords (now (node .entry)))) (length (leafPairs (now (node .entry)))) ⌝ }
+{
+    let mut least: u32 = 4294967295;
+    let mut pairs: usize = 0;
+    let mut i: usize = 11;
+    while 0 < i {
+        i -= 1;
+        let key = node[1 + i];
+        if key != 0 {
+            if !is_in_range(key, low, high) {
+                return Counted::Unsound;
+            }
+            if !is_new(node, i, least) {
+                return Counted::Unsound;
+            }
+            least = lesser(key, least);
+            pairs += 1;
         }
-        i += 1;
     }
-    true
+    Counted::Pairs(pairs)
 }

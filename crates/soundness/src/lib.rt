@@ -5,29 +5,28 @@ mod leaves;
 mod unused;
 
 use entering::enter;
-use free_nodes::NodeSet;
 ghost use mathlib.Core.Path.{_≡_};
 ghost use mathlib.Core.Bool.{true, false, _||_};
 ghost use Prim.Native.Nat.{_+_, _*_, _-_, _≤_, _<_};
 ghost use lib.ListN.{length, drop};
 ghost use lib.Dec.{eqb};
+ghost use Rattle.free_nodes.specs.NodeSet.{wordCount, nodesOf};
 ghost use Rattle.card.specs.Layout.{greatestNodes, depthLimit, children, routingKeys, runBelow};
-ghost use Rattle.soundness.specs.Check.{findingsOf, checkedOf, raised, childrenCheck, nodeCheck, tableCheck, rangeEnd, endOf};
+ghost use Rattle.soundness.specs.Check.{Findings, findingsOf, checkedOf, heightOf, raised, childrenCheck, nodeCheck, tableCheck, rangeEnd, endOf};
 
-// What was learnt so far: the nodes not reached; whether a violation was met, a key that leads to it, and how many
-// 11-child nodes stand without a break straight above it where it is a tagged node.
-pub struct Survey {
-    pub free: NodeSet,
-    pub violated: bool,
-    pub key: u32,
-    pub run: usize,
-}
+// What was learnt so far is lent: the nodes not reached, and three words of findings: whether a violation was met, a key that leads
+// to it, and how many 11-child nodes stand without a break straight above it where it is a tagged node. So no check copies it.
+pub const VIOLATED: usize = 0;
 
-// The answer of a check: whether the part is sound, its height (tagged nodes not counted) and what was learnt.
-pub struct Checked {
-    pub ok: bool,
-    pub height: usize,
-    pub survey: Survey,
+pub const KEY: usize = 1;
+
+pub const RUN: usize = 2;
+
+// The answer of a check: whether the part is sound, and its height (tagged nodes not counted). Where it is not, what the lent
+// words then hold says nothing.
+pub enum Checked {
+    Unsound,
+    Sound(usize),
 }
 
 // A number as a wider one.
@@ -44,13 +43,8 @@ pub enum Entry {
     Inner(usize),
 }
 
-struct Entered {
-    pub entry: Entry,
-    pub survey: Survey,
-}
-
 // How many 11-child nodes stand without a break straight above the children of a node with c children.
-fn child_run(c: usize, run: usize) -> usize
+fn child_run(c: usize, run: u32) -> u32
     requires { ⌜ run < depthLimit ⌝ }
     ensures { λ r. ⌜ r ≡ runBelow c run ⌝ }
 {
@@ -59,15 +53,18 @@ fn child_run(c: usize, run: usize) -> usize
 
 // The answer for the children as the answer for their parent, which is one level higher where it is not tagged.
 fn raise(r: Checked, tagged: bool) -> Checked
-    requires { ⌜ r .height < depthLimit ⌝ }
-    ensures { λ a. ⌜ (checkedOf a ≡ raised tagged (checkedOf r)) × (a .height ≤ r .height + 1) ⌝ }
+    requires { ⌜ heightOf r < depthLimit ⌝ }
+    ensures { λ a. ⌜ ((f : Findings) → checkedOf a f ≡ raised tagged (checkedOf r f)) ⌝ }
+    ensures { λ a. ⌜ heightOf a ≤ heightOf r + 1 ⌝ }
 {
-    if tagged {
-        return r;
-    }
-    Checked {
-        height: r.height + 1,
-        ..r
+    match r {
+        Checked::Unsound => Checked::Unsound,
+        Checked::Sound(height) => {
+            if tagged {
+                return Checked::Sound(height);
+            }
+            Checked::Sound(height + 1)
+        }
     }
 }
 
@@ -115,40 +112,27 @@ fn node_check(
     levels: usize,
     low: u32,
     high: u64,
-    run: usize,
+    run: u32,
     root: bool,
-    s: Survey,
+    free: &mut [u32],
+    found: &mut [u32],
 ) -> Checked
-    requires { ⌜ (length (now card) ≡ 8 + 24 * n) × (n ≤ greatestNodes) × (run + levels ≤ depthLimit) ⌝ }
-    ensures { λ r. ⌜ checkedOf r ≡ nodeCheck levels (now (card .entry)) n run root low high m (findingsOf s) ⌝ }
-    ensures { λ r. ⌜ r .height ≤ levels ⌝ }
+    requires { ⌜ (length (now card) ≡ 8 + 24 * n) × (n ≤ greatestNodes) × (run + levels ≤ depthLimit) × (length (now free) ≡ wordCount) × (length (now found) ≡ 3) ⌝ }
+    ensures { λ r. ⌜ checkedOf r (findingsOf (nodesOf (now (free .exit))) (now (found .exit))) ≡ nodeCheck levels (now (card .entry)) n run root low high m (findingsOf (nodesOf (now (free .entry))) (now (found .entry))) ⌝ }
+    ensures { λ r. ⌜ heightOf r ≤ levels ⌝ }
 {
-    let e = enter(card, n, m, low, high, run, root, s);
-    let found = e.survey;
-    let entry = e.entry;
+    let entry = enter(card, n, m, low, high, run, root, free, found);
     match entry {
-        Entry::Refused => Checked {
-            ok: false,
-            height: 0,
-            survey: found,
-        },
-        Entry::Leaf => Checked {
-            ok: true,
-            height: 0,
-            survey: found,
-        },
+        Entry::Refused => Checked::Unsound,
+        Entry::Leaf => Checked::Sound(0),
         Entry::Inner(c) => {
             if levels == 0 {
-                return Checked {
-                    ok: false,
-                    height: 0,
-                    survey: found,
-                };
+                return Checked::Unsound;
             }
             let node = card::node_at(card, m);
             let kind = node[0];
             let below = child_run(c, run);
-            let r = children_check(card, node, n, c, levels - 1, low, high, below, found);
+            let r = children_check(card, node, n, c, levels - 1, low, high, below, free, found);
             raise(r, kind == 3)
         }
     }
@@ -164,60 +148,45 @@ fn children_check(
     levels: usize,
     low: u32,
     high: u64,
-    run: usize,
-    s: Survey,
+    run: u32,
+    free: &mut [u32],
+    found: &mut [u32],
 ) -> Checked
-    requires { ⌜ (length (now card) ≡ 8 + 24 * n) × (n ≤ greatestNodes) × (length (now node) ≡ 24) × (c ≡ length (children (now node))) × (run + levels ≤ depthLimit) ⌝ }
-    ensures { λ r. ⌜ checkedOf r ≡ childrenCheck (nodeCheck levels (now (card .entry)) n run false) true 0 low high (routingKeys (now (node .entry))) (children (now (node .entry))) (findingsOf s) ⌝ }
-    ensures { λ r. ⌜ r .height ≤ levels ⌝ }
+    requires { ⌜ (length (now card) ≡ 8 + 24 * n) × (n ≤ greatestNodes) × (length (now node) ≡ 24) × (c ≡ length (children (now node))) × (run + levels ≤ depthLimit) × (length (now free) ≡ wordCount) × (length (now found) ≡ 3) ⌝ }
+    ensures { λ r. ⌜ checkedOf r (findingsOf (nodesOf (now (free .exit))) (now (found .exit))) ≡ childrenCheck (nodeCheck levels (now (card .entry)) n run false) true 0 low high (routingKeys (now (node .entry))) (children (now (node .entry))) (findingsOf (nodesOf (now (free .entry))) (now (found .entry))) ⌝ }
+    ensures { λ r. ⌜ heightOf r ≤ levels ⌝ }
 {
-    let mut found = s;
     let mut from = low;
     let mut height: usize = 0;
     let mut i: usize = 0;
     while i < c {
         let RangeEnd::At(to) = range_end(node, c, i, from, high) else {
-            return Checked {
-                ok: false,
-                height: 0,
-                survey: found,
-            };
+            return Checked::Unsound;
         };
         let m = node[12 + i] as usize;
-        let r = node_check(card, n, m, levels, from, to, run, false, found);
-        if !r.ok {
-            return r;
+        let Checked::Sound(its) = node_check(card, n, m, levels, from, to, run, false, free, found)
+        else {
+            return Checked::Unsound;
+        };
+        if !is_level(i == 0, its, height) {
+            return Checked::Unsound;
         }
-        if !is_level(i == 0, r.height, height) {
-            return Checked {
-                ok: false,
-                height: 0,
-                survey: found,
-            };
-        }
-        height = r.height;
-        found = r.survey;
+        height = its;
         from = node[1 + i];
         i += 1;
     }
-    Checked {
-        ok: true,
-        height,
-        survey: found,
-    }
+    Checked::Sound(height)
 }
 
 // The whole table of a card with n nodes, from its root.
-pub fn check_table(card: &[u32], n: usize) -> Checked
-    requires { ⌜ (length (now card) ≡ 8 + 24 * n) × (n ≤ greatestNodes) ⌝ }
-    ensures { λ r. ⌜ checkedOf r ≡ tableCheck (now (card .entry)) n ⌝ }
+pub fn check_table(card: &[u32], n: usize, free: &mut [u32], found: &mut [u32]) -> Checked
+    requires { ⌜ (length (now card) ≡ 8 + 24 * n) × (n ≤ greatestNodes) × (length (now free) ≡ wordCount) × (length (now found) ≡ 3) ⌝ }
+    ensures { λ r. ⌜ checkedOf r (findingsOf (nodesOf (now (free .exit))) (now (found .exit))) ≡ tableCheck (now (card .entry)) n ⌝ }
 {
-    let start = Survey {
-        free: free_nodes::all_nodes(n),
-        violated: false,
-        key: 0,
-        run: 0,
-    };
+    free_nodes::fill(free, n);
+    found[VIOLATED] = 0;
+    found[KEY] = 0;
+    found[RUN] = 0;
     node_check(
         card,
         n,
@@ -227,6 +196,7 @@ pub fn check_table(card: &[u32], n: usize) -> Checked
         card::KEY_LIMIT,
         0,
         true,
-        start,
+        free,
+        found,
     )
 }

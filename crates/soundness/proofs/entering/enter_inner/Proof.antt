@@ -1,10 +1,11 @@
+-- `soundness::entering::enter_inner` meets its contract.
 use mathlib.Core.Path.{sym, _∙_}
 use native.Mathlib.Omega.{arith}
 use borrow.Author.Tests.{not-true, not-false}
 use borrow.Author.Needs.{needs}
 use Rattle.card.proofs.NodeLaws.{children-le}
 use Rattle.soundness.proofs.CheckLaws.{enter-inner-none, enter-inner-unused, enter-tagged-root, enter-tagged-count, enter-tagged, enter-single-root, enter-single, enter-several}
-use Rattle.soundness.specs.Check.{entryOf, lookOf, findingsOf}
+use Rattle.soundness.specs.Check.{lookOf, findingsOf}
 use Rattle.soundness.proofs.entering.enter_inner.Statement.{statement}
 use Rattle.soundness.proofs.entering.enter_inner.Tie as tie
 
@@ -12,43 +13,49 @@ child-count-requires : tie.Need-child-count-requires
 child-count-requires c κs = search needs
 
 returns : tie.Need-returns
-unfolding entryOf lookOf
-returns c = sym (enter-inner-none (c .before .before .before .args .node .now) (c .before .before .before .args .tagged) (c .before .before .before .args .low) (c .before .before .before .args .run) (c .before .before .before .args .root) (findingsOf (c .before .before .before .args .s)) (c .before .child-count .result) (c .before .child-count .ensures) (c .if1 .taken))
+unfolding lookOf
+returns c free = sym (enter-inner-none (c .before .before .before .before .args .node .now) (c .before .before .before .before .args .tagged) (c .before .before .before .before .args .low) (c .before .before .before .before .args .run) (c .before .before .before .before .args .root) (findingsOf free (c .before .before .before .before .args .found .now)) (c .before .child-count .result) (c .before .child-count .ensures) (c .if1 .taken))
 
 unused-is-zero-requires : tie.Need-unused-is-zero-requires
-unused-is-zero-requires c κs = (search needs, omega arith, omega (arith, children-le (c .before .before .before .args .node .now), c .before .child-count .ensures))
+unused-is-zero-requires c κs = (search needs, omega arith, omega (arith, children-le (c .before .before .before .before .args .node .now), c .before .child-count .ensures))
 
 returns-2 : tie.Need-returns-2
-unfolding entryOf lookOf
-returns-2 c = sym (enter-inner-unused (c .before .before .before .before .before .args .node .now) (c .before .before .before .before .before .args .tagged) (c .before .before .before .before .before .args .low) (c .before .before .before .before .before .args .run) (c .before .before .before .before .before .args .root) (findingsOf (c .before .before .before .before .before .args .s)) (c .before .before .before .child-count .result) (c .before .before .before .child-count .ensures) (c .before .before .if1 .left) (sym (c .before .unused-is-zero .ensures) ∙ not-true _ (c .if2 .taken)))
+unfolding lookOf
+returns-2 c free = sym (enter-inner-unused (c .before .before .before .before .before .before .args .node .now) (c .before .before .before .before .before .before .args .tagged) (c .before .before .before .before .before .before .args .low) (c .before .before .before .before .before .before .args .run) (c .before .before .before .before .before .before .args .root) (findingsOf free (c .before .before .before .before .before .before .args .found .now)) (c .before .before .before .child-count .result) (c .before .before .before .child-count .ensures) (c .before .before .if1 .left) (sym (c .before .unused-is-zero .ensures) ∙ not-true _ (c .if2 .taken)))
 
 returns-3 : tie.Need-returns-3
-unfolding entryOf lookOf
-returns-3 c = sym (enter-tagged-root (c .before .before .before .before .before .before .before .args .node .now) (c .before .before .before .before .before .before .before .args .tagged) (c .before .before .before .before .before .before .before .args .low) (c .before .before .before .before .before .before .before .args .run) (c .before .before .before .before .before .before .before .args .root) (findingsOf (c .before .before .before .before .before .before .before .args .s)) (c .before .before .before .before .before .child-count .result) (c .before .before .before .before .before .child-count .ensures) (c .before .before .before .before .if1 .left) (sym (c .before .before .before .unused-is-zero .ensures) ∙ not-false _ (c .before .before .if2 .left)) (c .before .if3 .taken) (c .if4 .taken))
+unfolding lookOf
+returns-3 c free = sym (enter-tagged-root (c .before .before .before .before .before .before .before .before .args .node .now) (c .before .before .before .before .before .before .before .before .args .tagged) (c .before .before .before .before .before .before .before .before .args .low) (c .before .before .before .before .before .before .before .before .args .run) (c .before .before .before .before .before .before .before .before .args .root) (findingsOf free (c .before .before .before .before .before .before .before .before .args .found .now)) (c .before .before .before .before .before .child-count .result) (c .before .before .before .before .before .child-count .ensures) (c .before .before .before .before .if1 .left) (sym (c .before .before .before .unused-is-zero .ensures) ∙ not-false _ (c .before .before .if2 .left)) (c .before .if3 .taken) (c .if4 .taken))
 
 returns-4 : tie.Need-returns-4
-unfolding entryOf lookOf
-returns-4 c = sym (enter-tagged-count (c .before .before .before .before .before .before .before .before .args .node .now) (c .before .before .before .before .before .before .before .before .args .tagged) (c .before .before .before .before .before .before .before .before .args .low) (c .before .before .before .before .before .before .before .before .args .run) (c .before .before .before .before .before .before .before .before .args .root) (findingsOf (c .before .before .before .before .before .before .before .before .args .s)) (c .before .before .before .before .before .before .child-count .result) (c .before .before .before .before .before .before .child-count .ensures) (c .before .before .before .before .before .if1 .left) (sym (c .before .before .before .before .unused-is-zero .ensures) ∙ not-false _ (c .before .before .before .if2 .left)) (c .before .before .if3 .taken) (c .if5 .taken))
+unfolding lookOf
+returns-4 c free = sym (enter-tagged-count (c .before .before .before .before .before .before .before .before .before .args .node .now) (c .before .before .before .before .before .before .before .before .before .args .tagged) (c .before .before .before .before .before .before .before .before .before .args .low) (c .before .before .before .before .before .before .before .before .before .args .run) (c .before .before .before .before .before .before .before .before .before .args .root) (findingsOf free (c .before .before .before .before .before .before .before .before .before .args .found .now)) (c .before .before .before .before .before .before .child-count .result) (c .before .before .before .before .before .before .child-count .ensures) (c .before .before .before .before .before .if1 .left) (sym (c .before .before .before .before .unused-is-zero .ensures) ∙ not-false _ (c .before .before .before .if2 .left)) (c .before .before .if3 .taken) (c .if5 .taken))
 
 with-violation-requires : tie.Need-with-violation-requires
 with-violation-requires c κs = search needs
 
+same-length : tie.Need-same-length
+same-length c = search needs
+
 returns-5 : tie.Need-returns-5
-returns-5 c = c .with-violation .ensures ∙ sym (enter-tagged (c .before .before .before .before .before .before .before .before .before .args .node .now) (c .before .before .before .before .before .before .before .before .before .args .tagged) (c .before .before .before .before .before .before .before .before .before .args .low) (c .before .before .before .before .before .before .before .before .before .args .run) (c .before .before .before .before .before .before .before .before .before .args .root) (findingsOf (c .before .before .before .before .before .before .before .before .before .args .s)) (c .before .before .before .before .before .before .before .child-count .result) (c .before .before .before .before .before .before .before .child-count .ensures) (c .before .before .before .before .before .before .if1 .left) (sym (c .before .before .before .before .before .unused-is-zero .ensures) ∙ not-false _ (c .before .before .before .before .if2 .left)) (c .before .before .before .if3 .taken) (c .before .before .if4 .left) (c .before .if5 .left))
+returns-5 c free = c .before .before .with-violation .ensures free ∙ sym (enter-tagged (c .before .before .before .before .before .before .before .before .before .before .before .before .before .args .node .now) (c .before .before .before .before .before .before .before .before .before .before .before .before .before .args .tagged) (c .before .before .before .before .before .before .before .before .before .before .before .before .before .args .low) (c .before .before .before .before .before .before .before .before .before .before .before .before .before .args .run) (c .before .before .before .before .before .before .before .before .before .before .before .before .before .args .root) (findingsOf free (c .before .before .before .before .before .before .before .before .before .before .before .before .before .args .found .now)) (c .before .before .before .before .before .before .before .before .before .before .child-count .result) (c .before .before .before .before .before .before .before .before .before .before .child-count .ensures) (c .before .before .before .before .before .before .before .before .before .if1 .left) (sym (c .before .before .before .before .before .before .before .before .unused-is-zero .ensures) ∙ not-false _ (c .before .before .before .before .before .before .before .if2 .left)) (c .before .before .before .before .before .before .if3 .taken) (c .before .before .before .before .before .if4 .left) (c .before .before .before .before .if5 .left))
 
 returns-6 : tie.Need-returns-6
-unfolding entryOf lookOf
-returns-6 c = sym (enter-single-root (c .before .before .before .before .before .before .before .before .args .node .now) (c .before .before .before .before .before .before .before .before .args .tagged) (c .before .before .before .before .before .before .before .before .args .low) (c .before .before .before .before .before .before .before .before .args .run) (c .before .before .before .before .before .before .before .before .args .root) (findingsOf (c .before .before .before .before .before .before .before .before .args .s)) (c .before .before .before .before .before .before .child-count .result) (c .before .before .before .before .before .before .child-count .ensures) (c .before .before .before .before .before .if1 .left) (sym (c .before .before .before .before .unused-is-zero .ensures) ∙ not-false _ (c .before .before .before .if2 .left)) (c .before .before .if3 .left) (c .before .if6 .taken) (c .if7 .taken))
+unfolding lookOf
+returns-6 c free = sym (enter-single-root (c .before .before .before .before .before .before .before .before .before .args .node .now) (c .before .before .before .before .before .before .before .before .before .args .tagged) (c .before .before .before .before .before .before .before .before .before .args .low) (c .before .before .before .before .before .before .before .before .before .args .run) (c .before .before .before .before .before .before .before .before .before .args .root) (findingsOf free (c .before .before .before .before .before .before .before .before .before .args .found .now)) (c .before .before .before .before .before .before .child-count .result) (c .before .before .before .before .before .before .child-count .ensures) (c .before .before .before .before .before .if1 .left) (sym (c .before .before .before .before .unused-is-zero .ensures) ∙ not-false _ (c .before .before .before .if2 .left)) (c .before .before .if3 .left) (c .before .if6 .taken) (c .if7 .taken))
 
 with-violation-requires-2 : tie.Need-with-violation-requires-2
 with-violation-requires-2 c κs = search needs
 
+same-length-2 : tie.Need-same-length-2
+same-length-2 c = search needs
+
 returns-7 : tie.Need-returns-7
-returns-7 c = c .with-violation2 .ensures ∙ sym (enter-single (c .before .before .before .before .before .before .before .before .before .args .node .now) (c .before .before .before .before .before .before .before .before .before .args .tagged) (c .before .before .before .before .before .before .before .before .before .args .low) (c .before .before .before .before .before .before .before .before .before .args .run) (c .before .before .before .before .before .before .before .before .before .args .root) (findingsOf (c .before .before .before .before .before .before .before .before .before .args .s)) (c .before .before .before .before .before .before .before .child-count .result) (c .before .before .before .before .before .before .before .child-count .ensures) (c .before .before .before .before .before .before .if1 .left) (sym (c .before .before .before .before .before .unused-is-zero .ensures) ∙ not-false _ (c .before .before .before .before .if2 .left)) (c .before .before .before .if3 .left) (c .before .before .if6 .taken) (c .before .if7 .left))
+returns-7 c free = c .before .before .with-violation2 .ensures free ∙ sym (enter-single (c .before .before .before .before .before .before .before .before .before .before .before .before .before .args .node .now) (c .before .before .before .before .before .before .before .before .before .before .before .before .before .args .tagged) (c .before .before .before .before .before .before .before .before .before .before .before .before .before .args .low) (c .before .before .before .before .before .before .before .before .before .before .before .before .before .args .run) (c .before .before .before .before .before .before .before .before .before .before .before .before .before .args .root) (findingsOf free (c .before .before .before .before .before .before .before .before .before .before .before .before .before .args .found .now)) (c .before .before .before .before .before .before .before .before .before .before .child-count .result) (c .before .before .before .before .before .before .before .before .before .before .child-count .ensures) (c .before .before .before .before .before .before .before .before .before .if1 .left) (sym (c .before .before .before .before .before .before .before .before .unused-is-zero .ensures) ∙ not-false _ (c .before .before .before .before .before .before .before .if2 .left)) (c .before .before .before .before .before .before .if3 .left) (c .before .before .before .before .before .if6 .taken) (c .before .before .before .before .if7 .left))
 
 returns-8 : tie.Need-returns-8
-unfolding entryOf lookOf
-returns-8 c = sym (enter-several (c .before .before .before .before .before .before .before .args .node .now) (c .before .before .before .before .before .before .before .args .tagged) (c .before .before .before .before .before .before .before .args .low) (c .before .before .before .before .before .before .before .args .run) (c .before .before .before .before .before .before .before .args .root) (findingsOf (c .before .before .before .before .before .before .before .args .s)) (c .before .before .before .before .before .child-count .result) (c .before .before .before .before .before .child-count .ensures) (c .before .before .before .before .if1 .left) (sym (c .before .before .before .unused-is-zero .ensures) ∙ not-false _ (c .before .before .if2 .left)) (c .before .if3 .left) (c .if6 .left))
+unfolding lookOf
+returns-8 c free = sym (enter-several (c .before .before .before .before .before .before .before .before .args .node .now) (c .before .before .before .before .before .before .before .before .args .tagged) (c .before .before .before .before .before .before .before .before .args .low) (c .before .before .before .before .before .before .before .before .args .run) (c .before .before .before .before .before .before .before .before .args .root) (findingsOf free (c .before .before .before .before .before .before .before .before .args .found .now)) (c .before .before .before .before .before .child-count .result) (c .before .before .before .before .before .child-count .ensures) (c .before .before .before .before .if1 .left) (sym (c .before .before .before .unused-is-zero .ensures) ∙ not-false _ (c .before .before .if2 .left)) (c .before .if3 .left) (c .if6 .left))
 
 pub enter-inner-spec : {M : Type 1} → statement M
 enter-inner-spec =
@@ -61,8 +68,10 @@ enter-inner-spec =
     returns-3
     returns-4
     with-violation-requires
+    same-length
     returns-5
     returns-6
     with-violation-requires-2
+    same-length-2
     returns-7
     returns-8)
