@@ -13,9 +13,9 @@ use lib.ListN.{length, getD, drop, drop-of-length-le}
 use lib.Seq.{drop-cons, getD-take}
 use lib.Dec.{ltb, eqb}
 use borrow.Author.Tests.{lt-ltb, le-ltb, ne-eqb, eq-eqb}
-use Rattle.card.specs.Layout.{nodeAt, kindOf, keyWords, valueWords, children, routingKeys, leafPairs, depthLimit, runBelow}
+use Rattle.card.specs.Layout.{nodeAt, kindOf, keyWords, valueWords, children, routingKeys, leafPairs, depthLimit}
 use Rattle.card.proofs.NodeLaws.{length-keyWords, get-keyWord, get-valueWord, children-le, length-routing}
-use Rattle.descent.specs.Descent.{passed, childIndex, childFor, firstEqual, slotOf, lookAt, rootPosition, childPosition, Way, nowhere, past, byLook, wayFrom, reachedAt, leafOf, runOver, countOf, isFault, firstFault, ended, toList, endOf, searchOf, seek}
+use Rattle.descent.specs.Descent.{passed, childIndex, childFor, firstEqual, slotOf, lookAt, rootPosition, childPosition, Way, nowhere, past, byLook, wayFrom, reachedAt, leafOf, countOf, isFault, firstFault, ended, toList, endOf, searchOf, seek}
 use Rattle.laws.specs.Cases.{pick}
 use Rattle.laws.proofs.Cases.{order, impossible}
 use Rattle.laws.specs.Lists.{beforeZero}
@@ -295,12 +295,6 @@ deeper-on way depth l h = deeper-twice (way (depthLimit - depth - 1)) ∙ ap (λ
     deeper-twice : (r : Reached) → deeper depth (deeper 1 r) ≡ deeper (depth + 1) r
     deeper-twice NotReached = refl
     deeper-twice (ReachedLeaf m d) = ap (ReachedLeaf m) (omega arith)
-
--- ---- the run, read off the way
-
-pub run-past : (card : List ℕ) (run : ℕ) (p : Position) (w : Way) → runOver card run (past p w .inner) ≡ runOver card (runBelow (length (children (nodeAt card (p .node)))) run) (w .inner)
-unfolding runOver past
-run-past card run p w = refl
 
 -- ---- faults
 
