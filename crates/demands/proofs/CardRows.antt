@@ -1,23 +1,25 @@
 -- DEMAND 1, of find, formatting, opening and the starts.
 use mathlib.Core.Path.{_≡_, refl, ap, sym, _∙_}
 use mathlib.Core.Bool.{true, false}
-use mathlib.Core.List.{List}
+use mathlib.Core.List.{List, [], _∷_}
 use mathlib.Core.Logic.{_⊎_, inl, inr}
 use mathlib.Core.Option.{Option, none, some}
-use Prim.Native.Nat.{ℕ, _+_, _≤_, _<_}
+use Prim.Native.Nat.{ℕ, suc, _+_, _≤_, _<_}
 use native.Mathlib.Omega.{arith}
 use native.Mathlib.Decide.{ℕ-discrete}
-use lib.ListN.{length, getD}
+use lib.ListN.{length, getD, drop, length-take}
+use lib.Dec.{eqb}
 use borrow.Author.Tests.{ne-eqb, lt-ltb}
 use Rattle.card.specs.Header.{nodesOfLength, cardRefusal, Sized, Formatted}
-use Rattle.card.specs.Layout.{nodeAt}
+use Rattle.card.specs.Layout.{nodeAt, keyWords, valueWords}
+use Rattle.card.proofs.NodeLaws.{get-valueWord}
 use Rattle.card.specs.Replies.{Reply, refusal}
-use Rattle.demands.specs.Demand1.{Finds, HandsNone, StartsFormat, OpensTo}
+use Rattle.demands.specs.Demand1.{Finds, besideFirst, ReadsLeaf, HandsNone, StartsFormat, OpensTo}
 use Rattle.demands.specs.Refusals.{ByRows, nodesOn, NoCard, Unsound, Scarce, leadsTo, findRows, formatRows, openRows, end, row}
 use Rattle.demands.specs.RationTable.{workOf, handed, rationTable}
 use Rattle.demands.proofs.FirstRows.{sized?, no-nodes, by-card, card-one}
 use Rattle.demands.proofs.WayDown.{arrived, reachedLeaf, leaf-way}
-use Rattle.descent.specs.Descent.{slotOf, way, leafOf}
+use Rattle.descent.specs.Descent.{firstEqual, slotOf, way, leafOf}
 use Rattle.descent.specs.declared.Slot.{Slot}
 use Rattle.descent.specs.declared.Slot.the-variants.{At, Absent as NoSlot}
 use Rattle.descent.specs.declared.Reached.{Reached}
@@ -58,33 +60,53 @@ unfolding reachedLeaf
 leaf-none none e = refl
 leaf-none (some l) e = none-some (l .0) (sym e)
 
-found-works : (words : List ℕ) (s : Slot) → Finds (foundReply (foundIn words s))
-unfolding foundIn foundReply
-found-works words (At i) = inl (getD words (12 + i) 0, refl)
-found-works words NoSlot = inr refl
+leaf-some : (o : Option (ℕ × ℕ)) (m : ℕ) → reachedLeaf o ≡ some m → (j : ℕ) × (o ≡ some (m, j))
+unfolding reachedLeaf
+leaf-some none m e = none-some m e
+leaf-some (some (leaf, j)) m e = (j, cc)
 
-pub finds : (c : List ℕ) (key : ℕ) → ByRows (findRows c key) (λ r. rationTable .find c key ≡ refusal r) (Finds (rationTable .find c key))
+-- what is read in a leaf, from slot i on
+found-reads : (node : List ℕ) (key : ℕ) (ks : List ℕ) (i : ℕ) → i + length ks ≤ 11
+    → foundReply (foundIn node (firstEqual ks key i)) ≡ besideFirst key ks (valueWords node) i
+unfolding foundIn foundReply firstEqual besideFirst
+found-reads node key [] i h = refl
+found-reads node key (k ∷ ks) i h =
+    bool-cases (eqb k key) (λ y. rw (y, get-valueWord node i (omega arith))) (λ n. rw n (found-reads node key ks (suc i) (omega arith)))
+
+found-works : (node : List ℕ) (key : ℕ) → foundReply (foundIn node (slotOf node key)) ≡ besideFirst key (keyWords node) (valueWords node) 0
+unfolding slotOf keyWords
+found-works node key = found-reads node key (keyWords node) 0 (omega (arith, length-take 11 (drop 1 node)))
+
+pub reads-finds : (key : ℕ) (keys values : List ℕ) (i : ℕ) → Finds (besideFirst key keys values i)
+unfolding besideFirst
+reads-finds key [] values i = inr refl
+reads-finds key (k ∷ keys) values i =
+    bool-cases (eqb k key) (λ y. rw y (inl (getD values i 0, refl))) (λ n. rw n (reads-finds key keys values (suc i)))
+
+pub finds : (c : List ℕ) (key : ℕ) → ByRows (findRows c key) (λ r. rationTable .find c key ≡ refusal r) (ReadsLeaf c key (rationTable .find c key))
 unfolding ByRows foundAt foundReply arrived reachedLeaf
 finds c key =
-    by-card (row 6 (key ≡ 0) (row 9 (leadsTo c key ≡ none) end)) (λ r. foundReply (findOf c key) ≡ refusal r) (Finds (foundReply (findOf c key))) c (nodesOn c)
+    by-card (row 6 (key ≡ 0) (row 9 (leadsTo c key ≡ none) end)) (λ r. foundReply (findOf c key) ≡ refusal r) (ReadsLeaf c key (foundReply (findOf c key))) c (nodesOn c)
     (λ p. find-due c key 1 (card-one c p) (λ z. omega (arith, z)))
     (λ r s e d. find-due c key r (length-accepted c (nodesOn c) s ∙ e) d)
     past
   where
-    past : Sized (length c) (nodesOn c) → Formatted c (nodesOn c) → ByRows (row 6 (key ≡ 0) (row 9 (leadsTo c key ≡ none) end)) (λ r. foundReply (findOf c key) ≡ refusal r) (Finds (foundReply (findOf c key)))
+    past : Sized (length c) (nodesOn c) → Formatted c (nodesOn c) → ByRows (row 6 (key ≡ 0) (row 9 (leadsTo c key ≡ none) end)) (λ r. foundReply (findOf c key) ≡ refusal r) (ReadsLeaf c key (foundReply (findOf c key)))
     past s f = keyed (ℕ-discrete key 0)
       where
         a : (cardRefusal c ≡ 0) × (nodesOfLength (length c) ≡ nodesOn c)
         a = card-accepted s f
 
-        at : (key ≡ 0 → ⊥) → (x : Reached) → leafOf (way c (nodesOn c) key) ≡ x → ((leadsTo c key ≡ none) × (foundReply (findOf c key) ≡ refusal 9)) ⊎ ((leadsTo c key ≡ none → ⊥) × Finds (foundReply (findOf c key)))
+        at : (key ≡ 0 → ⊥) → (x : Reached) → leafOf (way c (nodesOn c) key) ≡ x → ((leadsTo c key ≡ none) × (foundReply (findOf c key) ≡ refusal 9)) ⊎ ((leadsTo c key ≡ none → ⊥) × ReadsLeaf c key (foundReply (findOf c key)))
         at d NotReached e = inl (leaf-none (leadsTo c key) (sym (leaf-way c key) ∙ ap arrived e), rw (find-key c key (a .0) d, a .1, e))
-        at d (ReachedLeaf m deep) e = inr (
-          λ z. none-some m (sym (ap reachedLeaf z) ∙ sym (leaf-way c key) ∙ ap arrived e),
-          rw (find-key c key (a .0) d, a .1, e) (found-works (nodeAt c m) (slotOf (nodeAt c m) key)),
-        )
+        at d (ReachedLeaf m deep) e =
+            let l = leaf-some (leadsTo c key) m (sym (leaf-way c key) ∙ ap arrived e) in
+            inr (
+              λ z. none-some (m, l .0) (sym z ∙ l .1),
+              record { leaf = m; j = l .0; leads = l .1; read = rw (find-key c key (a .0) d, a .1, e) (found-works (nodeAt c m) key) },
+            )
 
-        keyed : Dec (key ≡ 0) → ((key ≡ 0) × (foundReply (findOf c key) ≡ refusal 6)) ⊎ ((key ≡ 0 → ⊥) × (((leadsTo c key ≡ none) × (foundReply (findOf c key) ≡ refusal 9)) ⊎ ((leadsTo c key ≡ none → ⊥) × Finds (foundReply (findOf c key)))))
+        keyed : Dec (key ≡ 0) → ((key ≡ 0) × (foundReply (findOf c key) ≡ refusal 6)) ⊎ ((key ≡ 0 → ⊥) × (((leadsTo c key ≡ none) × (foundReply (findOf c key) ≡ refusal 9)) ⊎ ((leadsTo c key ≡ none → ⊥) × ReadsLeaf c key (foundReply (findOf c key)))))
         keyed (yes z) = inl (z, rw (find-no-key c key (a .0) z))
         keyed (no d) = inr (d, at d (leafOf (way c (nodesOn c) key)) refl)
 

@@ -1,5 +1,5 @@
 -- Document 02, W-213, of the two questions that `records` answers.
-use mathlib.Core.Path.{_≡_, refl, ap, sym, _∙_}
+use mathlib.Core.Path.{_≡_, refl, ap, sym, _∙_, subst}
 use mathlib.Core.List.{List}
 use mathlib.Core.Logic.{_↔_, inl, inr, ⊎-elim, by-cases}
 use Prim.Native.Nat.{ℕ, _+_, _≤_}
@@ -7,11 +7,11 @@ use native.Mathlib.Omega.{arith}
 use native.Mathlib.Decide.{ℕ-discrete}
 use lib.ListN.{length, getD, length-take, length-drop}
 use borrow.Author.Tests.{eq-eqb, ne-eqb}
-use Rattle.demands.specs.Demand1.{Finds}
+use Rattle.demands.specs.Demand1.{Finds, ReadsLeaf}
 use Rattle.demands.specs.Refusals.{ByRows, findRows}
 use Rattle.demands.specs.W213.{recordRows, NoRecord, IsRecord, AtOffset, ByFind, W213}
 use Rattle.demands.specs.RationTable.{rationTable}
-use Rattle.demands.proofs.CardRows.{finds}
+use Rattle.demands.proofs.CardRows.{finds, reads-finds}
 use Rattle.demands.proofs.AnswerNumbers.{find-small}
 use Rattle.demands.proofs.ReplyLaws.{code-of, found-refused, found-absent, found-value}
 use Rattle.demands.proofs.RowLaws.{Numbers, rows-elim, rows-map}
@@ -91,9 +91,12 @@ module _ (c : List ℕ) (key : ℕ) (block : List ℕ) where
   abbrev Works : Type 0
   Works = ByFind (part c key block) (reply c key block) block (rationTable .find c key)
 
-  looked : Finds (rationTable .find c key) → Works
-  looked (inl (at, e)) = inr (at, e, held-at at (found-value (findOf c key) at (find-small c key) e))
-  looked (inr e) = inl (e, not-held (found-absent (findOf c key) (find-small c key) e))
+  answered : Finds (rationTable .find c key) → Works
+  answered (inl (at, e)) = inr (at, e, held-at at (found-value (findOf c key) at (find-small c key) e))
+  answered (inr e) = inl (e, not-held (found-absent (findOf c key) (find-small c key) e))
+
+  looked : ReadsLeaf c key (rationTable .find c key) → Works
+  looked r = answered (subst Finds (sym (r .read)) (reads-finds key _ _ 0))
 
   find-numbers : Numbers (findRows c key)
   find-numbers = (omega arith, (omega arith, (omega arith, (omega arith, (omega arith, tt)))))
