@@ -13,8 +13,11 @@ use Rattle.card.specs.Header.{nodesOfLength, headerRefusal, cardRefusal}
 use Rattle.card.specs.Layout.{runBelow, nodeAt, keyWords, valueWords, children, routingKeys, leafPairs, nodeImage}
 use Rattle.plans.specs.Change.{changeStores, kindAbove, splitLeaf, joinedKeys, joinedChildren, absorb, splitParent, leavesTogether, innersTogether, half, leftKeys, keyBetween, share, merge, mergeRoot, halves, copied}
 use Rattle.plans.specs.Planning.{numbersFrom, takeNumbers, withoutAll, lastOf, overNumbers, giving, withAll}
-use Rattle.change.specs.Mending.{mendTagged, isNode, mendUnderfull, mend, onSearch, nextRepair}
-use Rattle.siblings.specs.Siblings.{mendTogether, mendSiblings}
+use Rattle.change_decide.specs.Decide.{decideTagged, decideTogether, decideSiblings, isNode, decideUnderfull, decideAt, onSearch}
+use Rattle.change_decide.specs.Decide.{nextRepair as decidedRepair}
+use Rattle.change.specs.LayOut.{layOut}
+use Rattle.change.specs.Mending.{nextRepair}
+use Rattle.siblings.specs.Siblings.{togetherAt}
 use Rattle.descent.specs.Descent.{passed, childIndex, childFor, firstEqual, slotOf, turnInner, turnOf, turnAt, onTurn, leafFor, onTurnLanding, landingFor, rootPosition, childPosition, visitOf, visitAt, onVisit, seek, visitLeaf, visitInner, visitTagged}
 use Rattle.free_nodes.specs.NodeSet.{allNodes, countTrue, firstTrue, firstFrom, orElse, nextFree}
 use Rattle.laws.specs.Sorting.{insertPair, insertAll, sort}
@@ -112,7 +115,7 @@ pairsTo11 = (11, 110) ∷ (10, 100) ∷ (9, 90) ∷ (8, 80) ∷ (7, 70) ∷ (6, 
 
 -- computed: 153 stores and "ready"; what formatting leaves; the book with the cut after 40 and after 73 of the stores
 pub computed : (readyIn 153 beingFormatted ≡ true) × (after 153 beingFormatted ≡ formatted) × (kept rationTable (cutAfter 40) formatted (book [] empty) ≡ book pairsTo11 empty) × (kept rationTable (cutAfter 73) formatted (book [] empty) ≡ book ((12, 120) ∷ pairsTo11) empty)
-unfolding readyIn isStored isReady after kept feed told outcome replyTo inHand isRefused counted entered added fullAt way among stepReply startReply happens stepOf stepDoing stepFormat formatStore formattedWord formatOf stepFinal nodesOfLength formatting resting idled allNodes headerRefusal stepHeld isIdle stepWork stepPlan stepBegin stepPrepared changeAt landing landingFor onTurnLanding turnAt turnOf turnInner nodeAt children valueWords keyWords slotOf firstEqual insertReason reasonIn emptyReason insertChange stepFirst stepStore planning advanced repairs nextChange nextRepair onSearch seek onVisit visitAt visitOf rootPosition leafPairs insertOf startOf startChecked startRoom roomFor startLanded started stepRefused startRefused withAll giving overNumbers takeNumbers numbersFrom nextFree firstFrom firstTrue orElse withoutAll lastOf splitLeaf changeStores sort insertAll insertPair kindAbove nodeImage countTrue childPosition childFor childIndex passed routingKeys runBelow deleteOf changeIn deleteChange mend mendTagged mendUnderfull mendSiblings mendTogether isNode share merge mergeRoot leavesTogether innersTogether half leftKeys keyBetween absorb splitParent joinedKeys joinedChildren findOf cardRefusal foundAt leafFor onTurn foundIn noBeginning noMemory openOf openChecked openSound tableCheck nodeCheck onLook enterNode enterKind enterLeaf enterInner innerSound noted lookOf leafSound member unusedZero childrenCheck raised halves copied visitLeaf visitInner visitTagged rangeEnd slotSound
+unfolding readyIn isStored isReady after kept feed told outcome replyTo inHand isRefused counted entered added fullAt way among stepReply startReply happens stepOf stepDoing stepFormat formatStore formattedWord formatOf stepFinal nodesOfLength formatting resting idled allNodes headerRefusal stepHeld isIdle stepWork stepPlan stepBegin stepPrepared changeAt landing landingFor onTurnLanding turnAt turnOf turnInner nodeAt children valueWords keyWords slotOf firstEqual insertReason reasonIn emptyReason insertChange stepFirst stepStore planning advanced repairs nextChange nextRepair layOut decidedRepair onSearch seek onVisit visitAt visitOf rootPosition leafPairs insertOf startOf startChecked startRoom roomFor startLanded started stepRefused startRefused withAll giving overNumbers takeNumbers numbersFrom nextFree firstFrom firstTrue orElse withoutAll lastOf splitLeaf changeStores sort insertAll insertPair kindAbove nodeImage countTrue childPosition childFor childIndex passed routingKeys runBelow deleteOf changeIn deleteChange decideAt decideTagged decideUnderfull decideSiblings decideTogether togetherAt isNode share merge mergeRoot leavesTogether innersTogether half leftKeys keyBetween absorb splitParent joinedKeys joinedChildren findOf cardRefusal foundAt leafFor onTurn foundIn noBeginning noMemory openOf openChecked openSound tableCheck nodeCheck onLook enterNode enterKind enterLeaf enterInner innerSound noted lookOf leafSound member unusedZero childrenCheck raised halves copied visitLeaf visitInner visitTagged rangeEnd slotSound
 computed = (refl, refl, refl, refl)
 
 begins : Begins rationTable formatted []

@@ -1,4 +1,4 @@
--- which change is due, case by case
-pub mod MendLaws
--- A violation that a search finds is at a position where a repair can be planned
-pub mod Positions
+-- a leaf that is split, in code
+pub mod LeafLaws
+-- which change a repair comes to, where the tests on the card are decided
+pub mod Mending

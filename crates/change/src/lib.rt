@@ -1,8 +1,7 @@
-// Document 01, "The changes": the repair that a fault is due, planned as the stores that a step then makes one by one.
+// Document 01, "The changes": a change that is decided, laid out as the stores that a step then makes one by one.
 mod tagged;
 
-use descent::Position;
-use descent::Search;
+use change_decide::Decision;
 use free_nodes::NodeSet;
 use plans::Planned;
 use plans::answers::balanced;
@@ -14,9 +13,11 @@ use plans::pairs::no_pairs;
 use plans::pairs::with_leaf;
 use plans::pairs::with_pair;
 use plans::stores::push_store;
-use plans::words::children;
-use siblings::mend_siblings;
-use tagged::mend_tagged;
+use siblings::merge_into_root;
+use siblings::merge_siblings;
+use siblings::share_out;
+use tagged::absorb_tagged;
+use tagged::split_parent;
 ghost use mathlib.Core.Path.{_≡_};
 ghost use mathlib.Core.List.{[], _∷_};
 ghost use Prim.Native.Nat.{_+_, _*_, _^_, _≤_, _<_};
@@ -26,8 +27,10 @@ ghost use Rattle.card.specs.Layout.{greatestNodes, place, leafPairs};
 ghost use Rattle.free_nodes.specs.NodeSet.{nodesOf};
 ghost use Rattle.plans.specs.Change.{splitLeaf};
 ghost use Rattle.plans.specs.Planning.{prepared, giving, first, second, third};
-ghost use Rattle.change.specs.Mending.{isNode, mendUnderfull, mend, nextRepair};
-ghost use Rattle.plans.specs.Plan.{preparationOf, Linked, PositionWithin};
+ghost use Rattle.change_decide.specs.Places.{Fits};
+ghost use Rattle.change.specs.LayOut.{layOut};
+ghost use Rattle.change.specs.Mending.{nextRepair};
+ghost use Rattle.plans.specs.Plan.{preparationOf};
 
 // "node m begins at word 8 + 24 × (m − 1)": the place of its word i.
 fn word_place(m: usize, i: usize) -> u32
@@ -99,82 +102,31 @@ pub fn split_leaf(
     split(both, link, cut, free, last, places, values)
 }
 
-// A node number that is on a card of n nodes.
-fn is_node(n: usize, m: usize) -> bool
-    ensures { λ r. ⌜ r ≡ isNode n m ⌝ }
-{
-    0 < m && m <= n
-}
-
-// Children j and j + 1 of the parent are siblings; where there is no such pair, or a number is not a node's, the step is refused.
-fn mend_underfull(
+// A change that is decided, laid out: its new nodes are given, and what they hold is read off the card. The nodes that a position
+// names are on the card, as the decision saw them.
+pub fn lay_out(
     card: &[u32],
-    n: usize,
-    p: Position,
-    parent: &[u32],
-    j: usize,
+    decision: Decision,
     free: NodeSet,
     last: usize,
     places: &mut [u32],
     values: &mut [u32],
 ) -> Planned
-    requires { ⌜ (length (now card) ≡ 8 + 24 * n) × (n ≤ greatestNodes) × Linked p × (length (now parent) ≡ 24) × (j ≤ 11) × (length (now places) ≡ 73) × (length (now values) ≡ 73) ⌝ }
-    ensures { λ r. ⌜ preparationOf (now (places .exit)) (now (values .exit)) r ≡ mendUnderfull (now (card .entry)) n p (now (parent .entry)) j (nodesOf (free .words)) last ⌝ }
+    requires { ⌜ Fits (now card) decision × (length (now places) ≡ 73) × (length (now values) ≡ 73) ⌝ }
+    ensures { λ r. ⌜ preparationOf (now (places .exit)) (now (values .exit)) r ≡ layOut (now (card .entry)) decision (nodesOf (free .words)) last ⌝ }
 {
-    let kids = children(parent);
-    if kids.len() <= j + 1 {
-        return refused(free, last);
-    }
-    let x = kids[j] as usize;
-    let y = kids[j + 1] as usize;
-    if !is_node(n, x) {
-        return refused(free, last);
-    }
-    if !is_node(n, y) {
-        return refused(free, last);
-    }
-    mend_siblings(
-        p,
-        parent,
-        j,
-        card::node_at(card, x),
-        card::node_at(card, y),
-        free,
-        last,
-        places,
-        values,
-    )
-}
-
-// The repair of the violation at a position; a parent that is tagged is refused. "Underfull non-root node: sibling is the right one for child 0, else the left one."
-fn mend(
-    card: &[u32],
-    n: usize,
-    p: Position,
-    free: NodeSet,
-    last: usize,
-    places: &mut [u32],
-    values: &mut [u32],
-) -> Planned
-    requires { ⌜ PositionWithin (now card) n p × (length (now places) ≡ 73) × (length (now values) ≡ 73) ⌝ }
-    ensures { λ r. ⌜ preparationOf (now (places .exit)) (now (values .exit)) r ≡ mend (now (card .entry)) n p (nodesOf (free .words)) last ⌝ }
-{
-    let parent = card::node_at(card, p.parent);
-    if parent[0] != 2 {
-        return refused(free, last);
-    }
-    let node = card::node_at(card, p.node);
-    if node[0] == 3 {
-        return mend_tagged(p, parent, node, free, last, places, values);
-    }
-    if p.index == 0 {
-        mend_underfull(card, n, p, parent, 0, free, last, places, values)
-    } else {
-        mend_underfull(card, n, p, parent, p.index - 1, free, last, places, values)
+    match decision {
+        Decision::Refused => refused(free, last),
+        Decision::Balanced => balanced(free, last),
+        Decision::Absorb(p) => absorb_tagged(card, p, free, last, places, values),
+        Decision::SplitParent(p) => split_parent(card, p, free, last, places, values),
+        Decision::Share(p) => share_out(card, p, free, last, places, values),
+        Decision::Merge(p) => merge_siblings(card, p, free, last, places, values),
+        Decision::MergeRoot(p) => merge_into_root(card, p, free, last, places, values),
     }
 }
 
-// "Repairs go on until balanced": the change that mends the first violation on a key's way.
+// "Repairs go on until balanced": the change that mends the first violation on a key's way, decided and laid out.
 pub fn next_repair(
     card: &[u32],
     n: usize,
@@ -187,9 +139,6 @@ pub fn next_repair(
     requires { ⌜ (length (now card) ≡ 8 + 24 * n) × (n ≤ greatestNodes) × (4 ≤ n) × (length (now places) ≡ 73) × (length (now values) ≡ 73) ⌝ }
     ensures { λ r. ⌜ preparationOf (now (places .exit)) (now (values .exit)) r ≡ nextRepair (now (card .entry)) n key (nodesOf (free .words)) last ⌝ }
 {
-    match descent::find_violation(card, n, key, card[card::ROOT_PLACE] as usize) {
-        Search::Refused => refused(free, last),
-        Search::Balanced => balanced(free, last),
-        Search::Violation(p) => mend(card, n, p, free, last, places, values),
-    }
+    let decision = change_decide::next_repair(card, n, key);
+    lay_out(card, decision, free, last, places, values)
 }

@@ -3,20 +3,24 @@ use mathlib.Core.Path.{_≡_, refl, ap, sym, _∙_}
 use mathlib.Core.List.{List, [], _∷_, _++_}
 use mathlib.Core.Bool.{Bool, true, false}
 use mathlib.Core.Logic.{_⊎_, inl, inr}
-use Prim.Native.Nat.{ℕ, suc, _+_, _-_, _*_, _≤_, _<_}
+use Prim.Native.Nat.{ℕ, suc, _+_, _-_, _*_, _≤_}
 use native.Mathlib.Omega.{arith}
 use lib.ListN.{length, getD, take, drop}
-use borrow.Author.Tests.{lt-ltb, le-leb, lt-leb, eq-eqb}
 use Rattle.card.specs.Layout.{nodeAt, kindOf, children, routingKeys}
 use Rattle.card.specs.Stores.{newNode}
 use Rattle.plans.specs.Change.{joinedKeys, joinedChildren, absorb, splitParent, Together, innersTogether, half, leftKeys, keyBetween, share, merge, mergeRoot, halves, copied}
 use Rattle.plans.specs.Planning.{giving, first, second, third}
-use Rattle.change.specs.Mending.{mendTagged, mend}
-use Rattle.siblings.specs.Siblings.{mendTogether, mendSiblings}
+use Rattle.change_decide.specs.Decide.{decideTogether}
+use Rattle.change_decide.specs.declared.Decision.{Decision}
+use Rattle.change_decide.proofs.DecideLaws.{siblings-inners}
+use Rattle.change.specs.LayOut.{layOut, keysTakenIn, childrenTakenIn}
+use Rattle.change.proofs.Mending.{mend, mend-absorbs, mend-splits}
+use Rattle.siblings.specs.Siblings.{togetherAt}
+use Rattle.siblings.proofs.SiblingLaws.{inners-together}
 use Rattle.change_theory.proofs.Exchange.{Remains, OneViolation, together-le, Parts, left-roots, right-roots, right-routing, left-routing, middle-key}
 use Rattle.shapes.proofs.Next.{taggedIn}
 use Rattle.change_theory.proofs.InnerChanges.{innerPair, newSiblings, partedNodes, taggedChild, Underfull, together}
-use Rattle.change_theory.proofs.Mending.{StandsAt, rewriteAt, giving-same, kind-above, mend-tagged, mend-siblings, share-due, merge-root-due, merge-due}
+use Rattle.change_theory.proofs.Mending.{StandsAt, rewriteAt, giving-same, kind-above, siblings-decide, share-made, merge-root-made, merge-made}
 use Rattle.change_theory.proofs.Siblings.{children-with, routing-with, first-child, second-child, key-between, two-represented, children-shared, routing-shared, children-merged, routing-merged}
 use Rattle.tree.proofs.Reading.{read-kind, node-children, node-routing}
 use Rattle.tree.specs.Represent.{kind, Represents}
@@ -26,16 +30,6 @@ use Rattle.tree.specs.Tree.{Tree, Forest, roots, routing, node, one, more}
 use Rattle.tree.proofs.Tree.{Left, Right, join, splice, Context, top}
 use Rattle.tree.proofs.Violations.{widths-splice}
 use Rattle.descent.specs.declared.Position.{Position}
-
--- a tagged node with two children, its parent with at most 10 children, or with 11
-module _ (pos : Position) (P T : List ℕ) (free : List Bool) (last : ℕ) (keys kids : List ℕ) (two : length (children T) ≡ 2) (ek : joinedKeys P (pos .index) T ≡ keys) (ec : joinedChildren P (pos .index) T ≡ kids) where
-  absorb-due : length (children P) ≤ 10 → mendTagged pos P T free last ≡ giving 1 free last (λ ms. absorb pos keys kids (first ms))
-  unfolding mendTagged
-  absorb-due h = rw (eq-eqb (length (children T)) 2 two, le-leb (length (children P)) 10 h, ek, ec)
-
-  split-due : 10 < length (children P) → mendTagged pos P T free last ≡ giving 3 free last (λ ms. splitParent pos keys kids (first ms) (second ms) (third ms))
-  unfolding mendTagged
-  split-due h = rw (eq-eqb (length (children T)) 2 two, lt-leb (length (children P)) 10 h, ek, ec)
 
 module _ (pos : Position) (C : Context) (p q : ℕ) (ea : pos .above ≡ linkPlace C) (ep : pos .parent ≡ p) (en : pos .node ≡ q) (K : Forest) where
   absorb-is : (a : ℕ) → absorb pos (routing K) (roots K) a ≡ rewriteAt C (newNode a 2 (routing K) (roots K) ∷ []) a (p ∷ q ∷ [])
@@ -53,37 +47,38 @@ module _ (c : List ℕ) (n : ℕ) (pos : Position) (free : List Bool) (last : �
   tagged-represented : Represents c (node q true (more a k (one b)))
   tagged-represented = represents-splice c l (taggedChild q a k b) r (w .1) .0
 
-  keys-read : joinedKeys (nodeAt c p) (pos .index) (nodeAt c q) ≡ routing kids
+  keys-read : keysTakenIn c pos ≡ routing kids
   unfolding joinedKeys
-  keys-read = rw (s .index-is) (routing-with c p l (taggedChild q a k b) r w (more a k (one b)) (routingKeys (nodeAt c q)) (length l) (sym (node-routing c q true (more a k (one b)) tagged-represented)) (omega arith))
+  keys-read = rw (s .parent-is, s .node-is, s .index-is) (routing-with c p l (taggedChild q a k b) r w (more a k (one b)) (routingKeys (nodeAt c q)) (length l) (sym (node-routing c q true (more a k (one b)) tagged-represented)) (omega arith))
 
-  children-read : joinedChildren (nodeAt c p) (pos .index) (nodeAt c q) ≡ roots kids
+  children-read : childrenTakenIn c pos ≡ roots kids
   unfolding joinedChildren
-  children-read = rw (s .index-is) (children-with c p l (taggedChild q a k b) r w (more a k (one b)) (children (nodeAt c q)) (suc (length l)) (sym (node-children c q true (more a k (one b)) tagged-represented)) (omega arith))
+  children-read = rw (s .parent-is, s .node-is, s .index-is) (children-with c p l (taggedChild q a k b) r w (more a k (one b)) (children (nodeAt c q)) (suc (length l)) (sym (node-children c q true (more a k (one b)) tagged-represented)) (omega arith))
 
-  two-read : length (children (nodeAt c q)) ≡ 2
-  two-read = ap length (node-children c q true (more a k (one b)) tagged-represented)
+  inner-read : kindOf (nodeAt c (pos .parent)) ≡ 2
+  inner-read = rw (s .parent-is) (read-kind c p 2 _ _ (w .0))
 
-  count-read : length (children (nodeAt c p)) ≡ length (roots (splice l (taggedChild q a k b) r))
-  count-read = ap length (node-children c p false (splice l (taggedChild q a k b) r) w)
+  tagged-read : kindOf (nodeAt c (pos .node)) ≡ 3
+  tagged-read = rw (s .node-is) (read-kind c q 3 _ _ (tagged-represented .0))
 
-  tagged-due : mend c n pos free last ≡ mendTagged pos (nodeAt c p) (nodeAt c q) free last
-  tagged-due = mend-tagged c n pos free last p q (s .parent-is) (s .node-is) (read-kind c p 2 _ _ (w .0)) (read-kind c q 3 _ _ (tagged-represented .0))
+  two-read : length (children (nodeAt c (pos .node))) ≡ 2
+  two-read = rw (s .node-is) (ap length (node-children c q true (more a k (one b)) tagged-represented))
+
+  count-read : length (children (nodeAt c (pos .parent))) ≡ length (roots (splice l (taggedChild q a k b) r))
+  count-read = rw (s .parent-is) (ap length (node-children c p false (splice l (taggedChild q a k b) r) w))
 
   -- "parent with at most 10 children: a new copy of the parent takes its key and children in"
   pub absorb-plan : length (roots (splice l (taggedChild q a k b) r)) ≤ 10
       → mend c n pos free last ≡ giving 1 free last (λ ms. rewriteAt C (newNode (first ms) 2 (routing kids) (roots kids) ∷ []) (first ms) (p ∷ q ∷ []))
   absorb-plan h =
-      tagged-due
-      ∙ absorb-due pos (nodeAt c p) (nodeAt c q) free last (routing kids) (roots kids) two-read keys-read children-read (omega (arith, count-read))
+      rw (keys-read, children-read) at (mend-absorbs c n free last pos inner-read tagged-read two-read (omega (arith, count-read, h)))
       ∙ giving-same 1 free last _ _ (λ ms. absorb-is pos C p q (s .above-is) (s .parent-is) (s .node-is) kids (first ms))
 
   -- "Parent with 11: the 12 children go 6 and 6 into two internal nodes, the middle key above them"
   pub split-plan : (L : Forest) (key : ℕ) (R : Forest) → Parts 6 kids L key R → length (roots (splice l (taggedChild q a k b) r)) ≡ 11
       → mend c n pos free last ≡ giving 3 free last (λ ms. rewriteAt C (partedNodes (kind (taggedIn C)) (first ms) (second ms) (third ms) L key R) (third ms) (p ∷ q ∷ []))
   split-plan L key R u h =
-      tagged-due
-      ∙ split-due pos (nodeAt c p) (nodeAt c q) free last (routing kids) (roots kids) two-read keys-read children-read (omega (arith, count-read))
+      rw (keys-read, children-read) at (mend-splits c n free last pos inner-read tagged-read two-read (omega (arith, count-read, h)))
       ∙ giving-same 3 free last _ _ (λ ms. split-is pos C p q (s .above-is) (s .parent-is) (s .node-is) kids L key R u (first ms) (second ms) (third ms))
 
 -- what two internal siblings hold together, where K are their children joined
@@ -93,11 +88,6 @@ innerTogether K = record { kind = 2; keys = routing K; values = roots K }
 together-is : (X Y : List ℕ) (key : ℕ) (fx : Forest) (k : ℕ) (fy : Forest) → children X ≡ roots fx → children Y ≡ roots fy → routingKeys X ≡ routing fx → routingKeys Y ≡ routing fy → key ≡ k → innersTogether X key Y ≡ innerTogether (join fx k fy)
 unfolding innersTogether
 together-is X Y key fx k fy cx cy kx ky e = rw (cx, cy, kx, ky, e, roots-join fx k fy, routing-join fx k fy)
-
-inners-due : (pos : Position) (P : List ℕ) (j : ℕ) (X Y : List ℕ) (free : List Bool) (last : ℕ) → kindOf X ≡ 2 → kindOf Y ≡ 2 → 0 < length (children X) → 0 < length (children Y)
-    → mendSiblings pos P j X Y free last ≡ mendTogether pos P j (innersTogether X (getD (routingKeys P) j 0) Y) free last
-unfolding mendSiblings
-inners-due pos P j X Y free last kx ky hx hy = rw (kx, ky, lt-ltb 0 (length (children X)) hx, lt-ltb 0 (length (children Y)) hy)
 
 -- each change of two siblings, from the lists of the parent P: N are the children of its new copy
 module _ (pos : Position) (C : Context) (p : ℕ) (ea : pos .above ≡ linkPlace C) (ep : pos .parent ≡ p) (P : List ℕ) (j x y : ℕ) (ex : getD (children P) j 0 ≡ x) (ey : getD (children P) (suc j) 0 ≡ y) (K : Forest) where
@@ -127,15 +117,27 @@ module _ (c : List ℕ) (n : ℕ) (pos : Position) (free : List Bool) (last : �
   violation-kind (inl e) = rw e (two-kinds .0)
   violation-kind (inr e) = rw e (two-kinds .1)
 
-  inner-siblings-due : 1 ≤ length (roots fx) → 1 ≤ length (roots fy) → mend c n pos free last ≡ mendTogether pos (nodeAt c p) (length l) (innerTogether (join fx k fy)) free last
+  -- what they hold together, read off the card
+  together-read : togetherAt c pos ≡ innerTogether (join fx k fy)
+  together-read =
+      let s = two-represented c p l (node x false fx) k (node y false fy) r (length l) refl w in
+      let first = first-child c p l (node x false fx) k (node y false fy) r (length l) refl w in
+      let second = second-child c p l (node x false fx) k (node y false fy) r (length l) refl w in
+      inners-together c pos (λ t. omega (arith, rw (ep, ei, first) at t, two-kinds .0))
+      ∙ rw (ep, ei, first, second)
+      (together-is (nodeAt c x) (nodeAt c y) (getD (routingKeys (nodeAt c p)) (length l) 0) fx k fy (node-children c x false fx (s .0)) (node-children c y false fy (s .1))
+      (node-routing c x false fx (s .0)) (node-routing c y false fy (s .1)) (key-between c p l (node x false fx) k (node y false fy) r (length l) refl w))
+
+  inner-siblings-due : 1 ≤ length (roots fx) → 1 ≤ length (roots fy)
+      → mend c n pos free last ≡ layOut c (decideTogether pos (nodeAt c p) (length (roots (join fx k fy)))) free last
   inner-siblings-due hx hy =
       let s = two-represented c p l (node x false fx) k (node y false fy) r (length l) refl w in
       let cx = node-children c x false fx (s .0) in
       let cy = node-children c y false fy (s .1) in
-      mend-siblings c n pos free last p l (node x false fx) k (node y false fy) r 2 size w ep ei (violation-kind en) (omega arith)
-      ∙ inners-due pos (nodeAt c p) (length l) (nodeAt c x) (nodeAt c y) free last (two-kinds .0) (two-kinds .1) (rw cx hx) (rw cy hy)
-      ∙ ap (λ (both : Together). mendTogether pos (nodeAt c p) (length l) both free last)
-      (together-is (nodeAt c x) (nodeAt c y) (getD (routingKeys (nodeAt c p)) (length l) 0) fx k fy cx cy (node-routing c x false fx (s .0)) (node-routing c y false fy (s .1)) (key-between c p l (node x false fx) k (node y false fy) r (length l) refl w))
+      siblings-decide c n pos free last p l (node x false fx) k (node y false fy) r 2 size w ep ei (violation-kind en) (omega arith)
+      ∙ ap (λ (d : Decision). layOut c d free last)
+      (siblings-inners pos (nodeAt c p) (nodeAt c x) (nodeAt c y) (rw (two-kinds .0)) (rw (two-kinds .0, two-kinds .1)) (rw cx hx) (rw cy hy)
+      ∙ ap (decideTogether pos (nodeAt c p)) (rw (cx, cy) (sym (together x fx k y fy))))
 
   module _ (v : OneViolation (splice l (innerPair x fx k y fy) r)) (u : Underfull fx fy) where
     abbrev both : Forest
@@ -153,7 +155,7 @@ module _ (c : List ℕ) (n : ℕ) (pos : Position) (free : List Bool) (last : �
     both-size : length (roots both) ≡ length (roots fx) + length (roots fy)
     both-size = together x fx k y fy
 
-    due : mend c n pos free last ≡ mendTogether pos (nodeAt c p) (length l) (innerTogether both) free last
+    due : mend c n pos free last ≡ layOut c (decideTogether pos (nodeAt c p) (length (roots both))) free last
     due = inner-siblings-due (sizes .0) (sizes .1)
 
     x-read : getD (children (nodeAt c p)) (length l) 0 ≡ x
@@ -173,7 +175,7 @@ module _ (c : List ℕ) (n : ℕ) (pos : Position) (free : List Bool) (last : �
         let s = sizes in
         let j = both-size in
         due
-        ∙ share-due pos (nodeAt c p) (length l) (innerTogether both) free last (omega arith) (omega arith)
+        ∙ share-made c n pos free last (nodeAt c p) (length l) (innerTogether both) (ap (nodeAt c) ep) ei together-read (omega arith) (omega arith)
         ∙ giving-same 3 free last _ _
         (λ ms. share-is pos C p ea ep (nodeAt c p) (length l) x y x-read y-read both (half m) (ap half (omega arith)) L key R q (twoChildren (first ms) L key (second ms) R) (first ms) (second ms) (third ms)
         (routing-shared c p l (node x false fx) k (node y false fy) r (length l) refl w (innerPair (first ms) L key (second ms) R) key refl)
@@ -185,7 +187,7 @@ module _ (c : List ℕ) (n : ℕ) (pos : Position) (free : List Bool) (last : �
     merge-plan h o =
         let j = both-size in
         due
-        ∙ merge-due pos (nodeAt c p) (length l) (innerTogether both) free last C (omega arith) ea (rw count o)
+        ∙ merge-made c n pos free last (nodeAt c p) (length l) (innerTogether both) (ap (nodeAt c) ep) ei together-read C (omega arith) ea (rw count o)
         ∙ giving-same 2 free last _ _
         (λ ms. merge-is pos C p ea ep (nodeAt c p) (length l) x y x-read y-read both (oneChild (first ms)) (first ms) (second ms)
         (routing-merged c p l (node x false fx) k (node y false fy) r (length l) refl w (one (node (first ms) false both)) refl)
@@ -197,5 +199,5 @@ module _ (c : List ℕ) (n : ℕ) (pos : Position) (free : List Bool) (last : �
     merge-root-plan h t e =
         let j = both-size in
         due
-        ∙ merge-root-due pos (nodeAt c p) (length l) (innerTogether both) free last (omega arith) (ea ∙ ap linkPlace t) (count ∙ e)
+        ∙ merge-root-made c n pos free last (nodeAt c p) (length l) (innerTogether both) (ap (nodeAt c) ep) ei together-read (omega arith) (ea ∙ ap linkPlace t) (count ∙ e)
         ∙ giving-same 1 free last _ _ (λ ms. merge-root-is pos C p ea ep (nodeAt c p) (length l) x y x-read y-read both (first ms))

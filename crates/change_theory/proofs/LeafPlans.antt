@@ -1,23 +1,27 @@
 -- Document 01, "The changes": where the violation of the table is a leaf, the repair that is due on its card is the rewrite of
 -- LeafChanges, with the nodes that it is given.
-use mathlib.Core.Path.{_≡_, refl, ap, _∙_}
+use mathlib.Core.Path.{_≡_, refl, ap, sym, _∙_}
 use mathlib.Core.List.{List, [], _∷_, _++_}
 use mathlib.Core.Bool.{Bool, false}
 use mathlib.Core.Logic.{_⊎_, inl, inr}
 use Prim.Native.Nat.{ℕ, suc, _+_, _-_, _*_, _≤_}
 use native.Mathlib.Omega.{arith}
 use lib.ListN.{length, getD, take, drop}
-use borrow.Author.Tests.{eq-eqb}
 use Rattle.card.specs.Layout.{nodeAt, kindOf, children, routingKeys, slotPairs, leafPairs}
 use Rattle.card.specs.Stores.{newNode}
 use Rattle.plans.specs.Change.{Together, leavesTogether, half, leftKeys, keyBetween, share, merge, mergeRoot, halves, copied}
 use Rattle.plans.specs.Planning.{giving, first, second, third}
-use Rattle.change.specs.Mending.{mend}
-use Rattle.siblings.specs.Siblings.{mendTogether, mendSiblings}
+use Rattle.change_decide.specs.Decide.{decideTogether}
+use Rattle.change_decide.specs.declared.Decision.{Decision}
+use Rattle.change_decide.proofs.DecideLaws.{siblings-leaves}
+use Rattle.change.specs.LayOut.{layOut}
+use Rattle.change.proofs.Mending.{mend}
+use Rattle.siblings.specs.Siblings.{togetherAt}
+use Rattle.siblings.proofs.SiblingLaws.{leaves-together}
 use Rattle.change_theory.proofs.Exchange.{Remains}
-use Rattle.change_theory.proofs.LeafChanges.{leaves, pairsTogether, leafNode, innerNode}
+use Rattle.change_theory.proofs.LeafChanges.{leaves, pairsTogether, together-length, leafNode, innerNode}
 use Rattle.change_theory.proofs.LeafRows.{newLeaf, length-pair-values, keys-take, values-take, keys-drop, values-drop, key-at-row, twoLeaves}
-use Rattle.change_theory.proofs.Mending.{rewriteAt, giving-same, mend-siblings, share-due, merge-root-due, merge-due}
+use Rattle.change_theory.proofs.Mending.{rewriteAt, giving-same, siblings-decide, share-made, merge-root-made, merge-made}
 use Rattle.change_theory.proofs.Siblings.{first-child, second-child, two-represented, children-shared, routing-shared, children-merged, routing-merged}
 use Rattle.laws.specs.Sorting.{Pairs, sort, pairKeys, pairValues, keyAt}
 use Rattle.tree.proofs.Reading.{read-kind, leaf-pairs, node-children}
@@ -38,13 +42,9 @@ pub record AtSiblings (q : Position) (C : Context) (p : ℕ) (l : Left) (x y : �
 abbrev pub rowsOf : Pairs → Together
 rowsOf ps = record { kind = 1; keys = pairKeys ps; values = pairValues ps }
 
-leaves-together : (x y : List ℕ) (ps qs : Pairs) → leafPairs x ≡ ps → leafPairs y ≡ qs → leavesTogether x y ≡ rowsOf (sort (ps ++ qs))
+leaves-rows : (x y : List ℕ) (ps qs : Pairs) → leafPairs x ≡ ps → leafPairs y ≡ qs → leavesTogether x y ≡ rowsOf (sort (ps ++ qs))
 unfolding leavesTogether
-leaves-together x y ps qs e f = rw (e, f)
-
-leaves-mended : (q : Position) (parent : List ℕ) (j : ℕ) (x y : List ℕ) (free : List Bool) (last : ℕ) → kindOf x ≡ 1 → kindOf y ≡ 1 → mendSiblings q parent j x y free last ≡ mendTogether q parent j (leavesTogether x y) free last
-unfolding mendSiblings
-leaves-mended q parent j x y free last e f = rw (eq-eqb (kindOf x) 1 e, eq-eqb (kindOf y) 1 f)
+leaves-rows x y ps qs e f = rw (e, f)
 
 -- the changes at these rows; keys, kids and the numbers x and y are read off the parent
 module _ (q : Position) (parent : List ℕ) (j : ℕ) (ps : Pairs) (C : Context) (p x y : ℕ) (el : q .above ≡ linkPlace C) (ep : q .parent ≡ p) (ex : getD (children parent) j 0 ≡ x) (ey : getD (children parent) (suc j) 0 ≡ y) where
@@ -79,12 +79,23 @@ module _ (c : List ℕ) (n : ℕ) (long : length c ≡ 8 + 24 * n) (C : Context)
   violation-kind (inl e) = rw e (read-kind c x 1 ks vs (first-leaf .0))
   violation-kind (inr e) = rw e (read-kind c y 1 ks′ vs′ (second-leaf .0))
 
+  -- what they hold together, read off the card
+  together-read : togetherAt c q ≡ rowsOf (pairsTogether ks vs ks′ vs′)
+  together-read =
+      leaves-together c q (rw (at .parent, at .index, first-number) (read-kind c x 1 ks vs (first-leaf .0)))
+      ∙ rw (at .parent, at .index, first-number, second-number)
+      (leaves-rows (nodeAt c x) (nodeAt c y) (slotPairs ks vs) (slotPairs ks′ vs′) (leaf-pairs c x ks vs first-leaf) (leaf-pairs c y ks′ vs′ second-leaf))
+
   -- every test before the count of pairs is passed
-  leaves-due : mend c n q free last ≡ mendTogether q (nodeAt c p) (length l) (rowsOf (pairsTogether ks vs ks′ vs′)) free last
+  leaves-due : mend c n q free last ≡ layOut c (decideTogether q (nodeAt c p) (length (pairValues (pairsTogether ks vs ks′ vs′)))) free last
   leaves-due =
-      mend-siblings c n q free last p l (leaf x ks vs) k (leaf y ks′ vs′) r 1 long w (at .parent) (at .index) (violation-kind (at .member)) (omega arith)
-      ∙ leaves-mended q (nodeAt c p) (length l) (nodeAt c x) (nodeAt c y) free last (read-kind c x 1 ks vs (first-leaf .0)) (read-kind c y 1 ks′ vs′ (second-leaf .0))
-      ∙ ap (λ (b : Together). mendTogether q (nodeAt c p) (length l) b free last) (leaves-together (nodeAt c x) (nodeAt c y) (slotPairs ks vs) (slotPairs ks′ vs′) (leaf-pairs c x ks vs first-leaf) (leaf-pairs c y ks′ vs′ second-leaf))
+      siblings-decide c n q free last p l (leaf x ks vs) k (leaf y ks′ vs′) r 1 long w (at .parent) (at .index) (violation-kind (at .member)) (omega arith)
+      ∙ ap (λ (d : Decision). layOut c d free last)
+      (siblings-leaves q (nodeAt c p) (nodeAt c x) (nodeAt c y) (rw (read-kind c x 1 ks vs (first-leaf .0), read-kind c y 1 ks′ vs′ (second-leaf .0)))
+      ∙ ap (decideTogether q (nodeAt c p)) count-read)
+    where
+      count-read : length (leafPairs (nodeAt c x)) + length (leafPairs (nodeAt c y)) ≡ length (pairValues (pairsTogether ks vs ks′ vs′))
+      count-read = rw (leaf-pairs c x ks vs first-leaf, leaf-pairs c y ks′ vs′ second-leaf) (sym (length-pair-values (pairsTogether ks vs ks′ vs′) ∙ together-length ks vs ks′ vs′))
 
   leaf-share-due : (a b d : ℕ) → share q (nodeAt c p) (length l) (rowsOf (pairsTogether ks vs ks′ vs′)) a b d
       ≡ rewriteAt C (leafNode a (take (half (length (pairsTogether ks vs ks′ vs′))) (pairsTogether ks vs ks′ vs′))
@@ -117,7 +128,7 @@ module _ (c : List ℕ) (n : ℕ) (long : length c ≡ 8 + 24 * n) (C : Context)
   leaf-share-plan h g =
       let e = length-pair-values (pairsTogether ks vs ks′ vs′) in
       leaves-due
-      ∙ share-due q (nodeAt c p) (length l) (rowsOf (pairsTogether ks vs ks′ vs′)) free last (omega arith) (omega arith)
+      ∙ share-made c n q free last (nodeAt c p) (length l) (rowsOf (pairsTogether ks vs ks′ vs′)) (ap (nodeAt c) (at .parent)) (at .index) together-read (omega arith) (omega arith)
       ∙ giving-same 3 free last _ _ (λ ms. leaf-share-due (first ms) (second ms) (third ms))
 
   -- "Together 3 or fewer: merged, the parent copied with one child less"
@@ -127,7 +138,7 @@ module _ (c : List ℕ) (n : ℕ) (long : length c ≡ 8 + 24 * n) (C : Context)
   leaf-merge-plan h g =
       let e = length-pair-values (pairsTogether ks vs ks′ vs′) in
       leaves-due
-      ∙ merge-due q (nodeAt c p) (length l) (rowsOf (pairsTogether ks vs ks′ vs′)) free last C (omega arith) (at .above) (rw children-size g)
+      ∙ merge-made c n q free last (nodeAt c p) (length l) (rowsOf (pairsTogether ks vs ks′ vs′)) (ap (nodeAt c) (at .parent)) (at .index) together-read C (omega arith) (at .above) (rw children-size g)
       ∙ giving-same 2 free last _ _ (λ ms. leaf-merge-due (first ms) (second ms))
 
 -- "if that parent is the root with 2 children, the merged node becomes the root"
@@ -137,5 +148,5 @@ leaf-merge-root-plan c n long p x ks vs k y ks′ vs′ w q at free last h =
     let ps = pairsTogether ks vs ks′ vs′ in
     let e = length-pair-values ps in
     leaves-due c n long top p [] x ks vs k y ks′ vs′ rightmost w q at free last
-    ∙ merge-root-due q (nodeAt c p) 0 (rowsOf ps) free last (omega arith) (at .above) (children-size c n long top p [] x ks vs k y ks′ vs′ rightmost w q at free last)
+    ∙ merge-root-made c n q free last (nodeAt c p) 0 (rowsOf ps) (ap (nodeAt c) (at .parent)) (at .index) (together-read c n long top p [] x ks vs k y ks′ vs′ rightmost w q at free last) (omega arith) (at .above) (children-size c n long top p [] x ks vs k y ks′ vs′ rightmost w q at free last)
     ∙ giving-same 1 free last _ _ (λ ms. mergeRoot-leaves q (nodeAt c p) 0 ps top p x y (at .above) (at .parent) (first-number c n long top p [] x ks vs k y ks′ vs′ rightmost w q at free last) (second-number c n long top p [] x ks vs k y ks′ vs′ rightmost w q at free last) (first ms))

@@ -15,7 +15,8 @@ use Rattle.card.proofs.Stores.{length-node-image, numbered}
 use Rattle.plans.specs.Change.{changeStores}
 use Rattle.plans.specs.Planning.{takeNumbers, withoutAll, lastOf, withAll, prepared}
 use Rattle.plans.proofs.NumberLaws.{giving-some}
-use Rattle.change.specs.Mending.{mend, onSearch, nextRepair}
+use Rattle.change.specs.Mending.{nextRepair}
+use Rattle.change.proofs.Mending.{mend, repair-mends}
 use Rattle.tree.specs.FreeNodes.{Exact}
 use Rattle.change_theory.proofs.Exact.{number-outside, exact-after}
 use Rattle.change_theory.proofs.Exchange.{OneViolation}
@@ -82,11 +83,6 @@ out-inside p i =
     let q = other-numbers (p .given) i in
     let e : total (indicator i) (numbers (p .nodes (replicate (p .given) (suc i)))) ≡ 0 = ap (total (indicator i)) (p .in-order (replicate (p .given) (suc i)) (q .0)) ∙ q .1 in
     omega (arith, p .rewrites (replicate (p .given) (suc i)) .same-numbers (indicator i))
-
--- the search ends at the violation
-search-mends : (c : List ℕ) (n key : ℕ) (free : List Bool) (last : ℕ) (pos : Position) → seek c n key depthLimit (rootPosition (getD c rootPlace 0)) ≡ SearchViolation pos → nextRepair c n key free last ≡ mend c n pos free last
-unfolding nextRepair onSearch
-search-mends c n key free last pos e = ap (onSearch c n free last) e
 
 stands : (C : Context) (p : ℕ) (l : Left) (r : Right) (s : Tree) → StandsAt (positionOf (down C p false l r) s) C p l s
 unfolding positionOf
@@ -210,7 +206,7 @@ mended c n key t free last len small h s deep x v single room = go (v .context) 
             let rep = unplugged c C (node p false (fill l q r)) h₁ .1 in
             let high = height-plug (s₁ .level .0) C (node p false (fill l q r)) (s₁ .level .1) in
             planned-repaired c n key free last len small C (node p false (fill l q r)) (reserve (down C p false l r) q) (suc (depthOf C)) (mendAt (taggedIn C) (bareLeft l) (bare q) (bareRight r)) (positionOf (down C p false l r) q) h₁ s₁ x₁ v₁
-            (here C one-below) room (path .3) (omega arith) (plan q rep high one-below own) (repair-reached C p l q r own (omega arith)) (search-mends c n key free last (positionOf (down C p false l r) q) found)
+            (here C one-below) room (path .3) (omega arith) (plan q rep high one-below own) (repair-reached C p l q r own (omega arith)) (repair-mends c n free last key (positionOf (down C p false l r) q) found)
           where
             here : (D : Context) → OneViolation (fill l q r) → violationsIn D (node p false (fill l q r)) ≡ 1
             here top o = o .single

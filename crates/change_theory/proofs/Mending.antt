@@ -1,21 +1,23 @@
--- Which change is due (document 01, "The changes"), test by test: what the planning comes to where the card's tests have been
--- decided. Each law passes one definition; the lists read off the card are variables.
+-- Which change is due (document 01, "The changes"): what the decision comes to on a card that represents a tree.
 use mathlib.Core.Path.{_≡_, refl, ap, _∙_}
 use mathlib.Core.List.{List, [], _∷_}
 use mathlib.Core.Bool.{Bool, true, false, _&&_}
 use mathlib.Core.Logic.{_⊎_, inl, inr}
-use Prim.Native.Nat.{ℕ, suc, _+_, _-_, _*_, _≤_, _<_}
+use Prim.Native.Nat.{ℕ, _+_, _-_, _*_, _≤_, _<_}
 use native.Mathlib.Omega.{arith}
-use lib.ListN.{length, getD}
+use lib.ListN.{length}
 use lib.Dec.{eqb}
-use borrow.Author.Tests.{lt-ltb, le-ltb, le-leb, lt-leb, ne-eqb, eq-eqb}
+use borrow.Author.Tests.{lt-ltb, le-leb, ne-eqb}
 use Rattle.card.specs.Layout.{rootPlace, nodeAt, kindOf, children}
 use Rattle.card.specs.NodeWords.{OnCard}
 use Rattle.card.specs.Stores.{NewNode}
 use Rattle.plans.specs.Change.{Change, kindAbove, Together, share, merge, mergeRoot}
 use Rattle.plans.specs.Planning.{giving, first, second, third}
-use Rattle.change.specs.Mending.{mendTagged, isNode, mendUnderfull, mend}
-use Rattle.siblings.specs.Siblings.{mendTogether, mendSiblings}
+use Rattle.change_decide.specs.Decide.{isNode, leftNumber, rightNumber, decideSiblings, decideTogether}
+use Rattle.change_decide.specs.declared.Decision.{Decision}
+use Rattle.change.specs.LayOut.{layOut}
+use Rattle.change.proofs.Mending.{mend, mend-siblings, share-due, merge-root-due, merge-due}
+use Rattle.siblings.specs.Siblings.{togetherAt}
 use Rattle.change_theory.proofs.Exchange.{Remains}
 use Rattle.shapes.proofs.Next.{taggedIn}
 use Rattle.change_theory.proofs.Rewrite.{numbers, Rewrite}
@@ -80,48 +82,43 @@ unfolding kindAbove
 kind-above top = refl
 kind-above (down C m g l r) = rw (ne-eqb (linkPlace (down C m g l r)) rootPlace (λ e. omega arith))
 
-module _ (c : List ℕ) (n : ℕ) (pos : Position) (free : List Bool) (last : ℕ) where
-  pub mend-tagged : (p q : ℕ) → pos .parent ≡ p → pos .node ≡ q → kindOf (nodeAt c p) ≡ 2 → kindOf (nodeAt c q) ≡ 3 → mend c n pos free last ≡ mendTagged pos (nodeAt c p) (nodeAt c q) free last
-  unfolding mend
-  mend-tagged p q ep eq kp kq = rw (ep, eq, eq-eqb (kindOf (nodeAt c p)) 2 kp, eq-eqb (kindOf (nodeAt c q)) 3 kq)
-
-  pub mend-underfull : (p j kd : ℕ) → pos .parent ≡ p → pos .index - 1 ≡ j → kindOf (nodeAt c p) ≡ 2 → kindOf (nodeAt c (pos .node)) ≡ kd → kd < 3 → mend c n pos free last ≡ mendUnderfull c n pos (nodeAt c p) j free last
-  unfolding mend
-  mend-underfull p j kd ep ej kp kq h = rw (ep, ej, eq-eqb (kindOf (nodeAt c p)) 2 kp, ne-eqb (kindOf (nodeAt c (pos .node))) 3 (λ e. omega arith))
-
-  pub two-nodes : (P : List ℕ) (j x y : ℕ) → suc j < length (children P) → getD (children P) j 0 ≡ x → getD (children P) (suc j) 0 ≡ y → isNode n x ≡ true → isNode n y ≡ true
-      → mendUnderfull c n pos P j free last ≡ mendSiblings pos P j (nodeAt c x) (nodeAt c y) free last
-  unfolding mendUnderfull
-  two-nodes P j x y h ex ey ix iy = rw (lt-ltb (suc j) (length (children P)) h, ex, ey, ix, iy)
-
 -- a node on the card of n nodes
 pub is-node : (c : List ℕ) (n m : ℕ) → length c ≡ 8 + 24 * n → OnCard c m → isNode n m ≡ true
 unfolding isNode
 is-node c n m e o = and-intro (lt-ltb 0 m (o .pos)) (le-leb m n (omega (arith, o .fits)))
 
--- Two children side by side, of which one, not tagged, is the violation: the planning comes to the two siblings.
-pub mend-siblings : (c : List ℕ) (n : ℕ) (pos : Position) (free : List Bool) (last p : ℕ) (l : Left) (x : Tree) (k : ℕ) (y : Tree) (r : Right) (kd : ℕ)
+siblings-as : (pos : Position) {P Q X Y S T : List ℕ} → P ≡ Q → X ≡ Y → S ≡ T → decideSiblings pos P X S ≡ decideSiblings pos Q Y T
+siblings-as pos e f g = rw (e, f, g)
+
+-- Two children side by side, of which one, not tagged, is the violation: the two siblings decide.
+pub siblings-decide : (c : List ℕ) (n : ℕ) (pos : Position) (free : List Bool) (last p : ℕ) (l : Left) (x : Tree) (k : ℕ) (y : Tree) (r : Right) (kd : ℕ)
     → length c ≡ 8 + 24 * n → Represents c (node p false (splice l (more x k (one y)) r)) → pos .parent ≡ p → pos .index - 1 ≡ length l → kindOf (nodeAt c (pos .node)) ≡ kd → kd < 3
-    → mend c n pos free last ≡ mendSiblings pos (nodeAt c p) (length l) (nodeAt c (root x)) (nodeAt c (root y)) free last
-mend-siblings c n pos free last p l x k y r kd e w ep ej kq h =
+    → mend c n pos free last ≡ layOut c (decideSiblings pos (nodeAt c p) (nodeAt c (root x)) (nodeAt c (root y))) free last
+siblings-decide c n pos free last p l x k y r kd e w ep ej kq h =
     let s = two-represented c p l x k y r (length l) refl w in
-    mend-underfull c n pos free last p (length l) kd ep ej (read-kind c p 2 _ _ (w .0)) kq h
-    ∙ two-nodes c n pos free last (nodeAt c p) (length l) (root x) (root y) (both-there c p l x k y r (length l) refl w) (first-child c p l x k y r (length l) refl w) (second-child c p l x k y r (length l) refl w)
-    (is-node c n (root x) e (root-on-card c x (s .0))) (is-node c n (root y) e (root-on-card c y (s .1)))
+    let left : leftNumber (nodeAt c (pos .parent)) pos ≡ root x = rw (ep, ej) (first-child c p l x k y r (length l) refl w) in
+    let right : rightNumber (nodeAt c (pos .parent)) pos ≡ root y = rw (ep, ej) (second-child c p l x k y r (length l) refl w) in
+    mend-siblings c n free last pos
+    (rw ep (read-kind c p 2 _ _ (w .0)))
+    (λ t. omega (arith, t, kq, h))
+    (rw (ep, ej) (both-there c p l x k y r (length l) refl w))
+    (rw left (is-node c n (root x) e (root-on-card c x (s .0))))
+    (rw right (is-node c n (root y) e (root-on-card c y (s .1))))
+    ∙ ap (λ (d : Decision). layOut c d free last) (siblings-as pos (ap (nodeAt c) ep) (ap (nodeAt c) left) (ap (nodeAt c) right))
 
 -- what two siblings hold together decides: shared out, merged, or merged into the root
-module _ (pos : Position) (P : List ℕ) (j : ℕ) (both : Together) (free : List Bool) (last : ℕ) where
-  pub share-due : 4 ≤ length (both .values) → length (both .values) ≤ 12 → mendTogether pos P j both free last ≡ giving 3 free last (λ ms. share pos P j both (first ms) (second ms) (third ms))
-  unfolding mendTogether
-  share-due h o = rw (le-ltb 12 (length (both .values)) o, le-leb 4 (length (both .values)) h)
+module _ (c : List ℕ) (n : ℕ) (pos : Position) (free : List Bool) (last : ℕ) (P : List ℕ) (j : ℕ) (both : Together) (eP : nodeAt c (pos .parent) ≡ P) (ej : pos .index - 1 ≡ j) (eb : togetherAt c pos ≡ both) where
+  pub share-made : 4 ≤ length (both .values) → length (both .values) ≤ 12
+      → layOut c (decideTogether pos P (length (both .values))) free last ≡ giving 3 free last (λ ms. share pos P j both (first ms) (second ms) (third ms))
+  share-made h o = rw (eP, ej, eb) at (share-due c n free last pos (length (both .values)) h o)
 
-  pub merge-root-due : length (both .values) ≤ 3 → pos .above ≡ rootPlace → length (children P) ≡ 2 → mendTogether pos P j both free last ≡ giving 1 free last (λ ms. mergeRoot pos P j both (first ms))
-  unfolding mendTogether
-  merge-root-due h e f = rw (le-ltb 12 (length (both .values)) (omega arith), lt-leb 4 (length (both .values)) (omega arith), e, f)
+  pub merge-root-made : length (both .values) ≤ 3 → pos .above ≡ rootPlace → length (children P) ≡ 2
+      → layOut c (decideTogether pos P (length (both .values))) free last ≡ giving 1 free last (λ ms. mergeRoot pos P j both (first ms))
+  merge-root-made h e f = rw (eP, ej, eb) at (merge-root-due c n free last pos (length (both .values)) h (rw (eP, e, f)))
 
-  pub merge-due : (C : Context) → length (both .values) ≤ 3 → pos .above ≡ linkPlace C → Remains C (length (children P)) → mendTogether pos P j both free last ≡ giving 2 free last (λ ms. merge pos P j both (first ms) (second ms))
-  unfolding mendTogether
-  merge-due C h e o = rw (le-ltb 12 (length (both .values)) (omega arith), lt-leb 4 (length (both .values)) (omega arith), e, not-that-root C (length (children P)) o)
+  pub merge-made : (C : Context) → length (both .values) ≤ 3 → pos .above ≡ linkPlace C → Remains C (length (children P))
+      → layOut c (decideTogether pos P (length (both .values))) free last ≡ giving 2 free last (λ ms. merge pos P j both (first ms) (second ms))
+  merge-made C h e o = rw (eP, ej, eb) at (merge-due c n free last pos (length (both .values)) h (rw (eP, e) (not-that-root C (length (children P)) o)))
     where
       not-that-root : (C : Context) (n : ℕ) → Remains C n → (eqb (linkPlace C) rootPlace && eqb n 2) ≡ false
       not-that-root top n o = ne-eqb n 2 (λ e. omega arith)

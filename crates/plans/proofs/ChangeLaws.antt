@@ -1,7 +1,7 @@
 -- Laws of the changes: the numbers that decide them, and their stores.
 use mathlib.Core.Path.{_≡_, refl, ap, ap₂, sym, _∙_, subst}
 use mathlib.Core.List.{List, [], _∷_, _++_}
-use mathlib.Core.Bool.{Bool, true, false, _&&_}
+use mathlib.Core.Bool.{Bool, true, false}
 use mathlib.Core.Option.{some}
 use Prim.Native.Nat.{ℕ, zero, suc, _+_, _-_, _/_, _≤_, _<_}
 use native.Mathlib.Omega.{arith}
@@ -14,7 +14,7 @@ use Rattle.card.proofs.NodeLaws.{length-routing}
 use Rattle.card.specs.Stores.{Store, NewNode, newNode, nodeStores}
 use Rattle.plans.specs.Change.{Change, changeStores, kindAbove, splitLeaf, joinedKeys, joinedChildren, absorb, splitParent, Together, half, leftKeys, keyBetween, share, merge, mergeRoot, leftValues, halves, copied}
 use Rattle.plans.proofs.NumberLaws.{giving-some}
-use Rattle.plans.specs.Plan.{storesOf, Extends, togetherOf, splitUnder, Linked, PositionWithin}
+use Rattle.plans.specs.Plan.{storesOf, Extends, togetherOf, splitUnder}
 use Rattle.plans.proofs.PlanLaws.{extends-nodes, planned-nodes}
 use Rattle.plans.specs.Planning.{takeNumbers, withoutAll, lastOf, giving, first, second, third, prepared}
 use Rattle.plans.proofs.RowLaws.{length-words}
@@ -27,13 +27,6 @@ use Rattle.plans.specs.declared.Plan.{Plan}
 use Rattle.plans.specs.declared.halves.Pool.{Pool}
 use Rattle.plans.specs.declared.words.Words.{Words}
 use Rattle.descent.specs.declared.Position.{Position}
-
--- a test and then another, decided by the first
-pub and-second : (a b : Bool) → a ≡ true → b ≡ (a && b)
-and-second a b e = rw e
-
-pub and-first : (a b : Bool) → a ≡ false → a ≡ (a && b)
-and-first a b e = rw e
 
 pub kind-root : (link : ℕ) → link ≡ rootPlace → 2 ≡ kindAbove link
 unfolding kindAbove
@@ -123,17 +116,14 @@ module _ (b : Pool) (len : length (b .values .items) ≡ 12) (few : b .values .c
 
 -- ---- a copy of the parent
 
-pub parent-copied : (p r : Plan) (m j : ℕ) (parent row kids : List ℕ) (keys others routing under : Words) (x y : ℕ) → row ≡ routingKeys parent → kids ≡ children parent
+pub parent-copied : (m j : ℕ) (parent row kids : List ℕ) (keys others routing under : Words) (x y : ℕ) → row ≡ routingKeys parent → kids ≡ children parent
     → Row routing x (take j row ++ (wordsOf keys ++ drop (j + 1) row)) → Row under y (take j kids ++ (wordsOf others ++ drop (j + 2) kids))
-    → Extends p r 24 (nodeStores (newNode m 2 (wordsOf routing) (wordsOf under) ∷ []))
-    → Extends p r 24 (nodeStores (copied m parent j (wordsOf keys) (wordsOf others) ∷ []))
+    → newNode m 2 (wordsOf routing) (wordsOf under) ≡ copied m parent j (wordsOf keys) (wordsOf others)
 unfolding copied
-parent-copied p r m j parent row kids keys others routing under x y e f g h s =
-    subst (λ (n : NewNode). Extends p r 24 (nodeStores (n ∷ [])))
-    (ap₂ (newNode m 2)
+parent-copied m j parent row kids keys others routing under x y e f g h =
+    ap₂ (newNode m 2)
     (g .listed ∙ ap₂ (λ (l : List ℕ) (i : ℕ). take j l ++ (wordsOf keys ++ drop i l)) e (add-one j))
-    (h .listed ∙ ap₂ (λ (l : List ℕ) (i : ℕ). take j l ++ (wordsOf others ++ drop i l)) f (let z : j + 2 ≡ suc (suc j) = omega arith in z)))
-    s
+    (h .listed ∙ ap₂ (λ (l : List ℕ) (i : ℕ). take j l ++ (wordsOf others ++ drop i l)) f (let z : j + 2 ≡ suc (suc j) = omega arith in z))
 
 -- ---- a parent that takes its tagged child in
 
@@ -244,14 +234,3 @@ split-leaf m link twelve free last cut e g =
 pub cut-one : (m : ℕ) → 1 ≤ m → beforeZero (m ∷ 0 ∷ 0 ∷ []) ≡ m ∷ []
 cut-one zero h = absurd (omega arith)
 cut-one (suc m) h = refl
-
--- a position of a search is linked as a plan wants it
-pub within-linked : (card : List ℕ) (n : ℕ) (p : Position) → PositionWithin card n p → Linked p
-within-linked card n p w =
-    record {
-      parent-from = w .parent-from;
-      parent-to = omega (arith, w .parent-to, w .few);
-      node-from = w .node-from;
-      node-to = omega (arith, w .node-to, w .few);
-      link = w .link;
-    }

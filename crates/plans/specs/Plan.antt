@@ -2,10 +2,9 @@
 use mathlib.Core.Path.{_≡_}
 use mathlib.Core.List.{List, [], _∷_, _++_, zip}
 use mathlib.Core.Option.{Option, none, some}
-use Prim.Native.Nat.{ℕ, _+_, _-_, _*_, _^_, _≤_, _<_}
-use lib.ListN.{length, take}
+use Prim.Native.Nat.{ℕ, _+_, _-_, _≤_}
+use lib.ListN.{take}
 use lib.Dec.{eqb}
-use Rattle.card.specs.Layout.{greatestNodes, nodeAt, children}
 use Rattle.card.specs.Stores.{Store, newNode}
 use Rattle.plans.specs.Change.{Change, kindAbove, Together, keyBetween, halves}
 use Rattle.plans.specs.Planning.{Preparation, refused, balanced, prepared}
@@ -22,7 +21,6 @@ use Rattle.plans.specs.declared.numbers.Two.{Two}
 use Rattle.plans.specs.declared.numbers.Two.the-variants.{Nodes as TwoNodes, Nothing as NoTwo}
 use Rattle.plans.specs.declared.numbers.Three.{Three}
 use Rattle.plans.specs.declared.numbers.Three.the-variants.{Nodes as ThreeNodes, Nothing as NoThree}
-use Rattle.descent.specs.declared.Position.{Position}
 
 -- the stores of a plan: each place with its value
 unfoldable pub storesOf : Plan → List Store
@@ -82,22 +80,3 @@ splitUnder link both cut a b c =
       top = c;
       cut = cut;
     }
-
--- a position's numbers are nodes', and the place of its link fits a plan
-pub record Linked (p : Position) : Type 0 where
-  pub parent-from : 1 ≤ p .parent
-  pub parent-to : p .parent ≤ greatestNodes
-  pub node-from : 1 ≤ p .node
-  pub node-to : p .node ≤ greatestNodes
-  pub link : p .above < 2 ^ 32
-
--- a position on a card of n nodes that has a parent
-pub record PositionWithin (card : List ℕ) (n : ℕ) (p : Position) : Type 0 where
-  pub size : length card ≡ 8 + 24 * n
-  pub few : n ≤ greatestNodes
-  pub parent-from : 1 ≤ p .parent
-  pub parent-to : p .parent ≤ n
-  pub node-from : 1 ≤ p .node
-  pub node-to : p .node ≤ n
-  pub child : p .index < length (children (nodeAt card (p .parent)))
-  pub link : p .above < 2 ^ 32

@@ -12,7 +12,8 @@ use Rattle.card.specs.Stores.{Store, stores, nodeStores}
 use Rattle.plans.specs.Change.{splitLeaf}
 use Rattle.plans.specs.Planning.{Preparation, takeNumbers, withoutAll, lastOf, giving, first, second, third, balanced, prepared}
 use Rattle.plans.proofs.NumberLaws.{giving-some}
-use Rattle.change.specs.Mending.{onSearch, nextRepair}
+use Rattle.change.specs.Mending.{nextRepair}
+use Rattle.change.proofs.Mending.{repair-balanced}
 use Rattle.tree.specs.FreeNodes.{Exact}
 use Rattle.change_theory.proofs.LeafSplit.{withPair, splitNodes, split-change}
 use Rattle.change_theory.proofs.Mended.{change-stores, mended}
@@ -76,8 +77,7 @@ mends c n key t free last b x v single room = mended c n key t free last (b .siz
 
 -- a balanced table needs none
 pub rests : (c : List ℕ) (n key : ℕ) (t : Tree) (free : List Bool) (last : ℕ) → Table c n t → tableViolations t ≡ 0 → nextRepair c n key free last ≡ balanced
-unfolding nextRepair onSearch
-rests c n key t free last b z = ap (onSearch c n free last) (seek-balanced c n key (b .sized .words) depthLimit t (b .holds) (b .sound .widths) z (table-depth-limited b))
+rests c n key t free last b z = repair-balanced c n free last key (seek-balanced c n key (b .sized .words) depthLimit t (b .holds) (b .sound .widths) z (table-depth-limited b))
 
 -- where a step leaves what was being done: it was idle; "Each step then either stores one word or gives the final answer and
 -- makes the state idle."

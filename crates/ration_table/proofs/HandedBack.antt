@@ -1,17 +1,17 @@
 -- The numbers of a state that a call hands back fit their words, where those of the state that it was given did: N is the card's
 -- or the state's, the node given last is a node's number or the state's, and a formatting counts at most the words of its card.
 use mathlib.Core.Path.{_≡_, refl}
-use mathlib.Core.Bool.{Bool, true, false, _&&_}
+use mathlib.Core.Bool.{Bool, true, false}
 use mathlib.Core.List.{List, [], _∷_}
 use mathlib.Core.Option.{Option, none, some}
-use Prim.Native.Nat.{ℕ, zero, suc, _+_, _-_, _*_, _^_, _≤_, _<_}
+use Prim.Native.Nat.{ℕ, zero, suc, _+_, _*_, _^_, _≤_, _<_}
 use native.Mathlib.Omega.{arith}
-use lib.ListN.{length, getD, set, length-set}
-use lib.Dec.{eqb, ltb, leb}
+use lib.ListN.{length, set, length-set}
+use lib.Dec.{eqb, ltb}
 use borrow.Author.Tests.{eq-eqb}
 use Rattle.laws.specs.Cases.{pick}
 use Rattle.laws.proofs.Cases.{order, impossible}
-use Rattle.card.specs.Layout.{greatestNodes, rootPlace, depthLimit, nodeAt, kindOf, children}
+use Rattle.card.specs.Layout.{greatestNodes, nodeAt}
 use Rattle.card.specs.Header.{nodesOfLength, headerRefusal, cardRefusal}
 use Rattle.card.proofs.HeaderLaws.{nodes-sized}
 use Rattle.card.specs.Stores.{Store}
@@ -19,18 +19,18 @@ use Rattle.free_nodes.specs.NodeSet.{nextFree, allNodes, countTrue}
 use Rattle.free_nodes.proofs.NodeSetLaws.{next-found, length-nodes}
 use Rattle.free_nodes.specs.declared.Next.{Next}
 use Rattle.free_nodes.specs.declared.Next.the-variants.{Node, Nothing}
-use Rattle.descent.specs.Descent.{rootPosition, seek, slotOf}
-use Rattle.descent.specs.declared.Position.{Position}
-use Rattle.descent.specs.declared.Search.{Search}
-use Rattle.descent.specs.declared.Search.the-variants.{Refused as NoSearch, Balanced as SearchBalanced, Violation as SearchViolation}
+use Rattle.descent.specs.Descent.{slotOf}
 use Rattle.descent.specs.declared.Slot.{Slot}
 use Rattle.descent.specs.declared.Slot.the-variants.{At, Absent as NoSlot}
 use Rattle.descent.specs.declared.Landing.{Landing}
 use Rattle.descent.specs.declared.Landing.the-variants.{Refused as NoLanding, Leaf as LandingAt}
-use Rattle.plans.specs.Change.{Change, Together}
+use Rattle.plans.specs.Change.{Change}
 use Rattle.plans.specs.Planning.{Preparation, refused, balanced, prepared, numbersFrom, takeNumbers, lastOf, overNumbers, giving}
-use Rattle.change.specs.Mending.{mendTagged, isNode, mendUnderfull, mend, onSearch, nextRepair}
-use Rattle.siblings.specs.Siblings.{mendTogether, mendSiblings}
+use Rattle.change_decide.specs.Decide.{nextRepair as decidedRepair}
+use Rattle.change_decide.specs.declared.Decision.{Decision}
+use Rattle.change_decide.specs.declared.Decision.the-variants.{Refused as NoChange, Balanced as NothingDue, Absorb, SplitParent, Share, Merge, MergeRoot}
+use Rattle.change.specs.LayOut.{layOut}
+use Rattle.change.specs.Mending.{nextRepair}
 use Rattle.soundness.specs.Check.{Findings, tableCheck}
 use Rattle.state.specs.Memory.{Memory, memoryOf, noMemory, resting, idled, advanced}
 use Rattle.updates.specs.Updates.{Reason, held, slot, full, FirstChange, landing, insertReason, insertChange, deleteChange, repairs, noChange, nextChange, startRoom, changeIn, changeAt}
@@ -179,52 +179,19 @@ module _ (free : List Bool) (last : ℕ) (bits : length free ≤ 2 ^ 32) (small 
   unfolding giving
   low-giving k change = low-over change (takeNumbers k free last) (λ ms e. last-taken k free last ms bits small e)
 
-  low-refused : LowLast refused
-  unfolding LowLast
-  low-refused = tt
-
-  module _ (p : Position) (parent : List ℕ) where
-    low-tagged : (tagged : List ℕ) → LowLast (mendTagged p parent tagged free last)
-    unfolding mendTagged
-    low-tagged tagged =
-        either LowLast (eqb (length (children tagged)) 2) _ refused (either LowLast (leb (length (children parent)) 10) _ _ (low-giving 1 _) (low-giving 3 _)) low-refused
-
-    low-together : (j : ℕ) (both : Together) → LowLast (mendTogether p parent j both free last)
-    unfolding mendTogether
-    low-together j both =
-        either LowLast (ltb 12 (length (both .values))) refused _ low-refused
-        (either LowLast (leb 4 (length (both .values))) _ _ (low-giving 3 _) (either LowLast (eqb (p .above) rootPlace && eqb (length (children parent)) 2) _ _ (low-giving 1 _) (low-giving 2 _)))
-
-    low-siblings : (j : ℕ) (x y : List ℕ) → LowLast (mendSiblings p parent j x y free last)
-    unfolding mendSiblings
-    low-siblings j x y =
-        either LowLast (eqb (kindOf x) 1 && eqb (kindOf y) 1) _ _ (low-together j _)
-        (either LowLast ((eqb (kindOf x) 2 && eqb (kindOf y) 2) && (ltb 0 (length (children x)) && ltb 0 (length (children y)))) _ refused (low-together j _) low-refused)
-
-    low-underfull : (card : List ℕ) (n j : ℕ) → LowLast (mendUnderfull card n p parent j free last)
-    unfolding mendUnderfull
-    low-underfull card n j =
-        either LowLast (ltb (suc j) (length (children parent))) _ refused
-        (either LowLast (isNode n (getD (children parent) j 0) && isNode n (getD (children parent) (suc j) 0)) _ refused (low-siblings j _ _) low-refused)
-        low-refused
-
-  low-mend : (card : List ℕ) (n : ℕ) (p : Position) → LowLast (mend card n p free last)
-  unfolding mend
-  low-mend card n p =
-      let parent : List ℕ = nodeAt card (p .parent) in
-      either LowLast (eqb (kindOf parent) 2) _ refused
-      (either LowLast (eqb (kindOf (nodeAt card (p .node))) 3) _ _ (low-tagged p parent (nodeAt card (p .node))) (low-underfull p parent card n (p .index - 1)))
-      low-refused
-
-  low-search : (card : List ℕ) (n : ℕ) (found : Search) → LowLast (onSearch card n free last found)
-  unfolding onSearch LowLast
-  low-search card n NoSearch = tt
-  low-search card n SearchBalanced = tt
-  low-search card n (SearchViolation p) = low-mend card n p
+  low-laid : (card : List ℕ) (decision : Decision) → LowLast (layOut card decision free last)
+  unfolding layOut LowLast
+  low-laid card NoChange = tt
+  low-laid card NothingDue = tt
+  low-laid card (Absorb p) = low-giving 1 _
+  low-laid card (SplitParent p) = low-giving 3 _
+  low-laid card (Share p) = low-giving 3 _
+  low-laid card (Merge p) = low-giving 2 _
+  low-laid card (MergeRoot p) = low-giving 1 _
 
   low-repair : (card : List ℕ) (n key : ℕ) → LowLast (nextRepair card n key free last)
   unfolding nextRepair
-  low-repair card n key = low-search card n (seek card n key depthLimit (rootPosition (getD card rootPlace 0)))
+  low-repair card n key = low-laid card (decidedRepair card n key)
 
   -- the change planned, and what is done from then on
   low-insert-in : (key value m link : ℕ) (node : List ℕ) (reason : Reason) → LowFirst (insertChange key value free last m link node reason)

@@ -1,2 +1,2 @@
--- laws of what two siblings are due: one for each branch of the code
+-- laws of what two siblings hold together, in code
 pub mod SiblingLaws

@@ -1,18 +1,23 @@
--- Laws of what two siblings are due: one for each branch of the code.
-use mathlib.Core.Path.{_≡_, ap, ap₂, sym, _∙_}
+-- Laws of what two siblings hold together, in code.
+use mathlib.Core.Path.{_≡_, refl, ap, ap₂, sym, subst, _∙_}
 use mathlib.Core.List.{List, [], _∷_, _++_, append-assoc}
-use mathlib.Core.Bool.{Bool, true, false, _&&_}
-use Prim.Native.Nat.{ℕ, _+_, _≤_, _<_}
+use Prim.Native.Nat.{ℕ, suc, _+_, _-_, _≤_, _<_}
 use native.Mathlib.Omega.{arith}
-use lib.ListN.{length, getD, length-append, length-map}
-use lib.Dec.{eqb}
-use borrow.Author.Tests.{lt-ltb, le-ltb, le-leb, lt-leb}
-use Rattle.card.specs.Layout.{rootPlace, kindOf, children, routingKeys, leafPairs}
-use Rattle.plans.specs.Change.{Together, leavesTogether, innersTogether, share, merge, mergeRoot}
+use lib.ListN.{length, getD, drop, length-append, length-map}
+use lib.Seq.{getD-take, getD-drop}
+use borrow.Author.Tests.{ne-eqb, eq-eqb}
+use Rattle.card.specs.Layout.{kindOf, children, routingKeys, leafPairs}
+use Rattle.card.proofs.NodeLaws.{length-node, routing-words}
+use Rattle.change_decide.specs.Decide.{leftSibling}
+use Rattle.change_decide.specs.Places.{parentAt, leftAt, rightAt, SiblingsAt}
+use Rattle.plans.specs.Change.{Together, leavesTogether, innersTogether}
+use Rattle.card.specs.Stores.{NewNode, nodeStores}
+use Rattle.plans.proofs.ChangeLaws.{keys-range}
+use Rattle.plans.specs.declared.Plan.{Plan}
+use Rattle.plans.specs.declared.halves.Pool.{Pool}
 use Rattle.plans.proofs.PairLaws.{insert-all-append, zip-keys, zip-values}
-use Rattle.plans.specs.Plan.{togetherOf}
-use Rattle.plans.specs.Planning.{giving, first, second, third, refused}
-use Rattle.siblings.specs.Siblings.{mendTogether, mendSiblings}
+use Rattle.plans.specs.Plan.{Extends, togetherOf, Keyed}
+use Rattle.siblings.specs.Siblings.{togetherAt, Pooled}
 use Rattle.plans.proofs.RowLaws.{length-words, row-then, row-then-part}
 use Rattle.plans.specs.Rows.{wordsOf, Row, pairsOf, PairRow}
 use Rattle.laws.specs.Sorting.{Pairs, insertAll, sort, pairKeys, pairValues}
@@ -21,51 +26,7 @@ use Rattle.plans.specs.declared.words.Words.{Words}
 use Rattle.plans.specs.declared.pairs.PairWords.{PairWords}
 use Rattle.descent.specs.declared.Position.{Position}
 
--- ---- two siblings
-
-module _ (p : Position) (parent : List ℕ) (j : ℕ) (both : Together) (free : List Bool) (last : ℕ) where
-  pub together-many : 12 < length (both .values) → mendTogether p parent j both free last ≡ refused
-  unfolding mendTogether
-  together-many h = rw (lt-ltb 12 _ h)
-
-  pub together-shared : length (both .values) ≤ 12 → 4 ≤ length (both .values)
-      → mendTogether p parent j both free last ≡ giving 3 free last (λ ms. share p parent j both (first ms) (second ms) (third ms))
-  unfolding mendTogether
-  together-shared h l = rw (le-ltb 12 _ h, le-leb 4 _ l)
-
-  pub together-root : length (both .values) < 4 → (eqb (p .above) rootPlace && eqb (length (children parent)) 2) ≡ true
-      → mendTogether p parent j both free last ≡ giving 1 free last (λ ms. mergeRoot p parent j both (first ms))
-  unfolding mendTogether
-  together-root h t = let l : length (both .values) ≤ 12 = omega arith in rw (le-ltb 12 _ l, lt-leb 4 _ h, t)
-
-  pub together-merged : length (both .values) < 4 → (eqb (p .above) rootPlace && eqb (length (children parent)) 2) ≡ false
-      → mendTogether p parent j both free last ≡ giving 2 free last (λ ms. merge p parent j both (first ms) (second ms))
-  unfolding mendTogether
-  together-merged h t = let l : length (both .values) ≤ 12 = omega arith in rw (le-ltb 12 _ l, lt-leb 4 _ h, t)
-
-module _ (p : Position) (parent : List ℕ) (j : ℕ) (x y : List ℕ) (free : List Bool) (last : ℕ) where
-  pub siblings-leaves : (eqb (kindOf x) 1 && eqb (kindOf y) 1) ≡ true → mendSiblings p parent j x y free last ≡ mendTogether p parent j (leavesTogether x y) free last
-  unfolding mendSiblings
-  siblings-leaves t = rw t
-
-  pub siblings-mixed : (eqb (kindOf x) 1 && eqb (kindOf y) 1) ≡ false → (eqb (kindOf x) 2 && eqb (kindOf y) 2) ≡ false → mendSiblings p parent j x y free last ≡ refused
-  unfolding mendSiblings
-  siblings-mixed t u = rw (t, u)
-
-  pub siblings-left-bare : (eqb (kindOf x) 1 && eqb (kindOf y) 1) ≡ false → (eqb (kindOf x) 2 && eqb (kindOf y) 2) ≡ true → length (children x) ≡ 0 → mendSiblings p parent j x y free last ≡ refused
-  unfolding mendSiblings
-  siblings-left-bare t u h = rw (t, u, h)
-
-  pub siblings-right-bare : (eqb (kindOf x) 1 && eqb (kindOf y) 1) ≡ false → (eqb (kindOf x) 2 && eqb (kindOf y) 2) ≡ true → 0 < length (children x) → length (children y) ≡ 0 → mendSiblings p parent j x y free last ≡ refused
-  unfolding mendSiblings
-  siblings-right-bare t u h l = rw (t, u, lt-ltb 0 _ h, l)
-
-  pub siblings-inners : (eqb (kindOf x) 1 && eqb (kindOf y) 1) ≡ false → (eqb (kindOf x) 2 && eqb (kindOf y) 2) ≡ true → 0 < length (children x) → 0 < length (children y)
-      → mendSiblings p parent j x y free last ≡ mendTogether p parent j (innersTogether x (getD (routingKeys parent) j 0) y) free last
-  unfolding mendSiblings
-  siblings-inners t u h l = rw (t, u, lt-ltb 0 _ h, lt-ltb 0 _ l)
-
--- ---- what siblings hold together, in code
+-- ---- the rows
 
 sorted-twice : (a b : Pairs) → insertAll a (insertAll b []) ≡ sort (a ++ b)
 unfolding sort
@@ -89,6 +50,10 @@ module _ (x y : List ℕ) where
   unfolding leavesTogether
   leaves-count = length-map (sort (leafPairs x ++ leafPairs y)) (λ p. p .1) ∙ length-sort (leafPairs x ++ leafPairs y) ∙ length-append (leafPairs x) (leafPairs y)
 
+  pub inners-count : (key : ℕ) → length (innersTogether x key y .values) ≡ length (children x) + length (children y)
+  unfolding innersTogether
+  inners-count key = length-append (children x) (children y)
+
   pub leaves-pooled : (empty right all : PairWords) (m n : ℕ) → length (all .keys .items) ≡ 12 → length (all .values .items) ≡ 12 → n ≤ 12
       → PairRow empty 0 [] → PairRow right m (insertAll (leafPairs y) (pairsOf empty)) → PairRow all n (insertAll (leafPairs x) (pairsOf right))
       → togetherOf (record { kind = 1; keys = all .keys; values = all .values }) ≡ leavesTogether x y
@@ -101,19 +66,61 @@ module _ (x y : List ℕ) where
         listed = s .listed ∙ ap (insertAll (leafPairs x)) (r .listed ∙ ap (insertAll (leafPairs y)) (z .listed)) ∙ sorted-twice (leafPairs x) (leafPairs y);
       })
 
-  pub inners-count : (key : ℕ) → length (innersTogether x key y .values) ≡ length (children x) + length (children y)
-  unfolding innersTogether
-  inners-count key = length-append (children x) (children y)
-
-  pub inners-pooled : (parent : List ℕ) (j : ℕ) (rx ry rp cx cy : List ℕ) (a b keys d values : Words)
-      → rx ≡ routingKeys x → ry ≡ routingKeys y → rp ≡ routingKeys parent → cx ≡ children x → cy ≡ children y
-      → Row a (length rx) rx → Row b (a .count + 1) (wordsOf a ++ getD rp j 0 ∷ []) → Row keys (b .count + length ry) (wordsOf b ++ ry)
+  pub inners-pooled : (between : ℕ) (rx ry cx cy : List ℕ) (a b keys d values : Words)
+      → rx ≡ routingKeys x → ry ≡ routingKeys y → cx ≡ children x → cy ≡ children y
+      → Row a (length rx) rx → Row b (a .count + 1) (wordsOf a ++ between ∷ []) → Row keys (b .count + length ry) (wordsOf b ++ ry)
       → Row d (length cx) cx → Row values (d .count + length cy) (wordsOf d ++ cy)
-      → togetherOf (record { kind = 2; keys = keys; values = values }) ≡ innersTogether x (getD (routingKeys parent) j 0) y
+      → togetherOf (record { kind = 2; keys = keys; values = values }) ≡ innersTogether x between y
   unfolding togetherOf innersTogether
-  inners-pooled parent j rx ry rp cx cy a b keys d values ex ey ep fx fy ra rb rk rd rv =
-      let ks = row-then-part b keys _ _ ry (row-then a b (getD rp j 0) _ rx ra rb) rk in
+  inners-pooled between rx ry cx cy a b keys d values ex ey fx fy ra rb rk rd rv =
+      let ks = row-then-part b keys _ _ ry (row-then a b between _ rx ra rb) rk in
       let vs = row-then-part d values _ cx cy rd rv in
       ap₂ (λ (l m : List ℕ). record { kind = 2; keys = l; values = m })
-      (ks .listed ∙ append-assoc rx (getD rp j 0 ∷ []) ry ∙ rw (ex, ey, ep))
+      (ks .listed ∙ append-assoc rx (between ∷ []) ry ∙ rw (ex, ey))
       (vs .listed ∙ ap₂ (λ (l m : List ℕ). l ++ m) fx fy)
+
+-- ---- the siblings on the card
+
+module _ (card : List ℕ) (p : Position) where
+  -- the words of the parent and of the two
+  pub parent-words : SiblingsAt card p → length (parentAt card p) ≡ 24
+  parent-words s = length-node card (p .parent) (s .within .parent-from) (omega (arith, s .within .size, s .within .parent-to))
+
+  pub left-words : SiblingsAt card p → length (leftAt card p) ≡ 24
+  left-words s = length-node card _ (s .left .pos) (s .left .fits)
+
+  pub right-words : SiblingsAt card p → length (rightAt card p) ≡ 24
+  right-words s = length-node card _ (s .right .pos) (s .right .fits)
+
+  -- what they are together, by their kind
+  pub leaves-together : kindOf (leftAt card p) ≡ 1 → togetherAt card p ≡ leavesTogether (leftAt card p) (rightAt card p)
+  unfolding togetherAt
+  leaves-together k = rw (eq-eqb (kindOf (leftAt card p)) 1 k)
+
+  pub inners-together : (kindOf (leftAt card p) ≡ 1 → ⊥)
+      → togetherAt card p ≡ innersTogether (leftAt card p) (getD (routingKeys (parentAt card p)) (leftSibling p) 0) (rightAt card p)
+  unfolding togetherAt
+  inners-together k = rw (ne-eqb (kindOf (leftAt card p)) 1 k)
+
+-- a routing key, as the code reads it
+pub routing-read : (node : List ℕ) (i w : ℕ) → length node ≡ 24 → w ≡ 1 + i → suc i < length (children node) → getD node w 0 ≡ getD (routingKeys node) i 0
+routing-read node i w l e h =
+    sym (ap (λ (r : List ℕ). getD r i 0) (routing-words node (length (children node)) refl)
+    ∙ getD-take (length (children node) - 1) (drop 1 node) i 0 (omega arith) ∙ getD-drop 1 node i 0 ∙ ap (λ (a : ℕ). getD node a 0) (sym e))
+
+-- ---- a new node, written in another way
+
+pub node-as : {p r : Plan} {m n : NewNode} → m ≡ n → Extends p r 24 (nodeStores (m ∷ [])) → Extends p r 24 (nodeStores (n ∷ []))
+node-as {p} {r} e h = subst (λ (n : NewNode). Extends p r 24 (nodeStores (n ∷ []))) e h
+
+-- so few keys as there are values, or one fewer
+pub few-keys : (b : Pool) → Keyed b → b .keys .count ≤ b .values .count
+few-keys b k = omega (arith, k .keyed, keys-range (b .kind) (b .values .count))
+
+-- ---- what there is together, counted and named in another way
+
+pub pooled-as : (b : Pool) {m n : ℕ} {x y : Together} → m ≡ n → x ≡ y → Pooled b m x → Pooled b n y
+pooled-as b e f h = record { fits = h .fits; counted = h .counted ∙ e; listed = h .listed ∙ f }
+
+pub inners-read : {x y : List ℕ} {a b : ℕ} {u v : List ℕ} → x ≡ y → a ≡ b → u ≡ v → innersTogether x a u ≡ innersTogether y b v
+inners-read e f g = rw (e, f, g)

@@ -1,2 +1,2 @@
--- what two siblings are due, of which one is underfull
+-- what two siblings hold together
 pub mod Siblings

@@ -12,7 +12,7 @@ use Rattle.card.specs.Layout.{leafPairs}
 use Rattle.free_nodes.specs.NodeSet.{nodesOf}
 use Rattle.plans.specs.Change.{Together}
 use Rattle.plans.proofs.ChangeLaws.{split-leaf, cut-one}
-use Rattle.change.proofs.MendLaws.{leaf-pooled}
+use Rattle.change.proofs.LeafLaws.{leaf-pooled}
 use Rattle.plans.specs.Plan.{splitUnder}
 use Rattle.plans.specs.Planning.{giving, first, second, third}
 use Rattle.change.proofs.split_leaf.Statement.{statement}

@@ -1,46 +1,76 @@
 -- `siblings::cut_siblings` meets its contract.
-use mathlib.Core.Path.{ap}
+use mathlib.Core.List.{List, [], _∷_}
+use mathlib.Core.Path.{_≡_, refl, ap, ap₂, _∙_}
+use Prim.Native.Nat.{ℕ, suc, _+_, _<_}
 use native.Mathlib.Omega.{arith}
-use lib.ListN.{length}
-use borrow.Author.Needs.{needs}
+use lib.ListN.{length, getD}
+use Rattle.laws.specs.Lists.{beforeZero}
+use Rattle.card.specs.Layout.{children}
 use Rattle.card.proofs.NodeLaws.{children-le}
-use Rattle.plans.proofs.ChangeLaws.{cut-siblings}
+use Rattle.change_decide.proofs.DecideLaws.{child-read}
+use Rattle.plans.proofs.ChangeLaws.{cut-three, child-positive}
+use Rattle.siblings.proofs.SiblingLaws.{parent-words}
+use borrow.Author.Needs.{needs}
 use Rattle.siblings.proofs.cut_siblings.Statement.{statement}
 use Rattle.siblings.proofs.cut_siblings.Tie as tie
 
-children-requires : tie.Need-children-requires
-children-requires c κs = search needs
+-- child and sibling are among the parent's children
+beside : (c : tie.After-left-sibling) → suc (c .left-sibling .result) < length (children (c .before .node-at .result .now))
+beside c = let s = c .before .before .before in omega (arith, c .left-sibling .ensures, ap (λ (l : List ℕ). length (children l)) (c .before .node-at .ensures), s .pre .beside)
+
+few : (c : tie.After-left-sibling) → c .left-sibling .result < 10
+few c = omega (arith, beside (c), children-le (c .before .node-at .result .now))
+
+words : (c : tie.After-left-sibling) → length (c .before .node-at .result .now) ≡ 24
+words c = let s = c .before .before .before in ap length (c .before .node-at .ensures) ∙ parent-words (s .args .card .now) (s .args .p) (s .pre)
+
+node-at-requires : tie.Need-node-at-requires
+node-at-requires c κs = search needs
+
+left-sibling-requires : tie.Need-left-sibling-requires
+left-sibling-requires c κs = search needs
 
 cast-t5 : tie.Need-cast-t5
 cast-t5 c = search needs
 
-mul-t6 : tie.Need-mul-t6
-mul-t6 c = omega (arith, children-le (c .before .before .before .args .parent .now))
+add-t6 : tie.Need-add-t6
+add-t6 c = omega (arith, few (c .before))
 
-shared-slice-read-t8 : tie.Need-shared-slice-read-t8
-shared-slice-read-t8 c = omega (arith, ap length (c .before .before .children .ensures))
+mul-t7 : tie.Need-mul-t7
+mul-t7 c = omega (arith, few (c .before))
 
-add-t9 : tie.Need-add-t9
-add-t9 c = omega (arith, children-le (c .before .before .before .before .args .parent .now))
+shared-slice-read-t9 : tie.Need-shared-slice-read-t9
+shared-slice-read-t9 c = omega (arith, few (c .before .before), words (c .before .before))
 
-mul-t10 : tie.Need-mul-t10
-mul-t10 c = omega (arith, children-le (c .before .before .before .before .args .parent .now))
+add-t10 : tie.Need-add-t10
+add-t10 c = omega (arith, few (c .before .before))
 
-shared-slice-read-t12 : tie.Need-shared-slice-read-t12
-shared-slice-read-t12 c = omega (arith, ap length (c .before .before .before .children .ensures))
+mul-t11 : tie.Need-mul-t11
+mul-t11 c = omega (arith, few (c .before .before))
+
+shared-slice-read-t13 : tie.Need-shared-slice-read-t13
+shared-slice-read-t13 c = omega (arith, few (c .before .before .before), words (c .before .before .before))
 
 returns : tie.Need-returns
-returns c = let s = c .before .before .before .before .before in cut-siblings (s .args .parent .now) _ (s .args .p .parent) (s .args .j) (c .before .before .before .children .ensures) (omega (arith, s .pre .0 .parent-from)) (omega arith)
+returns c =
+    let s = c .before .before .before .before .before .before in
+    let j = c .before .before .before .left-sibling .result in
+    let parent = c .before .before .before .before .node-at .result .now in
+    ap₂ (λ (a b : ℕ). beforeZero (s .args .p .parent ∷ a ∷ b ∷ [])) (child-read parent j (12 + j) refl (omega (arith, beside (c .before .before .before)))) (child-read parent (suc j) (13 + j) (omega arith) (beside (c .before .before .before)))
+    ∙ cut-three _ _ _ (omega (arith, s .pre .within .parent-from)) (child-positive parent j (omega (arith, beside (c .before .before .before)))) (child-positive parent (suc j) (beside (c .before .before .before)))
+    ∙ ap₂ (λ (l : List ℕ) (i : ℕ). s .args .p .parent ∷ getD (children l) i 0 ∷ getD (children l) (suc i) 0 ∷ []) (c .before .before .before .before .node-at .ensures) (c .before .before .before .left-sibling .ensures)
 
 pub cut-siblings-spec : {M : Type 1} → statement M
 cut-siblings-spec =
     tie.close
     (tie.spec
-    children-requires
+    node-at-requires
+    left-sibling-requires
     cast-t5
-    mul-t6
-    shared-slice-read-t8
-    add-t9
-    mul-t10
-    shared-slice-read-t12
+    add-t6
+    mul-t7
+    shared-slice-read-t9
+    add-t10
+    mul-t11
+    shared-slice-read-t13
     returns)

@@ -1,7 +1,7 @@
 -- `change::tagged::cut_tagged` meets its contract.
 use native.Mathlib.Omega.{arith}
-use borrow.Author.Needs.{needs}
 use Rattle.plans.proofs.ChangeLaws.{cut-two}
+use borrow.Author.Needs.{needs}
 use Rattle.change.proofs.tagged.cut_tagged.Statement.{statement}
 use Rattle.change.proofs.tagged.cut_tagged.Tie as tie
 
@@ -12,7 +12,7 @@ cast-t3 : tie.Need-cast-t3
 cast-t3 c = search needs
 
 returns : tie.Need-returns
-returns c = cut-two (c .before .before .args .p .parent) (c .before .before .args .p .node) (omega (arith, c .before .before .pre .parent-from)) (omega (arith, c .before .before .pre .node-from))
+returns c = let s = c .before .before in cut-two (s .args .p .parent) (s .args .p .node) (omega (arith, s .pre .0)) (omega (arith, s .pre .2))
 
 pub cut-tagged-spec : {M : Type 1} → statement M
 cut-tagged-spec = tie.close (tie.spec cast-t2 cast-t3 returns)

@@ -1,0 +1,6 @@
+-- which change is due, case by case: one law for each branch of the code
+pub mod DecideLaws
+-- a violation that a search finds is at a position where a repair can be laid out
+pub mod Positions
+-- what a decision says of the card that it is made on holds there
+pub mod Fits
