@@ -15,17 +15,15 @@ use Rattle.laws.proofs.Cases.{impossible}
 use Rattle.laws.proofs.Sorting.{map-take, map-drop}
 use Rattle.card.specs.Layout.{rootPlace, children, routingKeys, leafPairs}
 use Rattle.card.specs.Stores.{Store}
-use Rattle.card.proofs.NodeLaws.{length-routing}
 use Rattle.descent.specs.declared.Position.{Position}
 use Rattle.free_nodes.specs.NodeSet.{wordCount, nodesOf}
 use Rattle.change_decide.specs.declared.Decision.{Decision}
 use Rattle.change_decide.specs.declared.Decision.the-variants.{Refused, Balanced, Absorb, SplitParent, Share, Merge, MergeRoot}
 use Rattle.change_rows.specs.Pairs.{pairsIn, Gathered}
 use Rattle.change_rows.specs.Halves.{keysFor, largerHalf, Whole}
-use Rattle.change_rows.proofs.RowLaws.{take-start}
 use Rattle.change_rows.proofs.PairLaws.{none-in, gathered-then}
 use Rattle.change_rows.proofs.HalfLaws.{keys-leaf, keys-inner}
-use Rattle.plans.specs.Change.{changeStores, kindAbove, splitLeaf, joinedKeys, joinedChildren, splitParent, Together, half, leftKeys, keyBetween, halves}
+use Rattle.plans.specs.Change.{changeStores, kindAbove, splitLeaf, joinedKeys, joinedChildren, splitParent, half, leftKeys, keyBetween, halves}
 use Rattle.plans.specs.Planning.{takeNumbers, withoutAll, lastOf, refused, prepared, giving, first, second, third}
 use Rattle.plans.specs.Plan.{storesOf, planIn, GivenAs}
 use Rattle.plans.specs.declared.numbers.Given.{Given}

@@ -71,4 +71,5 @@ Numbered count ms = (i : ℕ) → i < count → IsNumber (getD ms i 0)
 -- what is laid out in two rows, whatever nodes are then free and whichever was given last
 abbrev pub LaidIn : List ℕ → List ℕ → Laid → (List Bool → ℕ → Preparation) → Type 0
 LaidIn places values r planned =
-    (free : List Bool) (last : ℕ) → onOutcome (r .outcome) (prepared (storesOf (planIn places values (r .count))) free last (beforeZero (r .cut))) ≡ planned free last
+    (free : List Bool) (last : ℕ)
+    → onOutcome (r .outcome) (prepared (storesOf (planIn places values (r .count))) free last (beforeZero (r .cut))) ≡ planned free last

@@ -65,7 +65,8 @@ pub fn lay_split_leaf(
     requires { ⌜ (length (now leaf) ≡ 24) × (length (leafPairs (now leaf)) ≡ 11) × (link < 2 ^ 32) × IsNumber (first nodes) × IsNumber (second nodes)
         × IsNumber (third nodes) × (length (now places) ≡ 73) × (length (now values) ≡ 73) ⌝ }
     ensures { λ _. ⌜ zip (now (places .exit)) (now (values .exit))
-        ≡ splitStores link (together 1 (pairKeys (sort ((key, value) ∷ leafPairs (now (leaf .entry))))) (pairValues (sort ((key, value) ∷ leafPairs (now (leaf .entry))))))
+        ≡ splitStores link
+        (together 1 (pairKeys (sort ((key, value) ∷ leafPairs (now (leaf .entry))))) (pairValues (sort ((key, value) ∷ leafPairs (now (leaf .entry))))))
         (first nodes) (second nodes) (third nodes) ⌝ }
 {
     let mut keys: [u32; 12] = [0; 12];

@@ -46,10 +46,6 @@ node-stores : (m kind : ℕ) (keys beside : List ℕ) → length keys ≤ 11 →
 unfolding nodePlaces
 node-stores m kind keys beside h l = zip-stores 24 (place m 0) (nodeImage kind keys beside) (length-node-image kind keys beside h l)
 
-pub rows-stores : (m kind : ℕ) (keys beside : List ℕ) → length keys ≤ 11 → length beside ≤ 11
-    → zip (nodePlaces m) (nodeImage kind keys beside) ≡ nodeStores (newNode m kind keys beside ∷ [])
-rows-stores m kind keys beside h l = node-stores m kind keys beside h l ∙ sym (append-nil (stores (place m 0) (nodeImage kind keys beside)))
-
 -- ---- nodes one after the other
 
 zip-append : (a b c d : List ℕ) → length a ≡ length c → zip (a ++ b) (c ++ d) ≡ zip a c ++ zip b d
@@ -64,12 +60,12 @@ abbrev pub AllFew : List NewNode → Type 0
 AllFew [] = Unit
 AllFew (x ∷ xs) = (length (x .keys) ≤ 11) × (length (x .values) ≤ 11) × AllFew xs
 
-pub length-new-places : (xs : List NewNode) → length (newPlaces xs) ≡ 24 * length xs
+length-new-places : (xs : List NewNode) → length (newPlaces xs) ≡ 24 * length xs
 unfolding newPlaces
 length-new-places [] = refl
 length-new-places (x ∷ xs) = length-append (nodePlaces (x .number)) (newPlaces xs) ∙ omega (arith, length-places (x .number), length-new-places xs)
 
-pub length-new-words : (xs : List NewNode) → AllFew xs → length (newWords xs) ≡ 24 * length xs
+length-new-words : (xs : List NewNode) → AllFew xs → length (newWords xs) ≡ 24 * length xs
 unfolding newWords
 length-new-words [] h = refl
 length-new-words (x ∷ xs) h =
@@ -83,12 +79,6 @@ new-stores (x ∷ xs) h =
     zip-append (nodePlaces (x .number)) (newPlaces xs) (nodeImage (x .kind) (x .keys) (x .values)) (newWords xs)
     (length-places (x .number) ∙ sym (length-node-image (x .kind) (x .keys) (x .values) (h .0) (h .1)))
     ∙ ap₂ (λ (a b : List Store). a ++ b) (node-stores (x .number) (x .kind) (x .keys) (x .values) (h .0) (h .1)) (new-stores xs (h .2))
-
--- the rows of nodes at the front of two rows are their stores
-pub front-stores : (xs : List NewNode) (n : ℕ) (a b : List ℕ) → AllFew xs → n ≡ 24 * length xs
-    → zip (take n (newPlaces xs ++ a)) (take n (newWords xs ++ b)) ≡ nodeStores xs
-front-stores xs n a b h e =
-    ap₂ zip (take-at (newPlaces xs) a n (length-new-places xs ∙ sym e)) (take-at (newWords xs) b n (length-new-words xs h ∙ sym e)) ∙ new-stores xs h
 
 -- one node more after those at the front of a row
 new-places-more : (xs : List NewNode) (x : NewNode) → newPlaces (xs ++ x ∷ []) ≡ newPlaces xs ++ nodePlaces (x .number)
@@ -106,13 +96,13 @@ new-words-more (y ∷ xs) x =
     ∙ sym (append-assoc (nodeImage (y .kind) (y .keys) (y .values)) (newWords xs) (nodeImage (x .kind) (x .keys) (x .values)))
 
 module _ (xs : List NewNode) (x : NewNode) (n : ℕ) (d part : List ℕ) (size : n ≡ 24 * length xs) where
-  pub places-next : part ≡ nodePlaces (x .number)
+  places-next : part ≡ nodePlaces (x .number)
       → take n (newPlaces xs ++ drop n d) ++ (part ++ drop 24 (drop n (newPlaces xs ++ drop n d))) ≡ newPlaces (xs ++ x ∷ []) ++ drop (n + 24) d
   places-next e =
       lay-next d (newPlaces xs) part n 24 (length-new-places xs ∙ sym size)
       ∙ ap (λ (l : List ℕ). l ++ drop (n + 24) d) (ap (λ (l : List ℕ). newPlaces xs ++ l) e ∙ sym (new-places-more xs x))
 
-  pub words-next : AllFew xs → part ≡ nodeImage (x .kind) (x .keys) (x .values)
+  words-next : AllFew xs → part ≡ nodeImage (x .kind) (x .keys) (x .values)
       → take n (newWords xs ++ drop n d) ++ (part ++ drop 24 (drop n (newWords xs ++ drop n d))) ≡ newWords (xs ++ x ∷ []) ++ drop (n + 24) d
   words-next h e =
       lay-next d (newWords xs) part n 24 (length-new-words xs h ∙ sym size)

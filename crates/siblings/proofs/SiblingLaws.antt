@@ -15,7 +15,7 @@ use Rattle.laws.specs.Sorting.{Pairs, insertAll, sort}
 use Rattle.laws.proofs.Cases.{bool-cases, impossible}
 use Rattle.laws.proofs.Sorting.{length-sort}
 use Rattle.card.specs.Layout.{kindOf, valueWords, children, routingKeys, leafPairs}
-use Rattle.card.specs.Stores.{NewNode, newNode}
+use Rattle.card.specs.Stores.{newNode}
 use Rattle.card.proofs.NodeLaws.{length-node, length-routing, routing-words, children-le}
 use Rattle.descent.specs.declared.Position.{Position}
 use Rattle.change_decide.specs.Decide.{leftSibling}

@@ -1,5 +1,5 @@
 -- `change::nodes_needed` meets its contract.
-use mathlib.Core.Path.{_≡_, sym, ap}
+use mathlib.Core.Path.{sym, ap}
 use Rattle.change.specs.LayOut.{needed}
 use borrow.Author.Needs.{needs}
 use Rattle.change.proofs.nodes_needed.Statement.{statement}

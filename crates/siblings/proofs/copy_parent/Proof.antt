@@ -15,14 +15,6 @@ use Rattle.siblings.proofs.SiblingLaws.{parent-words, parent-copied}
 use borrow.Author.Needs.{needs}
 use Rattle.siblings.proofs.copy_parent.Statement.{statement}
 use Rattle.siblings.proofs.copy_parent.Tie as tie
-use Rattle.siblings.proofs.copy_parent.Reads as reads
-use Rattle.siblings.proofs.copy_parent.Lts as lts
-use Rattle.card.proofs.node_at.Reads as node-at-reads
-use Rattle.change_decide.proofs.left_sibling.Reads as left-sibling-reads
-use Rattle.change_rows.proofs.nodes.children.Reads as children-reads
-use Rattle.change_rows.proofs.nodes.routing_keys.Reads as routing-keys-reads
-use Rattle.change_rows.proofs.nodes.write_new.Reads as write-new-reads
-use Rattle.change_rows.proofs.words.replaced.Reads as replaced-reads
 
 -- child and sibling are among the parent's children
 beside : (c : tie.After-left-sibling) → suc (c .left-sibling .result) < length (children (c .before .node-at .result .now))

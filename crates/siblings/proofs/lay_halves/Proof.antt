@@ -1,7 +1,7 @@
 -- `siblings::lay_halves` meets its contract.
 use mathlib.Core.List.{List, _++_}
-use mathlib.Core.Path.{_≡_, ap, _∙_}
-use Prim.Native.Nat.{ℕ, _≤_}
+use mathlib.Core.Path.{ap, _∙_}
+use Prim.Native.Nat.{_≤_}
 use native.Mathlib.Omega.{arith}
 use lib.ListN.{drop}
 use Rattle.card.specs.Stores.{NewNode}
@@ -11,11 +11,6 @@ use Rattle.siblings.proofs.SiblingLaws.{few-keys, held-whole, held-halv
 use borrow.Author.Needs.{needs}
 use Rattle.siblings.proofs.lay_halves.Statement.{statement}
 use Rattle.siblings.proofs.lay_halves.Tie as tie
-use Rattle.siblings.proofs.lay_halves.Reads as reads
-use Rattle.siblings.proofs.lay_halves.Lts as lts
-use Rattle.change_rows.proofs.halves.key_between.Reads as key-between-reads
-use Rattle.change_rows.proofs.halves.write_halves.Reads as write-halves-reads
-use Rattle.siblings.proofs.together.gather_siblings.Reads as gather-siblings-reads
 
 -- the keys are within their row
 within : (c : tie.After-gather-siblings) → c .gather-siblings .result .keys ≤ 12

@@ -17,10 +17,6 @@ use Rattle.siblings.proofs.SiblingLaws.{parent-words, together-few, cop
 use borrow.Author.Needs.{needs}
 use Rattle.siblings.proofs.lay_merge.Statement.{statement}
 use Rattle.siblings.proofs.lay_merge.Tie as tie
-use Rattle.siblings.proofs.lay_merge.Reads as reads
-use Rattle.siblings.proofs.lay_merge.Lts as lts
-use Rattle.siblings.proofs.copy_parent.Reads as copy-parent-reads
-use Rattle.siblings.proofs.lay_merged.Reads as lay-merged-reads
 
 array-read-lay-merged : tie.Need-array-read-lay-merged
 array-read-lay-merged c = search needs

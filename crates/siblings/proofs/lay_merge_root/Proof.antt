@@ -1,6 +1,6 @@
 -- `siblings::lay_merge_root` meets its contract.
-use mathlib.Core.List.{List, []}
-use mathlib.Core.Path.{_≡_, refl}
+use mathlib.Core.List.{[]}
+use mathlib.Core.Path.{refl}
 use lib.ListN.{getD}
 use Rattle.card.specs.Stores.{newNode}
 use Rattle.change_rows.specs.Nodes.{newPlaces, newWords}
@@ -11,9 +11,6 @@ use Rattle.siblings.proofs.SiblingLaws.{together-few}
 use borrow.Author.Needs.{needs}
 use Rattle.siblings.proofs.lay_merge_root.Statement.{statement}
 use Rattle.siblings.proofs.lay_merge_root.Tie as tie
-use Rattle.siblings.proofs.lay_merge_root.Reads as reads
-use Rattle.siblings.proofs.lay_merge_root.Lts as lts
-use Rattle.siblings.proofs.lay_merged.Reads as lay-merged-reads
 
 array-read-lay-merged : tie.Need-array-read-lay-merged
 array-read-lay-merged c = search needs

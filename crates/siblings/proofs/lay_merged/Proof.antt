@@ -1,18 +1,14 @@
 -- `siblings::lay_merged` meets its contract.
-use mathlib.Core.Path.{_≡_, subst, ap, _∙_}
+use mathlib.Core.Path.{subst}
 use Prim.Native.Nat.{_-_, _≤_}
 use native.Mathlib.Omega.{arith}
-use lib.ListN.{length, length-take}
+use lib.ListN.{length-take}
 use Rattle.change_rows.specs.Nodes.{IsNew}
 use Rattle.siblings.specs.Siblings.{togetherAt}
 use Rattle.siblings.proofs.SiblingLaws.{few-keys, held-values, held-node, together-count}
 use borrow.Author.Needs.{needs}
 use Rattle.siblings.proofs.lay_merged.Statement.{statement}
 use Rattle.siblings.proofs.lay_merged.Tie as tie
-use Rattle.siblings.proofs.lay_merged.Reads as reads
-use Rattle.siblings.proofs.lay_merged.Lts as lts
-use Rattle.change_rows.proofs.nodes.write_new.Reads as write-new-reads
-use Rattle.siblings.proofs.together.gather_siblings.Reads as gather-siblings-reads
 
 -- the keys are within their row
 within : (c : tie.After-gather-siblings) → c .gather-siblings .result .keys ≤ 12

@@ -15,10 +15,6 @@ use Rattle.siblings.proofs.SiblingLaws.{parent-words, together-whole, h
 use borrow.Author.Needs.{needs}
 use Rattle.siblings.proofs.lay_share.Statement.{statement}
 use Rattle.siblings.proofs.lay_share.Tie as tie
-use Rattle.siblings.proofs.lay_share.Reads as reads
-use Rattle.siblings.proofs.lay_share.Lts as lts
-use Rattle.siblings.proofs.copy_parent.Reads as copy-parent-reads
-use Rattle.siblings.proofs.lay_halves.Reads as lay-halves-reads
 
 lay-halves-requires : tie.Need-lay-halves-requires
 lay-halves-requires c κs = search needs

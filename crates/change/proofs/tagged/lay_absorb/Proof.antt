@@ -1,6 +1,6 @@
 -- `change::tagged::lay_absorb` meets its contract.
 use mathlib.Core.List.{[]}
-use mathlib.Core.Path.{_≡_, refl, ap, ap₂, subst, _∙_}
+use mathlib.Core.Path.{refl, ap, ap₂, subst, _∙_}
 use Prim.Native.Nat.{_-_}
 use native.Mathlib.Omega.{arith}
 use lib.ListN.{length, getD, length-take}

@@ -9,12 +9,6 @@ use Rattle.siblings.proofs.SiblingLaws.{inners-held}
 use borrow.Author.Needs.{needs}
 use Rattle.siblings.proofs.together.gather_inners.Statement.{statement}
 use Rattle.siblings.proofs.together.gather_inners.Tie as tie
-use Rattle.siblings.proofs.together.gather_inners.Reads as reads
-use Rattle.siblings.proofs.together.gather_inners.Lts as lts
-use Rattle.change_rows.proofs.nodes.children.Reads as children-reads
-use Rattle.change_rows.proofs.nodes.routing_keys.Reads as routing-keys-reads
-use Rattle.change_rows.proofs.words.append.Reads as append-reads
-use Rattle.change_rows.proofs.words.push.Reads as push-reads
 
 -- how many routing keys the two have
 left : (c : tie.After-routing-keys) → length (c .routing-keys .result .now) ≡ length (children (c .before .before .before .before .before .before .args .x .now)) - 1

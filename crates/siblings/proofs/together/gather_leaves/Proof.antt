@@ -6,9 +6,6 @@ use Rattle.siblings.proofs.SiblingLaws.{leaves-held}
 use borrow.Author.Needs.{needs}
 use Rattle.siblings.proofs.together.gather_leaves.Statement.{statement}
 use Rattle.siblings.proofs.together.gather_leaves.Tie as tie
-use Rattle.siblings.proofs.together.gather_leaves.Reads as reads
-use Rattle.siblings.proofs.together.gather_leaves.Lts as lts
-use Rattle.change_rows.proofs.pairs.insert_leaf.Reads as insert-leaf-reads
 
 insert-leaf-requires : tie.Need-insert-leaf-requires
 insert-leaf-requires c κs =
