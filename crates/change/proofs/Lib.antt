@@ -1,4 +1,4 @@
--- a leaf that is split, in code
-pub mod LeafLaws
+-- laws of a change that is laid out: its numbers, its rows, and the nodes that it cuts out
+pub mod LayOutLaws
 -- which change a repair comes to, where the tests on the card are decided
 pub mod Mending

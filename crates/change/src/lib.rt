@@ -1,23 +1,23 @@
-// Document 01, "The changes": a change that is decided, laid out as the stores that a step then makes one by one.
+// Document 01, "The changes": a change that is decided, laid out as the stores that a step then makes one by one. The nodes are given
+// first: "A change takes the next free node after the one given last".
+mod split;
 mod tagged;
 
 use change_decide::Decision;
 use free_nodes::NodeSet;
+use plans::Outcome;
 use plans::Planned;
-use plans::answers::balanced;
 use plans::answers::prepared;
 use plans::answers::refused;
-use plans::halves::Pool;
-use plans::halves::split;
-use plans::pairs::no_pairs;
-use plans::pairs::with_leaf;
-use plans::pairs::with_pair;
-use plans::stores::push_store;
-use siblings::merge_into_root;
-use siblings::merge_siblings;
-use siblings::share_out;
-use tagged::absorb_tagged;
-use tagged::split_parent;
+use plans::numbers::give;
+use siblings::cut_siblings;
+use siblings::lay_merge;
+use siblings::lay_merge_root;
+use siblings::lay_share;
+use split::lay_split_leaf;
+use tagged::cut_tagged;
+use tagged::lay_absorb;
+use tagged::lay_split_parent;
 ghost use mathlib.Core.Path.{_≡_};
 ghost use mathlib.Core.List.{[], _∷_};
 ghost use Prim.Native.Nat.{_+_, _*_, _^_, _≤_, _<_};
@@ -27,10 +27,10 @@ ghost use Rattle.card.specs.Layout.{greatestNodes, place, leafPairs};
 ghost use Rattle.free_nodes.specs.NodeSet.{nodesOf};
 ghost use Rattle.plans.specs.Change.{splitLeaf};
 ghost use Rattle.plans.specs.Planning.{prepared, giving, first, second, third};
-ghost use Rattle.change_decide.specs.Places.{Fits};
-ghost use Rattle.change.specs.LayOut.{layOut};
-ghost use Rattle.change.specs.Mending.{nextRepair};
 ghost use Rattle.plans.specs.Plan.{preparationOf};
+ghost use Rattle.change_decide.specs.Places.{Fits};
+ghost use Rattle.change.specs.LayOut.{layOut, needed, laidOver, Numbered, LaidIn};
+ghost use Rattle.change.specs.Mending.{nextRepair};
 
 // "node m begins at word 8 + 24 × (m − 1)": the place of its word i.
 fn word_place(m: usize, i: usize) -> u32
@@ -52,11 +52,14 @@ pub fn place_pair(
     values: &mut [u32],
 ) -> Planned
     requires { ⌜ (1 ≤ m) × (m ≤ greatestNodes) × (i < 11) × (length (now places) ≡ 73) × (length (now values) ≡ 73) ⌝ }
-    ensures { λ r. ⌜ preparationOf (now (places .exit)) (now (values .exit)) r ≡ prepared ((place m (12 + i), value) ∷ (place m (1 + i), key) ∷ []) (nodesOf (free .words)) last [] ⌝ }
+    ensures { λ r. ⌜ preparationOf (now (places .exit)) (now (values .exit)) r
+        ≡ prepared ((place m (12 + i), value) ∷ (place m (1 + i), key) ∷ []) (nodesOf (free .words)) last [] ⌝ }
 {
-    let one = push_store(places, values, 0, word_place(m, 12 + i), value);
-    let two = push_store(places, values, one, word_place(m, 1 + i), key);
-    prepared(two, free, last)
+    places[0] = word_place(m, 12 + i);
+    values[0] = value;
+    places[1] = word_place(m, 1 + i);
+    values[1] = key;
+    prepared(2, free, last)
 }
 
 // The pair in slot i of leaf m goes: "A key word of 0 is an empty slot".
@@ -71,8 +74,9 @@ pub fn clear_key(
     requires { ⌜ (1 ≤ m) × (m ≤ greatestNodes) × (i < 11) × (length (now places) ≡ 73) × (length (now values) ≡ 73) ⌝ }
     ensures { λ r. ⌜ preparationOf (now (places .exit)) (now (values .exit)) r ≡ prepared ((place m (1 + i), 0) ∷ []) (nodesOf (free .words)) last [] ⌝ }
 {
-    let one = push_store(places, values, 0, word_place(m, 1 + i), 0);
-    prepared(one, free, last)
+    places[0] = word_place(m, 1 + i);
+    values[0] = 0;
+    prepared(1, free, last)
 }
 
 // "Leaf full: the 12 pairs go 6 and 6 into two leaves": leaf m, linked from the place, and a pair more.
@@ -87,19 +91,113 @@ pub fn split_leaf(
     places: &mut [u32],
     values: &mut [u32],
 ) -> Planned
-    requires { ⌜ (length (now leaf) ≡ 24) × (length (leafPairs (now leaf)) ≡ 11) × (1 ≤ m) × (m ≤ greatestNodes) × (link < 2 ^ 32) × (length (now places) ≡ 73) × (length (now values) ≡ 73) ⌝ }
-    ensures { λ r. ⌜ preparationOf (now (places .exit)) (now (values .exit)) r ≡ giving 3 (nodesOf (free .words)) last (λ ms. splitLeaf m link (sort ((key, value) ∷ leafPairs (now (leaf .entry)))) (first ms) (second ms) (third ms)) ⌝ }
+    requires { ⌜ (length (now leaf) ≡ 24) × (length (leafPairs (now leaf)) ≡ 11) × (1 ≤ m) × (m ≤ greatestNodes) × (link < 2 ^ 32)
+        × (length (now places) ≡ 73) × (length (now values) ≡ 73) ⌝ }
+    ensures { λ r. ⌜ preparationOf (now (places .exit)) (now (values .exit)) r
+        ≡ giving 3 (nodesOf (free .words)) last
+        (λ ms. splitLeaf m link (sort ((key, value) ∷ leafPairs (now (leaf .entry)))) (first ms) (second ms) (third ms)) ⌝ }
 {
-    let twelve = with_pair(with_leaf(no_pairs(), leaf), key, value);
-    let keys = twelve.keys;
-    let beside = twelve.values;
-    let both = Pool {
-        kind: 1,
-        keys,
-        values: beside,
-    };
-    let cut = [m as u32, 0, 0];
-    split(both, link, cut, free, last, places, values)
+    let given = give(free, last, 3);
+    if !given.enough {
+        return refused(free, last);
+    }
+    let nodes = given.nodes;
+    lay_split_leaf(leaf, link, key, value, nodes, places, values);
+    let fewer = given.free;
+    Planned {
+        outcome: Outcome::Prepared,
+        count: 73,
+        free: fewer,
+        last: given.last,
+        cut: [m as u32, 0, 0],
+    }
+}
+
+// How many new nodes a change has: "(left, right, then above)".
+fn nodes_needed(decision: Decision) -> usize
+    ensures { λ r. ⌜ r ≡ needed decision ⌝ }
+{
+    match decision {
+        Decision::Refused => 0,
+        Decision::Balanced => 0,
+        Decision::Absorb(p) => 1,
+        Decision::SplitParent(p) => 3,
+        Decision::Share(p) => 3,
+        Decision::Merge(p) => 2,
+        Decision::MergeRoot(p) => 1,
+    }
+}
+
+// What is laid out in the rows: how many stores, and the nodes that the last of them cuts out of the tree.
+struct Laid {
+    outcome: Outcome,
+    count: usize,
+    cut: [u32; 3],
+}
+
+// A change over its new nodes: what they hold is read off the card.
+fn lay_decided(
+    card: &[u32],
+    decision: Decision,
+    nodes: [u32; 3],
+    places: &mut [u32],
+    values: &mut [u32],
+) -> Laid
+    requires { ⌜ Fits (now card) decision × Numbered (needed decision) nodes × (length (now places) ≡ 73) × (length (now values) ≡ 73) ⌝ }
+    ensures { λ r. ⌜ LaidIn (now (places .exit)) (now (values .exit)) r (λ free last. laidOver (now (card .entry)) decision nodes free last) ⌝ }
+{
+    match decision {
+        Decision::Refused => Laid {
+            outcome: Outcome::Refused,
+            count: 0,
+            cut: [0; 3],
+        },
+        Decision::Balanced => Laid {
+            outcome: Outcome::Balanced,
+            count: 0,
+            cut: [0; 3],
+        },
+        Decision::Absorb(p) => {
+            lay_absorb(card, p, nodes, &mut places[0..25], &mut values[0..25]);
+            Laid {
+                outcome: Outcome::Prepared,
+                count: 25,
+                cut: cut_tagged(p),
+            }
+        }
+        Decision::SplitParent(p) => {
+            lay_split_parent(card, p, nodes, places, values);
+            Laid {
+                outcome: Outcome::Prepared,
+                count: 73,
+                cut: cut_tagged(p),
+            }
+        }
+        Decision::Share(p) => {
+            lay_share(card, p, nodes, places, values);
+            Laid {
+                outcome: Outcome::Prepared,
+                count: 73,
+                cut: cut_siblings(card, p),
+            }
+        }
+        Decision::Merge(p) => {
+            lay_merge(card, p, nodes, &mut places[0..49], &mut values[0..49]);
+            Laid {
+                outcome: Outcome::Prepared,
+                count: 49,
+                cut: cut_siblings(card, p),
+            }
+        }
+        Decision::MergeRoot(p) => {
+            lay_merge_root(card, p, nodes, &mut places[0..25], &mut values[0..25]);
+            Laid {
+                outcome: Outcome::Prepared,
+                count: 25,
+                cut: cut_siblings(card, p),
+            }
+        }
+    }
 }
 
 // A change that is decided, laid out: its new nodes are given, and what they hold is read off the card. The nodes that a position
@@ -115,14 +213,21 @@ pub fn lay_out(
     requires { ⌜ Fits (now card) decision × (length (now places) ≡ 73) × (length (now values) ≡ 73) ⌝ }
     ensures { λ r. ⌜ preparationOf (now (places .exit)) (now (values .exit)) r ≡ layOut (now (card .entry)) decision (nodesOf (free .words)) last ⌝ }
 {
-    match decision {
-        Decision::Refused => refused(free, last),
-        Decision::Balanced => balanced(free, last),
-        Decision::Absorb(p) => absorb_tagged(card, p, free, last, places, values),
-        Decision::SplitParent(p) => split_parent(card, p, free, last, places, values),
-        Decision::Share(p) => share_out(card, p, free, last, places, values),
-        Decision::Merge(p) => merge_siblings(card, p, free, last, places, values),
-        Decision::MergeRoot(p) => merge_into_root(card, p, free, last, places, values),
+    let given = give(free, last, nodes_needed(decision));
+    if !given.enough {
+        return refused(free, last);
+    }
+    let nodes = given.nodes;
+    let laid = lay_decided(card, decision, nodes, places, values);
+    let fewer = given.free;
+    let outcome = laid.outcome;
+    let cut = laid.cut;
+    Planned {
+        outcome,
+        count: laid.count,
+        free: fewer,
+        last: given.last,
+        cut,
     }
 }
 

@@ -22,6 +22,14 @@ pub keys-inner : (kind v : ℕ) → (kind ≡ 1 → ⊥) → v - 1 ≡ keysFor k
 unfolding keysFor
 keys-inner kind v e = rw (ne-eqb kind 1 e)
 
+pub keys-most : (kind v : ℕ) → keysFor kind v ≤ v
+unfolding keysFor
+keys-most kind v = go (eqb kind 1)
+  where
+    go : (b : Bool) → pick b v (v - 1) ≤ v
+    go true = omega arith
+    go false = omega arith
+
 -- the left node gets fewer keys than there are, and the right one some
 keys-shared : (kind n : ℕ) → 4 ≤ n
     → (keysFor kind ((n + 1) / 2) < keysFor kind n) × ((n + 1) / 2 ≤ keysFor kind n) × (keysFor kind n ≤ n) × (keysFor kind ((n + 1) / 2) ≤ (n + 1) / 2)

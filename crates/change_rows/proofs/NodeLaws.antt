@@ -7,10 +7,11 @@ use lib.ListN.{length, set, getD, take, drop, drop-of-length-le, length-append, 
 use lib.Seq.{drop-cons, set-at, take-at, drop-at}
 use Rattle.laws.specs.Lists.{pad}
 use Rattle.laws.proofs.Lists.{length-pad}
-use Rattle.card.specs.Layout.{place, nodeImage}
+use Rattle.card.specs.Layout.{place, nodeImage, children}
 use Rattle.card.specs.Stores.{Store, stores, NewNode, newNode, nodeStores}
 use Rattle.card.proofs.Stores.{length-node-image}
-use Rattle.change_rows.specs.Nodes.{countFrom, nodePlaces, newPlaces, newWords}
+use Rattle.card.proofs.NodeLaws.{children-words}
+use Rattle.change_rows.specs.Nodes.{countFrom, nodePlaces, IsNew, newPlaces, newWords}
 use Rattle.change_rows.proofs.RowLaws.{lay-next}
 
 length-count : (k p : ℕ) → length (countFrom k p) ≡ k
@@ -45,10 +46,6 @@ node-stores : (m kind : ℕ) (keys beside : List ℕ) → length keys ≤ 11 →
 unfolding nodePlaces
 node-stores m kind keys beside h l = zip-stores 24 (place m 0) (nodeImage kind keys beside) (length-node-image kind keys beside h l)
 
-pub rows-stores : (m kind : ℕ) (keys beside : List ℕ) → length keys ≤ 11 → length beside ≤ 11
-    → zip (nodePlaces m) (nodeImage kind keys beside) ≡ nodeStores (newNode m kind keys beside ∷ [])
-rows-stores m kind keys beside h l = node-stores m kind keys beside h l ∙ sym (append-nil (stores (place m 0) (nodeImage kind keys beside)))
-
 -- ---- nodes one after the other
 
 zip-append : (a b c d : List ℕ) → length a ≡ length c → zip (a ++ b) (c ++ d) ≡ zip a c ++ zip b d
@@ -63,12 +60,12 @@ abbrev pub AllFew : List NewNode → Type 0
 AllFew [] = Unit
 AllFew (x ∷ xs) = (length (x .keys) ≤ 11) × (length (x .values) ≤ 11) × AllFew xs
 
-pub length-new-places : (xs : List NewNode) → length (newPlaces xs) ≡ 24 * length xs
+length-new-places : (xs : List NewNode) → length (newPlaces xs) ≡ 24 * length xs
 unfolding newPlaces
 length-new-places [] = refl
 length-new-places (x ∷ xs) = length-append (nodePlaces (x .number)) (newPlaces xs) ∙ omega (arith, length-places (x .number), length-new-places xs)
 
-pub length-new-words : (xs : List NewNode) → AllFew xs → length (newWords xs) ≡ 24 * length xs
+length-new-words : (xs : List NewNode) → AllFew xs → length (newWords xs) ≡ 24 * length xs
 unfolding newWords
 length-new-words [] h = refl
 length-new-words (x ∷ xs) h =
@@ -82,12 +79,6 @@ new-stores (x ∷ xs) h =
     zip-append (nodePlaces (x .number)) (newPlaces xs) (nodeImage (x .kind) (x .keys) (x .values)) (newWords xs)
     (length-places (x .number) ∙ sym (length-node-image (x .kind) (x .keys) (x .values) (h .0) (h .1)))
     ∙ ap₂ (λ (a b : List Store). a ++ b) (node-stores (x .number) (x .kind) (x .keys) (x .values) (h .0) (h .1)) (new-stores xs (h .2))
-
--- the rows of nodes at the front of two rows are their stores
-pub front-stores : (xs : List NewNode) (n : ℕ) (a b : List ℕ) → AllFew xs → n ≡ 24 * length xs
-    → zip (take n (newPlaces xs ++ a)) (take n (newWords xs ++ b)) ≡ nodeStores xs
-front-stores xs n a b h e =
-    ap₂ zip (take-at (newPlaces xs) a n (length-new-places xs ∙ sym e)) (take-at (newWords xs) b n (length-new-words xs h ∙ sym e)) ∙ new-stores xs h
 
 -- one node more after those at the front of a row
 new-places-more : (xs : List NewNode) (x : NewNode) → newPlaces (xs ++ x ∷ []) ≡ newPlaces xs ++ nodePlaces (x .number)
@@ -105,17 +96,59 @@ new-words-more (y ∷ xs) x =
     ∙ sym (append-assoc (nodeImage (y .kind) (y .keys) (y .values)) (newWords xs) (nodeImage (x .kind) (x .keys) (x .values)))
 
 module _ (xs : List NewNode) (x : NewNode) (n : ℕ) (d part : List ℕ) (size : n ≡ 24 * length xs) where
-  pub places-next : part ≡ nodePlaces (x .number)
+  places-next : part ≡ nodePlaces (x .number)
       → take n (newPlaces xs ++ drop n d) ++ (part ++ drop 24 (drop n (newPlaces xs ++ drop n d))) ≡ newPlaces (xs ++ x ∷ []) ++ drop (n + 24) d
   places-next e =
       lay-next d (newPlaces xs) part n 24 (length-new-places xs ∙ sym size)
       ∙ ap (λ (l : List ℕ). l ++ drop (n + 24) d) (ap (λ (l : List ℕ). newPlaces xs ++ l) e ∙ sym (new-places-more xs x))
 
-  pub words-next : AllFew xs → part ≡ nodeImage (x .kind) (x .keys) (x .values)
+  words-next : AllFew xs → part ≡ nodeImage (x .kind) (x .keys) (x .values)
       → take n (newWords xs ++ drop n d) ++ (part ++ drop 24 (drop n (newWords xs ++ drop n d))) ≡ newWords (xs ++ x ∷ []) ++ drop (n + 24) d
   words-next h e =
       lay-next d (newWords xs) part n 24 (length-new-words xs h ∙ sym size)
       ∙ ap (λ (l : List ℕ). l ++ drop (n + 24) d) (ap (λ (l : List ℕ). newWords xs ++ l) e ∙ sym (new-words-more xs x))
+
+-- the link after them: "a single link store .. comes last"
+link-stores : (xs : List NewNode) (link top : ℕ) → AllFew xs
+    → zip (newPlaces xs ++ link ∷ []) (newWords xs ++ top ∷ []) ≡ nodeStores xs ++ (link, top) ∷ []
+unfolding zip zipWith
+link-stores xs link top h =
+    zip-append (newPlaces xs) (link ∷ []) (newWords xs) (top ∷ []) (length-new-places xs ∙ sym (length-new-words xs h))
+    ∙ ap (λ (l : List Store). l ++ (link, top) ∷ []) (new-stores xs h)
+
+row-linked : (d front : List ℕ) (n x : ℕ) → length front ≡ n → length d ≡ n + 1 → set (front ++ drop n d) n x ≡ front ++ x ∷ []
+row-linked d front n x e l =
+    ap (λ (r : List ℕ). set (front ++ r) n x)
+    (drop-cons d n 0 (omega arith) ∙ ap (λ (r : List ℕ). getD d n 0 ∷ r) (drop-of-length-le d {i = suc n} (omega arith)))
+    ∙ set-at front (getD d n 0) [] x n e
+
+all-few-more : (xs : List NewNode) (x : NewNode) → AllFew xs → length (x .keys) ≤ 11 → length (x .values) ≤ 11 → AllFew (xs ++ x ∷ [])
+all-few-more [] x h k v = (k, v, tt)
+all-few-more (y ∷ xs) x h k v = (h .0, h .1, all-few-more xs x (h .2) k v)
+
+-- the rows of a change: nodes at the front, one node more, and the link
+module _ (xs : List NewNode) (x : NewNode) (n k : ℕ) (places words part image : List ℕ) (link top : ℕ) (size : n ≡ 24 * length xs) (end : k ≡ n + 24) where
+  pub change-laid : (row row′ : List ℕ) → length places ≡ k + 1 → length words ≡ k + 1 → AllFew xs → length (x .keys) ≤ 11 → length (x .values) ≤ 11
+      → row ≡ newPlaces xs ++ drop n places → row′ ≡ newWords xs ++ drop n words → IsNew part image x
+      → zip (set (take n row ++ (part ++ drop 24 (drop n row))) k link) (set (take n row′ ++ (image ++ drop 24 (drop n row′))) k top)
+      ≡ nodeStores (xs ++ x ∷ []) ++ (link, top) ∷ []
+  change-laid row row′ lp lw few fk fv e f new =
+      let all : AllFew (xs ++ x ∷ []) = all-few-more xs x few fk fv in
+      let more : length (xs ++ x ∷ []) ≡ length xs + 1 = length-append xs (x ∷ []) in
+      let one : take n row ++ (part ++ drop 24 (drop n row)) ≡ newPlaces (xs ++ x ∷ []) ++ drop k places =
+      ap (λ (r : List ℕ). take n r ++ (part ++ drop 24 (drop n r))) e ∙ places-next xs x n places part size (new .at)
+      ∙ ap (λ (i : ℕ). newPlaces (xs ++ x ∷ []) ++ drop i places) (sym end) in
+      let two : take n row′ ++ (image ++ drop 24 (drop n row′)) ≡ newWords (xs ++ x ∷ []) ++ drop k words =
+      ap (λ (r : List ℕ). take n r ++ (image ++ drop 24 (drop n r))) f ∙ words-next xs x n words image size few (new .image)
+      ∙ ap (λ (i : ℕ). newWords (xs ++ x ∷ []) ++ drop i words) (sym end) in
+      ap₂ (λ (a b : List ℕ). zip (set a k link) (set b k top)) one two
+      ∙ ap₂ zip (row-linked places (newPlaces (xs ++ x ∷ [])) k link (length-new-places (xs ++ x ∷ []) ∙ omega arith) lp)
+      (row-linked words (newWords (xs ++ x ∷ [])) k top (length-new-words (xs ++ x ∷ []) all ∙ omega arith) lw)
+      ∙ link-stores (xs ++ x ∷ []) link top all
+
+-- the part of a node that holds its children, as the code cuts it out
+pub children-part : (node : List ℕ) (c : ℕ) → c ≡ length (children node) → take (12 + c - 12) (drop 12 node) ≡ children node
+children-part node c e = ap (λ (k : ℕ). take k (drop 12 node)) (let z : 12 + c - 12 ≡ c = omega arith in z) ∙ sym (children-words node c e)
 
 -- ---- a node's own words
 

@@ -4,7 +4,8 @@ use mathlib.Core.List.{List, [], _∷_, _++_, append-assoc, append-nil}
 use Prim.Native.Nat.{ℕ, suc, _+_, _-_, _≤_, _<_}
 use native.Mathlib.Omega.{arith}
 use native.Mathlib.Numerals.{add-one}
-use lib.ListN.{length, set, getD, take, drop, replicate, drop-of-length-le, length-append, length-drop}
+use lib.ListN.{length, set, getD, take, drop, replicate, drop-of-length-le, length-append, length-drop, length-set}
+use borrow.Rule.Slice.PartMut.{same-len-mid}
 use lib.Seq.{length-take-le, take-all, take-append-seam, drop-append-seam, take-at, drop-at, drop-drop, take-length, take-suc-set, paste, paste-suc}
 use Rattle.laws.specs.Lists.{pad}
 
@@ -81,3 +82,8 @@ lay-next d front part n k e =
     let first : take n (front ++ drop n d) ≡ front = take-at front (drop n d) n e in
     let rest : drop k (drop n (front ++ drop n d)) ≡ drop (n + k) d = ap (drop k) (drop-at front (drop n d) n e) ∙ drop-drop k n d in
     rw (first, rest) (sym (append-assoc front part (drop (n + k) d)))
+
+-- a row of which a part was lent, and in which a word then was written, is as long as before
+pub lent-kept : (row part : List ℕ) (n k i x : ℕ) → length part ≡ length (take k (drop n row))
+    → length (set (take n row ++ (part ++ drop k (drop n row))) i x) ≡ length row
+lent-kept row part n k i x e = length-set (take n row ++ (part ++ drop k (drop n row))) i x ∙ same-len-mid n k row part e

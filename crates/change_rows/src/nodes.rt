@@ -2,10 +2,10 @@
 use crate::words::clear;
 use crate::words::copy;
 ghost use mathlib.Core.Path.{_≡_};
-ghost use Prim.Native.Nat.{_≤_};
+ghost use Prim.Native.Nat.{_≤_, _<_};
 ghost use lib.ListN.{length};
 ghost use Rattle.laws.specs.Lists.{pad};
-ghost use Rattle.card.specs.Layout.{nodeImage};
+ghost use Rattle.card.specs.Layout.{nodeImage, children, routingKeys};
 ghost use Rattle.card.specs.Stores.{newNode};
 ghost use Rattle.change_rows.specs.Nodes.{IsNumber, nodePlaces, IsNew};
 
@@ -57,4 +57,22 @@ pub fn write_new(
 {
     write_places(places, m);
     write_node(words, kind, keys, beside);
+}
+
+// "its children being those before the first 0"
+pub fn children(node: &[u32]) -> &[u32]
+    requires { ⌜ length (now node) ≡ 24 ⌝ }
+    ensures { λ r. ⌜ now r ≡ children (now (node .entry)) ⌝ }
+{
+    let count = card::child_count(node);
+    &node[12..12 + count]
+}
+
+// "With c children the routing keys are words 1 to c − 1"
+pub fn routing_keys(node: &[u32]) -> &[u32]
+    requires { ⌜ (length (now node) ≡ 24) × (0 < length (children (now node))) ⌝ }
+    ensures { λ r. ⌜ now r ≡ routingKeys (now (node .entry)) ⌝ }
+{
+    let count = card::child_count(node);
+    &node[1..count]
 }

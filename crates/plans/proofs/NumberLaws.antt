@@ -1,21 +1,53 @@
 -- Laws of the numbers given for a change.
 use mathlib.Core.Path.{_≡_, refl, ap, sym, _∙_}
-use mathlib.Core.List.{List, [], _∷_}
-use mathlib.Core.Bool.{Bool, false}
+use mathlib.Core.List.{List, [], _∷_, _++_, append-assoc, append-nil}
+use mathlib.Core.Bool.{Bool, true, false}
 use mathlib.Core.Option.{Option, none, some}
-use Prim.Native.Nat.{ℕ, zero, suc, _≤_, _<_}
+use Prim.Native.Nat.{ℕ, zero, suc, _+_, _-_, _≤_, _<_}
 use native.Mathlib.Omega.{arith}
-use lib.ListN.{length, set, getD, length-set}
+use native.Mathlib.Numerals.{add-one}
+use lib.ListN.{length, set, getD, take, length-set}
+use lib.Seq.{take-suc-set, getD-take}
 use Rattle.plans.specs.Change.{Change, changeStores}
 use Rattle.plans.specs.Planning.{numbersFrom, takeNumbers, withoutAll, lastOf, overNumbers, giving, refused, prepared}
+use Rattle.plans.specs.Plan.{GivenAs}
+use Rattle.plans.specs.declared.numbers.Given.{Given}
 use Rattle.free_nodes.specs.NodeSet.{wordCount, capacity, nodesOf, nextFree}
+use Rattle.free_nodes.specs.declared.NodeSet.{NodeSet}
 use Rattle.free_nodes.proofs.NodeSetLaws.{length-nodes, next-found}
 use Rattle.free_nodes.specs.declared.Next.{Next}
 use Rattle.free_nodes.specs.declared.Next.the-variants.{Node, Nothing}
 use Rattle.laws.proofs.Cases.{impossible}
 
+-- ---- one number after the other
+
+-- the numbers found so far, and those that the rest finds
+unfoldable pub prefixed : List ℕ → Option (List ℕ) → Option (List ℕ)
+prefixed ms none = none
+prefixed ms (some rest) = some (ms ++ rest)
+
+prefixed-none : (o : Option (List ℕ)) → o ≡ prefixed [] o
+unfolding prefixed
+prefixed-none none = refl
+prefixed-none (some rest) = refl
+
+prefixed-more : (ms : List ℕ) (m : ℕ) (o : Option (List ℕ)) → prefixed ms (numbersFrom (Node m) (λ x. o)) ≡ prefixed (ms ++ m ∷ []) o
+unfolding numbersFrom prefixed
+prefixed-more ms m none = refl
+prefixed-more ms m (some rest) = ap some (sym (append-assoc ms (m ∷ []) rest))
+
+without-more : (ms : List ℕ) (m : ℕ) (free : List Bool) → withoutAll (ms ++ m ∷ []) free ≡ set (withoutAll ms free) m false
+unfolding withoutAll
+without-more [] m free = refl
+without-more (x ∷ ms) m free = without-more ms m (set free x false)
+
+last-more : (last : ℕ) (ms : List ℕ) (m : ℕ) → lastOf last (ms ++ m ∷ []) ≡ m
+unfolding lastOf
+last-more last [] m = refl
+last-more last (x ∷ ms) m = last-more x ms m
+
 module _ (k : ℕ) (free : List Bool) (last : ℕ) where
-  pub take-none : nextFree free last ≡ Nothing → takeNumbers (suc k) free last ≡ none
+  take-none : nextFree free last ≡ Nothing → takeNumbers (suc k) free last ≡ none
   unfolding takeNumbers numbersFrom
   take-none e = rw e
 
@@ -27,20 +59,71 @@ module _ (k : ℕ) (free : List Bool) (last : ℕ) where
       ap (λ (x : Next). numbersFrom x (λ a. takeNumbers k (set free a false) a)) e
       ∙ ap (λ (o : Option (List ℕ)). numbersFrom (Node m) (λ x. o)) (ap (λ (x : List Bool). takeNumbers k x m) (sym f) ∙ g)
 
-  pub take-short : (m : ℕ) (fewer : List Bool) → nextFree free last ≡ Node m → fewer ≡ set free m false → takeNumbers k fewer m ≡ none → takeNumbers (suc k) free last ≡ none
-  unfolding numbersFrom
-  take-short m fewer e f g = take-rest m fewer none e f g
+-- i of k numbers are found
+pub record Taking (g : Given) (i k : ℕ) (free : List Bool) (last : ℕ) : Type 0 where
+  pub within : i ≤ k
+  pub fewer : nodesOf (g .free .words) ≡ withoutAll (take i (g .nodes)) free
+  pub latest : g .last ≡ lastOf last (take i (g .nodes))
+  pub rest : takeNumbers k free last ≡ prefixed (take i (g .nodes)) (takeNumbers (k - i) (nodesOf (g .free .words)) (g .last))
 
-  pub take-more : (m : ℕ) (fewer : List Bool) (ms : List ℕ) → nextFree free last ≡ Node m → fewer ≡ set free m false → takeNumbers k fewer m ≡ some ms → takeNumbers (suc k) free last ≡ some (m ∷ ms)
-  unfolding numbersFrom
-  take-more m fewer ms e f g = take-rest m fewer (some ms) e f g
+pub taking-start : (nodes : List ℕ) (free : NodeSet) (last k : ℕ)
+    → Taking (record { enough = true; nodes = nodes; free = free; last = last }) 0 k (nodesOf (free .words)) last
+unfolding withoutAll lastOf
+taking-start nodes free last k =
+    record {
+      within = omega arith;
+      fewer = refl;
+      latest = refl;
+      rest = ap (λ (x : ℕ). takeNumbers x (nodesOf (free .words)) last) (let z : k ≡ k - 0 = omega arith in z) ∙ prefixed-none _;
+    }
 
-pub take-one : (free : List Bool) (last m : ℕ) → nextFree free last ≡ Node m → takeNumbers 1 free last ≡ some (m ∷ [])
-unfolding takeNumbers
-take-one free last m e = take-more 0 free last m (set free m false) [] e refl refl
+module _ (g : Given) (i k : ℕ) (free : List Bool) (last : ℕ) (t : Taking g i k free last) where
+  -- one more
+  pub taking-more : (m : ℕ) (fewer : NodeSet) → length (g .nodes) ≡ 3 → k ≤ 3 → i < k → nextFree (nodesOf (g .free .words)) (g .last) ≡ Node m
+      → nodesOf (fewer .words) ≡ set (nodesOf (g .free .words)) m false
+      → Taking (record { enough = true; nodes = set (g .nodes) i m; free = fewer; last = m }) (i + 1) k free last
+  taking-more m fewer len few h e f =
+      let held : take (i + 1) (set (g .nodes) i m) ≡ take i (g .nodes) ++ m ∷ [] =
+      ap (λ (x : ℕ). take x (set (g .nodes) i m)) (add-one i) ∙ take-suc-set (g .nodes) i m (omega arith) in
+      let left : k - i ≡ suc (k - (i + 1)) = omega arith in
+      record {
+        within = omega arith;
+        fewer =
+            f ∙ ap (λ (b : List Bool). set b m false) (t .fewer) ∙ sym (without-more (take i (g .nodes)) m free)
+            ∙ ap (λ (l : List ℕ). withoutAll l free) (sym held);
+        latest = sym (ap (lastOf last) held ∙ last-more last (take i (g .nodes)) m);
+        rest =
+            t .rest
+            ∙ ap (λ (x : ℕ). prefixed (take i (g .nodes)) (takeNumbers x (nodesOf (g .free .words)) (g .last))) left
+            ∙ ap (prefixed (take i (g .nodes))) (take-rest (k - (i + 1)) (nodesOf (g .free .words)) (g .last) m (nodesOf (fewer .words)) _ e f refl)
+            ∙ prefixed-more (take i (g .nodes)) m (takeNumbers (k - (i + 1)) (nodesOf (fewer .words)) m)
+            ∙ ap (λ (l : List ℕ). prefixed l (takeNumbers (k - (i + 1)) (nodesOf (fewer .words)) m)) (sym held);
+      }
+
+  -- no more is free
+  pub taking-none : i < k → nextFree (nodesOf (g .free .words)) (g .last) ≡ Nothing → takeNumbers k free last ≡ none
+  unfolding prefixed
+  taking-none h e =
+      t .rest
+      ∙ ap (λ (x : ℕ). prefixed (take i (g .nodes)) (takeNumbers x (nodesOf (g .free .words)) (g .last))) (let z : k - i ≡ suc (k - (i + 1)) = omega arith in z)
+      ∙ ap (prefixed (take i (g .nodes))) (take-none (k - (i + 1)) (nodesOf (g .free .words)) (g .last) e)
+
+  -- all are found
+  pub taking-done : k ≤ i → GivenAs g k free last
+  unfolding takeNumbers prefixed
+  taking-done h =
+      let same : i ≡ k = omega (arith, t .within) in
+      record {
+        taken =
+            t .rest
+            ∙ ap (λ (x : ℕ). prefixed (take i (g .nodes)) (takeNumbers x (nodesOf (g .free .words)) (g .last))) (let z : k - i ≡ 0 = omega arith in z)
+            ∙ ap some (append-nil (take i (g .nodes)) ∙ ap (λ (x : ℕ). take x (g .nodes)) same);
+        fewer = t .fewer ∙ ap (λ (x : ℕ). withoutAll (take x (g .nodes)) free) same;
+        latest = t .latest ∙ ap (λ (x : ℕ). lastOf last (take x (g .nodes))) same;
+      }
 
 -- the numbers given are places of the set, and none is 0
-pub number-within : (k : ℕ) (free : List Bool) (last : ℕ) (ms : List ℕ) → takeNumbers k free last ≡ some ms → (i : ℕ) → i < k → (1 ≤ getD ms i 0) × (getD ms i 0 < length free)
+number-within : (k : ℕ) (free : List Bool) (last : ℕ) (ms : List ℕ) → takeNumbers k free last ≡ some ms → (i : ℕ) → i < k → (1 ≤ getD ms i 0) × (getD ms i 0 < length free)
 unfolding takeNumbers numbersFrom
 number-within zero free last ms e i h = absurd (omega arith)
 number-within (suc k) free last ms e i h = on-next (λ m rest g j l. number-within k (set free m false) m rest g j l) (nextFree free last) refl e
@@ -72,21 +155,15 @@ pub giving-some : (k : ℕ) (free : List Bool) (last : ℕ) (change : List ℕ �
 unfolding giving overNumbers
 giving-some k free last change ms e = rw e
 
--- ---- a number given is a node's, and its place fits a plan
+-- ---- a number given is a node's
 
-pub record Given (m : ℕ) : Type 0 where
-  pub from : 1 ≤ m
-  pub below : m < capacity
+-- a node that is found
+pub found-below : (words : List ℕ) (last m : ℕ) → length words ≡ wordCount → nextFree (nodesOf words) last ≡ Node m → (1 ≤ m) × (m < capacity)
+found-below words last m len e = let f = next-found (nodesOf words) last m e in (f .1, omega (arith, f .2, length-nodes words))
 
-module _ (words : List ℕ) (len : length words ≡ wordCount) (last : ℕ) where
-  given-at : (k : ℕ) (ms : List ℕ) → takeNumbers k (nodesOf words) last ≡ some ms → (i : ℕ) → i < k → Given (getD ms i 0)
-  given-at k ms e i h = let g = number-within k (nodesOf words) last ms e i h in record { from = g .0; below = omega (arith, g .1, length-nodes words) }
-
-  pub one-given : (a : ℕ) → takeNumbers 1 (nodesOf words) last ≡ some (a ∷ []) → Given a
-  one-given a e = given-at 1 (a ∷ []) e 0 (omega arith)
-
-  pub two-given : (a b : ℕ) → takeNumbers 2 (nodesOf words) last ≡ some (a ∷ b ∷ []) → Given a × Given b
-  two-given a b e = (given-at 2 (a ∷ b ∷ []) e 0 (omega arith), given-at 2 (a ∷ b ∷ []) e 1 (omega arith))
-
-  pub three-given : (a b c : ℕ) → takeNumbers 3 (nodesOf words) last ≡ some (a ∷ b ∷ c ∷ []) → Given a × Given b × Given c
-  three-given a b c e = (given-at 3 (a ∷ b ∷ c ∷ []) e 0 (omega arith), given-at 3 (a ∷ b ∷ c ∷ []) e 1 (omega arith), given-at 3 (a ∷ b ∷ c ∷ []) e 2 (omega arith))
+pub given-within : (words : List ℕ) (g : Given) (k last : ℕ) → length words ≡ wordCount → GivenAs g k (nodesOf words) last → (i : ℕ) → i < k
+    → (1 ≤ getD (g .nodes) i 0) × (getD (g .nodes) i 0 < capacity)
+given-within words g k last len a i h =
+    let n = number-within k (nodesOf words) last (take k (g .nodes)) (a .taken) i h in
+    let same = getD-take k (g .nodes) i 0 h in
+    (omega (arith, n .0), omega (arith, n .1, length-nodes words))

@@ -2,7 +2,5 @@
 pub mod Change
 -- the nodes that a change is given, and what a step finds that has none in hand
 pub mod Planning
--- what the rows of words and of pairs in code hold, as lists
-pub mod Rows
 -- what the plans, the numbers and the answers in code say, in the terms of Change and Planning
 pub mod Plan

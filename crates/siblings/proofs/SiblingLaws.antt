@@ -1,49 +1,40 @@
 -- Laws of what two siblings hold together, in code.
 use mathlib.Core.Path.{_≡_, refl, ap, ap₂, sym, subst, _∙_}
 use mathlib.Core.List.{List, [], _∷_, _++_, append-assoc}
-use Prim.Native.Nat.{ℕ, suc, _+_, _-_, _≤_, _<_}
+use mathlib.Core.Bool.{Bool, true, false}
+use Prim.Native.Nat.{ℕ, zero, suc, _+_, _-_, _≤_, _<_}
 use native.Mathlib.Omega.{arith}
-use lib.ListN.{length, getD, drop, length-append, length-map}
-use lib.Seq.{getD-take, getD-drop}
+use native.Mathlib.Numerals.{add-one}
+use lib.ListN.{length, getD, take, drop, length-append, length-map, length-take, length-drop}
+use lib.Seq.{getD-take, getD-drop, length-take-le}
+use lib.Dec.{eqb}
 use borrow.Author.Tests.{ne-eqb, eq-eqb}
-use Rattle.card.specs.Layout.{kindOf, children, routingKeys, leafPairs}
-use Rattle.card.proofs.NodeLaws.{length-node, routing-words}
-use Rattle.change_decide.specs.Decide.{leftSibling}
-use Rattle.change_decide.specs.Places.{parentAt, leftAt, rightAt, SiblingsAt}
-use Rattle.plans.specs.Change.{Together, leavesTogether, innersTogether}
-use Rattle.card.specs.Stores.{NewNode, nodeStores}
-use Rattle.plans.proofs.ChangeLaws.{keys-range}
-use Rattle.plans.specs.declared.Plan.{Plan}
-use Rattle.plans.specs.declared.halves.Pool.{Pool}
-use Rattle.plans.proofs.PairLaws.{insert-all-append, zip-keys, zip-values}
-use Rattle.plans.specs.Plan.{Extends, togetherOf, Keyed}
-use Rattle.siblings.specs.Siblings.{togetherAt, Pooled}
-use Rattle.plans.proofs.RowLaws.{length-words, row-then, row-then-part}
-use Rattle.plans.specs.Rows.{wordsOf, Row, pairsOf, PairRow}
-use Rattle.laws.specs.Sorting.{Pairs, insertAll, sort, pairKeys, pairValues}
+use Rattle.laws.specs.Cases.{pick}
+use Rattle.laws.specs.Lists.{beforeZero}
+use Rattle.laws.specs.Sorting.{Pairs, insertAll, sort}
+use Rattle.laws.proofs.Cases.{bool-cases, impossible}
 use Rattle.laws.proofs.Sorting.{length-sort}
-use Rattle.plans.specs.declared.words.Words.{Words}
-use Rattle.plans.specs.declared.pairs.PairWords.{PairWords}
+use Rattle.card.specs.Layout.{kindOf, valueWords, children, routingKeys, leafPairs}
+use Rattle.card.specs.Stores.{newNode}
+use Rattle.card.proofs.NodeLaws.{length-node, length-routing, routing-words, children-le}
 use Rattle.descent.specs.declared.Position.{Position}
+use Rattle.change_decide.specs.Decide.{leftSibling}
+use Rattle.change_decide.specs.Places.{parentAt, leftAt, rightAt, countTogether, SiblingsAt}
+use Rattle.change_rows.specs.Pairs.{pairsIn, Gathered}
+use Rattle.change_rows.specs.Halves.{keysFor, largerHalf, Whole, leftOf, rightOf, halved}
+use Rattle.change_rows.proofs.RowLaws.{take-start}
+use Rattle.change_rows.proofs.PairLaws.{none-in, insert-all-append, gathered-keys, gathered-values}
+use Rattle.change_rows.proofs.NodeLaws.{AllFew}
+use Rattle.change_rows.proofs.HalfLaws.{keys-leaf, keys-inner, keys-most, halved-few}
+use Rattle.plans.specs.Change.{Together, leavesTogether, innersTogether, half, leftKeys, keyBetween, halves, copied}
+use Rattle.siblings.specs.Siblings.{togetherAt, Holds}
+use Rattle.siblings.specs.declared.together.Held.{Held}
 
 -- ---- the rows
 
 sorted-twice : (a b : Pairs) → insertAll a (insertAll b []) ≡ sort (a ++ b)
 unfolding sort
 sorted-twice a b = sym (insert-all-append a b [])
-
-module _ (w : PairWords) (n : ℕ) (lk : length (w .keys .items) ≡ 12) (lv : length (w .values .items) ≡ 12) (few : n ≤ 12) (pairs : Pairs) (row : PairRow w n pairs) where
-  long : length (wordsOf (w .keys)) ≡ length (wordsOf (w .values))
-  long =
-      length-words (w .keys) lk (omega (arith, row .keys-counted)) ∙ row .keys-counted
-      ∙ sym (length-words (w .values) lv (omega (arith, row .values-counted)) ∙ row .values-counted)
-
-  pub pairs-pooled : togetherOf (record { kind = 1; keys = w .keys; values = w .values }) ≡ record { kind = 1; keys = pairKeys pairs; values = pairValues pairs }
-  unfolding togetherOf pairsOf
-  pairs-pooled =
-      ap₂ (λ (k v : List ℕ). record { kind = 1; keys = k; values = v })
-      (sym (zip-keys (wordsOf (w .keys)) (wordsOf (w .values)) long) ∙ ap pairKeys (row .listed))
-      (sym (zip-values (wordsOf (w .keys)) (wordsOf (w .values)) long) ∙ ap pairValues (row .listed))
 
 module _ (x y : List ℕ) where
   pub leaves-count : length (leavesTogether x y .values) ≡ length (leafPairs x) + length (leafPairs y)
@@ -54,30 +45,109 @@ module _ (x y : List ℕ) where
   unfolding innersTogether
   inners-count key = length-append (children x) (children y)
 
-  pub leaves-pooled : (empty right all : PairWords) (m n : ℕ) → length (all .keys .items) ≡ 12 → length (all .values .items) ≡ 12 → n ≤ 12
-      → PairRow empty 0 [] → PairRow right m (insertAll (leafPairs y) (pairsOf empty)) → PairRow all n (insertAll (leafPairs x) (pairsOf right))
-      → togetherOf (record { kind = 1; keys = all .keys; values = all .values }) ≡ leavesTogether x y
+  pub leaves-held : (z z′ keys₁ beside₁ keys beside : List ℕ) (m n : ℕ) → length keys ≡ 12 → length beside ≡ 12
+      → length (leafPairs x) + length (leafPairs y) ≤ 12
+      → Gathered keys₁ beside₁ m (length (leafPairs y) + 0) (insertAll (leafPairs y) (pairsIn z z′ 0))
+      → Gathered keys beside n (length (leafPairs x) + m) (insertAll (leafPairs x) (pairsIn keys₁ beside₁ m))
+      → Holds (record { kind = 1; keys = n; values = n }) keys beside (leavesTogether x y)
   unfolding leavesTogether
-  leaves-pooled empty right all m n lk lv few z r s =
-      pairs-pooled all n lk lv few (sort (leafPairs x ++ leafPairs y))
-      (record {
-        keys-counted = s .keys-counted;
-        values-counted = s .values-counted;
-        listed = s .listed ∙ ap (insertAll (leafPairs x)) (r .listed ∙ ap (insertAll (leafPairs y)) (z .listed)) ∙ sorted-twice (leafPairs x) (leafPairs y);
-      })
+  leaves-held z z′ keys₁ beside₁ keys beside m n lk lv room g h =
+      let all : Gathered keys beside n (length (leafPairs x) + m) (sort (leafPairs x ++ leafPairs y)) =
+      subst (Gathered keys beside n (length (leafPairs x) + m))
+      (ap (insertAll (leafPairs x)) (g .listed ∙ ap (insertAll (leafPairs y)) (none-in z z′)) ∙ sorted-twice (leafPairs x) (leafPairs y)) h in
+      let few : length (leafPairs x) + m ≤ 12 = omega (arith, g .counted) in
+      record {
+        kind = refl;
+        few = omega (arith, h .counted);
+        keyed = keys-leaf 1 n refl;
+        keys-held = gathered-keys keys beside n _ _ lk lv few all;
+        values-held = gathered-values keys beside n _ _ lk lv few all;
+      }
 
-  pub inners-pooled : (between : ℕ) (rx ry cx cy : List ℕ) (a b keys d values : Words)
-      → rx ≡ routingKeys x → ry ≡ routingKeys y → cx ≡ children x → cy ≡ children y
-      → Row a (length rx) rx → Row b (a .count + 1) (wordsOf a ++ between ∷ []) → Row keys (b .count + length ry) (wordsOf b ++ ry)
-      → Row d (length cx) cx → Row values (d .count + length cy) (wordsOf d ++ cy)
-      → togetherOf (record { kind = 2; keys = keys; values = values }) ≡ innersTogether x between y
-  unfolding togetherOf innersTogether
-  inners-pooled between rx ry cx cy a b keys d values ex ey fx fy ra rb rk rd rv =
-      let ks = row-then-part b keys _ _ ry (row-then a b between _ rx ra rb) rk in
-      let vs = row-then-part d values _ cx cy rd rv in
-      ap₂ (λ (l m : List ℕ). record { kind = 2; keys = l; values = m })
-      (ks .listed ∙ append-assoc rx (between ∷ []) ry ∙ rw (ex, ey))
-      (vs .listed ∙ ap₂ (λ (l m : List ℕ). l ++ m) fx fy)
+  module _ (between : ℕ) (rx ry cx cy keys₀ one two keys beside₀ first beside : List ℕ) (a b k d n : ℕ) where
+    pub inners-held : rx ≡ routingKeys x → ry ≡ routingKeys y → cx ≡ children x → cy ≡ children y → length x ≡ 24 → length y ≡ 24
+        → 0 < length (children x) → 0 < length (children y) → length (children x) + length (children y) ≤ 12
+        → (a ≡ 0 + length rx) × (take a one ≡ take 0 keys₀ ++ rx) → (b ≡ a + 1) × (take b two ≡ take a one ++ between ∷ [])
+        → (k ≡ b + length ry) × (take k keys ≡ take b two ++ ry)
+        → (d ≡ 0 + length cx) × (take d first ≡ take 0 beside₀ ++ cx) → (n ≡ d + length cy) × (take n beside ≡ take d first ++ cy)
+        → Holds (record { kind = 2; keys = k; values = n }) keys beside (innersTogether x between y)
+    unfolding innersTogether
+    inners-held ex ey fx fy lx ly px py room ra rb rk rd rn =
+        let count : n ≡ length (children x) + length (children y) = omega (arith, rn .0, rd .0, ap length fx, ap length fy) in
+        let keyed : k ≡ n - 1 =
+        omega (arith, ra .0, rb .0, rk .0, ap length ex, ap length ey, length-routing x lx, length-routing y ly) in
+        record {
+          kind = refl;
+          few = omega arith;
+          keyed = keyed ∙ keys-inner 2 n (λ e. absurd (omega arith));
+          keys-held = rk .1 ∙ ap₂ (λ (l m : List ℕ). l ++ m) (rb .1 ∙ ap (λ (l : List ℕ). l ++ between ∷ []) (ra .1 ∙ ex)) ey
+              ∙ append-assoc (routingKeys x) (between ∷ []) (routingKeys y);
+          values-held = rn .1 ∙ ap₂ (λ (l m : List ℕ). l ++ m) (rd .1 ∙ fx) fy;
+        }
+
+abbrev Keyed : Together → Type 0
+Keyed both = length (both .keys) ≡ keysFor (both .kind) (length (both .values))
+
+leaves-keyed : (x y : List ℕ) → Keyed (leavesTogether x y)
+unfolding leavesTogether
+leaves-keyed x y =
+    length-map (sort (leafPairs x ++ leafPairs y)) (λ p. p .0) ∙ sym (length-map (sort (leafPairs x ++ leafPairs y)) (λ p. p .1))
+    ∙ keys-leaf 1 (length (leavesTogether x y .values)) refl
+
+inners-keyed : (x y : List ℕ) (key : ℕ) → length x ≡ 24 → length y ≡ 24 → 0 < length (children x) → 0 < length (children y) → Keyed (innersTogether x key y)
+unfolding innersTogether
+inners-keyed x y key lx ly px py =
+    omega (
+      arith,
+      length-append (routingKeys x) (key ∷ routingKeys y),
+      length-routing x lx,
+      length-routing y ly,
+      length-append (children x) (children y),
+      keys-inner 2 (length (children x ++ children y)) (λ e. absurd (omega arith)),
+    )
+
+-- what is held, named in another way
+pub held-as : (r : Held) (keys beside : List ℕ) {x y : Together} → x ≡ y → Holds r keys beside x → Holds r keys beside y
+held-as r keys beside e h = subst (Holds r keys beside) e h
+
+-- ---- what is held, as the code cuts it out
+
+module _ (r : Held) (keys beside : List ℕ) (both : Together) (h : Holds r keys beside both) where
+  keys-cut : take (r .keys - 0) keys ≡ both .keys
+  keys-cut = take-start (r .keys) keys ∙ h .keys-held
+
+  values-cut : take (r .values - 0) beside ≡ both .values
+  values-cut = take-start (r .values) beside ∙ h .values-held
+
+  pub few-keys : r .keys ≤ r .values
+  few-keys = omega (arith, h .keyed, keys-most (r .kind) (r .values))
+
+  pub held-node : (m : ℕ) → newNode m (r .kind) (take (r .keys - 0) keys) (take (r .values - 0) beside) ≡ newNode m (both .kind) (both .keys) (both .values)
+  held-node m = rw (h .kind, keys-cut, values-cut)
+
+  pub held-halves : (a b : ℕ) → halved (r .kind) (take (r .keys - 0) keys) (take (r .values - 0) beside) a b ≡ halves both a b
+  unfolding halved leftOf rightOf keysFor largerHalf halves leftKeys half
+  held-halves a b = rw (h .kind, keys-cut, values-cut)
+
+  pub held-between : getD (take (r .keys - 0) keys) (keysFor (r .kind) (largerHalf (length (take (r .values - 0) beside)))) 0 ≡ keyBetween both
+  unfolding keysFor largerHalf keyBetween leftKeys half
+  held-between = rw (h .kind, keys-cut, values-cut)
+
+  module _ (lk : length keys ≡ 12) (lv : length beside ≡ 12) where
+    -- how many values there are, and keys
+    pub held-values : length (both .values) ≡ r .values
+    held-values = sym (ap length (h .values-held)) ∙ length-take-le (r .values) beside (omega (arith, h .few))
+
+    pub held-keys : length (both .keys) ≡ r .keys
+    held-keys = sym (ap length (h .keys-held)) ∙ length-take-le (r .keys) keys (omega (arith, h .few, few-keys))
+
+    pub held-whole : 4 ≤ length (both .values) → Whole (r .kind) (take (r .keys - 0) keys) (take (r .values - 0) beside)
+    held-whole enough =
+        record {
+          few = omega (arith, ap length values-cut, held-values, h .few);
+          enough = omega (arith, ap length values-cut);
+          keyed = ap length keys-cut ∙ held-keys ∙ h .keyed ∙ ap (keysFor (r .kind)) (sym (ap length values-cut ∙ held-values));
+        }
 
 -- ---- the siblings on the card
 
@@ -102,25 +172,122 @@ module _ (card : List ℕ) (p : Position) where
   unfolding togetherAt
   inners-together k = rw (ne-eqb (kindOf (leftAt card p)) 1 k)
 
+  -- how many there are
+  pub together-count : length (togetherAt card p .values) ≡ countTogether (leftAt card p) (rightAt card p)
+  unfolding togetherAt countTogether
+  together-count = go (eqb (kindOf (leftAt card p)) 1)
+    where
+      go : (b : Bool) → length (pick b (leavesTogether (leftAt card p) (rightAt card p))
+          (innersTogether (leftAt card p) (getD (routingKeys (parentAt card p)) (leftSibling p) 0) (rightAt card p)) .values)
+          ≡ pick b (length (leafPairs (leftAt card p)) + length (leafPairs (rightAt card p))) (length (children (leftAt card p)) + length (children (rightAt card p)))
+      go true = leaves-count (leftAt card p) (rightAt card p)
+      go false = inners-count (leftAt card p) (rightAt card p) (getD (routingKeys (parentAt card p)) (leftSibling p) 0)
+
+  leaves-when : eqb (kindOf (leftAt card p)) 1 ≡ true → togetherAt card p ≡ leavesTogether (leftAt card p) (rightAt card p)
+  unfolding togetherAt
+  leaves-when e = rw e
+
+  -- as many keys as go with the values
+  pub together-keyed : SiblingsAt card p → length (togetherAt card p .keys) ≡ keysFor (togetherAt card p .kind) (length (togetherAt card p .values))
+  together-keyed s =
+      bool-cases (eqb (kindOf (leftAt card p)) 1)
+      (λ yes. subst Keyed (sym (leaves-when yes)) (leaves-keyed (leftAt card p) (rightAt card p)))
+      (λ no.
+      let k : kindOf (leftAt card p) ≡ 1 → ⊥ = λ e. let t = eq-eqb (kindOf (leftAt card p)) 1 e in impossible (cc) in
+      let some = s .inner k in
+      subst Keyed (sym (inners-together k)) (inners-keyed (leftAt card p) (rightAt card p) _ (left-words s) (right-words s) (some .0) (some .1)))
+
+  pub together-whole : SiblingsAt card p → 4 ≤ countTogether (leftAt card p) (rightAt card p)
+      → Whole (togetherAt card p .kind) (togetherAt card p .keys) (togetherAt card p .values)
+  together-whole s h =
+      record { few = omega (arith, together-count, s .few); enough = omega (arith, together-count); keyed = together-keyed s }
+
+  pub together-few : SiblingsAt card p → countTogether (leftAt card p) (rightAt card p) < 4
+      → (length (togetherAt card p .keys) ≤ 11) × (length (togetherAt card p .values) ≤ 11)
+  together-few s h =
+      let most = keys-most (togetherAt card p .kind) (length (togetherAt card p .values)) in
+      (omega (arith, together-count, together-keyed s), omega (arith, together-count))
+
 -- a routing key, as the code reads it
 pub routing-read : (node : List ℕ) (i w : ℕ) → length node ≡ 24 → w ≡ 1 + i → suc i < length (children node) → getD node w 0 ≡ getD (routingKeys node) i 0
 routing-read node i w l e h =
     sym (ap (λ (r : List ℕ). getD r i 0) (routing-words node (length (children node)) refl)
     ∙ getD-take (length (children node) - 1) (drop 1 node) i 0 (omega arith) ∙ getD-drop 1 node i 0 ∙ ap (λ (a : ℕ). getD node a 0) (sym e))
 
--- ---- a new node, written in another way
-
-pub node-as : {p r : Plan} {m n : NewNode} → m ≡ n → Extends p r 24 (nodeStores (m ∷ [])) → Extends p r 24 (nodeStores (n ∷ []))
-node-as {p} {r} e h = subst (λ (n : NewNode). Extends p r 24 (nodeStores (n ∷ []))) e h
-
--- so few keys as there are values, or one fewer
-pub few-keys : (b : Pool) → Keyed b → b .keys .count ≤ b .values .count
-few-keys b k = omega (arith, k .keyed, keys-range (b .kind) (b .values .count))
-
--- ---- what there is together, counted and named in another way
-
-pub pooled-as : (b : Pool) {m n : ℕ} {x y : Together} → m ≡ n → x ≡ y → Pooled b m x → Pooled b n y
-pooled-as b e f h = record { fits = h .fits; counted = h .counted ∙ e; listed = h .listed ∙ f }
-
 pub inners-read : {x y : List ℕ} {a b : ℕ} {u v : List ℕ} → x ≡ y → a ≡ b → u ≡ v → innersTogether x a u ≡ innersTogether y b v
 inners-read e f g = rw (e, f, g)
+
+-- ---- a copy of the parent
+
+module _ (parent : List ℕ) (j : ℕ) (keys kids : List ℕ) (len : length parent ≡ 24) (beside : suc j < length (children parent)) where
+  pub copied-few : length keys ≤ 1 → length kids ≤ 2 → (m : ℕ) → (length (copied m parent j keys kids .keys) ≤ 11) × (length (copied m parent j keys kids .values) ≤ 11)
+  unfolding copied
+  copied-few fk fv m =
+      let routing = length-routing parent len in
+      let few = children-le parent in (
+        omega (
+          arith,
+          length-append (take j (routingKeys parent)) (keys ++ drop (suc j) (routingKeys parent)),
+          length-append keys (drop (suc j) (routingKeys parent)),
+          length-take j (routingKeys parent),
+          length-drop (suc j) (routingKeys parent),
+        ),
+        omega (
+          arith,
+          length-append (take j (children parent)) (kids ++ drop (suc (suc j)) (children parent)),
+          length-append kids (drop (suc (suc j)) (children parent)),
+          length-take j (children parent),
+          length-drop (suc (suc j)) (children parent),
+        ),
+      )
+
+pub parent-copied : (m j : ℕ) (parent row kids keys others routing under : List ℕ) (k n : ℕ) → row ≡ routingKeys parent → kids ≡ children parent
+    → take k routing ≡ take j row ++ (keys ++ drop (j + 1) row) → take n under ≡ take j kids ++ (others ++ drop (j + 2) kids)
+    → newNode m 2 (take (k - 0) routing) (take (n - 0) under) ≡ copied m parent j keys others
+unfolding copied
+parent-copied m j parent row kids keys others routing under k n e f g h =
+    ap₂ (newNode m 2)
+    (take-start k routing ∙ g ∙ ap₂ (λ (l : List ℕ) (i : ℕ). take j l ++ (keys ++ drop i l)) e (add-one j))
+    (take-start n under ∙ h ∙ ap₂ (λ (l : List ℕ) (i : ℕ). take j l ++ (others ++ drop i l)) f (let z : j + 2 ≡ suc (suc j) = omega arith in z))
+
+-- ---- the nodes that a change cuts out
+
+pub cut-three : (a b c : ℕ) → 0 < a → 0 < b → 0 < c → beforeZero (a ∷ b ∷ c ∷ []) ≡ a ∷ b ∷ c ∷ []
+cut-three zero b c p q r = absurd (omega arith)
+cut-three (suc a) zero c p q r = absurd (omega arith)
+cut-three (suc a) (suc b) zero p q r = absurd (omega arith)
+cut-three (suc a) (suc b) (suc c) p q r = refl
+
+before-zero-positive : (l : List ℕ) (i : ℕ) → i < length (beforeZero l) → 0 < getD (beforeZero l) i 0
+before-zero-positive [] i h = absurd (omega arith)
+before-zero-positive (zero ∷ l) i h = absurd (omega arith)
+before-zero-positive (suc x ∷ l) zero h = omega arith
+before-zero-positive (suc x ∷ l) (suc i) h = before-zero-positive l i (omega arith)
+
+pub child-positive : (node : List ℕ) (i : ℕ) → i < length (children node) → 0 < getD (children node) i 0
+unfolding children
+child-positive node i h = before-zero-positive (valueWords node) i h
+
+-- ---- what a change is laid out from
+
+-- the first of three words
+three-words : (l : List ℕ) → length l ≡ 3 → l ≡ getD l 0 0 ∷ getD l 1 0 ∷ getD l 2 0 ∷ []
+three-words [] e = absurd (omega arith)
+three-words (a ∷ []) e = absurd (omega arith)
+three-words (a ∷ b ∷ []) e = absurd (omega arith)
+three-words (a ∷ b ∷ c ∷ []) e = refl
+three-words (a ∷ b ∷ c ∷ d ∷ l) e = absurd (omega arith)
+
+pub take-one : (l : List ℕ) → length l ≡ 3 → take 1 l ≡ getD l 0 0 ∷ []
+take-one l e = ap (take 1) (three-words l e)
+
+pub take-two : (l : List ℕ) → length l ≡ 3 → take 2 l ≡ getD l 0 0 ∷ getD l 1 0 ∷ []
+take-two l e = ap (take 2) (three-words l e)
+
+-- each of two that share has at most eleven of both
+pub halves-same : (both : Together) (a b : ℕ) → halved (both .kind) (both .keys) (both .values) a b ≡ halves both a b
+unfolding halved leftOf rightOf keysFor largerHalf halves leftKeys half
+halves-same both a b = refl
+
+pub halves-few : (both : Together) (a b : ℕ) → Whole (both .kind) (both .keys) (both .values) → AllFew (halves both a b)
+halves-few both a b w = subst AllFew (halves-same both a b) (halved-few (both .kind) (both .keys) (both .values) a b w)

@@ -1,20 +1,18 @@
--- Document 01, "The changes": what two siblings hold together, and the copy of their parent.
+-- Document 01, "The changes": what two siblings hold together.
 use mathlib.Core.Path.{_≡_}
 use mathlib.Core.List.{List}
 use Prim.Native.Nat.{ℕ, _≤_}
-use lib.ListN.{getD}
+use lib.ListN.{getD, take}
 use lib.Dec.{eqb}
 use Rattle.laws.specs.Cases.{pick}
 use Rattle.card.specs.Layout.{kindOf, routingKeys}
-use Rattle.card.specs.Stores.{newNode}
 use Rattle.descent.specs.declared.Position.{Position}
 use Rattle.change_decide.specs.Decide.{leftSibling}
 use Rattle.change_decide.specs.Places.{parentAt, leftAt, rightAt}
-use Rattle.plans.specs.Change.{Change, Together, leavesTogether, innersTogether, copied, share, merge, mergeRoot}
+use Rattle.change_rows.specs.Halves.{keysFor}
+use Rattle.plans.specs.Change.{Change, Together, leavesTogether, innersTogether, share, merge, mergeRoot}
 use Rattle.plans.specs.Planning.{first, second, third}
-use Rattle.plans.specs.Rows.{wordsOf}
-use Rattle.plans.specs.Plan.{togetherOf, Keyed}
-use Rattle.plans.specs.declared.halves.Pool.{Pool}
+use Rattle.siblings.specs.declared.together.Held.{Held}
 
 -- the two siblings at a position, by their kind
 unfoldable pub togetherAt : List ℕ → Position → Together
@@ -33,14 +31,10 @@ mergeAt card p = λ ms. merge p (parentAt card p) (leftSibling p) (togetherAt ca
 abbrev pub mergeRootAt : List ℕ → Position → List ℕ → Change
 mergeRootAt card p = λ ms. mergeRoot p (parentAt card p) (leftSibling p) (togetherAt card p) (first ms)
 
--- so many values or children together, and what they are
-pub record Pooled (b : Pool) (count : ℕ) (both : Together) : Type 0 where
-  pub fits : Keyed b
-  pub counted : b .values .count ≡ count
-  pub listed : togetherOf b ≡ both
-
--- a new copy of the parent with other keys and children, which fits a node
-pub record Copied (b : Pool) (parent : List ℕ) (j : ℕ) (keys kids : List ℕ) : Type 0 where
-  pub few-keys : b .keys .count ≤ 11
-  pub few-children : b .values .count ≤ 11
-  pub listed : (m : ℕ) → newNode m 2 (wordsOf (b .keys)) (wordsOf (b .values)) ≡ copied m parent j keys kids
+-- what the first words of two rows hold, of which kind, with as many keys as go with the values
+pub record Holds (r : Held) (keys beside : List ℕ) (both : Together) : Type 0 where
+  pub kind : r .kind ≡ both .kind
+  pub few : r .values ≤ 12
+  pub keyed : r .keys ≡ keysFor (r .kind) (r .values)
+  pub keys-held : take (r .keys) keys ≡ both .keys
+  pub values-held : take (r .values) beside ≡ both .values

@@ -1,63 +1,64 @@
 // "Underfull non-root node": what it has together with a sibling is laid out in one new node or two, under a new copy of the parent.
+// The rows of places and values are lent, as long as the change has stores, and the numbers of the new nodes are given.
 mod together;
 
 use change_decide::left_sibling;
+use change_rows::halves::key_between;
+use change_rows::halves::write_halves;
+use change_rows::nodes::children;
+use change_rows::nodes::routing_keys;
+use change_rows::nodes::write_new;
+use change_rows::words::replaced;
 use descent::Position;
-use free_nodes::Next;
-use free_nodes::NodeSet;
-use plans::Planned;
-use plans::answers::linked;
-use plans::answers::refused;
-use plans::halves::Pool;
-use plans::halves::append_halves;
-use plans::halves::key_between;
-use plans::numbers::Three;
-use plans::numbers::Two;
-use plans::numbers::next_three;
-use plans::numbers::next_two;
-use plans::numbers::without_three;
-use plans::numbers::without_two;
-use plans::stores::append_node;
-use plans::words::Words;
-use plans::words::children;
-use plans::words::no_words;
-use plans::words::one_word;
-use plans::words::replaced;
-use plans::words::routing_keys;
-use plans::words::two_words;
-use together::together_at;
+use together::gather_siblings;
 ghost use mathlib.Core.Path.{_≡_};
-ghost use mathlib.Core.List.{[], _∷_};
-ghost use Prim.Native.Nat.{_≤_, _<_};
-ghost use lib.ListN.{length};
+ghost use mathlib.Core.List.{_++_, zip};
+ghost use Prim.Native.Nat.{_+_, _≤_, _<_};
+ghost use lib.ListN.{length, getD, take, drop};
 ghost use Rattle.laws.specs.Lists.{beforeZero};
+ghost use Rattle.card.specs.Stores.{newNode};
+ghost use Rattle.change_rows.specs.Nodes.{IsNumber, IsNew, newPlaces, newWords};
 ghost use Rattle.change_decide.specs.Decide.{leftSibling};
-ghost use Rattle.change_decide.specs.Places.{parentAt, togetherCount, SiblingsAt};
-ghost use Rattle.free_nodes.specs.NodeSet.{nodesOf};
-ghost use Rattle.plans.specs.Change.{siblingsCut};
-ghost use Rattle.plans.specs.Planning.{giving};
-ghost use Rattle.plans.specs.Rows.{wordsOf};
-ghost use Rattle.plans.specs.Plan.{preparationOf};
-ghost use Rattle.siblings.specs.Siblings.{shareAt, mergeAt, mergeRootAt, Copied};
+ghost use Rattle.change_decide.specs.Places.{parentAt, leftAt, rightAt, countTogether, SiblingsAt};
+ghost use Rattle.plans.specs.Change.{changeStores, keyBetween, halves, copied, siblingsCut, share, merge, mergeRoot};
+ghost use Rattle.plans.specs.Planning.{first, second, third};
+ghost use Rattle.siblings.specs.Siblings.{togetherAt};
 
-// The keys and children of a new copy of the parent, with others in the place of the two siblings and of the routing key between them.
-fn copied_parent(card: &[u32], p: Position, keys: Words, kids: Words) -> Pool
-    requires { ⌜ SiblingsAt (now card) p × (keys .count ≤ 1) × (kids .count ≤ 2) ⌝ }
-    ensures { λ r. ⌜ Copied r (parentAt (now (card .entry)) p) (leftSibling p) (wordsOf keys) (wordsOf kids) ⌝ }
+// A new copy of the parent. In the place of the two siblings it has the first of the nodes given, in the place of the routing key
+// between them the keys between these, one fewer; the node given next is the copy.
+fn copy_parent(
+    card: &[u32],
+    p: Position,
+    keys: &[u32],
+    nodes: [u32; 3],
+    places: &mut [u32],
+    words: &mut [u32],
+)
+    requires { ⌜ SiblingsAt (now card) p × (length (now keys) ≤ 1) × IsNumber (getD nodes (length (now keys) + 1) 0)
+        × (length (now places) ≡ 24) × (length (now words) ≡ 24) ⌝ }
+    ensures { λ _. ⌜ IsNew (now (places .exit)) (now (words .exit))
+        (copied (getD nodes (length (now (keys .entry)) + 1) 0) (parentAt (now (card .entry)) p) (leftSibling p) (now (keys .entry))
+        (take (length (now (keys .entry)) + 1) nodes)) ⌝ }
 {
     let parent = card::node_at(card, p.parent);
     let j = left_sibling(p);
-    let routing = replaced(routing_keys(parent), j, j + 1, keys);
-    let under = replaced(children(parent), j, j + 2, kids);
-    Pool {
-        kind: 2,
-        keys: routing,
-        values: under,
-    }
+    let count = keys.len() + 1;
+    let mut routing: [u32; 12] = [0; 12];
+    let mut under: [u32; 12] = [0; 12];
+    let k = replaced(&mut routing, routing_keys(parent), j, j + 1, keys);
+    let n = replaced(&mut under, children(parent), j, j + 2, &nodes[0..count]);
+    write_new(
+        places,
+        words,
+        nodes[count] as usize,
+        2,
+        &routing[0..k],
+        &under[0..n],
+    );
 }
 
 // The nodes that leave the tree where the two siblings are made anew.
-fn cut_siblings(card: &[u32], p: Position) -> [u32; 3]
+pub fn cut_siblings(card: &[u32], p: Position) -> [u32; 3]
     requires { ⌜ SiblingsAt (now card) p ⌝ }
     ensures { λ r. ⌜ beforeZero r ≡ siblingsCut p (parentAt (now (card .entry)) p) (leftSibling p) ⌝ }
 {
@@ -66,99 +67,106 @@ fn cut_siblings(card: &[u32], p: Position) -> [u32; 3]
     [p.parent as u32, parent[12 + j], parent[13 + j]]
 }
 
-// "Together 4 or more: shared out .. under a new copy of the parent."
-pub fn share_out(
+// The two nodes that share what the siblings hold, at the front of both rows, and the key between them.
+fn lay_halves(
     card: &[u32],
     p: Position,
-    free: NodeSet,
-    last: usize,
+    nodes: [u32; 3],
     places: &mut [u32],
     values: &mut [u32],
-) -> Planned
-    requires { ⌜ SiblingsAt (now card) p × (4 ≤ togetherCount (now card) p) × (length (now places) ≡ 73) × (length (now values) ≡ 73) ⌝ }
-    ensures { λ r. ⌜ preparationOf (now (places .exit)) (now (values .exit)) r ≡ giving 3 (nodesOf (free .words)) last (shareAt (now (card .entry)) p) ⌝ }
+) -> u32
+    requires { ⌜ SiblingsAt (now card) p × (4 ≤ countTogether (leftAt (now card) p) (rightAt (now card) p))
+        × IsNumber (first nodes) × IsNumber (second nodes) × (48 ≤ length (now places)) × (48 ≤ length (now values)) ⌝ }
+    ensures { λ r. ⌜ (now (places .exit) ≡ newPlaces (halves (togetherAt (now (card .entry)) p) (first nodes) (second nodes)) ++ drop 48 (now (places .entry)))
+        × (now (values .exit) ≡ newWords (halves (togetherAt (now (card .entry)) p) (first nodes) (second nodes)) ++ drop 48 (now (values .entry)))
+        × (r ≡ keyBetween (togetherAt (now (card .entry)) p)) ⌝ }
 {
-    let Three::Nodes(left, right, above) = next_three(free, last) else {
-        return refused(free, last);
-    };
-    let both = together_at(card, p);
-    let two = append_halves(places, values, 0, both, left, right);
-    let key = one_word(key_between(both));
-    let copy = copied_parent(card, p, key, two_words(left as u32, right as u32));
-    let routing = copy.keys;
-    let under = copy.values;
-    let three = append_node(places, values, two, above, 2, routing, under);
-    linked(
+    let mut keys: [u32; 12] = [0; 12];
+    let mut beside: [u32; 12] = [0; 12];
+    let held = gather_siblings(card, p, &mut keys, &mut beside);
+    let k = held.keys;
+    let n = held.values;
+    write_halves(places, values, held.kind, &keys[0..k], &beside[0..n], nodes);
+    key_between(held.kind, &keys[0..k], &beside[0..n])
+}
+
+// The one node that holds what the siblings hold, as node m.
+fn lay_merged(card: &[u32], p: Position, m: u32, places: &mut [u32], values: &mut [u32])
+    requires { ⌜ SiblingsAt (now card) p × (countTogether (leftAt (now card) p) (rightAt (now card) p) < 4)
+        × IsNumber m × (length (now places) ≡ 24) × (length (now values) ≡ 24) ⌝ }
+    ensures { λ _. ⌜ IsNew (now (places .exit)) (now (values .exit))
+        (newNode m (togetherAt (now (card .entry)) p .kind) (togetherAt (now (card .entry)) p .keys) (togetherAt (now (card .entry)) p .values)) ⌝ }
+{
+    let mut keys: [u32; 12] = [0; 12];
+    let mut beside: [u32; 12] = [0; 12];
+    let held = gather_siblings(card, p, &mut keys, &mut beside);
+    let k = held.keys;
+    let n = held.values;
+    write_new(
         places,
         values,
-        three,
-        p.above,
-        above,
-        without_three(free, left, right, above),
-        cut_siblings(card, p),
-    )
+        m as usize,
+        held.kind,
+        &keys[0..k],
+        &beside[0..n],
+    );
+}
+
+// "Together 4 or more: shared out .. under a new copy of the parent."
+pub fn lay_share(card: &[u32], p: Position, nodes: [u32; 3], places: &mut [u32], values: &mut [u32])
+    requires { ⌜ SiblingsAt (now card) p × (4 ≤ countTogether (leftAt (now card) p) (rightAt (now card) p))
+        × IsNumber (first nodes) × IsNumber (second nodes) × IsNumber (third nodes) × (length (now places) ≡ 73) × (length (now values) ≡ 73) ⌝ }
+    ensures { λ _. ⌜ zip (now (places .exit)) (now (values .exit))
+        ≡ changeStores (share p (parentAt (now (card .entry)) p) (leftSibling p) (togetherAt (now (card .entry)) p) (first nodes) (second nodes) (third nodes)) ⌝ }
+{
+    let key = [lay_halves(card, p, nodes, places, values)];
+    copy_parent(
+        card,
+        p,
+        &key,
+        nodes,
+        &mut places[48..72],
+        &mut values[48..72],
+    );
+    places[72] = p.above as u32;
+    values[72] = nodes[2];
 }
 
 // "Together 3 or fewer: merged, the parent copied with one child less"
-pub fn merge_siblings(
-    card: &[u32],
-    p: Position,
-    free: NodeSet,
-    last: usize,
-    places: &mut [u32],
-    values: &mut [u32],
-) -> Planned
-    requires { ⌜ SiblingsAt (now card) p × (togetherCount (now card) p < 4) × (length (now places) ≡ 73) × (length (now values) ≡ 73) ⌝ }
-    ensures { λ r. ⌜ preparationOf (now (places .exit)) (now (values .exit)) r ≡ giving 2 (nodesOf (free .words)) last (mergeAt (now (card .entry)) p) ⌝ }
+pub fn lay_merge(card: &[u32], p: Position, nodes: [u32; 3], places: &mut [u32], values: &mut [u32])
+    requires { ⌜ SiblingsAt (now card) p × (countTogether (leftAt (now card) p) (rightAt (now card) p) < 4)
+        × IsNumber (first nodes) × IsNumber (second nodes) × (length (now places) ≡ 49) × (length (now values) ≡ 49) ⌝ }
+    ensures { λ _. ⌜ zip (now (places .exit)) (now (values .exit))
+        ≡ changeStores (merge p (parentAt (now (card .entry)) p) (leftSibling p) (togetherAt (now (card .entry)) p) (first nodes) (second nodes)) ⌝ }
 {
-    let Two::Nodes(merged, above) = next_two(free, last) else {
-        return refused(free, last);
-    };
-    let both = together_at(card, p);
-    let keys = both.keys;
-    let beside = both.values;
-    let one = append_node(places, values, 0, merged, both.kind, keys, beside);
-    let copy = copied_parent(card, p, no_words(), one_word(merged as u32));
-    let routing = copy.keys;
-    let under = copy.values;
-    let two = append_node(places, values, one, above, 2, routing, under);
-    linked(
-        places,
-        values,
-        two,
-        p.above,
-        above,
-        without_two(free, merged, above),
-        cut_siblings(card, p),
-    )
+    let none = [0];
+    lay_merged(card, p, nodes[0], &mut places[0..24], &mut values[0..24]);
+    copy_parent(
+        card,
+        p,
+        &none[0..0],
+        nodes,
+        &mut places[24..48],
+        &mut values[24..48],
+    );
+    places[48] = p.above as u32;
+    values[48] = nodes[1];
 }
 
 // "if that parent is the root with 2 children, the merged node becomes the root"
-pub fn merge_into_root(
+pub fn lay_merge_root(
     card: &[u32],
     p: Position,
-    free: NodeSet,
-    last: usize,
+    nodes: [u32; 3],
     places: &mut [u32],
     values: &mut [u32],
-) -> Planned
-    requires { ⌜ SiblingsAt (now card) p × (togetherCount (now card) p < 4) × (length (now places) ≡ 73) × (length (now values) ≡ 73) ⌝ }
-    ensures { λ r. ⌜ preparationOf (now (places .exit)) (now (values .exit)) r ≡ giving 1 (nodesOf (free .words)) last (mergeRootAt (now (card .entry)) p) ⌝ }
+)
+    requires { ⌜ SiblingsAt (now card) p × (countTogether (leftAt (now card) p) (rightAt (now card) p) < 4)
+        × IsNumber (first nodes) × (length (now places) ≡ 25) × (length (now values) ≡ 25) ⌝ }
+    ensures { λ _. ⌜ zip (now (places .exit)) (now (values .exit))
+        ≡ changeStores (mergeRoot p (parentAt (now (card .entry)) p) (leftSibling p) (togetherAt (now (card .entry)) p) (first nodes)) ⌝ }
 {
-    let Next::Node(merged) = free_nodes::next_free(&free.words, last) else {
-        return refused(free, last);
-    };
-    let both = together_at(card, p);
-    let keys = both.keys;
-    let beside = both.values;
-    let one = append_node(places, values, 0, merged, both.kind, keys, beside);
-    linked(
-        places,
-        values,
-        one,
-        p.above,
-        merged,
-        free_nodes::without_node(free, merged),
-        cut_siblings(card, p),
-    )
+    lay_merged(card, p, nodes[0], &mut places[0..24], &mut values[0..24]);
+    places[24] = p.above as u32;
+    values[24] = nodes[0];
 }

@@ -1,13 +1,13 @@
 -- `change::clear_key` meets its contract.
-use mathlib.Core.List.{List, []}
+use mathlib.Core.List.{List, [], _∷_}
 use mathlib.Core.Path.{ap, _∙_}
-use Prim.Native.Nat.{_+_}
-use borrow.Author.Needs.{needs}
-use Rattle.card.specs.Layout.{place}
+use Prim.Native.Nat.{ℕ}
+use native.Mathlib.Omega.{arith}
 use Rattle.card.specs.Stores.{Store}
 use Rattle.free_nodes.specs.NodeSet.{nodesOf}
 use Rattle.plans.specs.Planning.{prepared}
-use Rattle.plans.proofs.PlanLaws.{none-planned, planned-store}
+use Rattle.change.proofs.LayOutLaws.{one-laid}
+use borrow.Author.Needs.{needs}
 use Rattle.change.proofs.clear_key.Statement.{statement}
 use Rattle.change.proofs.clear_key.Tie as tie
 
@@ -17,8 +17,11 @@ add-word-place c = search needs
 word-place-requires : tie.Need-word-place-requires
 word-place-requires c κs = search needs
 
-push-store-requires : tie.Need-push-store-requires
-push-store-requires c κs = search needs
+slice-write-places : tie.Need-slice-write-places
+slice-write-places c = search needs
+
+slice-write-values : tie.Need-slice-write-values
+slice-write-values c = search needs
 
 prepared-requires : tie.Need-prepared-requires
 prepared-requires c κs = search needs
@@ -31,10 +34,11 @@ same-length-2 c = search needs
 
 returns : tie.Need-returns
 returns c =
-    let s = c .before .before .before .before .before .before .before .before .before .before .before in
+    let s = c .before .before .before .before in
     c .prepared .ensures _ _
     ∙ ap (λ (l : List Store). prepared l (nodesOf (s .args .free .words)) (s .args .last) [])
-    (planned-store _ _ [] _ 0 (place (s .args .m) (1 + s .args .i)) (none-planned _ _) (c .before .before .before .before .before .before .word-place .ensures) (c .before .before .before .before .before .push-store .ensures))
+    (one-laid (s .args .places .now) (s .args .values .now) (c .before .word-place .result) 0 (omega (arith, s .pre .3)) (omega (arith, s .pre .4))
+    ∙ ap (λ (x : ℕ). (x, 0) ∷ []) (c .before .word-place .ensures))
 
 pub clear-key-spec : {M : Type 1} → statement M
 clear-key-spec =
@@ -42,7 +46,8 @@ clear-key-spec =
     (tie.spec
     add-word-place
     word-place-requires
-    push-store-requires
+    slice-write-places
+    slice-write-values
     prepared-requires
     same-length
     same-length-2

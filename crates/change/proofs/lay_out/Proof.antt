@@ -1,88 +1,51 @@
 -- `change::lay_out` meets its contract.
-use mathlib.Core.List.{List}
-use mathlib.Core.Bool.{Bool}
-use mathlib.Core.Path.{_≡_, sym, ap, subst, _∙_}
+use mathlib.Core.Path.{_≡_, subst, _∙_}
+use mathlib.Core.Option.{none}
 use Prim.Native.Nat.{ℕ}
-use Rattle.free_nodes.specs.NodeSet.{nodesOf}
-use Rattle.change_decide.specs.Places.{Fits}
-use Rattle.change_decide.specs.declared.Decision.{Decision}
-use Rattle.change.specs.LayOut.{layOut}
+use native.Mathlib.Omega.{arith}
+use lib.ListN.{length}
+use Rattle.free_nodes.specs.NodeSet.{wordCount, nodesOf}
+use Rattle.plans.specs.Planning.{takeNumbers}
+use Rattle.plans.specs.Plan.{preparationOf, GivenAs}
+use Rattle.change.specs.LayOut.{needed}
+use Rattle.change.proofs.LayOutLaws.{not-enough, enough, needed-few, laid-none, laid-given, all-numbered}
 use borrow.Author.Needs.{needs}
 use Rattle.change.proofs.lay_out.Statement.{statement}
 use Rattle.change.proofs.lay_out.Tie as tie
 
--- the decision is the one of the arm
-laid : (card : List ℕ) (free : List Bool) (last : ℕ) {d e : Decision} → d ≡ e → layOut card e free last ≡ layOut card d free last
-laid card free last e = ap (λ (d : Decision). layOut card d free last) (sym e)
+words : (c : tie.Start) → length (c .args .free .words) ≡ wordCount
+words c = search needs
 
-enum-told : tie.Need-enum-told
-enum-told c = search needs
+three : (c : tie.After-give) → length (c .give .result .nodes) ≡ 3
+three c = search (needs, c .give .ok)
+
+-- as many numbers as the decision needs
+given : (c : tie.Else1) → GivenAs (c .before .before .give .result) (needed (c .before .before .before .before .before .before .before .args .decision)) (nodesOf (c .before .before .before .before .before .before .before .args .free .words)) (c .before .before .before .before .before .before .before .args .last)
+given c =
+    subst (λ (k : ℕ). GivenAs (c .before .before .give .result) k (nodesOf (c .before .before .before .before .before .before .before .args .free .words)) (c .before .before .before .before .before .before .before .args .last)) (c .before .before .before .nodes-needed .ensures)
+    (c .before .before .give .ensures .given (enough _ (c .if1 .left)))
+
+nodes-needed-requires : tie.Need-nodes-needed-requires
+nodes-needed-requires c κs = search needs
+
+give-requires : tie.Need-give-requires
+give-requires c κs = let s = c .before .before .before .before in omega (arith, c .nodes-needed .ensures, needed-few (s .args .decision))
 
 refused-requires : tie.Need-refused-requires
 refused-requires c κs = search needs
 
-enum-told-2 : tie.Need-enum-told-2
-enum-told-2 c = search needs
-
-balanced-requires : tie.Need-balanced-requires
-balanced-requires c κs = search needs
-
-enum-known-decision : tie.Need-enum-known-decision
-enum-known-decision c = search needs
-
-absorb-tagged-requires : tie.Need-absorb-tagged-requires
-unfolding Fits
-absorb-tagged-requires c κs =
-    let s = c .before .before .before .before .before .before .before .before in
-    let f = subst (Fits (s .args .card .now)) (c .before .before .before .decision .given .1) (s .pre .0) in (f .0, f .1, search needs, search needs)
-
-enum-known-decision-2 : tie.Need-enum-known-decision-2
-enum-known-decision-2 c = search needs
-
-split-parent-requires : tie.Need-split-parent-requires
-unfolding Fits
-split-parent-requires c κs =
-    let s = c .before .before .before .before .before .before .before .before in
-    let f = subst (Fits (s .args .card .now)) (c .before .before .before .decision2 .given .1) (s .pre .0) in (f .0, f .1, search needs, search needs)
-
-enum-known-decision-3 : tie.Need-enum-known-decision-3
-enum-known-decision-3 c = search needs
-
-share-out-requires : tie.Need-share-out-requires
-unfolding Fits
-share-out-requires c κs =
-    let s = c .before .before .before .before .before .before .before .before in
-    let f = subst (Fits (s .args .card .now)) (c .before .before .before .decision3 .given .1) (s .pre .0) in (f .0, f .1, search needs, search needs)
-
-enum-known-decision-4 : tie.Need-enum-known-decision-4
-enum-known-decision-4 c = search needs
-
-merge-siblings-requires : tie.Need-merge-siblings-requires
-unfolding Fits
-merge-siblings-requires c κs =
-    let s = c .before .before .before .before .before .before .before .before in
-    let f = subst (Fits (s .args .card .now)) (c .before .before .before .decision4 .given .1) (s .pre .0) in (f .0, f .1, search needs, search needs)
-
-enum-known-decision-5 : tie.Need-enum-known-decision-5
-enum-known-decision-5 c = search needs
-
-merge-into-root-requires : tie.Need-merge-into-root-requires
-unfolding Fits
-merge-into-root-requires c κs =
-    let s = c .before .before .before .before .before .before .before .before in
-    let f = subst (Fits (s .args .card .now)) (c .before .before .before .decision5 .given .1) (s .pre .0) in (f .0, f .1, search needs, search needs)
-
 returns : tie.Need-returns
-unfolding layOut
 returns c =
-    let s = c .before .before .before .before .before .before in
-    c .refused .ensures _ _ ∙ laid (s .args .card .now) (nodesOf (s .args .free .words)) (s .args .last) (c .before .enum-told .given .1)
+    let s = c .before .before .before .before .before .before .before .before in
+    c .refused .ensures _ _
+    ∙ laid-none (s .args .card .now) (s .args .decision) (nodesOf (s .args .free .words)) (s .args .last)
+    (subst (λ (k : ℕ). takeNumbers k (nodesOf (s .args .free .words)) (s .args .last) ≡ none) (c .before .before .before .before .nodes-needed .ensures)
+    (c .before .before .before .give .ensures .too-few (not-enough _ (c .before .if1 .taken))))
 
-returns-2 : tie.Need-returns-2
-unfolding layOut
-returns-2 c =
-    let s = c .before .before .before .before .before .before in
-    c .balanced .ensures _ _ ∙ laid (s .args .card .now) (nodesOf (s .args .free .words)) (s .args .last) (c .before .enum-told2 .given .1)
+lay-decided-requires : tie.Need-lay-decided-requires
+lay-decided-requires c κs =
+    let s = c .before .before .before .before .before .before .before .before .before .before in
+    (s .pre .0, all-numbered (s .args .free .words) (c .before .before .before .before .before .give .result) _ (s .args .last) (words (c .before .before .before .before .before .before .before .before .before .before)) (given (c .before .before .before)), s .pre .1, s .pre .2)
 
 same-length : tie.Need-same-length
 same-length c = search needs
@@ -90,92 +53,23 @@ same-length c = search needs
 same-length-2 : tie.Need-same-length-2
 same-length-2 c = search needs
 
-returns-3 : tie.Need-returns-3
-unfolding layOut
-returns-3 c =
-    let s = c .before .before .before .before .before .before .before .before .before .before .before .before .before in
-    c .before .before .before .before .absorb-tagged .ensures ∙ laid (s .args .card .now) (nodesOf (s .args .free .words)) (s .args .last) (c .before .before .before .before .before .before .before .before .decision .given .1)
-
-same-length-3 : tie.Need-same-length-3
-same-length-3 c = search needs
-
-same-length-4 : tie.Need-same-length-4
-same-length-4 c = search needs
-
-returns-4 : tie.Need-returns-4
-unfolding layOut
-returns-4 c =
-    let s = c .before .before .before .before .before .before .before .before .before .before .before .before .before in
-    c .before .before .before .before .split-parent .ensures ∙ laid (s .args .card .now) (nodesOf (s .args .free .words)) (s .args .last) (c .before .before .before .before .before .before .before .before .decision2 .given .1)
-
-same-length-5 : tie.Need-same-length-5
-same-length-5 c = search needs
-
-same-length-6 : tie.Need-same-length-6
-same-length-6 c = search needs
-
-returns-5 : tie.Need-returns-5
-unfolding layOut
-returns-5 c =
-    let s = c .before .before .before .before .before .before .before .before .before .before .before .before .before in
-    c .before .before .before .before .share-out .ensures ∙ laid (s .args .card .now) (nodesOf (s .args .free .words)) (s .args .last) (c .before .before .before .before .before .before .before .before .decision3 .given .1)
-
-same-length-7 : tie.Need-same-length-7
-same-length-7 c = search needs
-
-same-length-8 : tie.Need-same-length-8
-same-length-8 c = search needs
-
-returns-6 : tie.Need-returns-6
-unfolding layOut
-returns-6 c =
-    let s = c .before .before .before .before .before .before .before .before .before .before .before .before .before in
-    c .before .before .before .before .merge-siblings .ensures ∙ laid (s .args .card .now) (nodesOf (s .args .free .words)) (s .args .last) (c .before .before .before .before .before .before .before .before .decision4 .given .1)
-
-same-length-9 : tie.Need-same-length-9
-same-length-9 c = search needs
-
-same-length-10 : tie.Need-same-length-10
-same-length-10 c = search needs
-
-returns-7 : tie.Need-returns-7
-unfolding layOut
-returns-7 c =
-    let s = c .before .before .before .before .before .before .before .before .before .before .before .before .before in
-    c .before .before .before .before .merge-into-root .ensures ∙ laid (s .args .card .now) (nodesOf (s .args .free .words)) (s .args .last) (c .before .before .before .before .before .before .before .before .decision5 .given .1)
+returns-2 : tie.Need-returns-2
+unfolding preparationOf
+returns-2 c =
+    let s = c .before .before .before .before .before .before .before .before .before .before .before .before .before .before .before .before .before in
+    let g = c .before .before .before .before .before .before .before .before .before .before .before .before .give in
+    c .before .before .before .before .before .before .lay-decided .ensures (nodesOf (g .result .free .words)) (g .result .last)
+    ∙ laid-given (s .args .card .now) (s .args .decision) (g .result) (nodesOf (s .args .free .words)) (s .args .last) (three (c .before .before .before .before .before .before .before .before .before .before .before .before)) (given (c .before .before .before .before .before .before .before .before .before .before))
 
 pub lay-out-spec : {M : Type 1} → statement M
 lay-out-spec =
     tie.close
     (tie.spec
-    enum-told
+    nodes-needed-requires
+    give-requires
     refused-requires
-    enum-told-2
-    balanced-requires
-    enum-known-decision
-    absorb-tagged-requires
-    enum-known-decision-2
-    split-parent-requires
-    enum-known-decision-3
-    share-out-requires
-    enum-known-decision-4
-    merge-siblings-requires
-    enum-known-decision-5
-    merge-into-root-requires
     returns
-    returns-2
+    lay-decided-requires
     same-length
     same-length-2
-    returns-3
-    same-length-3
-    same-length-4
-    returns-4
-    same-length-5
-    same-length-6
-    returns-5
-    same-length-7
-    same-length-8
-    returns-6
-    same-length-9
-    same-length-10
-    returns-7)
+    returns-2)

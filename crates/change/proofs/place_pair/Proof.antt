@@ -1,13 +1,13 @@
 -- `change::place_pair` meets its contract.
 use mathlib.Core.List.{List, [], _∷_}
-use mathlib.Core.Path.{ap, _∙_}
-use Prim.Native.Nat.{_+_}
-use borrow.Author.Needs.{needs}
-use Rattle.card.specs.Layout.{place}
+use mathlib.Core.Path.{ap, ap₂, _∙_}
+use Prim.Native.Nat.{ℕ}
+use native.Mathlib.Omega.{arith}
 use Rattle.card.specs.Stores.{Store}
 use Rattle.free_nodes.specs.NodeSet.{nodesOf}
 use Rattle.plans.specs.Planning.{prepared}
-use Rattle.plans.proofs.PlanLaws.{none-planned, planned-store}
+use Rattle.change.proofs.LayOutLaws.{two-laid}
+use borrow.Author.Needs.{needs}
 use Rattle.change.proofs.place_pair.Statement.{statement}
 use Rattle.change.proofs.place_pair.Tie as tie
 
@@ -17,8 +17,11 @@ add-word-place c = search needs
 word-place-requires : tie.Need-word-place-requires
 word-place-requires c κs = search needs
 
-push-store-requires : tie.Need-push-store-requires
-push-store-requires c κs = search needs
+slice-write-places : tie.Need-slice-write-places
+slice-write-places c = search needs
+
+slice-write-values : tie.Need-slice-write-values
+slice-write-values c = search needs
 
 add-word-place-2 : tie.Need-add-word-place-2
 add-word-place-2 c = search needs
@@ -26,8 +29,11 @@ add-word-place-2 c = search needs
 word-place-requires-2 : tie.Need-word-place-requires-2
 word-place-requires-2 c κs = search needs
 
-push-store-requires-2 : tie.Need-push-store-requires-2
-push-store-requires-2 c κs = search needs
+slice-write-places-2 : tie.Need-slice-write-places-2
+slice-write-places-2 c = search needs
+
+slice-write-values-2 : tie.Need-slice-write-values-2
+slice-write-values-2 c = search needs
 
 prepared-requires : tie.Need-prepared-requires
 prepared-requires c κs = search needs
@@ -40,14 +46,12 @@ same-length-2 c = search needs
 
 returns : tie.Need-returns
 returns c =
-    let s = c .before .before .before .before .before .before .before .before .before .before .before .before .before .before .before .before .before .before .before in
-    let m = s .args .m in
-    let i = s .args .i in
+    let s = c .before .before .before .before .before in
     c .prepared .ensures _ _
     ∙ ap (λ (l : List Store). prepared l (nodesOf (s .args .free .words)) (s .args .last) [])
-    (planned-store _ _ ((place m (12 + i), s .args .value) ∷ []) _ (s .args .key) (place m (1 + i))
-    (planned-store _ _ [] _ (s .args .value) (place m (12 + i)) (none-planned _ _) (c .before .before .before .before .before .before .before .before .before .before .before .before .before .before .word-place .ensures) (c .before .before .before .before .before .before .before .before .before .before .before .before .before .push-store .ensures))
-    (c .before .before .before .before .before .before .word-place2 .ensures) (c .before .before .before .before .before .push-store2 .ensures))
+    (two-laid (s .args .places .now) (s .args .values .now) (c .before .before .word-place .result) (s .args .value) (c .before .word-place2 .result) (s .args .key)
+    (omega (arith, s .pre .3)) (omega (arith, s .pre .4))
+    ∙ ap₂ (λ (x y : ℕ). (x, s .args .value) ∷ (y, s .args .key) ∷ []) (c .before .before .word-place .ensures) (c .before .word-place2 .ensures))
 
 pub place-pair-spec : {M : Type 1} → statement M
 place-pair-spec =
@@ -55,10 +59,12 @@ place-pair-spec =
     (tie.spec
     add-word-place
     word-place-requires
-    push-store-requires
+    slice-write-places
+    slice-write-values
     add-word-place-2
     word-place-requires-2
-    push-store-requires-2
+    slice-write-places-2
+    slice-write-values-2
     prepared-requires
     same-length
     same-length-2

@@ -8,8 +8,7 @@ use Rattle.laws.specs.Lists.{beforeZero}
 use Rattle.card.specs.Layout.{children}
 use Rattle.card.proofs.NodeLaws.{children-le}
 use Rattle.change_decide.proofs.DecideLaws.{child-read}
-use Rattle.plans.proofs.ChangeLaws.{cut-three, child-positive}
-use Rattle.siblings.proofs.SiblingLaws.{parent-words}
+use Rattle.siblings.proofs.SiblingLaws.{parent-words, cut-three, child-positive}
 use borrow.Author.Needs.{needs}
 use Rattle.siblings.proofs.cut_siblings.Statement.{statement}
 use Rattle.siblings.proofs.cut_siblings.Tie as tie

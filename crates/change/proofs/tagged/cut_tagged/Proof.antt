@@ -1,6 +1,6 @@
 -- `change::tagged::cut_tagged` meets its contract.
 use native.Mathlib.Omega.{arith}
-use Rattle.plans.proofs.ChangeLaws.{cut-two}
+use Rattle.change.proofs.LayOutLaws.{cut-two}
 use borrow.Author.Needs.{needs}
 use Rattle.change.proofs.tagged.cut_tagged.Statement.{statement}
 use Rattle.change.proofs.tagged.cut_tagged.Tie as tie
