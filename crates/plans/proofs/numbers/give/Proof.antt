@@ -22,8 +22,8 @@ abbrev μ-loop : tie.MeasureT-loop
 -- the node found is one of the set
 found : (c : tie.After-m Inv-loop μ-loop) → (1 ≤ c .m .given .0 .0) × (c .m .given .0 .0 < capacity)
 found c =
-    let l = c .before .before .before .before .loop in
-    found-below (c .before .before .before .before .loop .fewer .words) (c .before .before .before .before .loop .latest) _ (l .inv .2) (sym (c .before .before .next-free .ensures) ∙ c .m .given .1)
+    let l = c .before .before .before .before .before .before .before .loop in
+    found-below (c .before .before .before .before .before .before .before .loop .fewer .words) (c .before .before .before .before .before .before .before .loop .latest) _ (l .inv .2) (sym (c .before .before .next-free .ensures) ∙ c .m .given .1)
 
 loop-holds : tie.Need-loop-holds Inv-loop μ-loop
 loop-holds c = (taking-start _ _ _ _, refl, search needs)
@@ -39,7 +39,7 @@ enum-told c = search needs
 
 returns : tie.Need-returns Inv-loop μ-loop
 returns c =
-    let l = c .before .before .before .before .loop in
+    let l = c .before .before .before .before .before .before .before .loop in
     record {
       given = λ e. impossible (cc);
       too-few = λ e. taking-none _ (l .i) _ _ _ (l .inv .0) (omega arith) (sym (c .before .before .next-free .ensures) ∙ c .enum-told .given .1);
@@ -65,8 +65,8 @@ loop-less c = search needs
 
 loop-again : tie.Need-loop-again Inv-loop μ-loop
 loop-again c =
-    let s = c .before .before .before .before .before .before .before in
-    let l = c .before .before .before .before .before .before .loop in
+    let s = c .before .before .before .before .before .before .before .before .before .before in
+    let l = c .before .before .before .before .before .before .before .before .before .loop in
     let kept : length (c .without-node .result .words) ≡ wordCount = search (needs, c .without-node .ok) in (
       taking-more _ (l .i) _ _ _ (l .inv .0) _ _ (l .inv .1) (s .pre) (omega arith) (sym (c .before .before .before .before .next-free .ensures) ∙ c .before .before .m .given .1) (c .without-node .ensures),
       length-set (l .nodes) (l .i) (c .before .before .m .given .0 .0) ∙ l .inv .1,
