@@ -7,8 +7,8 @@ use Rattle.card.specs.Header.{nodesOfLength, headerRefusal, cardRefusal}
 use Rattle.card.specs.Layout.{runBelow, nodeAt, keyWords, valueWords, children, routingKeys, leafPairs, nodeImage}
 use Rattle.plans.specs.Change.{changeStores, kindAbove, splitLeaf, joinedKeys, joinedChildren, absorb, splitParent, leavesTogether, innersTogether, half, leftKeys, keyBetween, share, merge, mergeRoot, halves, copied}
 use Rattle.plans.specs.Planning.{numbersFrom, takeNumbers, withoutAll, lastOf, overNumbers, giving, withAll}
-use Rattle.change_decide.specs.Decide.{onSearch, nextRepair as decidedRepair}
-use Rattle.change_decide.specs.Decide.{onSearch, nextRepair as decidedRepair}
+use Rattle.change_decide.specs.Decide.{decideTagged, decideTogether, decideSiblings, isNode, decideUnderfull, decideAt, onSearch}
+use Rattle.change_decide.specs.Decide.{nextRepair as decidedRepair}
 use Rattle.change.specs.LayOut.{layOut}
 use Rattle.change.specs.Mending.{nextRepair}
 use Rattle.siblings.specs.Siblings.{togetherAt}

@@ -20,8 +20,6 @@ use Rattle.demands.specs.RationTable.{workOf, handed, rationTable}
 use Rattle.demands.proofs.FirstRows.{sized?, no-nodes, by-card, card-one}
 use Rattle.demands.proofs.WayDown.{arrived, reachedLeaf, leaf-way}
 use Rattle.descent.specs.Descent.{firstEqual, slotOf, way, leafOf}
-use Rattle.descent.specs.declared.Slot.{Slot}
-use Rattle.descent.specs.declared.Slot.the-variants.{At, Absent as NoSlot}
 use Rattle.descent.specs.declared.Reached.{Reached}
 use Rattle.descent.specs.declared.Reached.the-variants.{Refused as NotReached, Leaf as ReachedLeaf}
 use Rattle.formatting_theory.proofs.FormatSteps.{formatMemory, format-starts, format-refused}

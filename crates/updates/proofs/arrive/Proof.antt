@@ -1,5 +1,5 @@
 -- `updates::arrive` meets its contract.
-use mathlib.Core.Path.{_≡_, sym, _∙_}
+use mathlib.Core.Path.{sym, _∙_}
 use native.Mathlib.Omega.{arith}
 use Rattle.descent.specs.Descent.{way}
 use Rattle.descent.proofs.DescentLaws.{unsought-fault}
