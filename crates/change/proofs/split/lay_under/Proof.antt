@@ -78,17 +78,15 @@ slice-write-values c = search needs
 
 same-length : tie.Need-same-length
 same-length c =
-    let s = c .before .before .before .before .before .before .before .before .before .before .before .before .before .before .before .before .before .before .before .before .before .before .before in
     let w = c .before .before .before .before .before .before .before .before .before .before .before .before .before .before .before .before .write-halves in
     let n = c .before .before .before .before .write-new in
-    lent-kept (w .last .0) (n .last .0) 48 24 72 (s .args .link) (n .kept .0) ∙ w .kept .0
+    lent-kept (w .last .0) (n .last .0) 48 24 _ _ (n .kept .0) ∙ w .kept .0
 
 same-length-2 : tie.Need-same-length-2
 same-length-2 c =
-    let s = c .before .before .before .before .before .before .before .before .before .before .before .before .before .before .before .before .before .before .before .before .before .before .before in
     let w = c .before .before .before .before .before .before .before .before .before .before .before .before .before .before .before .before .write-halves in
     let n = c .before .before .before .before .write-new in
-    lent-kept (w .last .1 .0) (n .last .1 .0) 48 24 72 (getD (s .args .t5) 2 0) (n .kept .1 .0) ∙ w .kept .1 .0
+    lent-kept (w .last .1 .0) (n .last .1 .0) 48 24 _ _ (n .kept .1 .0) ∙ w .kept .1 .0
 
 returns : tie.Need-returns
 unfolding splitStores halves
