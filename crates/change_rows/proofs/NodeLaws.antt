@@ -8,7 +8,7 @@ use lib.Seq.{drop-cons, set-at, take-at, drop-at}
 use Rattle.laws.specs.Lists.{pad}
 use Rattle.laws.proofs.Lists.{length-pad}
 use Rattle.card.specs.Layout.{place, nodeImage, children}
-use Rattle.card.specs.Stores.{Store, stores, NewNode, newNode, nodeStores}
+use Rattle.card.specs.Stores.{Store, stores, NewNode, nodeStores}
 use Rattle.card.proofs.Stores.{length-node-image}
 use Rattle.card.proofs.NodeLaws.{children-words}
 use Rattle.change_rows.specs.Nodes.{countFrom, nodePlaces, IsNew, newPlaces, newWords}

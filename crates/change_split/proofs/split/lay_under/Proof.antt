@@ -1,4 +1,4 @@
--- `change::split::lay_under` meets its contract.
+-- `change_split::split::lay_under` meets its contract.
 use mathlib.Core.List.{List, [], _∷_, _++_}
 use mathlib.Core.Path.{_≡_, refl, ap, ap₂, subst, _∙_}
 use Prim.Native.Nat.{ℕ}
@@ -10,11 +10,11 @@ use Rattle.change_rows.proofs.RowLaws.{lent-kept}
 use Rattle.change_rows.proofs.NodeLaws.{change-laid}
 use Rattle.plans.specs.Change.{kindAbove, keyBetween, halves}
 use Rattle.siblings.proofs.SiblingLaws.{halves-same, halves-few, take-two}
-use Rattle.change.specs.Split.{together, splitStores}
-use Rattle.change.proofs.LayOutLaws.{between-same}
+use Rattle.change_split.specs.Split.{together, splitStores}
+use Rattle.change_split.proofs.SplitLaws.{between-same}
 use borrow.Author.Needs.{needs}
-use Rattle.change.proofs.split.lay_under.Statement.{statement}
-use Rattle.change.proofs.split.lay_under.Tie as tie
+use Rattle.change_split.proofs.split.lay_under.Statement.{statement}
+use Rattle.change_split.proofs.split.lay_under.Tie as tie
 
 write-halves-requires : tie.Need-write-halves-requires
 write-halves-requires c κs = search needs
