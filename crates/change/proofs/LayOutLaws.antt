@@ -1,34 +1,26 @@
 -- Laws of a change that is laid out: its numbers, its rows, and the nodes that it cuts out.
-use mathlib.Core.Path.{_≡_, refl, ap, ap₂, sym, _∙_, subst}
+use mathlib.Core.Path.{_≡_, refl, ap, ap₂, sym, _∙_}
 use mathlib.Core.Bool.{Bool, true, false, not}
 use mathlib.Core.List.{List, [], _∷_, _++_, zip, zipWith}
 use mathlib.Core.Option.{none, some}
-use Prim.Native.Nat.{ℕ, zero, suc, _+_, _-_, _≤_, _<_}
+use Prim.Native.Nat.{ℕ, zero, suc, _≤_}
 use native.Mathlib.Omega.{arith}
-use native.Mathlib.Numerals.{add-one}
-use lib.ListN.{length, set, getD, take, drop, length-map, List·getD-map}
-use lib.Seq.{take-at, take-all, length-take-le}
-use borrow.Author.Tests.{ne-eqb, eq-eqb}
+use lib.ListN.{length, set, take}
+use lib.Seq.{take-at, take-all}
 use Rattle.laws.specs.Lists.{beforeZero}
-use Rattle.laws.specs.Sorting.{Pairs, insertPair, insertAll, sort, pairKeys, pairValues, keyAt}
+use Rattle.laws.specs.Sorting.{Pairs, pairKeys, pairValues}
 use Rattle.laws.proofs.Cases.{impossible}
-use Rattle.laws.proofs.Sorting.{map-take, map-drop}
-use Rattle.card.specs.Layout.{rootPlace, children, routingKeys, leafPairs}
 use Rattle.card.specs.Stores.{Store}
-use Rattle.descent.specs.declared.Position.{Position}
 use Rattle.free_nodes.specs.NodeSet.{wordCount, nodesOf}
 use Rattle.change_decide.specs.declared.Decision.{Decision}
 use Rattle.change_decide.specs.declared.Decision.the-variants.{Refused, Balanced, Absorb, SplitParent, Share, Merge, MergeRoot}
-use Rattle.change_rows.specs.Pairs.{pairsIn, Gathered}
-use Rattle.change_rows.specs.Halves.{keysFor, largerHalf, Whole}
-use Rattle.change_rows.proofs.PairLaws.{none-in, gathered-then}
-use Rattle.change_rows.proofs.HalfLaws.{keys-leaf, keys-inner}
-use Rattle.plans.specs.Change.{changeStores, kindAbove, splitLeaf, joinedKeys, joinedChildren, splitParent, half, leftKeys, keyBetween, halves}
+use Rattle.plans.specs.Change.{splitLeaf}
 use Rattle.plans.specs.Planning.{takeNumbers, withoutAll, lastOf, refused, prepared, giving, first, second, third}
 use Rattle.plans.specs.Plan.{storesOf, planIn, GivenAs}
 use Rattle.plans.specs.declared.numbers.Given.{Given}
 use Rattle.plans.proofs.NumberLaws.{giving-none, giving-some, given-within}
-use Rattle.change.specs.Split.{together, splitStores}
+use Rattle.change_split.specs.Split.{together, splitStores}
+use Rattle.change_split.proofs.SplitLaws.{split-leaf}
 use Rattle.change.specs.LayOut.{layOut, needed, laidOver, Numbered}
 
 -- ---- the numbers
@@ -126,40 +118,7 @@ pub cut-one : (m : ℕ) → 1 ≤ m → beforeZero (m ∷ 0 ∷ 0 ∷ []) ≡ m 
 cut-one zero h = absurd (omega arith)
 cut-one (suc m) h = refl
 
-pub cut-two : (a b : ℕ) → 0 < a → 0 < b → beforeZero (a ∷ b ∷ 0 ∷ []) ≡ a ∷ b ∷ []
-cut-two zero b p q = absurd (omega arith)
-cut-two (suc a) zero p q = absurd (omega arith)
-cut-two (suc a) (suc b) p q = refl
-
 -- ---- a split
-
-pub kind-root : (link : ℕ) → link ≡ rootPlace → 2 ≡ kindAbove link
-unfolding kindAbove
-kind-root link e = rw (eq-eqb link rootPlace e)
-
-pub kind-other : (link : ℕ) → (link ≡ rootPlace → ⊥) → 3 ≡ kindAbove link
-unfolding kindAbove
-kind-other link e = rw (ne-eqb link rootPlace e)
-
--- the split of a parent is that of its twelve children
-pub split-parent : (p : Position) (keys kids : List ℕ) (a b c : ℕ) → length kids ≡ 12
-    → splitStores (p .above) (together 2 keys kids) a b c ≡ changeStores (splitParent p keys kids a b c)
-unfolding splitStores changeStores splitParent halves keyBetween leftKeys half
-split-parent p keys kids a b c e = simp (e)
-
--- the split of a leaf is that of its twelve pairs
-pub split-leaf : (m link : ℕ) (twelve : Pairs) (a b c : ℕ) → length twelve ≡ 12
-    → splitStores link (together 1 (pairKeys twelve) (pairValues twelve)) a b c ≡ changeStores (splitLeaf m link twelve a b c)
-unfolding splitStores changeStores splitLeaf halves keyBetween leftKeys half
-split-leaf m link twelve a b c e =
-    let count : length (pairValues twelve) ≡ 12 = length-map twelve (λ p. p .1) ∙ e in
-    let key : getD (pairKeys twelve) 6 0 ≡ keyAt 6 twelve = List·getD-map (λ (p : ℕ × ℕ). p .0) twelve 6 (0, 0) in
-    simp (count, map-take, map-drop, key)
-
--- the key between the two, as the rows have it
-pub between-same : (kind : ℕ) (keys values : List ℕ) → getD keys (keysFor kind (largerHalf (length values))) 0 ≡ keyBetween (together kind keys values)
-unfolding keysFor largerHalf keyBetween leftKeys half
-between-same kind keys values = refl
 
 prepared-same : {s t : List Store} {f g : List Bool} {l m : ℕ} {c d : List ℕ} → s ≡ t → f ≡ g → l ≡ m → c ≡ d → prepared s f l c ≡ prepared t g m d
 prepared-same e f g h = rw (e, f, g, h)
@@ -176,41 +135,3 @@ module _ (m link : ℕ) (twelve : Pairs) (g : Given) (free : List Bool) (last : 
       prepared-same (e ∙ split-leaf m link twelve (first (g .nodes)) (second (g .nodes)) (third (g .nodes)) h)
       (a .fewer ∙ ap (λ (l : List ℕ). withoutAll l free) all) (a .latest ∙ ap (lastOf last) all) (cut-one m p)
       ∙ sym (giving-some 3 free last (λ ms. splitLeaf m link twelve (first ms) (second ms) (third ms)) (g .nodes) (a .taken ∙ ap some all))
-
--- a leaf's pairs and one more, gathered
-pub pair-gathered : (leaf z z′ keys₁ values₁ keys values : List ℕ) (m n k v : ℕ)
-    → Gathered keys₁ values₁ m (length (leafPairs leaf) + 0) (insertAll (leafPairs leaf) (pairsIn z z′ 0))
-    → Gathered keys values n (m + 1) (insertPair (k, v) (pairsIn keys₁ values₁ m))
-    → Gathered keys values n (m + 1) (sort ((k, v) ∷ leafPairs leaf))
-unfolding sort insertAll
-pair-gathered leaf z z′ keys₁ values₁ keys values m n k v g h =
-    subst (λ (l : Pairs). Gathered keys values n (m + 1) (insertPair (k, v) (insertAll (leafPairs leaf) l))) (none-in z z′)
-    (gathered-then (insertPair (k, v)) keys₁ values₁ keys values m _ n (m + 1) (insertAll (leafPairs leaf) (pairsIn z z′ 0)) g h)
-
-pub pairs-whole : (keys values : List ℕ) (n : ℕ) → length keys ≡ 12 → length values ≡ 12 → n ≡ 12 → Whole 1 (take n keys) (take n values)
-pairs-whole keys values n lk lv e =
-    let a = length-take-le n keys (omega arith) in
-    let b = length-take-le n values (omega arith) in
-    record { few = omega arith; enough = omega arith; keyed = a ∙ sym b ∙ keys-leaf 1 (length (take n values)) refl }
-
-pub children-whole : (keys kids : List ℕ) (n : ℕ) → length keys ≡ 12 → length kids ≡ 12 → n ≡ 12 → Whole 2 (take (n - 1 - 0) keys) (take (n - 0) kids)
-children-whole keys kids n lk lv e =
-    let a = length-take-le (n - 1 - 0) keys (omega arith) in
-    let b = length-take-le (n - 0) kids (omega arith) in
-    let k = keys-inner 2 (length (take (n - 0) kids)) (λ e. absurd (omega arith)) in
-    record { few = omega arith; enough = omega arith; keyed = omega (arith, a, b, k) }
-
--- ---- a parent that takes its tagged child in
-
-module _ (parent tagged row part keys : List ℕ) (i n : ℕ) where
-  pub keys-joined : row ≡ routingKeys parent → part ≡ routingKeys tagged → take n keys ≡ take i row ++ (part ++ drop i row)
-      → take n keys ≡ joinedKeys parent i tagged
-  unfolding joinedKeys
-  keys-joined e f h = h ∙ ap₂ (λ (l m : List ℕ). take i l ++ (m ++ drop i l)) e f
-
-  pub children-joined : row ≡ children parent → part ≡ children tagged → take n keys ≡ take i row ++ (part ++ drop (i + 1) row)
-      → take n keys ≡ joinedChildren parent i tagged
-  unfolding joinedChildren
-  children-joined e f h =
-      h ∙ ap₂ (λ (l m : List ℕ). take i l ++ (m ++ drop (i + 1) l)) e f
-      ∙ ap (λ (k : ℕ). take i (children parent) ++ (children tagged ++ drop k (children parent))) (add-one i)

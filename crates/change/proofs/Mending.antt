@@ -18,7 +18,8 @@ use Rattle.change_decide.proofs.DecideLaws.{tagged-absorbed, tagged-split, toge
 use Rattle.plans.specs.Change.{absorb, splitParent, share, merge, mergeRoot}
 use Rattle.plans.specs.Planning.{Preparation, balanced, giving, first, second, third}
 use Rattle.siblings.specs.Siblings.{togetherAt}
-use Rattle.change.specs.LayOut.{layOut, keysTakenIn, childrenTakenIn}
+use Rattle.change_split.specs.Split.{keysTakenIn, childrenTakenIn}
+use Rattle.change.specs.LayOut.{layOut}
 use Rattle.change.specs.Mending.{nextRepair}
 
 -- the repair of the violation at a position, decided and laid out

@@ -5,24 +5,17 @@ use mathlib.Core.List.{List}
 use Prim.Native.Nat.{ℕ, _<_}
 use lib.ListN.{getD}
 use Rattle.laws.specs.Lists.{beforeZero}
-use Rattle.card.specs.Layout.{nodeAt}
 use Rattle.descent.specs.declared.Position.{Position}
 use Rattle.change_decide.specs.Places.{parentAt}
 use Rattle.change_decide.specs.declared.Decision.{Decision}
 use Rattle.change_decide.specs.declared.Decision.the-variants.{Refused, Balanced, Absorb, SplitParent, Share, Merge, MergeRoot}
 use Rattle.change_rows.specs.Nodes.{IsNumber}
-use Rattle.plans.specs.Change.{Change, changeStores, absorb, splitParent, joinedKeys, joinedChildren}
+use Rattle.change_split.specs.Split.{keysTakenIn, childrenTakenIn}
+use Rattle.plans.specs.Change.{Change, changeStores, absorb, splitParent}
 use Rattle.plans.specs.Planning.{Preparation, refused, balanced, prepared, giving, first, second, third}
 use Rattle.plans.specs.Plan.{storesOf, planIn, onOutcome}
 use Rattle.siblings.specs.Siblings.{shareAt, mergeAt, mergeRootAt}
 use Rattle.change.specs.declared.Laid.{Laid}
-
--- the keys and the children of the parent with those of its tagged child taken in
-abbrev pub keysTakenIn : List ℕ → Position → List ℕ
-keysTakenIn card p = joinedKeys (parentAt card p) (p .index) (nodeAt card (p .node))
-
-abbrev pub childrenTakenIn : List ℕ → Position → List ℕ
-childrenTakenIn card p = joinedChildren (parentAt card p) (p .index) (nodeAt card (p .node))
 
 -- the changes of a tagged node and its parent, over the numbers that they are given
 abbrev pub absorbAt : List ℕ → Position → List ℕ → Change

@@ -1,9 +1,10 @@
 // Document 01, "The changes": a change that is decided, laid out as the stores that a step then makes one by one. The nodes are given
 // first: "A change takes the next free node after the one given last".
-mod split;
-mod tagged;
-
 use change_decide::Decision;
+use change_split::split::lay_split_leaf;
+use change_split::tagged::cut_tagged;
+use change_split::tagged::lay_absorb;
+use change_split::tagged::lay_split_parent;
 use free_nodes::NodeSet;
 use plans::Outcome;
 use plans::Planned;
@@ -14,10 +15,6 @@ use siblings::cut_siblings;
 use siblings::lay_merge;
 use siblings::lay_merge_root;
 use siblings::lay_share;
-use split::lay_split_leaf;
-use tagged::cut_tagged;
-use tagged::lay_absorb;
-use tagged::lay_split_parent;
 ghost use mathlib.Core.Path.{_≡_};
 ghost use mathlib.Core.List.{[], _∷_};
 ghost use Prim.Native.Nat.{_+_, _*_, _^_, _≤_, _<_};

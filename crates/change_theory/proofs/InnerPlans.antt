@@ -13,7 +13,8 @@ use Rattle.plans.specs.Planning.{giving, first, second, third}
 use Rattle.change_decide.specs.Decide.{decideTogether}
 use Rattle.change_decide.specs.declared.Decision.{Decision}
 use Rattle.change_decide.proofs.DecideLaws.{siblings-inners}
-use Rattle.change.specs.LayOut.{layOut, keysTakenIn, childrenTakenIn}
+use Rattle.change_split.specs.Split.{keysTakenIn, childrenTakenIn}
+use Rattle.change.specs.LayOut.{layOut}
 use Rattle.change.proofs.Mending.{mend, mend-absorbs, mend-splits}
 use Rattle.siblings.specs.Siblings.{togetherAt}
 use Rattle.siblings.proofs.SiblingLaws.{inners-together}

@@ -89,14 +89,14 @@ same-length c =
     let s = c .before .before .before .before .before .before .before .before .before .before .before .before .before .before .before .before .before .before .before .before in
     let h = c .before .before .before .before .before .before .before .before .before .before .before .before .before .before .lay-merged in
     let f = c .before .before .before .before .before .copy-parent in
-    lent-kept (h .last .1 .1 .1 .0 ++ drop 24 (s .args .places .now)) (f .last .1 .1 .1 .1 .0) 24 24 48 (s .args .p .above) (f .kept .1 .1 .1 .1 .0) ∙ same-len-mid 0 24 (s .args .places .now) (h .last .1 .1 .1 .0) (h .kept .1 .1 .1 .0)
+    lent-kept (h .last .1 .1 .1 .0 ++ drop 24 (s .args .places .now)) (f .last .1 .1 .1 .1 .0) 24 24 _ _ (f .kept .1 .1 .1 .1 .0) ∙ same-len-mid 0 24 (s .args .places .now) (h .last .1 .1 .1 .0) (h .kept .1 .1 .1 .0)
 
 same-length-2 : tie.Need-same-length-2
 same-length-2 c =
     let s = c .before .before .before .before .before .before .before .before .before .before .before .before .before .before .before .before .before .before .before .before in
     let h = c .before .before .before .before .before .before .before .before .before .before .before .before .before .before .lay-merged in
     let f = c .before .before .before .before .before .copy-parent in
-    lent-kept (h .last .1 .1 .1 .1 .0 ++ drop 24 (s .args .values .now)) (f .last .1 .1 .1 .1 .1 .0) 24 24 48 (getD (s .args .t3) 1 0) (f .kept .1 .1 .1 .1 .1 .0) ∙ same-len-mid 0 24 (s .args .values .now) (h .last .1 .1 .1 .1 .0) (h .kept .1 .1 .1 .1 .0)
+    lent-kept (h .last .1 .1 .1 .1 .0 ++ drop 24 (s .args .values .now)) (f .last .1 .1 .1 .1 .1 .0) 24 24 _ _ (f .kept .1 .1 .1 .1 .1 .0) ∙ same-len-mid 0 24 (s .args .values .now) (h .last .1 .1 .1 .1 .0) (h .kept .1 .1 .1 .1 .0)
 
 returns : tie.Need-returns
 unfolding changeStores merge newPlaces newWords

@@ -57,17 +57,15 @@ slice-write-values c = search needs
 
 same-length : tie.Need-same-length
 same-length c =
-    let s = c .before .before .before .before .before .before .before .before .before .before .before .before .before .before .before .before .before .before .before in
     let h = c .before .before .before .before .before .before .before .before .before .before .before .before .before .lay-halves in
     let f = c .before .before .before .before .before .copy-parent in
-    lent-kept (h .last .1 .1 .1 .0) (f .last .1 .1 .1 .1 .0) 48 24 72 (s .args .p .above) (f .kept .1 .1 .1 .1 .0) ∙ h .kept .1 .1 .1 .0
+    lent-kept (h .last .1 .1 .1 .0) (f .last .1 .1 .1 .1 .0) 48 24 _ _ (f .kept .1 .1 .1 .1 .0) ∙ h .kept .1 .1 .1 .0
 
 same-length-2 : tie.Need-same-length-2
 same-length-2 c =
-    let s = c .before .before .before .before .before .before .before .before .before .before .before .before .before .before .before .before .before .before .before in
     let h = c .before .before .before .before .before .before .before .before .before .before .before .before .before .lay-halves in
     let f = c .before .before .before .before .before .copy-parent in
-    lent-kept (h .last .1 .1 .1 .1 .0) (f .last .1 .1 .1 .1 .1 .0) 48 24 72 (getD (s .args .t3) 2 0) (f .kept .1 .1 .1 .1 .1 .0) ∙ h .kept .1 .1 .1 .1 .0
+    lent-kept (h .last .1 .1 .1 .1 .0) (f .last .1 .1 .1 .1 .1 .0) 48 24 _ _ (f .kept .1 .1 .1 .1 .1 .0) ∙ h .kept .1 .1 .1 .1 .0
 
 returns : tie.Need-returns
 unfolding changeStores share halves

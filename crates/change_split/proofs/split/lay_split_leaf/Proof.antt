@@ -1,4 +1,4 @@
--- `change::split::lay_split_leaf` meets its contract.
+-- `change_split::split::lay_split_leaf` meets its contract.
 use mathlib.Core.List.{List}
 use mathlib.Core.Path.{refl, ap₂, _∙_}
 use Prim.Native.Nat.{ℕ, _-_}
@@ -6,11 +6,11 @@ use native.Mathlib.Omega.{arith}
 use lib.ListN.{getD}
 use Rattle.change_rows.proofs.RowLaws.{take-start}
 use Rattle.change_rows.proofs.PairLaws.{none-rows, gathered-rows, gathered-keys, gathered-values}
-use Rattle.change.specs.Split.{together, splitStores}
-use Rattle.change.proofs.LayOutLaws.{pair-gathered, pairs-whole}
+use Rattle.change_split.specs.Split.{together, splitStores}
+use Rattle.change_split.proofs.SplitLaws.{pair-gathered, pairs-whole}
 use borrow.Author.Needs.{needs}
-use Rattle.change.proofs.split.lay_split_leaf.Statement.{statement}
-use Rattle.change.proofs.split.lay_split_leaf.Tie as tie
+use Rattle.change_split.proofs.split.lay_split_leaf.Statement.{statement}
+use Rattle.change_split.proofs.split.lay_split_leaf.Tie as tie
 
 slice-aggregate-insert-leaf : tie.Need-slice-aggregate-insert-leaf
 slice-aggregate-insert-leaf c = search needs

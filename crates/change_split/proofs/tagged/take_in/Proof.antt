@@ -1,4 +1,4 @@
--- `change::tagged::take_in` meets its contract.
+-- `change_split::tagged::take_in` meets its contract.
 use mathlib.Core.List.{List}
 use mathlib.Core.Path.{_≡_, ap, ap₂, _∙_}
 use Prim.Native.Nat.{ℕ, _-_, _<_}
@@ -7,10 +7,10 @@ use lib.ListN.{length, take}
 use Rattle.card.specs.Layout.{children}
 use Rattle.card.proofs.NodeLaws.{length-node, length-routing, children-le}
 use Rattle.plans.specs.Change.{joinedKeys, joinedChildren}
-use Rattle.change.proofs.LayOutLaws.{keys-joined, children-joined}
+use Rattle.change_split.proofs.SplitLaws.{keys-joined, children-joined}
 use borrow.Author.Needs.{needs}
-use Rattle.change.proofs.tagged.take_in.Statement.{statement}
-use Rattle.change.proofs.tagged.take_in.Tie as tie
+use Rattle.change_split.proofs.tagged.take_in.Statement.{statement}
+use Rattle.change_split.proofs.tagged.take_in.Tie as tie
 
 -- the words of the two nodes
 parent-words : (c : tie.After-node-at) → length (c .node-at .result .now) ≡ 24

@@ -1,4 +1,4 @@
--- `change::tagged::lay_absorb` meets its contract.
+-- `change_split::tagged::lay_absorb` meets its contract.
 use mathlib.Core.List.{[]}
 use mathlib.Core.Path.{refl, ap, ap₂, subst, _∙_}
 use Prim.Native.Nat.{_-_}
@@ -9,10 +9,10 @@ use Rattle.change_rows.specs.Nodes.{IsNew, newPlaces, newWords}
 use Rattle.change_rows.proofs.RowLaws.{take-start}
 use Rattle.change_rows.proofs.NodeLaws.{change-laid}
 use Rattle.plans.specs.Change.{changeStores, absorb}
-use Rattle.change.specs.LayOut.{keysTakenIn, childrenTakenIn}
+use Rattle.change_split.specs.Split.{keysTakenIn, childrenTakenIn}
 use borrow.Author.Needs.{needs}
-use Rattle.change.proofs.tagged.lay_absorb.Statement.{statement}
-use Rattle.change.proofs.tagged.lay_absorb.Tie as tie
+use Rattle.change_split.proofs.tagged.lay_absorb.Statement.{statement}
+use Rattle.change_split.proofs.tagged.lay_absorb.Tie as tie
 
 slice-aggregate-take-in : tie.Need-slice-aggregate-take-in
 slice-aggregate-take-in c = search needs

@@ -1,4 +1,4 @@
--- `change::tagged::lay_split_parent` meets its contract.
+-- `change_split::tagged::lay_split_parent` meets its contract.
 use mathlib.Core.List.{List}
 use mathlib.Core.Path.{_≡_, ap, ap₂, sym, _∙_}
 use Prim.Native.Nat.{ℕ, _-_}
@@ -8,12 +8,11 @@ use lib.Seq.{length-take-le}
 use Rattle.card.proofs.NodeLaws.{children-le}
 use Rattle.change_decide.specs.Places.{parentAt}
 use Rattle.change_rows.proofs.RowLaws.{take-start}
-use Rattle.change.specs.Split.{together, splitStores}
-use Rattle.change.specs.LayOut.{keysTakenIn, childrenTakenIn}
-use Rattle.change.proofs.LayOutLaws.{children-whole, split-parent}
+use Rattle.change_split.specs.Split.{together, splitStores, keysTakenIn, childrenTakenIn}
+use Rattle.change_split.proofs.SplitLaws.{children-whole, split-parent}
 use borrow.Author.Needs.{needs}
-use Rattle.change.proofs.tagged.lay_split_parent.Statement.{statement}
-use Rattle.change.proofs.tagged.lay_split_parent.Tie as tie
+use Rattle.change_split.proofs.tagged.lay_split_parent.Statement.{statement}
+use Rattle.change_split.proofs.tagged.lay_split_parent.Tie as tie
 
 -- there are twelve children
 twelve : (c : tie.After-take-in) → c .take-in .result ≡ 12

@@ -15,7 +15,7 @@ ghost use Rattle.change_decide.specs.Places.{parentAt, TaggedAt};
 ghost use Rattle.change_rows.specs.Nodes.{IsNumber};
 ghost use Rattle.plans.specs.Change.{changeStores, absorb, splitParent};
 ghost use Rattle.plans.specs.Planning.{first, second, third};
-ghost use Rattle.change.specs.LayOut.{keysTakenIn, childrenTakenIn};
+ghost use Rattle.change_split.specs.Split.{keysTakenIn, childrenTakenIn};
 
 // The nodes that leave the tree with a tagged node.
 pub fn cut_tagged(p: Position) -> [u32; 3]

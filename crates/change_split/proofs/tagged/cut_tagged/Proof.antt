@@ -1,9 +1,9 @@
--- `change::tagged::cut_tagged` meets its contract.
+-- `change_split::tagged::cut_tagged` meets its contract.
 use native.Mathlib.Omega.{arith}
-use Rattle.change.proofs.LayOutLaws.{cut-two}
+use Rattle.change_split.proofs.SplitLaws.{cut-two}
 use borrow.Author.Needs.{needs}
-use Rattle.change.proofs.tagged.cut_tagged.Statement.{statement}
-use Rattle.change.proofs.tagged.cut_tagged.Tie as tie
+use Rattle.change_split.proofs.tagged.cut_tagged.Statement.{statement}
+use Rattle.change_split.proofs.tagged.cut_tagged.Tie as tie
 
 cast-t2 : tie.Need-cast-t2
 cast-t2 c = search needs

@@ -14,7 +14,7 @@ ghost use Rattle.change_rows.specs.Nodes.{IsNumber};
 ghost use Rattle.change_rows.specs.Halves.{Whole};
 ghost use Rattle.plans.specs.Change.{kindAbove};
 ghost use Rattle.plans.specs.Planning.{first, second, third};
-ghost use Rattle.change.specs.Split.{together, splitStores};
+ghost use Rattle.change_split.specs.Split.{together, splitStores};
 
 // "under a tagged node (internal if it is the root)"
 fn kind_above(link: usize) -> u32
