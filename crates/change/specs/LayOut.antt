@@ -6,7 +6,6 @@ use Prim.Native.Nat.{ℕ, _<_}
 use lib.ListN.{getD}
 use Rattle.laws.specs.Lists.{beforeZero}
 use Rattle.descent.specs.declared.Position.{Position}
-use Rattle.change_decide.specs.Places.{parentAt}
 use Rattle.change_decide.specs.declared.Decision.{Decision}
 use Rattle.change_decide.specs.declared.Decision.the-variants.{Refused, Balanced, Absorb, SplitParent, Share, Merge, MergeRoot}
 use Rattle.change_rows.specs.Nodes.{IsNumber}
