@@ -35,11 +35,12 @@ pub fn child_index(node: &[u32], key: u32) -> usize
     ensures { λ r. ⌜ r ≡ childIndex (now (node .entry)) key ⌝ }
 {
     let mut i: usize = 0;
-    while i < 10 {
-        if node[13 + i] == 0 {
+    // ten words at most; the bound is read off the part, since with a constant the loop is not compiled into a find's own
+    while i + 14 < node.len() {
+        if key < node[1 + i] {
             return i;
         }
-        if key < node[1 + i] {
+        if node[13 + i] == 0 {
             return i;
         }
         i += 1;
