@@ -29,7 +29,7 @@ STATEMENTS = [
 MET = {("lookup", "Find", "findOf"), ("opening", "Opening", "openOf"), ("starting", "Starts", "formatOf"),
        ("starting", "Starts", "insertOf"), ("starting", "Starts", "deleteOf"), ("table", "Calls", "stepOf")}
 # the calls, as the crates offer them, and the table that is made of what they meet
-TABLE = "demands/RationTable/rationTable"
+TABLE = "promises/RationTable/rationTable"
 CALLS = {"lookup": ["find"], "opening": ["open"], "starting": ["start_format", "start_insert", "start_delete"], "table": ["step"]}
 
 

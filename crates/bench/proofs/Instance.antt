@@ -34,11 +34,11 @@ use Rattle.state.specs.declared.Doing.the-variants.{Idle}
 use Rattle.state.specs.declared.Answer.{Answer}
 use Rattle.state.specs.declared.Answer.the-variants.{Stored, Ready, Absent, Value, Refused}
 use Rattle.card.specs.Replies.{holds, absent}
-use Rattle.demands.specs.Book.{book, empty, added, entered, started as inHand, isRefused, stepped as counted, feed, outcome, told, kept}
+use Rattle.promises.specs.Book.{book, empty, added, entered, started as inHand, isRefused, stepped as counted, feed, outcome, told, kept}
 use Rattle.demands.specs.Demand3.{Survives}
-use Rattle.demands.specs.Events.{Event, World, replyTo, happens, run, LeftUncut, FormatsTo, ready-now, stored-first, Begins, from-format, insert, step, cut}
-use Rattle.demands.specs.RationTable.{rationTable}
-use Rattle.demands.specs.Refusals.{ledTo, among, fullAt}
+use Rattle.promises.specs.Events.{Event, World, replyTo, happens, run, LeftUncut, FormatsTo, ready-now, stored-first, Begins, from-format, insert, step, cut}
+use Rattle.promises.specs.RationTable.{rationTable}
+use Rattle.promises.specs.Way.{ledTo, among, fullAt}
 use Rattle.demands.specs.Worked.{dictionary}
 use Rattle.demands.proofs.Demands.{demand-3}
 use Rattle.tree.specs.Pairs.{lookup}

@@ -9,10 +9,10 @@ use Prim.Native.Nat.{ℕ, zero, suc, _≤_, _<_}
 use native.Mathlib.Omega.{arith}
 use lib.ListN.{length, set, drop, length-append}
 use Rattle.card.specs.Stores.{Store}
-use Rattle.demands.specs.Events.{Event, World, replyTo, happens, run, LeftUncut, stepsIn, find, insert, delete, step, cut}
+use Rattle.promises.specs.Events.{Event, World, replyTo, happens, run, LeftUncut, stepsIn, find, insert, delete, step, cut}
 use Rattle.demands.specs.Demand2.{storeAt, StoresNow, Makes, Between, Repairs, Updates, done, mends as mends-by, no-change, changes}
 use Rattle.demands.specs.Rules.{Given, lastGivenOf, marked}
-use Rattle.demands.specs.RationTable.{rationTable}
+use Rattle.promises.specs.RationTable.{rationTable}
 use Rattle.demands.proofs.Making.{Nears, nearer, Left, find-same, same-insert, same-delete, run-left, stores-each}
 use Rattle.plans.specs.Planning.{Preparation, lastOf, withAll, refused, balanced, prepared}
 use Rattle.state.specs.Answers.{stepReply}

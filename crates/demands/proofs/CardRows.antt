@@ -15,8 +15,9 @@ use Rattle.card.specs.Layout.{nodeAt, keyWords, valueWords}
 use Rattle.card.proofs.NodeLaws.{get-valueWord}
 use Rattle.card.specs.Replies.{Reply, refusal}
 use Rattle.demands.specs.Demand1.{Finds, besideFirst, ReadsLeaf, HandsNone, StartsFormat, OpensTo}
-use Rattle.demands.specs.Refusals.{ByRows, nodesOn, NoCard, Unsound, Scarce, leadsTo, findRows, formatRows, openRows, end, row}
-use Rattle.demands.specs.RationTable.{workOf, handed, rationTable}
+use Rattle.promises.specs.Way.{nodesOn, leadsTo}
+use Rattle.demands.specs.Refusals.{ByRows, NoCard, Unsound, Scarce, findRows, formatRows, openRows, end, row}
+use Rattle.promises.specs.RationTable.{workOf, handed, rationTable}
 use Rattle.demands.proofs.FirstRows.{sized?, no-nodes, by-card, card-one}
 use Rattle.demands.proofs.WayDown.{arrived, reachedLeaf, leaf-way}
 use Rattle.descent.specs.Descent.{firstEqual, slotOf, way, leafOf}

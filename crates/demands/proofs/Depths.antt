@@ -7,13 +7,13 @@ use Prim.Native.Nat.{ℕ, zero, suc, _^_, _<_}
 use native.Mathlib.Omega.{arith}
 use native.Mathlib.Numerals.{add-one}
 use lib.ListN.{length, replicate}
-use Rattle.demands.specs.Book.{Book}
+use Rattle.promises.specs.Book.{Book}
 use Rattle.demands.specs.Demand2.{Finishes, Works}
-use Rattle.demands.specs.Events.{Event, World, replyTo, happens, LeftUncut, stepsIn, insert, delete, step}
+use Rattle.promises.specs.Events.{Event, World, replyTo, happens, LeftUncut, stepsIn, insert, delete, step}
 use Rattle.demands.specs.Refusals.{Rows, ByRows, Idle}
 use Rattle.demands.specs.W214.{Levels, Line, storesAt, EndsByDepth, W214}
 use Rattle.demands.proofs.SameBook.{worldly, same-world}
-use Rattle.demands.specs.RationTable.{rationTable}
+use Rattle.promises.specs.RationTable.{rationTable}
 use Rattle.demands.proofs.Dictionary.{is-dictionary}
 use Rattle.demands.proofs.PowerCuts.{Covered, always, was-list, run-same, quiet-same, steps-same}
 use Rattle.demands.proofs.AnswerNumbers.{start-small}

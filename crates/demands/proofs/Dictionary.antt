@@ -11,17 +11,18 @@ use Rattle.card.specs.Header.{Sized, Formatted}
 use Rattle.promises.proofs.Machine.{Event as Was, World as Worldly, happens as was-happens, run as was-run, find as was-find, insert as was-insert, delete as was-delete, step as was-step, crash as was-crash}
 use Rattle.promises.proofs.Feeding.{begunResult, dueAfter, dictionaryAnswer, dueAfterStart}
 use Rattle.promises.proofs.Invariant.{Inv}
-use Rattle.demands.specs.Events.{Event, World, replyTo, happens, run, LeftUncut, stepsIn, insert, delete, step}
-use Rattle.demands.specs.Book.{Book}
-use Rattle.demands.specs.RationTable.{workOf, rationTable}
+use Rattle.promises.specs.Events.{Event, World, replyTo, happens, run, LeftUncut, stepsIn, insert, delete, step}
+use Rattle.promises.specs.Book.{Book}
+use Rattle.promises.specs.RationTable.{workOf, rationTable}
 use Rattle.demands.proofs.Work.{work-idle, idle-work, busy-work}
 use Rattle.card.specs.Layout.{keyLimit}
 use Rattle.card.specs.Replies.{Reply, refusal}
 use Rattle.demands.specs.Demand1.{HandsBack, Starts, Refuses}
 use Rattle.demands.specs.Worked.{dictionary}
 use Rattle.demands.specs.Demand2.{mostStores, Finishes, Updates, Rests, Works, Dictionary, Demand2}
-use Rattle.demands.specs.Table.{Work, noWork, formatting, inserting, deleting}
-use Rattle.demands.specs.Refusals.{Rows, ByRows, Idle as Resting, Busy, leadsTo, NoRoom, cardRows, row, end}
+use Rattle.promises.specs.Table.{Work, noWork, formatting, inserting, deleting}
+use Rattle.promises.specs.Way.{leadsTo}
+use Rattle.demands.specs.Refusals.{Rows, ByRows, Idle as Resting, Busy, NoRoom, cardRows, row, end}
 use Rattle.demands.specs.Rules.{InsertRule, DeleteRule}
 use Rattle.demands.proofs.SameBook.{worldly, same-world}
 use Rattle.demands.proofs.CardRows.{none-some}

@@ -12,7 +12,8 @@ use Rattle.card.specs.Header.{nodesOfLength, cardRefusal, Sized, Formatted}
 use Rattle.card.specs.Layout.{leastNodes, greatestNodes}
 use Rattle.card.specs.Replies.{Reply, long}
 use Rattle.demands.specs.Dumps.{wordOf, byteOf, PaddedLength, nodesIn, wordsIn, Damaged, empty, no-multiple, too-long, bad-nodes, other-length, not-zero, readRows, writeRows, Refuses, Reads, Writes, Dumps}
-use Rattle.demands.specs.Refusals.{ByRows, nodesOn, end, row}
+use Rattle.promises.specs.Way.{nodesOn}
+use Rattle.demands.specs.Refusals.{ByRows, end, row}
 use Rattle.demands.proofs.AnswerNumbers.{card-small}
 use Rattle.demands.proofs.FirstRows.{by-card, card-one}
 use Rattle.demands.proofs.ReplyLaws.{code-of}

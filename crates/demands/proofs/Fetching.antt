@@ -10,7 +10,7 @@ use borrow.Author.Tests.{eq-eqb, ne-eqb}
 use Rattle.demands.specs.Demand1.{Finds, ReadsLeaf}
 use Rattle.demands.specs.Refusals.{ByRows, findRows}
 use Rattle.demands.specs.W213.{recordRows, NoRecord, IsRecord, AtOffset, ByFind, W213}
-use Rattle.demands.specs.RationTable.{rationTable}
+use Rattle.promises.specs.RationTable.{rationTable}
 use Rattle.demands.proofs.CardRows.{finds, reads-finds}
 use Rattle.demands.proofs.AnswerNumbers.{find-small}
 use Rattle.demands.proofs.ReplyLaws.{code-of, found-refused, found-absent, found-value}

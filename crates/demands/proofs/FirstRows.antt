@@ -9,7 +9,8 @@ use lib.ListN.{length, getD}
 use borrow.Author.Tests.{eq-eqb}
 use Rattle.card.specs.Header.{nodesOfLength, headerRefusal, cardRefusal, Sized, Formatted}
 use Rattle.card.proofs.HeaderLaws.{nodes-sized, sized-nodes, header-formatted, formatted-header, wrong-word0}
-use Rattle.demands.specs.Refusals.{Rows, ByRows, nodesOn, NoCard, NoMark, BadHeader, cardRows}
+use Rattle.promises.specs.Way.{nodesOn}
+use Rattle.demands.specs.Refusals.{Rows, ByRows, NoCard, NoMark, BadHeader, cardRows}
 use Rattle.promises.proofs.OpenRefusals.{header-three}
 
 pub sized? : (len n : ℕ) → Dec (Sized len n)

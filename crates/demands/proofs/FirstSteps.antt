@@ -13,9 +13,10 @@ use Rattle.card.proofs.HeaderLaws.{formatted-header}
 use Rattle.card.proofs.NodeLaws.{length-node}
 use Rattle.card.specs.Replies.{started}
 use Rattle.demands.specs.Demand1.{Stores, Answers, Refuses, NoNodes, FirstStep, Demand1}
-use Rattle.demands.specs.Refusals.{ByRows, leadsTo, among, cardRows, end, row}
+use Rattle.promises.specs.Way.{leadsTo, among}
+use Rattle.demands.specs.Refusals.{ByRows, cardRows, end, row}
 use Rattle.demands.specs.Rules.{Given}
-use Rattle.demands.specs.RationTable.{workOf, stepped, rationTable}
+use Rattle.promises.specs.RationTable.{workOf, stepped, rationTable}
 use Rattle.demands.proofs.AnswerNumbers.{start-small}
 use Rattle.demands.proofs.CardRows.{none-some, finds, formats, opens}
 use Rattle.demands.proofs.FirstRows.{sized-on, by-card}

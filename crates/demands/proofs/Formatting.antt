@@ -12,9 +12,9 @@ use Rattle.card.specs.Header.{Sized}
 use Rattle.card.specs.Replies.{Reply, refusal, started}
 use Rattle.card.specs.Stores.{Store}
 use Rattle.demands.specs.Demand2.{StoresNow, freshWord, formatStore, formatBegun, Formats}
-use Rattle.demands.specs.Events.{Event, World, replyTo, happens, run, LeftUncut, stepsIn, find, insert, delete, step, cut}
-use Rattle.demands.specs.Refusals.{nodesOn}
-use Rattle.demands.specs.RationTable.{rationTable}
+use Rattle.promises.specs.Events.{Event, World, replyTo, happens, run, LeftUncut, stepsIn, find, insert, delete, step, cut}
+use Rattle.promises.specs.Way.{nodesOn}
+use Rattle.promises.specs.RationTable.{rationTable}
 use Rattle.demands.proofs.Making.{find-same, same-insert, same-delete}
 use Rattle.demands.proofs.FirstRows.{sized?, no-nodes}
 use Rattle.formatting_theory.proofs.FormatSteps.{formatMemory, format-starts, format-refused, format-step-stores, format-step-ready}

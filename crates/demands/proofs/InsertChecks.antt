@@ -11,10 +11,11 @@ use lib.ListN.{length, drop, replicate, length-take}
 use borrow.Author.Tests.{ne-eqb}
 use Rattle.demands.specs.Demand1.{OpensTo}
 use Rattle.demands.specs.Demand3.{mostRepairSteps, Survives}
-use Rattle.demands.specs.Events.{World, opened, happens, run, Words, LeftUncut, Opens, Begins, step, from-open}
-use Rattle.demands.specs.Book.{kept}
-use Rattle.demands.specs.RationTable.{handed, rationTable}
-use Rattle.demands.specs.Refusals.{ByRows, nodesOn, leadsTo, among, openRows, end, row}
+use Rattle.promises.specs.Events.{World, opened, happens, run, Words, LeftUncut, Opens, Begins, step, from-open}
+use Rattle.promises.specs.Book.{kept}
+use Rattle.promises.specs.RationTable.{handed, rationTable}
+use Rattle.promises.specs.Way.{nodesOn, leadsTo, among}
+use Rattle.demands.specs.Refusals.{ByRows, openRows, end, row}
 use Rattle.demands.specs.List.{repairedWorld}
 use Rattle.demands.proofs.ListRight.{repaired-world}
 use Rattle.demands.specs.W209.{SplitBelow, TellsHeld, LeadsAbsent, TellsSlot, TellsSplit, Told, OfCard, W209}

@@ -8,11 +8,12 @@ use native.Mathlib.Omega.{arith}
 use lib.ListN.{length, getD, replicate}
 use Rattle.demands.specs.Demand1.{OpensTo}
 use Rattle.demands.specs.Demand3.{mostRepairSteps}
-use Rattle.demands.specs.Events.{World, opened, happens, run, step}
+use Rattle.promises.specs.Events.{World, opened, happens, run, step}
 use Rattle.demands.specs.List.{repairedWorld, ListsRight, ListProgram}
-use Rattle.demands.specs.Refusals.{ByRows, nodesOn, openRows, end, row}
+use Rattle.promises.specs.Way.{nodesOn}
+use Rattle.demands.specs.Refusals.{ByRows, openRows, end, row}
 use Rattle.demands.proofs.SameBook.{worldly, same-world}
-use Rattle.demands.specs.RationTable.{handed, rationTable}
+use Rattle.promises.specs.RationTable.{handed, rationTable}
 use Rattle.demands.proofs.CardRows.{opens}
 use Rattle.demands.proofs.ReplyLaws.{begun-refused}
 use Rattle.demands.proofs.Work.{true-false}

@@ -7,12 +7,12 @@ use Prim.Native.Nat.{ℕ, zero, suc, _+_, _≤_, _<_}
 use native.Mathlib.Omega.{arith}
 use lib.ListN.{length, set, drop}
 use Rattle.card.specs.Stores.{Store}
-use Rattle.demands.specs.Table.{Refused}
-use Rattle.demands.specs.Events.{Event, World, replyTo, happens, run, LeftUncut, stepsIn, find, insert, delete, step, cut}
-use Rattle.demands.specs.Book.{Book, feed, told}
+use Rattle.promises.specs.Table.{Refused}
+use Rattle.promises.specs.Events.{Event, World, replyTo, happens, run, LeftUncut, stepsIn, find, insert, delete, step, cut}
+use Rattle.promises.specs.Book.{Book, feed, told}
 use Rattle.demands.specs.Demand2.{storeAt, StoresNow}
 use Rattle.demands.proofs.SameBook.{worldly, same-world, fed-same}
-use Rattle.demands.specs.RationTable.{rationTable}
+use Rattle.promises.specs.RationTable.{rationTable}
 use Rattle.demands.proofs.PowerCuts.{Covered, covered-nodes, refused-insert-same, refused-delete-same}
 use Rattle.demands.proofs.StepRows.{advanced-rest}
 use Rattle.promises.proofs.Feeding.{fed, dueAfter, stored-due}

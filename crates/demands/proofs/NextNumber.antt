@@ -5,11 +5,12 @@ use mathlib.Core.Logic.{inl, inr}
 use Prim.Native.Nat.{ℕ, zero, suc, _<_}
 use native.Mathlib.Omega.{arith}
 use lib.ListN.{length}
-use Rattle.demands.specs.Book.{Book}
-use Rattle.demands.specs.Events.{World}
-use Rattle.demands.specs.Refusals.{ByRows, nodesOn, cardRows, end}
+use Rattle.promises.specs.Book.{Book}
+use Rattle.promises.specs.Events.{World}
+use Rattle.promises.specs.Way.{nodesOn}
+use Rattle.demands.specs.Refusals.{ByRows, cardRows, end}
 use Rattle.demands.specs.W201.{NextCall, AnswersNext, HeldTo, Rises, Walks, Walked, OnAnyCard, W201, ends, goes-on}
-use Rattle.demands.specs.RationTable.{rationTable}
+use Rattle.promises.specs.RationTable.{rationTable}
 use Rattle.demands.proofs.PowerCuts.{Covered, always}
 use Rattle.demands.proofs.FirstRows.{by-card, card-one}
 use Rattle.card.specs.Header.{cardRefusal}

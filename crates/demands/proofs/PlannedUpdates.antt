@@ -20,7 +20,7 @@ use Rattle.plans.specs.Planning.{prepared}
 use Rattle.updates.specs.Updates.{landing, emptyReason, reasonIn, insertReason, insertChange, deleteChange, insertIn, deleteIn, noWay, inLeaf, nextChange}
 use Rattle.state.specs.declared.Doing.{Doing}
 use Rattle.state.specs.declared.Task.the-variants.{PutIn, TakeOut}
-use Rattle.demands.specs.Refusals.{nodesOn, leadsTo, among}
+use Rattle.promises.specs.Way.{nodesOn, leadsTo, among}
 use Rattle.demands.specs.Rules.{InsertRule, in-slot, leaf-split, DeleteRule, key-cleared}
 use Rattle.demands.proofs.PlannedNumbers.{ByRule, not-refused, not-balanced, giving-three, none-taken}
 use Rattle.demands.proofs.Standing.{picked, landing-linked}

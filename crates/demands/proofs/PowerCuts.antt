@@ -13,13 +13,13 @@ use Rattle.promises.proofs.Machine.{Event as Was, World as Worldly, opened as w
 use Rattle.promises.proofs.Ledger.{Result, Ledger, ledger, fedAStep, feed as was-feed, was-refused, was-final, goes-on as was-goes-on, empty as was-empty}
 use Rattle.promises.proofs.Feeding.{dictionaryAnswer, stepResult, fed, keptLedger, dueAfter, keptDue}
 use Rattle.promises.proofs.Invariant.{Inv}
-use Rattle.demands.specs.Events.{Event, World, opened, replyTo, happens, run, Words, LeftUncut, stepsIn, SaysReady, FormatsTo, Opens, Begins, find, insert, delete, step, cut, ready-now, stored-first, found-first, refused-insert, refused-delete, from-format, from-open}
-use Rattle.demands.specs.Book.{Book, book, feed, told, kept, empty}
-use Rattle.demands.specs.RationTable.{rationTable}
+use Rattle.promises.specs.Events.{Event, World, opened, replyTo, happens, run, Words, LeftUncut, stepsIn, SaysReady, FormatsTo, Opens, Begins, find, insert, delete, step, cut, ready-now, stored-first, found-first, refused-insert, refused-delete, from-format, from-open}
+use Rattle.promises.specs.Book.{Book, book, feed, told, kept, empty}
+use Rattle.promises.specs.RationTable.{rationTable}
 use Rattle.card.specs.Replies.{Reply, ready, idle}
 use Rattle.demands.specs.Worked.{dictionary, Always, BalancedWith}
 use Rattle.demands.specs.Demand3.{mostRepairSteps, Ended, Survives, Demand3}
-use Rattle.demands.specs.Refusals.{nodesOn}
+use Rattle.promises.specs.Way.{nodesOn}
 use Rattle.demands.proofs.SameBook.{was, worldly, same-world, handOf, bookOf, Flagged, fed-same}
 use Rattle.demands.proofs.AnswerNumbers.{SmallBegun, open-small, step-small}
 use Rattle.demands.proofs.ReplyLaws.{is-ready, is-stored, is-refused}

@@ -11,10 +11,10 @@ use Rattle.card.specs.Layout.{nodeAt}
 use Rattle.promises.proofs.Machine.{Event as Was, World as Worldly, happens as was-happens, find as was-find, insert as was-insert, delete as was-delete, step as was-step, crash as was-crash}
 use Rattle.promises.proofs.Ledger.{Update as WasUpdate, Hand as WasHand, Ledger, addedUnless, added as was-added, takenOut as was-taken-out, entered as was-entered, deciding, counted, fedAStep, fedAStart, feed as was-feed, put as was-put, remove as was-remove, was-refused, was-final, goes-on as was-goes-on, empty as was-empty, hand}
 use Rattle.promises.proofs.Feeding.{begunResult, stepResult, isNone, fullAt as was-full-at, leafFull as was-leaf-full, fed}
-use Rattle.demands.specs.Events.{Event, World, replyTo, happens, run, find, insert, delete, step, cut}
-use Rattle.demands.specs.Book.{Update, Hand, Book, book, added, takenOut, entered, started, stepped, feed, outcome, told, put, remove, refused, final, goesOn, empty, holding, isRefused}
-use Rattle.demands.specs.RationTable.{rationTable}
-use Rattle.demands.specs.Refusals.{nodesOn, fullAt, leafFull}
+use Rattle.promises.specs.Events.{Event, World, replyTo, happens, run, find, insert, delete, step, cut}
+use Rattle.promises.specs.Book.{Update, Hand, Book, book, added, takenOut, entered, started, stepped, feed, outcome, told, put, remove, refused, final, goesOn, empty, holding, isRefused}
+use Rattle.promises.specs.RationTable.{rationTable}
+use Rattle.promises.specs.Way.{nodesOn, fullAt, leafFull}
 use Rattle.demands.proofs.StartRows.{slot-is}
 use Rattle.demands.proofs.AnswerNumbers.{SmallBegun, SmallAnswer, start-small, step-small}
 use Rattle.demands.proofs.Work.{true-false}

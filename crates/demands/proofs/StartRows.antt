@@ -15,9 +15,10 @@ use Rattle.card.proofs.HeaderLaws.{nodes-sized, sized-nodes, formatted-header}
 use Rattle.card.specs.Layout.{nodeAt, keyWords}
 use Rattle.card.specs.Replies.{absent}
 use Rattle.demands.specs.Demand1.{HandsBack, Starts}
-use Rattle.demands.specs.Table.{inserting, deleting}
-use Rattle.demands.specs.Refusals.{Rows, ByRows, Busy, NoCard, leadsTo, among, NoRoom, startRows, insertRows, deleteRows, end, row}
-use Rattle.demands.specs.RationTable.{workOf, handed, rationTable}
+use Rattle.promises.specs.Table.{inserting, deleting}
+use Rattle.promises.specs.Way.{leadsTo, among}
+use Rattle.demands.specs.Refusals.{Rows, ByRows, Busy, NoCard, NoRoom, startRows, insertRows, deleteRows, end, row}
+use Rattle.promises.specs.RationTable.{workOf, handed, rationTable}
 use Rattle.demands.proofs.Work.{true-false, idle-work, busy-work}
 use Rattle.demands.proofs.CardRows.{none-some}
 use Rattle.demands.proofs.FirstRows.{sized-on, by-card}
@@ -146,8 +147,8 @@ pub room-row : (c : List ℕ) (free : List Bool) (key leaf link j : ℕ) → lea
 unfolding startRoom roomFor insertReason reasonIn emptyReason slotFound
 room-row c free key leaf link j to = at (slotOf (nodeAt c leaf) key) refl (slotOf (nodeAt c leaf) 0) refl
   where
-    same : (r : NoRoom c free key) → (r .leaf ≡ leaf) × (r .j ≡ j)
-    same r = one-leaf c key (r .leaf) (r .j) leaf j (r .leads) to
+    same : (r : NoRoom c free key) → (r .full-leaf ≡ leaf) × (r .j ≡ j)
+    same r = one-leaf c key (r .full-leaf) (r .j) leaf j (r .leads) to
 
     at : (x : Slot) → slotOf (nodeAt c leaf) key ≡ x → (y : Slot) → slotOf (nodeAt c leaf) 0 ≡ y
         → (NoRoom c free key × (startRoom c key free (LandingAt leaf link j) ≡ false)) ⊎ ((NoRoom c free key → ⊥) × (startRoom c key free (LandingAt leaf link j) ≡ true))
@@ -155,7 +156,7 @@ room-row c free key leaf link j to = at (slotOf (nodeAt c leaf) key) refl (slotO
     at NoSlot e (At i) f = inr (λ r. true-false (slot-is (nodeAt c leaf) 0 (At i) f ∙ ap (λ (x : ℕ). among 0 (keyWords (nodeAt c x))) (sym (same r .0)) ∙ r .full), rw (e, f))
     at NoSlot e NoSlot f =
         order (countTrue free) (splitNeed j)
-        (λ o. inl (record { leaf = leaf; j = j; leads = to; absent = sym (slot-is (nodeAt c leaf) key NoSlot e); full = sym (slot-is (nodeAt c leaf) 0 NoSlot f); few = o }, rw (e, f, lt-ltb (countTrue free) (splitNeed j) o)))
+        (λ o. inl (record { full-leaf = leaf; j = j; leads = to; absent = sym (slot-is (nodeAt c leaf) key NoSlot e); full = sym (slot-is (nodeAt c leaf) 0 NoSlot f); few = o }, rw (e, f, lt-ltb (countTrue free) (splitNeed j) o)))
         (λ o. inr (λ r. omega (arith, r .few, same r .1), rw (e, f, le-ltb (countTrue free) (splitNeed j) o)))
 
 pub inserts : (c : List ℕ) (m : Memory) (key value : ℕ) → ByRows (insertRows rationTable c m key) (HandsBack rationTable m (rationTable .insert c m key value)) (Starts rationTable m (rationTable .insert c m key value) (inserting key value))

@@ -13,9 +13,9 @@ use Rattle.card.proofs.HeaderLaws.{sized-nodes, formatted-header}
 use Rattle.card.specs.Layout.{nodeAt}
 use Rattle.card.specs.Stores.{Store}
 use Rattle.demands.specs.Demand1.{HandsBack, Stores, StoresNext, Answers, Refuses}
-use Rattle.demands.specs.Table.{noWork, formatting, inserting, deleting}
+use Rattle.promises.specs.Table.{noWork, formatting, inserting, deleting}
 use Rattle.demands.specs.Refusals.{Rows, ByRows, Idle, NoCard, cardRows, end, row}
-use Rattle.demands.specs.RationTable.{workOf, stepped, rationTable}
+use Rattle.promises.specs.RationTable.{workOf, stepped, rationTable}
 use Rattle.demands.proofs.Work.{IdleOrTask, idle-or-task, work-formatting}
 use Rattle.demands.proofs.StartRows.{not-sized, start-one, refused-back}
 use Rattle.demands.proofs.FirstRows.{sized?, by-card}

@@ -12,14 +12,14 @@ use Rattle.card.specs.Header.{nodesOfLength, cardRefusal}
 use Rattle.card.specs.Layout.{keyLimit, nodeAt}
 use Rattle.card.specs.Replies.{Reply, ready, started}
 use Rattle.card.specs.Stores.{Store}
-use Rattle.demands.specs.Book.{Book, book, feed, told, empty}
+use Rattle.promises.specs.Book.{Book, book, feed, told, empty}
 use Rattle.demands.specs.Demand2.{Repairs, Updates}
-use Rattle.demands.specs.Events.{World, opened, happens, insert, delete}
-use Rattle.demands.specs.Refusals.{nodesOn}
+use Rattle.promises.specs.Events.{World, opened, happens, insert, delete}
+use Rattle.promises.specs.Way.{nodesOn}
 use Rattle.demands.specs.Rules.{InsertRule, DeleteRule}
 use Rattle.demands.proofs.ByRules.{Begun, repairs-by-rules, first-by-rules, put-turns, remove-turns}
 use Rattle.demands.proofs.SameBook.{worldly, same-world, handOf, Flagged, fed-same}
-use Rattle.demands.specs.RationTable.{rationTable}
+use Rattle.promises.specs.RationTable.{rationTable}
 use Rattle.demands.proofs.PowerCuts.{Covered, covered-nodes}
 use Rattle.demands.proofs.StartRows.{started-doing}
 use Rattle.demands.proofs.StepRows.{next-final}

@@ -6,7 +6,7 @@ use mathlib.Core.Option.{Option, none, some}
 use Prim.Native.Nat.{ℕ, suc}
 use lib.ListN.{length}
 use lib.Dec.{eqb}
-use Rattle.demands.specs.Refusals.{nodesOn, ledTo, leadsTo, among}
+use Rattle.promises.specs.Way.{nodesOn, ledTo, leadsTo, among}
 use Rattle.descent.specs.Descent.{firstEqual, way, reachedAt, leafOf, runOver, landedAt, landingOf}
 use Rattle.descent.specs.declared.Landing.{Landing}
 use Rattle.descent.specs.declared.Landing.the-variants.{Refused as NoLanding, Leaf as LandingAt}

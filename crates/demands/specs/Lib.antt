@@ -1,12 +1,7 @@
 -- What is promised of a ration table, in the order in which to read it. No proof stands here.
--- a table as its caller sees it
-pub mod Table
+-- (A table as its caller sees it, lists of calls and cuts, and the book stand in promises/specs: Table, Events, Way, Book.)
 -- the table "Refusal by place"
 pub mod Refusals
--- lists of calls and cuts, and where they begin
-pub mod Events
--- the book
-pub mod Book
 -- a table that is worked by these calls alone
 pub mod Worked
 -- the tree's rules: the words of each change
@@ -28,5 +23,3 @@ pub mod W209
 pub mod W213
 -- how many levels a line has, by its rations
 pub mod W214
--- the table that is proved to meet all this
-pub mod RationTable

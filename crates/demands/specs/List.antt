@@ -16,11 +16,12 @@ use Rattle.tree.specs.Height.{Height}
 use Rattle.tree.specs.Pairs.{pairs, lookup}
 use Rattle.tree.specs.Tree.{Tree}
 use Rattle.tree.specs.WellFormed.{WellFormed, Balanced}
-use Rattle.demands.specs.Table.{Table}
+use Rattle.promises.specs.Table.{Table}
 use Rattle.demands.specs.Demand3.{mostRepairSteps}
 use Rattle.demands.specs.Dumps.{Damaged}
-use Rattle.demands.specs.Events.{World, opened, run, step}
-use Rattle.demands.specs.Refusals.{ByRows, nodesOn, openRows, end, row}
+use Rattle.promises.specs.Events.{World, opened, run, step}
+use Rattle.promises.specs.Way.{nodesOn}
+use Rattle.demands.specs.Refusals.{ByRows, openRows, end, row}
 
 -- "opens and repairs it in memory": so many steps that the repair has ended (demand 3); those after its end store nothing
 unfoldable pub repairedWorld : (T : Table) → List ℕ → World T

@@ -13,7 +13,7 @@ use Rattle.card.specs.Layout.{rootPlace, place, nodeAt, kindOf, keyWords, child
 use Rattle.card.specs.Stores.{Store, NewNode, newNode, nodeStores}
 use Rattle.laws.specs.Cases.{pick}
 use Rattle.laws.specs.Sorting.{sort, pairKeys, pairValues, keyAt}
-use Rattle.demands.specs.Refusals.{leadsTo, among}
+use Rattle.promises.specs.Way.{leadsTo, among}
 
 -- ---- the nodes that a change is given
 

@@ -11,9 +11,10 @@ use Rattle.card.specs.Replies.{Reply, refusal, next, nothing}
 use Rattle.tree.specs.Pairs.{pairs, lookup}
 use Rattle.tree.specs.Tree.{Tree}
 use Rattle.tree.specs.WellFormed.{WellFormed}
-use Rattle.demands.specs.Table.{Table}
+use Rattle.promises.specs.Table.{Table}
 use Rattle.demands.specs.Worked.{Always}
-use Rattle.demands.specs.Refusals.{ByRows, nodesOn, cardRows, end}
+use Rattle.promises.specs.Way.{nodesOn}
+use Rattle.demands.specs.Refusals.{ByRows, cardRows, end}
 
 -- The call: of a card and a number the reply, and beside it the key of the pair. "It reads the card only": no card comes back.
 abbrev pub NextCall : Type 0

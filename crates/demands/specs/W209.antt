@@ -16,9 +16,10 @@ use Rattle.text_row.specs.Lines.{lineFeed, numberLine, refusalLine}
 use Rattle.updates.specs.Updates.{splitNeed}
 use Rattle.demands.specs.Dumps.{Damaged}
 use Rattle.demands.specs.List.{repairedWorld}
-use Rattle.demands.specs.Table.{Table}
-use Rattle.demands.specs.Events.{World}
-use Rattle.demands.specs.Refusals.{ByRows, leadsTo, among, openRows, end, row}
+use Rattle.promises.specs.Table.{Table}
+use Rattle.promises.specs.Events.{World}
+use Rattle.promises.specs.Way.{leadsTo, among}
+use Rattle.demands.specs.Refusals.{ByRows, openRows, end, row}
 
 -- "`split` is printed with F below M"
 abbrev pub SplitBelow : List ℕ → Type 0

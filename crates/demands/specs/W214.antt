@@ -9,8 +9,8 @@ use Rattle.tree.specs.Height.{Height}
 use Rattle.tree.specs.Pairs.{pairs, lookup}
 use Rattle.tree.specs.Tree.{Tree, leaf}
 use Rattle.tree.specs.WellFormed.{WellFormed, Balanced}
-use Rattle.demands.specs.Table.{Table}
-use Rattle.demands.specs.Events.{Event, World, replyTo, happens, insert, delete}
+use Rattle.promises.specs.Table.{Table}
+use Rattle.promises.specs.Events.{Event, World, replyTo, happens, insert, delete}
 use Rattle.demands.specs.Refusals.{Idle}
 use Rattle.demands.specs.Demand2.{Finishes}
 use Rattle.demands.specs.Worked.{dictionary, Always, BalancedWith}

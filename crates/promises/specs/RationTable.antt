@@ -1,6 +1,6 @@
 -- The ration table as its caller sees it: the definitions that the contracts of the calls say the code meets, and the numbers of
 -- its answers. (What those definitions are need not be read: the demands are proved of them.)
-use Rattle.demands.specs.Table.{Handed, Stepped, Work, Table, noWork, formatting, inserting, deleting, repairing}
+use Rattle.promises.specs.Table.{Handed, Stepped, Work, Table, noWork, formatting, inserting, deleting, repairing}
 use Rattle.lookup.specs.Answers.{foundReply}
 use Rattle.lookup.specs.Find.{findOf}
 use Rattle.opening.specs.Opening.{openOf}
