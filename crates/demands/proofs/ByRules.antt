@@ -13,7 +13,7 @@ use Rattle.promises.specs.Events.{Event, World, replyTo, happens, run, LeftUncu
 use Rattle.demands.specs.Demand2.{storeAt, StoresNow, Makes, Between, Repairs, Updates, done, mends as mends-by, no-change, changes}
 use Rattle.demands.specs.Rules.{Given, lastGivenOf, marked}
 use Rattle.promises.specs.RationTable.{rationTable}
-use Rattle.demands.proofs.Making.{Nears, nearer, Left, find-same, same-insert, same-delete, run-left, stores-each}
+use Rattle.demands.proofs.Making.{Nears, nearer, Left, run-left, stores-each}
 use Rattle.plans.specs.Planning.{Preparation, lastOf, withAll, refused, balanced, prepared}
 use Rattle.state.specs.Answers.{stepReply}
 use Rattle.state.specs.Memory.{Memory, advanced}
@@ -36,17 +36,16 @@ use borrow.Author.Tests.{lt-ltb, le-ltb}
 use Rattle.change.specs.Mending.{nextRepair}
 use Rattle.change_theory.proofs.Plays.{Openable, pending-changing}
 use Rattle.change_theory.proofs.Repaired.{Repaired, settled, violated}
-use Rattle.promises.proofs.Invariant.{Table, Stage, Job, Entered, stage-idle, stage-put, stage-remove, stage-first, stage-between, stage-within, job-repair, job-insert, job-delete, no-update, updated}
+use Rattle.promises.proofs.Invariant.{Table, Stage, Job, stage-idle, stage-put, stage-remove, stage-first, stage-between, stage-within, job-repair, job-insert, job-delete}
+use Rattle.promises.proofs.BookLaws.{IsFinal}
+use Rattle.promises.specs.Book.{Update, Hand}
 use Rattle.promises.proofs.Kept.{first-storable}
 use Rattle.promises.proofs.Reopen.{table-well-formed}
 use Rattle.promises.proofs.Starting.{nodes-same}
-use Rattle.demands.proofs.SameBook.{worldly}
 use Rattle.demands.proofs.PowerCuts.{Covered}
-use Rattle.promises.proofs.Ledger.{Update, Hand, was-final}
-use Rattle.promises.proofs.Stepping.{Right, finalDue, right-final, kept-step, mends, rests}
-use Rattle.promises.proofs.PowerLoss.{loosen}
+use Rattle.promises.proofs.Stepping.{Right, right-final, kept-step, mends, rests}
+use Rattle.promises.proofs.PowerLoss.{loosen, loosen-due, find-same, insert-same, delete-same}
 use Rattle.promises.proofs.Finished.{work-not-refused}
-use Rattle.promises.proofs.Feeding.{stepResult}
 use Rattle.promises.proofs.Steps.{memory, step-repairs, prepared-ready, prepared-first, step-puts, step-removes}
 use Rattle.tree.proofs.Path.{depthOf}
 use Rattle.tree.specs.FreeNodes.{Exact}
@@ -60,8 +59,8 @@ first-step : (w : World rationTable) (qs : List Event) → LeftUncut rationTable
 unfolding LeftUncut run
 first-step w [] u = inl (refl, refl)
 first-step w (find key ∷ qs) u = rw (find-same key w) (first-step w qs (rw (find-same key w) at (u .1)))
-first-step w (insert key value ∷ qs) u = let e = same-insert key value w (u .0) in rw e (first-step w qs (rw e at (u .1)))
-first-step w (delete key ∷ qs) u = let e = same-delete key w (u .0) in rw e (first-step w qs (rw e at (u .1)))
+first-step w (insert key value ∷ qs) u = let e = insert-same key value w (u .0) in rw e (first-step w qs (rw e at (u .1)))
+first-step w (delete key ∷ qs) u = let e = delete-same key w (u .0) in rw e (first-step w qs (rw e at (u .1)))
 first-step w (step ∷ qs) u = inr (qs, u .1, refl, refl)
 first-step w (cut ∷ qs) u = absurd (u .0)
 
@@ -180,13 +179,8 @@ record RepairNext (c : List ℕ) (n : ℕ) (m : Memory) : Type 0 where
   pub first-made : stepOf c m ≡ record { answer = Stored; card = set c (first .0) (first .1); memory = advanced (memory n then-free then-last (m .doing) [] out) rest }
 
 -- the final answer, or the next change
-abbrev Turns : List ℕ → ℕ → Tree → Memory → Option Answer → Type 0
-Turns c n t m due = Exact n (m .free) t × (((tableViolations t ≡ 0) × (stepOf c m .answer ≡ finalDue due)) ⊎ RepairNext c n m)
-
-entered-due : {doing : Doing} {key : ℕ} {final : Answer} {u : Option Update} {h : Hand} {due : Option Answer} → Job doing key final u → Entered u final h due → final ≡ finalDue due
-entered-due job-repair no-update = refl
-entered-due job-insert updated = refl
-entered-due job-delete updated = refl
+abbrev Turns : List ℕ → ℕ → Tree → Memory → Answer → Type 0
+Turns c n t m due = Exact n (m .free) t × (((tableViolations t ≡ 0) × (stepOf c m .answer ≡ due)) ⊎ RepairNext c n m)
 
 idle-no-job : {doing : Doing} {key : ℕ} {final : Answer} {u : Option Update} → Job doing key final u → doing ≡ Idle → ⊥
 idle-no-job job-repair e = impossible (cc)
@@ -203,15 +197,15 @@ remove-no-job k job-repair e = impossible (cc)
 remove-no-job k job-insert e = impossible (cc)
 remove-no-job k job-delete e = impossible (cc)
 
-turns-at : {c : List ℕ} {n : ℕ} {t goal : Tree} {steps : ℕ} {m : Memory} {h : Hand} {due : Option Answer} → Table c n t → Openable n t → Stage c n t goal steps m h due → m .rest ≡ [] → Begun (m .doing) → Turns c n t m due
+turns-at : {c : List ℕ} {n : ℕ} {t goal : Tree} {steps : ℕ} {m : Memory} {h : Hand} {due : Answer} → Table c n t → Openable n t → Stage c n t goal steps m h due → m .rest ≡ [] → Begun (m .doing) → Turns c n t m due
 turns-at b o (stage-idle z r x g) e k = absurd (idle-no-job (k .3) refl)
 turns-at b o (stage-put {key = key} {value = value} z r x low high room q g) e k = absurd (put-no-job key value (k .3) refl)
 turns-at b o (stage-remove {key = key} z r x low high q g) e k = absurd (remove-no-job key (k .3) refl)
 turns-at b o (stage-first {s = s} {rest = rest} j p en count few hd) e k = let y : _≡_ {A = List Store} (s ∷ rest) [] = e in impossible (cc)
 turns-at b o (stage-within {s = s} {rest = rest} j en p q few hd) e k = let y : _≡_ {A = List Store} (s ∷ rest) [] = e in impossible (cc)
-turns-at {c} {n} {t} {due = due} b o (stage-between {free} {last} {key} {doing} {final} j en deep (settled z r) x few hd) e k =
-    (x, inl (z, ap (λ y. y .answer) (step-repairs c n (b .sized) (b .header) free last j ∙ prepared-ready c (memory n free last doing [] []) doing final (nextRepair c n key free last) (rests c n key t free last b z)) ∙ entered-due j en))
-turns-at {c} {n} {t} {due = due} b o (stage-between {free} {last} {key} {doing} {final} j en deep (violated v w r) x few hd) e k = (x, inr (apply (mends c n key t free last b x v w r)))
+turns-at {c} {n} {t} {due = due} b o (stage-between {free} {last} {key} {doing} j en deep (settled z r) x few hd) e k =
+    (x, inl (z, ap (λ y. y .answer) (step-repairs c n (b .sized) (b .header) free last j ∙ prepared-ready c (memory n free last doing [] []) doing due (nextRepair c n key free last) (rests c n key t free last b z))))
+turns-at {c} {n} {t} {due = due} b o (stage-between {free} {last} {key} {doing} j en deep (violated v w r) x few hd) e k = (x, inr (apply (mends c n key t free last b x v w r)))
   where
     apply : Repaired c n key t free last (depthOf (v .context)) → RepairNext c n (memory n free last doing [] [])
     apply q = split (q .stores) refl
@@ -229,11 +223,11 @@ turns-at {c} {n} {t} {due = due} b o (stage-between {free} {last} {key} {doing} 
               then-last = q .last-then;
               out = q .cut;
               planned = planned;
-              first-made = step-repairs c n (b .sized) (b .header) free last j ∙ prepared-first c (memory n free last doing [] []) doing final (nextRepair c n key free last) s rest (q .free-then) (q .last-then) (q .cut) planned (first-storable (p .0 .plays) .inside);
+              first-made = step-repairs c n (b .sized) (b .header) free last j ∙ prepared-first c (memory n free last doing [] []) doing due (nextRepair c n key free last) s rest (q .free-then) (q .last-then) (q .cut) planned (first-storable (p .0 .plays) .inside);
             }
 
 -- one turn of a repair, where all that come after it are by the rules
-repair-next : (final : Answer) (most : ℕ) (w : World rationTable) (x : Nears final most w) → Begun (w .state .doing) → Turns (w .card) (x .covered .size) (x .covered .inv .tree) (w .state) (x .covered .due)
+repair-next : (final : Answer) (most : ℕ) (w : World rationTable) (x : Nears final most w) → Begun (w .state .doing) → Turns (w .card) (x .covered .size) (x .covered .inv .tree) (w .state) (x .covered .inv .due)
     → ((few : ℕ) (v : World rationTable) → few < most → Nears final few v → v .state .rest ≡ [] → Begun (v .state .doing) → Repairs rationTable (stepReply final) v) → Repairs rationTable (stepReply final) w
 unfolding replyTo
 repair-next final most w x k (exact, turn) later = at turn
@@ -242,9 +236,9 @@ repair-next final most w x k (exact, turn) later = at turn
     v = x .covered
 
     between : Between rationTable w (v .inv .tree)
-    between = record { sound = table-well-formed (v .inv .table); free-exact = subst (λ y. Exact y (w .state .free) (v .inv .tree)) (sym (nodes-same (v .size) (v .steps) (worldly w) (v .was-kept) (v .due) (v .inv))) exact }
+    between = record { sound = table-well-formed (v .inv .table); free-exact = subst (λ y. Exact y (w .state .free) (v .inv .tree)) (sym (nodes-same (v .size) (v .steps) w (x .book-now) (v .inv))) exact }
 
-    at : ((tableViolations (v .inv .tree) ≡ 0) × (stepOf (w .card) (w .state) .answer ≡ finalDue (v .due))) ⊎ RepairNext (w .card) (v .size) (w .state) → Repairs rationTable (stepReply final) w
+    at : ((tableViolations (v .inv .tree) ≡ 0) × (stepOf (w .card) (w .state) .answer ≡ v .inv .due)) ⊎ RepairNext (w .card) (v .size) (w .state) → Repairs rationTable (stepReply final) w
     at (inl (z, a)) = done (v .inv .tree) between z (ap stepReply (a ∙ x .is-due))
     at (inr q) =
         let r = repair-by-rule (w .card) (v .size) (q .key) (q .planned) in
@@ -264,24 +258,24 @@ repairs-by-rules final (suc bound) most w h x e k =
 -- ---- the first change of an update
 
 -- a final answer is one that the book counts as final
-final-counts : (a : Answer) → Final a → stepResult a ≡ was-final
-unfolding stepResult
-final-counts a (inl e) = rw e
-final-counts a (inr (inl (v, e))) = rw e
-final-counts a (inr (inr e)) = rw e
+final-counts : (a : Answer) → Final a → IsFinal a
+final-counts a (inl e) = rw e tt
+final-counts a (inr (inl (v, e))) = rw e tt
+final-counts a (inr (inr e)) = rw e tt
 
 -- The first step of an update: what is planned is by the rule, or there is nothing to change.
 module _ (final : Answer) (most : ℕ) (w : World rationTable) (x : Nears final most w) (busy : isIdle (w .state .doing) ≡ false) (Nothing : Type 0) (Rule : List ℕ → List ℕ → List Store → Type 0) where
   not-refused : (r : ℕ) → stepOf (w .card) (w .state) ≡ stepRefused r (w .card) (w .state) → ⊥
   unfolding stepRefused
-  not-refused r e = let v = x .covered in work-not-refused (v .size) (v .steps) (worldly w) (v .was-kept) (v .due) (v .inv) busy r (ap (λ y. y .answer) e)
+  not-refused r e = let v = x .covered in work-not-refused (v .size) (v .steps) w (x .book-now) (v .inv) busy r (ap (λ y. y .answer) e)
 
   ends-due : (a : Answer) → Final a → stepOf (w .card) (w .state) ≡ stepFinal a (w .card) (w .state) → a ≡ final
   unfolding stepFinal
   ends-due a f e =
       let v = x .covered in
-      let q = kept-step (v .size) (v .steps) (worldly w) (v .was-kept) (v .due) (loosen (v .size) (v .steps) (suc (v .steps)) (worldly w) (v .was-kept) (v .due) (omega arith) (v .inv)) in
-      right-final (subst (λ y. Right y (v .due)) (ap (λ y. y .answer) e) (q .1)) (final-counts a f) ∙ x .is-due
+      let i = loosen (v .size) (v .steps) (suc (v .steps)) w (x .book-now) (omega arith) (v .inv) in
+      let q = kept-step (v .size) (v .steps) w (x .book-now) i in
+      right-final (subst (λ y. Right y (i .due)) (ap (λ y. y .answer) e) (q .1)) (final-counts a f) ∙ loosen-due (v .size) (v .steps) (suc (v .steps)) w (x .book-now) (omega arith) (v .inv) ∙ x .is-due
 
   pub first-by-rules : (f : FirstChange) → stepOf (w .card) (w .state) ≡ stepBegin (w .card) (w .state) f → Final (f .final) → Storing (f .preparation) → (f .preparation ≡ balanced → f .final ≡ final → Nothing)
       → ((ss : List Store) (fewer : List Bool) (now : ℕ) (out : List ℕ) → f .preparation ≡ prepared ss fewer now out → ByRule Rule (w .state .free) (w .state .last) ss fewer now out × Begun (f .doing)) → Updates rationTable Nothing Rule (stepReply final) w
@@ -310,7 +304,7 @@ module _ (final : Answer) (most : ℕ) (w : World rationTable) (x : Nears final 
               repairs-by-rules final (suc (l .0)) (l .0) (run rationTable qs w) (omega arith) (l .2 .nears) (ap (λ (y : Memory). y .rest) (l .2 .is-left) ∙ advanced-none m) (subst Begun (sym (ap (λ (y : Memory). y .doing) (l .2 .is-left) ∙ advanced-same m)) (r .1)))
 
 -- where an update stands that has just been started
-pub put-turns : {c : List ℕ} {n : ℕ} {t goal : Tree} {steps : ℕ} {m : Memory} {h : Hand} {due : Option Answer} (key value : ℕ) → Table c n t → Stage c n t goal steps m h due → m .doing ≡ Inserting key value false
+pub put-turns : {c : List ℕ} {n : ℕ} {t goal : Tree} {steps : ℕ} {m : Memory} {h : Hand} {due : Answer} (key value : ℕ) → Table c n t → Stage c n t goal steps m h due → m .doing ≡ Inserting key value false
     → stepOf c m ≡ stepBegin c m (nextChange c n (m .free) (m .last) (Inserting key value false) (PutIn key value))
 put-turns key value b (stage-idle z r x g) e = impossible (cc)
 put-turns {c} {n} key value b (stage-put {free} {last} {key = k} {value = v} z r x low high room q g) e =
@@ -322,7 +316,7 @@ put-turns key value b (stage-first j p en count few hd) e = absurd (put-no-job k
 put-turns key value b (stage-between j en deep k x few hd) e = absurd (put-no-job key value j e)
 put-turns key value b (stage-within j en p q few hd) e = absurd (put-no-job key value j e)
 
-pub remove-turns : {c : List ℕ} {n : ℕ} {t goal : Tree} {steps : ℕ} {m : Memory} {h : Hand} {due : Option Answer} (key : ℕ) → Table c n t → Stage c n t goal steps m h due → m .doing ≡ Deleting key false 0
+pub remove-turns : {c : List ℕ} {n : ℕ} {t goal : Tree} {steps : ℕ} {m : Memory} {h : Hand} {due : Answer} (key : ℕ) → Table c n t → Stage c n t goal steps m h due → m .doing ≡ Deleting key false 0
     → stepOf c m ≡ stepBegin c m (nextChange c n (m .free) (m .last) (Deleting key false 0) (TakeOut key))
 remove-turns key b (stage-idle z r x g) e = impossible (cc)
 remove-turns key b (stage-put z r x low high room q g) e = impossible (cc)

@@ -19,7 +19,7 @@ use Rattle.promises.specs.Way.{nodesOn, leadsTo}
 use Rattle.demands.specs.Refusals.{ByRows, NoCard, Unsound, Scarce, findRows, formatRows, openRows, end, row}
 use Rattle.promises.specs.RationTable.{workOf, handed, rationTable}
 use Rattle.demands.proofs.FirstRows.{sized?, no-nodes, by-card, card-one}
-use Rattle.demands.proofs.WayDown.{arrived, reachedLeaf, leaf-way}
+use Rattle.promises.proofs.WayDown.{arrived, reachedLeaf, leaf-way}
 use Rattle.descent.specs.Descent.{firstEqual, slotOf, way, leafOf}
 use Rattle.descent.specs.declared.Reached.{Reached}
 use Rattle.descent.specs.declared.Reached.the-variants.{Refused as NotReached, Leaf as ReachedLeaf}

@@ -14,9 +14,9 @@ use Rattle.card.specs.Replies.{Reply, long}
 use Rattle.demands.specs.Dumps.{wordOf, byteOf, PaddedLength, nodesIn, wordsIn, Damaged, empty, no-multiple, too-long, bad-nodes, other-length, not-zero, readRows, writeRows, Refuses, Reads, Writes, Dumps}
 use Rattle.promises.specs.Way.{nodesOn}
 use Rattle.demands.specs.Refusals.{ByRows, end, row}
-use Rattle.demands.proofs.AnswerNumbers.{card-small}
+use Rattle.promises.proofs.AnswerNumbers.{card-small}
 use Rattle.demands.proofs.FirstRows.{by-card, card-one}
-use Rattle.demands.proofs.ReplyLaws.{code-of}
+use Rattle.promises.proofs.ReplyLaws.{code-of}
 use Rattle.demands.proofs.Work.{true-false}
 use Rattle.dump.proofs.AnswerLaws.{greatest-dump, padded-most, damaged-empty, damaged-odd, damaged-long, damaged-few, damaged-many, damaged-length, damaged-padding, whole-undamaged, room-short, room-long, read-damaged, read-whole, read-words, read-refused, write-refuses, write-good, write-sized, write-bytes, write-refused}
 use Rattle.dump.proofs.ByteLaws.{length-dumpWords, get-dumpWords, length-cardBytes}

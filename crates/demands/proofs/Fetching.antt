@@ -12,8 +12,8 @@ use Rattle.demands.specs.Refusals.{ByRows, findRows}
 use Rattle.demands.specs.W213.{recordRows, NoRecord, IsRecord, AtOffset, ByFind, W213}
 use Rattle.promises.specs.RationTable.{rationTable}
 use Rattle.demands.proofs.CardRows.{finds, reads-finds}
-use Rattle.demands.proofs.AnswerNumbers.{find-small}
-use Rattle.demands.proofs.ReplyLaws.{code-of, found-refused, found-absent, found-value}
+use Rattle.promises.proofs.AnswerNumbers.{find-small}
+use Rattle.promises.proofs.ReplyLaws.{code-of, found-refused, found-absent, found-value}
 use Rattle.demands.proofs.RowLaws.{Numbers, rows-elim, rows-map}
 use Rattle.card.specs.Replies.{Reply, refusal, holds, absent, fetched}
 use Rattle.laws.proofs.Cases.{order}

@@ -9,6 +9,7 @@ use lib.ListN.{length, getD}
 use borrow.Author.Tests.{eq-eqb}
 use Rattle.card.specs.Header.{nodesOfLength, headerRefusal, cardRefusal, Sized, Formatted}
 use Rattle.card.proofs.HeaderLaws.{nodes-sized, sized-nodes, header-formatted, formatted-header, wrong-word0}
+use Rattle.promises.proofs.WayDown.{sized-on}
 use Rattle.promises.specs.Way.{nodesOn}
 use Rattle.demands.specs.Refusals.{Rows, ByRows, NoCard, NoMark, BadHeader, cardRows}
 use Rattle.promises.proofs.OpenRefusals.{header-three}
@@ -20,9 +21,6 @@ sized? len n = go (ℕ-discrete (nodesOfLength len) n) (ℕ-discrete n 0)
     go d (yes z) = no (λ s. omega (arith, s .least))
     go (no d) (no z) = no (λ s. d (sized-nodes len n s))
     go (yes e) (no z) = yes (subst (λ x. Sized len x) e (nodes-sized len (λ q. z (sym e ∙ q))))
-
-pub sized-on : (c : List ℕ) (n : ℕ) → Sized (length c) n → nodesOn c ≡ n
-sized-on c n s = omega (arith, s .words)
 
 -- no N fits the length
 pub no-nodes : (c : List ℕ) → NoCard c (nodesOn c) → nodesOfLength (length c) ≡ 0

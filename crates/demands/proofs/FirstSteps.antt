@@ -17,14 +17,14 @@ use Rattle.promises.specs.Way.{leadsTo, among}
 use Rattle.demands.specs.Refusals.{ByRows, cardRows, end, row}
 use Rattle.demands.specs.Rules.{Given}
 use Rattle.promises.specs.RationTable.{workOf, stepped, rationTable}
-use Rattle.demands.proofs.AnswerNumbers.{start-small}
+use Rattle.promises.proofs.AnswerNumbers.{start-small}
 use Rattle.demands.proofs.CardRows.{none-some, finds, formats, opens}
-use Rattle.demands.proofs.FirstRows.{sized-on, by-card}
+use Rattle.demands.proofs.FirstRows.{by-card}
 use Rattle.demands.proofs.PlannedNumbers.{numbers-by-rule, numbers-counted, given-taken, three-of}
-use Rattle.demands.proofs.ReplyLaws.{begun-started}
+use Rattle.promises.proofs.ReplyLaws.{begun-started}
 use Rattle.demands.proofs.StartRows.{one-leaf, started-doing, inserts, deletes}
 use Rattle.demands.proofs.StepRows.{refused-same, final-idle, advanced-nodes, advanced-doing, store-inside, store-outside, step-one, step-sized, formatting-rows, held-rows, in-hand-rows, none-refused}
-use Rattle.demands.proofs.WayDown.{landed, slotFound, slot-among, leads-is}
+use Rattle.promises.proofs.WayDown.{landed, slotFound, slot-among, leads-is, sized-on}
 use Rattle.descent.specs.Descent.{slotOf}
 use Rattle.descent.specs.declared.Landing.{Landing}
 use Rattle.descent.specs.declared.Landing.the-variants.{Refused as NoLanding, Leaf as LandingAt}

@@ -15,7 +15,7 @@ use Rattle.demands.specs.Demand2.{StoresNow, freshWord, formatStore, for
 use Rattle.promises.specs.Events.{Event, World, replyTo, happens, run, LeftUncut, stepsIn, find, insert, delete, step, cut}
 use Rattle.promises.specs.Way.{nodesOn}
 use Rattle.promises.specs.RationTable.{rationTable}
-use Rattle.demands.proofs.Making.{find-same, same-insert, same-delete}
+use Rattle.promises.proofs.PowerLoss.{find-same, insert-same, delete-same}
 use Rattle.demands.proofs.FirstRows.{sized?, no-nodes}
 use Rattle.formatting_theory.proofs.FormatSteps.{formatMemory, format-starts, format-refused, format-step-stores, format-step-ready}
 use Rattle.formatting_theory.proofs.FormatCard.{formatCard, format-next}
@@ -57,8 +57,8 @@ module _ (c : List ℕ) (s : Sized (length c) (nodesOn c)) where
   unfolding LeftUncut run
   run-after [] made u h = ap after (omega arith)
   run-after (find key ∷ qs) made u h = rw (find-same key (after made)) (run-after qs made (rw (find-same key (after made)) at (u .1)) h)
-  run-after (insert key value ∷ qs) made u h = let e = same-insert key value (after made) (u .0) in rw e (run-after qs made (rw e at (u .1)) h)
-  run-after (delete key ∷ qs) made u h = let e = same-delete key (after made) (u .0) in rw e (run-after qs made (rw e at (u .1)) h)
+  run-after (insert key value ∷ qs) made u h = let e = insert-same key value (after made) (u .0) in rw e (run-after qs made (rw e at (u .1)) h)
+  run-after (delete key ∷ qs) made u h = let e = delete-same key (after made) (u .0) in rw e (run-after qs made (rw e at (u .1)) h)
   run-after (step ∷ qs) made u h = let e = one-more made (omega arith) in rw e (run-after qs (suc made) (rw e at (u .1)) (omega arith) ∙ ap after (omega arith))
   run-after (cut ∷ qs) made u h = absurd (u .0)
 

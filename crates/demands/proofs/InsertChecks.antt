@@ -11,7 +11,7 @@ use lib.ListN.{length, drop, replicate, length-take}
 use borrow.Author.Tests.{ne-eqb}
 use Rattle.demands.specs.Demand1.{OpensTo}
 use Rattle.demands.specs.Demand3.{mostRepairSteps, Survives}
-use Rattle.promises.specs.Events.{World, opened, happens, run, Words, LeftUncut, Opens, Begins, step, from-open}
+use Rattle.promises.specs.Events.{World, opened, replyTo, happens, run, Opens, Begins, step, from-open}
 use Rattle.promises.specs.Book.{kept}
 use Rattle.promises.specs.RationTable.{handed, rationTable}
 use Rattle.promises.specs.Way.{nodesOn, leadsTo, among}
@@ -21,14 +21,12 @@ use Rattle.demands.proofs.ListRight.{repaired-world}
 use Rattle.demands.specs.W209.{SplitBelow, TellsHeld, LeadsAbsent, TellsSlot, TellsSplit, Told, OfCard, W209}
 use Rattle.demands.specs.Worked.{dictionary}
 use Rattle.demands.proofs.CardRows.{opens}
-use Rattle.demands.proofs.PowerCuts.{accepted, covered-nodes, always, demand-3}
-use Rattle.demands.proofs.ReplyLaws.{begun-refused}
+use Rattle.demands.proofs.PowerCuts.{covered-nodes, always, demand-3}
+use Rattle.promises.proofs.ReplyLaws.{begun-refused}
 use Rattle.demands.specs.Dumps.{Damaged}
 use Rattle.demands.proofs.DumpsRight.{damaged-exactly}
 use Rattle.demands.proofs.RowLaws.{rows-map}
-use Rattle.demands.proofs.SameBook.{worldly}
-use Rattle.demands.proofs.StartRows.{slot-is}
-use Rattle.demands.proofs.WayDown.{landed, leads-is, slotFound}
+use Rattle.promises.proofs.WayDown.{landed, leads-is, slotFound, slot-is}
 use Rattle.demands.proofs.Work.{true-false}
 use Rattle.card.specs.Layout.{nodeAt, keyWords, valueWords, slotPairs, leafPairs, keyLimit}
 use Rattle.card.specs.Replies.{refusal}
@@ -46,12 +44,11 @@ use Rattle.key_file.proofs.KeyFileLaws.{key-below}
 use Rattle.key_file.specs.KeyFile.{keyIn}
 use Rattle.laws.proofs.Cases.{bool-cases}
 use Rattle.opening.specs.Opening.{openOf}
-use Rattle.promises.proofs.Machine.{World as Worldly, happens as was-happens}
 use Rattle.promises.proofs.PowerLoss.{insert-same}
 use Rattle.promises.proofs.Room.{LeadsTo}
 use Rattle.reason_printing.specs.ReasonText.{splitLine, reasonText, checkText}
 use Rattle.repairing.specs.Repairing.{cardRoom, openedCard}
-use Rattle.repairing_theory.proofs.Repair.{worldFrom}
+use Rattle.repairing_theory.proofs.Repair.{worldFrom, all-words, steps-uncut}
 use Rattle.starting.specs.Starts.{startRefused, insertOf}
 use Rattle.state.specs.Answers.{startReply}
 use Rattle.state.specs.Memory.{Memory}
@@ -83,18 +80,9 @@ unfolding leafPairs keyWords
 no-empty-slot leaf eleven =
     bool-cases (among 0 (keyWords leaf)) (λ q. absurd (omega (arith, eleven, pairs-fewer (keyWords leaf) (valueWords leaf) q, length-take 11 (drop 1 leaf)))) (λ q. q)
 
-steps-uncut : (k : ℕ) (w : World rationTable) → LeftUncut rationTable (replicate k step) w
-unfolding LeftUncut
-steps-uncut zero w = tt
-steps-uncut (suc k) w = (tt, steps-uncut k (happens rationTable step w))
-
-steps-words : (k : ℕ) → Words (replicate k step)
-steps-words zero = tt
-steps-words (suc k) = steps-words k
-
 -- an insert is refused with 8, by its reply
 refused-eight : (c : List ℕ) (m : Memory) (key value : ℕ) → (startReply (insertOf c m key value .begun) ≡ refusal 8) ↔ (insertOf c m key value ≡ startRefused 8 m)
-unfolding startRefused startReply was-happens
+unfolding startRefused startReply happens replyTo
 refused-eight c m key value = (to, λ e. ap (λ (h : Handed). startReply (h .begun)) e)
   where
     whole : (h : Handed) → h .begun ≡ BegunRefused 8 → h .memory ≡ m → h ≡ record { begun = BegunRefused 8; memory = m }
@@ -103,20 +91,20 @@ refused-eight c m key value = (to, λ e. ap (λ (h : Handed). startReply (h .beg
     to : startReply (insertOf c m key value .begun) ≡ refusal 8 → insertOf c m key value ≡ record { begun = BegunRefused 8; memory = m }
     to e =
         let b = begun-refused (insertOf c m key value .begun) 8 (omega arith) e in
-        whole (insertOf c m key value) b (ap (λ (w : Worldly). w .memory) (insert-same key value (record { card = c; memory = m }) 8 b))
+        whole (insertOf c m key value) b (ap (λ (w : World rationTable). w .state) (insert-same key value (record { card = c; state = m }) (rw b (omega arith))))
 
 -- what a reason says of the leaf, of any card and state
-abbrev SlotAt : ℕ → Worldly → Type 0
+abbrev SlotAt : ℕ → World rationTable → Type 0
 SlotAt key w = (leaf : ℕ) × (j : ℕ) × (i : ℕ) × LeadsTo w key leaf j × (slotOf (nodeAt (w .card) leaf) 0 ≡ At i)
 
-abbrev FullAt : ℕ → ℕ → Worldly → Type 0
+abbrev FullAt : ℕ → ℕ → World rationTable → Type 0
 FullAt key j w = (leaf : ℕ) × LeadsTo w key leaf j × (length (leafPairs (nodeAt (w .card) leaf)) ≡ 11)
 
 module _ (c : List ℕ) where
   abbrev after : World rationTable
   after = repairedWorld rationTable c
 
-  is-after : worldFrom (openedCard c) ≡ worldly after
+  is-after : worldFrom (openedCard c) ≡ after
   is-after = sym (repaired-world c)
 
   module _ (t : Tree) (well : WellFormed c t) (opening : Opens rationTable c) where
@@ -126,13 +114,13 @@ module _ (c : List ℕ) where
     nodes-after : nodesOn (after .card) ≡ after .state .nodes
     unfolding repairedWorld
     nodes-after =
-        always (λ w b. nodesOn (w .card) ≡ w .state .nodes) (λ w b v. covered-nodes v) (opened rationTable c) (pairs t) begins (replicate mostRepairSteps step) (steps-words mostRepairSteps)
+        always (λ w b. nodesOn (w .card) ≡ w .state .nodes) (λ w b v. covered-nodes v) (opened rationTable c) (pairs t) begins (replicate mostRepairSteps step) (all-words mostRepairSteps)
 
     survives : Survives rationTable c (pairs t)
     unfolding run kept
     survives = demand-3 (opened rationTable c) (pairs t) begins [] tt
 
-    leads-after : (key leaf j : ℕ) → LeadsTo (worldly after) key leaf j → leadsTo (after .card) key ≡ some (leaf, j)
+    leads-after : (key leaf j : ℕ) → LeadsTo after key leaf j → leadsTo (after .card) key ≡ some (leaf, j)
     unfolding landed
     leads-after key leaf j l = sym (leads-is (after .card) (after .state .nodes) key nodes-after) ∙ ap landed (l .1)
 
@@ -141,7 +129,7 @@ module _ (c : List ℕ) where
       unfolding repairedWorld
       found-after o e = survives .finds (replicate mostRepairSteps step) (steps-uncut mostRepairSteps (opened rationTable c)) key low high ∙ ap dictionary e
 
-      absent-at : (leaf j : ℕ) → lookup key (pairs t) ≡ none → LeadsTo (worldly after) key leaf j → LeadsAbsent rationTable after key out leaf j
+      absent-at : (leaf j : ℕ) → lookup key (pairs t) ≡ none → LeadsTo after key leaf j → LeadsAbsent rationTable after key out leaf j
       unfolding dictionary
       absent-at leaf j e l = record { not-held = found-after none e; leads = leads-after key leaf j l }
 
@@ -156,7 +144,7 @@ module _ (c : List ℕ) where
           inr (inl (record { leaf = leaf; j = j; place = absent-at leaf j (h .0) to; empty = sym (slot-is (nodeAt (after .card) leaf) 0 (At i) s); printed = e }))
       tells (Split j free need) e h =
           let (leaf, to, eleven) = subst (FullAt key j) is-after (h .1) in
-          let are-free : free ≡ countTrue (after .state .free) = sym (h .2) ∙ ap (λ (x : Worldly). countTrue (x .memory .free)) is-after in
+          let are-free : free ≡ countTrue (after .state .free) = sym (h .2) ∙ ap (λ (x : World rationTable). countTrue (x .state .free)) is-after in
           inr (inr (record {
             leaf = leaf;
             j = j;
@@ -186,8 +174,8 @@ module _ (dump file : List ℕ) where
 
         text : (keyIn file ≡ 0 → ⊥) → (value : ℕ) → (insertOf (after card .card) (after card .state) (keyIn file) value ≡ startRefused 8 (after card .state)) ↔ SplitBelow (checkText dump file)
         text d value =
-            subst (λ (x : Worldly). (insertOf (x .card) (x .memory) (keyIn file) value ≡ startRefused 8 (x .memory)) ↔ SplitBelow (checkText dump file)) (is-after card)
-            (text-refused dump file size read (o .table) (accepted card opening) (o .sound) d value)
+            subst (λ (x : World rationTable). (insertOf (x .card) (x .state) (keyIn file) value ≡ startRefused 8 (x .state)) ↔ SplitBelow (checkText dump file)) (is-after card)
+            (text-refused dump file size read (o .table) opening (o .sound) d value)
 
         exactly : (keyIn file ≡ 0 → ⊥) → (value : ℕ) → (startReply (insertOf (after card .card) (after card .state) (keyIn file) value .begun) ≡ refusal 8) ↔ SplitBelow (checkText dump file)
         exactly d value =
@@ -195,9 +183,9 @@ module _ (dump file : List ℕ) where
             (λ e. text d value .0 (reply .0 e), λ p. reply .1 (text d value .1 p))
 
         go : Dec (keyIn file ≡ 0) → Told rationTable (repairedWorld rationTable card) (keyIn file) (checkText dump file)
-        go (yes z) = inl (z, no-key-text dump file size read (o .table) (accepted card opening) (o .sound) z)
+        go (yes z) = inl (z, no-key-text dump file size read (o .table) opening (o .sound) z)
         go (no d) =
-            let (r, is, holding) = text-holds dump file size read (o .table) (accepted card opening) (o .sound) d in
+            let (r, is, holding) = text-holds dump file size read (o .table) opening (o .sound) d in
             inr (
               d,
               record {

@@ -1,18 +1,12 @@
 -- The ration table meets the demands.
 -- the work that a state tells
 pub mod Work
--- the way down, and the rows 1, 2 and 3
-pub mod WayDown
+-- the rows 1, 2 and 3
 pub mod FirstRows
 -- DEMAND 1: find, formatting, opening; the starts; the steps
 pub mod CardRows
 pub mod StartRows
 pub mod StepRows
--- refusals are numbered below 64, so that the number of a reply tells which answer it is
-pub mod AnswerNumbers
-pub mod ReplyLaws
--- events and book are those of `promises`
-pub mod SameBook
 -- DEMAND 3, `demand-3`, and what holds of every table that a list leaves
 pub mod PowerCuts
 -- what the calls plan is by the rules, on any card: the nodes given, where nodes stand, repairs, first changes

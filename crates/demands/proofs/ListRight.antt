@@ -1,27 +1,24 @@
 -- The program `list`, of the ration table.
-use mathlib.Core.Path.{_≡_, refl, ap, sym, _∙_}
+use mathlib.Core.Path.{_≡_, ap, sym, _∙_}
 use mathlib.Core.Bool.{false}
 use mathlib.Core.List.{List}
 use mathlib.Core.Logic.{⊎-map, inl, inr}
-use Prim.Native.Nat.{ℕ, zero, suc, _^_, _<_}
+use Prim.Native.Nat.{ℕ, _^_, _<_}
 use native.Mathlib.Omega.{arith}
-use lib.ListN.{length, getD, replicate}
+use lib.ListN.{length, getD}
+use Rattle.promises.proofs.WayDown.{sized-on}
 use Rattle.demands.specs.Demand1.{OpensTo}
-use Rattle.demands.specs.Demand3.{mostRepairSteps}
-use Rattle.promises.specs.Events.{World, opened, happens, run, step}
+use Rattle.promises.specs.Events.{World, Opens}
 use Rattle.demands.specs.List.{repairedWorld, ListsRight, ListProgram}
 use Rattle.promises.specs.Way.{nodesOn}
 use Rattle.demands.specs.Refusals.{ByRows, openRows, end, row}
-use Rattle.demands.proofs.SameBook.{worldly, same-world}
 use Rattle.promises.specs.RationTable.{handed, rationTable}
 use Rattle.demands.proofs.CardRows.{opens}
-use Rattle.demands.proofs.ReplyLaws.{begun-refused}
+use Rattle.promises.proofs.ReplyLaws.{begun-refused}
 use Rattle.demands.proofs.Work.{true-false}
-use Rattle.demands.proofs.PowerCuts.{accepted}
 use Rattle.demands.specs.Dumps.{Damaged}
 use Rattle.demands.proofs.DumpsRight.{damaged-exactly}
 use Rattle.demands.proofs.RowLaws.{rows-map}
-use Rattle.demands.proofs.FirstRows.{sized-on}
 use Rattle.card.proofs.HeaderLaws.{sized-nodes}
 use Rattle.card.specs.Header.{nodesOfLength, Sized, Formatted}
 use Rattle.card.specs.Replies.{refusal}
@@ -36,32 +33,25 @@ use Rattle.opening.specs.Opening.{openOf}
 use Rattle.printing.specs.Text.{listText, dumpText}
 use Rattle.printing_theory.proofs.Printed.{text-right}
 use Rattle.promises.proofs.Accepting.{accepted-card}
-use Rattle.promises.proofs.Machine.{World as Worldly, run as was-run}
-use Rattle.promises.proofs.Promise.{Accepted}
 use Rattle.repairing.specs.Repairing.{cardRoom, openedCard}
-use Rattle.repairing_theory.proofs.Repair.{worldFrom, steps, opened-run}
+use Rattle.repairing_theory.proofs.Repair.{worldFrom, opened-run}
 use Rattle.shapes.proofs.Unique.{one-held}
 use Rattle.tree.specs.Tree.{Tree}
 use Rattle.tree.specs.WellFormed.{WellFormed}
 
 -- ---- the repaired card
 
-run-steps : (k : ℕ) (w : World rationTable) → worldly (run rationTable (replicate k step) w) ≡ was-run (steps k) (worldly w)
-unfolding run was-run
-run-steps zero w = refl
-run-steps (suc k) w = run-steps k (happens rationTable step w) ∙ ap (was-run (steps k)) (same-world step w)
-
-pub repaired-world : (c : List ℕ) → worldly (repairedWorld rationTable c) ≡ worldFrom (openedCard c)
+pub repaired-world : (c : List ℕ) → repairedWorld rationTable c ≡ worldFrom (openedCard c)
 unfolding repairedWorld
-repaired-world c = run-steps mostRepairSteps (opened rationTable c) ∙ sym (opened-run c)
+repaired-world c = sym (opened-run c)
 
 repaired-is : (c : List ℕ) → repairedWorld rationTable c .card ≡ openedCard c .card
-repaired-is c = ap (λ (x : Worldly). x .card) (repaired-world c)
+repaired-is c = ap (λ (x : World rationTable). x .card) (repaired-world c)
 
 -- ---- cards
 
 module _ (c : List ℕ) where
-  lists-right : Accepted c → (t : Tree) → WellFormed c t → (x : ListedRight c t) → ListsRight rationTable c (x .listing)
+  lists-right : Opens rationTable c → (t : Tree) → WellFormed c t → (x : ListedRight c t) → ListsRight rationTable c (x .listing)
   lists-right a t w x =
       let n = sym (sized-on c (nodesOfLength (length c)) (accepted-card c a .1)) in
       record {
@@ -84,7 +74,7 @@ module _ (c : List ℕ) where
       works (opens c)
     where
       works : OpensTo rationTable c (handed (openOf c)) → (l : Listing) × (listCard c ≡ listed l) × ListsRight rationTable c l
-      works o = let a = accepted c (⊎-map (λ z. z .1) (λ z. z .1) (o .hands)) in let x = listing-right c (o .table) (o .sound) a in (x .listing, x .is-listed, lists-right a (o .table) (o .sound) x)
+      works o = let a = ⊎-map (λ z. z .1) (λ z. z .1) (o .hands) in let x = listing-right c (o .table) (o .sound) a in (x .listing, x .is-listed, lists-right a (o .table) (o .sound) x)
 
 -- ---- dumps
 

@@ -2,26 +2,20 @@
 use mathlib.Core.Path.{_≡_, refl, ap, sym, subst, _∙_}
 use mathlib.Core.List.{List, [], _∷_}
 use mathlib.Core.Logic.{_⊎_, inl, inr}
-use mathlib.Core.Option.{Option}
 use Prim.Native.Nat.{ℕ, zero, suc, _+_, _≤_, _<_}
 use native.Mathlib.Omega.{arith}
 use lib.ListN.{length, set, drop}
 use Rattle.card.specs.Stores.{Store}
-use Rattle.promises.specs.Table.{Refused}
 use Rattle.promises.specs.Events.{Event, World, replyTo, happens, run, LeftUncut, stepsIn, find, insert, delete, step, cut}
-use Rattle.promises.specs.Book.{Book, feed, told}
+use Rattle.promises.specs.Book.{Hand, Book, feed, told}
 use Rattle.demands.specs.Demand2.{storeAt, StoresNow}
-use Rattle.demands.proofs.SameBook.{worldly, same-world, fed-same}
 use Rattle.promises.specs.RationTable.{rationTable}
-use Rattle.demands.proofs.PowerCuts.{Covered, covered-nodes, refused-insert-same, refused-delete-same}
+use Rattle.demands.proofs.PowerCuts.{Covered}
 use Rattle.demands.proofs.StepRows.{advanced-rest}
-use Rattle.promises.proofs.Feeding.{fed, dueAfter, stored-due}
 use Rattle.promises.proofs.Invariant.{Stage, Table, stage-idle, stage-put, stage-remove, stage-first, stage-between, stage-within}
 use Rattle.promises.proofs.Kept.{first-storable}
-use Rattle.promises.proofs.Ledger.{Hand, feed as was-feed}
-use Rattle.promises.proofs.Machine.{World as Worldly, step as was-step}
-use Rattle.promises.proofs.PowerLoss.{loosen, at-rest}
-use Rattle.promises.proofs.Stepping.{finalDue, kept-step}
+use Rattle.promises.proofs.PowerLoss.{loosen, loosen-due, at-rest, find-same, insert-same, delete-same}
+use Rattle.promises.proofs.Stepping.{kept-step}
 use Rattle.promises.proofs.Steps.{job-busy, step-stores, idle-refused}
 use Rattle.state.specs.Answers.{stepReply}
 use Rattle.state.specs.Memory.{Memory, advanced}
@@ -38,7 +32,7 @@ pub record Nears (final : Answer) (most : ℕ) (w : World rationTable) : Type 0 
   pub book-now : Book
   pub covered : Covered w book-now
   pub soon : covered .steps ≤ most
-  pub is-due : finalDue (covered .due) ≡ final
+  pub is-due : covered .inv .due ≡ final
 
 -- a store brings it one step nearer
 pub nearer : (final : Answer) (most : ℕ) (w : World rationTable) → Nears final most w → stepOf (w .card) (w .state) .answer ≡ Stored → (few : ℕ) × (most ≡ suc few) × Nears final few (happens rationTable step w)
@@ -49,29 +43,20 @@ nearer final zero w x e = absurd (never (idle-refused (w .card) (w .state) reste
     v = x .covered
 
     rested : w .state .doing ≡ Idle
-    rested = at-rest (v .size) (v .steps) (worldly w) (v .was-kept) (v .due) (omega (arith, x .soon)) (v .inv) .0
+    rested = at-rest (v .size) (v .steps) w (x .book-now) (omega (arith, x .soon)) (v .inv) .0
 
     never : ((r : ℕ) × (stepOf (w .card) (w .state) ≡ stepRefused r (w .card) (w .state))) → ⊥
     never (r, q) = let y : _≡_ {A = Answer} (WasRefused r) Stored = sym (ap (λ z. z .answer) q) ∙ e in impossible (cc)
 nearer final (suc few) w x e =
     let v = x .covered in
-    let q = kept-step (v .size) few (worldly w) (v .was-kept) (v .due) (loosen (v .size) (v .steps) (suc few) (worldly w) (v .was-kept) (v .due) (x .soon) (v .inv)) in
-    let f = fed-same step w (v .was-kept) (covered-nodes v) (v .flagged) in (
+    let q = kept-step (v .size) few w (x .book-now) (loosen (v .size) (v .steps) (suc few) w (x .book-now) (x .soon) (v .inv)) in (
       few,
       refl,
       record {
         book-now = feed (told rationTable step w) (x .book-now);
-        covered = record {
-          size = v .size;
-          steps = few;
-          was-kept = was-feed (fed was-step (worldly w)) (v .was-kept);
-          due = dueAfter was-step (worldly w) (v .was-kept) (v .due);
-          inv = rw (same-world step w) (q .0 .0);
-          same-book = ap (feed (told rationTable step w)) (v .same-book) ∙ f .0;
-          flagged = f .1;
-        };
+        covered = record { size = v .size; steps = few; inv = q .0 .0 };
         soon = omega arith;
-        is-due = ap finalDue (stored-due (worldly w) (v .was-kept) (v .due) e) ∙ x .is-due;
+        is-due = q .0 .2 ∙ loosen-due (v .size) (v .steps) (suc few) w (x .book-now) (x .soon) (v .inv) ∙ x .is-due;
       },
     )
 
@@ -81,7 +66,7 @@ nearer final (suc few) w x e =
 abbrev Storing : List ℕ → Memory → Type 0
 Storing c m = (s : Store) × (rest : List Store) × (m .rest ≡ s ∷ rest) × (stepOf c m ≡ record { answer = Stored; card = set c (s .0) (s .1); memory = advanced m rest })
 
-stage-storing : {c : List ℕ} {n : ℕ} {t goal : Tree} {steps : ℕ} {m : Memory} {h : Hand} {due : Option Answer} → Table c n t → Stage c n t goal steps m h due → (m .rest ≡ []) ⊎ Storing c m
+stage-storing : {c : List ℕ} {n : ℕ} {t goal : Tree} {steps : ℕ} {m : Memory} {h : Hand} {due : Answer} → Table c n t → Stage c n t goal steps m h due → (m .rest ≡ []) ⊎ Storing c m
 stage-storing b (stage-idle z r x g) = inl refl
 stage-storing b (stage-put z r x low high room q g) = inl refl
 stage-storing b (stage-remove z r x low high q g) = inl refl
@@ -112,22 +97,6 @@ makes-next w b v m s rest e = at (stage-storing (v .inv .table) (v .inv .stage))
 
 -- ---- all stores that are left, with finds and refused calls between
 
--- a find and a refused start leave the same world
-pub find-same : (key : ℕ) (w : World rationTable) → happens rationTable (find key) w ≡ w
-unfolding happens
-find-same key w = refl
-
-world-of : Worldly → World rationTable
-world-of x = record { card = x .card; state = x .memory }
-
-pub same-insert : (key value : ℕ) (w : World rationTable) → Refused (replyTo rationTable (insert key value) w) → happens rationTable (insert key value) w ≡ w
-unfolding world-of
-same-insert key value w h = ap world-of (refused-insert-same key value w h)
-
-pub same-delete : (key : ℕ) (w : World rationTable) → Refused (replyTo rationTable (delete key) w) → happens rationTable (delete key) w ≡ w
-unfolding world-of
-same-delete key w h = ap world-of (refused-delete-same key w h)
-
 -- the plan m, of which the stores ss are still to come
 module _ (final : Answer) (m : Memory) where
   pub record Left (most : ℕ) (ss : List Store) (w : World rationTable) : Type 0 where
@@ -149,8 +118,8 @@ module _ (final : Answer) (m : Memory) where
   unfolding LeftUncut run
   run-left most ss w x [] u h = (most, omega arith, x)
   run-left most ss w x (find key ∷ qs) u h = rw (find-same key w) (run-left most ss w x qs (rw (find-same key w) at (u .1)) h)
-  run-left most ss w x (insert key value ∷ qs) u h = let e = same-insert key value w (u .0) in rw e (run-left most ss w x qs (rw e at (u .1)) h)
-  run-left most ss w x (delete key ∷ qs) u h = let e = same-delete key w (u .0) in rw e (run-left most ss w x qs (rw e at (u .1)) h)
+  run-left most ss w x (insert key value ∷ qs) u h = let e = insert-same key value w (u .0) in rw e (run-left most ss w x qs (rw e at (u .1)) h)
+  run-left most ss w x (delete key ∷ qs) u h = let e = delete-same key w (u .0) in rw e (run-left most ss w x qs (rw e at (u .1)) h)
   run-left most [] w x (step ∷ qs) u h = absurd (omega arith)
   run-left most (s ∷ rest) w x (step ∷ qs) u h =
       let q = one-less s rest x in

@@ -107,10 +107,10 @@ cards c =
 
 module _ (w : World rationTable) (b : Book) (v : Covered w b) where
   same-pairs : (key : ℕ) → lookup key (pairs (v .inv .tree)) ≡ lookup key (b .held)
-  same-pairs key = map-is (v .inv) .alike key ∙ ap (λ (x : Book). lookup key (x .held)) (sym (v .same-book))
+  same-pairs key = map-is (v .inv) .alike key
 
   as-many-pairs : length (pairs (v .inv .tree)) ≡ length (b .held)
-  as-many-pairs = map-is (v .inv) .as-many ∙ ap (λ (x : Book). length (x .held)) (sym (v .same-book))
+  as-many-pairs = map-is (v .inv) .as-many
 
   accepted : cardRefusal (w .card) ≡ 0
   accepted = card-accepted (v .inv .table .sized) (v .inv .table .header) .0

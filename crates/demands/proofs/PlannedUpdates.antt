@@ -24,7 +24,7 @@ use Rattle.promises.specs.Way.{nodesOn, leadsTo, among}
 use Rattle.demands.specs.Rules.{InsertRule, in-slot, leaf-split, DeleteRule, key-cleared}
 use Rattle.demands.proofs.PlannedNumbers.{ByRule, not-refused, not-balanced, giving-three, none-taken}
 use Rattle.demands.proofs.Standing.{picked, landing-linked}
-use Rattle.demands.proofs.WayDown.{landed, leads-is, slotFound, slot-among}
+use Rattle.promises.proofs.WayDown.{landed, leads-is, slotFound, slot-among}
 use Rattle.laws.proofs.Cases.{impossible}
 
 -- ---- the slots of a leaf

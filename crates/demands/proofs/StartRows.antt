@@ -21,8 +21,8 @@ use Rattle.demands.specs.Refusals.{Rows, ByRows, Busy, NoCard, NoRoom, s
 use Rattle.promises.specs.RationTable.{workOf, handed, rationTable}
 use Rattle.demands.proofs.Work.{true-false, idle-work, busy-work}
 use Rattle.demands.proofs.CardRows.{none-some}
-use Rattle.demands.proofs.FirstRows.{sized-on, by-card}
-use Rattle.demands.proofs.WayDown.{landed, leads-is, slotFound, slot-among}
+use Rattle.demands.proofs.FirstRows.{by-card}
+use Rattle.promises.proofs.WayDown.{landed, leads-is, slotFound, sized-on, slot-is}
 use Rattle.descent.specs.Descent.{slotOf}
 use Rattle.descent.specs.declared.Landing.{Landing}
 use Rattle.descent.specs.declared.Landing.the-variants.{Refused as NoLanding, Leaf as LandingAt}
@@ -136,10 +136,6 @@ at-run (some l) = l .1
 pub one-leaf : (c : List ℕ) (key leaf j leaf′ j′ : ℕ) → leadsTo c key ≡ some (leaf, j) → leadsTo c key ≡ some (leaf′, j′) → (leaf ≡ leaf′) × (j ≡ j′)
 unfolding at-leaf at-run
 one-leaf c key leaf j leaf′ j′ e f = (ap at-leaf (sym e ∙ f), ap at-run (sym e ∙ f))
-
-pub slot-is : (words : List ℕ) (x : ℕ) (s : Slot) → slotOf words x ≡ s → slotFound s ≡ among x (keyWords words)
-unfolding slotOf
-slot-is words x s e = ap slotFound (sym e) ∙ slot-among (keyWords words) x 0
 
 -- an insert has no room exactly by row 8
 pub room-row : (c : List ℕ) (free : List Bool) (key leaf link j : ℕ) → leadsTo c key ≡ some (leaf, j)

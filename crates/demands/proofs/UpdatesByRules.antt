@@ -12,19 +12,18 @@ use Rattle.card.specs.Header.{nodesOfLength, cardRefusal}
 use Rattle.card.specs.Layout.{keyLimit, nodeAt}
 use Rattle.card.specs.Replies.{Reply, ready, started}
 use Rattle.card.specs.Stores.{Store}
-use Rattle.promises.specs.Book.{Book, book, feed, told, empty}
+use Rattle.promises.specs.Book.{Book, book, feed, told, put, remove, empty}
 use Rattle.demands.specs.Demand2.{Repairs, Updates}
 use Rattle.promises.specs.Events.{World, opened, happens, insert, delete}
 use Rattle.promises.specs.Way.{nodesOn}
 use Rattle.demands.specs.Rules.{InsertRule, DeleteRule}
 use Rattle.demands.proofs.ByRules.{Begun, repairs-by-rules, first-by-rules, put-turns, remove-turns}
-use Rattle.demands.proofs.SameBook.{worldly, same-world, handOf, Flagged, fed-same}
 use Rattle.promises.specs.RationTable.{rationTable}
 use Rattle.demands.proofs.PowerCuts.{Covered, covered-nodes}
 use Rattle.demands.proofs.StartRows.{started-doing}
 use Rattle.demands.proofs.StepRows.{next-final}
 use Rattle.demands.proofs.Making.{Nears}
-use Rattle.demands.proofs.AnswerNumbers.{card-small}
+use Rattle.promises.proofs.AnswerNumbers.{card-small}
 use Rattle.demands.proofs.PlannedUpdates.{insert-by-rule, delete-by-rule}
 use Rattle.descent.specs.Descent.{slotOf}
 use Rattle.descent.specs.declared.Landing.{Landing}
@@ -36,11 +35,9 @@ use Rattle.laws.proofs.Cases.{bool-cases, impossible}
 use Rattle.opening.specs.Opening.{openSound, openChecked, openOf}
 use Rattle.plans.specs.Change.{Change}
 use Rattle.plans.specs.Planning.{takeNumbers, overNumbers, giving, balanced, prepared}
-use Rattle.promises.proofs.Feeding.{begunResult, fed, dueAfter, dueAfterStart, dictionaryAnswer}
+use Rattle.promises.proofs.BookLaws.{dictionaryAnswer}
 use Rattle.promises.proofs.Invariant.{job-repair, job-insert, job-delete}
-use Rattle.promises.proofs.Ledger.{ledger, put, remove, empty as was-empty, feed as was-feed}
-use Rattle.promises.proofs.Machine.{insert as was-insert, delete as was-delete, happens as was-happens}
-use Rattle.promises.proofs.PowerLoss.{reopened-inv}
+use Rattle.promises.proofs.PowerLoss.{reopened-inv, reopened-due}
 use Rattle.promises.proofs.Starting.{nodes-same, kept-insert, kept-delete}
 use Rattle.soundness.specs.Check.{Findings, tableCheck}
 use Rattle.starting.specs.Starts.{insertOf, deleteOf}
@@ -95,51 +92,23 @@ giving-not-balanced k free last change e = at (takeNumbers k free last) e
 module _ (w : World rationTable) (b : Book) (v : Covered w b) where
   -- a started update is near its end, and its answer is the dictionary's
   insert-nears : (key value : ℕ) → key < keyLimit → insertOf (w .card) (w .state) key value .begun ≡ Started
-      → (most : ℕ) × Nears (dictionaryAnswer (lookup key (v .was-kept .held))) most (happens rationTable (insert key value) w) × (isIdle (happens rationTable (insert key value) w .state .doing) ≡ false)
-  unfolding dueAfter dueAfterStart begunResult was-happens happens
+      → (most : ℕ) × Nears (dictionaryAnswer (lookup key (b .held))) most (happens rationTable (insert key value) w) × (isIdle (happens rationTable (insert key value) w .state .doing) ≡ false)
+  unfolding happens
   insert-nears key value high e =
-      let q = kept-insert (v .size) (v .steps) (worldly w) (v .was-kept) (v .due) (v .inv) key value high in
-      let f = fed-same (insert key value) w (v .was-kept) (covered-nodes v) (v .flagged) in (
+      let q = kept-insert (v .size) (v .steps) w b (v .inv) key value high in (
         q .0,
-        record {
-          book-now = feed (told rationTable (insert key value) w) b;
-          covered = record {
-            size = v .size;
-            steps = q .0;
-            was-kept = was-feed (fed (was-insert key value) (worldly w)) (v .was-kept);
-            due = dueAfter (was-insert key value) (worldly w) (v .was-kept) (v .due);
-            inv = rw (same-world (insert key value) w) (q .2 .0);
-            same-book = ap (feed (told rationTable (insert key value) w)) (v .same-book) ∙ f .0;
-            flagged = f .1;
-          };
-          soon = omega arith;
-          is-due = rw e;
-        },
-        q .1 .busy e,
+        record { book-now = feed (told rationTable (insert key value) w) b; covered = record { size = v .size; steps = q .0; inv = q .1 }; soon = omega arith; is-due = q .2 .new-due e },
+        q .2 .busy e,
       )
 
   delete-nears : (key : ℕ) → key < keyLimit → deleteOf (w .card) (w .state) key .begun ≡ Started
-      → (most : ℕ) × Nears (dictionaryAnswer (lookup key (v .was-kept .held))) most (happens rationTable (delete key) w) × (isIdle (happens rationTable (delete key) w .state .doing) ≡ false)
-  unfolding dueAfter dueAfterStart begunResult was-happens happens
+      → (most : ℕ) × Nears (dictionaryAnswer (lookup key (b .held))) most (happens rationTable (delete key) w) × (isIdle (happens rationTable (delete key) w .state .doing) ≡ false)
+  unfolding happens
   delete-nears key high e =
-      let q = kept-delete (v .size) (v .steps) (worldly w) (v .was-kept) (v .due) (v .inv) key high in
-      let f = fed-same (delete key) w (v .was-kept) (covered-nodes v) (v .flagged) in (
+      let q = kept-delete (v .size) (v .steps) w b (v .inv) key high in (
         q .0,
-        record {
-          book-now = feed (told rationTable (delete key) w) b;
-          covered = record {
-            size = v .size;
-            steps = q .0;
-            was-kept = was-feed (fed (was-delete key) (worldly w)) (v .was-kept);
-            due = dueAfter (was-delete key) (worldly w) (v .was-kept) (v .due);
-            inv = rw (same-world (delete key) w) (q .2 .0);
-            same-book = ap (feed (told rationTable (delete key) w)) (v .same-book) ∙ f .0;
-            flagged = f .1;
-          };
-          soon = omega arith;
-          is-due = rw e;
-        },
-        q .1 .busy e,
+        record { book-now = feed (told rationTable (delete key) w) b; covered = record { size = v .size; steps = q .0; inv = q .1 }; soon = omega arith; is-due = q .2 .new-due e },
+        q .2 .busy e,
       )
 
   -- what is planned for a started update
@@ -187,42 +156,42 @@ module _ (w : World rationTable) (b : Book) (v : Covered w b) where
       at NoSlot e q (some v) k = let y : _≡_ {A = Answer} Absent (Value v) = q ∙ ap dictionaryAnswer k in impossible (cc)
 
   pub insert-by-rules : (key value : ℕ) → key < keyLimit → insertOf (w .card) (w .state) key value .begun ≡ Started
-      → Updates rationTable ((a : ℕ) × (lookup key (v .was-kept .held) ≡ some a)) (InsertRule (w .card) key value) (stepReply (dictionaryAnswer (lookup key (v .was-kept .held)))) (happens rationTable (insert key value) w)
+      → Updates rationTable ((a : ℕ) × (lookup key (b .held) ≡ some a)) (InsertRule (w .card) key value) (stepReply (dictionaryAnswer (lookup key (b .held)))) (happens rationTable (insert key value) w)
   unfolding happens insertOf nextChange
   insert-by-rules key value high e =
       let q = insert-nears key value high e in
       let u = q .1 .covered in
       let m = insertOf (w .card) (w .state) key value .memory in
       let d : m .doing ≡ Inserting key value false = started-doing (w .card) (w .state) (Inserting key value false) (startRoom (w .card) key (w .state .free)) key e in
-      let n : nodesOn (w .card) ≡ u .size = covered-nodes u ∙ nodes-same (u .size) (u .steps) (worldly (happens rationTable (insert key value) w)) (u .was-kept) (u .due) (u .inv) in
-      first-by-rules (dictionaryAnswer (lookup key (v .was-kept .held))) (q .0) (happens rationTable (insert key value) w) (q .1) (q .2) ((a : ℕ) × (lookup key (v .was-kept .held) ≡ some a)) (InsertRule (w .card) key value)
+      let n : nodesOn (w .card) ≡ u .size = covered-nodes u ∙ nodes-same (u .size) (u .steps) (happens rationTable (insert key value) w) (q .1 .book-now) (u .inv) in
+      first-by-rules (dictionaryAnswer (lookup key (b .held))) (q .0) (happens rationTable (insert key value) w) (q .1) (q .2) ((a : ℕ) × (lookup key (b .held) ≡ some a)) (InsertRule (w .card) key value)
       (nextChange (w .card) (u .size) (m .free) (m .last) (Inserting key value false) (PutIn key value))
       (put-turns key value (u .inv .table) (u .inv .stage) d)
       (next-final (w .card) (u .size) (m .free) (m .last) putting)
       (next-stores (m .free) (m .last) (w .card) (u .size) (Inserting key value false) (PutIn key value))
-      (insert-nothing (w .card) key value (m .free) (m .last) (landing (w .card) (u .size) key) (lookup key (v .was-kept .held)))
+      (insert-nothing (w .card) key value (m .free) (m .last) (landing (w .card) (u .size) key) (lookup key (b .held)))
       (λ ss fewer now out p. (insert-by-rule (w .card) (u .size) key n (Inserting key value false) value p, prepared-insert (w .card) key value (m .free) (m .last) (landing (w .card) (u .size) key) p))
 
   pub delete-by-rules : (key : ℕ) → key < keyLimit → deleteOf (w .card) (w .state) key .begun ≡ Started
-      → Updates rationTable (lookup key (v .was-kept .held) ≡ none) (DeleteRule (w .card) key) (stepReply (dictionaryAnswer (lookup key (v .was-kept .held)))) (happens rationTable (delete key) w)
+      → Updates rationTable (lookup key (b .held) ≡ none) (DeleteRule (w .card) key) (stepReply (dictionaryAnswer (lookup key (b .held)))) (happens rationTable (delete key) w)
   unfolding happens deleteOf nextChange
   delete-by-rules key high e =
       let q = delete-nears key high e in
       let u = q .1 .covered in
       let m = deleteOf (w .card) (w .state) key .memory in
       let d : m .doing ≡ Deleting key false 0 = started-doing (w .card) (w .state) (Deleting key false 0) (λ l. true) key e in
-      let n : nodesOn (w .card) ≡ u .size = covered-nodes u ∙ nodes-same (u .size) (u .steps) (worldly (happens rationTable (delete key) w)) (u .was-kept) (u .due) (u .inv) in
-      first-by-rules (dictionaryAnswer (lookup key (v .was-kept .held))) (q .0) (happens rationTable (delete key) w) (q .1) (q .2) (lookup key (v .was-kept .held) ≡ none) (DeleteRule (w .card) key)
+      let n : nodesOn (w .card) ≡ u .size = covered-nodes u ∙ nodes-same (u .size) (u .steps) (happens rationTable (delete key) w) (q .1 .book-now) (u .inv) in
+      first-by-rules (dictionaryAnswer (lookup key (b .held))) (q .0) (happens rationTable (delete key) w) (q .1) (q .2) (lookup key (b .held) ≡ none) (DeleteRule (w .card) key)
       (nextChange (w .card) (u .size) (m .free) (m .last) (Deleting key false 0) (TakeOut key))
       (remove-turns key (u .inv .table) (u .inv .stage) d)
       (next-final (w .card) (u .size) (m .free) (m .last) taking)
       (next-stores (m .free) (m .last) (w .card) (u .size) (Deleting key false 0) (TakeOut key))
-      (delete-nothing (w .card) key (m .free) (m .last) (landing (w .card) (u .size) key) (lookup key (v .was-kept .held)))
+      (delete-nothing (w .card) key (m .free) (m .last) (landing (w .card) (u .size) key) (lookup key (b .held)))
       (λ ss fewer now out p. (delete-by-rule (w .card) (u .size) key n (Deleting key false 0) p, prepared-delete (w .card) key (m .free) (m .last) (landing (w .card) (u .size) key) p))
 
   -- opening's repair
   pub opening-by-rules : rationTable .openCard (w .card) .reply ≡ started → Repairs rationTable ready (opened rationTable (w .card))
-  unfolding startReply stepReply handOf Flagged
+  unfolding startReply stepReply
   opening-by-rules e = at (open-doing (w .card))
     where
       at : (openOf (w .card) .memory .rest ≡ []) × ((startReply (openOf (w .card) .begun) ≡ started → ⊥) ⊎ ((key : ℕ) × (openOf (w .card) .memory .doing ≡ Repairing key))) → Repairs rationTable ready (opened rationTable (w .card))
@@ -230,17 +199,9 @@ module _ (w : World rationTable) (b : Book) (v : Covered w b) where
       at (r, inr (key, d)) =
           repairs-by-rules Ready (suc repairSteps) repairSteps (opened rationTable (w .card)) (omega arith)
           (record {
-            book-now = book (v .was-kept .held) empty;
-            covered = record {
-              size = v .size;
-              steps = repairSteps;
-              was-kept = ledger (v .was-kept .held) was-empty;
-              due = none;
-              inv = reopened-inv (v .size) (w .card) (v .inv .tree) (v .was-kept .held) (v .inv .table) (v .inv .openable) (v .inv .same);
-              same-book = refl;
-              flagged = tt;
-            };
+            book-now = book (b .held) empty;
+            covered = record { size = v .size; steps = repairSteps; inv = reopened-inv (v .size) (w .card) (v .inv .tree) (b .held) (v .inv .table) (v .inv .openable) (v .inv .same) };
             soon = omega arith;
-            is-due = refl;
+            is-due = reopened-due (v .size) (w .card) (v .inv .tree) (b .held) (v .inv .table) (v .inv .openable) (v .inv .same);
           })
           r (subst Begun (sym d) (key, Ready, none, job-repair))

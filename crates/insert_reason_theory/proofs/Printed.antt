@@ -17,7 +17,8 @@ use Rattle.insert_reason_theory.proofs.Told.{split-told}
 use Rattle.key_file.specs.KeyFile.{keyIn}
 use Rattle.key_file.proofs.KeyFileLaws.{key-below}
 use Rattle.opening.specs.Opening.{openOf}
-use Rattle.promises.proofs.Promise.{Accepted}
+use Rattle.promises.specs.Events.{Opens}
+use Rattle.promises.specs.RationTable.{rationTable}
 use Rattle.reason_printing.specs.ReasonText.{noKeyWord, splitLine, reasonText, checkText}
 use Rattle.repairing.specs.Repairing.{cardRoom, openedCard}
 use Rattle.starting.specs.Starts.{startRefused, insertOf}
@@ -42,7 +43,7 @@ module _ (dump file : List ℕ) where
     unfolding reasonText
     unopened-text number e = card-text ∙ ap reasonText (of-refused (dumpWords size dump) (keyIn file) number e)
 
-    module _ (t : Tree) (accepted : Accepted (dumpWords size dump)) (well : WellFormed (dumpWords size dump) t) where
+    module _ (t : Tree) (accepted : Opens rationTable (dumpWords size dump)) (well : WellFormed (dumpWords size dump) t) where
       -- "prints `no key`"
       pub no-key-text : keyIn file ≡ 0 → checkText dump file ≡ noKeyWord ++ lineFeed
       unfolding reasonText

@@ -25,10 +25,13 @@ use Rattle.insert_reason.proofs.InsertReasonLaws.{of-idle, of-started, on-no-ke
 use Rattle.insert_reason.specs.declared.Reason.{Reason}
 use Rattle.insert_reason.specs.declared.Reason.the-variants.{Refused, NoKey, Held, Slot as EmptySlot, Split}
 use Rattle.opening.specs.Opening.{openOf}
-use Rattle.promises.proofs.Machine.{World, run, opened}
+use Rattle.promises.specs.Book.{book, kept, empty}
+use Rattle.promises.specs.Events.{World, run, opened, Opens, from-open}
+use Rattle.promises.specs.RationTable.{rationTable}
+use Rattle.promises.proofs.Accepting.{not-refused}
+use Rattle.promises.proofs.Invariant.{Inv}
 use Rattle.promises.proofs.PowerLoss.{kept-from}
-use Rattle.promises.proofs.Promise.{Accepted, Begins, from-open}
-use Rattle.promises.proofs.Room.{LeadsTo, key-leads, splitting-insert-works, splitting-insert-refused, other-insert-works}
+use Rattle.promises.proofs.Room.{LeadsTo, key-leads, splitting-insert-starts, splitting-insert-refused, other-insert-starts}
 use Rattle.promises.proofs.Starting.{nodes-same}
 use Rattle.repairing.specs.Repairing.{openedCard}
 use Rattle.repairing_theory.proofs.ReadDump.{dump-answered}
@@ -61,10 +64,10 @@ ReasonHolds c t key (Split j free need) =
     × (countTrue (openedCard c .memory .free) ≡ free)
     × (need ≡ splitNeed j)
 
-module _ (c : List ℕ) (t : Tree) (accepted : Accepted c) (well : WellFormed c t) where
+module _ (c : List ℕ) (t : Tree) (accepted : Opens rationTable c) (well : WellFormed c t) where
   -- the card and the state that the repair leaves, as a run of steps
-  abbrev after : World
-  after = run (steps repairSteps) (opened c)
+  abbrev after : World rationTable
+  after = run rationTable (steps repairSteps) (opened rationTable c)
 
   is-after : worldFrom (openedCard c) ≡ after
   is-after = opened-run c
@@ -72,12 +75,16 @@ module _ (c : List ℕ) (t : Tree) (accepted : Accepted c) (well : WellFormed c 
   left : After c t
   left = repaired c t accepted well
 
+  -- the invariant then
+  kept-after : (n : ℕ) × (k : ℕ) × Inv n k after (kept rationTable (steps repairSteps) (opened rationTable c) (book (pairs t) empty))
+  kept-after = kept-from (opened rationTable c) (pairs t) (from-open c t accepted well) (steps repairSteps) (all-words repairSteps)
+
   -- the state's N is the card's
   counted : openedCard c .memory .nodes ≡ nodesOfLength (length (openedCard c .card))
   counted =
-      let k = kept-from (opened c) (pairs t) (from-open c t accepted well) (steps repairSteps) (all-words repairSteps) in
-      let e = nodes-same (k .0) (k .1) after _ _ (k .2) in
-      ap (λ (w : World). w .memory .nodes) is-after ∙ e ∙ sym (sized-nodes _ (k .0) (k .2 .table .sized)) ∙ ap (λ (w : World). nodesOfLength (length (w .card))) (sym is-after)
+      let k = kept-after in
+      let e = nodes-same (k .0) (k .1) after _ (k .2) in
+      ap (λ (w : World rationTable). w .state .nodes) is-after ∙ e ∙ sym (sized-nodes _ (k .0) (k .2 .table .sized)) ∙ ap (λ (w : World rationTable). nodesOfLength (length (w .card))) (sym is-after)
 
   same-nodes : openedCard c .memory .nodes ≡ nodesOfLength (length c)
   same-nodes = counted ∙ sized-nodes _ _ (left .sized)
@@ -88,7 +95,7 @@ module _ (c : List ℕ) (t : Tree) (accepted : Accepted c) (well : WellFormed c 
   is-open : (key : ℕ) (b : Begun) → openOf c .begun ≡ b → reasonOf c key ≡ reasonOn (openedCard c .card) (openedCard c .memory .free) key
   is-open key OpenedIdle e = of-idle c key e
   is-open key Started e = of-started c key e
-  is-open key (BegunRefused r) e = absurd (accepted .not-refused r e)
+  is-open key (BegunRefused r) e = absurd (not-refused c accepted r e)
 
   -- "prints `no key`" where the file has none: on a card that opens, key 0 has no other reason
   pub no-key : reasonOf c 0 ≡ NoKey
@@ -97,7 +104,7 @@ module _ (c : List ℕ) (t : Tree) (accepted : Accepted c) (well : WellFormed c 
   module _ (key : ℕ) (low : lowestKey ≤ key) (high : key < keyLimit) where
     -- the leaf that the key leads to
     leads : (leaf : ℕ) × (j : ℕ) × LeadsTo (worldFrom (openedCard c)) key leaf j
-    leads = subst (λ (w : World). (leaf : ℕ) × (j : ℕ) × LeadsTo w key leaf j) (sym is-after) (key-leads (opened c) (pairs t) (from-open c t accepted well) (steps repairSteps) (all-words repairSteps) key low high)
+    leads = subst (λ (w : World rationTable). (leaf : ℕ) × (j : ℕ) × LeadsTo w key leaf j) (sym is-after) (key-leads (kept-after .2) key low high)
 
     abbrev leaf : ℕ
     leaf = leads .0
@@ -202,29 +209,26 @@ module _ (c : List ℕ) (t : Tree) (accepted : Accepted c) (well : WellFormed c 
     abbrev insertCall : ℕ → Handed
     insertCall value = insertOf (openedCard c .card) (openedCard c .memory) key value
 
-    abbrev begins : Begins (opened c) (pairs t)
-    begins = from-open c t accepted well
-
     leads-after : LeadsTo after key leaf runAbove
-    leads-after = subst (λ (w : World). LeadsTo w key leaf runAbove) is-after (leads .2)
+    leads-after = subst (λ (w : World rationTable). LeadsTo w key leaf runAbove) is-after (leads .2)
 
-    idle-after : after .memory .doing ≡ Idle
-    idle-after = ap (λ (w : World). w .memory .doing) (sym is-after) ∙ left .idle
+    idle-after : after .state .doing ≡ Idle
+    idle-after = ap (λ (w : World rationTable). w .state .doing) (sym is-after) ∙ left .idle
 
     refused-eight : (value : ℕ) → leafReason ≡ full → countTrue (openedCard c .memory .free) < splitNeed runAbove → insertCall value ≡ startRefused 8 (openedCard c .memory)
     refused-eight value =
-        subst (λ (w : World). insertReason (nodeAt (w .card) leaf) key ≡ full → countTrue (w .memory .free) < splitNeed runAbove → insertOf (w .card) (w .memory) key value ≡ startRefused 8 (w .memory)) (sym is-after)
-        (splitting-insert-refused (opened c) (pairs t) begins (steps repairSteps) (all-words repairSteps) idle-after key value low high leaf runAbove leads-after)
+        subst (λ (w : World rationTable). insertReason (nodeAt (w .card) leaf) key ≡ full → countTrue (w .state .free) < splitNeed runAbove → insertOf (w .card) (w .state) key value ≡ startRefused 8 (w .state)) (sym is-after)
+        (splitting-insert-refused (kept-after .2) key low high idle-after value leaf runAbove leads-after)
 
     started-room : (value : ℕ) → leafReason ≡ full → splitNeed runAbove ≤ countTrue (openedCard c .memory .free) → insertCall value .begun ≡ Started
     started-room value =
-        subst (λ (w : World). insertReason (nodeAt (w .card) leaf) key ≡ full → splitNeed runAbove ≤ countTrue (w .memory .free) → insertOf (w .card) (w .memory) key value .begun ≡ Started) (sym is-after)
-        (λ e h. splitting-insert-works (opened c) (pairs t) begins (steps repairSteps) (all-words repairSteps) idle-after key value low high leaf runAbove leads-after e h .0)
+        subst (λ (w : World rationTable). insertReason (nodeAt (w .card) leaf) key ≡ full → splitNeed runAbove ≤ countTrue (w .state .free) → insertOf (w .card) (w .state) key value .begun ≡ Started) (sym is-after)
+        (splitting-insert-starts (kept-after .2) key low high idle-after value leaf runAbove leads-after)
 
     started-other : (value : ℕ) → (leafReason ≡ full → ⊥) → insertCall value .begun ≡ Started
     started-other value =
-        subst (λ (w : World). (insertReason (nodeAt (w .card) leaf) key ≡ full → ⊥) → insertOf (w .card) (w .memory) key value .begun ≡ Started) (sym is-after)
-        (λ e. other-insert-works (opened c) (pairs t) begins (steps repairSteps) (all-words repairSteps) idle-after key value low high leaf runAbove leads-after e .0)
+        subst (λ (w : World rationTable). (insertReason (nodeAt (w .card) leaf) key ≡ full → ⊥) → insertOf (w .card) (w .state) key value .begun ≡ Started) (sym is-after)
+        (other-insert-starts (kept-after .2) key low high idle-after value leaf runAbove leads-after)
 
     not-started : (value : ℕ) → insertCall value ≡ startRefused 8 (openedCard c .memory) → insertCall value .begun ≡ Started → ⊥
     unfolding startRefused
@@ -253,5 +257,5 @@ module _ (c : List ℕ) (t : Tree) (accepted : Accepted c) (well : WellFormed c 
             refused-eight value e (omega (arith, b, n))
 
 -- the dump of an accepted card gives the reason that the card gives
-pub dump-reason : (c : List ℕ) → Accepted c → ((i : ℕ) → getD c i 0 < 2 ^ 32) → (lent : ℕ) → length c ≤ lent → (key : ℕ) → reasonInDump (dumpOf c) lent key ≡ reasonOf c key
+pub dump-reason : (c : List ℕ) → Opens rationTable c → ((i : ℕ) → getD c i 0 < 2 ^ 32) → (lent : ℕ) → length c ≤ lent → (key : ℕ) → reasonInDump (dumpOf c) lent key ≡ reasonOf c key
 dump-reason c a fits lent room key = dump-read (dumpOf c) lent key (length c) (dump-answered c a fits lent room) ∙ ap (λ (l : List ℕ). reasonOf l key) (dump-words c fits)

@@ -20,8 +20,10 @@ use Rattle.repairing_theory.proofs.ReadDump.{dump-answered}
 use Rattle.repairing_theory.proofs.Repair.{After, repaired}
 use Rattle.listing_theory.proofs.Room.{pairs-le, pairWords, all-laid}
 use Rattle.listing_theory.proofs.TreePairs.{tree-pairs}
-use Rattle.promises.proofs.Accepting.{accepted-table}
-use Rattle.promises.proofs.Promise.{Accepted, MapIs}
+use Rattle.promises.proofs.Accepting.{accepted-table, opens-unrefused, not-refused}
+use Rattle.promises.specs.Events.{Opens}
+use Rattle.promises.specs.RationTable.{rationTable}
+use Rattle.promises.proofs.Finishing.{MapIs}
 use Rattle.promises.proofs.Reopen.{facts-exact}
 use Rattle.soundness.specs.Check.{Findings, tableCheck}
 use Rattle.soundness_theory.proofs.Depth.{well-formed-size, well-formed-depth}
@@ -56,12 +58,12 @@ pub record ListedRight (c : List ℕ) (t : Tree) : Type 0 where
   pub few-pairs : length (listing .pairs) ≤ 11 * greatestNodes
 
 module _ (c : List ℕ) where
-  accepted-listed : Accepted c → (b : Begun) → openOf c .begun ≡ b → listCard c ≡ listTable (openedCard c .card) (nodesOfLength (length c))
-  accepted-listed a (Refused r) e = absurd (a .not-refused r e)
+  accepted-listed : Opens rationTable c → (b : Begun) → openOf c .begun ≡ b → listCard c ≡ listTable (openedCard c .card) (nodesOfLength (length c))
+  accepted-listed a (Refused r) e = absurd (not-refused c a r e)
   accepted-listed a Idle e = card-idle c e
   accepted-listed a Started e = card-started c e
 
-  pub listing-right : (t : Tree) → WellFormed c t → Accepted c → ListedRight c t
+  pub listing-right : (t : Tree) → WellFormed c t → Opens rationTable c → ListedRight c t
   listing-right t w a = go (repaired c t a w)
     where
       go : After c t → ListedRight c t
@@ -103,7 +105,7 @@ module _ (c : List ℕ) where
   laid-whole t x words h = rw (x .is-listed) (all-laid (x .listing .pairs) [] words (omega (arith, x .few-pairs)) ∙ ap (λ (a : ℕ). laid a (pairWords (x .listing .pairs) ++ drop (2 * length (x .listing .pairs)) words)) (omega arith))
 
   -- the dump of an accepted card is listed as the card is
-  pub dump-listed : Accepted c → ((i : ℕ) → getD c i 0 < 2 ^ 32) → (lent : ℕ) → length c ≤ lent → listDump (dumpOf c) lent ≡ listCard c
+  pub dump-listed : Opens rationTable c → ((i : ℕ) → getD c i 0 < 2 ^ 32) → (lent : ℕ) → length c ≤ lent → listDump (dumpOf c) lent ≡ listCard c
   dump-listed a fits lent room = dump-read (dumpOf c) lent (length c) (dump-answered c a fits lent room) ∙ ap listCard (dump-words c fits)
 
   -- `list` refuses as opening does, and only then
@@ -112,7 +114,7 @@ module _ (c : List ℕ) where
     where
       opens : ((k : ℕ) → openOf c .begun ≡ Refused k → ⊥) → listCard c ≡ refused r → openOf c .begun ≡ Refused r
       opens f e =
-          let a : Accepted c = record { not-refused = f } in
+          let a = opens-unrefused c f in
           let t = accepted-table c a in
           let k = listing-right (t .0) (t .1) a .is-listed in
           impossible (cc)

@@ -23,8 +23,7 @@ use Rattle.listing.proofs.SummaryLaws.{card-refused, dump-refused, dump-read}
 use Rattle.listing_theory.proofs.Right.{listing-right}
 use Rattle.listing_theory.proofs.Room.{pairWords, all-laid}
 use Rattle.printing.specs.Text.{listText, pairsIn, told, pairRoom, zeros, handed, dumpText}
-use Rattle.promises.proofs.Accepting.{accepted-table}
-use Rattle.promises.proofs.Promise.{Accepted}
+use Rattle.promises.proofs.Accepting.{accepted-table, opens-unrefused}
 use Rattle.repairing.specs.Repairing.{cardRoom}
 use Rattle.soundness.specs.Check.{Findings, tableCheck}
 use Rattle.state.specs.Steps.{noBeginning}
@@ -93,7 +92,7 @@ card-fits c = go (openOf c .begun) refl
   where
     opened : ((number : ℕ) → openOf c .begun ≡ Refused number → ⊥) → Fits (listCard c)
     opened f =
-        let a : Accepted c = record { not-refused = f } in
+        let a = opens-unrefused c f in
         let t = accepted-table c a in
         let k = listing-right c (t .0) (t .1) a in
         rw (k .is-listed) (k .few-pairs)

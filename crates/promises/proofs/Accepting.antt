@@ -1,5 +1,6 @@
--- What an accepted card shows: its header, its table, that it can be opened again; and what a find answers on a table.
-use mathlib.Core.Path.{_≡_, refl, ap, _∙_}
+-- What a card that opens shows: its header, its table, that it can be opened again; and what a find answers on a table.
+use mathlib.Core.Path.{_≡_, refl, ap, subst, _∙_}
+use mathlib.Core.Logic.{inl, inr}
 use mathlib.Core.List.{List}
 use mathlib.Core.Bool.{true, false}
 use mathlib.Core.Option.{Option, none, some}
@@ -9,9 +10,9 @@ use native.Mathlib.Decide.{ℕ-discrete}
 use lib.ListN.{length}
 use borrow.Author.Tests.{ne-eqb, eq-eqb}
 use Rattle.descent.specs.declared.Reached.{Reached}
-use Rattle.promises.proofs.Feeding.{dictionaryAnswer}
+use Rattle.promises.proofs.BookLaws.{dictionaryAnswer}
 use Rattle.lookup.specs.Answers.{foundReply}
-use Rattle.state.specs.Answers.{stepReply}
+use Rattle.state.specs.Answers.{stepReply, startReply}
 use Rattle.lookup.specs.Find.{foundIn, foundAt, findOf}
 use Rattle.opening.specs.Opening.{openSound, openChecked, openOf}
 use Rattle.opening.proofs.OpeningLaws.{open-unrefused, open-scarce}
@@ -28,7 +29,12 @@ use Rattle.free_nodes.specs.NodeSet.{countTrue}
 use Rattle.laws.proofs.Bits.{bit-true, bit-false}
 use Rattle.laws.proofs.Cases.{bool-cases, order}
 use Rattle.promises.proofs.Invariant.{Table}
-use Rattle.promises.proofs.Promise.{Accepted}
+use Rattle.promises.proofs.AnswerNumbers.{SmallBegun, open-small}
+use Rattle.promises.proofs.ReplyLaws.{code-of}
+use Rattle.promises.specs.Events.{Opens}
+use Rattle.promises.specs.RationTable.{rationTable}
+use Rattle.state.specs.declared.Begun.{Begun}
+use Rattle.state.specs.declared.Begun.the-variants.{Idle as OpenedIdle, Started, Refused as BegunRefused}
 use Rattle.promises.proofs.Reopen.{table-depth-limited, card-accepted, facts-exact}
 use Rattle.soundness.specs.Check.{Findings, tableCheck}
 use Rattle.soundness_theory.proofs.Facts.{Facts}
@@ -40,11 +46,33 @@ use Rattle.tree.specs.WellFormed.{WellFormed}
 use Rattle.descent.specs.declared.Slot.{Slot}
 use Rattle.descent.specs.declared.Slot.the-variants.{At, Absent as NoSlot}
 
-refuses : (c : List ℕ) (r : ℕ) → openOf c ≡ noBeginning r → Accepted c → ⊥
-unfolding noBeginning
-refuses c r e a = a .not-refused r (rw e)
+-- the reply of an opening tells whether it refused
+small-refused : (b : Begun) (r : ℕ) → SmallBegun b → b ≡ BegunRefused r → startReply b .code < 64
+unfolding startReply
+small-refused b r s e = let z : r < 64 = subst (λ x. SmallBegun x) e s in rw e z
 
-pub accepted-card : (c : List ℕ) → Accepted c → (cardRefusal c ≡ 0) × Sized (length c) (nodesOfLength (length c)) × Formatted c (nodesOfLength (length c))
+pub not-refused : (c : List ℕ) → Opens rationTable c → (r : ℕ) → openOf c .begun ≡ BegunRefused r → ⊥
+unfolding startReply
+not-refused c o r e = at (small-refused (openOf c .begun) r (open-small c) e) o
+  where
+    at : startReply (openOf c .begun) .code < 64 → Opens rationTable c → ⊥
+    at h (inl z) = omega (arith, h, code-of z)
+    at h (inr z) = omega (arith, h, code-of z)
+
+pub opens-unrefused : (c : List ℕ) → ((r : ℕ) → openOf c .begun ≡ BegunRefused r → ⊥) → Opens rationTable c
+unfolding startReply
+opens-unrefused c f = at (openOf c .begun) refl
+  where
+    at : (b : Begun) → openOf c .begun ≡ b → Opens rationTable c
+    at OpenedIdle e = inl (ap startReply e)
+    at Started e = inr (ap startReply e)
+    at (BegunRefused r) e = absurd (f r e)
+
+refuses : (c : List ℕ) (r : ℕ) → openOf c ≡ noBeginning r → Opens rationTable c → ⊥
+unfolding noBeginning
+refuses c r e a = not-refused c a r (rw e)
+
+pub accepted-card : (c : List ℕ) → Opens rationTable c → (cardRefusal c ≡ 0) × Sized (length c) (nodesOfLength (length c)) × Formatted c (nodesOfLength (length c))
 unfolding openOf cardRefusal
 accepted-card c a = go (ℕ-discrete (cardRefusal c) 0) (ℕ-discrete (nodesOfLength (length c)) 0)
   where
@@ -57,7 +85,7 @@ open-some : (n h : ℕ) (f : Findings) → openChecked n (some (h, f)) ≡ openS
 unfolding openChecked
 open-some n h f = refl
 
-pub accepted-table : (c : List ℕ) → Accepted c → (t : Tree) × WellFormed c t
+pub accepted-table : (c : List ℕ) → Opens rationTable c → (t : Tree) × WellFormed c t
 unfolding openChecked
 accepted-table c a = go (tableCheck c (nodesOfLength (length c))) refl
   where
@@ -68,8 +96,8 @@ accepted-table c a = go (tableCheck c (nodesOfLength (length c))) refl
     go none e = absurd (refuses c 4 (open-unrefused c (k .0) ∙ rw e) a)
     go (some r) e = let s = accepts-sound c (nodesOfLength (length c)) (k .1 .words) (k .1 .most) (r .0) (r .1) e in (s .0, s .1)
 
--- the table of an accepted card can be opened again
-pub accepted-openable : (c : List ℕ) (t : Tree) → Accepted c → WellFormed c t → Openable (nodesOfLength (length c)) t
+-- the table of a card that opens can be opened again
+pub accepted-openable : (c : List ℕ) (t : Tree) → Opens rationTable c → WellFormed c t → Openable (nodesOfLength (length c)) t
 accepted-openable c t a w = go (sound-accepted c (nodesOfLength (length c)) (k .1 .words) (k .1 .most) t w)
   where
     k : (cardRefusal c ≡ 0) × Sized (length c) (nodesOfLength (length c)) × Formatted c (nodesOfLength (length c))

@@ -6,8 +6,8 @@ use Rattle.descent.specs.Descent.{firstEqual}
 use Rattle.laws.specs.Sorting.{insertPair, insertAll, sort}
 use Rattle.plans.specs.Change.{half}
 use Rattle.promises.proofs.Alike.{refused, answered, refuses, outcome, leaves, shapeLeft}
-use Rattle.promises.proofs.Feeding.{dictionaryAnswer}
-use Rattle.promises.proofs.Ledger.{put, remove}
+use Rattle.promises.proofs.BookLaws.{dictionaryAnswer}
+use Rattle.promises.specs.Book.{put, remove}
 use Rattle.promises.proofs.Shapes.{firstShape, afterShape}
 use Rattle.shapes.proofs.Need.{leafNeed, needOf, needIn}
 use Rattle.shapes.proofs.Next.{mendLeaves, mendTwo, siblingsOf, mendAt, apart, repairedBy, repairedIn, changedBy, changedIn, putAt, putIn, takeAt, takeOut}

@@ -3,7 +3,7 @@ use mathlib.Core.Path.{_≡_}
 use mathlib.Core.List.{List, [], _∷_}
 use mathlib.Core.Bool.{Bool, true, false, not}
 use Prim.Native.Nat.{ℕ, _+_, _≤_, _<_}
-use lib.ListN.{getD}
+use lib.ListN.{length, getD}
 use lib.Dec.{ltb}
 use borrow.Author.Tests.{lt-ltb}
 use Rattle.card.specs.Layout.{place, nodeAt, leafPairs}
@@ -13,8 +13,9 @@ use Rattle.descent.specs.Descent.{slotOf}
 use Rattle.free_nodes.specs.NodeSet.{countTrue}
 use Rattle.laws.proofs.Cases.{order, impossible}
 use Rattle.laws.specs.Sorting.{sort}
-use Rattle.promises.proofs.Feeding.{isNone, fullAt, leafFull}
-use Rattle.promises.proofs.Machine.{run}
+use Rattle.promises.specs.Way.{leafFull}
+use Rattle.promises.proofs.WayDown.{slotFound, full-is}
+use Rattle.card.specs.Header.{Sized}
 use Rattle.table.specs.Calls.{stepPrepared, stepBegin}
 use Rattle.state.specs.Memory.{Memory}
 use Rattle.updates.specs.Updates.{landing, emptyReason, reasonIn, insertReason, insertChange, deleteChange, splitNeed, roomFor, startRoom, inLeaf, nextChange}
@@ -57,10 +58,10 @@ module _ (c : List ℕ) (n key : ℕ) (m link run : ℕ) (land : landing c n key
       never : countTrue free < splitNeed run → not (ltb (countTrue free) (splitNeed run)) ≡ true → ⊥
       never o q = let k : _≡_ {A = Bool} false true = rw (lt-ltb (countTrue free) (splitNeed run) o) at q in impossible (cc)
 
-  pub flag-slot : (i : ℕ) → slotOf (nodeAt c m) 0 ≡ At i → leafFull c n key ≡ false
-  unfolding leafFull fullAt isNone
-  flag-slot i e = rw (land, e)
+  pub flag-slot : Sized (length c) n → (i : ℕ) → slotOf (nodeAt c m) 0 ≡ At i → leafFull c key ≡ false
+  unfolding slotFound
+  flag-slot s i e = full-is c n key m link run (At i) s land e
 
-  pub flag-full : slotOf (nodeAt c m) 0 ≡ NoSlot → leafFull c n key ≡ true
-  unfolding leafFull fullAt isNone
-  flag-full e = rw (land, e)
+  pub flag-full : Sized (length c) n → slotOf (nodeAt c m) 0 ≡ NoSlot → leafFull c key ≡ true
+  unfolding slotFound
+  flag-full s e = full-is c n key m link run NoSlot s land e

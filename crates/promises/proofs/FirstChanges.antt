@@ -1,4 +1,4 @@
--- The first change of an insert or a delete on a balanced table: its stores, the tree they lead to, and what the ledger enters.
+-- The first change of an insert or a delete on a balanced table: its stores, the tree they lead to, and what the book enters.
 use mathlib.Core.Path.{_≡_, ap, sym, _∙_}
 use mathlib.Core.List.{List, [], _∷_, _++_}
 use mathlib.Core.Bool.{Bool, true, false}
@@ -36,8 +36,8 @@ use Rattle.free_nodes.specs.NodeSet.{capacity, countTrue}
 use Rattle.laws.specs.Totals.{indicator, total}
 use Rattle.laws.proofs.Totals.{indicator-other, indicator-le}
 use Rattle.promises.proofs.LeafAfter.{LeafAfter, ready-after, on-path, two-pairs, leaf-after}
-use Rattle.promises.proofs.Ledger.{Update, put, remove}
-use Rattle.promises.proofs.LedgerLaws.{Enters, enters-put, enters-remove}
+use Rattle.promises.specs.Book.{Update, put, remove}
+use Rattle.promises.proofs.BookLaws.{Enters, enters-put, enters-remove}
 use Rattle.updates.specs.Updates.{held, splitNeed}
 use Rattle.tree.proofs.Cut.{cut}
 use Rattle.tree.proofs.InPlace.{value-stored, key-stored, slot-pairs-out, slot-pairs-in, length-total}

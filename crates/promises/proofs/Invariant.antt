@@ -1,4 +1,4 @@
--- What holds of a card, its state, the ledger and the answer due, at every moment.
+-- What holds of a card, its state and the book, at every moment.
 use mathlib.Core.Path.{_≡_}
 use mathlib.Core.List.{List, [], _∷_}
 use mathlib.Core.Bool.{Bool, true, false}
@@ -13,11 +13,13 @@ use Rattle.change_theory.proofs.Plays.{Openable, Changing}
 use Rattle.change_theory.proofs.Repaired.{Mendable}
 use Rattle.change_theory.proofs.Rewritten.{Sound}
 use Rattle.free_nodes.specs.NodeSet.{countTrue}
-use Rattle.promises.proofs.Feeding.{leafFull, dictionaryAnswer}
+use Rattle.promises.specs.Way.{leafFull}
 use Rattle.promises.proofs.Finishing.{updateStoresAt}
-use Rattle.promises.proofs.Ledger.{Update, Hand, Ledger, deciding, put, remove, empty, hand}
-use Rattle.promises.proofs.LedgerLaws.{Enters, Same}
-use Rattle.promises.proofs.Machine.{World}
+use Rattle.promises.specs.Book.{Update, Hand, Book, put, remove, empty, holding}
+use Rattle.promises.proofs.BookLaws.{Enters, Same, dictionaryAnswer}
+use Rattle.laws.specs.Cases.{pick}
+use Rattle.promises.specs.Events.{World}
+use Rattle.promises.specs.RationTable.{rationTable}
 use Rattle.state.specs.Memory.{Memory}
 use Rattle.updates.specs.Updates.{landing, startRoom}
 use Rattle.state.specs.declared.Doing.{Doing}
@@ -47,10 +49,10 @@ pub data Job : Doing → ℕ → Answer → Option Update → Type 0 where
   job-insert : {key value : ℕ} → Job (Inserting key value true) key Absent (some (put key value))
   job-delete : {key value : ℕ} → Job (Deleting key true value) key (Value value) (some (remove key))
 
--- the ledger has entered the update, if there is one, and its answer is due
-pub data Entered : Option Update → Answer → Hand → Option Answer → Type 0 where
-  no-update : {final : Answer} → Entered none final empty none
-  updated : {u : Update} {final : Answer} {f : Bool} {k : ℕ} → Entered (some u) final (hand u f k true) (some final)
+-- the book has entered the update, if there is one: its deciding step was counted
+pub data Entered : Option Update → Hand → Type 0 where
+  no-update : Entered none empty
+  updated : {u : Update} {deciding count : ℕ} → deciding ≤ count → Entered (some u) (holding u deciding count)
 
 -- steps enough from the start of an update of the tree to its final answer: 73 stores for its first change, 73 for each level
 pub record UpdateSteps (t : Tree) (steps : ℕ) : Type 0 where
@@ -58,35 +60,39 @@ pub record UpdateSteps (t : Tree) (steps : ℕ) : Type 0 where
   pub level : Height height t
   pub enough : updateStoresAt height + 1 ≤ steps
 
-pub data Stage (c : List ℕ) (n : ℕ) (t goal : Tree) (steps : ℕ) : Memory → Hand → Option Answer → Type 0 where
-  stage-idle : {free : List Bool} {last : ℕ} → tableViolations t ≡ 0 → 3 ≤ countTrue free → Exact n free t → bare t ≡ goal
-      → Stage c n t goal steps (record { nodes = n; free = free; last = last; doing = Idle; rest = []; cut = [] }) empty none
+-- What is being done, by the state and the book's hand, and the final answer due to it.
+pub data Stage (c : List ℕ) (n : ℕ) (t goal : Tree) (steps : ℕ) : Memory → Hand → Answer → Type 0 where
+  -- nothing is being done, and no answer is due: any will do
+  stage-idle : {free : List Bool} {last : ℕ} {due : Answer} → tableViolations t ≡ 0 → 3 ≤ countTrue free → Exact n free t → bare t ≡ goal
+      → Stage c n t goal steps (record { nodes = n; free = free; last = last; doing = Idle; rest = []; cut = [] }) empty due
   -- started: nothing is planned yet
   stage-put : {free : List Bool} {last key value : ℕ} → tableViolations t ≡ 0 → 3 ≤ countTrue free → Exact n free t → lowestKey ≤ key → key < keyLimit → startRoom c key free (landing c n key) ≡ true → UpdateSteps t steps → afterShape (put key value) (bare t) ≡ goal
-      → Stage c n t goal steps (record { nodes = n; free = free; last = last; doing = Inserting key value false; rest = []; cut = [] }) (hand (put key value) (leafFull c n key) 0 false) (some (dictionaryAnswer (lookup key (pairs t))))
+      → Stage c n t goal steps (record { nodes = n; free = free; last = last; doing = Inserting key value false; rest = []; cut = [] }) (holding (put key value) (pick (leafFull c key) 73 2) 0) (dictionaryAnswer (lookup key (pairs t)))
   stage-remove : {free : List Bool} {last key : ℕ} → tableViolations t ≡ 0 → 3 ≤ countTrue free → Exact n free t → lowestKey ≤ key → key < keyLimit → UpdateSteps t steps → afterShape (remove key) (bare t) ≡ goal
-      → Stage c n t goal steps (record { nodes = n; free = free; last = last; doing = Deleting key false 0; rest = []; cut = [] }) (hand (remove key) false 0 false) (some (dictionaryAnswer (lookup key (pairs t))))
+      → Stage c n t goal steps (record { nodes = n; free = free; last = last; doing = Deleting key false 0; rest = []; cut = [] }) (holding (remove key) 1 0) (dictionaryAnswer (lookup key (pairs t)))
   -- the first change of an update, whose last store enters it
-  stage-first : {free : List Bool} {last key : ℕ} {doing : Doing} {final : Answer} {u : Update} {f : Bool} {k : ℕ} {cut : List ℕ} {s : Store} {rest : List Store} → Job doing key final (some u) → (p : Changing c n key t (s ∷ rest) free cut) → Enters u (pairs t) (pairs (p .next))
-      → k + suc (length rest) ≡ deciding u f → suc (length rest) + (73 * p .level + 1) ≤ steps → Heads (p .level) (bare (p .next)) goal
-      → Stage c n t goal steps (record { nodes = n; free = free; last = last; doing = doing; rest = s ∷ rest; cut = cut }) (hand u f k false) (some final)
+  stage-first : {free : List Bool} {last key : ℕ} {doing : Doing} {due : Answer} {u : Update} {deciding count : ℕ} {cut : List ℕ} {s : Store} {rest : List Store} → Job doing key due (some u) → (p : Changing c n key t (s ∷ rest) free cut) → Enters u (pairs t) (pairs (p .next))
+      → count + suc (length rest) ≡ deciding → suc (length rest) + (73 * p .level + 1) ≤ steps → Heads (p .level) (bare (p .next)) goal
+      → Stage c n t goal steps (record { nodes = n; free = free; last = last; doing = doing; rest = s ∷ rest; cut = cut }) (holding u deciding count) due
   -- between two changes of a repair
-  stage-between : {free : List Bool} {last key : ℕ} {doing : Doing} {final : Answer} {u : Option Update} {h : Hand} {due : Option Answer} → Job doing key final u → Entered u final h due → (deep : ℕ) → Mendable key free t deep → Exact n free t → 73 * deep + 1 ≤ steps → Heads deep (bare t) goal
+  stage-between : {free : List Bool} {last key : ℕ} {doing : Doing} {due : Answer} {u : Option Update} {h : Hand} → Job doing key due u → Entered u h → (deep : ℕ) → Mendable key free t deep → Exact n free t → 73 * deep + 1 ≤ steps → Heads deep (bare t) goal
       → Stage c n t goal steps (record { nodes = n; free = free; last = last; doing = doing; rest = []; cut = [] }) h due
   -- within a change of a repair, which keeps the pairs
-  stage-within : {free : List Bool} {last key : ℕ} {doing : Doing} {final : Answer} {u : Option Update} {h : Hand} {due : Option Answer} {cut : List ℕ} {s : Store} {rest : List Store} → Job doing key final u → Entered u final h due → (p : Changing c n key t (s ∷ rest) free cut)
+  stage-within : {free : List Bool} {last key : ℕ} {doing : Doing} {due : Answer} {u : Option Update} {h : Hand} {cut : List ℕ} {s : Store} {rest : List Store} → Job doing key due u → Entered u h → (p : Changing c n key t (s ∷ rest) free cut)
       → Same (pairs (p .next)) (pairs t) → suc (length rest) + (73 * p .level + 1) ≤ steps → Heads (p .level) (bare (p .next)) goal
       → Stage c n t goal steps (record { nodes = n; free = free; last = last; doing = doing; rest = s ∷ rest; cut = cut }) h due
 
-pub record Inv (n steps : ℕ) (w : World) (b : Ledger) (due : Option Answer) : Type 0 where
+pub record Inv (n steps : ℕ) (w : World rationTable) (b : Book) : Type 0 where
   pub tree : Tree
   pub table : Table (w .card) n tree
   pub openable : Openable n tree
   pub same : Same (pairs tree) (b .held)
   -- what the work in hand comes to, without numbers
   pub goal : Tree
-  pub stage : Stage (w .card) n tree goal steps (w .memory) (b .inHand) due
+  -- the final answer that it gives
+  pub due : Answer
+  pub stage : Stage (w .card) n tree goal steps (w .state) (b .inHand) due
 
--- the invariant, with this goal
-abbrev pub Toward : Tree → ℕ → ℕ → World → Ledger → Option Answer → Type 0
-Toward goal n steps w b due = (i : Inv n steps w b due) × (i .goal ≡ goal)
+-- the invariant, with this goal and this answer due
+abbrev pub Toward : Tree → Answer → ℕ → ℕ → World rationTable → Book → Type 0
+Toward goal due n steps w b = (i : Inv n steps w b) × (i .goal ≡ goal) × (i .due ≡ due)

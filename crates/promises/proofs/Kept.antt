@@ -1,7 +1,7 @@
 -- Every event keeps the invariant; a step uses one of the steps that are left.
 use mathlib.Core.Path.{_≡_, refl, _∙_}
 use mathlib.Core.List.{List, [], _∷_}
-use mathlib.Core.Bool.{Bool, false}
+use mathlib.Core.Bool.{Bool}
 use mathlib.Core.Option.{Option, some}
 use mathlib.Core.Logic.{_⊎_, _≢_, ⊎-elim}
 use Prim.Native.Nat.{ℕ, suc, _+_, _*_, _≤_}
@@ -15,8 +15,8 @@ use Rattle.plans.specs.Planning.{withAll}
 use Rattle.change_theory.proofs.Plays.{Openable, Storable, Plays, Changing, last-store, store-then}
 use Rattle.change_theory.proofs.Rewritten.{Sound}
 use Rattle.promises.proofs.Invariant.{Toward, Table, Job, Entered, updated, stage-first, stage-between, stage-within}
-use Rattle.promises.proofs.Ledger.{Update, Hand, ledger, deciding, counted}
-use Rattle.promises.proofs.LedgerLaws.{Enters, Same, same-over, same-back, enters-from}
+use Rattle.promises.specs.Book.{Update, Hand, book, fedStep, goesOn, holding}
+use Rattle.promises.proofs.BookLaws.{Enters, Same, same-over, same-back, enters-from}
 use Rattle.promises.proofs.Steps.{memory}
 use Rattle.state.specs.Memory.{advanced}
 use Rattle.state.specs.declared.Doing.{Doing}
@@ -70,49 +70,53 @@ one-store {c} {n} {key} {t} {free = free} {cut = cut} b p = at (p .plays)
         some-left u (table-set a v s b h k) o (record { totals = e }) (record { next = p .next; plays = q; sound = p .sound; exact = p .exact; level = p .level; ready = p .ready }) refl refl
 
 -- a store of a repair's change
-pub repair-stored : {c : List ℕ} {n key : ℕ} {t : Tree} {s : Store} {rest : List Store} {free : List Bool} {cut : List ℕ} {doing : Doing} {final : Answer} {u : Option Update} {h : Hand} {due : Option Answer} {goal : Tree} (last steps : ℕ) (z : List Store) (l : List (ℕ × ℕ)) → Table c n t → Same (pairs t) l
-    → Job doing key final u → Entered u final h due → (p : Changing c n key t (s ∷ rest) free cut) → Same (pairs (p .next)) (pairs t) → length rest + (73 * p .level + 1) ≤ steps → Heads (p .level) (bare (p .next)) goal
-    → Toward goal n steps (record { card = set c (s .0) (s .1); memory = advanced (memory n free last doing z cut) rest }) (ledger l h) due
+pub repair-stored : {c : List ℕ} {n key : ℕ} {t : Tree} {s : Store} {rest : List Store} {free : List Bool} {cut : List ℕ} {doing : Doing} {due : Answer} {u : Option Update} {h : Hand} {goal : Tree} (last steps : ℕ) (z : List Store) (l : List (ℕ × ℕ)) → Table c n t → Same (pairs t) l
+    → Job doing key due u → Entered u h → (p : Changing c n key t (s ∷ rest) free cut) → Same (pairs (p .next)) (pairs t) → length rest + (73 * p .level + 1) ≤ steps → Heads (p .level) (bare (p .next)) goal
+    → Toward goal due n steps (record { card = set c (s .0) (s .1); state = advanced (memory n free last doing z cut) rest }) (book l h)
 unfolding advanced
-repair-stored {c} {n} {key} {t} {s} {rest} {free} {cut} {doing} {h = h} {due = due} {goal = goal} last steps z l b same j en p e few hd = at rest (one-store b p) few
+repair-stored {c} {n} {key} {t} {s} {rest} {free} {cut} {doing} {due} {h = h} {goal = goal} last steps z l b same j en p e few hd = at rest (one-store b p) few
   where
-    at : (rest : List Store) → Left n key c t free cut (p .next) (p .level) s rest → length rest + (73 * p .level + 1) ≤ steps → Toward goal n steps (record { card = set c (s .0) (s .1); memory = advanced (memory n free last doing z cut) rest }) (ledger l h) due
+    at : (rest : List Store) → Left n key c t free cut (p .next) (p .level) s rest → length rest + (73 * p .level + 1) ≤ steps → Toward goal due n steps (record { card = set c (s .0) (s .1); state = advanced (memory n free last doing z cut) rest }) (book l h)
     at rest (all-made b′) few = (
       record {
         tree = p .next;
         goal = goal;
+        due = due;
         table = b′;
         openable = record { free = withAll cut free; exact = p .exact; key = key; deep = p .level; ready = p .ready };
         same = same-over e same;
         stage = stage-between j en (p .level) (p .ready) (p .exact) (omega arith) hd;
       },
       refl,
+      refl,
     )
     at rest (some-left v b′ o e₁ q en₁ el) few =
-        (record { tree = v; goal = goal; table = b′; openable = o; same = same-over e₁ same; stage = stage-within j en q (same-over (rw en₁ e) (same-back e₁)) (rw el few) (rw (en₁, el) hd) }, refl)
+        (record { tree = v; goal = goal; due = due; table = b′; openable = o; same = same-over e₁ same; stage = stage-within j en q (same-over (rw en₁ e) (same-back e₁)) (rw el few) (rw (en₁, el) hd) }, refl, refl)
 
 -- a store of an update's first change: the last one enters it
-pub update-stored : {c : List ℕ} {n key : ℕ} {t : Tree} {s : Store} {rest : List Store} {free : List Bool} {cut : List ℕ} {doing : Doing} {final : Answer} {u : Update} {goal : Tree} (f : Bool) (k last steps : ℕ) (z : List Store) (l : List (ℕ × ℕ)) → Table c n t → Same (pairs t) l
-    → Job doing key final (some u) → (p : Changing c n key t (s ∷ rest) free cut) → Enters u (pairs t) (pairs (p .next)) → k + suc (length rest) ≡ deciding u f → length rest + (73 * p .level + 1) ≤ steps → Heads (p .level) (bare (p .next)) goal
-    → Toward goal n steps (record { card = set c (s .0) (s .1); memory = advanced (memory n free last doing z cut) rest }) (counted u f k false l) (some final)
-unfolding advanced counted
-update-stored {c} {n} {key} {t} {s} {rest} {free} {cut} {doing} {final} {u} {goal} f k last steps z l b same j p e count few hd = at rest (one-store b p) count few
+pub update-stored : {c : List ℕ} {n key : ℕ} {t : Tree} {s : Store} {rest : List Store} {free : List Bool} {cut : List ℕ} {doing : Doing} {due : Answer} {u : Update} {goal : Tree} (deciding k last steps : ℕ) (z : List Store) (l : List (ℕ × ℕ)) → Table c n t → Same (pairs t) l
+    → Job doing key due (some u) → (p : Changing c n key t (s ∷ rest) free cut) → Enters u (pairs t) (pairs (p .next)) → k + suc (length rest) ≡ deciding → length rest + (73 * p .level + 1) ≤ steps → Heads (p .level) (bare (p .next)) goal
+    → Toward goal due n steps (record { card = set c (s .0) (s .1); state = advanced (memory n free last doing z cut) rest }) (fedStep goesOn l (holding u deciding k))
+unfolding advanced fedStep
+update-stored {c} {n} {key} {t} {s} {rest} {free} {cut} {doing} {due} {u} {goal} deciding k last steps z l b same j p e count few hd = at rest (one-store b p) count few
   where
-    at : (rest : List Store) → Left n key c t free cut (p .next) (p .level) s rest → k + suc (length rest) ≡ deciding u f → length rest + (73 * p .level + 1) ≤ steps
-        → Toward goal n steps (record { card = set c (s .0) (s .1); memory = advanced (memory n free last doing z cut) rest }) (counted u f k false l) (some final)
+    at : (rest : List Store) → Left n key c t free cut (p .next) (p .level) s rest → k + suc (length rest) ≡ deciding → length rest + (73 * p .level + 1) ≤ steps
+        → Toward goal due n steps (record { card = set c (s .0) (s .1); state = advanced (memory n free last doing z cut) rest }) (fedStep goesOn l (holding u deciding k))
     at rest (all-made b′) count few =
-        rw (eq-eqb (suc k) (deciding u f) (omega arith)) (
+        rw (eq-eqb (suc k) deciding (omega arith)) (
           record {
             tree = p .next;
             goal = goal;
+            due = due;
             table = b′;
             openable = record { free = withAll cut free; exact = p .exact; key = key; deep = p .level; ready = p .ready };
             same = e .to l same;
-            stage = stage-between j updated (p .level) (p .ready) (p .exact) (omega arith) hd;
+            stage = stage-between j (updated {deciding = deciding} {count = suc k} (omega arith)) (p .level) (p .ready) (p .exact) (omega arith) hd;
           },
+          refl,
           refl,
         )
     at rest (some-left {rest = r} v b′ o e₁ q en el) count few =
-        let q′ : suc k + suc (length r) ≡ deciding u f = omega arith in
-        rw (ne-eqb (suc k) (deciding u f) (omega arith))
-        (record { tree = v; goal = goal; table = b′; openable = o; same = same-over e₁ same; stage = stage-first {f = f} {k = suc k} j q (enters-from (same-back e₁) (rw en e)) q′ (rw el few) (rw (en, el) hd) }, refl)
+        let q′ : suc k + suc (length r) ≡ deciding = omega arith in
+        rw (ne-eqb (suc k) deciding (omega arith))
+        (record { tree = v; goal = goal; due = due; table = b′; openable = o; same = same-over e₁ same; stage = stage-first {count = suc k} j q (enters-from (same-back e₁) (rw en e)) q′ (rw el few) (rw (en, el) hd) }, refl, refl)

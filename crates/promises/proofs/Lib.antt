@@ -1,24 +1,22 @@
--- what happens to a card: the calls of document 01 that a list of demand 3 may hold, and power going, after which the card is opened anew
-pub mod Machine
--- the book, here the ledger
-pub mod Ledger
--- what the ledger is fed of each event: document 01, "The book and the cut"
-pub mod Feeding
--- THE POWER-CUT PROMISE, demand 3, as one claim about whole lists
-pub mod Promise
--- demand 2, "an update taking at most 657 stores": what it means that the work in hand comes to its end, and how it leaves the table
+-- refusals have numbers below 64
+pub mod AnswerNumbers
+-- the number of a reply tells which answer it is
+pub mod ReplyLaws
+-- where a key leads on a card is where the calls land
+pub mod WayDown
+-- how the work in hand leaves the table, and how many words an update may store
 pub mod Finishing
--- what entering an update does to totals, and so to the map
-pub mod LedgerLaws
+-- what entering an update does to totals, and so to the map; the dictionary's answers
+pub mod BookLaws
 -- what the look-up in a leaf tells about its rows
 pub mod Slots
 -- A leaf of a balanced table is changed in its place: what the table is then
 pub mod LeafAfter
--- the first change of an insert or a delete on a balanced table: its stores, the tree they lead to, and what the ledger enters
+-- the first change of an insert or a delete on a balanced table: its stores, the tree they lead to, and what the book enters
 pub mod FirstChanges
 -- what an update makes of a tree without numbers: its first change, and what the repairs after it come to
 pub mod Shapes
--- what holds of a card, its state, the ledger and the answer due, at every moment
+-- what holds of a card, its state and the book, at every moment
 pub mod Invariant
 -- what a step is on a card that holds a table, by what is being done
 pub mod Steps
@@ -28,21 +26,21 @@ pub mod Reopen
 pub mod Begin
 -- every event keeps the invariant; a step uses one of the steps that are left
 pub mod Kept
--- A step keeps the invariant, feeds the ledger rightly, and gives the answer that is due
+-- A step keeps the invariant, feeds the book rightly, and gives the answer that is due
 pub mod Stepping
 -- starting an update keeps the invariant: refused, nothing changes; not refused, the update is in hand and its answer due
 pub mod Starting
--- what an accepted card shows: its header, its table, that it can be opened again; and what a find answers on a table
+-- what a card that opens shows: its header, its table, that it can be opened again; and what a find answers on a table
 pub mod Accepting
--- the proof of the power-cut promise
+-- every list of calls and cuts keeps the invariant, from where it begins
 pub mod PowerLoss
 -- the work in hand finishes, no step of it is refused, and it leaves a balanced table with three free nodes or more: what the invariant says about every step, put together
 pub mod Finished
--- DEMAND 2 over the lists of demand 3, "On a table formatted or opened by these calls and worked by them alone": every update gives the answer of the paper's dictionary after at most 657 stores, and at most 73 × (h + 1) on a table of h levels; no step of it is refused, and opening's repair ends too
+-- an update that is started stores at most 657 words, and at most 73 × (h + 1) on a table of h levels, and gives the dictionary's answer
 pub mod Dictionary
 -- the room of an insert, by what it finds in its leaf
 pub mod RoomLaws
--- DEMAND 2, what room there is: on an idle state the table is balanced, at most 8 levels high
+-- what room there is: on an idle state an insert is started unless its leaf is full and fewer than j + 5 nodes are free
 pub mod Room
 -- what opening refuses, exactly
 pub mod OpenRefusals

@@ -5,8 +5,8 @@ use mathlib.Core.List.{List, [], _∷_}
 use Prim.Native.Nat.{ℕ, _≤_, _<_}
 use Rattle.card.specs.Layout.{lowestKey, keyLimit}
 use Rattle.promises.proofs.Alike.{Outcome, outcome, leaves, outcomes, shapeLeft}
-use Rattle.promises.proofs.Feeding.{updateKey}
-use Rattle.promises.proofs.Ledger.{Update}
+use Rattle.promises.proofs.Shapes.{keyOf}
+use Rattle.promises.specs.Book.{Update}
 use Rattle.tree.specs.Tree.{Tree}
 
 pub data Line : Type 0 where
@@ -31,11 +31,11 @@ pub data Works (World : Type 0) (Whole : Line → Update → World → World →
 
 abbrev pub AllKeys : List (Line × Update) → Type 0
 AllKeys [] = Unit
-AllKeys (u ∷ us) = (lowestKey ≤ updateKey (u .1)) × (updateKey (u .1) < keyLimit) × AllKeys us
+AllKeys (u ∷ us) = (lowestKey ≤ keyOf (u .1)) × (keyOf (u .1) < keyLimit) × AllKeys us
 
 module _ (World : Type 0) (Whole : Line → Update → World → World → Outcome → Type 0) (Resting : World → Tree → Tree → Type 0) (limit limit′ : ℕ)
-    (first-whole : (u : Update) (w v : World) (o : Outcome) (t s : Tree) → Whole first u w v o → Resting w t s → lowestKey ≤ updateKey u → updateKey u < keyLimit → (o ≡ outcome limit u t) × Resting v (leaves limit u t) s)
-    (second-whole : (u : Update) (w v : World) (o : Outcome) (t s : Tree) → Whole second u w v o → Resting w t s → lowestKey ≤ updateKey u → updateKey u < keyLimit → (o ≡ outcome limit′ u s) × Resting v t (leaves limit′ u s))
+    (first-whole : (u : Update) (w v : World) (o : Outcome) (t s : Tree) → Whole first u w v o → Resting w t s → lowestKey ≤ keyOf u → keyOf u < keyLimit → (o ≡ outcome limit u t) × Resting v (leaves limit u t) s)
+    (second-whole : (u : Update) (w v : World) (o : Outcome) (t s : Tree) → Whole second u w v o → Resting w t s → lowestKey ≤ keyOf u → keyOf u < keyLimit → (o ≡ outcome limit′ u s) × Resting v t (leaves limit′ u s))
   where
     pub lines-apart : {us : List (Line × Update)} {w v : World} {os : List (Line × Outcome)} → Works World Whole us w v os → (t s : Tree) → Resting w t s → AllKeys us
         → (own first os ≡ outcomes limit (own first us) t) × (own second os ≡ outcomes limit′ (own second us) s) × Resting v (shapeLeft limit (own first us) t) (shapeLeft limit′ (own second us) s)

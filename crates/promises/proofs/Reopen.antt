@@ -2,7 +2,8 @@
 use mathlib.Core.Path.{_≡_, refl, ap, sym, _∙_}
 use mathlib.Core.List.{List}
 use mathlib.Core.Bool.{Bool, true, false}
-use mathlib.Core.Option.{none, some}
+use mathlib.Core.Option.{some}
+use mathlib.Core.Logic.{_⊎_, inl, inr}
 use Prim.Native.Nat.{ℕ, _+_, _*_, _≤_}
 use native.Mathlib.Omega.{arith}
 use lib.ListN.{length}
@@ -18,9 +19,9 @@ use Rattle.change_theory.proofs.Reserve.{reserve-total}
 use Rattle.descent_theory.proofs.Way.{depth-plug}
 use Rattle.free_nodes.specs.NodeSet.{countTrue}
 use Rattle.laws.proofs.Bits.{bit-true, bit-false}
-use Rattle.laws.proofs.Cases.{bool-cases, impossible}
+use Rattle.laws.proofs.Cases.{bool-cases}
 use Rattle.promises.proofs.Invariant.{Table, Stage, job-repair, no-update, stage-idle, stage-between}
-use Rattle.promises.proofs.Ledger.{empty}
+use Rattle.promises.specs.Book.{empty}
 use Rattle.soundness.specs.Check.{Findings, tableCheck}
 use Rattle.soundness_theory.proofs.Depth.{well-formed-depth}
 use Rattle.soundness_theory.proofs.Facts.{Facts}
@@ -30,8 +31,8 @@ use Rattle.state.specs.Steps.{Handed, isIdle}
 use Rattle.opening.specs.Opening.{openSound, openChecked, openOf}
 use Rattle.state.specs.Memory.{resting}
 use Rattle.state.specs.declared.Doing.the-variants.{Idle, Repairing}
-use Rattle.state.specs.declared.Begun.{Begun}
-use Rattle.state.specs.declared.Begun.the-variants.{Idle as OpenedIdle, Started, Refused as BegunRefused}
+use Rattle.state.specs.declared.Answer.the-variants.{Ready}
+use Rattle.state.specs.declared.Begun.the-variants.{Idle as OpenedIdle, Started}
 use Rattle.tree.proofs.Pairs.{depth}
 use Rattle.tree.proofs.Path.{depthOf, reserve, Violation}
 use Rattle.tree.specs.Tree.{Tree}
@@ -98,10 +99,8 @@ pub record Reopened (c : List ℕ) (n : ℕ) (t : Tree) : Type 0 where
   pub few-steps : steps ≤ 73 * depthLimit + 1
   pub goal : Tree
   pub goal-is : goal ≡ settledBy depthLimit (bare t)
-  pub stage : Stage c n t goal steps (openOf c .memory) empty none
-  pub accepted : (r : ℕ) → openOf c .begun ≡ BegunRefused r → ⊥
-  pub idle-when-balanced : openOf c .begun ≡ OpenedIdle → tableViolations t ≡ 0
-  pub busy-when-started : openOf c .begun ≡ Started → isIdle (openOf c .memory .doing) ≡ false
+  pub stage : Stage c n t goal steps (openOf c .memory) empty Ready
+  pub hands : ((openOf c .begun ≡ OpenedIdle) × (openOf c .memory .doing ≡ Idle)) ⊎ ((openOf c .begun ≡ Started) × (isIdle (openOf c .memory .doing) ≡ false))
 
 repair-busy : (n : ℕ) (free : List Bool) (key : ℕ) → isIdle (resting n free (Repairing key) .doing) ≡ false
 unfolding resting isIdle
@@ -148,9 +147,7 @@ reopened c n t b o = go (sound-accepted c n (b .sized .words) (b .sized .most) t
               stage = rw is (stage-between job-repair no-update (depthOf (v .0 .context)) (violated (v .0) w room) (facts-exact x) (omega arith) (record { repairs = depthLimit; enough = omega (arith, violation-deep t (f .key) (v .0), x .deep); reaches = refl }));
               goal = settledBy depthLimit (bare t);
               goal-is = refl;
-              accepted = λ r z. let y : _≡_ {A = Begun} Started (BegunRefused r) = rw is at z in impossible (cc);
-              idle-when-balanced = λ z. let y : _≡_ {A = Begun} Started OpenedIdle = rw is at z in impossible (cc);
-              busy-when-started = λ z. ap (λ (x : Handed). isIdle (x .memory .doing)) is ∙ repair-busy n (f .free) (f .key);
+              hands = inr (ap (λ (x : Handed). x .begun) is, ap (λ (x : Handed). isIdle (x .memory .doing)) is ∙ repair-busy n (f .free) (f .key));
             }
 
         whole : f .violated ≡ false → Reopened c n t
@@ -164,7 +161,5 @@ reopened c n t b o = go (sound-accepted c n (b .sized .words) (b .sized .most) t
               stage = let enough : 3 ≤ countTrue (f .free) = omega (arith, room-idle z, count-same f h x) in rw is (stage-idle z enough (facts-exact x) refl);
               goal = bare t;
               goal-is = heads-done {deep = 0} (record { repairs = depthLimit; enough = omega arith; reaches = refl }) (bare-table-violations t ∙ z);
-              accepted = λ r k. let y : _≡_ {A = Begun} OpenedIdle (BegunRefused r) = rw is at k in impossible (cc);
-              idle-when-balanced = λ k. z;
-              busy-when-started = λ k. let y : _≡_ {A = Begun} OpenedIdle Started = rw is at k in impossible (cc);
+              hands = inl (ap (λ (x : Handed). x .begun) is, ap (λ (x : Handed). x .memory .doing) is);
             }

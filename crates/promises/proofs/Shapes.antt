@@ -4,7 +4,7 @@ use mathlib.Core.Bool.{false}
 use mathlib.Core.Option.{Option, none, some}
 use Prim.Native.Nat.{ℕ}
 use Rattle.card.specs.Layout.{depthLimit}
-use Rattle.promises.proofs.Ledger.{Update, put, remove}
+use Rattle.promises.specs.Book.{Update, put, remove}
 use Rattle.shapes.proofs.Bare.{bare, bare-pairs}
 use Rattle.shapes.proofs.Next.{changedBy, putIn, takeOut}
 use Rattle.shapes.proofs.Whole.{settledBy}

@@ -1,8 +1,7 @@
 -- Starting an update keeps the invariant: refused, nothing changes; not refused, the update is in hand and its answer due.
-use mathlib.Core.Path.{_≡_, refl, ap, _∙_}
+use mathlib.Core.Path.{_≡_, refl, ap, sym, subst, _∙_}
 use mathlib.Core.List.{List, []}
 use mathlib.Core.Bool.{Bool, true, false}
-use mathlib.Core.Option.{Option, none}
 use mathlib.Core.Logic.{_⊎_, inl, inr}
 use Prim.Native.Nat.{ℕ, _+_, _≤_, _<_}
 use native.Mathlib.Omega.{arith}
@@ -17,11 +16,15 @@ use Rattle.descent_theory.proofs.Landing.{landing-found}
 use Rattle.free_nodes.specs.NodeSet.{countTrue}
 use Rattle.laws.proofs.Cases.{bool-cases, order, impossible}
 use Rattle.laws.specs.Cases.{pick}
-use Rattle.promises.proofs.Feeding.{begunResult, leafFull, fed, dueAfterStart, dueAfter}
+use Rattle.promises.specs.Way.{leafFull}
+use Rattle.promises.proofs.BookLaws.{dictionaryAnswer}
+use Rattle.state.specs.Answers.{startReply}
+use borrow.Author.Tests.{lt-ltb}
 use Rattle.promises.proofs.Finishing.{updateStoresAt}
-use Rattle.promises.proofs.Invariant.{Toward, UpdateSteps, Stage, Inv, stage-idle, stage-put, stage-remove, stage-first, stage-between, stage-within}
-use Rattle.promises.proofs.Ledger.{Update, Hand, Ledger, fedAStart, feed, put, remove, empty}
-use Rattle.promises.proofs.Machine.{World, happens, run, insert, delete}
+use Rattle.promises.proofs.Invariant.{UpdateSteps, Stage, Inv, stage-idle, stage-put, stage-remove, stage-first, stage-between, stage-within}
+use Rattle.promises.specs.Book.{Update, Hand, Book, fedStart, feed, isRefused, outcome, told, put, remove}
+use Rattle.promises.specs.Events.{World, replyTo, happens, insert, delete}
+use Rattle.promises.specs.RationTable.{rationTable}
 use Rattle.promises.proofs.Reopen.{table-well-formed, table-depth-limited}
 use Rattle.promises.proofs.Steps.{memory, job-busy}
 use Rattle.soundness_theory.proofs.Level.{same-height}
@@ -33,14 +36,14 @@ use Rattle.state.specs.declared.Doing.{Doing}
 use Rattle.state.specs.declared.Doing.the-variants.{Idle, Inserting, Deleting}
 use Rattle.state.specs.declared.Answer.{Answer}
 use Rattle.state.specs.declared.Begun.{Begun}
-use Rattle.state.specs.declared.Begun.the-variants.{Idle as OpenedIdle, Started, Refused as BegunRefused}
+use Rattle.state.specs.declared.Begun.the-variants.{Started, Refused as BegunRefused}
 use Rattle.tree.proofs.Lookup.{key-once, lookup-same}
 use Rattle.tree.specs.Pairs.{pairs, lookup}
 use Rattle.tree.proofs.Path.{fullRun}
 use Rattle.tree.proofs.Represent.{linkPlace}
 use Rattle.tree.specs.Height.{Height}
 use Rattle.tree.specs.Tree.{Tree}
-use Rattle.promises.proofs.Shapes.{afterShape}
+use Rattle.promises.proofs.Shapes.{keyOf, afterShape}
 use Rattle.shapes.proofs.Bare.{bare}
 use Rattle.tree.specs.Violations.{few, tableViolations}
 use Rattle.tree.specs.WellFormed.{WellFormed}
@@ -76,46 +79,47 @@ unfolding landing
 landing-is c n key e = e
 
 -- a state is idle, or some work is in progress
-pub idle-or-busy : {c : List ℕ} {n : ℕ} {t goal : Tree} {steps : ℕ} {m : Memory} {h : Hand} {due : Option Answer} → Stage c n t goal steps m h due
-    → (m .nodes ≡ n) × ((isIdle (m .doing) ≡ false) ⊎ ((free : List Bool) × (last : ℕ) × (m ≡ memory n free last Idle [] []) × (h ≡ empty) × (due ≡ none) × (tableViolations t ≡ 0) × (3 ≤ countTrue free) × Exact n free t × (bare t ≡ goal)))
+pub idle-or-busy : {c : List ℕ} {n : ℕ} {t goal : Tree} {steps : ℕ} {m : Memory} {h : Hand} {due : Answer} → Stage c n t goal steps m h due
+    → (m .nodes ≡ n) × ((isIdle (m .doing) ≡ false) ⊎ ((free : List Bool) × (last : ℕ) × (m ≡ memory n free last Idle [] []) × (tableViolations t ≡ 0) × (3 ≤ countTrue free) × Exact n free t × (bare t ≡ goal)))
 unfolding isIdle
-idle-or-busy (stage-idle {free} {last} z r x g) = (refl, inr (free, last, refl, refl, refl, z, r, x, g))
+idle-or-busy (stage-idle {free} {last} z r x g) = (refl, inr (free, last, refl, z, r, x, g))
 idle-or-busy (stage-put z r x low high room few g) = (refl, inl refl)
 idle-or-busy (stage-remove z r x low high few g) = (refl, inl refl)
 idle-or-busy (stage-first j p en count few g) = (refl, inl (job-busy j .not-idle))
 idle-or-busy (stage-between j en deep r x few g) = (refl, inl (job-busy j .not-idle))
 idle-or-busy (stage-within j en p e few g) = (refl, inl (job-busy j .not-idle))
 
--- a start that was not refused: the state was idle, and work is in hand, with so many steps left as the table's depth asks for
-pub record Fresh (c : List ℕ) (m : Memory) (g : Handed) (steps : ℕ) : Type 0 where
-  pub idle-before : g .begun ≡ Started → m .doing ≡ Idle
-  pub steps-left : g .begun ≡ Started → (t : Tree) → WellFormed c t → (h : ℕ) → Height h t → steps ≤ updateStoresAt h + 1
+-- a start that was not refused: the state was idle, and work is in hand, with so many steps left as the table's depth asks for, with the
+-- update's goal, and with the dictionary's answer due
+pub record Fresh {n steps k : ℕ} {w v : World rationTable} {b l : Book} (u : Update) (g : Handed) (i : Inv n steps w b) (j : Inv n k v l) : Type 0 where
+  pub idle-before : g .begun ≡ Started → w .state .doing ≡ Idle
+  pub steps-left : g .begun ≡ Started → (t : Tree) → WellFormed (w .card) t → (h : ℕ) → Height h t → k ≤ updateStoresAt h + 1
   pub busy : g .begun ≡ Started → isIdle (g .memory .doing) ≡ false
-
--- the goal of what is in hand after a start
-unfoldable pub goalAfter : Begun → Update → Tree → Tree
-goalAfter Started u goal = afterShape u goal
-goalAfter OpenedIdle u goal = goal
-goalAfter (BegunRefused r) u goal = goal
+  pub new-goal : g .begun ≡ Started → j .goal ≡ afterShape u (i .goal)
+  pub new-due : g .begun ≡ Started → j .due ≡ dictionaryAnswer (lookup (keyOf u) (b .held))
 
 -- what a start leaves, by the call's beginning
-abbrev Goal : Tree → ℕ → World → Ledger → Option Answer → Update → Bool → Handed → Type 0
-Goal goal n w b due u was-full g = (k : ℕ) × Fresh (w .card) (w .memory) g k × Toward (goalAfter (g .begun) u goal) n k (record { card = w .card; memory = g .memory }) (fedAStart u was-full (begunResult (g .begun)) (b .held) (b .inHand)) (dueAfterStart (begunResult (g .begun)) u (b .held) due)
+abbrev Goal : {n steps : ℕ} {w : World rationTable} {b : Book} → Inv n steps w b → Update → ℕ → Handed → Type 0
+Goal {n} {steps} {w} {b} i u deciding g = (k : ℕ) × (j : Inv n k (record { card = w .card; state = g .memory }) (fedStart (outcome (startReply (g .begun))) u deciding b)) × Fresh u g i j
 
-refused-goal : (n steps : ℕ) (w : World) (b : Ledger) (due : Option Answer) (u : Update) (was-full : Bool) (r : ℕ) → (i : Inv n steps w b due) → Goal (i .goal) n w b due u was-full (startRefused r (w .memory))
-unfolding startRefused begunResult fedAStart dueAfterStart goalAfter
-refused-goal n steps w b due u was-full r i = (steps, record { idle-before = λ e. not-started e; steps-left = λ e. not-started e; busy = λ e. not-started e }, (record { tree = i .tree; goal = i .goal; table = i .table; openable = i .openable; same = i .same; stage = i .stage }, refl))
+refused-goal : {n steps : ℕ} (w : World rationTable) (b : Book) (i : Inv n steps w b) (u : Update) (deciding r : ℕ) → r < 64 → Goal i u deciding (startRefused r (w .state))
+unfolding startRefused startReply outcome fedStart isRefused
+refused-goal {steps = steps} w b i u deciding r h = rw (lt-ltb r 64 h) (
+  steps,
+  record { tree = i .tree; goal = i .goal; due = i .due; table = i .table; openable = i .openable; same = i .same; stage = i .stage },
+  record { idle-before = λ e. not-started e; steps-left = λ e. not-started e; busy = λ e. not-started e; new-goal = λ e. not-started e; new-due = λ e. not-started e },
+)
   where
     not-started : {P : Type 0} → _≡_ {A = Begun} (BegunRefused r) Started → P
     not-started e = impossible (cc)
 
--- the answer due by the ledger's pairs is that by the tree's
-pub same-lookup : {n steps : ℕ} {w : World} {b : Ledger} {due : Option Answer} (i : Inv n steps w b due) (key : ℕ) → lookup key (pairs (i .tree)) ≡ lookup key (b .held)
+-- the answer due by the book's pairs is that by the tree's
+pub same-lookup : {n steps : ℕ} {w : World rationTable} {b : Book} (i : Inv n steps w b) (key : ℕ) → lookup key (pairs (i .tree)) ≡ lookup key (b .held)
 same-lookup {b = b} i key = lookup-same key (pairs (i .tree)) (b .held) (i .same .totals) (key-once lowestKey keyLimit key (i .tree) (i .table .sound .range))
 
 -- how many steps an update of the table may take. "h being the depth when the call began" (document 02, W-214) is that of every
 -- tree that the card's words represent.
-module _ {n steps : ℕ} {w : World} {b : Ledger} {due : Option Answer} (i : Inv n steps w b due) where
+module _ {n steps : ℕ} {w : World rationTable} {b : Book} (i : Inv n steps w b) where
   abbrev mostSteps : ℕ
   mostSteps = updateStoresAt (i .table .sound .level .0) + 1
 
@@ -126,70 +130,72 @@ module _ {n steps : ℕ} {w : World} {b : Ledger} {due : Option Answer} (i : Inv
   steps-by-depth t v h j = omega (arith, same-height (w .card) n (i .table .sized .words) (i .table .sized .most) (i .tree) t (table-well-formed (i .table)) v (i .table .sound .level .0) h (i .table .sound .level .1) j)
 
 -- started: the update is in hand, and its answer by the map is due
-put-started : {steps : ℕ} (n : ℕ) (w : World) (b : Ledger) (due : Option Answer) (i : Inv n steps w b due) (free : List Bool) (last key value : ℕ) → w .memory ≡ memory n free last Idle [] [] → tableViolations (i .tree) ≡ 0 → 3 ≤ countTrue free → Exact n free (i .tree) → bare (i .tree) ≡ i .goal → lowestKey ≤ key → key < keyLimit
-    → startRoom (w .card) key (w .memory .free) (landing (w .card) (w .memory .nodes) key) ≡ true → Goal (i .goal) n w b due (put key value) (leafFull (w .card) (w .memory .nodes) key) (started (w .memory) (Inserting key value false))
-unfolding started begunResult fedAStart dueAfterStart isIdle goalAfter
-put-started n w b due i free last key value em z r x eg low high q =
-    let q′ : startRoom (w .card) key free (landing (w .card) n key) ≡ true = rw em at q in
-    rw (em, ← same-lookup i key)
-    (mostSteps i, record { idle-before = λ e. refl; steps-left = λ e. steps-by-depth i; busy = λ e. refl }, (record { tree = i .tree; goal = afterShape (put key value) (i .goal); table = i .table; openable = i .openable; same = i .same; stage = stage-put z r x low high q′ (enough-steps i) (ap (afterShape (put key value)) eg) }, refl))
+put-started : {n steps : ℕ} (w : World rationTable) (b : Book) (i : Inv n steps w b) (free : List Bool) (last key value : ℕ) → w .state ≡ memory n free last Idle [] [] → tableViolations (i .tree) ≡ 0 → 3 ≤ countTrue free → Exact n free (i .tree) → bare (i .tree) ≡ i .goal → lowestKey ≤ key → key < keyLimit
+    → startRoom (w .card) key (w .state .free) (landing (w .card) (w .state .nodes) key) ≡ true → Goal i (put key value) (pick (leafFull (w .card) key) 73 2) (started (w .state) (Inserting key value false))
+unfolding started startReply outcome fedStart isRefused isIdle
+put-started {n} w b i free last key value em z r x eg low high q =
+    let q′ : startRoom (w .card) key free (landing (w .card) n key) ≡ true = rw em at q in (
+      mostSteps i,
+      record { tree = i .tree; goal = afterShape (put key value) (i .goal); due = dictionaryAnswer (lookup key (pairs (i .tree))); table = i .table; openable = i .openable; same = i .same; stage = rw em (stage-put {free = free} {last = last} z r x low high q′ (enough-steps i) (ap (afterShape (put key value)) eg)) },
+      record { idle-before = λ e. ap (λ (y : Memory). y .doing) em; steps-left = λ e. steps-by-depth i; busy = λ e. refl; new-goal = λ e. refl; new-due = λ e. ap dictionaryAnswer (same-lookup i key) },
+    )
 
-remove-started : {steps : ℕ} (n : ℕ) (w : World) (b : Ledger) (due : Option Answer) (i : Inv n steps w b due) (free : List Bool) (last key : ℕ) → w .memory ≡ memory n free last Idle [] [] → tableViolations (i .tree) ≡ 0 → 3 ≤ countTrue free → Exact n free (i .tree) → bare (i .tree) ≡ i .goal → lowestKey ≤ key → key < keyLimit
-    → Goal (i .goal) n w b due (remove key) false (started (w .memory) (Deleting key false 0))
-unfolding started begunResult fedAStart dueAfterStart isIdle goalAfter
-remove-started n w b due i free last key em z r x eg low high =
-    rw (em, ← same-lookup i key)
-    (mostSteps i, record { idle-before = λ e. refl; steps-left = λ e. steps-by-depth i; busy = λ e. refl }, (record { tree = i .tree; goal = afterShape (remove key) (i .goal); table = i .table; openable = i .openable; same = i .same; stage = stage-remove z r x low high (enough-steps i) (ap (afterShape (remove key)) eg) }, refl))
+remove-started : {n steps : ℕ} (w : World rationTable) (b : Book) (i : Inv n steps w b) (free : List Bool) (last key : ℕ) → w .state ≡ memory n free last Idle [] [] → tableViolations (i .tree) ≡ 0 → 3 ≤ countTrue free → Exact n free (i .tree) → bare (i .tree) ≡ i .goal → lowestKey ≤ key → key < keyLimit
+    → Goal i (remove key) 1 (started (w .state) (Deleting key false 0))
+unfolding started startReply outcome fedStart isRefused isIdle
+remove-started w b i free last key em z r x eg low high = (
+  mostSteps i,
+  record { tree = i .tree; goal = afterShape (remove key) (i .goal); due = dictionaryAnswer (lookup key (pairs (i .tree))); table = i .table; openable = i .openable; same = i .same; stage = rw em (stage-remove {free = free} {last = last} z r x low high (enough-steps i) (ap (afterShape (remove key)) eg)) },
+  record { idle-before = λ e. ap (λ (y : Memory). y .doing) em; steps-left = λ e. steps-by-depth i; busy = λ e. refl; new-goal = λ e. refl; new-due = λ e. ap dictionaryAnswer (same-lookup i key) },
+)
 
-module _ (n steps : ℕ) (w : World) (b : Ledger) (due : Option Answer) (i : Inv n steps w b due) where
-  pub nodes-same : w .memory .nodes ≡ n
+module _ (n steps : ℕ) (w : World rationTable) (b : Book) (i : Inv n steps w b) where
+  pub nodes-same : w .state .nodes ≡ n
   nodes-same = idle-or-busy (i .stage) .0
 
   -- the leaf that a key leads to
-  pub lands : (key : ℕ) → lowestKey ≤ key → key < keyLimit → (leaf : ℕ) × (link : ℕ) × (above : ℕ) × (landing (w .card) (w .memory .nodes) key ≡ LandingAt leaf link above)
+  pub lands : (key : ℕ) → lowestKey ≤ key → key < keyLimit → (leaf : ℕ) × (link : ℕ) × (above : ℕ) × (landing (w .card) (w .state .nodes) key ≡ LandingAt leaf link above)
   lands key low high =
       let g = landing-found (w .card) n key (i .table .sized .words) lowestKey keyLimit (i .tree) (i .table .holds) (i .table .sound .range) low high (omega arith) (table-depth-limited (i .table)) in
       (g .number, linkPlace (g .context), fullRun (g .context), rw nodes-same (landing-is (w .card) n key (g .landed)))
 
   -- the checks 1, 2 and 3 are passed
-  passed : (key : ℕ) (doing : Doing) (room : Landing → Bool) → startOf (w .card) (w .memory) key doing room ≡ startChecked (w .card) (w .memory) key doing room
-  passed key doing room = start-passed (w .card) n (i .table .sized) (i .table .header) (w .memory) key doing room nodes-same
+  passed : (key : ℕ) (doing : Doing) (room : Landing → Bool) → startOf (w .card) (w .state) key doing room ≡ startChecked (w .card) (w .state) key doing room
+  passed key doing room = start-passed (w .card) n (i .table .sized) (i .table .header) (w .state) key doing room nodes-same
 
   -- on an idle state nothing but the room decides
-  pub room-decides : (key : ℕ) (doing : Doing) (room : Landing → Bool) → w .memory .doing ≡ Idle → lowestKey ≤ key → key < keyLimit
-      → startOf (w .card) (w .memory) key doing room ≡ pick (room (landing (w .card) (w .memory .nodes) key)) (started (w .memory) doing) (startRefused 8 (w .memory))
-  room-decides key doing room idle low high = let g = lands key low high in passed key doing room ∙ start-landed (w .card) (w .memory) key doing room (g .0) (g .1) (g .2) (is-idle idle) (omega arith) (g .3)
+  pub room-decides : (key : ℕ) (doing : Doing) (room : Landing → Bool) → w .state .doing ≡ Idle → lowestKey ≤ key → key < keyLimit
+      → startOf (w .card) (w .state) key doing room ≡ pick (room (landing (w .card) (w .state .nodes) key)) (started (w .state) doing) (startRefused 8 (w .state))
+  room-decides key doing room idle low high = let g = lands key low high in passed key doing room ∙ start-landed (w .card) (w .state) key doing room (g .0) (g .1) (g .2) (is-idle idle) (omega arith) (g .3)
 
-  start-with : (key : ℕ) (doing : Doing) (room : Landing → Bool) (u : Update) (was-full : Bool) → key < keyLimit
-      → ((free : List Bool) (last : ℕ) → w .memory ≡ memory n free last Idle [] [] → tableViolations (i .tree) ≡ 0 → 3 ≤ countTrue free → Exact n free (i .tree) → bare (i .tree) ≡ i .goal → lowestKey ≤ key → room (landing (w .card) (w .memory .nodes) key) ≡ true → Goal (i .goal) n w b due u was-full (started (w .memory) doing))
-      → Goal (i .goal) n w b due u was-full (startOf (w .card) (w .memory) key doing room)
-  start-with key doing room u was-full high begin = go (idle-or-busy (i .stage) .1)
+  start-with : (key : ℕ) (doing : Doing) (room : Landing → Bool) (u : Update) (deciding : ℕ) → key < keyLimit
+      → ((free : List Bool) (last : ℕ) → w .state ≡ memory n free last Idle [] [] → tableViolations (i .tree) ≡ 0 → 3 ≤ countTrue free → Exact n free (i .tree) → bare (i .tree) ≡ i .goal → lowestKey ≤ key → room (landing (w .card) (w .state .nodes) key) ≡ true → Goal i u deciding (started (w .state) doing))
+      → Goal i u deciding (startOf (w .card) (w .state) key doing room)
+  start-with key doing room u deciding high begin = go (idle-or-busy (i .stage) .1)
     where
-      go : (isIdle (w .memory .doing) ≡ false) ⊎ ((free : List Bool) × (last : ℕ) × (w .memory ≡ memory n free last Idle [] []) × (b .inHand ≡ empty) × (due ≡ none) × (tableViolations (i .tree) ≡ 0) × (3 ≤ countTrue free) × Exact n free (i .tree) × (bare (i .tree) ≡ i .goal))
-          → Goal (i .goal) n w b due u was-full (startOf (w .card) (w .memory) key doing room)
-      go (inl q) = rw (passed key doing room ∙ start-busy (w .card) (w .memory) key doing room q) (refused-goal n steps w b due u was-full 7 i)
-      go (inr (free, last, em, eh, ed, z, r, x, eg)) =
+      refused-with : (r : ℕ) → r < 64 → startOf (w .card) (w .state) key doing room ≡ startRefused r (w .state) → Goal i u deciding (startOf (w .card) (w .state) key doing room)
+      refused-with r h e = subst (Goal i u deciding) (sym e) (refused-goal w b i u deciding r h)
+
+      go : (isIdle (w .state .doing) ≡ false) ⊎ ((free : List Bool) × (last : ℕ) × (w .state ≡ memory n free last Idle [] []) × (tableViolations (i .tree) ≡ 0) × (3 ≤ countTrue free) × Exact n free (i .tree) × (bare (i .tree) ≡ i .goal))
+          → Goal i u deciding (startOf (w .card) (w .state) key doing room)
+      go (inl q) = refused-with 7 (omega arith) (passed key doing room ∙ start-busy (w .card) (w .state) key doing room q)
+      go (inr (free, last, em, z, r, x, eg)) =
           order key 1
-          (λ o. rw (passed key doing room ∙ start-zero (w .card) (w .memory) key doing room (is-idle idle) (omega arith)) (refused-goal n steps w b due u was-full 6 i))
-          (λ o. rw (room-decides key doing room idle o high)
-          (bool-cases (room (landing (w .card) (w .memory .nodes) key)) (λ q. rw q (begin free last em z r x eg o q)) (λ q. rw q (refused-goal n steps w b due u was-full 8 i))))
+          (λ o. refused-with 6 (omega arith) (passed key doing room ∙ start-zero (w .card) (w .state) key doing room (is-idle idle) (omega arith)))
+          (λ o. bool-cases (room (landing (w .card) (w .state .nodes) key))
+          (λ q. subst (Goal i u deciding) (sym (room-decides key doing room idle o high ∙ rw q)) (begin free last em z r x eg o q))
+          (λ q. refused-with 8 (omega arith) (room-decides key doing room idle o high ∙ rw q)))
         where
-          idle : w .memory .doing ≡ Idle
+          idle : w .state .doing ≡ Idle
           idle = ap (λ (y : Memory). y .doing) em
 
   -- "Starting an update stores nothing."
-  pub kept-insert : (key value : ℕ) → key < keyLimit → (k : ℕ) × Fresh (w .card) (w .memory) (insertOf (w .card) (w .memory) key value) k × Toward (goalAfter (insertOf (w .card) (w .memory) key value .begun) (put key value) (i .goal)) n k (happens (insert key value) w) (feed (fed (insert key value) w) b) (dueAfter (insert key value) w b due)
-  unfolding happens feed fed dueAfter insertOf
+  pub kept-insert : (key value : ℕ) → key < keyLimit → (k : ℕ) × (j : Inv n k (happens rationTable (insert key value) w) (feed (told rationTable (insert key value) w) b)) × Fresh (put key value) (insertOf (w .card) (w .state) key value) i j
+  unfolding happens feed told replyTo insertOf
   kept-insert key value high =
-      start-with key (Inserting key value false) (startRoom (w .card) key (w .memory .free)) (put key value) (leafFull (w .card) (w .memory .nodes) key) high begin
-    where
-      begin : (free : List Bool) (last : ℕ) → w .memory ≡ memory n free last Idle [] [] → tableViolations (i .tree) ≡ 0 → 3 ≤ countTrue free → Exact n free (i .tree) → bare (i .tree) ≡ i .goal → lowestKey ≤ key
-          → startRoom (w .card) key (w .memory .free) (landing (w .card) (w .memory .nodes) key) ≡ true → Goal (i .goal) n w b due (put key value) (leafFull (w .card) (w .memory .nodes) key) (started (w .memory) (Inserting key value false))
-      begin free last em z r x eg low q = put-started n w b due i free last key value em z r x eg low high q
+      start-with key (Inserting key value false) (startRoom (w .card) key (w .state .free)) (put key value) (pick (leafFull (w .card) key) 73 2) high
+      (λ free last em z r x eg low q. put-started w b i free last key value em z r x eg low high q)
 
-  pub kept-delete : (key : ℕ) → key < keyLimit → (k : ℕ) × Fresh (w .card) (w .memory) (deleteOf (w .card) (w .memory) key) k × Toward (goalAfter (deleteOf (w .card) (w .memory) key .begun) (remove key) (i .goal)) n k (happens (delete key) w) (feed (fed (delete key) w) b) (dueAfter (delete key) w b due)
-  unfolding happens feed fed dueAfter deleteOf
-  kept-delete key high = start-with key (Deleting key false 0) (λ l. true) (remove key) false high begin
-    where
-      begin : (free : List Bool) (last : ℕ) → w .memory ≡ memory n free last Idle [] [] → tableViolations (i .tree) ≡ 0 → 3 ≤ countTrue free → Exact n free (i .tree) → bare (i .tree) ≡ i .goal → lowestKey ≤ key → true ≡ true → Goal (i .goal) n w b due (remove key) false (started (w .memory) (Deleting key false 0))
-      begin free last em z r x eg low q = remove-started n w b due i free last key em z r x eg low high
+  pub kept-delete : (key : ℕ) → key < keyLimit → (k : ℕ) × (j : Inv n k (happens rationTable (delete key) w) (feed (told rationTable (delete key) w) b)) × Fresh (remove key) (deleteOf (w .card) (w .state) key) i j
+  unfolding happens feed told replyTo deleteOf
+  kept-delete key high = start-with key (Deleting key false 0) (λ l. true) (remove key) 1 high (λ free last em z r x eg low q. remove-started w b i free last key em z r x eg low high)

@@ -1,4 +1,4 @@
--- A step keeps the invariant, feeds the ledger rightly, and gives the answer that is due.
+-- A step keeps the invariant, feeds the book rightly, and gives the answer that is due.
 use mathlib.Core.Path.{_≡_, refl, ap, sym, _∙_}
 use mathlib.Core.List.{List, [], _∷_, _++_}
 use mathlib.Core.Bool.{Bool, true, false}
@@ -32,17 +32,21 @@ use Rattle.descent_theory.proofs.Routing.{Leads}
 use Rattle.descent_theory.proofs.Seek.{seek-balanced}
 use Rattle.descent_theory.proofs.Way.{depth-plug}
 use Rattle.free_nodes.specs.NodeSet.{countTrue}
-use Rattle.laws.proofs.Cases.{order, impossible}
+use Rattle.laws.proofs.Cases.{bool-cases, order}
 use Rattle.laws.specs.Sorting.{sort}
 use Rattle.laws.specs.Totals.{total}
 use Rattle.promises.proofs.Begin.{put-held, put-slot, put-full, remove-held, remove-absent, room-full, flag-slot, flag-full}
-use Rattle.promises.proofs.Feeding.{stepResult, leafFull, fed, dictionaryAnswer, dueAfterStep, dueAfter}
+use Rattle.promises.specs.Way.{leafFull}
+use Rattle.laws.specs.Cases.{pick}
+use Rattle.state.specs.Answers.{stepReply}
+use borrow.Author.Tests.{lt-ltb, le-ltb, ne-eqb}
 use Rattle.promises.proofs.FirstChanges.{slot-changing, slot-level, slot-enters, delete-changing, delete-level, delete-enters, slot-shaped, delete-shaped, split-shaped, split-changing, split-level, split-enters, split-count, First}
 use Rattle.promises.proofs.Invariant.{Toward, Table, Job, Entered, UpdateSteps, Stage, Inv, job-repair, job-insert, job-delete, no-update, updated, stage-idle, stage-put, stage-remove, stage-first, stage-between, stage-within}
 use Rattle.promises.proofs.Kept.{first-storable, repair-stored, update-stored}
-use Rattle.promises.proofs.Ledger.{Update, Hand, Ledger, ledger, entered, deciding, counted, fedAStep, feed, put, remove, was-final, goes-on, empty, hand}
-use Rattle.promises.proofs.LedgerLaws.{Enters, Same, enters-held, enters-gone}
-use Rattle.promises.proofs.Machine.{World, happens, step}
+use Rattle.promises.specs.Book.{Update, Hand, Book, book, entered, fedStep, feed, outcome, told, put, remove, final, goesOn, empty, holding}
+use Rattle.promises.proofs.BookLaws.{Enters, Same, IsFinal, final-told, dictionaryAnswer, enters-held, enters-gone}
+use Rattle.promises.specs.Events.{World, replyTo, happens, step}
+use Rattle.promises.specs.RationTable.{rationTable}
 use Rattle.promises.proofs.Reopen.{table-depth-limited}
 use Rattle.promises.proofs.Slots.{slot-holds, slots-full}
 use Rattle.promises.proofs.Steps.{memory, Busy, job-busy, step-idle, step-stores, prepared-ready, prepared-first, step-repairs, step-puts, step-removes}
@@ -55,7 +59,7 @@ use Rattle.updates.specs.Updates.{landing, splitNeed, startRoom}
 use Rattle.state.specs.declared.Doing.{Doing}
 use Rattle.state.specs.declared.Doing.the-variants.{Idle, Inserting, Deleting}
 use Rattle.state.specs.declared.Answer.{Answer}
-use Rattle.state.specs.declared.Answer.the-variants.{Stored, Ready, Absent, Value, Refused}
+use Rattle.state.specs.declared.Answer.the-variants.{Stored, Absent, Value, Refused}
 use Rattle.tree.proofs.Cut.{cut}
 use Rattle.tree.proofs.Lookup.{absent-counted}
 use Rattle.tree.specs.Pairs.{pairs, lookup, hasKey}
@@ -84,7 +88,7 @@ rests c n key t free last b z = repair-balanced c n free last key (seek-balanced
 -- makes the state idle."
 pub data Moves (c : List ℕ) (m : Memory) (s : Step) : Type 0 where
   was-idle : m .doing ≡ Idle → Moves c m s
-  ends-now : stepResult (s .answer) ≡ was-final → s .card ≡ c → s .memory .doing ≡ Idle → Moves c m s
+  ends-now : IsFinal (s .answer) → s .card ≡ c → s .memory .doing ≡ Idle → Moves c m s
   goes-further : s .answer ≡ Stored → isIdle (s .memory .doing) ≡ false → Moves c m s
 
 -- a store does not change what is being done
@@ -93,75 +97,61 @@ unfolding advanced
 busy-after n free last z cut b [] = b .not-idle
 busy-after n free last z cut b (s ∷ rest) = b .not-idle
 
--- the answer is the one due: an update's, or "ready"
-pub data Right : Answer → Option Answer → Type 0 where
-  no-answer : {due : Option Answer} → Right Stored due
-  no-call : {r : ℕ} {due : Option Answer} → Right (Refused r) due
-  update-answer : {a : Answer} → Right a (some a)
-  repair-answer : Right Ready none
+-- the answer is the one due, or none: a store, or the refusal of an idle state
+pub data Right : Answer → Answer → Type 0 where
+  no-answer : {due : Answer} → Right Stored due
+  no-call : {r : ℕ} {due : Answer} → Right (Refused r) due
+  final-answer : {due : Answer} → Right due due
 
--- the final answer due; that of opening's repair is "ready"
-abbrev pub finalDue : Option Answer → Answer
-finalDue none = Ready
-finalDue (some a) = a
-
-pub right-final : {a : Answer} {due : Option Answer} → Right a due → stepResult a ≡ was-final → a ≡ finalDue due
-unfolding stepResult
-right-final no-answer e = impossible (cc)
-right-final no-call e = impossible (cc)
-right-final update-answer e = refl
-right-final repair-answer e = refl
+pub right-final : {a due : Answer} → Right a due → IsFinal a → a ≡ due
+right-final no-answer e = absurd e
+right-final no-call e = absurd e
+right-final final-answer e = refl
 
 module _ (n steps : ℕ) (c : List ℕ) (t : Tree) (b : Table c n t) (o : Openable n t) (l : List (ℕ × ℕ)) (same : Same (pairs t) l) (goal : Tree) where
   -- what a step must leave
-  abbrev Goal : Memory → Hand → Option Answer → Type 0
+  abbrev Goal : Memory → Hand → Answer → Type 0
   Goal m h due =
-      Toward goal n steps (record { card = stepOf c m .card; memory = stepOf c m .memory }) (fedAStep (stepResult (stepOf c m .answer)) l h) (dueAfterStep (stepResult (stepOf c m .answer)) due) × Right (stepOf c m .answer) due × Moves c m (stepOf c m)
+      Toward goal due n steps (record { card = stepOf c m .card; state = stepOf c m .memory }) (fedStep (outcome (stepReply (stepOf c m .answer))) l h) × Right (stepOf c m .answer) due × Moves c m (stepOf c m)
 
-  stored-goal : (m m′ : Memory) (c′ : List ℕ) (h : Hand) (due : Option Answer) → stepOf c m ≡ record { answer = Stored; card = c′; memory = m′ } → isIdle (m′ .doing) ≡ false → Toward goal n steps (record { card = c′; memory = m′ }) (fedAStep goes-on l h) due → Goal m h due
-  unfolding stepResult dueAfterStep
+  stored-goal : (m m′ : Memory) (c′ : List ℕ) (h : Hand) (due : Answer) → stepOf c m ≡ record { answer = Stored; card = c′; memory = m′ } → isIdle (m′ .doing) ≡ false → Toward goal due n steps (record { card = c′; state = m′ }) (fedStep goesOn l h) → Goal m h due
+  unfolding outcome stepReply
   stored-goal m m′ c′ h due e busy i = rw e (i, no-answer, goes-further refl busy)
 
-  final-goal : (m m′ : Memory) (a : Answer) (h : Hand) (due : Option Answer) → stepOf c m ≡ record { answer = a; card = c; memory = m′ } → m′ .doing ≡ Idle → stepResult a ≡ was-final → Toward goal n steps (record { card = c; memory = m′ }) (fedAStep was-final l h) none → Right a due → Goal m h due
-  unfolding dueAfterStep
-  final-goal m m′ a h due e idle f i r = rw (e, f) (i, r, ends-now f refl idle)
+  final-goal : (m m′ : Memory) (a : Answer) (h : Hand) (due : Answer) → stepOf c m ≡ record { answer = a; card = c; memory = m′ } → m′ .doing ≡ Idle → IsFinal a → Toward goal due n steps (record { card = c; state = m′ }) (fedStep final l h) → Right a due → Goal m h due
+  final-goal m m′ a h due e idle f i r = rw (e, final-told a f) (i, r, ends-now f refl idle)
 
   -- the state idle again
-  idle-inv : (free : List Bool) (last : ℕ) (l′ : List (ℕ × ℕ)) → Same (pairs t) l′ → tableViolations t ≡ 0 → 3 ≤ countTrue free → Exact n free t → bare t ≡ goal → Toward goal n steps (record { card = c; memory = memory n free last Idle [] [] }) (ledger l′ empty) none
-  idle-inv free last l′ s z r x eg = (record { tree = t; goal = goal; table = b; openable = o; same = s; stage = stage-idle z r x eg }, refl)
+  idle-inv : (due : Answer) (free : List Bool) (last : ℕ) (l′ : List (ℕ × ℕ)) → Same (pairs t) l′ → tableViolations t ≡ 0 → 3 ≤ countTrue free → Exact n free t → bare t ≡ goal → Toward goal due n steps (record { card = c; state = memory n free last Idle [] [] }) (book l′ empty)
+  idle-inv due free last l′ s z r x eg = (record { tree = t; goal = goal; due = due; table = b; openable = o; same = s; stage = stage-idle z r x eg }, refl, refl)
 
   -- a repair that has nothing left to do gives its final answer
-  ended : {doing : Doing} {key : ℕ} {final : Answer} {u : Option Update} {h : Hand} {due : Option Answer} (free : List Bool) (last : ℕ) → Job doing key final u → Entered u final h due → tableViolations t ≡ 0 → 3 ≤ countTrue free → Exact n free t → bare t ≡ goal → Goal (memory n free last doing [] []) h due
-  unfolding idled stepResult fedAStep
-  ended {doing} {key} {final} {u} {h} {due} free last j en z r x eg =
-      final-goal (memory n free last doing [] []) (memory n free last Idle [] []) final h due
-      (step-repairs c n (b .sized) (b .header) free last j ∙ prepared-ready c (memory n free last doing [] []) doing final (nextRepair c n key free last) (rests c n key t free last b z)) refl (is-final j) (entered-inv en) (right j en)
+  ended : {doing : Doing} {key : ℕ} {due : Answer} {u : Option Update} {h : Hand} (free : List Bool) (last : ℕ) → Job doing key due u → Entered u h → tableViolations t ≡ 0 → 3 ≤ countTrue free → Exact n free t → bare t ≡ goal → Goal (memory n free last doing [] []) h due
+  unfolding idled outcome stepReply fedStep
+  ended {doing} {key} {due} {u} {h} free last j en z r x eg =
+      final-goal (memory n free last doing [] []) (memory n free last Idle [] []) due h due
+      (step-repairs c n (b .sized) (b .header) free last j ∙ prepared-ready c (memory n free last doing [] []) doing due (nextRepair c n key free last) (rests c n key t free last b z)) refl (is-final j) (entered-inv en) final-answer
     where
-      is-final : {doing : Doing} {key : ℕ} {final : Answer} {u : Option Update} → Job doing key final u → stepResult final ≡ was-final
-      is-final job-repair = refl
-      is-final job-insert = refl
-      is-final job-delete = refl
+      is-final : {doing : Doing} {key : ℕ} {due : Answer} {u : Option Update} → Job doing key due u → IsFinal due
+      is-final job-repair = tt
+      is-final job-insert = tt
+      is-final job-delete = tt
 
-      entered-inv : {u : Option Update} {final : Answer} {h : Hand} {due : Option Answer} → Entered u final h due → Toward goal n steps (record { card = c; memory = memory n free last Idle [] [] }) (fedAStep was-final l h) none
-      entered-inv no-update = idle-inv free last l same z r x eg
-      entered-inv updated = idle-inv free last l same z r x eg
+      entered-inv : {u : Option Update} {h : Hand} → Entered u h → Toward goal due n steps (record { card = c; state = memory n free last Idle [] [] }) (fedStep final l h)
+      entered-inv no-update = idle-inv due free last l same z r x eg
+      entered-inv (updated {deciding = deciding} {count = count} e) = rw (le-ltb count deciding e) (idle-inv due free last l same z r x eg)
 
-      right : {doing : Doing} {key : ℕ} {final : Answer} {u : Option Update} {h : Hand} {due : Option Answer} → Job doing key final u → Entered u final h due → Right final due
-      right job-repair no-update = repair-answer
-      right job-insert updated = update-answer
-      right job-delete updated = update-answer
-
-  -- an entered update, or opening's repair, keeps its hand
-  entered-on : {u : Option Update} {final : Answer} {h : Hand} {due : Option Answer} → Entered u final h due → (h′ : Hand) × (fedAStep goes-on l h ≡ ledger l h′) × Entered u final h′ due
-  unfolding fedAStep counted
+  -- an entered update, or opening's repair, leaves the pairs as they are
+  entered-on : {u : Option Update} {h : Hand} → Entered u h → (h′ : Hand) × (fedStep goesOn l h ≡ book l h′) × Entered u h′
+  unfolding fedStep
   entered-on no-update = (empty, refl, no-update)
-  entered-on (updated {u} {final} {f} {k}) = (hand u f (suc k) true, refl, updated)
+  entered-on (updated {u} {deciding} {count} e) = (holding u deciding (suc count), rw (ne-eqb (suc count) deciding (λ q. omega (arith, q, e))), updated {deciding = deciding} {count = suc count} (omega arith))
 
   -- a repair that goes on
-  repaired : {doing : Doing} {key : ℕ} {final : Answer} {u : Option Update} {h : Hand} {due : Option Answer} (free : List Bool) (last deep : ℕ) → Job doing key final u → Entered u final h due → Mendable key free t deep → Exact n free t → 73 * deep + 1 ≤ suc steps → Heads deep (bare t) goal
+  repaired : {doing : Doing} {key : ℕ} {due : Answer} {u : Option Update} {h : Hand} (free : List Bool) (last deep : ℕ) → Job doing key due u → Entered u h → Mendable key free t deep → Exact n free t → 73 * deep + 1 ≤ suc steps → Heads deep (bare t) goal
       → Goal (memory n free last doing [] []) h due
   repaired free last deep j en (settled z r) x few hd = ended free last j en z r x (heads-done hd (bare-table-violations t ∙ z))
-  repaired {doing} {key} {final} {u} {h} {due} free last deep j en (violated v w r) x few hd = apply (mends c n key t free last b x v w r)
+  repaired {doing} {key} {due} {u} {h} free last deep j en (violated v w r) x few hd = apply (mends c n key t free last b x v w r)
     where
       apply : Repaired c n key t free last (depthOf (v .context)) → Goal (memory n free last doing [] []) h due
       apply q = split (q .stores) refl
@@ -174,18 +164,17 @@ module _ (n steps : ℕ) (c : List ℕ) (t : Tree) (b : Table c n t) (o : Openab
               let p = pending-changing (b .holds) (b .sound) o (rw e at (q .pending)) in
               let g = entered-on en in
               stored-goal (memory n free last doing [] []) _ (set c (s .0) (s .1)) h due
-              (step-repairs c n (b .sized) (b .header) free last j ∙ prepared-first c (memory n free last doing [] []) doing final (nextRepair c n key free last) s rest (q .free-then) (q .last-then) (q .cut) k (first-storable (p .0 .plays) .inside))
+              (step-repairs c n (b .sized) (b .header) free last j ∙ prepared-first c (memory n free last doing [] []) doing due (nextRepair c n key free last) s rest (q .free-then) (q .last-then) (q .cut) k (first-storable (p .0 .plays) .inside))
               (busy-after n (q .free-then) (q .last-then) [] (q .cut) (job-busy j) rest)
               (rw (g .1) (repair-stored (q .last-then) steps [] l b same j (g .2) (p .0) (record { totals = p .1 }) (omega (arith, p .2)) (heads-on (p .0 .level) (bare (p .0 .next)) hd (bare-table-violations t ∙ w) (p .2) (p .3))))
 
   -- the first store of an update's first change
-  begins : {doing : Doing} {key : ℕ} {final : Answer} {u : Update} (f : Bool) (m : Memory) (s : Store) (rest : List Store) (free : List Bool) (last : ℕ) (cut : List ℕ) → Job doing key final (some u)
+  begins : {doing : Doing} {key : ℕ} {due : Answer} {u : Update} (d : ℕ) (m : Memory) (s : Store) (rest : List Store) (free : List Bool) (last : ℕ) (cut : List ℕ) → Job doing key due (some u)
       → stepOf c m ≡ record { answer = Stored; card = set c (s .0) (s .1); memory = advanced (memory n free last doing [] cut) rest }
-      → (p : Changing c n key t (s ∷ rest) free cut) → Enters u (pairs t) (pairs (p .next)) → suc (length rest) ≡ deciding u f → length rest + (73 * p .level + 1) ≤ steps → Heads (p .level) (bare (p .next)) goal → Goal m (hand u f 0 false) (some final)
-  unfolding fedAStep
-  begins {final = final} {u = u} f m s rest free last cut j e p en count few hd =
-      let q : 0 + suc (length rest) ≡ deciding u f = omega arith in
-      stored-goal m _ (set c (s .0) (s .1)) (hand u f 0 false) (some final) e (busy-after n free last [] cut (job-busy j) rest) (update-stored f 0 last steps [] l b same j p en q few hd)
+      → (p : Changing c n key t (s ∷ rest) free cut) → Enters u (pairs t) (pairs (p .next)) → suc (length rest) ≡ d → length rest + (73 * p .level + 1) ≤ steps → Heads (p .level) (bare (p .next)) goal → Goal m (holding u d 0) due
+  begins {due = due} {u = u} d m s rest free last cut j e p en count few hd =
+      let q : 0 + suc (length rest) ≡ d = omega arith in
+      stored-goal m _ (set c (s .0) (s .1)) (holding u d 0) due e (busy-after n free last [] cut (job-busy j) rest) (update-stored d 0 last steps [] l b same j p en q few hd)
 
   -- the leaf that a key leads to
   lands : (key : ℕ) → lowestKey ≤ key → key < keyLimit → LandedAt c n key t
@@ -224,49 +213,49 @@ module _ (n steps : ℕ) (c : List ℕ) (t : Tree) (b : Table c n t) (o : Openab
   goal-absent key e eg = sym (after-by-map (remove key) t ∙ ap (λ (f : Option ℕ). changes (remove key) f (bare t) (settledBy depthLimit (firstShape (remove key) (bare t)))) e) ∙ eg
 
   -- "Insert, key held: answers the held value, no store."
-  put-answers : (free : List Bool) (last key value i : ℕ) → tableViolations t ≡ 0 → 3 ≤ countTrue free → Exact n free t → (g : LandedAt c n key t) → slotOf (nodeAt c (g .number)) key ≡ At i → (f : Bool) → afterShape (put key value) (bare t) ≡ goal
-      → Goal (memory n free last (Inserting key value false) [] []) (hand (put key value) f 0 false) (some (dictionaryAnswer (lookup key (pairs t))))
-  unfolding idled stepResult fedAStep slotAnswer dictionaryAnswer
-  put-answers free last key value i z r x g e f eg =
+  put-answers : (free : List Bool) (last key value i : ℕ) → tableViolations t ≡ 0 → 3 ≤ countTrue free → Exact n free t → (g : LandedAt c n key t) → slotOf (nodeAt c (g .number)) key ≡ At i → (d : ℕ) → 0 < d → afterShape (put key value) (bare t) ≡ goal
+      → Goal (memory n free last (Inserting key value false) [] []) (holding (put key value) d 0) (dictionaryAnswer (lookup key (pairs t)))
+  unfolding idled outcome stepReply fedStep slotAnswer dictionaryAnswer
+  put-answers free last key value i z r x g e d some-step eg =
       let m = memory n free last (Inserting key value false) [] [] in
       let v = getD (nodeAt c (g .number)) (12 + i) 0 in
       let found : lookup key (pairs t) ≡ some (getD (nodeAt c (g .number)) (12 + i) 0) = sym (g .answers) ∙ ap (slotAnswer (nodeAt c (g .number))) e in
-      final-goal (memory n free last (Inserting key value false) [] []) (memory n free last Idle [] []) (Value v) (hand (put key value) f 0 false) (some (dictionaryAnswer (lookup key (pairs t))))
+      final-goal (memory n free last (Inserting key value false) [] []) (memory n free last Idle [] []) (Value v) (holding (put key value) d 0) (dictionaryAnswer (lookup key (pairs t)))
       (step-puts c n (b .sized) (b .header) free last key value ∙ put-held c n key (g .number) (linkPlace (g .context)) (fullRun (g .context)) (landed key g) value free last m i e ∙ prepared-ready c m (Inserting key value true) (Value v) balanced refl)
-      refl refl
-      (idle-inv free last (entered (put key value) l) (enters-held key value (pairs t) (held-positive key (getD (nodeAt c (g .number)) (12 + i) 0) (pairs t) found) .to l same) z r x (goal-held key value (getD (nodeAt c (g .number)) (12 + i) 0) found eg))
-      (rw found update-answer)
+      refl tt
+      (rw (lt-ltb 0 d some-step) (idle-inv _ free last (entered (put key value) l) (enters-held key value (pairs t) (held-positive key (getD (nodeAt c (g .number)) (12 + i) 0) (pairs t) found) .to l same) z r x (goal-held key value (getD (nodeAt c (g .number)) (12 + i) 0) found eg)))
+      (rw found final-answer)
     where
       held-positive : (k v : ℕ) (ps : List (ℕ × ℕ)) → lookup k ps ≡ some v → 0 < total (hasKey k) ps
       held-positive k v ps q = order 0 (total (hasKey k) ps) (λ a. a) (λ a. absurd (Option·none-ne-some v (sym (lookup-none k ps (omega arith)) ∙ q)))
 
   -- the first change is planned, and its first store made
-  first-made : {doing : Doing} {key : ℕ} {final : Answer} {u : Update} (f : Bool) (m : Memory) (prep : Preparation) (s : Store) (rest : List Store) (free : List Bool) (last : ℕ) (cut : List ℕ) (deep : ℕ) → m .nodes ≡ n → Job doing key final (some u)
-      → stepOf c m ≡ stepPrepared c m doing final prep → prep ≡ prepared (s ∷ rest) free last cut → First c n key t (s ∷ rest) free cut u deep → suc (length rest) ≡ deciding u f → length rest + (73 * deep + 1) ≤ steps → deep ≤ depthLimit → settledBy depthLimit (firstShape u (bare t)) ≡ goal → Goal m (hand u f 0 false) (some final)
-  first-made {doing} {key} {final} {u} f m prep s rest free last cut deep en j e e₁ p count few lim eg =
+  first-made : {doing : Doing} {key : ℕ} {due : Answer} {u : Update} (d : ℕ) (m : Memory) (prep : Preparation) (s : Store) (rest : List Store) (free : List Bool) (last : ℕ) (cut : List ℕ) (deep : ℕ) → m .nodes ≡ n → Job doing key due (some u)
+      → stepOf c m ≡ stepPrepared c m doing due prep → prep ≡ prepared (s ∷ rest) free last cut → First c n key t (s ∷ rest) free cut u deep → suc (length rest) ≡ d → length rest + (73 * deep + 1) ≤ steps → deep ≤ depthLimit → settledBy depthLimit (firstShape u (bare t)) ≡ goal → Goal m (holding u d 0) due
+  first-made {doing} {key} {due} {u} d m prep s rest free last cut deep en j e e₁ p count few lim eg =
       let q = p .shallow in
-      begins f m s rest free last cut j
-      (e ∙ prepared-first c m doing final prep s rest free last cut e₁ (first-storable (p .changing .plays) .inside) ∙ rw en) (p .changing) (p .enters) count (omega arith)
+      begins d m s rest free last cut j
+      (e ∙ prepared-first c m doing due prep s rest free last cut e₁ (first-storable (p .changing .plays) .inside) ∙ rw en) (p .changing) (p .enters) count (omega arith)
       (record { repairs = depthLimit; enough = omega arith; reaches = ap (settledBy depthLimit) (p .shaped) ∙ eg })
 
   -- "With an empty slot: value first, then key, in the lowest empty slot."
   put-into-slot : (free : List Bool) (last key value i : ℕ) → tableViolations t ≡ 0 → 3 ≤ countTrue free → Exact n free t → lowestKey ≤ key → key < keyLimit → UpdateSteps t (suc steps) → (g : LandedAt c n key t) → slotOf (nodeAt c (g .number)) key ≡ NoSlot → slotOf (nodeAt c (g .number)) 0 ≡ At i → afterShape (put key value) (bare t) ≡ goal
-      → Goal (memory n free last (Inserting key value false) [] []) (hand (put key value) (leafFull c n key) 0 false) (some (dictionaryAnswer (lookup key (pairs t))))
-  unfolding slotAnswer dictionaryAnswer deciding
+      → Goal (memory n free last (Inserting key value false) [] []) (holding (put key value) (pick (leafFull c key) 73 2) 0) (dictionaryAnswer (lookup key (pairs t)))
+  unfolding slotAnswer dictionaryAnswer
   put-into-slot free last key value i z r x low high few g e e₀ eg =
       let m = memory n free last (Inserting key value false) [] [] in
       let none-there : lookup key (pairs t) ≡ none = sym (g .answers) ∙ ap (slotAnswer (nodeAt c (g .number))) e in
       let words = read-length c (g .number) 1 (g .keys) (g .values) (g .on-card .0) in
       let s = slot-holds (nodeAt c (g .number)) 0 i words e₀ in
       let empty-slot : getD (g .keys) i 0 ≡ 0 = ap (λ (q : List ℕ). getD q i 0) (sym (leaf-keys c (g .number) (g .keys) (g .values) (g .on-card))) ∙ s .1 in
-      let flag = flag-slot c n key (g .number) (linkPlace (g .context)) (fullRun (g .context)) (landed key g) i e₀ in
+      let flag = flag-slot c n key (g .number) (linkPlace (g .context)) (fullRun (g .context)) (landed key g) (b .sized) i e₀ in
       let none-held = absent-counted key (pairs t) none-there in
       let is = g .is-tree in
       let way = way-short key g z few in
       let p : First c n key (plug (g .context) (leaf (g .number) (g .keys) (g .values))) ((place (g .number) (12 + i), value) ∷ (place (g .number) (1 + i), key) ∷ []) free [] (put key value) (depthOf (g .context)) =
       at-slot (g .context) (g .number) (g .keys) (g .values) i (rw is (b .holds)) (rw is (b .sound)) (rw is z) (rw is x) r (g .leads) low high value (s .0) empty-slot (rw is none-held) (row-slot key 0 g ∙ e₀) in
       rw (none-there, flag)
-      (first-made false m _ (place (g .number) (12 + i), value) ((place (g .number) (1 + i), key) ∷ []) free last [] (depthOf (g .context)) refl job-insert
+      (first-made 2 m _ (place (g .number) (12 + i), value) ((place (g .number) (1 + i), key) ∷ []) free last [] (depthOf (g .context)) refl job-insert
       (step-puts c n (b .sized) (b .header) free last key value ∙ put-slot c n key (g .number) (linkPlace (g .context)) (fullRun (g .context)) (landed key g) value free last m i e e₀) refl (rw is at p) refl (omega arith) (way-limited key g) (goal-put key value none-there eg))
     where
       at-slot : (C : Context) (m : ℕ) (ks vs : List ℕ) (i : ℕ) → Holds c (plug C (leaf m ks vs)) → Sound (plug C (leaf m ks vs)) → tableViolations (plug C (leaf m ks vs)) ≡ 0 → Exact n free (plug C (leaf m ks vs)) → 3 ≤ countTrue free → Leads key C → lowestKey ≤ key → key < keyLimit
@@ -281,8 +270,8 @@ module _ (n steps : ℕ) (c : List ℕ) (t : Tree) (b : Table c n t) (o : Openab
 
   -- "Delete: key word to 0, answers the value"
   remove-from-slot : (free : List Bool) (last key i : ℕ) → tableViolations t ≡ 0 → 3 ≤ countTrue free → Exact n free t → lowestKey ≤ key → key < keyLimit → UpdateSteps t (suc steps) → (g : LandedAt c n key t) → slotOf (nodeAt c (g .number)) key ≡ At i → afterShape (remove key) (bare t) ≡ goal
-      → Goal (memory n free last (Deleting key false 0) [] []) (hand (remove key) false 0 false) (some (dictionaryAnswer (lookup key (pairs t))))
-  unfolding slotAnswer dictionaryAnswer deciding
+      → Goal (memory n free last (Deleting key false 0) [] []) (holding (remove key) 1 0) (dictionaryAnswer (lookup key (pairs t)))
+  unfolding slotAnswer dictionaryAnswer
   remove-from-slot free last key i z r x low high few g e eg =
       let m = memory n free last (Deleting key false 0) [] [] in
       let found : lookup key (pairs t) ≡ some (getD (nodeAt c (g .number)) (12 + i) 0) = sym (g .answers) ∙ ap (slotAnswer (nodeAt c (g .number))) e in
@@ -294,7 +283,7 @@ module _ (n steps : ℕ) (c : List ℕ) (t : Tree) (b : Table c n t) (o : Openab
       let p : First c n key (plug (g .context) (leaf (g .number) (g .keys) (g .values))) ((place (g .number) (1 + i), 0) ∷ []) free [] (remove key) (depthOf (g .context)) =
       at-slot (g .context) (g .number) (g .keys) (g .values) (rw is (b .holds)) (rw is (b .sound)) (rw is z) (rw is x) r (g .leads) low high (s .0) held-slot (row-slot key key g ∙ e) in
       rw found
-      (first-made false m _ (place (g .number) (1 + i), 0) [] free last [] (depthOf (g .context)) refl job-delete
+      (first-made 1 m _ (place (g .number) (1 + i), 0) [] free last [] (depthOf (g .context)) refl job-delete
       (step-removes c n (b .sized) (b .header) free last key ∙ remove-held c n key (g .number) (linkPlace (g .context)) (fullRun (g .context)) (landed key g) 0 free last m i e) refl (rw is at p) refl (omega arith) (way-limited key g) (goal-remove key (getD (nodeAt c (g .number)) (12 + i) 0) found eg))
     where
       at-slot : (C : Context) (m : ℕ) (ks vs : List ℕ) → Holds c (plug C (leaf m ks vs)) → Sound (plug C (leaf m ks vs)) → tableViolations (plug C (leaf m ks vs)) ≡ 0 → Exact n free (plug C (leaf m ks vs)) → 3 ≤ countTrue free → Leads key C → lowestKey ≤ key → key < keyLimit
@@ -309,25 +298,25 @@ module _ (n steps : ℕ) (c : List ℕ) (t : Tree) (b : Table c n t) (o : Openab
 
   -- "absent and no store if not held"
   remove-answers : (free : List Bool) (last key : ℕ) → tableViolations t ≡ 0 → 3 ≤ countTrue free → Exact n free t → (g : LandedAt c n key t) → slotOf (nodeAt c (g .number)) key ≡ NoSlot → afterShape (remove key) (bare t) ≡ goal
-      → Goal (memory n free last (Deleting key false 0) [] []) (hand (remove key) false 0 false) (some (dictionaryAnswer (lookup key (pairs t))))
-  unfolding idled stepResult fedAStep slotAnswer dictionaryAnswer
+      → Goal (memory n free last (Deleting key false 0) [] []) (holding (remove key) 1 0) (dictionaryAnswer (lookup key (pairs t)))
+  unfolding idled outcome stepReply fedStep slotAnswer dictionaryAnswer
   remove-answers free last key z r x g e eg =
       let m = memory n free last (Deleting key false 0) [] [] in
       let none-there : lookup key (pairs t) ≡ none = sym (g .answers) ∙ ap (slotAnswer (nodeAt c (g .number))) e in
-      final-goal (memory n free last (Deleting key false 0) [] []) (memory n free last Idle [] []) Absent (hand (remove key) false 0 false) (some (dictionaryAnswer (lookup key (pairs t))))
+      final-goal (memory n free last (Deleting key false 0) [] []) (memory n free last Idle [] []) Absent (holding (remove key) 1 0) (dictionaryAnswer (lookup key (pairs t)))
       (step-removes c n (b .sized) (b .header) free last key ∙ remove-absent c n key (g .number) (linkPlace (g .context)) (fullRun (g .context)) (landed key g) 0 free last m e ∙ prepared-ready c m (Deleting key true 0) Absent balanced refl)
-      refl refl
-      (idle-inv free last (entered (remove key) l) (enters-gone key (pairs t) (absent-counted key (pairs t) none-there) .to l same) z r x (goal-absent key none-there eg))
-      (rw none-there update-answer)
+      refl tt
+      (idle-inv _ free last (entered (remove key) l) (enters-gone key (pairs t) (absent-counted key (pairs t) none-there) .to l same) z r x (goal-absent key none-there eg))
+      (rw none-there final-answer)
 
   -- "Leaf full: the 12 pairs go 6 and 6 into two leaves under a tagged node"
   put-by-split : (free : List Bool) (last key value : ℕ) → tableViolations t ≡ 0 → 3 ≤ countTrue free → Exact n free t → lowestKey ≤ key → key < keyLimit → UpdateSteps t (suc steps) → startRoom c key free (landing c n key) ≡ true → (g : LandedAt c n key t)
       → slotOf (nodeAt c (g .number)) key ≡ NoSlot → slotOf (nodeAt c (g .number)) 0 ≡ NoSlot → afterShape (put key value) (bare t) ≡ goal
-      → Goal (memory n free last (Inserting key value false) [] []) (hand (put key value) (leafFull c n key) 0 false) (some (dictionaryAnswer (lookup key (pairs t))))
-  unfolding slotAnswer dictionaryAnswer deciding
+      → Goal (memory n free last (Inserting key value false) [] []) (holding (put key value) (pick (leafFull c key) 73 2) 0) (dictionaryAnswer (lookup key (pairs t)))
+  unfolding slotAnswer dictionaryAnswer
   put-by-split free last key value z r x low high few room g e e₀ eg =
       let none-there : lookup key (pairs t) ≡ none = sym (g .answers) ∙ ap (slotAnswer (nodeAt c (g .number))) e in
-      let flag = flag-full c n key (g .number) (linkPlace (g .context)) (fullRun (g .context)) (landed key g) e₀ in
+      let flag = flag-full c n key (g .number) (linkPlace (g .context)) (fullRun (g .context)) (landed key g) (b .sized) e₀ in
       let eleven = slots-full (nodeAt c (g .number)) (g .keys) (g .values) (leaf-keys c (g .number) (g .keys) (g .values) (g .on-card)) (g .on-card .1) (g .on-card .2) e₀ in
       let spare = room-full c n key (g .number) (linkPlace (g .context)) (fullRun (g .context)) (landed key g) free e e₀ room in
       let none-held = absent-counted key (pairs t) none-there in
@@ -348,7 +337,7 @@ module _ (n steps : ℕ) (c : List ℕ) (t : Tree) (b : Table c n t) (o : Openab
           ∙ ap (λ (q : List Store). prepared q (withoutAll ms free) (lastOf last ms) (g .number ∷ [])) (change-stores (g .context) _ (third ms) (g .number ∷ []))
 
       go : ((ms : List ℕ) × (takeNumbers 3 free last ≡ some ms) × (length ms ≡ 3) × Given free ms) → 73 + 73 * depthOf (g .context) ≤ steps → length (slotPairs (g .keys) (g .values)) ≡ 11 → splitNeed (fullRun (g .context)) ≤ countTrue free → total (hasKey key) (pairs t) ≡ 0 → settledBy depthLimit (firstShape (put key value) (bare t)) ≡ goal
-          → Goal (memory n free last (Inserting key value false) [] []) (hand (put key value) true 0 false) (some Absent)
+          → Goal (memory n free last (Inserting key value false) [] []) (holding (put key value) 73 0) Absent
       go (ms, e₁, three, gv) way eleven spare none-held reach = split (stores ms) refl
         where
           p : First c n key (plug (g .context) (leaf (g .number) (g .keys) (g .values))) (stores ms) (withoutAll ms free) (g .number ∷ []) (put key value) (depthOf (g .context))
@@ -368,59 +357,60 @@ module _ (n steps : ℕ) (c : List ℕ) (t : Tree) (b : Table c n t) (o : Openab
           count : length (stores ms) ≡ 73
           count = split-count c n key free (g .context) (g .number) (g .keys) (g .values) (rw (g .is-tree) (b .holds)) (rw (g .is-tree) (b .sound)) (rw (g .is-tree) z) (rw (g .is-tree) x) r (g .leads) low high value ms three gv (b .sized .words) (omega (arith, b .sized .most)) eleven (rw (g .is-tree) none-held) spare
 
-          split : (q : List Store) → stores ms ≡ q → Goal (memory n free last (Inserting key value false) [] []) (hand (put key value) true 0 false) (some Absent)
+          split : (q : List Store) → stores ms ≡ q → Goal (memory n free last (Inserting key value false) [] []) (holding (put key value) 73 0) Absent
           split [] q = absurd (omega (arith, count, ap length q))
           split (s ∷ rest) q =
               let l₁ : suc (length rest) ≡ 73 = sym (ap length q) ∙ count in
               let p₁ : First c n key t (s ∷ rest) (withoutAll ms free) (g .number ∷ []) (put key value) (depthOf (g .context)) = rw (g .is-tree, q) at p in
-              first-made true (memory n free last (Inserting key value false) [] []) _ s rest (withoutAll ms free) (lastOf last ms) (g .number ∷ []) (depthOf (g .context)) refl job-insert
+              first-made 73 (memory n free last (Inserting key value false) [] []) _ s rest (withoutAll ms free) (lastOf last ms) (g .number ∷ []) (depthOf (g .context)) refl job-insert
               (step-puts c n (b .sized) (b .header) free last key value
               ∙ put-full c n key (g .number) (linkPlace (g .context)) (fullRun (g .context)) (landed key g) value free last (memory n free last (Inserting key value false) [] []) e e₀)
               (planned-as ms e₁ ∙ ap (λ (q : List Store). prepared q (withoutAll ms free) (lastOf last ms) (g .number ∷ [])) q) p₁ l₁ (omega arith) (way-limited key g) reach
 
   -- by what its leaf holds
   put-begins : (free : List Bool) (last key value : ℕ) → tableViolations t ≡ 0 → 3 ≤ countTrue free → Exact n free t → lowestKey ≤ key → key < keyLimit → UpdateSteps t (suc steps) → startRoom c key free (landing c n key) ≡ true → afterShape (put key value) (bare t) ≡ goal
-      → Goal (memory n free last (Inserting key value false) [] []) (hand (put key value) (leafFull c n key) 0 false) (some (dictionaryAnswer (lookup key (pairs t))))
+      → Goal (memory n free last (Inserting key value false) [] []) (holding (put key value) (pick (leafFull c key) 73 2) 0) (dictionaryAnswer (lookup key (pairs t)))
   put-begins free last key value z r x low high few room eg = go (lands key low high)
     where
-      go : (g : LandedAt c n key t) → Goal (memory n free last (Inserting key value false) [] []) (hand (put key value) (leafFull c n key) 0 false) (some (dictionaryAnswer (lookup key (pairs t))))
+      go : (g : LandedAt c n key t) → Goal (memory n free last (Inserting key value false) [] []) (holding (put key value) (pick (leafFull c key) 73 2) 0) (dictionaryAnswer (lookup key (pairs t)))
       go g = at (slotOf (nodeAt c (g .number)) key) refl
         where
-          empty-at : (s : Slot) → slotOf (nodeAt c (g .number)) 0 ≡ s → slotOf (nodeAt c (g .number)) key ≡ NoSlot → Goal (memory n free last (Inserting key value false) [] []) (hand (put key value) (leafFull c n key) 0 false) (some (dictionaryAnswer (lookup key (pairs t))))
+          empty-at : (s : Slot) → slotOf (nodeAt c (g .number)) 0 ≡ s → slotOf (nodeAt c (g .number)) key ≡ NoSlot → Goal (memory n free last (Inserting key value false) [] []) (holding (put key value) (pick (leafFull c key) 73 2) 0) (dictionaryAnswer (lookup key (pairs t)))
           empty-at (At i) e₀ e = put-into-slot free last key value i z r x low high few g e e₀ eg
           empty-at NoSlot e₀ e = put-by-split free last key value z r x low high few room g e e₀ eg
 
-          at : (s : Slot) → slotOf (nodeAt c (g .number)) key ≡ s → Goal (memory n free last (Inserting key value false) [] []) (hand (put key value) (leafFull c n key) 0 false) (some (dictionaryAnswer (lookup key (pairs t))))
-          at (At i) e = put-answers free last key value i z r x g e (leafFull c n key) eg
+          at : (s : Slot) → slotOf (nodeAt c (g .number)) key ≡ s → Goal (memory n free last (Inserting key value false) [] []) (holding (put key value) (pick (leafFull c key) 73 2) 0) (dictionaryAnswer (lookup key (pairs t)))
+          at (At i) e = put-answers free last key value i z r x g e (pick (leafFull c key) 73 2) (bool-cases (leafFull c key) (λ q. rw q (omega arith)) (λ q. rw q (omega arith))) eg
           at NoSlot e = empty-at (slotOf (nodeAt c (g .number)) 0) refl e
 
   remove-begins : (free : List Bool) (last key : ℕ) → tableViolations t ≡ 0 → 3 ≤ countTrue free → Exact n free t → lowestKey ≤ key → key < keyLimit → UpdateSteps t (suc steps) → afterShape (remove key) (bare t) ≡ goal
-      → Goal (memory n free last (Deleting key false 0) [] []) (hand (remove key) false 0 false) (some (dictionaryAnswer (lookup key (pairs t))))
+      → Goal (memory n free last (Deleting key false 0) [] []) (holding (remove key) 1 0) (dictionaryAnswer (lookup key (pairs t)))
   remove-begins free last key z r x low high few eg = go (lands key low high)
     where
-      go : (g : LandedAt c n key t) → Goal (memory n free last (Deleting key false 0) [] []) (hand (remove key) false 0 false) (some (dictionaryAnswer (lookup key (pairs t))))
+      go : (g : LandedAt c n key t) → Goal (memory n free last (Deleting key false 0) [] []) (holding (remove key) 1 0) (dictionaryAnswer (lookup key (pairs t)))
       go g = at (slotOf (nodeAt c (g .number)) key) refl
         where
-          at : (s : Slot) → slotOf (nodeAt c (g .number)) key ≡ s → Goal (memory n free last (Deleting key false 0) [] []) (hand (remove key) false 0 false) (some (dictionaryAnswer (lookup key (pairs t))))
+          at : (s : Slot) → slotOf (nodeAt c (g .number)) key ≡ s → Goal (memory n free last (Deleting key false 0) [] []) (holding (remove key) 1 0) (dictionaryAnswer (lookup key (pairs t)))
           at (At i) e = remove-from-slot free last key i z r x low high few g e eg
           at NoSlot e = remove-answers free last key z r x g e eg
 
   -- a step at any stage
-  pub stage-steps : (m : Memory) (h : Hand) (due : Option Answer) → Stage c n t goal (suc steps) m h due → Goal m h due
-  unfolding stepRefused stepResult fedAStep dueAfterStep
-  stage-steps m h due (stage-idle {free} {last} z r x eg) = rw (step-idle c n (b .sized) (b .header) free last) (idle-inv free last l same z r x eg, no-call, was-idle refl)
+  pub stage-steps : (m : Memory) (h : Hand) (due : Answer) → Stage c n t goal (suc steps) m h due → Goal m h due
+  unfolding stepRefused outcome stepReply fedStep
+  stage-steps m h due (stage-idle {free} {last} z r x eg) = rw (step-idle c n (b .sized) (b .header) free last) (idle-inv due free last l same z r x eg, no-call, was-idle refl)
   stage-steps m h due (stage-put {free} {last} {key} {value} z r x low high room few eg) = put-begins free last key value z r x low high few room eg
   stage-steps m h due (stage-remove {free} {last} {key} z r x low high few eg) = remove-begins free last key z r x low high few eg
-  stage-steps m h due (stage-first {free} {last} {key} {doing} {final} {u} {f} {k} {cut} {s} {rest} j p en count few hd) =
-      stored-goal (memory n free last doing (s ∷ rest) cut) _ (set c (s .0) (s .1)) (hand u f k false) (some final) (step-stores c n (b .sized) (b .header) free last doing (job-busy j) cut s rest (first-storable (p .plays) .inside))
-      (busy-after n free last (s ∷ rest) cut (job-busy j) rest) (update-stored f k last steps (s ∷ rest) l b same j p en count (omega arith) hd)
+  stage-steps m h due (stage-first {free} {last} {key} {doing} {u = u} {deciding = deciding} {count = k} {cut = cut} {s = s} {rest = rest} j p en count few hd) =
+      stored-goal (memory n free last doing (s ∷ rest) cut) _ (set c (s .0) (s .1)) (holding u deciding k) due (step-stores c n (b .sized) (b .header) free last doing (job-busy j) cut s rest (first-storable (p .plays) .inside))
+      (busy-after n free last (s ∷ rest) cut (job-busy j) rest) (update-stored deciding k last steps (s ∷ rest) l b same j p en count (omega arith) hd)
   stage-steps m h due (stage-between {free} {last} j en deep r x few hd) = repaired free last deep j en r x few hd
-  stage-steps m h due (stage-within {free} {last} {key} {doing} {final} {u} {cut = cut} {s = s} {rest = rest} j en p e few hd) =
+  stage-steps m h due (stage-within {free} {last} {key} {doing} {cut = cut} {s = s} {rest = rest} j en p e few hd) =
       let g = entered-on en in
       stored-goal (memory n free last doing (s ∷ rest) cut) _ (set c (s .0) (s .1)) h due (step-stores c n (b .sized) (b .header) free last doing (job-busy j) cut s rest (first-storable (p .plays) .inside))
       (busy-after n free last (s ∷ rest) cut (job-busy j) rest) (rw (g .1) (repair-stored last steps (s ∷ rest) l b same j (g .2) p e (omega arith) hd))
 
 -- THE STEP: the invariant is kept, and an answer given is the one due
-pub kept-step : (n steps : ℕ) (w : World) (b : Ledger) (due : Option Answer) → (i : Inv n (suc steps) w b due) → Toward (i .goal) n steps (happens step w) (feed (fed step w) b) (dueAfter step w b due) × Right (stepOf (w .card) (w .memory) .answer) due × Moves (w .card) (w .memory) (stepOf (w .card) (w .memory))
-unfolding happens feed fed dueAfter
-kept-step n steps w b due i = stage-steps n steps (w .card) (i .tree) (i .table) (i .openable) (b .held) (i .same) (i .goal) (w .memory) (b .inHand) due (i .stage)
+pub kept-step : (n steps : ℕ) (w : World rationTable) (b : Book) (i : Inv n (suc steps) w b)
+    → Toward (i .goal) (i .due) n steps (happens rationTable step w) (feed (told rationTable step w) b) × Right (stepOf (w .card) (w .state) .answer) (i .due) × Moves (w .card) (w .state) (stepOf (w .card) (w .state))
+unfolding happens feed told replyTo
+kept-step n steps w b i = stage-steps n steps (w .card) (i .tree) (i .table) (i .openable) (b .held) (i .same) (i .goal) (w .state) (b .inHand) (i .due) (i .stage)

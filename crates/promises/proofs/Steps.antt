@@ -15,8 +15,9 @@ use Rattle.plans.specs.Planning.{Preparation, balanced, prepared}
 use Rattle.change.specs.Mending.{nextRepair}
 use Rattle.laws.proofs.Cases.{bool-cases}
 use Rattle.promises.proofs.Invariant.{Job, job-repair, job-insert, job-delete}
-use Rattle.promises.proofs.Ledger.{Update}
-use Rattle.promises.proofs.Machine.{World, happens, step}
+use Rattle.promises.specs.Book.{Update}
+use Rattle.promises.specs.Events.{World, happens, step}
+use Rattle.promises.specs.RationTable.{rationTable}
 use Rattle.state.specs.Steps.{heldBy, stepRefused, stepFinal, stepStore, isIdle}
 use Rattle.table.specs.Calls.{planning, stepPrepared, stepBegin, stepTask, stepChecked, stepHeld, stepOf}
 use Rattle.table.proofs.StepLaws.{task-due, idle-refused as table-idle, step-same}
@@ -125,6 +126,6 @@ idle-refused c m e =
     bool-cases (eqb (headerRefusal c (m .nodes)) 0) (λ q₂. rw (q, q₁, e, q₂) (10, refl)) (λ q₂. rw (q, q₁, e, q₂) (headerRefusal c (m .nodes), refl)))
     (λ q₁. rw (q, q₁) (1, refl)))
 
-pub idle-world : (w : World) → w .memory .doing ≡ Idle → happens step w ≡ w
+pub idle-world : (w : World rationTable) → w .state .doing ≡ Idle → happens rationTable step w ≡ w
 unfolding happens stepRefused
-idle-world w e = rw (idle-refused (w .card) (w .memory) e .1)
+idle-world w e = rw (idle-refused (w .card) (w .state) e .1)

@@ -8,9 +8,10 @@ use Rattle.dump.specs.Dump.{wordsFor, dumpOf, roomFor, readAnswer}
 use Rattle.dump.proofs.RoundTrip.{dump-nodes, dump-whole}
 use Rattle.dump.specs.declared.Answer.the-variants.{Length}
 use Rattle.promises.proofs.Accepting.{accepted-card}
-use Rattle.promises.proofs.Promise.{Accepted}
+use Rattle.promises.specs.Events.{Opens}
+use Rattle.promises.specs.RationTable.{rationTable}
 
-pub dump-answered : (c : List ℕ) → Accepted c → ((i : ℕ) → getD c i 0 < 2 ^ 32) → (lent : ℕ) → length c ≤ lent → readAnswer (dumpOf c) lent ≡ Length (length c)
+pub dump-answered : (c : List ℕ) → Opens rationTable c → ((i : ℕ) → getD c i 0 < 2 ^ 32) → (lent : ℕ) → length c ≤ lent → readAnswer (dumpOf c) lent ≡ Length (length c)
 dump-answered c a fits lent room =
     let k = accepted-card c a in
     let good : Good c = record { sized = k .1; header = k .2 } in

@@ -1,16 +1,12 @@
 -- Refusals have numbers below 64, so that the number of an answer tells which answer it is.
-use mathlib.Core.Path.{_≡_, refl}
 use mathlib.Core.Bool.{Bool, true, false}
-use mathlib.Core.List.{List, [], _∷_}
-use mathlib.Core.Logic.{inl, inr}
+use mathlib.Core.List.{List}
 use mathlib.Core.Option.{Option, none, some}
 use Prim.Native.Nat.{ℕ, _+_, _<_}
 use native.Mathlib.Omega.{arith}
-use lib.ListN.{length, getD, drop}
+use lib.ListN.{length, getD}
 use lib.Dec.{eqb, ltb}
 use Rattle.card.specs.Header.{nodesOfLength, headerRefusal, cardRefusal, must}
-use Rattle.card.specs.Stores.{Store}
-use Rattle.demands.proofs.StepRows.{Final, next-final}
 use Rattle.descent.specs.declared.Landing.{Landing}
 use Rattle.descent.specs.declared.Landing.the-variants.{Refused as NoLanding, Leaf as LandingAt}
 use Rattle.free_nodes.specs.NodeSet.{countTrue}
@@ -25,34 +21,19 @@ use Rattle.lookup.specs.declared.Found.the-variants.{Value as FoundValue, Absen
 use Rattle.card.specs.Layout.{nodeAt}
 use Rattle.laws.proofs.Cases.{bool-cases}
 use Rattle.opening.specs.Opening.{openSound, openChecked, openOf}
-use Rattle.plans.specs.Planning.{Preparation, refused, balanced, prepared}
 use Rattle.soundness.specs.Check.{Findings, tableCheck}
 use Rattle.starting.specs.Starts.{startRefused, started, startLanded, startChecked, startOf}
-use Rattle.state.specs.Memory.{Memory, advanced}
-use Rattle.state.specs.Steps.{isIdle, heldBy, Step, noBeginning, stepRefused, stepFinal, formatStore, stepFormat, stepStore}
-use Rattle.state.specs.declared.Answer.{Answer}
-use Rattle.state.specs.declared.Answer.the-variants.{Stored, Ready, Absent, Value, Refused}
+use Rattle.state.specs.Memory.{Memory}
+use Rattle.state.specs.Steps.{isIdle, noBeginning}
 use Rattle.state.specs.declared.Begun.{Begun}
 use Rattle.state.specs.declared.Begun.the-variants.{Idle as OpenedIdle, Started, Refused as BegunRefused}
 use Rattle.state.specs.declared.Doing.{Doing}
-use Rattle.table.specs.Calls.{planning, stepPrepared, stepBegin, stepTask, stepChecked, stepHeld, stepOf}
-use Rattle.state.specs.declared.Task.{Task}
-use Rattle.state.specs.declared.Held.{Held}
-use Rattle.state.specs.declared.Held.the-variants.{Nothing as NoneHeld, Formatting as HeldFormatting, Task as HeldTask}
-use Rattle.state.proofs.Tasks.{TaskOf, task-of}
-use Rattle.updates.specs.Updates.{landing, nextChange}
+use Rattle.updates.specs.Updates.{landing}
 
 abbrev pub SmallBegun : Begun → Type 0
 SmallBegun OpenedIdle = Unit
 SmallBegun Started = Unit
 SmallBegun (BegunRefused r) = r < 64
-
-abbrev pub SmallAnswer : Answer → Type 0
-SmallAnswer Stored = Unit
-SmallAnswer Ready = Unit
-SmallAnswer Absent = Unit
-SmallAnswer (Value v) = Unit
-SmallAnswer (Refused r) = r < 64
 
 must-small : (c : List ℕ) (i v r next : ℕ) → r < 64 → next < 64 → must c i v r next < 64
 must-small c i v r next a b = bool-cases (eqb (getD c i 0) v) (λ q. rw q b) (λ q. rw q a)
@@ -94,53 +75,6 @@ start-small c m key doing room =
     bool-cases (isIdle (m .doing)) (λ q₃.
     bool-cases (eqb key 0) (λ q₄. rw (q, q₁, q₂, q₃, q₄) (omega arith)) (λ q₄. rw (q, q₁, q₂, q₃, q₄) (landed-small m doing (room (landing c (m .nodes) key)) (landing c (m .nodes) key))))
     (λ q₃. rw (q, q₁, q₂, q₃) (omega arith))) (λ q₂. rw (q, q₁, q₂) (header-small c (m .nodes)))) (λ q₁. rw (q, q₁) (omega arith)))
-
-refused-small : (c : List ℕ) (m : Memory) (r : ℕ) → r < 64 → SmallAnswer (stepRefused r c m .answer)
-unfolding stepRefused
-refused-small c m r h = h
-
-store-small : (c : List ℕ) (m : Memory) (s : Store) (next : Memory) → SmallAnswer (stepStore c m s next .answer)
-unfolding stepStore stepRefused
-store-small c m s next = bool-cases (ltb (s .0) (length c)) (λ q. rw q tt) (λ q. rw q (omega arith))
-
-final-small : (a : Answer) → Final a → SmallAnswer a
-final-small a (inl e) = rw e tt
-final-small a (inr (inl (v, e))) = rw e tt
-final-small a (inr (inr e)) = rw e tt
-
-prepared-small : (c : List ℕ) (m : Memory) (doing : Doing) (a : Answer) → Final a → (p : Preparation) → SmallAnswer (stepPrepared c m doing a p .answer)
-unfolding stepPrepared stepRefused stepFinal
-prepared-small c m doing a f refused = omega arith
-prepared-small c m doing a f balanced = final-small a f
-prepared-small c m doing a f (prepared stores free last cut) = store-small c m (getD stores 0 (0, 0)) (advanced (planning m doing free last cut) (drop 1 stores))
-
-task-small : (c : List ℕ) (m : Memory) (task : Task) → TaskOf (m .doing) task → (rest : List Store) → SmallAnswer (stepTask c m task rest .answer)
-unfolding stepTask stepBegin
-task-small c m task o [] =
-    let f = nextChange c (m .nodes) (m .free) (m .last) (m .doing) task in
-    prepared-small c m (f .doing) (f .final) (next-final c (m .nodes) (m .free) (m .last) o) (f .preparation)
-task-small c m task o (s ∷ rest) = store-small c m s (advanced m rest)
-
-headed-small : (c : List ℕ) (m : Memory) (due : Step) → SmallAnswer (due .answer) → SmallAnswer (stepChecked c m due .answer)
-unfolding stepChecked stepRefused
-headed-small c m due small = bool-cases (eqb (headerRefusal c (m .nodes)) 0) (λ q. rw q small) (λ q. rw q (header-small c (m .nodes)))
-
-format-small : (c : List ℕ) (m : Memory) (made : ℕ) (s : Option Store) → SmallAnswer (stepFormat c m made s .answer)
-unfolding stepFormat stepFinal
-format-small c m made none = tt
-format-small c m made (some s) = tt
-
-held-small : (c : List ℕ) (m : Memory) (h : Held) → heldBy (m .doing) ≡ h → SmallAnswer (stepHeld c m h .answer)
-unfolding stepHeld
-held-small c m NoneHeld e = headed-small c m (stepRefused 10 c m) (refused-small c m 10 (omega arith))
-held-small c m (HeldFormatting made) e = format-small c m made (formatStore (m .nodes) (length c) made)
-held-small c m (HeldTask task) e = headed-small c m (stepTask c m task (m .rest)) (task-small c m task (task-of (m .doing) task e) (m .rest))
-
-pub step-small : (c : List ℕ) (m : Memory) → SmallAnswer (stepOf c m .answer)
-unfolding stepOf stepRefused
-step-small c m =
-    bool-cases (eqb (nodesOfLength (length c)) 0) (λ q. rw q (omega arith)) (λ q.
-    bool-cases (eqb (nodesOfLength (length c)) (m .nodes)) (λ q₁. rw (q, q₁) (held-small c m (heldBy (m .doing)) refl)) (λ q₁. rw (q, q₁) (omega arith)))
 
 abbrev pub SmallFound : Found → Type 0
 SmallFound (FoundValue v) = Unit

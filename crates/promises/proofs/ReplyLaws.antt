@@ -2,14 +2,12 @@
 use mathlib.Core.Path.{_≡_, refl, ap}
 use Prim.Native.Nat.{ℕ, _<_}
 use native.Mathlib.Omega.{arith}
-use Rattle.card.specs.Replies.{Reply, refusal, holds, absent, started, stored, ready}
-use Rattle.demands.proofs.AnswerNumbers.{SmallBegun, SmallFound, SmallAnswer}
+use Rattle.card.specs.Replies.{Reply, refusal, holds, absent, started}
+use Rattle.promises.proofs.AnswerNumbers.{SmallBegun, SmallFound}
 use Rattle.lookup.specs.Answers.{foundReply}
 use Rattle.lookup.specs.declared.Found.{Found}
 use Rattle.lookup.specs.declared.Found.the-variants.{Value, Absent as NotHeld, Refused as NoLook}
-use Rattle.state.specs.Answers.{stepReply, startReply}
-use Rattle.state.specs.declared.Answer.{Answer}
-use Rattle.state.specs.declared.Answer.the-variants.{Stored, Ready, Absent as NoneGiven, Value as Given, Refused as StepRefused}
+use Rattle.state.specs.Answers.{startReply}
 use Rattle.state.specs.declared.Begun.{Begun}
 use Rattle.state.specs.declared.Begun.the-variants.{Idle, Started, Refused}
 
@@ -55,21 +53,3 @@ unfolding startReply
 is-refused Idle h = absurd (omega arith)
 is-refused Started h = absurd (omega arith)
 is-refused (Refused r) h = (r, refl)
-
--- ---- that of a step
-
-pub is-ready : (a : Answer) → SmallAnswer a → stepReply a ≡ ready → a ≡ Ready
-unfolding stepReply
-is-ready Stored s e = absurd (omega (arith, code-of e))
-is-ready Ready s e = refl
-is-ready NoneGiven s e = absurd (omega (arith, code-of e))
-is-ready (Given v) s e = absurd (omega (arith, code-of e))
-is-ready (StepRefused r) s e = absurd (omega (arith, code-of e, s))
-
-pub is-stored : (a : Answer) → SmallAnswer a → stepReply a ≡ stored → a ≡ Stored
-unfolding stepReply
-is-stored Stored s e = refl
-is-stored Ready s e = absurd (omega (arith, code-of e))
-is-stored NoneGiven s e = absurd (omega (arith, code-of e))
-is-stored (Given v) s e = absurd (omega (arith, code-of e))
-is-stored (StepRefused r) s e = absurd (omega (arith, code-of e, s))

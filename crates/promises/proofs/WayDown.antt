@@ -1,13 +1,16 @@
--- Where a key leads, by the demands, is where the calls land.
-use mathlib.Core.Path.{_≡_, refl, subst}
-use mathlib.Core.Bool.{Bool, true, false}
+-- Where a key leads on a card is where the calls land, and whether the leaf there is full is what they find in it.
+use mathlib.Core.Path.{_≡_, refl, ap, sym, subst, _∙_}
+use mathlib.Core.Bool.{Bool, true, false, not}
 use mathlib.Core.List.{List, [], _∷_}
 use mathlib.Core.Option.{Option, none, some}
 use Prim.Native.Nat.{ℕ, suc}
+use native.Mathlib.Omega.{arith}
 use lib.ListN.{length}
 use lib.Dec.{eqb}
-use Rattle.promises.specs.Way.{nodesOn, ledTo, leadsTo, among}
-use Rattle.descent.specs.Descent.{firstEqual, way, reachedAt, leafOf, runOver, landedAt, landingOf}
+use Rattle.promises.specs.Way.{nodesOn, ledTo, leadsTo, among, fullAt, leafFull}
+use Rattle.card.specs.Header.{Sized}
+use Rattle.card.specs.Layout.{nodeAt, keyWords}
+use Rattle.descent.specs.Descent.{firstEqual, slotOf, way, reachedAt, leafOf, runOver, landedAt, landingOf}
 use Rattle.descent.specs.declared.Landing.{Landing}
 use Rattle.descent.specs.declared.Landing.the-variants.{Refused as NoLanding, Leaf as LandingAt}
 use Rattle.descent.specs.declared.Position.{Position}
@@ -17,6 +20,9 @@ use Rattle.descent.specs.declared.Slot.{Slot}
 use Rattle.descent.specs.declared.Slot.the-variants.{At, Absent as NoSlot}
 use Rattle.laws.proofs.Cases.{bool-cases}
 use Rattle.updates.specs.Updates.{landing}
+
+pub sized-on : (c : List ℕ) (n : ℕ) → Sized (length c) n → nodesOn c ≡ n
+sized-on c n s = omega (arith, s .words)
 
 unfoldable pub landed : Landing → Option (ℕ × ℕ)
 landed NoLanding = none
@@ -58,3 +64,12 @@ pub slot-among : (ws : List ℕ) (x i : ℕ) → slotFound (firstEqual ws x i) �
 unfolding firstEqual among slotFound
 slot-among [] x i = refl
 slot-among (y ∷ ws) x i = bool-cases (eqb y x) (λ q. rw q) (λ q. rw q (slot-among ws x (suc i)))
+
+pub slot-is : (words : List ℕ) (x : ℕ) (s : Slot) → slotOf words x ≡ s → slotFound s ≡ among x (keyWords words)
+unfolding slotOf
+slot-is words x s e = ap slotFound (sym e) ∙ slot-among (keyWords words) x 0
+
+-- the leaf is full exactly where no slot of it is empty
+pub full-is : (c : List ℕ) (n key m link run : ℕ) (s : Slot) → Sized (length c) n → landing c n key ≡ LandingAt m link run → slotOf (nodeAt c m) 0 ≡ s → leafFull c key ≡ not (slotFound s)
+unfolding fullAt landed
+full-is c n key m link run s z e f = ap (fullAt c) (sym (leads-is c n key (sized-on c n z)) ∙ ap landed e) ∙ ap not (sym (slot-is (nodeAt c m) 0 s f))

@@ -1,7 +1,7 @@
--- What entering an update does to totals, and so to the map.
+-- What entering an update does to totals, and so to the map; the dictionary's answers, and which answers the book counts as final.
 use mathlib.Core.Path.{_≡_, refl, ap, sym, _∙_}
 use mathlib.Core.List.{List, [], _∷_}
-use mathlib.Core.Option.{Option, some}
+use mathlib.Core.Option.{Option, none, some}
 use mathlib.Core.Logic.{by-cases}
 use Prim.Native.Nat.{ℕ, _+_, _≤_, _<_}
 use native.Mathlib.Omega.{arith}
@@ -12,9 +12,33 @@ use Rattle.laws.proofs.Cases.{bool-cases}
 use Rattle.laws.specs.Cases.{pick}
 use Rattle.laws.proofs.Totals.{indicator-same, indicator-other, indicator-zero}
 use Rattle.laws.specs.Totals.{total}
-use Rattle.promises.proofs.Ledger.{Update, addedUnless, added, takenOut, entered, put, remove}
+use Rattle.promises.specs.Book.{Update, added, takenOut, entered, outcome, final, put, remove}
+use Rattle.state.specs.Answers.{stepReply}
+use Rattle.state.specs.declared.Answer.{Answer}
+use Rattle.state.specs.declared.Answer.the-variants.{Stored, Ready, Absent, Value, Refused}
 use Rattle.tree.specs.Pairs.{lookup, hasKey}
 use Rattle.tree.proofs.Pairs.{lookup-none}
+
+-- what the dictionary answers an update: the value held under its key, or "absent"
+unfoldable pub dictionaryAnswer : Option ℕ → Answer
+dictionaryAnswer none = Absent
+dictionaryAnswer (some v) = Value v
+
+-- a step's final answers, and that the book counts them as final
+abbrev pub IsFinal : Answer → Type 0
+IsFinal Stored = ⊥
+IsFinal Ready = Unit
+IsFinal Absent = Unit
+IsFinal (Value v) = Unit
+IsFinal (Refused r) = ⊥
+
+pub final-told : (a : Answer) → IsFinal a → outcome (stepReply a) ≡ final
+unfolding outcome stepReply
+final-told Stored f = absurd f
+final-told Ready f = refl
+final-told Absent f = refl
+final-told (Value v) f = refl
+final-told (Refused r) f = absurd f
 
 -- one set of pairs
 pub record Same (a b : List (ℕ × ℕ)) : Type 0 where
@@ -53,21 +77,19 @@ lookup-held k (p ∷ l) h =
     (λ e. (p .1, rw (eq-eqb k (p .0) e)))
     (λ d. let r = lookup-held k l (omega (arith, indicator-other k (p .0) d)) in (r .0, rw (ne-eqb k (p .0) d) (r .1)))
 
-added-new : (k v : ℕ) (l : List (ℕ × ℕ)) → total (hasKey k) l ≡ 0 → added k v l ≡ (k, v) ∷ l
-unfolding added addedUnless
-added-new k v l h = ap (λ (x : Option ℕ). addedUnless x k v l) (lookup-none k l h)
+entered-new : (k v : ℕ) (l : List (ℕ × ℕ)) → total (hasKey k) l ≡ 0 → entered (put k v) l ≡ (k, v) ∷ l
+unfolding entered added
+entered-new k v l h = ap (λ (x : Option ℕ). added x k v l) (lookup-none k l h)
 
-added-old : (k v : ℕ) (l : List (ℕ × ℕ)) → 0 < total (hasKey k) l → added k v l ≡ l
-unfolding added addedUnless
-added-old k v l h = ap (λ (x : Option ℕ). addedUnless x k v l) (lookup-held k l h .1)
+entered-old : (k v : ℕ) (l : List (ℕ × ℕ)) → 0 < total (hasKey k) l → entered (put k v) l ≡ l
+unfolding entered added
+entered-old k v l h = ap (λ (x : Option ℕ). added x k v l) (lookup-held k l h .1)
 
 pub enters-put : (k v : ℕ) (a b : List (ℕ × ℕ)) → total (hasKey k) a ≡ 0 → ((w : ℕ × ℕ → ℕ) → total w b ≡ w (k, v) + total w a) → Enters (put k v) a b
-unfolding entered
-enters-put k v a b z h = record { to = λ l s. record { totals = λ w. rw (added-new k v l (sym (s .totals (hasKey k)) ∙ z)) (omega (arith, h w, s .totals w)) } }
+enters-put k v a b z h = record { to = λ l s. record { totals = λ w. rw (entered-new k v l (sym (s .totals (hasKey k)) ∙ z)) (omega (arith, h w, s .totals w)) } }
 
 pub enters-held : (k v : ℕ) (a : List (ℕ × ℕ)) → 0 < total (hasKey k) a → Enters (put k v) a a
-unfolding entered
-enters-held k v a h = record { to = λ l s. record { totals = λ w. rw (added-old k v l (omega (arith, s .totals (hasKey k)))) (s .totals w) } }
+enters-held k v a h = record { to = λ l s. record { totals = λ w. rw (entered-old k v l (omega (arith, s .totals (hasKey k)))) (s .totals w) } }
 
 pub enters-remove : (k x : ℕ) (a b : List (ℕ × ℕ)) → total (hasKey k) a ≤ 1 → ((w : ℕ × ℕ → ℕ) → total w a ≡ w (k, x) + total w b) → Enters (remove k) a b
 unfolding entered
