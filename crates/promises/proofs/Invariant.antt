@@ -15,9 +15,8 @@ use Rattle.change_theory.proofs.Rewritten.{Sound}
 use Rattle.free_nodes.specs.NodeSet.{countTrue}
 use Rattle.promises.specs.Way.{leafFull}
 use Rattle.promises.proofs.Finishing.{updateStoresAt}
-use Rattle.promises.specs.Book.{Update, Hand, Book, put, remove, empty, holding}
+use Rattle.promises.specs.Book.{Update, Outcome, Told, Hand, Book, book, feed, put, remove, goesOn, anInsert, aDelete, empty, holding}
 use Rattle.promises.proofs.BookLaws.{Enters, Same, dictionaryAnswer}
-use Rattle.laws.specs.Cases.{pick}
 use Rattle.promises.specs.Events.{World}
 use Rattle.promises.specs.RationTable.{rationTable}
 use Rattle.state.specs.Memory.{Memory}
@@ -54,6 +53,14 @@ pub data Entered : Option Update → Hand → Type 0 where
   no-update : Entered none empty
   updated : {u : Update} {deciding count : ℕ} → deciding ≤ count → Entered (some u) (holding u deciding count)
 
+-- what the book is told of an update's start, and the hand that it then takes up
+abbrev pub toldOf : Update → List ℕ → Outcome → Told
+toldOf (put key value) c o = anInsert key value o (leafFull c key)
+toldOf (remove key) c o = aDelete key o
+
+abbrev pub takenUp : Told → Hand
+takenUp t = feed t (book [] empty) .inHand
+
 -- steps enough from the start of an update of the tree to its final answer: 73 stores for its first change, 73 for each level
 pub record UpdateSteps (t : Tree) (steps : ℕ) : Type 0 where
   pub height : ℕ
@@ -67,9 +74,9 @@ pub data Stage (c : List ℕ) (n : ℕ) (t goal : Tree) (steps : ℕ) : Memory �
       → Stage c n t goal steps (record { nodes = n; free = free; last = last; doing = Idle; rest = []; cut = [] }) empty due
   -- started: nothing is planned yet
   stage-put : {free : List Bool} {last key value : ℕ} → tableViolations t ≡ 0 → 3 ≤ countTrue free → Exact n free t → lowestKey ≤ key → key < keyLimit → startRoom c key free (landing c n key) ≡ true → UpdateSteps t steps → afterShape (put key value) (bare t) ≡ goal
-      → Stage c n t goal steps (record { nodes = n; free = free; last = last; doing = Inserting key value false; rest = []; cut = [] }) (holding (put key value) (pick (leafFull c key) 73 2) 0) (dictionaryAnswer (lookup key (pairs t)))
+      → Stage c n t goal steps (record { nodes = n; free = free; last = last; doing = Inserting key value false; rest = []; cut = [] }) (takenUp (toldOf (put key value) c goesOn)) (dictionaryAnswer (lookup key (pairs t)))
   stage-remove : {free : List Bool} {last key : ℕ} → tableViolations t ≡ 0 → 3 ≤ countTrue free → Exact n free t → lowestKey ≤ key → key < keyLimit → UpdateSteps t steps → afterShape (remove key) (bare t) ≡ goal
-      → Stage c n t goal steps (record { nodes = n; free = free; last = last; doing = Deleting key false 0; rest = []; cut = [] }) (holding (remove key) 1 0) (dictionaryAnswer (lookup key (pairs t)))
+      → Stage c n t goal steps (record { nodes = n; free = free; last = last; doing = Deleting key false 0; rest = []; cut = [] }) (takenUp (toldOf (remove key) c goesOn)) (dictionaryAnswer (lookup key (pairs t)))
   -- the first change of an update, whose last store enters it
   stage-first : {free : List Bool} {last key : ℕ} {doing : Doing} {due : Answer} {u : Update} {deciding count : ℕ} {cut : List ℕ} {s : Store} {rest : List Store} → Job doing key due (some u) → (p : Changing c n key t (s ∷ rest) free cut) → Enters u (pairs t) (pairs (p .next))
       → count + suc (length rest) ≡ deciding → suc (length rest) + (73 * p .level + 1) ≤ steps → Heads (p .level) (bare (p .next)) goal

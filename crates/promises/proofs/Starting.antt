@@ -16,12 +16,11 @@ use Rattle.descent_theory.proofs.Landing.{landing-found}
 use Rattle.free_nodes.specs.NodeSet.{countTrue}
 use Rattle.laws.proofs.Cases.{bool-cases, order, impossible}
 use Rattle.laws.specs.Cases.{pick}
-use Rattle.promises.specs.Way.{leafFull}
 use Rattle.promises.proofs.BookLaws.{dictionaryAnswer}
 use Rattle.state.specs.Answers.{startReply}
 use borrow.Author.Tests.{lt-ltb}
 use Rattle.promises.proofs.Finishing.{updateStoresAt}
-use Rattle.promises.proofs.Invariant.{UpdateSteps, Stage, Inv, stage-idle, stage-put, stage-remove, stage-first, stage-between, stage-within}
+use Rattle.promises.proofs.Invariant.{toldOf, UpdateSteps, Stage, Inv, stage-idle, stage-put, stage-remove, stage-first, stage-between, stage-within}
 use Rattle.promises.specs.Book.{Update, Hand, Book, fedStart, feed, isRefused, outcome, told, put, remove}
 use Rattle.promises.specs.Events.{World, replyTo, happens, insert, delete}
 use Rattle.promises.specs.RationTable.{rationTable}
@@ -99,19 +98,26 @@ pub record Fresh {n steps k : ℕ} {w v : World rationTable} {b l : Book} (u : U
   pub new-due : g .begun ≡ Started → j .due ≡ dictionaryAnswer (lookup (keyOf u) (b .held))
 
 -- what a start leaves, by the call's beginning
-abbrev Goal : {n steps : ℕ} {w : World rationTable} {b : Book} → Inv n steps w b → Update → ℕ → Handed → Type 0
-Goal {n} {steps} {w} {b} i u deciding g = (k : ℕ) × (j : Inv n k (record { card = w .card; state = g .memory }) (fedStart (outcome (startReply (g .begun))) u deciding b)) × Fresh u g i j
+abbrev Goal : {n steps : ℕ} {w : World rationTable} {b : Book} → Inv n steps w b → Update → Handed → Type 0
+Goal {n} {steps} {w} {b} i u g = (k : ℕ) × (j : Inv n k (record { card = w .card; state = g .memory }) (feed (toldOf u (w .card) (outcome (startReply (g .begun)))) b)) × Fresh u g i j
 
-refused-goal : {n steps : ℕ} (w : World rationTable) (b : Book) (i : Inv n steps w b) (u : Update) (deciding r : ℕ) → r < 64 → Goal i u deciding (startRefused r (w .state))
-unfolding startRefused startReply outcome fedStart isRefused
-refused-goal {steps = steps} w b i u deciding r h = rw (lt-ltb r 64 h) (
-  steps,
-  record { tree = i .tree; goal = i .goal; due = i .due; table = i .table; openable = i .openable; same = i .same; stage = i .stage },
-  record { idle-before = λ e. not-started e; steps-left = λ e. not-started e; busy = λ e. not-started e; new-goal = λ e. not-started e; new-due = λ e. not-started e },
-)
+-- a refused start leaves the book as it is
+refused-told : (u : Update) (c : List ℕ) (r : ℕ) (b : Book) → r < 64 → feed (toldOf u c (outcome (startReply (BegunRefused r)))) b ≡ b
+unfolding startReply outcome feed fedStart isRefused
+refused-told (put key value) c r b h = rw (lt-ltb r 64 h)
+refused-told (remove key) c r b h = rw (lt-ltb r 64 h)
+
+refused-goal : {n steps : ℕ} (w : World rationTable) (b : Book) (i : Inv n steps w b) (u : Update) (r : ℕ) → r < 64 → Goal i u (startRefused r (w .state))
+unfolding startRefused
+refused-goal {n} {steps} w b i u r h = at (feed (toldOf u (w .card) (outcome (startReply (BegunRefused r)))) b) (refused-told u (w .card) r b h)
   where
     not-started : {P : Type 0} → _≡_ {A = Begun} (BegunRefused r) Started → P
     not-started e = impossible (cc)
+
+    at : (l : Book) → l ≡ b → (k : ℕ) × (j : Inv n k w l) × Fresh u (startRefused r (w .state)) i j
+    at l e =
+        rw e
+        (steps, i, record { idle-before = λ e. not-started e; steps-left = λ e. not-started e; busy = λ e. not-started e; new-goal = λ e. not-started e; new-due = λ e. not-started e })
 
 -- the answer due by the book's pairs is that by the tree's
 pub same-lookup : {n steps : ℕ} {w : World rationTable} {b : Book} (i : Inv n steps w b) (key : ℕ) → lookup key (pairs (i .tree)) ≡ lookup key (b .held)
@@ -131,8 +137,8 @@ module _ {n steps : ℕ} {w : World rationTable} {b : Book} (i : Inv n steps w b
 
 -- started: the update is in hand, and its answer by the map is due
 put-started : {n steps : ℕ} (w : World rationTable) (b : Book) (i : Inv n steps w b) (free : List Bool) (last key value : ℕ) → w .state ≡ memory n free last Idle [] [] → tableViolations (i .tree) ≡ 0 → 3 ≤ countTrue free → Exact n free (i .tree) → bare (i .tree) ≡ i .goal → lowestKey ≤ key → key < keyLimit
-    → startRoom (w .card) key (w .state .free) (landing (w .card) (w .state .nodes) key) ≡ true → Goal i (put key value) (pick (leafFull (w .card) key) 73 2) (started (w .state) (Inserting key value false))
-unfolding started startReply outcome fedStart isRefused isIdle
+    → startRoom (w .card) key (w .state .free) (landing (w .card) (w .state .nodes) key) ≡ true → Goal i (put key value) (started (w .state) (Inserting key value false))
+unfolding started startReply outcome feed fedStart isRefused isIdle
 put-started {n} w b i free last key value em z r x eg low high q =
     let q′ : startRoom (w .card) key free (landing (w .card) n key) ≡ true = rw em at q in (
       mostSteps i,
@@ -141,8 +147,8 @@ put-started {n} w b i free last key value em z r x eg low high q =
     )
 
 remove-started : {n steps : ℕ} (w : World rationTable) (b : Book) (i : Inv n steps w b) (free : List Bool) (last key : ℕ) → w .state ≡ memory n free last Idle [] [] → tableViolations (i .tree) ≡ 0 → 3 ≤ countTrue free → Exact n free (i .tree) → bare (i .tree) ≡ i .goal → lowestKey ≤ key → key < keyLimit
-    → Goal i (remove key) 1 (started (w .state) (Deleting key false 0))
-unfolding started startReply outcome fedStart isRefused isIdle
+    → Goal i (remove key) (started (w .state) (Deleting key false 0))
+unfolding started startReply outcome feed fedStart isRefused isIdle
 remove-started w b i free last key em z r x eg low high = (
   mostSteps i,
   record { tree = i .tree; goal = afterShape (remove key) (i .goal); due = dictionaryAnswer (lookup key (pairs (i .tree))); table = i .table; openable = i .openable; same = i .same; stage = rw em (stage-remove {free = free} {last = last} z r x low high (enough-steps i) (ap (afterShape (remove key)) eg)) },
@@ -168,22 +174,22 @@ module _ (n steps : ℕ) (w : World rationTable) (b : Book) (i : Inv n steps w b
       → startOf (w .card) (w .state) key doing room ≡ pick (room (landing (w .card) (w .state .nodes) key)) (started (w .state) doing) (startRefused 8 (w .state))
   room-decides key doing room idle low high = let g = lands key low high in passed key doing room ∙ start-landed (w .card) (w .state) key doing room (g .0) (g .1) (g .2) (is-idle idle) (omega arith) (g .3)
 
-  start-with : (key : ℕ) (doing : Doing) (room : Landing → Bool) (u : Update) (deciding : ℕ) → key < keyLimit
-      → ((free : List Bool) (last : ℕ) → w .state ≡ memory n free last Idle [] [] → tableViolations (i .tree) ≡ 0 → 3 ≤ countTrue free → Exact n free (i .tree) → bare (i .tree) ≡ i .goal → lowestKey ≤ key → room (landing (w .card) (w .state .nodes) key) ≡ true → Goal i u deciding (started (w .state) doing))
-      → Goal i u deciding (startOf (w .card) (w .state) key doing room)
-  start-with key doing room u deciding high begin = go (idle-or-busy (i .stage) .1)
+  start-with : (key : ℕ) (doing : Doing) (room : Landing → Bool) (u : Update) → key < keyLimit
+      → ((free : List Bool) (last : ℕ) → w .state ≡ memory n free last Idle [] [] → tableViolations (i .tree) ≡ 0 → 3 ≤ countTrue free → Exact n free (i .tree) → bare (i .tree) ≡ i .goal → lowestKey ≤ key → room (landing (w .card) (w .state .nodes) key) ≡ true → Goal i u (started (w .state) doing))
+      → Goal i u (startOf (w .card) (w .state) key doing room)
+  start-with key doing room u high begin = go (idle-or-busy (i .stage) .1)
     where
-      refused-with : (r : ℕ) → r < 64 → startOf (w .card) (w .state) key doing room ≡ startRefused r (w .state) → Goal i u deciding (startOf (w .card) (w .state) key doing room)
-      refused-with r h e = subst (Goal i u deciding) (sym e) (refused-goal w b i u deciding r h)
+      refused-with : (r : ℕ) → r < 64 → startOf (w .card) (w .state) key doing room ≡ startRefused r (w .state) → Goal i u (startOf (w .card) (w .state) key doing room)
+      refused-with r h e = subst (Goal i u) (sym e) (refused-goal w b i u r h)
 
       go : (isIdle (w .state .doing) ≡ false) ⊎ ((free : List Bool) × (last : ℕ) × (w .state ≡ memory n free last Idle [] []) × (tableViolations (i .tree) ≡ 0) × (3 ≤ countTrue free) × Exact n free (i .tree) × (bare (i .tree) ≡ i .goal))
-          → Goal i u deciding (startOf (w .card) (w .state) key doing room)
+          → Goal i u (startOf (w .card) (w .state) key doing room)
       go (inl q) = refused-with 7 (omega arith) (passed key doing room ∙ start-busy (w .card) (w .state) key doing room q)
       go (inr (free, last, em, z, r, x, eg)) =
           order key 1
           (λ o. refused-with 6 (omega arith) (passed key doing room ∙ start-zero (w .card) (w .state) key doing room (is-idle idle) (omega arith)))
           (λ o. bool-cases (room (landing (w .card) (w .state .nodes) key))
-          (λ q. subst (Goal i u deciding) (sym (room-decides key doing room idle o high ∙ rw q)) (begin free last em z r x eg o q))
+          (λ q. subst (Goal i u) (sym (room-decides key doing room idle o high ∙ rw q)) (begin free last em z r x eg o q))
           (λ q. refused-with 8 (omega arith) (room-decides key doing room idle o high ∙ rw q)))
         where
           idle : w .state .doing ≡ Idle
@@ -191,11 +197,11 @@ module _ (n steps : ℕ) (w : World rationTable) (b : Book) (i : Inv n steps w b
 
   -- "Starting an update stores nothing."
   pub kept-insert : (key value : ℕ) → key < keyLimit → (k : ℕ) × (j : Inv n k (happens rationTable (insert key value) w) (feed (told rationTable (insert key value) w) b)) × Fresh (put key value) (insertOf (w .card) (w .state) key value) i j
-  unfolding happens feed told replyTo insertOf
+  unfolding happens told replyTo insertOf
   kept-insert key value high =
-      start-with key (Inserting key value false) (startRoom (w .card) key (w .state .free)) (put key value) (pick (leafFull (w .card) key) 73 2) high
+      start-with key (Inserting key value false) (startRoom (w .card) key (w .state .free)) (put key value) high
       (λ free last em z r x eg low q. put-started w b i free last key value em z r x eg low high q)
 
   pub kept-delete : (key : ℕ) → key < keyLimit → (k : ℕ) × (j : Inv n k (happens rationTable (delete key) w) (feed (told rationTable (delete key) w) b)) × Fresh (remove key) (deleteOf (w .card) (w .state) key) i j
-  unfolding happens feed told replyTo deleteOf
-  kept-delete key high = start-with key (Deleting key false 0) (λ l. true) (remove key) 1 high (λ free last em z r x eg low q. remove-started w b i free last key em z r x eg low high)
+  unfolding happens told replyTo deleteOf
+  kept-delete key high = start-with key (Deleting key false 0) (λ l. true) (remove key) high (λ free last em z r x eg low q. remove-started w b i free last key em z r x eg low high)

@@ -32,18 +32,17 @@ use Rattle.descent_theory.proofs.Routing.{Leads}
 use Rattle.descent_theory.proofs.Seek.{seek-balanced}
 use Rattle.descent_theory.proofs.Way.{depth-plug}
 use Rattle.free_nodes.specs.NodeSet.{countTrue}
-use Rattle.laws.proofs.Cases.{bool-cases, order}
+use Rattle.laws.proofs.Cases.{order}
 use Rattle.laws.specs.Sorting.{sort}
 use Rattle.laws.specs.Totals.{total}
 use Rattle.promises.proofs.Begin.{put-held, put-slot, put-full, remove-held, remove-absent, room-full, flag-slot, flag-full}
 use Rattle.promises.specs.Way.{leafFull}
-use Rattle.laws.specs.Cases.{pick}
 use Rattle.state.specs.Answers.{stepReply}
-use borrow.Author.Tests.{lt-ltb, le-ltb, ne-eqb}
+use borrow.Author.Tests.{le-ltb, ne-eqb}
 use Rattle.promises.proofs.FirstChanges.{slot-changing, slot-level, slot-enters, delete-changing, delete-level, delete-enters, slot-shaped, delete-shaped, split-shaped, split-changing, split-level, split-enters, split-count, First}
-use Rattle.promises.proofs.Invariant.{Toward, Table, Job, Entered, UpdateSteps, Stage, Inv, job-repair, job-insert, job-delete, no-update, updated, stage-idle, stage-put, stage-remove, stage-first, stage-between, stage-within}
+use Rattle.promises.proofs.Invariant.{toldOf, takenUp, Toward, Table, Job, Entered, UpdateSteps, Stage, Inv, job-repair, job-insert, job-delete, no-update, updated, stage-idle, stage-put, stage-remove, stage-first, stage-between, stage-within}
 use Rattle.promises.proofs.Kept.{first-storable, repair-stored, update-stored}
-use Rattle.promises.specs.Book.{Update, Hand, Book, book, entered, fedStep, feed, outcome, told, put, remove, final, goesOn, empty, holding}
+use Rattle.promises.specs.Book.{Update, Hand, Book, book, entered, fedStart, fedStep, feed, isRefused, outcome, told, put, remove, anInsert, final, goesOn, empty, holding}
 use Rattle.promises.proofs.BookLaws.{Enters, Same, IsFinal, final-told, dictionaryAnswer, enters-held, enters-gone}
 use Rattle.promises.specs.Events.{World, replyTo, happens, step}
 use Rattle.promises.specs.RationTable.{rationTable}
@@ -212,18 +211,24 @@ module _ (n steps : ℕ) (c : List ℕ) (t : Tree) (b : Table c n t) (o : Openab
   goal-absent : (key : ℕ) → lookup key (pairs t) ≡ none → afterShape (remove key) (bare t) ≡ goal → bare t ≡ goal
   goal-absent key e eg = sym (after-by-map (remove key) t ∙ ap (λ (f : Option ℕ). changes (remove key) f (bare t) (settledBy depthLimit (firstShape (remove key) (bare t)))) e) ∙ eg
 
+  -- no step of an insert was counted: its final answer enters it
+  entered-at-end : (key value : ℕ) (full : Bool) → fedStep final l (takenUp (anInsert key value goesOn full)) ≡ book (entered (put key value) l) empty
+  unfolding feed fedStart isRefused fedStep
+  entered-at-end key value true = refl
+  entered-at-end key value false = refl
+
   -- "Insert, key held: answers the held value, no store."
-  put-answers : (free : List Bool) (last key value i : ℕ) → tableViolations t ≡ 0 → 3 ≤ countTrue free → Exact n free t → (g : LandedAt c n key t) → slotOf (nodeAt c (g .number)) key ≡ At i → (d : ℕ) → 0 < d → afterShape (put key value) (bare t) ≡ goal
-      → Goal (memory n free last (Inserting key value false) [] []) (holding (put key value) d 0) (dictionaryAnswer (lookup key (pairs t)))
+  put-answers : (free : List Bool) (last key value i : ℕ) → tableViolations t ≡ 0 → 3 ≤ countTrue free → Exact n free t → (g : LandedAt c n key t) → slotOf (nodeAt c (g .number)) key ≡ At i → (full : Bool) → afterShape (put key value) (bare t) ≡ goal
+      → Goal (memory n free last (Inserting key value false) [] []) (takenUp (anInsert key value goesOn full)) (dictionaryAnswer (lookup key (pairs t)))
   unfolding idled outcome stepReply fedStep slotAnswer dictionaryAnswer
-  put-answers free last key value i z r x g e d some-step eg =
+  put-answers free last key value i z r x g e full eg =
       let m = memory n free last (Inserting key value false) [] [] in
       let v = getD (nodeAt c (g .number)) (12 + i) 0 in
       let found : lookup key (pairs t) ≡ some (getD (nodeAt c (g .number)) (12 + i) 0) = sym (g .answers) ∙ ap (slotAnswer (nodeAt c (g .number))) e in
-      final-goal (memory n free last (Inserting key value false) [] []) (memory n free last Idle [] []) (Value v) (holding (put key value) d 0) (dictionaryAnswer (lookup key (pairs t)))
+      final-goal (memory n free last (Inserting key value false) [] []) (memory n free last Idle [] []) (Value v) (takenUp (anInsert key value goesOn full)) (dictionaryAnswer (lookup key (pairs t)))
       (step-puts c n (b .sized) (b .header) free last key value ∙ put-held c n key (g .number) (linkPlace (g .context)) (fullRun (g .context)) (landed key g) value free last m i e ∙ prepared-ready c m (Inserting key value true) (Value v) balanced refl)
       refl tt
-      (rw (lt-ltb 0 d some-step) (idle-inv _ free last (entered (put key value) l) (enters-held key value (pairs t) (held-positive key (getD (nodeAt c (g .number)) (12 + i) 0) (pairs t) found) .to l same) z r x (goal-held key value (getD (nodeAt c (g .number)) (12 + i) 0) found eg)))
+      (rw (entered-at-end key value full) (idle-inv _ free last (entered (put key value) l) (enters-held key value (pairs t) (held-positive key (getD (nodeAt c (g .number)) (12 + i) 0) (pairs t) found) .to l same) z r x (goal-held key value (getD (nodeAt c (g .number)) (12 + i) 0) found eg)))
       (rw found final-answer)
     where
       held-positive : (k v : ℕ) (ps : List (ℕ × ℕ)) → lookup k ps ≡ some v → 0 < total (hasKey k) ps
@@ -240,8 +245,8 @@ module _ (n steps : ℕ) (c : List ℕ) (t : Tree) (b : Table c n t) (o : Openab
 
   -- "With an empty slot: value first, then key, in the lowest empty slot."
   put-into-slot : (free : List Bool) (last key value i : ℕ) → tableViolations t ≡ 0 → 3 ≤ countTrue free → Exact n free t → lowestKey ≤ key → key < keyLimit → UpdateSteps t (suc steps) → (g : LandedAt c n key t) → slotOf (nodeAt c (g .number)) key ≡ NoSlot → slotOf (nodeAt c (g .number)) 0 ≡ At i → afterShape (put key value) (bare t) ≡ goal
-      → Goal (memory n free last (Inserting key value false) [] []) (holding (put key value) (pick (leafFull c key) 73 2) 0) (dictionaryAnswer (lookup key (pairs t)))
-  unfolding slotAnswer dictionaryAnswer
+      → Goal (memory n free last (Inserting key value false) [] []) (takenUp (toldOf (put key value) c goesOn)) (dictionaryAnswer (lookup key (pairs t)))
+  unfolding slotAnswer dictionaryAnswer feed fedStart isRefused
   put-into-slot free last key value i z r x low high few g e e₀ eg =
       let m = memory n free last (Inserting key value false) [] [] in
       let none-there : lookup key (pairs t) ≡ none = sym (g .answers) ∙ ap (slotAnswer (nodeAt c (g .number))) e in
@@ -255,7 +260,7 @@ module _ (n steps : ℕ) (c : List ℕ) (t : Tree) (b : Table c n t) (o : Openab
       let p : First c n key (plug (g .context) (leaf (g .number) (g .keys) (g .values))) ((place (g .number) (12 + i), value) ∷ (place (g .number) (1 + i), key) ∷ []) free [] (put key value) (depthOf (g .context)) =
       at-slot (g .context) (g .number) (g .keys) (g .values) i (rw is (b .holds)) (rw is (b .sound)) (rw is z) (rw is x) r (g .leads) low high value (s .0) empty-slot (rw is none-held) (row-slot key 0 g ∙ e₀) in
       rw (none-there, flag)
-      (first-made 2 m _ (place (g .number) (12 + i), value) ((place (g .number) (1 + i), key) ∷ []) free last [] (depthOf (g .context)) refl job-insert
+      (first-made _ m _ (place (g .number) (12 + i), value) ((place (g .number) (1 + i), key) ∷ []) free last [] (depthOf (g .context)) refl job-insert
       (step-puts c n (b .sized) (b .header) free last key value ∙ put-slot c n key (g .number) (linkPlace (g .context)) (fullRun (g .context)) (landed key g) value free last m i e e₀) refl (rw is at p) refl (omega arith) (way-limited key g) (goal-put key value none-there eg))
     where
       at-slot : (C : Context) (m : ℕ) (ks vs : List ℕ) (i : ℕ) → Holds c (plug C (leaf m ks vs)) → Sound (plug C (leaf m ks vs)) → tableViolations (plug C (leaf m ks vs)) ≡ 0 → Exact n free (plug C (leaf m ks vs)) → 3 ≤ countTrue free → Leads key C → lowestKey ≤ key → key < keyLimit
@@ -270,8 +275,8 @@ module _ (n steps : ℕ) (c : List ℕ) (t : Tree) (b : Table c n t) (o : Openab
 
   -- "Delete: key word to 0, answers the value"
   remove-from-slot : (free : List Bool) (last key i : ℕ) → tableViolations t ≡ 0 → 3 ≤ countTrue free → Exact n free t → lowestKey ≤ key → key < keyLimit → UpdateSteps t (suc steps) → (g : LandedAt c n key t) → slotOf (nodeAt c (g .number)) key ≡ At i → afterShape (remove key) (bare t) ≡ goal
-      → Goal (memory n free last (Deleting key false 0) [] []) (holding (remove key) 1 0) (dictionaryAnswer (lookup key (pairs t)))
-  unfolding slotAnswer dictionaryAnswer
+      → Goal (memory n free last (Deleting key false 0) [] []) (takenUp (toldOf (remove key) c goesOn)) (dictionaryAnswer (lookup key (pairs t)))
+  unfolding slotAnswer dictionaryAnswer feed fedStart isRefused
   remove-from-slot free last key i z r x low high few g e eg =
       let m = memory n free last (Deleting key false 0) [] [] in
       let found : lookup key (pairs t) ≡ some (getD (nodeAt c (g .number)) (12 + i) 0) = sym (g .answers) ∙ ap (slotAnswer (nodeAt c (g .number))) e in
@@ -283,7 +288,7 @@ module _ (n steps : ℕ) (c : List ℕ) (t : Tree) (b : Table c n t) (o : Openab
       let p : First c n key (plug (g .context) (leaf (g .number) (g .keys) (g .values))) ((place (g .number) (1 + i), 0) ∷ []) free [] (remove key) (depthOf (g .context)) =
       at-slot (g .context) (g .number) (g .keys) (g .values) (rw is (b .holds)) (rw is (b .sound)) (rw is z) (rw is x) r (g .leads) low high (s .0) held-slot (row-slot key key g ∙ e) in
       rw found
-      (first-made 1 m _ (place (g .number) (1 + i), 0) [] free last [] (depthOf (g .context)) refl job-delete
+      (first-made _ m _ (place (g .number) (1 + i), 0) [] free last [] (depthOf (g .context)) refl job-delete
       (step-removes c n (b .sized) (b .header) free last key ∙ remove-held c n key (g .number) (linkPlace (g .context)) (fullRun (g .context)) (landed key g) 0 free last m i e) refl (rw is at p) refl (omega arith) (way-limited key g) (goal-remove key (getD (nodeAt c (g .number)) (12 + i) 0) found eg))
     where
       at-slot : (C : Context) (m : ℕ) (ks vs : List ℕ) → Holds c (plug C (leaf m ks vs)) → Sound (plug C (leaf m ks vs)) → tableViolations (plug C (leaf m ks vs)) ≡ 0 → Exact n free (plug C (leaf m ks vs)) → 3 ≤ countTrue free → Leads key C → lowestKey ≤ key → key < keyLimit
@@ -298,12 +303,12 @@ module _ (n steps : ℕ) (c : List ℕ) (t : Tree) (b : Table c n t) (o : Openab
 
   -- "absent and no store if not held"
   remove-answers : (free : List Bool) (last key : ℕ) → tableViolations t ≡ 0 → 3 ≤ countTrue free → Exact n free t → (g : LandedAt c n key t) → slotOf (nodeAt c (g .number)) key ≡ NoSlot → afterShape (remove key) (bare t) ≡ goal
-      → Goal (memory n free last (Deleting key false 0) [] []) (holding (remove key) 1 0) (dictionaryAnswer (lookup key (pairs t)))
-  unfolding idled outcome stepReply fedStep slotAnswer dictionaryAnswer
+      → Goal (memory n free last (Deleting key false 0) [] []) (takenUp (toldOf (remove key) c goesOn)) (dictionaryAnswer (lookup key (pairs t)))
+  unfolding idled outcome stepReply fedStep slotAnswer dictionaryAnswer feed fedStart isRefused
   remove-answers free last key z r x g e eg =
       let m = memory n free last (Deleting key false 0) [] [] in
       let none-there : lookup key (pairs t) ≡ none = sym (g .answers) ∙ ap (slotAnswer (nodeAt c (g .number))) e in
-      final-goal (memory n free last (Deleting key false 0) [] []) (memory n free last Idle [] []) Absent (holding (remove key) 1 0) (dictionaryAnswer (lookup key (pairs t)))
+      final-goal (memory n free last (Deleting key false 0) [] []) (memory n free last Idle [] []) Absent (takenUp (toldOf (remove key) c goesOn)) (dictionaryAnswer (lookup key (pairs t)))
       (step-removes c n (b .sized) (b .header) free last key ∙ remove-absent c n key (g .number) (linkPlace (g .context)) (fullRun (g .context)) (landed key g) 0 free last m e ∙ prepared-ready c m (Deleting key true 0) Absent balanced refl)
       refl tt
       (idle-inv _ free last (entered (remove key) l) (enters-gone key (pairs t) (absent-counted key (pairs t) none-there) .to l same) z r x (goal-absent key none-there eg))
@@ -312,8 +317,8 @@ module _ (n steps : ℕ) (c : List ℕ) (t : Tree) (b : Table c n t) (o : Openab
   -- "Leaf full: the 12 pairs go 6 and 6 into two leaves under a tagged node"
   put-by-split : (free : List Bool) (last key value : ℕ) → tableViolations t ≡ 0 → 3 ≤ countTrue free → Exact n free t → lowestKey ≤ key → key < keyLimit → UpdateSteps t (suc steps) → startRoom c key free (landing c n key) ≡ true → (g : LandedAt c n key t)
       → slotOf (nodeAt c (g .number)) key ≡ NoSlot → slotOf (nodeAt c (g .number)) 0 ≡ NoSlot → afterShape (put key value) (bare t) ≡ goal
-      → Goal (memory n free last (Inserting key value false) [] []) (holding (put key value) (pick (leafFull c key) 73 2) 0) (dictionaryAnswer (lookup key (pairs t)))
-  unfolding slotAnswer dictionaryAnswer
+      → Goal (memory n free last (Inserting key value false) [] []) (takenUp (toldOf (put key value) c goesOn)) (dictionaryAnswer (lookup key (pairs t)))
+  unfolding slotAnswer dictionaryAnswer feed fedStart isRefused
   put-by-split free last key value z r x low high few room g e e₀ eg =
       let none-there : lookup key (pairs t) ≡ none = sym (g .answers) ∙ ap (slotAnswer (nodeAt c (g .number))) e in
       let flag = flag-full c n key (g .number) (linkPlace (g .context)) (fullRun (g .context)) (landed key g) (b .sized) e₀ in
@@ -337,7 +342,7 @@ module _ (n steps : ℕ) (c : List ℕ) (t : Tree) (b : Table c n t) (o : Openab
           ∙ ap (λ (q : List Store). prepared q (withoutAll ms free) (lastOf last ms) (g .number ∷ [])) (change-stores (g .context) _ (third ms) (g .number ∷ []))
 
       go : ((ms : List ℕ) × (takeNumbers 3 free last ≡ some ms) × (length ms ≡ 3) × Given free ms) → 73 + 73 * depthOf (g .context) ≤ steps → length (slotPairs (g .keys) (g .values)) ≡ 11 → splitNeed (fullRun (g .context)) ≤ countTrue free → total (hasKey key) (pairs t) ≡ 0 → settledBy depthLimit (firstShape (put key value) (bare t)) ≡ goal
-          → Goal (memory n free last (Inserting key value false) [] []) (holding (put key value) 73 0) Absent
+          → Goal (memory n free last (Inserting key value false) [] []) (takenUp (anInsert key value goesOn true)) Absent
       go (ms, e₁, three, gv) way eleven spare none-held reach = split (stores ms) refl
         where
           p : First c n key (plug (g .context) (leaf (g .number) (g .keys) (g .values))) (stores ms) (withoutAll ms free) (g .number ∷ []) (put key value) (depthOf (g .context))
@@ -357,40 +362,40 @@ module _ (n steps : ℕ) (c : List ℕ) (t : Tree) (b : Table c n t) (o : Openab
           count : length (stores ms) ≡ 73
           count = split-count c n key free (g .context) (g .number) (g .keys) (g .values) (rw (g .is-tree) (b .holds)) (rw (g .is-tree) (b .sound)) (rw (g .is-tree) z) (rw (g .is-tree) x) r (g .leads) low high value ms three gv (b .sized .words) (omega (arith, b .sized .most)) eleven (rw (g .is-tree) none-held) spare
 
-          split : (q : List Store) → stores ms ≡ q → Goal (memory n free last (Inserting key value false) [] []) (holding (put key value) 73 0) Absent
+          split : (q : List Store) → stores ms ≡ q → Goal (memory n free last (Inserting key value false) [] []) (takenUp (anInsert key value goesOn true)) Absent
           split [] q = absurd (omega (arith, count, ap length q))
           split (s ∷ rest) q =
               let l₁ : suc (length rest) ≡ 73 = sym (ap length q) ∙ count in
               let p₁ : First c n key t (s ∷ rest) (withoutAll ms free) (g .number ∷ []) (put key value) (depthOf (g .context)) = rw (g .is-tree, q) at p in
-              first-made 73 (memory n free last (Inserting key value false) [] []) _ s rest (withoutAll ms free) (lastOf last ms) (g .number ∷ []) (depthOf (g .context)) refl job-insert
+              first-made _ (memory n free last (Inserting key value false) [] []) _ s rest (withoutAll ms free) (lastOf last ms) (g .number ∷ []) (depthOf (g .context)) refl job-insert
               (step-puts c n (b .sized) (b .header) free last key value
               ∙ put-full c n key (g .number) (linkPlace (g .context)) (fullRun (g .context)) (landed key g) value free last (memory n free last (Inserting key value false) [] []) e e₀)
               (planned-as ms e₁ ∙ ap (λ (q : List Store). prepared q (withoutAll ms free) (lastOf last ms) (g .number ∷ [])) q) p₁ l₁ (omega arith) (way-limited key g) reach
 
   -- by what its leaf holds
   put-begins : (free : List Bool) (last key value : ℕ) → tableViolations t ≡ 0 → 3 ≤ countTrue free → Exact n free t → lowestKey ≤ key → key < keyLimit → UpdateSteps t (suc steps) → startRoom c key free (landing c n key) ≡ true → afterShape (put key value) (bare t) ≡ goal
-      → Goal (memory n free last (Inserting key value false) [] []) (holding (put key value) (pick (leafFull c key) 73 2) 0) (dictionaryAnswer (lookup key (pairs t)))
+      → Goal (memory n free last (Inserting key value false) [] []) (takenUp (toldOf (put key value) c goesOn)) (dictionaryAnswer (lookup key (pairs t)))
   put-begins free last key value z r x low high few room eg = go (lands key low high)
     where
-      go : (g : LandedAt c n key t) → Goal (memory n free last (Inserting key value false) [] []) (holding (put key value) (pick (leafFull c key) 73 2) 0) (dictionaryAnswer (lookup key (pairs t)))
+      go : (g : LandedAt c n key t) → Goal (memory n free last (Inserting key value false) [] []) (takenUp (toldOf (put key value) c goesOn)) (dictionaryAnswer (lookup key (pairs t)))
       go g = at (slotOf (nodeAt c (g .number)) key) refl
         where
-          empty-at : (s : Slot) → slotOf (nodeAt c (g .number)) 0 ≡ s → slotOf (nodeAt c (g .number)) key ≡ NoSlot → Goal (memory n free last (Inserting key value false) [] []) (holding (put key value) (pick (leafFull c key) 73 2) 0) (dictionaryAnswer (lookup key (pairs t)))
+          empty-at : (s : Slot) → slotOf (nodeAt c (g .number)) 0 ≡ s → slotOf (nodeAt c (g .number)) key ≡ NoSlot → Goal (memory n free last (Inserting key value false) [] []) (takenUp (toldOf (put key value) c goesOn)) (dictionaryAnswer (lookup key (pairs t)))
           empty-at (At i) e₀ e = put-into-slot free last key value i z r x low high few g e e₀ eg
           empty-at NoSlot e₀ e = put-by-split free last key value z r x low high few room g e e₀ eg
 
-          at : (s : Slot) → slotOf (nodeAt c (g .number)) key ≡ s → Goal (memory n free last (Inserting key value false) [] []) (holding (put key value) (pick (leafFull c key) 73 2) 0) (dictionaryAnswer (lookup key (pairs t)))
-          at (At i) e = put-answers free last key value i z r x g e (pick (leafFull c key) 73 2) (bool-cases (leafFull c key) (λ q. rw q (omega arith)) (λ q. rw q (omega arith))) eg
+          at : (s : Slot) → slotOf (nodeAt c (g .number)) key ≡ s → Goal (memory n free last (Inserting key value false) [] []) (takenUp (toldOf (put key value) c goesOn)) (dictionaryAnswer (lookup key (pairs t)))
+          at (At i) e = put-answers free last key value i z r x g e (leafFull c key) eg
           at NoSlot e = empty-at (slotOf (nodeAt c (g .number)) 0) refl e
 
   remove-begins : (free : List Bool) (last key : ℕ) → tableViolations t ≡ 0 → 3 ≤ countTrue free → Exact n free t → lowestKey ≤ key → key < keyLimit → UpdateSteps t (suc steps) → afterShape (remove key) (bare t) ≡ goal
-      → Goal (memory n free last (Deleting key false 0) [] []) (holding (remove key) 1 0) (dictionaryAnswer (lookup key (pairs t)))
+      → Goal (memory n free last (Deleting key false 0) [] []) (takenUp (toldOf (remove key) c goesOn)) (dictionaryAnswer (lookup key (pairs t)))
   remove-begins free last key z r x low high few eg = go (lands key low high)
     where
-      go : (g : LandedAt c n key t) → Goal (memory n free last (Deleting key false 0) [] []) (holding (remove key) 1 0) (dictionaryAnswer (lookup key (pairs t)))
+      go : (g : LandedAt c n key t) → Goal (memory n free last (Deleting key false 0) [] []) (takenUp (toldOf (remove key) c goesOn)) (dictionaryAnswer (lookup key (pairs t)))
       go g = at (slotOf (nodeAt c (g .number)) key) refl
         where
-          at : (s : Slot) → slotOf (nodeAt c (g .number)) key ≡ s → Goal (memory n free last (Deleting key false 0) [] []) (holding (remove key) 1 0) (dictionaryAnswer (lookup key (pairs t)))
+          at : (s : Slot) → slotOf (nodeAt c (g .number)) key ≡ s → Goal (memory n free last (Deleting key false 0) [] []) (takenUp (toldOf (remove key) c goesOn)) (dictionaryAnswer (lookup key (pairs t)))
           at (At i) e = remove-from-slot free last key i z r x low high few g e eg
           at NoSlot e = remove-answers free last key z r x g e eg
 
