@@ -6,7 +6,7 @@ use mathlib.Core.Logic.{_⊎_, inl, inr}
 use Prim.Native.Nat.{ℕ, _+_, _≤_, _<_}
 use native.Mathlib.Omega.{arith}
 use lib.ListN.{length}
-use borrow.Author.Tests.{ne-eqb, eq-eqb}
+use borrow.Author.Tests.{ne-eqb, eq-eqb, lt-ltb}
 use Rattle.card.specs.Header.{nodesOfLength, Sized, Formatted}
 use Rattle.card.proofs.HeaderLaws.{sized-nodes, formatted-header}
 use Rattle.card.specs.Layout.{lowestKey, keyLimit}
@@ -18,7 +18,6 @@ use Rattle.laws.proofs.Cases.{bool-cases, order, impossible}
 use Rattle.laws.specs.Cases.{pick}
 use Rattle.promises.proofs.BookLaws.{dictionaryAnswer}
 use Rattle.state.specs.Answers.{startReply}
-use borrow.Author.Tests.{lt-ltb}
 use Rattle.promises.proofs.Finishing.{updateStoresAt}
 use Rattle.promises.proofs.Invariant.{toldOf, UpdateSteps, Stage, Inv, stage-idle, stage-put, stage-remove, stage-first, stage-between, stage-within}
 use Rattle.promises.specs.Book.{Update, Hand, Book, fedStart, feed, isRefused, outcome, told, put, remove}
