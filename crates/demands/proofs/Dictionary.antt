@@ -8,19 +8,20 @@ use Prim.Native.Nat.{ℕ, suc, _+_, _<_}
 use native.Mathlib.Omega.{arith}
 use lib.ListN.{length}
 use Rattle.card.specs.Header.{Sized, Formatted}
+use Rattle.card.proofs.HeaderLaws.{formatted-header}
 use Rattle.promises.proofs.Machine.{Event as Was, World as Worldly, happens as was-happens, run as was-run, find as was-find, insert as was-insert, delete as was-delete, step as was-step, crash as was-crash}
 use Rattle.promises.proofs.Feeding.{begunResult, dueAfter, dictionaryAnswer, dueAfterStart}
 use Rattle.promises.proofs.Invariant.{Inv}
 use Rattle.promises.specs.Events.{Event, World, replyTo, happens, run, LeftUncut, stepsIn, insert, delete, step}
 use Rattle.promises.specs.Book.{Book}
-use Rattle.promises.specs.RationTable.{workOf, rationTable}
+use Rattle.promises.specs.RationTable.{rationTable}
 use Rattle.demands.proofs.Work.{work-idle, idle-work, busy-work}
 use Rattle.card.specs.Layout.{keyLimit}
 use Rattle.card.specs.Replies.{Reply, refusal}
-use Rattle.demands.specs.Demand1.{HandsBack, Starts, Refuses}
+use Rattle.demands.specs.Demand1.{HandsBack, Starts}
 use Rattle.demands.specs.Worked.{dictionary}
 use Rattle.demands.specs.Demand2.{mostStores, Finishes, Updates, Rests, Works, Dictionary, Demand2}
-use Rattle.promises.specs.Table.{Work, noWork, formatting, inserting, deleting}
+use Rattle.promises.specs.Table.{inserting, deleting, putIn, takeOut}
 use Rattle.promises.specs.Way.{leadsTo}
 use Rattle.demands.specs.Refusals.{Rows, ByRows, Idle as Resting, Busy, NoRoom, cardRows, row, end}
 use Rattle.demands.specs.Rules.{InsertRule, DeleteRule}
@@ -31,10 +32,11 @@ use Rattle.demands.proofs.FirstSteps.{demand-1}
 use Rattle.demands.proofs.AnswerNumbers.{start-small}
 use Rattle.demands.proofs.ReplyLaws.{begun-started}
 use Rattle.demands.proofs.FirstRows.{sized-on}
+use Rattle.demands.proofs.StepRows.{step-sized}
 use Rattle.demands.proofs.UpdatesByRules.{insert-by-rules, delete-by-rules, opening-by-rules}
 use Rattle.demands.proofs.Formatting.{formats-right}
 use Rattle.demands.proofs.WayDown.{landed, leads-is}
-use Rattle.laws.proofs.Cases.{bool-cases, order, impossible}
+use Rattle.laws.proofs.Cases.{bool-cases, order}
 use Rattle.promises.proofs.Accepting.{find-answers}
 use Rattle.promises.proofs.Finished.{work-finishes, finishes-within, work-not-refused, inv-rests}
 use Rattle.promises.proofs.Finishing.{updateStores, updateStoresAt, stores, storesIn, Finishes as WasFinishes, Rests as WasRests}
@@ -42,13 +44,14 @@ use Rattle.promises.proofs.Promise.{Quiet, stepsIn as was-steps-in}
 use Rattle.promises.proofs.Starting.{nodes-same, lands, same-lookup, kept-insert, kept-delete}
 use Rattle.starting.specs.Starts.{insertOf, deleteOf}
 use Rattle.state.specs.Answers.{stepReply, startReply}
-use Rattle.state.specs.Steps.{isIdle}
+use Rattle.state.specs.Steps.{isIdle, heldBy, Step, stepRefused}
 use Rattle.state.specs.declared.Answer.{Answer}
 use Rattle.state.specs.declared.Answer.the-variants.{Stored, Ready, Absent, Value, Refused}
 use Rattle.state.specs.declared.Begun.the-variants.{Started}
 use Rattle.state.specs.declared.Doing.{Doing}
 use Rattle.state.specs.declared.Doing.the-variants.{Idle, Inserting, Deleting}
-use Rattle.table.specs.Calls.{stepOf}
+use Rattle.table.specs.Calls.{stepHeld, stepOf}
+use Rattle.table.proofs.StepLaws.{idle-refused}
 use Rattle.tree.specs.Pairs.{pairs, lookup}
 use Rattle.updates.specs.Updates.{startRoom}
 use Rattle.repairing_theory.proofs.Repair.{is-idle}
@@ -129,10 +132,6 @@ answer-refused Absent r h e = absurd (omega (arith, h, ap (λ (x : Reply). x .co
 answer-refused (Value v) r h e = absurd (omega (arith, h, ap (λ (x : Reply). x .code) e))
 answer-refused (Refused k) r h e = ap Refused (ap (λ (x : Reply). x .code) e)
 
-not-formatting : (d : Doing) → d ≡ Idle → workOf d ≡ formatting → ⊥
-unfolding workOf
-not-formatting d e f = let y : _≡_ {A = Work} noWork formatting = sym (ap workOf e) ∙ f in impossible (cc)
-
 module _ (w : World rationTable) (b : Book) (v : Covered w b) where
   abbrev n : ℕ
   n = v .size
@@ -186,7 +185,7 @@ module _ (w : World rationTable) (b : Book) (v : Covered w b) where
   due-same : (key : ℕ) → stepReply (dictionaryAnswer (lookup key (v .was-kept .held))) ≡ dictionary (lookup key (b .held))
   due-same key = dictionary-same (lookup key (v .was-kept .held)) ∙ ap (λ (x : List (ℕ × ℕ)). dictionary (lookup key x)) (sym same-held)
 
-  insert-works : (key value : ℕ) → key < keyLimit → Starts rationTable (w .state) (rationTable .insert (w .card) (w .state) key value) (inserting key value) → Works rationTable (insert key value) ((a : ℕ) × (lookup key (b .held) ≡ some a)) (InsertRule (w .card) key value) key w (b .held)
+  insert-works : (key value : ℕ) → key < keyLimit → Starts rationTable (w .state) (rationTable .insert (w .card) (w .state) key value) (inserting key value) (putIn key value) → Works rationTable (insert key value) ((a : ℕ) × (lookup key (b .held) ≡ some a)) (InsertRule (w .card) key value) key w (b .held)
   unfolding replyTo insertOf startReply
   insert-works key value high s =
       let e = begun-started (insertOf (w .card) (w .state) key value .begun) (start-small (w .card) (w .state) key (Inserting key value false) (startRoom (w .card) key (w .state .free))) (s .reply-given) in
@@ -196,7 +195,7 @@ module _ (w : World rationTable) (b : Book) (v : Covered w b) where
         finishes = finishes-same mostStores (dictionary (lookup key (b .held))) (happens rationTable (insert key value) w) (rw (same-world (insert key value) w, ← due-same key) (insert-finishes key value high e));
       }
 
-  delete-works : (key : ℕ) → key < keyLimit → Starts rationTable (w .state) (rationTable .delete (w .card) (w .state) key) (deleting key) → Works rationTable (delete key) (lookup key (b .held) ≡ none) (DeleteRule (w .card) key) key w (b .held)
+  delete-works : (key : ℕ) → key < keyLimit → Starts rationTable (w .state) (rationTable .delete (w .card) (w .state) key) (deleting key) (takeOut key) → Works rationTable (delete key) (lookup key (b .held) ≡ none) (DeleteRule (w .card) key) key w (b .held)
   unfolding replyTo deleteOf startReply
   delete-works key high s =
       let e = begun-started (deleteOf (w .card) (w .state) key .begun) (start-small (w .card) (w .state) key (Deleting key false 0) (λ l. true)) (s .reply-given) in
@@ -211,10 +210,10 @@ module _ (w : World rationTable) (b : Book) (v : Covered w b) where
   unfolding ByRows replyTo
   inserts-right key value high =
       go (past-card (row 7 (Busy rationTable (w .state)) (row 6 (key ≡ 0) (row 9 (leadsTo (w .card) key ≡ none) (row 8 (NoRoom (w .card) (w .state .free) key) end)))) (HandsBack rationTable (w .state) (rationTable .insert (w .card) (w .state) key value))
-      (Starts rationTable (w .state) (rationTable .insert (w .card) (w .state) key value) (inserting key value)) (w .card) (w .state .nodes) sized header (demand-1 .inserts (w .card) (w .state) key value))
+      (Starts rationTable (w .state) (rationTable .insert (w .card) (w .state) key value) (inserting key value) (putIn key value)) (w .card) (w .state .nodes) sized header (demand-1 .inserts (w .card) (w .state) key value))
     where
       go : ByRows (row 7 (Busy rationTable (w .state)) (row 6 (key ≡ 0) (row 9 (leadsTo (w .card) key ≡ none) (row 8 (NoRoom (w .card) (w .state .free) key) end)))) (HandsBack rationTable (w .state) (rationTable .insert (w .card) (w .state) key value))
-          (Starts rationTable (w .state) (rationTable .insert (w .card) (w .state) key value) (inserting key value))
+          (Starts rationTable (w .state) (rationTable .insert (w .card) (w .state) key value) (inserting key value) (putIn key value))
           → ByRows (row 7 (Busy rationTable (w .state)) (row 6 (key ≡ 0) (row 8 (NoRoom (w .card) (w .state .free) key) end))) (λ r. replyTo rationTable (insert key value) w ≡ refusal r) (Works rationTable (insert key value) ((a : ℕ) × (lookup key (b .held) ≡ some a)) (InsertRule (w .card) key value) key w (b .held))
       go (inl (p, h)) = inl (p, h .number-given)
       go (inr (a, inl (p, h))) = inr (a, inl (p, h .number-given))
@@ -226,28 +225,27 @@ module _ (w : World rationTable) (b : Book) (v : Covered w b) where
   unfolding ByRows replyTo
   deletes-right key high =
       go (past-card (row 7 (Busy rationTable (w .state)) (row 6 (key ≡ 0) (row 9 (leadsTo (w .card) key ≡ none) end))) (HandsBack rationTable (w .state) (rationTable .delete (w .card) (w .state) key))
-      (Starts rationTable (w .state) (rationTable .delete (w .card) (w .state) key) (deleting key)) (w .card) (w .state .nodes) sized header (demand-1 .deletes (w .card) (w .state) key))
+      (Starts rationTable (w .state) (rationTable .delete (w .card) (w .state) key) (deleting key) (takeOut key)) (w .card) (w .state .nodes) sized header (demand-1 .deletes (w .card) (w .state) key))
     where
-      go : ByRows (row 7 (Busy rationTable (w .state)) (row 6 (key ≡ 0) (row 9 (leadsTo (w .card) key ≡ none) end))) (HandsBack rationTable (w .state) (rationTable .delete (w .card) (w .state) key)) (Starts rationTable (w .state) (rationTable .delete (w .card) (w .state) key) (deleting key))
+      go : ByRows (row 7 (Busy rationTable (w .state)) (row 6 (key ≡ 0) (row 9 (leadsTo (w .card) key ≡ none) end))) (HandsBack rationTable (w .state) (rationTable .delete (w .card) (w .state) key)) (Starts rationTable (w .state) (rationTable .delete (w .card) (w .state) key) (deleting key) (takeOut key))
           → ByRows (row 7 (Busy rationTable (w .state)) (row 6 (key ≡ 0) end)) (λ r. replyTo rationTable (delete key) w ≡ refusal r) (Works rationTable (delete key) (lookup key (b .held) ≡ none) (DeleteRule (w .card) key) key w (b .held))
       go (inl (p, h)) = inl (p, h .number-given)
       go (inr (a, inl (p, h))) = inr (a, inl (p, h .number-given))
       go (inr (a, inr (d, inl (p, h)))) = absurd (leads-somewhere key d high p)
       go (inr (a, inr (d, inr (l, s)))) = inr (a, inr (d, delete-works key high s))
 
+  idle-ten : w .state .doing ≡ Idle → stepReply (stepOf (w .card) (w .state) .answer) ≡ refusal 10
+  unfolding heldBy stepRefused stepReply
+  idle-ten e =
+      ap (λ (x : Step). stepReply (x .answer))
+      (step-sized (w .card) (w .state) sized ∙ ap (λ (d : Doing). stepHeld (w .card) (w .state) (heldBy d)) e ∙ idle-refused (w .card) (w .state) (formatted-header (w .card) (w .state .nodes) header))
+
   steps-right : ByRows (row 10 (Resting rationTable (w .state)) end) (λ r. replyTo rationTable step w ≡ refusal r) ((r : ℕ) → r < 64 → replyTo rationTable step w ≡ refusal r → ⊥)
   unfolding ByRows replyTo
   steps-right =
       bool-cases (isIdle (w .state .doing))
-      (λ q. inl (idle-work (w .state .doing) q, ten (idle-work (w .state .doing) q) (demand-1 .steps (w .card) (w .state) (not-formatting (w .state .doing) (is-idle (w .state .doing) q)))))
+      (λ q. inl (idle-work (w .state .doing) q, idle-ten (is-idle (w .state .doing) q)))
       (λ q. inr (busy-work (w .state .doing) q, λ r h e. work-not-refused n (v .steps) (worldly w) (v .was-kept) (v .due) i q r (answer-refused (stepOf (w .card) (w .state) .answer) r h e)))
-    where
-      ten : {works : Type 0} → Resting rationTable (w .state) → ByRows (cardRows (w .card) (w .state .nodes) (row 10 (Resting rationTable (w .state)) end)) (Refuses rationTable (w .card) (w .state) (rationTable .step (w .card) (w .state))) works → stepReply (stepOf (w .card) (w .state) .answer) ≡ refusal 10
-      ten {works} q p = at (past-card (row 10 (Resting rationTable (w .state)) end) (Refuses rationTable (w .card) (w .state) (rationTable .step (w .card) (w .state))) works (w .card) (w .state .nodes) sized header p)
-        where
-          at : ByRows (row 10 (Resting rationTable (w .state)) end) (Refuses rationTable (w .card) (w .state) (rationTable .step (w .card) (w .state))) works → stepReply (stepOf (w .card) (w .state) .answer) ≡ refusal 10
-          at (inl (z, h)) = h .number-given
-          at (inr (z, h)) = absurd (z q)
 
   rests-are : Resting rationTable (w .state) → Rests rationTable w (b .held)
   rests-are q =
