@@ -123,9 +123,9 @@ module _ (final : Answer) (most : ℕ) (w : World rationTable) (x : Nears final 
             let d = drop-all rest (stepsIn more) (omega (arith, k, h)) in
             (r .0, omega (arith, r .1, l .1), rw e (subst (λ (y : List Store). Left final m (r .0) y (run rationTable more (happens rationTable step w))) d (r .2)))
 
-    module _ (given out : List ℕ) (taken : Given (w .state .free) (w .state .last) given) (is-free : m .free ≡ marked false given (w .state .free)) (is-last : m .last ≡ lastGivenOf (w .state .last) given) (is-cut : m .cut ≡ out) (freed : withAll out (m .free) ≡ marked true out (m .free)) where
+    module _ (short : suc (length rest) ≤ 73) (given out : List ℕ) (taken : Given (w .state .free) (w .state .last) given) (is-free : m .free ≡ marked false given (w .state .free)) (is-last : m .last ≡ lastGivenOf (w .state .last) given) (is-cut : m .cut ≡ out) (freed : withAll out (m .free) ≡ marked true out (m .free)) where
       pub change-made : Makes rationTable w given out (s ∷ rest)
-      change-made = record { taken = taken; last-taken = last; each = each; free-within = within; free-after = after }
+      change-made = record { short = short; taken = taken; last-taken = last; each = each; free-within = within; free-after = after }
         where
           each : (qs : List Event) → LeftUncut rationTable qs w → stepsIn qs < suc (length rest) → StoresNow rationTable (run rationTable qs w) (storeAt (s ∷ rest) (stepsIn qs))
           each qs u h = at (first-step w qs u)
@@ -176,6 +176,7 @@ record RepairNext (c : List ℕ) (n : ℕ) (m : Memory) : Type 0 where
   pub then-last : ℕ
   pub out : List ℕ
   pub planned : nextRepair c n key (m .free) (m .last) ≡ prepared (first ∷ rest) then-free then-last out
+  pub short : suc (length rest) ≤ 73
   pub first-made : stepOf c m ≡ record { answer = Stored; card = set c (first .0) (first .1); memory = advanced (memory n then-free then-last (m .doing) [] out) rest }
 
 -- the final answer, or the next change
@@ -223,6 +224,7 @@ turns-at {c} {n} {t} {due = due} b o (stage-between {free} {last} {key} {doing} 
               then-last = q .last-then;
               out = q .cut;
               planned = planned;
+              short = rw e₁ at (q .short);
               first-made = step-repairs c n (b .sized) (b .header) free last j ∙ prepared-first c (memory n free last doing [] []) doing due (nextRepair c n key free last) s rest (q .free-then) (q .last-then) (q .cut) planned (first-storable (p .0 .plays) .inside);
             }
 
@@ -244,7 +246,7 @@ repair-next final most w x k (exact, turn) later = at turn
         let r = repair-by-rule (w .card) (v .size) (q .key) (q .planned) in
         let m = memory (v .size) (q .then-free) (q .then-last) (w .state .doing) [] (q .out) in
         mends-by (v .inv .tree) between (r .rule)
-        (change-made final most w x m (q .first) (q .rest) (q .first-made) (r .given) (q .out) (r .in-turn) (r .left) (r .given-last ∙ last-same (w .state .last) (r .given)) refl (cut-marked (q .out) (q .then-free)))
+        (change-made final most w x m (q .first) (q .rest) (q .first-made) (q .short) (r .given) (q .out) (r .in-turn) (r .left) (r .given-last ∙ last-same (w .state .last) (r .given)) refl (cut-marked (q .out) (q .then-free)))
         (λ qs u n. let l = all-left final most w x m (q .first) (q .rest) (q .first-made) qs u n in
         later (l .0) (run rationTable qs w) (l .1) (l .2 .nears) (ap (λ (y : Memory). y .rest) (l .2 .is-left) ∙ advanced-none m) (subst Begun (sym (ap (λ (y : Memory). y .doing) (l .2 .is-left) ∙ advanced-same m)) k))
 
@@ -264,44 +266,46 @@ final-counts a (inr (inl (v, e))) = rw e tt
 final-counts a (inr (inr e)) = rw e tt
 
 -- The first step of an update: what is planned is by the rule, or there is nothing to change.
-module _ (final : Answer) (most : ℕ) (w : World rationTable) (x : Nears final most w) (busy : isIdle (w .state .doing) ≡ false) (Nothing : Type 0) (Rule : List ℕ → List ℕ → List Store → Type 0) where
-  not-refused : (r : ℕ) → stepOf (w .card) (w .state) ≡ stepRefused r (w .card) (w .state) → ⊥
-  unfolding stepRefused
-  not-refused r e = let v = x .covered in work-not-refused (v .size) (v .steps) w (x .book-now) (v .inv) busy r (ap (λ y. y .answer) e)
+module _ (final : Answer) (most : ℕ) (w : World rationTable) (x : Nears final most w) (busy : isIdle (w .state .doing) ≡ false) (Nothing : Type 0) (Rule : List ℕ → List ℕ → List Store → Type 0)
+    (short : (given out : List ℕ) (ss : List Store) → Rule given out ss → length ss ≤ 73)
+  where
+    not-refused : (r : ℕ) → stepOf (w .card) (w .state) ≡ stepRefused r (w .card) (w .state) → ⊥
+    unfolding stepRefused
+    not-refused r e = let v = x .covered in work-not-refused (v .size) (v .steps) w (x .book-now) (v .inv) busy r (ap (λ y. y .answer) e)
 
-  ends-due : (a : Answer) → Final a → stepOf (w .card) (w .state) ≡ stepFinal a (w .card) (w .state) → a ≡ final
-  unfolding stepFinal
-  ends-due a f e =
-      let v = x .covered in
-      let i = loosen (v .size) (v .steps) (suc (v .steps)) w (x .book-now) (omega arith) (v .inv) in
-      let q = kept-step (v .size) (v .steps) w (x .book-now) i in
-      right-final (subst (λ y. Right y (i .due)) (ap (λ y. y .answer) e) (q .1)) (final-counts a f) ∙ loosen-due (v .size) (v .steps) (suc (v .steps)) w (x .book-now) (omega arith) (v .inv) ∙ x .is-due
+    ends-due : (a : Answer) → Final a → stepOf (w .card) (w .state) ≡ stepFinal a (w .card) (w .state) → a ≡ final
+    unfolding stepFinal
+    ends-due a f e =
+        let v = x .covered in
+        let i = loosen (v .size) (v .steps) (suc (v .steps)) w (x .book-now) (omega arith) (v .inv) in
+        let q = kept-step (v .size) (v .steps) w (x .book-now) i in
+        right-final (subst (λ y. Right y (i .due)) (ap (λ y. y .answer) e) (q .1)) (final-counts a f) ∙ loosen-due (v .size) (v .steps) (suc (v .steps)) w (x .book-now) (omega arith) (v .inv) ∙ x .is-due
 
-  pub first-by-rules : (f : FirstChange) → stepOf (w .card) (w .state) ≡ stepBegin (w .card) (w .state) f → Final (f .final) → Storing (f .preparation) → (f .preparation ≡ balanced → f .final ≡ final → Nothing)
-      → ((ss : List Store) (fewer : List Bool) (now : ℕ) (out : List ℕ) → f .preparation ≡ prepared ss fewer now out → ByRule Rule (w .state .free) (w .state .last) ss fewer now out × Begun (f .doing)) → Updates rationTable Nothing Rule (stepReply final) w
-  unfolding stepBegin stepPrepared stepStore planning replyTo stepFinal Storing more
-  first-by-rules f e fin stores none-due rule = at (f .preparation) refl stores
-    where
-      at : (p : Preparation) → f .preparation ≡ p → Storing p → Updates rationTable Nothing Rule (stepReply final) w
-      at refused q st = absurd (not-refused 9 (e ∙ ap (stepPrepared (w .card) (w .state) (f .doing) (f .final)) q))
-      at balanced q st =
-          let s : stepOf (w .card) (w .state) ≡ stepFinal (f .final) (w .card) (w .state) = e ∙ ap (stepPrepared (w .card) (w .state) (f .doing) (f .final)) q in
-          no-change (none-due q (ends-due (f .final) fin s)) (ap (λ y. stepReply (y .answer)) s ∙ ap stepReply (ends-due (f .final) fin s))
-      at (prepared [] fewer now out) q st = true-false (sym st)
-      at (prepared (s ∷ rest) fewer now out) q st =
-          order (s .0) (length (w .card)) inside
-          (λ o. absurd (not-refused 9 (e ∙ ap (stepPrepared (w .card) (w .state) (f .doing) (f .final)) q ∙ rw (le-ltb (s .0) (length (w .card)) o))))
-        where
-          m : Memory
-          m = memory (w .state .nodes) fewer now (f .doing) [] out
+    pub first-by-rules : (f : FirstChange) → stepOf (w .card) (w .state) ≡ stepBegin (w .card) (w .state) f → Final (f .final) → Storing (f .preparation) → (f .preparation ≡ balanced → f .final ≡ final → Nothing)
+        → ((ss : List Store) (fewer : List Bool) (now : ℕ) (out : List ℕ) → f .preparation ≡ prepared ss fewer now out → ByRule Rule (w .state .free) (w .state .last) ss fewer now out × Begun (f .doing)) → Updates rationTable Nothing Rule (stepReply final) w
+    unfolding stepBegin stepPrepared stepStore planning replyTo stepFinal Storing more
+    first-by-rules f e fin stores none-due rule = at (f .preparation) refl stores
+      where
+        at : (p : Preparation) → f .preparation ≡ p → Storing p → Updates rationTable Nothing Rule (stepReply final) w
+        at refused q st = absurd (not-refused 9 (e ∙ ap (stepPrepared (w .card) (w .state) (f .doing) (f .final)) q))
+        at balanced q st =
+            let s : stepOf (w .card) (w .state) ≡ stepFinal (f .final) (w .card) (w .state) = e ∙ ap (stepPrepared (w .card) (w .state) (f .doing) (f .final)) q in
+            no-change (none-due q (ends-due (f .final) fin s)) (ap (λ y. stepReply (y .answer)) s ∙ ap stepReply (ends-due (f .final) fin s))
+        at (prepared [] fewer now out) q st = true-false (sym st)
+        at (prepared (s ∷ rest) fewer now out) q st =
+            order (s .0) (length (w .card)) inside
+            (λ o. absurd (not-refused 9 (e ∙ ap (stepPrepared (w .card) (w .state) (f .doing) (f .final)) q ∙ rw (le-ltb (s .0) (length (w .card)) o))))
+          where
+            m : Memory
+            m = memory (w .state .nodes) fewer now (f .doing) [] out
 
-          inside : s .0 < length (w .card) → Updates rationTable Nothing Rule (stepReply final) w
-          inside o =
-              let first : stepOf (w .card) (w .state) ≡ record { answer = Stored; card = set (w .card) (s .0) (s .1); memory = advanced (memory (w .state .nodes) fewer now (f .doing) [] out) rest } = e ∙ ap (stepPrepared (w .card) (w .state) (f .doing) (f .final)) q ∙ rw (lt-ltb (s .0) (length (w .card)) o) in
-              let r = rule (s ∷ rest) fewer now out q in
-              changes (r .0 .rule) (change-made final most w x m s rest first (r .0 .given) out (r .0 .in-turn) (r .0 .left) (r .0 .given-last ∙ last-same (w .state .last) (r .0 .given)) refl (cut-marked out fewer))
-              (λ qs u n. let l = all-left final most w x m s rest first qs u n in
-              repairs-by-rules final (suc (l .0)) (l .0) (run rationTable qs w) (omega arith) (l .2 .nears) (ap (λ (y : Memory). y .rest) (l .2 .is-left) ∙ advanced-none m) (subst Begun (sym (ap (λ (y : Memory). y .doing) (l .2 .is-left) ∙ advanced-same m)) (r .1)))
+            inside : s .0 < length (w .card) → Updates rationTable Nothing Rule (stepReply final) w
+            inside o =
+                let first : stepOf (w .card) (w .state) ≡ record { answer = Stored; card = set (w .card) (s .0) (s .1); memory = advanced (memory (w .state .nodes) fewer now (f .doing) [] out) rest } = e ∙ ap (stepPrepared (w .card) (w .state) (f .doing) (f .final)) q ∙ rw (lt-ltb (s .0) (length (w .card)) o) in
+                let r = rule (s ∷ rest) fewer now out q in
+                changes (r .0 .rule) (change-made final most w x m s rest first (short (r .0 .given) out (s ∷ rest) (r .0 .rule)) (r .0 .given) out (r .0 .in-turn) (r .0 .left) (r .0 .given-last ∙ last-same (w .state .last) (r .0 .given)) refl (cut-marked out fewer))
+                (λ qs u n. let l = all-left final most w x m s rest first qs u n in
+                repairs-by-rules final (suc (l .0)) (l .0) (run rationTable qs w) (omega arith) (l .2 .nears) (ap (λ (y : Memory). y .rest) (l .2 .is-left) ∙ advanced-none m) (subst Begun (sym (ap (λ (y : Memory). y .doing) (l .2 .is-left) ∙ advanced-same m)) (r .1)))
 
 -- where an update stands that has just been started
 pub put-turns : {c : List ℕ} {n : ℕ} {t goal : Tree} {steps : ℕ} {m : Memory} {h : Hand} {due : Answer} (key value : ℕ) → Table c n t → Stage c n t goal steps m h due → m .doing ≡ Inserting key value false

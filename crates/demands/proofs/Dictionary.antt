@@ -8,17 +8,18 @@ use Prim.Native.Nat.{ℕ, _<_}
 use native.Mathlib.Omega.{arith}
 use lib.ListN.{length}
 use Rattle.card.specs.Header.{Sized, Formatted}
+use Rattle.card.proofs.HeaderLaws.{formatted-header}
 use Rattle.promises.proofs.Invariant.{Inv}
 use Rattle.promises.specs.Events.{World, replyTo, happens, insert, delete, step}
 use Rattle.promises.specs.Book.{Book}
-use Rattle.promises.specs.RationTable.{workOf, rationTable}
+use Rattle.promises.specs.RationTable.{rationTable}
 use Rattle.demands.proofs.Work.{work-idle, idle-work, busy-work}
 use Rattle.card.specs.Layout.{keyLimit}
 use Rattle.card.specs.Replies.{Reply, refusal}
-use Rattle.demands.specs.Demand1.{HandsBack, Starts, Refuses}
+use Rattle.demands.specs.Demand1.{HandsBack, Starts}
 use Rattle.demands.specs.Worked.{dictionary}
 use Rattle.demands.specs.Demand2.{mostStores, Finishes, Updates, Rests, Works, Dictionary, Demand2}
-use Rattle.promises.specs.Table.{Work, noWork, formatting, inserting, deleting}
+use Rattle.promises.specs.Table.{inserting, deleting, putIn, takeOut}
 use Rattle.promises.specs.Way.{leadsTo}
 use Rattle.demands.specs.Refusals.{Rows, ByRows, Idle as Resting, Busy, NoRoom, cardRows, row, end}
 use Rattle.demands.specs.Rules.{InsertRule, DeleteRule}
@@ -27,10 +28,11 @@ use Rattle.demands.proofs.PowerCuts.{dictionary-same, Covered, always, 
 use Rattle.demands.proofs.FirstSteps.{demand-1}
 use Rattle.promises.proofs.AnswerNumbers.{start-small}
 use Rattle.promises.proofs.ReplyLaws.{begun-started}
+use Rattle.demands.proofs.StepRows.{step-sized}
 use Rattle.demands.proofs.UpdatesByRules.{insert-by-rules, delete-by-rules, opening-by-rules}
 use Rattle.demands.proofs.Formatting.{formats-right}
 use Rattle.promises.proofs.WayDown.{landed, leads-is, sized-on}
-use Rattle.laws.proofs.Cases.{bool-cases, order, impossible}
+use Rattle.laws.proofs.Cases.{bool-cases, order}
 use Rattle.promises.proofs.Accepting.{find-answers}
 use Rattle.promises.proofs.BookLaws.{dictionaryAnswer}
 use Rattle.promises.proofs.Dictionary.{Stores, insert-stores, delete-stores}
@@ -39,12 +41,13 @@ use Rattle.promises.proofs.Finishing.{Rests as WasRests}
 use Rattle.promises.proofs.Starting.{nodes-same, lands, same-lookup}
 use Rattle.starting.specs.Starts.{insertOf, deleteOf}
 use Rattle.state.specs.Answers.{stepReply, startReply}
-use Rattle.state.specs.Steps.{isIdle}
+use Rattle.state.specs.Steps.{isIdle, heldBy, Step, stepRefused}
 use Rattle.state.specs.declared.Answer.{Answer}
 use Rattle.state.specs.declared.Answer.the-variants.{Stored, Ready, Absent, Value, Refused}
 use Rattle.state.specs.declared.Doing.{Doing}
 use Rattle.state.specs.declared.Doing.the-variants.{Idle, Inserting, Deleting}
-use Rattle.table.specs.Calls.{stepOf}
+use Rattle.table.specs.Calls.{stepHeld, stepOf}
+use Rattle.table.proofs.StepLaws.{idle-refused}
 use Rattle.tree.specs.Pairs.{pairs, lookup}
 use Rattle.updates.specs.Updates.{startRoom}
 use Rattle.repairing_theory.proofs.Repair.{is-idle}
@@ -68,10 +71,6 @@ answer-refused Ready r h e = absurd (omega (arith, h, ap (λ (x : Reply). x .cod
 answer-refused Absent r h e = absurd (omega (arith, h, ap (λ (x : Reply). x .code) e))
 answer-refused (Value v) r h e = absurd (omega (arith, h, ap (λ (x : Reply). x .code) e))
 answer-refused (Refused k) r h e = ap Refused (ap (λ (x : Reply). x .code) e)
-
-not-formatting : (d : Doing) → d ≡ Idle → workOf d ≡ formatting → ⊥
-unfolding workOf
-not-formatting d e f = let y : _≡_ {A = Work} noWork formatting = sym (ap workOf e) ∙ f in impossible (cc)
 
 module _ (w : World rationTable) (b : Book) (v : Covered w b) where
   abbrev n : ℕ
@@ -102,7 +101,7 @@ module _ (w : World rationTable) (b : Book) (v : Covered w b) where
   rests-now : w .state .doing ≡ Idle → WasRests w (b .held)
   rests-now e = inv-rests n (v .steps) w b i e
 
-  insert-works : (key value : ℕ) → key < keyLimit → Starts rationTable (w .state) (rationTable .insert (w .card) (w .state) key value) (inserting key value) → Works rationTable (insert key value) ((a : ℕ) × (lookup key (b .held) ≡ some a)) (InsertRule (w .card) key value) key w (b .held)
+  insert-works : (key value : ℕ) → key < keyLimit → Starts rationTable (w .state) (rationTable .insert (w .card) (w .state) key value) (inserting key value) (putIn key value) → Works rationTable (insert key value) ((a : ℕ) × (lookup key (b .held) ≡ some a)) (InsertRule (w .card) key value) key w (b .held)
   unfolding replyTo insertOf startReply
   insert-works key value high s =
       let e = begun-started (insertOf (w .card) (w .state) key value .begun) (start-small (w .card) (w .state) key (Inserting key value false) (startRoom (w .card) key (w .state .free))) (s .reply-given) in
@@ -112,7 +111,7 @@ module _ (w : World rationTable) (b : Book) (v : Covered w b) where
         finishes = finishes-by (lookup key (b .held)) mostStores (happens rationTable (insert key value) w) (insert-stores i key high value e);
       }
 
-  delete-works : (key : ℕ) → key < keyLimit → Starts rationTable (w .state) (rationTable .delete (w .card) (w .state) key) (deleting key) → Works rationTable (delete key) (lookup key (b .held) ≡ none) (DeleteRule (w .card) key) key w (b .held)
+  delete-works : (key : ℕ) → key < keyLimit → Starts rationTable (w .state) (rationTable .delete (w .card) (w .state) key) (deleting key) (takeOut key) → Works rationTable (delete key) (lookup key (b .held) ≡ none) (DeleteRule (w .card) key) key w (b .held)
   unfolding replyTo deleteOf startReply
   delete-works key high s =
       let e = begun-started (deleteOf (w .card) (w .state) key .begun) (start-small (w .card) (w .state) key (Deleting key false 0) (λ l. true)) (s .reply-given) in
@@ -127,10 +126,10 @@ module _ (w : World rationTable) (b : Book) (v : Covered w b) where
   unfolding ByRows replyTo
   inserts-right key value high =
       go (past-card (row 7 (Busy rationTable (w .state)) (row 6 (key ≡ 0) (row 9 (leadsTo (w .card) key ≡ none) (row 8 (NoRoom (w .card) (w .state .free) key) end)))) (HandsBack rationTable (w .state) (rationTable .insert (w .card) (w .state) key value))
-      (Starts rationTable (w .state) (rationTable .insert (w .card) (w .state) key value) (inserting key value)) (w .card) (w .state .nodes) sized header (demand-1 .inserts (w .card) (w .state) key value))
+      (Starts rationTable (w .state) (rationTable .insert (w .card) (w .state) key value) (inserting key value) (putIn key value)) (w .card) (w .state .nodes) sized header (demand-1 .inserts (w .card) (w .state) key value))
     where
       go : ByRows (row 7 (Busy rationTable (w .state)) (row 6 (key ≡ 0) (row 9 (leadsTo (w .card) key ≡ none) (row 8 (NoRoom (w .card) (w .state .free) key) end)))) (HandsBack rationTable (w .state) (rationTable .insert (w .card) (w .state) key value))
-          (Starts rationTable (w .state) (rationTable .insert (w .card) (w .state) key value) (inserting key value))
+          (Starts rationTable (w .state) (rationTable .insert (w .card) (w .state) key value) (inserting key value) (putIn key value))
           → ByRows (row 7 (Busy rationTable (w .state)) (row 6 (key ≡ 0) (row 8 (NoRoom (w .card) (w .state .free) key) end))) (λ r. replyTo rationTable (insert key value) w ≡ refusal r) (Works rationTable (insert key value) ((a : ℕ) × (lookup key (b .held) ≡ some a)) (InsertRule (w .card) key value) key w (b .held))
       go (inl (p, h)) = inl (p, h .number-given)
       go (inr (a, inl (p, h))) = inr (a, inl (p, h .number-given))
@@ -142,28 +141,27 @@ module _ (w : World rationTable) (b : Book) (v : Covered w b) where
   unfolding ByRows replyTo
   deletes-right key high =
       go (past-card (row 7 (Busy rationTable (w .state)) (row 6 (key ≡ 0) (row 9 (leadsTo (w .card) key ≡ none) end))) (HandsBack rationTable (w .state) (rationTable .delete (w .card) (w .state) key))
-      (Starts rationTable (w .state) (rationTable .delete (w .card) (w .state) key) (deleting key)) (w .card) (w .state .nodes) sized header (demand-1 .deletes (w .card) (w .state) key))
+      (Starts rationTable (w .state) (rationTable .delete (w .card) (w .state) key) (deleting key) (takeOut key)) (w .card) (w .state .nodes) sized header (demand-1 .deletes (w .card) (w .state) key))
     where
-      go : ByRows (row 7 (Busy rationTable (w .state)) (row 6 (key ≡ 0) (row 9 (leadsTo (w .card) key ≡ none) end))) (HandsBack rationTable (w .state) (rationTable .delete (w .card) (w .state) key)) (Starts rationTable (w .state) (rationTable .delete (w .card) (w .state) key) (deleting key))
+      go : ByRows (row 7 (Busy rationTable (w .state)) (row 6 (key ≡ 0) (row 9 (leadsTo (w .card) key ≡ none) end))) (HandsBack rationTable (w .state) (rationTable .delete (w .card) (w .state) key)) (Starts rationTable (w .state) (rationTable .delete (w .card) (w .state) key) (deleting key) (takeOut key))
           → ByRows (row 7 (Busy rationTable (w .state)) (row 6 (key ≡ 0) end)) (λ r. replyTo rationTable (delete key) w ≡ refusal r) (Works rationTable (delete key) (lookup key (b .held) ≡ none) (DeleteRule (w .card) key) key w (b .held))
       go (inl (p, h)) = inl (p, h .number-given)
       go (inr (a, inl (p, h))) = inr (a, inl (p, h .number-given))
       go (inr (a, inr (d, inl (p, h)))) = absurd (leads-somewhere key d high p)
       go (inr (a, inr (d, inr (l, s)))) = inr (a, inr (d, delete-works key high s))
 
+  idle-ten : w .state .doing ≡ Idle → stepReply (stepOf (w .card) (w .state) .answer) ≡ refusal 10
+  unfolding heldBy stepRefused stepReply
+  idle-ten e =
+      ap (λ (x : Step). stepReply (x .answer))
+      (step-sized (w .card) (w .state) sized ∙ ap (λ (d : Doing). stepHeld (w .card) (w .state) (heldBy d)) e ∙ idle-refused (w .card) (w .state) (formatted-header (w .card) (w .state .nodes) header))
+
   steps-right : ByRows (row 10 (Resting rationTable (w .state)) end) (λ r. replyTo rationTable step w ≡ refusal r) ((r : ℕ) → r < 64 → replyTo rationTable step w ≡ refusal r → ⊥)
   unfolding ByRows replyTo
   steps-right =
       bool-cases (isIdle (w .state .doing))
-      (λ q. inl (idle-work (w .state .doing) q, ten (idle-work (w .state .doing) q) (demand-1 .steps (w .card) (w .state) (not-formatting (w .state .doing) (is-idle (w .state .doing) q)))))
+      (λ q. inl (idle-work (w .state .doing) q, idle-ten (is-idle (w .state .doing) q)))
       (λ q. inr (busy-work (w .state .doing) q, λ r h e. work-not-refused n (v .steps) w b i q r (answer-refused (stepOf (w .card) (w .state) .answer) r h e)))
-    where
-      ten : {works : Type 0} → Resting rationTable (w .state) → ByRows (cardRows (w .card) (w .state .nodes) (row 10 (Resting rationTable (w .state)) end)) (Refuses rationTable (w .card) (w .state) (rationTable .step (w .card) (w .state))) works → stepReply (stepOf (w .card) (w .state) .answer) ≡ refusal 10
-      ten {works} q p = at (past-card (row 10 (Resting rationTable (w .state)) end) (Refuses rationTable (w .card) (w .state) (rationTable .step (w .card) (w .state))) works (w .card) (w .state .nodes) sized header p)
-        where
-          at : ByRows (row 10 (Resting rationTable (w .state)) end) (Refuses rationTable (w .card) (w .state) (rationTable .step (w .card) (w .state))) works → stepReply (stepOf (w .card) (w .state) .answer) ≡ refusal 10
-          at (inl (z, h)) = h .number-given
-          at (inr (z, h)) = absurd (z q)
 
   rests-are : Resting rationTable (w .state) → Rests rationTable w (b .held)
   rests-are q =

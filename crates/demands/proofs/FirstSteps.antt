@@ -1,4 +1,5 @@
--- DEMAND 1, of the first step of an update: 9 exactly when its key's way is refused or an insert has no nodes. And DEMAND 1 whole.
+-- DEMAND 1, of the first step of a change: 9 exactly when a first change's way is refused or has no nodes, or a repair cannot be made.
+-- And DEMAND 1 whole.
 use mathlib.Core.Path.{_≡_, refl, ap, sym, subst, _∙_}
 use mathlib.Core.Bool.{Bool, true, false}
 use mathlib.Core.List.{List, [], _∷_}
@@ -6,24 +7,27 @@ use mathlib.Core.Logic.{_⊎_, inl, inr}
 use mathlib.Core.Option.{Option, none, some}
 use Prim.Native.Nat.{ℕ, _+_, _≤_, _<_}
 use native.Mathlib.Omega.{arith}
-use lib.ListN.{length, getD}
+use lib.ListN.{length, getD, drop}
 use Rattle.card.specs.Header.{Sized}
 use Rattle.card.specs.Layout.{place, nodeAt, keyWords, leafPairs, nodeImage}
-use Rattle.card.proofs.HeaderLaws.{formatted-header}
+use Rattle.card.specs.Stores.{Store}
+use Rattle.change.specs.LayOut.{layOut, absorbAt, splitParentAt}
+use Rattle.change.specs.Mending.{nextRepair}
+use Rattle.change_decide.specs.Decide.{nextRepair as decidedRepair}
+use Rattle.change_decide.specs.declared.Decision.{Decision}
+use Rattle.change_decide.specs.declared.Decision.the-variants.{Refused, Balanced, Absorb, SplitParent, Share, Merge, MergeRoot}
 use Rattle.card.proofs.NodeLaws.{length-node}
-use Rattle.card.specs.Replies.{started}
-use Rattle.demands.specs.Demand1.{Stores, Answers, Refuses, NoNodes, FirstStep, Demand1}
-use Rattle.promises.specs.Way.{leadsTo, among}
-use Rattle.demands.specs.Refusals.{ByRows, cardRows, end, row}
+use Rattle.demands.specs.Demand1.{thenDue, Refuses, Demand1}
+use Rattle.promises.specs.Table.{Due, formatting, repair}
+use Rattle.promises.specs.Way.{nodesOn, leadsTo, among}
+use Rattle.demands.specs.Refusals.{ByRows, NoneGiven, NoNodes, NoRepair, NoChange, changeRows, end, row}
 use Rattle.demands.specs.Rules.{Given}
-use Rattle.promises.specs.RationTable.{workOf, stepped, rationTable}
-use Rattle.promises.proofs.AnswerNumbers.{start-small}
+use Rattle.promises.specs.RationTable.{workOf, dueOf, stepped, rationTable}
 use Rattle.demands.proofs.CardRows.{none-some, finds, formats, opens}
-use Rattle.demands.proofs.FirstRows.{by-card}
-use Rattle.demands.proofs.PlannedNumbers.{numbers-by-rule, numbers-counted, given-taken, three-of}
-use Rattle.promises.proofs.ReplyLaws.{begun-started}
-use Rattle.demands.proofs.StartRows.{one-leaf, started-doing, inserts, deletes}
-use Rattle.demands.proofs.StepRows.{refused-same, final-idle, advanced-nodes, advanced-doing, store-inside, store-outside, step-one, step-sized, formatting-rows, held-rows, in-hand-rows, none-refused}
+use Rattle.demands.proofs.PlannedNumbers.{numbers-by-rule, numbers-counted, given-taken}
+use Rattle.demands.proofs.StartRows.{one-leaf, inserts, deletes}
+use Rattle.demands.proofs.StepRows.{Final, Works, refused-same, final-idle, advanced-nodes, advanced-doing, store-inside, store-outside, formatting-rows, idle-rows, task-rows, in-hand-rows, none-refused}
+use Rattle.demands.proofs.Work.{IdleOrTask, idle-or-task}
 use Rattle.promises.proofs.WayDown.{landed, slotFound, slot-among, leads-is, sized-on}
 use Rattle.descent.specs.Descent.{slotOf}
 use Rattle.descent.specs.declared.Landing.{Landing}
@@ -32,23 +36,22 @@ use Rattle.descent.specs.declared.Slot.{Slot}
 use Rattle.descent.specs.declared.Slot.the-variants.{At, Absent as NoSlot}
 use Rattle.descent.proofs.DescentLaws.{slot-below}
 use Rattle.laws.proofs.Cases.{order, impossible}
-use Rattle.laws.specs.Sorting.{Pairs, sort}
-use Rattle.plans.specs.Change.{Change, changeStores, splitLeaf}
+use Rattle.laws.specs.Sorting.{sort}
+use Rattle.plans.specs.Change.{Change, changeStores, splitLeaf, absorb, splitParent, halves, share, merge, mergeRoot}
 use Rattle.plans.specs.Planning.{refused, balanced, prepared, takeNumbers, overNumbers, giving, first, second, third}
 use Rattle.promises.proofs.Begin.{put-held, put-slot, put-full, remove-held, remove-absent}
-use Rattle.starting.specs.Starts.{insertOf, deleteOf}
+use Rattle.siblings.specs.Siblings.{shareAt, mergeAt, mergeRootAt}
 use Rattle.state.specs.Memory.{Memory, advanced}
-use Rattle.state.specs.Steps.{heldBy, Step, stepRefused}
+use Rattle.state.specs.Steps.{Step, stepRefused}
 use Rattle.state.specs.declared.Doing.{Doing}
-use Rattle.state.specs.declared.Doing.the-variants.{Inserting, Deleting}
+use Rattle.state.specs.declared.Doing.the-variants.{Inserting, Deleting, Repairing}
 use Rattle.state.specs.declared.Answer.{Answer}
-use Rattle.state.specs.declared.Answer.the-variants.{Absent, Value}
+use Rattle.state.specs.declared.Answer.the-variants.{Ready, Absent, Value}
 use Rattle.state.specs.declared.Task.{Task}
-use Rattle.state.specs.declared.Task.the-variants.{PutIn, TakeOut}
-use Rattle.state.specs.declared.Held.the-variants.{Task as HeldTask}
-use Rattle.table.specs.Calls.{planning, stepPrepared, stepBegin, stepTask, stepHeld, stepOf}
-use Rattle.table.proofs.StepLaws.{task-due, task-unchecked}
-use Rattle.updates.specs.Updates.{landing, startRoom, noWay, inLeaf, nextChange}
+use Rattle.state.specs.declared.Task.the-variants.{PutIn, TakeOut, Repair}
+use Rattle.state.proofs.Tasks.{TaskOf, putting, taking, put, taken, opened, task-of}
+use Rattle.table.specs.Calls.{planning, stepPrepared, stepBegin, stepTask, stepOf}
+use Rattle.updates.specs.Updates.{landing, noWay, inLeaf, nextChange}
 use Rattle.updates.proofs.UpdateLaws.{landed as leaf-landed}
 
 -- ---- the leaf
@@ -72,63 +75,60 @@ module _ (c : List ℕ) (n key m link run : ℕ) (sized : Sized (length c) n) (l
       omega (arith, k .inside .one, k .inside .most, sized .words, slot-below (nodeAt c m) x i leaf-words e)
 
 module _ (c : List ℕ) (m : Memory) where
-  abbrev Works : Step → Type 0
-  Works x = Stores rationTable c m (stepped x) ⊎ Answers rationTable c m (stepped x)
-
+  -- refused 9 exactly when this is due
   abbrev Nine : Type 0 → Step → Type 0
-  Nine due x = (due × Refuses rationTable c m (stepped x) 9) ⊎ ((due → ⊥) × Works x)
+  Nine due x = (due × Refuses rationTable c m (stepped x) 9) ⊎ ((due → ⊥) × Works c m x)
 
-  -- the rows of the card, and then what the task is due
-  first-rows : (task : Task) → heldBy (m .doing) ≡ HeldTask task → m .rest ≡ [] → (due : Type 0) → (Sized (length c) (m .nodes) → Nine due (stepTask c m task []))
-      → ByRows (cardRows c (m .nodes) (row 9 due end)) (Refuses rationTable c m (stepped (stepOf c m))) (Works (stepOf c m))
-  unfolding ByRows
-  first-rows task e r due next =
-      by-card (row 9 due end) (Refuses rationTable c m (stepped (stepOf c m))) (Works (stepOf c m)) c (m .nodes)
-      (λ p. rw (step-one c m p) (refused-same 1 c m))
-      (λ n s k d. rw (step-sized c m s ∙ ap (stepHeld c m) e ∙ task-unchecked c m n (sym k) d task) (refused-same n c m))
-      (λ s f. subst (Nine due) (sym (step-sized c m s ∙ ap (stepHeld c m) e ∙ task-due c m (formatted-header c (m .nodes) f) task ∙ ap (stepTask c m task) r)) (next s))
+  same-nine : (P Q : Type 0) (x : Step) → (P → Q) → (Q → P) → Nine P x → Nine Q x
+  same-nine P Q x f g (inl (p, r)) = inl (f p, r)
+  same-nine P Q x f g (inr (p, w)) = inr (λ q. p (g q), w)
 
   -- what a preparation makes of the step
-  answers : (doing : Doing) (a : Answer) → (a ≡ Absent) ⊎ ((v : ℕ) × (a ≡ Value v)) → Works (stepPrepared c m doing a balanced)
-  unfolding stepPrepared
-  answers doing a (inl e) = inr (final-idle a c m (inr (inr e)))
-  answers doing a (inr f) = inr (final-idle a c m (inr (inl f)))
-
-  module _ (doing : Doing) (a : Answer) (s : ℕ × ℕ) (rest : List (ℕ × ℕ)) (free : List Bool) (last : ℕ) (cut : List ℕ) where
-    stores-first : workOf doing ≡ workOf (m .doing) → s .0 < length c → Works (stepPrepared c m doing a (prepared (s ∷ rest) free last cut))
-    unfolding stepPrepared planning
-    stores-first w o =
-        let then = planning m doing free last cut in
-        inl (store-inside c m s (advanced then rest) (advanced-nodes then rest) (ap workOf (advanced-doing then rest) ∙ w) o)
-
-    refuses-first : length c ≤ s .0 → Refuses rationTable c m (stepped (stepPrepared c m doing a (prepared (s ∷ rest) free last cut))) 9
+  module _ (doing : Doing) (a : Answer) where
+    answers : Final a → Works c m (stepPrepared c m doing a balanced)
     unfolding stepPrepared
-    refuses-first o = store-outside c m s (advanced (planning m doing free last cut) rest) o
+    answers f = inr (final-idle a c m f)
 
-  refuses-none : (doing : Doing) (a : Answer) → Refuses rationTable c m (stepped (stepPrepared c m doing a refused)) 9
-  unfolding stepPrepared
-  refuses-none doing a = refused-same 9 c m
+    refuses-none : Refuses rationTable c m (stepped (stepPrepared c m doing a refused)) 9
+    unfolding stepPrepared
+    refuses-none = refused-same 9 c m
 
-  -- three nodes for a split leaf, if they are given and the first store is on the card
-  abbrev NoneGiven : Type 0
-  NoneGiven = (left right above : ℕ) → Given (m .free) (m .last) (left ∷ right ∷ above ∷ []) → place left 0 < length c → ⊥
+    module _ (ss : List Store) (free : List Bool) (last : ℕ) (cut : List ℕ) where
+      stores-first : workOf doing ≡ workOf (m .doing) → dueOf doing ≡ thenDue (dueOf (m .doing)) → getD ss 0 (0, 0) .0 < length c
+          → Works c m (stepPrepared c m doing a (prepared ss free last cut))
+      unfolding stepPrepared planning
+      stores-first w d o =
+          let then = planning m doing free last cut in
+          let kept = advanced-doing then (drop 1 ss) in
+          inl (store-inside c m (getD ss 0 (0, 0)) (advanced then (drop 1 ss)) (advanced-nodes then (drop 1 ss)) (ap workOf kept ∙ w) (ap dueOf kept ∙ d) o)
 
-  module _ (due : Type 0) (yields : NoneGiven → due) (spares : (NoneGiven → ⊥) → due → ⊥) (doing : Doing) (w : workOf doing ≡ workOf (m .doing)) (leaf link : ℕ) (twelve : Pairs) where
-    abbrev split : List ℕ → Change
-    split ms = splitLeaf leaf link twelve (first ms) (second ms) (third ms)
+      refuses-first : length c ≤ getD ss 0 (0, 0) .0 → Refuses rationTable c m (stepped (stepPrepared c m doing a (prepared ss free last cut))) 9
+      unfolding stepPrepared
+      refuses-first o = store-outside c m (getD ss 0 (0, 0)) (advanced (planning m doing free last cut) (drop 1 ss)) o
 
-    over-three : (a b d : ℕ) → takeNumbers 3 (m .free) (m .last) ≡ some (a ∷ b ∷ d ∷ []) → Nine due (stepPrepared c m doing Absent (overNumbers (m .free) (m .last) split (some (a ∷ b ∷ d ∷ []))))
-    unfolding overNumbers changeStores splitLeaf nodeImage
-    over-three a b d t =
-        order (place a 0) (length c)
-        (λ o. inr (spares (λ h. h a b d (numbers-by-rule 3 (m .free) (m .last) (a ∷ b ∷ d ∷ []) t) o), stores-first doing Absent (place a 0, 1) _ _ _ _ w o))
-        (λ o. inl (yields (λ a′ b′ d′ g h. let u : takeNumbers 3 (m .free) (m .last) ≡ some (a′ ∷ b′ ∷ d′ ∷ []) = given-taken g in let z : a′ ≡ a = cc in omega (arith, z, o, h)), refuses-first doing Absent (place a 0, 1) _ _ _ _ o))
+  -- a change over so many new nodes, whose first store is the first word of the first of them
+  module _ (doing : Doing) (a : Answer) (w : workOf doing ≡ workOf (m .doing)) (d : dueOf doing ≡ thenDue (dueOf (m .doing))) where
+    over-given : (k : ℕ) (change : List ℕ → Change) → ((ms : List ℕ) → getD (changeStores (change ms)) 0 (0, 0) .0 ≡ place (first ms) 0)
+        → Nine (NoneGiven c (m .free) (m .last) k) (stepPrepared c m doing a (giving k (m .free) (m .last) change))
+    unfolding giving overNumbers
+    over-given k change heads = go (takeNumbers k (m .free) (m .last)) refl
+      where
+        given : (ms : List ℕ) → Given (m .free) (m .last) ms → length ms ≡ k → takeNumbers k (m .free) (m .last) ≡ some ms
+        given ms g n = subst (λ (x : ℕ). takeNumbers x (m .free) (m .last) ≡ some ms) n (given-taken g)
 
-    over-found : (o : Option (List ℕ)) → takeNumbers 3 (m .free) (m .last) ≡ o → Nine due (stepPrepared c m doing Absent (overNumbers (m .free) (m .last) split o))
-    unfolding overNumbers
-    over-found none t = inl (yields (λ a b d g h. let u : takeNumbers 3 (m .free) (m .last) ≡ some (a ∷ b ∷ d ∷ []) = given-taken g in impossible (cc)), refuses-none doing Absent)
-    over-found (some ms) t =
-        three-of (λ (x : List ℕ). takeNumbers 3 (m .free) (m .last) ≡ some x → Nine due (stepPrepared c m doing Absent (overNumbers (m .free) (m .last) split (some x)))) over-three ms (numbers-counted 3 (m .free) (m .last) ms t) t
+        go : (o : Option (List ℕ)) → takeNumbers k (m .free) (m .last) ≡ o
+            → Nine (NoneGiven c (m .free) (m .last) k) (stepPrepared c m doing a (overNumbers (m .free) (m .last) change o))
+        go none t = inl (λ ms g n h. let u = given ms g n in impossible (cc), refuses-none doing a)
+        go (some ms) t =
+            order (place (first ms) 0) (length c)
+            (λ o. inr (
+              λ z. z ms (numbers-by-rule k (m .free) (m .last) ms t) (numbers-counted k (m .free) (m .last) ms t) o,
+              stores-first doing a (changeStores (change ms)) _ _ _ w d (omega (arith, o, heads ms)),
+            ))
+            (λ o. inl (
+              λ ms′ g n h. let u = given ms′ g n in let z : ms′ ≡ ms = cc in omega (arith, o, rw z at h),
+              refuses-first doing a (changeStores (change ms)) _ _ _ (omega (arith, o, heads ms)),
+            ))
 
 -- ---- an insert
 
@@ -142,6 +142,10 @@ module _ (c : List ℕ) (m : Memory) (key value : ℕ) (d : m .doing ≡ Inserti
   insert-work : workOf (Inserting key value true) ≡ workOf (m .doing)
   unfolding workOf
   insert-work = rw d
+
+  insert-then : dueOf (Inserting key value true) ≡ thenDue (dueOf (m .doing))
+  unfolding dueOf thenDue
+  insert-then = rw d
 
   insert-no-way : landing c (m .nodes) key ≡ NoLanding → inserted ≡ stepRefused 9 c m
   unfolding stepBegin nextChange inLeaf noWay stepPrepared
@@ -157,49 +161,52 @@ module _ (c : List ℕ) (m : Memory) (key value : ℕ) (d : m .doing ≡ Inserti
     not-due x (inr r) = x r
 
     -- what is said of the leaf that the key leads to is said of this one
-    in-leaf : (r : NoNodes c (m .free) (m .last) key) (x : ℕ) → among x (keyWords (nodeAt c (r .leaf))) ≡ false → among x (keyWords (nodeAt c leaf)) ≡ true → ⊥
+    in-leaf : (r : NoNodes c (m .free) (m .last) key) (x : ℕ) → among x (keyWords (nodeAt c (r .full-leaf))) ≡ false → among x (keyWords (nodeAt c leaf)) ≡ true → ⊥
     in-leaf r x n y =
-        let z : among x (keyWords (nodeAt c leaf)) ≡ false = subst (λ (a : ℕ). among x (keyWords (nodeAt c a)) ≡ false) (one-leaf c key (r .leaf) (r .j) leaf run (r .leads) leads .0) n in
+        let z : among x (keyWords (nodeAt c leaf)) ≡ false = subst (λ (a : ℕ). among x (keyWords (nodeAt c a)) ≡ false) (one-leaf c key (r .full-leaf) (r .j) leaf run (r .leads) leads .0) n in
         impossible (cc)
 
+    given-there : InsertDue → NoneGiven c (m .free) (m .last) 3
+    given-there (inl z) = absurd (none-some (leaf, run) (sym z ∙ leads))
+    given-there (inr r) = r .none-given
+
     insert-slot : (k : Slot) → slotOf (nodeAt c leaf) key ≡ k → (z : Slot) → slotOf (nodeAt c leaf) 0 ≡ z → Nine c m InsertDue inserted
-    unfolding giving
+    unfolding changeStores splitLeaf nodeImage
     insert-slot (At i) e z f =
         subst (Nine c m InsertDue) (sym (put-held c (m .nodes) key leaf link run lands value (m .free) (m .last) m i e))
-        (inr (not-due (λ r. in-leaf r key (r .absent) (found (nodeAt c leaf) key i e)), answers c m (Inserting key value true) (Value (getD (nodeAt c leaf) (12 + i) 0)) (inr (getD (nodeAt c leaf) (12 + i) 0, refl))))
+        (inr (not-due (λ r. in-leaf r key (r .absent) (found (nodeAt c leaf) key i e)), answers c m (Inserting key value true) (Value (getD (nodeAt c leaf) (12 + i) 0)) (inr (inl (getD (nodeAt c leaf) (12 + i) 0, refl)))))
     insert-slot NoSlot e (At i) f =
         subst (Nine c m InsertDue) (sym (put-slot c (m .nodes) key leaf link run lands value (m .free) (m .last) m i e f))
         (inr (
           not-due (λ r. in-leaf r 0 (r .full) (found (nodeAt c leaf) 0 i f)),
-          stores-first c m (Inserting key value true) Absent (place leaf (12 + i), value) ((place leaf (1 + i), key) ∷ []) (m .free) (m .last) [] insert-work (on-card c (m .nodes) key leaf link run s lands 0 i (12 + i) f (omega arith)),
+          stores-first c m (Inserting key value true) Absent ((place leaf (12 + i), value) ∷ (place leaf (1 + i), key) ∷ []) (m .free) (m .last) [] insert-work insert-then (on-card c (m .nodes) key leaf link run s lands 0 i (12 + i) f (omega arith)),
         ))
     insert-slot NoSlot e NoSlot f =
         subst (Nine c m InsertDue) (sym (put-full c (m .nodes) key leaf link run lands value (m .free) (m .last) m e f))
-        (over-found c m InsertDue
-        (λ h. inr (record { leaf = leaf; j = run; leads = leads; absent = missing (nodeAt c leaf) key e; full = missing (nodeAt c leaf) 0 f; none-given = h }))
-        (λ h. not-due (λ r. h (r .none-given)))
-        (Inserting key value true) insert-work leaf link (sort ((key, value) ∷ leafPairs (nodeAt c leaf))) (takeNumbers 3 (m .free) (m .last)) refl)
+        (same-nine c m (NoneGiven c (m .free) (m .last) 3) InsertDue _
+        (λ h. inr (record { full-leaf = leaf; j = run; leads = leads; absent = missing (nodeAt c leaf) key e; full = missing (nodeAt c leaf) 0 f; none-given = h }))
+        given-there
+        (over-given c m (Inserting key value true) Absent insert-work insert-then 3
+        (λ ms. splitLeaf leaf link (sort ((key, value) ∷ leafPairs (nodeAt c leaf))) (first ms) (second ms) (third ms)) (λ ms. refl)))
 
   insert-at : Sized (length c) (m .nodes) → (l : Landing) → landing c (m .nodes) key ≡ l → Nine c m InsertDue inserted
   unfolding landed
   insert-at s NoLanding e = inl (inl (sym (leads-is c (m .nodes) key (sized-on c (m .nodes) s)) ∙ ap landed e), rw (insert-no-way e) (refused-same 9 c m))
   insert-at s (LandingAt leaf link run) e = insert-slot s leaf link run e (slotOf (nodeAt c leaf) key) refl (slotOf (nodeAt c leaf) 0) refl
 
-  insert-first : FirstStep rationTable c m InsertDue
-  unfolding heldBy stepTask
-  insert-first r =
-      first-rows c m (PutIn key value) (ap heldBy d) r InsertDue
-      (λ s. subst (λ (x : Doing). Nine c m InsertDue (stepBegin c m (nextChange c (m .nodes) (m .free) (m .last) x (PutIn key value)))) (sym d) (insert-at s (landing c (m .nodes) key) refl))
-
 -- ---- a delete
 
-module _ (c : List ℕ) (m : Memory) (key : ℕ) (d : m .doing ≡ Deleting key false 0) where
+module _ (c : List ℕ) (m : Memory) (key before : ℕ) (d : m .doing ≡ Deleting key false before) where
   abbrev deleted : Step
-  deleted = stepBegin c m (nextChange c (m .nodes) (m .free) (m .last) (Deleting key false 0) (TakeOut key))
+  deleted = stepBegin c m (nextChange c (m .nodes) (m .free) (m .last) (Deleting key false before) (TakeOut key))
 
   delete-work : (value : ℕ) → workOf (Deleting key true value) ≡ workOf (m .doing)
   unfolding workOf
   delete-work value = rw d
+
+  delete-then : (value : ℕ) → dueOf (Deleting key true value) ≡ thenDue (dueOf (m .doing))
+  unfolding dueOf thenDue
+  delete-then value = rw d
 
   delete-no-way : landing c (m .nodes) key ≡ NoLanding → deleted ≡ stepRefused 9 c m
   unfolding stepBegin nextChange inLeaf noWay stepPrepared
@@ -207,10 +214,10 @@ module _ (c : List ℕ) (m : Memory) (key : ℕ) (d : m .doing ≡ Deleting key 
 
   delete-slot : Sized (length c) (m .nodes) → (leaf link run : ℕ) → landing c (m .nodes) key ≡ LandingAt leaf link run → (k : Slot) → slotOf (nodeAt c leaf) key ≡ k → Works c m deleted
   delete-slot s leaf link run lands (At i) e =
-      subst (Works c m) (sym (remove-held c (m .nodes) key leaf link run lands 0 (m .free) (m .last) m i e))
-      (stores-first c m (Deleting key true (getD (nodeAt c leaf) (12 + i) 0)) (Value (getD (nodeAt c leaf) (12 + i) 0)) (place leaf (1 + i), 0) [] (m .free) (m .last) [] (delete-work (getD (nodeAt c leaf) (12 + i) 0)) (on-card c (m .nodes) key leaf link run s lands key i (1 + i) e (omega arith)))
+      subst (Works c m) (sym (remove-held c (m .nodes) key leaf link run lands before (m .free) (m .last) m i e))
+      (stores-first c m (Deleting key true (getD (nodeAt c leaf) (12 + i) 0)) (Value (getD (nodeAt c leaf) (12 + i) 0)) ((place leaf (1 + i), 0) ∷ []) (m .free) (m .last) [] (delete-work (getD (nodeAt c leaf) (12 + i) 0)) (delete-then (getD (nodeAt c leaf) (12 + i) 0)) (on-card c (m .nodes) key leaf link run s lands key i (1 + i) e (omega arith)))
   delete-slot s leaf link run lands NoSlot e =
-      subst (Works c m) (sym (remove-absent c (m .nodes) key leaf link run lands 0 (m .free) (m .last) m e)) (answers c m (Deleting key true 0) Absent (inl refl))
+      subst (Works c m) (sym (remove-absent c (m .nodes) key leaf link run lands before (m .free) (m .last) m e)) (answers c m (Deleting key true 0) Absent (inr (inr refl)))
 
   delete-at : Sized (length c) (m .nodes) → (l : Landing) → landing c (m .nodes) key ≡ l → Nine c m (leadsTo c key ≡ none) deleted
   unfolding landed
@@ -218,26 +225,59 @@ module _ (c : List ℕ) (m : Memory) (key : ℕ) (d : m .doing ≡ Deleting key 
   delete-at s (LandingAt leaf link run) e =
       inr (λ z. none-some (leaf, run) (sym z ∙ sym (leads-is c (m .nodes) key (sized-on c (m .nodes) s)) ∙ ap landed e), delete-slot s leaf link run e (slotOf (nodeAt c leaf) key) refl)
 
-  delete-first : FirstStep rationTable c m (leadsTo c key ≡ none)
-  unfolding heldBy stepTask
-  delete-first r =
-      first-rows c m (TakeOut key) (ap heldBy d) r (leadsTo c key ≡ none)
-      (λ s. subst (λ (x : Doing). Nine c m (leadsTo c key ≡ none) (stepBegin c m (nextChange c (m .nodes) (m .free) (m .last) x (TakeOut key)))) (sym d) (delete-at s (landing c (m .nodes) key) refl))
+-- ---- a repair
 
--- ---- of an update that was started
+module _ (c : List ℕ) (m : Memory) (key : ℕ) (a : Answer) (f : Final a) (d : dueOf (m .doing) ≡ repair key) where
+  repair-then : dueOf (m .doing) ≡ thenDue (dueOf (m .doing))
+  unfolding thenDue
+  repair-then = rw d
 
-first-inserts : (before c : List ℕ) (m : Memory) (key value : ℕ) → rationTable .insert before m key value .reply ≡ started
-    → FirstStep rationTable c (insertOf before m key value .memory) ((leadsTo c key ≡ none) ⊎ NoNodes c (insertOf before m key value .memory .free) (insertOf before m key value .memory .last) key)
-unfolding insertOf
-first-inserts before c m key value e =
-    insert-first c (insertOf before m key value .memory) key value
-    (started-doing before m (Inserting key value false) (startRoom before key (m .free)) key (begun-started _ (start-small before m key (Inserting key value false) (startRoom before key (m .free))) e))
+  -- by the change decided
+  repair-decided : (x : Decision) → Nine c m (NoRepair c (m .free) (m .last) x) (stepPrepared c m (m .doing) a (layOut c x (m .free) (m .last)))
+  unfolding NoRepair layOut changeStores absorb splitParent share merge mergeRoot halves nodeImage
+  repair-decided Refused = inl (tt, refuses-none c m (m .doing) a)
+  repair-decided Balanced = inr (λ z. z, answers c m (m .doing) a f)
+  repair-decided (Absorb p) = over-given c m (m .doing) a refl repair-then 1 (absorbAt c p) (λ ms. refl)
+  repair-decided (SplitParent p) = over-given c m (m .doing) a refl repair-then 3 (splitParentAt c p) (λ ms. refl)
+  repair-decided (Share p) = over-given c m (m .doing) a refl repair-then 3 (shareAt c p) (λ ms. refl)
+  repair-decided (Merge p) = over-given c m (m .doing) a refl repair-then 2 (mergeAt c p) (λ ms. refl)
+  repair-decided (MergeRoot p) = over-given c m (m .doing) a refl repair-then 1 (mergeRootAt c p) (λ ms. refl)
 
-first-deletes : (before c : List ℕ) (m : Memory) (key : ℕ) → rationTable .delete before m key .reply ≡ started → FirstStep rationTable c (deleteOf before m key .memory) (leadsTo c key ≡ none)
-unfolding deleteOf
-first-deletes before c m key e =
-    delete-first c (deleteOf before m key .memory) key
-    (started-doing before m (Deleting key false 0) (λ l. true) key (begun-started _ (start-small before m key (Deleting key false 0) (λ l. true)) e))
+  repair-next : Sized (length c) (m .nodes) → Nine c m (NoRepair c (m .free) (m .last) (decidedRepair c (nodesOn c) key))
+      (stepBegin c m (nextChange c (m .nodes) (m .free) (m .last) (m .doing) (Repair key a)))
+  unfolding stepBegin nextChange nextRepair
+  repair-next s = rw (sized-on c (m .nodes) s) (repair-decided (decidedRepair c (m .nodes) key))
+
+-- ---- any of them
+
+module _ (c : List ℕ) (m : Memory) (s : Sized (length c) (m .nodes)) where
+  abbrev Begins : Doing → Task → Type 0
+  Begins doing task = Nine c m (NoChange c (m .free) (m .last) (dueOf doing)) (stepBegin c m (nextChange c (m .nodes) (m .free) (m .last) doing task))
+
+  repairs : (key : ℕ) (a : Answer) → Final a → (doing : Doing) → m .doing ≡ doing → dueOf doing ≡ repair key → Begins doing (Repair key a)
+  unfolding NoChange
+  repairs key a f doing e d =
+      subst (λ (x : Doing). Begins x (Repair key a)) e
+      (subst (λ (x : Due). Nine c m (NoChange c (m .free) (m .last) x) (stepBegin c m (nextChange c (m .nodes) (m .free) (m .last) (m .doing) (Repair key a)))) (sym (ap dueOf e ∙ d))
+      (repair-next c m key a f (ap dueOf e ∙ d) s))
+
+  begins : {doing : Doing} {task : Task} → TaskOf doing task → m .doing ≡ doing → Begins doing task
+  unfolding NoChange dueOf
+  begins (putting {key} {value}) e = insert-at c m key value e s (landing c (m .nodes) key) refl
+  begins (taking {key} {value}) e = delete-at c m key value e s (landing c (m .nodes) key) refl
+  begins (put {key} {value}) e = repairs key Absent (inr (inr refl)) (Inserting key value true) e refl
+  begins (taken {key} {value}) e = repairs key (Value value) (inr (inl (value, refl))) (Deleting key true value) e refl
+  begins (opened {key}) e = repairs key Ready (inl refl) (Repairing key) e refl
+
+change-rows : (c : List ℕ) (m : Memory) → m .rest ≡ [] → (workOf (m .doing) ≡ formatting → ⊥) → ByRows (changeRows rationTable c m) (Refuses rationTable c m (stepped (stepOf c m))) (Works c m (stepOf c m))
+unfolding ByRows stepTask
+change-rows c m r q = go (idle-or-task (m .doing) q)
+  where
+    go : IdleOrTask (m .doing) → ByRows (changeRows rationTable c m) (Refuses rationTable c m (stepped (stepOf c m))) (Works c m (stepOf c m))
+    go (inl (e, w)) = idle-rows c m e w (row 9 (NoChange c (m .free) (m .last) (dueOf (m .doing))) end) (Works c m (stepOf c m))
+    go (inr (task, e, w)) =
+        task-rows c m task e w (row 9 (NoChange c (m .free) (m .last) (dueOf (m .doing))) end) (Works c m (stepOf c m))
+        (λ s due. subst (Nine c m (NoChange c (m .free) (m .last) (dueOf (m .doing)))) (sym (due ∙ ap (stepTask c m task) r)) (begins c m s (task-of (m .doing) task e) refl))
 
 -- DEMAND 1 of the ration table
 pub demand-1 : Demand1 rationTable
@@ -250,8 +290,6 @@ demand-1 =
       deletes = deletes;
       format-steps = formatting-rows;
       steps-in-hand = in-hand-rows;
-      first-inserts = first-inserts;
-      first-deletes = first-deletes;
-      steps = held-rows;
+      steps = change-rows;
       none-refused = none-refused;
     }

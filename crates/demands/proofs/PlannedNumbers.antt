@@ -173,7 +173,7 @@ two-of : (P : List ℕ → Type 0) → ((a b : ℕ) → P (a ∷ b ∷ [])) → 
 two-of P f [] e = absurd (omega arith)
 two-of P f (a ∷ ms) e = one-of (λ (rest : List ℕ). P (a ∷ rest)) (f a) ms (omega arith)
 
-pub three-of : (P : List ℕ → Type 0) → ((a b d : ℕ) → P (a ∷ b ∷ d ∷ [])) → (ms : List ℕ) → length ms ≡ 3 → P ms
+three-of : (P : List ℕ → Type 0) → ((a b d : ℕ) → P (a ∷ b ∷ d ∷ [])) → (ms : List ℕ) → length ms ≡ 3 → P ms
 three-of P f [] e = absurd (omega arith)
 three-of P f (a ∷ ms) e = two-of (λ (rest : List ℕ). P (a ∷ rest)) (f a) ms (omega arith)
 

@@ -3,13 +3,17 @@ use mathlib.Core.Path.{_≡_, refl, sym, ap, _∙_}
 use mathlib.Core.Bool.{Bool, false}
 use mathlib.Core.List.{List, [], _∷_}
 use mathlib.Core.Option.{some}
-use Prim.Native.Nat.{ℕ, zero, suc, _+_, _<_}
+use Prim.Native.Nat.{ℕ, zero, suc, _+_, _≤_, _<_}
 use native.Mathlib.Omega.{arith}
-use lib.ListN.{length, getD, drop, length-take}
+use lib.ListN.{length, getD, take, drop, length-take, length-drop, length-append}
 use lib.Dec.{eqb}
 use borrow.Author.Tests.{eqb-true, eqb-false}
-use Rattle.card.specs.Layout.{nodeAt, keyWords}
-use Rattle.card.specs.Stores.{Store}
+use Rattle.card.specs.Layout.{nodeAt, keyWords, leafPairs}
+use Rattle.card.specs.Stores.{Store, newNode, nodeStores}
+use Rattle.card.proofs.NodeLaws.{leaf-few}
+use Rattle.change_theory.proofs.LeafRows.{length-pair-keys, length-pair-values}
+use Rattle.change_theory.proofs.Mended.{length-node-stores}
+use Rattle.change_theory.proofs.Rewrite.{AllFew}
 use Rattle.descent.specs.Descent.{firstEqual, slotOf}
 use Rattle.descent.specs.declared.Landing.{Landing}
 use Rattle.descent.specs.declared.Landing.the-variants.{Refused as NoLanding, Leaf as LandingAt}
@@ -21,11 +25,13 @@ use Rattle.updates.specs.Updates.{landing, emptyReason, reasonIn, insertReason,
 use Rattle.state.specs.declared.Doing.{Doing}
 use Rattle.state.specs.declared.Task.the-variants.{PutIn, TakeOut}
 use Rattle.promises.specs.Way.{nodesOn, leadsTo, among}
-use Rattle.demands.specs.Rules.{InsertRule, in-slot, leaf-split, DeleteRule, key-cleared}
+use Rattle.demands.specs.Rules.{leafOf, kindUnder, InsertRule, in-slot, leaf-split, DeleteRule, key-cleared}
 use Rattle.demands.proofs.PlannedNumbers.{ByRule, not-refused, not-balanced, giving-three, none-taken}
 use Rattle.demands.proofs.Standing.{picked, landing-linked}
 use Rattle.promises.proofs.WayDown.{landed, leads-is, slotFound, slot-among}
 use Rattle.laws.proofs.Cases.{impossible}
+use Rattle.laws.specs.Sorting.{keyAt}
+use Rattle.laws.proofs.Sorting.{length-sort}
 
 -- ---- the slots of a leaf
 
@@ -116,3 +122,21 @@ module _ (c : List ℕ) (n key : ℕ) (on : nodesOn c ≡ n) {free : List Bool} 
           → ByRule (DeleteRule c key) free last ss fewer now cut
       on-landing NoLanding f z = absurd (not-refused z)
       on-landing (LandingAt m link run) f z = on-slot m link run f (slotOf (nodeAt c m) key) refl z
+
+-- ---- "So a change is at most 73 stores."
+
+pub insert-short : {c : List ℕ} {key value : ℕ} {given cut : List ℕ} {ss : List Store} → InsertRule c key value given cut ss → length ss ≤ 73
+insert-short (in-slot i l a f) = omega arith
+insert-short {c} {key} {value} (leaf-split {m} {link = link} a b d twelve l h e k s) =
+    let n : length twelve ≤ 12 = omega (arith, ap length s, length-sort ((key, value) ∷ leafPairs (nodeAt c m)), leaf-few (nodeAt c m)) in
+    let left : length (take 6 twelve) ≤ 11 = simp length-take (omega arith) in
+    let right : length (drop 6 twelve) ≤ 11 = simp length-drop (omega arith) in
+    let nodes = leafOf a (take 6 twelve) ∷ leafOf b (drop 6 twelve) ∷ newNode d (kindUnder link) (keyAt 6 twelve ∷ []) (a ∷ b ∷ []) ∷ [] in
+    let few : AllFew nodes = (
+      (omega (arith, length-pair-keys (take 6 twelve)), omega (arith, length-pair-values (take 6 twelve))),
+      ((omega (arith, length-pair-keys (drop 6 twelve)), omega (arith, length-pair-values (drop 6 twelve))), ((omega arith, omega arith), tt)),
+    ) in
+    omega (arith, length-append (nodeStores nodes) ((link, d) ∷ []), length-node-stores nodes few)
+
+pub delete-short : {c : List ℕ} {key : ℕ} {given cut : List ℕ} {ss : List Store} → DeleteRule c key given cut ss → length ss ≤ 73
+delete-short (key-cleared i l f) = omega arith

@@ -1,21 +1,21 @@
--- DEMAND 1, of a step: its three cases, and the rows before them.
+-- DEMAND 1, of a step: what it stores and answers, the rows before 9, and 9 within a change.
 use mathlib.Core.Path.{_≡_, refl, ap, sym, subst, _∙_}
 use mathlib.Core.Bool.{Bool, true, false}
 use mathlib.Core.List.{List, [], _∷_}
 use mathlib.Core.Logic.{_⊎_, inl, inr}
 use Prim.Native.Nat.{ℕ, _+_, _≤_, _<_}
 use native.Mathlib.Omega.{arith}
-use lib.ListN.{length, getD, drop}
+use lib.ListN.{length, getD}
 use lib.Dec.{eqb, ltb}
 use borrow.Author.Tests.{eq-eqb, ne-eqb, lt-ltb, le-ltb, ltb-true, eqb-true, eqb-false}
 use Rattle.card.specs.Header.{nodesOfLength, Sized}
 use Rattle.card.proofs.HeaderLaws.{sized-nodes, formatted-header}
 use Rattle.card.specs.Layout.{nodeAt}
 use Rattle.card.specs.Stores.{Store}
-use Rattle.demands.specs.Demand1.{HandsBack, Stores, StoresNext, Answers, Refuses}
-use Rattle.promises.specs.Table.{noWork, formatting, inserting, deleting}
+use Rattle.demands.specs.Demand1.{thenDue, HandsBack, Stores, StoresNext, Answers, Refuses}
+use Rattle.promises.specs.Table.{noWork, formatting, nothingDue}
 use Rattle.demands.specs.Refusals.{Rows, ByRows, Idle, NoCard, cardRows, end, row}
-use Rattle.promises.specs.RationTable.{workOf, stepped, rationTable}
+use Rattle.promises.specs.RationTable.{workOf, dueOf, stepped, rationTable}
 use Rattle.demands.proofs.Work.{IdleOrTask, idle-or-task, work-formatting}
 use Rattle.demands.proofs.StartRows.{not-sized, start-one, refused-back}
 use Rattle.demands.proofs.FirstRows.{sized?, by-card}
@@ -25,19 +25,18 @@ use Rattle.descent.specs.declared.Landing.the-variants.{Refused as NoLanding, L
 use Rattle.descent.specs.declared.Slot.{Slot}
 use Rattle.descent.specs.declared.Slot.the-variants.{At, Absent as NoSlot}
 use Rattle.laws.proofs.Cases.{bool-cases, order}
-use Rattle.plans.specs.Planning.{Preparation, refused, balanced, prepared}
 use Rattle.state.specs.Answers.{stepReply}
 use Rattle.state.specs.Memory.{Memory, idled, advanced}
 use Rattle.state.specs.Steps.{heldBy, Step, stepRefused, stepFinal, formatStore, stepFormat, stepStore, formatting as formattingThen}
 use Rattle.state.specs.declared.Task.{Task}
 use Rattle.state.specs.declared.Held.the-variants.{Nothing as NoneHeld, Task as HeldTask}
-use Rattle.state.proofs.Tasks.{TaskOf, putting, taking, put, taken, opened, task-of}
+use Rattle.state.proofs.Tasks.{TaskOf, putting, taking, put, taken, opened}
 use Rattle.state.specs.declared.Answer.{Answer}
 use Rattle.state.specs.declared.Answer.the-variants.{Ready, Absent, Value}
 use Rattle.state.specs.declared.Doing.{Doing}
 use Rattle.state.specs.declared.Doing.the-variants.{Formatting, Inserting, Deleting}
 use Rattle.starting.specs.Starts.{insertOf, deleteOf}
-use Rattle.table.specs.Calls.{planning, stepPrepared, stepBegin, stepTask, stepHeld, stepOf}
+use Rattle.table.specs.Calls.{stepTask, stepHeld, stepOf}
 use Rattle.table.proofs.StepLaws.{idle-refused, idle-unchecked, task-due, task-unchecked}
 use Rattle.updates.specs.Updates.{Reason, FirstChange, landing, startRoom, insertReason, insertChange, deleteChange, insertIn, deleteIn, noWay, inLeaf, nextChange, held, slot, full}
 
@@ -71,13 +70,10 @@ next-final c n free last put = inr (inr refl)
 next-final c n free last (taken {value = value}) = inr (inl (value, refl))
 next-final c n free last opened = inl refl
 
--- ---- the three cases
+-- ---- the cases
 
-abbrev pub Cases : List ℕ → Memory → Step → Type 0
-Cases c m s = Stores rationTable c m (stepped s) ⊎ (Answers rationTable c m (stepped s) ⊎ Refuses rationTable c m (stepped s) 9)
-
-abbrev pub FormatCases : List ℕ → Memory → Step → Type 0
-FormatCases c m s = Stores rationTable c m (stepped s) ⊎ Answers rationTable c m (stepped s)
+abbrev pub Works : List ℕ → Memory → Step → Type 0
+Works c m s = Stores rationTable c m (stepped s) ⊎ Answers rationTable c m (stepped s)
 
 pub refused-same : (r : ℕ) (c : List ℕ) (m : Memory) → Refuses rationTable c m (stepped (stepRefused r c m)) r
 unfolding stepRefused stepReply
@@ -105,64 +101,22 @@ unfolding advanced
 advanced-rest m [] = refl
 advanced-rest m (s ∷ rest) = refl
 
-pub store-inside : (c : List ℕ) (m : Memory) (s : Store) (next : Memory) → next .nodes ≡ m .nodes → workOf (next .doing) ≡ workOf (m .doing) → s .0 < length c → Stores rationTable c m (stepped (stepStore c m s next))
+pub store-inside : (c : List ℕ) (m : Memory) (s : Store) (next : Memory) → next .nodes ≡ m .nodes → workOf (next .doing) ≡ workOf (m .doing) → dueOf (next .doing) ≡ thenDue (dueOf (m .doing)) → s .0 < length c → Stores rationTable c m (stepped (stepStore c m s next))
 unfolding stepStore stepReply
-store-inside c m s next en ew o = rw (lt-ltb (s .0) (length c) o) (record { reply-given = refl; place = s .0; word = s .1; inside = o; one-store = refl; nodes-kept = en; work-kept = ew })
+store-inside c m s next en ew ed o =
+    rw (lt-ltb (s .0) (length c) o) (record { reply-given = refl; place = s .0; word = s .1; inside = o; one-store = refl; nodes-kept = en; work-kept = ew; due-then = ed })
 
 pub store-outside : (c : List ℕ) (m : Memory) (s : Store) (next : Memory) → length c ≤ s .0 → Refuses rationTable c m (stepped (stepStore c m s next)) 9
 unfolding stepStore
 store-outside c m s next o = rw (le-ltb (s .0) (length c) o) (refused-same 9 c m)
 
-store-cases : (c : List ℕ) (m : Memory) (s : Store) (next : Memory) → next .nodes ≡ m .nodes → workOf (next .doing) ≡ workOf (m .doing) → Cases c m (stepStore c m s next)
-store-cases c m s next en ew = order (s .0) (length c) (λ o. inl (store-inside c m s next en ew o)) (λ o. inr (inr (store-outside c m s next o)))
-
-prepared-cases : (c : List ℕ) (m : Memory) (doing : Doing) (a : Answer) → workOf doing ≡ workOf (m .doing) → Final a → (p : Preparation) → Cases c m (stepPrepared c m doing a p)
-unfolding stepPrepared planning
-prepared-cases c m doing a ew f refused = inr (inr (refused-same 9 c m))
-prepared-cases c m doing a ew f balanced = inr (inl (final-idle a c m f))
-prepared-cases c m doing a ew f (prepared stores free last cut) =
-    let then = planning m doing free last cut in
-    store-cases c m (getD stores 0 (0, 0)) (advanced then (drop 1 stores)) (advanced-nodes then (drop 1 stores)) (ap workOf (advanced-doing then (drop 1 stores)) ∙ ew)
-
--- planning a change leaves what is being done
-insert-work : (key value : ℕ) (free : List Bool) (last m link : ℕ) (words : List ℕ) (r : Reason) → workOf (insertChange key value free last m link words r .doing) ≡ inserting key value
-unfolding insertChange workOf
-insert-work key value free last m link words (held v) = refl
-insert-work key value free last m link words (slot i) = refl
-insert-work key value free last m link words full = refl
-
-delete-work : (key : ℕ) (free : List Bool) (last m : ℕ) (words : List ℕ) (s : Slot) → workOf (deleteChange key free last m words s .doing) ≡ deleting key
-unfolding deleteChange workOf
-delete-work key free last m words (At i) = refl
-delete-work key free last m words NoSlot = refl
-
-leaf-work : (c : List ℕ) (doing : Doing) (change : ℕ → ℕ → List ℕ → FirstChange) → ((m link : ℕ) (words : List ℕ) → workOf (change m link words .doing) ≡ workOf doing) → (l : Landing) → workOf (inLeaf c doing change l .doing) ≡ workOf doing
-unfolding inLeaf noWay
-leaf-work c doing change e NoLanding = refl
-leaf-work c doing change e (LandingAt m link run) = e m link (nodeAt c m)
-
-next-work : (c : List ℕ) (n : ℕ) (free : List Bool) (last : ℕ) {doing : Doing} {task : Task} → TaskOf doing task → workOf (nextChange c n free last doing task .doing) ≡ workOf doing
-unfolding nextChange workOf
-next-work c n free last (putting {key} {value}) = leaf-work c (Inserting key value false) (insertIn key value free last) (λ m link words. insert-work key value free last m link words (insertReason words key)) (landing c n key)
-next-work c n free last (taking {key} {value}) = leaf-work c (Deleting key false value) (deleteIn key free last) (λ m link words. delete-work key free last m words (slotOf words key)) (landing c n key)
-next-work c n free last put = refl
-next-work c n free last taken = refl
-next-work c n free last opened = refl
-
-task-cases : (c : List ℕ) (m : Memory) (task : Task) → TaskOf (m .doing) task → (rest : List Store) → Cases c m (stepTask c m task rest)
-unfolding stepTask stepBegin
-task-cases c m task o [] =
-    let f = nextChange c (m .nodes) (m .free) (m .last) (m .doing) task in
-    prepared-cases c m (f .doing) (f .final) (next-work c (m .nodes) (m .free) (m .last) o) (next-final c (m .nodes) (m .free) (m .last) o) (f .preparation)
-task-cases c m task o (s ∷ rest) = store-cases c m s (advanced m rest) (advanced-nodes m rest) (ap workOf (advanced-doing m rest))
-
 -- formatting: its place is always on the card
-format-cases : (c : List ℕ) (m : Memory) (made : ℕ) → workOf (m .doing) ≡ formatting → 0 < length c → FormatCases c m (stepFormat c m made (formatStore (m .nodes) (length c) made))
-unfolding stepFormat formatStore stepReply formattingThen workOf
-format-cases c m made ew pos =
-    bool-cases (eqb made 0) (λ q. inl (rw q (record { reply-given = refl; place = 0; word = 0; inside = pos; one-store = refl; nodes-kept = refl; work-kept = sym ew }))) (λ q.
-    bool-cases (ltb made (length c)) (λ q₁. inl (rw (q, q₁) (record { reply-given = refl; place = made; word = _; inside = ltb-true made (length c) q₁; one-store = refl; nodes-kept = refl; work-kept = sym ew }))) (λ q₁.
-    bool-cases (eqb made (length c)) (λ q₂. inl (rw (q, q₁, q₂) (record { reply-given = refl; place = 0; word = 1; inside = pos; one-store = refl; nodes-kept = refl; work-kept = sym ew })))
+format-cases : (c : List ℕ) (m : Memory) (made : ℕ) → workOf (m .doing) ≡ formatting → nothingDue ≡ thenDue (dueOf (m .doing)) → 0 < length c → Works c m (stepFormat c m made (formatStore (m .nodes) (length c) made))
+unfolding stepFormat formatStore stepReply formattingThen workOf dueOf
+format-cases c m made ew ed pos =
+    bool-cases (eqb made 0) (λ q. inl (rw q (record { reply-given = refl; place = 0; word = 0; inside = pos; one-store = refl; nodes-kept = refl; work-kept = sym ew; due-then = ed }))) (λ q.
+    bool-cases (ltb made (length c)) (λ q₁. inl (rw (q, q₁) (record { reply-given = refl; place = made; word = _; inside = ltb-true made (length c) q₁; one-store = refl; nodes-kept = refl; work-kept = sym ew; due-then = ed }))) (λ q₁.
+    bool-cases (eqb made (length c)) (λ q₂. inl (rw (q, q₁, q₂) (record { reply-given = refl; place = 0; word = 1; inside = pos; one-store = refl; nodes-kept = refl; work-kept = sym ew; due-then = ed })))
     (λ q₂. inr (rw (q, q₁, q₂) (final-idle Ready c m (inl refl))))))
 
 -- ---- the rows
@@ -178,16 +132,16 @@ unfolding stepOf
 step-sized c m s = rw (sized-nodes (length c) (m .nodes) s, ne-eqb (m .nodes) 0 (λ z. omega (arith, z, s .least)), eq-eqb (m .nodes) (m .nodes) refl)
 
 module _ (c : List ℕ) (m : Memory) where
-  pub formatting-rows : workOf (m .doing) ≡ formatting → ByRows (row 1 (NoCard c (m .nodes)) end) (Refuses rationTable c m (stepped (stepOf c m))) (FormatCases c m (stepOf c m))
-  unfolding ByRows heldBy stepHeld
+  pub formatting-rows : workOf (m .doing) ≡ formatting → ByRows (row 1 (NoCard c (m .nodes)) end) (Refuses rationTable c m (stepped (stepOf c m))) (Works c m (stepOf c m))
+  unfolding ByRows heldBy stepHeld dueOf thenDue
   formatting-rows q = go (sized? (length c) (m .nodes)) (work-formatting (m .doing) q)
     where
-      go : Dec (Sized (length c) (m .nodes)) → ((made : ℕ) × (m .doing ≡ Formatting made)) → (NoCard c (m .nodes) × Refuses rationTable c m (stepped (stepOf c m)) 1) ⊎ ((NoCard c (m .nodes) → ⊥) × FormatCases c m (stepOf c m))
+      go : Dec (Sized (length c) (m .nodes)) → ((made : ℕ) × (m .doing ≡ Formatting made)) → (NoCard c (m .nodes) × Refuses rationTable c m (stepped (stepOf c m)) 1) ⊎ ((NoCard c (m .nodes) → ⊥) × Works c m (stepOf c m))
       go (no p) d = inl (p, rw (step-one c m p) (refused-same 1 c m))
-      go (yes s) (made, e) = inr (λ p. p s, rw (step-sized c m s ∙ ap (λ (d : Doing). stepHeld c m (heldBy d)) e) (format-cases c m made q (omega (arith, s .words))))
+      go (yes s) (made, e) = inr (λ p. p s, rw (step-sized c m s ∙ ap (λ (d : Doing). stepHeld c m (heldBy d)) e) (format-cases c m made q (rw e) (omega (arith, s .words))))
 
   -- 1, 2 and 3, and then 10 where nothing is held, whatever comes after it, or what comes after it where a task is
-  idle-rows : heldBy (m .doing) ≡ NoneHeld → workOf (m .doing) ≡ noWork → (rows : Rows) (works : Type 0) → ByRows (cardRows c (m .nodes) (row 10 (Idle rationTable m) rows)) (Refuses rationTable c m (stepped (stepOf c m))) works
+  pub idle-rows : heldBy (m .doing) ≡ NoneHeld → workOf (m .doing) ≡ noWork → (rows : Rows) (works : Type 0) → ByRows (cardRows c (m .nodes) (row 10 (Idle rationTable m) rows)) (Refuses rationTable c m (stepped (stepOf c m))) works
   unfolding ByRows
   idle-rows e w rows works =
       by-card (row 10 (Idle rationTable m) rows) (Refuses rationTable c m (stepped (stepOf c m))) works c (m .nodes)
@@ -195,29 +149,21 @@ module _ (c : List ℕ) (m : Memory) where
       (λ r s k d. rw (step-sized c m s ∙ ap (stepHeld c m) e ∙ idle-unchecked c m r (sym k) d) (refused-same r c m))
       (λ s f. inl (w, rw (step-sized c m s ∙ ap (stepHeld c m) e ∙ idle-refused c m (formatted-header c (m .nodes) f)) (refused-same 10 c m)))
 
-  task-rows : (task : Task) → heldBy (m .doing) ≡ HeldTask task → (workOf (m .doing) ≡ noWork → ⊥) → (rows : Rows) (works : Type 0)
-      → (stepOf c m ≡ stepTask c m task (m .rest) → ByRows rows (Refuses rationTable c m (stepped (stepOf c m))) works) → ByRows (cardRows c (m .nodes) (row 10 (Idle rationTable m) rows)) (Refuses rationTable c m (stepped (stepOf c m))) works
+  pub task-rows : (task : Task) → heldBy (m .doing) ≡ HeldTask task → (workOf (m .doing) ≡ noWork → ⊥) → (rows : Rows) (works : Type 0)
+      → (Sized (length c) (m .nodes) → stepOf c m ≡ stepTask c m task (m .rest) → ByRows rows (Refuses rationTable c m (stepped (stepOf c m))) works) → ByRows (cardRows c (m .nodes) (row 10 (Idle rationTable m) rows)) (Refuses rationTable c m (stepped (stepOf c m))) works
   unfolding ByRows
   task-rows task e w rows works next =
       by-card (row 10 (Idle rationTable m) rows) (Refuses rationTable c m (stepped (stepOf c m))) works c (m .nodes)
       (λ p. rw (step-one c m p) (refused-same 1 c m))
       (λ r s k d. rw (step-sized c m s ∙ ap (stepHeld c m) e ∙ task-unchecked c m r (sym k) d task) (refused-same r c m))
-      (λ s f. inr (w, next (step-sized c m s ∙ ap (stepHeld c m) e ∙ task-due c m (formatted-header c (m .nodes) f) task)))
-
-  pub held-rows : (workOf (m .doing) ≡ formatting → ⊥) → ByRows (cardRows c (m .nodes) (row 10 (Idle rationTable m) end)) (Refuses rationTable c m (stepped (stepOf c m))) (Cases c m (stepOf c m))
-  unfolding ByRows
-  held-rows q = go (idle-or-task (m .doing) q)
-    where
-      go : IdleOrTask (m .doing) → ByRows (cardRows c (m .nodes) (row 10 (Idle rationTable m) end)) (Refuses rationTable c m (stepped (stepOf c m))) (Cases c m (stepOf c m))
-      go (inl (e, w)) = idle-rows e w end (Cases c m (stepOf c m))
-      go (inr (task, e, w)) = task-rows task e w end (Cases c m (stepOf c m)) (λ due. subst (Cases c m) (sym due) (task-cases c m task (task-of (m .doing) task e) (m .rest)))
+      (λ s f. inr (w, next s (step-sized c m s ∙ ap (stepHeld c m) e ∙ task-due c m (formatted-header c (m .nodes) f) task)))
 
 -- with a change in hand
 next-cases : (c : List ℕ) (m : Memory) (x : Store) (rest : List Store) → ByRows (row 9 (length c ≤ x .0) end) (Refuses rationTable c m (stepped (stepStore c m x (advanced m rest)))) (StoresNext rationTable c m (stepped (stepStore c m x (advanced m rest))) x rest)
 unfolding ByRows stepStore stepReply
 next-cases c m x rest =
     order (x .0) (length c)
-    (λ o. inr (λ z. omega (arith, o, z), rw (lt-ltb (x .0) (length c) o) (record { reply-given = refl; one-store = refl; rest-to-come = advanced-rest m rest; nodes-kept = advanced-nodes m rest; work-kept = ap workOf (advanced-doing m rest) })))
+    (λ o. inr (λ z. omega (arith, o, z), rw (lt-ltb (x .0) (length c) o) (record { reply-given = refl; one-store = refl; rest-to-come = advanced-rest m rest; nodes-kept = advanced-nodes m rest; work-kept = ap workOf (advanced-doing m rest); due-kept = ap dueOf (advanced-doing m rest) })))
     (λ o. inl (o, rw (le-ltb (x .0) (length c) o) (refused-same 9 c m)))
 
 pub in-hand-rows : (c : List ℕ) (m : Memory) (x : Store) (rest : List Store) → m .rest ≡ x ∷ rest → (workOf (m .doing) ≡ formatting → ⊥)
@@ -229,7 +175,7 @@ in-hand-rows c m x rest r q = go (idle-or-task (m .doing) q)
     go (inl (e, w)) = idle-rows c m e w (row 9 (length c ≤ x .0) end) (StoresNext rationTable c m (stepped (stepOf c m)) x rest)
     go (inr (task, e, w)) =
         task-rows c m task e w (row 9 (length c ≤ x .0) end) (StoresNext rationTable c m (stepped (stepOf c m)) x rest)
-        (λ due. subst (λ (y : Step). ByRows (row 9 (length c ≤ x .0) end) (Refuses rationTable c m (stepped y)) (StoresNext rationTable c m (stepped y) x rest)) (sym (due ∙ ap (stepTask c m task) r)) (next-cases c m x rest))
+        (λ s due. subst (λ (y : Step). ByRows (row 9 (length c ≤ x .0) end) (Refuses rationTable c m (stepped y)) (StoresNext rationTable c m (stepped y) x rest)) (sym (due ∙ ap (stepTask c m task) r)) (next-cases c m x rest))
 
 -- no card has N = 0
 none-sized : (c : List ℕ) (n : ℕ) → n ≡ 0 → NoCard c n

@@ -24,7 +24,7 @@ use Rattle.demands.proofs.StartRows.{started-doing}
 use Rattle.demands.proofs.StepRows.{next-final}
 use Rattle.demands.proofs.Making.{Nears}
 use Rattle.promises.proofs.AnswerNumbers.{card-small}
-use Rattle.demands.proofs.PlannedUpdates.{insert-by-rule, delete-by-rule}
+use Rattle.demands.proofs.PlannedUpdates.{insert-by-rule, delete-by-rule, insert-short, delete-short}
 use Rattle.descent.specs.Descent.{slotOf}
 use Rattle.descent.specs.declared.Landing.{Landing}
 use Rattle.descent.specs.declared.Landing.the-variants.{Refused as NoLanding, Leaf as LandingAt}
@@ -164,7 +164,7 @@ module _ (w : World rationTable) (b : Book) (v : Covered w b) where
       let m = insertOf (w .card) (w .state) key value .memory in
       let d : m .doing ≡ Inserting key value false = started-doing (w .card) (w .state) (Inserting key value false) (startRoom (w .card) key (w .state .free)) key e in
       let n : nodesOn (w .card) ≡ u .size = covered-nodes u ∙ nodes-same (u .size) (u .steps) (happens rationTable (insert key value) w) (q .1 .book-now) (u .inv) in
-      first-by-rules (dictionaryAnswer (lookup key (b .held))) (q .0) (happens rationTable (insert key value) w) (q .1) (q .2) ((a : ℕ) × (lookup key (b .held) ≡ some a)) (InsertRule (w .card) key value)
+      first-by-rules (dictionaryAnswer (lookup key (b .held))) (q .0) (happens rationTable (insert key value) w) (q .1) (q .2) ((a : ℕ) × (lookup key (b .held) ≡ some a)) (InsertRule (w .card) key value) (λ given out ss r. insert-short r)
       (nextChange (w .card) (u .size) (m .free) (m .last) (Inserting key value false) (PutIn key value))
       (put-turns key value (u .inv .table) (u .inv .stage) d)
       (next-final (w .card) (u .size) (m .free) (m .last) putting)
@@ -181,7 +181,7 @@ module _ (w : World rationTable) (b : Book) (v : Covered w b) where
       let m = deleteOf (w .card) (w .state) key .memory in
       let d : m .doing ≡ Deleting key false 0 = started-doing (w .card) (w .state) (Deleting key false 0) (λ l. true) key e in
       let n : nodesOn (w .card) ≡ u .size = covered-nodes u ∙ nodes-same (u .size) (u .steps) (happens rationTable (delete key) w) (q .1 .book-now) (u .inv) in
-      first-by-rules (dictionaryAnswer (lookup key (b .held))) (q .0) (happens rationTable (delete key) w) (q .1) (q .2) (lookup key (b .held) ≡ none) (DeleteRule (w .card) key)
+      first-by-rules (dictionaryAnswer (lookup key (b .held))) (q .0) (happens rationTable (delete key) w) (q .1) (q .2) (lookup key (b .held) ≡ none) (DeleteRule (w .card) key) (λ given out ss r. delete-short r)
       (nextChange (w .card) (u .size) (m .free) (m .last) (Deleting key false 0) (TakeOut key))
       (remove-turns key (u .inv .table) (u .inv .stage) d)
       (next-final (w .card) (u .size) (m .free) (m .last) taking)

@@ -42,11 +42,11 @@ module _ (c : List ℕ) (n key : ℕ) (m link run : ℕ) (land : landing c n key
     put-full e z = rw (land, e, z)
 
     pub remove-held : (i : ℕ) → slotOf (nodeAt c m) key ≡ At i
-        → stepBegin c mem (nextChange c n free last (Deleting key false 0) (TakeOut key)) ≡ stepPrepared c mem (Deleting key true (getD (nodeAt c m) (12 + i) 0)) (Value (getD (nodeAt c m) (12 + i) 0)) (prepared ((place m (1 + i), 0) ∷ []) free last [])
+        → stepBegin c mem (nextChange c n free last (Deleting key false value) (TakeOut key)) ≡ stepPrepared c mem (Deleting key true (getD (nodeAt c m) (12 + i) 0)) (Value (getD (nodeAt c m) (12 + i) 0)) (prepared ((place m (1 + i), 0) ∷ []) free last [])
     unfolding stepBegin nextChange inLeaf deleteChange
     remove-held i e = rw (land, e)
 
-    pub remove-absent : slotOf (nodeAt c m) key ≡ NoSlot → stepBegin c mem (nextChange c n free last (Deleting key false 0) (TakeOut key)) ≡ stepPrepared c mem (Deleting key true 0) Absent balanced
+    pub remove-absent : slotOf (nodeAt c m) key ≡ NoSlot → stepBegin c mem (nextChange c n free last (Deleting key false value) (TakeOut key)) ≡ stepPrepared c mem (Deleting key true 0) Absent balanced
     unfolding stepBegin nextChange inLeaf deleteChange
     remove-absent e = rw (land, e)
 
