@@ -13,6 +13,10 @@ leastNodes = 4
 abbrev pub greatestNodes : ℕ
 greatestNodes = 600
 
+-- the cards that the programs are made for
+abbrev pub programNodes : ℕ
+programNodes = 600
+
 -- "more than 10 internal nodes": the most that a way down may pass
 abbrev pub depthLimit : ℕ
 depthLimit = 10

@@ -1,19 +1,56 @@
 // A card: its length, its header and its nodes (document 01, "The card").
+//
+//     a card with N nodes                       node m, from word 8 + 24 × (m − 1) on
+//       0        1, the mark                      0         its kind: 1 leaf, 2 internal, 3 tagged
+//       1        N                                1 to 11   a leaf's keys, or the routing keys between children
+//       2        8, the words of the header       12 to 22  the values beside a leaf's keys, or the children
+//       3        24, the words of a node          23        0
+//       4        the number of the root node
+//       5 to 7   0
+//       8 on     nodes 1 to N
 ghost use mathlib.Core.Path.{_≡_};
 ghost use Prim.Native.Nat.{_+_, _*_, _≤_};
 ghost use lib.ListN.{length};
 ghost use Rattle.card.specs.Layout.{greatestNodes, nodeAt, children, isKey, leafPairs};
 ghost use Rattle.card.specs.Header.{nodesOfLength, headerRefusal, cardRefusal};
 
+// The numbers of the drawing: the only places in code where they stand.
+pub const MARK: u32 = 1;
+
+pub const HEADER_WORDS: usize = 8;
+
+pub const NODE_WORDS: usize = 24;
+
+pub const LEAF: u32 = 1;
+
+pub const INTERNAL: u32 = 2;
+
+pub const TAGGED: u32 = 3;
+
+// How many keys a leaf has room for, and how many children an internal node; where keys begin, and the values or children beside them;
+// and the last word, which is 0.
+pub const SLOTS: usize = 11;
+
+pub const KEYS: usize = 1;
+
+pub const VALUES: usize = 12;
+
+pub const LAST_WORD: usize = 23;
+
 // "With N nodes (4 to 600)": the only places in code where the two limits stand.
 pub const LEAST_NODES: usize = 4;
 
 pub const GREATEST_NODES: usize = 600;
 
+// The programs are made for cards of up to 600 nodes, and lend rows of that many words.
+pub const PROGRAM_NODES: usize = 600;
+
+pub const PROGRAM_WORDS: usize = HEADER_WORDS + NODE_WORDS * PROGRAM_NODES;
+
 // "more than 10 internal nodes": the only place in code where the depth limit stands.
 pub const DEPTH_LIMIT: usize = 10;
 
-// "4: number of the root node": the only place in code where it stands.
+// "4: number of the root node"
 pub const ROOT_PLACE: usize = 4;
 
 // "Keys are 1 to 4,294,967,295": where the range of all keys begins and ends.
@@ -25,14 +62,14 @@ pub const KEY_LIMIT: u64 = 4294967296;
 pub fn nodes_of(length: usize) -> usize
     ensures { λ r. ⌜ r ≡ nodesOfLength length ⌝ }
 {
-    if length < 8 + 24 * LEAST_NODES {
+    if length < HEADER_WORDS + NODE_WORDS * LEAST_NODES {
         return 0;
     }
-    if 8 + 24 * GREATEST_NODES < length {
+    if HEADER_WORDS + NODE_WORDS * GREATEST_NODES < length {
         return 0;
     }
-    if (length - 8) % 24 == 0 {
-        (length - 8) / 24
+    if (length - HEADER_WORDS) % NODE_WORDS == 0 {
+        (length - HEADER_WORDS) / NODE_WORDS
     } else {
         0
     }
@@ -43,16 +80,16 @@ pub fn header_refusal(card: &[u32], n: usize) -> u32
     requires { ⌜ 8 ≤ length (now card) ⌝ }
     ensures { λ r. ⌜ r ≡ headerRefusal (now (card .entry)) n ⌝ }
 {
-    if card[0] != 1 {
+    if card[0] != MARK {
         return 2;
     }
     if card[1] as usize != n {
         return 3;
     }
-    if card[2] != 8 {
+    if card[2] != HEADER_WORDS as u32 {
         return 3;
     }
-    if card[3] != 24 {
+    if card[3] != NODE_WORDS as u32 {
         return 3;
     }
     if card[5] != 0 {
@@ -83,8 +120,8 @@ pub fn node_at(card: &[u32], m: usize) -> &[u32]
     requires { ⌜ (1 ≤ m) × (m ≤ greatestNodes) × (8 + 24 * m ≤ length (now card)) ⌝ }
     ensures { λ r. ⌜ now r ≡ nodeAt (now (card .entry)) m ⌝ }
 {
-    let at = 8 + 24 * (m - 1);
-    &card[at..at + 24]
+    let at = HEADER_WORDS + NODE_WORDS * (m - 1);
+    &card[at..at + NODE_WORDS]
 }
 
 // How many children an internal node has: those before the first 0.
@@ -93,8 +130,8 @@ pub fn child_count(node: &[u32]) -> usize
     ensures { λ r. ⌜ r ≡ length (children (now (node .entry))) ⌝ }
 {
     let mut c: usize = 0;
-    while c < 11 {
-        if node[12 + c] == 0 {
+    while c < SLOTS {
+        if node[VALUES + c] == 0 {
             return c;
         }
         c += 1;
@@ -116,8 +153,8 @@ pub fn pair_count(node: &[u32]) -> usize
 {
     let mut count: usize = 0;
     let mut i: usize = 0;
-    while i < 11 {
-        count += is_key(node[1 + i]);
+    while i < SLOTS {
+        count += is_key(node[KEYS + i]);
         i += 1;
     }
     count

@@ -19,10 +19,10 @@ pub fn find_slot(node: &[u32], key: u32) -> Slot
 {
     let mut i: usize = 0;
     loop {
-        if 11 <= i {
+        if card::SLOTS <= i {
             break Slot::Absent;
         }
-        if node[1 + i] == key {
+        if node[card::KEYS + i] == key {
             break Slot::At(i);
         }
         i += 1;
@@ -37,7 +37,7 @@ pub fn child_index(node: &[u32], key: u32) -> usize
     let mut i: usize = 0;
     // ten words at most; the bound is read off the part, since with a constant the loop is not compiled into a find's own
     while i + 14 < node.len() {
-        if key < node[1 + i] {
+        if key < node[card::KEYS + i] {
             return i;
         }
         if node[13 + i] == 0 {
@@ -67,11 +67,11 @@ pub fn look_at(card: &[u32], n: usize, m: usize) -> Look
         return Look::Nowhere;
     }
     let kind = card::node_at(card, m)[0];
-    if kind == 1 {
+    if kind == card::LEAF {
         return Look::Leaf;
     }
-    if kind != 2 {
-        if kind != 3 {
+    if kind != card::INTERNAL {
+        if kind != card::TAGGED {
             return Look::Nowhere;
         }
     }
@@ -95,8 +95,8 @@ fn child_of(node: &[u32], key: u32, p: Position) -> Position
 {
     let i = child_index(node, key);
     Position {
-        node: node[12 + i] as usize,
-        link: 8 + 24 * (p.node - 1) + 12 + i,
+        node: node[card::VALUES + i] as usize,
+        link: card::HEADER_WORDS + card::NODE_WORDS * (p.node - 1) + card::VALUES + i,
         parent: p.node,
         index: i,
         above: p.link,
@@ -112,13 +112,13 @@ fn is_fault(node: &[u32], parent: usize) -> bool
         return false;
     }
     let kind = node[0];
-    if kind == 3 {
+    if kind == card::TAGGED {
         return true;
     }
-    if kind == 1 {
+    if kind == card::LEAF {
         return card::pair_count(node) < 2;
     }
-    if node[12] == 0 {
+    if node[card::VALUES] == 0 {
         return true;
     }
     node[13] == 0
@@ -171,7 +171,7 @@ pub fn descend(card: &[u32], n: usize, key: u32, root: usize, seeks: bool) -> En
                 if stops(node, p.parent, seeks) {
                     return End::Fault(p);
                 }
-                if node[12] == 0 {
+                if node[card::VALUES] == 0 {
                     return End::Refused;
                 }
                 if left == 0 {
@@ -207,7 +207,7 @@ fn run_below(node: &[u32], run: usize) -> usize
     requires { ⌜ (length (now node) ≡ 24) × (run ≤ depthLimit) ⌝ }
     ensures { λ r. ⌜ r ≡ runBelow (length (children (now (node .entry)))) run ⌝ }
 {
-    if card::child_count(node) == 11 {
+    if card::child_count(node) == card::SLOTS {
         run + 1
     } else {
         0
@@ -233,14 +233,14 @@ pub fn run_above(card: &[u32], n: usize, key: u32, root: usize) -> usize
             Look::Inner => {
                 let node = card::node_at(card, m);
                 run = run_below(node, run);
-                if node[12] == 0 {
+                if node[card::VALUES] == 0 {
                     return run;
                 }
                 if left == 0 {
                     return run;
                 }
                 left -= 1;
-                m = node[12 + child_index(node, key)] as usize;
+                m = node[card::VALUES + child_index(node, key)] as usize;
             }
         }
     }
@@ -296,14 +296,14 @@ pub fn find_leaf(card: &[u32], n: usize, key: u32, root: usize) -> Reached
             }
             Look::Inner => {
                 let node = card::node_at(card, m);
-                if node[12] == 0 {
+                if node[card::VALUES] == 0 {
                     return Reached::Refused;
                 }
                 if depth == card::DEPTH_LIMIT {
                     return Reached::Refused;
                 }
                 depth += 1;
-                m = node[12 + child_index(node, key)] as usize;
+                m = node[card::VALUES + child_index(node, key)] as usize;
             }
         }
     }

@@ -24,7 +24,7 @@ pub fn read_dump(dump: &[u8], words: &mut [u32]) -> Answer
     if is_damaged(dump) {
         return Answer::Refused(11);
     }
-    let size = 8 + 24 * word_at(dump, 1) as usize;
+    let size = card::HEADER_WORDS + card::NODE_WORDS * word_at(dump, 1) as usize;
     if words.len() < size {
         return Answer::Refused(12);
     }
@@ -68,7 +68,7 @@ fn is_damaged(dump: &[u8]) -> bool
         return true;
     }
     // "above 57,856": the padded length for the greatest number of nodes
-    if padded_length(8 + 24 * GREATEST_NODES) < dump.len() {
+    if padded_length(card::HEADER_WORDS + card::NODE_WORDS * GREATEST_NODES) < dump.len() {
         return true;
     }
     let n = word_at(dump, 1) as usize;
@@ -78,7 +78,7 @@ fn is_damaged(dump: &[u8]) -> bool
     if GREATEST_NODES < n {
         return true;
     }
-    let words = 8 + 24 * n;
+    let words = card::HEADER_WORDS + card::NODE_WORDS * n;
     if padded_length(words) != dump.len() {
         return true;
     }

@@ -32,8 +32,8 @@ fn put_leaf(node: &[u32], out: &mut [u32], at: usize) -> usize
 {
     let mut next = at;
     let mut i: usize = 0;
-    while i < 11 {
-        next = put_slot(out, next, node[1 + i], node[12 + i]);
+    while i < card::SLOTS {
+        next = put_slot(out, next, node[card::KEYS + i], node[card::VALUES + i]);
         i += 1;
     }
     next
@@ -52,7 +52,7 @@ pub fn collect(card: &[u32], n: usize, m: usize, levels: usize, out: &mut [u32],
         return at;
     }
     let node = card::node_at(card, m);
-    if node[0] == 1 {
+    if node[0] == card::LEAF {
         return put_leaf(node, out, at);
     }
     if levels == 0 {
@@ -62,7 +62,7 @@ pub fn collect(card: &[u32], n: usize, m: usize, levels: usize, out: &mut [u32],
     let mut next = at;
     let mut i: usize = 0;
     while i < c {
-        let child = node[12 + i] as usize;
+        let child = node[card::VALUES + i] as usize;
         next = collect(card, n, child, levels - 1, out, next);
         i += 1;
     }

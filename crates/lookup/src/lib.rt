@@ -23,7 +23,7 @@ fn found_in(node: &[u32], key: u32) -> Found
 {
     match descent::find_slot(node, key) {
         Slot::Absent => Found::Absent,
-        Slot::At(i) => Found::Value(node[12 + i]),
+        Slot::At(i) => Found::Value(node[card::VALUES + i]),
     }
 }
 

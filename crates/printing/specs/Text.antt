@@ -4,7 +4,7 @@ use Prim.Native.Nat.{ℕ, _*_}
 use lib.ListN.{length, take, replicate}
 use lib.Dec.{eqb}
 use Rattle.laws.specs.Cases.{pick}
-use Rattle.card.specs.Layout.{greatestNodes}
+use Rattle.card.specs.Layout.{programNodes}
 use Rattle.listing.specs.Listing.{Listed, refused, listed, listDump, layListed}
 use Rattle.listing.specs.Summaries.{summaryOf}
 use Rattle.listing.specs.declared.Summary.{Summary}
@@ -63,7 +63,7 @@ told s words =
 
 -- the words that the pairs of a dump are laid into: key and value of 11 pairs for each of 600 nodes
 abbrev pub pairRoom : ℕ
-pairRoom = 22 * greatestNodes
+pairRoom = 22 * programNodes
 
 abbrev pub zeros : ℕ → List ℕ
 zeros n = replicate n 0

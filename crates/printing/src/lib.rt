@@ -15,7 +15,12 @@ ghost use Rattle.text_row.specs.Filling.{filled, fill};
 
 // Room for the longest text: 6,600 pairs, those of 600 leaves, on lines of at most 22 bytes, and a first line with four numbers
 // of at most 20 digits.
-pub type Text = [u8; 145308];
+pub const TEXT_BYTES: usize = 108 + 22 * card::SLOTS * card::PROGRAM_NODES;
+
+pub type Text = [u8; TEXT_BYTES];
+
+// The words of those pairs, key and value.
+const PAIR_WORDS: usize = 2 * card::SLOTS * card::PROGRAM_NODES;
 
 // "First line: N, free nodes, internal levels, pairs."
 fn put_summary(text: &mut [u8], s: Summary) -> usize
@@ -61,8 +66,8 @@ pub fn list_text(dump: &[u8], text: &mut Text) -> usize
     ensures { λ r. ⌜ r ≡ length (dumpText (now (dump .entry))) ⌝ }
     ensures { λ r. ⌜ now (text .exit) ≡ dumpText (now (dump .entry)) ++ drop (length (dumpText (now (dump .entry)))) (now (text .entry)) ⌝ }
 {
-    let mut card = [0u32; 14408];
-    let mut out = [0u32; 13200];
+    let mut card = [0u32; card::PROGRAM_WORDS];
+    let mut out = [0u32; PAIR_WORDS];
     let s = listing::list_dump(dump, &mut card, &mut out);
     if s.refusal != 0 {
         return put_refusal(text, s.refusal);
@@ -79,7 +84,7 @@ fn print_text(text: &Text, n: usize) {
 
 // What the program `list` prints for a dump.
 pub fn print_listing(dump: &[u8]) {
-    let mut text = [0u8; 145308];
+    let mut text = [0u8; TEXT_BYTES];
     let n = list_text(dump, &mut text);
     print_text(&text, n);
 }

@@ -49,7 +49,7 @@ pub fn check_text(dump: &[u8], file: &[u8], text: &mut Line) -> usize
     ensures { λ r. ⌜ r ≡ length (checkText (now (dump .entry)) (now (file .entry))) ⌝ }
     ensures { λ r. ⌜ now (text .exit) ≡ checkText (now (dump .entry)) (now (file .entry)) ++ drop (length (checkText (now (dump .entry)) (now (file .entry)))) (now (text .entry)) ⌝ }
 {
-    let mut card = [0u32; 14408];
+    let mut card = [0u32; card::PROGRAM_WORDS];
     let reason = insert_reason::insert_reason_for_file(dump, file, &mut card);
     put_reason(text, reason)
 }

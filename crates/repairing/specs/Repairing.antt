@@ -8,7 +8,7 @@ use Rattle.state.specs.Steps.{isIdle}
 use Rattle.state.specs.declared.State.{State}
 use Rattle.opening.specs.Opening.{openOf}
 use Rattle.table.specs.Calls.{stepOf, repairSteps}
-use Rattle.card.specs.Layout.{greatestNodes}
+use Rattle.card.specs.Layout.{programNodes}
 use Rattle.dump.specs.Dump.{wordsFor, dumpWords, readAnswer}
 use Rattle.dump.specs.declared.Answer.{Answer}
 use Rattle.dump.specs.declared.Answer.the-variants.{Length, Refused as ReadRefused}
@@ -33,7 +33,7 @@ leftBy card s = record { card = card; memory = memoryOf s }
 
 -- the words that the programs have a dump read into: those of 600 nodes
 abbrev pub cardRoom : ℕ
-cardRoom = wordsFor greatestNodes
+cardRoom = wordsFor programNodes
 
 -- the words that a dump was read into, once its card was opened and repaired: "those of the lent slice beyond it are untouched"
 unfoldable pub openedRead : List ℕ → List ℕ → Answer → List ℕ

@@ -92,9 +92,9 @@ fn enter_kind(node: &[u32], low: u32, high: u64, run: u32, root: bool, found: &m
 {
     let kind = node[0];
     match kind {
-        1 => enter_leaf(node, low, high, root, found),
-        2 => enter_inner(node, false, low, run, root, found),
-        3 => enter_inner(node, true, low, run, root, found),
+        card::LEAF => enter_leaf(node, low, high, root, found),
+        card::INTERNAL => enter_inner(node, false, low, run, root, found),
+        card::TAGGED => enter_inner(node, true, low, run, root, found),
         _ => Entry::Refused,
     }
 }
@@ -124,7 +124,7 @@ pub fn enter(
         return Entry::Refused;
     }
     let node = card::node_at(card, m);
-    if node[23] != 0 {
+    if node[card::LAST_WORD] != 0 {
         return Entry::Refused;
     }
     free_nodes::take_out(free, m);

@@ -13,10 +13,10 @@ fn is_repeated(node: &[u32], i: usize) -> bool
     requires { ⌜ (length (now node) ≡ 24) × (i < 11) ⌝ }
     ensures { λ r. ⌜ r ≡ member (getD (now (node .entry)) (1 + i) 0) (drop (i + 1) (keyWords (now (node .entry)))) ⌝ }
 {
-    let key = node[1 + i];
+    let key = node[card::KEYS + i];
     let mut j = i + 1;
-    while j < 11 {
-        if node[1 + j] == key {
+    while j < card::SLOTS {
+        if node[card::KEYS + j] == key {
             return true;
         }
         j += 1;
@@ -39,7 +39,7 @@ fn is_new(node: &[u32], i: usize, least: u32) -> bool
     requires { ⌜ (length (now node) ≡ 24) × (i < 11) × ((getD (now node) (1 + i) 0 ≡ 0) → ⊥) × Least least (drop (i + 1) (keyWords (now node))) ⌝ }
     ensures { λ r. ⌜ r ≡ not (member (getD (now (node .entry)) (1 + i) 0) (drop (i + 1) (keyWords (now (node .entry))))) ⌝ }
 {
-    if node[1 + i] < least {
+    if node[card::KEYS + i] < least {
         return true;
     }
     !is_repeated(node, i)
@@ -64,10 +64,10 @@ pub fn leaf_pairs(node: &[u32], low: u32, high: u64) -> Counted
 {
     let mut least: u32 = 4294967295;
     let mut pairs: usize = 0;
-    let mut i: usize = 11;
+    let mut i: usize = card::SLOTS;
     while 0 < i {
         i -= 1;
-        let key = node[1 + i];
+        let key = node[card::KEYS + i];
         if key != 0 {
             if !is_in_range(key, low, high) {
                 return Counted::Unsound;

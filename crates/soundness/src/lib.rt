@@ -48,7 +48,7 @@ fn child_run(c: usize, run: u32) -> u32
     requires { ⌜ run < depthLimit ⌝ }
     ensures { λ r. ⌜ r ≡ runBelow c run ⌝ }
 {
-    if c == 11 { run + 1 } else { 0 }
+    if c == card::SLOTS { run + 1 } else { 0 }
 }
 
 // The answer for the children as the answer for their parent, which is one level higher where it is not tagged.
@@ -83,7 +83,7 @@ fn range_end(node: &[u32], c: usize, i: usize, from: u32, high: u64) -> RangeEnd
     if c <= i + 1 {
         return RangeEnd::At(high);
     }
-    let key = node[1 + i];
+    let key = node[card::KEYS + i];
     if key <= from {
         return RangeEnd::Wrong;
     }
@@ -133,7 +133,7 @@ fn node_check(
             let kind = node[0];
             let below = child_run(c, run);
             let r = children_check(card, node, n, c, levels - 1, low, high, below, free, found);
-            raise(r, kind == 3)
+            raise(r, kind == card::TAGGED)
         }
     }
 }
@@ -163,7 +163,7 @@ fn children_check(
         let RangeEnd::At(to) = range_end(node, c, i, from, high) else {
             return Checked::Unsound;
         };
-        let m = node[12 + i] as usize;
+        let m = node[card::VALUES + i] as usize;
         let Checked::Sound(its) = node_check(card, n, m, levels, from, to, run, false, free, found)
         else {
             return Checked::Unsound;
@@ -172,7 +172,7 @@ fn children_check(
             return Checked::Unsound;
         }
         height = its;
-        from = node[1 + i];
+        from = node[card::KEYS + i];
         i += 1;
     }
     Checked::Sound(height)

@@ -26,8 +26,8 @@ pub fn unused_is_zero(node: &[u32], c: usize) -> bool
     requires { ⌜ (length (now node) ≡ 24) × (1 ≤ c) × (c ≤ 11) ⌝ }
     ensures { λ r. ⌜ r ≡ unusedZero (now (node .entry)) c ⌝ }
 {
-    if !are_zero(node, c, 12) {
+    if !are_zero(node, c, card::VALUES) {
         return false;
     }
-    are_zero(node, 12 + c, 23)
+    are_zero(node, card::VALUES + c, card::LAST_WORD)
 }

@@ -50,10 +50,10 @@ fn least_above(node: &[u32], after: u32) -> Least
     ensures { λ r. ⌜ leastOf r ≡ leastAbove after (leafPairs (now (node .entry))) ⌝ }
 {
     let mut least = Least::Nothing;
-    let mut i: usize = 11;
+    let mut i: usize = card::SLOTS;
     while 0 < i {
         i -= 1;
-        least = nearer(least, node[1 + i], node[12 + i], after);
+        least = nearer(least, node[card::KEYS + i], node[card::VALUES + i], after);
     }
     least
 }
@@ -72,7 +72,7 @@ fn end_below(node: &[u32], key: u32, end: u64) -> u64
 {
     let i = descent::child_index(node, key);
     if i + 1 < card::child_count(node) {
-        return wide(node[1 + i]);
+        return wide(node[card::KEYS + i]);
     }
     end
 }
@@ -95,7 +95,7 @@ fn range_end(card: &[u32], n: usize, key: u32, root: usize) -> u64
             }
             Look::Inner => {
                 let node = card::node_at(card, m);
-                if node[12] == 0 {
+                if node[card::VALUES] == 0 {
                     return end;
                 }
                 end = end_below(node, key, end);
@@ -103,7 +103,7 @@ fn range_end(card: &[u32], n: usize, key: u32, root: usize) -> u64
                     return end;
                 }
                 left -= 1;
-                m = node[12 + descent::child_index(node, key)] as usize;
+                m = node[card::VALUES + descent::child_index(node, key)] as usize;
             }
         }
     }

@@ -23,11 +23,17 @@ returns-2 c = sym (wrong-word1 _ _ (c .before .before .if1 .left) (c .if2 .taken
 shared-slice-read-if3 : tie.Need-shared-slice-read-if3
 shared-slice-read-if3 c = search needs
 
+cast-if3 : tie.Need-cast-if3
+cast-if3 c = omega arith
+
 returns-3 : tie.Need-returns-3
 returns-3 c = sym (wrong-word2 _ _ (c .before .before .before .before .if1 .left) (c .before .before .if2 .left) (c .if3 .taken))
 
 shared-slice-read-if4 : tie.Need-shared-slice-read-if4
 shared-slice-read-if4 c = search needs
+
+cast-if4 : tie.Need-cast-if4
+cast-if4 c = omega arith
 
 returns-4 : tie.Need-returns-4
 returns-4 c = sym (wrong-word3 _ _ (c .before .before .before .before .before .before .if1 .left) (c .before .before .before .before .if2 .left) (c .before .before .if3 .left) (c .if4 .taken))
@@ -63,8 +69,10 @@ header-refusal-spec =
     cast-if2
     returns-2
     shared-slice-read-if3
+    cast-if3
     returns-3
     shared-slice-read-if4
+    cast-if4
     returns-4
     shared-slice-read-if5
     returns-5
