@@ -1,27 +1,19 @@
 -- Document 01, "The changes": a change that is decided, laid out. Its nodes are given here, and what they hold is read off the card.
-use mathlib.Core.Path.{_≡_}
 use mathlib.Core.Bool.{Bool}
-use mathlib.Core.List.{List}
-use Prim.Native.Nat.{ℕ, _<_}
-use lib.ListN.{getD}
-use Rattle.laws.specs.Lists.{beforeZero}
-use Rattle.descent.specs.declared.Position.{Position}
+use mathlib.Core.List.{List, [], _∷_}
+use Prim.Native.Nat.{ℕ}
+use lib.ListN.{take}
+use Rattle.change_decide.specs.Decide.{leftSibling}
+use Rattle.change_decide.specs.Places.{parentAt, Fits}
 use Rattle.change_decide.specs.declared.Decision.{Decision}
 use Rattle.change_decide.specs.declared.Decision.the-variants.{Refused, Balanced, Absorb, SplitParent, Share, Merge, MergeRoot}
-use Rattle.change_rows.specs.Nodes.{IsNumber}
-use Rattle.change_split.specs.Split.{keysTakenIn, childrenTakenIn}
-use Rattle.plans.specs.Change.{Change, changeStores, absorb, splitParent}
-use Rattle.plans.specs.Planning.{Preparation, refused, balanced, prepared, giving, first, second, third}
-use Rattle.plans.specs.Plan.{storesOf, planIn, onOutcome}
+use Rattle.change_rows.specs.Nodes.{placesLinked, changeWords}
+use Rattle.change_split.specs.Split.{absorbAt, splitParentAt}
+use Rattle.plans.specs.Change.{siblingsCut}
+use Rattle.plans.specs.Planning.{Preparation, refused, balanced, giving}
+use Rattle.plans.specs.declared.Outcome.{Outcome}
+use Rattle.plans.specs.declared.Outcome.the-variants.{Refused as NoStep, Balanced as NoChange, Prepared}
 use Rattle.siblings.specs.Siblings.{shareAt, mergeAt, mergeRootAt}
-use Rattle.change.specs.declared.Laid.{Laid}
-
--- the changes of a tagged node and its parent, over the numbers that they are given
-abbrev pub absorbAt : List ℕ → Position → List ℕ → Change
-absorbAt card p = λ ms. absorb p (keysTakenIn card p) (childrenTakenIn card p) (first ms)
-
-abbrev pub splitParentAt : List ℕ → Position → List ℕ → Change
-splitParentAt card p = λ ms. splitParent p (keysTakenIn card p) (childrenTakenIn card p) (first ms) (second ms) (third ms)
 
 -- "or too few free nodes": refused too, by `giving`
 unfoldable pub layOut : List ℕ → Decision → List Bool → ℕ → Preparation
@@ -33,7 +25,17 @@ layOut card (Share p) free last = giving 3 free last (shareAt card p)
 layOut card (Merge p) free last = giving 2 free last (mergeAt card p)
 layOut card (MergeRoot p) free last = giving 1 free last (mergeRootAt card p)
 
--- ---- in two parts, as the code has them: the numbers, and the change over them
+-- ---- in parts, as the code has them: what each decision alone says, and its places and words over the numbers given
+
+-- whether there is a change at all
+unfoldable pub outcomeOf : Decision → Outcome
+outcomeOf Refused = NoStep
+outcomeOf Balanced = NoChange
+outcomeOf (Absorb p) = Prepared
+outcomeOf (SplitParent p) = Prepared
+outcomeOf (Share p) = Prepared
+outcomeOf (Merge p) = Prepared
+outcomeOf (MergeRoot p) = Prepared
 
 -- how many new nodes a change has
 unfoldable pub needed : Decision → ℕ
@@ -45,25 +47,46 @@ needed (Share p) = 3
 needed (Merge p) = 2
 needed (MergeRoot p) = 1
 
-abbrev pub preparedBy : Change → List Bool → ℕ → Preparation
-preparedBy change free last = prepared (changeStores change) free last (change .cut)
+-- and how many stores
+unfoldable pub storeCount : Decision → ℕ
+storeCount Refused = 0
+storeCount Balanced = 0
+storeCount (Absorb p) = 25
+storeCount (SplitParent p) = 73
+storeCount (Share p) = 73
+storeCount (Merge p) = 49
+storeCount (MergeRoot p) = 25
 
--- over numbers that are given, with the nodes then free and the node given last
-unfoldable pub laidOver : List ℕ → Decision → List ℕ → List Bool → ℕ → Preparation
-laidOver card Refused ms free last = refused
-laidOver card Balanced ms free last = balanced
-laidOver card (Absorb p) ms free last = preparedBy (absorbAt card p ms) free last
-laidOver card (SplitParent p) ms free last = preparedBy (splitParentAt card p ms) free last
-laidOver card (Share p) ms free last = preparedBy (shareAt card p ms) free last
-laidOver card (Merge p) ms free last = preparedBy (mergeAt card p ms) free last
-laidOver card (MergeRoot p) ms free last = preparedBy (mergeRootAt card p ms) free last
+-- the nodes that the last store cuts out
+unfoldable pub cutBy : List ℕ → Decision → List ℕ
+cutBy card Refused = []
+cutBy card Balanced = []
+cutBy card (Absorb p) = p .parent ∷ p .node ∷ []
+cutBy card (SplitParent p) = p .parent ∷ p .node ∷ []
+cutBy card (Share p) = siblingsCut p (parentAt card p) (leftSibling p)
+cutBy card (Merge p) = siblingsCut p (parentAt card p) (leftSibling p)
+cutBy card (MergeRoot p) = siblingsCut p (parentAt card p) (leftSibling p)
 
--- the first so many numbers are nodes'
-abbrev pub Numbered : ℕ → List ℕ → Type 0
-Numbered count ms = (i : ℕ) → i < count → IsNumber (getD ms i 0)
+-- the places of the stores, by the numbers given and the link alone
+unfoldable pub placesBy : Decision → List ℕ → List ℕ
+placesBy Refused ms = []
+placesBy Balanced ms = []
+placesBy (Absorb p) ms = placesLinked (take 1 ms) (p .above)
+placesBy (SplitParent p) ms = placesLinked (take 3 ms) (p .above)
+placesBy (Share p) ms = placesLinked (take 3 ms) (p .above)
+placesBy (Merge p) ms = placesLinked (take 2 ms) (p .above)
+placesBy (MergeRoot p) ms = placesLinked (take 1 ms) (p .above)
 
--- what is laid out in two rows, whatever nodes are then free and whichever was given last
-abbrev pub LaidIn : List ℕ → List ℕ → Laid → (List Bool → ℕ → Preparation) → Type 0
-LaidIn places values r planned =
-    (free : List Bool) (last : ℕ)
-    → onOutcome (r .outcome) (prepared (storesOf (planIn places values (r .count))) free last (beforeZero (r .cut))) ≡ planned free last
+-- the words that go there
+unfoldable pub wordsBy : List ℕ → Decision → List ℕ → List ℕ
+wordsBy card Refused ms = []
+wordsBy card Balanced ms = []
+wordsBy card (Absorb p) ms = changeWords (absorbAt card p ms)
+wordsBy card (SplitParent p) ms = changeWords (splitParentAt card p ms)
+wordsBy card (Share p) ms = changeWords (shareAt card p ms)
+wordsBy card (Merge p) ms = changeWords (mergeAt card p ms)
+wordsBy card (MergeRoot p) ms = changeWords (mergeRootAt card p ms)
+
+-- a decision that is made on some card
+abbrev pub FitsSome : Decision → Type 0
+FitsSome d = (card : List ℕ) × Fits card d

@@ -1,6 +1,7 @@
 // Document 01, "The changes": a change that is decided, laid out as the stores that a step then makes one by one. The nodes are given
 // first: "A change takes the next free node after the one given last".
 use change_decide::Decision;
+use change_rows::nodes;
 use change_split::split::lay_split_leaf;
 use change_split::tagged::cut_tagged;
 use change_split::tagged::lay_absorb;
@@ -16,17 +17,18 @@ use siblings::lay_merge;
 use siblings::lay_merge_root;
 use siblings::lay_share;
 ghost use mathlib.Core.Path.{_≡_};
-ghost use mathlib.Core.List.{[], _∷_};
+ghost use mathlib.Core.List.{[], _∷_, _++_};
 ghost use Prim.Native.Nat.{_+_, _*_, _^_, _≤_, _<_};
-ghost use lib.ListN.{length};
-ghost use Rattle.laws.specs.Sorting.{sort};
+ghost use lib.ListN.{length, drop};
+ghost use Rattle.laws.specs.Lists.{beforeZero};
 ghost use Rattle.card.specs.Layout.{greatestNodes, place, leafPairs};
 ghost use Rattle.free_nodes.specs.NodeSet.{nodesOf};
-ghost use Rattle.plans.specs.Change.{splitLeaf};
-ghost use Rattle.plans.specs.Planning.{prepared, giving, first, second, third};
+ghost use Rattle.plans.specs.Planning.{prepared, giving};
 ghost use Rattle.plans.specs.Plan.{preparationOf};
 ghost use Rattle.change_decide.specs.Places.{Fits};
-ghost use Rattle.change.specs.LayOut.{layOut, needed, laidOver, Numbered, LaidIn};
+ghost use Rattle.change_rows.specs.Nodes.{Numbered};
+ghost use Rattle.change_split.specs.Split.{splitLeafOf};
+ghost use Rattle.change.specs.LayOut.{layOut, FitsSome, needed, storeCount, outcomeOf, cutBy, placesBy, wordsBy};
 ghost use Rattle.change.specs.Mending.{nextRepair};
 
 // "node m begins at word 8 + 24 × (m − 1)": the place of its word i.
@@ -92,14 +94,15 @@ pub fn split_leaf(
         × (length (now places) ≡ 73) × (length (now values) ≡ 73) ⌝ }
     ensures { λ r. ⌜ preparationOf (now (places .exit)) (now (values .exit)) r
         ≡ giving 3 (nodesOf (free .words)) last
-        (λ ms. splitLeaf m link (sort ((key, value) ∷ leafPairs (now (leaf .entry)))) (first ms) (second ms) (third ms)) ⌝ }
+        (splitLeafOf m link key value (now (leaf .entry))) ⌝ }
 {
     let given = give(free, last, 3);
     if !given.enough {
         return refused(free, last);
     }
     let nodes = given.nodes;
-    lay_split_leaf(leaf, link, key, value, nodes, places, values);
+    nodes::lay_places(places, nodes, 3, link);
+    lay_split_leaf(leaf, link, key, value, nodes, values);
     let fewer = given.free;
     Planned {
         outcome: Outcome::Prepared,
@@ -125,75 +128,81 @@ fn nodes_needed(decision: Decision) -> usize
     }
 }
 
-// What is laid out in the rows: how many stores, and the nodes that the last of them cuts out of the tree.
-struct Laid {
-    outcome: Outcome,
-    count: usize,
-    cut: [u32; 3],
-}
-
-// A change over its new nodes: what they hold is read off the card.
-fn lay_decided(
-    card: &[u32],
-    decision: Decision,
-    nodes: [u32; 3],
-    places: &mut [u32],
-    values: &mut [u32],
-) -> Laid
-    requires { ⌜ Fits (now card) decision × Numbered (needed decision) nodes × (length (now places) ≡ 73) × (length (now values) ≡ 73) ⌝ }
-    ensures { λ r. ⌜ LaidIn (now (places .exit)) (now (values .exit)) r (λ free last. laidOver (now (card .entry)) decision nodes free last) ⌝ }
+// How many stores it makes: "words 0 to 23 of each in order; a single link store .. comes last".
+fn store_count(decision: Decision) -> usize
+    ensures { λ r. ⌜ r ≡ storeCount decision ⌝ }
 {
     match decision {
-        Decision::Refused => Laid {
-            outcome: Outcome::Refused,
-            count: 0,
-            cut: [0; 3],
-        },
-        Decision::Balanced => Laid {
-            outcome: Outcome::Balanced,
-            count: 0,
-            cut: [0; 3],
-        },
-        Decision::Absorb(p) => {
-            lay_absorb(card, p, nodes, &mut places[0..25], &mut values[0..25]);
-            Laid {
-                outcome: Outcome::Prepared,
-                count: 25,
-                cut: cut_tagged(p),
-            }
-        }
-        Decision::SplitParent(p) => {
-            lay_split_parent(card, p, nodes, places, values);
-            Laid {
-                outcome: Outcome::Prepared,
-                count: 73,
-                cut: cut_tagged(p),
-            }
-        }
-        Decision::Share(p) => {
-            lay_share(card, p, nodes, places, values);
-            Laid {
-                outcome: Outcome::Prepared,
-                count: 73,
-                cut: cut_siblings(card, p),
-            }
-        }
-        Decision::Merge(p) => {
-            lay_merge(card, p, nodes, &mut places[0..49], &mut values[0..49]);
-            Laid {
-                outcome: Outcome::Prepared,
-                count: 49,
-                cut: cut_siblings(card, p),
-            }
-        }
-        Decision::MergeRoot(p) => {
-            lay_merge_root(card, p, nodes, &mut places[0..25], &mut values[0..25]);
-            Laid {
-                outcome: Outcome::Prepared,
-                count: 25,
-                cut: cut_siblings(card, p),
-            }
-        }
+        Decision::Refused => 0,
+        Decision::Balanced => 0,
+        Decision::Absorb(p) => 25,
+        Decision::SplitParent(p) => 73,
+        Decision::Share(p) => 73,
+        Decision::Merge(p) => 49,
+        Decision::MergeRoot(p) => 25,
+    }
+}
+
+// Whether there is a change at all.
+fn outcome_of(decision: Decision) -> Outcome
+    ensures { λ r. ⌜ r ≡ outcomeOf decision ⌝ }
+{
+    match decision {
+        Decision::Refused => Outcome::Refused,
+        Decision::Balanced => Outcome::Balanced,
+        Decision::Absorb(p) => Outcome::Prepared,
+        Decision::SplitParent(p) => Outcome::Prepared,
+        Decision::Share(p) => Outcome::Prepared,
+        Decision::Merge(p) => Outcome::Prepared,
+        Decision::MergeRoot(p) => Outcome::Prepared,
+    }
+}
+
+// The nodes that the last store cuts out of the tree.
+fn cut_of(card: &[u32], decision: Decision) -> [u32; 3]
+    requires { ⌜ Fits (now card) decision ⌝ }
+    ensures { λ r. ⌜ beforeZero r ≡ cutBy (now (card .entry)) decision ⌝ }
+{
+    match decision {
+        Decision::Refused => [0; 3],
+        Decision::Balanced => [0; 3],
+        Decision::Absorb(p) => cut_tagged(p),
+        Decision::SplitParent(p) => cut_tagged(p),
+        Decision::Share(p) => cut_siblings(card, p),
+        Decision::Merge(p) => cut_siblings(card, p),
+        Decision::MergeRoot(p) => cut_siblings(card, p),
+    }
+}
+
+// The places of its stores, at the front of the row. They go by the numbers of the new nodes and by the link alone.
+fn lay_places(decision: Decision, nodes: [u32; 3], places: &mut [u32])
+    requires { ⌜ FitsSome decision × Numbered (needed decision) nodes × (length (now places) ≡ 73) ⌝ }
+    ensures { λ _. ⌜ now (places .exit) ≡ placesBy decision nodes ++ drop (storeCount decision) (now (places .entry)) ⌝ }
+{
+    match decision {
+        Decision::Refused => {}
+        Decision::Balanced => {}
+        Decision::Absorb(p) => nodes::lay_places(places, nodes, 1, p.above),
+        Decision::SplitParent(p) => nodes::lay_places(places, nodes, 3, p.above),
+        Decision::Share(p) => nodes::lay_places(places, nodes, 3, p.above),
+        Decision::Merge(p) => nodes::lay_places(places, nodes, 2, p.above),
+        Decision::MergeRoot(p) => nodes::lay_places(places, nodes, 1, p.above),
+    }
+}
+
+// The words that go there, at the front of the row: what the new nodes hold is read off the card.
+fn lay_values(card: &[u32], decision: Decision, nodes: [u32; 3], values: &mut [u32])
+    requires { ⌜ Fits (now card) decision × (length (now values) ≡ 73) ⌝ }
+    ensures { λ _. ⌜ now (values .exit) ≡ wordsBy (now (card .entry)) decision nodes ++ drop (storeCount decision) (now (values .entry)) ⌝ }
+{
+    match decision {
+        Decision::Refused => {}
+        Decision::Balanced => {}
+        Decision::Absorb(p) => lay_absorb(card, p, nodes, values),
+        Decision::SplitParent(p) => lay_split_parent(card, p, nodes, values),
+        Decision::Share(p) => lay_share(card, p, nodes, values),
+        Decision::Merge(p) => lay_merge(card, p, nodes, values),
+        Decision::MergeRoot(p) => lay_merge_root(card, p, nodes, values),
     }
 }
 
@@ -215,13 +224,14 @@ pub fn lay_out(
         return refused(free, last);
     }
     let nodes = given.nodes;
-    let laid = lay_decided(card, decision, nodes, places, values);
+    lay_places(decision, nodes, places);
+    lay_values(card, decision, nodes, values);
     let fewer = given.free;
-    let outcome = laid.outcome;
-    let cut = laid.cut;
+    let outcome = outcome_of(decision);
+    let cut = cut_of(card, decision);
     Planned {
         outcome,
-        count: laid.count,
+        count: store_count(decision),
         free: fewer,
         last: given.last,
         cut,

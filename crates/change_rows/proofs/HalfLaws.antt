@@ -1,18 +1,18 @@
 -- Laws of what two nodes hold together, shared out.
-use mathlib.Core.Path.{_≡_, refl, ap, ap₂, sym, _∙_, subst}
-use mathlib.Core.List.{List, [], _++_, append-nil}
+use mathlib.Core.Path.{_≡_, ap, ap₂, sym, _∙_}
+use mathlib.Core.List.{List, _++_, append-nil}
 use mathlib.Core.Bool.{Bool, true, false}
 use Prim.Native.Nat.{ℕ, _+_, _-_, _/_, _≤_, _<_}
 use native.Mathlib.Omega.{arith}
-use lib.ListN.{length, take, drop, length-take, length-drop}
+use lib.ListN.{length, getD, take, drop}
 use lib.Dec.{eqb}
 use borrow.Author.Tests.{ne-eqb, eq-eqb}
 use Rattle.laws.specs.Cases.{pick}
-use Rattle.card.specs.Stores.{newNode}
-use Rattle.change_rows.specs.Nodes.{IsNew, newPlaces, newWords}
-use Rattle.change_rows.specs.Halves.{keysFor, largerHalf, Whole, leftOf, rightOf, halved}
-use Rattle.change_rows.proofs.NodeLaws.{AllFew}
-use Rattle.change_rows.proofs.RowLaws.{take-start, drop-end, lay-next}
+use Rattle.card.specs.Layout.{nodeImage}
+use Rattle.plans.specs.Change.{Together, half, leftKeys, keyBetween, halves}
+use Rattle.change_rows.specs.Nodes.{newWords}
+use Rattle.change_rows.specs.Halves.{together, keysFor, Whole, leftWords, rightWords, halvesWords}
+use Rattle.change_rows.proofs.RowLaws.{take-start, drop-end}
 
 pub keys-leaf : (kind v : ℕ) → kind ≡ 1 → v ≡ keysFor kind v
 unfolding keysFor
@@ -71,46 +71,25 @@ whole-counts kind keys beside k w e =
       keys-right = omega (arith, s .2);
     }
 
-module _ (places words keys beside : List ℕ) (kind m : ℕ) where
-  pub left-new : (k : ℕ) → k ≡ keysFor kind ((length beside + 1) / 2)
-      → IsNew places words (newNode m kind (take (k - 0) keys) (take ((length beside + 1) / 2 - 0) beside))
-      → IsNew places words (leftOf kind keys beside m)
-  unfolding leftOf largerHalf
-  left-new k e =
-      subst (IsNew places words)
-      (ap₂ (newNode m kind) (take-start k keys ∙ ap (λ (n : ℕ). take n keys) e) (take-start ((length beside + 1) / 2) beside))
+-- what the code cuts out for the two, and the key between them
+module _ (kind : ℕ) (keys beside : List ℕ) where
+  pub left-cut : (k : ℕ) → k ≡ keysFor kind ((length beside + 1) / 2)
+      → nodeImage kind (take (k - 0) keys) (take ((length beside + 1) / 2 - 0) beside) ≡ leftWords (together kind keys beside)
+  unfolding leftWords leftKeys half keysFor
+  left-cut k e = ap₂ (nodeImage kind) (take-start k keys ∙ ap (λ (n : ℕ). take n keys) e) (take-start ((length beside + 1) / 2) beside)
 
-  pub right-new : IsNew places words (
-      newNode m kind
+  pub right-cut : nodeImage kind
       (take (length keys - (length beside + 1) / 2) (drop ((length beside + 1) / 2) keys))
-      (take (length beside - (length beside + 1) / 2) (drop ((length beside + 1) / 2) beside)))
-      → IsNew places words (rightOf kind keys beside m)
-  unfolding rightOf largerHalf
-  right-new = subst (IsNew places words) (ap₂ (newNode m kind) (drop-end ((length beside + 1) / 2) keys) (drop-end ((length beside + 1) / 2) beside))
+      (take (length beside - (length beside + 1) / 2) (drop ((length beside + 1) / 2) beside))
+      ≡ rightWords (together kind keys beside)
+  unfolding rightWords half
+  right-cut = ap₂ (nodeImage kind) (drop-end ((length beside + 1) / 2) keys) (drop-end ((length beside + 1) / 2) beside)
 
--- the rows of the two nodes, at the front of both rows
-two-laid : (d a b one two : List ℕ) → length a ≡ 24 → a ≡ one → b ≡ two
-    → take 24 (a ++ drop 24 d) ++ (b ++ drop 24 (drop 24 (a ++ drop 24 d))) ≡ one ++ (two ++ []) ++ drop 48 d
-two-laid d a b one two l e f =
-    lay-next d a b 24 24 l ∙ ap₂ (λ (x y : List ℕ). x ++ y ++ drop 48 d) e (f ∙ sym (append-nil two))
+  pub key-read : (k : ℕ) → k ≡ keysFor kind ((length beside + 1) / 2) → getD keys k 0 ≡ keyBetween (together kind keys beside)
+  unfolding keyBetween leftKeys half keysFor
+  key-read k e = ap (λ (i : ℕ). getD keys i 0) e
 
-module _ (places words places₁ words₁ places₂ words₂ : List ℕ) (kind : ℕ) (keys beside : List ℕ) (a b : ℕ) where
-  pub halves-laid : length places₁ ≡ 24 → length words₁ ≡ 24 → IsNew places₁ words₁ (leftOf kind keys beside a)
-      → IsNew places₂ words₂ (rightOf kind keys beside b)
-      → (take 24 (places₁ ++ drop 24 places) ++ (places₂ ++ drop 24 (drop 24 (places₁ ++ drop 24 places)))
-      ≡ newPlaces (halved kind keys beside a b) ++ drop 48 places)
-      × (take 24 (words₁ ++ drop 24 words) ++ (words₂ ++ drop 24 (drop 24 (words₁ ++ drop 24 words)))
-      ≡ newWords (halved kind keys beside a b) ++ drop 48 words)
-  unfolding newPlaces newWords halved
-  halves-laid h l left right =
-      (two-laid places places₁ places₂ _ _ h (left .at) (right .at), two-laid words words₁ words₂ _ _ l (left .image) (right .image))
-
--- each of the two has at most eleven of both
-pub halved-few : (kind : ℕ) (keys beside : List ℕ) (a b : ℕ) → Whole kind keys beside → AllFew (halved kind keys beside a b)
-unfolding halved leftOf rightOf largerHalf
-halved-few kind keys beside a b w =
-    let n = whole-counts kind keys beside (keysFor kind ((length beside + 1) / 2)) w refl in (
-      omega (arith, length-take (keysFor kind ((length beside + 1) / 2)) keys),
-      omega (arith, length-take ((length beside + 1) / 2) beside),
-      (omega (arith, length-drop ((length beside + 1) / 2) keys), omega (arith, length-drop ((length beside + 1) / 2) beside), tt),
-    )
+-- the words of the two are those of two new nodes, whatever their numbers
+pub halves-words : (both : Together) (a b : ℕ) → halvesWords both ≡ newWords (halves both a b)
+unfolding leftWords rightWords newWords halves
+halves-words both a b = ap (λ (l : List ℕ). leftWords both ++ l) (sym (append-nil (rightWords both)))

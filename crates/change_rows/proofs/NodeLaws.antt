@@ -1,17 +1,18 @@
--- Laws of a new node's places and words.
+-- Laws of new nodes' places and words, and of the rows of a change.
 use mathlib.Core.Path.{_≡_, refl, ap, ap₂, sym, _∙_}
-use mathlib.Core.List.{List, [], _∷_, _++_, zip, zipWith, append-nil, append-assoc}
+use mathlib.Core.List.{List, [], _∷_, _++_, map, zip, zipWith, append-nil, append-assoc}
 use Prim.Native.Nat.{ℕ, zero, suc, _+_, _-_, _*_, _≤_, _<_}
 use native.Mathlib.Omega.{arith}
-use lib.ListN.{length, set, getD, take, drop, drop-of-length-le, length-append, length-drop}
-use lib.Seq.{drop-cons, set-at, take-at, drop-at}
+use native.Mathlib.Numerals.{add-one}
+use lib.ListN.{length, set, getD, take, drop, replicate, drop-of-length-le, length-append, length-drop, length-map, length-replicate}
+use lib.Seq.{drop-cons, set-at, take-at, drop-at, length-take-le, take-suc}
 use Rattle.laws.specs.Lists.{pad}
 use Rattle.laws.proofs.Lists.{length-pad}
 use Rattle.card.specs.Layout.{place, nodeImage, children}
 use Rattle.card.specs.Stores.{Store, stores, NewNode, nodeStores}
-use Rattle.card.proofs.Stores.{length-node-image}
 use Rattle.card.proofs.NodeLaws.{children-words}
-use Rattle.change_rows.specs.Nodes.{countFrom, nodePlaces, IsNew, newPlaces, newWords}
+use Rattle.plans.specs.Change.{Change, changeStores}
+use Rattle.change_rows.specs.Nodes.{countFrom, nodePlaces, placesOf, imageOf, newWords, changePlaces, changeWords, changeLength}
 use Rattle.change_rows.proofs.RowLaws.{lay-next}
 
 length-count : (k p : ℕ) → length (countFrom k p) ≡ k
@@ -40,12 +41,6 @@ zip-stores zero p (w ∷ ws) e = absurd (omega arith)
 zip-stores (suc k) p [] e = absurd (omega arith)
 zip-stores (suc k) p (w ∷ ws) e = ap (λ (l : List Store). (p, w) ∷ l) (zip-stores k (suc p) ws (omega arith))
 
--- the two rows of a node are its stores
-node-stores : (m kind : ℕ) (keys beside : List ℕ) → length keys ≤ 11 → length beside ≤ 11
-    → zip (nodePlaces m) (nodeImage kind keys beside) ≡ stores (place m 0) (nodeImage kind keys beside)
-unfolding nodePlaces
-node-stores m kind keys beside h l = zip-stores 24 (place m 0) (nodeImage kind keys beside) (length-node-image kind keys beside h l)
-
 -- ---- nodes one after the other
 
 zip-append : (a b c d : List ℕ) → length a ≡ length c → zip (a ++ b) (c ++ d) ≡ zip a c ++ zip b d
@@ -55,96 +50,108 @@ zip-append [] b (z ∷ c) d e = absurd (omega arith)
 zip-append (x ∷ a) b [] d e = absurd (omega arith)
 zip-append (x ∷ a) b (z ∷ c) d e = ap (λ (l : List Store). (x, z) ∷ l) (zip-append a b c d (omega arith))
 
--- each node has at most eleven keys and eleven values or children
-abbrev pub AllFew : List NewNode → Type 0
-AllFew [] = Unit
-AllFew (x ∷ xs) = (length (x .keys) ≤ 11) × (length (x .values) ≤ 11) × AllFew xs
+pub length-places-of : (ms : List ℕ) → length (placesOf ms) ≡ 24 * length ms
+unfolding placesOf
+length-places-of [] = refl
+length-places-of (m ∷ ms) = length-append (nodePlaces m) (placesOf ms) ∙ omega (arith, length-places m, length-places-of ms)
 
-length-new-places : (xs : List NewNode) → length (newPlaces xs) ≡ 24 * length xs
-unfolding newPlaces
-length-new-places [] = refl
-length-new-places (x ∷ xs) = length-append (nodePlaces (x .number)) (newPlaces xs) ∙ omega (arith, length-places (x .number), length-new-places xs)
+-- one node more
+pub places-more : (ms : List ℕ) (m : ℕ) → placesOf (ms ++ m ∷ []) ≡ placesOf ms ++ nodePlaces m
+unfolding placesOf
+places-more [] m = append-nil (nodePlaces m)
+places-more (x ∷ ms) m = ap (λ (l : List ℕ). nodePlaces x ++ l) (places-more ms m) ∙ sym (append-assoc (nodePlaces x) (placesOf ms) (nodePlaces m))
 
-length-new-words : (xs : List NewNode) → AllFew xs → length (newWords xs) ≡ 24 * length xs
+-- the places of the next of some nodes, in the part of the row that was lent for them
+pub places-next : (d row part nodes : List ℕ) (i k : ℕ) → i < length nodes → row ≡ placesOf (take i nodes) ++ drop (24 * i) d → k ≡ 24
+    → part ≡ nodePlaces (getD nodes i 0) → take (24 * i) row ++ (part ++ drop k (drop (24 * i) row)) ≡ placesOf (take (i + 1) nodes) ++ drop (24 * (i + 1)) d
+places-next d row part nodes i k h e size f =
+    let front : length (placesOf (take i nodes)) ≡ 24 * i = length-places-of (take i nodes) ∙ ap (λ (n : ℕ). 24 * n) (length-take-le i nodes (omega arith)) in
+    ap (λ (r : List ℕ). take (24 * i) r ++ (part ++ drop k (drop (24 * i) r))) e
+    ∙ lay-next d (placesOf (take i nodes)) part (24 * i) k front
+    ∙ ap₂ (λ (l : List ℕ) (n : ℕ). l ++ drop n d)
+    (ap (λ (l : List ℕ). placesOf (take i nodes) ++ l) f ∙ sym (places-more (take i nodes) (getD nodes i 0)) ∙ ap placesOf (sym (ap (λ (n : ℕ). take n nodes) (add-one i) ∙ take-suc nodes i 0 h)))
+    (let z : 24 * i + k ≡ 24 * (i + 1) = omega arith in z)
+
+words-more : (xs : List NewNode) (x : NewNode) → newWords (xs ++ x ∷ []) ≡ newWords xs ++ imageOf x
 unfolding newWords
-length-new-words [] h = refl
-length-new-words (x ∷ xs) h =
-    length-append (nodeImage (x .kind) (x .keys) (x .values)) (newWords xs)
-    ∙ omega (arith, length-node-image (x .kind) (x .keys) (x .values) (h .0) (h .1), length-new-words xs (h .2))
+words-more [] x = append-nil (imageOf x)
+words-more (y ∷ xs) x = ap (λ (l : List ℕ). imageOf y ++ l) (words-more xs x) ∙ sym (append-assoc (imageOf y) (newWords xs) (imageOf x))
 
-new-stores : (xs : List NewNode) → AllFew xs → zip (newPlaces xs) (newWords xs) ≡ nodeStores xs
-unfolding newPlaces newWords zip zipWith
-new-stores [] h = refl
-new-stores (x ∷ xs) h =
-    zip-append (nodePlaces (x .number)) (newPlaces xs) (nodeImage (x .kind) (x .keys) (x .values)) (newWords xs)
-    (length-places (x .number) ∙ sym (length-node-image (x .kind) (x .keys) (x .values) (h .0) (h .1)))
-    ∙ ap₂ (λ (a b : List Store). a ++ b) (node-stores (x .number) (x .kind) (x .keys) (x .values) (h .0) (h .1)) (new-stores xs (h .2))
+-- a node has at least 24 words, so that where nodes have as many as they should each has just 24
+least-padded : (l : List ℕ) → 11 ≤ length (pad 11 l)
+least-padded l = omega (arith, length-append l (replicate (11 - length l) 0), length-replicate {A = ℕ} (11 - length l) 0)
 
--- one node more after those at the front of a row
-new-places-more : (xs : List NewNode) (x : NewNode) → newPlaces (xs ++ x ∷ []) ≡ newPlaces xs ++ nodePlaces (x .number)
-unfolding newPlaces
-new-places-more [] x = append-nil (nodePlaces (x .number))
-new-places-more (y ∷ xs) x =
-    ap (λ (l : List ℕ). nodePlaces (y .number) ++ l) (new-places-more xs x)
-    ∙ sym (append-assoc (nodePlaces (y .number)) (newPlaces xs) (nodePlaces (x .number)))
+least-image : (x : NewNode) → 24 ≤ length (imageOf x)
+unfolding nodeImage
+least-image x =
+    omega (
+      arith,
+      length-append (pad 11 (x .keys)) (pad 11 (x .values) ++ 0 ∷ []),
+      length-append (pad 11 (x .values)) (0 ∷ []),
+      least-padded (x .keys),
+      least-padded (x .values),
+    )
 
-new-words-more : (xs : List NewNode) (x : NewNode) → newWords (xs ++ x ∷ []) ≡ newWords xs ++ nodeImage (x .kind) (x .keys) (x .values)
+least-words : (xs : List NewNode) → 24 * length xs ≤ length (newWords xs)
 unfolding newWords
-new-words-more [] x = append-nil (nodeImage (x .kind) (x .keys) (x .values))
-new-words-more (y ∷ xs) x =
-    ap (λ (l : List ℕ). nodeImage (y .kind) (y .keys) (y .values) ++ l) (new-words-more xs x)
-    ∙ sym (append-assoc (nodeImage (y .kind) (y .keys) (y .values)) (newWords xs) (nodeImage (x .kind) (x .keys) (x .values)))
+least-words [] = omega arith
+least-words (x ∷ xs) = omega (arith, length-append (imageOf x) (newWords xs), least-image x, least-words xs)
 
-module _ (xs : List NewNode) (x : NewNode) (n : ℕ) (d part : List ℕ) (size : n ≡ 24 * length xs) where
-  places-next : part ≡ nodePlaces (x .number)
-      → take n (newPlaces xs ++ drop n d) ++ (part ++ drop 24 (drop n (newPlaces xs ++ drop n d))) ≡ newPlaces (xs ++ x ∷ []) ++ drop (n + 24) d
-  places-next e =
-      lay-next d (newPlaces xs) part n 24 (length-new-places xs ∙ sym size)
-      ∙ ap (λ (l : List ℕ). l ++ drop (n + 24) d) (ap (λ (l : List ℕ). newPlaces xs ++ l) e ∙ sym (new-places-more xs x))
+new-stores : (xs : List NewNode) → length (newWords xs) ≡ 24 * length xs → zip (placesOf (map (λ x. x .number) xs)) (newWords xs) ≡ nodeStores xs
+unfolding placesOf newWords zip zipWith nodePlaces
+new-stores [] e = refl
+new-stores (x ∷ xs) e =
+    let long = length-append (imageOf x) (newWords xs) in
+    let one : length (imageOf x) ≡ 24 = omega (arith, least-image x, least-words xs) in
+    zip-append (nodePlaces (x .number)) (placesOf (map (λ y. y .number) xs)) (imageOf x) (newWords xs) (length-places (x .number) ∙ sym one)
+    ∙ ap₂ (λ (a b : List Store). a ++ b) (zip-stores 24 (place (x .number) 0) (imageOf x) one) (new-stores xs (omega (arith, least-image x)))
 
-  words-next : AllFew xs → part ≡ nodeImage (x .kind) (x .keys) (x .values)
-      → take n (newWords xs ++ drop n d) ++ (part ++ drop 24 (drop n (newWords xs ++ drop n d))) ≡ newWords (xs ++ x ∷ []) ++ drop (n + 24) d
-  words-next h e =
-      lay-next d (newWords xs) part n 24 (length-new-words xs h ∙ sym size)
-      ∙ ap (λ (l : List ℕ). l ++ drop (n + 24) d) (ap (λ (l : List ℕ). newWords xs ++ l) e ∙ sym (new-words-more xs x))
+length-numbers : (xs : List NewNode) → length (map (λ x. x .number) xs) ≡ length xs
+length-numbers xs = length-map xs (λ x. x .number)
 
--- the link after them: "a single link store .. comes last"
-link-stores : (xs : List NewNode) (link top : ℕ) → AllFew xs
-    → zip (newPlaces xs ++ link ∷ []) (newWords xs ++ top ∷ []) ≡ nodeStores xs ++ (link, top) ∷ []
-unfolding zip zipWith
-link-stores xs link top h =
-    zip-append (newPlaces xs) (link ∷ []) (newWords xs) (top ∷ []) (length-new-places xs ∙ sym (length-new-words xs h))
-    ∙ ap (λ (l : List Store). l ++ (link, top) ∷ []) (new-stores xs h)
+-- ---- the rows of a change
 
-row-linked : (d front : List ℕ) (n x : ℕ) → length front ≡ n → length d ≡ n + 1 → set (front ++ drop n d) n x ≡ front ++ x ∷ []
+pub length-change-places : (ch : Change) → length (changePlaces ch) ≡ changeLength ch
+unfolding changePlaces changeLength
+length-change-places ch =
+    let ms = map (λ x. x .number) (ch .nodes) in
+    length-append (placesOf ms) (ch .link ∷ []) ∙ omega (arith, length-places-of ms, length-numbers (ch .nodes))
+
+-- places and words are the stores, where there are as many words as there should be
+pub change-stores : (ch : Change) → length (changeWords ch) ≡ changeLength ch → zip (changePlaces ch) (changeWords ch) ≡ changeStores ch
+unfolding changePlaces changeWords changeLength changeStores zip zipWith
+change-stores ch e =
+    let ms = map (λ x. x .number) (ch .nodes) in
+    let words : length (newWords (ch .nodes)) ≡ 24 * length (ch .nodes) = omega (arith, length-append (newWords (ch .nodes)) (ch .top ∷ [])) in
+    zip-append (placesOf ms) (ch .link ∷ []) (newWords (ch .nodes)) (ch .top ∷ []) (length-places-of ms ∙ ap (λ (k : ℕ). 24 * k) (length-numbers (ch .nodes)) ∙ sym words)
+    ∙ ap (λ (l : List Store). l ++ (ch .link, ch .top) ∷ []) (new-stores (ch .nodes) words)
+
+-- what is at the front of a row that is as long as before is as long as what it replaces
+pub front-length : (row front d : List ℕ) (n : ℕ) → row ≡ front ++ drop n d → length row ≡ length d → n ≤ length d → length front ≡ n
+front-length row front d n e l h = omega (arith, ap length e, length-append front (drop n d), length-drop n d)
+
+-- one word after those at the front of a row
+pub row-linked : (d front : List ℕ) (n x : ℕ) → length front ≡ n → n < length d → set (front ++ drop n d) n x ≡ (front ++ x ∷ []) ++ drop (n + 1) d
 row-linked d front n x e l =
-    ap (λ (r : List ℕ). set (front ++ r) n x)
-    (drop-cons d n 0 (omega arith) ∙ ap (λ (r : List ℕ). getD d n 0 ∷ r) (drop-of-length-le d {i = suc n} (omega arith)))
-    ∙ set-at front (getD d n 0) [] x n e
+    ap (λ (r : List ℕ). set (front ++ r) n x) (drop-cons d n 0 l)
+    ∙ set-at front (getD d n 0) (drop (suc n) d) x n e
+    ∙ ap (λ (k : ℕ). front ++ x ∷ drop k d) (sym (add-one n))
+    ∙ sym (append-assoc front (x ∷ []) (drop (n + 1) d))
 
-all-few-more : (xs : List NewNode) (x : NewNode) → AllFew xs → length (x .keys) ≤ 11 → length (x .values) ≤ 11 → AllFew (xs ++ x ∷ [])
-all-few-more [] x h k v = (k, v, tt)
-all-few-more (y ∷ xs) x h k v = (h .0, h .1, all-few-more xs x (h .2) k v)
-
--- the rows of a change: nodes at the front, one node more, and the link
-module _ (xs : List NewNode) (x : NewNode) (n k : ℕ) (places words part image : List ℕ) (link top : ℕ) (size : n ≡ 24 * length xs) (end : k ≡ n + 24) where
-  pub change-laid : (row row′ : List ℕ) → length places ≡ k + 1 → length words ≡ k + 1 → AllFew xs → length (x .keys) ≤ 11 → length (x .values) ≤ 11
-      → row ≡ newPlaces xs ++ drop n places → row′ ≡ newWords xs ++ drop n words → IsNew part image x
-      → zip (set (take n row ++ (part ++ drop 24 (drop n row))) k link) (set (take n row′ ++ (image ++ drop 24 (drop n row′))) k top)
-      ≡ nodeStores (xs ++ x ∷ []) ++ (link, top) ∷ []
-  change-laid row row′ lp lw few fk fv e f new =
-      let all : AllFew (xs ++ x ∷ []) = all-few-more xs x few fk fv in
-      let more : length (xs ++ x ∷ []) ≡ length xs + 1 = length-append xs (x ∷ []) in
-      let one : take n row ++ (part ++ drop 24 (drop n row)) ≡ newPlaces (xs ++ x ∷ []) ++ drop k places =
-      ap (λ (r : List ℕ). take n r ++ (part ++ drop 24 (drop n r))) e ∙ places-next xs x n places part size (new .at)
-      ∙ ap (λ (i : ℕ). newPlaces (xs ++ x ∷ []) ++ drop i places) (sym end) in
-      let two : take n row′ ++ (image ++ drop 24 (drop n row′)) ≡ newWords (xs ++ x ∷ []) ++ drop k words =
-      ap (λ (r : List ℕ). take n r ++ (image ++ drop 24 (drop n r))) f ∙ words-next xs x n words image size few (new .image)
-      ∙ ap (λ (i : ℕ). newWords (xs ++ x ∷ []) ++ drop i words) (sym end) in
-      ap₂ (λ (a b : List ℕ). zip (set a k link) (set b k top)) one two
-      ∙ ap₂ zip (row-linked places (newPlaces (xs ++ x ∷ [])) k link (length-new-places (xs ++ x ∷ []) ∙ omega arith) lp)
-      (row-linked words (newWords (xs ++ x ∷ [])) k top (length-new-words (xs ++ x ∷ []) all ∙ omega arith) lw)
-      ∙ link-stores (xs ++ x ∷ []) link top all
+-- The words of a change: nodes at the front of the row, one node more in the part that was lent for it, and the link's value.
+module _ (xs : List NewNode) (x : NewNode) (d row part : List ℕ) (n k top : ℕ) (size : n ≡ 24 * length xs) (end : k ≡ n + 24) where
+  pub words-laid : row ≡ newWords xs ++ drop n d → length row ≡ length d → length part ≡ length (take 24 (drop n row)) → k < length d → part ≡ imageOf x
+      → set (take n row ++ (part ++ drop 24 (drop n row))) k top ≡ (newWords (xs ++ x ∷ []) ++ top ∷ []) ++ drop (24 * length (xs ++ x ∷ []) + 1) d
+  words-laid e l p h f =
+      let front : length (newWords xs) ≡ n = front-length row (newWords xs) d n e l (omega arith) in
+      let image : length part ≡ 24 = p ∙ length-take-le 24 (drop n row) (omega (arith, length-drop n row)) in
+      let more : newWords xs ++ part ≡ newWords (xs ++ x ∷ []) = ap (λ (w : List ℕ). newWords xs ++ w) f ∙ sym (words-more xs x) in
+      let next : take n row ++ (part ++ drop 24 (drop n row)) ≡ newWords (xs ++ x ∷ []) ++ drop k d =
+      ap (λ (r : List ℕ). take n r ++ (part ++ drop 24 (drop n r))) e ∙ lay-next d (newWords xs) part n 24 front
+      ∙ ap₂ (λ (w : List ℕ) (i : ℕ). w ++ drop i d) more (sym end) in
+      let whole : length (newWords (xs ++ x ∷ [])) ≡ k = omega (arith, ap length more, length-append (newWords xs) part) in
+      ap (λ (r : List ℕ). set r k top) next ∙ row-linked d (newWords (xs ++ x ∷ [])) k top whole h
+      ∙ ap (λ (i : ℕ). (newWords (xs ++ x ∷ []) ++ top ∷ []) ++ drop i d) (let z : k + 1 ≡ 24 * length (xs ++ x ∷ []) + 1 = omega (arith, length-append xs (x ∷ [])) in z)
 
 -- the part of a node that holds its children, as the code cuts it out
 pub children-part : (node : List ℕ) (c : ℕ) → c ≡ length (children node) → take (12 + c - 12) (drop 12 node) ≡ children node

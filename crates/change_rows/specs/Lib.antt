@@ -1,4 +1,4 @@
--- new nodes as rows of places and of words
+-- new nodes as rows of places and of words, and the rows of a change
 pub mod Nodes
 -- pairs of a key and a value by rising key, in two rows
 pub mod Pairs

@@ -1,13 +1,13 @@
-// A new node, word by word: "words 0 to 23 of each in order". Its places go into one row of 24, its words into another.
+// New nodes, word by word: "words 0 to 23 of each in order". Their places go into one row, their words into another.
 use crate::words::clear;
 use crate::words::copy;
 ghost use mathlib.Core.Path.{_≡_};
-ghost use Prim.Native.Nat.{_≤_, _<_};
-ghost use lib.ListN.{length};
+ghost use mathlib.Core.List.{_++_};
+ghost use Prim.Native.Nat.{_+_, _*_, _^_, _≤_, _<_};
+ghost use lib.ListN.{length, take, drop};
 ghost use Rattle.laws.specs.Lists.{pad};
 ghost use Rattle.card.specs.Layout.{nodeImage, children, routingKeys};
-ghost use Rattle.card.specs.Stores.{newNode};
-ghost use Rattle.change_rows.specs.Nodes.{IsNumber, nodePlaces, IsNew};
+ghost use Rattle.change_rows.specs.Nodes.{IsNumber, Numbered, nodePlaces, placesLinked};
 
 // The places of node m's words.
 pub fn write_places(places: &mut [u32], m: usize)
@@ -43,20 +43,18 @@ pub fn write_node(words: &mut [u32], kind: u32, keys: &[u32], beside: &[u32])
     words[23] = 0;
 }
 
-// The places and the words of a new node.
-pub fn write_new(
-    places: &mut [u32],
-    words: &mut [u32],
-    m: usize,
-    kind: u32,
-    keys: &[u32],
-    beside: &[u32],
-)
-    requires { ⌜ (length (now places) ≡ 24) × (length (now words) ≡ 24) × IsNumber m × (length (now keys) ≤ 11) × (length (now beside) ≤ 11) ⌝ }
-    ensures { λ _. ⌜ IsNew (now (places .exit)) (now (words .exit)) (newNode m kind (now (keys .entry)) (now (beside .entry))) ⌝ }
+// The places of a change over its new nodes, at the front of a row: "words 0 to 23 of each in order; a single link store .. comes last".
+pub fn lay_places(places: &mut [u32], nodes: [u32; 3], count: usize, link: usize)
+    requires { ⌜ (length (now places) ≡ 73) × (count ≤ 3) × Numbered count nodes × (link < 2 ^ 32) ⌝ }
+    ensures { λ _. ⌜ now (places .exit) ≡ placesLinked (take count nodes) link ++ drop (24 * count + 1) (now (places .entry)) ⌝ }
 {
-    write_places(places, m);
-    write_node(words, kind, keys, beside);
+    let mut i: usize = 0;
+    while i < count {
+        let at = 24 * i;
+        write_places(&mut places[at..at + 24], nodes[i] as usize);
+        i += 1;
+    }
+    places[24 * count] = link as u32;
 }
 
 // "its children being those before the first 0"

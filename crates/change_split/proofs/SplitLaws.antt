@@ -13,11 +13,13 @@ use Rattle.laws.proofs.Sorting.{map-take, map-drop}
 use Rattle.card.specs.Layout.{rootPlace, children, routingKeys, leafPairs}
 use Rattle.descent.specs.declared.Position.{Position}
 use Rattle.change_rows.specs.Pairs.{pairsIn, Gathered}
-use Rattle.change_rows.specs.Halves.{keysFor, largerHalf, Whole}
+use Rattle.change_rows.specs.Nodes.{changeWords, changeLength, wordsLaid}
+use Rattle.change_rows.specs.Halves.{together, Whole}
 use Rattle.change_rows.proofs.PairLaws.{none-in, gathered-then}
 use Rattle.change_rows.proofs.HalfLaws.{keys-leaf, keys-inner}
-use Rattle.plans.specs.Change.{changeStores, kindAbove, splitLeaf, joinedKeys, joinedChildren, splitParent, half, leftKeys, keyBetween, halves}
-use Rattle.change_split.specs.Split.{together, splitStores}
+use Rattle.plans.specs.Change.{kindAbove, splitLeaf, joinedKeys, joinedChildren, splitParent, half, leftKeys, keyBetween, halves}
+use Rattle.plans.specs.Planning.{first, second, third}
+use Rattle.change_split.specs.Split.{under}
 
 -- ---- a split
 
@@ -30,24 +32,20 @@ unfolding kindAbove
 kind-other link e = rw (ne-eqb link rootPlace e)
 
 -- the split of a parent is that of its twelve children
-pub split-parent : (p : Position) (keys kids : List ℕ) (a b c : ℕ) → length kids ≡ 12
-    → splitStores (p .above) (together 2 keys kids) a b c ≡ changeStores (splitParent p keys kids a b c)
-unfolding splitStores changeStores splitParent halves keyBetween leftKeys half
-split-parent p keys kids a b c e = simp (e)
+pub split-parent : (p : Position) (keys kids ms row : List ℕ) → length kids ≡ 12
+    → wordsLaid (under (p .above) (together 2 keys kids) ms) row ≡ wordsLaid (splitParent p keys kids (first ms) (second ms) (third ms)) row
+unfolding under changeWords changeLength splitParent halves keyBetween leftKeys half
+split-parent p keys kids ms row e = simp (e)
 
 -- the split of a leaf is that of its twelve pairs
-pub split-leaf : (m link : ℕ) (twelve : Pairs) (a b c : ℕ) → length twelve ≡ 12
-    → splitStores link (together 1 (pairKeys twelve) (pairValues twelve)) a b c ≡ changeStores (splitLeaf m link twelve a b c)
-unfolding splitStores changeStores splitLeaf halves keyBetween leftKeys half
-split-leaf m link twelve a b c e =
+pub split-leaf : (m link : ℕ) (twelve : Pairs) (ms row : List ℕ) → length twelve ≡ 12
+    → wordsLaid (under link (together 1 (pairKeys twelve) (pairValues twelve)) ms) row
+    ≡ wordsLaid (splitLeaf m link twelve (first ms) (second ms) (third ms)) row
+unfolding under changeWords changeLength splitLeaf halves keyBetween leftKeys half
+split-leaf m link twelve ms row e =
     let count : length (pairValues twelve) ≡ 12 = length-map twelve (λ p. p .1) ∙ e in
     let key : getD (pairKeys twelve) 6 0 ≡ keyAt 6 twelve = List·getD-map (λ (p : ℕ × ℕ). p .0) twelve 6 (0, 0) in
     simp (count, map-take, map-drop, key)
-
--- the key between the two, as the rows have it
-pub between-same : (kind : ℕ) (keys values : List ℕ) → getD keys (keysFor kind (largerHalf (length values))) 0 ≡ keyBetween (together kind keys values)
-unfolding keysFor largerHalf keyBetween leftKeys half
-between-same kind keys values = refl
 
 -- a leaf's pairs and one more, gathered
 pub pair-gathered : (leaf z z′ keys₁ values₁ keys values : List ℕ) (m n k v : ℕ)

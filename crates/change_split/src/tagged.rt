@@ -2,20 +2,18 @@
 use crate::split::lay_under;
 use change_rows::nodes::children;
 use change_rows::nodes::routing_keys;
-use change_rows::nodes::write_new;
+use change_rows::nodes::write_node;
 use change_rows::words::replaced;
 use descent::Position;
 ghost use mathlib.Core.Path.{_≡_};
-ghost use mathlib.Core.List.{[], _∷_, zip};
+ghost use mathlib.Core.List.{[], _∷_};
 ghost use Prim.Native.Nat.{_+_, _-_, _≤_, _<_};
 ghost use lib.ListN.{length, take};
 ghost use Rattle.laws.specs.Lists.{beforeZero};
 ghost use Rattle.card.specs.Layout.{greatestNodes, children};
 ghost use Rattle.change_decide.specs.Places.{parentAt, TaggedAt};
-ghost use Rattle.change_rows.specs.Nodes.{IsNumber};
-ghost use Rattle.plans.specs.Change.{changeStores, absorb, splitParent};
-ghost use Rattle.plans.specs.Planning.{first, second, third};
-ghost use Rattle.change_split.specs.Split.{keysTakenIn, childrenTakenIn};
+ghost use Rattle.change_rows.specs.Nodes.{wordsLaid};
+ghost use Rattle.change_split.specs.Split.{keysTakenIn, childrenTakenIn, absorbAt, splitParentAt};
 
 // The nodes that leave the tree with a tagged node.
 pub fn cut_tagged(p: Position) -> [u32; 3]
@@ -41,50 +39,26 @@ fn take_in(card: &[u32], p: Position, keys: &mut [u32], kids: &mut [u32]) -> usi
 }
 
 // "parent with at most 10 children: a new copy of the parent takes its key and children in"
-pub fn lay_absorb(
-    card: &[u32],
-    p: Position,
-    nodes: [u32; 3],
-    places: &mut [u32],
-    values: &mut [u32],
-)
-    requires { ⌜ TaggedAt (now card) p × (length (children (parentAt (now card) p)) ≤ 10) × IsNumber (first nodes)
-        × (length (now places) ≡ 25) × (length (now values) ≡ 25) ⌝ }
-    ensures { λ _. ⌜ zip (now (places .exit)) (now (values .exit))
-        ≡ changeStores (absorb p (keysTakenIn (now (card .entry)) p) (childrenTakenIn (now (card .entry)) p) (first nodes)) ⌝ }
+pub fn lay_absorb(card: &[u32], p: Position, nodes: [u32; 3], values: &mut [u32])
+    requires { ⌜ TaggedAt (now card) p × (length (children (parentAt (now card) p)) ≤ 10) × (length (now values) ≡ 73) ⌝ }
+    ensures { λ _. ⌜ now (values .exit) ≡ wordsLaid (absorbAt (now (card .entry)) p nodes) (now (values .entry)) ⌝ }
 {
     let mut keys: [u32; 12] = [0; 12];
     let mut kids: [u32; 12] = [0; 12];
     let n = take_in(card, p, &mut keys, &mut kids);
     let k = n - 1;
-    write_new(
-        &mut places[0..24],
-        &mut values[0..24],
-        nodes[0] as usize,
-        2,
-        &keys[0..k],
-        &kids[0..n],
-    );
-    places[24] = p.above as u32;
+    write_node(&mut values[0..24], 2, &keys[0..k], &kids[0..n]);
     values[24] = nodes[0];
 }
 
 // "Parent with 11: the 12 children go 6 and 6 into two internal nodes, the middle key above them in a tagged node"
-pub fn lay_split_parent(
-    card: &[u32],
-    p: Position,
-    nodes: [u32; 3],
-    places: &mut [u32],
-    values: &mut [u32],
-)
-    requires { ⌜ TaggedAt (now card) p × (10 < length (children (parentAt (now card) p))) × IsNumber (first nodes) × IsNumber (second nodes)
-        × IsNumber (third nodes) × (length (now places) ≡ 73) × (length (now values) ≡ 73) ⌝ }
-    ensures { λ _. ⌜ zip (now (places .exit)) (now (values .exit))
-        ≡ changeStores (splitParent p (keysTakenIn (now (card .entry)) p) (childrenTakenIn (now (card .entry)) p) (first nodes) (second nodes) (third nodes)) ⌝ }
+pub fn lay_split_parent(card: &[u32], p: Position, nodes: [u32; 3], values: &mut [u32])
+    requires { ⌜ TaggedAt (now card) p × (10 < length (children (parentAt (now card) p))) × (length (now values) ≡ 73) ⌝ }
+    ensures { λ _. ⌜ now (values .exit) ≡ wordsLaid (splitParentAt (now (card .entry)) p nodes) (now (values .entry)) ⌝ }
 {
     let mut keys: [u32; 12] = [0; 12];
     let mut kids: [u32; 12] = [0; 12];
     let n = take_in(card, p, &mut keys, &mut kids);
     let k = n - 1;
-    lay_under(p.above, 2, &keys[0..k], &kids[0..n], nodes, places, values);
+    lay_under(p.above, 2, &keys[0..k], &kids[0..n], nodes, values);
 }

@@ -5,28 +5,26 @@ use mathlib.Core.Bool.{Bool, true, false}
 use Prim.Native.Nat.{ℕ, zero, suc, _+_, _-_, _≤_, _<_}
 use native.Mathlib.Omega.{arith}
 use native.Mathlib.Numerals.{add-one}
-use lib.ListN.{length, getD, take, drop, length-append, length-map, length-take, length-drop}
+use lib.ListN.{length, getD, take, drop, length-append, length-map}
 use lib.Seq.{getD-take, getD-drop, length-take-le}
 use lib.Dec.{eqb}
 use borrow.Author.Tests.{ne-eqb, eq-eqb}
 use Rattle.laws.specs.Cases.{pick}
 use Rattle.laws.specs.Lists.{beforeZero}
 use Rattle.laws.specs.Sorting.{Pairs, insertAll, sort}
-use Rattle.laws.proofs.Cases.{bool-cases, impossible}
 use Rattle.laws.proofs.Sorting.{length-sort}
-use Rattle.card.specs.Layout.{kindOf, valueWords, children, routingKeys, leafPairs}
-use Rattle.card.specs.Stores.{newNode}
-use Rattle.card.proofs.NodeLaws.{length-node, length-routing, routing-words, children-le}
+use Rattle.card.specs.Layout.{kindOf, valueWords, nodeImage, children, routingKeys, leafPairs}
+use Rattle.card.proofs.NodeLaws.{length-node, length-routing, routing-words}
 use Rattle.descent.specs.declared.Position.{Position}
 use Rattle.change_decide.specs.Decide.{leftSibling}
 use Rattle.change_decide.specs.Places.{parentAt, leftAt, rightAt, countTogether, SiblingsAt}
 use Rattle.change_rows.specs.Pairs.{pairsIn, Gathered}
-use Rattle.change_rows.specs.Halves.{keysFor, largerHalf, Whole, leftOf, rightOf, halved}
+use Rattle.change_rows.specs.Nodes.{imageOf}
+use Rattle.change_rows.specs.Halves.{together, keysFor, Whole}
 use Rattle.change_rows.proofs.RowLaws.{take-start}
 use Rattle.change_rows.proofs.PairLaws.{none-in, insert-all-append, gathered-keys, gathered-values}
-use Rattle.change_rows.proofs.NodeLaws.{AllFew}
-use Rattle.change_rows.proofs.HalfLaws.{keys-leaf, keys-inner, keys-most, halved-few}
-use Rattle.plans.specs.Change.{Together, leavesTogether, innersTogether, half, leftKeys, keyBetween, halves, copied}
+use Rattle.change_rows.proofs.HalfLaws.{keys-leaf, keys-inner, keys-most}
+use Rattle.plans.specs.Change.{Together, leavesTogether, innersTogether, copied}
 use Rattle.siblings.specs.Siblings.{togetherAt, Holds}
 use Rattle.siblings.specs.declared.together.Held.{Held}
 
@@ -85,27 +83,6 @@ module _ (x y : List ℕ) where
           values-held = rn .1 ∙ ap₂ (λ (l m : List ℕ). l ++ m) (rd .1 ∙ fx) fy;
         }
 
-abbrev Keyed : Together → Type 0
-Keyed both = length (both .keys) ≡ keysFor (both .kind) (length (both .values))
-
-leaves-keyed : (x y : List ℕ) → Keyed (leavesTogether x y)
-unfolding leavesTogether
-leaves-keyed x y =
-    length-map (sort (leafPairs x ++ leafPairs y)) (λ p. p .0) ∙ sym (length-map (sort (leafPairs x ++ leafPairs y)) (λ p. p .1))
-    ∙ keys-leaf 1 (length (leavesTogether x y .values)) refl
-
-inners-keyed : (x y : List ℕ) (key : ℕ) → length x ≡ 24 → length y ≡ 24 → 0 < length (children x) → 0 < length (children y) → Keyed (innersTogether x key y)
-unfolding innersTogether
-inners-keyed x y key lx ly px py =
-    omega (
-      arith,
-      length-append (routingKeys x) (key ∷ routingKeys y),
-      length-routing x lx,
-      length-routing y ly,
-      length-append (children x) (children y),
-      keys-inner 2 (length (children x ++ children y)) (λ e. absurd (omega arith)),
-    )
-
 -- what is held, named in another way
 pub held-as : (r : Held) (keys beside : List ℕ) {x y : Together} → x ≡ y → Holds r keys beside x → Holds r keys beside y
 held-as r keys beside e h = subst (Holds r keys beside) e h
@@ -119,19 +96,11 @@ module _ (r : Held) (keys beside : List ℕ) (both : Together) (h : Holds r keys
   values-cut : take (r .values - 0) beside ≡ both .values
   values-cut = take-start (r .values) beside ∙ h .values-held
 
+  pub held-both : together (r .kind) (take (r .keys - 0) keys) (take (r .values - 0) beside) ≡ both
+  held-both = rw (h .kind, keys-cut, values-cut)
+
   pub few-keys : r .keys ≤ r .values
   few-keys = omega (arith, h .keyed, keys-most (r .kind) (r .values))
-
-  pub held-node : (m : ℕ) → newNode m (r .kind) (take (r .keys - 0) keys) (take (r .values - 0) beside) ≡ newNode m (both .kind) (both .keys) (both .values)
-  held-node m = rw (h .kind, keys-cut, values-cut)
-
-  pub held-halves : (a b : ℕ) → halved (r .kind) (take (r .keys - 0) keys) (take (r .values - 0) beside) a b ≡ halves both a b
-  unfolding halved leftOf rightOf keysFor largerHalf halves leftKeys half
-  held-halves a b = rw (h .kind, keys-cut, values-cut)
-
-  pub held-between : getD (take (r .keys - 0) keys) (keysFor (r .kind) (largerHalf (length (take (r .values - 0) beside)))) 0 ≡ keyBetween both
-  unfolding keysFor largerHalf keyBetween leftKeys half
-  held-between = rw (h .kind, keys-cut, values-cut)
 
   module _ (lk : length keys ≡ 12) (lv : length beside ≡ 12) where
     -- how many values there are, and keys
@@ -148,6 +117,10 @@ module _ (r : Held) (keys beside : List ℕ) (both : Together) (h : Holds r keys
           enough = omega (arith, ap length values-cut);
           keyed = ap length keys-cut ∙ held-keys ∙ h .keyed ∙ ap (keysFor (r .kind)) (sym (ap length values-cut ∙ held-values));
         }
+
+    -- few go into one node
+    pub held-few : length (both .values) < 4 → (length (take (r .keys - 0) keys) ≤ 11) × (length (take (r .values - 0) beside) ≤ 11)
+    held-few h′ = (omega (arith, ap length keys-cut, held-keys, held-values, few-keys), omega (arith, ap length values-cut))
 
 -- ---- the siblings on the card
 
@@ -183,31 +156,6 @@ module _ (card : List ℕ) (p : Position) where
       go true = leaves-count (leftAt card p) (rightAt card p)
       go false = inners-count (leftAt card p) (rightAt card p) (getD (routingKeys (parentAt card p)) (leftSibling p) 0)
 
-  leaves-when : eqb (kindOf (leftAt card p)) 1 ≡ true → togetherAt card p ≡ leavesTogether (leftAt card p) (rightAt card p)
-  unfolding togetherAt
-  leaves-when e = rw e
-
-  -- as many keys as go with the values
-  pub together-keyed : SiblingsAt card p → length (togetherAt card p .keys) ≡ keysFor (togetherAt card p .kind) (length (togetherAt card p .values))
-  together-keyed s =
-      bool-cases (eqb (kindOf (leftAt card p)) 1)
-      (λ yes. subst Keyed (sym (leaves-when yes)) (leaves-keyed (leftAt card p) (rightAt card p)))
-      (λ no.
-      let k : kindOf (leftAt card p) ≡ 1 → ⊥ = λ e. let t = eq-eqb (kindOf (leftAt card p)) 1 e in impossible (cc) in
-      let some = s .inner k in
-      subst Keyed (sym (inners-together k)) (inners-keyed (leftAt card p) (rightAt card p) _ (left-words s) (right-words s) (some .0) (some .1)))
-
-  pub together-whole : SiblingsAt card p → 4 ≤ countTogether (leftAt card p) (rightAt card p)
-      → Whole (togetherAt card p .kind) (togetherAt card p .keys) (togetherAt card p .values)
-  together-whole s h =
-      record { few = omega (arith, together-count, s .few); enough = omega (arith, together-count); keyed = together-keyed s }
-
-  pub together-few : SiblingsAt card p → countTogether (leftAt card p) (rightAt card p) < 4
-      → (length (togetherAt card p .keys) ≤ 11) × (length (togetherAt card p .values) ≤ 11)
-  together-few s h =
-      let most = keys-most (togetherAt card p .kind) (length (togetherAt card p .values)) in
-      (omega (arith, together-count, together-keyed s), omega (arith, together-count))
-
 -- a routing key, as the code reads it
 pub routing-read : (node : List ℕ) (i w : ℕ) → length node ≡ 24 → w ≡ 1 + i → suc i < length (children node) → getD node w 0 ≡ getD (routingKeys node) i 0
 routing-read node i w l e h =
@@ -219,34 +167,12 @@ inners-read e f g = rw (e, f, g)
 
 -- ---- a copy of the parent
 
-module _ (parent : List ℕ) (j : ℕ) (keys kids : List ℕ) (len : length parent ≡ 24) (beside : suc j < length (children parent)) where
-  pub copied-few : length keys ≤ 1 → length kids ≤ 2 → (m : ℕ) → (length (copied m parent j keys kids .keys) ≤ 11) × (length (copied m parent j keys kids .values) ≤ 11)
-  unfolding copied
-  copied-few fk fv m =
-      let routing = length-routing parent len in
-      let few = children-le parent in (
-        omega (
-          arith,
-          length-append (take j (routingKeys parent)) (keys ++ drop (suc j) (routingKeys parent)),
-          length-append keys (drop (suc j) (routingKeys parent)),
-          length-take j (routingKeys parent),
-          length-drop (suc j) (routingKeys parent),
-        ),
-        omega (
-          arith,
-          length-append (take j (children parent)) (kids ++ drop (suc (suc j)) (children parent)),
-          length-append kids (drop (suc (suc j)) (children parent)),
-          length-take j (children parent),
-          length-drop (suc (suc j)) (children parent),
-        ),
-      )
-
 pub parent-copied : (m j : ℕ) (parent row kids keys others routing under : List ℕ) (k n : ℕ) → row ≡ routingKeys parent → kids ≡ children parent
     → take k routing ≡ take j row ++ (keys ++ drop (j + 1) row) → take n under ≡ take j kids ++ (others ++ drop (j + 2) kids)
-    → newNode m 2 (take (k - 0) routing) (take (n - 0) under) ≡ copied m parent j keys others
+    → nodeImage 2 (take (k - 0) routing) (take (n - 0) under) ≡ imageOf (copied m parent j keys others)
 unfolding copied
 parent-copied m j parent row kids keys others routing under k n e f g h =
-    ap₂ (newNode m 2)
+    ap₂ (nodeImage 2)
     (take-start k routing ∙ g ∙ ap₂ (λ (l : List ℕ) (i : ℕ). take j l ++ (keys ++ drop i l)) e (add-one j))
     (take-start n under ∙ h ∙ ap₂ (λ (l : List ℕ) (i : ℕ). take j l ++ (others ++ drop i l)) f (let z : j + 2 ≡ suc (suc j) = omega arith in z))
 
@@ -283,11 +209,3 @@ take-one l e = ap (take 1) (three-words l e)
 
 pub take-two : (l : List ℕ) → length l ≡ 3 → take 2 l ≡ getD l 0 0 ∷ getD l 1 0 ∷ []
 take-two l e = ap (take 2) (three-words l e)
-
--- each of two that share has at most eleven of both
-pub halves-same : (both : Together) (a b : ℕ) → halved (both .kind) (both .keys) (both .values) a b ≡ halves both a b
-unfolding halved leftOf rightOf keysFor largerHalf halves leftKeys half
-halves-same both a b = refl
-
-pub halves-few : (both : Together) (a b : ℕ) → Whole (both .kind) (both .keys) (both .values) → AllFew (halves both a b)
-halves-few both a b w = subst AllFew (halves-same both a b) (halved-few (both .kind) (both .keys) (both .values) a b w)

@@ -1,5 +1,5 @@
 // "Underfull non-root node": what it has together with a sibling is laid out in one new node or two, under a new copy of the parent.
-// The rows of places and values are lent, as long as the change has stores, and the numbers of the new nodes are given.
+// The row of values is lent, and the numbers of the new nodes are given; the places are laid out elsewhere, they go by the numbers alone.
 mod together;
 
 use change_decide::left_sibling;
@@ -7,37 +7,29 @@ use change_rows::halves::key_between;
 use change_rows::halves::write_halves;
 use change_rows::nodes::children;
 use change_rows::nodes::routing_keys;
-use change_rows::nodes::write_new;
+use change_rows::nodes::write_node;
 use change_rows::words::replaced;
 use descent::Position;
 use together::gather_siblings;
 ghost use mathlib.Core.Path.{_≡_};
-ghost use mathlib.Core.List.{_++_, zip};
+ghost use mathlib.Core.List.{_++_};
 ghost use Prim.Native.Nat.{_+_, _≤_, _<_};
 ghost use lib.ListN.{length, getD, take, drop};
 ghost use Rattle.laws.specs.Lists.{beforeZero};
-ghost use Rattle.card.specs.Stores.{newNode};
-ghost use Rattle.change_rows.specs.Nodes.{IsNumber, IsNew, newPlaces, newWords};
+ghost use Rattle.card.specs.Layout.{nodeImage};
+ghost use Rattle.change_rows.specs.Nodes.{imageOf, wordsLaid};
+ghost use Rattle.change_rows.specs.Halves.{halvesWords};
 ghost use Rattle.change_decide.specs.Decide.{leftSibling};
-ghost use Rattle.change_decide.specs.Places.{parentAt, leftAt, rightAt, countTogether, SiblingsAt};
-ghost use Rattle.plans.specs.Change.{changeStores, keyBetween, halves, copied, siblingsCut, share, merge, mergeRoot};
-ghost use Rattle.plans.specs.Planning.{first, second, third};
-ghost use Rattle.siblings.specs.Siblings.{togetherAt};
+ghost use Rattle.change_decide.specs.Places.{parentAt, togetherCount, SiblingsAt};
+ghost use Rattle.plans.specs.Change.{keyBetween, copied, siblingsCut};
+ghost use Rattle.siblings.specs.Siblings.{togetherAt, shareAt, mergeAt, mergeRootAt};
 
 // A new copy of the parent. In the place of the two siblings it has the first of the nodes given, in the place of the routing key
 // between them the keys between these, one fewer; the node given next is the copy.
-fn copy_parent(
-    card: &[u32],
-    p: Position,
-    keys: &[u32],
-    nodes: [u32; 3],
-    places: &mut [u32],
-    words: &mut [u32],
-)
-    requires { ⌜ SiblingsAt (now card) p × (length (now keys) ≤ 1) × IsNumber (getD nodes (length (now keys) + 1) 0)
-        × (length (now places) ≡ 24) × (length (now words) ≡ 24) ⌝ }
-    ensures { λ _. ⌜ IsNew (now (places .exit)) (now (words .exit))
-        (copied (getD nodes (length (now (keys .entry)) + 1) 0) (parentAt (now (card .entry)) p) (leftSibling p) (now (keys .entry))
+fn copy_parent(card: &[u32], p: Position, keys: &[u32], nodes: [u32; 3], words: &mut [u32])
+    requires { ⌜ SiblingsAt (now card) p × (length (now keys) ≤ 1) × (length (now words) ≡ 24) ⌝ }
+    ensures { λ _. ⌜ now (words .exit)
+        ≡ imageOf (copied (getD nodes (length (now (keys .entry)) + 1) 0) (parentAt (now (card .entry)) p) (leftSibling p) (now (keys .entry))
         (take (length (now (keys .entry)) + 1) nodes)) ⌝ }
 {
     let parent = card::node_at(card, p.parent);
@@ -47,14 +39,7 @@ fn copy_parent(
     let mut under: [u32; 12] = [0; 12];
     let k = replaced(&mut routing, routing_keys(parent), j, j + 1, keys);
     let n = replaced(&mut under, children(parent), j, j + 2, &nodes[0..count]);
-    write_new(
-        places,
-        words,
-        nodes[count] as usize,
-        2,
-        &routing[0..k],
-        &under[0..n],
-    );
+    write_node(words, 2, &routing[0..k], &under[0..n]);
 }
 
 // The nodes that leave the tree where the two siblings are made anew.
@@ -67,18 +52,10 @@ pub fn cut_siblings(card: &[u32], p: Position) -> [u32; 3]
     [p.parent as u32, parent[12 + j], parent[13 + j]]
 }
 
-// The two nodes that share what the siblings hold, at the front of both rows, and the key between them.
-fn lay_halves(
-    card: &[u32],
-    p: Position,
-    nodes: [u32; 3],
-    places: &mut [u32],
-    values: &mut [u32],
-) -> u32
-    requires { ⌜ SiblingsAt (now card) p × (4 ≤ countTogether (leftAt (now card) p) (rightAt (now card) p))
-        × IsNumber (first nodes) × IsNumber (second nodes) × (48 ≤ length (now places)) × (48 ≤ length (now values)) ⌝ }
-    ensures { λ r. ⌜ (now (places .exit) ≡ newPlaces (halves (togetherAt (now (card .entry)) p) (first nodes) (second nodes)) ++ drop 48 (now (places .entry)))
-        × (now (values .exit) ≡ newWords (halves (togetherAt (now (card .entry)) p) (first nodes) (second nodes)) ++ drop 48 (now (values .entry)))
+// The two nodes that share what the siblings hold, at the front of the row, and the key between them.
+fn lay_halves(card: &[u32], p: Position, values: &mut [u32]) -> u32
+    requires { ⌜ SiblingsAt (now card) p × (4 ≤ togetherCount (now card) p) × (48 ≤ length (now values)) ⌝ }
+    ensures { λ r. ⌜ (now (values .exit) ≡ halvesWords (togetherAt (now (card .entry)) p) ++ drop 48 (now (values .entry)))
         × (r ≡ keyBetween (togetherAt (now (card .entry)) p)) ⌝ }
 {
     let mut keys: [u32; 12] = [0; 12];
@@ -86,87 +63,50 @@ fn lay_halves(
     let held = gather_siblings(card, p, &mut keys, &mut beside);
     let k = held.keys;
     let n = held.values;
-    write_halves(places, values, held.kind, &keys[0..k], &beside[0..n], nodes);
+    write_halves(values, held.kind, &keys[0..k], &beside[0..n]);
     key_between(held.kind, &keys[0..k], &beside[0..n])
 }
 
-// The one node that holds what the siblings hold, as node m.
-fn lay_merged(card: &[u32], p: Position, m: u32, places: &mut [u32], values: &mut [u32])
-    requires { ⌜ SiblingsAt (now card) p × (countTogether (leftAt (now card) p) (rightAt (now card) p) < 4)
-        × IsNumber m × (length (now places) ≡ 24) × (length (now values) ≡ 24) ⌝ }
-    ensures { λ _. ⌜ IsNew (now (places .exit)) (now (values .exit))
-        (newNode m (togetherAt (now (card .entry)) p .kind) (togetherAt (now (card .entry)) p .keys) (togetherAt (now (card .entry)) p .values)) ⌝ }
+// The one node that holds what the siblings hold.
+fn lay_merged(card: &[u32], p: Position, words: &mut [u32])
+    requires { ⌜ SiblingsAt (now card) p × (togetherCount (now card) p < 4) × (length (now words) ≡ 24) ⌝ }
+    ensures { λ _. ⌜ now (words .exit)
+        ≡ nodeImage (togetherAt (now (card .entry)) p .kind) (togetherAt (now (card .entry)) p .keys) (togetherAt (now (card .entry)) p .values) ⌝ }
 {
     let mut keys: [u32; 12] = [0; 12];
     let mut beside: [u32; 12] = [0; 12];
     let held = gather_siblings(card, p, &mut keys, &mut beside);
     let k = held.keys;
     let n = held.values;
-    write_new(
-        places,
-        values,
-        m as usize,
-        held.kind,
-        &keys[0..k],
-        &beside[0..n],
-    );
+    write_node(words, held.kind, &keys[0..k], &beside[0..n]);
 }
 
 // "Together 4 or more: shared out .. under a new copy of the parent."
-pub fn lay_share(card: &[u32], p: Position, nodes: [u32; 3], places: &mut [u32], values: &mut [u32])
-    requires { ⌜ SiblingsAt (now card) p × (4 ≤ countTogether (leftAt (now card) p) (rightAt (now card) p))
-        × IsNumber (first nodes) × IsNumber (second nodes) × IsNumber (third nodes) × (length (now places) ≡ 73) × (length (now values) ≡ 73) ⌝ }
-    ensures { λ _. ⌜ zip (now (places .exit)) (now (values .exit))
-        ≡ changeStores (share p (parentAt (now (card .entry)) p) (leftSibling p) (togetherAt (now (card .entry)) p) (first nodes) (second nodes) (third nodes)) ⌝ }
+pub fn lay_share(card: &[u32], p: Position, nodes: [u32; 3], values: &mut [u32])
+    requires { ⌜ SiblingsAt (now card) p × (4 ≤ togetherCount (now card) p) × (length (now values) ≡ 73) ⌝ }
+    ensures { λ _. ⌜ now (values .exit) ≡ wordsLaid (shareAt (now (card .entry)) p nodes) (now (values .entry)) ⌝ }
 {
-    let key = [lay_halves(card, p, nodes, places, values)];
-    copy_parent(
-        card,
-        p,
-        &key,
-        nodes,
-        &mut places[48..72],
-        &mut values[48..72],
-    );
-    places[72] = p.above as u32;
+    let key = [lay_halves(card, p, values)];
+    copy_parent(card, p, &key, nodes, &mut values[48..72]);
     values[72] = nodes[2];
 }
 
 // "Together 3 or fewer: merged, the parent copied with one child less"
-pub fn lay_merge(card: &[u32], p: Position, nodes: [u32; 3], places: &mut [u32], values: &mut [u32])
-    requires { ⌜ SiblingsAt (now card) p × (countTogether (leftAt (now card) p) (rightAt (now card) p) < 4)
-        × IsNumber (first nodes) × IsNumber (second nodes) × (length (now places) ≡ 49) × (length (now values) ≡ 49) ⌝ }
-    ensures { λ _. ⌜ zip (now (places .exit)) (now (values .exit))
-        ≡ changeStores (merge p (parentAt (now (card .entry)) p) (leftSibling p) (togetherAt (now (card .entry)) p) (first nodes) (second nodes)) ⌝ }
+pub fn lay_merge(card: &[u32], p: Position, nodes: [u32; 3], values: &mut [u32])
+    requires { ⌜ SiblingsAt (now card) p × (togetherCount (now card) p < 4) × (length (now values) ≡ 73) ⌝ }
+    ensures { λ _. ⌜ now (values .exit) ≡ wordsLaid (mergeAt (now (card .entry)) p nodes) (now (values .entry)) ⌝ }
 {
     let none = [0];
-    lay_merged(card, p, nodes[0], &mut places[0..24], &mut values[0..24]);
-    copy_parent(
-        card,
-        p,
-        &none[0..0],
-        nodes,
-        &mut places[24..48],
-        &mut values[24..48],
-    );
-    places[48] = p.above as u32;
+    lay_merged(card, p, &mut values[0..24]);
+    copy_parent(card, p, &none[0..0], nodes, &mut values[24..48]);
     values[48] = nodes[1];
 }
 
 // "if that parent is the root with 2 children, the merged node becomes the root"
-pub fn lay_merge_root(
-    card: &[u32],
-    p: Position,
-    nodes: [u32; 3],
-    places: &mut [u32],
-    values: &mut [u32],
-)
-    requires { ⌜ SiblingsAt (now card) p × (countTogether (leftAt (now card) p) (rightAt (now card) p) < 4)
-        × IsNumber (first nodes) × (length (now places) ≡ 25) × (length (now values) ≡ 25) ⌝ }
-    ensures { λ _. ⌜ zip (now (places .exit)) (now (values .exit))
-        ≡ changeStores (mergeRoot p (parentAt (now (card .entry)) p) (leftSibling p) (togetherAt (now (card .entry)) p) (first nodes)) ⌝ }
+pub fn lay_merge_root(card: &[u32], p: Position, nodes: [u32; 3], values: &mut [u32])
+    requires { ⌜ SiblingsAt (now card) p × (togetherCount (now card) p < 4) × (length (now values) ≡ 73) ⌝ }
+    ensures { λ _. ⌜ now (values .exit) ≡ wordsLaid (mergeRootAt (now (card .entry)) p nodes) (now (values .entry)) ⌝ }
 {
-    lay_merged(card, p, nodes[0], &mut places[0..24], &mut values[0..24]);
-    places[24] = p.above as u32;
+    lay_merged(card, p, &mut values[0..24]);
     values[24] = nodes[0];
 }

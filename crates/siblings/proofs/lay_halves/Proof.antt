@@ -1,23 +1,20 @@
 -- `siblings::lay_halves` meets its contract.
-use mathlib.Core.List.{List, _++_}
+use mathlib.Core.List.{_++_}
 use mathlib.Core.Path.{ap, _∙_}
 use Prim.Native.Nat.{_≤_}
 use native.Mathlib.Omega.{arith}
 use lib.ListN.{drop}
-use Rattle.card.specs.Stores.{NewNode}
-use Rattle.change_rows.specs.Nodes.{newPlaces, newWords}
+use Rattle.change_rows.specs.Halves.{halvesWords}
+use Rattle.plans.specs.Change.{Together, keyBetween}
 use Rattle.siblings.specs.Siblings.{togetherAt}
-use Rattle.siblings.proofs.SiblingLaws.{few-keys, held-whole, held-halves, held-between, together-count}
+use Rattle.siblings.proofs.SiblingLaws.{few-keys, held-whole, held-both, together-count}
 use borrow.Author.Needs.{needs}
 use Rattle.siblings.proofs.lay_halves.Statement.{statement}
 use Rattle.siblings.proofs.lay_halves.Tie as tie
 
 -- the keys are within their row
 within : (c : tie.After-gather-siblings) → c .gather-siblings .result .keys ≤ 12
-within c =
-    let g = c .gather-siblings in
-    let s = c .before .before .before .before .before .before in
-    omega (arith, g .ensures .few, few-keys (g .result) (g .last .1 .1 .0) (g .last .1 .1 .1 .0) (togetherAt (s .args .card .now) (s .args .p)) (g .ensures))
+within c = let g = c .gather-siblings in omega (arith, g .ensures .few, few-keys (g .result) (g .last .1 .1 .0) (g .last .1 .1 .1 .0) _ (g .ensures))
 
 slice-aggregate-gather-siblings : tie.Need-slice-aggregate-gather-siblings
 slice-aggregate-gather-siblings c = search needs
@@ -35,7 +32,7 @@ part-write-halves-start : tie.Need-part-write-halves-start
 part-write-halves-start c = search needs
 
 part-write-halves-end : tie.Need-part-write-halves-end
-part-write-halves-end c = let h = within (c .before .before .before .before .before) in search needs
+part-write-halves-end c = let h = within (c .before .before .before .before) in search needs
 
 sub-write-halves-2 : tie.Need-sub-write-halves-2
 sub-write-halves-2 c = search needs
@@ -48,14 +45,11 @@ part-write-halves-end-2 c = search needs
 
 write-halves-requires : tie.Need-write-halves-requires
 write-halves-requires c κs =
-    let s = c .before .before .before .before .before .before .before .before .before .before .before .before .before .before in
-    let g = c .before .before .before .before .before .before .before .before .gather-siblings in (
-      s .pre .4,
-      s .pre .5,
-      held-whole (g .result) (g .last .1 .1 .0) (g .last .1 .1 .1 .0) (togetherAt (s .args .card .now) (s .args .p)) (g .ensures) (g .kept .1 .1 .0) (g .kept .1 .1 .1 .0)
-          (omega (arith, s .pre .1, together-count (s .args .card .now) (s .args .p))),
+    let s = c .before .before .before .before .before .before .before .before .before .before .before .before in
+    let g = c .before .before .before .before .before .before .before .gather-siblings in (
       s .pre .2,
-      s .pre .3,
+      held-whole (g .result) (g .last .1 .1 .0) (g .last .1 .1 .1 .0) _ (g .ensures) (g .kept .1 .1 .0) (g .kept .1 .1 .1 .0)
+          (omega (arith, s .pre .1, together-count (s .args .card .now) (s .args .p))),
     )
 
 sub-key-between : tie.Need-sub-key-between
@@ -65,7 +59,7 @@ part-key-between-start : tie.Need-part-key-between-start
 part-key-between-start c = search needs
 
 part-key-between-end : tie.Need-part-key-between-end
-part-key-between-end c = let h = within (c .before .before .before .before .before .before .before .before .before .before .before .before .before .before) in search needs
+part-key-between-end c = let h = within (c .before .before .before .before .before .before .before .before .before .before .before) in search needs
 
 sub-key-between-2 : tie.Need-sub-key-between-2
 sub-key-between-2 c = search needs
@@ -78,26 +72,20 @@ part-key-between-end-2 c = search needs
 
 key-between-requires : tie.Need-key-between-requires
 key-between-requires c κs =
-    let s = c .before .before .before .before .before .before .before .before .before .before .before .before .before .before .before .before .before .before .before .before .before .before .before in
-    let g = c .before .before .before .before .before .before .before .before .before .before .before .before .before .before .before .before .before .gather-siblings in
-    held-whole (g .result) (g .last .1 .1 .0) (g .last .1 .1 .1 .0) (togetherAt (s .args .card .now) (s .args .p)) (g .ensures) (g .kept .1 .1 .0) (g .kept .1 .1 .1 .0)
+    let s = c .before .before .before .before .before .before .before .before .before .before .before .before .before .before .before .before .before .before .before in
+    let g = c .before .before .before .before .before .before .before .before .before .before .before .before .before .before .gather-siblings in
+    held-whole (g .result) (g .last .1 .1 .0) (g .last .1 .1 .1 .0) _ (g .ensures) (g .kept .1 .1 .0) (g .kept .1 .1 .1 .0)
     (omega (arith, s .pre .1, together-count (s .args .card .now) (s .args .p)))
 
 same-length : tie.Need-same-length
 same-length c = search needs
 
-same-length-2 : tie.Need-same-length-2
-same-length-2 c = search needs
-
 returns : tie.Need-returns
 returns c =
-    let s = c .before .before .before .before .before .before .before .before .before .before .before .before .before .before .before .before .before .before .before .before .before .before .before .before in
-    let g = c .before .before .before .before .before .before .before .before .before .before .before .before .before .before .before .before .before .before .gather-siblings in
-    let w = c .before .before .before .before .before .before .before .before .before .write-halves in (
-      w .ensures .0 ∙ ap (λ (l : List NewNode). newPlaces l ++ drop 48 (s .args .places .now)) (held-halves (g .result) (g .last .1 .1 .0) (g .last .1 .1 .1 .0) (togetherAt (s .args .card .now) (s .args .p)) (g .ensures) _ _),
-      w .ensures .1 ∙ ap (λ (l : List NewNode). newWords l ++ drop 48 (s .args .values .now)) (held-halves (g .result) (g .last .1 .1 .0) (g .last .1 .1 .1 .0) (togetherAt (s .args .card .now) (s .args .p)) (g .ensures) _ _),
-      c .key-between .ensures ∙ held-between (g .result) (g .last .1 .1 .0) (g .last .1 .1 .1 .0) (togetherAt (s .args .card .now) (s .args .p)) (g .ensures),
-    )
+    let s = c .before .before .before .before .before .before .before .before .before .before .before .before .before .before .before .before .before .before .before .before in
+    let g = c .before .before .before .before .before .before .before .before .before .before .before .before .before .before .before .gather-siblings in
+    let same = held-both (g .result) (g .last .1 .1 .0) (g .last .1 .1 .1 .0) (togetherAt (s .args .card .now) (s .args .p)) (g .ensures) in
+    (c .before .before .before .before .before .before .before .write-halves .ensures ∙ ap (λ (both : Together). halvesWords both ++ drop 48 (s .args .values .now)) same, c .key-between .ensures ∙ ap keyBetween same)
 
 pub lay-halves-spec : {M : Type 1} → statement M
 lay-halves-spec =
@@ -121,5 +109,4 @@ lay-halves-spec =
     part-key-between-end-2
     key-between-requires
     same-length
-    same-length-2
     returns)

@@ -1,10 +1,6 @@
 -- `change_rows::halves::key_between` meets its contract.
-use mathlib.Core.Path.{ap}
-use Prim.Native.Nat.{ℕ}
 use native.Mathlib.Omega.{arith}
-use lib.ListN.{getD}
-use Rattle.change_rows.specs.Halves.{largerHalf}
-use Rattle.change_rows.proofs.HalfLaws.{whole-counts}
+use Rattle.change_rows.proofs.HalfLaws.{whole-counts, key-read}
 use borrow.Author.Needs.{needs}
 use Rattle.change_rows.proofs.halves.key_between.Statement.{statement}
 use Rattle.change_rows.proofs.halves.key_between.Tie as tie
@@ -24,14 +20,18 @@ mul-result c =
 shared-slice-read-result : tie.Need-shared-slice-read-result
 shared-slice-read-result c =
     let s = c .before .before .before .before in
-    let n = whole-counts (s .args .kind) (s .args .keys .now) (s .args .beside .now) (c .before .keys-for .result) (s .pre)
-    (c .before .keys-for .ensures) in
+    let n = whole-counts (s .args .kind) (s .args .keys .now) (s .args .beside .now) (c .before .keys-for .result) (s .pre) (c .before .keys-for .ensures) in
     search needs
 
 returns : tie.Need-returns
-unfolding largerHalf
-returns c = ap (λ (k : ℕ). getD (c .before .before .before .before .args .keys .now) k 0) (c .before .keys-for .ensures)
+returns c = key-read _ _ _ _ (c .before .keys-for .ensures)
 
 pub key-between-spec : {M : Type 1} → statement M
 key-between-spec =
-    tie.close (tie.spec add-keys-for keys-for-requires mul-result shared-slice-read-result returns)
+    tie.close
+    (tie.spec
+    add-keys-for
+    keys-for-requires
+    mul-result
+    shared-slice-read-result
+    returns)

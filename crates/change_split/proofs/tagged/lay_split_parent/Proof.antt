@@ -3,12 +3,14 @@ use mathlib.Core.List.{List}
 use mathlib.Core.Path.{_≡_, ap, ap₂, sym, _∙_}
 use Prim.Native.Nat.{ℕ, _-_}
 use native.Mathlib.Omega.{arith}
-use lib.ListN.{length, getD}
+use lib.ListN.{length}
 use lib.Seq.{length-take-le}
 use Rattle.card.proofs.NodeLaws.{children-le}
 use Rattle.change_decide.specs.Places.{parentAt}
+use Rattle.change_rows.specs.Nodes.{wordsLaid}
+use Rattle.change_rows.specs.Halves.{together}
 use Rattle.change_rows.proofs.RowLaws.{take-start}
-use Rattle.change_split.specs.Split.{together, splitStores, keysTakenIn, childrenTakenIn}
+use Rattle.change_split.specs.Split.{under, keysTakenIn, childrenTakenIn}
 use Rattle.change_split.proofs.SplitLaws.{children-whole, split-parent}
 use borrow.Author.Needs.{needs}
 use Rattle.change_split.proofs.tagged.lay_split_parent.Statement.{statement}
@@ -16,7 +18,7 @@ use Rattle.change_split.proofs.tagged.lay_split_parent.Tie as tie
 
 -- there are twelve children
 twelve : (c : tie.After-take-in) → c .take-in .result ≡ 12
-twelve c = let s = c .before .before .before .before .before .before in omega (arith, c .take-in .ensures .0, s .pre .1, children-le (parentAt (s .args .card .now) (s .args .p)))
+twelve c = let s = c .before .before .before .before .before in omega (arith, c .take-in .ensures .0, s .pre .1, children-le (parentAt (s .args .card .now) (s .args .p)))
 
 slice-aggregate-take-in : tie.Need-slice-aggregate-take-in
 slice-aggregate-take-in c = search needs
@@ -50,35 +52,24 @@ part-lay-under-end-2 c = let h = twelve (c .before .before .before .before .befo
 
 lay-under-requires : tie.Need-lay-under-requires
 lay-under-requires c κs =
-    let s = c .before .before .before .before .before .before .before .before .before .before .before .before .before .before in
-    let t = c .before .before .before .before .before .before .before .before .take-in in (
-      s .pre .0 .within .link,
-      children-whole (t .last .1 .1 .0) (t .last .1 .1 .1 .0) (t .result) (t .kept .1 .1 .0) (t .kept .1 .1 .1 .0) (twelve (c .before .before .before .before .before .before .before .before)),
-      s .pre .2,
-      s .pre .3,
-      s .pre .4,
-      s .pre .5,
-      s .pre .6,
-    )
+    let s = c .before .before .before .before .before .before .before .before .before .before .before .before in
+    let t = c .before .before .before .before .before .before .before .take-in in
+    (children-whole (t .last .1 .1 .0) (t .last .1 .1 .1 .0) (t .result) (t .kept .1 .1 .0) (t .kept .1 .1 .1 .0) (twelve (c .before .before .before .before .before .before .before)), s .pre .2)
 
 same-length : tie.Need-same-length
 same-length c = search needs
 
-same-length-2 : tie.Need-same-length-2
-same-length-2 c = search needs
-
 returns : tie.Need-returns
 returns c =
-    let s = c .before .before .before .before .before .before .before .before .before .before .before .before .before .before .before .before .before .before .before in
-    let t = c .before .before .before .before .before .before .before .before .before .before .before .before .before .take-in in
-    let nodes = s .args .nodes in
-    let few = twelve (c .before .before .before .before .before .before .before .before .before .before .before .before .before) in
+    let s = c .before .before .before .before .before .before .before .before .before .before .before .before .before .before .before in
+    let t = c .before .before .before .before .before .before .before .before .before .before .take-in in
+    let few = twelve (c .before .before .before .before .before .before .before .before .before .before) in
     let kids : length (childrenTakenIn (s .args .card .now) (s .args .p)) ≡ 12 =
     sym (ap length (t .ensures .2)) ∙ length-take-le (t .result) (t .last .1 .1 .1 .0) (omega (arith, t .kept .1 .1 .1 .0)) ∙ few in
-    c .before .before .before .before .lay-under .ensures
-    ∙ ap₂ (λ (x y : List ℕ). splitStores (s .args .p .above) (together 2 x y) (getD nodes 0 0) (getD nodes 1 0) (getD nodes 2 0))
+    c .before .before .lay-under .ensures
+    ∙ ap₂ (λ (x y : List ℕ). wordsLaid (under (s .args .p .above) (together 2 x y) (s .args .nodes)) (s .args .values .now))
     (take-start (t .result - 1) (t .last .1 .1 .0) ∙ t .ensures .1) (take-start (t .result) (t .last .1 .1 .1 .0) ∙ t .ensures .2)
-    ∙ split-parent (s .args .p) (keysTakenIn (s .args .card .now) (s .args .p)) (childrenTakenIn (s .args .card .now) (s .args .p)) _ _ _ kids
+    ∙ split-parent (s .args .p) (keysTakenIn (s .args .card .now) (s .args .p)) (childrenTakenIn (s .args .card .now) (s .args .p)) (s .args .nodes) (s .args .values .now) kids
 
 pub lay-split-parent-spec : {M : Type 1} → statement M
 lay-split-parent-spec =
@@ -96,5 +87,4 @@ lay-split-parent-spec =
     part-lay-under-end-2
     lay-under-requires
     same-length
-    same-length-2
     returns)
