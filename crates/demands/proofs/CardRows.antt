@@ -13,8 +13,8 @@ use borrow.Author.Tests.{ne-eqb, lt-ltb}
 use Rattle.card.specs.Header.{nodesOfLength, cardRefusal, Sized, Formatted}
 use Rattle.card.specs.Layout.{nodeAt, keyWords, valueWords}
 use Rattle.card.proofs.NodeLaws.{get-valueWord}
-use Rattle.card.specs.Replies.{Reply, refusal}
-use Rattle.demands.specs.Demand1.{Finds, besideFirst, ReadsLeaf, HandsNone, StartsFormat, OpensTo}
+use Rattle.card.specs.Replies.{Reply, refusal, holds, absent}
+use Rattle.demands.specs.Demand1.{besideFirst, ReadsLeaf, HandsNone, StartsFormat, OpensTo}
 use Rattle.promises.specs.Way.{nodesOn, leadsTo}
 use Rattle.demands.specs.Refusals.{ByRows, NoCard, Unsound, Scarce, findRows, formatRows, openRows, end, row}
 use Rattle.promises.specs.RationTable.{workOf, handed, rationTable}
@@ -76,6 +76,10 @@ found-works : (node : List ℕ) (key : ℕ) → foundReply (foundIn node (slotOf
 unfolding slotOf keyWords
 found-works node key = found-reads node key (keyWords node) 0 (omega (arith, length-take 11 (drop 1 node)))
 
+-- a value or "absent"
+abbrev pub Finds : Reply → Type 0
+Finds r = ((v : ℕ) × (r ≡ holds v)) ⊎ (r ≡ absent)
+
 pub reads-finds : (key : ℕ) (keys values : List ℕ) (i : ℕ) → Finds (besideFirst key keys values i)
 unfolding besideFirst
 reads-finds key [] values i = inr refl
@@ -119,7 +123,7 @@ format-begun : (c : List ℕ) → StartsFormat rationTable c (handed (record { b
 unfolding resting workOf startReply
 format-begun c = record { reply-given = refl; in-progress = refl; nodes-noted = refl }
 
-pub formats : (c : List ℕ) → ByRows (formatRows c) (HandsNone rationTable (rationTable .format c)) (StartsFormat rationTable c (rationTable .format c))
+pub formats : (c : List ℕ) → ByRows (formatRows c (nodesOn c)) (HandsNone rationTable (rationTable .format c)) (StartsFormat rationTable c (rationTable .format c))
 unfolding ByRows
 formats c = go (sized? (length c) (nodesOn c))
   where

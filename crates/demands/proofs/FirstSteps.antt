@@ -20,8 +20,8 @@ use Rattle.card.proofs.NodeLaws.{length-node}
 use Rattle.demands.specs.Demand1.{begun, Refuses, Demand1}
 use Rattle.promises.specs.Table.{formatting}
 use Rattle.promises.specs.Way.{nodesOn, leadsTo, among}
-use Rattle.demands.specs.Refusals.{ByRows, NoneGiven, NoNodes, NoRepair, NoChange, changeRows, end, row}
-use Rattle.demands.specs.Rules.{Given}
+use Rattle.demands.specs.Refusals.{ByRows, NoneGiven, NoRepair, NoChange, stepRows, end, row}
+use Rattle.demands.specs.Rules.{Given, FullLeaf}
 use Rattle.promises.specs.RationTable.{workOf, stepped, rationTable}
 use Rattle.demands.proofs.CardRows.{none-some, finds, formats, opens}
 use Rattle.demands.proofs.PlannedNumbers.{numbers-by-rule, numbers-counted, given-taken}
@@ -132,8 +132,12 @@ module _ (c : List ℕ) (m : Memory) where
 -- ---- an insert
 
 module _ (c : List ℕ) (m : Memory) (key value : ℕ) (d : m .doing ≡ Inserting key value false) where
+  -- its leaf is full, and no three nodes are given to split it into
+  abbrev NoNodes : Type 0
+  NoNodes = (leaf : ℕ) × (j : ℕ) × FullLeaf c key leaf j × NoneGiven c (m .free) (m .last) 3
+
   abbrev InsertDue : Type 0
-  InsertDue = (leadsTo c key ≡ none) ⊎ NoNodes c (m .free) (m .last) key
+  InsertDue = (leadsTo c key ≡ none) ⊎ NoNodes
 
   abbrev inserted : Step
   inserted = stepBegin c m (nextChange c (m .nodes) (m .free) (m .last) (Inserting key value false) (PutIn key value))
@@ -151,35 +155,35 @@ module _ (c : List ℕ) (m : Memory) (key value : ℕ) (d : m .doing ≡ Inserti
     unfolding landed
     leads = sym (leads-is c (m .nodes) key (sized-on c (m .nodes) s)) ∙ ap landed lands
 
-    not-due : (NoNodes c (m .free) (m .last) key → ⊥) → InsertDue → ⊥
+    not-due : (NoNodes → ⊥) → InsertDue → ⊥
     not-due x (inl z) = none-some (leaf, run) (sym z ∙ leads)
     not-due x (inr r) = x r
 
     -- what is said of the leaf that the key leads to is said of this one
-    in-leaf : (r : NoNodes c (m .free) (m .last) key) (x : ℕ) → among x (keyWords (nodeAt c (r .full-leaf))) ≡ false → among x (keyWords (nodeAt c leaf)) ≡ true → ⊥
+    in-leaf : (r : NoNodes) (x : ℕ) → among x (keyWords (nodeAt c (r .0))) ≡ false → among x (keyWords (nodeAt c leaf)) ≡ true → ⊥
     in-leaf r x n y =
-        let z : among x (keyWords (nodeAt c leaf)) ≡ false = subst (λ (a : ℕ). among x (keyWords (nodeAt c a)) ≡ false) (one-leaf c key (r .full-leaf) (r .j) leaf run (r .leads) leads .0) n in
+        let z : among x (keyWords (nodeAt c leaf)) ≡ false = subst (λ (a : ℕ). among x (keyWords (nodeAt c a)) ≡ false) (one-leaf c key (r .0) (r .1) leaf run (r .2 .leads) leads .0) n in
         impossible (cc)
 
     given-there : InsertDue → NoneGiven c (m .free) (m .last) 3
     given-there (inl z) = absurd (none-some (leaf, run) (sym z ∙ leads))
-    given-there (inr r) = r .none-given
+    given-there (inr r) = r .3
 
     insert-slot : (k : Slot) → slotOf (nodeAt c leaf) key ≡ k → (z : Slot) → slotOf (nodeAt c leaf) 0 ≡ z → Nine c m InsertDue inserted
     unfolding changeStores splitLeaf nodeImage
     insert-slot (At i) e z f =
         subst (Nine c m InsertDue) (sym (put-held c (m .nodes) key leaf link run lands value (m .free) (m .last) m i e))
-        (inr (not-due (λ r. in-leaf r key (r .absent) (found (nodeAt c leaf) key i e)), answers c m (Inserting key value true) (Value (getD (nodeAt c leaf) (12 + i) 0)) (inr (inl (getD (nodeAt c leaf) (12 + i) 0, refl)))))
+        (inr (not-due (λ r. in-leaf r key (r .2 .absent) (found (nodeAt c leaf) key i e)), answers c m (Inserting key value true) (Value (getD (nodeAt c leaf) (12 + i) 0)) (inr (inl (getD (nodeAt c leaf) (12 + i) 0, refl)))))
     insert-slot NoSlot e (At i) f =
         subst (Nine c m InsertDue) (sym (put-slot c (m .nodes) key leaf link run lands value (m .free) (m .last) m i e f))
         (inr (
-          not-due (λ r. in-leaf r 0 (r .full) (found (nodeAt c leaf) 0 i f)),
+          not-due (λ r. in-leaf r 0 (r .2 .full) (found (nodeAt c leaf) 0 i f)),
           stores-first c m (Inserting key value true) Absent ((place leaf (12 + i), value) ∷ (place leaf (1 + i), key) ∷ []) (m .free) (m .last) [] insert-work (on-card c (m .nodes) key leaf link run s lands 0 i (12 + i) f (omega arith)),
         ))
     insert-slot NoSlot e NoSlot f =
         subst (Nine c m InsertDue) (sym (put-full c (m .nodes) key leaf link run lands value (m .free) (m .last) m e f))
         (same-nine c m (NoneGiven c (m .free) (m .last) 3) InsertDue _
-        (λ h. inr (record { full-leaf = leaf; j = run; leads = leads; absent = missing (nodeAt c leaf) key e; full = missing (nodeAt c leaf) 0 f; none-given = h }))
+        (λ h. inr (leaf, run, record { leads = leads; absent = missing (nodeAt c leaf) key e; full = missing (nodeAt c leaf) 0 f }, h))
         given-there
         (over-given c m (Inserting key value true) Absent insert-work 3
         (λ ms. splitLeaf leaf link (sort ((key, value) ∷ leafPairs (nodeAt c leaf))) (first ms) (second ms) (third ms)) (λ ms. refl)))
@@ -255,11 +259,11 @@ module _ (c : List ℕ) (m : Memory) (s : Sized (length c) (m .nodes)) where
   begins (taken {key} {value}) e = repairs key (Value value) (inr (inl (value, refl))) (Deleting key true value) e refl
   begins (opened {key}) e = repairs key Ready (inl refl) (Repairing key) e refl
 
-change-rows : (c : List ℕ) (m : Memory) → m .rest ≡ [] → (workOf (m .doing) ≡ formatting → ⊥) → ByRows (changeRows rationTable c m) (Refuses rationTable c m (stepped (stepOf c m))) (Works c m (stepOf c m))
+change-rows : (c : List ℕ) (m : Memory) → m .rest ≡ [] → (workOf (m .doing) ≡ formatting → ⊥) → ByRows (stepRows rationTable c m (NoChange c (m .free) (m .last) (workOf (m .doing)))) (Refuses rationTable c m (stepped (stepOf c m))) (Works c m (stepOf c m))
 unfolding ByRows stepTask
 change-rows c m r q = go (idle-or-task (m .doing) q)
   where
-    go : IdleOrTask (m .doing) → ByRows (changeRows rationTable c m) (Refuses rationTable c m (stepped (stepOf c m))) (Works c m (stepOf c m))
+    go : IdleOrTask (m .doing) → ByRows (stepRows rationTable c m (NoChange c (m .free) (m .last) (workOf (m .doing)))) (Refuses rationTable c m (stepped (stepOf c m))) (Works c m (stepOf c m))
     go (inl (e, w)) = idle-rows c m e w (row 9 (NoChange c (m .free) (m .last) (workOf (m .doing))) end) (Works c m (stepOf c m))
     go (inr (task, e, w)) =
         task-rows c m task e w (row 9 (NoChange c (m .free) (m .last) (workOf (m .doing))) end) (Works c m (stepOf c m))

@@ -17,7 +17,7 @@ use Rattle.card.specs.Replies.{absent}
 use Rattle.demands.specs.Demand1.{HandsBack, Starts}
 use Rattle.promises.specs.Table.{inserting, deleting}
 use Rattle.promises.specs.Way.{leadsTo, among}
-use Rattle.demands.specs.Refusals.{Rows, ByRows, Busy, NoCard, NoRoom, startRows, insertRows, deleteRows, end, row}
+use Rattle.demands.specs.Refusals.{Rows, ByRows, Idle, NoCard, NoRoom, startRows, end, row}
 use Rattle.promises.specs.RationTable.{workOf, handed, rationTable}
 use Rattle.demands.proofs.Work.{true-false, idle-work, busy-work}
 use Rattle.demands.proofs.CardRows.{none-some}
@@ -74,10 +74,10 @@ module _ (c : List ℕ) (m : Memory) (key : ℕ) (doing : Doing) (room : Landing
       → ByRows (startRows rationTable c m key rows) (HandsBack rationTable m (handed (startOf c m key doing room))) works
   unfolding ByRows startChecked startLanded landed
   by-start rows works next =
-      by-card (row 7 (Busy rationTable m) (row 6 (key ≡ 0) (row 9 (leadsTo c key ≡ none) rows))) (HandsBack rationTable m (handed (startOf c m key doing room))) works c (m .nodes)
+      by-card (row 7 (Idle rationTable m → ⊥) (row 6 (key ≡ 0) (row 9 (leadsTo c key ≡ none) rows))) (HandsBack rationTable m (handed (startOf c m key doing room))) works c (m .nodes)
       (λ p. rw (start-one p) (refused-back 1)) (λ r s e d. rw (start-header r s e d) (refused-back r)) past
     where
-      past : Sized (length c) (m .nodes) → Formatted c (m .nodes) → ByRows (row 7 (Busy rationTable m) (row 6 (key ≡ 0) (row 9 (leadsTo c key ≡ none) rows))) (HandsBack rationTable m (handed (startOf c m key doing room))) works
+      past : Sized (length c) (m .nodes) → Formatted c (m .nodes) → ByRows (row 7 (Idle rationTable m → ⊥) (row 6 (key ≡ 0) (row 9 (leadsTo c key ≡ none) rows))) (HandsBack rationTable m (handed (startOf c m key doing room))) works
       past s f =
           bool-cases (isIdle (m .doing)) (λ q. inr (λ b. b (idle-work (m .doing) q), keyed q (ℕ-discrete key 0))) (λ q. inl (busy-work (m .doing) q, rw (start-passed s f, q) (refused-back 7)))
         where
@@ -118,7 +118,7 @@ started-doing c m doing room key e =
 
 -- an update's first change leaves it begun
 
-pub deletes : (c : List ℕ) (m : Memory) (key : ℕ) → ByRows (deleteRows rationTable c m key) (HandsBack rationTable m (rationTable .delete c m key)) (Starts rationTable m (rationTable .delete c m key) (deleting key false))
+pub deletes : (c : List ℕ) (m : Memory) (key : ℕ) → ByRows (startRows rationTable c m key end) (HandsBack rationTable m (rationTable .delete c m key)) (Starts rationTable m (rationTable .delete c m key) (deleting key false))
 unfolding ByRows deleteOf workOf
 deletes c m key =
     by-start c m key (Deleting key false 0) (λ l. true) end (Starts rationTable m (handed (deleteOf c m key)) (deleting key false))
@@ -143,19 +143,19 @@ pub room-row : (c : List ℕ) (free : List Bool) (key leaf link j : ℕ) → lea
 unfolding startRoom roomFor insertReason reasonIn emptyReason slotFound
 room-row c free key leaf link j to = at (slotOf (nodeAt c leaf) key) refl (slotOf (nodeAt c leaf) 0) refl
   where
-    same : (r : NoRoom c free key) → (r .full-leaf ≡ leaf) × (r .j ≡ j)
-    same r = one-leaf c key (r .full-leaf) (r .j) leaf j (r .leads) to
+    same : (r : NoRoom c free key) → (r .0 ≡ leaf) × (r .1 ≡ j)
+    same r = one-leaf c key (r .0) (r .1) leaf j (r .2 .leads) to
 
     at : (x : Slot) → slotOf (nodeAt c leaf) key ≡ x → (y : Slot) → slotOf (nodeAt c leaf) 0 ≡ y
         → (NoRoom c free key × (startRoom c key free (LandingAt leaf link j) ≡ false)) ⊎ ((NoRoom c free key → ⊥) × (startRoom c key free (LandingAt leaf link j) ≡ true))
-    at (At i) e y f = inr (λ r. true-false (slot-is (nodeAt c leaf) key (At i) e ∙ ap (λ (x : ℕ). among key (keyWords (nodeAt c x))) (sym (same r .0)) ∙ r .absent), rw e)
-    at NoSlot e (At i) f = inr (λ r. true-false (slot-is (nodeAt c leaf) 0 (At i) f ∙ ap (λ (x : ℕ). among 0 (keyWords (nodeAt c x))) (sym (same r .0)) ∙ r .full), rw (e, f))
+    at (At i) e y f = inr (λ r. true-false (slot-is (nodeAt c leaf) key (At i) e ∙ ap (λ (x : ℕ). among key (keyWords (nodeAt c x))) (sym (same r .0)) ∙ r .2 .absent), rw e)
+    at NoSlot e (At i) f = inr (λ r. true-false (slot-is (nodeAt c leaf) 0 (At i) f ∙ ap (λ (x : ℕ). among 0 (keyWords (nodeAt c x))) (sym (same r .0)) ∙ r .2 .full), rw (e, f))
     at NoSlot e NoSlot f =
         order (countTrue free) (splitNeed j)
-        (λ o. inl (record { full-leaf = leaf; j = j; leads = to; absent = sym (slot-is (nodeAt c leaf) key NoSlot e); full = sym (slot-is (nodeAt c leaf) 0 NoSlot f); few = o }, rw (e, f, lt-ltb (countTrue free) (splitNeed j) o)))
-        (λ o. inr (λ r. omega (arith, r .few, same r .1), rw (e, f, le-ltb (countTrue free) (splitNeed j) o)))
+        (λ o. inl ((leaf, j, record { leads = to; absent = sym (slot-is (nodeAt c leaf) key NoSlot e); full = sym (slot-is (nodeAt c leaf) 0 NoSlot f) }, o), rw (e, f, lt-ltb (countTrue free) (splitNeed j) o)))
+        (λ o. inr (λ r. omega (arith, r .3, same r .1), rw (e, f, le-ltb (countTrue free) (splitNeed j) o)))
 
-pub inserts : (c : List ℕ) (m : Memory) (key value : ℕ) → ByRows (insertRows rationTable c m key) (HandsBack rationTable m (rationTable .insert c m key value)) (Starts rationTable m (rationTable .insert c m key value) (inserting key value false))
+pub inserts : (c : List ℕ) (m : Memory) (key value : ℕ) → ByRows (startRows rationTable c m key (row 8 (NoRoom c (m .free) key) end)) (HandsBack rationTable m (rationTable .insert c m key value)) (Starts rationTable m (rationTable .insert c m key value) (inserting key value false))
 unfolding ByRows insertOf workOf
 inserts c m key value =
     by-start c m key (Inserting key value false) (startRoom c key (m .free)) (row 8 (NoRoom c (m .free) key) end) (Starts rationTable m (handed (insertOf c m key value)) (inserting key value false))

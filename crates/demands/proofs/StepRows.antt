@@ -104,7 +104,7 @@ advanced-rest m (s ∷ rest) = refl
 pub store-inside : (c : List ℕ) (m : Memory) (s : Store) (next : Memory) → next .nodes ≡ m .nodes → workOf (next .doing) ≡ begun (workOf (m .doing)) → s .0 < length c → Stores rationTable c m (stepped (stepStore c m s next))
 unfolding stepStore stepReply
 store-inside c m s next en ew o =
-    rw (lt-ltb (s .0) (length c) o) (record { reply-given = refl; place = s .0; word = s .1; inside = o; one-store = refl; nodes-kept = en; work-begun = ew })
+    rw (lt-ltb (s .0) (length c) o) (s, o, record { reply-given = refl; one-store = refl; nodes-kept = en; work-then = ew })
 
 pub store-outside : (c : List ℕ) (m : Memory) (s : Store) (next : Memory) → length c ≤ s .0 → Refuses rationTable c m (stepped (stepStore c m s next)) 9
 unfolding stepStore
@@ -114,9 +114,9 @@ store-outside c m s next o = rw (le-ltb (s .0) (length c) o) (refused-same 9 c m
 format-cases : (c : List ℕ) (m : Memory) (made : ℕ) → workOf (m .doing) ≡ formatting → 0 < length c → Works c m (stepFormat c m made (formatStore (m .nodes) (length c) made))
 unfolding stepFormat formatStore stepReply formattingThen workOf begun
 format-cases c m made ew pos =
-    bool-cases (eqb made 0) (λ q. inl (rw q (record { reply-given = refl; place = 0; word = 0; inside = pos; one-store = refl; nodes-kept = refl; work-begun = sym (ap begun ew) }))) (λ q.
-    bool-cases (ltb made (length c)) (λ q₁. inl (rw (q, q₁) (record { reply-given = refl; place = made; word = _; inside = ltb-true made (length c) q₁; one-store = refl; nodes-kept = refl; work-begun = sym (ap begun ew) }))) (λ q₁.
-    bool-cases (eqb made (length c)) (λ q₂. inl (rw (q, q₁, q₂) (record { reply-given = refl; place = 0; word = 1; inside = pos; one-store = refl; nodes-kept = refl; work-begun = sym (ap begun ew) })))
+    bool-cases (eqb made 0) (λ q. inl (rw q ((0, 0), pos, record { reply-given = refl; one-store = refl; nodes-kept = refl; work-then = sym (ap begun ew) }))) (λ q.
+    bool-cases (ltb made (length c)) (λ q₁. inl (rw (q, q₁) ((made, _), ltb-true made (length c) q₁, record { reply-given = refl; one-store = refl; nodes-kept = refl; work-then = sym (ap begun ew) }))) (λ q₁.
+    bool-cases (eqb made (length c)) (λ q₂. inl (rw (q, q₁, q₂) ((0, 1), pos, record { reply-given = refl; one-store = refl; nodes-kept = refl; work-then = sym (ap begun ew) })))
     (λ q₂. inr (rw (q, q₁, q₂) (final-idle Ready c m (inl refl))))))
 
 -- ---- the rows
@@ -163,7 +163,7 @@ next-cases : (c : List ℕ) (m : Memory) (x : Store) (rest : List Store) → ByR
 unfolding ByRows stepStore stepReply
 next-cases c m x rest =
     order (x .0) (length c)
-    (λ o. inr (λ z. omega (arith, o, z), rw (lt-ltb (x .0) (length c) o) (record { reply-given = refl; one-store = refl; rest-to-come = advanced-rest m rest; nodes-kept = advanced-nodes m rest; work-kept = ap workOf (advanced-doing m rest) })))
+    (λ o. inr (λ z. omega (arith, o, z), rw (lt-ltb (x .0) (length c) o) (record { reply-given = refl; one-store = refl; nodes-kept = advanced-nodes m rest; work-then = ap workOf (advanced-doing m rest) }, advanced-rest m rest)))
     (λ o. inl (o, rw (le-ltb (x .0) (length c) o) (refused-same 9 c m)))
 
 pub in-hand-rows : (c : List ℕ) (m : Memory) (x : Store) (rest : List Store) → m .rest ≡ x ∷ rest → (workOf (m .doing) ≡ formatting → ⊥)
