@@ -5,15 +5,15 @@ use mathlib.Core.Bool.{Bool, true, false}
 use mathlib.Core.List.{List, [], _∷_}
 use mathlib.Core.Logic.{_⊎_, inl, inr}
 use mathlib.Core.Option.{Option}
-use Prim.Native.Nat.{ℕ, zero, suc, _≤_, _<_}
+use Prim.Native.Nat.{ℕ, zero, suc, _-_, _≤_, _<_}
 use native.Mathlib.Omega.{arith}
-use lib.ListN.{length, set, drop, length-append}
+use lib.ListN.{length, getD, set, drop, length-append}
 use Rattle.card.specs.Stores.{Store}
 use Rattle.promises.specs.Events.{Event, World, replyTo, happens, run, LeftUncut, stepsIn, find, insert, delete, step, cut}
-use Rattle.demands.specs.Demand2.{storeAt, StoresNow, Makes, Between, Repairs, Updates, done, mends as mends-by, no-change, changes}
-use Rattle.demands.specs.Rules.{Given, lastGivenOf, marked}
+use Rattle.demands.specs.Demand2.{StoresNow, Makes, Between, Repairs, Updates, done, mends as mends-by, no-change, changes}
+use Rattle.demands.specs.Rules.{Given, marked}
 use Rattle.promises.specs.RationTable.{rationTable}
-use Rattle.demands.proofs.Making.{Nears, nearer, Left, run-left, stores-each}
+use Rattle.demands.proofs.Making.{Nears, nearer, storeAt, Left, run-left, stores-each}
 use Rattle.plans.specs.Planning.{Preparation, lastOf, withAll, refused, balanced, prepared}
 use Rattle.state.specs.Answers.{stepReply}
 use Rattle.state.specs.Memory.{Memory, advanced}
@@ -123,7 +123,7 @@ module _ (final : Answer) (most : ℕ) (w : World rationTable) (x : Nears final 
             let d = drop-all rest (stepsIn more) (omega (arith, k, h)) in
             (r .0, omega (arith, r .1, l .1), rw e (subst (λ (y : List Store). Left final m (r .0) y (run rationTable more (happens rationTable step w))) d (r .2)))
 
-    module _ (short : suc (length rest) ≤ 73) (given out : List ℕ) (taken : Given (w .state .free) (w .state .last) given) (is-free : m .free ≡ marked false given (w .state .free)) (is-last : m .last ≡ lastGivenOf (w .state .last) given) (is-cut : m .cut ≡ out) (freed : withAll out (m .free) ≡ marked true out (m .free)) where
+    module _ (short : suc (length rest) ≤ 73) (given out : List ℕ) (taken : Given (w .state .free) (w .state .last) given) (is-free : m .free ≡ marked false given (w .state .free)) (is-last : m .last ≡ getD given (length given - 1) (w .state .last)) (is-cut : m .cut ≡ out) (freed : withAll out (m .free) ≡ marked true out (m .free)) where
       pub change-made : Makes rationTable w given out (s ∷ rest)
       change-made = record { short = short; taken = taken; last-taken = last; each = each; free-within = within; free-after = after }
         where
@@ -143,7 +143,7 @@ module _ (final : Answer) (most : ℕ) (w : World rationTable) (x : Nears final 
               at (inl (z, e)) = absurd (omega (arith, z, p))
               at (inr (more, v, k, e)) = (stepsIn more, k, rw e (run-left final m (then-left .0) rest (happens rationTable step w) (then-left .2) more v (omega (arith, k, h)) .2 .is-left))
 
-          last : (qs : List Event) → LeftUncut rationTable qs w → 0 < stepsIn qs → stepsIn qs ≤ suc (length rest) → run rationTable qs w .state .last ≡ lastGivenOf (w .state .last) given
+          last : (qs : List Event) → LeftUncut rationTable qs w → 0 < stepsIn qs → stepsIn qs ≤ suc (length rest) → run rationTable qs w .state .last ≡ getD given (length given - 1) (w .state .last)
           last qs u p h = let a = state-at qs u p h in ap (λ (y : Memory). y .last) (a .2) ∙ advanced-last m (drop (a .0) rest) ∙ is-last
 
           within : (qs : List Event) → LeftUncut rationTable qs w → 0 < stepsIn qs → stepsIn qs < suc (length rest) → run rationTable qs w .state .free ≡ marked false given (w .state .free)
@@ -158,10 +158,14 @@ module _ (final : Answer) (most : ℕ) (w : World rationTable) (x : Nears final 
 
 -- ---- between two changes
 
-last-same : (last : ℕ) (ms : List ℕ) → lastOf last ms ≡ lastGivenOf last ms
+last-same : (last : ℕ) (ms : List ℕ) → lastOf last ms ≡ getD ms (length ms - 1) last
 unfolding lastOf
 last-same last [] = refl
-last-same last (m ∷ ms) = last-same m ms
+last-same last (m ∷ []) = refl
+last-same last (m ∷ x ∷ ms) =
+    let there : suc (length ms) - 1 ≡ length ms = omega arith in
+    let one-on : suc (length ms) ≡ suc (suc (length ms)) - 1 = omega arith in
+    last-same last (x ∷ ms) ∙ ap (λ (k : ℕ). getD (x ∷ ms) k last) there ∙ ap (λ (k : ℕ). getD (m ∷ x ∷ ms) k last) one-on
 
 -- the work in hand has had its first change planned: an update that has, or a repair of opening's
 abbrev pub Begun : Doing → Type 0

@@ -13,11 +13,11 @@ use borrow.Author.Tests.{ne-eqb, lt-ltb}
 use Rattle.card.specs.Header.{nodesOfLength, cardRefusal, Sized, Formatted}
 use Rattle.card.specs.Layout.{nodeAt, keyWords, valueWords}
 use Rattle.card.proofs.NodeLaws.{get-valueWord}
-use Rattle.card.specs.Replies.{Reply, refusal}
-use Rattle.demands.specs.Demand1.{Finds, besideFirst, ReadsLeaf, HandsNone, StartsFormat, OpensTo}
+use Rattle.card.specs.Replies.{Reply, refusal, holds, absent}
+use Rattle.demands.specs.Demand1.{besideFirst, ReadsLeaf, HandsNone, StartsFormat, OpensTo}
 use Rattle.promises.specs.Way.{nodesOn, leadsTo}
 use Rattle.demands.specs.Refusals.{ByRows, NoCard, Unsound, Scarce, findRows, formatRows, openRows, end, row}
-use Rattle.promises.specs.RationTable.{workOf, dueOf, handed, rationTable}
+use Rattle.promises.specs.RationTable.{workOf, handed, rationTable}
 use Rattle.demands.proofs.FirstRows.{sized?, no-nodes, by-card, card-one}
 use Rattle.promises.proofs.WayDown.{arrived, reachedLeaf, leaf-way}
 use Rattle.descent.specs.Descent.{firstEqual, slotOf, way, leafOf}
@@ -76,6 +76,10 @@ found-works : (node : List ℕ) (key : ℕ) → foundReply (foundIn node (slotOf
 unfolding slotOf keyWords
 found-works node key = found-reads node key (keyWords node) 0 (omega (arith, length-take 11 (drop 1 node)))
 
+-- a value or "absent"
+abbrev pub Finds : Reply → Type 0
+Finds r = ((v : ℕ) × (r ≡ holds v)) ⊎ (r ≡ absent)
+
 pub reads-finds : (key : ℕ) (keys values : List ℕ) (i : ℕ) → Finds (besideFirst key keys values i)
 unfolding besideFirst
 reads-finds key [] values i = inr refl
@@ -119,7 +123,7 @@ format-begun : (c : List ℕ) → StartsFormat rationTable c (handed (record { b
 unfolding resting workOf startReply
 format-begun c = record { reply-given = refl; in-progress = refl; nodes-noted = refl }
 
-pub formats : (c : List ℕ) → ByRows (formatRows c) (HandsNone rationTable (rationTable .format c)) (StartsFormat rationTable c (rationTable .format c))
+pub formats : (c : List ℕ) → ByRows (formatRows c (nodesOn c)) (HandsNone rationTable (rationTable .format c)) (StartsFormat rationTable c (rationTable .format c))
 unfolding ByRows
 formats c = go (sized? (length c) (nodesOn c))
   where
@@ -142,7 +146,7 @@ unfolding noBeginning startReply
 reply-five c r e = rw e
 
 pub opens : (c : List ℕ) → ByRows (openRows c) (HandsNone rationTable (rationTable .openCard c)) (OpensTo rationTable c (rationTable .openCard c))
-unfolding ByRows openOf openChecked noBeginning startReply resting workOf dueOf
+unfolding ByRows openOf openChecked noBeginning startReply resting workOf
 opens c =
     by-card (row 4 (Unsound c) (row 5 (Scarce c) end)) (HandsNone rationTable (handed (openOf c))) (OpensTo rationTable c (handed (openOf c))) c (nodesOn c)
     (λ p. rw (open-due c 1 (card-one c p) (λ z. omega (arith, z))) (none-handed 1))
@@ -176,7 +180,7 @@ opens c =
                     let code : startReply (openOf c .begun) .code ≡ 69 = rw is in
                     inr (
                       λ p. omega (arith, code, ap (λ (x : Reply). x .code) (refuses-few c (nodesOn c) s k .1 p)),
-                      record { table = t .0; sound = t .1; hands = inr (omega (arith, t .2 .violated, bit-true (f .violated) q), rw is, rw is, (f .key, rw is)); nodes-noted = rw is; free-noted = rw is (facts-exact (t .2)); search-first = rw is },
+                      record { table = t .0; sound = t .1; hands = inr (omega (arith, t .2 .violated, bit-true (f .violated) q), rw is, (f .key, rw is)); nodes-noted = rw is; free-noted = rw is (facts-exact (t .2)); search-first = rw is },
                     )
 
                 whole : f .violated ≡ false → (Scarce c × HandsNone rationTable (handed (openOf c)) 5) ⊎ ((Scarce c → ⊥) × OpensTo rationTable c (handed (openOf c)))

@@ -4,7 +4,7 @@ use mathlib.Core.Bool.{true, false}
 use mathlib.Core.List.{List}
 use mathlib.Core.Logic.{inl, inr}
 use mathlib.Core.Option.{Option, none, some}
-use Prim.Native.Nat.{ℕ, _<_}
+use Prim.Native.Nat.{ℕ, _*_, _<_}
 use native.Mathlib.Omega.{arith}
 use lib.ListN.{length}
 use Rattle.card.specs.Header.{Sized, Formatted}
@@ -18,10 +18,10 @@ use Rattle.card.specs.Layout.{keyLimit}
 use Rattle.card.specs.Replies.{Reply, refusal}
 use Rattle.demands.specs.Demand1.{HandsBack, Starts}
 use Rattle.demands.specs.Worked.{dictionary}
-use Rattle.demands.specs.Demand2.{mostStores, Finishes, Updates, Rests, Works, Dictionary, Demand2}
-use Rattle.promises.specs.Table.{inserting, deleting, putIn, takeOut}
+use Rattle.demands.specs.Demand2.{Finishes, Updates, Rests, Works, Dictionary, Demand2}
+use Rattle.promises.specs.Table.{inserting, deleting}
 use Rattle.promises.specs.Way.{leadsTo}
-use Rattle.demands.specs.Refusals.{Rows, ByRows, Idle as Resting, Busy, NoRoom, cardRows, row, end}
+use Rattle.demands.specs.Refusals.{Rows, ByRows, Idle as Resting, NoRoom, cardRows, row, end}
 use Rattle.demands.specs.Rules.{InsertRule, DeleteRule}
 use Rattle.demands.proofs.CardRows.{none-some}
 use Rattle.demands.proofs.PowerCuts.{dictionary-same, Covered, always, restsRight}
@@ -101,50 +101,50 @@ module _ (w : World rationTable) (b : Book) (v : Covered w b) where
   rests-now : w .state .doing ≡ Idle → WasRests w (b .held)
   rests-now e = inv-rests n (v .steps) w b i e
 
-  insert-works : (key value : ℕ) → key < keyLimit → Starts rationTable (w .state) (rationTable .insert (w .card) (w .state) key value) (inserting key value) (putIn key value) → Works rationTable (insert key value) ((a : ℕ) × (lookup key (b .held) ≡ some a)) (InsertRule (w .card) key value) key w (b .held)
+  insert-works : (key value : ℕ) → key < keyLimit → Starts rationTable (w .state) (rationTable .insert (w .card) (w .state) key value) (inserting key value false) → Works rationTable (insert key value) ((a : ℕ) × (lookup key (b .held) ≡ some a)) (InsertRule (w .card) key value) key w (b .held)
   unfolding replyTo insertOf startReply
   insert-works key value high s =
       let e = begun-started (insertOf (w .card) (w .state) key value .begun) (start-small (w .card) (w .state) key (Inserting key value false) (startRoom (w .card) key (w .state .free))) (s .reply-given) in
       record {
         begins = s .reply-given;
         by-rules = subst (λ (r : Reply). Updates rationTable ((a : ℕ) × (lookup key (b .held) ≡ some a)) (InsertRule (w .card) key value) r (happens rationTable (insert key value) w)) (dictionary-same (lookup key (b .held))) (insert-by-rules w b v key value high e);
-        finishes = finishes-by (lookup key (b .held)) mostStores (happens rationTable (insert key value) w) (insert-stores i key high value e);
+        finishes = finishes-by (lookup key (b .held)) (73 * 9) (happens rationTable (insert key value) w) (insert-stores i key high value e);
       }
 
-  delete-works : (key : ℕ) → key < keyLimit → Starts rationTable (w .state) (rationTable .delete (w .card) (w .state) key) (deleting key) (takeOut key) → Works rationTable (delete key) (lookup key (b .held) ≡ none) (DeleteRule (w .card) key) key w (b .held)
+  delete-works : (key : ℕ) → key < keyLimit → Starts rationTable (w .state) (rationTable .delete (w .card) (w .state) key) (deleting key false) → Works rationTable (delete key) (lookup key (b .held) ≡ none) (DeleteRule (w .card) key) key w (b .held)
   unfolding replyTo deleteOf startReply
   delete-works key high s =
       let e = begun-started (deleteOf (w .card) (w .state) key .begun) (start-small (w .card) (w .state) key (Deleting key false 0) (λ l. true)) (s .reply-given) in
       record {
         begins = s .reply-given;
         by-rules = subst (λ (r : Reply). Updates rationTable (lookup key (b .held) ≡ none) (DeleteRule (w .card) key) r (happens rationTable (delete key) w)) (dictionary-same (lookup key (b .held))) (delete-by-rules w b v key high e);
-        finishes = finishes-by (lookup key (b .held)) mostStores (happens rationTable (delete key) w) (delete-stores i key high e);
+        finishes = finishes-by (lookup key (b .held)) (73 * 9) (happens rationTable (delete key) w) (delete-stores i key high e);
       }
 
-  inserts-right : (key value : ℕ) → key < keyLimit → ByRows (row 7 (Busy rationTable (w .state)) (row 6 (key ≡ 0) (row 8 (NoRoom (w .card) (w .state .free) key) end)))
+  inserts-right : (key value : ℕ) → key < keyLimit → ByRows (row 7 (Resting rationTable (w .state) → ⊥) (row 6 (key ≡ 0) (row 8 (NoRoom (w .card) (w .state .free) key) end)))
       (λ r. replyTo rationTable (insert key value) w ≡ refusal r) (Works rationTable (insert key value) ((a : ℕ) × (lookup key (b .held) ≡ some a)) (InsertRule (w .card) key value) key w (b .held))
   unfolding ByRows replyTo
   inserts-right key value high =
-      go (past-card (row 7 (Busy rationTable (w .state)) (row 6 (key ≡ 0) (row 9 (leadsTo (w .card) key ≡ none) (row 8 (NoRoom (w .card) (w .state .free) key) end)))) (HandsBack rationTable (w .state) (rationTable .insert (w .card) (w .state) key value))
-      (Starts rationTable (w .state) (rationTable .insert (w .card) (w .state) key value) (inserting key value) (putIn key value)) (w .card) (w .state .nodes) sized header (demand-1 .inserts (w .card) (w .state) key value))
+      go (past-card (row 7 (Resting rationTable (w .state) → ⊥) (row 6 (key ≡ 0) (row 9 (leadsTo (w .card) key ≡ none) (row 8 (NoRoom (w .card) (w .state .free) key) end)))) (HandsBack rationTable (w .state) (rationTable .insert (w .card) (w .state) key value))
+      (Starts rationTable (w .state) (rationTable .insert (w .card) (w .state) key value) (inserting key value false)) (w .card) (w .state .nodes) sized header (demand-1 .inserts (w .card) (w .state) key value))
     where
-      go : ByRows (row 7 (Busy rationTable (w .state)) (row 6 (key ≡ 0) (row 9 (leadsTo (w .card) key ≡ none) (row 8 (NoRoom (w .card) (w .state .free) key) end)))) (HandsBack rationTable (w .state) (rationTable .insert (w .card) (w .state) key value))
-          (Starts rationTable (w .state) (rationTable .insert (w .card) (w .state) key value) (inserting key value) (putIn key value))
-          → ByRows (row 7 (Busy rationTable (w .state)) (row 6 (key ≡ 0) (row 8 (NoRoom (w .card) (w .state .free) key) end))) (λ r. replyTo rationTable (insert key value) w ≡ refusal r) (Works rationTable (insert key value) ((a : ℕ) × (lookup key (b .held) ≡ some a)) (InsertRule (w .card) key value) key w (b .held))
+      go : ByRows (row 7 (Resting rationTable (w .state) → ⊥) (row 6 (key ≡ 0) (row 9 (leadsTo (w .card) key ≡ none) (row 8 (NoRoom (w .card) (w .state .free) key) end)))) (HandsBack rationTable (w .state) (rationTable .insert (w .card) (w .state) key value))
+          (Starts rationTable (w .state) (rationTable .insert (w .card) (w .state) key value) (inserting key value false))
+          → ByRows (row 7 (Resting rationTable (w .state) → ⊥) (row 6 (key ≡ 0) (row 8 (NoRoom (w .card) (w .state .free) key) end))) (λ r. replyTo rationTable (insert key value) w ≡ refusal r) (Works rationTable (insert key value) ((a : ℕ) × (lookup key (b .held) ≡ some a)) (InsertRule (w .card) key value) key w (b .held))
       go (inl (p, h)) = inl (p, h .number-given)
       go (inr (a, inl (p, h))) = inr (a, inl (p, h .number-given))
       go (inr (a, inr (d, inl (p, h)))) = absurd (leads-somewhere key d high p)
       go (inr (a, inr (d, inr (l, inl (p, h))))) = inr (a, inr (d, inl (p, h .number-given)))
       go (inr (a, inr (d, inr (l, inr (r, s))))) = inr (a, inr (d, inr (r, insert-works key value high s)))
 
-  deletes-right : (key : ℕ) → key < keyLimit → ByRows (row 7 (Busy rationTable (w .state)) (row 6 (key ≡ 0) end)) (λ r. replyTo rationTable (delete key) w ≡ refusal r) (Works rationTable (delete key) (lookup key (b .held) ≡ none) (DeleteRule (w .card) key) key w (b .held))
+  deletes-right : (key : ℕ) → key < keyLimit → ByRows (row 7 (Resting rationTable (w .state) → ⊥) (row 6 (key ≡ 0) end)) (λ r. replyTo rationTable (delete key) w ≡ refusal r) (Works rationTable (delete key) (lookup key (b .held) ≡ none) (DeleteRule (w .card) key) key w (b .held))
   unfolding ByRows replyTo
   deletes-right key high =
-      go (past-card (row 7 (Busy rationTable (w .state)) (row 6 (key ≡ 0) (row 9 (leadsTo (w .card) key ≡ none) end))) (HandsBack rationTable (w .state) (rationTable .delete (w .card) (w .state) key))
-      (Starts rationTable (w .state) (rationTable .delete (w .card) (w .state) key) (deleting key) (takeOut key)) (w .card) (w .state .nodes) sized header (demand-1 .deletes (w .card) (w .state) key))
+      go (past-card (row 7 (Resting rationTable (w .state) → ⊥) (row 6 (key ≡ 0) (row 9 (leadsTo (w .card) key ≡ none) end))) (HandsBack rationTable (w .state) (rationTable .delete (w .card) (w .state) key))
+      (Starts rationTable (w .state) (rationTable .delete (w .card) (w .state) key) (deleting key false)) (w .card) (w .state .nodes) sized header (demand-1 .deletes (w .card) (w .state) key))
     where
-      go : ByRows (row 7 (Busy rationTable (w .state)) (row 6 (key ≡ 0) (row 9 (leadsTo (w .card) key ≡ none) end))) (HandsBack rationTable (w .state) (rationTable .delete (w .card) (w .state) key)) (Starts rationTable (w .state) (rationTable .delete (w .card) (w .state) key) (deleting key) (takeOut key))
-          → ByRows (row 7 (Busy rationTable (w .state)) (row 6 (key ≡ 0) end)) (λ r. replyTo rationTable (delete key) w ≡ refusal r) (Works rationTable (delete key) (lookup key (b .held) ≡ none) (DeleteRule (w .card) key) key w (b .held))
+      go : ByRows (row 7 (Resting rationTable (w .state) → ⊥) (row 6 (key ≡ 0) (row 9 (leadsTo (w .card) key ≡ none) end))) (HandsBack rationTable (w .state) (rationTable .delete (w .card) (w .state) key)) (Starts rationTable (w .state) (rationTable .delete (w .card) (w .state) key) (deleting key false))
+          → ByRows (row 7 (Resting rationTable (w .state) → ⊥) (row 6 (key ≡ 0) end)) (λ r. replyTo rationTable (delete key) w ≡ refusal r) (Works rationTable (delete key) (lookup key (b .held) ≡ none) (DeleteRule (w .card) key) key w (b .held))
       go (inl (p, h)) = inl (p, h .number-given)
       go (inr (a, inl (p, h))) = inr (a, inl (p, h .number-given))
       go (inr (a, inr (d, inl (p, h)))) = absurd (leads-somewhere key d high p)

@@ -7,11 +7,11 @@ use native.Mathlib.Omega.{arith}
 use native.Mathlib.Decide.{ℕ-discrete}
 use lib.ListN.{length, getD, length-take, length-drop}
 use borrow.Author.Tests.{eq-eqb, ne-eqb}
-use Rattle.demands.specs.Demand1.{Finds, ReadsLeaf}
+use Rattle.demands.specs.Demand1.{ReadsLeaf}
 use Rattle.demands.specs.Refusals.{ByRows, findRows}
 use Rattle.demands.specs.W213.{recordRows, NoRecord, IsRecord, AtOffset, ByFind, W213}
 use Rattle.promises.specs.RationTable.{rationTable}
-use Rattle.demands.proofs.CardRows.{finds, reads-finds}
+use Rattle.demands.proofs.CardRows.{Finds, finds, reads-finds}
 use Rattle.promises.proofs.AnswerNumbers.{find-small}
 use Rattle.promises.proofs.ReplyLaws.{code-of, found-refused, found-absent, found-value}
 use Rattle.demands.proofs.RowLaws.{Numbers, rows-elim, rows-map}

@@ -4,11 +4,11 @@ use mathlib.Core.List.{List, [], _∷_}
 use mathlib.Core.Logic.{_⊎_, inl, inr}
 use Prim.Native.Nat.{ℕ, zero, suc, _+_, _≤_, _<_}
 use native.Mathlib.Omega.{arith}
-use lib.ListN.{length, set, drop}
+use lib.ListN.{length, getD, set, drop}
 use Rattle.card.specs.Stores.{Store}
 use Rattle.promises.specs.Events.{Event, World, replyTo, happens, run, LeftUncut, stepsIn, find, insert, delete, step, cut}
 use Rattle.promises.specs.Book.{Hand, Book, feed, told}
-use Rattle.demands.specs.Demand2.{storeAt, StoresNow}
+use Rattle.demands.specs.Demand2.{StoresNow}
 use Rattle.promises.specs.RationTable.{rationTable}
 use Rattle.demands.proofs.PowerCuts.{Covered}
 use Rattle.demands.proofs.StepRows.{advanced-rest}
@@ -61,6 +61,10 @@ nearer final (suc few) w x e =
     )
 
 -- ---- one store of the change in hand
+
+-- store number i of a list
+abbrev pub storeAt : List Store → ℕ → Store
+storeAt stores i = getD stores i (0, 0)
 
 -- the next store of the plan is made
 abbrev Storing : List ℕ → Memory → Type 0

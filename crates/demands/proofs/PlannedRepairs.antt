@@ -16,7 +16,7 @@ use Rattle.change_decide.specs.Places.{parentAt, leftAt, rightAt}
 use Rattle.change_decide.specs.declared.Decision.{Decision}
 use Rattle.change.specs.LayOut.{layOut}
 use Rattle.change.specs.Mending.{nextRepair}
-use Rattle.descent.specs.Descent.{rootPosition, seek}
+use Rattle.descent.specs.Descent.{rootPosition, countOf, seek}
 use Rattle.descent.specs.declared.Position.{Position}
 use Rattle.descent.specs.declared.Search.{Search}
 use Rattle.descent.specs.declared.Search.the-variants.{Refused as NoSearch, Balanced as SearchBalanced, Violation as SearchViolation}
@@ -27,7 +27,7 @@ use Rattle.plans.specs.Change.{Together as Both, leavesTogether, innersTogether
 use Rattle.plans.specs.Planning.{prepared, first}
 use Rattle.siblings.specs.Siblings.{togetherAt}
 use Rattle.siblings.proofs.SiblingLaws.{leaves-count, inners-count, leaves-together, inners-together}
-use Rattle.demands.specs.Rules.{Together, two-leaves, two-internal, Underfull, TaggedChild, RepairRule, taken-in, parent-split, shared, merged, merged-root, width}
+use Rattle.demands.specs.Rules.{Together, two-leaves, two-internal, Underfull, TaggedChild, RepairRule, taken-in, parent-split, shared, merged, merged-root}
 use Rattle.demands.proofs.PlannedNumbers.{ByRule, RightOver, not-refused, not-balanced, giving-one, giving-two, giving-three}
 use Rattle.demands.proofs.Standing.{Below, Fault, fault-found}
 
@@ -68,27 +68,27 @@ module _ (c : List ℕ) (free : List Bool) (last : ℕ) (ss : List Store) (fewer
       Together c (leftNumber (parentAt c p) p) (getD (routingKeys (parentAt c p)) (leftSibling p) 0) (rightNumber (parentAt c p) p) (b .kind) (b .keys) (b .values)
 
   -- "if that parent is the root with 2 children, the merged node becomes the root"
-  into-root : (p : Position) (both : Both) → p .above ≡ rootPlace → Underfull c (p .above) (p .parent) (leftSibling p) → Held p both
+  into-root : (p : Position) (both : Both) → p .above ≡ rootPlace → Underfull c (p .above) (p .parent) (leftSibling p) (leftNumber (parentAt c p) p) (rightNumber (parentAt c p) p) → Held p both
       → length (both .values) ≤ 3 → length (children (parentAt c p)) ≡ 2
       → (x : ℕ) → RightOver (RepairRule c) (λ ms. mergeRoot p (parentAt c p) (leftSibling p) both (first ms)) (x ∷ [])
   unfolding changeStores mergeRoot
-  into-root p both above u t few two x = rw above (merged-root x _ _ (rw above at u) refl refl t few two)
+  into-root p both above u t few two x = rw above (merged-root x _ _ (rw above at u) t few two)
 
   -- "Together 4 or more: shared out .. Together 3 or fewer: merged .."
-  together-mended : (p : Position) (count : ℕ) → length (togetherAt c p .values) ≡ count → 0 < p .parent → Underfull c (p .above) (p .parent) (leftSibling p)
+  together-mended : (p : Position) (count : ℕ) → length (togetherAt c p .values) ≡ count → 0 < p .parent → Underfull c (p .above) (p .parent) (leftSibling p) (leftNumber (parentAt c p) p) (rightNumber (parentAt c p) p)
       → Held p (togetherAt c p) → Laid (decideTogether p (parentAt c p) count) → Repairs
   unfolding decideTogether layOut changeStores share merge mergeRoot halves copied half leftKeys keyBetween
   together-mended p count n m u t e =
       decided (ltb 12 count) _ _ e (λ q z. absurd (not-refused z)) (λ q e₁.
       decided (leb 4 count) _ _ e₁
-      (λ r e₂. giving-three _ e₂ (λ x y z. shared x y z _ _ _ u refl refl t (rw n (leb-true 4 count r)) refl)) (λ r e₂.
+      (λ r e₂. giving-three _ e₂ (λ x y z. shared x y z _ _ _ u t (rw n (leb-true 4 count r)) refl)) (λ r e₂.
       let few = leb-false 4 count r in
       decided (eqb (p .above) rootPlace && eqb (length (children (parentAt c p))) 2) _ _ e₂
       (λ s e₃.
       let root = and-true (eqb (p .above) rootPlace) (eqb (length (children (parentAt c p))) 2) s in
       let above = eqb-true (p .above) rootPlace (root .0) in
       giving-one _ e₃ (into-root p (togetherAt c p) above u t (omega (arith, n, few)) (eqb-true (length (children (parentAt c p))) 2 (root .1))))
-      (λ s e₃. giving-two _ e₃ (λ x y. merged x y _ _ u refl refl t (omega (arith, n, few)) (not-that-root s)))))
+      (λ s e₃. giving-two _ e₃ (λ x y. merged x y _ _ u t (omega (arith, n, few)) (not-that-root s)))))
     where
       not-that-root : (eqb (p .above) rootPlace && eqb (length (children (parentAt c p))) 2) ≡ false → (p .above ≡ rootPlace) × (length (children (parentAt c p)) ≡ 2) → ⊥
       not-that-root s h =
@@ -106,7 +106,7 @@ module _ (c : List ℕ) (free : List Bool) (last : ℕ) (ss : List Store) (fewer
     unfolding innersTogether
     two-inners-there x y = subst (Held p) (sym (inners-together c p (λ t. omega (arith, t, x)))) (two-internal x y)
 
-  siblings-mended : (p : Position) → 0 < p .parent → Underfull c (p .above) (p .parent) (leftSibling p)
+  siblings-mended : (p : Position) → 0 < p .parent → Underfull c (p .above) (p .parent) (leftSibling p) (leftNumber (parentAt c p) p) (rightNumber (parentAt c p) p)
       → Laid (decideSiblings p (parentAt c p) (leftAt c p) (rightAt c p)) → Repairs
   unfolding decideSiblings layOut
   siblings-mended p m u e =
@@ -126,13 +126,13 @@ module _ (c : List ℕ) (free : List Bool) (last : ℕ) (ss : List Store) (fewer
       (λ r z. absurd (not-refused z)))
 
   -- "Underfull non-root node: sibling is the right one for child 0, else the left one."
-  underfull-mended : (n : ℕ) (p : Position) → Below c p → kindOf (parentAt c p) ≡ 2 → width (nodeAt c (p .node)) < 2
+  underfull-mended : (n : ℕ) (p : Position) → Below c p → kindOf (parentAt c p) ≡ 2 → countOf (nodeAt c (p .node)) < 2
       → Laid (decideUnderfull c n p (parentAt c p)) → Repairs
   unfolding decideUnderfull layOut
   underfull-mended n p b kp few e =
       decided (ltb (suc (leftSibling p)) (length (children (parentAt c p)))) _ _ e
       (λ q e₁.
-      let u : Underfull c (p .above) (p .parent) (leftSibling p) = record {
+      let u : Underfull c (p .above) (p .parent) (leftSibling p) (leftNumber (parentAt c p) p) (rightNumber (parentAt c p) p) = record {
         parent-linked = b .parent-linked;
         parent-kind = kp;
         index = p .index;
@@ -140,6 +140,8 @@ module _ (c : List ℕ) (free : List Bool) (last : ℕ) (ss : List Store) (fewer
         few = rw (b .child-is) few;
         first-of-two = refl;
         has-sibling = ltb-true (suc (leftSibling p)) (length (children (parentAt c p))) q;
+        left-is = refl;
+        right-is = refl;
       } in
       decided (isNode n (leftNumber (parentAt c p) p) && isNode n (rightNumber (parentAt c p) p)) _ _ e₁
       (λ r e₂. siblings-mended p (b .parent-there) u e₂)
@@ -157,7 +159,7 @@ module _ (c : List ℕ) (free : List Bool) (last : ℕ) (ss : List Store) (fewer
       (λ r e₂. underfull-mended n p (f .below) kp (few (eqb-false (kindOf (nodeAt c (p .node))) 3 r) (f .tagged-or-few)) e₂))
       (λ q z. absurd (not-refused z))
     where
-      few : (kindOf (nodeAt c (p .node)) ≡ 3 → ⊥) → (kindOf (nodeAt c (p .node)) ≡ 3) ⊎ (width (nodeAt c (p .node)) < 2) → width (nodeAt c (p .node)) < 2
+      few : (kindOf (nodeAt c (p .node)) ≡ 3 → ⊥) → (kindOf (nodeAt c (p .node)) ≡ 3) ⊎ (countOf (nodeAt c (p .node)) < 2) → countOf (nodeAt c (p .node)) < 2
       few other (inl k) = absurd (other k)
       few other (inr h) = h
 

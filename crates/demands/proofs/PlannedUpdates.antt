@@ -88,7 +88,7 @@ module _ (c : List ℕ) (n key : ℕ) (on : nodesOn c ≡ n) {free : List Bool} 
       none-taken (in-slot i (leads c n key m link run on l) absent (omega (arith, slot .within, slots-of-eleven (nodeAt c m)), slot .stands, slot .first)) e
   insert-in value m link run l absent NoSlot f e =
       let there = landing-linked c n key m link run l in
-      giving-three _ e (λ x y z. leaf-split x y z _ (leads c n key m link run on l) absent (no-slot (nodeAt c m) 0 f) (there .0) refl)
+      giving-three _ e (λ x y z. leaf-split x y z _ (record { leads = leads c n key m link run on l; absent = absent; full = no-slot (nodeAt c m) 0 f }) (there .0) refl)
 
   pub insert-by-rule : (doing : Doing) (value : ℕ) → nextChange c n free last doing (PutIn key value) .preparation ≡ prepared ss fewer now cut
       → ByRule (InsertRule c key value) free last ss fewer now cut
@@ -127,7 +127,7 @@ module _ (c : List ℕ) (n key : ℕ) (on : nodesOn c ≡ n) {free : List Bool} 
 
 pub insert-short : {c : List ℕ} {key value : ℕ} {given cut : List ℕ} {ss : List Store} → InsertRule c key value given cut ss → length ss ≤ 73
 insert-short (in-slot i l a f) = omega arith
-insert-short {c} {key} {value} (leaf-split {m} {link = link} a b d twelve l h e k s) =
+insert-short {c} {key} {value} (leaf-split {m} {link = link} a b d twelve l k s) =
     let n : length twelve ≤ 12 = omega (arith, ap length s, length-sort ((key, value) ∷ leafPairs (nodeAt c m)), leaf-few (nodeAt c m)) in
     let left : length (take 6 twelve) ≤ 11 = simp length-take (omega arith) in
     let right : length (drop 6 twelve) ≤ 11 = simp length-drop (omega arith) in

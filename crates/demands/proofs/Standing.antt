@@ -22,7 +22,7 @@ use Rattle.laws.proofs.Cases.{bool-cases, and-true}
 use Rattle.laws.specs.Cases.{pick}
 use Rattle.updates.specs.Updates.{landing}
 use Rattle.updates.proofs.UpdateLaws.{leaf-on}
-use Rattle.demands.specs.Rules.{LinkedAt, root-linked, child-linked, width}
+use Rattle.demands.specs.Rules.{LinkedAt, root-linked, child-linked}
 
 -- what a test came to, and what was picked then
 pub picked {ℓ} : {A : Type 0} {P : Type ℓ} (b : Bool) {x y a : A} → pick b x y ≡ a → (b ≡ true → x ≡ a → P) → (b ≡ false → y ≡ a → P) → P
@@ -66,15 +66,15 @@ Stands c p = LinkedAt c (p .link) (p .node) × ((p .parent ≡ 0) ⊎ Below c p)
 pub record Fault (c : List ℕ) (p : Position) : Type 0 where
   pub below : Below c p
   pub node-there : 0 < p .node
-  pub tagged-or-few : (kindOf (nodeAt c (p .node)) ≡ 3) ⊎ (width (nodeAt c (p .node)) < 2)
+  pub tagged-or-few : (kindOf (nodeAt c (p .node)) ≡ 3) ⊎ (countOf (nodeAt c (p .node)) < 2)
 
 -- what the test of a fault tells
-fault-parts : (node : List ℕ) (parent : ℕ) → isFault node parent ≡ true → (parent ≡ 0 → ⊥) × ((kindOf node ≡ 3) ⊎ (width node < 2))
+fault-parts : (node : List ℕ) (parent : ℕ) → isFault node parent ≡ true → (parent ≡ 0 → ⊥) × ((kindOf node ≡ 3) ⊎ (countOf node < 2))
 unfolding isFault countOf
 fault-parts node parent e = (
   fault-below node parent e,
   bool-cases (eqb (kindOf node) 3) (λ q. inl (eqb-true (kindOf node) 3 q))
-      (λ q. inr (ltb-true (width node) 2 (rw q at (and-true (not (eqb parent 0)) (eqb (kindOf node) 3 || ltb (width node) 2) e .1)))),
+      (λ q. inr (ltb-true (countOf node) 2 (rw q at (and-true (not (eqb parent 0)) (eqb (kindOf node) 3 || ltb (countOf node) 2) e .1)))),
 )
 
 -- the child that a key takes stands below a node that stands
@@ -108,6 +108,6 @@ module _ (c : List ℕ) (n key : ℕ) where
       let f = fault-along c n (Stands c) depthLimit (way c n key) true q stands (search-fault c n key depthLimit (rootPosition (getD c rootPlace 0)) q e) in
       go (f .holds .1) (look-inside c n (q .node) (f .there) .one) (fault-parts (nodeAt c (q .node)) (q .parent) (f .fault))
     where
-      go : (q .parent ≡ 0) ⊎ Below c q → 1 ≤ q .node → (q .parent ≡ 0 → ⊥) × ((kindOf (nodeAt c (q .node)) ≡ 3) ⊎ (width (nodeAt c (q .node)) < 2)) → Fault c q
+      go : (q .parent ≡ 0) ⊎ Below c q → 1 ≤ q .node → (q .parent ≡ 0 → ⊥) × ((kindOf (nodeAt c (q .node)) ≡ 3) ⊎ (countOf (nodeAt c (q .node)) < 2)) → Fault c q
       go (inl z) one p = absurd (p .0 z)
       go (inr b) one p = record { below = b; node-there = omega arith; tagged-or-few = p .1 }

@@ -10,6 +10,7 @@ use Prim.Native.Nat.{ℕ, suc, _+_, _-_, _/_, _≤_, _<_}
 use lib.Dec.{eqb}
 use lib.ListN.{length, getD, set, take, drop}
 use Rattle.card.specs.Layout.{rootPlace, place, nodeAt, kindOf, keyWords, children, routingKeys, leafPairs}
+use Rattle.descent.specs.Descent.{countOf}
 use Rattle.card.specs.Stores.{Store, NewNode, newNode, nodeStores}
 use Rattle.laws.specs.Cases.{pick}
 use Rattle.laws.specs.Sorting.{sort, pairKeys, pairValues, keyAt}
@@ -28,11 +29,6 @@ pub record NextFree (free : List Bool) (last m : ℕ) : Type 0 where
 pub data Given : List Bool → ℕ → List ℕ → Type 0 where
   none-given : {free : List Bool} {last : ℕ} → Given free last []
   then-given : {free : List Bool} {last m : ℕ} {ms : List ℕ} → NextFree free last m → Given (set free m false) m ms → Given free last (m ∷ ms)
-
--- the node given last, after these
-abbrev pub lastGivenOf : ℕ → List ℕ → ℕ
-lastGivenOf last [] = last
-lastGivenOf last (m ∷ ms) = lastGivenOf m ms
 
 -- "after formatting or opening the search starts at node 1": the node taken for given last then
 abbrev pub searchStart : ℕ
@@ -63,10 +59,7 @@ written nodes link number = nodeStores nodes ++ (link, number) ∷ []
 abbrev pub leafOf : ℕ → List (ℕ × ℕ) → NewNode
 leafOf a ps = newNode a 1 (pairKeys ps) (pairValues ps)
 
--- the key words, the routing keys and the children of node m
-abbrev pub slots : List ℕ → ℕ → List ℕ
-slots c m = keyWords (nodeAt c m)
-
+-- the routing keys and the children of node m
 abbrev pub routes : List ℕ → ℕ → List ℕ
 routes c m = routingKeys (nodeAt c m)
 
@@ -79,18 +72,22 @@ kids c m = children (nodeAt c m)
 abbrev pub FirstSlot : List ℕ → ℕ → ℕ → Type 0
 FirstSlot row x i = (i < 11) × (getD row i 0 ≡ x) × ((k : ℕ) → k < i → getD row k 0 ≡ x → ⊥)
 
+-- "key absent, leaf full": the key leads to leaf m, below j 11-child nodes without a break straight above
+pub record FullLeaf (c : List ℕ) (key m j : ℕ) : Type 0 where
+  pub leads : leadsTo c key ≡ some (m, j)
+  pub absent : among key (keyWords (nodeAt c m)) ≡ false
+  pub full : among 0 (keyWords (nodeAt c m)) ≡ false
+
 -- "With an empty slot: value first, then key, in the lowest empty slot. Leaf full: the 12 pairs go 6 and 6 into two leaves under a
 -- tagged node (internal if it is the root) whose routing key is the right leaf's smallest."
 pub data InsertRule (c : List ℕ) (key value : ℕ) : List ℕ → List ℕ → List Store → Type 0 where
   in-slot : {m j : ℕ} (i : ℕ)
       → leadsTo c key ≡ some (m, j)
-      → among key (slots c m) ≡ false
-      → FirstSlot (slots c m) 0 i
+      → among key (keyWords (nodeAt c m)) ≡ false
+      → FirstSlot (keyWords (nodeAt c m)) 0 i
       → InsertRule c key value [] [] ((place m (12 + i), value) ∷ (place m (1 + i), key) ∷ [])
   leaf-split : {m j link : ℕ} (a b d : ℕ) (twelve : List (ℕ × ℕ))
-      → leadsTo c key ≡ some (m, j)
-      → among key (slots c m) ≡ false
-      → among 0 (slots c m) ≡ false
+      → FullLeaf c key m j
       → LinkedAt c link m
       → twelve ≡ sort ((key, value) ∷ leafPairs (nodeAt c m))
       → InsertRule c key value (a ∷ b ∷ d ∷ []) (m ∷ [])
@@ -100,7 +97,7 @@ pub data InsertRule (c : List ℕ) (key value : ℕ) : List ℕ → List ℕ →
 pub data DeleteRule (c : List ℕ) (key : ℕ) : List ℕ → List ℕ → List Store → Type 0 where
   key-cleared : {m j : ℕ} (i : ℕ)
       → leadsTo c key ≡ some (m, j)
-      → FirstSlot (slots c m) key i
+      → FirstSlot (keyWords (nodeAt c m)) key i
       → DeleteRule c key [] [] ((place m (1 + i), 0) ∷ [])
 
 -- ---- repairs
@@ -113,20 +110,18 @@ pub data Together (c : List ℕ) (x k y : ℕ) : ℕ → List ℕ → List ℕ �
   two-internal : kindOf (nodeAt c x) ≡ 2 → kindOf (nodeAt c y) ≡ 2
       → Together c x k y 2 (routes c x ++ k ∷ routes c y) (kids c x ++ kids c y)
 
--- how many pairs or children a node has
-abbrev pub width : List ℕ → ℕ
-width node = pick (eqb (kindOf node) 1) (length (leafPairs node)) (length (children node))
-
 -- "Underfull non-root node: sibling is the right one for child 0, else the left one." Child i of the parent p, linked at `link`, is
--- underfull; it and its sibling are children j and j + 1.
-pub record Underfull (c : List ℕ) (link p j : ℕ) : Type 0 where
+-- underfull; it and its sibling are children j and j + 1, which are nodes x and y.
+pub record Underfull (c : List ℕ) (link p j x y : ℕ) : Type 0 where
   pub parent-linked : LinkedAt c link p
   pub parent-kind : kindOf (nodeAt c p) ≡ 2
   pub index : ℕ
   pub is-child : index < length (kids c p)
-  pub few : width (nodeAt c (getD (kids c p) index 0)) < 2
+  pub few : countOf (nodeAt c (getD (kids c p) index 0)) < 2
   pub first-of-two : j ≡ index - 1
   pub has-sibling : suc j < length (kids c p)
+  pub left-is : x ≡ getD (kids c p) j 0
+  pub right-is : y ≡ getD (kids c p) (suc j) 0
 
 -- A tagged child i of the parent p, linked at `link`.
 pub record TaggedChild (c : List ℕ) (link p i t : ℕ) : Type 0 where
@@ -143,10 +138,6 @@ keysWith parent i tagged = take i (routingKeys parent) ++ (routingKeys tagged ++
 
 abbrev pub childrenWith : List ℕ → ℕ → List ℕ → List ℕ
 childrenWith parent i tagged = take i (children parent) ++ (children tagged ++ drop (suc i) (children parent))
-
--- "the left one getting the larger half"
-abbrev pub largerHalf : ℕ → ℕ
-largerHalf n = (n + 1) / 2
 
 -- Where the left one gets h values: how many keys it gets. "Between shared leaves the routing key is the right one's smallest", so
 -- it stays with the right one; of internal nodes "sharing sends one up", so neither has it.
@@ -176,12 +167,10 @@ pub data RepairRule (c : List ℕ) : List ℕ → List ℕ → List Store → Ty
       ) link d)
   -- "Together 4 or more: shared out, the left one getting the larger half, under a new copy of the parent."
   shared : {link p j kind : ℕ} {keys values : List ℕ} (a b d h x y : ℕ)
-      → Underfull c link p j
-      → x ≡ getD (kids c p) j 0
-      → y ≡ getD (kids c p) (suc j) 0
+      → Underfull c link p j x y
       → Together c x (getD (routes c p) j 0) y kind keys values
       → 4 ≤ length values
-      → h ≡ largerHalf (length values)
+      → h ≡ (length values + 1) / 2
       → RepairRule c (a ∷ b ∷ d ∷ []) (p ∷ x ∷ y ∷ [])
       (written (
       newNode a kind (take (keysLeft kind h) keys) (take h values)
@@ -191,9 +180,7 @@ pub data RepairRule (c : List ℕ) : List ℕ → List ℕ → List Store → Ty
       ) link d)
   -- "Together 3 or fewer: merged, the parent copied with one child less";
   merged : {link p j kind : ℕ} {keys values : List ℕ} (a b x y : ℕ)
-      → Underfull c link p j
-      → x ≡ getD (kids c p) j 0
-      → y ≡ getD (kids c p) (suc j) 0
+      → Underfull c link p j x y
       → Together c x (getD (routes c p) j 0) y kind keys values
       → length values ≤ 3
       → ((link ≡ rootPlace) × (length (kids c p) ≡ 2) → ⊥)
@@ -205,9 +192,7 @@ pub data RepairRule (c : List ℕ) : List ℕ → List ℕ → List Store → Ty
       ) link b)
   -- "if that parent is the root with 2 children, the merged node becomes the root."
   merged-root : {p j kind : ℕ} {keys values : List ℕ} (a x y : ℕ)
-      → Underfull c rootPlace p j
-      → x ≡ getD (kids c p) j 0
-      → y ≡ getD (kids c p) (suc j) 0
+      → Underfull c rootPlace p j x y
       → Together c x (getD (routes c p) j 0) y kind keys values
       → length values ≤ 3
       → length (kids c p) ≡ 2
