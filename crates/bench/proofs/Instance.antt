@@ -6,6 +6,7 @@ use mathlib.Core.Bool.{Bool, true, false}
 use mathlib.Core.List.{List, [], _∷_, _++_}
 use Prim.Native.Nat.{ℕ, zero, suc, _*_}
 use native.Mathlib.Omega.{arith}
+use mathlib.Core.Option.{Option·elim}
 use lib.ListN.{replicate}
 use Rattle.laws.specs.Cases.{pick}
 use Rattle.laws.proofs.Cases.{bool-cases}
@@ -33,12 +34,12 @@ use Rattle.state.specs.Steps.{noBeginning, stepRefused, stepFinal, formattedWor
 use Rattle.state.specs.declared.Doing.the-variants.{Idle}
 use Rattle.state.specs.declared.Answer.{Answer}
 use Rattle.state.specs.declared.Answer.the-variants.{Stored, Ready, Absent, Value, Refused}
-use Rattle.card.specs.Replies.{holds, absent}
-use Rattle.promises.specs.Book.{book, empty, added, entered, fedStart, isRefused, fedStep, feed, outcome, told, kept}
+use Rattle.card.specs.Replies.{holds, absent, ready}
+use Rattle.promises.specs.Book.{book, empty, added, entered, fedStart, fedStep, feed, outcome, told, kept}
 use Rattle.demands.specs.Demand3.{Survives}
-use Rattle.promises.specs.Events.{Event, World, replyTo, happens, run, LeftUncut, FormatsTo, ready-now, stored-first, Begins, from-format, insert, step, cut}
+use Rattle.promises.specs.Events.{Event, World, replyTo, happens, run, LeftUncut, Begins, from-format, insert, step, cut}
 use Rattle.promises.specs.RationTable.{rationTable}
-use Rattle.promises.specs.Way.{ledTo, among, fullAt}
+use Rattle.promises.specs.Way.{among}
 use Rattle.demands.specs.Worked.{dictionary}
 use Rattle.demands.proofs.Demands.{demand-3}
 use Rattle.tree.specs.Pairs.{lookup}
@@ -85,10 +86,15 @@ ready-is Absent e = absurd (not-true e)
 ready-is (Value v) e = absurd (not-true e)
 ready-is (Refused r) e = absurd (not-true e)
 
-pub to-ready : (k : ℕ) (w : World rationTable) → readyIn k w ≡ true → FormatsTo rationTable w (after k w)
-unfolding readyIn after replyTo stepReply
-to-ready zero w e = ready-now (ap stepReply (ready-is _ e))
-to-ready (suc k) w e = bool-cases (isStored (stepOf (w .card) (w .state) .answer)) (λ q. stored-first (ap stepReply (stored-is _ q)) (to-ready k (happens rationTable step w) (rw q at e))) (λ q. absurd (not-true (rw q at e)))
+-- as the demands have it: steps left uncut, and the one that replies "ready"
+pub to-ready : (k : ℕ) (w : World rationTable) → readyIn k w ≡ true
+    → LeftUncut rationTable (replicate k step) w × (replyTo rationTable step (run rationTable (replicate k step) w) ≡ ready) × (happens rationTable step (run rationTable (replicate k step) w) ≡ after k w)
+unfolding readyIn after replyTo stepReply LeftUncut run
+to-ready zero w e = (tt, ap stepReply (ready-is _ e), refl)
+to-ready (suc k) w e =
+    bool-cases (isStored (stepOf (w .card) (w .state) .answer))
+    (λ q. let r = to-ready k (happens rationTable step w) (rw q at e) in ((tt, r .0), r .1, r .2))
+    (λ q. absurd (not-true (rw q at e)))
 
 -- 152 words of anything, being formatted, and the card 153 steps on
 abbrev pub anyWords : List ℕ
@@ -115,12 +121,14 @@ pairsTo11 = (11, 110) ∷ (10, 100) ∷ (9, 90) ∷ (8, 80) ∷ (7, 70) ∷ (6, 
 
 -- computed: 153 stores and "ready"; what formatting leaves; the book with the cut after 40 and after 73 of the stores
 pub computed : (readyIn 153 beingFormatted ≡ true) × (after 153 beingFormatted ≡ formatted) × (kept rationTable (cutAfter 40) formatted (book [] empty) ≡ book pairsTo11 empty) × (kept rationTable (cutAfter 73) formatted (book [] empty) ≡ book ((12, 120) ∷ pairsTo11) empty)
-unfolding readyIn isStored isReady after kept feed told outcome replyTo fedStart isRefused fedStep entered added fullAt ledTo among stepReply startReply happens stepOf stepFormat formatStore formattedWord formatOf stepFinal nodesOfLength formatting resting idled allNodes headerRefusal stepHeld isIdle stepBegin stepPrepared landing landingOf landedAt way wayFrom byLook past lookAt runOver nodeAt children valueWords keyWords slotOf firstEqual insertReason reasonIn emptyReason insertChange stepStore planning advanced nextChange nextRepair onSearch seek searchOf endOf firstFault ended toList isFault countOf rootPosition leafPairs insertOf startOf startChecked startRoom roomFor startLanded started stepRefused startRefused withAll giving overNumbers takeNumbers numbersFrom nextFree firstFrom firstTrue orElse withoutAll lastOf splitLeaf changeStores sort insertAll insertPair kindAbove nodeImage countTrue childPosition childFor childIndex passed routingKeys runBelow deleteOf deleteChange isNode share merge mergeRoot leavesTogether innersTogether half leftKeys keyBetween absorb splitParent joinedKeys joinedChildren findOf cardRefusal foundAt leafOf reachedAt foundIn noBeginning noMemory openOf openChecked openSound tableCheck nodeCheck onLook enterNode enterKind enterLeaf enterInner innerSound noted lookOf leafSound member unusedZero childrenCheck raised halves copied rangeEnd slotSound heldBy stepChecked stepTask inLeaf noWay layOut decidedRepair decideAt decideTagged decideUnderfull decideSiblings decideTogether togetherAt
+unfolding readyIn isStored isReady after kept feed told outcome replyTo fedStart fedStep entered added Option·elim among stepReply startReply happens stepOf stepFormat formatStore formattedWord formatOf stepFinal nodesOfLength formatting resting idled allNodes headerRefusal stepHeld isIdle stepBegin stepPrepared landing landingOf landedAt way wayFrom byLook past lookAt runOver nodeAt children valueWords keyWords slotOf firstEqual insertReason reasonIn emptyReason insertChange stepStore planning advanced nextChange nextRepair onSearch seek searchOf endOf firstFault ended toList isFault countOf rootPosition leafPairs insertOf startOf startChecked startRoom roomFor startLanded started stepRefused startRefused withAll giving overNumbers takeNumbers numbersFrom nextFree firstFrom firstTrue orElse withoutAll lastOf splitLeaf changeStores sort insertAll insertPair kindAbove nodeImage countTrue childPosition childFor childIndex passed routingKeys runBelow deleteOf deleteChange isNode share merge mergeRoot leavesTogether innersTogether half leftKeys keyBetween absorb splitParent joinedKeys joinedChildren findOf cardRefusal foundAt leafOf reachedAt foundIn noBeginning noMemory openOf openChecked openSound tableCheck nodeCheck onLook enterNode enterKind enterLeaf enterInner innerSound noted lookOf leafSound member unusedZero childrenCheck raised halves copied rangeEnd slotSound heldBy stepChecked stepTask inLeaf noWay layOut decidedRepair decideAt decideTagged decideUnderfull decideSiblings decideTogether togetherAt
 computed = (refl, refl, refl, refl)
 
 begins : Begins rationTable formatted []
 unfolding formatOf nodesOfLength startReply
-begins = from-format anyWords formatted refl (subst (λ w. FormatsTo rationTable beingFormatted w) (computed .1) (to-ready 153 beingFormatted (computed .0)))
+begins =
+    let r = to-ready 153 beingFormatted (computed .0) in
+    subst (λ w. Begins rationTable w []) (r .2 ∙ computed .1) (from-format anyWords (replicate 153 step) refl (r .0) (r .1))
 
 -- the demand at these two lists
 abbrev pub Survived : ℕ → Type 0

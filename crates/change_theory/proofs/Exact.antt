@@ -9,8 +9,8 @@ use lib.ListN.{length, set, getD, length-set}
 use lib.Seq.{ext-getD}
 use Rattle.card.specs.NodeWords.{OnCard}
 use Rattle.plans.specs.Planning.{withoutAll, withAll}
-use Rattle.tree.specs.FreeNodes.{freeBit, Exact}
-use Rattle.change_theory.proofs.Numbers.{bit-added, Given}
+use Rattle.tree.specs.FreeNodes.{Exact}
+use Rattle.change_theory.proofs.Numbers.{freeBit, bit-added, Given}
 use Rattle.free_nodes.specs.NodeSet.{capacity, countTrue}
 use Rattle.free_nodes.proofs.NodeSetLaws.{count-add}
 use Rattle.laws.specs.Bits.{bit}

@@ -8,9 +8,9 @@ use native.Mathlib.Omega.{arith}
 use lib.ListN.{length, getD}
 use lib.Seq.{ext-getD}
 use Rattle.plans.specs.Planning.{withoutAll, withAll}
-use Rattle.tree.specs.FreeNodes.{Exact, freeBit}
+use Rattle.tree.specs.FreeNodes.{Exact}
 use Rattle.change_theory.proofs.Exact.{Freed, freed, number-outside}
-use Rattle.change_theory.proofs.Numbers.{Given}
+use Rattle.change_theory.proofs.Numbers.{freeBit, Given}
 use Rattle.free_nodes.specs.NodeSet.{capacity, allNodes, countTrue}
 use Rattle.free_nodes.proofs.NodeSetLaws.{length-all, all-zero, all-get, all-above, count-all}
 use Rattle.laws.specs.Bits.{bit}

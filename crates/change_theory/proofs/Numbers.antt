@@ -17,7 +17,11 @@ use Rattle.laws.specs.Totals.{indicator, total}
 use Rattle.laws.proofs.Totals.{indicator-same, indicator-other}
 use Rattle.free_nodes.specs.declared.Next.{Next}
 use Rattle.free_nodes.specs.declared.Next.the-variants.{Node}
-use Rattle.tree.specs.FreeNodes.{freeBit}
+use Rattle.laws.specs.Bits.{bit}
+
+-- 1 where node m is free, else 0
+abbrev pub freeBit : List Bool → ℕ → ℕ
+freeBit free m = bit (getD free m false)
 
 -- one node no longer free, or free again
 pub bit-removed : (free : List Bool) (m i : ℕ) → m < length free → freeBit free m ≡ 1 → freeBit (set free m false) i + indicator i m ≡ freeBit free i

@@ -16,9 +16,9 @@ use Rattle.card.proofs.NodeLaws.{get-valueWord}
 use Rattle.card.specs.Replies.{Reply, refusal, holds, absent}
 use Rattle.demands.specs.Demand1.{besideFirst, ReadsLeaf, HandsNone, StartsFormat, OpensTo}
 use Rattle.promises.specs.Way.{nodesOn, leadsTo}
-use Rattle.demands.specs.Refusals.{ByRows, NoCard, Unsound, Scarce, findRows, formatRows, openRows, end, row}
+use Rattle.demands.specs.Refusals.{ByRows, Scarce, findRows, formatRows, openRows, end, row}
 use Rattle.promises.specs.RationTable.{workOf, handed, rationTable}
-use Rattle.demands.proofs.FirstRows.{sized?, no-nodes, by-card, card-one}
+use Rattle.demands.proofs.FirstRows.{NoCard, sized?, no-nodes, by-card, card-one}
 use Rattle.promises.proofs.WayDown.{arrived, reachedLeaf, leaf-way}
 use Rattle.descent.specs.Descent.{firstEqual, slotOf, way, leafOf}
 use Rattle.descent.specs.declared.Reached.{Reached}
@@ -106,7 +106,7 @@ finds c key =
             let l = leaf-some (leadsTo c key) m (sym (leaf-way c key) ∙ ap arrived e) in
             inr (
               λ z. none-some (m, l .0) (sym z ∙ l .1),
-              record { leaf = m; j = l .0; leads = l .1; read = rw (find-key c key (a .0) d, a .1, e) (found-works (nodeAt c m) key) },
+              (m, l .0, l .1, rw (find-key c key (a .0) d, a .1, e) (found-works (nodeAt c m) key)),
             )
 
         keyed : Dec (key ≡ 0) → ((key ≡ 0) × (foundReply (findOf c key) ≡ refusal 6)) ⊎ ((key ≡ 0 → ⊥) × (((leadsTo c key ≡ none) × (foundReply (findOf c key) ≡ refusal 9)) ⊎ ((leadsTo c key ≡ none → ⊥) × ReadsLeaf c key (foundReply (findOf c key)))))
@@ -132,6 +132,10 @@ formats c = go (sized? (length c) (nodesOn c))
     go (yes s) = inr (λ p. p s, rw (format-starts c (nodesOn c) s) (format-begun c))
 
 -- ---- opening
+
+-- no tree stands on the card soundly
+abbrev Unsound : List ℕ → Type 0
+Unsound c = ((t : Tree) × WellFormed c t) → ⊥
 
 open-due : (c : List ℕ) (r : ℕ) → cardRefusal c ≡ r → (r ≡ 0 → ⊥) → openOf c ≡ noBeginning r
 unfolding openOf

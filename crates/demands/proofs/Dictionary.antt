@@ -4,7 +4,7 @@ use mathlib.Core.Bool.{true, false}
 use mathlib.Core.List.{List}
 use mathlib.Core.Logic.{inl, inr}
 use mathlib.Core.Option.{Option, none, some}
-use Prim.Native.Nat.{ℕ, _*_, _<_}
+use Prim.Native.Nat.{ℕ, _<_}
 use native.Mathlib.Omega.{arith}
 use lib.ListN.{length}
 use Rattle.card.specs.Header.{Sized, Formatted}
@@ -108,7 +108,7 @@ module _ (w : World rationTable) (b : Book) (v : Covered w b) where
       record {
         begins = s .reply-given;
         by-rules = subst (λ (r : Reply). Updates rationTable ((a : ℕ) × (lookup key (b .held) ≡ some a)) (InsertRule (w .card) key value) r (happens rationTable (insert key value) w)) (dictionary-same (lookup key (b .held))) (insert-by-rules w b v key value high e);
-        finishes = finishes-by (lookup key (b .held)) (73 * 9) (happens rationTable (insert key value) w) (insert-stores i key high value e);
+        finishes = finishes-by (lookup key (b .held)) _ (happens rationTable (insert key value) w) (insert-stores i key high value e);
       }
 
   delete-works : (key : ℕ) → key < keyLimit → Starts rationTable (w .state) (rationTable .delete (w .card) (w .state) key) (deleting key false) → Works rationTable (delete key) (lookup key (b .held) ≡ none) (DeleteRule (w .card) key) key w (b .held)
@@ -118,7 +118,7 @@ module _ (w : World rationTable) (b : Book) (v : Covered w b) where
       record {
         begins = s .reply-given;
         by-rules = subst (λ (r : Reply). Updates rationTable (lookup key (b .held) ≡ none) (DeleteRule (w .card) key) r (happens rationTable (delete key) w)) (dictionary-same (lookup key (b .held))) (delete-by-rules w b v key high e);
-        finishes = finishes-by (lookup key (b .held)) (73 * 9) (happens rationTable (delete key) w) (delete-stores i key high e);
+        finishes = finishes-by (lookup key (b .held)) _ (happens rationTable (delete key) w) (delete-stores i key high e);
       }
 
   inserts-right : (key value : ℕ) → key < keyLimit → ByRows (row 7 (Resting rationTable (w .state) → ⊥) (row 6 (key ≡ 0) (row 8 (NoRoom (w .card) (w .state .free) key) end)))

@@ -96,7 +96,7 @@ module _ (c : List ℕ) (key : ℕ) (block : List ℕ) where
   answered (inr e) = inl (e, not-held (found-absent (findOf c key) (find-small c key) e))
 
   looked : ReadsLeaf c key (rationTable .find c key) → Works
-  looked r = answered (subst Finds (sym (r .read)) (reads-finds key _ _ 0))
+  looked r = answered (subst Finds (sym (r .3)) (reads-finds key _ _ 0))
 
   find-numbers : Numbers (findRows c key)
   find-numbers = (omega arith, (omega arith, (omega arith, (omega arith, (omega arith, tt)))))

@@ -11,7 +11,7 @@ use Rattle.card.specs.Header.{nodesOfLength, headerRefusal, cardRefusal, Sized,
 use Rattle.card.proofs.HeaderLaws.{nodes-sized, sized-nodes, header-formatted, formatted-header, wrong-word0}
 use Rattle.promises.proofs.WayDown.{sized-on}
 use Rattle.promises.specs.Way.{nodesOn}
-use Rattle.demands.specs.Refusals.{Rows, ByRows, NoCard, cardRows}
+use Rattle.demands.specs.Refusals.{Rows, ByRows, cardRows}
 use Rattle.promises.proofs.OpenRefusals.{header-three}
 
 pub sized? : (len n : ℕ) → Dec (Sized len n)
@@ -21,6 +21,10 @@ sized? len n = go (ℕ-discrete (nodesOfLength len) n) (ℕ-discrete n 0)
     go d (yes z) = no (λ s. omega (arith, s .least))
     go (no d) (no z) = no (λ s. d (sized-nodes len n s))
     go (yes e) (no z) = yes (subst (λ x. Sized len x) e (nodes-sized len (λ q. z (sym e ∙ q))))
+
+-- the card's length is not that of so many nodes
+abbrev pub NoCard : List ℕ → ℕ → Type 0
+NoCard c n = Sized (length c) n → ⊥
 
 -- no N fits the length
 pub no-nodes : (c : List ℕ) → NoCard c (nodesOn c) → nodesOfLength (length c) ≡ 0

@@ -11,8 +11,8 @@ use borrow.Author.Tests.{ne-eqb, ltb-true}
 use Rattle.card.specs.Header.{Sized}
 use Rattle.card.specs.Replies.{Reply, refusal, started}
 use Rattle.card.specs.Stores.{Store}
-use Rattle.demands.specs.Demand2.{StoresNow, freshWord, formatStore, formatBegun, Formats}
-use Rattle.promises.specs.Events.{Event, World, replyTo, happens, run, LeftUncut, stepsIn, find, insert, delete, step, cut}
+use Rattle.demands.specs.Demand2.{StoresNow, freshWord, formatStore, Formats}
+use Rattle.promises.specs.Events.{Event, World, replyTo, happens, run, LeftUncut, stepsIn, formatBegun, find, insert, delete, step, cut}
 use Rattle.promises.specs.Way.{nodesOn}
 use Rattle.promises.specs.RationTable.{rationTable}
 use Rattle.promises.proofs.PowerLoss.{find-same, insert-same, delete-same}

@@ -17,11 +17,11 @@ use Rattle.card.specs.Replies.{absent}
 use Rattle.demands.specs.Demand1.{HandsBack, Starts}
 use Rattle.promises.specs.Table.{inserting, deleting}
 use Rattle.promises.specs.Way.{leadsTo, among}
-use Rattle.demands.specs.Refusals.{Rows, ByRows, Idle, NoCard, NoRoom, startRows, end, row}
+use Rattle.demands.specs.Refusals.{Rows, ByRows, Idle, NoRoom, startRows, end, row}
 use Rattle.promises.specs.RationTable.{workOf, handed, rationTable}
 use Rattle.demands.proofs.Work.{true-false, idle-work, busy-work}
 use Rattle.demands.proofs.CardRows.{none-some}
-use Rattle.demands.proofs.FirstRows.{by-card}
+use Rattle.demands.proofs.FirstRows.{NoCard, by-card}
 use Rattle.promises.proofs.WayDown.{landed, leads-is, slotFound, sized-on, slot-is}
 use Rattle.descent.specs.Descent.{slotOf}
 use Rattle.descent.specs.declared.Landing.{Landing}

@@ -14,11 +14,11 @@ use Rattle.card.specs.Layout.{nodeAt}
 use Rattle.card.specs.Stores.{Store}
 use Rattle.demands.specs.Demand1.{begun, HandsBack, Stores, StoresNext, Answers, Refuses}
 use Rattle.promises.specs.Table.{noWork, formatting}
-use Rattle.demands.specs.Refusals.{Rows, ByRows, Idle, NoCard, cardRows, end, row}
+use Rattle.demands.specs.Refusals.{Rows, ByRows, Idle, cardRows, end, row}
 use Rattle.promises.specs.RationTable.{workOf, stepped, rationTable}
 use Rattle.demands.proofs.Work.{IdleOrTask, idle-or-task, work-formatting}
 use Rattle.demands.proofs.StartRows.{not-sized, start-one, refused-back}
-use Rattle.demands.proofs.FirstRows.{sized?, by-card}
+use Rattle.demands.proofs.FirstRows.{NoCard, sized?, by-card}
 use Rattle.descent.specs.Descent.{slotOf}
 use Rattle.descent.specs.declared.Landing.{Landing}
 use Rattle.descent.specs.declared.Landing.the-variants.{Refused as NoLanding, Leaf as LandingAt}

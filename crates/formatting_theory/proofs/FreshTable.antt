@@ -10,8 +10,8 @@ use lib.ListN.{length, getD, replicate, length-set, getD-replicate}
 use Rattle.card.specs.Header.{Sized, Formatted}
 use Rattle.card.specs.NodeWords.{NodeWords}
 use Rattle.card.specs.Layout.{leastNodes, greatestNodes, place, word}
-use Rattle.tree.specs.FreeNodes.{Exact, freeBit}
-use Rattle.change_theory.proofs.Numbers.{bit-removed}
+use Rattle.tree.specs.FreeNodes.{Exact}
+use Rattle.change_theory.proofs.Numbers.{freeBit, bit-removed}
 use Rattle.change_theory.proofs.Rewritten.{Sound}
 use Rattle.formatting_theory.proofs.FormatCard.{formatCard, format-length, Finished, format-finished}
 use Rattle.formatting_theory.proofs.FormatSteps.{freshNodes}

@@ -8,9 +8,9 @@ use native.Mathlib.Omega.{arith}
 use native.Mathlib.Decide.{ℕ-discrete}
 use lib.ListN.{length}
 use lib.Dec.{eqb}
-use Rattle.card.specs.Replies.{ready, stored, started as startedReply}
+use Rattle.card.specs.Replies.{refusal, ready, stored, started as startedReply}
 use Rattle.state.specs.Answers.{stepReply, startReply}
-use Rattle.state.specs.Steps.{noBeginning, isIdle}
+use Rattle.state.specs.Steps.{noBeginning, isIdle, stepRefused}
 use Rattle.starting.specs.Starts.{formatOf, startRefused, started, startLanded, startChecked, startOf, insertOf, deleteOf}
 use Rattle.table.specs.Calls.{stepOf, repairSteps}
 use Rattle.state.specs.Memory.{Memory, resting}
@@ -33,14 +33,15 @@ use Rattle.laws.specs.Totals.{total}
 use Rattle.promises.proofs.Accepting.{accepted-card, accepted-openable}
 use Rattle.promises.proofs.ReplyLaws.{code-of, is-refused}
 use Rattle.promises.proofs.Invariant.{Table, UpdateSteps, Stage, Inv, stage-idle, stage-put, stage-remove, stage-first, stage-between, stage-within}
-use Rattle.promises.specs.Book.{Outcome, Hand, Book, book, fedStep, feed, told, outcome, kept, refused, final, goesOn, empty}
+use Rattle.promises.specs.Book.{Outcome, Hand, Book, book, fedStep, feed, told, outcome, kept, empty}
 use Rattle.promises.proofs.BookLaws.{Same, same-refl}
-use Rattle.promises.specs.Events.{Event, World, opened, replyTo, happens, run, Words, LeftUncut, stepsIn, SaysReady, FormatsTo, Opens, Begins, find, insert, delete, step, cut, ready-now, stored-first, found-first, refused-insert, refused-delete, from-format, from-open}
+use Rattle.promises.specs.Events.{Event, World, opened, replyTo, happens, run, Words, LeftUncut, stepsIn, SaysReady, formatBegun, Opens, Begins, find, insert, delete, step, cut, from-format, from-open}
 use Rattle.promises.specs.RationTable.{rationTable}
 use Rattle.promises.specs.Table.{Refused}
 use Rattle.promises.proofs.Finishing.{MapIs}
 use Rattle.promises.proofs.Reopen.{well-formed-table, reopened}
 use Rattle.promises.proofs.Starting.{same-lookup, kept-insert, kept-delete}
+use Rattle.promises.proofs.Steps.{step-idle}
 use Rattle.promises.proofs.Stepping.{Right, right-final, Moves, kept-step, was-idle, ends-now, goes-further}
 use Rattle.tree.proofs.InPlace.{length-total}
 use Rattle.tree.specs.Pairs.{pairs}
@@ -172,38 +173,56 @@ fresh-inv n c f =
       stage = stage-idle (f .no-violations) room (f .exact) refl;
     }
 
+-- and no step says "ready" again while nothing is started
+ready-once : (c : List ℕ) (n : ℕ) → FreshTable c n → (qs : List Event) (w : World rationTable) → w ≡ record { card = c; state = freshMemory n } → LeftUncut rationTable qs w
+    → replyTo rationTable step (run rationTable qs w) ≡ ready → ⊥
+unfolding happens replyTo stepReply stepRefused resting LeftUncut run
+ready-once c n f [] w e u q =
+    let z : stepReply (stepOf (w .card) (w .state) .answer) ≡ refusal 10 = rw (e, step-idle c n (f .sized) (f .formatted) (freshNodes n) 0) in
+    omega (arith, code-of (sym z ∙ q))
+ready-once c n f (step ∷ qs) w e u q = ready-once c n f qs (happens rationTable step w) (rw (e, step-idle c n (f .sized) (f .formatted) (freshNodes n) 0)) (u .1) q
+ready-once c n f (find key ∷ qs) w e u q = ready-once c n f qs w e (u .1) q
+ready-once c n f (insert key value ∷ qs) w e u q = ready-once c n f qs (happens rationTable (insert key value) w) (insert-same key value w (u .0) ∙ e) (u .1) q
+ready-once c n f (delete key ∷ qs) w e u q = ready-once c n f qs (happens rationTable (delete key) w) (delete-same key w (u .0) ∙ e) (u .1) q
+ready-once c n f (cut ∷ qs) w e u q = absurd (u .0)
+
 -- formatting stores word after word, and is ready after the last
-format-ready-inv : (c : List ℕ) (n made : ℕ) → Sized (length c) n → (w v : World rationTable) → w ≡ record { card = formatCard n c made; state = formatMemory n made } → made ≤ suc (length c) → FormatsTo rationTable w v → v ≡ record { card = formatCard n c (suc (length c)); state = freshMemory n }
-unfolding happens replyTo stepReply
-format-ready-inv c n made s w v e h (ready-now q) =
+format-ready-inv : (c : List ℕ) (n made : ℕ) → Sized (length c) n → (qs : List Event) (w : World rationTable) → w ≡ record { card = formatCard n c made; state = formatMemory n made } → made ≤ suc (length c)
+    → LeftUncut rationTable qs w → replyTo rationTable step (run rationTable qs w) ≡ ready → happens rationTable step (run rationTable qs w) ≡ record { card = formatCard n c (suc (length c)); state = freshMemory n }
+unfolding happens replyTo stepReply LeftUncut run
+format-ready-inv c n made s [] w e h u q =
     order (length c) made
     (λ o. let m : made ≡ suc (length c) = omega arith in rw (e, m, format-step-ready c n s))
     (λ o. let z : stepReply (stepOf (w .card) (w .state) .answer) ≡ stored = rw (e, format-step-stores c n s made o) in absurd (omega (arith, code-of (sym z ∙ q))))
-format-ready-inv c n made s w v e h (stored-first q r) =
+format-ready-inv c n made s (step ∷ qs) w e h u q =
     order (length c) made
-    (λ o. let m : made ≡ suc (length c) = omega arith in let z : stepReply (stepOf (w .card) (w .state) .answer) ≡ ready = rw (e, m, format-step-ready c n s) in absurd (omega (arith, code-of (sym z ∙ q))))
-    (λ o. format-ready-inv c n (suc made) s (happens rationTable step w) v (next o) (omega arith) r)
+    (λ o. let m : made ≡ suc (length c) = omega arith in absurd (ready-once (formatCard n c (suc (length c))) n (format-fresh c n s) qs (happens rationTable step w) (ended m) (u .1) q))
+    (λ o. format-ready-inv c n (suc made) s qs (happens rationTable step w) (next o) (omega arith) (u .1) q)
   where
     next : made ≤ length c → happens rationTable step w ≡ record { card = formatCard n c (suc made); state = formatMemory n (suc made) }
     next o = rw (e, format-step-stores c n s made o)
-format-ready-inv c n made s w v e h (found-first key r) = format-ready-inv c n made s w v e h r
-format-ready-inv c n made s w v e h (refused-insert key value q r) = format-ready-inv c n made s (happens rationTable (insert key value) w) v (insert-same key value w q ∙ e) h r
-format-ready-inv c n made s w v e h (refused-delete key q r) = format-ready-inv c n made s (happens rationTable (delete key) w) v (delete-same key w q ∙ e) h r
+
+    ended : made ≡ suc (length c) → happens rationTable step w ≡ record { card = formatCard n c (suc (length c)); state = freshMemory n }
+    ended m = rw (e, m, format-step-ready c n s)
+format-ready-inv c n made s (find key ∷ qs) w e h u q = format-ready-inv c n made s qs w e h (u .1) q
+format-ready-inv c n made s (insert key value ∷ qs) w e h u q = format-ready-inv c n made s qs (happens rationTable (insert key value) w) (insert-same key value w (u .0) ∙ e) h (u .1) q
+format-ready-inv c n made s (delete key ∷ qs) w e h u q = format-ready-inv c n made s qs (happens rationTable (delete key) w) (delete-same key w (u .0) ∙ e) h (u .1) q
+format-ready-inv c n made s (cut ∷ qs) w e h u q = absurd (u .0)
 
 pub begins-inv : (w : World rationTable) (l : List (ℕ × ℕ)) → Begins rationTable w l → (n : ℕ) × Inv n repairSteps w (book l empty)
 begins-inv w l (from-open c t a k) =
     let q = accepted-card c a in
     let b : Table c (nodesOfLength (length c)) t = well-formed-table (q .1) (q .2) k in
     (nodesOfLength (length c), reopened-inv (nodesOfLength (length c)) c t (pairs t) b (accepted-openable c t a k) (same-refl (pairs t)))
-begins-inv w l (from-format c v e r) = go (ℕ-discrete (nodesOfLength (length c)) 0)
+begins-inv w l (from-format c qs e u r) = go (ℕ-discrete (nodesOfLength (length c)) 0)
   where
-    go : Dec (nodesOfLength (length c) ≡ 0) → (n : ℕ) × Inv n repairSteps v (book [] empty)
+    go : Dec (nodesOfLength (length c) ≡ 0) → (n : ℕ) × Inv n repairSteps (happens rationTable step (run rationTable qs (formatBegun rationTable c))) (book [] empty)
     go (yes z) = absurd (format-starts-sized c e z)
     go (no d) =
         let s = nodes-sized (length c) d in
         let n = nodesOfLength (length c) in
-        let is : v ≡ record { card = formatCard (nodesOfLength (length c)) c (suc (length c)); state = freshMemory (nodesOfLength (length c)) } =
-        format-ready-inv c (nodesOfLength (length c)) 0 s (record { card = c; state = formatOf c .memory }) v (begun-world c (nodesOfLength (length c)) s) (omega arith) r in
+        let is : happens rationTable step (run rationTable qs (formatBegun rationTable c)) ≡ record { card = formatCard (nodesOfLength (length c)) c (suc (length c)); state = freshMemory (nodesOfLength (length c)) } =
+        format-ready-inv c (nodesOfLength (length c)) 0 s qs (formatBegun rationTable c) (begun-world c (nodesOfLength (length c)) s) (omega arith) u r in
         let f = format-fresh c (nodesOfLength (length c)) s in
         (nodesOfLength (length c), rw is (fresh-inv (nodesOfLength (length c)) (formatCard (nodesOfLength (length c)) c (suc (length c))) f))
 
@@ -241,9 +260,7 @@ at-rest n steps w b none-left i = at (i .stage)
 -- a step with an empty hand leaves it empty, whatever it answers
 pub empty-fed : (o : Outcome) (l : List (ℕ × ℕ)) → fedStep o l empty ≡ book l empty
 unfolding fedStep
-empty-fed refused l = refl
-empty-fed final l = refl
-empty-fed goesOn l = refl
+empty-fed o l = refl
 
 pub after-step : (w : World rationTable) → isIdle (stepOf (w .card) (w .state) .memory .doing) ≡ false → isIdle (happens rationTable step w .state .doing) ≡ false
 unfolding happens

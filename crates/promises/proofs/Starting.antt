@@ -20,7 +20,7 @@ use Rattle.promises.proofs.BookLaws.{dictionaryAnswer}
 use Rattle.state.specs.Answers.{startReply}
 use Rattle.promises.proofs.Finishing.{updateStoresAt}
 use Rattle.promises.proofs.Invariant.{toldOf, UpdateSteps, Stage, Inv, stage-idle, stage-put, stage-remove, stage-first, stage-between, stage-within}
-use Rattle.promises.specs.Book.{Update, Hand, Book, fedStart, feed, isRefused, outcome, told, put, remove}
+use Rattle.promises.specs.Book.{Update, Hand, Book, fedStart, feed, outcome, told, put, remove}
 use Rattle.promises.specs.Events.{World, replyTo, happens, insert, delete}
 use Rattle.promises.specs.RationTable.{rationTable}
 use Rattle.promises.proofs.Reopen.{table-well-formed, table-depth-limited}
@@ -102,7 +102,7 @@ Goal {n} {steps} {w} {b} i u g = (k : ℕ) × (j : Inv n k (record { card = w .c
 
 -- a refused start leaves the book as it is
 refused-told : (u : Update) (c : List ℕ) (r : ℕ) (b : Book) → r < 64 → feed (toldOf u c (outcome (startReply (BegunRefused r)))) b ≡ b
-unfolding startReply outcome feed fedStart isRefused
+unfolding startReply outcome feed fedStart
 refused-told (put key value) c r b h = rw (lt-ltb r 64 h)
 refused-told (remove key) c r b h = rw (lt-ltb r 64 h)
 
@@ -137,7 +137,7 @@ module _ {n steps : ℕ} {w : World rationTable} {b : Book} (i : Inv n steps w b
 -- started: the update is in hand, and its answer by the map is due
 put-started : {n steps : ℕ} (w : World rationTable) (b : Book) (i : Inv n steps w b) (free : List Bool) (last key value : ℕ) → w .state ≡ memory n free last Idle [] [] → tableViolations (i .tree) ≡ 0 → 3 ≤ countTrue free → Exact n free (i .tree) → bare (i .tree) ≡ i .goal → lowestKey ≤ key → key < keyLimit
     → startRoom (w .card) key (w .state .free) (landing (w .card) (w .state .nodes) key) ≡ true → Goal i (put key value) (started (w .state) (Inserting key value false))
-unfolding started startReply outcome feed fedStart isRefused isIdle
+unfolding started startReply outcome feed fedStart isIdle
 put-started {n} w b i free last key value em z r x eg low high q =
     let q′ : startRoom (w .card) key free (landing (w .card) n key) ≡ true = rw em at q in (
       mostSteps i,
@@ -147,7 +147,7 @@ put-started {n} w b i free last key value em z r x eg low high q =
 
 remove-started : {n steps : ℕ} (w : World rationTable) (b : Book) (i : Inv n steps w b) (free : List Bool) (last key : ℕ) → w .state ≡ memory n free last Idle [] [] → tableViolations (i .tree) ≡ 0 → 3 ≤ countTrue free → Exact n free (i .tree) → bare (i .tree) ≡ i .goal → lowestKey ≤ key → key < keyLimit
     → Goal i (remove key) (started (w .state) (Deleting key false 0))
-unfolding started startReply outcome feed fedStart isRefused isIdle
+unfolding started startReply outcome feed fedStart isIdle
 remove-started w b i free last key em z r x eg low high = (
   mostSteps i,
   record { tree = i .tree; goal = afterShape (remove key) (i .goal); due = dictionaryAnswer (lookup key (pairs (i .tree))); table = i .table; openable = i .openable; same = i .same; stage = rw em (stage-remove {free = free} {last = last} z r x low high (enough-steps i) (ap (afterShape (remove key)) eg)) },

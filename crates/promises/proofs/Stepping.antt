@@ -42,7 +42,7 @@ use borrow.Author.Tests.{le-ltb, ne-eqb}
 use Rattle.promises.proofs.FirstChanges.{slot-changing, slot-level, slot-enters, delete-changing, delete-level, delete-enters, slot-shaped, delete-shaped, split-shaped, split-changing, split-level, split-enters, split-count, First}
 use Rattle.promises.proofs.Invariant.{toldOf, takenUp, Toward, Table, Job, Entered, UpdateSteps, Stage, Inv, job-repair, job-insert, job-delete, no-update, updated, stage-idle, stage-put, stage-remove, stage-first, stage-between, stage-within}
 use Rattle.promises.proofs.Kept.{first-storable, repair-stored, update-stored}
-use Rattle.promises.specs.Book.{Update, Hand, Book, book, entered, fedStart, fedStep, feed, isRefused, outcome, told, put, remove, anInsert, final, goesOn, empty, holding}
+use Rattle.promises.specs.Book.{Update, Hand, Book, book, entered, fedStart, fedStep, feed, outcome, told, put, remove, anInsert, final, goesOn, empty, holding}
 use Rattle.promises.proofs.BookLaws.{Enters, Same, IsFinal, final-told, dictionaryAnswer, enters-held, enters-gone}
 use Rattle.promises.specs.Events.{World, replyTo, happens, step}
 use Rattle.promises.specs.RationTable.{rationTable}
@@ -213,7 +213,7 @@ module _ (n steps : ℕ) (c : List ℕ) (t : Tree) (b : Table c n t) (o : Openab
 
   -- no step of an insert was counted: its final answer enters it
   entered-at-end : (key value : ℕ) (full : Bool) → fedStep final l (takenUp (anInsert key value goesOn full)) ≡ book (entered (put key value) l) empty
-  unfolding feed fedStart isRefused fedStep
+  unfolding feed fedStart fedStep
   entered-at-end key value true = refl
   entered-at-end key value false = refl
 
@@ -246,7 +246,7 @@ module _ (n steps : ℕ) (c : List ℕ) (t : Tree) (b : Table c n t) (o : Openab
   -- "With an empty slot: value first, then key, in the lowest empty slot."
   put-into-slot : (free : List Bool) (last key value i : ℕ) → tableViolations t ≡ 0 → 3 ≤ countTrue free → Exact n free t → lowestKey ≤ key → key < keyLimit → UpdateSteps t (suc steps) → (g : LandedAt c n key t) → slotOf (nodeAt c (g .number)) key ≡ NoSlot → slotOf (nodeAt c (g .number)) 0 ≡ At i → afterShape (put key value) (bare t) ≡ goal
       → Goal (memory n free last (Inserting key value false) [] []) (takenUp (toldOf (put key value) c goesOn)) (dictionaryAnswer (lookup key (pairs t)))
-  unfolding slotAnswer dictionaryAnswer feed fedStart isRefused
+  unfolding slotAnswer dictionaryAnswer feed fedStart
   put-into-slot free last key value i z r x low high few g e e₀ eg =
       let m = memory n free last (Inserting key value false) [] [] in
       let none-there : lookup key (pairs t) ≡ none = sym (g .answers) ∙ ap (slotAnswer (nodeAt c (g .number))) e in
@@ -276,7 +276,7 @@ module _ (n steps : ℕ) (c : List ℕ) (t : Tree) (b : Table c n t) (o : Openab
   -- "Delete: key word to 0, answers the value"
   remove-from-slot : (free : List Bool) (last key i : ℕ) → tableViolations t ≡ 0 → 3 ≤ countTrue free → Exact n free t → lowestKey ≤ key → key < keyLimit → UpdateSteps t (suc steps) → (g : LandedAt c n key t) → slotOf (nodeAt c (g .number)) key ≡ At i → afterShape (remove key) (bare t) ≡ goal
       → Goal (memory n free last (Deleting key false 0) [] []) (takenUp (toldOf (remove key) c goesOn)) (dictionaryAnswer (lookup key (pairs t)))
-  unfolding slotAnswer dictionaryAnswer feed fedStart isRefused
+  unfolding slotAnswer dictionaryAnswer feed fedStart
   remove-from-slot free last key i z r x low high few g e eg =
       let m = memory n free last (Deleting key false 0) [] [] in
       let found : lookup key (pairs t) ≡ some (getD (nodeAt c (g .number)) (12 + i) 0) = sym (g .answers) ∙ ap (slotAnswer (nodeAt c (g .number))) e in
@@ -304,7 +304,7 @@ module _ (n steps : ℕ) (c : List ℕ) (t : Tree) (b : Table c n t) (o : Openab
   -- "absent and no store if not held"
   remove-answers : (free : List Bool) (last key : ℕ) → tableViolations t ≡ 0 → 3 ≤ countTrue free → Exact n free t → (g : LandedAt c n key t) → slotOf (nodeAt c (g .number)) key ≡ NoSlot → afterShape (remove key) (bare t) ≡ goal
       → Goal (memory n free last (Deleting key false 0) [] []) (takenUp (toldOf (remove key) c goesOn)) (dictionaryAnswer (lookup key (pairs t)))
-  unfolding idled outcome stepReply fedStep slotAnswer dictionaryAnswer feed fedStart isRefused
+  unfolding idled outcome stepReply fedStep slotAnswer dictionaryAnswer feed fedStart
   remove-answers free last key z r x g e eg =
       let m = memory n free last (Deleting key false 0) [] [] in
       let none-there : lookup key (pairs t) ≡ none = sym (g .answers) ∙ ap (slotAnswer (nodeAt c (g .number))) e in
@@ -318,7 +318,7 @@ module _ (n steps : ℕ) (c : List ℕ) (t : Tree) (b : Table c n t) (o : Openab
   put-by-split : (free : List Bool) (last key value : ℕ) → tableViolations t ≡ 0 → 3 ≤ countTrue free → Exact n free t → lowestKey ≤ key → key < keyLimit → UpdateSteps t (suc steps) → startRoom c key free (landing c n key) ≡ true → (g : LandedAt c n key t)
       → slotOf (nodeAt c (g .number)) key ≡ NoSlot → slotOf (nodeAt c (g .number)) 0 ≡ NoSlot → afterShape (put key value) (bare t) ≡ goal
       → Goal (memory n free last (Inserting key value false) [] []) (takenUp (toldOf (put key value) c goesOn)) (dictionaryAnswer (lookup key (pairs t)))
-  unfolding slotAnswer dictionaryAnswer feed fedStart isRefused
+  unfolding slotAnswer dictionaryAnswer feed fedStart
   put-by-split free last key value z r x low high few room g e e₀ eg =
       let none-there : lookup key (pairs t) ≡ none = sym (g .answers) ∙ ap (slotAnswer (nodeAt c (g .number))) e in
       let flag = flag-full c n key (g .number) (linkPlace (g .context)) (fullRun (g .context)) (landed key g) (b .sized) e₀ in

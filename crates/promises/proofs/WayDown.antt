@@ -2,12 +2,12 @@
 use mathlib.Core.Path.{_≡_, refl, ap, sym, subst, _∙_}
 use mathlib.Core.Bool.{Bool, true, false, not}
 use mathlib.Core.List.{List, [], _∷_}
-use mathlib.Core.Option.{Option, none, some}
+use mathlib.Core.Option.{Option, Option·map, Option·elim, none, some}
 use Prim.Native.Nat.{ℕ, suc}
 use native.Mathlib.Omega.{arith}
 use lib.ListN.{length}
 use lib.Dec.{eqb}
-use Rattle.promises.specs.Way.{nodesOn, ledTo, leadsTo, among, fullAt, leafFull}
+use Rattle.promises.specs.Way.{nodesOn, leadsTo, among, leafFull}
 use Rattle.card.specs.Header.{Sized}
 use Rattle.card.specs.Layout.{nodeAt, keyWords}
 use Rattle.descent.specs.Descent.{firstEqual, slotOf, way, reachedAt, leafOf, runOver, landedAt, landingOf}
@@ -36,8 +36,8 @@ unfoldable pub reachedLeaf : Option (ℕ × ℕ) → Option ℕ
 reachedLeaf none = none
 reachedLeaf (some l) = some (l .0)
 
-landed-at : (run : ℕ) (l : Option Position) → landed (landedAt run l) ≡ ledTo run l
-unfolding landed landedAt ledTo
+landed-at : (run : ℕ) (l : Option Position) → landed (landedAt run l) ≡ Option·map (λ p. (p .node, run)) l
+unfolding landed landedAt
 landed-at run none = refl
 landed-at run (some p) = refl
 
@@ -46,8 +46,8 @@ unfolding landing landingOf
 leads-is c n key e =
     subst (λ x. landed (landing c x key) ≡ leadsTo c key) e (landed-at (runOver c 0 (way c (nodesOn c) key .inner)) (way c (nodesOn c) key .leaf))
 
-reached-at : (depth run : ℕ) (l : Option Position) → arrived (reachedAt depth l) ≡ reachedLeaf (ledTo run l)
-unfolding arrived reachedAt reachedLeaf ledTo
+reached-at : (depth run : ℕ) (l : Option Position) → arrived (reachedAt depth l) ≡ reachedLeaf (Option·map (λ p. (p .node, run)) l)
+unfolding arrived reachedAt reachedLeaf
 reached-at depth run none = refl
 reached-at depth run (some p) = refl
 
@@ -71,5 +71,5 @@ slot-is words x s e = ap slotFound (sym e) ∙ slot-among (keyWords words) x 0
 
 -- the leaf is full exactly where no slot of it is empty
 pub full-is : (c : List ℕ) (n key m link run : ℕ) (s : Slot) → Sized (length c) n → landing c n key ≡ LandingAt m link run → slotOf (nodeAt c m) 0 ≡ s → leafFull c key ≡ not (slotFound s)
-unfolding fullAt landed
-full-is c n key m link run s z e f = ap (fullAt c) (sym (leads-is c n key (sized-on c n z)) ∙ ap landed e) ∙ ap not (sym (slot-is (nodeAt c m) 0 s f))
+unfolding Option·elim landed
+full-is c n key m link run s z e f = ap (λ (o : Option (ℕ × ℕ)). Option·elim o false (λ l. not (among 0 (keyWords (nodeAt c (l .0)))))) (sym (leads-is c n key (sized-on c n z)) ∙ ap landed e) ∙ ap not (sym (slot-is (nodeAt c m) 0 s f))

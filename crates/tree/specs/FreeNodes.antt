@@ -10,11 +10,8 @@ use Rattle.free_nodes.specs.NodeSet.{capacity}
 use Rattle.laws.specs.Totals.{indicator}
 use Rattle.tree.specs.Tree.{Tree, nodeTotal}
 
--- 1 where node m is free, else 0
-abbrev pub freeBit : List Bool → ℕ → ℕ
-freeBit free m = bit (getD free m false)
-
+-- each node is free or reached from the root, and not both
 pub record Exact (n : ℕ) (free : List Bool) (t : Tree) : Type 0 where
   pub size : length free ≡ capacity
-  pub within : (m : ℕ) → 1 ≤ m → m ≤ n → freeBit free m + nodeTotal (indicator m) t ≡ 1
+  pub within : (m : ℕ) → 1 ≤ m → m ≤ n → bit (getD free m false) + nodeTotal (indicator m) t ≡ 1
   pub outside-none : (m : ℕ) → (m ≡ 0) ⊎ (n < m) → getD free m false ≡ false
