@@ -17,7 +17,7 @@ use Rattle.card.specs.Replies.{Reply, refusal}
 use Rattle.demands.specs.Demand1.{Finds, besideFirst, ReadsLeaf, HandsNone, StartsFormat, OpensTo}
 use Rattle.promises.specs.Way.{nodesOn, leadsTo}
 use Rattle.demands.specs.Refusals.{ByRows, NoCard, Unsound, Scarce, findRows, formatRows, openRows, end, row}
-use Rattle.promises.specs.RationTable.{workOf, dueOf, handed, rationTable}
+use Rattle.promises.specs.RationTable.{workOf, handed, rationTable}
 use Rattle.demands.proofs.FirstRows.{sized?, no-nodes, by-card, card-one}
 use Rattle.promises.proofs.WayDown.{arrived, reachedLeaf, leaf-way}
 use Rattle.descent.specs.Descent.{firstEqual, slotOf, way, leafOf}
@@ -142,7 +142,7 @@ unfolding noBeginning startReply
 reply-five c r e = rw e
 
 pub opens : (c : List ℕ) → ByRows (openRows c) (HandsNone rationTable (rationTable .openCard c)) (OpensTo rationTable c (rationTable .openCard c))
-unfolding ByRows openOf openChecked noBeginning startReply resting workOf dueOf
+unfolding ByRows openOf openChecked noBeginning startReply resting workOf
 opens c =
     by-card (row 4 (Unsound c) (row 5 (Scarce c) end)) (HandsNone rationTable (handed (openOf c))) (OpensTo rationTable c (handed (openOf c))) c (nodesOn c)
     (λ p. rw (open-due c 1 (card-one c p) (λ z. omega (arith, z))) (none-handed 1))
@@ -176,7 +176,7 @@ opens c =
                     let code : startReply (openOf c .begun) .code ≡ 69 = rw is in
                     inr (
                       λ p. omega (arith, code, ap (λ (x : Reply). x .code) (refuses-few c (nodesOn c) s k .1 p)),
-                      record { table = t .0; sound = t .1; hands = inr (omega (arith, t .2 .violated, bit-true (f .violated) q), rw is, rw is, (f .key, rw is)); nodes-noted = rw is; free-noted = rw is (facts-exact (t .2)); search-first = rw is },
+                      record { table = t .0; sound = t .1; hands = inr (omega (arith, t .2 .violated, bit-true (f .violated) q), rw is, (f .key, rw is)); nodes-noted = rw is; free-noted = rw is (facts-exact (t .2)); search-first = rw is },
                     )
 
                 whole : f .violated ≡ false → (Scarce c × HandsNone rationTable (handed (openOf c)) 5) ⊎ ((Scarce c → ⊥) × OpensTo rationTable c (handed (openOf c)))

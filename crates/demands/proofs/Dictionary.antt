@@ -19,7 +19,7 @@ use Rattle.card.specs.Replies.{Reply, refusal}
 use Rattle.demands.specs.Demand1.{HandsBack, Starts}
 use Rattle.demands.specs.Worked.{dictionary}
 use Rattle.demands.specs.Demand2.{mostStores, Finishes, Updates, Rests, Works, Dictionary, Demand2}
-use Rattle.promises.specs.Table.{inserting, deleting, putIn, takeOut}
+use Rattle.promises.specs.Table.{inserting, deleting}
 use Rattle.promises.specs.Way.{leadsTo}
 use Rattle.demands.specs.Refusals.{Rows, ByRows, Idle as Resting, Busy, NoRoom, cardRows, row, end}
 use Rattle.demands.specs.Rules.{InsertRule, DeleteRule}
@@ -101,7 +101,7 @@ module _ (w : World rationTable) (b : Book) (v : Covered w b) where
   rests-now : w .state .doing ≡ Idle → WasRests w (b .held)
   rests-now e = inv-rests n (v .steps) w b i e
 
-  insert-works : (key value : ℕ) → key < keyLimit → Starts rationTable (w .state) (rationTable .insert (w .card) (w .state) key value) (inserting key value) (putIn key value) → Works rationTable (insert key value) ((a : ℕ) × (lookup key (b .held) ≡ some a)) (InsertRule (w .card) key value) key w (b .held)
+  insert-works : (key value : ℕ) → key < keyLimit → Starts rationTable (w .state) (rationTable .insert (w .card) (w .state) key value) (inserting key value false) → Works rationTable (insert key value) ((a : ℕ) × (lookup key (b .held) ≡ some a)) (InsertRule (w .card) key value) key w (b .held)
   unfolding replyTo insertOf startReply
   insert-works key value high s =
       let e = begun-started (insertOf (w .card) (w .state) key value .begun) (start-small (w .card) (w .state) key (Inserting key value false) (startRoom (w .card) key (w .state .free))) (s .reply-given) in
@@ -111,7 +111,7 @@ module _ (w : World rationTable) (b : Book) (v : Covered w b) where
         finishes = finishes-by (lookup key (b .held)) mostStores (happens rationTable (insert key value) w) (insert-stores i key high value e);
       }
 
-  delete-works : (key : ℕ) → key < keyLimit → Starts rationTable (w .state) (rationTable .delete (w .card) (w .state) key) (deleting key) (takeOut key) → Works rationTable (delete key) (lookup key (b .held) ≡ none) (DeleteRule (w .card) key) key w (b .held)
+  delete-works : (key : ℕ) → key < keyLimit → Starts rationTable (w .state) (rationTable .delete (w .card) (w .state) key) (deleting key false) → Works rationTable (delete key) (lookup key (b .held) ≡ none) (DeleteRule (w .card) key) key w (b .held)
   unfolding replyTo deleteOf startReply
   delete-works key high s =
       let e = begun-started (deleteOf (w .card) (w .state) key .begun) (start-small (w .card) (w .state) key (Deleting key false 0) (λ l. true)) (s .reply-given) in
@@ -126,10 +126,10 @@ module _ (w : World rationTable) (b : Book) (v : Covered w b) where
   unfolding ByRows replyTo
   inserts-right key value high =
       go (past-card (row 7 (Busy rationTable (w .state)) (row 6 (key ≡ 0) (row 9 (leadsTo (w .card) key ≡ none) (row 8 (NoRoom (w .card) (w .state .free) key) end)))) (HandsBack rationTable (w .state) (rationTable .insert (w .card) (w .state) key value))
-      (Starts rationTable (w .state) (rationTable .insert (w .card) (w .state) key value) (inserting key value) (putIn key value)) (w .card) (w .state .nodes) sized header (demand-1 .inserts (w .card) (w .state) key value))
+      (Starts rationTable (w .state) (rationTable .insert (w .card) (w .state) key value) (inserting key value false)) (w .card) (w .state .nodes) sized header (demand-1 .inserts (w .card) (w .state) key value))
     where
       go : ByRows (row 7 (Busy rationTable (w .state)) (row 6 (key ≡ 0) (row 9 (leadsTo (w .card) key ≡ none) (row 8 (NoRoom (w .card) (w .state .free) key) end)))) (HandsBack rationTable (w .state) (rationTable .insert (w .card) (w .state) key value))
-          (Starts rationTable (w .state) (rationTable .insert (w .card) (w .state) key value) (inserting key value) (putIn key value))
+          (Starts rationTable (w .state) (rationTable .insert (w .card) (w .state) key value) (inserting key value false))
           → ByRows (row 7 (Busy rationTable (w .state)) (row 6 (key ≡ 0) (row 8 (NoRoom (w .card) (w .state .free) key) end))) (λ r. replyTo rationTable (insert key value) w ≡ refusal r) (Works rationTable (insert key value) ((a : ℕ) × (lookup key (b .held) ≡ some a)) (InsertRule (w .card) key value) key w (b .held))
       go (inl (p, h)) = inl (p, h .number-given)
       go (inr (a, inl (p, h))) = inr (a, inl (p, h .number-given))
@@ -141,9 +141,9 @@ module _ (w : World rationTable) (b : Book) (v : Covered w b) where
   unfolding ByRows replyTo
   deletes-right key high =
       go (past-card (row 7 (Busy rationTable (w .state)) (row 6 (key ≡ 0) (row 9 (leadsTo (w .card) key ≡ none) end))) (HandsBack rationTable (w .state) (rationTable .delete (w .card) (w .state) key))
-      (Starts rationTable (w .state) (rationTable .delete (w .card) (w .state) key) (deleting key) (takeOut key)) (w .card) (w .state .nodes) sized header (demand-1 .deletes (w .card) (w .state) key))
+      (Starts rationTable (w .state) (rationTable .delete (w .card) (w .state) key) (deleting key false)) (w .card) (w .state .nodes) sized header (demand-1 .deletes (w .card) (w .state) key))
     where
-      go : ByRows (row 7 (Busy rationTable (w .state)) (row 6 (key ≡ 0) (row 9 (leadsTo (w .card) key ≡ none) end))) (HandsBack rationTable (w .state) (rationTable .delete (w .card) (w .state) key)) (Starts rationTable (w .state) (rationTable .delete (w .card) (w .state) key) (deleting key) (takeOut key))
+      go : ByRows (row 7 (Busy rationTable (w .state)) (row 6 (key ≡ 0) (row 9 (leadsTo (w .card) key ≡ none) end))) (HandsBack rationTable (w .state) (rationTable .delete (w .card) (w .state) key)) (Starts rationTable (w .state) (rationTable .delete (w .card) (w .state) key) (deleting key false))
           → ByRows (row 7 (Busy rationTable (w .state)) (row 6 (key ≡ 0) end)) (λ r. replyTo rationTable (delete key) w ≡ refusal r) (Works rationTable (delete key) (lookup key (b .held) ≡ none) (DeleteRule (w .card) key) key w (b .held))
       go (inl (p, h)) = inl (p, h .number-given)
       go (inr (a, inl (p, h))) = inr (a, inl (p, h .number-given))

@@ -17,12 +17,12 @@ use Rattle.change_decide.specs.Decide.{nextRepair as decidedRepair}
 use Rattle.change_decide.specs.declared.Decision.{Decision}
 use Rattle.change_decide.specs.declared.Decision.the-variants.{Refused, Balanced, Absorb, SplitParent, Share, Merge, MergeRoot}
 use Rattle.card.proofs.NodeLaws.{length-node}
-use Rattle.demands.specs.Demand1.{thenDue, Refuses, Demand1}
-use Rattle.promises.specs.Table.{Due, formatting, repair}
+use Rattle.demands.specs.Demand1.{begun, Refuses, Demand1}
+use Rattle.promises.specs.Table.{formatting}
 use Rattle.promises.specs.Way.{nodesOn, leadsTo, among}
 use Rattle.demands.specs.Refusals.{ByRows, NoneGiven, NoNodes, NoRepair, NoChange, changeRows, end, row}
 use Rattle.demands.specs.Rules.{Given}
-use Rattle.promises.specs.RationTable.{workOf, dueOf, stepped, rationTable}
+use Rattle.promises.specs.RationTable.{workOf, stepped, rationTable}
 use Rattle.demands.proofs.CardRows.{none-some, finds, formats, opens}
 use Rattle.demands.proofs.PlannedNumbers.{numbers-by-rule, numbers-counted, given-taken}
 use Rattle.demands.proofs.StartRows.{one-leaf, inserts, deletes}
@@ -94,20 +94,19 @@ module _ (c : List ℕ) (m : Memory) where
     refuses-none = refused-same 9 c m
 
     module _ (ss : List Store) (free : List Bool) (last : ℕ) (cut : List ℕ) where
-      stores-first : workOf doing ≡ workOf (m .doing) → dueOf doing ≡ thenDue (dueOf (m .doing)) → getD ss 0 (0, 0) .0 < length c
+      stores-first : workOf doing ≡ begun (workOf (m .doing)) → getD ss 0 (0, 0) .0 < length c
           → Works c m (stepPrepared c m doing a (prepared ss free last cut))
       unfolding stepPrepared planning
-      stores-first w d o =
+      stores-first w o =
           let then = planning m doing free last cut in
-          let kept = advanced-doing then (drop 1 ss) in
-          inl (store-inside c m (getD ss 0 (0, 0)) (advanced then (drop 1 ss)) (advanced-nodes then (drop 1 ss)) (ap workOf kept ∙ w) (ap dueOf kept ∙ d) o)
+          inl (store-inside c m (getD ss 0 (0, 0)) (advanced then (drop 1 ss)) (advanced-nodes then (drop 1 ss)) (ap workOf (advanced-doing then (drop 1 ss)) ∙ w) o)
 
       refuses-first : length c ≤ getD ss 0 (0, 0) .0 → Refuses rationTable c m (stepped (stepPrepared c m doing a (prepared ss free last cut))) 9
       unfolding stepPrepared
       refuses-first o = store-outside c m (getD ss 0 (0, 0)) (advanced (planning m doing free last cut) (drop 1 ss)) o
 
   -- a change over so many new nodes, whose first store is the first word of the first of them
-  module _ (doing : Doing) (a : Answer) (w : workOf doing ≡ workOf (m .doing)) (d : dueOf doing ≡ thenDue (dueOf (m .doing))) where
+  module _ (doing : Doing) (a : Answer) (w : workOf doing ≡ begun (workOf (m .doing))) where
     over-given : (k : ℕ) (change : List ℕ → Change) → ((ms : List ℕ) → getD (changeStores (change ms)) 0 (0, 0) .0 ≡ place (first ms) 0)
         → Nine (NoneGiven c (m .free) (m .last) k) (stepPrepared c m doing a (giving k (m .free) (m .last) change))
     unfolding giving overNumbers
@@ -123,7 +122,7 @@ module _ (c : List ℕ) (m : Memory) where
             order (place (first ms) 0) (length c)
             (λ o. inr (
               λ z. z ms (numbers-by-rule k (m .free) (m .last) ms t) (numbers-counted k (m .free) (m .last) ms t) o,
-              stores-first doing a (changeStores (change ms)) _ _ _ w d (omega (arith, o, heads ms)),
+              stores-first doing a (changeStores (change ms)) _ _ _ w (omega (arith, o, heads ms)),
             ))
             (λ o. inl (
               λ ms′ g n h. let u = given ms′ g n in let z : ms′ ≡ ms = cc in omega (arith, o, rw z at h),
@@ -139,13 +138,9 @@ module _ (c : List ℕ) (m : Memory) (key value : ℕ) (d : m .doing ≡ Inserti
   abbrev inserted : Step
   inserted = stepBegin c m (nextChange c (m .nodes) (m .free) (m .last) (Inserting key value false) (PutIn key value))
 
-  insert-work : workOf (Inserting key value true) ≡ workOf (m .doing)
-  unfolding workOf
+  insert-work : workOf (Inserting key value true) ≡ begun (workOf (m .doing))
+  unfolding workOf begun
   insert-work = rw d
-
-  insert-then : dueOf (Inserting key value true) ≡ thenDue (dueOf (m .doing))
-  unfolding dueOf thenDue
-  insert-then = rw d
 
   insert-no-way : landing c (m .nodes) key ≡ NoLanding → inserted ≡ stepRefused 9 c m
   unfolding stepBegin nextChange inLeaf noWay stepPrepared
@@ -179,14 +174,14 @@ module _ (c : List ℕ) (m : Memory) (key value : ℕ) (d : m .doing ≡ Inserti
         subst (Nine c m InsertDue) (sym (put-slot c (m .nodes) key leaf link run lands value (m .free) (m .last) m i e f))
         (inr (
           not-due (λ r. in-leaf r 0 (r .full) (found (nodeAt c leaf) 0 i f)),
-          stores-first c m (Inserting key value true) Absent ((place leaf (12 + i), value) ∷ (place leaf (1 + i), key) ∷ []) (m .free) (m .last) [] insert-work insert-then (on-card c (m .nodes) key leaf link run s lands 0 i (12 + i) f (omega arith)),
+          stores-first c m (Inserting key value true) Absent ((place leaf (12 + i), value) ∷ (place leaf (1 + i), key) ∷ []) (m .free) (m .last) [] insert-work (on-card c (m .nodes) key leaf link run s lands 0 i (12 + i) f (omega arith)),
         ))
     insert-slot NoSlot e NoSlot f =
         subst (Nine c m InsertDue) (sym (put-full c (m .nodes) key leaf link run lands value (m .free) (m .last) m e f))
         (same-nine c m (NoneGiven c (m .free) (m .last) 3) InsertDue _
         (λ h. inr (record { full-leaf = leaf; j = run; leads = leads; absent = missing (nodeAt c leaf) key e; full = missing (nodeAt c leaf) 0 f; none-given = h }))
         given-there
-        (over-given c m (Inserting key value true) Absent insert-work insert-then 3
+        (over-given c m (Inserting key value true) Absent insert-work 3
         (λ ms. splitLeaf leaf link (sort ((key, value) ∷ leafPairs (nodeAt c leaf))) (first ms) (second ms) (third ms)) (λ ms. refl)))
 
   insert-at : Sized (length c) (m .nodes) → (l : Landing) → landing c (m .nodes) key ≡ l → Nine c m InsertDue inserted
@@ -200,13 +195,9 @@ module _ (c : List ℕ) (m : Memory) (key before : ℕ) (d : m .doing ≡ Deleti
   abbrev deleted : Step
   deleted = stepBegin c m (nextChange c (m .nodes) (m .free) (m .last) (Deleting key false before) (TakeOut key))
 
-  delete-work : (value : ℕ) → workOf (Deleting key true value) ≡ workOf (m .doing)
-  unfolding workOf
+  delete-work : (value : ℕ) → workOf (Deleting key true value) ≡ begun (workOf (m .doing))
+  unfolding workOf begun
   delete-work value = rw d
-
-  delete-then : (value : ℕ) → dueOf (Deleting key true value) ≡ thenDue (dueOf (m .doing))
-  unfolding dueOf thenDue
-  delete-then value = rw d
 
   delete-no-way : landing c (m .nodes) key ≡ NoLanding → deleted ≡ stepRefused 9 c m
   unfolding stepBegin nextChange inLeaf noWay stepPrepared
@@ -215,7 +206,7 @@ module _ (c : List ℕ) (m : Memory) (key before : ℕ) (d : m .doing ≡ Deleti
   delete-slot : Sized (length c) (m .nodes) → (leaf link run : ℕ) → landing c (m .nodes) key ≡ LandingAt leaf link run → (k : Slot) → slotOf (nodeAt c leaf) key ≡ k → Works c m deleted
   delete-slot s leaf link run lands (At i) e =
       subst (Works c m) (sym (remove-held c (m .nodes) key leaf link run lands before (m .free) (m .last) m i e))
-      (stores-first c m (Deleting key true (getD (nodeAt c leaf) (12 + i) 0)) (Value (getD (nodeAt c leaf) (12 + i) 0)) ((place leaf (1 + i), 0) ∷ []) (m .free) (m .last) [] (delete-work (getD (nodeAt c leaf) (12 + i) 0)) (delete-then (getD (nodeAt c leaf) (12 + i) 0)) (on-card c (m .nodes) key leaf link run s lands key i (1 + i) e (omega arith)))
+      (stores-first c m (Deleting key true (getD (nodeAt c leaf) (12 + i) 0)) (Value (getD (nodeAt c leaf) (12 + i) 0)) ((place leaf (1 + i), 0) ∷ []) (m .free) (m .last) [] (delete-work (getD (nodeAt c leaf) (12 + i) 0)) (on-card c (m .nodes) key leaf link run s lands key i (1 + i) e (omega arith)))
   delete-slot s leaf link run lands NoSlot e =
       subst (Works c m) (sym (remove-absent c (m .nodes) key leaf link run lands before (m .free) (m .last) m e)) (answers c m (Deleting key true 0) Absent (inr (inr refl)))
 
@@ -227,21 +218,17 @@ module _ (c : List ℕ) (m : Memory) (key before : ℕ) (d : m .doing ≡ Deleti
 
 -- ---- a repair
 
-module _ (c : List ℕ) (m : Memory) (key : ℕ) (a : Answer) (f : Final a) (d : dueOf (m .doing) ≡ repair key) where
-  repair-then : dueOf (m .doing) ≡ thenDue (dueOf (m .doing))
-  unfolding thenDue
-  repair-then = rw d
-
+module _ (c : List ℕ) (m : Memory) (key : ℕ) (a : Answer) (f : Final a) (w : workOf (m .doing) ≡ begun (workOf (m .doing))) where
   -- by the change decided
   repair-decided : (x : Decision) → Nine c m (NoRepair c (m .free) (m .last) x) (stepPrepared c m (m .doing) a (layOut c x (m .free) (m .last)))
   unfolding NoRepair layOut changeStores absorb splitParent share merge mergeRoot halves nodeImage
   repair-decided Refused = inl (tt, refuses-none c m (m .doing) a)
   repair-decided Balanced = inr (λ z. z, answers c m (m .doing) a f)
-  repair-decided (Absorb p) = over-given c m (m .doing) a refl repair-then 1 (absorbAt c p) (λ ms. refl)
-  repair-decided (SplitParent p) = over-given c m (m .doing) a refl repair-then 3 (splitParentAt c p) (λ ms. refl)
-  repair-decided (Share p) = over-given c m (m .doing) a refl repair-then 3 (shareAt c p) (λ ms. refl)
-  repair-decided (Merge p) = over-given c m (m .doing) a refl repair-then 2 (mergeAt c p) (λ ms. refl)
-  repair-decided (MergeRoot p) = over-given c m (m .doing) a refl repair-then 1 (mergeRootAt c p) (λ ms. refl)
+  repair-decided (Absorb p) = over-given c m (m .doing) a w 1 (absorbAt c p) (λ ms. refl)
+  repair-decided (SplitParent p) = over-given c m (m .doing) a w 3 (splitParentAt c p) (λ ms. refl)
+  repair-decided (Share p) = over-given c m (m .doing) a w 3 (shareAt c p) (λ ms. refl)
+  repair-decided (Merge p) = over-given c m (m .doing) a w 2 (mergeAt c p) (λ ms. refl)
+  repair-decided (MergeRoot p) = over-given c m (m .doing) a w 1 (mergeRootAt c p) (λ ms. refl)
 
   repair-next : Sized (length c) (m .nodes) → Nine c m (NoRepair c (m .free) (m .last) (decidedRepair c (nodesOn c) key))
       (stepBegin c m (nextChange c (m .nodes) (m .free) (m .last) (m .doing) (Repair key a)))
@@ -252,17 +239,16 @@ module _ (c : List ℕ) (m : Memory) (key : ℕ) (a : Answer) (f : Final a) (d :
 
 module _ (c : List ℕ) (m : Memory) (s : Sized (length c) (m .nodes)) where
   abbrev Begins : Doing → Task → Type 0
-  Begins doing task = Nine c m (NoChange c (m .free) (m .last) (dueOf doing)) (stepBegin c m (nextChange c (m .nodes) (m .free) (m .last) doing task))
+  Begins doing task = Nine c m (NoChange c (m .free) (m .last) (workOf doing)) (stepBegin c m (nextChange c (m .nodes) (m .free) (m .last) doing task))
 
-  repairs : (key : ℕ) (a : Answer) → Final a → (doing : Doing) → m .doing ≡ doing → dueOf doing ≡ repair key → Begins doing (Repair key a)
-  unfolding NoChange
-  repairs key a f doing e d =
-      subst (λ (x : Doing). Begins x (Repair key a)) e
-      (subst (λ (x : Due). Nine c m (NoChange c (m .free) (m .last) x) (stepBegin c m (nextChange c (m .nodes) (m .free) (m .last) (m .doing) (Repair key a)))) (sym (ap dueOf e ∙ d))
-      (repair-next c m key a f (ap dueOf e ∙ d) s))
+  repairs : (key : ℕ) (a : Answer) → Final a → (doing : Doing) → m .doing ≡ doing → workOf doing ≡ begun (workOf doing)
+      → Nine c m (NoRepair c (m .free) (m .last) (decidedRepair c (nodesOn c) key)) (stepBegin c m (nextChange c (m .nodes) (m .free) (m .last) doing (Repair key a)))
+  repairs key a f doing e w =
+      subst (λ (x : Doing). Nine c m (NoRepair c (m .free) (m .last) (decidedRepair c (nodesOn c) key)) (stepBegin c m (nextChange c (m .nodes) (m .free) (m .last) x (Repair key a)))) e
+      (repair-next c m key a f (subst (λ (x : Doing). workOf x ≡ begun (workOf x)) (sym e) w) s)
 
   begins : {doing : Doing} {task : Task} → TaskOf doing task → m .doing ≡ doing → Begins doing task
-  unfolding NoChange dueOf
+  unfolding NoChange workOf begun
   begins (putting {key} {value}) e = insert-at c m key value e s (landing c (m .nodes) key) refl
   begins (taking {key} {value}) e = delete-at c m key value e s (landing c (m .nodes) key) refl
   begins (put {key} {value}) e = repairs key Absent (inr (inr refl)) (Inserting key value true) e refl
@@ -274,10 +260,10 @@ unfolding ByRows stepTask
 change-rows c m r q = go (idle-or-task (m .doing) q)
   where
     go : IdleOrTask (m .doing) → ByRows (changeRows rationTable c m) (Refuses rationTable c m (stepped (stepOf c m))) (Works c m (stepOf c m))
-    go (inl (e, w)) = idle-rows c m e w (row 9 (NoChange c (m .free) (m .last) (dueOf (m .doing))) end) (Works c m (stepOf c m))
+    go (inl (e, w)) = idle-rows c m e w (row 9 (NoChange c (m .free) (m .last) (workOf (m .doing))) end) (Works c m (stepOf c m))
     go (inr (task, e, w)) =
-        task-rows c m task e w (row 9 (NoChange c (m .free) (m .last) (dueOf (m .doing))) end) (Works c m (stepOf c m))
-        (λ s due. subst (Nine c m (NoChange c (m .free) (m .last) (dueOf (m .doing)))) (sym (due ∙ ap (stepTask c m task) r)) (begins c m s (task-of (m .doing) task e) refl))
+        task-rows c m task e w (row 9 (NoChange c (m .free) (m .last) (workOf (m .doing))) end) (Works c m (stepOf c m))
+        (λ s due. subst (Nine c m (NoChange c (m .free) (m .last) (workOf (m .doing)))) (sym (due ∙ ap (stepTask c m task) r)) (begins c m s (task-of (m .doing) task e) refl))
 
 -- DEMAND 1 of the ration table
 pub demand-1 : Demand1 rationTable

@@ -15,10 +15,10 @@ use Rattle.card.proofs.HeaderLaws.{nodes-sized, sized-nodes, formatted-header}
 use Rattle.card.specs.Layout.{nodeAt, keyWords}
 use Rattle.card.specs.Replies.{absent}
 use Rattle.demands.specs.Demand1.{HandsBack, Starts}
-use Rattle.promises.specs.Table.{inserting, deleting, putIn, takeOut}
+use Rattle.promises.specs.Table.{inserting, deleting}
 use Rattle.promises.specs.Way.{leadsTo, among}
 use Rattle.demands.specs.Refusals.{Rows, ByRows, Busy, NoCard, NoRoom, startRows, insertRows, deleteRows, end, row}
-use Rattle.promises.specs.RationTable.{workOf, dueOf, handed, rationTable}
+use Rattle.promises.specs.RationTable.{workOf, handed, rationTable}
 use Rattle.demands.proofs.Work.{true-false, idle-work, busy-work}
 use Rattle.demands.proofs.CardRows.{none-some}
 use Rattle.demands.proofs.FirstRows.{by-card}
@@ -64,9 +64,9 @@ module _ (c : List ℕ) (m : Memory) (key : ℕ) (doing : Doing) (room : Landing
   unfolding startRefused startReply
   refused-back r = record { number-given = refl; unchanged = refl }
 
-  start-begun : Starts rationTable m (handed (started m doing)) (workOf doing) (dueOf doing)
+  start-begun : Starts rationTable m (handed (started m doing)) (workOf doing)
   unfolding started startReply
-  start-begun = record { reply-given = refl; in-progress = refl; first-due = refl; all-kept = record { nodes-kept = refl; free-kept = refl; last-kept = refl } }
+  start-begun = record { reply-given = refl; in-progress = refl; all-kept = record { nodes-kept = refl; free-kept = refl; last-kept = refl } }
 
   -- the rows of a start, to where the key has led to its leaf
   by-start : (rows : Rows) (works : Type 0)
@@ -118,10 +118,10 @@ started-doing c m doing room key e =
 
 -- an update's first change leaves it begun
 
-pub deletes : (c : List ℕ) (m : Memory) (key : ℕ) → ByRows (deleteRows rationTable c m key) (HandsBack rationTable m (rationTable .delete c m key)) (Starts rationTable m (rationTable .delete c m key) (deleting key) (takeOut key))
-unfolding ByRows deleteOf workOf dueOf
+pub deletes : (c : List ℕ) (m : Memory) (key : ℕ) → ByRows (deleteRows rationTable c m key) (HandsBack rationTable m (rationTable .delete c m key)) (Starts rationTable m (rationTable .delete c m key) (deleting key false))
+unfolding ByRows deleteOf workOf
 deletes c m key =
-    by-start c m key (Deleting key false 0) (λ l. true) end (Starts rationTable m (handed (deleteOf c m key)) (deleting key) (takeOut key))
+    by-start c m key (Deleting key false 0) (λ l. true) end (Starts rationTable m (handed (deleteOf c m key)) (deleting key false))
     (λ leaf link j to e. rw e (start-begun c m key (Deleting key false 0) (λ l. true)))
 
 -- where a key leads is one place
@@ -155,14 +155,14 @@ room-row c free key leaf link j to = at (slotOf (nodeAt c leaf) key) refl (slotO
         (λ o. inl (record { full-leaf = leaf; j = j; leads = to; absent = sym (slot-is (nodeAt c leaf) key NoSlot e); full = sym (slot-is (nodeAt c leaf) 0 NoSlot f); few = o }, rw (e, f, lt-ltb (countTrue free) (splitNeed j) o)))
         (λ o. inr (λ r. omega (arith, r .few, same r .1), rw (e, f, le-ltb (countTrue free) (splitNeed j) o)))
 
-pub inserts : (c : List ℕ) (m : Memory) (key value : ℕ) → ByRows (insertRows rationTable c m key) (HandsBack rationTable m (rationTable .insert c m key value)) (Starts rationTable m (rationTable .insert c m key value) (inserting key value) (putIn key value))
-unfolding ByRows insertOf workOf dueOf
+pub inserts : (c : List ℕ) (m : Memory) (key value : ℕ) → ByRows (insertRows rationTable c m key) (HandsBack rationTable m (rationTable .insert c m key value)) (Starts rationTable m (rationTable .insert c m key value) (inserting key value false))
+unfolding ByRows insertOf workOf
 inserts c m key value =
-    by-start c m key (Inserting key value false) (startRoom c key (m .free)) (row 8 (NoRoom c (m .free) key) end) (Starts rationTable m (handed (insertOf c m key value)) (inserting key value) (putIn key value))
+    by-start c m key (Inserting key value false) (startRoom c key (m .free)) (row 8 (NoRoom c (m .free) key) end) (Starts rationTable m (handed (insertOf c m key value)) (inserting key value false))
     (λ leaf link j to e. at leaf link j e (room-row c (m .free) key leaf link j to))
   where
     at : (leaf link j : ℕ) → startOf c m key (Inserting key value false) (startRoom c key (m .free)) ≡ pick (startRoom c key (m .free) (LandingAt leaf link j)) (started m (Inserting key value false)) (startRefused 8 m)
         → (NoRoom c (m .free) key × (startRoom c key (m .free) (LandingAt leaf link j) ≡ false)) ⊎ ((NoRoom c (m .free) key → ⊥) × (startRoom c key (m .free) (LandingAt leaf link j) ≡ true))
-        → (NoRoom c (m .free) key × HandsBack rationTable m (handed (insertOf c m key value)) 8) ⊎ ((NoRoom c (m .free) key → ⊥) × Starts rationTable m (handed (insertOf c m key value)) (inserting key value) (putIn key value))
+        → (NoRoom c (m .free) key × HandsBack rationTable m (handed (insertOf c m key value)) 8) ⊎ ((NoRoom c (m .free) key → ⊥) × Starts rationTable m (handed (insertOf c m key value)) (inserting key value false))
     at leaf link j e (inl (r, q)) = inl (r, rw (e, q) (refused-back c m key (Inserting key value false) (startRoom c key (m .free)) 8))
     at leaf link j e (inr (r, q)) = inr (r, rw (e, q) (start-begun c m key (Inserting key value false) (startRoom c key (m .free))))

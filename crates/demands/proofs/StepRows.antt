@@ -12,10 +12,10 @@ use Rattle.card.specs.Header.{nodesOfLength, Sized}
 use Rattle.card.proofs.HeaderLaws.{sized-nodes, formatted-header}
 use Rattle.card.specs.Layout.{nodeAt}
 use Rattle.card.specs.Stores.{Store}
-use Rattle.demands.specs.Demand1.{thenDue, HandsBack, Stores, StoresNext, Answers, Refuses}
-use Rattle.promises.specs.Table.{noWork, formatting, nothingDue}
+use Rattle.demands.specs.Demand1.{begun, HandsBack, Stores, StoresNext, Answers, Refuses}
+use Rattle.promises.specs.Table.{noWork, formatting}
 use Rattle.demands.specs.Refusals.{Rows, ByRows, Idle, NoCard, cardRows, end, row}
-use Rattle.promises.specs.RationTable.{workOf, dueOf, stepped, rationTable}
+use Rattle.promises.specs.RationTable.{workOf, stepped, rationTable}
 use Rattle.demands.proofs.Work.{IdleOrTask, idle-or-task, work-formatting}
 use Rattle.demands.proofs.StartRows.{not-sized, start-one, refused-back}
 use Rattle.demands.proofs.FirstRows.{sized?, by-card}
@@ -101,22 +101,22 @@ unfolding advanced
 advanced-rest m [] = refl
 advanced-rest m (s ∷ rest) = refl
 
-pub store-inside : (c : List ℕ) (m : Memory) (s : Store) (next : Memory) → next .nodes ≡ m .nodes → workOf (next .doing) ≡ workOf (m .doing) → dueOf (next .doing) ≡ thenDue (dueOf (m .doing)) → s .0 < length c → Stores rationTable c m (stepped (stepStore c m s next))
+pub store-inside : (c : List ℕ) (m : Memory) (s : Store) (next : Memory) → next .nodes ≡ m .nodes → workOf (next .doing) ≡ begun (workOf (m .doing)) → s .0 < length c → Stores rationTable c m (stepped (stepStore c m s next))
 unfolding stepStore stepReply
-store-inside c m s next en ew ed o =
-    rw (lt-ltb (s .0) (length c) o) (record { reply-given = refl; place = s .0; word = s .1; inside = o; one-store = refl; nodes-kept = en; work-kept = ew; due-then = ed })
+store-inside c m s next en ew o =
+    rw (lt-ltb (s .0) (length c) o) (record { reply-given = refl; place = s .0; word = s .1; inside = o; one-store = refl; nodes-kept = en; work-begun = ew })
 
 pub store-outside : (c : List ℕ) (m : Memory) (s : Store) (next : Memory) → length c ≤ s .0 → Refuses rationTable c m (stepped (stepStore c m s next)) 9
 unfolding stepStore
 store-outside c m s next o = rw (le-ltb (s .0) (length c) o) (refused-same 9 c m)
 
 -- formatting: its place is always on the card
-format-cases : (c : List ℕ) (m : Memory) (made : ℕ) → workOf (m .doing) ≡ formatting → nothingDue ≡ thenDue (dueOf (m .doing)) → 0 < length c → Works c m (stepFormat c m made (formatStore (m .nodes) (length c) made))
-unfolding stepFormat formatStore stepReply formattingThen workOf dueOf
-format-cases c m made ew ed pos =
-    bool-cases (eqb made 0) (λ q. inl (rw q (record { reply-given = refl; place = 0; word = 0; inside = pos; one-store = refl; nodes-kept = refl; work-kept = sym ew; due-then = ed }))) (λ q.
-    bool-cases (ltb made (length c)) (λ q₁. inl (rw (q, q₁) (record { reply-given = refl; place = made; word = _; inside = ltb-true made (length c) q₁; one-store = refl; nodes-kept = refl; work-kept = sym ew; due-then = ed }))) (λ q₁.
-    bool-cases (eqb made (length c)) (λ q₂. inl (rw (q, q₁, q₂) (record { reply-given = refl; place = 0; word = 1; inside = pos; one-store = refl; nodes-kept = refl; work-kept = sym ew; due-then = ed })))
+format-cases : (c : List ℕ) (m : Memory) (made : ℕ) → workOf (m .doing) ≡ formatting → 0 < length c → Works c m (stepFormat c m made (formatStore (m .nodes) (length c) made))
+unfolding stepFormat formatStore stepReply formattingThen workOf begun
+format-cases c m made ew pos =
+    bool-cases (eqb made 0) (λ q. inl (rw q (record { reply-given = refl; place = 0; word = 0; inside = pos; one-store = refl; nodes-kept = refl; work-begun = sym (ap begun ew) }))) (λ q.
+    bool-cases (ltb made (length c)) (λ q₁. inl (rw (q, q₁) (record { reply-given = refl; place = made; word = _; inside = ltb-true made (length c) q₁; one-store = refl; nodes-kept = refl; work-begun = sym (ap begun ew) }))) (λ q₁.
+    bool-cases (eqb made (length c)) (λ q₂. inl (rw (q, q₁, q₂) (record { reply-given = refl; place = 0; word = 1; inside = pos; one-store = refl; nodes-kept = refl; work-begun = sym (ap begun ew) })))
     (λ q₂. inr (rw (q, q₁, q₂) (final-idle Ready c m (inl refl))))))
 
 -- ---- the rows
@@ -133,12 +133,12 @@ step-sized c m s = rw (sized-nodes (length c) (m .nodes) s, ne-eqb (m .nodes) 0 
 
 module _ (c : List ℕ) (m : Memory) where
   pub formatting-rows : workOf (m .doing) ≡ formatting → ByRows (row 1 (NoCard c (m .nodes)) end) (Refuses rationTable c m (stepped (stepOf c m))) (Works c m (stepOf c m))
-  unfolding ByRows heldBy stepHeld dueOf thenDue
+  unfolding ByRows heldBy stepHeld
   formatting-rows q = go (sized? (length c) (m .nodes)) (work-formatting (m .doing) q)
     where
       go : Dec (Sized (length c) (m .nodes)) → ((made : ℕ) × (m .doing ≡ Formatting made)) → (NoCard c (m .nodes) × Refuses rationTable c m (stepped (stepOf c m)) 1) ⊎ ((NoCard c (m .nodes) → ⊥) × Works c m (stepOf c m))
       go (no p) d = inl (p, rw (step-one c m p) (refused-same 1 c m))
-      go (yes s) (made, e) = inr (λ p. p s, rw (step-sized c m s ∙ ap (λ (d : Doing). stepHeld c m (heldBy d)) e) (format-cases c m made q (rw e) (omega (arith, s .words))))
+      go (yes s) (made, e) = inr (λ p. p s, rw (step-sized c m s ∙ ap (λ (d : Doing). stepHeld c m (heldBy d)) e) (format-cases c m made q (omega (arith, s .words))))
 
   -- 1, 2 and 3, and then 10 where nothing is held, whatever comes after it, or what comes after it where a task is
   pub idle-rows : heldBy (m .doing) ≡ NoneHeld → workOf (m .doing) ≡ noWork → (rows : Rows) (works : Type 0) → ByRows (cardRows c (m .nodes) (row 10 (Idle rationTable m) rows)) (Refuses rationTable c m (stepped (stepOf c m))) works
@@ -163,7 +163,7 @@ next-cases : (c : List ℕ) (m : Memory) (x : Store) (rest : List Store) → ByR
 unfolding ByRows stepStore stepReply
 next-cases c m x rest =
     order (x .0) (length c)
-    (λ o. inr (λ z. omega (arith, o, z), rw (lt-ltb (x .0) (length c) o) (record { reply-given = refl; one-store = refl; rest-to-come = advanced-rest m rest; nodes-kept = advanced-nodes m rest; work-kept = ap workOf (advanced-doing m rest); due-kept = ap dueOf (advanced-doing m rest) })))
+    (λ o. inr (λ z. omega (arith, o, z), rw (lt-ltb (x .0) (length c) o) (record { reply-given = refl; one-store = refl; rest-to-come = advanced-rest m rest; nodes-kept = advanced-nodes m rest; work-kept = ap workOf (advanced-doing m rest) })))
     (λ o. inl (o, rw (le-ltb (x .0) (length c) o) (refused-same 9 c m)))
 
 pub in-hand-rows : (c : List ℕ) (m : Memory) (x : Store) (rest : List Store) → m .rest ≡ x ∷ rest → (workOf (m .doing) ≡ formatting → ⊥)

@@ -1,7 +1,6 @@
 -- The ration table as its caller sees it: the definitions that the contracts of the calls say the code meets, and the numbers of
 -- its answers. (What those definitions are need not be read: the demands are proved of them.)
-use mathlib.Core.Bool.{true, false}
-use Rattle.promises.specs.Table.{Handed, Stepped, Work, Due, Table, noWork, formatting, inserting, deleting, repairing, nothingDue, putIn, takeOut, repair}
+use Rattle.promises.specs.Table.{Handed, Stepped, Work, Table, noWork, formatting, inserting, deleting, repairing}
 use Rattle.lookup.specs.Answers.{foundReply}
 use Rattle.lookup.specs.Find.{findOf}
 use Rattle.opening.specs.Opening.{openOf}
@@ -17,19 +16,9 @@ use Rattle.table.specs.Calls.{stepOf}
 unfoldable pub workOf : Doing → Work
 workOf Idle = noWork
 workOf (Formatting made) = formatting
-workOf (Inserting key value begun) = inserting key value
-workOf (Deleting key begun value) = deleting key
-workOf (Repairing key) = repairing
-
--- and what is to be changed next: an update has its first change to make, or has begun
-unfoldable pub dueOf : Doing → Due
-dueOf Idle = nothingDue
-dueOf (Formatting made) = nothingDue
-dueOf (Inserting key value false) = putIn key value
-dueOf (Inserting key value true) = repair key
-dueOf (Deleting key false value) = takeOut key
-dueOf (Deleting key true value) = repair key
-dueOf (Repairing key) = repair key
+workOf (Inserting key value begun) = inserting key value begun
+workOf (Deleting key begun value) = deleting key begun
+workOf (Repairing key) = repairing key
 
 abbrev pub handed : Begun → Handed Memory
 handed h = record { reply = startReply (h .begun); state = h .memory }
@@ -45,7 +34,6 @@ rationTable =
       free = λ m. m .free;
       lastGiven = λ m. m .last;
       work = λ m. workOf (m .doing);
-      due = λ m. dueOf (m .doing);
       toCome = λ m. m .rest;
       find = λ c key. foundReply (findOf c key);
       format = λ c. handed (formatOf c);
