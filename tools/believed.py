@@ -30,7 +30,7 @@ MET = {("lookup", "Find", "findOf"), ("opening", "Opening", "openOf"), ("startin
        ("starting", "Starts", "insertOf"), ("starting", "Starts", "deleteOf"), ("table", "Calls", "stepOf")}
 # the calls, as the crates offer them, and the table that is made of what they meet
 TABLE = "promises/RationTable/rationTable"
-CALLS = {"lookup": ["find"], "opening": ["open"], "starting": ["start_format", "start_insert", "start_delete"], "table": ["step"]}
+CALLS = {"lookup": ["find"], "table": ["open", "start_format", "start_insert", "start_delete", "step"]}
 
 
 def uses_of(line):

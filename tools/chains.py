@@ -50,7 +50,7 @@ def rewrite(text, fields, needs):
                 lambda m: name + ' (' + chain(lambda p: p == helpers[name], name) + ')', part)
         def field(m):
             return chain(lambda p: m.group(1) in fields[p], m.group(1)) + ' .' + m.group(1)
-        out.append(re.sub(r'(?<![\w.-])c(?: \.before)* \.((?!before)[\w·-]+)', field, part))
+        out.append(re.sub(r'(?<![\w.-])c(?: \.before)* \.((?!before)[\w·«»-]+)', field, part))
     return '\n\n'.join(out)
 
 def main():

@@ -1,16 +1,20 @@
-// What the test programs share: a row of words that holds any card, the table's calls on the first words of one, and random numbers.
+// What the test programs share: a row of words that holds any card, the block of a state, the table's calls on the first words of a
+// row, and random numbers.
 // A row has a fixed length, so a function over it needs no proof of a length.
 pub mod random;
 
-use table::Beginning;
+use table::Answer;
+use table::Begun;
 use table::Found;
-use table::State;
-use table::Stepped;
+use table::STATE_WORDS;
 
 // As many words as a card of 601 nodes would have, which is one too many.
 pub const MOST: usize = 14432;
 
 pub type Words = [u32; 14432];
+
+// The block of a state.
+pub type Block = [u32; STATE_WORDS];
 
 // A word, and 0 past the end.
 pub fn word(words: &Words, i: usize) -> u32 {
@@ -73,52 +77,57 @@ pub fn find(words: &Words, n: usize, key: u32) -> Found {
     table::find(&all[0..n], key)
 }
 
-pub fn open(words: &Words, n: usize) -> Beginning {
+pub fn open(words: &Words, n: usize, state: &mut Block) -> Begun {
     let all: &[u32] = words;
     if all.len() < n {
-        return table::open(all);
+        return table::open(all, state);
     }
-    table::open(&all[0..n])
+    table::open(&all[0..n], state)
 }
 
-pub fn start_format(words: &Words, n: usize) -> Beginning {
+// What opening answers, where the state is not needed.
+pub fn opening_answer(words: &Words, n: usize) -> Begun {
+    let mut state: Block = [0; STATE_WORDS];
+    open(words, n, &mut state)
+}
+
+pub fn start_format(words: &Words, n: usize, state: &mut Block) -> Begun {
     let all: &[u32] = words;
     if all.len() < n {
-        return table::start_format(all);
+        return table::start_format(all, state);
     }
-    table::start_format(&all[0..n])
+    table::start_format(&all[0..n], state)
 }
 
-pub fn start_insert(words: &Words, n: usize, s: State, key: u32, value: u32) -> Beginning {
+pub fn start_insert(words: &Words, n: usize, state: &mut Block, key: u32, value: u32) -> Begun {
     let all: &[u32] = words;
     if all.len() < n {
-        return table::start_insert(all, s, key, value);
+        return table::start_insert(all, state, key, value);
     }
-    table::start_insert(&all[0..n], s, key, value)
+    table::start_insert(&all[0..n], state, key, value)
 }
 
-pub fn start_delete(words: &Words, n: usize, s: State, key: u32) -> Beginning {
+pub fn start_delete(words: &Words, n: usize, state: &mut Block, key: u32) -> Begun {
     let all: &[u32] = words;
     if all.len() < n {
-        return table::start_delete(all, s, key);
+        return table::start_delete(all, state, key);
     }
-    table::start_delete(&all[0..n], s, key)
+    table::start_delete(&all[0..n], state, key)
 }
 
-fn step_within(all: &mut [u32], n: usize, s: State) -> Stepped {
+fn step_within(all: &mut [u32], n: usize, state: &mut Block) -> Answer {
     if all.len() < n {
-        return table::step(all, s);
+        return table::step(all, state);
     }
-    table::step(&mut all[0..n], s)
+    table::step(&mut all[0..n], state)
 }
 
-pub fn step(words: &mut Words, n: usize, s: State) -> Stepped {
-    step_within(words, n, s)
+pub fn step(words: &mut Words, n: usize, state: &mut Block) -> Answer {
+    step_within(words, n, state)
 }
 
-// The idle state for N = 0: what a refused opening hands back.
-pub fn no_state() -> State {
+// The state is lost: the block becomes the idle state for N = 0, which a refused opening hands back.
+pub fn lose(state: &mut Block) {
     let none = [0u32; 1];
-    let refused = table::open(&none);
-    refused.state
+    table::open(&none, state);
 }

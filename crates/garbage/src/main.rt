@@ -1,16 +1,26 @@
 // Garbage: words that are no table, cards of any length, and states that no call handed back. Every call returns. Prints how many
 // calls there were.
+use calls::Block;
 use calls::Words;
 use calls::narrow;
 use calls::random;
 use calls::random::SEED;
 use calls::random::count;
 use calls::set_word;
-use free_nodes::NodeSet;
-use plans::Plan;
-use table::Beginning;
-use table::Doing;
-use table::State;
+use state_block::COUNT;
+use state_block::CUT;
+use state_block::DOING;
+use state_block::FIRST;
+use state_block::FREE;
+use state_block::IDLE;
+use state_block::LAST;
+use state_block::MADE;
+use state_block::NODES;
+use state_block::PLACES;
+use state_block::SECOND;
+use state_block::THIRD;
+use state_block::VALUES;
+use table::STATE_WORDS;
 
 // How many words the card has, and the number of calls, as places in one row of numbers.
 const LENGTH: usize = 1;
@@ -63,85 +73,66 @@ fn head(card: &mut Words, row: &mut [u64; 32], n: u64) {
     }
 }
 
-fn any_doing(row: &mut [u64; 32]) -> Doing {
-    let which = random::below(row, 6);
-    let key = any_number(row);
-    let value = random::word(row);
-    let begun = random::below(row, 2) == 1;
-    let k = narrow(key as u64);
-    match which {
-        0 => Doing::Idle,
-        1 => Doing::Formatting { made: key },
-        2 => Doing::Inserting {
-            key: k,
-            value,
-            begun,
-        },
-        3 => Doing::Deleting {
-            key: k,
-            begun,
-            value,
-        },
-        _ => Doing::Repairing { key: k },
+// Some words of a block, all the same.
+fn set_part(state: &mut Block, from: usize, to: usize, value: u32) {
+    let mut i = from;
+    while i < to {
+        if i < STATE_WORDS {
+            state[i] = value;
+        }
+        i += 1;
     }
 }
 
-fn any_plan(row: &mut [u64; 32]) -> Plan {
+fn any_doing(state: &mut Block, row: &mut [u64; 32]) {
+    state[DOING] = narrow(random::below(row, 6));
+    state[FIRST] = narrow(any_number(row) as u64);
+    state[SECOND] = random::word(row);
+    state[THIRD] = narrow(random::below(row, 2));
+}
+
+fn any_plan(state: &mut Block, row: &mut [u64; 32]) {
     let place = narrow(any_number(row) as u64);
     let value = random::word(row);
-    let count = any_number(row);
-    let mut places = [place; 73];
+    state[COUNT] = narrow(any_number(row) as u64);
+    set_part(state, PLACES, VALUES, place);
+    set_part(state, VALUES, STATE_WORDS, value);
     let i = random::below(row, 73) as usize;
     if i < 73 {
-        places[i] = value;
-    }
-    Plan {
-        places,
-        values: [value; 73],
-        count,
+        state[PLACES + i] = value;
     }
 }
 
-fn any_state(row: &mut [u64; 32], n: u64) -> State {
-    let doing = any_doing(row);
-    let plan = any_plan(row);
+fn any_state(state: &mut Block, row: &mut [u64; 32], n: u64) {
+    any_doing(state, row);
+    any_plan(state, row);
     let bits = random::word(row);
-    let free = NodeSet { words: [bits; 20] };
-    let last = any_number(row);
-    let made = any_number(row);
+    set_part(state, FREE, PLACES, bits);
+    state[LAST] = narrow(any_number(row) as u64);
+    state[MADE] = narrow(any_number(row) as u64);
     let cut = narrow(any_number(row) as u64);
-    let mut nodes = n as usize;
+    set_part(state, CUT, FREE, cut);
+    state[NODES] = narrow(n);
     if random::below(row, 8) == 0 {
-        nodes = any_number(row);
-    }
-    State {
-        nodes,
-        free,
-        last,
-        doing,
-        plan,
-        made,
-        cut: [cut; 3],
+        state[NODES] = narrow(any_number(row) as u64);
     }
 }
 
 // Some steps with the state that each hands back.
-fn walk(card: &mut Words, row: &mut [u64; 32], s: State) {
+fn walk(card: &mut Words, row: &mut [u64; 32], state: &mut Block) {
     let n = row[LENGTH] as usize;
-    let mut state = s;
     let mut left: u64 = 80;
     while left > 0 {
-        let stepped = calls::step(card, n, state);
+        calls::step(card, n, state);
         count(row, CALLS);
-        state = stepped.state;
         left -= 1;
     }
 }
 
-// A call that hands back a state, and steps from there.
-fn walk_from(card: &mut Words, row: &mut [u64; 32], b: Beginning) {
+// A call that handed back a state is counted, and steps are made from there.
+fn walk_from(card: &mut Words, row: &mut [u64; 32], state: &mut Block) {
     count(row, CALLS);
-    walk(card, row, b.state);
+    walk(card, row, state);
 }
 
 fn find_on(card: &Words, row: &mut [u64; 32], key: u32) {
@@ -149,47 +140,48 @@ fn find_on(card: &Words, row: &mut [u64; 32], key: u32) {
     count(row, CALLS);
 }
 
-fn open_on(card: &mut Words, row: &mut [u64; 32]) {
-    let b = calls::open(card, row[LENGTH] as usize);
-    walk_from(card, row, b);
+fn open_on(card: &mut Words, row: &mut [u64; 32], state: &mut Block) {
+    calls::open(card, row[LENGTH] as usize, state);
+    walk_from(card, row, state);
 }
 
-fn insert_on(card: &mut Words, row: &mut [u64; 32], s: State, key: u32) {
-    let b = calls::start_insert(card, row[LENGTH] as usize, s, key, 7);
-    walk_from(card, row, b);
+fn insert_on(card: &mut Words, row: &mut [u64; 32], state: &mut Block, key: u32) {
+    calls::start_insert(card, row[LENGTH] as usize, state, key, 7);
+    walk_from(card, row, state);
 }
 
-fn delete_on(card: &mut Words, row: &mut [u64; 32], s: State, key: u32) {
-    let b = calls::start_delete(card, row[LENGTH] as usize, s, key);
-    walk_from(card, row, b);
+fn delete_on(card: &mut Words, row: &mut [u64; 32], state: &mut Block, key: u32) {
+    calls::start_delete(card, row[LENGTH] as usize, state, key);
+    walk_from(card, row, state);
 }
 
-fn format_on(card: &mut Words, row: &mut [u64; 32]) {
-    let b = calls::start_format(card, row[LENGTH] as usize);
-    walk_from(card, row, b);
+fn format_on(card: &mut Words, row: &mut [u64; 32], state: &mut Block) {
+    calls::start_format(card, row[LENGTH] as usize, state);
+    walk_from(card, row, state);
 }
 
 fn updates_on(card: &mut Words, row: &mut [u64; 32], nodes: u64, key: u32) {
-    let s = any_state(row, nodes);
-    insert_on(card, row, s, key);
-    let idle = State {
-        nodes: nodes as usize,
-        doing: Doing::Idle,
-        ..s
-    };
-    insert_on(card, row, idle, key);
-    delete_on(card, row, idle, key);
+    let mut state: Block = [0; STATE_WORDS];
+    any_state(&mut state, row, nodes);
+    let mut idle = state;
+    idle[NODES] = narrow(nodes);
+    idle[DOING] = IDLE;
+    let mut again = idle;
+    insert_on(card, row, &mut state, key);
+    insert_on(card, row, &mut idle, key);
+    delete_on(card, row, &mut again, key);
 }
 
 // Every call, on a card and states that are garbage.
 fn calls_on(card: &mut Words, row: &mut [u64; 32], nodes: u64) {
     let key = narrow(any_number(row) as u64);
     find_on(card, row, key);
-    let s = any_state(row, nodes);
-    walk(card, row, s);
-    open_on(card, row);
+    let mut state: Block = [0; STATE_WORDS];
+    any_state(&mut state, row, nodes);
+    walk(card, row, &mut state);
+    open_on(card, row, &mut state);
     updates_on(card, row, nodes, key);
-    format_on(card, row);
+    format_on(card, row, &mut state);
 }
 
 fn turn(card: &mut Words, row: &mut [u64; 32]) {

@@ -2,16 +2,19 @@
 // for it (document 02, W-209).
 use descent::Landing;
 use descent::Slot;
-use free_nodes::NodeSet;
 use repairing::open_repaired;
+use state_block::FREE;
+use state_block::PLACES;
 use table::Begun;
+use table::STATE_WORDS;
 ghost use mathlib.Core.Path.{_≡_};
 ghost use Prim.Native.Nat.{_≤_};
 ghost use lib.ListN.{length};
 ghost use Rattle.card.specs.Layout.{depthLimit};
-ghost use Rattle.free_nodes.specs.NodeSet.{nodesOf, countTrue};
+ghost use Rattle.free_nodes.specs.NodeSet.{wordCount, nodesOf, countTrue};
 ghost use Rattle.descent.specs.Descent.{slotOf};
 ghost use Rattle.updates.specs.Updates.{emptyReason, insertReason};
+ghost use Rattle.state_block.specs.Block.{stateWords, memoryIn};
 ghost use Rattle.repairing.specs.Repairing.{openedCard, openedOver};
 ghost use Rattle.key_file.specs.KeyFile.{keyIn};
 ghost use Rattle.insert_reason.specs.InsertReason.{reasonFor, reasonOn, reasonOf, reasonInDump};
@@ -31,24 +34,24 @@ pub enum Reason {
 
 // Of a leaf that has not the key: an empty slot, or a split, with the 11-child nodes above the leaf, the free nodes, and those that
 // it needs: "M being j + 5".
-fn reason_absent(leaf: &[u32], free: NodeSet, run: usize) -> Reason
-    requires { ⌜ (length (now leaf) ≡ 24) × (run ≤ depthLimit) ⌝ }
-    ensures { λ r. ⌜ r ≡ reasonFor (emptyReason (slotOf (now (leaf .entry)) 0)) run (countTrue (nodesOf (free .words))) ⌝ }
+fn reason_absent(leaf: &[u32], free: &[u32], run: usize) -> Reason
+    requires { ⌜ (length (now leaf) ≡ 24) × (length (now free) ≡ wordCount) × (run ≤ depthLimit) ⌝ }
+    ensures { λ r. ⌜ r ≡ reasonFor (emptyReason (slotOf (now (leaf .entry)) 0)) run (countTrue (nodesOf (now (free .entry)))) ⌝ }
 {
     match descent::find_slot(leaf, 0) {
         Slot::At(_) => Reason::Slot,
         Slot::Absent => Reason::Split {
             run,
-            free: free_nodes::count(&free.words),
+            free: free_nodes::count(free),
             need: run + updates::SPLIT_NEED,
         },
     }
 }
 
 // In the leaf that the key leads to.
-fn reason_in(leaf: &[u32], key: u32, free: NodeSet, run: usize) -> Reason
-    requires { ⌜ (length (now leaf) ≡ 24) × (run ≤ depthLimit) ⌝ }
-    ensures { λ r. ⌜ r ≡ reasonFor (insertReason (now (leaf .entry)) key) run (countTrue (nodesOf (free .words))) ⌝ }
+fn reason_in(leaf: &[u32], key: u32, free: &[u32], run: usize) -> Reason
+    requires { ⌜ (length (now leaf) ≡ 24) × (length (now free) ≡ wordCount) × (run ≤ depthLimit) ⌝ }
+    ensures { λ r. ⌜ r ≡ reasonFor (insertReason (now (leaf .entry)) key) run (countTrue (nodesOf (now (free .entry)))) ⌝ }
 {
     match descent::find_slot(leaf, key) {
         Slot::At(i) => Reason::Held(leaf[12 + i]),
@@ -56,9 +59,10 @@ fn reason_in(leaf: &[u32], key: u32, free: NodeSet, run: usize) -> Reason
     }
 }
 
-// On a card that was opened and repaired, with these free nodes.
-fn reason_on(card: &[u32], free: NodeSet, key: u32) -> Reason
-    ensures { λ r. ⌜ r ≡ reasonOn (now (card .entry)) (nodesOf (free .words)) key ⌝ }
+// On a card with these free nodes.
+fn reason_on(card: &[u32], free: &[u32], key: u32) -> Reason
+    requires { ⌜ length (now free) ≡ wordCount ⌝ }
+    ensures { λ r. ⌜ r ≡ reasonOn (now (card .entry)) (nodesOf (now (free .entry))) key ⌝ }
 {
     let n = card::nodes_of(card.len());
     if n == 0 {
@@ -75,19 +79,24 @@ fn reason_on(card: &[u32], free: NodeSet, key: u32) -> Reason
     }
 }
 
+// On a card that was opened and repaired, with the state that it was left with.
+fn reason_with(card: &[u32], state: &[u32], key: u32) -> Reason
+    requires { ⌜ length (now state) ≡ stateWords ⌝ }
+    ensures { λ r. ⌜ r ≡ reasonOn (now (card .entry)) (memoryIn (now (state .entry)) .free) key ⌝ }
+{
+    reason_on(card, &state[FREE..PLACES], key)
+}
+
 // "opens and repairs it": a card.
 pub fn insert_reason(card: &mut [u32], key: u32) -> Reason
     ensures { λ r. ⌜ r ≡ reasonOf (now (card .entry)) key ⌝ }
     ensures { λ r. ⌜ now (card .exit) ≡ openedCard (now (card .entry)) .card ⌝ }
 {
-    let opened = open_repaired(card);
-    let begun = opened.begun;
-    let state = opened.state;
-    let free = state.free;
-    match begun {
+    let mut state: [u32; STATE_WORDS] = [0; STATE_WORDS];
+    match open_repaired(card, &mut state) {
         Begun::Refused(refusal) => Reason::Refused(refusal),
-        Begun::Idle => reason_on(card, free, key),
-        Begun::Started => reason_on(card, free, key),
+        Begun::Idle => reason_with(card, &state, key),
+        Begun::Started => reason_with(card, &state, key),
     }
 }
 

@@ -5,6 +5,7 @@ use pairs::collect;
 use repairing::open_repaired;
 use soundness::Checked;
 use table::Begun;
+use table::STATE_WORDS;
 ghost use mathlib.Core.Path.{_≡_};
 ghost use lib.ListN.{length};
 ghost use Rattle.repairing.specs.Repairing.{openedCard, openedOver};
@@ -67,9 +68,8 @@ pub fn list_card(card: &mut [u32], out: &mut [u32]) -> Summary
     ensures { λ r. ⌜ now (out .exit) ≡ layListed (listCard (now (card .entry))) (now (out .entry)) .words ⌝ }
     ensures { λ r. ⌜ now (card .exit) ≡ openedCard (now (card .entry)) .card ⌝ }
 {
-    let opened = open_repaired(card);
-    let begun = opened.begun;
-    match begun {
+    let mut state: [u32; STATE_WORDS] = [0; STATE_WORDS];
+    match open_repaired(card, &mut state) {
         Begun::Refused(refusal) => refusing(refusal),
         Begun::Idle => list_table(card, out),
         Begun::Started => list_table(card, out),

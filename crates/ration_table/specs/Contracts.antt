@@ -1,35 +1,7 @@
--- What the exported calls promise, in the terms of the definitions of the calls. These are definitions.
---
--- No definition decides the words of places and values that belong to no store still to come. Nor does one decide, where
--- several words say the same to every later call, which of them stand in the block: the numbers beside what is being done that
--- it has no use for, the number for idle and the word for true, the counts of stores made and planned once none is to come, and
--- the words of the nodes cut out after the first 0. What holds of them all: `memoryIn` of the block is what the definition gives.
+-- What the exported calls promise. It is a definition.
 use mathlib.Core.Path.{_≡_}
-use mathlib.Core.List.{List}
-use Prim.Native.Nat.{ℕ}
-use lib.ListN.{length}
-use Rattle.card.specs.Replies.{Reply, noState}
-use Rattle.state.specs.Answers.{startReply, stepReply}
-use Rattle.state.specs.Steps.{Handed, Step}
-use Rattle.state.specs.declared.Begun.the-variants.{Refused as BegunRefused}
-use Rattle.state.specs.declared.Answer.the-variants.{Refused}
-use Rattle.state_block.specs.Block.{stateWords, memoryIn}
+use Rattle.card.specs.Replies.{Reply}
 
--- opening and starting to format: "refused, hands back an idle state for N = 0" is part of `due`
-pub record OpenCall (before after : List ℕ) (reply : Reply) (due : Handed) : Type 0 where
-  pub answered : length before ≡ stateWords → reply ≡ startReply (due .begun)
-  pub handed : length before ≡ stateWords → memoryIn after ≡ due .memory
-  pub no-state : (length before ≡ stateWords → ⊥) → (reply ≡ noState) × (after ≡ before)
-
--- starting an update: "A refusal .. hands the state back unchanged", every word of it
-pub record StartCall (before after : List ℕ) (reply : Reply) (due : Handed) : Type 0 where
-  pub opened : OpenCall before after reply due
-  pub unchanged : (r : ℕ) → due .begun ≡ BegunRefused r → after ≡ before
-
--- a step; that a refusal stores nothing is part of `due`
-pub record StepCall (before after card-before card-after : List ℕ) (reply : Reply) (due : Step) : Type 0 where
-  pub answered : length before ≡ stateWords → reply ≡ stepReply (due .answer)
-  pub stored : length before ≡ stateWords → card-after ≡ due .card
-  pub handed : length before ≡ stateWords → memoryIn after ≡ due .memory
-  pub unchanged : (r : ℕ) → due .answer ≡ Refused r → after ≡ before
-  pub no-state : (length before ≡ stateWords → ⊥) → (reply ≡ noState) × (after ≡ before) × (card-after ≡ card-before)
+-- the two words are those of an answer with which the table's call met its contract
+abbrev pub Replies : {A : Type 0} → (A → Reply) → Reply → (A → Type 0) → Type 0
+Replies {A} says reply Call = (answer : A) × (reply ≡ says answer) × Call answer

@@ -1,2 +1,2 @@
--- what the exported calls promise, in the terms of the definitions of the calls
+-- what the exported calls promise, in the terms of the table's own calls
 pub mod Contracts

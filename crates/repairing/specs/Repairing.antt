@@ -3,9 +3,9 @@ use mathlib.Core.List.{List, _++_}
 use Prim.Native.Nat.{ℕ, zero, suc}
 use lib.ListN.{length, drop}
 use Rattle.laws.specs.Cases.{pick}
-use Rattle.state.specs.Memory.{Memory, memoryOf}
+use Rattle.state.specs.Memory.{Memory}
 use Rattle.state.specs.Steps.{isIdle}
-use Rattle.state.specs.declared.State.{State}
+use Rattle.state_block.specs.Block.{memoryIn}
 use Rattle.opening.specs.Opening.{openOf}
 use Rattle.table.specs.Calls.{stepOf, repairSteps}
 use Rattle.card.specs.Layout.{programNodes}
@@ -27,9 +27,9 @@ repairedCard (suc k) card m = pick (isIdle (m .doing)) (record { card = card; me
 unfoldable pub openedCard : List ℕ → Repaired
 openedCard card = repairedCard repairSteps card (openOf card .memory)
 
--- the card and the state as they are in code
-unfoldable pub leftBy : List ℕ → State → Repaired
-leftBy card s = record { card = card; memory = memoryOf s }
+-- the card and the state block as they are in code
+unfoldable pub leftBy : List ℕ → List ℕ → Repaired
+leftBy card block = record { card = card; memory = memoryIn block }
 
 -- the words that the programs have a dump read into: those of 600 nodes
 abbrev pub cardRoom : ℕ

@@ -4,6 +4,7 @@ mod crc;
 mod dumps;
 mod stream;
 
+use calls::Block;
 use calls::MOST;
 use calls::Words;
 use calls::copy_words;
@@ -13,7 +14,13 @@ use calls::wide;
 use calls::word;
 use dumps::Bytes;
 use dumps::dump_turn;
-use plans::Plan;
+use state_block::DOING;
+use state_block::FIRST;
+use state_block::FORMATTING;
+use state_block::FREE;
+use state_block::IDLE;
+use state_block::MADE;
+use state_block::PLACES;
 use stream::HASH;
 use stream::LENGTH;
 use stream::MORE;
@@ -24,9 +31,8 @@ use stream::feed_two;
 use stream::next_number;
 use table::Answer;
 use table::Begun;
-use table::Doing;
 use table::Found;
-use table::State;
+use table::STATE_WORDS;
 
 // What a start of an update or of formatting answered.
 fn feed_start(row: &mut [u64; 8], begun: Begun) {
@@ -55,14 +61,14 @@ fn feed_found(row: &mut [u64; 8], found: Found) {
 }
 
 // The place of the last store of a plan of which so many were made; past the end of the row where there is none.
-fn planned_place(plan: Plan, made: usize) -> usize {
+fn planned_place(state: &Block, made: usize) -> usize {
     if made == 0 {
         return MOST;
     }
     if 73 < made {
         return MOST;
     }
-    plan.places[made - 1] as usize
+    state_block::wide(state[PLACES + (made - 1)])
 }
 
 // The place of the last of so many stores of formatting: "0 in word 0, then every word from 1 to the last in rising order ..,
@@ -79,24 +85,15 @@ fn formatted_place(n: usize, made: usize) -> usize {
 
 // The place of the store that a step made, by the state that it handed back: a store of the word that is there already does not
 // show on the card.
-fn stored_place(s: State, n: usize) -> usize {
-    let plan = s.plan;
-    let doing = s.doing;
-    match doing {
-        Doing::Formatting { made } => formatted_place(n, made),
-        Doing::Idle => MOST,
-        Doing::Inserting {
-            key: _,
-            value: _,
-            begun: _,
-        } => planned_place(plan, s.made),
-        Doing::Deleting {
-            key: _,
-            begun: _,
-            value: _,
-        } => planned_place(plan, s.made),
-        Doing::Repairing { key: _ } => planned_place(plan, s.made),
+fn stored_place(state: &Block, n: usize) -> usize {
+    let doing = state[DOING];
+    if doing == IDLE {
+        return MOST;
     }
+    if doing == FORMATTING {
+        return formatted_place(n, state_block::wide(state[FIRST]));
+    }
+    planned_place(state, state_block::wide(state[MADE]))
 }
 
 // A store: the place and the word, which `old` then has as well.
@@ -127,13 +124,10 @@ fn feed_difference(card: &Words, n: usize, old: &Words, row: &mut [u64; 8]) {
     }
 }
 
-fn one_step(card: &mut Words, n: usize, old: &mut Words, row: &mut [u64; 8], s: State) -> State {
-    let stepped = calls::step(card, n, s);
-    let answer = stepped.answer;
-    let state = stepped.state;
+fn one_step(card: &mut Words, n: usize, old: &mut Words, row: &mut [u64; 8], state: &mut Block) {
+    let answer = calls::step(card, n, state);
     feed_answer(card, old, row, answer, stored_place(state, n));
     feed_difference(card, n, old, row);
-    state
 }
 
 // A run of steps; `old` is the card before each.
@@ -143,46 +137,42 @@ fn steps(
     old: &mut Words,
     row: &mut [u64; 8],
     count: u64,
-    s: State,
-) -> State {
+    state: &mut Block,
+) {
     copy_words(card, old, n);
-    let mut state = s;
     let mut left = count;
     while left > 0 {
-        state = one_step(card, n, old, row, state);
+        one_step(card, n, old, row, state);
         left -= 1;
     }
-    state
 }
 
-fn open(card: &Words, n: usize, row: &mut [u64; 8]) -> State {
-    let opened = calls::open(card, n);
-    let state = opened.state;
-    let free = state.free;
-    let begun = opened.begun;
-    feed_opening(row, begun, free_nodes::count(&free.words));
-    state
+// How many nodes are free.
+fn free_count(state: &[u32]) -> usize {
+    if state.len() != STATE_WORDS {
+        return 0;
+    }
+    free_nodes::count(&state[FREE..PLACES])
 }
 
-fn format(card: &Words, n: usize, row: &mut [u64; 8]) -> State {
-    let started = calls::start_format(card, n);
-    let begun = started.begun;
+fn open(card: &Words, n: usize, row: &mut [u64; 8], state: &mut Block) {
+    let begun = calls::open(card, n, state);
+    feed_opening(row, begun, free_count(state));
+}
+
+fn format(card: &Words, n: usize, row: &mut [u64; 8], state: &mut Block) {
+    let begun = calls::start_format(card, n, state);
     feed_start(row, begun);
-    started.state
 }
 
-fn insert(card: &Words, n: usize, row: &mut [u64; 8], s: State, key: u32, value: u32) -> State {
-    let started = calls::start_insert(card, n, s, key, value);
-    let begun = started.begun;
+fn insert(card: &Words, n: usize, row: &mut [u64; 8], state: &mut Block, key: u32, value: u32) {
+    let begun = calls::start_insert(card, n, state, key, value);
     feed_start(row, begun);
-    started.state
 }
 
-fn delete(card: &Words, n: usize, row: &mut [u64; 8], s: State, key: u32) -> State {
-    let started = calls::start_delete(card, n, s, key);
-    let begun = started.begun;
+fn delete(card: &Words, n: usize, row: &mut [u64; 8], state: &mut Block, key: u32) {
+    let begun = calls::start_delete(card, n, state, key);
     feed_start(row, begun);
-    started.state
 }
 
 fn find(card: &Words, n: usize, row: &mut [u64; 8], key: u32) {
@@ -191,11 +181,11 @@ fn find(card: &Words, n: usize, row: &mut [u64; 8], key: u32) {
 }
 
 // A start of formatting, or opening.
-fn begin(card: &Words, n: usize, row: &mut [u64; 8], kind: u64) -> State {
+fn begin(card: &Words, n: usize, row: &mut [u64; 8], kind: u64, state: &mut Block) {
     if kind == 8 {
-        format(card, n, row)
+        format(card, n, row, state);
     } else {
-        open(card, n, row)
+        open(card, n, row, state);
     }
 }
 
@@ -207,15 +197,14 @@ fn call_with(
     row: &mut [u64; 8],
     kind: u64,
     number: u64,
-    s: State,
-) -> State {
+    state: &mut Block,
+) {
     if kind == 10 {
         find(card, n, row, narrow(number));
-        s
     } else if kind == 12 {
-        delete(card, n, row, s, narrow(number))
+        delete(card, n, row, state, narrow(number));
     } else {
-        steps(card, n, old, row, number, s)
+        steps(card, n, old, row, number, state);
     }
 }
 
@@ -227,17 +216,17 @@ fn call(
     input: &mut [u8; 4096],
     row: &mut [u64; 8],
     kind: u64,
-    s: State,
-) -> State {
+    state: &mut Block,
+) {
     if kind < 10 {
-        return begin(card, n, row, kind);
+        return begin(card, n, row, kind, state);
     }
     let first = next_number(input, row);
     if kind == 11 {
         let value = next_number(input, row);
-        return insert(card, n, row, s, narrow(first), narrow(value));
+        return insert(card, n, row, state, narrow(first), narrow(value));
     }
-    call_with(card, n, old, row, kind, first, s)
+    call_with(card, n, old, row, kind, first, state);
 }
 
 // The CRC of the card in hand.
@@ -296,8 +285,8 @@ fn outside(
     input: &mut [u8; 4096],
     row: &mut [u64; 8],
     kind: u64,
-    s: State,
-) -> State {
+    state: &mut Block,
+) {
     match kind {
         1 => new_card(words, input, row),
         2 => set_words(words, input, row),
@@ -307,9 +296,8 @@ fn outside(
         _ => {}
     }
     if kind == 1 || kind == 4 {
-        return calls::no_state();
+        calls::lose(state);
     }
-    s
 }
 
 // A call on a copy of the card that is shorter or longer.
@@ -319,14 +307,14 @@ fn call_on_copy(
     old: &mut Words,
     input: &mut [u8; 4096],
     row: &mut [u64; 8],
-    s: State,
-) -> State {
+    state: &mut Block,
+) {
     let length = next_number(input, row) as usize;
     let kind = next_number(input, row);
     let n = row[LENGTH] as usize;
     copy_words(words, other, n);
     calls::clear_from(other, n);
-    call(other, length, old, input, row, kind, s)
+    call(other, length, old, input, row, kind, state);
 }
 
 // A call of the stream.
@@ -337,12 +325,12 @@ fn call_turn(
     input: &mut [u8; 4096],
     row: &mut [u64; 8],
     kind: u64,
-    s: State,
-) -> State {
+    state: &mut Block,
+) {
     if kind == 7 {
-        call_on_copy(words, other, old, input, row, s)
+        call_on_copy(words, other, old, input, row, state);
     } else {
-        call(words, row[LENGTH] as usize, old, input, row, kind, s)
+        call(words, row[LENGTH] as usize, old, input, row, kind, state);
     }
 }
 
@@ -354,19 +342,17 @@ fn turn(
     bytes: &mut Bytes,
     input: &mut [u8; 4096],
     row: &mut [u64; 8],
-    s: State,
-) -> State {
+    state: &mut Block,
+) {
     let kind = next_number(input, row);
     if kind == 0 {
         row[MORE] = 0;
-        s
     } else if kind < 7 {
-        outside(words, input, row, kind, s)
+        outside(words, input, row, kind, state);
     } else if kind > 13 {
         dump_turn(words, bytes, input, row, kind);
-        s
     } else {
-        call_turn(words, other, old, input, row, kind, s)
+        call_turn(words, other, old, input, row, kind, state);
     }
 }
 
@@ -379,10 +365,10 @@ fn run(
     row: &mut [u64; 8],
 ) {
     row[MORE] = 1;
-    let mut state = calls::no_state();
+    let mut state: Block = [0; STATE_WORDS];
     let mut turns: u64 = 1000000;
     while turns > 0 && row[MORE] == 1 {
-        state = turn(words, other, old, bytes, input, row, state);
+        turn(words, other, old, bytes, input, row, &mut state);
         turns -= 1;
     }
 }

@@ -1,2 +1,2 @@
--- the two words of an answer, and which answers are refusals
+-- the two words of an answer
 pub mod ReplyWords

@@ -3,11 +3,10 @@ use lookup::Found;
 use state::Answer;
 use state::Begun;
 ghost use mathlib.Core.Path.{_≡_};
-ghost use Rattle.card.specs.Replies.{stored, noState};
 ghost use Rattle.lookup.specs.Answers.{foundReply};
 ghost use Rattle.state.specs.Answers.{stepReply, startReply};
 ghost use Rattle.dump.specs.Answers.{dumpReply};
-ghost use Rattle.replies.specs.ReplyWords.{replyOf, ShortDump, isRefusal, isRefusedStart};
+ghost use Rattle.replies.specs.ReplyWords.{replyOf, ShortDump};
 
 #[repr(C)]
 pub struct Reply {
@@ -16,7 +15,7 @@ pub struct Reply {
 }
 
 // The answers that have no number in document 01: the value held under a key, "absent", one word stored, "ready", an idle state
-// opened, a call or repair in progress, the length of a dump's result, and a state block of another length.
+// opened, a call or repair in progress, and the length of a dump's result.
 const VALUE: u32 = 64;
 
 const ABSENT: u32 = 65;
@@ -31,25 +30,11 @@ const STARTED: u32 = 69;
 
 const LENGTH: u32 = 70;
 
-const NO_STATE: u32 = 71;
-
 // "A refusal gives its number"; the same for every answer that has no value beside it.
 fn plain(code: u32) -> Reply
     ensures { λ r. ⌜ replyOf r ≡ record { code = code; value = 0 } ⌝ }
 {
     Reply { code, value: 0 }
-}
-
-pub fn no_state() -> Reply
-    ensures { λ r. ⌜ replyOf r ≡ noState ⌝ }
-{
-    plain(NO_STATE)
-}
-
-pub fn stored() -> Reply
-    ensures { λ r. ⌜ replyOf r ≡ stored ⌝ }
-{
-    plain(STORED)
 }
 
 pub fn found_reply(found: Found) -> Reply
@@ -66,7 +51,7 @@ pub fn step_reply(answer: Answer) -> Reply
     ensures { λ r. ⌜ replyOf r ≡ stepReply answer ⌝ }
 {
     match answer {
-        Answer::Stored => stored(),
+        Answer::Stored => plain(STORED),
         Answer::Ready => plain(READY),
         Answer::Absent => plain(ABSENT),
         Answer::Value(value) => Reply { code: VALUE, value },
@@ -95,28 +80,5 @@ pub fn dump_reply(answer: dump::Answer) -> Reply
             value: length as u32,
         },
         dump::Answer::Refused(refusal) => plain(refusal),
-    }
-}
-
-// Whether the state is handed back as it was.
-pub fn is_refusal(answer: Answer) -> bool
-    ensures { λ r. ⌜ r ≡ isRefusal answer ⌝ }
-{
-    match answer {
-        Answer::Stored => false,
-        Answer::Ready => false,
-        Answer::Absent => false,
-        Answer::Value(_) => false,
-        Answer::Refused(_) => true,
-    }
-}
-
-pub fn is_refused_start(begun: Begun) -> bool
-    ensures { λ r. ⌜ r ≡ isRefusedStart begun ⌝ }
-{
-    match begun {
-        Begun::Idle => false,
-        Begun::Started => false,
-        Begun::Refused(_) => true,
     }
 }

@@ -13,15 +13,15 @@ ghost use Rattle.state_block.specs.Block.{stateWords, doingIn, unpacked,
 // plan made and planned; the nodes that the last store cuts out; the free nodes; the plan's places and values.
 pub const NODES: usize = 0;
 
-const LAST: usize = 1;
+pub const LAST: usize = 1;
 
 pub const DOING: usize = 2;
 
 pub const FIRST: usize = 3;
 
-const SECOND: usize = 4;
+pub const SECOND: usize = 4;
 
-const THIRD: usize = 5;
+pub const THIRD: usize = 5;
 
 pub const MADE: usize = 6;
 
@@ -37,6 +37,9 @@ pub const VALUES: usize = 104;
 
 // How many words that makes.
 pub const STATE_WORDS: usize = 177;
+
+// What a call answers where a block of another length is lent, which is no state. Document 01 has no number for it.
+pub const NO_STATE: u32 = 71;
 
 // The numbers of what is being done; any other number is idle.
 pub const IDLE: u32 = 0;

@@ -1,32 +1,129 @@
-// The table: its calls, each in a crate of its own, and here the steps of what is being done (document 01, "State, steps and free
-// nodes").
+// The table: its calls (document 01, "State, steps and free nodes"). A card is a lent slice of words; a state is a lent block of
+// words, and any words in it are some state. A block of another length is no state, and nothing is read or written.
+mod playing;
 mod steps;
 
 pub use lookup::Found;
 pub use lookup::find;
-pub use opening::open;
-pub use starting::start_delete;
-pub use starting::start_format;
-pub use starting::start_insert;
+use playing::play;
 pub use state::Answer;
-pub use state::Beginning;
+use state::Beginning;
 pub use state::Begun;
-pub use state::Doing;
 use state::Held;
-pub use state::State;
-pub use state::Stepped;
+use state::State;
+use state::Stepped;
 use state::held_by;
-pub use state::is_idle;
 use state::step_format;
+use state_block::DOING;
+use state_block::IDLE;
+use state_block::NO_STATE;
+use state_block::REPAIRING;
+pub use state_block::STATE_WORDS;
+use state_block::pack;
+use state_block::unpack;
 use steps::step_idle;
 use steps::step_task;
 ghost use mathlib.Core.Path.{_≡_};
+ghost use lib.ListN.{length};
+ghost use Rattle.opening.specs.Opening.{openOf};
+ghost use Rattle.starting.specs.Starts.{formatOf, insertOf, deleteOf};
 ghost use Rattle.state.specs.Memory.{memoryOf};
+ghost use Rattle.state.specs.Results.{handedOf, Unchanged, UnchangedStart};
+ghost use Rattle.state.specs.Steps.{isIdle};
+ghost use Rattle.state_block.specs.Block.{stateWords, unpacked, memoryIn, Small};
 ghost use Rattle.table.specs.Calls.{stepOf};
-ghost use Rattle.state.specs.Results.{Unchanged};
+ghost use Rattle.table.specs.Contracts.{OpenCall, StartCall, StepCall, isRefusal, isRefusedStart};
 
-// "Each step then either stores one word or gives the final answer and makes the state idle."
-pub fn step(card: &mut [u32], s: State) -> Stepped
+// Whether nothing is being done. Any number that is none of the four is idle.
+pub fn is_idle(state: &[u32]) -> bool
+    requires { ⌜ length (now state) ≡ stateWords ⌝ }
+    ensures { λ r. ⌜ r ≡ isIdle (memoryIn (now (state .entry)) .doing) ⌝ }
+{
+    let doing = state[DOING];
+    if doing == IDLE {
+        return true;
+    }
+    REPAIRING < doing
+}
+
+// What opening and starting to format hand back goes into the block, refused or not.
+fn hand_over(state: &mut [u32], handed: Beginning) -> Begun
+    requires { ⌜ (length (now state) ≡ stateWords) × Small (memoryOf (handed .state)) ⌝ }
+    ensures { λ r. ⌜ OpenCall (now (state .entry)) (now (state .exit)) r (handedOf handed) ⌝ }
+{
+    let begun = handed.begun;
+    pack(state, handed.state);
+    begun
+}
+
+fn is_refused_start(begun: Begun) -> bool
+    ensures { λ r. ⌜ r ≡ isRefusedStart begun ⌝ }
+{
+    match begun {
+        Begun::Idle => false,
+        Begun::Started => false,
+        Begun::Refused(_) => true,
+    }
+}
+
+// What starting an update hands back: "A refusal .. hands the state back unchanged".
+fn hand_back(state: &mut [u32], handed: Beginning) -> Begun
+    requires { ⌜ (length (now state) ≡ stateWords) × Small (memoryOf (handed .state)) × UnchangedStart (unpacked (now state)) handed ⌝ }
+    ensures { λ r. ⌜ StartCall (now (state .entry)) (now (state .exit)) r (handedOf handed) ⌝ }
+{
+    let begun = handed.begun;
+    if is_refused_start(begun) {
+        return begun;
+    }
+    pack(state, handed.state);
+    begun
+}
+
+// "Formatting needs no earlier state".
+pub fn start_format(card: &[u32], state: &mut [u32]) -> Begun
+    ensures { λ r. ⌜ OpenCall (now (state .entry)) (now (state .exit)) r (formatOf (now (card .entry))) ⌝ }
+{
+    if state.len() != STATE_WORDS {
+        return Begun::Refused(NO_STATE);
+    }
+    hand_over(state, starting::start_format(card))
+}
+
+// "Opening stores nothing".
+pub fn open(card: &[u32], state: &mut [u32]) -> Begun
+    ensures { λ r. ⌜ OpenCall (now (state .entry)) (now (state .exit)) r (openOf (now (card .entry))) ⌝ }
+{
+    if state.len() != STATE_WORDS {
+        return Begun::Refused(NO_STATE);
+    }
+    hand_over(state, opening::open(card))
+}
+
+// "Starting an update stores nothing."
+pub fn start_insert(card: &[u32], state: &mut [u32], key: u32, value: u32) -> Begun
+    ensures { λ r. ⌜ StartCall (now (state .entry)) (now (state .exit)) r (insertOf (now (card .entry)) (memoryIn (now (state .entry))) key value) ⌝ }
+{
+    if state.len() != STATE_WORDS {
+        return Begun::Refused(NO_STATE);
+    }
+    hand_back(
+        state,
+        starting::start_insert(card, unpack(state), key, value),
+    )
+}
+
+// The same for a delete.
+pub fn start_delete(card: &[u32], state: &mut [u32], key: u32) -> Begun
+    ensures { λ r. ⌜ StartCall (now (state .entry)) (now (state .exit)) r (deleteOf (now (card .entry)) (memoryIn (now (state .entry))) key) ⌝ }
+{
+    if state.len() != STATE_WORDS {
+        return Begun::Refused(NO_STATE);
+    }
+    hand_back(state, starting::start_delete(card, unpack(state), key))
+}
+
+// A step of a state by value.
+fn step_state(card: &mut [u32], s: State) -> Stepped
     ensures { λ r. ⌜ now (card .exit) ≡ stepOf (now (card .entry)) (memoryOf s) .card ⌝ }
     ensures { λ r. ⌜ r .answer ≡ stepOf (now (card .entry)) (memoryOf s) .answer ⌝ }
     ensures { λ r. ⌜ memoryOf (r .state) ≡ stepOf (now (card .entry)) (memoryOf s) .memory ⌝ }
@@ -51,4 +148,45 @@ pub fn step(card: &mut [u32], s: State) -> Stepped
         Held::Formatting(made) => step_format(card, s, made),
         Held::Task(task) => step_task(card, s, task),
     }
+}
+
+// Whether the state is handed back as it was.
+fn is_refusal(answer: Answer) -> bool
+    ensures { λ r. ⌜ r ≡ isRefusal answer ⌝ }
+{
+    match answer {
+        Answer::Stored => false,
+        Answer::Ready => false,
+        Answer::Absent => false,
+        Answer::Value(_) => false,
+        Answer::Refused(_) => true,
+    }
+}
+
+// A step on the whole state: a new change, the first and last stores of formatting, a final answer or a refusal.
+fn step_whole(card: &mut [u32], state: &mut [u32]) -> Answer
+    requires { ⌜ length (now state) ≡ stateWords ⌝ }
+    ensures { λ r. ⌜ StepCall (now (state .entry)) (now (state .exit)) (now (card .entry)) (now (card .exit)) r (stepOf (now (card .entry)) (memoryIn (now (state .entry)))) ⌝ }
+{
+    let stepped = step_state(card, unpack(state));
+    let answer = stepped.answer;
+    if is_refusal(answer) {
+        return answer;
+    }
+    pack(state, stepped.state);
+    answer
+}
+
+// "Each step then either stores one word or gives the final answer and makes the state idle." Most steps store a word that is
+// planned already; these are made on the block itself.
+pub fn step(card: &mut [u32], state: &mut [u32]) -> Answer
+    ensures { λ r. ⌜ StepCall (now (state .entry)) (now (state .exit)) (now (card .entry)) (now (card .exit)) r (stepOf (now (card .entry)) (memoryIn (now (state .entry)))) ⌝ }
+{
+    if state.len() != STATE_WORDS {
+        return Answer::Refused(NO_STATE);
+    }
+    if play(card, state) {
+        return Answer::Stored;
+    }
+    step_whole(card, state)
 }

@@ -8,18 +8,16 @@ use crate::places::MORE;
 use crate::places::RANGE;
 use crate::places::STEPS;
 use crate::places::wrong_if;
+use calls::Block;
 use calls::Words;
 use calls::random;
 use calls::random::count;
 use table::Answer;
-use table::Beginning;
 use table::Begun;
 use table::Found;
-use table::State;
 
 // Whether a call was refused with a number.
-pub fn is_refused(b: Beginning, number: u32) -> bool {
-    let begun = b.begun;
+pub fn is_refused(begun: Begun, number: u32) -> bool {
     match begun {
         Begun::Refused(r) => r == number,
         Begun::Idle => false,
@@ -78,11 +76,9 @@ fn opened(row: &mut [u64; 32], begun: Begun) {
     }
 }
 
-fn open(card: &Words, row: &mut [u64; 32]) -> State {
-    let handed = calls::open(card, row[LENGTH] as usize);
-    let begun = handed.begun;
+fn open(card: &Words, row: &mut [u64; 32], state: &mut Block) {
+    let begun = calls::open(card, row[LENGTH] as usize, state);
     opened(row, begun);
-    handed.state
 }
 
 // What a step answered of a repair or of formatting, which store words until one gives "ready".
@@ -100,25 +96,21 @@ pub fn until_ready(row: &mut [u64; 32], answer: Answer) {
 }
 
 // A step of a repair, or now and then another cut.
-fn repair_step(card: &mut Words, book: &Words, row: &mut [u64; 32], s: State) -> State {
+fn repair_step(card: &mut Words, book: &Words, row: &mut [u64; 32], state: &mut Block) {
     if random::below(row, 100) == 0 {
-        return open(card, row);
+        return open(card, row, state);
     }
     if random::below(row, 16) == 0 {
         compare_one(card, book, row);
     }
-    let stepped = calls::step(card, row[LENGTH] as usize, s);
-    let answer = stepped.answer;
+    let answer = calls::step(card, row[LENGTH] as usize, state);
     until_ready(row, answer);
-    stepped.state
 }
 
 // The table is balanced: opening hands back an idle state.
 fn expect_idle(card: &Words, row: &mut [u64; 32]) {
     count(row, CALLS);
-    let again = calls::open(card, row[LENGTH] as usize);
-    let begun = again.begun;
-    match begun {
+    match calls::opening_answer(card, row[LENGTH] as usize) {
         Begun::Idle => {}
         Begun::Started => wrong_if(row, true),
         Begun::Refused(_) => wrong_if(row, true),
@@ -126,22 +118,19 @@ fn expect_idle(card: &Words, row: &mut [u64; 32]) {
 }
 
 // The repair after a cut, which ends.
-fn repair(card: &mut Words, book: &Words, row: &mut [u64; 32], s: State) -> State {
-    let mut state = s;
+fn repair(card: &mut Words, book: &Words, row: &mut [u64; 32], state: &mut Block) {
     let mut left: u64 = 100000;
     while left > 0 && row[MORE] == 1 {
-        state = repair_step(card, book, row, state);
+        repair_step(card, book, row, state);
         left -= 1;
     }
     wrong_if(row, left == 0);
-    state
 }
 
 // A cut: opening does not refuse, the repair ends, the map is the book's, and the table is balanced.
-pub fn cut(card: &mut Words, book: &Words, row: &mut [u64; 32]) -> State {
-    let s = open(card, row);
-    let state = repair(card, book, row, s);
+pub fn cut(card: &mut Words, book: &Words, row: &mut [u64; 32], state: &mut Block) {
+    open(card, row, state);
+    repair(card, book, row, state);
     compare_all(card, book, row);
     expect_idle(card, row);
-    state
 }

@@ -7,6 +7,7 @@ mod keys;
 mod places;
 mod update_lists;
 
+use calls::Block;
 use calls::Words;
 use calls::copy_words;
 use calls::random;
@@ -27,19 +28,17 @@ use places::TURNS;
 use places::WRONG;
 use places::wrong_if;
 use table::Begun;
-use table::State;
+use table::STATE_WORDS;
 
 // A step of formatting: the card is not formatted until the last store, and opening says so.
-fn format_step(card: &mut Words, row: &mut [u64; 32], s: State) -> State {
+fn format_step(card: &mut Words, row: &mut [u64; 32], state: &mut Block) {
     let n = row[LENGTH] as usize;
-    let stepped = calls::step(card, n, s);
-    let answer = stepped.answer;
+    let answer = calls::step(card, n, state);
     cuts::until_ready(row, answer);
     if calls::word(card, 0) == 0 {
-        let is_refused = cuts::is_refused(calls::open(card, n), 2);
+        let is_refused = cuts::is_refused(calls::opening_answer(card, n), 2);
         wrong_if(row, !is_refused);
     }
-    stepped.state
 }
 
 fn is_started(begun: Begun) -> bool {
@@ -51,32 +50,30 @@ fn is_started(begun: Begun) -> bool {
 }
 
 // Starts to format the card.
-fn start_format(card: &Words, row: &mut [u64; 32]) -> State {
-    let started = calls::start_format(card, row[LENGTH] as usize);
+fn start_format(card: &Words, row: &mut [u64; 32], state: &mut Block) {
+    let begun = calls::start_format(card, row[LENGTH] as usize, state);
     count(row, CALLS);
-    let begun = started.begun;
     wrong_if(row, !is_started(begun));
     row[MORE] = 1;
-    started.state
 }
 
 // Formats a card: "8 + 24 × N + 1 stores, then ready".
-fn format(card: &mut Words, row: &mut [u64; 32]) -> State {
-    let mut state = start_format(card, row);
+fn format(card: &mut Words, row: &mut [u64; 32], state: &mut Block) {
+    start_format(card, row, state);
     let mut left: u64 = 14410;
     while left > 0 && row[MORE] == 1 {
-        state = format_step(card, row, state);
+        format_step(card, row, state);
         left -= 1;
     }
     let due = row[LENGTH] % 65536 + 2;
     wrong_if(row, left % 65536 + due != 14410);
-    state
 }
 
 // A cut of the card as it stands, on a copy.
 fn cut_copy(card: &Words, other: &mut Words, book: &Words, row: &mut [u64; 32]) {
     copy_words(card, other, row[LENGTH] as usize);
-    cuts::cut(other, book, row);
+    let mut state: Block = [0; STATE_WORDS];
+    cuts::cut(other, book, row, &mut state);
 }
 
 // Now and then a cut: on a copy, after which the update goes on, or on the card itself.
@@ -85,17 +82,16 @@ fn cut_at_times(
     other: &mut Words,
     book: &Words,
     row: &mut [u64; 32],
-    s: State,
-) -> State {
+    state: &mut Block,
+) {
     let chance = row[CHANCE];
     if random::below(row, chance) == 0 {
         cut_copy(card, other, book, row);
     }
     if random::below(row, 500) == 0 {
         row[HAND] = 0;
-        return cuts::cut(card, book, row);
+        cuts::cut(card, book, row, state);
     }
-    s
 }
 
 // A call that is not refused: a start where there is no update in hand, else a step of it.
@@ -104,13 +100,13 @@ fn start_or_step(
     other: &mut Words,
     book: &mut Words,
     row: &mut [u64; 32],
-    s: State,
-) -> State {
+    state: &mut Block,
+) {
     if row[HAND] == 0 {
-        return update_lists::start(card, book, row, s);
+        return update_lists::start(card, book, row, state);
     }
-    let state = update_lists::step(card, book, row, s);
-    cut_at_times(card, other, book, row, state)
+    update_lists::step(card, book, row, state);
+    cut_at_times(card, other, book, row, state);
 }
 
 // One call of the list, or a cut.
@@ -119,18 +115,17 @@ fn turn(
     other: &mut Words,
     book: &mut Words,
     row: &mut [u64; 32],
-    s: State,
-) -> State {
+    state: &mut Block,
+) {
     let which = random::below(row, 64);
     if which < 3 {
-        update_lists::refused_call(card, row, s, which)
+        update_lists::refused_call(card, row, state, which);
     } else if which < 6 {
-        update_lists::short_card(card, row, s, which)
+        update_lists::short_card(card, row, state, which);
     } else if which < 9 {
         cuts::compare_one(card, book, row);
-        s
     } else {
-        start_or_step(card, other, book, row, s)
+        start_or_step(card, other, book, row, state);
     }
 }
 
@@ -138,13 +133,14 @@ fn turn(
 fn list(card: &mut Words, other: &mut Words, book: &mut Words, row: &mut [u64; 32]) {
     calls::clear_from(book, 0);
     row[HAND] = 0;
-    let mut state = format(card, row);
+    let mut state: Block = [0; STATE_WORDS];
+    format(card, row, &mut state);
     let mut left = row[TURNS];
     while left > 0 {
-        state = turn(card, other, book, row, state);
+        turn(card, other, book, row, &mut state);
         left -= 1;
     }
-    cuts::cut(card, book, row);
+    cuts::cut(card, book, row, &mut state);
 }
 
 // A list of so many turns at N nodes, with keys from a range, each multiplied by a number, and every so manyeth step tried with a cut.

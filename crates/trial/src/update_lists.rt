@@ -17,6 +17,7 @@ use crate::places::TAKEN;
 use crate::places::VALUE;
 use crate::places::WAS_HELD;
 use crate::places::wrong_if;
+use calls::Block;
 use calls::Words;
 use calls::narrow;
 use calls::random;
@@ -25,7 +26,6 @@ use calls::wide;
 use table::Answer;
 use table::Begun;
 use table::Found;
-use table::State;
 
 fn as_number(b: bool) -> u64 {
     if b { 1 } else { 0 }
@@ -57,7 +57,7 @@ fn expect(row: &mut [u64; 32], is_refused: bool) {
     wrong_if(row, !is_refused);
 }
 
-// Each call on the first n words, which has to refuse with a number; the state comes back.
+// Each call on the first n words, which has to refuse with a number.
 fn refused_find(card: &Words, n: usize, row: &mut [u64; 32], key: u32, number: u32) {
     let found = calls::find(card, n, key);
     expect(row, is_find_refused(found, number));
@@ -67,61 +67,56 @@ fn refused_delete(
     card: &Words,
     n: usize,
     row: &mut [u64; 32],
-    s: State,
+    state: &mut Block,
     key: u32,
     number: u32,
-) -> State {
-    let b = calls::start_delete(card, n, s, key);
-    expect(row, is_refused(b, number));
-    b.state
+) {
+    let begun = calls::start_delete(card, n, state, key);
+    expect(row, is_refused(begun, number));
 }
 
 fn refused_insert(
     card: &Words,
     n: usize,
     row: &mut [u64; 32],
-    s: State,
+    state: &mut Block,
     key: u32,
     number: u32,
-) -> State {
-    let b = calls::start_insert(card, n, s, key, 1);
-    expect(row, is_refused(b, number));
-    b.state
+) {
+    let begun = calls::start_insert(card, n, state, key, 1);
+    expect(row, is_refused(begun, number));
 }
 
 fn refused_starts(
     card: &Words,
     n: usize,
     row: &mut [u64; 32],
-    s: State,
+    state: &mut Block,
     key: u32,
     number: u32,
-) -> State {
-    let t = refused_delete(card, n, row, s, key, number);
-    refused_insert(card, n, row, t, key, number)
+) {
+    refused_delete(card, n, row, state, key, number);
+    refused_insert(card, n, row, state, key, number);
 }
 
-fn refused_step(card: &mut Words, n: usize, row: &mut [u64; 32], s: State, number: u32) -> State {
-    let t = calls::step(card, n, s);
-    let answer = t.answer;
+fn refused_step(card: &mut Words, n: usize, row: &mut [u64; 32], state: &mut Block, number: u32) {
+    let answer = calls::step(card, n, state);
     expect(row, is_step_refused(answer, number));
-    t.state
 }
 
 // Key 0 is refused 6, a start that is not idle 7, an idle step 10.
-pub fn refused_call(card: &mut Words, row: &mut [u64; 32], s: State, which: u64) -> State {
+pub fn refused_call(card: &mut Words, row: &mut [u64; 32], state: &mut Block, which: u64) {
     let is_idle = row[HAND] == 0;
     let n = row[LENGTH] as usize;
     let key = keys::key(row);
     if which == 0 {
         refused_find(card, n, row, 0, 6);
-        s
     } else if is_idle && which == 1 {
-        refused_step(card, n, row, s, 10)
+        refused_step(card, n, row, state, 10);
     } else if is_idle {
-        refused_starts(card, n, row, s, 0, 6)
+        refused_starts(card, n, row, state, 0, 6);
     } else {
-        refused_starts(card, n, row, s, key, 7)
+        refused_starts(card, n, row, state, key, 7);
     }
 }
 
@@ -131,16 +126,15 @@ fn short_length(row: &[u64; 32]) -> usize {
 }
 
 // A card that is a word too short is refused 1.
-pub fn short_card(card: &mut Words, row: &mut [u64; 32], s: State, which: u64) -> State {
+pub fn short_card(card: &mut Words, row: &mut [u64; 32], state: &mut Block, which: u64) {
     let key = keys::key(row);
     let n = short_length(row);
     if which == 3 {
         refused_find(card, n, row, key, 1);
-        s
     } else if which == 4 {
-        refused_starts(card, n, row, s, key, 1)
+        refused_starts(card, n, row, state, key, 1);
     } else {
-        refused_step(card, n, row, s, 1)
+        refused_step(card, n, row, state, 1);
     }
 }
 
@@ -189,22 +183,18 @@ fn delete_begun(book: &Words, row: &mut [u64; 32], is_full: bool, begun: Begun) 
 }
 
 // Starts an insert of the key and value in the row.
-fn insert(card: &Words, book: &Words, row: &mut [u64; 32], s: State) -> State {
+fn insert(card: &Words, book: &Words, row: &mut [u64; 32], state: &mut Block) {
     let key = narrow(row[KEY]);
-    let b = calls::start_insert(card, row[LENGTH] as usize, s, key, narrow(row[VALUE]));
+    let begun = calls::start_insert(card, row[LENGTH] as usize, state, key, narrow(row[VALUE]));
     let is_full = book::is_leaf_full(card, key);
-    let begun = b.begun;
     insert_begun(book, row, is_full, begun);
-    b.state
 }
 
-fn delete(card: &Words, book: &Words, row: &mut [u64; 32], s: State) -> State {
+fn delete(card: &Words, book: &Words, row: &mut [u64; 32], state: &mut Block) {
     let key = narrow(row[KEY]);
-    let b = calls::start_delete(card, row[LENGTH] as usize, s, key);
+    let begun = calls::start_delete(card, row[LENGTH] as usize, state, key);
     let is_full = book::is_leaf_full(card, key);
-    let begun = b.begun;
     delete_begun(book, row, is_full, begun);
-    b.state
 }
 
 // Of 16 starts so many are inserts: for some time more of the one, then more of the other.
@@ -213,15 +203,15 @@ fn inserts_of_sixteen(row: &[u64; 32]) -> u64 {
 }
 
 // Starts an insert or a delete of a key of the range.
-pub fn start(card: &Words, book: &Words, row: &mut [u64; 32], s: State) -> State {
+pub fn start(card: &Words, book: &Words, row: &mut [u64; 32], state: &mut Block) {
     row[KEY] = wide(keys::key(row));
     row[VALUE] = wide(random::word(row));
     count(row, CALLS);
     let limit = inserts_of_sixteen(row);
     if random::below(row, 16) < limit {
-        insert(card, book, row, s)
+        insert(card, book, row, state);
     } else {
-        delete(card, book, row, s)
+        delete(card, book, row, state);
     }
 }
 
@@ -257,9 +247,7 @@ fn stepped(book: &mut Words, row: &mut [u64; 32], answer: Answer) {
 }
 
 // A step of the update in hand.
-pub fn step(card: &mut Words, book: &mut Words, row: &mut [u64; 32], s: State) -> State {
-    let handed = calls::step(card, row[LENGTH] as usize, s);
-    let answer = handed.answer;
+pub fn step(card: &mut Words, book: &mut Words, row: &mut [u64; 32], state: &mut Block) {
+    let answer = calls::step(card, row[LENGTH] as usize, state);
     stepped(book, row, answer);
-    handed.state
 }

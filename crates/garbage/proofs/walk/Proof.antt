@@ -4,10 +4,10 @@ use Rattle.garbage.proofs.walk.Statement.{statement}
 use Rattle.garbage.proofs.walk.Tie as tie
 
 abbrev Inv-loop : tie.InvT-loop
-Inv-loop card₀ row₀ n state₀ left₀ card row state left = Unit {0}
+Inv-loop card₀ row₀ state₀ n left₀ card row state left = Unit {0}
 
 abbrev μ-loop : tie.MeasureT-loop
-μ-loop card₀ row₀ n state₀ left₀ card row state left = left
+μ-loop card₀ row₀ state₀ n left₀ card row state left = left
 
 element-copy-out-n : tie.Need-element-copy-out-n Inv-loop μ-loop
 element-copy-out-n c = search needs

@@ -9,11 +9,14 @@ use borrow.Author.Needs.{needs}
 use Rattle.listing.proofs.list_card.Statement.{statement}
 use Rattle.listing.proofs.list_card.Tie as tie
 
+slice-aggregate-open-repaired : tie.Need-slice-aggregate-open-repaired
+slice-aggregate-open-repaired c = search needs
+
 open-repaired-requires : tie.Need-open-repaired-requires
 open-repaired-requires c κs = search needs
 
-enum-known-begun : tie.Need-enum-known-begun
-enum-known-begun c = search needs
+enum-known-refusal : tie.Need-enum-known-refusal
+enum-known-refusal c = search needs
 
 refusing-requires : tie.Need-refusing-requires
 refusing-requires c κs = search needs
@@ -36,11 +39,11 @@ same-length c = search needs
 returns : tie.Need-returns
 unfolding leftBy
 returns c =
-    let s = c .before .before .before .before .before .before .before .before .before .before in
-    let b = c .before .before .begun in
-    let e = sym (c .before .before .before .before .before .before .open-repaired .ensures .0) ∙ b .given .1 in
+    let s = c .before .before .before .before .before .before .before .before .before .before .before .before in
+    let b = c .before .before .refusal in
+    let e = sym (c .before .before .before .before .before .before .before .open-repaired .ensures .0) ∙ b .given .1 in
     let q = summary-refused (b .given .0 .0) (listCard (s .args .card .now)) (s .args .out .now) (card-refused (s .args .card .now) (b .given .0 .0) e) in
-    (c .refusing .ensures ∙ q .0, (q .1, ap (λ (x : Repaired). x .card) (c .before .before .before .before .before .before .open-repaired .ensures .1)))
+    (c .refusing .ensures ∙ q .0, (q .1, ap (λ (x : Repaired). x .card) (c .before .before .before .before .before .before .before .open-repaired .ensures .1)))
 
 same-length-2 : tie.Need-same-length-2
 same-length-2 c = search needs
@@ -51,8 +54,8 @@ same-length-3 c = search needs
 returns-2 : tie.Need-returns-2
 unfolding leftBy
 returns-2 c =
-    let s = c .before .before .before .before .before .before .before .before .before .before .before .before .before in
-    let r = c .before .before .before .before .before .before .before .before .before .open-repaired in
+    let s = c .before .before .before .before .before .before .before .before .before .before .before .before .before .before .before in
+    let r = c .before .before .before .before .before .before .before .before .before .before .open-repaired in
     let k = c .before .before .list-table in
     let left = ap (λ (x : Repaired). x .card) (r .ensures .1) in
     let e = sym (r .ensures .0) ∙ c .before .before .before .before .before .enum-told .given .1 in
@@ -68,8 +71,8 @@ same-length-5 c = search needs
 returns-3 : tie.Need-returns-3
 unfolding leftBy
 returns-3 c =
-    let s = c .before .before .before .before .before .before .before .before .before .before .before .before .before in
-    let r = c .before .before .before .before .before .before .before .before .before .open-repaired in
+    let s = c .before .before .before .before .before .before .before .before .before .before .before .before .before .before .before in
+    let r = c .before .before .before .before .before .before .before .before .before .before .open-repaired in
     let k = c .before .before .list-table2 in
     let left = ap (λ (x : Repaired). x .card) (r .ensures .1) in
     let e = sym (r .ensures .0) ∙ c .before .before .before .before .before .enum-told2 .given .1 in
@@ -80,8 +83,9 @@ pub list-card-spec : {M : Type 1} → statement M
 list-card-spec =
     tie.close
     (tie.spec
+    slice-aggregate-open-repaired
     open-repaired-requires
-    enum-known-begun
+    enum-known-refusal
     refusing-requires
     enum-told
     list-table-requires

@@ -1,55 +1,19 @@
 -- `ration_table::ration_start_insert` meets its contract.
-use mathlib.Core.Path.{ap, subst, _∙_}
-use native.Mathlib.Omega.{arith}
 use borrow.Author.Needs.{needs}
-use Rattle.state.specs.Steps.{Handed}
-use Rattle.starting.specs.Starts.{insertOf}
-use Rattle.state.specs.Memory.{memoryOf}
-use Rattle.state.specs.declared.State.{State}
-use Rattle.state_block.specs.Block.{memoryIn}
-use Rattle.ration_table.specs.Contracts.{StartCall}
-use Rattle.replies.specs.ReplyWords.{replyOf}
-use Rattle.ration_table.proofs.ContractLaws.{start-no-state, small-handed}
-use Rattle.ration_table.proofs.HandedBack.{insert-small}
 use Rattle.ration_table.proofs.ration_start_insert.Statement.{statement}
 use Rattle.ration_table.proofs.ration_start_insert.Tie as tie
-
-no-state-requires : tie.Need-no-state-requires
-no-state-requires c κs = search needs
-
-returns : tie.Need-returns
-returns c = start-no-state (c .before .before .before .before .args .state .now) _ (c .before .if1 .taken) (c .no-state .ensures) (insertOf (c .before .before .before .before .args .card .now) (memoryIn (c .before .before .before .before .args .state .now)) (c .before .before .before .before .args .key) (c .before .before .before .before .args .value))
-
-unpack-requires : tie.Need-unpack-requires
-unpack-requires c κs = search needs
 
 start-insert-requires : tie.Need-start-insert-requires
 start-insert-requires c κs = search needs
 
-hand-back-requires : tie.Need-hand-back-requires
-hand-back-requires c κs = (
-  c .before .before .before .before .if1 .left,
-  small-handed (c .start-insert .result) _ (c .start-insert .ensures .0 ∙ ap (λ (s : State). insertOf (c .before .before .before .before .before .before .before .args .card .now) (memoryOf s) (c .before .before .before .before .before .before .before .args .key) (c .before .before .before .before .before .before .before .args .value)) (c .before .unpack .ensures)) (insert-small (c .before .before .before .before .before .before .before .args .card .now) (c .before .before .before .before .before .before .before .args .state .now) (λ i. omega (arith, c .before .before .before .before .before .slice-known .given i)) (c .before .before .before .before .before .before .before .args .key) (c .before .before .before .before .before .before .before .args .value)),
-  (λ n e. c .start-insert .ensures .1 n e ∙ c .before .unpack .ensures),
-)
+start-reply-requires : tie.Need-start-reply-requires
+start-reply-requires c κs = search needs
 
 same-length : tie.Need-same-length
 same-length c = search needs
 
-returns-2 : tie.Need-returns-2
-returns-2 c =
-    subst (λ (due : Handed). StartCall (c .before .before .before .before .before .before .before .before .before .before .args .state .now) (c .before .before .hand-back .last .0) (replyOf (c .before .before .hand-back .result)) due)
-    (c .before .before .before .start-insert .ensures .0 ∙ ap (λ (s : State). insertOf (c .before .before .before .before .before .before .before .before .before .before .args .card .now) (memoryOf s) (c .before .before .before .before .before .before .before .before .before .before .args .key) (c .before .before .before .before .before .before .before .before .before .before .args .value)) (c .before .before .before .before .unpack .ensures))
-    (c .before .before .hand-back .ensures)
+returns : tie.Need-returns
+returns c = (c .before .before .before .start-insert .result, c .start-reply .ensures, c .before .before .before .start-insert .ensures)
 
 pub ration-start-insert-spec : {M : Type 1} → statement M
-ration-start-insert-spec =
-    tie.close
-    (tie.spec
-    no-state-requires
-    returns
-    unpack-requires
-    start-insert-requires
-    hand-back-requires
-    same-length
-    returns-2)
+ration-start-insert-spec = tie.close (tie.spec start-insert-requires start-reply-requires same-length returns)

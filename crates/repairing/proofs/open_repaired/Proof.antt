@@ -1,7 +1,6 @@
 -- `repairing::open_repaired` meets its contract.
 use mathlib.Core.Path.{ap, _∙_}
-use Rattle.state.specs.Results.{handedOf}
-use Rattle.state.specs.Steps.{Handed}
+use Rattle.state.specs.Memory.{Memory}
 use Rattle.table.specs.Calls.{repairSteps}
 use Rattle.repairing.specs.Repairing.{repairedCard, openedCard}
 use borrow.Author.Needs.{needs}
@@ -17,12 +16,15 @@ repair-requires c κs = search needs
 same-length : tie.Need-same-length
 same-length c = search needs
 
+same-length-2 : tie.Need-same-length-2
+same-length-2 c = search needs
+
 returns : tie.Need-returns
-unfolding handedOf openedCard
+unfolding openedCard
 returns c =
-    let s = c .before .before .before .before .before .before .before in
-    let o = c .before .before .before .before .«open» .ensures in
-    (ap (λ (h : Handed). h .begun) o, c .before .before .repair .ensures ∙ ap (λ (h : Handed). repairedCard repairSteps (s .args .card .now) (h .memory)) o)
+    let s = c .before .before .before .before .before .before .before .before .before .before .before .before .before .before in
+    (c .before .before .before .before .before .before .before .before .before .«open» .ensures .answered (s .pre), c .before .before .before .before .repair .ensures ∙ ap (λ (m : Memory). repairedCard repairSteps (s .args .card .now) m) (c .before .before .before .before .before .before .before .before .before .«open» .ensures .handed (s .pre)))
 
 pub open-repaired-spec : {M : Type 1} → statement M
-open-repaired-spec = tie.close (tie.spec open-requires repair-requires same-length returns)
+open-repaired-spec =
+    tie.close (tie.spec open-requires repair-requires same-length same-length-2 returns)

@@ -14,9 +14,6 @@ abbrev μ-loop : tie.MeasureT-loop
 element-write-row : tie.Need-element-write-row Inv-loop μ-loop
 element-write-row c = search needs
 
-no-state-requires : tie.Need-no-state-requires Inv-loop μ-loop
-no-state-requires c κs = search needs
-
 loop-holds : tie.Need-loop-holds Inv-loop μ-loop
 loop-holds c = search needs
 
@@ -48,7 +45,6 @@ run-spec =
     Inv-loop
     μ-loop
     element-write-row
-    no-state-requires
     loop-holds
     element-copy-out-if1
     turn-requires

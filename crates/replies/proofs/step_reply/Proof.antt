@@ -8,20 +8,20 @@ use Rattle.replies.proofs.step_reply.Tie as tie
 enum-told : tie.Need-enum-told
 enum-told c = search needs
 
-stored-requires : tie.Need-stored-requires
-stored-requires c κs = search needs
+plain-requires : tie.Need-plain-requires
+plain-requires c κs = search needs
 
 enum-told-2 : tie.Need-enum-told-2
 enum-told-2 c = search needs
 
-plain-requires : tie.Need-plain-requires
-plain-requires c κs = search needs
+plain-requires-2 : tie.Need-plain-requires-2
+plain-requires-2 c κs = search needs
 
 enum-told-3 : tie.Need-enum-told-3
 enum-told-3 c = search needs
 
-plain-requires-2 : tie.Need-plain-requires-2
-plain-requires-2 c κs = search needs
+plain-requires-3 : tie.Need-plain-requires-3
+plain-requires-3 c κs = search needs
 
 enum-known-answer : tie.Need-enum-known-answer
 enum-known-answer c = search needs
@@ -29,20 +29,20 @@ enum-known-answer c = search needs
 enum-known-answer-2 : tie.Need-enum-known-answer-2
 enum-known-answer-2 c = search needs
 
-plain-requires-3 : tie.Need-plain-requires-3
-plain-requires-3 c κs = search needs
+plain-requires-4 : tie.Need-plain-requires-4
+plain-requires-4 c κs = search needs
 
 returns : tie.Need-returns
 unfolding stepReply
-returns c = c .stored .ensures ∙ ap stepReply (sym (c .before .enum-told .given .1))
+returns c = c .plain .ensures ∙ ap stepReply (sym (c .before .enum-told .given .1))
 
 returns-2 : tie.Need-returns-2
 unfolding stepReply
-returns-2 c = c .plain .ensures ∙ ap stepReply (sym (c .before .enum-told2 .given .1))
+returns-2 c = c .plain2 .ensures ∙ ap stepReply (sym (c .before .enum-told2 .given .1))
 
 returns-3 : tie.Need-returns-3
 unfolding stepReply
-returns-3 c = c .plain2 .ensures ∙ ap stepReply (sym (c .before .enum-told3 .given .1))
+returns-3 c = c .plain3 .ensures ∙ ap stepReply (sym (c .before .enum-told3 .given .1))
 
 returns-4 : tie.Need-returns-4
 unfolding stepReply
@@ -50,21 +50,21 @@ returns-4 c = ap stepReply (sym (c .before .answer .given .1))
 
 returns-5 : tie.Need-returns-5
 unfolding stepReply
-returns-5 c = c .plain3 .ensures ∙ ap stepReply (sym (c .before .before .answer2 .given .1))
+returns-5 c = c .plain4 .ensures ∙ ap stepReply (sym (c .before .before .answer2 .given .1))
 
 pub step-reply-spec : {M : Type 1} → statement M
 step-reply-spec =
     tie.close
     (tie.spec
     enum-told
-    stored-requires
-    enum-told-2
     plain-requires
-    enum-told-3
+    enum-told-2
     plain-requires-2
+    enum-told-3
+    plain-requires-3
     enum-known-answer
     enum-known-answer-2
-    plain-requires-3
+    plain-requires-4
     returns
     returns-2
     returns-3

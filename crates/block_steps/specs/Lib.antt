@@ -1,2 +1,0 @@
--- what a step made on the state block itself promises
-pub mod Playing

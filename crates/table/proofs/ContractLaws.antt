@@ -1,0 +1,134 @@
+-- Laws of the calls on a lent block: one for each way that a call ends.
+use mathlib.Core.Path.{_≡_, refl, sym, ap, subst, _∙_}
+use mathlib.Core.Bool.{true, false}
+use mathlib.Core.List.{List}
+use Prim.Native.Nat.{ℕ}
+use lib.ListN.{length}
+use Rattle.card.specs.Replies.{noState}
+use Rattle.state.specs.Steps.{Handed, Step}
+use Rattle.table.specs.Calls.{stepOf}
+use Rattle.state.specs.Memory.{Memory, memoryOf}
+use Rattle.state.specs.Results.{handedOf, Unchanged, UnchangedStart}
+use Rattle.state.specs.declared.State.{State}
+use Rattle.state.specs.declared.Beginning.{Beginning}
+use Rattle.state.specs.declared.Begun.{Begun}
+use Rattle.state.specs.declared.Begun.the-variants.{Idle as OpenedIdle, Started, Refused as BegunRefused}
+use Rattle.state.specs.declared.Stepped.{Stepped}
+use Rattle.state.specs.declared.Answer.{Answer}
+use Rattle.state.specs.declared.Answer.the-variants.{Stored, Ready, Absent, Value, Refused}
+use Rattle.state_block.specs.Block.{stateWords, unpacked, memoryIn, Small, Kept}
+use Rattle.state_block.proofs.Block.{Words}
+use Rattle.table.proofs.HandedBack.{step-small}
+use Rattle.table.specs.Contracts.{OpenCall, StartCall, StepCall, isRefusal, isRefusedStart}
+use Rattle.table.specs.Playing.{Played}
+use Rattle.laws.proofs.Cases.{impossible}
+
+-- ---- refusals
+
+refused-start : (b : Begun) → isRefusedStart b ≡ true → (r : ℕ) × (b ≡ BegunRefused r)
+unfolding isRefusedStart
+refused-start OpenedIdle e = impossible (cc)
+refused-start Started e = impossible (cc)
+refused-start (BegunRefused r) e = (r, refl)
+
+unrefused-start : (b : Begun) (r : ℕ) → isRefusedStart b ≡ false → b ≡ BegunRefused r → ⊥
+unfolding isRefusedStart
+unrefused-start b r e f = let z : true ≡ false = ap isRefusedStart (sym f) ∙ e in impossible (cc)
+
+refusal : (a : Answer) → isRefusal a ≡ true → (r : ℕ) × (a ≡ Refused r)
+unfolding isRefusal
+refusal Stored e = impossible (cc)
+refusal Ready e = impossible (cc)
+refusal Absent e = impossible (cc)
+refusal (Value v) e = impossible (cc)
+refusal (Refused r) e = (r, refl)
+
+no-refusal : (a : Answer) (r : ℕ) → isRefusal a ≡ false → a ≡ Refused r → ⊥
+unfolding isRefusal
+no-refusal a r e f = let z : true ≡ false = ap isRefusal (sym f) ∙ e in impossible (cc)
+
+-- ---- the state handed back, where the whole answer is known
+
+pub small-handed : (h : Beginning) (due : Handed) → handedOf h ≡ due → Small (due .memory) → Small (memoryOf (h .state))
+unfolding handedOf
+small-handed h due e small = subst (λ (x : Handed). Small (x .memory)) (sym e) small
+
+-- ---- a block of another length
+
+module _ (block : List ℕ) (n : length block ≡ stateWords → ⊥) where
+  pub open-no-state : (due : Handed) → OpenCall block block (BegunRefused (noState .code)) due
+  open-no-state due = record { answered = λ l. absurd (n l); handed = λ l. absurd (n l); no-state = λ m. (refl, refl) }
+
+  pub start-no-state : (due : Handed) → StartCall block block (BegunRefused (noState .code)) due
+  start-no-state due = record { opened = open-no-state due; unchanged = λ r f. refl }
+
+  pub step-no-state : (card : List ℕ) (due : Step) → StepCall block block card card (Refused (noState .code)) due
+  step-no-state card due =
+      record { answered = λ l. absurd (n l); stored = λ l. absurd (n l); handed = λ l. absurd (n l); unchanged = λ r f. refl; no-state = λ m. (refl, refl, refl) }
+
+-- ---- what is handed back
+
+module _ (before after : List ℕ) (l : length before ≡ stateWords) (h : Beginning) where
+  pub handed-open : memoryIn after ≡ memoryOf (h .state) → OpenCall before after (h .begun) (handedOf h)
+  unfolding handedOf
+  handed-open f = record { answered = λ k. refl; handed = λ k. f; no-state = λ n. absurd (n l) }
+
+  pub handed-start : isRefusedStart (h .begun) ≡ false → memoryIn after ≡ memoryOf (h .state) → StartCall before after (h .begun) (handedOf h)
+  unfolding handedOf
+  handed-start i f = record { opened = handed-open f; unchanged = λ r g. absurd (unrefused-start (h .begun) r i g) }
+
+pub refused-back : (block : List ℕ) (h : Beginning) → length block ≡ stateWords → isRefusedStart (h .begun) ≡ true → UnchangedStart (unpacked block) h → StartCall block block (h .begun) (handedOf h)
+unfolding handedOf
+refused-back block h l i u =
+    let r = refused-start (h .begun) i in
+    record { opened = handed-open block block l h (ap memoryOf (sym (u (r .0) (r .1)))); unchanged = λ n f. refl }
+
+-- ---- a step
+
+module _ (before after card card-after : List ℕ) (l : length before ≡ stateWords) where
+  -- a store in place
+  pub played-step : (due : Step) → Played true due card card-after before after → StepCall before after card card-after Stored due
+  unfolding isRefusal
+  played-step due f =
+      record {
+        answered = λ k. ap (λ (x : Step). x .answer) (sym f);
+        stored = λ k. ap (λ (x : Step). x .card) (sym f);
+        handed = λ k. ap (λ (x : Step). x .memory) (sym f);
+        unchanged = λ r g. absurd (no-refusal Stored r refl (ap (λ (x : Step). x .answer) (sym f) ∙ g));
+        no-state = λ n. absurd (n l);
+      }
+
+  module _ (s : State) (x : Stepped) (u : s ≡ unpacked before) (c : card-after ≡ stepOf card (memoryOf s) .card) (a : x .answer ≡ stepOf card (memoryOf s) .answer) (m : memoryOf (x .state) ≡ stepOf card (memoryOf s) .memory) where
+    abbrev due : Step
+    due = stepOf card (memoryIn before)
+
+    same : stepOf card (memoryOf s) ≡ due
+    same = ap (λ (t : State). stepOf card (memoryOf t)) u
+
+    pub packed-step : isRefusal (x .answer) ≡ false → Words before → Kept (x .state) after → StepCall before after card card-after (x .answer) due
+    packed-step i w kept =
+        let f : memoryIn after ≡ memoryOf (x .state) = kept (subst (λ (y : Memory). Small y) (sym (m ∙ ap (λ (y : Step). y .memory) same)) (step-small card before w)) in
+        record {
+          answered = λ k. a ∙ ap (λ (y : Step). y .answer) same;
+          stored = λ k. c ∙ ap (λ (y : Step). y .card) same;
+          handed = λ k. f ∙ m ∙ ap (λ (y : Step). y .memory) same;
+          unchanged = λ r g. absurd (no-refusal (x .answer) r i (a ∙ ap (λ (y : Step). y .answer) same ∙ g));
+          no-state = λ n. absurd (n l);
+        }
+
+    pub refused-step : isRefusal (x .answer) ≡ true → Unchanged s x → after ≡ before → StepCall before after card card-after (x .answer) due
+    refused-step i v f =
+        let r = refusal (x .answer) i in
+        record {
+          answered = λ k. a ∙ ap (λ (y : Step). y .answer) same;
+          stored = λ k. c ∙ ap (λ (y : Step). y .card) same;
+          handed = λ k. ap memoryIn f ∙ ap memoryOf (sym u) ∙ ap memoryOf (sym (v (r .0) (r .1))) ∙ m ∙ ap (λ (y : Step). y .memory) same;
+          unchanged = λ n g. f;
+          no-state = λ n. absurd (n l);
+        }
+
+-- nothing was played: the step is made on the card and block as they were
+pub not-played : (before played after card played-card card-after : List ℕ) (answer : Answer) → Played false (stepOf card (memoryIn before)) card played-card before played → StepCall played after played-card card-after answer (stepOf played-card (memoryIn played)) → StepCall before after card card-after answer (stepOf card (memoryIn before))
+not-played before played after card played-card card-after answer e h =
+    subst (λ (b : List ℕ). StepCall b after card card-after answer (stepOf card (memoryIn b))) (e .1)
+    (subst (λ (k : List ℕ). StepCall played after k card-after answer (stepOf k (memoryIn played))) (e .0) h)
