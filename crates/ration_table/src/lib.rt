@@ -5,6 +5,7 @@ use replies::found_reply;
 use replies::start_reply;
 use replies::step_reply;
 ghost use mathlib.Core.Path.{_≡_};
+ghost use mathlib.Core.Bool.{false};
 ghost use lib.ListN.{length};
 ghost use Rattle.dump.specs.Dump.{readAnswer, readOver, writeAnswer, writeOver};
 ghost use Rattle.dump.specs.Answers.{dumpReply};
@@ -13,8 +14,9 @@ ghost use Rattle.lookup.specs.Find.{findOf};
 ghost use Rattle.opening.specs.Opening.{openOf};
 ghost use Rattle.starting.specs.Starts.{formatOf, insertOf, deleteOf};
 ghost use Rattle.state.specs.Answers.{startReply, stepReply};
+ghost use Rattle.state.specs.declared.Doing.the-variants.{Inserting, Deleting};
 ghost use Rattle.table.specs.Calls.{stepOf};
-ghost use Rattle.table.specs.Contracts.{OpenCall, StartCall, StepCall};
+ghost use Rattle.state_block.specs.Contracts.{OpenCall, StartCall, StepCall};
 ghost use Rattle.state_block.specs.Block.{memoryIn};
 ghost use Rattle.ration_table.specs.Contracts.{Replies};
 ghost use Rattle.replies.specs.ReplyWords.{replyOf};
@@ -51,7 +53,7 @@ pub extern "C" fn ration_start_insert(
     key: u32,
     value: u32,
 ) -> Reply
-    ensures { λ r. ⌜ Replies startReply (replyOf r) (λ begun. StartCall (now (state .entry)) (now (state .exit)) begun (insertOf (now (card .entry)) (memoryIn (now (state .entry))) key value)) ⌝ }
+    ensures { λ r. ⌜ Replies startReply (replyOf r) (λ begun. StartCall (now (state .entry)) (now (state .exit)) begun (Inserting key value false) (insertOf (now (card .entry)) (memoryIn (now (state .entry))) key value)) ⌝ }
 {
     start_reply(table::start_insert(card, state, key, value))
 }
@@ -59,7 +61,7 @@ pub extern "C" fn ration_start_insert(
 // The same for a delete.
 #[no_mangle]
 pub extern "C" fn ration_start_delete(card: &[u32], state: &mut [u32], key: u32) -> Reply
-    ensures { λ r. ⌜ Replies startReply (replyOf r) (λ begun. StartCall (now (state .entry)) (now (state .exit)) begun (deleteOf (now (card .entry)) (memoryIn (now (state .entry))) key)) ⌝ }
+    ensures { λ r. ⌜ Replies startReply (replyOf r) (λ begun. StartCall (now (state .entry)) (now (state .exit)) begun (Deleting key false 0) (deleteOf (now (card .entry)) (memoryIn (now (state .entry))) key)) ⌝ }
 {
     start_reply(table::start_delete(card, state, key))
 }

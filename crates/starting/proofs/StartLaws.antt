@@ -24,38 +24,43 @@ use Rattle.descent.specs.declared.Slot.{Slot}
 use Rattle.descent.specs.declared.Slot.the-variants.{At, Absent as NoSlot}
 use Rattle.descent.specs.declared.Landing.{Landing}
 use Rattle.descent.specs.declared.Landing.the-variants.{Refused as NoLanding, Leaf as LandingAt}
+use Rattle.state_block.specs.Block.{stateWords, memoryIn, formatted}
+use Rattle.state_block.specs.Blocks.{begunBlock, startedBlock}
+use Rattle.state_block.specs.InPlace.{withDoing}
+use Rattle.state_block.specs.Contracts.{StartCall}
+use Rattle.state_block.proofs.Blocks.{memory-begun}
 use Rattle.state.specs.declared.Doing.{Doing}
 use Rattle.state.specs.declared.Doing.the-variants.{Formatting}
 use Rattle.state.specs.declared.Begun.{Begun}
 use Rattle.state.specs.declared.Begun.the-variants.{Started, Refused as BegunRefused}
 
 -- the refusals of starting an update
-module _ (card : List ℕ) (nodes : ℕ) (doing : Doing) (key n : ℕ) (e : n ≡ nodesOfLength (length card)) where
-  pub start-no-length : n ≡ 0 → startRefusal card nodes doing key ≡ 1
+module _ (card : List ℕ) (nodes : ℕ) (idle : Bool) (key n : ℕ) (e : n ≡ nodesOfLength (length card)) where
+  pub start-no-length : n ≡ 0 → startRefusal card nodes idle key ≡ 1
   unfolding startRefusal
   start-no-length z = simp (eq-eqb (nodesOfLength (length card)) 0 (sym e ∙ z))
 
-  pub start-other : (n ≡ 0 → ⊥) → (n ≡ nodes → ⊥) → startRefusal card nodes doing key ≡ 1
+  pub start-other : (n ≡ 0 → ⊥) → (n ≡ nodes → ⊥) → startRefusal card nodes idle key ≡ 1
   unfolding startRefusal
   start-other p q = simp (ne-eqb (nodesOfLength (length card)) 0 (λ z. p (e ∙ z)), ne-eqb (nodesOfLength (length card)) nodes (λ z. q (e ∙ z)))
 
   module _ (p : n ≡ 0 → ⊥) (q : n ≡ nodes) where
-    pub start-header : (h : ℕ) → h ≡ headerRefusal card n → (h ≡ 0 → ⊥) → startRefusal card nodes doing key ≡ h
+    pub start-header : (h : ℕ) → h ≡ headerRefusal card n → (h ≡ 0 → ⊥) → startRefusal card nodes idle key ≡ h
     unfolding startRefusal
     start-header h g w =
         simp (ne-eqb (nodesOfLength (length card)) 0 (λ z. p (e ∙ z)), eq-eqb (nodesOfLength (length card)) nodes (sym e ∙ q), ne-eqb (headerRefusal card nodes) 0 (λ z. w (g ∙ ap (headerRefusal card) q ∙ z)))
         (ap (headerRefusal card) (sym q) ∙ sym g)
 
     module _ (w : headerRefusal card n ≡ 0) where
-      pub start-busy : isIdle doing ≡ false → startRefusal card nodes doing key ≡ 7
+      pub start-busy : idle ≡ false → startRefusal card nodes idle key ≡ 7
       unfolding startRefusal
       start-busy b = simp (ne-eqb (nodesOfLength (length card)) 0 (λ z. p (e ∙ z)), eq-eqb (nodesOfLength (length card)) nodes (sym e ∙ q), eq-eqb (headerRefusal card nodes) 0 (ap (headerRefusal card) (sym q) ∙ w), b)
 
-      pub start-no-key : isIdle doing ≡ true → key ≡ 0 → startRefusal card nodes doing key ≡ 6
+      pub start-no-key : idle ≡ true → key ≡ 0 → startRefusal card nodes idle key ≡ 6
       unfolding startRefusal
       start-no-key b k = simp (ne-eqb (nodesOfLength (length card)) 0 (λ z. p (e ∙ z)), eq-eqb (nodesOfLength (length card)) nodes (sym e ∙ q), eq-eqb (headerRefusal card nodes) 0 (ap (headerRefusal card) (sym q) ∙ w), b, eq-eqb key 0 k)
 
-      pub start-none : isIdle doing ≡ true → (key ≡ 0 → ⊥) → startRefusal card nodes doing key ≡ 0
+      pub start-none : idle ≡ true → (key ≡ 0 → ⊥) → startRefusal card nodes idle key ≡ 0
       unfolding startRefusal
       start-none b k = simp (ne-eqb (nodesOfLength (length card)) 0 (λ z. p (e ∙ z)), eq-eqb (nodesOfLength (length card)) nodes (sym e ∙ q), eq-eqb (headerRefusal card nodes) 0 (ap (headerRefusal card) (sym q) ∙ w), b, ne-eqb key 0 k)
 
@@ -79,12 +84,12 @@ chain-taken false true true false e h m x p q = absurd (omega arith)
 chain-taken false true true true true h m x p q = absurd (omega arith)
 chain-taken false true true true false h m x p q = refl
 
-module _ (card : List ℕ) (nodes : ℕ) (doing : Doing) (key : ℕ) (room : Landing → Bool) where
-  pub due-early : (startRefusal card nodes doing key ≡ 0 → ⊥) → dueRefusal card nodes doing key room ≡ startRefusal card nodes doing key
-  due-early p = rw (ne-eqb (startRefusal card nodes doing key) 0 p) refl
+module _ (card : List ℕ) (nodes : ℕ) (idle : Bool) (key : ℕ) (room : Landing → Bool) where
+  pub due-early : (startRefusal card nodes idle key ≡ 0 → ⊥) → dueRefusal card nodes idle key room ≡ startRefusal card nodes idle key
+  due-early p = rw (ne-eqb (startRefusal card nodes idle key) 0 p) refl
 
-  pub due-landing : startRefusal card nodes doing key ≡ 0 → dueRefusal card nodes doing key room ≡ landingRefusal (room (landing card nodes key)) (landing card nodes key)
-  due-landing z = rw (eq-eqb (startRefusal card nodes doing key) 0 z) refl
+  pub due-landing : startRefusal card nodes idle key ≡ 0 → dueRefusal card nodes idle key room ≡ landingRefusal (room (landing card nodes key)) (landing card nodes key)
+  due-landing z = rw (eq-eqb (startRefusal card nodes idle key) 0 z) refl
 
 landed-due : (m : Memory) (doing : Doing) (room : Bool) (l : Landing) → startLanded m doing room l ≡ begunBy (landingRefusal room l) m doing
 unfolding startLanded landingRefusal
@@ -93,29 +98,29 @@ landed-due m doing true (LandingAt node link run) = refl
 landed-due m doing false (LandingAt node link run) = refl
 
 module _ (card : List ℕ) (m : Memory) (key : ℕ) (doing : Doing) (room : Landing → Bool) where
-  start-refused : (startRefusal card (m .nodes) (m .doing) key ≡ 0 → ⊥) → startOf card m key doing room ≡ startRefused (startRefusal card (m .nodes) (m .doing) key) m
+  start-refused : (startRefusal card (m .nodes) (isIdle (m .doing)) key ≡ 0 → ⊥) → startOf card m key doing room ≡ startRefused (startRefusal card (m .nodes) (isIdle (m .doing)) key) m
   unfolding startRefusal startOf startChecked
   start-refused p =
       chain-refused (eqb (nodesOfLength (length card)) 0) (eqb (nodesOfLength (length card)) (m .nodes)) (eqb (headerRefusal card (m .nodes)) 0) (isIdle (m .doing)) (eqb key 0) (headerRefusal card (m .nodes)) m _ p
 
-  start-taken : startRefusal card (m .nodes) (m .doing) key ≡ 0 → startOf card m key doing room ≡ startLanded m doing (room (landing card (m .nodes) key)) (landing card (m .nodes) key)
+  start-taken : startRefusal card (m .nodes) (isIdle (m .doing)) key ≡ 0 → startOf card m key doing room ≡ startLanded m doing (room (landing card (m .nodes) key)) (landing card (m .nodes) key)
   unfolding startRefusal startOf startChecked
   start-taken q =
       chain-taken (eqb (nodesOfLength (length card)) 0) (eqb (nodesOfLength (length card)) (m .nodes)) (eqb (headerRefusal card (m .nodes)) 0) (isIdle (m .doing)) (eqb key 0) (headerRefusal card (m .nodes)) m _
       (λ c z. eqb-false (headerRefusal card (m .nodes)) 0 c z) q
 
   -- the refusal due decides what is handed back
-  pub start-due : startOf card m key doing room ≡ begunBy (dueRefusal card (m .nodes) (m .doing) key room) m doing
+  pub start-due : startOf card m key doing room ≡ begunBy (dueRefusal card (m .nodes) (isIdle (m .doing)) key room) m doing
   start-due =
-      by-cases (ℕ-discrete (startRefusal card (m .nodes) (m .doing) key) 0)
-      (λ z. start-taken z ∙ landed-due m doing (room (landing card (m .nodes) key)) (landing card (m .nodes) key) ∙ sym (ap (λ (r : ℕ). begunBy r m doing) (due-landing card (m .nodes) (m .doing) key room z)))
-      (λ p. start-refused p ∙ sym (ap (λ (r : ℕ). begunBy r m doing) (due-early card (m .nodes) (m .doing) key room p) ∙ ap (λ (b : Bool). pick b (started m doing) (startRefused (startRefusal card (m .nodes) (m .doing) key) m)) (ne-eqb (startRefusal card (m .nodes) (m .doing) key) 0 p)))
+      by-cases (ℕ-discrete (startRefusal card (m .nodes) (isIdle (m .doing)) key) 0)
+      (λ z. start-taken z ∙ landed-due m doing (room (landing card (m .nodes) key)) (landing card (m .nodes) key) ∙ sym (ap (λ (r : ℕ). begunBy r m doing) (due-landing card (m .nodes) (isIdle (m .doing)) key room z)))
+      (λ p. start-refused p ∙ sym (ap (λ (r : ℕ). begunBy r m doing) (due-early card (m .nodes) (isIdle (m .doing)) key room p) ∙ ap (λ (b : Bool). pick b (started m doing) (startRefused (startRefusal card (m .nodes) (isIdle (m .doing)) key) m)) (ne-eqb (startRefusal card (m .nodes) (isIdle (m .doing)) key) 0 p)))
 
-pub start-sized : (card : List ℕ) (nodes : ℕ) (doing : Doing) (key : ℕ) → startRefusal card nodes doing key ≡ 0 → Sized (length card) nodes
-start-sized card nodes doing key r =
-    by-cases (ℕ-discrete (nodesOfLength (length card)) 0) (λ z. let w = sym (start-no-length card nodes doing key (nodesOfLength (length card)) refl z) ∙ r in absurd (omega arith))
+pub start-sized : (card : List ℕ) (nodes : ℕ) (idle : Bool) (key : ℕ) → startRefusal card nodes idle key ≡ 0 → Sized (length card) nodes
+start-sized card nodes idle key r =
+    by-cases (ℕ-discrete (nodesOfLength (length card)) 0) (λ z. let w = sym (start-no-length card nodes idle key (nodesOfLength (length card)) refl z) ∙ r in absurd (omega arith))
     (λ p. by-cases (ℕ-discrete (nodesOfLength (length card)) nodes) (λ q. rw q at (nodes-sized (length card) p))
-    (λ q. let w = sym (start-other card nodes doing key (nodesOfLength (length card)) refl p q) ∙ r in absurd (omega arith)))
+    (λ q. let w = sym (start-other card nodes idle key (nodesOfLength (length card)) refl p q) ∙ r in absurd (omega arith)))
 
 -- room for an insert
 held-slot : (leaf : List ℕ) (run : ℕ) (free : List Bool) (t : Slot) → isSlot t ≡ true → roomFor free run (reasonIn leaf t) ≡ true
@@ -163,6 +168,19 @@ not-enough count run h =
 -- a start that is no refusal
 pub started-no-refusal : (n : ℕ) → _≡_ {A = Begun} Started (BegunRefused n) → ⊥
 started-no-refusal n e = impossible (cc)
+
+-- ---- what a start on the block leaves, by the refusal that it is due
+
+module _ (block : List ℕ) (l : length block ≡ stateWords) (doing : Doing) (refusal : ℕ) where
+  pub start-refused-in : (refusal ≡ 0 → ⊥) → StartCall block block (BegunRefused refusal) doing (begunBy refusal (memoryIn block) doing)
+  unfolding startRefused startedBlock
+  start-refused-in p =
+      rw (ne-eqb refusal 0 p) (record { opened = record { answered = λ k. refl; handed = λ k. refl; no-state = λ n. absurd (n l) }; words = λ k. refl })
+
+  pub started-in : (after : List ℕ) → formatted doing ≡ 0 → refusal ≡ 0 → after ≡ begunBlock block doing → StartCall block after Started doing (begunBy refusal (memoryIn block) doing)
+  unfolding started startedBlock withDoing
+  started-in after f z e =
+      rw (eq-eqb refusal 0 z) (record { opened = record { answered = λ k. refl; handed = λ k. ap memoryIn e ∙ memory-begun block doing (omega arith) (omega arith); no-state = λ n. absurd (n l) }; words = λ k. e })
 
 -- ---- starting to format
 

@@ -6,7 +6,7 @@ use lib.ListN.{length}
 use lib.Dec.{eqb}
 use Rattle.card.specs.Header.{nodesOfLength, headerRefusal}
 use Rattle.laws.specs.Cases.{pick}
-use Rattle.state.specs.Steps.{isIdle, Handed}
+use Rattle.state.specs.Steps.{Handed}
 use Rattle.state.specs.Memory.{Memory}
 use Rattle.updates.specs.Updates.{landing, startRoom}
 use Rattle.starting.specs.Starts.{startRefused, started}
@@ -21,13 +21,13 @@ unfoldable pub isSlot : Slot → Bool
 isSlot (At i) = true
 isSlot NoSlot = false
 
--- the refusals 1, 2, 3, 7 and 6 of starting an update, in this order, for a state of so many nodes in which this is being done; 0
--- where none is due
-unfoldable pub startRefusal : List ℕ → ℕ → Doing → ℕ → ℕ
-startRefusal card nodes doing key =
+-- the refusals 1, 2, 3, 7 and 6 of starting an update, in this order, for a state of so many nodes that is idle or not; 0 where none
+-- is due
+unfoldable pub startRefusal : List ℕ → ℕ → Bool → ℕ → ℕ
+startRefusal card nodes idle key =
     pick (eqb (nodesOfLength (length card)) 0) 1
     (pick (eqb (nodesOfLength (length card)) nodes)
-    (pick (eqb (headerRefusal card nodes) 0) (pick (isIdle doing) (pick (eqb key 0) 6 0) 7) (headerRefusal card nodes)) 1)
+    (pick (eqb (headerRefusal card nodes) 0) (pick idle (pick (eqb key 0) 6 0) 7) (headerRefusal card nodes)) 1)
 
 -- the room that an update needs which may split its leaf, or one which never does
 abbrev pub roomWhere : Bool → List ℕ → ℕ → List Bool → Landing → Bool
@@ -39,9 +39,9 @@ landingRefusal room NoLanding = 9
 landingRefusal room (LandingAt node link run) = pick room 0 8
 
 -- all of them, in their order
-abbrev pub dueRefusal : List ℕ → ℕ → Doing → ℕ → (Landing → Bool) → ℕ
-dueRefusal card nodes doing key room =
-    pick (eqb (startRefusal card nodes doing key) 0) (landingRefusal (room (landing card nodes key)) (landing card nodes key)) (startRefusal card nodes doing key)
+abbrev pub dueRefusal : List ℕ → ℕ → Bool → ℕ → (Landing → Bool) → ℕ
+dueRefusal card nodes idle key room =
+    pick (eqb (startRefusal card nodes idle key) 0) (landingRefusal (room (landing card nodes key)) (landing card nodes key)) (startRefusal card nodes idle key)
 
 -- what starting an update hands back, by the refusal that is due
 abbrev pub begunBy : ℕ → Memory → Doing → Handed

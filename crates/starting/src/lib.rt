@@ -2,33 +2,40 @@
 // and free nodes").
 use descent::End;
 use descent::Slot;
-use free_nodes::NodeSet;
 use state::Beginning;
 use state::Begun;
 use state::Doing;
-use state::State;
-use state::is_idle;
 use state::no_beginning;
 use state::resting;
+use state_block::FREE;
+use state_block::NO_STATE;
+use state_block::NODES;
+use state_block::PLACES;
+use state_block::STATE_WORDS;
+use state_block::is_idle;
+use state_block::store_doing;
+use state_block::wide;
 ghost use mathlib.Core.Path.{_≡_};
-ghost use mathlib.Core.Bool.{true};
+ghost use mathlib.Core.Bool.{true, false};
 ghost use Prim.Native.Nat.{_≤_};
 ghost use lib.ListN.{length};
 ghost use Rattle.card.specs.Header.{Sized};
 ghost use Rattle.card.specs.Layout.{nodeAt};
-ghost use Rattle.free_nodes.specs.NodeSet.{countTrue, nodesOf};
+ghost use Rattle.free_nodes.specs.NodeSet.{wordCount, nodesOf};
 ghost use Rattle.descent.specs.Descent.{slotOf, way, runOver};
 ghost use Rattle.laws.specs.Cases.{pick};
-ghost use Rattle.state.specs.Memory.{memoryOf};
-ghost use Rattle.state.specs.Results.{handedOf, UnchangedStart};
+ghost use Rattle.state.specs.Results.{handedOf};
+ghost use Rattle.state.specs.Steps.{isIdle};
+ghost use Rattle.state.specs.declared.Doing.the-variants.{Inserting, Deleting};
+ghost use Rattle.state_block.specs.Block.{stateWords, memoryIn, formatted};
+ghost use Rattle.state_block.specs.Contracts.{StartCall};
 ghost use Rattle.updates.specs.Updates.{insertReason, roomFor};
 ghost use Rattle.starting.specs.Starts.{formatOf, insertOf, deleteOf};
 ghost use Rattle.starting.specs.Refusals.{startRefusal, isSlot, roomWhere, dueRefusal, begunBy};
 
-// The refusals 1, 2, 3, 7 and 6 of starting an update, in this order; 0 where none is due. All that is asked of the state are its
-// parts, since a state is large.
-fn early_refusal(card: &[u32], nodes: usize, doing: Doing, key: u32) -> u32
-    ensures { λ r. ⌜ r ≡ startRefusal (now (card .entry)) nodes doing key ⌝ }
+// The refusals 1, 2, 3, 7 and 6 of starting an update, in this order; 0 where none is due.
+fn early_refusal(card: &[u32], nodes: usize, idle: bool, key: u32) -> u32
+    ensures { λ r. ⌜ r ≡ startRefusal (now (card .entry)) nodes idle key ⌝ }
 {
     let n = card::nodes_of(card.len());
     if n == 0 {
@@ -41,7 +48,7 @@ fn early_refusal(card: &[u32], nodes: usize, doing: Doing, key: u32) -> u32
     if header != 0 {
         return header;
     }
-    if !is_idle(doing) {
+    if !idle {
         return 7;
     }
     if key == 0 {
@@ -61,18 +68,11 @@ fn has_word(leaf: &[u32], word: u32) -> bool
     }
 }
 
-// How many nodes are free.
-fn free_count(free: NodeSet) -> usize
-    ensures { λ r. ⌜ r ≡ countTrue (nodesOf (free .words)) ⌝ }
-{
-    free_nodes::count(&free.words)
-}
-
 // "A splitting insert needs j + 5 free nodes." The 11-child nodes above leaf m are counted only where it is full; they may be any
 // number here, so the 5 are taken from the free nodes.
-fn has_room(card: &[u32], n: usize, m: usize, key: u32, free: NodeSet) -> bool
-    requires { ⌜ Sized (length (now card)) n × (1 ≤ m) × (m ≤ n) ⌝ }
-    ensures { λ r. ⌜ r ≡ roomFor (nodesOf (free .words)) (runOver (now (card .entry)) 0 (way (now (card .entry)) n key .inner)) (insertReason (nodeAt (now (card .entry)) m) key) ⌝ }
+fn has_room(card: &[u32], n: usize, m: usize, key: u32, free: &[u32]) -> bool
+    requires { ⌜ Sized (length (now card)) n × (1 ≤ m) × (m ≤ n) × (length (now free) ≡ wordCount) ⌝ }
+    ensures { λ r. ⌜ r ≡ roomFor (nodesOf (now (free .entry))) (runOver (now (card .entry)) 0 (way (now (card .entry)) n key .inner)) (insertReason (nodeAt (now (card .entry)) m) key) ⌝ }
 {
     let leaf = card::node_at(card, m);
     if has_word(leaf, key) {
@@ -81,7 +81,7 @@ fn has_room(card: &[u32], n: usize, m: usize, key: u32, free: NodeSet) -> bool
     if has_word(leaf, 0) {
         return true;
     }
-    let count = free_count(free);
+    let count = free_nodes::count(free);
     if count < updates::SPLIT_NEED {
         return false;
     }
@@ -90,9 +90,9 @@ fn has_room(card: &[u32], n: usize, m: usize, key: u32, free: NodeSet) -> bool
 }
 
 // The same of an update that may split its leaf, or of one that never does and so needs no room.
-fn has_room_where(splits: bool, card: &[u32], n: usize, m: usize, key: u32, free: NodeSet) -> bool
-    requires { ⌜ Sized (length (now card)) n × (1 ≤ m) × (m ≤ n) ⌝ }
-    ensures { λ r. ⌜ r ≡ pick splits (roomFor (nodesOf (free .words)) (runOver (now (card .entry)) 0 (way (now (card .entry)) n key .inner)) (insertReason (nodeAt (now (card .entry)) m) key)) true ⌝ }
+fn has_room_where(splits: bool, card: &[u32], n: usize, m: usize, key: u32, free: &[u32]) -> bool
+    requires { ⌜ Sized (length (now card)) n × (1 ≤ m) × (m ≤ n) × (length (now free) ≡ wordCount) ⌝ }
+    ensures { λ r. ⌜ r ≡ pick splits (roomFor (nodesOf (now (free .entry))) (runOver (now (card .entry)) 0 (way (now (card .entry)) n key .inner)) (insertReason (nodeAt (now (card .entry)) m) key)) true ⌝ }
 {
     if splits {
         return has_room(card, n, m, key, free);
@@ -112,14 +112,15 @@ fn room_refusal(room: bool) -> u32
 fn start_refusal(
     card: &[u32],
     nodes: usize,
-    doing: Doing,
-    free: NodeSet,
+    idle: bool,
+    free: &[u32],
     key: u32,
     splits: bool,
 ) -> u32
-    ensures { λ r. ⌜ r ≡ dueRefusal (now (card .entry)) nodes doing key (roomWhere splits (now (card .entry)) key (nodesOf (free .words))) ⌝ }
+    requires { ⌜ length (now free) ≡ wordCount ⌝ }
+    ensures { λ r. ⌜ r ≡ dueRefusal (now (card .entry)) nodes idle key (roomWhere splits (now (card .entry)) key (nodesOf (now (free .entry)))) ⌝ }
 {
-    let early = early_refusal(card, nodes, doing, key);
+    let early = early_refusal(card, nodes, idle, key);
     if early != 0 {
         return early;
     }
@@ -130,22 +131,26 @@ fn start_refusal(
     }
 }
 
-// "Starting an update stores nothing": the state with the update in hand, or as it was where a refusal is due.
-fn begin(s: State, doing: Doing, refusal: u32) -> Beginning
-    ensures { λ r. ⌜ handedOf r ≡ begunBy refusal (memoryOf s) doing ⌝ }
-    ensures { λ r. ⌜ UnchangedStart s r ⌝ }
+// The same by the words of a block.
+fn block_refusal(card: &[u32], state: &[u32], key: u32, splits: bool) -> u32
+    requires { ⌜ length (now state) ≡ stateWords ⌝ }
+    ensures { λ r. ⌜ r ≡ dueRefusal (now (card .entry)) (memoryIn (now (state .entry)) .nodes) (isIdle (memoryIn (now (state .entry)) .doing)) key (roomWhere splits (now (card .entry)) key (memoryIn (now (state .entry)) .free)) ⌝ }
+{
+    let nodes = wide(state[NODES]);
+    let idle = is_idle(state);
+    start_refusal(card, nodes, idle, &state[FREE..PLACES], key, splits)
+}
+
+// "Starting an update stores nothing": the block with the update in hand, or as it was where a refusal is due.
+fn begin(state: &mut [u32], doing: Doing, refusal: u32) -> Begun
+    requires { ⌜ (length (now state) ≡ stateWords) × (formatted doing ≡ 0) ⌝ }
+    ensures { λ r. ⌜ StartCall (now (state .entry)) (now (state .exit)) r doing (begunBy refusal (memoryIn (now (state .entry))) doing) ⌝ }
 {
     if refusal != 0 {
-        return Beginning {
-            begun: Begun::Refused(refusal),
-            state: s,
-        };
+        return Begun::Refused(refusal);
     }
-    let state = State { doing, ..s };
-    Beginning {
-        begun: Begun::Started,
-        state,
-    }
+    store_doing(state, doing);
+    Begun::Started
 }
 
 // "Formatting needs no earlier state". While it goes on the free nodes are those of the table it makes, whose root is node 1.
@@ -165,31 +170,33 @@ pub fn start_format(card: &[u32]) -> Beginning
 }
 
 // "Starting an update stores nothing."
-pub fn start_insert(card: &[u32], s: State, key: u32, value: u32) -> Beginning
-    ensures { λ r. ⌜ handedOf r ≡ insertOf (now (card .entry)) (memoryOf s) key value ⌝ }
-    ensures { λ r. ⌜ UnchangedStart s r ⌝ }
+pub fn start_insert(card: &[u32], state: &mut [u32], key: u32, value: u32) -> Begun
+    ensures { λ r. ⌜ StartCall (now (state .entry)) (now (state .exit)) r (Inserting key value false) (insertOf (now (card .entry)) (memoryIn (now (state .entry))) key value) ⌝ }
 {
+    if state.len() != STATE_WORDS {
+        return Begun::Refused(NO_STATE);
+    }
     let doing = Doing::Inserting {
         key,
         value,
         begun: false,
     };
-    let held = s.doing;
-    let refusal = start_refusal(card, s.nodes, held, s.free, key, true);
-    begin(s, doing, refusal)
+    let refusal = block_refusal(card, state, key, true);
+    begin(state, doing, refusal)
 }
 
 // "Refusing a delete on a full card" would spoil a bin: a delete needs no free nodes to start.
-pub fn start_delete(card: &[u32], s: State, key: u32) -> Beginning
-    ensures { λ r. ⌜ handedOf r ≡ deleteOf (now (card .entry)) (memoryOf s) key ⌝ }
-    ensures { λ r. ⌜ UnchangedStart s r ⌝ }
+pub fn start_delete(card: &[u32], state: &mut [u32], key: u32) -> Begun
+    ensures { λ r. ⌜ StartCall (now (state .entry)) (now (state .exit)) r (Deleting key false 0) (deleteOf (now (card .entry)) (memoryIn (now (state .entry))) key) ⌝ }
 {
+    if state.len() != STATE_WORDS {
+        return Begun::Refused(NO_STATE);
+    }
     let doing = Doing::Deleting {
         key,
         begun: false,
         value: 0,
     };
-    let held = s.doing;
-    let refusal = start_refusal(card, s.nodes, held, s.free, key, false);
-    begin(s, doing, refusal)
+    let refusal = block_refusal(card, state, key, false);
+    begin(state, doing, refusal)
 }

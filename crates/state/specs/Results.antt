@@ -10,7 +10,6 @@ use Rattle.state.specs.declared.State.{State}
 use Rattle.state.specs.declared.Answer.{Answer}
 use Rattle.state.specs.declared.Answer.the-variants.{Refused}
 use Rattle.state.specs.declared.Stepped.{Stepped}
-use Rattle.state.specs.declared.Begun.the-variants.{Refused as BegunRefused}
 use Rattle.state.specs.declared.Beginning.{Beginning}
 
 -- what opening and starting hand back
@@ -24,9 +23,6 @@ stepLeft card r = record { answer = r .answer; card = card; memory = memoryOf (r
 -- "A refusal .. hands the state back unchanged": the whole state, and not only what a reader sees of it
 abbrev pub Unchanged : State → Stepped → Type 0
 Unchanged s r = (n : ℕ) → r .answer ≡ Refused n → r .state ≡ s
-
-abbrev pub UnchangedStart : State → Beginning → Type 0
-UnchangedStart s r = (n : ℕ) → r .begun ≡ BegunRefused n → r .state ≡ s
 
 -- an answer that is no refusal
 abbrev pub Final : Answer → Type 0

@@ -10,7 +10,6 @@ pub use playing::in_hand;
 pub use playing::store_next;
 pub use states::held_by;
 pub use states::idled;
-pub use states::is_idle;
 pub use states::no_beginning;
 pub use states::resting;
 

@@ -11,7 +11,7 @@ use plans::Plan;
 ghost use mathlib.Core.Path.{_≡_};
 ghost use Rattle.free_nodes.specs.NodeSet.{nodesOf};
 ghost use Rattle.state.specs.Memory.{memoryOf, resting, idled};
-ghost use Rattle.state.specs.Steps.{noBeginning, isIdle, heldBy};
+ghost use Rattle.state.specs.Steps.{noBeginning, heldBy};
 ghost use Rattle.state.specs.Results.{handedOf};
 ghost use Rattle.state.specs.declared.Doing.the-variants.{Inserting, Deleting};
 
@@ -53,27 +53,6 @@ pub fn idled(s: State) -> State
     let free = s.free;
     let t = resting(s.nodes, free, Doing::Idle);
     State { last: s.last, ..t }
-}
-
-// Whether nothing is being done.
-pub fn is_idle(doing: Doing) -> bool
-    ensures { λ r. ⌜ r ≡ isIdle doing ⌝ }
-{
-    match doing {
-        Doing::Idle => true,
-        Doing::Formatting { made: _ } => false,
-        Doing::Inserting {
-            key: _,
-            value: _,
-            begun: _,
-        } => false,
-        Doing::Deleting {
-            key: _,
-            begun: _,
-            value: _,
-        } => false,
-        Doing::Repairing { key: _ } => false,
-    }
 }
 
 // What an insert has still to do: its first change, or repairs. "Key absent: answers absent once done."

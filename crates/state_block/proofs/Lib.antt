@@ -6,3 +6,7 @@ pub mod Rows
 pub mod RoundTrip
 -- laws of stores made in the block as it lies
 pub mod InPlace
+-- what a block holds whose words are those of a definition, and the stores that make it
+pub mod Blocks
+-- laws of the calls on a lent block: a block of another length
+pub mod ContractLaws

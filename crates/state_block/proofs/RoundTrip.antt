@@ -28,12 +28,12 @@ pub record HasRows (s : State) : Type 0 where
   pub values-row : length (s .plan .values) ≡ 73
   pub cut-row : length (s .cut) ≡ 3
 
-narrow-fits : (x : ℕ) → x < 2 ^ 32 → narrow x ≡ x
+pub narrow-fits : (x : ℕ) → x < 2 ^ 32 → narrow x ≡ x
 narrow-fits x h = omega arith
 
 -- ---- what is being done
 
-true-bit : (b : Bool) → isTrue (bit b) ≡ b
+pub true-bit : (b : Bool) → isTrue (bit b) ≡ b
 true-bit true = refl
 true-bit false = refl
 

@@ -7,7 +7,9 @@ ghost use mathlib.Core.Path.{_≡_};
 ghost use lib.ListN.{length};
 ghost use Rattle.free_nodes.specs.NodeSet.{wordCount};
 ghost use Rattle.laws.specs.Bits.{bit};
-ghost use Rattle.state_block.specs.Block.{stateWords, doingIn, unpacked, narrow, doingWords, numberWords, packed, Kept};
+ghost use Rattle.state.specs.Steps.{isIdle};
+ghost use Rattle.state_block.specs.Block.{stateWords, doingIn, unpacked, memoryIn, narrow, doingWords, numberWords, packed, Kept};
+ghost use Rattle.state_block.specs.Blocks.{begunBlock};
 
 // The words of a block: N and the node given last; what is being done by its number, and its three numbers; the stores of the
 // plan made and planned; the nodes that the last store cuts out; the free nodes; the plan's places and values.
@@ -90,6 +92,18 @@ fn doing_in(what: u32, a: u32, b: u32, c: u32) -> Doing
     }
 }
 
+// Whether nothing is being done. Any number that is none of the four is idle.
+pub fn is_idle(block: &[u32]) -> bool
+    requires { ⌜ length (now block) ≡ stateWords ⌝ }
+    ensures { λ r. ⌜ r ≡ isIdle (memoryIn (now (block .entry)) .doing) ⌝ }
+{
+    let doing = block[DOING];
+    if doing == IDLE {
+        return true;
+    }
+    REPAIRING < doing
+}
+
 // A row of a plan.
 fn row(words: &[u32]) -> [u32; 73]
     requires { ⌜ length (now words) ≡ 73 ⌝ }
@@ -157,6 +171,18 @@ fn doing_words(doing: Doing) -> [u32; 4]
         Doing::Deleting { key, begun, value } => [DELETING, key, value, flag(begun)],
         Doing::Repairing { key } => [REPAIRING, key, 0, 0],
     }
+}
+
+// Something else is being done: words 2 to 5 are stored.
+pub fn store_doing(block: &mut [u32], doing: Doing)
+    requires { ⌜ length (now block) ≡ stateWords ⌝ }
+    ensures { λ _. ⌜ now (block .exit) ≡ begunBlock (now (block .entry)) doing ⌝ }
+{
+    let words = doing_words(doing);
+    block[DOING] = words[0];
+    block[FIRST] = words[1];
+    block[SECOND] = words[2];
+    block[THIRD] = words[3];
 }
 
 // Words 0 to 7.

@@ -4,36 +4,24 @@ use mathlib.Core.Bool.{true, false}
 use mathlib.Core.List.{List}
 use Prim.Native.Nat.{ℕ}
 use lib.ListN.{length}
-use Rattle.card.specs.Replies.{noState}
 use Rattle.state.specs.Steps.{Handed, Step}
 use Rattle.table.specs.Calls.{stepOf}
 use Rattle.state.specs.Memory.{Memory, memoryOf}
-use Rattle.state.specs.Results.{handedOf, Unchanged, UnchangedStart}
+use Rattle.state.specs.Results.{handedOf, Unchanged}
 use Rattle.state.specs.declared.State.{State}
 use Rattle.state.specs.declared.Beginning.{Beginning}
-use Rattle.state.specs.declared.Begun.{Begun}
-use Rattle.state.specs.declared.Begun.the-variants.{Idle as OpenedIdle, Started, Refused as BegunRefused}
 use Rattle.state.specs.declared.Stepped.{Stepped}
 use Rattle.state.specs.declared.Answer.{Answer}
 use Rattle.state.specs.declared.Answer.the-variants.{Stored, Ready, Absent, Value, Refused}
 use Rattle.state_block.specs.Block.{stateWords, unpacked, memoryIn, Small, Kept}
 use Rattle.state_block.proofs.Block.{Words}
 use Rattle.table.proofs.HandedBack.{step-small}
-use Rattle.table.specs.Contracts.{OpenCall, StartCall, StepCall, isRefusal, isRefusedStart}
+use Rattle.state_block.specs.Contracts.{OpenCall, StepCall}
+use Rattle.table.specs.Refusals.{isRefusal}
 use Rattle.table.specs.Playing.{Played}
 use Rattle.laws.proofs.Cases.{impossible}
 
 -- ---- refusals
-
-refused-start : (b : Begun) → isRefusedStart b ≡ true → (r : ℕ) × (b ≡ BegunRefused r)
-unfolding isRefusedStart
-refused-start OpenedIdle e = impossible (cc)
-refused-start Started e = impossible (cc)
-refused-start (BegunRefused r) e = (r, refl)
-
-unrefused-start : (b : Begun) (r : ℕ) → isRefusedStart b ≡ false → b ≡ BegunRefused r → ⊥
-unfolding isRefusedStart
-unrefused-start b r e f = let z : true ≡ false = ap isRefusedStart (sym f) ∙ e in impossible (cc)
 
 refusal : (a : Answer) → isRefusal a ≡ true → (r : ℕ) × (a ≡ Refused r)
 unfolding isRefusal
@@ -53,35 +41,11 @@ pub small-handed : (h : Beginning) (due : Handed) → handedOf h ≡ due → Sma
 unfolding handedOf
 small-handed h due e small = subst (λ (x : Handed). Small (x .memory)) (sym e) small
 
--- ---- a block of another length
-
-module _ (block : List ℕ) (n : length block ≡ stateWords → ⊥) where
-  pub open-no-state : (due : Handed) → OpenCall block block (BegunRefused (noState .code)) due
-  open-no-state due = record { answered = λ l. absurd (n l); handed = λ l. absurd (n l); no-state = λ m. (refl, refl) }
-
-  pub start-no-state : (due : Handed) → StartCall block block (BegunRefused (noState .code)) due
-  start-no-state due = record { opened = open-no-state due; unchanged = λ r f. refl }
-
-  pub step-no-state : (card : List ℕ) (due : Step) → StepCall block block card card (Refused (noState .code)) due
-  step-no-state card due =
-      record { answered = λ l. absurd (n l); stored = λ l. absurd (n l); handed = λ l. absurd (n l); unchanged = λ r f. refl; no-state = λ m. (refl, refl, refl) }
-
 -- ---- what is handed back
 
-module _ (before after : List ℕ) (l : length before ≡ stateWords) (h : Beginning) where
-  pub handed-open : memoryIn after ≡ memoryOf (h .state) → OpenCall before after (h .begun) (handedOf h)
-  unfolding handedOf
-  handed-open f = record { answered = λ k. refl; handed = λ k. f; no-state = λ n. absurd (n l) }
-
-  pub handed-start : isRefusedStart (h .begun) ≡ false → memoryIn after ≡ memoryOf (h .state) → StartCall before after (h .begun) (handedOf h)
-  unfolding handedOf
-  handed-start i f = record { opened = handed-open f; unchanged = λ r g. absurd (unrefused-start (h .begun) r i g) }
-
-pub refused-back : (block : List ℕ) (h : Beginning) → length block ≡ stateWords → isRefusedStart (h .begun) ≡ true → UnchangedStart (unpacked block) h → StartCall block block (h .begun) (handedOf h)
+pub handed-open : (before after : List ℕ) → length before ≡ stateWords → (h : Beginning) → memoryIn after ≡ memoryOf (h .state) → OpenCall before after (h .begun) (handedOf h)
 unfolding handedOf
-refused-back block h l i u =
-    let r = refused-start (h .begun) i in
-    record { opened = handed-open block block l h (ap memoryOf (sym (u (r .0) (r .1)))); unchanged = λ n f. refl }
+handed-open before after l h f = record { answered = λ k. refl; handed = λ k. f; no-state = λ n. absurd (n l) }
 
 -- ---- a step
 

@@ -1,7 +1,7 @@
 -- The numbers of a state that a call hands back fit their words, where those of the state that it was given did: N is the card's
 -- or the state's, the node given last is a node's number or the state's, and a formatting counts at most the words of its card.
 use mathlib.Core.Path.{_≡_, refl}
-use mathlib.Core.Bool.{Bool, true, false}
+use mathlib.Core.Bool.{Bool, false}
 use mathlib.Core.List.{List, [], _∷_}
 use mathlib.Core.Option.{Option, none, some}
 use Prim.Native.Nat.{ℕ, zero, suc, _+_, _*_, _^_, _≤_, _<_}
@@ -28,11 +28,11 @@ use Rattle.plans.specs.Change.{Change}
 use Rattle.plans.specs.Planning.{Preparation, refused, balanced, prepared, numbersFrom, takeNumbers, lastOf, overNumbers, giving}
 use Rattle.soundness.specs.Check.{Findings, tableCheck}
 use Rattle.state.specs.Memory.{Memory, memoryOf, noMemory, resting, idled, advanced}
-use Rattle.updates.specs.Updates.{Reason, held, slot, full, FirstChange, landing, insertReason, insertChange, deleteChange, insertIn, deleteIn, noWay, inLeaf, nextChange, startRoom}
+use Rattle.updates.specs.Updates.{Reason, held, slot, full, FirstChange, landing, insertReason, insertChange, deleteChange, insertIn, deleteIn, noWay, inLeaf, nextChange}
 use Rattle.updates.proofs.Preparations.{either, repair-by}
-use Rattle.state.specs.Steps.{heldBy, Handed, Step, noBeginning, stepRefused, stepFinal, formatStore, formatting, stepFormat, stepStore, isIdle}
+use Rattle.state.specs.Steps.{heldBy, Handed, Step, noBeginning, stepRefused, stepFinal, formatStore, formatting, stepFormat, stepStore}
 use Rattle.opening.specs.Opening.{openSound, openChecked, openOf}
-use Rattle.starting.specs.Starts.{formatOf, startRefused, started, startLanded, startChecked, startOf, insertOf, deleteOf}
+use Rattle.starting.specs.Starts.{formatOf}
 use Rattle.table.specs.Calls.{planning, stepPrepared, stepBegin, stepTask, stepChecked, stepHeld, stepOf}
 use Rattle.state.proofs.StepLaws.{format-end}
 use Rattle.state.specs.declared.Doing.{Doing}
@@ -88,51 +88,6 @@ format-small card =
     let n : ℕ = nodesOfLength (length card) in
     let begun : Handed = record { begun = Started; memory = resting n (set (allNodes n) 1 false) (Formatting 0) } in
     either SmallHanded (eqb n 0) (noBeginning 1) begun (small-none 1) (small-resting n (set (allNodes n) 1 false) (Formatting 0) (nodes-small (length card)) refl)
-
--- ---- starting an update
-
-module _ (m : Memory) (small : Small m) where
-  small-refused : (r : ℕ) → SmallHanded (startRefused r m)
-  unfolding startRefused SmallHanded
-  small-refused r = small
-
-  module _ (doing : Doing) (none : formatted doing ≡ 0) where
-    small-started : SmallHanded (started m doing)
-    unfolding started SmallHanded
-    small-started = record { nodes = small .nodes; last = small .last; formatting = omega arith }
-
-    small-landed : (room : Bool) (l : Landing) → SmallHanded (startLanded m doing room l)
-    unfolding startLanded
-    small-landed room NoLanding = small-refused 9
-    small-landed room (LandingAt node link run) = either SmallHanded room (started m doing) (startRefused 8 m) small-started (small-refused 8)
-
-    module _ (card : List ℕ) (key : ℕ) (room : Landing → Bool) where
-      small-begun : SmallHanded (startChecked card m key doing room)
-      unfolding startChecked
-      small-begun =
-          let l : Landing = landing card (m .nodes) key in
-          either SmallHanded (isIdle (m .doing)) (pick (eqb key 0) (startRefused 6 m) (startLanded m doing (room l) l)) (startRefused 7 m)
-          (either SmallHanded (eqb key 0) (startRefused 6 m) (startLanded m doing (room l) l) (small-refused 6) (small-landed (room l) l))
-          (small-refused 7)
-
-      small-start : SmallHanded (startOf card m key doing room)
-      unfolding startOf
-      small-start =
-          let n : ℕ = nodesOfLength (length card) in
-          let r : ℕ = headerRefusal card (m .nodes) in
-          let checked : Handed = pick (eqb r 0) (startChecked card m key doing room) (startRefused r m) in
-          either SmallHanded (eqb n 0) (startRefused 1 m) (pick (eqb n (m .nodes)) checked (startRefused 1 m)) (small-refused 1)
-          (either SmallHanded (eqb n (m .nodes)) checked (startRefused 1 m)
-          (either SmallHanded (eqb r 0) (startChecked card m key doing room) (startRefused r m) small-begun (small-refused r))
-          (small-refused 1))
-
-  small-insert : (card : List ℕ) (key value : ℕ) → Small (insertOf card m key value .memory)
-  unfolding insertOf formatted SmallHanded
-  small-insert card key value = small-start (Inserting key value false) refl card key (startRoom card key (m .free))
-
-  small-delete : (card : List ℕ) (key : ℕ) → Small (deleteOf card m key .memory)
-  unfolding deleteOf formatted SmallHanded
-  small-delete card key = small-start (Deleting key false 0) refl card key (λ l. true)
 
 -- ---- the change that a step plans: the node that it gives last
 
@@ -283,12 +238,6 @@ module _ (card block : List ℕ) (words : Words block) where
   bits-in : length (memoryIn block .free) ≤ 2 ^ 32
   unfolding memoryOf unpacked
   bits-in = omega (arith, length-nodes (part block 11 20), length-take 20 (drop 11 block))
-
-  pub insert-small : (key value : ℕ) → Small (insertOf card (memoryIn block) key value .memory)
-  insert-small key value = small-insert (memoryIn block) small-in card key value
-
-  pub delete-small : (key : ℕ) → Small (deleteOf card (memoryIn block) key .memory)
-  delete-small key = small-delete (memoryIn block) small-in card key
 
   pub step-small : Small (stepOf card (memoryIn block) .memory)
   step-small = small-step card (memoryIn block) small-in bits-in

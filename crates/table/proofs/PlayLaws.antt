@@ -8,14 +8,14 @@ use native.Mathlib.Numerals.{add-one}
 use lib.ListN.{length, getD, drop, set, length-take, length-drop}
 use lib.Seq.{getD-take, getD-drop}
 use lib.Dec.{ltb}
-use borrow.Author.Tests.{lt-ltb, ne-eqb}
+use borrow.Author.Tests.{lt-ltb}
 use Rattle.laws.specs.Lists.{beforeZero}
 use Rattle.card.specs.Header.{headerRefusal}
 use Rattle.card.specs.Stores.{Store}
 use Rattle.plans.specs.Plan.{storesOf}
 use Rattle.plans.specs.Planning.{withAll}
 use Rattle.state.specs.Memory.{Memory, memoryOf, advanced}
-use Rattle.state.specs.Steps.{isIdle, heldBy, formatting, formatStore, stepFormat, stepStore}
+use Rattle.state.specs.Steps.{heldBy, formatting, formatStore, stepFormat, stepStore}
 use Rattle.table.specs.Calls.{stepTask, stepHeld}
 use Rattle.table.proofs.StepLaws.{task-due}
 use Rattle.state.specs.Results.{more}
@@ -139,26 +139,6 @@ kind-held (suc (suc zero)) a b c p q h = inserting-held a b (isTrue c)
 kind-held (suc (suc (suc zero))) a b c p q h = deleting-held a b (isTrue c)
 kind-held (suc (suc (suc (suc zero)))) a b c p q h = (Repair a Ready, refl)
 kind-held (suc (suc (suc (suc (suc what))))) a b c p q h = absurd (omega arith)
-
-kind-idle : (what a b c : ℕ) → (what ≡ 0 → ⊥) → ltb 4 what ≡ isIdle (doingIn what a b c)
-unfolding doingIn isIdle
-kind-idle zero a b c p = absurd (p refl)
-kind-idle (suc zero) a b c p = refl
-kind-idle (suc (suc zero)) a b c p = refl
-kind-idle (suc (suc (suc zero))) a b c p = refl
-kind-idle (suc (suc (suc (suc zero)))) a b c p = refl
-kind-idle (suc (suc (suc (suc (suc what))))) a b c p =
-    let w : ℕ = suc (suc (suc (suc (suc what)))) in
-    lt-ltb 4 w (omega arith) ∙ sym (simp (ne-eqb w 1 (λ z. omega arith), ne-eqb w 2 (λ z. omega arith), ne-eqb w 3 (λ z. omega arith), ne-eqb w 4 (λ z. omega arith)))
-
-module _ (block : List ℕ) where
-  pub idle-none : word block 2 ≡ 0 → true ≡ isIdle (memoryIn block .doing)
-  unfolding memoryOf unpacked doingIn isIdle
-  idle-none e = ap (λ (what : ℕ). isIdle (doingIn what (word block 3) (word block 4) (word block 5))) (sym e)
-
-  pub idle-other : (word block 2 ≡ 0 → ⊥) → ltb 4 (word block 2) ≡ isIdle (memoryIn block .doing)
-  unfolding memoryOf unpacked
-  idle-other p = kind-idle (word block 2) (word block 3) (word block 4) (word block 5) p
 
 module _ (card block : List ℕ) where
   pub doing-format : word block 2 ≡ 1 → stepHeld card (memoryIn block) (heldBy (memoryIn block .doing)) ≡ stepFormat card (memoryIn block) (word block 3) (formatStore (memoryIn block .nodes) (length card) (word block 3))

@@ -1,6 +1,6 @@
 -- the steps, with their refusals in the order of "Refusal by place"
 pub mod Calls
--- what the calls promise of the state block lent to them
-pub mod Contracts
+-- which answers are refusals
+pub mod Refusals
 -- what a step made on the state block itself promises
 pub mod Playing

@@ -6,6 +6,8 @@ mod steps;
 pub use lookup::Found;
 pub use lookup::find;
 use playing::play;
+pub use starting::start_delete;
+pub use starting::start_insert;
 pub use state::Answer;
 use state::Beginning;
 pub use state::Begun;
@@ -14,11 +16,9 @@ use state::State;
 use state::Stepped;
 use state::held_by;
 use state::step_format;
-use state_block::DOING;
-use state_block::IDLE;
 use state_block::NO_STATE;
-use state_block::REPAIRING;
 pub use state_block::STATE_WORDS;
+pub use state_block::is_idle;
 use state_block::pack;
 use state_block::unpack;
 use steps::step_idle;
@@ -26,25 +26,13 @@ use steps::step_task;
 ghost use mathlib.Core.Path.{_≡_};
 ghost use lib.ListN.{length};
 ghost use Rattle.opening.specs.Opening.{openOf};
-ghost use Rattle.starting.specs.Starts.{formatOf, insertOf, deleteOf};
+ghost use Rattle.starting.specs.Starts.{formatOf};
 ghost use Rattle.state.specs.Memory.{memoryOf};
-ghost use Rattle.state.specs.Results.{handedOf, Unchanged, UnchangedStart};
-ghost use Rattle.state.specs.Steps.{isIdle};
-ghost use Rattle.state_block.specs.Block.{stateWords, unpacked, memoryIn, Small};
+ghost use Rattle.state.specs.Results.{handedOf, Unchanged};
+ghost use Rattle.state_block.specs.Block.{stateWords, memoryIn, Small};
+ghost use Rattle.state_block.specs.Contracts.{OpenCall, StepCall};
 ghost use Rattle.table.specs.Calls.{stepOf};
-ghost use Rattle.table.specs.Contracts.{OpenCall, StartCall, StepCall, isRefusal, isRefusedStart};
-
-// Whether nothing is being done. Any number that is none of the four is idle.
-pub fn is_idle(state: &[u32]) -> bool
-    requires { ⌜ length (now state) ≡ stateWords ⌝ }
-    ensures { λ r. ⌜ r ≡ isIdle (memoryIn (now (state .entry)) .doing) ⌝ }
-{
-    let doing = state[DOING];
-    if doing == IDLE {
-        return true;
-    }
-    REPAIRING < doing
-}
+ghost use Rattle.table.specs.Refusals.{isRefusal};
 
 // What opening and starting to format hand back goes into the block, refused or not.
 fn hand_over(state: &mut [u32], handed: Beginning) -> Begun
@@ -52,29 +40,6 @@ fn hand_over(state: &mut [u32], handed: Beginning) -> Begun
     ensures { λ r. ⌜ OpenCall (now (state .entry)) (now (state .exit)) r (handedOf handed) ⌝ }
 {
     let begun = handed.begun;
-    pack(state, handed.state);
-    begun
-}
-
-fn is_refused_start(begun: Begun) -> bool
-    ensures { λ r. ⌜ r ≡ isRefusedStart begun ⌝ }
-{
-    match begun {
-        Begun::Idle => false,
-        Begun::Started => false,
-        Begun::Refused(_) => true,
-    }
-}
-
-// What starting an update hands back: "A refusal .. hands the state back unchanged".
-fn hand_back(state: &mut [u32], handed: Beginning) -> Begun
-    requires { ⌜ (length (now state) ≡ stateWords) × Small (memoryOf (handed .state)) × UnchangedStart (unpacked (now state)) handed ⌝ }
-    ensures { λ r. ⌜ StartCall (now (state .entry)) (now (state .exit)) r (handedOf handed) ⌝ }
-{
-    let begun = handed.begun;
-    if is_refused_start(begun) {
-        return begun;
-    }
     pack(state, handed.state);
     begun
 }
@@ -97,29 +62,6 @@ pub fn open(card: &[u32], state: &mut [u32]) -> Begun
         return Begun::Refused(NO_STATE);
     }
     hand_over(state, opening::open(card))
-}
-
-// "Starting an update stores nothing."
-pub fn start_insert(card: &[u32], state: &mut [u32], key: u32, value: u32) -> Begun
-    ensures { λ r. ⌜ StartCall (now (state .entry)) (now (state .exit)) r (insertOf (now (card .entry)) (memoryIn (now (state .entry))) key value) ⌝ }
-{
-    if state.len() != STATE_WORDS {
-        return Begun::Refused(NO_STATE);
-    }
-    hand_back(
-        state,
-        starting::start_insert(card, unpack(state), key, value),
-    )
-}
-
-// The same for a delete.
-pub fn start_delete(card: &[u32], state: &mut [u32], key: u32) -> Begun
-    ensures { λ r. ⌜ StartCall (now (state .entry)) (now (state .exit)) r (deleteOf (now (card .entry)) (memoryIn (now (state .entry))) key) ⌝ }
-{
-    if state.len() != STATE_WORDS {
-        return Begun::Refused(NO_STATE);
-    }
-    hand_back(state, starting::start_delete(card, unpack(state), key))
 }
 
 // A step of a state by value.

@@ -1,20 +1,26 @@
 -- `starting::begin` meets its contract.
-use mathlib.Core.Path.{refl}
-use borrow.Author.Tests.{ne-eqb, eq-eqb}
-use Rattle.state.specs.Memory.{memoryOf}
-use Rattle.state.specs.Results.{handedOf}
-use Rattle.starting.specs.Starts.{startRefused, started}
-use Rattle.starting.proofs.StartLaws.{started-no-refusal}
+use Rattle.starting.proofs.StartLaws.{start-refused-in, started-in}
+use borrow.Author.Needs.{needs}
 use Rattle.starting.proofs.begin.Statement.{statement}
 use Rattle.starting.proofs.begin.Tie as tie
 
 returns : tie.Need-returns
-unfolding handedOf startRefused
-returns c = (rw (ne-eqb (c .before .args .refusal) 0 (c .if1 .taken)) refl, λ n e. refl)
+returns c = let s = c .before .before in start-refused-in (s .args .state .now) (s .pre .0) (s .args .doing) (s .args .refusal) (c .if1 .taken)
+
+store-doing-requires : tie.Need-store-doing-requires
+store-doing-requires c κs = search needs
+
+same-length : tie.Need-same-length
+same-length c = search needs
 
 returns-2 : tie.Need-returns-2
-unfolding handedOf started memoryOf
-returns-2 c = (rw (eq-eqb (c .before .before .before .before .args .refusal) 0 (c .before .before .before .if1 .left)) refl, λ n e. absurd (started-no-refusal n e))
+returns-2 c = let s = c .before .before .before .before .before .before in started-in (s .args .state .now) (s .pre .0) (s .args .doing) (s .args .refusal) (c .before .before .store-doing .last .0) (s .pre .1) (c .before .before .before .before .if1 .left) (c .before .before .store-doing .ensures)
 
 pub begin-spec : {M : Type 1} → statement M
-begin-spec = tie.close (tie.spec returns returns-2)
+begin-spec =
+    tie.close
+    (tie.spec
+    returns
+    store-doing-requires
+    same-length
+    returns-2)

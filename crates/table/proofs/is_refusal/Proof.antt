@@ -1,7 +1,7 @@
 -- `table::is_refusal` meets its contract.
 use mathlib.Core.Path.{ap, sym}
 use borrow.Author.Needs.{needs}
-use Rattle.table.specs.Contracts.{isRefusal}
+use Rattle.table.specs.Refusals.{isRefusal}
 use Rattle.table.proofs.is_refusal.Statement.{statement}
 use Rattle.table.proofs.is_refusal.Tie as tie
 

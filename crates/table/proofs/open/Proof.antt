@@ -3,8 +3,9 @@ use mathlib.Core.Path.{subst}
 use borrow.Author.Needs.{needs}
 use Rattle.state.specs.Steps.{Handed}
 use Rattle.opening.specs.Opening.{openOf}
-use Rattle.table.specs.Contracts.{OpenCall}
-use Rattle.table.proofs.ContractLaws.{open-no-state, small-handed}
+use Rattle.state_block.specs.Contracts.{OpenCall}
+use Rattle.state_block.proofs.ContractLaws.{open-no-state}
+use Rattle.table.proofs.ContractLaws.{small-handed}
 use Rattle.table.proofs.HandedBack.{open-small}
 use Rattle.table.proofs.open.Statement.{statement}
 use Rattle.table.proofs.open.Tie as tie

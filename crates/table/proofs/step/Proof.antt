@@ -5,7 +5,8 @@ use borrow.Author.Needs.{needs}
 use Rattle.table.specs.Calls.{stepOf}
 use Rattle.state_block.specs.Block.{memoryIn}
 use Rattle.table.specs.Playing.{Played}
-use Rattle.table.proofs.ContractLaws.{step-no-state, played-step, not-played}
+use Rattle.state_block.proofs.ContractLaws.{step-no-state}
+use Rattle.table.proofs.ContractLaws.{played-step, not-played}
 use Rattle.table.proofs.step.Statement.{statement}
 use Rattle.table.proofs.step.Tie as tie
 
