@@ -34,6 +34,7 @@ use Rattle.state.specs.declared.Doing.the-variants.{Idle}
 use Rattle.state.specs.declared.Answer.{Answer}
 use Rattle.state.specs.declared.Answer.the-variants.{Stored, Ready, Absent, Value, Refused}
 use Rattle.card.specs.Replies.{holds, absent}
+use Rattle.promises.proofs.BookLaws.{IsStored}
 use Rattle.promises.specs.Book.{book, empty, added, entered, fedStart, isRefused, fedStep, feed, outcome, told, kept}
 use Rattle.demands.specs.Demand3.{Survives}
 use Rattle.promises.specs.Events.{Event, World, replyTo, happens, run, LeftUncut, FormatsTo, ready-now, stored-first, Begins, from-format, insert, step, cut}
@@ -44,14 +45,14 @@ use Rattle.demands.proofs.Demands.{demand-3}
 use Rattle.tree.specs.Pairs.{lookup}
 
 unfoldable pub isStored : Answer → Bool
-isStored Stored = true
+isStored (Stored place) = true
 isStored Ready = false
 isStored Absent = false
 isStored (Value v) = false
 isStored (Refused r) = false
 
 unfoldable pub isReady : Answer → Bool
-isReady Stored = false
+isReady (Stored place) = false
 isReady Ready = true
 isReady Absent = false
 isReady (Value v) = false
@@ -69,9 +70,9 @@ after (suc k) w = after k (happens rationTable step w)
 not-true : _≡_ {A = Bool} false true → ⊥
 not-true z = let k : _≡_ {A = ℕ} 0 1 = cc in omega arith
 
-stored-is : (a : Answer) → isStored a ≡ true → a ≡ Stored
+stored-is : (a : Answer) → isStored a ≡ true → IsStored a
 unfolding isStored
-stored-is Stored e = refl
+stored-is (Stored place) e = (place, refl)
 stored-is Ready e = absurd (not-true e)
 stored-is Absent e = absurd (not-true e)
 stored-is (Value v) e = absurd (not-true e)
@@ -79,7 +80,7 @@ stored-is (Refused r) e = absurd (not-true e)
 
 ready-is : (a : Answer) → isReady a ≡ true → a ≡ Ready
 unfolding isReady
-ready-is Stored e = absurd (not-true e)
+ready-is (Stored place) e = absurd (not-true e)
 ready-is Ready e = refl
 ready-is Absent e = absurd (not-true e)
 ready-is (Value v) e = absurd (not-true e)
@@ -88,7 +89,7 @@ ready-is (Refused r) e = absurd (not-true e)
 pub to-ready : (k : ℕ) (w : World rationTable) → readyIn k w ≡ true → FormatsTo rationTable w (after k w)
 unfolding readyIn after replyTo stepReply
 to-ready zero w e = ready-now (ap stepReply (ready-is _ e))
-to-ready (suc k) w e = bool-cases (isStored (stepOf (w .card) (w .state) .answer)) (λ q. stored-first (ap stepReply (stored-is _ q)) (to-ready k (happens rationTable step w) (rw q at e))) (λ q. absurd (not-true (rw q at e)))
+to-ready (suc k) w e = bool-cases (isStored (stepOf (w .card) (w .state) .answer)) (λ q. let s = stored-is _ q in stored-first (s .0) (ap stepReply (s .1)) (to-ready k (happens rationTable step w) (rw q at e))) (λ q. absurd (not-true (rw q at e)))
 
 -- 152 words of anything, being formatted, and the card 153 steps on
 abbrev pub anyWords : List ℕ

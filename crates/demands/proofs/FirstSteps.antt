@@ -11,7 +11,8 @@ use lib.ListN.{length, getD, drop}
 use Rattle.card.specs.Header.{Sized}
 use Rattle.card.specs.Layout.{place, nodeAt, keyWords, leafPairs, nodeImage}
 use Rattle.card.specs.Stores.{Store}
-use Rattle.change.specs.LayOut.{layOut, absorbAt, splitParentAt}
+use Rattle.change.specs.LayOut.{layOut}
+use Rattle.change_split.specs.Split.{absorbAt, splitParentAt}
 use Rattle.change.specs.Mending.{nextRepair}
 use Rattle.change_decide.specs.Decide.{nextRepair as decidedRepair}
 use Rattle.change_decide.specs.declared.Decision.{Decision}

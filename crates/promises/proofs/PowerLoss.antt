@@ -10,7 +10,7 @@ use lib.ListN.{length}
 use lib.Dec.{eqb}
 use Rattle.card.specs.Replies.{ready, stored, started as startedReply}
 use Rattle.state.specs.Answers.{stepReply, startReply}
-use Rattle.state.specs.Steps.{noBeginning, isIdle}
+use Rattle.state.specs.Steps.{noBeginning, isIdle, formatStore}
 use Rattle.starting.specs.Starts.{formatOf, startRefused, started, startLanded, startChecked, startOf, insertOf, deleteOf}
 use Rattle.table.specs.Calls.{stepOf, repairSteps}
 use Rattle.state.specs.Memory.{Memory, resting}
@@ -24,7 +24,7 @@ use Rattle.card.specs.Header.{nodesOfLength, headerRefusal, Sized}
 use Rattle.card.proofs.HeaderLaws.{nodes-sized}
 use Rattle.change_theory.proofs.Plays.{Openable}
 use Rattle.change_theory.proofs.Repaired.{settled}
-use Rattle.formatting_theory.proofs.FormatCard.{formatCard, format-untouched}
+use Rattle.formatting_theory.proofs.FormatCard.{placeOf, formatCard, format-untouched}
 use Rattle.formatting_theory.proofs.FormatSteps.{freshNodes, formatMemory, freshMemory, format-starts, format-refused, format-step-stores, format-step-ready}
 use Rattle.formatting_theory.proofs.FreshTable.{freshTree, FreshTable, format-fresh}
 use Rattle.free_nodes.specs.NodeSet.{countTrue}
@@ -178,8 +178,8 @@ unfolding happens replyTo stepReply
 format-ready-inv c n made s w v e h (ready-now q) =
     order (length c) made
     (λ o. let m : made ≡ suc (length c) = omega arith in rw (e, m, format-step-ready c n s))
-    (λ o. let z : stepReply (stepOf (w .card) (w .state) .answer) ≡ stored = rw (e, format-step-stores c n s made o) in absurd (omega (arith, code-of (sym z ∙ q))))
-format-ready-inv c n made s w v e h (stored-first q r) =
+    (λ o. let z : stepReply (stepOf (w .card) (w .state) .answer) ≡ stored (placeOf (formatStore n (length c) made)) = rw (e, format-step-stores c n s made o) in absurd (omega (arith, code-of (sym z ∙ q))))
+format-ready-inv c n made s w v e h (stored-first place q r) =
     order (length c) made
     (λ o. let m : made ≡ suc (length c) = omega arith in let z : stepReply (stepOf (w .card) (w .state) .answer) ≡ ready = rw (e, m, format-step-ready c n s) in absurd (omega (arith, code-of (sym z ∙ q))))
     (λ o. format-ready-inv c n (suc made) s (happens rationTable step w) v (next o) (omega arith) r)

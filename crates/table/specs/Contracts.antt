@@ -38,7 +38,7 @@ pub record StepCall (before after card-before card-after : List ℕ) (answer : A
 
 -- whether an answer is a refusal
 unfoldable pub isRefusal : Answer → Bool
-isRefusal Stored = false
+isRefusal (Stored place) = false
 isRefusal Ready = false
 isRefusal Absent = false
 isRefusal (Value v) = false

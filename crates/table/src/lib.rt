@@ -5,6 +5,7 @@ mod steps;
 
 pub use lookup::Found;
 pub use lookup::find;
+use playing::Placed;
 use playing::play;
 pub use state::Answer;
 use state::Beginning;
@@ -24,6 +25,7 @@ use state_block::unpack;
 use steps::step_idle;
 use steps::step_task;
 ghost use mathlib.Core.Path.{_≡_};
+ghost use mathlib.Core.Bool.{true};
 ghost use lib.ListN.{length};
 ghost use Rattle.opening.specs.Opening.{openOf};
 ghost use Rattle.starting.specs.Starts.{formatOf, insertOf, deleteOf};
@@ -34,11 +36,14 @@ ghost use Rattle.state_block.specs.Block.{stateWords, unpacked, memoryIn, Small
 ghost use Rattle.table.specs.Calls.{stepOf};
 ghost use Rattle.table.specs.Contracts.{OpenCall, StartCall, StepCall, isRefusal, isRefusedStart};
 
-// Whether nothing is being done. Any number that is none of the four is idle.
+// Whether nothing is being done. Any number that is none of the four is idle, and so is a block that is no state.
 pub fn is_idle(state: &[u32]) -> bool
-    requires { ⌜ length (now state) ≡ stateWords ⌝ }
-    ensures { λ r. ⌜ r ≡ isIdle (memoryIn (now (state .entry)) .doing) ⌝ }
+    ensures { λ r. ⌜ (length (now (state .entry)) ≡ stateWords → r ≡ isIdle (memoryIn (now (state .entry)) .doing)) ⌝ }
+    ensures { λ r. ⌜ ((length (now (state .entry)) ≡ stateWords → ⊥) → r ≡ true) ⌝ }
 {
+    if state.len() != STATE_WORDS {
+        return true;
+    }
     let doing = state[DOING];
     if doing == IDLE {
         return true;
@@ -155,7 +160,7 @@ fn is_refusal(answer: Answer) -> bool
     ensures { λ r. ⌜ r ≡ isRefusal answer ⌝ }
 {
     match answer {
-        Answer::Stored => false,
+        Answer::Stored(_) => false,
         Answer::Ready => false,
         Answer::Absent => false,
         Answer::Value(_) => false,
@@ -185,8 +190,8 @@ pub fn step(card: &mut [u32], state: &mut [u32]) -> Answer
     if state.len() != STATE_WORDS {
         return Answer::Refused(NO_STATE);
     }
-    if play(card, state) {
-        return Answer::Stored;
+    match play(card, state) {
+        Placed::At(place) => Answer::Stored(place),
+        Placed::Nowhere => step_whole(card, state),
     }
-    step_whole(card, state)
 }
