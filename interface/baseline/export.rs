@@ -14,14 +14,20 @@ const _: () = assert!(size_of::<State>() == 4 * STATE_WORDS);
 pub struct Answer {
     code: u32,
     value: u32,
+    key: u32,
+    depth: u32,
 }
 
 fn code(code: u32) -> Answer {
-    Answer { code, value: 0 }
+    valued(code, 0)
+}
+
+fn valued(code: u32, value: u32) -> Answer {
+    Answer { code, value, key: 0, depth: 0 }
 }
 
 fn value(value: Option<u32>) -> Answer {
-    value.map_or(code(65), |value| Answer { code: 64, value })
+    value.map_or(code(65), |value| valued(64, value))
 }
 
 fn answer<T>(result: Result<T, Refusal>, of: impl Fn(T) -> Answer) -> Answer {
@@ -84,7 +90,7 @@ pub unsafe extern "C" fn ration_start_delete(
 pub unsafe extern "C" fn ration_step(card: *mut u32, words: usize, state: *mut u32, n: usize) -> Answer {
     with_state(state, n, |s| {
         answer(table::step(from_raw_parts_mut(card, words), s), |step| match step {
-            Step::Stored => code(66),
+            Step::Stored(place) => valued(66, place),
             Step::Ready => code(67),
             Step::Answer(held) => value(held),
         })
@@ -94,11 +100,11 @@ pub unsafe extern "C" fn ration_step(card: *mut u32, words: usize, state: *mut u
 #[no_mangle]
 pub unsafe extern "C" fn ration_read_dump(dump: *const u8, bytes: usize, words: *mut u32, lent: usize) -> Answer {
     let result = table::read_dump(from_raw_parts(dump, bytes), from_raw_parts_mut(words, lent));
-    answer(result, |length| Answer { code: 70, value: length as u32 })
+    answer(result, |length| valued(70, length as u32))
 }
 
 #[no_mangle]
 pub unsafe extern "C" fn ration_write_dump(card: *const u32, words: usize, bytes: *mut u8, lent: usize) -> Answer {
     let result = table::write_dump(from_raw_parts(card, words), from_raw_parts_mut(bytes, lent));
-    answer(result, |length| Answer { code: 70, value: length as u32 })
+    answer(result, |length| valued(70, length as u32))
 }

@@ -58,8 +58,9 @@
  *
  * WHAT THE CALLER SEES TO
  *
- * - Each word stored is on the card, whole, before the next call. Where a cache stands before the card, write
- *   it back after each RATION_STORED.
+ * - Each word stored is on the card, whole, before the next call. Where what is lent is a copy of the card in
+ *   memory, or a cache stands before it, write card[value] to the card's place value after each RATION_STORED;
+ *   nothing else has changed. ration_finish_with steps and writes so.
  * - Between ration_open or ration_start_format and the next one nothing else writes the card or the block,
  *   and the card keeps the block it was opened with. Otherwise open the card anew.
  * - Lengths are in elements: words for card, state and words, bytes for dump and bytes.
@@ -101,17 +102,20 @@ extern "C" {
 #define RATION_MOST_DUMP_BYTES 57856 /* a dump of 600 nodes */
 
 /*
- * The answer of every call. value counts with RATION_VALUE and RATION_LENGTH; with any other code it is 0.
+ * The answer of every call. value counts with RATION_VALUE, RATION_STORED and RATION_LENGTH; with any other code
+ * it is 0. key and depth are for calls to come and always 0.
  */
 typedef struct ration_answer {
     uint32_t code;
     uint32_t value;
+    uint32_t key;
+    uint32_t depth;
 } ration_answer;
 
 /* Codes of calls that worked. */
 #define RATION_VALUE 64   /* find: the value held. step: the final answer; the value that was held before */
 #define RATION_ABSENT 65  /* find: the key is not held. step: the final answer; it was not held before */
-#define RATION_STORED 66  /* step: one word was stored; go on stepping */
+#define RATION_STORED 66  /* step: one word was stored, card[value], and value is its place; go on stepping */
 #define RATION_READY 67   /* step: the formatting or the repair is done; the state is idle */
 #define RATION_IDLE 68    /* open: nothing is in progress */
 #define RATION_STARTED 69 /* the formatting, the update, or (open) a repair is in progress; now step */
@@ -239,12 +243,31 @@ ration_answer ration_start_delete(const uint32_t *card, size_t card_words, uint3
                                   uint32_t key);
 
 /*
- * One step of what is in progress: stores one word, RATION_STORED, or gives the final answer and makes the
- * state idle: RATION_READY of a formatting or a repair, RATION_VALUE or RATION_ABSENT of an update.
+ * One step of what is in progress: stores one word, RATION_STORED with its place, or gives the final answer and
+ * makes the state idle: RATION_READY of a formatting or a repair, RATION_VALUE or RATION_ABSENT of an update.
  * Refusals, in this order: RATION_NO_STATE, 1, 2, 3, 10, 9; of a formatting's steps only RATION_NO_STATE
  * and 1.
  */
 ration_answer ration_step(uint32_t *card, size_t card_words, uint32_t *state, size_t state_words);
+
+/*
+ * Steps what is in progress to its final answer or to a refusal, which is answered, and hands each word stored to
+ * write_word, with its place. For a card behind a bus, of which `card` is a copy in memory: write_word brings the
+ * word to the card and answers, once it is there whole, anything but 0. A 0 ends the loop, and the answer is
+ * then RATION_STORED, of that word. The copy is ahead of the card from then on: read the card into it anew, or
+ * bring the word to the card after all, and call ration_open; to the card it is a cut.
+ * This loop is not proved; the steps that it makes are.
+ */
+static inline ration_answer ration_finish_with(uint32_t *card, size_t card_words, uint32_t *state, size_t state_words,
+                                               int (*write_word)(void *context, size_t place, uint32_t word),
+                                               void *context)
+{
+    ration_answer answer;
+    do
+        answer = ration_step(card, card_words, state, state_words);
+    while (answer.code == RATION_STORED && write_word(context, answer.value, card[answer.value]));
+    return answer;
+}
 
 /*
  * Reads a dump (a card's words as bytes, low byte first, padded with zero bytes to a multiple of 512) into

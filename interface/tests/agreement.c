@@ -1,5 +1,5 @@
 // The table under test and the hand-written one are given the same calls: every answer and every word of the card agree
-// after each. So on random lists, too, the word that each step stores is compared, as it is in the traces.
+// after each. So on random lists, too, the word that each step stores and the place it tells are compared, as in the traces.
 #include <stdbool.h>
 #include <string.h>
 
@@ -21,8 +21,8 @@ static random_stream stream;
 
 static void agree(ration_answer tested, ration_answer hand_written)
 {
-    CHECK(tested.code == hand_written.code && tested.value == hand_written.value, "%u %u and %u %u", tested.code,
-          tested.value, hand_written.code, hand_written.value);
+    CHECK(memcmp(&tested, &hand_written, sizeof tested) == 0, "%u %u and %u %u", tested.code, tested.value,
+          hand_written.code, hand_written.value);
     CHECK(memcmp(both.card, both.desk->card, 4 * both.desk->words) == 0, "the cards differ");
     if (tested.code == RATION_STARTED)
         both.in_progress = true;

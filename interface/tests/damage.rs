@@ -45,7 +45,7 @@ impl Damage {
     fn steps(&mut self, desk: &mut Desk) {
         for _ in 0..100 {
             match desk.step() {
-                Ok(Step::Stored) => {}
+                Ok(Step::Stored { .. }) => {}
                 Ok(_) => return,
                 Err(refusal) => return assert!(matches!(refusal.number(), 1 | 2 | 3 | 9 | 10), "step: {refusal}"),
             }
@@ -71,7 +71,7 @@ impl Damage {
         let due = reader::open(desk.card());
         assert_eq!(desk.open(), due, "open");
         if due == Ok(Opening::Repairing) {
-            while desk.step() == Ok(Step::Stored) {}
+            while matches!(desk.step(), Ok(Step::Stored { .. })) {}
             assert_eq!(reader::open(desk.card()), Ok(Opening::Idle), "not repaired");
         }
     }
@@ -80,7 +80,7 @@ impl Damage {
     fn damaged(&mut self, nodes: usize, tries: u32) {
         let mut sound = Desk::new(8 + 24 * nodes);
         sound.start_format().unwrap();
-        while sound.step() == Ok(Step::Stored) {}
+        while matches!(sound.step(), Ok(Step::Stored { .. })) {}
         for _ in 0..tries {
             let key = 1 + self.random.below(6 * nodes as u32);
             let _ = if self.random.percent(60) { sound.start_insert(key, key) } else { sound.start_delete(key) };

@@ -3,7 +3,7 @@
 #include "block.h"
 #include "reader.h"
 
-static ration_answer only(uint32_t code) { return (ration_answer){code, 0}; }
+static ration_answer only(uint32_t code) { return (ration_answer){.code = code}; }
 
 ration_answer due_find(const desk *d, uint32_t key)
 {
@@ -15,7 +15,7 @@ ration_answer due_find(const desk *d, uint32_t key)
     landing l = read_landing(d->card, d->words, key);
     if (l.refused)
         return only(RATION_BROKEN_WAY);
-    return l.held ? (ration_answer){RATION_VALUE, l.value} : only(RATION_ABSENT);
+    return l.held ? (ration_answer){.code = RATION_VALUE, .value = l.value} : only(RATION_ABSENT);
 }
 
 uint32_t due_open(const desk *d)
@@ -87,5 +87,6 @@ ration_answer due_read_dump(const uint8_t *dump, size_t dump_bytes, size_t words
     for (uint64_t i = 4 * words; i < dump_bytes; i++)
         if (dump[i] != 0)
             return only(RATION_WRONG_DUMP);
-    return words_lent < words ? only(RATION_TOO_SHORT) : (ration_answer){RATION_LENGTH, (uint32_t)words};
+    return words_lent < words ? only(RATION_TOO_SHORT)
+                              : (ration_answer){.code = RATION_LENGTH, .value = (uint32_t)words};
 }

@@ -98,7 +98,9 @@ static void check_answer(int call, ration_answer a)
     for (const uint32_t *code = codes[call]; *code != 0; code++)
         known = known || a.code == *code;
     CHECK(known, "code %u", a.code);
-    CHECK(a.value == 0 || a.code == RATION_VALUE || a.code == RATION_LENGTH, "code %u with value %u", a.code, a.value);
+    bool has_value = a.code == RATION_VALUE || a.code == RATION_STORED || a.code == RATION_LENGTH;
+    CHECK(a.value == 0 || has_value, "code %u with value %u", a.code, a.value);
+    CHECK(a.key == 0 && a.depth == 0, "code %u with key %u and depth %u", a.code, a.key, a.depth);
     events++;
     answered[call][a.code]++;
 }
@@ -180,14 +182,11 @@ ration_answer desk_start_delete(desk *d, uint32_t key)
     return check_start(d, START_DELETE, ration_start_delete(d->card, d->words, d->state, d->state_words, key));
 }
 
-// One word of the card may differ from the copy; the copy takes it over.
-static void take_store_over(desk *d)
+// The word at the place told may differ from the copy, and no other; the copy takes it over.
+static void take_store_over(desk *d, uint32_t place)
 {
-    size_t i = 0;
-    while (i < d->words && d->card[i] == d->card_copy[i])
-        i++;
-    if (i < d->words)
-        d->card_copy[i] = d->card[i];
+    CHECK(place < d->words, "stored outside the card, at %u", place);
+    d->card_copy[place] = d->card[place];
     check_card_unchanged(d);
 }
 
@@ -196,7 +195,7 @@ ration_answer desk_step(desk *d)
     ration_answer a = ration_step(d->card, d->words, d->state, d->state_words);
     check_answer(STEP, a);
     if (a.code == RATION_STORED)
-        take_store_over(d);
+        take_store_over(d, a.value);
     else
         check_card_unchanged(d);
     check_state(d, a);

@@ -1,6 +1,6 @@
 // Every call is made on guarded memory and looked at afterwards: the words around what was lent are as they were,
 // the code is one of that call's, a refusal changed nothing, and only a step that says so stored a word, exactly
-// one and inside the card.
+// one, inside the card and in the place that it told.
 #ifndef GUARDED_H
 #define GUARDED_H
 

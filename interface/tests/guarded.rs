@@ -56,12 +56,10 @@ impl Drop for GuardedState {
     }
 }
 
-/// A card after a step, beside a copy of what it was: at most one word differs, and the copy takes it over.
-pub fn take_store_over(card: &[u32], copy: &mut [u32]) {
-    if let Some(i) = (0..card.len()).find(|&i| card[i] != copy[i]) {
-        copy[i] = card[i];
-    }
-    assert!(card == copy, "more than one word was stored");
+/// A card after a step that told this place, beside a copy of what it was: no other word differs, and the copy takes it over.
+pub fn take_store_over(card: &[u32], copy: &mut [u32], place: usize) {
+    copy[place] = card[place];
+    assert!(card == copy, "a word in another place was stored");
 }
 
 /// A card and block with copies, worked by single calls; a refusal changes neither.
@@ -141,8 +139,8 @@ impl Desk {
     pub fn step(&mut self) -> Result<Step, Refusal> {
         let block = self.state.block.clone();
         let result = calls::step(self.card.lend(), &mut self.state.block);
-        if result == Ok(Step::Stored) {
-            take_store_over(self.card.words(), &mut self.copy);
+        if let Ok(Step::Stored { place }) = result {
+            take_store_over(self.card.words(), &mut self.copy, place);
         }
         self.unchanged(&block, result)
     }

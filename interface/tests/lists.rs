@@ -114,25 +114,32 @@ impl Lists {
         }
     }
 
-    fn step<'a>(&mut self, now: Now<'a>, book: &mut Book, list: &List, insert_percent: u32) -> Now<'a> {
+    /// One event; with it the place of the word stored, where one was.
+    fn step<'a>(
+        &mut self,
+        now: Now<'a>,
+        book: &mut Book,
+        list: &List,
+        insert_percent: u32,
+    ) -> (Now<'a>, Option<usize>) {
         self.events += 1;
         match now {
-            Now::Idle(table) => self.start(table, book, list, insert_percent),
+            Now::Idle(table) => (self.start(table, book, list, insert_percent), None),
             Now::Updating(update, due) => match update.step() {
-                Ok(Progress::Stored(update)) => {
+                Ok(Progress::Stored { place, more }) => {
                     book.stepped(false);
-                    Now::Updating(update, due)
+                    (Now::Updating(more, due), Some(place))
                 }
                 Ok(Progress::Done(table, answer)) => {
                     assert_eq!(answer, due, "final answer");
                     book.stepped(true);
-                    Now::Idle(table)
+                    (Now::Idle(table), None)
                 }
                 Err(refused) => panic!("update: {}", refused.refusal),
             },
             Now::Repairing(repair) => match repair.step() {
-                Ok(Progress::Stored(repair)) => Now::Repairing(repair),
-                Ok(Progress::Done(table, ())) => Now::Idle(table),
+                Ok(Progress::Stored { place, more }) => (Now::Repairing(more), Some(place)),
+                Ok(Progress::Done(table, ())) => (Now::Idle(table), None),
                 Err(refused) => panic!("repair: {}", refused.refusal),
             },
         }
@@ -154,7 +161,7 @@ impl Lists {
                 }
                 self.events += 1;
                 now = match repair.step() {
-                    Ok(Progress::Stored(repair)) => Now::Repairing(repair),
+                    Ok(Progress::Stored { more, .. }) => Now::Repairing(more),
                     Ok(Progress::Done(table, ())) => Now::Idle(table),
                     Err(refused) => panic!("repair: {}", refused.refusal),
                 };
@@ -189,10 +196,13 @@ impl Lists {
                     assert!(now.card() == copy, "a find stored");
                     self.events += 1;
                 }
-                now = self.step(now, &mut book, list, insert_percent);
-                let stored = now.card() != copy;
-                take_store_over(now.card(), &mut copy);
-                if stored && list.cut_everywhere {
+                let place;
+                (now, place) = self.step(now, &mut book, list, insert_percent);
+                match place {
+                    Some(place) => take_store_over(now.card(), &mut copy, place),
+                    None => assert!(now.card() == copy, "the card was changed and no place told"),
+                }
+                if place.is_some() && list.cut_everywhere {
                     let mut cut = book.clone();
                     cut.cut();
                     self.recover(&copy, &cut);

@@ -12,6 +12,7 @@ typedef struct {
 void test_traces(const char *path);
 void test_lists(scale s);
 void test_cuts(scale s);
+void test_hook(scale s);
 void test_changed(scale s);
 void test_damage(scale s);
 void test_lengths(void);

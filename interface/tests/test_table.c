@@ -72,6 +72,7 @@ int main(int count, char **arguments)
     test_lengths();
     test_lists(s);
     test_cuts(s);
+    test_hook(s);
     test_changed(s);
     test_damage(s);
     test_agreement(s);

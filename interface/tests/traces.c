@@ -92,8 +92,8 @@ static void check_result(replay *r, desk *d, ration_answer a, char *at, uint32_t
         value = next_number(&at, 10);
     } else if (next_is(&at, "store")) {
         code = RATION_STORED;
-        uint32_t place = next_number(&at, 10);
-        card_before[place] = next_number(&at, 10);
+        value = next_number(&at, 10);
+        card_before[value] = next_number(&at, 10);
         CHECK(memcmp(card_before, d->card, 4 * d->words) == 0, "line %u: another store", r->line);
         r->stores++;
     }
@@ -108,7 +108,7 @@ static void replay_call(replay *r, desk *d, char *at, char *result)
     uint32_t *card_before = malloc(4 * d->words + 1);
     CHECK(card_before != NULL, "no memory");
     memcpy(card_before, d->card, 4 * d->words);
-    ration_answer a = {0, 0};
+    ration_answer a = {0};
     if (next_is(&at, "format"))
         a = desk_start_format(d);
     else if (next_is(&at, "open"))

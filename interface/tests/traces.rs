@@ -53,11 +53,12 @@ fn call(desk: &mut Desk, fields: &[&str], result: &str) -> String {
                 Step::Ready => "ready".into(),
                 Step::Held(value) => format!("answer {value}"),
                 Step::Absent => "answer absent".into(),
-                Step::Stored => {
+                Step::Stored { place } => {
                     // The card before, with the store that is due, is the card after.
                     let due: Vec<&str> = result.split(' ').collect();
                     assert!(due[0] == "store", "stored");
-                    before[number(due[1]) as usize] = number(due[2]);
+                    assert!(number(due[1]) as usize == place, "another place was told");
+                    before[place] = number(due[2]);
                     assert!(desk.card() == before, "another store");
                     result.into()
                 }

@@ -32,7 +32,7 @@ static void open_card(worked *w)
     CHECK(a.code == code, "opened with %u, due %u", a.code, code);
     CHECK(code == RATION_IDLE || code == RATION_STARTED, "opening refused with %u", code);
     w->in_progress = code == RATION_IDLE ? NOTHING : REPAIR;
-    w->due = (ration_answer){RATION_READY, 0};
+    w->due = (ration_answer){.code = RATION_READY};
     w->stores = 0;
 }
 
@@ -108,9 +108,9 @@ static void started(worked *w, uint32_t key)
     uint32_t value;
     w->in_progress = UPDATE;
     w->stores = 0;
-    w->due = (ration_answer){RATION_ABSENT, 0};
+    w->due = (ration_answer){.code = RATION_ABSENT};
     if (book_holds(&w->book, key, &value))
-        w->due = (ration_answer){RATION_VALUE, value};
+        w->due = (ration_answer){.code = RATION_VALUE, .value = value};
 }
 
 bool worked_start_insert(worked *w, uint32_t key, uint32_t value)

@@ -3,7 +3,9 @@
 use std::error::Error;
 use std::num::NonZeroU32;
 
-use ration_table::{card_words, FinalAnswer, InProgress, Opened, Progress, Refusal, Refused, StateBlock, Table};
+use ration_table::{
+    card_words, FinalAnswer, InProgress, Opened, Progress, Refusal, Refused, StateBlock, Table, Unfinished,
+};
 
 const NODES: usize = 4;
 
@@ -16,7 +18,7 @@ fn finish<A: FinalAnswer>(mut work: InProgress<A>) -> Result<(Table, A, usize), 
     let mut stores = 0;
     loop {
         match work.step()? {
-            Progress::Stored(more) => work = more,
+            Progress::Stored { more, .. } => work = more,
             Progress::Done(table, answer) => return Ok((table, answer, stores)),
         }
         stores += 1;
@@ -71,7 +73,7 @@ fn abandoned() {
     for (stores, found) in [(0, None), (1, None), (2, Some(70))] {
         let mut update = table.insert(key(7), 70).unwrap();
         for _ in 0..stores {
-            let Ok(Progress::Stored(more)) = update.step() else { panic!("no store") };
+            let Ok(Progress::Stored { more, .. }) = update.step() else { panic!("no store") };
             update = more;
         }
         assert_eq!(format!("{update:?}"), "InProgress { table: Table { card_words: 104, .. }, .. }");
@@ -82,6 +84,41 @@ fn abandoned() {
     }
     let (_, state) = table.into_parts();
     assert!(format!("{state:?}").starts_with("StateBlock(["));
+}
+
+/// A card that `finish_with` alone writes is the copy's words; a write that fails is a cut, whether its word reached the card or not.
+fn behind_a_bus() {
+    let (mut bus, mut copy, mut state) = ([0; card_words(NODES)], [0; card_words(NODES)], StateBlock::new());
+    let formatting = Table::format(&mut copy, &mut state).unwrap();
+    let write = |place: usize, word: u32| -> Result<(), ()> {
+        bus[place] = word;
+        Ok(())
+    };
+    let Ok((mut table, ())) = formatting.finish_with(write) else { panic!("not formatted") };
+    assert_eq!(table.card(), bus);
+    for (reaches, fails_at, found) in [(false, 1, None), (true, 1, None), (false, 2, None), (true, 2, Some(70))] {
+        let mut writes = 0;
+        let write = |place: usize, word: u32| {
+            writes += 1;
+            if writes < fails_at || reaches {
+                bus[place] = word;
+            }
+            if writes < fails_at {
+                Ok(())
+            } else {
+                Err("broken")
+            }
+        };
+        let Err(Unfinished::Unwritten { error, ahead }) = table.insert(key(7), 70).unwrap().finish_with(write) else {
+            panic!("written")
+        };
+        assert_eq!(error, "broken");
+        let (copy, state) = ahead.into_parts();
+        copy.copy_from_slice(&bus);
+        let Opened::Idle(opened) = Table::open(copy, state).unwrap() else { panic!("a repair") };
+        assert_eq!(opened.find(key(7)), Ok(found));
+        table = opened;
+    }
 }
 
 /// The manual's text for each refusal is the one that is printed here.
@@ -112,5 +149,6 @@ fn texts() {
 pub fn test() {
     refusals();
     abandoned();
+    behind_a_bus();
     texts();
 }

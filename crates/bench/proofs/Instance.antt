@@ -36,6 +36,7 @@ use Rattle.state.specs.declared.Answer.{Answer}
 use Rattle.state.specs.declared.Answer.the-variants.{Stored, Ready, Absent, Value, Refused}
 use Rattle.card.specs.Replies.{holds, absent, ready}
 use Rattle.promises.specs.Book.{book, empty, added, entered, fedStart, fedStep, feed, outcome, told, kept}
+use Rattle.promises.proofs.BookLaws.{IsStored}
 use Rattle.demands.specs.Demand3.{Survives}
 use Rattle.promises.specs.Events.{Event, World, replyTo, happens, run, LeftUncut, Begins, from-format, insert, step, cut}
 use Rattle.promises.specs.RationTable.{rationTable}
@@ -45,14 +46,14 @@ use Rattle.demands.proofs.Demands.{demand-3}
 use Rattle.tree.specs.Pairs.{lookup}
 
 unfoldable pub isStored : Answer → Bool
-isStored Stored = true
+isStored (Stored place) = true
 isStored Ready = false
 isStored Absent = false
 isStored (Value v) = false
 isStored (Refused r) = false
 
 unfoldable pub isReady : Answer → Bool
-isReady Stored = false
+isReady (Stored place) = false
 isReady Ready = true
 isReady Absent = false
 isReady (Value v) = false
@@ -70,9 +71,9 @@ after (suc k) w = after k (happens rationTable step w)
 not-true : _≡_ {A = Bool} false true → ⊥
 not-true z = let k : _≡_ {A = ℕ} 0 1 = cc in omega arith
 
-stored-is : (a : Answer) → isStored a ≡ true → a ≡ Stored
+stored-is : (a : Answer) → isStored a ≡ true → IsStored a
 unfolding isStored
-stored-is Stored e = refl
+stored-is (Stored place) e = (place, refl)
 stored-is Ready e = absurd (not-true e)
 stored-is Absent e = absurd (not-true e)
 stored-is (Value v) e = absurd (not-true e)
@@ -80,7 +81,7 @@ stored-is (Refused r) e = absurd (not-true e)
 
 ready-is : (a : Answer) → isReady a ≡ true → a ≡ Ready
 unfolding isReady
-ready-is Stored e = absurd (not-true e)
+ready-is (Stored place) e = absurd (not-true e)
 ready-is Ready e = refl
 ready-is Absent e = absurd (not-true e)
 ready-is (Value v) e = absurd (not-true e)

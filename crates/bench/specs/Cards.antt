@@ -30,7 +30,7 @@ abbrev pub bench : Step → ℕ → Answer → Bench
 bench s n a = record { card = s .card; memory = s .memory; stores = n; answer = a }
 
 unfoldable pub onAnswer : (Bench → Bench) → Step → ℕ → Answer → Bench
-onAnswer next s n Stored = next (bench s (suc n) Stored)
+onAnswer next s n (Stored place) = next (bench s (suc n) (Stored place))
 onAnswer next s n Ready = bench s n Ready
 onAnswer next s n Absent = bench s n Absent
 onAnswer next s n (Value v) = bench s n (Value v)
@@ -42,7 +42,7 @@ drive zero b = b
 drive (suc k) b = onAnswer (drive k) (stepOf (b .card) (b .memory)) (b .stores) (stepOf (b .card) (b .memory) .answer)
 
 abbrev pub begin : List ℕ → Handed → Bench
-begin card b = record { card = card; memory = b .memory; stores = 0; answer = Stored }
+begin card b = record { card = card; memory = b .memory; stores = 0; answer = Stored 0 }
 
 -- a card of n nodes, formatted
 unfoldable pub fresh : ℕ → Bench
@@ -57,7 +57,7 @@ delete k b = drive 700 (begin (b .card) (deleteOf (b .card) (b .memory) k))
 -- so many steps of an insert, and then power goes: the card as it is
 unfoldable pub steps : ℕ → Bench → Bench
 steps zero b = b
-steps (suc k) b = steps k (bench (stepOf (b .card) (b .memory)) (b .stores) Stored)
+steps (suc k) b = steps k (bench (stepOf (b .card) (b .memory)) (b .stores) (Stored 0))
 
 unfoldable pub upto : ℕ → Bench → Bench
 upto zero b = b

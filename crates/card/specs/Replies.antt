@@ -2,53 +2,64 @@
 -- there; they are numbered from 64 on, here and nowhere else, and so they stand in the C header.
 use Prim.Native.Nat.{ℕ}
 
+-- what an answer has no use for is 0
 pub record Reply : Type 0 where
   pub code : ℕ
   pub value : ℕ
+  pub key : ℕ
+  pub depth : ℕ
+
+-- an answer that is its number alone
+abbrev pub plain : ℕ → Reply
+plain code = record { code = code; value = 0; key = 0; depth = 0 }
+
+-- one with a value beside it
+abbrev pub valued : ℕ → ℕ → Reply
+valued code value = record { code = code; value = value; key = 0; depth = 0 }
 
 -- "or gives its number"
 abbrev pub refusal : ℕ → Reply
-refusal number = record { code = number; value = 0 }
+refusal number = plain number
 
 -- the value held under a key
 abbrev pub holds : ℕ → Reply
-holds value = record { code = 64; value = value }
+holds value = valued 64 value
 
 -- "absent"
 abbrev pub absent : Reply
-absent = record { code = 65; value = 0 }
+absent = plain 65
 
--- a step stored one word
-abbrev pub stored : Reply
-stored = record { code = 66; value = 0 }
+-- a step stored one word, in this place of the card
+abbrev pub stored : ℕ → Reply
+stored place = valued 66 place
 
 -- "ready"
 abbrev pub ready : Reply
-ready = record { code = 67; value = 0 }
+ready = plain 67
 
 -- opening handed back an idle state
 abbrev pub idle : Reply
-idle = record { code = 68; value = 0 }
+idle = plain 68
 
 -- a call or a repair is in progress
 abbrev pub started : Reply
-started = record { code = 69; value = 0 }
+started = plain 69
 
 -- "The answer is the result's length in words or bytes"
 abbrev pub long : ℕ → Reply
-long length = record { code = 70; value = length }
+long length = valued 70 length
 
 -- the state block lent has another length than a state's words
 abbrev pub noState : Reply
-noState = record { code = 71; value = 0 }
+noState = plain 71
 
--- document 02, W-201: a pair, whose key stands beside this answer, and "none"
-abbrev pub next : ℕ → Reply
-next value = record { code = 72; value = value }
+-- document 02, W-201: a pair, and "none"
+abbrev pub next : ℕ → ℕ → Reply
+next key value = record { code = 72; value = value; key = key; depth = 0 }
 
 abbrev pub nothing : Reply
-nothing = record { code = 73; value = 0 }
+nothing = plain 73
 
 -- document 02, W-213: there is a record
 abbrev pub fetched : Reply
-fetched = record { code = 74; value = 0 }
+fetched = plain 74

@@ -99,7 +99,7 @@ drop-some (s ∷ ss) (suc k) h = drop-some ss k (omega arith)
 
 -- A change whose first store the next step makes, with m the plan and the rest of the stores to come.
 module _ (final : Answer) (most : ℕ) (w : World rationTable) (x : Nears final most w) (m : Memory) (s : Store) (rest : List Store)
-    (first : stepOf (w .card) (w .state) ≡ record { answer = Stored; card = set (w .card) (s .0) (s .1); memory = advanced m rest })
+    (first : stepOf (w .card) (w .state) ≡ record { answer = Stored (s .0); card = set (w .card) (s .0) (s .1); memory = advanced m rest })
   where
     first-stored : StoresNow rationTable w s
     unfolding replyTo happens stepReply
@@ -108,7 +108,7 @@ module _ (final : Answer) (most : ℕ) (w : World rationTable) (x : Nears final 
     then-left : (few : ℕ) × (most ≡ suc few) × Left final m few rest (happens rationTable step w)
     unfolding happens
     then-left =
-        let q = nearer final most w x (ap (λ z. z .answer) first) in
+        let q = nearer final most w x (s .0, ap (λ z. z .answer) first) in
         (q .0, q .1, record { nears = q .2; is-left = ap (λ z. z .memory) first })
 
     pub all-left : (qs : List Event) → LeftUncut rationTable qs w → stepsIn qs ≡ suc (length rest) → (few : ℕ) × (few < most) × Left final m few [] (run rationTable qs w)
@@ -181,7 +181,7 @@ record RepairNext (c : List ℕ) (n : ℕ) (m : Memory) : Type 0 where
   pub out : List ℕ
   pub planned : nextRepair c n key (m .free) (m .last) ≡ prepared (first ∷ rest) then-free then-last out
   pub short : suc (length rest) ≤ 73
-  pub first-made : stepOf c m ≡ record { answer = Stored; card = set c (first .0) (first .1); memory = advanced (memory n then-free then-last (m .doing) [] out) rest }
+  pub first-made : stepOf c m ≡ record { answer = Stored (first .0); card = set c (first .0) (first .1); memory = advanced (memory n then-free then-last (m .doing) [] out) rest }
 
 -- the final answer, or the next change
 abbrev Turns : List ℕ → ℕ → Tree → Memory → Answer → Type 0
@@ -305,7 +305,7 @@ module _ (final : Answer) (most : ℕ) (w : World rationTable) (x : Nears final 
 
             inside : s .0 < length (w .card) → Updates rationTable Nothing Rule (stepReply final) w
             inside o =
-                let first : stepOf (w .card) (w .state) ≡ record { answer = Stored; card = set (w .card) (s .0) (s .1); memory = advanced (memory (w .state .nodes) fewer now (f .doing) [] out) rest } = e ∙ ap (stepPrepared (w .card) (w .state) (f .doing) (f .final)) q ∙ rw (lt-ltb (s .0) (length (w .card)) o) in
+                let first : stepOf (w .card) (w .state) ≡ record { answer = Stored (s .0); card = set (w .card) (s .0) (s .1); memory = advanced (memory (w .state .nodes) fewer now (f .doing) [] out) rest } = e ∙ ap (stepPrepared (w .card) (w .state) (f .doing) (f .final)) q ∙ rw (lt-ltb (s .0) (length (w .card)) o) in
                 let r = rule (s ∷ rest) fewer now out q in
                 changes (r .0 .rule) (change-made final most w x m s rest first (short (r .0 .given) out (s ∷ rest) (r .0 .rule)) (r .0 .given) out (r .0 .in-turn) (r .0 .left) (r .0 .given-last ∙ last-same (w .state .last) (r .0 .given)) refl (cut-marked out fewer))
                 (λ qs u n. let l = all-left final most w x m s rest first qs u n in

@@ -66,7 +66,7 @@ past-card rows refuses works c n s f (inr (_, inr (_, inr (_, q)))) = q
 
 answer-refused : (a : Answer) (r : ℕ) → r < 64 → stepReply a ≡ refusal r → a ≡ Refused r
 unfolding stepReply
-answer-refused Stored r h e = absurd (omega (arith, h, ap (λ (x : Reply). x .code) e))
+answer-refused (Stored place) r h e = absurd (omega (arith, h, ap (λ (x : Reply). x .code) e))
 answer-refused Ready r h e = absurd (omega (arith, h, ap (λ (x : Reply). x .code) e))
 answer-refused Absent r h e = absurd (omega (arith, h, ap (λ (x : Reply). x .code) e))
 answer-refused (Value v) r h e = absurd (omega (arith, h, ap (λ (x : Reply). x .code) e))

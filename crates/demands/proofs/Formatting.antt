@@ -71,7 +71,7 @@ module _ (c : List ℕ) (s : Sized (length c) (nodesOn c)) where
       let f = some-store (nodesOn c) (length c) made (omega (arith, s .words)) h in
       let e = same-store (nodesOn c) (length c) made (f .0) (f .1) in
       record {
-        reply-given = rw (format-step-stores c (nodesOn c) s made h);
+        reply-given = rw (format-step-stores c (nodesOn c) s made h, e, f .1);
         one-store = rw (format-step-stores c (nodesOn c) s made h, e) (format-next (nodesOn c) c made (f .0) (f .1));
       }
 

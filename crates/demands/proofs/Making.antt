@@ -13,6 +13,7 @@ use Rattle.promises.specs.RationTable.{rationTable}
 use Rattle.demands.proofs.PowerCuts.{Covered}
 use Rattle.demands.proofs.StepRows.{advanced-rest}
 use Rattle.promises.proofs.Invariant.{Stage, Table, stage-idle, stage-put, stage-remove, stage-first, stage-between, stage-within}
+use Rattle.promises.proofs.BookLaws.{IsStored}
 use Rattle.promises.proofs.Kept.{first-storable}
 use Rattle.promises.proofs.PowerLoss.{loosen, loosen-due, at-rest, find-same, insert-same, delete-same}
 use Rattle.promises.proofs.Stepping.{kept-step}
@@ -35,7 +36,7 @@ pub record Nears (final : Answer) (most : ℕ) (w : World rationTable) : Type 0 
   pub is-due : covered .inv .due ≡ final
 
 -- a store brings it one step nearer
-pub nearer : (final : Answer) (most : ℕ) (w : World rationTable) → Nears final most w → stepOf (w .card) (w .state) .answer ≡ Stored → (few : ℕ) × (most ≡ suc few) × Nears final few (happens rationTable step w)
+pub nearer : (final : Answer) (most : ℕ) (w : World rationTable) → Nears final most w → IsStored (stepOf (w .card) (w .state) .answer) → (few : ℕ) × (most ≡ suc few) × Nears final few (happens rationTable step w)
 unfolding stepRefused
 nearer final zero w x e = absurd (never (idle-refused (w .card) (w .state) rested))
   where
@@ -46,7 +47,7 @@ nearer final zero w x e = absurd (never (idle-refused (w .card) (w .state) reste
     rested = at-rest (v .size) (v .steps) w (x .book-now) (omega (arith, x .soon)) (v .inv) .0
 
     never : ((r : ℕ) × (stepOf (w .card) (w .state) ≡ stepRefused r (w .card) (w .state))) → ⊥
-    never (r, q) = let y : _≡_ {A = Answer} (WasRefused r) Stored = sym (ap (λ z. z .answer) q) ∙ e in impossible (cc)
+    never (r, q) = let y : _≡_ {A = Answer} (WasRefused r) (Stored (e .0)) = sym (ap (λ z. z .answer) q) ∙ e .1 in impossible (cc)
 nearer final (suc few) w x e =
     let v = x .covered in
     let q = kept-step (v .size) few w (x .book-now) (loosen (v .size) (v .steps) (suc few) w (x .book-now) (x .soon) (v .inv)) in (
@@ -68,7 +69,7 @@ storeAt stores i = getD stores i (0, 0)
 
 -- the next store of the plan is made
 abbrev Storing : List ℕ → Memory → Type 0
-Storing c m = (s : Store) × (rest : List Store) × (m .rest ≡ s ∷ rest) × (stepOf c m ≡ record { answer = Stored; card = set c (s .0) (s .1); memory = advanced m rest })
+Storing c m = (s : Store) × (rest : List Store) × (m .rest ≡ s ∷ rest) × (stepOf c m ≡ record { answer = Stored (s .0); card = set c (s .0) (s .1); memory = advanced m rest })
 
 stage-storing : {c : List ℕ} {n : ℕ} {t goal : Tree} {steps : ℕ} {m : Memory} {h : Hand} {due : Answer} → Table c n t → Stage c n t goal steps m h due → (m .rest ≡ []) ⊎ Storing c m
 stage-storing b (stage-idle z r x g) = inl refl
@@ -85,13 +86,13 @@ advanced-twice m s rest (x ∷ more) = refl
 
 -- where the stores still to come are those of a plan, the next step makes the first of them
 pub makes-next : (w : World rationTable) (b : Book) → Covered w b → (m : Memory) (s : Store) (rest : List Store) → w .state ≡ advanced m (s ∷ rest)
-    → stepOf (w .card) (w .state) ≡ record { answer = Stored; card = set (w .card) (s .0) (s .1); memory = advanced m rest }
+    → stepOf (w .card) (w .state) ≡ record { answer = Stored (s .0); card = set (w .card) (s .0) (s .1); memory = advanced m rest }
 makes-next w b v m s rest e = at (stage-storing (v .inv .table) (v .inv .stage))
   where
     is-rest : w .state .rest ≡ s ∷ rest
     is-rest = ap (λ (x : Memory). x .rest) e ∙ advanced-rest m (s ∷ rest)
 
-    at : (w .state .rest ≡ []) ⊎ Storing (w .card) (w .state) → stepOf (w .card) (w .state) ≡ record { answer = Stored; card = set (w .card) (s .0) (s .1); memory = advanced m rest }
+    at : (w .state .rest ≡ []) ⊎ Storing (w .card) (w .state) → stepOf (w .card) (w .state) ≡ record { answer = Stored (s .0); card = set (w .card) (s .0) (s .1); memory = advanced m rest }
     at (inl q) = let y : _≡_ {A = List Store} [] (s ∷ rest) = sym q ∙ is-rest in impossible (cc)
     at (inr (x, r, q, k)) =
         let y : (x ∷ r) ≡ (s ∷ rest) = sym q ∙ is-rest in
@@ -107,14 +108,14 @@ module _ (final : Answer) (m : Memory) where
     pub nears : Nears final most w
     pub is-left : w .state ≡ advanced m ss
 
-  stored-step : (w : World rationTable) (s : Store) (rest : List Store) → stepOf (w .card) (w .state) ≡ record { answer = Stored; card = set (w .card) (s .0) (s .1); memory = advanced m rest } → (StoresNow rationTable w s) × (happens rationTable step w .state ≡ advanced m rest)
+  stored-step : (w : World rationTable) (s : Store) (rest : List Store) → stepOf (w .card) (w .state) ≡ record { answer = Stored (s .0); card = set (w .card) (s .0) (s .1); memory = advanced m rest } → (StoresNow rationTable w s) × (happens rationTable step w .state ≡ advanced m rest)
   unfolding replyTo happens stepReply
   stored-step w s rest e = (record { reply-given = rw e; one-store = rw e }, rw e)
 
   one-less : {most : ℕ} {w : World rationTable} (s : Store) (rest : List Store) → Left most (s ∷ rest) w → (few : ℕ) × (most ≡ suc few) × Left few rest (happens rationTable step w)
   one-less {most} {w} s rest x =
       let e = makes-next w (x .nears .book-now) (x .nears .covered) m s rest (x .is-left) in
-      let q = nearer final most w (x .nears) (ap (λ z. z .answer) e) in
+      let q = nearer final most w (x .nears) (s .0, ap (λ z. z .answer) e) in
       (q .0, q .1, record { nears = q .2; is-left = stored-step w s rest e .1 })
 
   -- what is left after a run without a cut

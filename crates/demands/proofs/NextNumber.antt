@@ -49,7 +49,7 @@ held : (number : ℕ) (s : Successor) → AboveOrNine number s → HeldTo number
 unfolding nextReply
 held number (Pair key value) a = inl (key, value, a, refl)
 held number Nothing a = inr (inl refl)
-held number (Refused r) a = inr (inr (ap (λ (x : ℕ). (refusal x, 0)) a))
+held number (Refused r) a = inr (inr (ap (λ (x : ℕ). refusal x) a))
 
 -- ---- the walk
 
@@ -91,14 +91,14 @@ on-any-card c e =
       walks = λ t w. walked c t w e (pairs t) (λ key. refl) refl;
     }
 
-refused : (c : List ℕ) (r : ℕ) → cardRefusal c ≡ r → (r ≡ 0 → ⊥) → (number : ℕ) → call c number ≡ (refusal r, 0)
+refused : (c : List ℕ) (r : ℕ) → cardRefusal c ≡ r → (r ≡ 0 → ⊥) → (number : ℕ) → call c number ≡ refusal r
 unfolding nextReply
 refused c r e d number = rw (next-refused c number (λ z. d (sym e ∙ z)), e)
 
-cards : (c : List ℕ) → ByRows (cardRows c (nodesOn c) end) (λ r. (number : ℕ) → call c number ≡ (refusal r, 0)) (OnAnyCard call c)
+cards : (c : List ℕ) → ByRows (cardRows c (nodesOn c) end) (λ r. (number : ℕ) → call c number ≡ refusal r) (OnAnyCard call c)
 unfolding ByRows
 cards c =
-    by-card end (λ r. (number : ℕ) → call c number ≡ (refusal r, 0)) (OnAnyCard call c) c (nodesOn c)
+    by-card end (λ r. (number : ℕ) → call c number ≡ refusal r) (OnAnyCard call c) c (nodesOn c)
     (λ p. refused c 1 (card-one c p) (λ z. omega (arith, z)))
     (λ r s e d. refused c r (length-accepted c (nodesOn c) s ∙ e) d)
     (λ s f. on-any-card c (card-accepted s f .0))

@@ -86,7 +86,7 @@ module _ (n k : ℕ) (l : List (ℕ × ℕ)) where
   unfolding happens replyTo stepReply
   ready-idle w (was-idle e) r = ap (λ (x : World rationTable). x .state .doing) (idle-world w e) ∙ e
   ready-idle w (ends-now f same e) r = e
-  ready-idle w (goes-further s e) r = absurd (omega (arith, code-of (sym (ap stepReply s) ∙ r)))
+  ready-idle w (goes-further s e) r = absurd (omega (arith, code-of (sym (ap stepReply (s .1)) ∙ r)))
 
   -- a step that says "ready" leaves an idle state, and an idle state stays so
   step-idle : (w : World rationTable) → Moves (w .card) (w .state) (stepOf (w .card) (w .state)) → (w .state .doing ≡ Idle) ⊎ (replyTo rationTable step w ≡ ready) → happens rationTable step w .state .doing ≡ Idle

@@ -16,9 +16,9 @@ use Rattle.demands.specs.Worked.{Always}
 use Rattle.promises.specs.Way.{nodesOn}
 use Rattle.demands.specs.Refusals.{ByRows, cardRows, end}
 
--- The call: of a card and a number the reply, and beside it the key of the pair. "It reads the card only": no card comes back.
+-- The call: of a card and a number the reply, which tells the key and the value of the pair. "It reads the card only": no card comes back.
 abbrev pub NextCall : Type 0
-NextCall = List ℕ → ℕ → Reply × ℕ
+NextCall = List ℕ → ℕ → Reply
 
 -- "the pair with the smallest key greater than it", of these pairs
 pub record Nearest (l : List (ℕ × ℕ)) (number key value : ℕ) : Type 0 where
@@ -27,13 +27,13 @@ pub record Nearest (l : List (ℕ × ℕ)) (number key value : ℕ) : Type 0 whe
   pub smallest : (k : ℕ) → number < k → k < key → lookup k l ≡ none
 
 -- that pair, or "none" exactly when there is no such key: of the two cases one holds, and never both
-abbrev pub AnswersNext : List (ℕ × ℕ) → ℕ → Reply × ℕ → Type 0
+abbrev pub AnswersNext : List (ℕ × ℕ) → ℕ → Reply → Type 0
 AnswersNext l number answer =
-    ((key : ℕ) × (value : ℕ) × Nearest l number key value × (answer ≡ (next value, key))) ⊎ (((k : ℕ) → number < k → lookup k l ≡ none) × (answer ≡ (nothing, 0)))
+    ((key : ℕ) × (value : ℕ) × Nearest l number key value × (answer ≡ next key value)) ⊎ (((k : ℕ) → number < k → lookup k l ≡ none) × (answer ≡ nothing))
 
 -- "On a card opening would refuse with 4, it is held only to a pair above the number, "none" or 9." "(None; 6 is not given.)"
-abbrev pub HeldTo : ℕ → Reply × ℕ → Type 0
-HeldTo number answer = ((key : ℕ) × (value : ℕ) × (number < key) × (answer ≡ (next value, key))) ⊎ ((answer ≡ (nothing, 0)) ⊎ (answer ≡ (refusal 9, 0)))
+abbrev pub HeldTo : ℕ → Reply → Type 0
+HeldTo number answer = ((key : ℕ) × (value : ℕ) × (number < key) × (answer ≡ next key value)) ⊎ ((answer ≡ nothing) ⊎ (answer ≡ refusal 9))
 
 -- Each key is greater than the one before it, the first than the number.
 abbrev pub Rises : ℕ → List (ℕ × ℕ) → Type 0
@@ -43,8 +43,8 @@ Rises number (p ∷ l) = (number < p .0) × Rises (p .0) l
 module _ (call : NextCall) (c : List ℕ) where
   -- "Walking an unchanged card": the call is asked for the next pair after the number, then after that pair's key, until "none"
   pub data Walks : ℕ → List (ℕ × ℕ) → Type 0 where
-    ends : {number : ℕ} → call c number ≡ (nothing, 0) → Walks number []
-    goes-on : {number : ℕ} {l : List (ℕ × ℕ)} (key value : ℕ) → call c number ≡ (next value, key) → Walks key l → Walks number ((key, value) ∷ l)
+    ends : {number : ℕ} → call c number ≡ nothing → Walks number []
+    goes-on : {number : ℕ} {l : List (ℕ × ℕ)} (key value : ℕ) → call c number ≡ next key value → Walks key l → Walks number ((key, value) ∷ l)
 
   -- "Walking an unchanged card from 0 lists each pair once, rising": every key has the same value in both or is in neither, and
   -- there are as many pairs
@@ -67,4 +67,4 @@ pub record W201 (T : Table) (call : NextCall) : Type 0 where
   pub moments : Always T (λ w b. (number : ℕ) → number < keyLimit → AnswersNext (b .held) number (call (w .card) number))
   pub walks : Always T (λ w b. Walked call (w .card) (b .held))
   -- every card, whatever its words: 1, 2, 3, and past them never 6
-  pub cards : (c : List ℕ) → ByRows (cardRows c (nodesOn c) end) (λ r. (number : ℕ) → call c number ≡ (refusal r, 0)) (OnAnyCard call c)
+  pub cards : (c : List ℕ) → ByRows (cardRows c (nodesOn c) end) (λ r. (number : ℕ) → call c number ≡ refusal r) (OnAnyCard call c)

@@ -17,6 +17,11 @@ abbrev pub stored : Option Store → List ℕ → List ℕ
 stored none card = card
 stored (some s) card = set card (s .0) (s .1)
 
+-- its place
+abbrev pub placeOf : Option Store → ℕ
+placeOf none = 0
+placeOf (some s) = s .0
+
 -- the card c after so many stores of formatting it for n nodes
 unfoldable pub formatCard : ℕ → List ℕ → ℕ → List ℕ
 formatCard n c zero = c

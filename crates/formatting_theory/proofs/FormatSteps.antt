@@ -11,7 +11,7 @@ use borrow.Author.Tests.{ne-eqb, eq-eqb}
 use Rattle.card.specs.Header.{nodesOfLength, Sized}
 use Rattle.card.proofs.HeaderLaws.{sized-nodes}
 use Rattle.card.specs.Stores.{Store}
-use Rattle.formatting_theory.proofs.FormatCard.{formatCard, format-untouched, format-next, format-length}
+use Rattle.formatting_theory.proofs.FormatCard.{placeOf, formatCard, format-untouched, format-next, format-length}
 use Rattle.formatting_theory.proofs.FormatStores.{some-store}
 use Rattle.free_nodes.specs.NodeSet.{allNodes}
 use Rattle.state.specs.Steps.{heldBy, Handed, noBeginning, Step, stepFinal, formatStore, formatting, stepFormat}
@@ -52,7 +52,7 @@ unfolding stepOf heldBy stepHeld resting
 step-formats card n made free o s e = rw (sized-nodes (length card) n s, ne-eqb n 0 (omega (arith, s .least)), eq-eqb n n refl, e)
 
 format-stores : (card : List ℕ) (n made : ℕ) (free : List Bool) (s : Store)
-    → stepFormat card (resting n free (Formatting made)) made (some s) ≡ record { answer = Stored; card = set card (s .0) (s .1); memory = resting n free (Formatting (suc made)) }
+    → stepFormat card (resting n free (Formatting made)) made (some s) ≡ record { answer = Stored (s .0); card = set card (s .0) (s .1); memory = resting n free (Formatting (suc made)) }
 unfolding stepFormat formatting resting
 format-stores card n made free s = refl
 
@@ -69,10 +69,10 @@ module _ (c : List ℕ) (n : ℕ) (sized : Sized (length c) n) where
 
   -- after so many stores, at most as many as the card has words, a step makes the next one
   pub format-step-stores : (made : ℕ) → made ≤ length c
-      → stepOf (formatCard n c made) (formatMemory n made) ≡ record { answer = Stored; card = formatCard n c (suc made); memory = formatMemory n (suc made) }
+      → stepOf (formatCard n c made) (formatMemory n made) ≡ record { answer = Stored (placeOf (formatStore n (length c) made)); card = formatCard n c (suc made); memory = formatMemory n (suc made) }
   format-step-stores made h =
       let f = some-store n (length c) made (omega (arith, sized .words)) h in
-      rw (format-next n c made (f .0) (f .1))
+      rw (format-next n c made (f .0) (f .1), f .1)
       (step-formats (formatCard n c made) n made (freshNodes n) (some (f .0)) (still-sized made) (same-store made ∙ f .1)
       ∙ format-stores (formatCard n c made) n made (freshNodes n) (f .0))
 
@@ -97,7 +97,7 @@ module _ (c : List ℕ) (n : ℕ) (sized : Sized (length c) n) where
   begun-memory = ap (λ (b : Handed). b .memory) (format-starts c n sized)
 
   -- the first 8 + 24 × N + 1 steps make one store each
-  pub format-stored : (k : ℕ) → k ≤ length c → stepAt c (formatOf c .memory) k ≡ record { answer = Stored; card = formatCard n c (suc k); memory = formatMemory n (suc k) }
+  pub format-stored : (k : ℕ) → k ≤ length c → stepAt c (formatOf c .memory) k ≡ record { answer = Stored (placeOf (formatStore n (length c) k)); card = formatCard n c (suc k); memory = formatMemory n (suc k) }
   format-stored zero h = rw begun-memory (ap (λ (card : List ℕ). stepOf card (formatMemory n 0)) (sym (format-untouched n c)) ∙ format-step-stores c n sized 0 h)
   format-stored (suc k) h = ap stepAfter (format-stored k (omega arith)) ∙ format-step-stores c n sized (suc k) h
 

@@ -21,7 +21,7 @@ use Rattle.descent.specs.declared.Landing.the-variants.{Leaf as LandingAt}
 use Rattle.free_nodes.specs.NodeSet.{countTrue}
 use Rattle.laws.specs.Cases.{pick}
 use Rattle.laws.proofs.Cases.{order, bool-cases, impossible}
-use Rattle.promises.proofs.BookLaws.{IsFinal, dictionaryAnswer}
+use Rattle.promises.proofs.BookLaws.{IsStored, IsFinal, dictionaryAnswer}
 use Rattle.promises.proofs.FirstChanges.{leads-reach}
 use Rattle.promises.proofs.Invariant.{Inv}
 use Rattle.promises.specs.Book.{Update, Book, put, remove}
@@ -40,7 +40,6 @@ use Rattle.starting.specs.Starts.{insertOf, deleteOf, started, startRefused}
 use Rattle.starting.proofs.StartLaws.{started-no-refusal}
 use Rattle.state.specs.Steps.{Handed, isIdle}
 use Rattle.state.specs.declared.Answer.{Answer}
-use Rattle.state.specs.declared.Answer.the-variants.{Stored}
 use Rattle.state.specs.declared.Begun.{Begun}
 use Rattle.state.specs.declared.Begun.the-variants.{Started, Refused as BegunRefused}
 use Rattle.state.specs.declared.Doing.the-variants.{Idle, Inserting, Deleting}
@@ -69,7 +68,7 @@ event (remove key) = delete key
 -- steps that store, and then the one that gives the final answer
 pub data Ends : World rationTable → World rationTable → Answer → Type 0 where
   ends-here : {w : World rationTable} {a : Answer} → stepOf (w .card) (w .state) .answer ≡ a → IsFinal a → Ends w (happens rationTable step w) a
-  stores-first : {w v : World rationTable} {a : Answer} → stepOf (w .card) (w .state) .answer ≡ Stored → Ends (happens rationTable step w) v a → Ends w v a
+  stores-first : {w v : World rationTable} {a : Answer} → IsStored (stepOf (w .card) (w .state) .answer) → Ends (happens rationTable step w) v a → Ends w v a
 
 -- a whole call, and a list of them: "each call .. runs to its end before the next, without cuts"
 pub data Whole (u : Update) : World rationTable → World rationTable → Outcome → Type 0 where
@@ -125,7 +124,7 @@ ends-at {w} {v} {a} (ends-here e f) n steps b i goal eg busy =
     at : Moves (w .card) (w .state) (stepOf (w .card) (w .state)) → IsFinal (stepOf (w .card) (w .state) .answer) → stepOf (w .card) (w .state) .memory .doing ≡ Idle
     at (was-idle d) g = absurd (idle-not-busy (w .state .doing) d busy)
     at (ends-now d same idle) g = idle
-    at (goes-further s d) g = absurd (subst IsFinal s g)
+    at (goes-further s d) g = absurd (subst IsFinal (s .1) g)
 ends-at {w} {v} {a} (stores-first e rest) n steps b i goal eg busy =
     let q = kept-step n steps w b (loosen n steps (suc steps) w b (omega arith) i) in
     let r = ends-at rest n steps _ (q .0 .0) goal (q .0 .1 ∙ loosen-goal n steps (suc steps) w b (omega arith) i ∙ eg) (at (q .2)) in
@@ -133,7 +132,7 @@ ends-at {w} {v} {a} (stores-first e rest) n steps b i goal eg busy =
   where
     at : Moves (w .card) (w .state) (stepOf (w .card) (w .state)) → isIdle (happens rationTable step w .state .doing) ≡ false
     at (was-idle d) = absurd (idle-not-busy (w .state .doing) d busy)
-    at (ends-now d same idle) = absurd (subst IsFinal e d)
+    at (ends-now d same idle) = absurd (subst IsFinal (e .1) d)
     at (goes-further s d) = after-step w d
 
 -- ---- the start, by the room

@@ -24,9 +24,13 @@ unfoldable pub dictionaryAnswer : Option ℕ → Answer
 dictionaryAnswer none = Absent
 dictionaryAnswer (some v) = Value v
 
+-- the answer of a step that stored one word: it tells the place
+abbrev pub IsStored : Answer → Type 0
+IsStored a = (place : ℕ) × (a ≡ Stored place)
+
 -- a step's final answers, and that the book counts them as final
 abbrev pub IsFinal : Answer → Type 0
-IsFinal Stored = ⊥
+IsFinal (Stored place) = ⊥
 IsFinal Ready = Unit
 IsFinal Absent = Unit
 IsFinal (Value v) = Unit
@@ -34,7 +38,7 @@ IsFinal (Refused r) = ⊥
 
 pub final-told : (a : Answer) → IsFinal a → outcome (stepReply a) ≡ final
 unfolding outcome stepReply
-final-told Stored f = absurd f
+final-told (Stored place) f = absurd f
 final-told Ready f = refl
 final-told Absent f = refl
 final-told (Value v) f = refl

@@ -1,6 +1,6 @@
 -- The work in hand finishes, no step of it is refused, and it leaves a balanced table with three free nodes or more: what the
 -- invariant says about every step, put together.
-use mathlib.Core.Path.{_≡_, refl, ap, subst}
+use mathlib.Core.Path.{_≡_, refl, ap, sym, subst, _∙_}
 use mathlib.Core.List.{List, [], _∷_}
 use mathlib.Core.Bool.{Bool, false}
 use mathlib.Core.Logic.{_⊎_, inl, inr}
@@ -34,7 +34,7 @@ use Rattle.laws.proofs.Cases.{impossible}
 -- so many steps that each store a word, and then one that gives the final answer
 pub data Counted (final : Reply) : ℕ → World rationTable → Type 0 where
   answers-now : {w : World rationTable} → replyTo rationTable step w ≡ final → Counted final 0 w
-  stores-first : {k : ℕ} {w : World rationTable} → replyTo rationTable step w ≡ stored → Counted final k (happens rationTable step w) → Counted final (suc k) w
+  stores-first : {k : ℕ} {w : World rationTable} → (place : ℕ) × (replyTo rationTable step w ≡ stored place) → Counted final k (happens rationTable step w) → Counted final (suc k) w
 
 -- the work in hand takes fewer stores than it has steps left, and gives the answer due
 pub counted : (n steps : ℕ) (w : World rationTable) (b : Book) (i : Inv n steps w b) → isIdle (w .state .doing) ≡ false → (k : ℕ) × (k < steps) × Counted (stepReply (i .due)) k w
@@ -48,11 +48,11 @@ counted n (suc steps) w b i busy =
         → (isIdle (stepOf (w .card) (w .state) .memory .doing) ≡ false → (k : ℕ) × (k < steps) × Counted (stepReply (i .due)) k (happens rationTable step w)) → (k : ℕ) × (k < suc steps) × Counted (stepReply (i .due)) k w
     go (was-idle e) r later = absurd (idle-not-busy (w .state .doing) e busy)
     go (ends-now f same idle) r later = (0, omega arith, answers-now (ap stepReply (right-final r f)))
-    go (goes-further s e) r later = let q = later e in (suc (q .0), omega (arith, q .1), stores-first (ap stepReply s) (q .2))
+    go (goes-further s e) r later = let q = later e in (suc (q .0), omega (arith, q .1), stores-first (s .0, ap stepReply (s .1)) (q .2))
 
 -- what the count says of a run without a cut, by its steps
 module _ {final : Reply} where
-  pub each-stores : {k : ℕ} {w : World rationTable} → Counted final k w → (qs : List Event) → LeftUncut rationTable qs w → stepsIn qs < k → replyTo rationTable step (run rationTable qs w) ≡ stored
+  pub each-stores : {k : ℕ} {w : World rationTable} → Counted final k w → (qs : List Event) → LeftUncut rationTable qs w → stepsIn qs < k → (place : ℕ) × (replyTo rationTable step (run rationTable qs w) ≡ stored place)
   unfolding run LeftUncut
   each-stores (answers-now a) [] u h = absurd (omega arith)
   each-stores (stores-first s c) [] u h = s
@@ -80,7 +80,7 @@ work-not-refused n steps w b i busy r e = at (kept-step n steps w b (loosen n st
     at : Moves (w .card) (w .state) (stepOf (w .card) (w .state)) → ⊥
     at (was-idle f) = idle-not-busy (w .state .doing) f busy
     at (ends-now f same idle) = subst IsFinal e f
-    at (goes-further s f) = let z : _≡_ {A = Answer} (Refused r) Stored = rw e at s in impossible (cc)
+    at (goes-further s f) = let z : _≡_ {A = Answer} (Refused r) (Stored (s .0)) = sym e ∙ s .1 in impossible (cc)
 
 -- an idle state's table
 pub inv-rests : (n steps : ℕ) (w : World rationTable) (b : Book) → Inv n steps w b → w .state .doing ≡ Idle → Rests w (b .held)

@@ -10,7 +10,7 @@ use lib.ListN.{length}
 use lib.Dec.{eqb}
 use Rattle.card.specs.Replies.{refusal, ready, stored, started as startedReply}
 use Rattle.state.specs.Answers.{stepReply, startReply}
-use Rattle.state.specs.Steps.{noBeginning, isIdle, stepRefused}
+use Rattle.state.specs.Steps.{noBeginning, isIdle, stepRefused, formatStore}
 use Rattle.starting.specs.Starts.{formatOf, startRefused, started, startLanded, startChecked, startOf, insertOf, deleteOf}
 use Rattle.table.specs.Calls.{stepOf, repairSteps}
 use Rattle.state.specs.Memory.{Memory, resting}
@@ -24,7 +24,7 @@ use Rattle.card.specs.Header.{nodesOfLength, headerRefusal, Sized}
 use Rattle.card.proofs.HeaderLaws.{nodes-sized}
 use Rattle.change_theory.proofs.Plays.{Openable}
 use Rattle.change_theory.proofs.Repaired.{settled}
-use Rattle.formatting_theory.proofs.FormatCard.{formatCard, format-untouched}
+use Rattle.formatting_theory.proofs.FormatCard.{placeOf, formatCard, format-untouched}
 use Rattle.formatting_theory.proofs.FormatSteps.{freshNodes, formatMemory, freshMemory, format-starts, format-refused, format-step-stores, format-step-ready}
 use Rattle.formatting_theory.proofs.FreshTable.{freshTree, FreshTable, format-fresh}
 use Rattle.free_nodes.specs.NodeSet.{countTrue}
@@ -193,7 +193,7 @@ unfolding happens replyTo stepReply LeftUncut run
 format-ready-inv c n made s [] w e h u q =
     order (length c) made
     (λ o. let m : made ≡ suc (length c) = omega arith in rw (e, m, format-step-ready c n s))
-    (λ o. let z : stepReply (stepOf (w .card) (w .state) .answer) ≡ stored = rw (e, format-step-stores c n s made o) in absurd (omega (arith, code-of (sym z ∙ q))))
+    (λ o. let z : stepReply (stepOf (w .card) (w .state) .answer) ≡ stored (placeOf (formatStore n (length c) made)) = rw (e, format-step-stores c n s made o) in absurd (omega (arith, code-of (sym z ∙ q))))
 format-ready-inv c n made s (step ∷ qs) w e h u q =
     order (length c) made
     (λ o. let m : made ≡ suc (length c) = omega arith in absurd (ready-once (formatCard n c (suc (length c))) n (format-fresh c n s) qs (happens rationTable step w) (ended m) (u .1) q))

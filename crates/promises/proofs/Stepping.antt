@@ -43,7 +43,7 @@ use Rattle.promises.proofs.FirstChanges.{slot-changing, slot-level, slo
 use Rattle.promises.proofs.Invariant.{toldOf, takenUp, Toward, Table, Job, Entered, UpdateSteps, Stage, Inv, job-repair, job-insert, job-delete, no-update, updated, stage-idle, stage-put, stage-remove, stage-first, stage-between, stage-within}
 use Rattle.promises.proofs.Kept.{first-storable, repair-stored, update-stored}
 use Rattle.promises.specs.Book.{Update, Hand, Book, book, entered, fedStart, fedStep, feed, outcome, told, put, remove, anInsert, final, goesOn, empty, holding}
-use Rattle.promises.proofs.BookLaws.{Enters, Same, IsFinal, final-told, dictionaryAnswer, enters-held, enters-gone}
+use Rattle.promises.proofs.BookLaws.{Enters, Same, IsStored, IsFinal, final-told, dictionaryAnswer, enters-held, enters-gone}
 use Rattle.promises.specs.Events.{World, replyTo, happens, step}
 use Rattle.promises.specs.RationTable.{rationTable}
 use Rattle.promises.proofs.Reopen.{table-depth-limited}
@@ -88,7 +88,7 @@ rests c n key t free last b z = repair-balanced c n free last key (seek-balanced
 pub data Moves (c : List ℕ) (m : Memory) (s : Step) : Type 0 where
   was-idle : m .doing ≡ Idle → Moves c m s
   ends-now : IsFinal (s .answer) → s .card ≡ c → s .memory .doing ≡ Idle → Moves c m s
-  goes-further : s .answer ≡ Stored → isIdle (s .memory .doing) ≡ false → Moves c m s
+  goes-further : IsStored (s .answer) → isIdle (s .memory .doing) ≡ false → Moves c m s
 
 -- a store does not change what is being done
 busy-after : {doing : Doing} (n : ℕ) (free : List Bool) (last : ℕ) (z : List Store) (cut : List ℕ) → Busy doing → (rest : List Store) → isIdle (advanced (memory n free last doing z cut) rest .doing) ≡ false
@@ -98,7 +98,7 @@ busy-after n free last z cut b (s ∷ rest) = b .not-idle
 
 -- the answer is the one due, or none: a store, or the refusal of an idle state
 pub data Right : Answer → Answer → Type 0 where
-  no-answer : {due : Answer} → Right Stored due
+  no-answer : {place : ℕ} {due : Answer} → Right (Stored place) due
   no-call : {r : ℕ} {due : Answer} → Right (Refused r) due
   final-answer : {due : Answer} → Right due due
 
@@ -113,9 +113,9 @@ module _ (n steps : ℕ) (c : List ℕ) (t : Tree) (b : Table c n t) (o : Openab
   Goal m h due =
       Toward goal due n steps (record { card = stepOf c m .card; state = stepOf c m .memory }) (fedStep (outcome (stepReply (stepOf c m .answer))) l h) × Right (stepOf c m .answer) due × Moves c m (stepOf c m)
 
-  stored-goal : (m m′ : Memory) (c′ : List ℕ) (h : Hand) (due : Answer) → stepOf c m ≡ record { answer = Stored; card = c′; memory = m′ } → isIdle (m′ .doing) ≡ false → Toward goal due n steps (record { card = c′; state = m′ }) (fedStep goesOn l h) → Goal m h due
+  stored-goal : {place : ℕ} (m m′ : Memory) (c′ : List ℕ) (h : Hand) (due : Answer) → stepOf c m ≡ record { answer = Stored place; card = c′; memory = m′ } → isIdle (m′ .doing) ≡ false → Toward goal due n steps (record { card = c′; state = m′ }) (fedStep goesOn l h) → Goal m h due
   unfolding outcome stepReply
-  stored-goal m m′ c′ h due e busy i = rw e (i, no-answer, goes-further refl busy)
+  stored-goal m m′ c′ h due e busy i = rw e (i, no-answer, goes-further (_, refl) busy)
 
   final-goal : (m m′ : Memory) (a : Answer) (h : Hand) (due : Answer) → stepOf c m ≡ record { answer = a; card = c; memory = m′ } → m′ .doing ≡ Idle → IsFinal a → Toward goal due n steps (record { card = c; state = m′ }) (fedStep final l h) → Right a due → Goal m h due
   final-goal m m′ a h due e idle f i r = rw (e, final-told a f) (i, r, ends-now f refl idle)
@@ -169,7 +169,7 @@ module _ (n steps : ℕ) (c : List ℕ) (t : Tree) (b : Table c n t) (o : Openab
 
   -- the first store of an update's first change
   begins : {doing : Doing} {key : ℕ} {due : Answer} {u : Update} (d : ℕ) (m : Memory) (s : Store) (rest : List Store) (free : List Bool) (last : ℕ) (cut : List ℕ) → Job doing key due (some u)
-      → stepOf c m ≡ record { answer = Stored; card = set c (s .0) (s .1); memory = advanced (memory n free last doing [] cut) rest }
+      → stepOf c m ≡ record { answer = Stored (s .0); card = set c (s .0) (s .1); memory = advanced (memory n free last doing [] cut) rest }
       → (p : Changing c n key t (s ∷ rest) free cut) → Enters u (pairs t) (pairs (p .next)) → suc (length rest) ≡ d → length rest + (73 * p .level + 1) ≤ steps → Heads (p .level) (bare (p .next)) goal → Goal m (holding u d 0) due
   begins {due = due} {u = u} d m s rest free last cut j e p en count few hd =
       let q : 0 + suc (length rest) ≡ d = omega arith in

@@ -83,7 +83,7 @@ module _ (c : List ℕ) (n : ℕ) (sized : Sized (length c) n) (header : Formatt
           checks-passed m refl ∙ ap (stepHeld c m) (busy .held) ∙ task-due c m (headed m refl) (busy .task)
 
       -- a store of the change in hand
-      pub step-stores : (s : Store) (rest : List Store) → s .0 < length c → stepOf c (memory n free last doing (s ∷ rest) cut) ≡ record { answer = Stored; card = set c (s .0) (s .1); memory = advanced (memory n free last doing (s ∷ rest) cut) rest }
+      pub step-stores : (s : Store) (rest : List Store) → s .0 < length c → stepOf c (memory n free last doing (s ∷ rest) cut) ≡ record { answer = Stored (s .0); card = set c (s .0) (s .1); memory = advanced (memory n free last doing (s ∷ rest) cut) rest }
       unfolding stepTask stepStore
       step-stores s rest h = work (s ∷ rest) ∙ rw (lt-ltb (s .0) (length c) h)
 
@@ -97,7 +97,7 @@ unfolding stepPrepared stepFinal
 prepared-ready c m doing final p e = ap (stepPrepared c m doing final) e
 
 pub prepared-first : (c : List ℕ) (m : Memory) (doing : Doing) (final : Answer) (p : Preparation) (s : Store) (rest : List Store) (free : List Bool) (last : ℕ) (cut : List ℕ) → p ≡ prepared (s ∷ rest) free last cut → s .0 < length c
-    → stepPrepared c m doing final p ≡ record { answer = Stored; card = set c (s .0) (s .1); memory = advanced (memory (m .nodes) free last doing [] cut) rest }
+    → stepPrepared c m doing final p ≡ record { answer = Stored (s .0); card = set c (s .0) (s .1); memory = advanced (memory (m .nodes) free last doing [] cut) rest }
 unfolding stepPrepared stepStore planning
 prepared-first c m doing final p s rest free last cut e h = ap (stepPrepared c m doing final) e ∙ rw (lt-ltb (s .0) (length c) h)
 

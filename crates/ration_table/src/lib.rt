@@ -1,4 +1,4 @@
-// The table and its dumps, for C and Rust to call: each call is the table's own, with its answer in two words.
+// The table and its dumps, for C and Rust to call: each call is the table's own, with its answer in four words.
 pub use replies::Reply;
 use replies::dump_reply;
 use replies::found_reply;

@@ -5,7 +5,6 @@ mod dumps;
 mod stream;
 
 use calls::Block;
-use calls::MOST;
 use calls::Words;
 use calls::copy_words;
 use calls::narrow;
@@ -14,12 +13,7 @@ use calls::wide;
 use calls::word;
 use dumps::Bytes;
 use dumps::dump_turn;
-use state_block::DOING;
-use state_block::FIRST;
-use state_block::FORMATTING;
 use state_block::FREE;
-use state_block::IDLE;
-use state_block::MADE;
 use state_block::PLACES;
 use stream::HASH;
 use stream::LENGTH;
@@ -60,42 +54,6 @@ fn feed_found(row: &mut [u64; 8], found: Found) {
     }
 }
 
-// The place of the last store of a plan of which so many were made; past the end of the row where there is none.
-fn planned_place(state: &Block, made: usize) -> usize {
-    if made == 0 {
-        return MOST;
-    }
-    if 73 < made {
-        return MOST;
-    }
-    state_block::wide(state[PLACES + (made - 1)])
-}
-
-// The place of the last of so many stores of formatting: "0 in word 0, then every word from 1 to the last in rising order ..,
-// then 1 in word 0".
-fn formatted_place(n: usize, made: usize) -> usize {
-    if made == 0 {
-        return MOST;
-    }
-    if n < made {
-        return 0;
-    }
-    made - 1
-}
-
-// The place of the store that a step made, by the state that it handed back: a store of the word that is there already does not
-// show on the card.
-fn stored_place(state: &Block, n: usize) -> usize {
-    let doing = state[DOING];
-    if doing == IDLE {
-        return MOST;
-    }
-    if doing == FORMATTING {
-        return formatted_place(n, state_block::wide(state[FIRST]));
-    }
-    planned_place(state, state_block::wide(state[MADE]))
-}
-
 // A store: the place and the word, which `old` then has as well.
 fn feed_store(card: &Words, old: &mut Words, row: &mut [u64; 8], place: usize) {
     row[STORES] = row[STORES] % 4294967296 + 1;
@@ -104,9 +62,9 @@ fn feed_store(card: &Words, old: &mut Words, row: &mut [u64; 8], place: usize) {
     set_word(old, place, word(card, place));
 }
 
-fn feed_answer(card: &Words, old: &mut Words, row: &mut [u64; 8], answer: Answer, place: usize) {
+fn feed_answer(card: &Words, old: &mut Words, row: &mut [u64; 8], answer: Answer) {
     match answer {
-        Answer::Stored => feed_store(card, old, row, place),
+        Answer::Stored(place) => feed_store(card, old, row, place as usize),
         Answer::Ready => feed(row, 9),
         Answer::Absent => feed(row, 8),
         Answer::Value(v) => feed_two(row, 7, wide(v)),
@@ -126,7 +84,7 @@ fn feed_difference(card: &Words, n: usize, old: &Words, row: &mut [u64; 8]) {
 
 fn one_step(card: &mut Words, n: usize, old: &mut Words, row: &mut [u64; 8], state: &mut Block) {
     let answer = calls::step(card, n, state);
-    feed_answer(card, old, row, answer, stored_place(state, n));
+    feed_answer(card, old, row, answer);
     feed_difference(card, n, old, row);
 }
 

@@ -1,2 +1,2 @@
--- the two words of an answer
+-- the four words of an answer
 pub mod ReplyWords

@@ -1,14 +1,14 @@
--- The two words of an answer. These are definitions.
+-- The four words of an answer. These are definitions.
 use mathlib.Core.Path.{_≡_}
 use Prim.Native.Nat.{ℕ, _^_, _<_}
 use Rattle.card.specs.Replies.{Reply}
 use Rattle.dump.specs.declared.Answer.{Answer as DumpAnswer}
 use Rattle.dump.specs.declared.Answer.the-variants.{Length}
-use Rattle.replies.specs.declared.Reply.{Reply as TwoWords}
+use Rattle.replies.specs.declared.Reply.{Reply as FourWords}
 
--- the two words of an answer
-abbrev pub replyOf : TwoWords → Reply
-replyOf r = record { code = r .code; value = r .value }
+-- the four words of an answer
+abbrev pub replyOf : FourWords → Reply
+replyOf r = record { code = r .code; value = r .value; key = r .key; depth = r .depth }
 
 -- the length of a dump's result fits a word
 abbrev pub ShortDump : DumpAnswer → Type 0

@@ -1,8 +1,9 @@
-// The answers of the calls in two words, for C: a number for the answer and, where it has one, a value.
+// The answers of the calls in four words, for C: a number for the answer and, where it has them, a value, a key and a depth.
 use lookup::Found;
 use state::Answer;
 use state::Begun;
 ghost use mathlib.Core.Path.{_≡_};
+ghost use Rattle.card.specs.Replies.{plain, valued};
 ghost use Rattle.lookup.specs.Answers.{foundReply};
 ghost use Rattle.state.specs.Answers.{stepReply, startReply};
 ghost use Rattle.dump.specs.Answers.{dumpReply};
@@ -12,10 +13,12 @@ ghost use Rattle.replies.specs.ReplyWords.{replyOf, ShortDump};
 pub struct Reply {
     pub code: u32,
     pub value: u32,
+    pub key: u32,
+    pub depth: u32,
 }
 
-// The answers that have no number in document 01: the value held under a key, "absent", one word stored, "ready", an idle state
-// opened, a call or repair in progress, and the length of a dump's result.
+// The answers that have no number in document 01: the value held under a key, "absent", one word stored in a place, "ready", an
+// idle state opened, a call or repair in progress, and the length of a dump's result.
 const VALUE: u32 = 64;
 
 const ABSENT: u32 = 65;
@@ -30,18 +33,30 @@ const STARTED: u32 = 69;
 
 const LENGTH: u32 = 70;
 
+// An answer with a value beside it.
+fn valued(code: u32, value: u32) -> Reply
+    ensures { λ r. ⌜ replyOf r ≡ valued code value ⌝ }
+{
+    Reply {
+        code,
+        value,
+        key: 0,
+        depth: 0,
+    }
+}
+
 // "A refusal gives its number"; the same for every answer that has no value beside it.
 fn plain(code: u32) -> Reply
-    ensures { λ r. ⌜ replyOf r ≡ record { code = code; value = 0 } ⌝ }
+    ensures { λ r. ⌜ replyOf r ≡ plain code ⌝ }
 {
-    Reply { code, value: 0 }
+    valued(code, 0)
 }
 
 pub fn found_reply(found: Found) -> Reply
     ensures { λ r. ⌜ replyOf r ≡ foundReply found ⌝ }
 {
     match found {
-        Found::Value(value) => Reply { code: VALUE, value },
+        Found::Value(value) => valued(VALUE, value),
         Found::Absent => plain(ABSENT),
         Found::Refused(refusal) => plain(refusal),
     }
@@ -51,10 +66,10 @@ pub fn step_reply(answer: Answer) -> Reply
     ensures { λ r. ⌜ replyOf r ≡ stepReply answer ⌝ }
 {
     match answer {
-        Answer::Stored => plain(STORED),
+        Answer::Stored(place) => valued(STORED, place),
         Answer::Ready => plain(READY),
         Answer::Absent => plain(ABSENT),
-        Answer::Value(value) => Reply { code: VALUE, value },
+        Answer::Value(value) => valued(VALUE, value),
         Answer::Refused(refusal) => plain(refusal),
     }
 }
@@ -75,10 +90,7 @@ pub fn dump_reply(answer: dump::Answer) -> Reply
     ensures { λ r. ⌜ replyOf r ≡ dumpReply answer ⌝ }
 {
     match answer {
-        dump::Answer::Length(length) => Reply {
-            code: LENGTH,
-            value: length as u32,
-        },
+        dump::Answer::Length(length) => valued(LENGTH, length as u32),
         dump::Answer::Refused(refusal) => plain(refusal),
     }
 }

@@ -117,7 +117,7 @@ module _ (card : List ℕ) (m : Memory) (s : Store) (next : Memory) where
   unfolding stepStore
   store-outside h = simp (le-ltb (s .0) (length card) h)
 
-  pub store-inside : s .0 < length card → stepStore card m s next ≡ record { answer = Stored; card = set card (s .0) (s .1); memory = next }
+  pub store-inside : s .0 < length card → stepStore card m s next ≡ record { answer = Stored (s .0); card = set card (s .0) (s .1); memory = next }
   unfolding stepStore
   store-inside h = simp (lt-ltb (s .0) (length card) h)
 
@@ -149,8 +149,8 @@ module _ (n len made : ℕ) where
 pub final-ready : (n : ℕ) → _≡_ {A = Answer} Ready (Refused n) → ⊥
 final-ready n e = impossible (cc)
 
-pub stored-no-refusal : (n : ℕ) → _≡_ {A = Answer} Stored (Refused n) → ⊥
-stored-no-refusal n e = impossible (cc)
+pub stored-no-refusal : (place n : ℕ) → _≡_ {A = Answer} (Stored place) (Refused n) → ⊥
+stored-no-refusal place n e = impossible (cc)
 
 -- the words of a formatted card that are 0
 pub word-other : (n i : ℕ) → (i ≡ 1 → ⊥) → (i ≡ 2 → ⊥) → (i ≡ 3 → ⊥) → (i ≡ 4 → ⊥) → (i ≡ 8 → ⊥) → formattedWord n i ≡ 0

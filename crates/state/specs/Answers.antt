@@ -7,7 +7,7 @@ use Rattle.state.specs.declared.Begun.the-variants.{Idle as OpenedIdle, 
 
 -- what a step answers
 unfoldable pub stepReply : Answer → Reply
-stepReply Stored = stored
+stepReply (Stored place) = stored place
 stepReply Ready = ready
 stepReply Absent = absent
 stepReply (Value v) = holds v

@@ -73,9 +73,9 @@ formatting m made = record { nodes = m .nodes; free = m .free; last = m .last; d
 
 unfoldable pub stepFormat : List ℕ → Memory → ℕ → Option Store → Step
 stepFormat card m made none = stepFinal Ready card m
-stepFormat card m made (some s) = record { answer = Stored; card = set card (s .0) (s .1); memory = formatting m (suc made) }
+stepFormat card m made (some s) = record { answer = Stored (s .0); card = set card (s .0) (s .1); memory = formatting m (suc made) }
 
 -- one store; "or its store is outside the card": refused, the state is handed back, and stored, the next one is
 unfoldable pub stepStore : List ℕ → Memory → Store → Memory → Step
 stepStore card m s next =
-    pick (ltb (s .0) (length card)) (record { answer = Stored; card = set card (s .0) (s .1); memory = next }) (stepRefused 9 card m)
+    pick (ltb (s .0) (length card)) (record { answer = Stored (s .0); card = set card (s .0) (s .1); memory = next }) (stepRefused 9 card m)

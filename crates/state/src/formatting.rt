@@ -29,17 +29,17 @@ fn formatted_word(n: usize, i: usize) -> u32
     }
 }
 
-// One store more was made.
-fn formatting(s: State, made: usize) -> Stepped
+// One store more was made, in this place.
+fn formatting(s: State, made: usize, place: u32) -> Stepped
     requires { ⌜ made ≤ 8 + 24 * greatestNodes ⌝ }
-    ensures { λ r. ⌜ (r .answer ≡ Stored) × (memoryOf (r .state) ≡ formatting (memoryOf s) (suc made)) ⌝ }
+    ensures { λ r. ⌜ (r .answer ≡ Stored place) × (memoryOf (r .state) ≡ formatting (memoryOf s) (suc made)) ⌝ }
 {
     let state = State {
         doing: Doing::Formatting { made: made + 1 },
         ..s
     };
     Stepped {
-        answer: Answer::Stored,
+        answer: Answer::Stored(place),
         state,
     }
 }
@@ -52,15 +52,15 @@ pub fn step_format(card: &mut [u32], s: State, made: usize) -> Stepped
 {
     if made == 0 {
         card[0] = 0;
-        return formatting(s, made);
+        return formatting(s, made, 0);
     }
     if made < card.len() {
         card[made] = formatted_word(s.nodes, made);
-        return formatting(s, made);
+        return formatting(s, made, made as u32);
     }
     if made == card.len() {
         card[0] = 1;
-        return formatting(s, made);
+        return formatting(s, made, 0);
     }
     let state = idled(s);
     Stepped {

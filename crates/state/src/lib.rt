@@ -53,9 +53,9 @@ pub struct State {
     pub cut: [u32; 3],
 }
 
-// What a step answers: a store was made, or the final answer of what was being done, or a refusal.
+// What a step answers: a word was stored, in this place, or the final answer of what was being done, or a refusal.
 pub enum Answer {
-    Stored,
+    Stored(u32),
     Ready,
     Absent,
     Value(u32),

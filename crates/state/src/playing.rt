@@ -86,7 +86,8 @@ pub fn store_next(card: &mut [u32], s: State, planned: State) -> Stepped
 {
     let plan = planned.plan;
     let made = planned.made;
-    let at = plan.places[made] as usize;
+    let place = plan.places[made];
+    let at = place as usize;
     if card.len() <= at {
         return Stepped {
             answer: Answer::Refused(9),
@@ -96,7 +97,7 @@ pub fn store_next(card: &mut [u32], s: State, planned: State) -> Stepped
     card[at] = plan.values[made];
     let state = advance(planned);
     Stepped {
-        answer: Answer::Stored,
+        answer: Answer::Stored(place),
         state,
     }
 }

@@ -92,7 +92,7 @@ walkFrom (suc most) card after = onNext (walkFrom most card) (nextOf card after)
 
 -- ---- its answer as numbers: a key and a value
 
-unfoldable pub nextReply : Successor → Reply × ℕ
-nextReply (Pair key value) = (next value, key)
-nextReply Nothing = (nothing, 0)
-nextReply (Refused r) = (refusal r, 0)
+unfoldable pub nextReply : Successor → Reply
+nextReply (Pair key value) = next key value
+nextReply Nothing = nothing
+nextReply (Refused r) = refusal r

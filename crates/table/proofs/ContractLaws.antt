@@ -19,13 +19,14 @@ use Rattle.table.proofs.HandedBack.{step-small}
 use Rattle.state_block.specs.Contracts.{OpenCall, StepCall}
 use Rattle.table.specs.Refusals.{isRefusal}
 use Rattle.table.specs.Playing.{Played}
+use Rattle.table.specs.declared.playing.Placed.the-variants.{Nowhere, At}
 use Rattle.laws.proofs.Cases.{impossible}
 
 -- ---- refusals
 
 refusal : (a : Answer) → isRefusal a ≡ true → (r : ℕ) × (a ≡ Refused r)
 unfolding isRefusal
-refusal Stored e = impossible (cc)
+refusal (Stored place) e = impossible (cc)
 refusal Ready e = impossible (cc)
 refusal Absent e = impossible (cc)
 refusal (Value v) e = impossible (cc)
@@ -51,14 +52,14 @@ handed-open before after l h f = record { answered = λ k. refl; handed = λ k. 
 
 module _ (before after card card-after : List ℕ) (l : length before ≡ stateWords) where
   -- a store in place
-  pub played-step : (due : Step) → Played true due card card-after before after → StepCall before after card card-after Stored due
+  pub played-step : (due : Step) (place : ℕ) → Played (At place) due card card-after before after → StepCall before after card card-after (Stored place) due
   unfolding isRefusal
-  played-step due f =
+  played-step due place f =
       record {
         answered = λ k. ap (λ (x : Step). x .answer) (sym f);
         stored = λ k. ap (λ (x : Step). x .card) (sym f);
         handed = λ k. ap (λ (x : Step). x .memory) (sym f);
-        unchanged = λ r g. absurd (no-refusal Stored r refl (ap (λ (x : Step). x .answer) (sym f) ∙ g));
+        unchanged = λ r g. absurd (no-refusal (Stored place) r refl (ap (λ (x : Step). x .answer) (sym f) ∙ g));
         no-state = λ n. absurd (n l);
       }
 
@@ -92,7 +93,7 @@ module _ (before after card card-after : List ℕ) (l : length before ≡ stateW
         }
 
 -- nothing was played: the step is made on the card and block as they were
-pub not-played : (before played after card played-card card-after : List ℕ) (answer : Answer) → Played false (stepOf card (memoryIn before)) card played-card before played → StepCall played after played-card card-after answer (stepOf played-card (memoryIn played)) → StepCall before after card card-after answer (stepOf card (memoryIn before))
+pub not-played : (before played after card played-card card-after : List ℕ) (answer : Answer) → Played Nowhere (stepOf card (memoryIn before)) card played-card before played → StepCall played after played-card card-after answer (stepOf played-card (memoryIn played)) → StepCall before after card card-after answer (stepOf card (memoryIn before))
 not-played before played after card played-card card-after answer e h =
     subst (λ (b : List ℕ). StepCall b after card card-after answer (stepOf card (memoryIn b))) (e .1)
     (subst (λ (k : List ℕ). StepCall played after k card-after answer (stepOf k (memoryIn played))) (e .0) h)

@@ -172,7 +172,7 @@ module _ (card : List ℕ) (m : Memory) (small : Small m) where
 
   small-store : (s : Store) (next : Memory) → Small next → SmallStep (stepStore card m s next)
   unfolding stepStore SmallStep
-  small-store s next h = either SmallStep (ltb (s .0) (length card)) (record { answer = Stored; card = set card (s .0) (s .1); memory = next }) (stepRefused 9 card m) h (small-refusal 9)
+  small-store s next h = either SmallStep (ltb (s .0) (length card)) (record { answer = Stored (s .0); card = set card (s .0) (s .1); memory = next }) (stepRefused 9 card m) h (small-refusal 9)
 
   small-prepared : (doing : Doing) (final : Answer) (p : Preparation) → LowLast p → formatted doing < 2 ^ 32 → SmallStep (stepPrepared card m doing final p)
   unfolding stepPrepared planning LowLast

@@ -104,7 +104,7 @@ module _ (block : List ℕ) (l : length block ≡ stateWords) where
   plan-last k e freed cleared f g = g ∙ rw (f, memory-made block k l) (sym (advance-last (memoryIn block) (drop k stores) (more-none (drop k stores) e)))
 
   pub task-stored : (card : List ℕ) (task : Task) (k at : ℕ) → k ≡ word block 6 → more (drop k stores) ≡ true → at ≡ word block (31 + k) → at < length card
-      → stepTask card (memoryIn block) task (memoryIn block .rest) ≡ record { answer = Stored; card = set card at (word block (104 + k)); memory = advanced (memoryIn block) (drop (k + 1) stores) }
+      → stepTask card (memoryIn block) task (memoryIn block .rest) ≡ record { answer = Stored at; card = set card at (word block (104 + k)); memory = advanced (memoryIn block) (drop (k + 1) stores) }
   unfolding stepTask stepStore
   task-stored card task k at e h f b =
       ap (stepTask card (memoryIn block) task) (rest-in block ∙ ap (λ (i : ℕ). drop i stores) (sym e) ∙ plan-next k h) ∙ rw (← f) (simp (lt-ltb at (length card) b))
@@ -112,11 +112,11 @@ module _ (block : List ℕ) (l : length block ≡ stateWords) where
 -- ---- formatting
 
 pub format-stored : (card block : List ℕ) (made : ℕ) → length block ≡ stateWords → word block 2 ≡ 1 → made ≡ word block 3 → 8 < made → made < length card
-    → stepFormat card (memoryIn block) (word block 3) (formatStore (memoryIn block .nodes) (length card) (word block 3)) ≡ record { answer = Stored; card = set card made 0; memory = memoryIn (set block 3 (made + 1)) }
+    → stepFormat card (memoryIn block) (word block 3) (formatStore (memoryIn block .nodes) (length card) (word block 3)) ≡ record { answer = Stored made; card = set card made 0; memory = memoryIn (set block 3 (made + 1)) }
 unfolding stepFormat
 format-stored card block made l e f h b =
     rw (← f, format-middle (memoryIn block .nodes) (length card) made (λ z. omega arith) b, word-other (memoryIn block .nodes) made (λ z. omega arith) (λ z. omega arith) (λ z. omega arith) (λ z. omega arith) (λ z. omega arith))
-    (ap (λ (m : Memory). record { answer = Stored; card = set card made 0; memory = m }) (sym (memory-formatting block (made + 1) l e ∙ ap (formatting (memoryIn block)) (add-one made))))
+    (ap (λ (m : Memory). record { answer = Stored made; card = set card made 0; memory = m }) (sym (memory-formatting block (made + 1) l e ∙ ap (formatting (memoryIn block)) (add-one made))))
 
 -- ---- a step of either
 

@@ -5,7 +5,7 @@ use Rattle.state.specs.declared.Answer.the-variants.{Stored, Ready, Absent, Val
 
 -- whether an answer is a refusal
 unfoldable pub isRefusal : Answer → Bool
-isRefusal Stored = false
+isRefusal (Stored place) = false
 isRefusal Ready = false
 isRefusal Absent = false
 isRefusal (Value v) = false

@@ -5,6 +5,7 @@ mod steps;
 
 pub use lookup::Found;
 pub use lookup::find;
+use playing::Placed;
 use playing::play;
 pub use starting::start_delete;
 pub use starting::start_insert;
@@ -24,6 +25,7 @@ use state_block::unpack;
 use steps::step_idle;
 use steps::step_task;
 ghost use mathlib.Core.Path.{_≡_};
+ghost use mathlib.Core.Bool.{true};
 ghost use lib.ListN.{length};
 ghost use Rattle.opening.specs.Opening.{openOf};
 ghost use Rattle.starting.specs.Starts.{formatOf};
@@ -97,7 +99,7 @@ fn is_refusal(answer: Answer) -> bool
     ensures { λ r. ⌜ r ≡ isRefusal answer ⌝ }
 {
     match answer {
-        Answer::Stored => false,
+        Answer::Stored(_) => false,
         Answer::Ready => false,
         Answer::Absent => false,
         Answer::Value(_) => false,
@@ -127,8 +129,8 @@ pub fn step(card: &mut [u32], state: &mut [u32]) -> Answer
     if state.len() != STATE_WORDS {
         return Answer::Refused(NO_STATE);
     }
-    if play(card, state) {
-        return Answer::Stored;
+    match play(card, state) {
+        Placed::At(place) => Answer::Stored(place),
+        Placed::Nowhere => step_whole(card, state),
     }
-    step_whole(card, state)
 }

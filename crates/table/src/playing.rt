@@ -96,68 +96,76 @@ fn advance(block: &mut [u32], made: usize)
     clear_cut(block);
 }
 
+// Where a step made on the block stored its word, if it made one.
+pub enum Placed {
+    Nowhere,
+    At(u32),
+}
+
 // The next store of the plan, where one is to come and its place is on the card: whatever the task, it is due.
-fn play_store(card: &mut [u32], block: &mut [u32]) -> bool
+fn play_store(card: &mut [u32], block: &mut [u32]) -> Placed
     requires { ⌜ length (now block) ≡ stateWords ⌝ }
     ensures { λ r. ⌜ ((task : Task) → Played r (stepTask (now (card .entry)) (memoryIn (now (block .entry))) task (memoryIn (now (block .entry)) .rest)) (now (card .entry)) (now (card .exit)) (now (block .entry)) (now (block .exit))) ⌝ }
 {
     let made = wide(block[MADE]);
     if !in_hand(block, made) {
-        return false;
+        return Placed::Nowhere;
     }
-    let at = wide(block[PLACES + made]);
+    let place = block[PLACES + made];
+    let at = wide(place);
     if card.len() <= at {
-        return false;
+        return Placed::Nowhere;
     }
     card[at] = block[VALUES + made];
     advance(block, made + 1);
-    true
+    Placed::At(place)
 }
 
 // A store of formatting past the root's kind, "all else 0": all but the first nine and the last.
-fn play_format(card: &mut [u32], block: &mut [u32]) -> bool
+fn play_format(card: &mut [u32], block: &mut [u32]) -> Placed
     requires { ⌜ (length (now block) ≡ stateWords) × (word (now block) 2 ≡ 1) × (length (now card) ≤ 8 + 24 * greatestNodes) ⌝ }
     ensures { λ r. ⌜ Played r (stepFormat (now (card .entry)) (memoryIn (now (block .entry))) (word (now (block .entry)) 3) (formatStore (memoryIn (now (block .entry)) .nodes) (length (now (card .entry))) (word (now (block .entry)) 3))) (now (card .entry)) (now (card .exit)) (now (block .entry)) (now (block .exit)) ⌝ }
 {
-    let made = wide(block[FIRST]);
+    let place = block[FIRST];
+    let made = wide(place);
     if made <= 8 {
-        return false;
+        return Placed::Nowhere;
     }
     if card.len() <= made {
-        return false;
+        return Placed::Nowhere;
     }
     card[made] = 0;
-    block[FIRST] = block[FIRST] + 1;
-    true
+    block[FIRST] = place + 1;
+    Placed::At(place)
 }
 
-// Such a step, if the next one is: the refusals of a step are looked at first. False: nothing was stored.
-pub fn play(card: &mut [u32], block: &mut [u32]) -> bool
+// Such a step, if the next one is: the refusals of a step are looked at first.
+pub fn play(card: &mut [u32], block: &mut [u32]) -> Placed
     requires { ⌜ length (now block) ≡ stateWords ⌝ }
     ensures { λ r. ⌜ Played r (stepOf (now (card .entry)) (memoryIn (now (block .entry)))) (now (card .entry)) (now (card .exit)) (now (block .entry)) (now (block .exit)) ⌝ }
 {
     let n = wide(block[NODES]);
     if n < card::LEAST_NODES {
-        return false;
+        return Placed::Nowhere;
     }
     if card::GREATEST_NODES < n {
-        return false;
+        return Placed::Nowhere;
     }
     if card.len() != 8 + 24 * n {
-        return false;
+        return Placed::Nowhere;
     }
     let doing = block[DOING];
     if doing == FORMATTING {
         return play_format(card, block);
     }
     if doing == IDLE {
-        return false;
+        return Placed::Nowhere;
     }
     if REPAIRING < doing {
-        return false;
+        return Placed::Nowhere;
     }
     if card::header_refusal(card, n) != 0 {
-        return false;
+        return Placed::Nowhere;
     }
     play_store(card, block)
 }

@@ -85,7 +85,7 @@ fn open(card: &Words, row: &mut [u64; 32], state: &mut Block) {
 pub fn until_ready(row: &mut [u64; 32], answer: Answer) {
     count(row, STEPS);
     match answer {
-        Answer::Stored => {}
+        Answer::Stored(_) => {}
         Answer::Ready => {
             row[MORE] = 0;
         }

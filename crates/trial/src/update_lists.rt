@@ -35,7 +35,7 @@ fn as_number(b: bool) -> u64 {
 fn is_step_refused(answer: Answer, number: u32) -> bool {
     match answer {
         Answer::Refused(r) => r == number,
-        Answer::Stored => false,
+        Answer::Stored(_) => false,
         Answer::Ready => false,
         Answer::Absent => false,
         Answer::Value(_) => false,
@@ -219,7 +219,7 @@ pub fn start(card: &Words, book: &Words, row: &mut [u64; 32], state: &mut Block)
 // began.
 fn is_wrong(row: &[u64; 32], answer: Answer) -> bool {
     match answer {
-        Answer::Stored => row[TAKEN] > 656,
+        Answer::Stored(_) => row[TAKEN] > 656,
         Answer::Absent => row[WAS_HELD] == 1,
         Answer::Value(v) => row[WAS_HELD] == 0 || row[HELD] != wide(v),
         Answer::Ready => true,
@@ -229,7 +229,7 @@ fn is_wrong(row: &[u64; 32], answer: Answer) -> bool {
 
 fn is_store(answer: Answer) -> bool {
     match answer {
-        Answer::Stored => true,
+        Answer::Stored(_) => true,
         Answer::Absent => false,
         Answer::Value(_) => false,
         Answer::Ready => false,

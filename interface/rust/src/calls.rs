@@ -35,6 +35,9 @@ impl Default for StateBlock {
 struct Answer {
     code: u32,
     value: u32,
+    // for calls to come, and always 0
+    _key: u32,
+    _depth: u32,
 }
 
 const VALUE: u32 = 64;
@@ -83,8 +86,8 @@ pub enum Opening {
 /// What a step did, or the final answer.
 #[derive(Clone, Copy, Debug, PartialEq, Eq)]
 pub enum Step {
-    /// One word was stored; go on stepping.
-    Stored,
+    /// One word was stored, in this place of the card; go on stepping.
+    Stored { place: usize },
     /// The formatting or the repair is done.
     Ready,
     /// The update is done; its key was held before, with this value.
@@ -127,7 +130,7 @@ pub fn start_delete(card: &[u32], state: &mut StateBlock, key: u32) -> Result<()
 pub fn step(card: &mut [u32], state: &mut StateBlock) -> Result<Step, Refusal> {
     let answer = unsafe { ration_step(card.as_mut_ptr(), card.len(), state.0.as_mut_ptr(), STATE_WORDS) };
     match answer.code {
-        STORED => Ok(Step::Stored),
+        STORED => Ok(Step::Stored { place: answer.value as usize }),
         READY => Ok(Step::Ready),
         VALUE => Ok(Step::Held(answer.value)),
         ABSENT => Ok(Step::Absent),

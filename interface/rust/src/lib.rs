@@ -21,8 +21,8 @@
 //!         let mut state = StateBlock::new(); // lost with power
 //!         let (table, ()) = Table::format(&mut card, &mut state)?.finish()?;
 //!         let update = table.insert(key, 70)?;
-//!         let Progress::Stored(update) = update.step()? else { panic!() }; // the value
-//!         let Progress::Stored(update) = update.step()? else { panic!() }; // the key: now the pair is in
+//!         let Progress::Stored { more: update, .. } = update.step()? else { panic!() }; // the value
+//!         let Progress::Stored { more: update, .. } = update.step()? else { panic!() }; // the key: now the pair is in
 //!         drop(update); // power goes before the final answer
 //!     }
 //!     let mut state = StateBlock::new();
@@ -61,7 +61,7 @@
 //!     fn tick(&mut self) -> Result<(), Refusal> {
 //!         let (work, answer) = match self.work.take() {
 //!             Some(Work::Updating(update)) => match update.step() {
-//!                 Ok(Progress::Stored(update)) => (Some(Work::Updating(update)), Ok(())),
+//!                 Ok(Progress::Stored { more, .. }) => (Some(Work::Updating(more)), Ok(())),
 //!                 Ok(Progress::Done(table, _answer)) => (Some(Work::Idle(table)), Ok(())),
 //!                 Err(refused) => (Some(Work::Updating(refused.unchanged)), Err(refused.refusal)),
 //!             },
@@ -76,6 +76,11 @@
 //! The card and the block have to outlive it; in static memory they do, and it is a `Controller<'static>`. Where they stand in
 //! one struct with what is in progress, which no borrow allows, keep the words and the [`StateBlock`] there and use [`calls`]:
 //! the block remembers what is in progress. `examples/controller` is a whole program.
+//!
+//! # A card behind a bus
+//!
+//! Lend a copy of it in memory, and bring each word stored to the card before the next step: [`InProgress::finish_with`], or
+//! the place in [`Progress::Stored`].
 //!
 //! # To abandon an update
 //!
@@ -100,7 +105,7 @@ mod table;
 
 pub use calls::StateBlock;
 pub use refusal::Refusal;
-pub use table::{FinalAnswer, Formatting, InProgress, Opened, Progress, Refused, Repair, Table, Update};
+pub use table::{FinalAnswer, Formatting, InProgress, Opened, Progress, Refused, Repair, Table, Unfinished, Update};
 
 pub const LEAST_NODES: usize = 4;
 pub const MOST_NODES: usize = 600;

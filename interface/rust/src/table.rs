@@ -61,8 +61,8 @@ pub enum Opened<'a> {
 #[derive(Debug)]
 #[must_use]
 pub enum Progress<'a, A> {
-    /// One word was stored. It has to be on the card before the next step.
-    Stored(InProgress<'a, A>),
+    /// One word was stored, `more.card()[place]`. It has to be on the card before the next step.
+    Stored { place: usize, more: InProgress<'a, A> },
     /// The final answer.
     Done(Table<'a>, A),
 }
@@ -90,19 +90,30 @@ impl<T> fmt::Display for Refused<T> {
 
 impl<T: fmt::Debug> core::error::Error for Refused<T> {}
 
+/// Why [`InProgress::finish_with`] gave no final answer.
+#[derive(Debug)]
+#[must_use]
+pub enum Unfinished<'a, A, E> {
+    /// A step was refused.
+    Refused(Refused<InProgress<'a, A>>),
+    /// A word could not be written, and the copy is ahead of the card. Read the card into it anew, or write the word after
+    /// all, and open it: [`InProgress::into_parts`]. To the card it is a cut.
+    Unwritten { error: E, ahead: InProgress<'a, A> },
+}
+
 /// The final answers of what can be in progress: a loop of your own over the steps of any of them asks for it.
 ///
 /// ```
 /// use ration_table::{FinalAnswer, InProgress, Progress, Refusal, Table};
 ///
-/// /// Steps to the final answer, with something to do after each store.
-/// fn finish<'a, A: FinalAnswer>(mut work: InProgress<'a, A>, mut stored: impl FnMut(&[u32])) -> Result<(Table<'a>, A), Refusal> {
+/// /// Steps to the final answer, and counts the stores.
+/// fn finish<'a, A: FinalAnswer>(mut work: InProgress<'a, A>, stores: &mut u32) -> Result<(Table<'a>, A), Refusal> {
 ///     loop {
 ///         match work.step()? {
-///             Progress::Stored(more) => work = more,
+///             Progress::Stored { more, .. } => work = more,
 ///             Progress::Done(table, answer) => return Ok((table, answer)),
 ///         }
-///         stored(work.card());
+///         *stores += 1;
 ///     }
 /// }
 /// ```
@@ -203,7 +214,7 @@ impl<'a, A: FinalAnswer> InProgress<'a, A> {
     /// Stores one word, or gives the final answer.
     pub fn step(self) -> Result<Progress<'a, A>, Refused<Self>> {
         match calls::step(self.table.card, self.table.state) {
-            Ok(Step::Stored) => Ok(Progress::Stored(self)),
+            Ok(Step::Stored { place }) => Ok(Progress::Stored { place, more: self }),
             Ok(last) => Ok(Progress::Done(self.table, A::of(last))),
             Err(refusal) => Err(Refused { unchanged: self, refusal }),
         }
@@ -213,7 +224,48 @@ impl<'a, A: FinalAnswer> InProgress<'a, A> {
     pub fn finish(mut self) -> Result<(Table<'a>, A), Refused<Self>> {
         loop {
             match self.step()? {
-                Progress::Stored(more) => self = more,
+                Progress::Stored { more, .. } => self = more,
+                Progress::Done(table, answer) => return Ok((table, answer)),
+            }
+        }
+    }
+
+    /// Steps to the final answer, and hands the place of each word stored and the word to `write`, which brings it to the card
+    /// of which the words lent are a copy in memory. It answers once the word is there whole.
+    ///
+    /// ```
+    /// # use core::num::NonZeroU32;
+    /// # use ration_table::{card_words, Refusal, StateBlock, Table, Unfinished};
+    /// # fn main() -> Result<(), Refusal> {
+    /// # let mut bus = [0; card_words(12)];
+    /// let mut copy = [0; card_words(12)];
+    /// let mut state = StateBlock::new();
+    /// let formatting = Table::format(&mut copy, &mut state)?;
+    /// let written = formatting.finish_with(|place, word| {
+    ///     bus[place] = word; // say, a write to FRAM over SPI
+    ///     Ok::<(), ()>(())
+    /// });
+    /// let (table, ()) = match written {
+    ///     Ok(done) => done,
+    ///     Err(Unfinished::Refused(refused)) => return Err(refused.into()),
+    ///     Err(Unfinished::Unwritten { .. }) => panic!("the bus is broken"),
+    /// };
+    /// assert_eq!(table.card(), bus);
+    /// # Ok(())
+    /// # }
+    /// ```
+    pub fn finish_with<E>(
+        mut self,
+        mut write: impl FnMut(usize, u32) -> Result<(), E>,
+    ) -> Result<(Table<'a>, A), Unfinished<'a, A, E>> {
+        loop {
+            match self.step().map_err(Unfinished::Refused)? {
+                Progress::Stored { place, more } => {
+                    if let Err(error) = write(place, more.card()[place]) {
+                        return Err(Unfinished::Unwritten { error, ahead: more });
+                    }
+                    self = more;
+                }
                 Progress::Done(table, answer) => return Ok((table, answer)),
             }
         }

@@ -37,7 +37,7 @@ same-length-2 c = search needs
 
 returns : tie.Need-returns Inv-loop μ-loop
 unfolding leftBy
-returns c = sym (c .before .before .before .before .loop .inv .0 ∙ repair-idle (c .before .before .before .before .loop .left) (c .before .before .before .before .loop .card) (memoryIn (c .before .before .before .before .loop .state)) (sym (c .before .is-idle .ensures) ∙ c .if1 .taken))
+returns c = sym (c .before .before .before .before .loop .inv .0 ∙ repair-idle (c .before .before .before .before .loop .left) (c .before .before .before .before .loop .card) (memoryIn (c .before .before .before .before .loop .state)) (sym (c .before .is-idle .ensures .0 (c .before .before .before .before .loop .inv .2)) ∙ c .if1 .taken))
 
 step-requires : tie.Need-step-requires Inv-loop μ-loop
 step-requires c κs = search needs
@@ -51,7 +51,7 @@ loop-less c = search needs
 loop-again : tie.Need-loop-again Inv-loop μ-loop
 loop-again c =
     let long = c .before .before .before .before .before .before .before .before .before .before .before .loop .inv .2 in (
-      c .before .before .before .before .before .before .before .before .before .before .before .loop .inv .0 ∙ repair-on (c .before .before .before .before .before .before .before .before .before .before .before .loop .left) (c .before .before .before .before .before .before .before .before .before .before .before .loop .card) (memoryIn (c .before .before .before .before .before .before .before .before .before .before .before .loop .state)) (omega arith) (sym (c .before .before .before .before .before .before .before .before .is-idle .ensures) ∙ c .before .before .before .before .before .before .before .if1 .left)
+      c .before .before .before .before .before .before .before .before .before .before .before .loop .inv .0 ∙ repair-on (c .before .before .before .before .before .before .before .before .before .before .before .loop .left) (c .before .before .before .before .before .before .before .before .before .before .before .loop .card) (memoryIn (c .before .before .before .before .before .before .before .before .before .before .before .loop .state)) (omega arith) (sym (c .before .before .before .before .before .before .before .before .is-idle .ensures .0 long) ∙ c .before .before .before .before .before .before .before .if1 .left)
           ∙ ap₂ (repairedCard (c .before .before .before .before .before .before .before .before .before .before .before .loop .left - 1)) (sym (c .before .before .before .before .step .ensures .stored long)) (sym (c .before .before .before .before .step .ensures .handed long)),
       c .before .before .before .before .step .kept .0 ∙ c .before .before .before .before .before .before .before .before .before .before .before .loop .inv .1,
       c .before .before .before .before .step .kept .1 .0 ∙ long,

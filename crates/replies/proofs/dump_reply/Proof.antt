@@ -8,8 +8,11 @@ use Rattle.replies.proofs.dump_reply.Tie as tie
 enum-known-answer : tie.Need-enum-known-answer
 enum-known-answer c = search needs
 
-cast-t5 : tie.Need-cast-t5
-cast-t5 c = record { fits = c .before .before .before .pre (c .before .answer .given .0 .0) (c .before .answer .given .1) }
+cast-valued : tie.Need-cast-valued
+cast-valued c = record { fits = c .before .before .before .pre (c .before .answer .given .0 .0) (c .before .answer .given .1) }
+
+valued-requires : tie.Need-valued-requires
+valued-requires c κs = search needs
 
 enum-known-answer-2 : tie.Need-enum-known-answer-2
 enum-known-answer-2 c = search needs
@@ -19,7 +22,7 @@ plain-requires c κs = search needs
 
 returns : tie.Need-returns
 unfolding dumpReply
-returns c = ap dumpReply (sym (c .before .answer .given .1))
+returns c = c .valued .ensures ∙ ap dumpReply (sym (c .before .before .answer .given .1))
 
 returns-2 : tie.Need-returns-2
 unfolding dumpReply
@@ -28,4 +31,4 @@ returns-2 c = c .plain .ensures ∙ ap dumpReply (sym (c .before .before .answer
 pub dump-reply-spec : {M : Type 1} → statement M
 dump-reply-spec =
     tie.close
-    (tie.spec enum-known-answer cast-t5 enum-known-answer-2 plain-requires returns returns-2)
+    (tie.spec enum-known-answer cast-valued valued-requires enum-known-answer-2 plain-requires returns returns-2)

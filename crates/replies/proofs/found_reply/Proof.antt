@@ -8,6 +8,9 @@ use Rattle.replies.proofs.found_reply.Tie as tie
 enum-known-found : tie.Need-enum-known-found
 enum-known-found c = search needs
 
+valued-requires : tie.Need-valued-requires
+valued-requires c κs = search needs
+
 enum-told : tie.Need-enum-told
 enum-told c = search needs
 
@@ -22,7 +25,7 @@ plain-requires-2 c κs = search needs
 
 returns : tie.Need-returns
 unfolding foundReply
-returns c = ap foundReply (sym (c .before .found .given .1))
+returns c = c .valued .ensures ∙ ap foundReply (sym (c .before .before .found .given .1))
 
 returns-2 : tie.Need-returns-2
 unfolding foundReply
@@ -37,6 +40,7 @@ found-reply-spec =
     tie.close
     (tie.spec
     enum-known-found
+    valued-requires
     enum-told
     plain-requires
     enum-known-found-2

@@ -50,7 +50,7 @@ impl<'a> Controller<'a> {
     fn tick(&mut self) -> Result<Tick, Refusal> {
         let (work, answer) = match self.work.take().expect("none only within a call") {
             Work::Updating(update) => match update.step() {
-                Ok(Progress::Stored(update)) => (Work::Updating(update), Ok(Tick::Stored)),
+                Ok(Progress::Stored { more, .. }) => (Work::Updating(more), Ok(Tick::Stored)),
                 Ok(Progress::Done(table, held)) => (Work::Idle(table), Ok(Tick::Done(held))),
                 Err(refused) => (Work::Updating(refused.unchanged), Err(refused.refusal)),
             },
@@ -85,7 +85,7 @@ fn finish<'a, A: FinalAnswer>(
 ) -> Result<(Table<'a>, A), Refusal> {
     loop {
         match work.step()? {
-            Progress::Stored(more) => work = more,
+            Progress::Stored { more, .. } => work = more,
             Progress::Done(table, answer) => return Ok((table, answer)),
         }
         stored(work.card());

@@ -26,7 +26,7 @@ returns : tie.Need-returns
 unfolding stepLeft stepFormat
 returns c = (
   ap₂ (λ (a : Answer) (m : Memory). record { answer = a; card = set (c .before .before .before .args .card .now) 0 0; memory = m }) (c .formatting .ensures .0) (c .formatting .ensures .1) ∙ sym (ap (stepFormat (c .before .before .before .args .card .now) (memoryOf (c .before .before .before .args .s)) (c .before .before .before .args .made)) (format-first (c .before .before .before .args .s .nodes) (length (c .before .before .before .args .card .now)) (c .before .before .before .args .made) (c .before .if1 .taken))),
-  (λ n e. absurd (stored-no-refusal n (sym (c .formatting .ensures .0) ∙ e))),
+  (λ n e. absurd (stored-no-refusal _ n (sym (c .formatting .ensures .0) ∙ e))),
 )
 
 formatted-word-requires : tie.Need-formatted-word-requires
@@ -38,6 +38,9 @@ mul-card c = search needs
 slice-write-card-2 : tie.Need-slice-write-card-2
 slice-write-card-2 c = search needs
 
+cast-formatting : tie.Need-cast-formatting
+cast-formatting c = search needs
+
 formatting-requires-2 : tie.Need-formatting-requires-2
 formatting-requires-2 c κs = search needs
 
@@ -47,8 +50,8 @@ same-length-2 c = search needs
 returns-2 : tie.Need-returns-2
 unfolding stepLeft stepFormat
 returns-2 c = (
-  ap₂ (λ (a : Answer) (m : Memory). record { answer = a; card = set (c .before .before .before .before .before .args .card .now) (c .before .before .before .before .before .args .made) (c .before .formatted-word .result); memory = m }) (c .formatting2 .ensures .0) (c .formatting2 .ensures .1) ∙ ap (λ (v : ℕ). record { answer = Stored; card = set (c .before .before .before .before .before .args .card .now) (c .before .before .before .before .before .args .made) v; memory = formatting (memoryOf (c .before .before .before .before .before .args .s)) (suc (c .before .before .before .before .before .args .made)) }) (c .before .formatted-word .ensures) ∙ sym (ap (stepFormat (c .before .before .before .before .before .args .card .now) (memoryOf (c .before .before .before .before .before .args .s)) (c .before .before .before .before .before .args .made)) (format-middle (c .before .before .before .before .before .args .s .nodes) (length (c .before .before .before .before .before .args .card .now)) (c .before .before .before .before .before .args .made) (c .before .before .before .if1 .left) (c .before .before .if2 .taken))),
-  (λ n e. absurd (stored-no-refusal n (sym (c .formatting2 .ensures .0) ∙ e))),
+  ap₂ (λ (a : Answer) (m : Memory). record { answer = a; card = set (c .before .before .before .before .before .args .card .now) (c .before .before .before .before .before .args .made) (c .before .formatted-word .result); memory = m }) (c .formatting2 .ensures .0) (c .formatting2 .ensures .1) ∙ ap (λ (v : ℕ). record { answer = Stored (c .before .before .before .before .before .args .made); card = set (c .before .before .before .before .before .args .card .now) (c .before .before .before .before .before .args .made) v; memory = formatting (memoryOf (c .before .before .before .before .before .args .s)) (suc (c .before .before .before .before .before .args .made)) }) (c .before .formatted-word .ensures) ∙ sym (ap (stepFormat (c .before .before .before .before .before .args .card .now) (memoryOf (c .before .before .before .before .before .args .s)) (c .before .before .before .before .before .args .made)) (format-middle (c .before .before .before .before .before .args .s .nodes) (length (c .before .before .before .before .before .args .card .now)) (c .before .before .before .before .before .args .made) (c .before .before .before .if1 .left) (c .before .before .if2 .taken))),
+  (λ n e. absurd (stored-no-refusal _ n (sym (c .formatting2 .ensures .0) ∙ e))),
 )
 
 slice-write-card-3 : tie.Need-slice-write-card-3
@@ -64,7 +67,7 @@ returns-3 : tie.Need-returns-3
 unfolding stepLeft stepFormat
 returns-3 c = (
   ap₂ (λ (a : Answer) (m : Memory). record { answer = a; card = set (c .before .before .before .before .before .args .card .now) 0 1; memory = m }) (c .formatting3 .ensures .0) (c .formatting3 .ensures .1) ∙ sym (ap (stepFormat (c .before .before .before .before .before .args .card .now) (memoryOf (c .before .before .before .before .before .args .s)) (c .before .before .before .before .before .args .made)) (format-last (c .before .before .before .before .before .args .s .nodes) (length (c .before .before .before .before .before .args .card .now)) (c .before .before .before .before .before .args .made) (c .before .before .before .if1 .left) (c .before .if3 .taken))),
-  (λ n e. absurd (stored-no-refusal n (sym (c .formatting3 .ensures .0) ∙ e))),
+  (λ n e. absurd (stored-no-refusal _ n (sym (c .formatting3 .ensures .0) ∙ e))),
 )
 
 idled-requires : tie.Need-idled-requires
@@ -88,6 +91,7 @@ step-format-spec =
     formatted-word-requires
     mul-card
     slice-write-card-2
+    cast-formatting
     formatting-requires-2
     same-length-2
     returns-2

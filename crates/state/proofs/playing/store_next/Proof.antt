@@ -37,11 +37,11 @@ due c =
     let h = below c in
     ap (λ (rest : List Store). stepStore (c .args .card .now) (memoryOf (c .args .s)) (getD rest 0 (0, 0)) (advanced (memoryOf (c .args .planned)) (drop 1 rest))) (store-at (c .args .planned .plan) (c .args .planned .made) lp lv (h .0) (h .1))
 
-mul-at : tie.Need-mul-at
-mul-at c = let s = c .before .before in omega (arith, below s .1)
+mul-place : tie.Need-mul-place
+mul-place c = let s = c .before .before in omega (arith, below s .1)
 
-element-copy-out-at : tie.Need-element-copy-out-at
-element-copy-out-at c = let s = c .before .before in below s .1
+element-copy-out-place : tie.Need-element-copy-out-place
+element-copy-out-place c = let s = c .before .before in below s .1
 
 cast-at : tie.Need-cast-at
 cast-at c = search needs
@@ -72,17 +72,17 @@ returns-2 : tie.Need-returns-2
 unfolding stepLeft
 returns-2 c =
     let s = c .before .before .before .before .before .before in (
-      ap (λ (m : Memory). record { answer = Stored; card = set (s .args .card .now) (next s .0) (next s .1); memory = m }) (c .advance .ensures)
+      ap (λ (m : Memory). record { answer = Stored (next s .0); card = set (s .args .card .now) (next s .0) (next s .1); memory = m }) (c .advance .ensures)
           ∙ sym (due s ∙ store-inside (s .args .card .now) (memoryOf (s .args .s)) (next s) (then s) (omega (arith, c .before .before .if1 .left))),
-      (λ n e. absurd (stored-no-refusal n e)),
+      (λ n e. absurd (stored-no-refusal _ n e)),
     )
 
 pub store-next-spec : {M : Type 1} → statement M
 store-next-spec =
     tie.close
     (tie.spec
-    mul-at
-    element-copy-out-at
+    mul-place
+    element-copy-out-place
     cast-at
     returns
     mul-card

@@ -10,8 +10,8 @@ use Rattle.table.proofs.PlayLaws.{format-stored}
 use Rattle.table.proofs.playing.play_format.Statement.{statement}
 use Rattle.table.proofs.playing.play_format.Tie as tie
 
-slice-read-wide : tie.Need-slice-read-wide
-slice-read-wide c = search needs
+slice-read-place : tie.Need-slice-read-place
+slice-read-place c = search needs
 
 wide-requires : tie.Need-wide-requires
 wide-requires c κs = search needs
@@ -28,9 +28,6 @@ mul-card c = search needs
 slice-write-card : tie.Need-slice-write-card
 slice-write-card c = search needs
 
-slice-read-block : tie.Need-slice-read-block
-slice-read-block c = search needs
-
 add-block : tie.Need-add-block
 add-block c = search needs
 
@@ -45,20 +42,19 @@ same-length-2 c = search needs
 
 returns-3 : tie.Need-returns-3
 returns-3 c =
-    format-stored (c .before .before .before .before .before .before .before .args .card .now) (c .before .before .before .before .before .before .before .args .block .now) (c .before .before .before .wide .result) (c .before .before .before .before .before .before .before .pre .0) (c .before .before .before .before .before .before .before .pre .1) (c .before .before .before .wide .ensures) (omega arith) (omega arith)
-    ∙ ap (λ (made : ℕ). record { answer = Stored; card = set (c .before .before .before .before .before .before .before .args .card .now) (c .before .before .before .wide .result) 0; memory = memoryIn (set (c .before .before .before .before .before .before .before .args .block .now) 3 (made + 1)) }) (c .before .before .before .wide .ensures)
+    format-stored (c .before .before .before .before .before .before .args .card .now) (c .before .before .before .before .before .before .args .block .now) (c .before .before .wide .result) (c .before .before .before .before .before .before .pre .0) (c .before .before .before .before .before .before .pre .1) (c .before .before .wide .ensures) (omega arith) (omega arith)
+    ∙ ap (λ (made : ℕ). record { answer = Stored made; card = set (c .before .before .before .before .before .before .args .card .now) (c .before .before .wide .result) 0; memory = memoryIn (set (c .before .before .before .before .before .before .args .block .now) 3 (made + 1)) }) (c .before .before .wide .ensures)
 
 pub play-format-spec : {M : Type 1} → statement M
 play-format-spec =
     tie.close
     (tie.spec
-    slice-read-wide
+    slice-read-place
     wide-requires
     returns
     returns-2
     mul-card
     slice-write-card
-    slice-read-block
     add-block
     slice-write-block
     same-length

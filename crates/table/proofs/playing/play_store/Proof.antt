@@ -1,7 +1,7 @@
 -- `table::playing::play_store` meets its contract.
 use mathlib.Core.Path.{_≡_, sym, ap, _∙_}
 use mathlib.Core.Bool.{true}
-use Prim.Native.Nat.{_+_, _<_}
+use Prim.Native.Nat.{ℕ, _+_, _<_}
 use native.Mathlib.Omega.{arith}
 use lib.ListN.{getD, set, drop}
 use borrow.Author.Tests.{not-false}
@@ -9,8 +9,9 @@ use borrow.Author.Needs.{needs}
 use Rattle.plans.specs.Plan.{storesOf}
 use Rattle.state.specs.Memory.{Memory}
 use Rattle.state.specs.Results.{more}
+use Rattle.state.specs.Steps.{Step}
 use Rattle.state.specs.declared.Answer.the-variants.{Stored}
-use Rattle.state_block.specs.Block.{unpacked}
+use Rattle.state_block.specs.Block.{unpacked, memoryIn}
 use Rattle.table.proofs.PlayLaws.{plan-below, task-stored}
 use Rattle.table.proofs.playing.play_store.Statement.{statement}
 use Rattle.table.proofs.playing.play_store.Tie as tie
@@ -37,14 +38,14 @@ same-length c = search needs
 returns : tie.Need-returns
 returns c task = search needs
 
-add-wide : tie.Need-add-wide
-add-wide c = record { fits = omega (arith, below c) }
+add-place : tie.Need-add-place
+add-place c = record { fits = omega (arith, below c) }
 
-mul-wide : tie.Need-mul-wide
-mul-wide c = record { fits = omega (arith, below c) }
+mul-place : tie.Need-mul-place
+mul-place c = record { fits = omega (arith, below c) }
 
-slice-read-wide-2 : tie.Need-slice-read-wide-2
-slice-read-wide-2 c = omega (arith, below (c .before), c .before .before .before .before .before .before .before .before .pre)
+slice-read-place : tie.Need-slice-read-place
+slice-read-place c = omega (arith, below (c .before), c .before .before .before .before .before .before .before .before .pre)
 
 wide-requires-2 : tie.Need-wide-requires-2
 wide-requires-2 c κs = search needs
@@ -84,8 +85,13 @@ same-length-4 c = search needs
 
 returns-3 : tie.Need-returns-3
 returns-3 c task =
-    task-stored (c .before .before .before .before .before .before .before .before .before .before .before .before .before .before .before .args .block .now) (c .before .before .before .before .before .before .before .before .before .before .before .before .before .before .before .pre) (c .before .before .before .before .before .before .before .before .before .before .before .before .before .before .before .args .card .now) task (c .before .before .before .before .before .before .before .before .before .before .before .wide .result) (c .before .before .before .before .before .before .wide2 .result) (c .before .before .before .before .before .before .before .before .before .before .before .wide .ensures) (hand (c .before .before .before .before .before .before .before .before)) (c .before .before .before .before .before .before .wide2 .ensures) (omega (arith, c .before .before .before .before .before .if2 .left))
-    ∙ ap (λ (m : Memory). record { answer = Stored; card = set (c .before .before .before .before .before .before .before .before .before .before .before .before .before .before .before .args .card .now) (c .before .before .before .before .before .before .wide2 .result) (getD (c .before .before .before .before .before .before .before .before .before .before .before .before .before .before .before .args .block .now) (104 + c .before .before .before .before .before .before .before .before .before .before .before .wide .result) 0); memory = m }) (sym (c .before .before .advance .ensures))
+    let s = c .before .before .before .before .before .before .before .before .before .before .before .before .before .before .before in
+    let k = c .before .before .before .before .before .before .before .before .before .before .before .wide .result in
+    let at = c .before .before .before .before .before .before .wide2 .result in
+    let due : ℕ → Memory → Step = λ place m. record { answer = Stored place; card = set (s .args .card .now) at (getD (s .args .block .now) (104 + k) 0); memory = m } in
+    task-stored (s .args .block .now) (s .pre) (s .args .card .now) task k at (c .before .before .before .before .before .before .before .before .before .before .before .wide .ensures) (hand (c .before .before .before .before .before .before .before .before)) (c .before .before .before .before .before .before .wide2 .ensures) (omega (arith, c .before .before .before .before .before .if2 .left))
+    ∙ ap (due at) (sym (c .before .before .advance .ensures))
+    ∙ ap (λ (place : ℕ). due place (memoryIn (c .before .before .advance .last .0))) (c .before .before .before .before .before .before .wide2 .ensures)
 
 pub play-store-spec : {M : Type 1} → statement M
 play-store-spec =
@@ -96,9 +102,9 @@ play-store-spec =
     in-hand-requires
     same-length
     returns
-    add-wide
-    mul-wide
-    slice-read-wide-2
+    add-place
+    mul-place
+    slice-read-place
     wide-requires-2
     same-length-2
     returns-2
