@@ -10,7 +10,7 @@ use Rattle.card.specs.NodeWords.{OnCard}
 use Rattle.descent.specs.declared.Position.{Position}
 use Rattle.change_decide.specs.Decide.{leftSibling, leftNumber, rightNumber}
 use Rattle.change_decide.specs.declared.Decision.{Decision}
-use Rattle.change_decide.specs.declared.Decision.the-variants.{Refused, Balanced, Absorb, SplitParent, Share, Merge, MergeRoot}
+use Rattle.change_decide.specs.declared.Decision.the-variants.{Refused, Balanced, PutPair, ClearKey, SplitLeaf, Absorb, SplitParent, Share, Merge, MergeRoot}
 
 -- a position on a card of n nodes that has a parent
 pub record PositionWithin (card : List ℕ) (n : ℕ) (p : Position) : Type 0 where
@@ -57,10 +57,18 @@ pub record SiblingsAt (card : List ℕ) (p : Position) : Type 0 where
   pub inner : (kindOf (leftAt card p) ≡ 1 → ⊥) → (0 < length (children (leftAt card p))) × (0 < length (children (rightAt card p)))
   pub few : togetherCount card p ≤ 12
 
+-- a leaf on the card, for an update
+pub record LeafAt (card : List ℕ) (m : ℕ) : Type 0 where
+  pub on : OnCard card m
+  pub most : m ≤ greatestNodes
+
 -- what each decision says of the card
 unfoldable pub Fits : List ℕ → Decision → Type 0
 Fits card Refused = Unit {0}
 Fits card Balanced = Unit {0}
+Fits card (PutPair m i key value) = LeafAt card m × (i < 11)
+Fits card (ClearKey m i) = LeafAt card m × (i < 11)
+Fits card (SplitLeaf m link key value) = LeafAt card m × (link < 2 ^ 32) × (length (leafPairs (nodeAt card m)) ≡ 11)
 Fits card (Absorb p) = TaggedAt card p × (length (children (parentAt card p)) ≤ 10)
 Fits card (SplitParent p) = TaggedAt card p × (10 < length (children (parentAt card p)))
 Fits card (Share p) = SiblingsAt card p × (4 ≤ togetherCount card p)

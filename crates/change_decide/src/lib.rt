@@ -15,8 +15,27 @@ ghost use Rattle.change_decide.specs.Places.{PositionWithin};
 pub enum Decision {
     // refusal 9
     Refused,
-    // nothing to repair on the way
+    // nothing to change, or nothing to repair on the way
     Balanced,
+    // "With an empty slot: value first, then key"
+    PutPair {
+        node: usize,
+        slot: usize,
+        key: u32,
+        value: u32,
+    },
+    // "Delete: key word to 0"
+    ClearKey {
+        node: usize,
+        slot: usize,
+    },
+    // "Leaf full: the 12 pairs go 6 and 6 into two leaves", linked from the place
+    SplitLeaf {
+        node: usize,
+        link: usize,
+        key: u32,
+        value: u32,
+    },
     // "a new copy of the parent takes its key and children in"
     Absorb(Position),
     // "Parent with 11: the 12 children go 6 and 6 into two internal nodes"

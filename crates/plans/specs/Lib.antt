@@ -2,5 +2,5 @@
 pub mod Change
 -- the nodes that a change is given, and what a step finds that has none in hand
 pub mod Planning
--- what the plans, the numbers and the answers in code say, in the terms of Change and Planning
+-- what the plans and the numbers in code say, in the terms of Change and Planning
 pub mod Plan

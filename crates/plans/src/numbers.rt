@@ -1,45 +1,66 @@
 // The nodes given for a change: "A change takes the next free node after the one given last".
 use free_nodes::Next;
-use free_nodes::NodeSet;
+use free_nodes::next_free;
+ghost use mathlib.Core.Path.{_≡_};
 ghost use Prim.Native.Nat.{_≤_};
-ghost use Rattle.free_nodes.specs.NodeSet.{nodesOf};
-ghost use Rattle.plans.specs.Plan.{Gives};
+ghost use lib.ListN.{length, take};
+ghost use Rattle.free_nodes.specs.NodeSet.{wordCount, nodesOf};
+ghost use Rattle.plans.specs.Planning.{takeNumbers, withoutAll, lastOf};
+ghost use Rattle.plans.specs.Plan.{givenBy, Among};
 
-// The numbers in the order given, then 0; the nodes then free, and the node given last. Where there are not enough, that alone counts.
-pub struct Given {
-    pub enough: bool,
-    pub nodes: [u32; 3],
-    pub free: NodeSet,
-    pub last: usize,
+// "or too few free nodes", or the numbers in the order given, "left, right, then above", with 0 for those that are not needed.
+pub enum Given {
+    TooFew,
+    Nodes { left: u32, right: u32, above: u32 },
 }
 
-// So many nodes, if there are enough: "or too few free nodes".
-pub fn give(free: NodeSet, last: usize, count: usize) -> Given
-    requires { ⌜ count ≤ 3 ⌝ }
-    ensures { λ r. ⌜ Gives r count (nodesOf (free .words)) last ⌝ }
+// So many nodes, if there are enough. None is taken out: the search goes on in the same words, and when it comes back to the first
+// node that it found it has gone round and none is left. While none is found the first is 0, and there is no node 0.
+pub fn give(free: &[u32], last: usize, count: usize) -> Given
+    requires { ⌜ (length (now free) ≡ wordCount) × (count ≤ 3) ⌝ }
+    ensures { λ r. ⌜ takeNumbers count (nodesOf (now (free .entry))) last ≡ givenBy r count ⌝ }
 {
     let mut nodes: [u32; 3] = [0; 3];
-    let mut fewer = free;
     let mut latest = last;
     let mut i: usize = 0;
     while i < count {
-        let Next::Node(m) = free_nodes::next_free(&fewer.words, latest) else {
-            return Given {
-                enough: false,
-                nodes,
-                free: fewer,
-                last: latest,
-            };
+        let Next::Node(m) = next_free(free, latest) else {
+            return Given::TooFew;
         };
-        nodes[i] = m as u32;
-        fewer = free_nodes::without_node(fewer, m);
+        let number = m as u32;
+        if number == nodes[0] {
+            return Given::TooFew;
+        }
+        nodes[i] = number;
         latest = m;
         i += 1;
     }
-    Given {
-        enough: true,
-        nodes,
-        free: fewer,
-        last: latest,
+    Given::Nodes {
+        left: nodes[0],
+        right: nodes[1],
+        above: nodes[2],
     }
+}
+
+// "nor given for the change in hand": the nodes given are free no longer.
+pub fn take(free: &mut [u32], nodes: [u32; 3], count: usize)
+    requires { ⌜ (length (now free) ≡ wordCount) × (count ≤ 3) × Among count nodes ⌝ }
+    ensures { λ _. ⌜ nodesOf (now (free .exit)) ≡ withoutAll (take count nodes) (nodesOf (now (free .entry))) ⌝ }
+{
+    let mut i: usize = 0;
+    while i < count {
+        free_nodes::take_out(free, nodes[i] as usize);
+        i += 1;
+    }
+}
+
+// The node given last, then.
+pub fn last_given(nodes: [u32; 3], count: usize, last: usize) -> usize
+    requires { ⌜ count ≤ 3 ⌝ }
+    ensures { λ r. ⌜ r ≡ lastOf last (take count nodes) ⌝ }
+{
+    if count == 0 {
+        return last;
+    }
+    nodes[count - 1] as usize
 }

@@ -29,7 +29,7 @@ use Rattle.plans.specs.Planning.{Preparation, refused, balanced, prepared, numb
 use Rattle.soundness.specs.Check.{Findings, tableCheck}
 use Rattle.state.specs.Memory.{Memory, memoryOf, noMemory, resting, idled, advanced}
 use Rattle.updates.specs.Updates.{Reason, held, slot, full, FirstChange, landing, insertReason, insertChange, deleteChange, insertIn, deleteIn, noWay, inLeaf, nextChange}
-use Rattle.updates.proofs.Preparations.{either, repair-by}
+use Rattle.updates.proofs.Preparations.{either, Preserved, next-by}
 use Rattle.state.specs.Steps.{heldBy, Handed, Step, noBeginning, stepRefused, stepFinal, formatStore, formatting, stepFormat, stepStore}
 use Rattle.opening.specs.Opening.{openSound, openChecked, openOf}
 use Rattle.starting.specs.Starts.{formatOf}
@@ -128,6 +128,10 @@ module _ (free : List Bool) (last : ℕ) (bits : length free ≤ 2 ^ 32) (small 
   unfolding giving
   low-giving k change = low-over change (takeNumbers k free last) (λ ms e. last-taken k free last ms bits small e)
 
+  low-prepared : Preserved LowLast free last
+  unfolding LowLast
+  low-prepared = record { none-planned = tt; nothing = tt; no-nodes = λ s ss. small; given = low-giving }
+
   -- the change planned, and what is done from then on
   low-insert-in : (key value m link : ℕ) (node : List ℕ) (reason : Reason) → LowFirst (insertChange key value free last m link node reason)
   unfolding insertChange formatted LowFirst LowLast
@@ -149,7 +153,7 @@ module _ (free : List Bool) (last : ℕ) (bits : length free ≤ 2 ^ 32) (small 
   unfolding nextChange LowFirst LowLast
   low-next card n doing (PutIn key value) h = low-leaf card doing (insertIn key value free last) (λ m link node. low-insert-in key value m link node (insertReason node key)) (landing card n key) h
   low-next card n doing (TakeOut key) h = low-leaf card doing (deleteIn key free last) (λ m link node. low-delete-in key m node (slotOf node key)) (landing card n key) h
-  low-next card n doing (Repair key answer) h = (repair-by LowLast tt free last low-giving tt card n key, h)
+  low-next card n doing (Repair key answer) h = (next-by LowLast free last low-prepared card n doing (Repair key answer), h)
 
 -- ---- a step
 

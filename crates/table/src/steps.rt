@@ -1,7 +1,18 @@
 // The steps of anything but formatting.
+use change::cut_of;
+use change::lay_places;
+use change::lay_values;
+use change::nodes_needed;
+use change::outcome_of;
+use change::store_count;
+use change_decide::Decision;
+use free_nodes::NodeSet;
 use plans::Outcome;
 use plans::Plan;
-use plans::Planned;
+use plans::numbers::Given;
+use plans::numbers::give;
+use plans::numbers::last_given;
+use plans::numbers::take;
 use state::Answer;
 use state::Doing;
 use state::State;
@@ -10,34 +21,91 @@ use state::Task;
 use state::idled;
 use state::in_hand;
 use state::store_next;
+use updates::First;
 use updates::next_change;
 ghost use mathlib.Core.Path.{_≡_};
 ghost use mathlib.Core.List.{[]};
-ghost use lib.ListN.{length};
+ghost use mathlib.Core.Option.{some};
+ghost use lib.ListN.{length, take};
 ghost use Rattle.card.specs.Header.{Sized};
-ghost use Rattle.plans.specs.Plan.{preparationOf};
+ghost use Rattle.change.specs.LayOut.{outcomeOf, needed, layOut};
+ghost use Rattle.change_decide.specs.Places.{Fits};
+ghost use Rattle.free_nodes.specs.NodeSet.{nodesOf};
+ghost use Rattle.laws.specs.Lists.{beforeZero};
+ghost use Rattle.plans.specs.Planning.{prepared, takeNumbers};
+ghost use Rattle.plans.specs.Plan.{storesOf};
+ghost use Rattle.plans.specs.declared.Outcome.the-variants.{Prepared};
 ghost use Rattle.state.specs.Memory.{memoryOf};
 ghost use Rattle.state.specs.Steps.{heldBy};
+ghost use Rattle.state.specs.declared.Answer.{Answer};
 ghost use Rattle.state.specs.declared.Held.the-variants.{Nothing, Task as HeldTask};
-ghost use Rattle.updates.specs.Results.{Storing};
-ghost use Rattle.table.specs.Calls.{stepPrepared, stepTask, stepHeld};
+ghost use Rattle.updates.specs.Decided.{laidFirst};
+ghost use Rattle.table.specs.Calls.{stepPrepared, stepBegin, stepTask, stepHeld};
 ghost use Rattle.state.specs.Results.{stepLeft, Unchanged, Final};
 
-// Where no change is in hand: refused, the final answer, or the first store of the change prepared.
-fn step_prepared(
-    card: &mut [u32],
-    s: State,
-    doing: Doing,
-    answer: Answer,
-    plan: Plan,
-    p: Planned,
-) -> Stepped
-    requires { ⌜ Final answer × (plan .count ≡ p .count) × Storing (preparationOf (plan .places) (plan .values) p) ⌝ }
-    ensures { λ r. ⌜ stepLeft (now (card .exit)) r ≡ stepPrepared (now (card .entry)) (memoryOf s) doing answer (preparationOf (plan .places) (plan .values) p) ⌝ }
+// The state with a change planned: its stores over the nodes given, which are free no longer, and what it will cut out.
+fn planned(card: &[u32], s: State, doing: Doing, decision: Decision, nodes: [u32; 3]) -> State
+    requires { ⌜ Fits (now card) decision × (outcomeOf decision ≡ Prepared)
+        × (takeNumbers (needed decision) (nodesOf (s .free .words)) (s .last) ≡ some (take (needed decision) nodes)) ⌝ }
+    ensures { λ r. ⌜ (prepared (storesOf (r .plan)) (nodesOf (r .free .words)) (r .last) (beforeZero (r .cut))
+        ≡ layOut (now (card .entry)) decision (nodesOf (s .free .words)) (s .last))
+        × (r .nodes ≡ s .nodes) × (r .doing ≡ doing) × (r .made ≡ 0) ⌝ }
+{
+    let mut places: [u32; 73] = [0; 73];
+    let mut values: [u32; 73] = [0; 73];
+    lay_places(decision, nodes, &mut places);
+    lay_values(card, decision, nodes, &mut values);
+    let plan = Plan {
+        places,
+        values,
+        count: store_count(decision),
+    };
+    let count = nodes_needed(decision);
+    let free = s.free;
+    let mut words = free.words;
+    take(&mut words, nodes, count);
+    let cut = cut_of(card, decision);
+    State {
+        nodes: s.nodes,
+        free: NodeSet { words },
+        last: last_given(nodes, count, s.last),
+        doing,
+        plan,
+        made: 0,
+        cut,
+    }
+}
+
+// A change: its nodes are given, "or too few free nodes", and the first of its stores is made.
+fn step_change(card: &mut [u32], s: State, doing: Doing, decision: Decision) -> Stepped
+    requires { ⌜ Fits (now card) decision × (outcomeOf decision ≡ Prepared) ⌝ }
+    ensures { λ r. ⌜ ((final : Answer) → stepLeft (now (card .exit)) r
+        ≡ stepPrepared (now (card .entry)) (memoryOf s) doing final (layOut (now (card .entry)) decision (nodesOf (s .free .words)) (s .last))) ⌝ }
     ensures { λ r. ⌜ Unchanged s r ⌝ }
 {
-    let outcome = p.outcome;
-    match outcome {
+    let free = s.free;
+    let Given::Nodes { left, right, above } = give(&free.words, s.last, nodes_needed(decision))
+    else {
+        return Stepped {
+            answer: Answer::Refused(9),
+            state: s,
+        };
+    };
+    let then = planned(card, s, doing, decision, [left, right, above]);
+    store_next(card, s, then)
+}
+
+// What is decided: refused, the final answer, or a change.
+fn step_decided(card: &mut [u32], s: State, next: First) -> Stepped
+    requires { ⌜ Final (next .answer) × Fits (now card) (next .decision) ⌝ }
+    ensures { λ r. ⌜ stepLeft (now (card .exit)) r
+        ≡ stepBegin (now (card .entry)) (memoryOf s) (laidFirst (now (card .entry)) next (nodesOf (s .free .words)) (s .last)) ⌝ }
+    ensures { λ r. ⌜ Unchanged s r ⌝ }
+{
+    let doing = next.doing;
+    let answer = next.answer;
+    let decision = next.decision;
+    match outcome_of(decision) {
         Outcome::Refused => Stepped {
             answer: Answer::Refused(9),
             state: s,
@@ -46,52 +114,19 @@ fn step_prepared(
             let state = idled(s);
             Stepped { answer, state }
         }
-        Outcome::Prepared => {
-            let free = p.free;
-            let cut = p.cut;
-            let planned = State {
-                nodes: s.nodes,
-                free,
-                last: p.last,
-                doing,
-                plan,
-                made: 0,
-                cut,
-            };
-            store_next(card, s, planned)
-        }
+        Outcome::Prepared => step_change(card, s, doing, decision),
     }
 }
 
-// A step that has no store left to make. The rows of the plan are lent to the planning from here.
+// A step that has no store left to make.
 fn step_plan(card: &mut [u32], s: State, task: Task) -> Stepped
     requires { ⌜ Sized (length (now card)) (s .nodes) × (heldBy (s .doing) ≡ HeldTask task) ⌝ }
     ensures { λ r. ⌜ stepLeft (now (card .exit)) r ≡ stepTask (now (card .entry)) (memoryOf s) task [] ⌝ }
     ensures { λ r. ⌜ Unchanged s r ⌝ }
 {
-    let mut places = [0; 73];
-    let mut values = [0; 73];
     let doing = s.doing;
-    let free = s.free;
-    let next = next_change(
-        card,
-        s.nodes,
-        doing,
-        task,
-        free,
-        s.last,
-        &mut places,
-        &mut values,
-    );
-    let then = next.doing;
-    let answer = next.answer;
-    let planned = next.planned;
-    let plan = Plan {
-        places,
-        values,
-        count: planned.count,
-    };
-    step_prepared(card, s, then, answer, plan, planned)
+    let next = next_change(card, s.nodes, doing, task);
+    step_decided(card, s, next)
 }
 
 // A step of a state that holds nothing: the refusals 2 and 3, then 10.

@@ -1,7 +1,7 @@
 -- Laws of the updates: one for each branch of the code.
-use mathlib.Core.Path.{_≡_, refl, ap, sym, _∙_}
+use mathlib.Core.Path.{_≡_, refl, ap, sym, subst, _∙_}
 use mathlib.Core.List.{List, [], _∷_}
-use mathlib.Core.Bool.{Bool, false}
+use mathlib.Core.Bool.{Bool, true, false}
 use mathlib.Core.Option.{Option, none, some}
 use Prim.Native.Nat.{ℕ, zero, suc, _^_, _≤_, _<_}
 use native.Mathlib.Omega.{arith}
@@ -14,7 +14,7 @@ use Rattle.descent.specs.Descent.{firstEqual, slotOf, lookAt, rootPosition, chi
 use Rattle.descent.proofs.DescentLaws.{Inside, index-le, leaf-inside, inner-inside, unsought-refused, unsought-leaf}
 use Rattle.descent.proofs.Along.{along, run-over-le}
 use Rattle.laws.proofs.Cases.{impossible}
-use Rattle.updates.specs.Updates.{landing, Reason, insertReason, insertChange, deleteChange, nextChange, held, slot, full, FirstChange, insertIn, deleteIn, noWay, inLeaf}
+use Rattle.updates.specs.Updates.{landing, Reason, emptyReason, insertReason, insertChange, deleteChange, nextChange, held, slot, full, FirstChange, insertIn, deleteIn, noWay, inLeaf}
 use Rattle.descent.specs.declared.Slot.{Slot}
 use Rattle.descent.specs.declared.Slot.the-variants.{At, Absent as NoSlot}
 use Rattle.descent.specs.declared.Landing.{Landing}
@@ -24,7 +24,13 @@ use Rattle.descent.specs.declared.Look.the-variants.{Inner as IsInner}
 use Rattle.descent.specs.declared.End.the-variants.{Refused as EndRefused, Leaf as EndLeaf}
 use Rattle.state.specs.declared.Doing.{Doing}
 use Rattle.state.specs.declared.Doing.the-variants.{Inserting, Deleting}
-use Rattle.state.specs.declared.Answer.the-variants.{Refused}
+use Rattle.state.specs.declared.Answer.the-variants.{Refused, Absent}
+use Rattle.change_decide.specs.declared.Decision.the-variants.{Refused as NoStep}
+use Rattle.updates.specs.Decided.{placed, insertAnswer, insertDecided, decidedIn}
+use Rattle.updates.specs.Results.{Arrives}
+use Rattle.updates.specs.declared.First.{First}
+use Rattle.updates.specs.declared.Arrival.{Arrival}
+use Rattle.updates.specs.declared.Arrival.the-variants.{Refused as NoArrival, Leaf as ArrivesAt}
 use Rattle.state.specs.declared.Task.{Task}
 use Rattle.state.proofs.Tasks.{TaskOf, putting, taking, put, taken, opened}
 
@@ -110,18 +116,42 @@ delete-final-in key free last m node NoSlot n e = impossible (cc)
 
 -- the first change of an update, by where its key leads to
 module _ (card : List ℕ) (doing : Doing) (change : ℕ → ℕ → List ℕ → FirstChange) where
-  pub no-way : {l : Landing} → l ≡ NoLanding → inLeaf card doing change l ≡ noWay doing
-  unfolding inLeaf
-  no-way e = ap (inLeaf card doing change) e
-
-  pub in-leaf : {l : Landing} {m link run : ℕ} → l ≡ LandingAt m link run → inLeaf card doing change l ≡ change m link (nodeAt card m)
-  unfolding inLeaf
-  in-leaf e = ap (inLeaf card doing change) e
-
   leaf-final : ((m link : ℕ) (node : List ℕ) (n : ℕ) → change m link node .final ≡ Refused n → ⊥) → (l : Landing) (n : ℕ) → inLeaf card doing change l .final ≡ Refused n → ⊥
   unfolding inLeaf noWay
   leaf-final h NoLanding n e = impossible (cc)
   leaf-final h (LandingAt m link run) n e = h m link (nodeAt card m) n e
+
+-- where an update's key leads to, as the code finds it
+module _ (card : List ℕ) (n key : ℕ) (a : Arrival) (h : Arrives a (landing card n key)) where
+  pub nowhere : a ≡ NoArrival → landing card n key ≡ NoLanding
+  unfolding Arrives
+  nowhere e = subst (λ (r : Arrival). Arrives r (landing card n key)) e h
+
+  pub somewhere : (m link : ℕ) → a ≡ ArrivesAt m link → (run : ℕ) × (landing card n key ≡ LandingAt m link run)
+  unfolding Arrives
+  somewhere m link e = subst (λ (r : Arrival). Arrives r (landing card n key)) e h
+
+-- what is decided where the key is not held, by the lowest empty slot
+pub answer-empty : (leaf : List ℕ) (key value m link : ℕ)
+    → record { doing = Inserting key value true; answer = Absent; decision = placed key value m link (emptyReason (slotOf leaf 0)) }
+    ≡ insertDecided key value m link (emptyReason (slotOf leaf 0))
+unfolding insertAnswer emptyReason
+answer-empty leaf key value m link = go (slotOf leaf 0)
+  where
+    go : (found : Slot) → record { doing = Inserting key value true; answer = Absent; decision = placed key value m link (emptyReason found) }
+        ≡ insertDecided key value m link (emptyReason found)
+    go (At i) = refl
+    go NoSlot = refl
+
+-- what is decided, by where the key leads to
+module _ (card : List ℕ) (doing : Doing) (at : ℕ → ℕ → List ℕ → First) where
+  pub no-way : {l : Landing} → l ≡ NoLanding → record { doing = doing; answer = Absent; decision = NoStep } ≡ decidedIn card doing at l
+  unfolding decidedIn
+  no-way e = sym (ap (decidedIn card doing at) e)
+
+  pub in-leaf : {l : Landing} {m link run : ℕ} → l ≡ LandingAt m link run → at m link (nodeAt card m) ≡ decidedIn card doing at l
+  unfolding decidedIn
+  in-leaf e = sym (ap (decidedIn card doing at) e)
 
 -- nor is that of any task
 pub next-final : (card : List ℕ) (nodes : ℕ) (free : List Bool) (last : ℕ) {doing : Doing} {task : Task} → TaskOf doing task → (n : ℕ) → nextChange card nodes free last doing task .final ≡ Refused n → ⊥

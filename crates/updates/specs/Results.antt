@@ -1,25 +1,13 @@
 -- What the answers in code say, in the terms of Updates. These are definitions.
 use mathlib.Core.Path.{_≡_}
-use mathlib.Core.List.{List}
 use Prim.Native.Nat.{ℕ}
 use mathlib.Core.Bool.{true}
-use Rattle.plans.specs.Plan.{preparationOf}
 use Rattle.plans.specs.Planning.{Preparation, refused, balanced, prepared}
 use Rattle.state.specs.Results.{more}
-use Rattle.updates.specs.Updates.{FirstChange}
-use Rattle.updates.specs.declared.First.{First}
 use Rattle.updates.specs.declared.Arrival.{Arrival}
 use Rattle.updates.specs.declared.Arrival.the-variants.{Refused, Leaf}
 use Rattle.descent.specs.declared.Landing.{Landing}
 use Rattle.descent.specs.declared.Landing.the-variants.{Refused as NoLanding, Leaf as LandingAt}
-
--- the next change, its stores being in the rows that the step lends
-unfoldable pub firstOf : List ℕ → List ℕ → First → FirstChange
-firstOf places values f = record { doing = f .doing; final = f .answer; preparation = preparationOf places values (f .planned) }
-
--- the same whatever the rows hold
-abbrev pub InAnyRows : First → FirstChange → Type 0
-InAnyRows f change = (places values : List ℕ) → firstOf places values f ≡ change
 
 -- a change that is prepared has a store
 unfoldable pub Storing : Preparation → Type 0

@@ -26,6 +26,15 @@ enum-known-decision-4 c = search needs
 enum-known-decision-5 : tie.Need-enum-known-decision-5
 enum-known-decision-5 c = search needs
 
+enum-known-decision-6 : tie.Need-enum-known-decision-6
+enum-known-decision-6 c = search needs
+
+enum-known-decision-7 : tie.Need-enum-known-decision-7
+enum-known-decision-7 c = search needs
+
+enum-known-decision-8 : tie.Need-enum-known-decision-8
+enum-known-decision-8 c = search needs
+
 returns : tie.Need-returns
 unfolding needed
 returns c = sym (ap needed (c .enum-told .given .1))
@@ -54,6 +63,18 @@ returns-7 : tie.Need-returns-7
 unfolding needed
 returns-7 c = sym (ap needed (c .before .decision5 .given .1))
 
+returns-8 : tie.Need-returns-8
+unfolding needed
+returns-8 c = sym (ap needed (c .before .decision6 .given .1))
+
+returns-9 : tie.Need-returns-9
+unfolding needed
+returns-9 c = sym (ap needed (c .before .decision7 .given .1))
+
+returns-10 : tie.Need-returns-10
+unfolding needed
+returns-10 c = sym (ap needed (c .before .decision8 .given .1))
+
 pub nodes-needed-spec : {M : Type 1} → statement M
 nodes-needed-spec =
     tie.close
@@ -65,10 +86,16 @@ nodes-needed-spec =
     enum-known-decision-3
     enum-known-decision-4
     enum-known-decision-5
+    enum-known-decision-6
+    enum-known-decision-7
+    enum-known-decision-8
     returns
     returns-2
     returns-3
     returns-4
     returns-5
     returns-6
-    returns-7)
+    returns-7
+    returns-8
+    returns-9
+    returns-10)

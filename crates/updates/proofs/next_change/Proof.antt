@@ -1,7 +1,7 @@
 -- `updates::next_change` meets its contract.
 use mathlib.Core.Path.{ap, sym, _∙_}
-use Rattle.free_nodes.specs.NodeSet.{nodesOf}
-use Rattle.updates.specs.Updates.{nextChange}
+use Rattle.change_decide.specs.declared.Decision.{Decision}
+use Rattle.updates.specs.Decided.{decided}
 use borrow.Author.Needs.{needs}
 use Rattle.updates.proofs.next_change.Statement.{statement}
 use Rattle.updates.proofs.next_change.Tie as tie
@@ -21,35 +21,21 @@ take-out-requires c κs = search needs
 enum-known-task-3 : tie.Need-enum-known-task-3
 enum-known-task-3 c = search needs
 
-repair-requires : tie.Need-repair-requires
-repair-requires c κs = search needs
-
-same-length : tie.Need-same-length
-same-length c = search needs
-
-same-length-2 : tie.Need-same-length-2
-same-length-2 c = search needs
+next-repair-requires : tie.Need-next-repair-requires
+next-repair-requires c κs = search needs
 
 returns : tie.Need-returns
-returns c = let s = c .before .before .before .before .before .before .before .before .before .before .before .before .before in c .before .before .before .before .put-in .ensures ∙ sym (ap (nextChange (s .args .card .now) (s .args .n) (nodesOf (s .args .free .words)) (s .args .last) (s .args .doing)) (c .before .before .before .before .before .before .before .before .task .given .1))
-
-same-length-3 : tie.Need-same-length-3
-same-length-3 c = search needs
-
-same-length-4 : tie.Need-same-length-4
-same-length-4 c = search needs
+returns c = let s = c .before .before .before .before .before in c .put-in .ensures ∙ sym (ap (decided (s .args .card .now) (s .args .n) (s .args .doing)) (c .before .before .task .given .1))
 
 returns-2 : tie.Need-returns-2
-returns-2 c = let s = c .before .before .before .before .before .before .before .before .before .before .before .before .before in c .before .before .before .before .take-out .ensures ∙ sym (ap (nextChange (s .args .card .now) (s .args .n) (nodesOf (s .args .free .words)) (s .args .last) (s .args .doing)) (c .before .before .before .before .before .before .before .before .task2 .given .1))
-
-same-length-5 : tie.Need-same-length-5
-same-length-5 c = search needs
-
-same-length-6 : tie.Need-same-length-6
-same-length-6 c = search needs
+returns-2 c = let s = c .before .before .before .before .before in c .take-out .ensures ∙ sym (ap (decided (s .args .card .now) (s .args .n) (s .args .doing)) (c .before .before .task2 .given .1))
 
 returns-3 : tie.Need-returns-3
-returns-3 c = let s = c .before .before .before .before .before .before .before .before .before .before .before .before .before in c .before .before .before .before .repair .ensures ∙ sym (ap (nextChange (s .args .card .now) (s .args .n) (nodesOf (s .args .free .words)) (s .args .last) (s .args .doing)) (c .before .before .before .before .before .before .before .before .task3 .given .1))
+unfolding decided
+returns-3 c =
+    let s = c .before .before .before .before .before in
+    ap (λ (d : Decision). record { doing = s .args .doing; answer = c .before .before .task3 .given .0 .1 .0; decision = d }) (c .next-repair .ensures)
+    ∙ sym (ap (decided (s .args .card .now) (s .args .n) (s .args .doing)) (c .before .before .task3 .given .1))
 
 pub next-change-spec : {M : Type 1} → statement M
 next-change-spec =
@@ -60,13 +46,7 @@ next-change-spec =
     enum-known-task-2
     take-out-requires
     enum-known-task-3
-    repair-requires
-    same-length
-    same-length-2
+    next-repair-requires
     returns
-    same-length-3
-    same-length-4
     returns-2
-    same-length-5
-    same-length-6
     returns-3)

@@ -1,35 +1,23 @@
 -- `updates::put_in` meets its contract.
-use mathlib.Core.Path.{_≡_, ap, sym, _∙_, subst}
-use mathlib.Core.List.{List}
+use mathlib.Core.Path.{_≡_, ap, _∙_}
 use Prim.Native.Nat.{ℕ}
 use native.Mathlib.Omega.{arith}
 use lib.ListN.{length}
 use Rattle.card.proofs.NodeLaws.{length-node}
-use Rattle.updates.specs.Updates.{landing, FirstChange, insertIn, nextChange}
-use Rattle.free_nodes.specs.NodeSet.{nodesOf}
-use Rattle.descent.specs.declared.Landing.the-variants.{Refused as NoLanding, Leaf as LandingAt}
-use Rattle.updates.specs.Results.{Arrives}
-use Rattle.updates.specs.declared.Arrival.{Arrival}
-use Rattle.updates.specs.declared.Arrival.the-variants.{Leaf as ArrivesAt}
-use Rattle.updates.proofs.UpdateLaws.{Landed, landed, no-way, in-leaf}
+use Rattle.descent.specs.declared.Landing.the-variants.{Leaf as LandingAt}
+use Rattle.updates.specs.Updates.{landing}
+use Rattle.updates.specs.Decided.{insertAt, decided}
+use Rattle.updates.proofs.UpdateLaws.{Landed, landed, nowhere, somewhere, no-way, in-leaf}
 use borrow.Author.Needs.{needs}
 use Rattle.updates.proofs.put_in.Statement.{statement}
 use Rattle.updates.proofs.put_in.Tie as tie
 
--- what an insert makes of a leaf
-abbrev due : tie.Start → ℕ → ℕ → List ℕ → FirstChange
-due s = insertIn (s .args .key) (s .args .value) (nodesOf (s .args .free .words)) (s .args .last)
-
 -- where the key leads to
-lands : (c : tie.After-node) → Arrives (ArrivesAt (c .node .given .0 .0) (c .node .given .0 .1 .0)) (landing (c .before .before .before .before .before .before .args .card .now) (c .before .before .before .before .before .before .args .n) (c .before .before .before .before .before .before .args .key))
-lands c = subst (λ (r : Arrival). Arrives r (landing (c .before .before .before .before .before .before .args .card .now) (c .before .before .before .before .before .before .args .n) (c .before .before .before .before .before .before .args .key))) (c .node .given .1) (c .before .before .arrive .ensures)
+at : (c : tie.After-node) → (run : ℕ) × (landing (c .before .before .before .before .args .card .now) (c .before .before .before .before .args .n) (c .before .before .before .before .args .key) ≡ LandingAt (c .node .given .0 .0) (c .node .given .0 .1 .0) run)
+at c = let s = c .before .before .before .before in somewhere (s .args .card .now) (s .args .n) (s .args .key) (c .before .before .arrive .result) (c .before .before .arrive .ensures) _ _ (c .node .given .1)
 
-at : (c : tie.After-node) → (run : ℕ) × (landing (c .before .before .before .before .before .before .args .card .now) (c .before .before .before .before .before .before .args .n) (c .before .before .before .before .before .before .args .key) ≡ LandingAt (c .node .given .0 .0) (c .node .given .0 .1 .0) run)
-unfolding Arrives
-at c = lands (c)
-
-leaf : (c : tie.After-node) → Landed (c .before .before .before .before .before .before .args .n) (c .node .given .0 .0) (c .node .given .0 .1 .0)
-leaf c = landed (c .before .before .before .before .before .before .args .card .now) (c .before .before .before .before .before .before .args .n) (c .before .before .before .before .before .before .args .key) _ _ (at (c) .0) (c .before .before .before .before .before .before .pre .0) (at (c) .1)
+leaf : (c : tie.After-node) → Landed (c .before .before .before .before .args .n) (c .node .given .0 .0) (c .node .given .0 .1 .0)
+leaf c = let s = c .before .before .before .before in landed (s .args .card .now) (s .args .n) (s .args .key) _ _ (at (c) .0) (s .pre) (at (c) .1)
 
 arrive-requires : tie.Need-arrive-requires
 arrive-requires c κs = search needs
@@ -37,42 +25,32 @@ arrive-requires c κs = search needs
 enum-told : tie.Need-enum-told
 enum-told c = search needs
 
-no-way-requires : tie.Need-no-way-requires
-no-way-requires c κs = search needs
-
 enum-known-node : tie.Need-enum-known-node
 enum-known-node c = search needs
 
 node-at-requires : tie.Need-node-at-requires
-node-at-requires c κs = let k = leaf (c .before) in let z = c .before .before .before .before .before .before .before .pre .0 in (k .inside .one, omega (arith, k .inside .most, z .most), omega (arith, k .inside .most, z .words))
+node-at-requires c κs = let s = c .before .before .before .before .before in let k = leaf (c .before) in (k .inside .one, omega (arith, k .inside .most, s .pre .most), omega (arith, k .inside .most, s .pre .words))
 
 insert-in-requires : tie.Need-insert-in-requires
 insert-in-requires c κs =
-    let k = leaf (c .before .before .before .before) in
-    let z = c .before .before .before .before .before .before .before .before .before .before .pre .0 in
-    (ap length (c .before .before .node-at .ensures) ∙ length-node (c .before .before .before .before .before .before .before .before .before .before .args .card .now) (c .before .before .before .before .node .given .0 .0) (k .inside .one) (omega (arith, k .inside .most, z .words)), k .inside .one, omega (arith, k .inside .most, z .most), k .linked, search needs, search needs)
-
-nowhere : (c : tie.After-no-way) → landing (c .before .before .before .before .before .before .before .args .card .now) (c .before .before .before .before .before .before .before .args .n) (c .before .before .before .before .before .before .before .args .key) ≡ NoLanding
-unfolding Arrives
-nowhere c = subst (λ (r : Arrival). Arrives r (landing (c .before .before .before .before .before .before .before .args .card .now) (c .before .before .before .before .before .before .before .args .n) (c .before .before .before .before .before .before .before .args .key))) (c .before .enum-told .given .1) (c .before .before .before .arrive .ensures)
+    let s = c .before .before .before .before .before .before in
+    let k = leaf (c .before .before) in
+    ap length (c .node-at .ensures) ∙ length-node (s .args .card .now) (c .before .before .node .given .0 .0) (k .inside .one) (omega (arith, k .inside .most, s .pre .words))
 
 returns : tie.Need-returns
-unfolding nextChange
-returns c = let s = c .before .before .before .before .before .before .before in c .no-way .ensures _ _ ∙ sym (no-way (s .args .card .now) (s .args .doing) (due s) (nowhere (c)))
-
-same-length : tie.Need-same-length
-same-length c = search needs
-
-same-length-2 : tie.Need-same-length-2
-same-length-2 c = search needs
+unfolding decided
+returns c =
+    let s = c .before .before .before .before in
+    no-way (s .args .card .now) (s .args .doing) (insertAt (s .args .key) (s .args .value))
+    (nowhere (s .args .card .now) (s .args .n) (s .args .key) (c .before .before .arrive .result) (c .before .before .arrive .ensures) (c .enum-told .given .1))
 
 returns-2 : tie.Need-returns-2
-unfolding nextChange
+unfolding decided
 returns-2 c =
-    let s = c .before .before .before .before .before .before .before .before .before .before .before .before .before .before .before in
-    c .before .before .before .before .insert-in .ensures
-    ∙ ap (due s (c .before .before .before .before .before .before .before .before .before .node .given .0 .0) (c .before .before .before .before .before .before .before .before .before .node .given .0 .1 .0)) (c .before .before .before .before .before .before .before .node-at .ensures)
-    ∙ sym (in-leaf (s .args .card .now) (s .args .doing) (due s) (at (c .before .before .before .before .before .before .before .before .before) .1))
+    let s = c .before .before .before .before .before .before .before in
+    c .insert-in .ensures
+    ∙ ap (insertAt (s .args .key) (s .args .value) (c .before .before .before .node .given .0 .0) (c .before .before .before .node .given .0 .1 .0)) (c .before .node-at .ensures)
+    ∙ in-leaf (s .args .card .now) (s .args .doing) (insertAt (s .args .key) (s .args .value)) (at (c .before .before .before) .1)
 
 pub put-in-spec : {M : Type 1} → statement M
 put-in-spec =
@@ -80,11 +58,8 @@ put-in-spec =
     (tie.spec
     arrive-requires
     enum-told
-    no-way-requires
     enum-known-node
     node-at-requires
     insert-in-requires
     returns
-    same-length
-    same-length-2
     returns-2)

@@ -1,32 +1,29 @@
 -- `plans::numbers::give` meets its contract.
-use mathlib.Core.Bool.{true}
-use mathlib.Core.Path.{_≡_, refl, sym, _∙_}
-use Prim.Native.Nat.{_-_, _≤_, _<_}
+use mathlib.Core.List.{List}
+use mathlib.Core.Path.{_≡_, refl, ap, sym, _∙_}
+use mathlib.Core.Option.{some}
+use Prim.Native.Nat.{ℕ, _-_, _≤_, _<_}
 use native.Mathlib.Omega.{arith}
-use lib.ListN.{length, length-set}
+use lib.ListN.{length, take, length-set}
+use Rattle.free_nodes.specs.NodeSet.{capacity, nodesOf}
+use Rattle.plans.specs.Plan.{givenBy}
+use Rattle.plans.proofs.NumberLaws.{Taking, taking-start, taking-more, taking-none, taking-round, taking-done, found-below, three-numbers}
 use borrow.Author.Needs.{needs}
-use Rattle.laws.proofs.Cases.{impossible}
-use Rattle.free_nodes.specs.NodeSet.{wordCount, capacity, nodesOf}
-use Rattle.plans.proofs.NumberLaws.{Taking, taking-start, taking-more, taking-none, taking-done, found-below}
 use Rattle.plans.proofs.numbers.give.Statement.{statement}
 use Rattle.plans.proofs.numbers.give.Tie as tie
 
 abbrev Inv-loop : tie.InvT-loop
-Inv-loop last count nodes₀ fewer₀ latest₀ i₀ nodes fewer latest i =
-    Taking (record { enough = true; nodes = nodes; free = fewer; last = latest }) i count (nodesOf (fewer₀ .words)) last
-    × (length nodes ≡ 3) × (length (fewer .words) ≡ wordCount)
+Inv-loop free last count nodes₀ latest₀ i₀ nodes latest i = Taking nodes latest i count (nodesOf free) last × (length nodes ≡ 3)
 
 abbrev μ-loop : tie.MeasureT-loop
-μ-loop last count nodes₀ fewer₀ latest₀ i₀ nodes fewer latest i = count - i
+μ-loop free last count nodes₀ latest₀ i₀ nodes latest i = count - i
 
 -- the node found is one of the set
 found : (c : tie.After-m Inv-loop μ-loop) → (1 ≤ c .m .given .0 .0) × (c .m .given .0 .0 < capacity)
-found c =
-    let l = c .before .before .before .before .before .before .before .loop in
-    found-below (c .before .before .before .before .before .before .before .loop .fewer .words) (c .before .before .before .before .before .before .before .loop .latest) _ (l .inv .2) (sym (c .before .before .next-free .ensures) ∙ c .m .given .1)
+found c = let s = c .before .before .before .before .before .before in found-below (s .args .free .now) (c .before .before .before .before .loop .latest) _ (s .pre .0) (sym (c .before .before .next-free .ensures) ∙ c .m .given .1)
 
 loop-holds : tie.Need-loop-holds Inv-loop μ-loop
-loop-holds c = (taking-start _ _ _ _, refl, search needs)
+loop-holds c = (taking-start _ _ _ _ refl, refl)
 
 next-free-requires : tie.Need-next-free-requires Inv-loop μ-loop
 next-free-requires c κs = search needs
@@ -38,24 +35,24 @@ enum-told : tie.Need-enum-told Inv-loop μ-loop
 enum-told c = search needs
 
 returns : tie.Need-returns Inv-loop μ-loop
-returns c =
-    let l = c .before .before .before .before .before .before .before .loop in
-    record {
-      given = λ e. impossible (cc);
-      too-few = λ e. taking-none _ (l .i) _ _ _ (l .inv .0) (omega arith) (sym (c .before .before .next-free .ensures) ∙ c .enum-told .given .1);
-    }
+unfolding givenBy
+returns c = let l = c .before .before .before .before .loop in taking-none _ _ (l .i) _ _ _ (l .inv .0) (c .before .before .before .loop-test .taken) (sym (c .before .before .next-free .ensures) ∙ c .enum-told .given .1)
 
-cast-nodes : tie.Need-cast-nodes Inv-loop μ-loop
-cast-nodes c = omega (arith, found (c .before))
+cast-number : tie.Need-cast-number Inv-loop μ-loop
+cast-number c = omega (arith, found (c .before))
+
+array-read-if1 : tie.Need-array-read-if1 Inv-loop μ-loop
+array-read-if1 c = search needs
+
+returns-2 : tie.Need-returns-2 Inv-loop μ-loop
+unfolding givenBy
+returns-2 c = let l = c .before .before .before .before .before .before .loop in taking-round _ _ (l .i) _ _ _ (l .inv .0) (c .before .before .m .given .0 .0) (c .before .before .before .before .before .loop-test .taken) (sym (c .before .before .before .before .next-free .ensures) ∙ c .before .before .m .given .1) (c .if1 .taken)
 
 mul-nodes : tie.Need-mul-nodes Inv-loop μ-loop
 mul-nodes c = search needs
 
 array-write-nodes : tie.Need-array-write-nodes Inv-loop μ-loop
 array-write-nodes c = search needs
-
-without-node-requires : tie.Need-without-node-requires Inv-loop μ-loop
-without-node-requires c κs = found (c .before) .1
 
 add-i : tie.Need-add-i Inv-loop μ-loop
 add-i c = search needs
@@ -65,18 +62,27 @@ loop-less c = search needs
 
 loop-again : tie.Need-loop-again Inv-loop μ-loop
 loop-again c =
-    let s = c .before .before .before .before .before .before .before .before .before .before in
-    let l = c .before .before .before .before .before .before .before .before .before .loop in
-    let kept : length (c .without-node .result .words) ≡ wordCount = search (needs, c .without-node .ok) in (
-      taking-more _ (l .i) _ _ _ (l .inv .0) _ _ (l .inv .1) (s .pre) (omega arith) (sym (c .before .before .before .before .next-free .ensures) ∙ c .before .before .m .given .1) (c .without-node .ensures),
+    let s = c .before .before .before .before .before .before .before .before in
+    let l = c .before .before .before .before .before .before .loop in (
+      taking-more _ _ (l .i) _ _ _ (l .inv .0) _ (l .inv .1) (s .pre .1) (c .before .before .before .before .before .loop-test .taken) (sym (c .before .before .before .before .next-free .ensures) ∙ c .before .before .m .given .1) (c .if1 .left),
       length-set (l .nodes) (l .i) (c .before .before .m .given .0 .0) ∙ l .inv .1,
-      kept,
     )
 
-returns-2 : tie.Need-returns-2 Inv-loop μ-loop
-returns-2 c =
+array-read-t19 : tie.Need-array-read-t19 Inv-loop μ-loop
+array-read-t19 c = search needs
+
+array-read-t22 : tie.Need-array-read-t22 Inv-loop μ-loop
+array-read-t22 c = search needs
+
+array-read-t25 : tie.Need-array-read-t25 Inv-loop μ-loop
+array-read-t25 c = search needs
+
+returns-3 : tie.Need-returns-3 Inv-loop μ-loop
+unfolding givenBy
+returns-3 c =
+    let s = c .before .before .before in
     let l = c .before .loop in
-    record { given = λ e. taking-done _ (l .i) _ _ _ (l .inv .0) (omega arith); too-few = λ e. impossible (cc) }
+    taking-done _ _ (l .i) _ _ _ (l .inv .0) (omega arith) ∙ ap (λ (x : List ℕ). some (take (s .args .count) x)) (three-numbers (l .nodes) (l .inv .1))
 
 pub give-spec : {M : Type 1} → statement M
 give-spec =
@@ -89,11 +95,15 @@ give-spec =
     enum-known-m
     enum-told
     returns
-    cast-nodes
+    cast-number
+    array-read-if1
+    returns-2
     mul-nodes
     array-write-nodes
-    without-node-requires
     add-i
     loop-less
     loop-again
-    returns-2)
+    array-read-t19
+    array-read-t22
+    array-read-t25
+    returns-3)
