@@ -175,12 +175,12 @@ module _ (block : List ℕ) (l : length block ≡ stateWords) (doing : Doing) (r
   pub start-refused-in : (refusal ≡ 0 → ⊥) → StartCall block block (BegunRefused refusal) doing (begunBy refusal (memoryIn block) doing)
   unfolding startRefused startedBlock
   start-refused-in p =
-      rw (ne-eqb refusal 0 p) (record { opened = record { answered = λ k. refl; handed = λ k. refl; no-state = λ n. absurd (n l) }; words = λ k. refl })
+      rw (ne-eqb refusal 0 p) (record { answered = λ k. refl; handed = λ k. refl; words = λ k. refl; no-state = λ n. absurd (n l) })
 
   pub started-in : (after : List ℕ) → formatted doing ≡ 0 → refusal ≡ 0 → after ≡ begunBlock block doing → StartCall block after Started doing (begunBy refusal (memoryIn block) doing)
   unfolding started startedBlock withDoing
   started-in after f z e =
-      rw (eq-eqb refusal 0 z) (record { opened = record { answered = λ k. refl; handed = λ k. ap memoryIn e ∙ memory-begun block doing (omega arith) (omega arith); no-state = λ n. absurd (n l) }; words = λ k. e })
+      rw (eq-eqb refusal 0 z) (record { answered = λ k. refl; handed = λ k. ap memoryIn e ∙ memory-begun block doing (omega arith) (omega arith); words = λ k. e; no-state = λ n. absurd (n l) })
 
 -- ---- starting to format
 

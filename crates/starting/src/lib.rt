@@ -2,33 +2,31 @@
 // and free nodes").
 use descent::End;
 use descent::Slot;
-use state::Beginning;
 use state::Begun;
 use state::Doing;
-use state::no_beginning;
-use state::resting;
 use state_block::FREE;
 use state_block::NO_STATE;
 use state_block::NODES;
 use state_block::PLACES;
 use state_block::STATE_WORDS;
 use state_block::is_idle;
+use state_block::refuse_beginning;
 use state_block::store_doing;
+use state_block::store_resting;
 use state_block::wide;
 ghost use mathlib.Core.Path.{_≡_};
 ghost use mathlib.Core.Bool.{true, false};
-ghost use Prim.Native.Nat.{_≤_};
-ghost use lib.ListN.{length};
+ghost use Prim.Native.Nat.{_≤_, _<_};
+ghost use lib.ListN.{length, set};
 ghost use Rattle.card.specs.Header.{Sized};
 ghost use Rattle.card.specs.Layout.{nodeAt};
-ghost use Rattle.free_nodes.specs.NodeSet.{wordCount, nodesOf};
+ghost use Rattle.free_nodes.specs.NodeSet.{wordCount, capacity, nodesOf, allNodes};
 ghost use Rattle.descent.specs.Descent.{slotOf, way, runOver};
 ghost use Rattle.laws.specs.Cases.{pick};
-ghost use Rattle.state.specs.Results.{handedOf};
 ghost use Rattle.state.specs.Steps.{isIdle};
 ghost use Rattle.state.specs.declared.Doing.the-variants.{Inserting, Deleting};
 ghost use Rattle.state_block.specs.Block.{stateWords, memoryIn, formatted};
-ghost use Rattle.state_block.specs.Contracts.{StartCall};
+ghost use Rattle.state_block.specs.Contracts.{OpenCall, StartCall};
 ghost use Rattle.updates.specs.Updates.{insertReason, roomFor};
 ghost use Rattle.starting.specs.Starts.{formatOf, insertOf, deleteOf};
 ghost use Rattle.starting.specs.Refusals.{startRefusal, isSlot, roomWhere, dueRefusal, begunBy};
@@ -153,20 +151,29 @@ fn begin(state: &mut [u32], doing: Doing, refusal: u32) -> Begun
     Begun::Started
 }
 
-// "Formatting needs no earlier state". While it goes on the free nodes are those of the table it makes, whose root is node 1.
-pub fn start_format(card: &[u32]) -> Beginning
-    ensures { λ r. ⌜ handedOf r ≡ formatOf (now (card .entry)) ⌝ }
+// All nodes but node 1 are free.
+fn free_but_root(free: &mut [u32], n: usize)
+    requires { ⌜ (length (now free) ≡ wordCount) × (n < capacity) ⌝ }
+    ensures { λ _. ⌜ nodesOf (now (free .exit)) ≡ set (allNodes n) 1 false ⌝ }
 {
+    free_nodes::fill(free, n);
+    free_nodes::take_out(free, 1);
+}
+
+// "Formatting needs no earlier state". While it goes on the free nodes are those of the table it makes, whose root is node 1.
+pub fn start_format(card: &[u32], state: &mut [u32]) -> Begun
+    ensures { λ r. ⌜ OpenCall (now (state .entry)) (now (state .exit)) r (formatOf (now (card .entry))) ⌝ }
+{
+    if state.len() != STATE_WORDS {
+        return Begun::Refused(NO_STATE);
+    }
     let n = card::nodes_of(card.len());
     if n == 0 {
-        return no_beginning(1);
+        return refuse_beginning(state, 1);
     }
-    let free = free_nodes::without_node(free_nodes::all_nodes(n), 1);
-    let state = resting(n, free, Doing::Formatting { made: 0 });
-    Beginning {
-        begun: Begun::Started,
-        state,
-    }
+    free_but_root(&mut state[FREE..PLACES], n);
+    store_resting(state, n, Doing::Formatting { made: 0 });
+    Begun::Started
 }
 
 // "Starting an update stores nothing."

@@ -4,17 +4,12 @@ use mathlib.Core.List.{List, [], _∷_}
 use mathlib.Core.Bool.{Bool, true, false}
 use Prim.Native.Nat.{ℕ}
 use Rattle.card.specs.Stores.{Store}
-use Rattle.state.specs.Steps.{Handed, Step}
+use Rattle.state.specs.Steps.{Step}
 use Rattle.state.specs.Memory.{memoryOf}
 use Rattle.state.specs.declared.State.{State}
 use Rattle.state.specs.declared.Answer.{Answer}
 use Rattle.state.specs.declared.Answer.the-variants.{Refused}
 use Rattle.state.specs.declared.Stepped.{Stepped}
-use Rattle.state.specs.declared.Beginning.{Beginning}
-
--- what opening and starting hand back
-unfoldable pub handedOf : Beginning → Handed
-handedOf r = record { begun = r .begun; memory = memoryOf (r .state) }
 
 -- what a step leaves, with the card after it
 unfoldable pub stepLeft : List ℕ → Stepped → Step

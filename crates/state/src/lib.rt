@@ -10,8 +10,6 @@ pub use playing::in_hand;
 pub use playing::store_next;
 pub use states::held_by;
 pub use states::idled;
-pub use states::no_beginning;
-pub use states::resting;
 
 // What is being done: "either idle or holds one call or repair in progress". Formatting counts as a call.
 pub enum Doing {
@@ -72,9 +70,4 @@ pub enum Begun {
     Idle,
     Started,
     Refused(u32),
-}
-
-pub struct Beginning {
-    pub begun: Begun,
-    pub state: State,
 }

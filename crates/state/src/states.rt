@@ -1,7 +1,5 @@
 // States and answers that several calls hand back.
 use crate::Answer;
-use crate::Beginning;
-use crate::Begun;
 use crate::Doing;
 use crate::Held;
 use crate::State;
@@ -11,8 +9,7 @@ use plans::Plan;
 ghost use mathlib.Core.Path.{_≡_};
 ghost use Rattle.free_nodes.specs.NodeSet.{nodesOf};
 ghost use Rattle.state.specs.Memory.{memoryOf, resting, idled};
-ghost use Rattle.state.specs.Steps.{noBeginning, heldBy};
-ghost use Rattle.state.specs.Results.{handedOf};
+ghost use Rattle.state.specs.Steps.{heldBy};
 ghost use Rattle.state.specs.declared.Doing.the-variants.{Inserting, Deleting};
 
 // A state with no change planned. "after formatting or opening the search starts at node 1": 0 is the node taken for given last.
@@ -32,17 +29,6 @@ pub fn resting(n: usize, free: NodeSet, doing: Doing) -> State
         plan,
         made: 0,
         cut: [0; 3],
-    }
-}
-
-// "Opening or starting to format, refused, hands back an idle state for N = 0".
-pub fn no_beginning(refusal: u32) -> Beginning
-    ensures { λ r. ⌜ handedOf r ≡ noBeginning refusal ⌝ }
-{
-    let state = resting(0, free_nodes::all_nodes(0), Doing::Idle);
-    Beginning {
-        begun: Begun::Refused(refusal),
-        state,
     }
 }
 

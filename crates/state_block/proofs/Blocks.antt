@@ -1,19 +1,27 @@
 -- Laws of Blocks: what a block holds whose words are those of a definition, and the stores that make it.
-use mathlib.Core.Path.{_≡_, refl, sym, ap, subst, _∙_}
+use mathlib.Core.Path.{_≡_, refl, sym, ap, ap₂, subst, _∙_}
 use mathlib.Core.Bool.{Bool, true}
-use mathlib.Core.List.{List, [], _∷_}
-use Prim.Native.Nat.{ℕ, zero, suc, _≤_, _<_, _^_}
+use mathlib.Core.List.{List, [], _∷_, _++_, zip, append-nil}
+use Prim.Native.Nat.{ℕ, zero, suc, _/_, _%_, _≤_, _<_, _^_}
 use native.Mathlib.Omega.{arith}
-use lib.ListN.{length, getD, set}
-use lib.Dec.{ltb}
+use native.Mathlib.Nat.{pow-suc}
+use lib.ListN.{length, getD, set, take, drop, replicate, length-set, length-take, length-drop, drop-of-length-le}
+use lib.Seq.{take-at, drop-at}
+use lib.Dec.{ltb, eqb}
 use borrow.Author.Tests.{lt-ltb, ne-eqb}
-use Rattle.state.specs.Memory.{memoryOf}
+use Rattle.laws.specs.Bits.{bit}
+use Rattle.laws.specs.Digits.{digitsOf}
+use Rattle.laws.proofs.Digits.{length-digits}
+use Rattle.free_nodes.specs.NodeSet.{nodesOf, allNodes}
+use Rattle.plans.specs.Plan.{storesOf}
+use Rattle.state.specs.Memory.{memoryOf, resting, noMemory}
 use Rattle.state.specs.Steps.{isIdle}
 use Rattle.state.specs.declared.Doing.{Doing}
 use Rattle.state.specs.declared.Doing.the-variants.{Idle, Formatting, Inserting, Deleting, Repairing}
-use Rattle.state_block.specs.Block.{word, doingIn, unpacked, memoryIn, doingWords, formatted}
-use Rattle.state_block.specs.Blocks.{over, begunBlock}
+use Rattle.state_block.specs.Block.{stateWords, word, part, doingIn, unpacked, memoryIn, doingWords, formatted}
+use Rattle.state_block.specs.Blocks.{over, begunBlock, numberOf, wordsOf, restingWords, restingBlock}
 use Rattle.state_block.specs.InPlace.{withDoing}
+use Rattle.state_block.proofs.Rows.{placed, placed-length, placed-part}
 use Rattle.state_block.proofs.RoundTrip.{narrow-fits, true-bit}
 
 -- the first eleven words of a block, and the rest
@@ -109,3 +117,88 @@ module _ (block : List ℕ) where
   pub idle-other : (word block 2 ≡ 0 → ⊥) → ltb 4 (word block 2) ≡ isIdle (memoryIn block .doing)
   unfolding memoryOf unpacked
   idle-other p = kind-idle (word block 2) (word block 3) (word block 4) (word block 5) p
+
+-- ---- the words of the free nodes
+
+bit-odd : (x : ℕ) → x < 2 → bit (eqb x 1) ≡ x
+bit-odd zero h = refl
+bit-odd (suc zero) h = refl
+bit-odd (suc (suc x)) h = absurd (omega arith)
+
+number-digits : (k n : ℕ) → n < 2 ^ k → numberOf (digitsOf k n) ≡ n
+unfolding numberOf digitsOf
+number-digits zero n h = omega arith
+number-digits (suc k) n h = omega (arith, bit-odd (n % 2) (omega arith), number-digits k (n / 2) (omega (arith, pow-suc 2 k)))
+
+words-nodes : (words : List ℕ) → ((i : ℕ) → getD words i 0 < 2 ^ 32) → wordsOf (length words) (nodesOf words) ≡ words
+unfolding wordsOf nodesOf
+words-nodes [] h = refl
+words-nodes (w ∷ words) h =
+    ap₂ (λ (x : ℕ) (l : List ℕ). x ∷ l)
+    (ap numberOf (take-at (digitsOf 32 w) (nodesOf words) 32 (length-digits 32 w)) ∙ number-digits 32 w (h 0))
+    (ap (wordsOf (length words)) (drop-at (digitsOf 32 w) (nodesOf words) 32 (length-digits 32 w)) ∙ words-nodes words (λ i. h (suc i)))
+
+-- a block whose words of the free nodes were stored anew
+module _ (block row : List ℕ) (l : length block ≡ stateWords) where
+  pub free-span : length (part block 11 20) ≡ 20
+  free-span = omega (arith, length-take 20 (drop 11 block), length-drop 11 block)
+
+  module _ (e : length row ≡ length (part block 11 20)) where
+    pub freed-length : length (placed 11 20 block row) ≡ stateWords
+    freed-length = placed-length block row 11 20 (e ∙ free-span) (omega arith) ∙ l
+
+    pub freed-part : part (placed 11 20 block row) 11 20 ≡ row
+    freed-part = placed-part block row 11 20 (e ∙ free-span) (omega arith)
+
+-- ---- a state with no change planned
+
+module _ (n : ℕ) (free : List ℕ) (long : length free ≡ 20) where
+  resting-four : (p q r s : ℕ) → memoryIn (n ∷ 0 ∷ p ∷ q ∷ r ∷ s ∷ 0 ∷ 0 ∷ 0 ∷ 0 ∷ 0 ∷ free ++ replicate 146 0) ≡ resting n (nodesOf free) (doingIn p q r s)
+  unfolding memoryOf unpacked resting storesOf zip
+  resting-four p q r s =
+      ap (λ (l : List ℕ). record { nodes = n; free = nodesOf l; last = 0; doing = doingIn p q r s; rest = []; cut = [] }) (take-at free (replicate 146 0) 20 long)
+
+  pub memory-resting : (doing : Doing) → formatted doing < 2 ^ 32 → memoryIn (restingWords n free doing) ≡ resting n (nodesOf free) doing
+  unfolding restingWords
+  memory-resting doing small =
+      ap (λ (words : List ℕ). memoryIn (n ∷ 0 ∷ words ++ (0 ∷ 0 ∷ 0 ∷ 0 ∷ 0 ∷ free ++ replicate 146 0))) (sym (words-each doing)) ∙ resting-four _ _ _ _ ∙ ap (resting n (nodesOf free)) (doing-read doing small)
+
+  pub resting-block : (doing : Doing) → ((i : ℕ) → getD free i 0 < 2 ^ 32) → restingWords n free doing ≡ restingBlock (resting n (nodesOf free) doing)
+  unfolding restingBlock resting
+  resting-block doing h = ap (λ (l : List ℕ). restingWords n l doing) (sym (ap (λ (k : ℕ). wordsOf k (nodesOf free)) (sym long) ∙ words-nodes free h))
+
+-- "Opening or starting to format, refused, hands back an idle state for N = 0": a block of zeros
+pub none-block : replicate 177 0 ≡ restingBlock noMemory
+unfolding restingBlock restingWords noMemory doingWords wordsOf numberOf allNodes
+none-block = refl
+
+pub memory-none : memoryIn (replicate 177 0) ≡ noMemory
+unfolding memoryOf unpacked noMemory doingIn nodesOf digitsOf allNodes storesOf zip
+memory-none = refl
+
+-- the stores that make it: words 0 and 1 and 6 to 10, what is being done, and the rows
+abbrev pub numbered : List ℕ → ℕ → List ℕ
+numbered block n = set (set (set (set (set (set (set block 0 n) 1 0) 6 0) 7 0) 8 0) 9 0) 10 0
+
+pub numbered-length : (block : List ℕ) (n : ℕ) → length (numbered block n) ≡ length block
+numbered-length block n = simp length-set
+
+rest-four : (block zeros : List ℕ) (n p q r s : ℕ) → length block ≡ stateWords → zeros ≡ replicate 146 0
+    → placed 31 146 (over (numbered block n) 2 (p ∷ q ∷ r ∷ s ∷ [])) zeros ≡ n ∷ 0 ∷ p ∷ q ∷ r ∷ s ∷ 0 ∷ 0 ∷ 0 ∷ 0 ∷ 0 ∷ part block 11 20 ++ replicate 146 0
+rest-four block zeros n p q r s len z =
+    by-head
+    (λ (x : List ℕ). length x ≡ stateWords → placed 31 146 (over (numbered x n) 2 (p ∷ q ∷ r ∷ s ∷ [])) zeros ≡ n ∷ 0 ∷ p ∷ q ∷ r ∷ s ∷ 0 ∷ 0 ∷ 0 ∷ 0 ∷ 0 ∷ part x 11 20 ++ replicate 146 0)
+    block (omega (arith, len))
+    (λ a b c d e f g i j k l rest h.
+    let few : length (drop 20 rest) ≤ 146 = omega (arith, length-drop 20 rest) in
+    let none : drop 146 (drop 20 rest) ≡ [] = drop-of-length-le (drop 20 rest) {i = 146} few in
+    ap (λ (t : List ℕ). n ∷ 0 ∷ p ∷ q ∷ r ∷ s ∷ 0 ∷ 0 ∷ 0 ∷ 0 ∷ 0 ∷ take 20 rest ++ t) (ap₂ (λ (x y : List ℕ). x ++ y) z none ∙ append-nil (replicate 146 0)))
+    len
+
+pub rest-stored : (block zeros : List ℕ) (n : ℕ) (doing : Doing) → length block ≡ stateWords → zeros ≡ replicate 146 0
+    → placed 31 146 (begunBlock (numbered block n) doing) zeros ≡ restingWords n (part block 11 20) doing
+unfolding begunBlock restingWords
+rest-stored block zeros n doing len z =
+    ap (λ (words : List ℕ). placed 31 146 (over (numbered block n) 2 words) zeros) (sym (words-each doing))
+    ∙ rest-four block zeros n _ _ _ _ len z
+    ∙ ap (λ (words : List ℕ). n ∷ 0 ∷ words ++ (0 ∷ 0 ∷ 0 ∷ 0 ∷ 0 ∷ part block 11 20 ++ replicate 146 0)) (words-each doing)

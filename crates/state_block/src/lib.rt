@@ -1,15 +1,20 @@
 // The state as the 177 words that a caller lends: unpacked for a call, packed after it.
 use free_nodes::NodeSet;
 use plans::Plan;
+use state::Begun;
 use state::Doing;
 use state::State;
 ghost use mathlib.Core.Path.{_≡_};
-ghost use lib.ListN.{length};
-ghost use Rattle.free_nodes.specs.NodeSet.{wordCount};
+ghost use Prim.Native.Nat.{_≤_};
+ghost use lib.ListN.{length, replicate};
+ghost use Rattle.card.specs.Layout.{greatestNodes};
+ghost use Rattle.free_nodes.specs.NodeSet.{wordCount, nodesOf};
 ghost use Rattle.laws.specs.Bits.{bit};
-ghost use Rattle.state.specs.Steps.{isIdle};
-ghost use Rattle.state_block.specs.Block.{stateWords, doingIn, unpacked, memoryIn, narrow, doingWords, numberWords, packed, Kept};
-ghost use Rattle.state_block.specs.Blocks.{begunBlock};
+ghost use Rattle.state.specs.Memory.{resting};
+ghost use Rattle.state.specs.Steps.{isIdle, noBeginning};
+ghost use Rattle.state_block.specs.Block.{stateWords, part, doingIn, unpacked, memoryIn, narrow, doingWords, numberWords, packed, formatted, Kept};
+ghost use Rattle.state_block.specs.Blocks.{begunBlock, restingBlock};
+ghost use Rattle.state_block.specs.Contracts.{Opened};
 
 // The words of a block: N and the node given last; what is being done by its number, and its three numbers; the stores of the
 // plan made and planned; the nodes that the last store cuts out; the free nodes; the plan's places and values.
@@ -212,6 +217,44 @@ fn store_words(words: &mut [u32], from: &[u32])
         words[i] = from[i];
         i += 1;
     }
+}
+
+// All words of a slice become 0.
+fn clear_words(words: &mut [u32])
+    ensures { λ _. ⌜ now (words .exit) ≡ replicate (length (now (words .entry))) 0 ⌝ }
+{
+    let mut i: usize = 0;
+    while i < words.len() {
+        words[i] = 0;
+        i += 1;
+    }
+}
+
+// Nothing is planned in a block for N nodes, whose words of the free nodes are right already. "after formatting or opening the search
+// starts at node 1": 0 is the node taken for given last.
+pub fn store_resting(block: &mut [u32], n: usize, doing: Doing)
+    requires { ⌜ (length (now block) ≡ stateWords) × (n ≤ greatestNodes) × (formatted doing ≡ 0) ⌝ }
+    ensures { λ _. ⌜ now (block .exit) ≡ restingBlock (resting n (nodesOf (part (now (block .entry)) 11 20)) doing) ⌝ }
+    ensures { λ _. ⌜ memoryIn (now (block .exit)) ≡ resting n (nodesOf (part (now (block .entry)) 11 20)) doing ⌝ }
+{
+    block[NODES] = n as u32;
+    block[LAST] = 0;
+    block[MADE] = 0;
+    block[COUNT] = 0;
+    block[CUT] = 0;
+    block[CUT + 1] = 0;
+    block[CUT + 2] = 0;
+    store_doing(block, doing);
+    clear_words(&mut block[PLACES..STATE_WORDS]);
+}
+
+// "Opening or starting to format, refused, hands back an idle state for N = 0".
+pub fn refuse_beginning(block: &mut [u32], refusal: u32) -> Begun
+    requires { ⌜ length (now block) ≡ stateWords ⌝ }
+    ensures { λ r. ⌜ Opened (now (block .exit)) r (noBeginning refusal) ⌝ }
+{
+    clear_words(block);
+    Begun::Refused(refusal)
 }
 
 // A state into a block.

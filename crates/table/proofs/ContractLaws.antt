@@ -4,19 +4,18 @@ use mathlib.Core.Bool.{true, false}
 use mathlib.Core.List.{List}
 use Prim.Native.Nat.{ℕ}
 use lib.ListN.{length}
-use Rattle.state.specs.Steps.{Handed, Step}
+use Rattle.state.specs.Steps.{Step}
 use Rattle.table.specs.Calls.{stepOf}
 use Rattle.state.specs.Memory.{Memory, memoryOf}
-use Rattle.state.specs.Results.{handedOf, Unchanged}
+use Rattle.state.specs.Results.{Unchanged}
 use Rattle.state.specs.declared.State.{State}
-use Rattle.state.specs.declared.Beginning.{Beginning}
 use Rattle.state.specs.declared.Stepped.{Stepped}
 use Rattle.state.specs.declared.Answer.{Answer}
 use Rattle.state.specs.declared.Answer.the-variants.{Stored, Ready, Absent, Value, Refused}
 use Rattle.state_block.specs.Block.{stateWords, unpacked, memoryIn, Small, Kept}
 use Rattle.state_block.proofs.Block.{Words}
 use Rattle.table.proofs.HandedBack.{step-small}
-use Rattle.state_block.specs.Contracts.{OpenCall, StepCall}
+use Rattle.state_block.specs.Contracts.{StepCall}
 use Rattle.table.specs.Refusals.{isRefusal}
 use Rattle.table.specs.Playing.{Played}
 use Rattle.table.specs.declared.playing.Placed.the-variants.{Nowhere, At}
@@ -35,18 +34,6 @@ refusal (Refused r) e = (r, refl)
 no-refusal : (a : Answer) (r : ℕ) → isRefusal a ≡ false → a ≡ Refused r → ⊥
 unfolding isRefusal
 no-refusal a r e f = let z : true ≡ false = ap isRefusal (sym f) ∙ e in impossible (cc)
-
--- ---- the state handed back, where the whole answer is known
-
-pub small-handed : (h : Beginning) (due : Handed) → handedOf h ≡ due → Small (due .memory) → Small (memoryOf (h .state))
-unfolding handedOf
-small-handed h due e small = subst (λ (x : Handed). Small (x .memory)) (sym e) small
-
--- ---- what is handed back
-
-pub handed-open : (before after : List ℕ) → length before ≡ stateWords → (h : Beginning) → memoryIn after ≡ memoryOf (h .state) → OpenCall before after (h .begun) (handedOf h)
-unfolding handedOf
-handed-open before after l h f = record { answered = λ k. refl; handed = λ k. f; no-state = λ n. absurd (n l) }
 
 -- ---- a step
 

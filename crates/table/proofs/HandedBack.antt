@@ -12,10 +12,10 @@ use borrow.Author.Tests.{eq-eqb}
 use Rattle.laws.specs.Cases.{pick}
 use Rattle.laws.proofs.Cases.{order, impossible}
 use Rattle.card.specs.Layout.{greatestNodes, nodeAt}
-use Rattle.card.specs.Header.{nodesOfLength, headerRefusal, cardRefusal}
+use Rattle.card.specs.Header.{nodesOfLength, headerRefusal}
 use Rattle.card.proofs.HeaderLaws.{nodes-sized}
 use Rattle.card.specs.Stores.{Store}
-use Rattle.free_nodes.specs.NodeSet.{nextFree, allNodes, countTrue}
+use Rattle.free_nodes.specs.NodeSet.{nextFree}
 use Rattle.free_nodes.proofs.NodeSetLaws.{next-found, length-nodes}
 use Rattle.free_nodes.specs.declared.Next.{Next}
 use Rattle.free_nodes.specs.declared.Next.the-variants.{Node, Nothing}
@@ -26,13 +26,10 @@ use Rattle.descent.specs.declared.Landing.{Landing}
 use Rattle.descent.specs.declared.Landing.the-variants.{Refused as NoLanding, Leaf as LandingAt}
 use Rattle.plans.specs.Change.{Change}
 use Rattle.plans.specs.Planning.{Preparation, refused, balanced, prepared, numbersFrom, takeNumbers, lastOf, overNumbers, giving}
-use Rattle.soundness.specs.Check.{Findings, tableCheck}
-use Rattle.state.specs.Memory.{Memory, memoryOf, noMemory, resting, idled, advanced}
+use Rattle.state.specs.Memory.{Memory, memoryOf, idled, advanced}
 use Rattle.updates.specs.Updates.{Reason, held, slot, full, FirstChange, landing, insertReason, insertChange, deleteChange, insertIn, deleteIn, noWay, inLeaf, nextChange}
 use Rattle.updates.proofs.Preparations.{either, Preserved, next-by}
-use Rattle.state.specs.Steps.{heldBy, Handed, Step, noBeginning, stepRefused, stepFinal, formatStore, formatting, stepFormat, stepStore}
-use Rattle.opening.specs.Opening.{openSound, openChecked, openOf}
-use Rattle.starting.specs.Starts.{formatOf}
+use Rattle.state.specs.Steps.{heldBy, Step, stepRefused, stepFinal, formatStore, formatting, stepFormat, stepStore}
 use Rattle.table.specs.Calls.{planning, stepPrepared, stepBegin, stepTask, stepChecked, stepHeld, stepOf}
 use Rattle.state.proofs.StepLaws.{format-end}
 use Rattle.state.specs.declared.Doing.{Doing}
@@ -43,51 +40,8 @@ use Rattle.state.specs.declared.Held.{Held}
 use Rattle.state.specs.declared.Held.the-variants.{Nothing as NoneHeld, Formatting as HeldFormatting, Task as HeldTask}
 use Rattle.state.specs.declared.Answer.{Answer}
 use Rattle.state.specs.declared.Answer.the-variants.{Stored, Ready}
-use Rattle.state.specs.declared.Begun.the-variants.{Idle as OpenedIdle, Started}
 use Rattle.state_block.specs.Block.{word, part, isTrue, doingIn, unpacked, memoryIn, formatted, Small}
 use Rattle.state_block.proofs.Block.{Words}
-
--- ---- opening and starting to format
-
-SmallHanded : Handed → Type 0
-SmallHanded h = Small (h .memory)
-
-small-none : (r : ℕ) → SmallHanded (noBeginning r)
-unfolding noBeginning noMemory formatted SmallHanded
-small-none r = record { nodes = omega arith; last = omega arith; formatting = omega arith }
-
-small-resting : (n : ℕ) (free : List Bool) (doing : Doing) → n < 2 ^ 32 → formatted doing ≡ 0 → Small (resting n free doing)
-unfolding resting
-small-resting n free doing h e = record { nodes = h; last = omega arith; formatting = omega arith }
-
-small-sound : (n : ℕ) (f : Findings) → n < 2 ^ 32 → SmallHanded (openSound n f)
-unfolding openSound formatted SmallHanded
-small-sound n f h =
-    let repair : Handed = record { begun = Started; memory = resting n (f .free) (Repairing (f .key)) } in
-    let idle : Handed = record { begun = OpenedIdle; memory = resting n (f .free) Idle } in
-    either SmallHanded (ltb (countTrue (f .free)) (3 + f .run)) (noBeginning 5) (pick (f .violated) repair idle) (small-none 5)
-    (either SmallHanded (f .violated) repair idle (small-resting n (f .free) (Repairing (f .key)) h refl) (small-resting n (f .free) Idle h refl))
-
-small-checked : (n : ℕ) (found : Option (ℕ × Findings)) → n < 2 ^ 32 → SmallHanded (openChecked n found)
-unfolding openChecked
-small-checked n none h = small-none 4
-small-checked n (some r) h = small-sound n (r .1) h
-
-nodes-small : (len : ℕ) → nodesOfLength len < 2 ^ 32
-nodes-small len = order (nodesOfLength len) 1 (λ h. omega arith) (λ h. let s = nodes-sized len (λ z. omega arith) in omega (arith, s .most))
-
-pub open-small : (card : List ℕ) → Small (openOf card .memory)
-unfolding openOf SmallHanded
-open-small card =
-    let n : ℕ = nodesOfLength (length card) in
-    either SmallHanded (eqb (cardRefusal card) 0) (openChecked n (tableCheck card n)) (noBeginning (cardRefusal card)) (small-checked n (tableCheck card n) (nodes-small (length card))) (small-none (cardRefusal card))
-
-pub format-small : (card : List ℕ) → Small (formatOf card .memory)
-unfolding formatOf formatted SmallHanded
-format-small card =
-    let n : ℕ = nodesOfLength (length card) in
-    let begun : Handed = record { begun = Started; memory = resting n (set (allNodes n) 1 false) (Formatting 0) } in
-    either SmallHanded (eqb n 0) (noBeginning 1) begun (small-none 1) (small-resting n (set (allNodes n) 1 false) (Formatting 0) (nodes-small (length card)) refl)
 
 -- ---- the change that a step plans: the node that it gives last
 

@@ -5,12 +5,13 @@ mod steps;
 
 pub use lookup::Found;
 pub use lookup::find;
+pub use opening::open;
 use playing::Placed;
 use playing::play;
 pub use starting::start_delete;
+pub use starting::start_format;
 pub use starting::start_insert;
 pub use state::Answer;
-use state::Beginning;
 pub use state::Begun;
 use state::Held;
 use state::State;
@@ -27,44 +28,12 @@ use steps::step_task;
 ghost use mathlib.Core.Path.{_≡_};
 ghost use mathlib.Core.Bool.{true};
 ghost use lib.ListN.{length};
-ghost use Rattle.opening.specs.Opening.{openOf};
-ghost use Rattle.starting.specs.Starts.{formatOf};
 ghost use Rattle.state.specs.Memory.{memoryOf};
-ghost use Rattle.state.specs.Results.{handedOf, Unchanged};
-ghost use Rattle.state_block.specs.Block.{stateWords, memoryIn, Small};
-ghost use Rattle.state_block.specs.Contracts.{OpenCall, StepCall};
+ghost use Rattle.state.specs.Results.{Unchanged};
+ghost use Rattle.state_block.specs.Block.{stateWords, memoryIn};
+ghost use Rattle.state_block.specs.Contracts.{StepCall};
 ghost use Rattle.table.specs.Calls.{stepOf};
 ghost use Rattle.table.specs.Refusals.{isRefusal};
-
-// What opening and starting to format hand back goes into the block, refused or not.
-fn hand_over(state: &mut [u32], handed: Beginning) -> Begun
-    requires { ⌜ (length (now state) ≡ stateWords) × Small (memoryOf (handed .state)) ⌝ }
-    ensures { λ r. ⌜ OpenCall (now (state .entry)) (now (state .exit)) r (handedOf handed) ⌝ }
-{
-    let begun = handed.begun;
-    pack(state, handed.state);
-    begun
-}
-
-// "Formatting needs no earlier state".
-pub fn start_format(card: &[u32], state: &mut [u32]) -> Begun
-    ensures { λ r. ⌜ OpenCall (now (state .entry)) (now (state .exit)) r (formatOf (now (card .entry))) ⌝ }
-{
-    if state.len() != STATE_WORDS {
-        return Begun::Refused(NO_STATE);
-    }
-    hand_over(state, starting::start_format(card))
-}
-
-// "Opening stores nothing".
-pub fn open(card: &[u32], state: &mut [u32]) -> Begun
-    ensures { λ r. ⌜ OpenCall (now (state .entry)) (now (state .exit)) r (openOf (now (card .entry))) ⌝ }
-{
-    if state.len() != STATE_WORDS {
-        return Begun::Refused(NO_STATE);
-    }
-    hand_over(state, opening::open(card))
-}
 
 // A step of a state by value.
 fn step_state(card: &mut [u32], s: State) -> Stepped

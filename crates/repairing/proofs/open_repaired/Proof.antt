@@ -23,7 +23,7 @@ returns : tie.Need-returns
 unfolding openedCard
 returns c =
     let s = c .before .before .before .before .before .before .before .before .before .before .before .before .before .before in
-    (c .before .before .before .before .before .before .before .before .before .«open» .ensures .answered (s .pre), c .before .before .before .before .repair .ensures ∙ ap (λ (m : Memory). repairedCard repairSteps (s .args .card .now) m) (c .before .before .before .before .before .before .before .before .before .«open» .ensures .handed (s .pre)))
+    (c .before .before .before .before .before .before .before .before .before .«open» .ensures .opened (s .pre) .answered, c .before .before .before .before .repair .ensures ∙ ap (λ (m : Memory). repairedCard repairSteps (s .args .card .now) m) (c .before .before .before .before .before .before .before .before .before .«open» .ensures .opened (s .pre) .handed))
 
 pub open-repaired-spec : {M : Type 1} → statement M
 open-repaired-spec =

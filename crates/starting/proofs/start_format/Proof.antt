@@ -1,52 +1,89 @@
 -- `starting::start_format` meets its contract.
-use mathlib.Core.Path.{ap, sym, _∙_}
+use mathlib.Core.Path.{_≡_, refl, ap, sym, subst, _∙_}
 use mathlib.Core.List.{List}
-use mathlib.Core.Bool.{Bool, false}
+use mathlib.Core.Bool.{Bool}
 use native.Mathlib.Omega.{arith}
-use lib.ListN.{set}
+use lib.ListN.{length}
 use Rattle.card.proofs.HeaderLaws.{sized}
-use Rattle.starting.proofs.StartLaws.{format-no-length, format-length}
-use Rattle.state.specs.Memory.{Memory, resting}
-use Rattle.state.specs.Results.{handedOf}
+use Rattle.free_nodes.specs.NodeSet.{nodesOf}
+use Rattle.state.specs.Memory.{resting}
+use Rattle.state.specs.Steps.{Handed}
 use Rattle.state.specs.declared.Doing.the-variants.{Formatting}
 use Rattle.state.specs.declared.Begun.the-variants.{Started}
+use Rattle.state_block.specs.Block.{formatted}
+use Rattle.state_block.specs.Contracts.{Opened}
+use Rattle.state_block.proofs.Rows.{placed}
+use Rattle.state_block.proofs.Blocks.{freed-length, freed-part}
+use Rattle.state_block.proofs.ContractLaws.{open-no-state, opened-call}
+use Rattle.starting.specs.Starts.{formatOf}
+use Rattle.starting.proofs.StartLaws.{format-no-length, format-length}
 use borrow.Author.Needs.{needs}
 use Rattle.starting.proofs.start_format.Statement.{statement}
 use Rattle.starting.proofs.start_format.Tie as tie
 
+-- the block with its free nodes
+long : (c : tie.After-free-but-root) → length (placed 11 20 (c .before .before .before .before .before .before .before .args .state .now) (c .free-but-root .last .0)) ≡ 177
+long c = let s = c .before .before .before .before .before .before .before in freed-length (s .args .state .now) (c .free-but-root .last .0) (c .before .before .before .before .if1 .left) (c .free-but-root .kept .0)
+
+returns : tie.Need-returns
+returns c = let s = c .before .before .before in open-no-state (s .args .state .now) (c .if1 .taken) (formatOf (s .args .card .now))
+
 nodes-of-requires : tie.Need-nodes-of-requires
 nodes-of-requires c κs = search needs
 
-no-beginning-requires : tie.Need-no-beginning-requires
-no-beginning-requires c κs = search needs
+refuse-beginning-requires : tie.Need-refuse-beginning-requires
+refuse-beginning-requires c κs = search needs
 
-returns : tie.Need-returns
-returns c = c .no-beginning .ensures ∙ sym (format-no-length _ _ (c .before .before .nodes-of .ensures) (c .before .if1 .taken))
-
-all-nodes-requires : tie.Need-all-nodes-requires
-all-nodes-requires c κs = let k = sized (c .before .before .before .args .card .now) _ (c .before .nodes-of .ensures) (c .if1 .left) in omega (arith, k .most)
-
-without-node-requires : tie.Need-without-node-requires
-without-node-requires c κs = search needs
-
-resting-requires : tie.Need-resting-requires
-resting-requires c κs = search needs
+same-length : tie.Need-same-length
+same-length c = search needs
 
 returns-2 : tie.Need-returns-2
-unfolding handedOf
 returns-2 c =
-    ap (λ (x : Memory). record { begun = Started; memory = x })
-    (c .resting .ensures ∙ ap (λ (x : List Bool). resting (c .before .before .before .before .nodes-of .result) x (Formatting 0)) (c .before .without-node .ensures ∙ ap (λ (x : List Bool). set x 1 false) (c .before .before .all-nodes .ensures)))
-    ∙ sym (format-length _ _ (c .before .before .before .before .nodes-of .ensures) (c .before .before .before .if1 .left))
+    let s = c .before .before .before .before .before .before .before .before .before in
+    opened-call (s .args .state .now) (c .before .before .refuse-beginning .last .0) _ _ (c .before .before .before .before .before .before .if1 .left)
+    (subst (λ (due : Handed). Opened (c .before .before .refuse-beginning .last .0) (c .before .before .refuse-beginning .result) due) (sym (format-no-length _ _ (c .before .before .before .before .before .nodes-of .ensures) (c .before .before .before .before .if2 .taken))) (c .before .before .refuse-beginning .ensures))
+
+sub-free-but-root : tie.Need-sub-free-but-root
+sub-free-but-root c = search needs
+
+part-free-but-root-start : tie.Need-part-free-but-root-start
+part-free-but-root-start c = search needs
+
+part-free-but-root-end : tie.Need-part-free-but-root-end
+part-free-but-root-end c = search needs
+
+free-but-root-requires : tie.Need-free-but-root-requires
+free-but-root-requires c κs = let s = c .before .before .before .before .before .before in let k = sized (s .args .card .now) _ (c .before .before .nodes-of .ensures) (c .before .if2 .left) in (search needs, omega (arith, k .most))
+
+store-resting-requires : tie.Need-store-resting-requires
+unfolding formatted
+store-resting-requires c κs = let s = c .before .before .before .before .before .before .before .before .before .before in let k = sized (s .args .card .now) _ (c .before .before .before .before .before .before .nodes-of .ensures) (c .before .before .before .before .before .if2 .left) in (long (c .before .before .before), k .most, refl)
+
+same-length-2 : tie.Need-same-length-2
+same-length-2 c = c .before .before .store-resting .kept .0 ∙ long (c .before .before .before .before .before .before) ∙ sym (c .before .before .before .before .before .before .before .before .before .before .if1 .left)
+
+returns-3 : tie.Need-returns-3
+returns-3 c =
+    let s = c .before .before .before .before .before .before .before .before .before .before .before .before .before in
+    let free = ap nodesOf (freed-part (s .args .state .now) (c .before .before .before .before .before .before .free-but-root .last .0) (c .before .before .before .before .before .before .before .before .before .before .if1 .left) (c .before .before .before .before .before .before .free-but-root .kept .0)) ∙ c .before .before .before .before .before .before .free-but-root .ensures in
+    opened-call (s .args .state .now) (c .before .before .store-resting .last .0) _ _ (c .before .before .before .before .before .before .before .before .before .before .if1 .left)
+    (subst (λ (due : Handed). Opened (c .before .before .store-resting .last .0) Started due)
+    (ap (λ (x : List Bool). record { begun = Started; memory = resting (c .before .before .before .before .before .before .before .before .before .nodes-of .result) x (Formatting 0) }) free ∙ sym (format-length _ _ (c .before .before .before .before .before .before .before .before .before .nodes-of .ensures) (c .before .before .before .before .before .before .before .before .if2 .left)))
+    (record { answered = refl; handed = c .before .before .store-resting .ensures .1; words = c .before .before .store-resting .ensures .0 }))
 
 pub start-format-spec : {M : Type 1} → statement M
 start-format-spec =
     tie.close
     (tie.spec
-    nodes-of-requires
-    no-beginning-requires
     returns
-    all-nodes-requires
-    without-node-requires
-    resting-requires
-    returns-2)
+    nodes-of-requires
+    refuse-beginning-requires
+    same-length
+    returns-2
+    sub-free-but-root
+    part-free-but-root-start
+    part-free-but-root-end
+    free-but-root-requires
+    store-resting-requires
+    same-length-2
+    returns-3)
