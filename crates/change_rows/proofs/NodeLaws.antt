@@ -111,12 +111,6 @@ length-numbers xs = length-map xs (λ x. x .number)
 
 -- ---- the rows of a change
 
-pub length-change-places : (ch : Change) → length (changePlaces ch) ≡ changeLength ch
-unfolding changePlaces changeLength
-length-change-places ch =
-    let ms = map (λ x. x .number) (ch .nodes) in
-    length-append (placesOf ms) (ch .link ∷ []) ∙ omega (arith, length-places-of ms, length-numbers (ch .nodes))
-
 -- places and words are the stores, where there are as many words as there should be
 pub change-stores : (ch : Change) → length (changeWords ch) ≡ changeLength ch → zip (changePlaces ch) (changeWords ch) ≡ changeStores ch
 unfolding changePlaces changeWords changeLength changeStores zip zipWith

@@ -24,6 +24,7 @@ use Rattle.change_rows.specs.Halves.{together, keysFor, Whole}
 use Rattle.change_rows.proofs.RowLaws.{take-start}
 use Rattle.change_rows.proofs.PairLaws.{none-in, insert-all-append, gathered-keys, gathered-values}
 use Rattle.change_rows.proofs.HalfLaws.{keys-leaf, keys-inner, keys-most}
+use Rattle.plans.proofs.NumberLaws.{three-numbers}
 use Rattle.plans.specs.Change.{Together, leavesTogether, innersTogether, copied}
 use Rattle.siblings.specs.Siblings.{togetherAt, Holds}
 use Rattle.siblings.specs.declared.together.Held.{Held}
@@ -196,16 +197,9 @@ child-positive node i h = before-zero-positive (valueWords node) i h
 
 -- ---- what a change is laid out from
 
--- the first of three words
-three-words : (l : List ℕ) → length l ≡ 3 → l ≡ getD l 0 0 ∷ getD l 1 0 ∷ getD l 2 0 ∷ []
-three-words [] e = absurd (omega arith)
-three-words (a ∷ []) e = absurd (omega arith)
-three-words (a ∷ b ∷ []) e = absurd (omega arith)
-three-words (a ∷ b ∷ c ∷ []) e = refl
-three-words (a ∷ b ∷ c ∷ d ∷ l) e = absurd (omega arith)
-
+-- the first of three numbers
 pub take-one : (l : List ℕ) → length l ≡ 3 → take 1 l ≡ getD l 0 0 ∷ []
-take-one l e = ap (take 1) (three-words l e)
+take-one l e = ap (take 1) (three-numbers l e)
 
 pub take-two : (l : List ℕ) → length l ≡ 3 → take 2 l ≡ getD l 0 0 ∷ getD l 1 0 ∷ []
-take-two l e = ap (take 2) (three-words l e)
+take-two l e = ap (take 2) (three-numbers l e)
