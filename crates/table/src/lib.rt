@@ -20,7 +20,6 @@ use state::held_by;
 use state::step_format;
 use state_block::NO_STATE;
 pub use state_block::STATE_WORDS;
-pub use state_block::is_idle;
 use state_block::pack;
 use state_block::unpack;
 use steps::step_idle;
@@ -30,10 +29,22 @@ ghost use mathlib.Core.Bool.{true};
 ghost use lib.ListN.{length};
 ghost use Rattle.state.specs.Memory.{memoryOf};
 ghost use Rattle.state.specs.Results.{Unchanged};
+ghost use Rattle.state.specs.Steps.{isIdle};
 ghost use Rattle.state_block.specs.Block.{stateWords, memoryIn};
 ghost use Rattle.state_block.specs.Contracts.{StepCall};
 ghost use Rattle.table.specs.Calls.{stepOf};
 ghost use Rattle.table.specs.Refusals.{isRefusal};
+
+// Whether nothing is being done. In a block that is no state nothing is.
+pub fn is_idle(state: &[u32]) -> bool
+    ensures { λ r. ⌜ (length (now (state .entry)) ≡ stateWords → r ≡ isIdle (memoryIn (now (state .entry)) .doing)) ⌝ }
+    ensures { λ r. ⌜ ((length (now (state .entry)) ≡ stateWords → ⊥) → r ≡ true) ⌝ }
+{
+    if state.len() != STATE_WORDS {
+        return true;
+    }
+    state_block::is_idle(state)
+}
 
 // A step of a state by value.
 fn step_state(card: &mut [u32], s: State) -> Stepped

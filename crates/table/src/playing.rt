@@ -107,7 +107,8 @@ fn play_store(card: &mut [u32], block: &mut [u32]) -> Placed
     requires { ⌜ length (now block) ≡ stateWords ⌝ }
     ensures { λ r. ⌜ ((task : Task) → Played r (stepTask (now (card .entry)) (memoryIn (now (block .entry))) task (memoryIn (now (block .entry)) .rest)) (now (card .entry)) (now (card .exit)) (now (block .entry)) (now (block .exit))) ⌝ }
 {
-    let made = wide(block[MADE]);
+    let count = block[MADE];
+    let made = wide(count);
     if !in_hand(block, made) {
         return Placed::Nowhere;
     }
@@ -126,8 +127,8 @@ fn play_format(card: &mut [u32], block: &mut [u32]) -> Placed
     requires { ⌜ (length (now block) ≡ stateWords) × (word (now block) 2 ≡ 1) × (length (now card) ≤ 8 + 24 * greatestNodes) ⌝ }
     ensures { λ r. ⌜ Played r (stepFormat (now (card .entry)) (memoryIn (now (block .entry))) (word (now (block .entry)) 3) (formatStore (memoryIn (now (block .entry)) .nodes) (length (now (card .entry))) (word (now (block .entry)) 3))) (now (card .entry)) (now (card .exit)) (now (block .entry)) (now (block .exit)) ⌝ }
 {
-    let place = block[FIRST];
-    let made = wide(place);
+    let first = block[FIRST];
+    let made = wide(first);
     if made <= 8 {
         return Placed::Nowhere;
     }
@@ -135,8 +136,8 @@ fn play_format(card: &mut [u32], block: &mut [u32]) -> Placed
         return Placed::Nowhere;
     }
     card[made] = 0;
-    block[FIRST] = place + 1;
-    Placed::At(place)
+    block[FIRST] = first + 1;
+    Placed::At(first)
 }
 
 // Such a step, if the next one is: the refusals of a step are looked at first.

@@ -10,8 +10,8 @@ use Rattle.table.proofs.PlayLaws.{format-stored}
 use Rattle.table.proofs.playing.play_format.Statement.{statement}
 use Rattle.table.proofs.playing.play_format.Tie as tie
 
-slice-read-place : tie.Need-slice-read-place
-slice-read-place c = search needs
+slice-read-first : tie.Need-slice-read-first
+slice-read-first c = search needs
 
 wide-requires : tie.Need-wide-requires
 wide-requires c κs = search needs
@@ -49,7 +49,7 @@ pub play-format-spec : {M : Type 1} → statement M
 play-format-spec =
     tie.close
     (tie.spec
-    slice-read-place
+    slice-read-first
     wide-requires
     returns
     returns-2

@@ -23,8 +23,8 @@ hand c = sym (c .before .in-hand .ensures) ∙ not-false _ (c .if1 .left)
 below : (c : tie.Else1) → c .before .before .before .wide .result < 73
 below c = plan-below (c .before .before .before .before .before .before .before .args .block .now) (c .before .before .before .before .before .before .before .pre) (c .before .before .before .wide .result) (hand c) .1
 
-slice-read-wide : tie.Need-slice-read-wide
-slice-read-wide c = search needs
+slice-read-count : tie.Need-slice-read-count
+slice-read-count c = search needs
 
 wide-requires : tie.Need-wide-requires
 wide-requires c κs = search needs
@@ -97,7 +97,7 @@ pub play-store-spec : {M : Type 1} → statement M
 play-store-spec =
     tie.close
     (tie.spec
-    slice-read-wide
+    slice-read-count
     wide-requires
     in-hand-requires
     same-length
