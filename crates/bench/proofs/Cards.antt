@@ -8,7 +8,7 @@ use Rattle.card.specs.Layout.{runBelow, nodeAt, keyWords, valueWords, children,
 use Rattle.plans.specs.Change.{changeStores, kindAbove, splitLeaf, joinedKeys, joinedChildren, absorb, splitParent, leavesTogether, innersTogether, half, leftKeys, keyBetween, share, merge, mergeRoot, halves, copied}
 use Rattle.plans.specs.Planning.{numbersFrom, takeNumbers, withoutAll, lastOf, overNumbers, giving, withAll}
 use Rattle.change_decide.specs.Decide.{decideTagged, decideTogether, decideSiblings, isNode, decideUnderfull, decideAt, onSearch}
-use Rattle.change_decide.specs.Decide.{nextRepair as decidedRepair}
+use Rattle.change_decide.specs.Decide.{decidedRepair}
 use Rattle.change.specs.LayOut.{layOut}
 use Rattle.change.specs.Mending.{nextRepair}
 use Rattle.siblings.specs.Siblings.{togetherAt}
@@ -21,14 +21,14 @@ use Rattle.lookup.specs.Answers.{foundReply}
 use Rattle.state.specs.Answers.{stepReply, startReply}
 use Rattle.lookup.specs.Find.{foundIn, foundAt, findOf}
 use Rattle.opening.specs.Opening.{openSound, openChecked, openOf}
-use Rattle.starting.specs.Starts.{formatOf, startRefused, started, startLanded, startChecked, startOf, insertOf, deleteOf}
+use Rattle.starting.specs.Starts.{formatOf, startRefused, startAccepted, startLanded, startChecked, startOf, insertOf, deleteOf}
 use Rattle.table.specs.Calls.{planning, stepPrepared, stepBegin, stepHeld, stepOf, stepTask, stepChecked}
-use Rattle.state.specs.Steps.{noBeginning, stepRefused, stepFinal, formattedWord, formatStore, formatting, stepFormat, stepStore, isIdle, heldBy}
+use Rattle.state.specs.Steps.{noBeginning, stepRefused, stepFinal, formattedWord, formatStore, formattingFrom, stepFormat, stepStore, isIdle, heldBy}
 use Rattle.state.specs.Memory.{noMemory, resting, idled, advanced}
 use Rattle.updates.specs.Updates.{landing, emptyReason, reasonIn, insertReason, insertChange, deleteChange, roomFor, startRoom, nextChange, inLeaf, noWay}
 use Rattle.state.specs.declared.Answer.the-variants.{Absent, Value}
 use Rattle.state.specs.declared.Doing.the-variants.{Idle}
-use Rattle.bench.specs.Cards.{Bench, onAnswer, drive, fresh, insert, delete, steps, upto, said, cardL, cardB, cardS, cardI, cardK, cardL2, cutB, againB, cutI, splitI, rowA, rowB, rowC, rowD, rowE, rowF, rowG104, rowG80, rowG103, rowG105, rowG14408, rowG14432, rowHinsert, rowHfind, rowHgreatest, rowI, rowJ, rowK, rowKleft, rowKright, rowL2, rowL2leaf, rowCutOpened, rowCutAbsent, rowCutHeld, StarredCards}
+use Rattle.bench.specs.Cards.{Bench, onAnswer, drive, fresh, insertWhole, deleteWhole, steps, upto, said, cardL, cardB, cardS, cardI, cardK, cardL2, cutB, againB, cutI, splitI, rowA, rowB, rowC, rowD, rowE, rowF, rowG104, rowG80, rowG103, rowG105, rowG14408, rowG14432, rowHinsert, rowHfind, rowHgreatest, rowI, rowJ, rowK, rowKleft, rowKright, rowL2, rowL2leaf, rowCutOpened, rowCutAbsent, rowCutHeld, StarredCards}
 
 -- B, made again after its cut, every word
 abbrev pub heldB : Bench
@@ -81,107 +81,107 @@ heldL2 =
     }
 
 pub again-B : againB ≡ heldB
-unfolding fresh drive onAnswer insert delete upto steps cardL cardB cardS cardI cardK cardL2 foundReply stepReply startReply stepOf stepFormat formatStore formattedWord formatOf stepFinal nodesOfLength formatting resting idled allNodes headerRefusal stepHeld isIdle stepBegin stepPrepared landing landingOf landedAt way wayFrom byLook past lookAt runOver nodeAt children valueWords keyWords slotOf firstEqual insertReason reasonIn emptyReason insertChange stepStore planning advanced nextChange nextRepair onSearch seek searchOf endOf firstFault ended toList isFault countOf rootPosition leafPairs insertOf startOf startChecked startRoom roomFor startLanded started stepRefused startRefused withAll giving overNumbers takeNumbers numbersFrom nextFree firstFrom firstTrue orElse withoutAll lastOf splitLeaf changeStores sort insertAll insertPair kindAbove nodeImage countTrue childPosition childFor childIndex passed routingKeys runBelow deleteOf deleteChange isNode share merge mergeRoot leavesTogether innersTogether half leftKeys keyBetween absorb splitParent joinedKeys joinedChildren findOf cardRefusal foundAt leafOf reachedAt foundIn noBeginning noMemory openOf openChecked openSound tableCheck nodeCheck onLook enterNode enterKind enterLeaf enterInner innerSound noted lookOf leafSound member unusedZero childrenCheck raised halves copied rangeEnd slotSound heldBy stepChecked stepTask inLeaf noWay layOut decidedRepair decideAt decideTagged decideUnderfull decideSiblings decideTogether togetherAt
+unfolding fresh drive onAnswer insertWhole deleteWhole upto steps cardL cardB cardS cardI cardK cardL2 foundReply stepReply startReply stepOf stepFormat formatStore formattedWord formatOf stepFinal nodesOfLength formattingFrom resting idled allNodes headerRefusal stepHeld isIdle stepBegin stepPrepared landing landingOf landedAt way wayFrom byLook past lookAt runOver nodeAt children valueWords keyWords slotOf firstEqual insertReason reasonIn emptyReason insertChange stepStore planning advanced nextChange nextRepair onSearch seek searchOf endOf firstFault ended toList isFault countOf rootPosition leafPairs insertOf startOf startChecked startRoom roomFor startLanded startAccepted stepRefused startRefused withAll giving overNumbers takeNumbers numbersFrom nextFree firstFrom firstTrue orElse withoutAll lastOf splitLeaf changeStores sort insertAll insertPair kindAbove nodeImage countTrue childPosition childFor childIndex passed routingKeys runBelow deleteOf deleteChange isNode share merge mergeRoot leavesTogether innersTogether half leftKeys keyBetween absorb splitParent joinedKeys joinedChildren findOf cardRefusal foundAt leafOf reachedAt foundIn noBeginning noMemory openOf openChecked openSound tableCheck nodeCheck onLook enterNode enterKind enterLeaf enterInner innerSound noted lookOf leafSound member unusedZero childrenCheck raised halves copied rangeEnd slotSound heldBy stepChecked stepTask inLeaf noWay layOut decidedRepair decideAt decideTagged decideUnderfull decideSiblings decideTogether togetherAt
 again-B = refl
 
 pub worked-S : cardS ≡ heldS
-unfolding fresh drive onAnswer insert delete upto steps cardL cardB cardS cardI cardK cardL2 foundReply stepReply startReply stepOf stepFormat formatStore formattedWord formatOf stepFinal nodesOfLength formatting resting idled allNodes headerRefusal stepHeld isIdle stepBegin stepPrepared landing landingOf landedAt way wayFrom byLook past lookAt runOver nodeAt children valueWords keyWords slotOf firstEqual insertReason reasonIn emptyReason insertChange stepStore planning advanced nextChange nextRepair onSearch seek searchOf endOf firstFault ended toList isFault countOf rootPosition leafPairs insertOf startOf startChecked startRoom roomFor startLanded started stepRefused startRefused withAll giving overNumbers takeNumbers numbersFrom nextFree firstFrom firstTrue orElse withoutAll lastOf splitLeaf changeStores sort insertAll insertPair kindAbove nodeImage countTrue childPosition childFor childIndex passed routingKeys runBelow deleteOf deleteChange isNode share merge mergeRoot leavesTogether innersTogether half leftKeys keyBetween absorb splitParent joinedKeys joinedChildren findOf cardRefusal foundAt leafOf reachedAt foundIn noBeginning noMemory openOf openChecked openSound tableCheck nodeCheck onLook enterNode enterKind enterLeaf enterInner innerSound noted lookOf leafSound member unusedZero childrenCheck raised halves copied rangeEnd slotSound heldBy stepChecked stepTask inLeaf noWay layOut decidedRepair decideAt decideTagged decideUnderfull decideSiblings decideTogether togetherAt
+unfolding fresh drive onAnswer insertWhole deleteWhole upto steps cardL cardB cardS cardI cardK cardL2 foundReply stepReply startReply stepOf stepFormat formatStore formattedWord formatOf stepFinal nodesOfLength formattingFrom resting idled allNodes headerRefusal stepHeld isIdle stepBegin stepPrepared landing landingOf landedAt way wayFrom byLook past lookAt runOver nodeAt children valueWords keyWords slotOf firstEqual insertReason reasonIn emptyReason insertChange stepStore planning advanced nextChange nextRepair onSearch seek searchOf endOf firstFault ended toList isFault countOf rootPosition leafPairs insertOf startOf startChecked startRoom roomFor startLanded startAccepted stepRefused startRefused withAll giving overNumbers takeNumbers numbersFrom nextFree firstFrom firstTrue orElse withoutAll lastOf splitLeaf changeStores sort insertAll insertPair kindAbove nodeImage countTrue childPosition childFor childIndex passed routingKeys runBelow deleteOf deleteChange isNode share merge mergeRoot leavesTogether innersTogether half leftKeys keyBetween absorb splitParent joinedKeys joinedChildren findOf cardRefusal foundAt leafOf reachedAt foundIn noBeginning noMemory openOf openChecked openSound tableCheck nodeCheck onLook enterNode enterKind enterLeaf enterInner innerSound noted lookOf leafSound member unusedZero childrenCheck raised halves copied rangeEnd slotSound heldBy stepChecked stepTask inLeaf noWay layOut decidedRepair decideAt decideTagged decideUnderfull decideSiblings decideTogether togetherAt
 worked-S = refl
 
-pub from-S : insert 12 120 heldS ≡ heldI
-unfolding fresh drive onAnswer insert delete upto steps cardL cardB cardS cardI cardK cardL2 foundReply stepReply startReply stepOf stepFormat formatStore formattedWord formatOf stepFinal nodesOfLength formatting resting idled allNodes headerRefusal stepHeld isIdle stepBegin stepPrepared landing landingOf landedAt way wayFrom byLook past lookAt runOver nodeAt children valueWords keyWords slotOf firstEqual insertReason reasonIn emptyReason insertChange stepStore planning advanced nextChange nextRepair onSearch seek searchOf endOf firstFault ended toList isFault countOf rootPosition leafPairs insertOf startOf startChecked startRoom roomFor startLanded started stepRefused startRefused withAll giving overNumbers takeNumbers numbersFrom nextFree firstFrom firstTrue orElse withoutAll lastOf splitLeaf changeStores sort insertAll insertPair kindAbove nodeImage countTrue childPosition childFor childIndex passed routingKeys runBelow deleteOf deleteChange isNode share merge mergeRoot leavesTogether innersTogether half leftKeys keyBetween absorb splitParent joinedKeys joinedChildren findOf cardRefusal foundAt leafOf reachedAt foundIn noBeginning noMemory openOf openChecked openSound tableCheck nodeCheck onLook enterNode enterKind enterLeaf enterInner innerSound noted lookOf leafSound member unusedZero childrenCheck raised halves copied rangeEnd slotSound heldBy stepChecked stepTask inLeaf noWay layOut decidedRepair decideAt decideTagged decideUnderfull decideSiblings decideTogether togetherAt
+pub from-S : insertWhole 12 120 heldS ≡ heldI
+unfolding fresh drive onAnswer insertWhole deleteWhole upto steps cardL cardB cardS cardI cardK cardL2 foundReply stepReply startReply stepOf stepFormat formatStore formattedWord formatOf stepFinal nodesOfLength formattingFrom resting idled allNodes headerRefusal stepHeld isIdle stepBegin stepPrepared landing landingOf landedAt way wayFrom byLook past lookAt runOver nodeAt children valueWords keyWords slotOf firstEqual insertReason reasonIn emptyReason insertChange stepStore planning advanced nextChange nextRepair onSearch seek searchOf endOf firstFault ended toList isFault countOf rootPosition leafPairs insertOf startOf startChecked startRoom roomFor startLanded startAccepted stepRefused startRefused withAll giving overNumbers takeNumbers numbersFrom nextFree firstFrom firstTrue orElse withoutAll lastOf splitLeaf changeStores sort insertAll insertPair kindAbove nodeImage countTrue childPosition childFor childIndex passed routingKeys runBelow deleteOf deleteChange isNode share merge mergeRoot leavesTogether innersTogether half leftKeys keyBetween absorb splitParent joinedKeys joinedChildren findOf cardRefusal foundAt leafOf reachedAt foundIn noBeginning noMemory openOf openChecked openSound tableCheck nodeCheck onLook enterNode enterKind enterLeaf enterInner innerSound noted lookOf leafSound member unusedZero childrenCheck raised halves copied rangeEnd slotSound heldBy stepChecked stepTask inLeaf noWay layOut decidedRepair decideAt decideTagged decideUnderfull decideSiblings decideTogether togetherAt
 from-S = refl
 
 pub worked-I : cardI ≡ heldI
 unfolding cardI
-worked-I = ap (insert 12 120) worked-S ∙ from-S
+worked-I = ap (insertWhole 12 120) worked-S ∙ from-S
 
-pub from-I : delete 5 (delete 4 (delete 3 (delete 2 (delete 1 heldI)))) ≡ heldK
-unfolding fresh drive onAnswer insert delete upto steps cardL cardB cardS cardI cardK cardL2 foundReply stepReply startReply stepOf stepFormat formatStore formattedWord formatOf stepFinal nodesOfLength formatting resting idled allNodes headerRefusal stepHeld isIdle stepBegin stepPrepared landing landingOf landedAt way wayFrom byLook past lookAt runOver nodeAt children valueWords keyWords slotOf firstEqual insertReason reasonIn emptyReason insertChange stepStore planning advanced nextChange nextRepair onSearch seek searchOf endOf firstFault ended toList isFault countOf rootPosition leafPairs insertOf startOf startChecked startRoom roomFor startLanded started stepRefused startRefused withAll giving overNumbers takeNumbers numbersFrom nextFree firstFrom firstTrue orElse withoutAll lastOf splitLeaf changeStores sort insertAll insertPair kindAbove nodeImage countTrue childPosition childFor childIndex passed routingKeys runBelow deleteOf deleteChange isNode share merge mergeRoot leavesTogether innersTogether half leftKeys keyBetween absorb splitParent joinedKeys joinedChildren findOf cardRefusal foundAt leafOf reachedAt foundIn noBeginning noMemory openOf openChecked openSound tableCheck nodeCheck onLook enterNode enterKind enterLeaf enterInner innerSound noted lookOf leafSound member unusedZero childrenCheck raised halves copied rangeEnd slotSound heldBy stepChecked stepTask inLeaf noWay layOut decidedRepair decideAt decideTagged decideUnderfull decideSiblings decideTogether togetherAt
+pub from-I : deleteWhole 5 (deleteWhole 4 (deleteWhole 3 (deleteWhole 2 (deleteWhole 1 heldI)))) ≡ heldK
+unfolding fresh drive onAnswer insertWhole deleteWhole upto steps cardL cardB cardS cardI cardK cardL2 foundReply stepReply startReply stepOf stepFormat formatStore formattedWord formatOf stepFinal nodesOfLength formattingFrom resting idled allNodes headerRefusal stepHeld isIdle stepBegin stepPrepared landing landingOf landedAt way wayFrom byLook past lookAt runOver nodeAt children valueWords keyWords slotOf firstEqual insertReason reasonIn emptyReason insertChange stepStore planning advanced nextChange nextRepair onSearch seek searchOf endOf firstFault ended toList isFault countOf rootPosition leafPairs insertOf startOf startChecked startRoom roomFor startLanded startAccepted stepRefused startRefused withAll giving overNumbers takeNumbers numbersFrom nextFree firstFrom firstTrue orElse withoutAll lastOf splitLeaf changeStores sort insertAll insertPair kindAbove nodeImage countTrue childPosition childFor childIndex passed routingKeys runBelow deleteOf deleteChange isNode share merge mergeRoot leavesTogether innersTogether half leftKeys keyBetween absorb splitParent joinedKeys joinedChildren findOf cardRefusal foundAt leafOf reachedAt foundIn noBeginning noMemory openOf openChecked openSound tableCheck nodeCheck onLook enterNode enterKind enterLeaf enterInner innerSound noted lookOf leafSound member unusedZero childrenCheck raised halves copied rangeEnd slotSound heldBy stepChecked stepTask inLeaf noWay layOut decidedRepair decideAt decideTagged decideUnderfull decideSiblings decideTogether togetherAt
 from-I = refl
 
 pub worked-K : cardK ≡ heldK
 unfolding cardK
-worked-K = ap (λ b. delete 5 (delete 4 (delete 3 (delete 2 (delete 1 b))))) worked-I ∙ from-I
+worked-K = ap (λ b. deleteWhole 5 (deleteWhole 4 (deleteWhole 3 (deleteWhole 2 (deleteWhole 1 b))))) worked-I ∙ from-I
 
-pub from-K : delete 9 (delete 10 (delete 8 (delete 7 heldK))) ≡ heldL2
-unfolding fresh drive onAnswer insert delete upto steps cardL cardB cardS cardI cardK cardL2 foundReply stepReply startReply stepOf stepFormat formatStore formattedWord formatOf stepFinal nodesOfLength formatting resting idled allNodes headerRefusal stepHeld isIdle stepBegin stepPrepared landing landingOf landedAt way wayFrom byLook past lookAt runOver nodeAt children valueWords keyWords slotOf firstEqual insertReason reasonIn emptyReason insertChange stepStore planning advanced nextChange nextRepair onSearch seek searchOf endOf firstFault ended toList isFault countOf rootPosition leafPairs insertOf startOf startChecked startRoom roomFor startLanded started stepRefused startRefused withAll giving overNumbers takeNumbers numbersFrom nextFree firstFrom firstTrue orElse withoutAll lastOf splitLeaf changeStores sort insertAll insertPair kindAbove nodeImage countTrue childPosition childFor childIndex passed routingKeys runBelow deleteOf deleteChange isNode share merge mergeRoot leavesTogether innersTogether half leftKeys keyBetween absorb splitParent joinedKeys joinedChildren findOf cardRefusal foundAt leafOf reachedAt foundIn noBeginning noMemory openOf openChecked openSound tableCheck nodeCheck onLook enterNode enterKind enterLeaf enterInner innerSound noted lookOf leafSound member unusedZero childrenCheck raised halves copied rangeEnd slotSound heldBy stepChecked stepTask inLeaf noWay layOut decidedRepair decideAt decideTagged decideUnderfull decideSiblings decideTogether togetherAt
+pub from-K : deleteWhole 9 (deleteWhole 10 (deleteWhole 8 (deleteWhole 7 heldK))) ≡ heldL2
+unfolding fresh drive onAnswer insertWhole deleteWhole upto steps cardL cardB cardS cardI cardK cardL2 foundReply stepReply startReply stepOf stepFormat formatStore formattedWord formatOf stepFinal nodesOfLength formattingFrom resting idled allNodes headerRefusal stepHeld isIdle stepBegin stepPrepared landing landingOf landedAt way wayFrom byLook past lookAt runOver nodeAt children valueWords keyWords slotOf firstEqual insertReason reasonIn emptyReason insertChange stepStore planning advanced nextChange nextRepair onSearch seek searchOf endOf firstFault ended toList isFault countOf rootPosition leafPairs insertOf startOf startChecked startRoom roomFor startLanded startAccepted stepRefused startRefused withAll giving overNumbers takeNumbers numbersFrom nextFree firstFrom firstTrue orElse withoutAll lastOf splitLeaf changeStores sort insertAll insertPair kindAbove nodeImage countTrue childPosition childFor childIndex passed routingKeys runBelow deleteOf deleteChange isNode share merge mergeRoot leavesTogether innersTogether half leftKeys keyBetween absorb splitParent joinedKeys joinedChildren findOf cardRefusal foundAt leafOf reachedAt foundIn noBeginning noMemory openOf openChecked openSound tableCheck nodeCheck onLook enterNode enterKind enterLeaf enterInner innerSound noted lookOf leafSound member unusedZero childrenCheck raised halves copied rangeEnd slotSound heldBy stepChecked stepTask inLeaf noWay layOut decidedRepair decideAt decideTagged decideUnderfull decideSiblings decideTogether togetherAt
 from-K = refl
 
 pub worked-L2 : cardL2 ≡ heldL2
 unfolding cardL2
-worked-L2 = ap (λ b. delete 9 (delete 10 (delete 8 (delete 7 b)))) worked-K ∙ from-K
+worked-L2 = ap (λ b. deleteWhole 9 (deleteWhole 10 (deleteWhole 8 (deleteWhole 7 b)))) worked-K ∙ from-K
 
 pub rowA-is : rowA ≡ said absent
-unfolding rowA fresh drive onAnswer insert delete upto steps cardL cardB cardS cardI cardK cardL2 foundReply stepReply startReply stepOf stepFormat formatStore formattedWord formatOf stepFinal nodesOfLength formatting resting idled allNodes headerRefusal stepHeld isIdle stepBegin stepPrepared landing landingOf landedAt way wayFrom byLook past lookAt runOver nodeAt children valueWords keyWords slotOf firstEqual insertReason reasonIn emptyReason insertChange stepStore planning advanced nextChange nextRepair onSearch seek searchOf endOf firstFault ended toList isFault countOf rootPosition leafPairs insertOf startOf startChecked startRoom roomFor startLanded started stepRefused startRefused withAll giving overNumbers takeNumbers numbersFrom nextFree firstFrom firstTrue orElse withoutAll lastOf splitLeaf changeStores sort insertAll insertPair kindAbove nodeImage countTrue childPosition childFor childIndex passed routingKeys runBelow deleteOf deleteChange isNode share merge mergeRoot leavesTogether innersTogether half leftKeys keyBetween absorb splitParent joinedKeys joinedChildren findOf cardRefusal foundAt leafOf reachedAt foundIn noBeginning noMemory openOf openChecked openSound tableCheck nodeCheck onLook enterNode enterKind enterLeaf enterInner innerSound noted lookOf leafSound member unusedZero childrenCheck raised halves copied rangeEnd slotSound heldBy stepChecked stepTask inLeaf noWay layOut decidedRepair decideAt decideTagged decideUnderfull decideSiblings decideTogether togetherAt
+unfolding rowA fresh drive onAnswer insertWhole deleteWhole upto steps cardL cardB cardS cardI cardK cardL2 foundReply stepReply startReply stepOf stepFormat formatStore formattedWord formatOf stepFinal nodesOfLength formattingFrom resting idled allNodes headerRefusal stepHeld isIdle stepBegin stepPrepared landing landingOf landedAt way wayFrom byLook past lookAt runOver nodeAt children valueWords keyWords slotOf firstEqual insertReason reasonIn emptyReason insertChange stepStore planning advanced nextChange nextRepair onSearch seek searchOf endOf firstFault ended toList isFault countOf rootPosition leafPairs insertOf startOf startChecked startRoom roomFor startLanded startAccepted stepRefused startRefused withAll giving overNumbers takeNumbers numbersFrom nextFree firstFrom firstTrue orElse withoutAll lastOf splitLeaf changeStores sort insertAll insertPair kindAbove nodeImage countTrue childPosition childFor childIndex passed routingKeys runBelow deleteOf deleteChange isNode share merge mergeRoot leavesTogether innersTogether half leftKeys keyBetween absorb splitParent joinedKeys joinedChildren findOf cardRefusal foundAt leafOf reachedAt foundIn noBeginning noMemory openOf openChecked openSound tableCheck nodeCheck onLook enterNode enterKind enterLeaf enterInner innerSound noted lookOf leafSound member unusedZero childrenCheck raised halves copied rangeEnd slotSound heldBy stepChecked stepTask inLeaf noWay layOut decidedRepair decideAt decideTagged decideUnderfull decideSiblings decideTogether togetherAt
 rowA-is = refl
 
 pub rowB-is : rowB ≡ (70 ∷ 0 ∷ 70 ∷ 7 ∷ 2 ∷ said absent)
-unfolding rowB fresh drive onAnswer insert delete upto steps cardL cardB cardS cardI cardK cardL2 foundReply stepReply startReply stepOf stepFormat formatStore formattedWord formatOf stepFinal nodesOfLength formatting resting idled allNodes headerRefusal stepHeld isIdle stepBegin stepPrepared landing landingOf landedAt way wayFrom byLook past lookAt runOver nodeAt children valueWords keyWords slotOf firstEqual insertReason reasonIn emptyReason insertChange stepStore planning advanced nextChange nextRepair onSearch seek searchOf endOf firstFault ended toList isFault countOf rootPosition leafPairs insertOf startOf startChecked startRoom roomFor startLanded started stepRefused startRefused withAll giving overNumbers takeNumbers numbersFrom nextFree firstFrom firstTrue orElse withoutAll lastOf splitLeaf changeStores sort insertAll insertPair kindAbove nodeImage countTrue childPosition childFor childIndex passed routingKeys runBelow deleteOf deleteChange isNode share merge mergeRoot leavesTogether innersTogether half leftKeys keyBetween absorb splitParent joinedKeys joinedChildren findOf cardRefusal foundAt leafOf reachedAt foundIn noBeginning noMemory openOf openChecked openSound tableCheck nodeCheck onLook enterNode enterKind enterLeaf enterInner innerSound noted lookOf leafSound member unusedZero childrenCheck raised halves copied rangeEnd slotSound heldBy stepChecked stepTask inLeaf noWay layOut decidedRepair decideAt decideTagged decideUnderfull decideSiblings decideTogether togetherAt
+unfolding rowB fresh drive onAnswer insertWhole deleteWhole upto steps cardL cardB cardS cardI cardK cardL2 foundReply stepReply startReply stepOf stepFormat formatStore formattedWord formatOf stepFinal nodesOfLength formattingFrom resting idled allNodes headerRefusal stepHeld isIdle stepBegin stepPrepared landing landingOf landedAt way wayFrom byLook past lookAt runOver nodeAt children valueWords keyWords slotOf firstEqual insertReason reasonIn emptyReason insertChange stepStore planning advanced nextChange nextRepair onSearch seek searchOf endOf firstFault ended toList isFault countOf rootPosition leafPairs insertOf startOf startChecked startRoom roomFor startLanded startAccepted stepRefused startRefused withAll giving overNumbers takeNumbers numbersFrom nextFree firstFrom firstTrue orElse withoutAll lastOf splitLeaf changeStores sort insertAll insertPair kindAbove nodeImage countTrue childPosition childFor childIndex passed routingKeys runBelow deleteOf deleteChange isNode share merge mergeRoot leavesTogether innersTogether half leftKeys keyBetween absorb splitParent joinedKeys joinedChildren findOf cardRefusal foundAt leafOf reachedAt foundIn noBeginning noMemory openOf openChecked openSound tableCheck nodeCheck onLook enterNode enterKind enterLeaf enterInner innerSound noted lookOf leafSound member unusedZero childrenCheck raised halves copied rangeEnd slotSound heldBy stepChecked stepTask inLeaf noWay layOut decidedRepair decideAt decideTagged decideUnderfull decideSiblings decideTogether togetherAt
 rowB-is = refl
 
 cutB-absent : foundReply (findOf cutB 7) ≡ absent
-unfolding fresh drive onAnswer insert delete upto steps cardL cardB cardS cardI cardK cardL2 foundReply stepReply startReply stepOf stepFormat formatStore formattedWord formatOf stepFinal nodesOfLength formatting resting idled allNodes headerRefusal stepHeld isIdle stepBegin stepPrepared landing landingOf landedAt way wayFrom byLook past lookAt runOver nodeAt children valueWords keyWords slotOf firstEqual insertReason reasonIn emptyReason insertChange stepStore planning advanced nextChange nextRepair onSearch seek searchOf endOf firstFault ended toList isFault countOf rootPosition leafPairs insertOf startOf startChecked startRoom roomFor startLanded started stepRefused startRefused withAll giving overNumbers takeNumbers numbersFrom nextFree firstFrom firstTrue orElse withoutAll lastOf splitLeaf changeStores sort insertAll insertPair kindAbove nodeImage countTrue childPosition childFor childIndex passed routingKeys runBelow deleteOf deleteChange isNode share merge mergeRoot leavesTogether innersTogether half leftKeys keyBetween absorb splitParent joinedKeys joinedChildren findOf cardRefusal foundAt leafOf reachedAt foundIn noBeginning noMemory openOf openChecked openSound tableCheck nodeCheck onLook enterNode enterKind enterLeaf enterInner innerSound noted lookOf leafSound member unusedZero childrenCheck raised halves copied rangeEnd slotSound heldBy stepChecked stepTask inLeaf noWay layOut decidedRepair decideAt decideTagged decideUnderfull decideSiblings decideTogether togetherAt
+unfolding fresh drive onAnswer insertWhole deleteWhole upto steps cardL cardB cardS cardI cardK cardL2 foundReply stepReply startReply stepOf stepFormat formatStore formattedWord formatOf stepFinal nodesOfLength formattingFrom resting idled allNodes headerRefusal stepHeld isIdle stepBegin stepPrepared landing landingOf landedAt way wayFrom byLook past lookAt runOver nodeAt children valueWords keyWords slotOf firstEqual insertReason reasonIn emptyReason insertChange stepStore planning advanced nextChange nextRepair onSearch seek searchOf endOf firstFault ended toList isFault countOf rootPosition leafPairs insertOf startOf startChecked startRoom roomFor startLanded startAccepted stepRefused startRefused withAll giving overNumbers takeNumbers numbersFrom nextFree firstFrom firstTrue orElse withoutAll lastOf splitLeaf changeStores sort insertAll insertPair kindAbove nodeImage countTrue childPosition childFor childIndex passed routingKeys runBelow deleteOf deleteChange isNode share merge mergeRoot leavesTogether innersTogether half leftKeys keyBetween absorb splitParent joinedKeys joinedChildren findOf cardRefusal foundAt leafOf reachedAt foundIn noBeginning noMemory openOf openChecked openSound tableCheck nodeCheck onLook enterNode enterKind enterLeaf enterInner innerSound noted lookOf leafSound member unusedZero childrenCheck raised halves copied rangeEnd slotSound heldBy stepChecked stepTask inLeaf noWay layOut decidedRepair decideAt decideTagged decideUnderfull decideSiblings decideTogether togetherAt
 cutB-absent = refl
 
 pub rowC-is : rowC ≡ said absent
 unfolding rowC
 rowC-is = ap said cutB-absent
 
-pub rowD-held : heldB .stores ∷ insert 7 71 heldB .stores ∷ said (stepReply (insert 7 71 heldB .answer)) ≡ (2 ∷ 0 ∷ said (holds 70))
-unfolding fresh drive onAnswer insert delete upto steps cardL cardB cardS cardI cardK cardL2 foundReply stepReply startReply stepOf stepFormat formatStore formattedWord formatOf stepFinal nodesOfLength formatting resting idled allNodes headerRefusal stepHeld isIdle stepBegin stepPrepared landing landingOf landedAt way wayFrom byLook past lookAt runOver nodeAt children valueWords keyWords slotOf firstEqual insertReason reasonIn emptyReason insertChange stepStore planning advanced nextChange nextRepair onSearch seek searchOf endOf firstFault ended toList isFault countOf rootPosition leafPairs insertOf startOf startChecked startRoom roomFor startLanded started stepRefused startRefused withAll giving overNumbers takeNumbers numbersFrom nextFree firstFrom firstTrue orElse withoutAll lastOf splitLeaf changeStores sort insertAll insertPair kindAbove nodeImage countTrue childPosition childFor childIndex passed routingKeys runBelow deleteOf deleteChange isNode share merge mergeRoot leavesTogether innersTogether half leftKeys keyBetween absorb splitParent joinedKeys joinedChildren findOf cardRefusal foundAt leafOf reachedAt foundIn noBeginning noMemory openOf openChecked openSound tableCheck nodeCheck onLook enterNode enterKind enterLeaf enterInner innerSound noted lookOf leafSound member unusedZero childrenCheck raised halves copied rangeEnd slotSound heldBy stepChecked stepTask inLeaf noWay layOut decidedRepair decideAt decideTagged decideUnderfull decideSiblings decideTogether togetherAt
+pub rowD-held : heldB .stores ∷ insertWhole 7 71 heldB .stores ∷ said (stepReply (insertWhole 7 71 heldB .answer)) ≡ (2 ∷ 0 ∷ said (holds 70))
+unfolding fresh drive onAnswer insertWhole deleteWhole upto steps cardL cardB cardS cardI cardK cardL2 foundReply stepReply startReply stepOf stepFormat formatStore formattedWord formatOf stepFinal nodesOfLength formattingFrom resting idled allNodes headerRefusal stepHeld isIdle stepBegin stepPrepared landing landingOf landedAt way wayFrom byLook past lookAt runOver nodeAt children valueWords keyWords slotOf firstEqual insertReason reasonIn emptyReason insertChange stepStore planning advanced nextChange nextRepair onSearch seek searchOf endOf firstFault ended toList isFault countOf rootPosition leafPairs insertOf startOf startChecked startRoom roomFor startLanded startAccepted stepRefused startRefused withAll giving overNumbers takeNumbers numbersFrom nextFree firstFrom firstTrue orElse withoutAll lastOf splitLeaf changeStores sort insertAll insertPair kindAbove nodeImage countTrue childPosition childFor childIndex passed routingKeys runBelow deleteOf deleteChange isNode share merge mergeRoot leavesTogether innersTogether half leftKeys keyBetween absorb splitParent joinedKeys joinedChildren findOf cardRefusal foundAt leafOf reachedAt foundIn noBeginning noMemory openOf openChecked openSound tableCheck nodeCheck onLook enterNode enterKind enterLeaf enterInner innerSound noted lookOf leafSound member unusedZero childrenCheck raised halves copied rangeEnd slotSound heldBy stepChecked stepTask inLeaf noWay layOut decidedRepair decideAt decideTagged decideUnderfull decideSiblings decideTogether togetherAt
 rowD-held = refl
 
 pub rowD-is : rowD ≡ (2 ∷ 0 ∷ said (holds 70))
 unfolding rowD
-rowD-is = ap (λ b. b .stores ∷ insert 7 71 b .stores ∷ said (stepReply (insert 7 71 b .answer))) again-B ∙ rowD-held
+rowD-is = ap (λ b. b .stores ∷ insertWhole 7 71 b .stores ∷ said (stepReply (insertWhole 7 71 b .answer))) again-B ∙ rowD-held
 
 pub rowE-is : rowE ≡ (1 ∷ 0 ∷ said (holds 70))
-unfolding rowE fresh drive onAnswer insert delete upto steps cardL cardB cardS cardI cardK cardL2 foundReply stepReply startReply stepOf stepFormat formatStore formattedWord formatOf stepFinal nodesOfLength formatting resting idled allNodes headerRefusal stepHeld isIdle stepBegin stepPrepared landing landingOf landedAt way wayFrom byLook past lookAt runOver nodeAt children valueWords keyWords slotOf firstEqual insertReason reasonIn emptyReason insertChange stepStore planning advanced nextChange nextRepair onSearch seek searchOf endOf firstFault ended toList isFault countOf rootPosition leafPairs insertOf startOf startChecked startRoom roomFor startLanded started stepRefused startRefused withAll giving overNumbers takeNumbers numbersFrom nextFree firstFrom firstTrue orElse withoutAll lastOf splitLeaf changeStores sort insertAll insertPair kindAbove nodeImage countTrue childPosition childFor childIndex passed routingKeys runBelow deleteOf deleteChange isNode share merge mergeRoot leavesTogether innersTogether half leftKeys keyBetween absorb splitParent joinedKeys joinedChildren findOf cardRefusal foundAt leafOf reachedAt foundIn noBeginning noMemory openOf openChecked openSound tableCheck nodeCheck onLook enterNode enterKind enterLeaf enterInner innerSound noted lookOf leafSound member unusedZero childrenCheck raised halves copied rangeEnd slotSound heldBy stepChecked stepTask inLeaf noWay layOut decidedRepair decideAt decideTagged decideUnderfull decideSiblings decideTogether togetherAt
+unfolding rowE fresh drive onAnswer insertWhole deleteWhole upto steps cardL cardB cardS cardI cardK cardL2 foundReply stepReply startReply stepOf stepFormat formatStore formattedWord formatOf stepFinal nodesOfLength formattingFrom resting idled allNodes headerRefusal stepHeld isIdle stepBegin stepPrepared landing landingOf landedAt way wayFrom byLook past lookAt runOver nodeAt children valueWords keyWords slotOf firstEqual insertReason reasonIn emptyReason insertChange stepStore planning advanced nextChange nextRepair onSearch seek searchOf endOf firstFault ended toList isFault countOf rootPosition leafPairs insertOf startOf startChecked startRoom roomFor startLanded startAccepted stepRefused startRefused withAll giving overNumbers takeNumbers numbersFrom nextFree firstFrom firstTrue orElse withoutAll lastOf splitLeaf changeStores sort insertAll insertPair kindAbove nodeImage countTrue childPosition childFor childIndex passed routingKeys runBelow deleteOf deleteChange isNode share merge mergeRoot leavesTogether innersTogether half leftKeys keyBetween absorb splitParent joinedKeys joinedChildren findOf cardRefusal foundAt leafOf reachedAt foundIn noBeginning noMemory openOf openChecked openSound tableCheck nodeCheck onLook enterNode enterKind enterLeaf enterInner innerSound noted lookOf leafSound member unusedZero childrenCheck raised halves copied rangeEnd slotSound heldBy stepChecked stepTask inLeaf noWay layOut decidedRepair decideAt decideTagged decideUnderfull decideSiblings decideTogether togetherAt
 rowE-is = refl
 
 pub rowF-is : rowF ≡ (0 ∷ said absent)
-unfolding rowF fresh drive onAnswer insert delete upto steps cardL cardB cardS cardI cardK cardL2 foundReply stepReply startReply stepOf stepFormat formatStore formattedWord formatOf stepFinal nodesOfLength formatting resting idled allNodes headerRefusal stepHeld isIdle stepBegin stepPrepared landing landingOf landedAt way wayFrom byLook past lookAt runOver nodeAt children valueWords keyWords slotOf firstEqual insertReason reasonIn emptyReason insertChange stepStore planning advanced nextChange nextRepair onSearch seek searchOf endOf firstFault ended toList isFault countOf rootPosition leafPairs insertOf startOf startChecked startRoom roomFor startLanded started stepRefused startRefused withAll giving overNumbers takeNumbers numbersFrom nextFree firstFrom firstTrue orElse withoutAll lastOf splitLeaf changeStores sort insertAll insertPair kindAbove nodeImage countTrue childPosition childFor childIndex passed routingKeys runBelow deleteOf deleteChange isNode share merge mergeRoot leavesTogether innersTogether half leftKeys keyBetween absorb splitParent joinedKeys joinedChildren findOf cardRefusal foundAt leafOf reachedAt foundIn noBeginning noMemory openOf openChecked openSound tableCheck nodeCheck onLook enterNode enterKind enterLeaf enterInner innerSound noted lookOf leafSound member unusedZero childrenCheck raised halves copied rangeEnd slotSound heldBy stepChecked stepTask inLeaf noWay layOut decidedRepair decideAt decideTagged decideUnderfull decideSiblings decideTogether togetherAt
+unfolding rowF fresh drive onAnswer insertWhole deleteWhole upto steps cardL cardB cardS cardI cardK cardL2 foundReply stepReply startReply stepOf stepFormat formatStore formattedWord formatOf stepFinal nodesOfLength formattingFrom resting idled allNodes headerRefusal stepHeld isIdle stepBegin stepPrepared landing landingOf landedAt way wayFrom byLook past lookAt runOver nodeAt children valueWords keyWords slotOf firstEqual insertReason reasonIn emptyReason insertChange stepStore planning advanced nextChange nextRepair onSearch seek searchOf endOf firstFault ended toList isFault countOf rootPosition leafPairs insertOf startOf startChecked startRoom roomFor startLanded startAccepted stepRefused startRefused withAll giving overNumbers takeNumbers numbersFrom nextFree firstFrom firstTrue orElse withoutAll lastOf splitLeaf changeStores sort insertAll insertPair kindAbove nodeImage countTrue childPosition childFor childIndex passed routingKeys runBelow deleteOf deleteChange isNode share merge mergeRoot leavesTogether innersTogether half leftKeys keyBetween absorb splitParent joinedKeys joinedChildren findOf cardRefusal foundAt leafOf reachedAt foundIn noBeginning noMemory openOf openChecked openSound tableCheck nodeCheck onLook enterNode enterKind enterLeaf enterInner innerSound noted lookOf leafSound member unusedZero childrenCheck raised halves copied rangeEnd slotSound heldBy stepChecked stepTask inLeaf noWay layOut decidedRepair decideAt decideTagged decideUnderfull decideSiblings decideTogether togetherAt
 rowF-is = refl
 
 pub rowG104-is : rowG104 ≡ said begun
-unfolding rowG104 fresh drive onAnswer insert delete upto steps cardL cardB cardS cardI cardK cardL2 foundReply stepReply startReply stepOf stepFormat formatStore formattedWord formatOf stepFinal nodesOfLength formatting resting idled allNodes headerRefusal stepHeld isIdle stepBegin stepPrepared landing landingOf landedAt way wayFrom byLook past lookAt runOver nodeAt children valueWords keyWords slotOf firstEqual insertReason reasonIn emptyReason insertChange stepStore planning advanced nextChange nextRepair onSearch seek searchOf endOf firstFault ended toList isFault countOf rootPosition leafPairs insertOf startOf startChecked startRoom roomFor startLanded started stepRefused startRefused withAll giving overNumbers takeNumbers numbersFrom nextFree firstFrom firstTrue orElse withoutAll lastOf splitLeaf changeStores sort insertAll insertPair kindAbove nodeImage countTrue childPosition childFor childIndex passed routingKeys runBelow deleteOf deleteChange isNode share merge mergeRoot leavesTogether innersTogether half leftKeys keyBetween absorb splitParent joinedKeys joinedChildren findOf cardRefusal foundAt leafOf reachedAt foundIn noBeginning noMemory openOf openChecked openSound tableCheck nodeCheck onLook enterNode enterKind enterLeaf enterInner innerSound noted lookOf leafSound member unusedZero childrenCheck raised halves copied rangeEnd slotSound heldBy stepChecked stepTask inLeaf noWay layOut decidedRepair decideAt decideTagged decideUnderfull decideSiblings decideTogether togetherAt
+unfolding rowG104 fresh drive onAnswer insertWhole deleteWhole upto steps cardL cardB cardS cardI cardK cardL2 foundReply stepReply startReply stepOf stepFormat formatStore formattedWord formatOf stepFinal nodesOfLength formattingFrom resting idled allNodes headerRefusal stepHeld isIdle stepBegin stepPrepared landing landingOf landedAt way wayFrom byLook past lookAt runOver nodeAt children valueWords keyWords slotOf firstEqual insertReason reasonIn emptyReason insertChange stepStore planning advanced nextChange nextRepair onSearch seek searchOf endOf firstFault ended toList isFault countOf rootPosition leafPairs insertOf startOf startChecked startRoom roomFor startLanded startAccepted stepRefused startRefused withAll giving overNumbers takeNumbers numbersFrom nextFree firstFrom firstTrue orElse withoutAll lastOf splitLeaf changeStores sort insertAll insertPair kindAbove nodeImage countTrue childPosition childFor childIndex passed routingKeys runBelow deleteOf deleteChange isNode share merge mergeRoot leavesTogether innersTogether half leftKeys keyBetween absorb splitParent joinedKeys joinedChildren findOf cardRefusal foundAt leafOf reachedAt foundIn noBeginning noMemory openOf openChecked openSound tableCheck nodeCheck onLook enterNode enterKind enterLeaf enterInner innerSound noted lookOf leafSound member unusedZero childrenCheck raised halves copied rangeEnd slotSound heldBy stepChecked stepTask inLeaf noWay layOut decidedRepair decideAt decideTagged decideUnderfull decideSiblings decideTogether togetherAt
 rowG104-is = refl
 
 pub rowG80-is : rowG80 ≡ said (refusal 1)
-unfolding rowG80 fresh drive onAnswer insert delete upto steps cardL cardB cardS cardI cardK cardL2 foundReply stepReply startReply stepOf stepFormat formatStore formattedWord formatOf stepFinal nodesOfLength formatting resting idled allNodes headerRefusal stepHeld isIdle stepBegin stepPrepared landing landingOf landedAt way wayFrom byLook past lookAt runOver nodeAt children valueWords keyWords slotOf firstEqual insertReason reasonIn emptyReason insertChange stepStore planning advanced nextChange nextRepair onSearch seek searchOf endOf firstFault ended toList isFault countOf rootPosition leafPairs insertOf startOf startChecked startRoom roomFor startLanded started stepRefused startRefused withAll giving overNumbers takeNumbers numbersFrom nextFree firstFrom firstTrue orElse withoutAll lastOf splitLeaf changeStores sort insertAll insertPair kindAbove nodeImage countTrue childPosition childFor childIndex passed routingKeys runBelow deleteOf deleteChange isNode share merge mergeRoot leavesTogether innersTogether half leftKeys keyBetween absorb splitParent joinedKeys joinedChildren findOf cardRefusal foundAt leafOf reachedAt foundIn noBeginning noMemory openOf openChecked openSound tableCheck nodeCheck onLook enterNode enterKind enterLeaf enterInner innerSound noted lookOf leafSound member unusedZero childrenCheck raised halves copied rangeEnd slotSound heldBy stepChecked stepTask inLeaf noWay layOut decidedRepair decideAt decideTagged decideUnderfull decideSiblings decideTogether togetherAt
+unfolding rowG80 fresh drive onAnswer insertWhole deleteWhole upto steps cardL cardB cardS cardI cardK cardL2 foundReply stepReply startReply stepOf stepFormat formatStore formattedWord formatOf stepFinal nodesOfLength formattingFrom resting idled allNodes headerRefusal stepHeld isIdle stepBegin stepPrepared landing landingOf landedAt way wayFrom byLook past lookAt runOver nodeAt children valueWords keyWords slotOf firstEqual insertReason reasonIn emptyReason insertChange stepStore planning advanced nextChange nextRepair onSearch seek searchOf endOf firstFault ended toList isFault countOf rootPosition leafPairs insertOf startOf startChecked startRoom roomFor startLanded startAccepted stepRefused startRefused withAll giving overNumbers takeNumbers numbersFrom nextFree firstFrom firstTrue orElse withoutAll lastOf splitLeaf changeStores sort insertAll insertPair kindAbove nodeImage countTrue childPosition childFor childIndex passed routingKeys runBelow deleteOf deleteChange isNode share merge mergeRoot leavesTogether innersTogether half leftKeys keyBetween absorb splitParent joinedKeys joinedChildren findOf cardRefusal foundAt leafOf reachedAt foundIn noBeginning noMemory openOf openChecked openSound tableCheck nodeCheck onLook enterNode enterKind enterLeaf enterInner innerSound noted lookOf leafSound member unusedZero childrenCheck raised halves copied rangeEnd slotSound heldBy stepChecked stepTask inLeaf noWay layOut decidedRepair decideAt decideTagged decideUnderfull decideSiblings decideTogether togetherAt
 rowG80-is = refl
 
 pub rowG103-is : rowG103 ≡ said (refusal 1)
-unfolding rowG103 fresh drive onAnswer insert delete upto steps cardL cardB cardS cardI cardK cardL2 foundReply stepReply startReply stepOf stepFormat formatStore formattedWord formatOf stepFinal nodesOfLength formatting resting idled allNodes headerRefusal stepHeld isIdle stepBegin stepPrepared landing landingOf landedAt way wayFrom byLook past lookAt runOver nodeAt children valueWords keyWords slotOf firstEqual insertReason reasonIn emptyReason insertChange stepStore planning advanced nextChange nextRepair onSearch seek searchOf endOf firstFault ended toList isFault countOf rootPosition leafPairs insertOf startOf startChecked startRoom roomFor startLanded started stepRefused startRefused withAll giving overNumbers takeNumbers numbersFrom nextFree firstFrom firstTrue orElse withoutAll lastOf splitLeaf changeStores sort insertAll insertPair kindAbove nodeImage countTrue childPosition childFor childIndex passed routingKeys runBelow deleteOf deleteChange isNode share merge mergeRoot leavesTogether innersTogether half leftKeys keyBetween absorb splitParent joinedKeys joinedChildren findOf cardRefusal foundAt leafOf reachedAt foundIn noBeginning noMemory openOf openChecked openSound tableCheck nodeCheck onLook enterNode enterKind enterLeaf enterInner innerSound noted lookOf leafSound member unusedZero childrenCheck raised halves copied rangeEnd slotSound heldBy stepChecked stepTask inLeaf noWay layOut decidedRepair decideAt decideTagged decideUnderfull decideSiblings decideTogether togetherAt
+unfolding rowG103 fresh drive onAnswer insertWhole deleteWhole upto steps cardL cardB cardS cardI cardK cardL2 foundReply stepReply startReply stepOf stepFormat formatStore formattedWord formatOf stepFinal nodesOfLength formattingFrom resting idled allNodes headerRefusal stepHeld isIdle stepBegin stepPrepared landing landingOf landedAt way wayFrom byLook past lookAt runOver nodeAt children valueWords keyWords slotOf firstEqual insertReason reasonIn emptyReason insertChange stepStore planning advanced nextChange nextRepair onSearch seek searchOf endOf firstFault ended toList isFault countOf rootPosition leafPairs insertOf startOf startChecked startRoom roomFor startLanded startAccepted stepRefused startRefused withAll giving overNumbers takeNumbers numbersFrom nextFree firstFrom firstTrue orElse withoutAll lastOf splitLeaf changeStores sort insertAll insertPair kindAbove nodeImage countTrue childPosition childFor childIndex passed routingKeys runBelow deleteOf deleteChange isNode share merge mergeRoot leavesTogether innersTogether half leftKeys keyBetween absorb splitParent joinedKeys joinedChildren findOf cardRefusal foundAt leafOf reachedAt foundIn noBeginning noMemory openOf openChecked openSound tableCheck nodeCheck onLook enterNode enterKind enterLeaf enterInner innerSound noted lookOf leafSound member unusedZero childrenCheck raised halves copied rangeEnd slotSound heldBy stepChecked stepTask inLeaf noWay layOut decidedRepair decideAt decideTagged decideUnderfull decideSiblings decideTogether togetherAt
 rowG103-is = refl
 
 pub rowG105-is : rowG105 ≡ said (refusal 1)
-unfolding rowG105 fresh drive onAnswer insert delete upto steps cardL cardB cardS cardI cardK cardL2 foundReply stepReply startReply stepOf stepFormat formatStore formattedWord formatOf stepFinal nodesOfLength formatting resting idled allNodes headerRefusal stepHeld isIdle stepBegin stepPrepared landing landingOf landedAt way wayFrom byLook past lookAt runOver nodeAt children valueWords keyWords slotOf firstEqual insertReason reasonIn emptyReason insertChange stepStore planning advanced nextChange nextRepair onSearch seek searchOf endOf firstFault ended toList isFault countOf rootPosition leafPairs insertOf startOf startChecked startRoom roomFor startLanded started stepRefused startRefused withAll giving overNumbers takeNumbers numbersFrom nextFree firstFrom firstTrue orElse withoutAll lastOf splitLeaf changeStores sort insertAll insertPair kindAbove nodeImage countTrue childPosition childFor childIndex passed routingKeys runBelow deleteOf deleteChange isNode share merge mergeRoot leavesTogether innersTogether half leftKeys keyBetween absorb splitParent joinedKeys joinedChildren findOf cardRefusal foundAt leafOf reachedAt foundIn noBeginning noMemory openOf openChecked openSound tableCheck nodeCheck onLook enterNode enterKind enterLeaf enterInner innerSound noted lookOf leafSound member unusedZero childrenCheck raised halves copied rangeEnd slotSound heldBy stepChecked stepTask inLeaf noWay layOut decidedRepair decideAt decideTagged decideUnderfull decideSiblings decideTogether togetherAt
+unfolding rowG105 fresh drive onAnswer insertWhole deleteWhole upto steps cardL cardB cardS cardI cardK cardL2 foundReply stepReply startReply stepOf stepFormat formatStore formattedWord formatOf stepFinal nodesOfLength formattingFrom resting idled allNodes headerRefusal stepHeld isIdle stepBegin stepPrepared landing landingOf landedAt way wayFrom byLook past lookAt runOver nodeAt children valueWords keyWords slotOf firstEqual insertReason reasonIn emptyReason insertChange stepStore planning advanced nextChange nextRepair onSearch seek searchOf endOf firstFault ended toList isFault countOf rootPosition leafPairs insertOf startOf startChecked startRoom roomFor startLanded startAccepted stepRefused startRefused withAll giving overNumbers takeNumbers numbersFrom nextFree firstFrom firstTrue orElse withoutAll lastOf splitLeaf changeStores sort insertAll insertPair kindAbove nodeImage countTrue childPosition childFor childIndex passed routingKeys runBelow deleteOf deleteChange isNode share merge mergeRoot leavesTogether innersTogether half leftKeys keyBetween absorb splitParent joinedKeys joinedChildren findOf cardRefusal foundAt leafOf reachedAt foundIn noBeginning noMemory openOf openChecked openSound tableCheck nodeCheck onLook enterNode enterKind enterLeaf enterInner innerSound noted lookOf leafSound member unusedZero childrenCheck raised halves copied rangeEnd slotSound heldBy stepChecked stepTask inLeaf noWay layOut decidedRepair decideAt decideTagged decideUnderfull decideSiblings decideTogether togetherAt
 rowG105-is = refl
 
 pub rowG14408-is : rowG14408 ≡ said begun
-unfolding rowG14408 fresh drive onAnswer insert delete upto steps cardL cardB cardS cardI cardK cardL2 foundReply stepReply startReply stepOf stepFormat formatStore formattedWord formatOf stepFinal nodesOfLength formatting resting idled allNodes headerRefusal stepHeld isIdle stepBegin stepPrepared landing landingOf landedAt way wayFrom byLook past lookAt runOver nodeAt children valueWords keyWords slotOf firstEqual insertReason reasonIn emptyReason insertChange stepStore planning advanced nextChange nextRepair onSearch seek searchOf endOf firstFault ended toList isFault countOf rootPosition leafPairs insertOf startOf startChecked startRoom roomFor startLanded started stepRefused startRefused withAll giving overNumbers takeNumbers numbersFrom nextFree firstFrom firstTrue orElse withoutAll lastOf splitLeaf changeStores sort insertAll insertPair kindAbove nodeImage countTrue childPosition childFor childIndex passed routingKeys runBelow deleteOf deleteChange isNode share merge mergeRoot leavesTogether innersTogether half leftKeys keyBetween absorb splitParent joinedKeys joinedChildren findOf cardRefusal foundAt leafOf reachedAt foundIn noBeginning noMemory openOf openChecked openSound tableCheck nodeCheck onLook enterNode enterKind enterLeaf enterInner innerSound noted lookOf leafSound member unusedZero childrenCheck raised halves copied rangeEnd slotSound heldBy stepChecked stepTask inLeaf noWay layOut decidedRepair decideAt decideTagged decideUnderfull decideSiblings decideTogether togetherAt
+unfolding rowG14408 fresh drive onAnswer insertWhole deleteWhole upto steps cardL cardB cardS cardI cardK cardL2 foundReply stepReply startReply stepOf stepFormat formatStore formattedWord formatOf stepFinal nodesOfLength formattingFrom resting idled allNodes headerRefusal stepHeld isIdle stepBegin stepPrepared landing landingOf landedAt way wayFrom byLook past lookAt runOver nodeAt children valueWords keyWords slotOf firstEqual insertReason reasonIn emptyReason insertChange stepStore planning advanced nextChange nextRepair onSearch seek searchOf endOf firstFault ended toList isFault countOf rootPosition leafPairs insertOf startOf startChecked startRoom roomFor startLanded startAccepted stepRefused startRefused withAll giving overNumbers takeNumbers numbersFrom nextFree firstFrom firstTrue orElse withoutAll lastOf splitLeaf changeStores sort insertAll insertPair kindAbove nodeImage countTrue childPosition childFor childIndex passed routingKeys runBelow deleteOf deleteChange isNode share merge mergeRoot leavesTogether innersTogether half leftKeys keyBetween absorb splitParent joinedKeys joinedChildren findOf cardRefusal foundAt leafOf reachedAt foundIn noBeginning noMemory openOf openChecked openSound tableCheck nodeCheck onLook enterNode enterKind enterLeaf enterInner innerSound noted lookOf leafSound member unusedZero childrenCheck raised halves copied rangeEnd slotSound heldBy stepChecked stepTask inLeaf noWay layOut decidedRepair decideAt decideTagged decideUnderfull decideSiblings decideTogether togetherAt
 rowG14408-is = refl
 
 pub rowG14432-is : rowG14432 ≡ said (refusal 1)
-unfolding rowG14432 fresh drive onAnswer insert delete upto steps cardL cardB cardS cardI cardK cardL2 foundReply stepReply startReply stepOf stepFormat formatStore formattedWord formatOf stepFinal nodesOfLength formatting resting idled allNodes headerRefusal stepHeld isIdle stepBegin stepPrepared landing landingOf landedAt way wayFrom byLook past lookAt runOver nodeAt children valueWords keyWords slotOf firstEqual insertReason reasonIn emptyReason insertChange stepStore planning advanced nextChange nextRepair onSearch seek searchOf endOf firstFault ended toList isFault countOf rootPosition leafPairs insertOf startOf startChecked startRoom roomFor startLanded started stepRefused startRefused withAll giving overNumbers takeNumbers numbersFrom nextFree firstFrom firstTrue orElse withoutAll lastOf splitLeaf changeStores sort insertAll insertPair kindAbove nodeImage countTrue childPosition childFor childIndex passed routingKeys runBelow deleteOf deleteChange isNode share merge mergeRoot leavesTogether innersTogether half leftKeys keyBetween absorb splitParent joinedKeys joinedChildren findOf cardRefusal foundAt leafOf reachedAt foundIn noBeginning noMemory openOf openChecked openSound tableCheck nodeCheck onLook enterNode enterKind enterLeaf enterInner innerSound noted lookOf leafSound member unusedZero childrenCheck raised halves copied rangeEnd slotSound heldBy stepChecked stepTask inLeaf noWay layOut decidedRepair decideAt decideTagged decideUnderfull decideSiblings decideTogether togetherAt
+unfolding rowG14432 fresh drive onAnswer insertWhole deleteWhole upto steps cardL cardB cardS cardI cardK cardL2 foundReply stepReply startReply stepOf stepFormat formatStore formattedWord formatOf stepFinal nodesOfLength formattingFrom resting idled allNodes headerRefusal stepHeld isIdle stepBegin stepPrepared landing landingOf landedAt way wayFrom byLook past lookAt runOver nodeAt children valueWords keyWords slotOf firstEqual insertReason reasonIn emptyReason insertChange stepStore planning advanced nextChange nextRepair onSearch seek searchOf endOf firstFault ended toList isFault countOf rootPosition leafPairs insertOf startOf startChecked startRoom roomFor startLanded startAccepted stepRefused startRefused withAll giving overNumbers takeNumbers numbersFrom nextFree firstFrom firstTrue orElse withoutAll lastOf splitLeaf changeStores sort insertAll insertPair kindAbove nodeImage countTrue childPosition childFor childIndex passed routingKeys runBelow deleteOf deleteChange isNode share merge mergeRoot leavesTogether innersTogether half leftKeys keyBetween absorb splitParent joinedKeys joinedChildren findOf cardRefusal foundAt leafOf reachedAt foundIn noBeginning noMemory openOf openChecked openSound tableCheck nodeCheck onLook enterNode enterKind enterLeaf enterInner innerSound noted lookOf leafSound member unusedZero childrenCheck raised halves copied rangeEnd slotSound heldBy stepChecked stepTask inLeaf noWay layOut decidedRepair decideAt decideTagged decideUnderfull decideSiblings decideTogether togetherAt
 rowG14432-is = refl
 
 pub rowHinsert-is : rowHinsert ≡ said (refusal 6)
-unfolding rowHinsert fresh drive onAnswer insert delete upto steps cardL cardB cardS cardI cardK cardL2 foundReply stepReply startReply stepOf stepFormat formatStore formattedWord formatOf stepFinal nodesOfLength formatting resting idled allNodes headerRefusal stepHeld isIdle stepBegin stepPrepared landing landingOf landedAt way wayFrom byLook past lookAt runOver nodeAt children valueWords keyWords slotOf firstEqual insertReason reasonIn emptyReason insertChange stepStore planning advanced nextChange nextRepair onSearch seek searchOf endOf firstFault ended toList isFault countOf rootPosition leafPairs insertOf startOf startChecked startRoom roomFor startLanded started stepRefused startRefused withAll giving overNumbers takeNumbers numbersFrom nextFree firstFrom firstTrue orElse withoutAll lastOf splitLeaf changeStores sort insertAll insertPair kindAbove nodeImage countTrue childPosition childFor childIndex passed routingKeys runBelow deleteOf deleteChange isNode share merge mergeRoot leavesTogether innersTogether half leftKeys keyBetween absorb splitParent joinedKeys joinedChildren findOf cardRefusal foundAt leafOf reachedAt foundIn noBeginning noMemory openOf openChecked openSound tableCheck nodeCheck onLook enterNode enterKind enterLeaf enterInner innerSound noted lookOf leafSound member unusedZero childrenCheck raised halves copied rangeEnd slotSound heldBy stepChecked stepTask inLeaf noWay layOut decidedRepair decideAt decideTagged decideUnderfull decideSiblings decideTogether togetherAt
+unfolding rowHinsert fresh drive onAnswer insertWhole deleteWhole upto steps cardL cardB cardS cardI cardK cardL2 foundReply stepReply startReply stepOf stepFormat formatStore formattedWord formatOf stepFinal nodesOfLength formattingFrom resting idled allNodes headerRefusal stepHeld isIdle stepBegin stepPrepared landing landingOf landedAt way wayFrom byLook past lookAt runOver nodeAt children valueWords keyWords slotOf firstEqual insertReason reasonIn emptyReason insertChange stepStore planning advanced nextChange nextRepair onSearch seek searchOf endOf firstFault ended toList isFault countOf rootPosition leafPairs insertOf startOf startChecked startRoom roomFor startLanded startAccepted stepRefused startRefused withAll giving overNumbers takeNumbers numbersFrom nextFree firstFrom firstTrue orElse withoutAll lastOf splitLeaf changeStores sort insertAll insertPair kindAbove nodeImage countTrue childPosition childFor childIndex passed routingKeys runBelow deleteOf deleteChange isNode share merge mergeRoot leavesTogether innersTogether half leftKeys keyBetween absorb splitParent joinedKeys joinedChildren findOf cardRefusal foundAt leafOf reachedAt foundIn noBeginning noMemory openOf openChecked openSound tableCheck nodeCheck onLook enterNode enterKind enterLeaf enterInner innerSound noted lookOf leafSound member unusedZero childrenCheck raised halves copied rangeEnd slotSound heldBy stepChecked stepTask inLeaf noWay layOut decidedRepair decideAt decideTagged decideUnderfull decideSiblings decideTogether togetherAt
 rowHinsert-is = refl
 
 pub rowHfind-is : rowHfind ≡ said (refusal 6)
-unfolding rowHfind fresh drive onAnswer insert delete upto steps cardL cardB cardS cardI cardK cardL2 foundReply stepReply startReply stepOf stepFormat formatStore formattedWord formatOf stepFinal nodesOfLength formatting resting idled allNodes headerRefusal stepHeld isIdle stepBegin stepPrepared landing landingOf landedAt way wayFrom byLook past lookAt runOver nodeAt children valueWords keyWords slotOf firstEqual insertReason reasonIn emptyReason insertChange stepStore planning advanced nextChange nextRepair onSearch seek searchOf endOf firstFault ended toList isFault countOf rootPosition leafPairs insertOf startOf startChecked startRoom roomFor startLanded started stepRefused startRefused withAll giving overNumbers takeNumbers numbersFrom nextFree firstFrom firstTrue orElse withoutAll lastOf splitLeaf changeStores sort insertAll insertPair kindAbove nodeImage countTrue childPosition childFor childIndex passed routingKeys runBelow deleteOf deleteChange isNode share merge mergeRoot leavesTogether innersTogether half leftKeys keyBetween absorb splitParent joinedKeys joinedChildren findOf cardRefusal foundAt leafOf reachedAt foundIn noBeginning noMemory openOf openChecked openSound tableCheck nodeCheck onLook enterNode enterKind enterLeaf enterInner innerSound noted lookOf leafSound member unusedZero childrenCheck raised halves copied rangeEnd slotSound heldBy stepChecked stepTask inLeaf noWay layOut decidedRepair decideAt decideTagged decideUnderfull decideSiblings decideTogether togetherAt
+unfolding rowHfind fresh drive onAnswer insertWhole deleteWhole upto steps cardL cardB cardS cardI cardK cardL2 foundReply stepReply startReply stepOf stepFormat formatStore formattedWord formatOf stepFinal nodesOfLength formattingFrom resting idled allNodes headerRefusal stepHeld isIdle stepBegin stepPrepared landing landingOf landedAt way wayFrom byLook past lookAt runOver nodeAt children valueWords keyWords slotOf firstEqual insertReason reasonIn emptyReason insertChange stepStore planning advanced nextChange nextRepair onSearch seek searchOf endOf firstFault ended toList isFault countOf rootPosition leafPairs insertOf startOf startChecked startRoom roomFor startLanded startAccepted stepRefused startRefused withAll giving overNumbers takeNumbers numbersFrom nextFree firstFrom firstTrue orElse withoutAll lastOf splitLeaf changeStores sort insertAll insertPair kindAbove nodeImage countTrue childPosition childFor childIndex passed routingKeys runBelow deleteOf deleteChange isNode share merge mergeRoot leavesTogether innersTogether half leftKeys keyBetween absorb splitParent joinedKeys joinedChildren findOf cardRefusal foundAt leafOf reachedAt foundIn noBeginning noMemory openOf openChecked openSound tableCheck nodeCheck onLook enterNode enterKind enterLeaf enterInner innerSound noted lookOf leafSound member unusedZero childrenCheck raised halves copied rangeEnd slotSound heldBy stepChecked stepTask inLeaf noWay layOut decidedRepair decideAt decideTagged decideUnderfull decideSiblings decideTogether togetherAt
 rowHfind-is = refl
 
 pub rowHgreatest-is : rowHgreatest ≡ said begun
-unfolding rowHgreatest fresh drive onAnswer insert delete upto steps cardL cardB cardS cardI cardK cardL2 foundReply stepReply startReply stepOf stepFormat formatStore formattedWord formatOf stepFinal nodesOfLength formatting resting idled allNodes headerRefusal stepHeld isIdle stepBegin stepPrepared landing landingOf landedAt way wayFrom byLook past lookAt runOver nodeAt children valueWords keyWords slotOf firstEqual insertReason reasonIn emptyReason insertChange stepStore planning advanced nextChange nextRepair onSearch seek searchOf endOf firstFault ended toList isFault countOf rootPosition leafPairs insertOf startOf startChecked startRoom roomFor startLanded started stepRefused startRefused withAll giving overNumbers takeNumbers numbersFrom nextFree firstFrom firstTrue orElse withoutAll lastOf splitLeaf changeStores sort insertAll insertPair kindAbove nodeImage countTrue childPosition childFor childIndex passed routingKeys runBelow deleteOf deleteChange isNode share merge mergeRoot leavesTogether innersTogether half leftKeys keyBetween absorb splitParent joinedKeys joinedChildren findOf cardRefusal foundAt leafOf reachedAt foundIn noBeginning noMemory openOf openChecked openSound tableCheck nodeCheck onLook enterNode enterKind enterLeaf enterInner innerSound noted lookOf leafSound member unusedZero childrenCheck raised halves copied rangeEnd slotSound heldBy stepChecked stepTask inLeaf noWay layOut decidedRepair decideAt decideTagged decideUnderfull decideSiblings decideTogether togetherAt
+unfolding rowHgreatest fresh drive onAnswer insertWhole deleteWhole upto steps cardL cardB cardS cardI cardK cardL2 foundReply stepReply startReply stepOf stepFormat formatStore formattedWord formatOf stepFinal nodesOfLength formattingFrom resting idled allNodes headerRefusal stepHeld isIdle stepBegin stepPrepared landing landingOf landedAt way wayFrom byLook past lookAt runOver nodeAt children valueWords keyWords slotOf firstEqual insertReason reasonIn emptyReason insertChange stepStore planning advanced nextChange nextRepair onSearch seek searchOf endOf firstFault ended toList isFault countOf rootPosition leafPairs insertOf startOf startChecked startRoom roomFor startLanded startAccepted stepRefused startRefused withAll giving overNumbers takeNumbers numbersFrom nextFree firstFrom firstTrue orElse withoutAll lastOf splitLeaf changeStores sort insertAll insertPair kindAbove nodeImage countTrue childPosition childFor childIndex passed routingKeys runBelow deleteOf deleteChange isNode share merge mergeRoot leavesTogether innersTogether half leftKeys keyBetween absorb splitParent joinedKeys joinedChildren findOf cardRefusal foundAt leafOf reachedAt foundIn noBeginning noMemory openOf openChecked openSound tableCheck nodeCheck onLook enterNode enterKind enterLeaf enterInner innerSound noted lookOf leafSound member unusedZero childrenCheck raised halves copied rangeEnd slotSound heldBy stepChecked stepTask inLeaf noWay layOut decidedRepair decideAt decideTagged decideUnderfull decideSiblings decideTogether togetherAt
 rowHgreatest-is = refl
 
 pub rowI-held : heldI .stores ∷ getD (heldI .card) 4 0 ∷ (children (nodeAt (heldI .card) 4) ++ routingKeys (nodeAt (heldI .card) 4)) ≡ (73 ∷ 4 ∷ 2 ∷ 3 ∷ 7 ∷ [])
-unfolding fresh drive onAnswer insert delete upto steps cardL cardB cardS cardI cardK cardL2 foundReply stepReply startReply stepOf stepFormat formatStore formattedWord formatOf stepFinal nodesOfLength formatting resting idled allNodes headerRefusal stepHeld isIdle stepBegin stepPrepared landing landingOf landedAt way wayFrom byLook past lookAt runOver nodeAt children valueWords keyWords slotOf firstEqual insertReason reasonIn emptyReason insertChange stepStore planning advanced nextChange nextRepair onSearch seek searchOf endOf firstFault ended toList isFault countOf rootPosition leafPairs insertOf startOf startChecked startRoom roomFor startLanded started stepRefused startRefused withAll giving overNumbers takeNumbers numbersFrom nextFree firstFrom firstTrue orElse withoutAll lastOf splitLeaf changeStores sort insertAll insertPair kindAbove nodeImage countTrue childPosition childFor childIndex passed routingKeys runBelow deleteOf deleteChange isNode share merge mergeRoot leavesTogether innersTogether half leftKeys keyBetween absorb splitParent joinedKeys joinedChildren findOf cardRefusal foundAt leafOf reachedAt foundIn noBeginning noMemory openOf openChecked openSound tableCheck nodeCheck onLook enterNode enterKind enterLeaf enterInner innerSound noted lookOf leafSound member unusedZero childrenCheck raised halves copied rangeEnd slotSound heldBy stepChecked stepTask inLeaf noWay layOut decidedRepair decideAt decideTagged decideUnderfull decideSiblings decideTogether togetherAt
+unfolding fresh drive onAnswer insertWhole deleteWhole upto steps cardL cardB cardS cardI cardK cardL2 foundReply stepReply startReply stepOf stepFormat formatStore formattedWord formatOf stepFinal nodesOfLength formattingFrom resting idled allNodes headerRefusal stepHeld isIdle stepBegin stepPrepared landing landingOf landedAt way wayFrom byLook past lookAt runOver nodeAt children valueWords keyWords slotOf firstEqual insertReason reasonIn emptyReason insertChange stepStore planning advanced nextChange nextRepair onSearch seek searchOf endOf firstFault ended toList isFault countOf rootPosition leafPairs insertOf startOf startChecked startRoom roomFor startLanded startAccepted stepRefused startRefused withAll giving overNumbers takeNumbers numbersFrom nextFree firstFrom firstTrue orElse withoutAll lastOf splitLeaf changeStores sort insertAll insertPair kindAbove nodeImage countTrue childPosition childFor childIndex passed routingKeys runBelow deleteOf deleteChange isNode share merge mergeRoot leavesTogether innersTogether half leftKeys keyBetween absorb splitParent joinedKeys joinedChildren findOf cardRefusal foundAt leafOf reachedAt foundIn noBeginning noMemory openOf openChecked openSound tableCheck nodeCheck onLook enterNode enterKind enterLeaf enterInner innerSound noted lookOf leafSound member unusedZero childrenCheck raised halves copied rangeEnd slotSound heldBy stepChecked stepTask inLeaf noWay layOut decidedRepair decideAt decideTagged decideUnderfull decideSiblings decideTogether togetherAt
 rowI-held = refl
 
 pub rowI-is : rowI ≡ (73 ∷ 4 ∷ 2 ∷ 3 ∷ 7 ∷ [])
@@ -189,11 +189,11 @@ unfolding rowI
 rowI-is = ap (λ b. b .stores ∷ getD (b .card) 4 0 ∷ (children (nodeAt (b .card) 4) ++ routingKeys (nodeAt (b .card) 4))) worked-I ∙ rowI-held
 
 pub rowJ-is : rowJ ≡ said (refusal 8)
-unfolding rowJ fresh drive onAnswer insert delete upto steps cardL cardB cardS cardI cardK cardL2 foundReply stepReply startReply stepOf stepFormat formatStore formattedWord formatOf stepFinal nodesOfLength formatting resting idled allNodes headerRefusal stepHeld isIdle stepBegin stepPrepared landing landingOf landedAt way wayFrom byLook past lookAt runOver nodeAt children valueWords keyWords slotOf firstEqual insertReason reasonIn emptyReason insertChange stepStore planning advanced nextChange nextRepair onSearch seek searchOf endOf firstFault ended toList isFault countOf rootPosition leafPairs insertOf startOf startChecked startRoom roomFor startLanded started stepRefused startRefused withAll giving overNumbers takeNumbers numbersFrom nextFree firstFrom firstTrue orElse withoutAll lastOf splitLeaf changeStores sort insertAll insertPair kindAbove nodeImage countTrue childPosition childFor childIndex passed routingKeys runBelow deleteOf deleteChange isNode share merge mergeRoot leavesTogether innersTogether half leftKeys keyBetween absorb splitParent joinedKeys joinedChildren findOf cardRefusal foundAt leafOf reachedAt foundIn noBeginning noMemory openOf openChecked openSound tableCheck nodeCheck onLook enterNode enterKind enterLeaf enterInner innerSound noted lookOf leafSound member unusedZero childrenCheck raised halves copied rangeEnd slotSound heldBy stepChecked stepTask inLeaf noWay layOut decidedRepair decideAt decideTagged decideUnderfull decideSiblings decideTogether togetherAt
+unfolding rowJ fresh drive onAnswer insertWhole deleteWhole upto steps cardL cardB cardS cardI cardK cardL2 foundReply stepReply startReply stepOf stepFormat formatStore formattedWord formatOf stepFinal nodesOfLength formattingFrom resting idled allNodes headerRefusal stepHeld isIdle stepBegin stepPrepared landing landingOf landedAt way wayFrom byLook past lookAt runOver nodeAt children valueWords keyWords slotOf firstEqual insertReason reasonIn emptyReason insertChange stepStore planning advanced nextChange nextRepair onSearch seek searchOf endOf firstFault ended toList isFault countOf rootPosition leafPairs insertOf startOf startChecked startRoom roomFor startLanded startAccepted stepRefused startRefused withAll giving overNumbers takeNumbers numbersFrom nextFree firstFrom firstTrue orElse withoutAll lastOf splitLeaf changeStores sort insertAll insertPair kindAbove nodeImage countTrue childPosition childFor childIndex passed routingKeys runBelow deleteOf deleteChange isNode share merge mergeRoot leavesTogether innersTogether half leftKeys keyBetween absorb splitParent joinedKeys joinedChildren findOf cardRefusal foundAt leafOf reachedAt foundIn noBeginning noMemory openOf openChecked openSound tableCheck nodeCheck onLook enterNode enterKind enterLeaf enterInner innerSound noted lookOf leafSound member unusedZero childrenCheck raised halves copied rangeEnd slotSound heldBy stepChecked stepTask inLeaf noWay layOut decidedRepair decideAt decideTagged decideUnderfull decideSiblings decideTogether togetherAt
 rowJ-is = refl
 
 pub rowK-held : heldK .stores ∷ getD (heldK .card) 4 0 ∷ (children (nodeAt (heldK .card) 1) ++ routingKeys (nodeAt (heldK .card) 1)) ≡ (74 ∷ 1 ∷ 5 ∷ 6 ∷ 10 ∷ [])
-unfolding fresh drive onAnswer insert delete upto steps cardL cardB cardS cardI cardK cardL2 foundReply stepReply startReply stepOf stepFormat formatStore formattedWord formatOf stepFinal nodesOfLength formatting resting idled allNodes headerRefusal stepHeld isIdle stepBegin stepPrepared landing landingOf landedAt way wayFrom byLook past lookAt runOver nodeAt children valueWords keyWords slotOf firstEqual insertReason reasonIn emptyReason insertChange stepStore planning advanced nextChange nextRepair onSearch seek searchOf endOf firstFault ended toList isFault countOf rootPosition leafPairs insertOf startOf startChecked startRoom roomFor startLanded started stepRefused startRefused withAll giving overNumbers takeNumbers numbersFrom nextFree firstFrom firstTrue orElse withoutAll lastOf splitLeaf changeStores sort insertAll insertPair kindAbove nodeImage countTrue childPosition childFor childIndex passed routingKeys runBelow deleteOf deleteChange isNode share merge mergeRoot leavesTogether innersTogether half leftKeys keyBetween absorb splitParent joinedKeys joinedChildren findOf cardRefusal foundAt leafOf reachedAt foundIn noBeginning noMemory openOf openChecked openSound tableCheck nodeCheck onLook enterNode enterKind enterLeaf enterInner innerSound noted lookOf leafSound member unusedZero childrenCheck raised halves copied rangeEnd slotSound heldBy stepChecked stepTask inLeaf noWay layOut decidedRepair decideAt decideTagged decideUnderfull decideSiblings decideTogether togetherAt
+unfolding fresh drive onAnswer insertWhole deleteWhole upto steps cardL cardB cardS cardI cardK cardL2 foundReply stepReply startReply stepOf stepFormat formatStore formattedWord formatOf stepFinal nodesOfLength formattingFrom resting idled allNodes headerRefusal stepHeld isIdle stepBegin stepPrepared landing landingOf landedAt way wayFrom byLook past lookAt runOver nodeAt children valueWords keyWords slotOf firstEqual insertReason reasonIn emptyReason insertChange stepStore planning advanced nextChange nextRepair onSearch seek searchOf endOf firstFault ended toList isFault countOf rootPosition leafPairs insertOf startOf startChecked startRoom roomFor startLanded startAccepted stepRefused startRefused withAll giving overNumbers takeNumbers numbersFrom nextFree firstFrom firstTrue orElse withoutAll lastOf splitLeaf changeStores sort insertAll insertPair kindAbove nodeImage countTrue childPosition childFor childIndex passed routingKeys runBelow deleteOf deleteChange isNode share merge mergeRoot leavesTogether innersTogether half leftKeys keyBetween absorb splitParent joinedKeys joinedChildren findOf cardRefusal foundAt leafOf reachedAt foundIn noBeginning noMemory openOf openChecked openSound tableCheck nodeCheck onLook enterNode enterKind enterLeaf enterInner innerSound noted lookOf leafSound member unusedZero childrenCheck raised halves copied rangeEnd slotSound heldBy stepChecked stepTask inLeaf noWay layOut decidedRepair decideAt decideTagged decideUnderfull decideSiblings decideTogether togetherAt
 rowK-held = refl
 
 pub rowK-is : rowK ≡ (74 ∷ 1 ∷ 5 ∷ 6 ∷ 10 ∷ [])
@@ -201,7 +201,7 @@ unfolding rowK
 rowK-is = ap (λ b. b .stores ∷ getD (b .card) 4 0 ∷ (children (nodeAt (b .card) 1) ++ routingKeys (nodeAt (b .card) 1))) worked-K ∙ rowK-held
 
 pub rowKleft-held : pairKeys (leafPairs (nodeAt (heldK .card) 5)) ≡ (6 ∷ 7 ∷ 8 ∷ 9 ∷ [])
-unfolding fresh drive onAnswer insert delete upto steps cardL cardB cardS cardI cardK cardL2 foundReply stepReply startReply stepOf stepFormat formatStore formattedWord formatOf stepFinal nodesOfLength formatting resting idled allNodes headerRefusal stepHeld isIdle stepBegin stepPrepared landing landingOf landedAt way wayFrom byLook past lookAt runOver nodeAt children valueWords keyWords slotOf firstEqual insertReason reasonIn emptyReason insertChange stepStore planning advanced nextChange nextRepair onSearch seek searchOf endOf firstFault ended toList isFault countOf rootPosition leafPairs insertOf startOf startChecked startRoom roomFor startLanded started stepRefused startRefused withAll giving overNumbers takeNumbers numbersFrom nextFree firstFrom firstTrue orElse withoutAll lastOf splitLeaf changeStores sort insertAll insertPair kindAbove nodeImage countTrue childPosition childFor childIndex passed routingKeys runBelow deleteOf deleteChange isNode share merge mergeRoot leavesTogether innersTogether half leftKeys keyBetween absorb splitParent joinedKeys joinedChildren findOf cardRefusal foundAt leafOf reachedAt foundIn noBeginning noMemory openOf openChecked openSound tableCheck nodeCheck onLook enterNode enterKind enterLeaf enterInner innerSound noted lookOf leafSound member unusedZero childrenCheck raised halves copied rangeEnd slotSound heldBy stepChecked stepTask inLeaf noWay layOut decidedRepair decideAt decideTagged decideUnderfull decideSiblings decideTogether togetherAt
+unfolding fresh drive onAnswer insertWhole deleteWhole upto steps cardL cardB cardS cardI cardK cardL2 foundReply stepReply startReply stepOf stepFormat formatStore formattedWord formatOf stepFinal nodesOfLength formattingFrom resting idled allNodes headerRefusal stepHeld isIdle stepBegin stepPrepared landing landingOf landedAt way wayFrom byLook past lookAt runOver nodeAt children valueWords keyWords slotOf firstEqual insertReason reasonIn emptyReason insertChange stepStore planning advanced nextChange nextRepair onSearch seek searchOf endOf firstFault ended toList isFault countOf rootPosition leafPairs insertOf startOf startChecked startRoom roomFor startLanded startAccepted stepRefused startRefused withAll giving overNumbers takeNumbers numbersFrom nextFree firstFrom firstTrue orElse withoutAll lastOf splitLeaf changeStores sort insertAll insertPair kindAbove nodeImage countTrue childPosition childFor childIndex passed routingKeys runBelow deleteOf deleteChange isNode share merge mergeRoot leavesTogether innersTogether half leftKeys keyBetween absorb splitParent joinedKeys joinedChildren findOf cardRefusal foundAt leafOf reachedAt foundIn noBeginning noMemory openOf openChecked openSound tableCheck nodeCheck onLook enterNode enterKind enterLeaf enterInner innerSound noted lookOf leafSound member unusedZero childrenCheck raised halves copied rangeEnd slotSound heldBy stepChecked stepTask inLeaf noWay layOut decidedRepair decideAt decideTagged decideUnderfull decideSiblings decideTogether togetherAt
 rowKleft-held = refl
 
 pub rowKleft-is : rowKleft ≡ (6 ∷ 7 ∷ 8 ∷ 9 ∷ [])
@@ -209,7 +209,7 @@ unfolding rowKleft
 rowKleft-is = ap (λ b. pairKeys (leafPairs (nodeAt (b .card) 5))) worked-K ∙ rowKleft-held
 
 pub rowKright-held : pairKeys (leafPairs (nodeAt (heldK .card) 6)) ≡ (10 ∷ 11 ∷ 12 ∷ [])
-unfolding fresh drive onAnswer insert delete upto steps cardL cardB cardS cardI cardK cardL2 foundReply stepReply startReply stepOf stepFormat formatStore formattedWord formatOf stepFinal nodesOfLength formatting resting idled allNodes headerRefusal stepHeld isIdle stepBegin stepPrepared landing landingOf landedAt way wayFrom byLook past lookAt runOver nodeAt children valueWords keyWords slotOf firstEqual insertReason reasonIn emptyReason insertChange stepStore planning advanced nextChange nextRepair onSearch seek searchOf endOf firstFault ended toList isFault countOf rootPosition leafPairs insertOf startOf startChecked startRoom roomFor startLanded started stepRefused startRefused withAll giving overNumbers takeNumbers numbersFrom nextFree firstFrom firstTrue orElse withoutAll lastOf splitLeaf changeStores sort insertAll insertPair kindAbove nodeImage countTrue childPosition childFor childIndex passed routingKeys runBelow deleteOf deleteChange isNode share merge mergeRoot leavesTogether innersTogether half leftKeys keyBetween absorb splitParent joinedKeys joinedChildren findOf cardRefusal foundAt leafOf reachedAt foundIn noBeginning noMemory openOf openChecked openSound tableCheck nodeCheck onLook enterNode enterKind enterLeaf enterInner innerSound noted lookOf leafSound member unusedZero childrenCheck raised halves copied rangeEnd slotSound heldBy stepChecked stepTask inLeaf noWay layOut decidedRepair decideAt decideTagged decideUnderfull decideSiblings decideTogether togetherAt
+unfolding fresh drive onAnswer insertWhole deleteWhole upto steps cardL cardB cardS cardI cardK cardL2 foundReply stepReply startReply stepOf stepFormat formatStore formattedWord formatOf stepFinal nodesOfLength formattingFrom resting idled allNodes headerRefusal stepHeld isIdle stepBegin stepPrepared landing landingOf landedAt way wayFrom byLook past lookAt runOver nodeAt children valueWords keyWords slotOf firstEqual insertReason reasonIn emptyReason insertChange stepStore planning advanced nextChange nextRepair onSearch seek searchOf endOf firstFault ended toList isFault countOf rootPosition leafPairs insertOf startOf startChecked startRoom roomFor startLanded startAccepted stepRefused startRefused withAll giving overNumbers takeNumbers numbersFrom nextFree firstFrom firstTrue orElse withoutAll lastOf splitLeaf changeStores sort insertAll insertPair kindAbove nodeImage countTrue childPosition childFor childIndex passed routingKeys runBelow deleteOf deleteChange isNode share merge mergeRoot leavesTogether innersTogether half leftKeys keyBetween absorb splitParent joinedKeys joinedChildren findOf cardRefusal foundAt leafOf reachedAt foundIn noBeginning noMemory openOf openChecked openSound tableCheck nodeCheck onLook enterNode enterKind enterLeaf enterInner innerSound noted lookOf leafSound member unusedZero childrenCheck raised halves copied rangeEnd slotSound heldBy stepChecked stepTask inLeaf noWay layOut decidedRepair decideAt decideTagged decideUnderfull decideSiblings decideTogether togetherAt
 rowKright-held = refl
 
 pub rowKright-is : rowKright ≡ (10 ∷ 11 ∷ 12 ∷ [])
@@ -217,7 +217,7 @@ unfolding rowKright
 rowKright-is = ap (λ b. pairKeys (leafPairs (nodeAt (b .card) 6))) worked-K ∙ rowKright-held
 
 pub rowL2-held : heldL2 .stores ∷ getD (heldL2 .card) 4 0 ∷ countTrue (heldL2 .memory .free) ∷ said (stepReply (heldL2 .answer)) ≡ (26 ∷ 2 ∷ 5 ∷ said (holds 90))
-unfolding fresh drive onAnswer insert delete upto steps cardL cardB cardS cardI cardK cardL2 foundReply stepReply startReply stepOf stepFormat formatStore formattedWord formatOf stepFinal nodesOfLength formatting resting idled allNodes headerRefusal stepHeld isIdle stepBegin stepPrepared landing landingOf landedAt way wayFrom byLook past lookAt runOver nodeAt children valueWords keyWords slotOf firstEqual insertReason reasonIn emptyReason insertChange stepStore planning advanced nextChange nextRepair onSearch seek searchOf endOf firstFault ended toList isFault countOf rootPosition leafPairs insertOf startOf startChecked startRoom roomFor startLanded started stepRefused startRefused withAll giving overNumbers takeNumbers numbersFrom nextFree firstFrom firstTrue orElse withoutAll lastOf splitLeaf changeStores sort insertAll insertPair kindAbove nodeImage countTrue childPosition childFor childIndex passed routingKeys runBelow deleteOf deleteChange isNode share merge mergeRoot leavesTogether innersTogether half leftKeys keyBetween absorb splitParent joinedKeys joinedChildren findOf cardRefusal foundAt leafOf reachedAt foundIn noBeginning noMemory openOf openChecked openSound tableCheck nodeCheck onLook enterNode enterKind enterLeaf enterInner innerSound noted lookOf leafSound member unusedZero childrenCheck raised halves copied rangeEnd slotSound heldBy stepChecked stepTask inLeaf noWay layOut decidedRepair decideAt decideTagged decideUnderfull decideSiblings decideTogether togetherAt
+unfolding fresh drive onAnswer insertWhole deleteWhole upto steps cardL cardB cardS cardI cardK cardL2 foundReply stepReply startReply stepOf stepFormat formatStore formattedWord formatOf stepFinal nodesOfLength formattingFrom resting idled allNodes headerRefusal stepHeld isIdle stepBegin stepPrepared landing landingOf landedAt way wayFrom byLook past lookAt runOver nodeAt children valueWords keyWords slotOf firstEqual insertReason reasonIn emptyReason insertChange stepStore planning advanced nextChange nextRepair onSearch seek searchOf endOf firstFault ended toList isFault countOf rootPosition leafPairs insertOf startOf startChecked startRoom roomFor startLanded startAccepted stepRefused startRefused withAll giving overNumbers takeNumbers numbersFrom nextFree firstFrom firstTrue orElse withoutAll lastOf splitLeaf changeStores sort insertAll insertPair kindAbove nodeImage countTrue childPosition childFor childIndex passed routingKeys runBelow deleteOf deleteChange isNode share merge mergeRoot leavesTogether innersTogether half leftKeys keyBetween absorb splitParent joinedKeys joinedChildren findOf cardRefusal foundAt leafOf reachedAt foundIn noBeginning noMemory openOf openChecked openSound tableCheck nodeCheck onLook enterNode enterKind enterLeaf enterInner innerSound noted lookOf leafSound member unusedZero childrenCheck raised halves copied rangeEnd slotSound heldBy stepChecked stepTask inLeaf noWay layOut decidedRepair decideAt decideTagged decideUnderfull decideSiblings decideTogether togetherAt
 rowL2-held = refl
 
 pub rowL2-is : rowL2 ≡ (26 ∷ 2 ∷ 5 ∷ said (holds 90))
@@ -225,7 +225,7 @@ unfolding rowL2
 rowL2-is = ap (λ b. b .stores ∷ getD (b .card) 4 0 ∷ countTrue (b .memory .free) ∷ said (stepReply (b .answer))) worked-L2 ∙ rowL2-held
 
 pub rowL2leaf-held : pairKeys (leafPairs (nodeAt (heldL2 .card) 2)) ≡ (6 ∷ 11 ∷ 12 ∷ [])
-unfolding fresh drive onAnswer insert delete upto steps cardL cardB cardS cardI cardK cardL2 foundReply stepReply startReply stepOf stepFormat formatStore formattedWord formatOf stepFinal nodesOfLength formatting resting idled allNodes headerRefusal stepHeld isIdle stepBegin stepPrepared landing landingOf landedAt way wayFrom byLook past lookAt runOver nodeAt children valueWords keyWords slotOf firstEqual insertReason reasonIn emptyReason insertChange stepStore planning advanced nextChange nextRepair onSearch seek searchOf endOf firstFault ended toList isFault countOf rootPosition leafPairs insertOf startOf startChecked startRoom roomFor startLanded started stepRefused startRefused withAll giving overNumbers takeNumbers numbersFrom nextFree firstFrom firstTrue orElse withoutAll lastOf splitLeaf changeStores sort insertAll insertPair kindAbove nodeImage countTrue childPosition childFor childIndex passed routingKeys runBelow deleteOf deleteChange isNode share merge mergeRoot leavesTogether innersTogether half leftKeys keyBetween absorb splitParent joinedKeys joinedChildren findOf cardRefusal foundAt leafOf reachedAt foundIn noBeginning noMemory openOf openChecked openSound tableCheck nodeCheck onLook enterNode enterKind enterLeaf enterInner innerSound noted lookOf leafSound member unusedZero childrenCheck raised halves copied rangeEnd slotSound heldBy stepChecked stepTask inLeaf noWay layOut decidedRepair decideAt decideTagged decideUnderfull decideSiblings decideTogether togetherAt
+unfolding fresh drive onAnswer insertWhole deleteWhole upto steps cardL cardB cardS cardI cardK cardL2 foundReply stepReply startReply stepOf stepFormat formatStore formattedWord formatOf stepFinal nodesOfLength formattingFrom resting idled allNodes headerRefusal stepHeld isIdle stepBegin stepPrepared landing landingOf landedAt way wayFrom byLook past lookAt runOver nodeAt children valueWords keyWords slotOf firstEqual insertReason reasonIn emptyReason insertChange stepStore planning advanced nextChange nextRepair onSearch seek searchOf endOf firstFault ended toList isFault countOf rootPosition leafPairs insertOf startOf startChecked startRoom roomFor startLanded startAccepted stepRefused startRefused withAll giving overNumbers takeNumbers numbersFrom nextFree firstFrom firstTrue orElse withoutAll lastOf splitLeaf changeStores sort insertAll insertPair kindAbove nodeImage countTrue childPosition childFor childIndex passed routingKeys runBelow deleteOf deleteChange isNode share merge mergeRoot leavesTogether innersTogether half leftKeys keyBetween absorb splitParent joinedKeys joinedChildren findOf cardRefusal foundAt leafOf reachedAt foundIn noBeginning noMemory openOf openChecked openSound tableCheck nodeCheck onLook enterNode enterKind enterLeaf enterInner innerSound noted lookOf leafSound member unusedZero childrenCheck raised halves copied rangeEnd slotSound heldBy stepChecked stepTask inLeaf noWay layOut decidedRepair decideAt decideTagged decideUnderfull decideSiblings decideTogether togetherAt
 rowL2leaf-held = refl
 
 pub rowL2leaf-is : rowL2leaf ≡ (6 ∷ 11 ∷ 12 ∷ [])
@@ -233,7 +233,7 @@ unfolding rowL2leaf
 rowL2leaf-is = ap (λ b. pairKeys (leafPairs (nodeAt (b .card) 2))) worked-L2 ∙ rowL2leaf-held
 
 pub rowCutOpened-held : said (startReply (openOf (cutI heldS) .begun)) ≡ said idle
-unfolding fresh drive onAnswer insert delete upto steps cardL cardB cardS cardI cardK cardL2 foundReply stepReply startReply stepOf stepFormat formatStore formattedWord formatOf stepFinal nodesOfLength formatting resting idled allNodes headerRefusal stepHeld isIdle stepBegin stepPrepared landing landingOf landedAt way wayFrom byLook past lookAt runOver nodeAt children valueWords keyWords slotOf firstEqual insertReason reasonIn emptyReason insertChange stepStore planning advanced nextChange nextRepair onSearch seek searchOf endOf firstFault ended toList isFault countOf rootPosition leafPairs insertOf startOf startChecked startRoom roomFor startLanded started stepRefused startRefused withAll giving overNumbers takeNumbers numbersFrom nextFree firstFrom firstTrue orElse withoutAll lastOf splitLeaf changeStores sort insertAll insertPair kindAbove nodeImage countTrue childPosition childFor childIndex passed routingKeys runBelow deleteOf deleteChange isNode share merge mergeRoot leavesTogether innersTogether half leftKeys keyBetween absorb splitParent joinedKeys joinedChildren findOf cardRefusal foundAt leafOf reachedAt foundIn noBeginning noMemory openOf openChecked openSound tableCheck nodeCheck onLook enterNode enterKind enterLeaf enterInner innerSound noted lookOf leafSound member unusedZero childrenCheck raised halves copied rangeEnd slotSound heldBy stepChecked stepTask inLeaf noWay layOut decidedRepair decideAt decideTagged decideUnderfull decideSiblings decideTogether togetherAt
+unfolding fresh drive onAnswer insertWhole deleteWhole upto steps cardL cardB cardS cardI cardK cardL2 foundReply stepReply startReply stepOf stepFormat formatStore formattedWord formatOf stepFinal nodesOfLength formattingFrom resting idled allNodes headerRefusal stepHeld isIdle stepBegin stepPrepared landing landingOf landedAt way wayFrom byLook past lookAt runOver nodeAt children valueWords keyWords slotOf firstEqual insertReason reasonIn emptyReason insertChange stepStore planning advanced nextChange nextRepair onSearch seek searchOf endOf firstFault ended toList isFault countOf rootPosition leafPairs insertOf startOf startChecked startRoom roomFor startLanded startAccepted stepRefused startRefused withAll giving overNumbers takeNumbers numbersFrom nextFree firstFrom firstTrue orElse withoutAll lastOf splitLeaf changeStores sort insertAll insertPair kindAbove nodeImage countTrue childPosition childFor childIndex passed routingKeys runBelow deleteOf deleteChange isNode share merge mergeRoot leavesTogether innersTogether half leftKeys keyBetween absorb splitParent joinedKeys joinedChildren findOf cardRefusal foundAt leafOf reachedAt foundIn noBeginning noMemory openOf openChecked openSound tableCheck nodeCheck onLook enterNode enterKind enterLeaf enterInner innerSound noted lookOf leafSound member unusedZero childrenCheck raised halves copied rangeEnd slotSound heldBy stepChecked stepTask inLeaf noWay layOut decidedRepair decideAt decideTagged decideUnderfull decideSiblings decideTogether togetherAt
 rowCutOpened-held = refl
 
 pub rowCutOpened-is : rowCutOpened ≡ said idle
@@ -241,7 +241,7 @@ unfolding rowCutOpened
 rowCutOpened-is = ap (λ b. said (startReply (openOf (cutI b) .begun))) worked-S ∙ rowCutOpened-held
 
 pub rowCutAbsent-held : said (foundReply (findOf (cutI heldS) 12)) ≡ said absent
-unfolding fresh drive onAnswer insert delete upto steps cardL cardB cardS cardI cardK cardL2 foundReply stepReply startReply stepOf stepFormat formatStore formattedWord formatOf stepFinal nodesOfLength formatting resting idled allNodes headerRefusal stepHeld isIdle stepBegin stepPrepared landing landingOf landedAt way wayFrom byLook past lookAt runOver nodeAt children valueWords keyWords slotOf firstEqual insertReason reasonIn emptyReason insertChange stepStore planning advanced nextChange nextRepair onSearch seek searchOf endOf firstFault ended toList isFault countOf rootPosition leafPairs insertOf startOf startChecked startRoom roomFor startLanded started stepRefused startRefused withAll giving overNumbers takeNumbers numbersFrom nextFree firstFrom firstTrue orElse withoutAll lastOf splitLeaf changeStores sort insertAll insertPair kindAbove nodeImage countTrue childPosition childFor childIndex passed routingKeys runBelow deleteOf deleteChange isNode share merge mergeRoot leavesTogether innersTogether half leftKeys keyBetween absorb splitParent joinedKeys joinedChildren findOf cardRefusal foundAt leafOf reachedAt foundIn noBeginning noMemory openOf openChecked openSound tableCheck nodeCheck onLook enterNode enterKind enterLeaf enterInner innerSound noted lookOf leafSound member unusedZero childrenCheck raised halves copied rangeEnd slotSound heldBy stepChecked stepTask inLeaf noWay layOut decidedRepair decideAt decideTagged decideUnderfull decideSiblings decideTogether togetherAt
+unfolding fresh drive onAnswer insertWhole deleteWhole upto steps cardL cardB cardS cardI cardK cardL2 foundReply stepReply startReply stepOf stepFormat formatStore formattedWord formatOf stepFinal nodesOfLength formattingFrom resting idled allNodes headerRefusal stepHeld isIdle stepBegin stepPrepared landing landingOf landedAt way wayFrom byLook past lookAt runOver nodeAt children valueWords keyWords slotOf firstEqual insertReason reasonIn emptyReason insertChange stepStore planning advanced nextChange nextRepair onSearch seek searchOf endOf firstFault ended toList isFault countOf rootPosition leafPairs insertOf startOf startChecked startRoom roomFor startLanded startAccepted stepRefused startRefused withAll giving overNumbers takeNumbers numbersFrom nextFree firstFrom firstTrue orElse withoutAll lastOf splitLeaf changeStores sort insertAll insertPair kindAbove nodeImage countTrue childPosition childFor childIndex passed routingKeys runBelow deleteOf deleteChange isNode share merge mergeRoot leavesTogether innersTogether half leftKeys keyBetween absorb splitParent joinedKeys joinedChildren findOf cardRefusal foundAt leafOf reachedAt foundIn noBeginning noMemory openOf openChecked openSound tableCheck nodeCheck onLook enterNode enterKind enterLeaf enterInner innerSound noted lookOf leafSound member unusedZero childrenCheck raised halves copied rangeEnd slotSound heldBy stepChecked stepTask inLeaf noWay layOut decidedRepair decideAt decideTagged decideUnderfull decideSiblings decideTogether togetherAt
 rowCutAbsent-held = refl
 
 pub rowCutAbsent-is : rowCutAbsent ≡ said absent
@@ -249,7 +249,7 @@ unfolding rowCutAbsent
 rowCutAbsent-is = ap (λ b. said (foundReply (findOf (cutI b) 12))) worked-S ∙ rowCutAbsent-held
 
 pub rowCutHeld-held : said (foundReply (findOf (splitI heldS) 12)) ≡ said (holds 120)
-unfolding fresh drive onAnswer insert delete upto steps cardL cardB cardS cardI cardK cardL2 foundReply stepReply startReply stepOf stepFormat formatStore formattedWord formatOf stepFinal nodesOfLength formatting resting idled allNodes headerRefusal stepHeld isIdle stepBegin stepPrepared landing landingOf landedAt way wayFrom byLook past lookAt runOver nodeAt children valueWords keyWords slotOf firstEqual insertReason reasonIn emptyReason insertChange stepStore planning advanced nextChange nextRepair onSearch seek searchOf endOf firstFault ended toList isFault countOf rootPosition leafPairs insertOf startOf startChecked startRoom roomFor startLanded started stepRefused startRefused withAll giving overNumbers takeNumbers numbersFrom nextFree firstFrom firstTrue orElse withoutAll lastOf splitLeaf changeStores sort insertAll insertPair kindAbove nodeImage countTrue childPosition childFor childIndex passed routingKeys runBelow deleteOf deleteChange isNode share merge mergeRoot leavesTogether innersTogether half leftKeys keyBetween absorb splitParent joinedKeys joinedChildren findOf cardRefusal foundAt leafOf reachedAt foundIn noBeginning noMemory openOf openChecked openSound tableCheck nodeCheck onLook enterNode enterKind enterLeaf enterInner innerSound noted lookOf leafSound member unusedZero childrenCheck raised halves copied rangeEnd slotSound heldBy stepChecked stepTask inLeaf noWay layOut decidedRepair decideAt decideTagged decideUnderfull decideSiblings decideTogether togetherAt
+unfolding fresh drive onAnswer insertWhole deleteWhole upto steps cardL cardB cardS cardI cardK cardL2 foundReply stepReply startReply stepOf stepFormat formatStore formattedWord formatOf stepFinal nodesOfLength formattingFrom resting idled allNodes headerRefusal stepHeld isIdle stepBegin stepPrepared landing landingOf landedAt way wayFrom byLook past lookAt runOver nodeAt children valueWords keyWords slotOf firstEqual insertReason reasonIn emptyReason insertChange stepStore planning advanced nextChange nextRepair onSearch seek searchOf endOf firstFault ended toList isFault countOf rootPosition leafPairs insertOf startOf startChecked startRoom roomFor startLanded startAccepted stepRefused startRefused withAll giving overNumbers takeNumbers numbersFrom nextFree firstFrom firstTrue orElse withoutAll lastOf splitLeaf changeStores sort insertAll insertPair kindAbove nodeImage countTrue childPosition childFor childIndex passed routingKeys runBelow deleteOf deleteChange isNode share merge mergeRoot leavesTogether innersTogether half leftKeys keyBetween absorb splitParent joinedKeys joinedChildren findOf cardRefusal foundAt leafOf reachedAt foundIn noBeginning noMemory openOf openChecked openSound tableCheck nodeCheck onLook enterNode enterKind enterLeaf enterInner innerSound noted lookOf leafSound member unusedZero childrenCheck raised halves copied rangeEnd slotSound heldBy stepChecked stepTask inLeaf noWay layOut decidedRepair decideAt decideTagged decideUnderfull decideSiblings decideTogether togetherAt
 rowCutHeld-held = refl
 
 pub rowCutHeld-is : rowCutHeld ≡ said (holds 120)

@@ -15,7 +15,7 @@ use Rattle.card.specs.Layout.{runBelow, nodeAt, keyWords, valueWords, children,
 use Rattle.plans.specs.Change.{changeStores, kindAbove, splitLeaf, joinedKeys, joinedChildren, absorb, splitParent, leavesTogether, innersTogether, half, leftKeys, keyBetween, share, merge, mergeRoot, halves, copied}
 use Rattle.plans.specs.Planning.{numbersFrom, takeNumbers, withoutAll, lastOf, overNumbers, giving, withAll}
 use Rattle.change_decide.specs.Decide.{decideTagged, decideTogether, decideSiblings, isNode, decideUnderfull, decideAt, onSearch}
-use Rattle.change_decide.specs.Decide.{nextRepair as decidedRepair}
+use Rattle.change_decide.specs.Decide.{decidedRepair}
 use Rattle.change.specs.LayOut.{layOut}
 use Rattle.change.specs.Mending.{nextRepair}
 use Rattle.siblings.specs.Siblings.{togetherAt}
@@ -28,9 +28,9 @@ use Rattle.updates.specs.Updates.{landing, emptyReason, reasonIn, insertReason,
 use Rattle.state.specs.Answers.{stepReply, startReply}
 use Rattle.lookup.specs.Find.{foundIn, foundAt, findOf}
 use Rattle.opening.specs.Opening.{openSound, openChecked, openOf}
-use Rattle.starting.specs.Starts.{formatOf, startRefused, started, startLanded, startChecked, startOf, insertOf, deleteOf}
+use Rattle.starting.specs.Starts.{formatOf, startRefused, startAccepted, startLanded, startChecked, startOf, insertOf, deleteOf}
 use Rattle.table.specs.Calls.{stepOf, planning, stepPrepared, stepBegin, stepHeld, stepTask, stepChecked}
-use Rattle.state.specs.Steps.{noBeginning, stepRefused, stepFinal, formattedWord, formatStore, formatting, stepFormat, stepStore, isIdle, heldBy}
+use Rattle.state.specs.Steps.{noBeginning, stepRefused, stepFinal, formattedWord, formatStore, formattingFrom, stepFormat, stepStore, isIdle, heldBy}
 use Rattle.state.specs.declared.Doing.the-variants.{Idle}
 use Rattle.state.specs.declared.Answer.{Answer}
 use Rattle.state.specs.declared.Answer.the-variants.{Stored, Ready, Absent, Value, Refused}
@@ -122,7 +122,7 @@ pairsTo11 = (11, 110) ∷ (10, 100) ∷ (9, 90) ∷ (8, 80) ∷ (7, 70) ∷ (6, 
 
 -- computed: 153 stores and "ready"; what formatting leaves; the book with the cut after 40 and after 73 of the stores
 pub computed : (readyIn 153 beingFormatted ≡ true) × (after 153 beingFormatted ≡ formatted) × (kept rationTable (cutAfter 40) formatted (book [] empty) ≡ book pairsTo11 empty) × (kept rationTable (cutAfter 73) formatted (book [] empty) ≡ book ((12, 120) ∷ pairsTo11) empty)
-unfolding readyIn isStored isReady after kept feed told outcome replyTo fedStart fedStep entered added Option·elim among stepReply startReply happens stepOf stepFormat formatStore formattedWord formatOf stepFinal nodesOfLength formatting resting idled allNodes headerRefusal stepHeld isIdle stepBegin stepPrepared landing landingOf landedAt way wayFrom byLook past lookAt runOver nodeAt children valueWords keyWords slotOf firstEqual insertReason reasonIn emptyReason insertChange stepStore planning advanced nextChange nextRepair onSearch seek searchOf endOf firstFault ended toList isFault countOf rootPosition leafPairs insertOf startOf startChecked startRoom roomFor startLanded started stepRefused startRefused withAll giving overNumbers takeNumbers numbersFrom nextFree firstFrom firstTrue orElse withoutAll lastOf splitLeaf changeStores sort insertAll insertPair kindAbove nodeImage countTrue childPosition childFor childIndex passed routingKeys runBelow deleteOf deleteChange isNode share merge mergeRoot leavesTogether innersTogether half leftKeys keyBetween absorb splitParent joinedKeys joinedChildren findOf cardRefusal foundAt leafOf reachedAt foundIn noBeginning noMemory openOf openChecked openSound tableCheck nodeCheck onLook enterNode enterKind enterLeaf enterInner innerSound noted lookOf leafSound member unusedZero childrenCheck raised halves copied rangeEnd slotSound heldBy stepChecked stepTask inLeaf noWay layOut decidedRepair decideAt decideTagged decideUnderfull decideSiblings decideTogether togetherAt
+unfolding readyIn isStored isReady after kept feed told outcome replyTo fedStart fedStep entered added Option·elim among stepReply startReply happens stepOf stepFormat formatStore formattedWord formatOf stepFinal nodesOfLength formattingFrom resting idled allNodes headerRefusal stepHeld isIdle stepBegin stepPrepared landing landingOf landedAt way wayFrom byLook past lookAt runOver nodeAt children valueWords keyWords slotOf firstEqual insertReason reasonIn emptyReason insertChange stepStore planning advanced nextChange nextRepair onSearch seek searchOf endOf firstFault ended toList isFault countOf rootPosition leafPairs insertOf startOf startChecked startRoom roomFor startLanded startAccepted stepRefused startRefused withAll giving overNumbers takeNumbers numbersFrom nextFree firstFrom firstTrue orElse withoutAll lastOf splitLeaf changeStores sort insertAll insertPair kindAbove nodeImage countTrue childPosition childFor childIndex passed routingKeys runBelow deleteOf deleteChange isNode share merge mergeRoot leavesTogether innersTogether half leftKeys keyBetween absorb splitParent joinedKeys joinedChildren findOf cardRefusal foundAt leafOf reachedAt foundIn noBeginning noMemory openOf openChecked openSound tableCheck nodeCheck onLook enterNode enterKind enterLeaf enterInner innerSound noted lookOf leafSound member unusedZero childrenCheck raised halves copied rangeEnd slotSound heldBy stepChecked stepTask inLeaf noWay layOut decidedRepair decideAt decideTagged decideUnderfull decideSiblings decideTogether togetherAt
 computed = (refl, refl, refl, refl)
 
 begins : Begins rationTable formatted []

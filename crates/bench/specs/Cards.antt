@@ -48,11 +48,11 @@ begin card b = record { card = card; memory = b .memory; stores = 0; answer = St
 unfoldable pub fresh : ℕ → Bench
 fresh n = drive 20000 (begin (replicate (8 + 24 * n) 9) (formatOf (replicate (8 + 24 * n) 9)))
 
-unfoldable pub insert : ℕ → ℕ → Bench → Bench
-insert k v b = drive 700 (begin (b .card) (insertOf (b .card) (b .memory) k v))
+unfoldable pub insertWhole : ℕ → ℕ → Bench → Bench
+insertWhole k v b = drive 700 (begin (b .card) (insertOf (b .card) (b .memory) k v))
 
-unfoldable pub delete : ℕ → Bench → Bench
-delete k b = drive 700 (begin (b .card) (deleteOf (b .card) (b .memory) k))
+unfoldable pub deleteWhole : ℕ → Bench → Bench
+deleteWhole k b = drive 700 (begin (b .card) (deleteOf (b .card) (b .memory) k))
 
 -- so many steps of an insert, and then power goes: the card as it is
 unfoldable pub steps : ℕ → Bench → Bench
@@ -61,7 +61,7 @@ steps (suc k) b = steps k (bench (stepOf (b .card) (b .memory)) (b .stores) (Sto
 
 unfoldable pub upto : ℕ → Bench → Bench
 upto zero b = b
-upto (suc k) b = insert (suc k) (10 * suc k) (upto k b)
+upto (suc k) b = insertWhole (suc k) (10 * suc k) (upto k b)
 
 -- an answer's number and value, in a row of the table
 abbrev pub said : Reply → List ℕ
@@ -71,19 +71,19 @@ unfoldable pub cardL : Bench
 cardL = fresh 4
 
 unfoldable pub cardB : Bench
-cardB = insert 7 70 cardL
+cardB = insertWhole 7 70 cardL
 
 unfoldable pub cardS : Bench
 cardS = upto 11 (fresh 6)
 
 unfoldable pub cardI : Bench
-cardI = insert 12 120 cardS
+cardI = insertWhole 12 120 cardS
 
 unfoldable pub cardK : Bench
-cardK = delete 5 (delete 4 (delete 3 (delete 2 (delete 1 cardI))))
+cardK = deleteWhole 5 (deleteWhole 4 (deleteWhole 3 (deleteWhole 2 (deleteWhole 1 cardI))))
 
 unfoldable pub cardL2 : Bench
-cardL2 = delete 9 (delete 10 (delete 8 (delete 7 cardK)))
+cardL2 = deleteWhole 9 (deleteWhole 10 (deleteWhole 8 (deleteWhole 7 cardK)))
 
 -- one store of card B's insert, then power goes
 abbrev pub cutB : List ℕ
@@ -91,7 +91,7 @@ cutB = steps 1 (begin (cardL .card) (insertOf (cardL .card) (cardL .memory) 7 70
 
 -- B again, whole, on the card opened after that cut
 abbrev pub againB : Bench
-againB = insert 7 70 (begin cutB (openOf cutB))
+againB = insertWhole 7 70 (begin cutB (openOf cutB))
 
 -- the card in the middle of card I's split: 40 of its 73 stores, then power goes
 abbrev pub cutI : Bench → List ℕ
@@ -115,15 +115,15 @@ rowC = said (foundReply (findOf cutB 7))
 
 -- D: then B whole, insert 7 with 71: answers 70, no store
 unfoldable pub rowD : List ℕ
-rowD = againB .stores ∷ insert 7 71 againB .stores ∷ said (stepReply (insert 7 71 againB .answer))
+rowD = againB .stores ∷ insertWhole 7 71 againB .stores ∷ said (stepReply (insertWhole 7 71 againB .answer))
 
 -- E: delete 7: word 9 gets 0, answers 70
 unfoldable pub rowE : List ℕ
-rowE = delete 7 cardB .stores ∷ getD (delete 7 cardB .card) 9 0 ∷ said (stepReply (delete 7 cardB .answer))
+rowE = deleteWhole 7 cardB .stores ∷ getD (deleteWhole 7 cardB .card) 9 0 ∷ said (stepReply (deleteWhole 7 cardB .answer))
 
 -- F: L, delete 7: absent
 unfoldable pub rowF : List ℕ
-rowF = delete 7 cardL .stores ∷ said (stepReply (delete 7 cardL .answer))
+rowF = deleteWhole 7 cardL .stores ∷ said (stepReply (deleteWhole 7 cardL .answer))
 
 -- G: 104 words may be formatted; 80, 103, 105 are refused 1. 14,408 may; 14,432 not
 unfoldable pub rowG104 : List ℕ

@@ -11,7 +11,7 @@ use Rattle.descent.specs.Descent.{rootPosition, seek}
 use Rattle.descent.specs.declared.Position.{Position}
 use Rattle.descent.specs.declared.Search.the-variants.{Balanced as SearchBalanced, Violation as SearchViolation}
 use Rattle.change_decide.specs.Decide.{decideSiblings, decideTogether, isNode, leftSibling, leftNumber, rightNumber, decideAt, onSearch}
-use Rattle.change_decide.specs.Decide.{nextRepair as decidedRepair}
+use Rattle.change_decide.specs.Decide.{decidedRepair}
 use Rattle.change_decide.specs.Places.{parentAt, leftAt, rightAt}
 use Rattle.change_decide.specs.declared.Decision.{Decision}
 use Rattle.change_decide.proofs.DecideLaws.{tagged-absorbed, tagged-split, together-shared, together-root, together-merged, underfull-both, decided-tagged, decided-underfull}

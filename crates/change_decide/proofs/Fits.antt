@@ -15,7 +15,7 @@ use Rattle.descent.specs.declared.Position.{Position}
 use Rattle.descent.specs.declared.Search.{Search}
 use Rattle.descent.specs.declared.Search.the-variants.{Refused as NoSearch, Balanced as SearchBalanced, Violation as SearchViolation}
 use Rattle.change_decide.specs.Decide.{isNode, leftSibling, leftNumber, rightNumber}
-use Rattle.change_decide.specs.Decide.{decideTagged, decideTogether, decideSiblings, decideUnderfull, decideAt, onSearch, nextRepair}
+use Rattle.change_decide.specs.Decide.{decideTagged, decideTogether, decideSiblings, decideUnderfull, decideAt, onSearch, decidedRepair}
 use Rattle.change_decide.specs.Places.{PositionWithin, parentAt, TaggedAt, leftAt, rightAt, countTogether, togetherCount, SiblingsAt, Fits}
 use Rattle.change_decide.specs.declared.Decision.{Decision}
 use Rattle.change_decide.specs.declared.Decision.the-variants.{Refused}
@@ -112,8 +112,8 @@ module _ (card : List ℕ) (n : ℕ) (p : Position) (w : PositionWithin card n p
       (λ t. no-change card)
 
 -- the next change of a repair can be laid out
-pub repair-fits : (card : List ℕ) (n key : ℕ) → length card ≡ 8 + 24 * n → n ≤ greatestNodes → Fits card (nextRepair card n key)
-unfolding nextRepair onSearch Fits
+pub repair-fits : (card : List ℕ) (n key : ℕ) → length card ≡ 8 + 24 * n → n ≤ greatestNodes → Fits card (decidedRepair card n key)
+unfolding decidedRepair onSearch Fits
 repair-fits card n key size few = go (seek card n key depthLimit (rootPosition (getD card rootPlace 0))) refl
   where
     go : (s : Search) → seek card n key depthLimit (rootPosition (getD card rootPlace 0)) ≡ s → Fits card (onSearch card n s)

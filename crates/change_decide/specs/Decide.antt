@@ -68,5 +68,5 @@ onSearch card n SearchBalanced = Balanced
 onSearch card n (SearchViolation p) = decideAt card n p
 
 -- "Repairs go on until balanced": the next change of a repair that follows a key
-unfoldable pub nextRepair : List ℕ → ℕ → ℕ → Decision
-nextRepair card n key = onSearch card n (seek card n key depthLimit (rootPosition (getD card rootPlace 0)))
+unfoldable pub decidedRepair : List ℕ → ℕ → ℕ → Decision
+decidedRepair card n key = onSearch card n (seek card n key depthLimit (rootPosition (getD card rootPlace 0)))

@@ -8,7 +8,7 @@ ghost use Prim.Native.Nat.{_+_, _*_, _≤_};
 ghost use lib.ListN.{length};
 ghost use lib.Dec.{eqb};
 ghost use Rattle.card.specs.Layout.{greatestNodes, rootPlace, kindOf, children};
-ghost use Rattle.change_decide.specs.Decide.{isNode, leftSibling, decideTagged, decideTogether, decideSiblings, decideUnderfull, decideAt, nextRepair};
+ghost use Rattle.change_decide.specs.Decide.{isNode, leftSibling, decideTagged, decideTogether, decideSiblings, decideUnderfull, decideAt, decidedRepair};
 ghost use Rattle.change_decide.specs.Places.{PositionWithin};
 
 // What a step that has no store left to make decides.
@@ -172,7 +172,7 @@ fn decide_at(card: &[u32], n: usize, p: Position) -> Decision
 // "Repairs go on until balanced": the change that mends the first violation on a key's way.
 pub fn next_repair(card: &[u32], n: usize, key: u32) -> Decision
     requires { ⌜ (length (now card) ≡ 8 + 24 * n) × (n ≤ greatestNodes) × (4 ≤ n) ⌝ }
-    ensures { λ r. ⌜ r ≡ nextRepair (now (card .entry)) n key ⌝ }
+    ensures { λ r. ⌜ r ≡ decidedRepair (now (card .entry)) n key ⌝ }
 {
     match descent::find_violation(card, n, key, card[card::ROOT_PLACE] as usize) {
         Search::Refused => Decision::Refused,

@@ -27,7 +27,7 @@ use Rattle.state.specs.Steps.{isIdle, stepRefused, stepFinal, stepStore}
 use Rattle.table.specs.Calls.{planning, stepPrepared, stepBegin, stepOf}
 use Rattle.updates.specs.Updates.{FirstChange, nextChange}
 use Rattle.updates.specs.Results.{Storing}
-use Rattle.state.specs.Results.{more}
+use Rattle.state.specs.Results.{moreToStore}
 use Rattle.state.specs.declared.Task.the-variants.{PutIn, TakeOut}
 use Rattle.demands.proofs.Work.{true-false}
 use Rattle.demands.proofs.StepRows.{Final}
@@ -287,7 +287,7 @@ module _ (final : Answer) (most : ℕ) (w : World rationTable) (x : Nears final 
 
     pub first-by-rules : (f : FirstChange) → stepOf (w .card) (w .state) ≡ stepBegin (w .card) (w .state) f → Final (f .final) → Storing (f .preparation) → (f .preparation ≡ balanced → f .final ≡ final → Nothing)
         → ((ss : List Store) (fewer : List Bool) (now : ℕ) (out : List ℕ) → f .preparation ≡ prepared ss fewer now out → ByRule Rule (w .state .free) (w .state .last) ss fewer now out × Begun (f .doing)) → Updates rationTable Nothing Rule (stepReply final) w
-    unfolding stepBegin stepPrepared stepStore planning replyTo stepFinal Storing more
+    unfolding stepBegin stepPrepared stepStore planning replyTo stepFinal Storing moreToStore
     first-by-rules f e fin stores none-due rule = at (f .preparation) refl stores
       where
         at : (p : Preparation) → f .preparation ≡ p → Storing p → Updates rationTable Nothing Rule (stepReply final) w

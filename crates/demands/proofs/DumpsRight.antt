@@ -11,7 +11,7 @@ use lib.Seq.{getD-drop, take-at}
 use Rattle.card.specs.Header.{nodesOfLength, cardRefusal, Sized, Formatted}
 use Rattle.card.specs.Layout.{leastNodes, greatestNodes}
 use Rattle.card.specs.Replies.{Reply, long}
-use Rattle.demands.specs.Dumps.{wordOf, byteOf, PaddedLength, nodesIn, wordsIn, Damaged, empty, no-multiple, too-long, bad-nodes, other-length, not-zero, readRows, writeRows, Refuses, Reads, Writes, Dumps}
+use Rattle.demands.specs.Dumps.{wordOf, byteOf, PaddedLength, nodesIn, wordsIn, Damaged, empty, no-multiple, too-long, bad-nodes, other-length, not-zero, readRows, writeRows, RefusesDump, Reads, Writes, Dumps}
 use Rattle.promises.specs.Way.{nodesOn}
 use Rattle.demands.specs.Refusals.{ByRows, end, row}
 use Rattle.promises.proofs.AnswerNumbers.{card-small}
@@ -99,7 +99,7 @@ over-untouched done lent n e i h =
     getD-right done (drop n lent) n i (i - n) e (omega arith) ∙ getD-drop n lent (i - n) 0 ∙ ap (λ (j : ℕ). getD lent j 0) (let z : n + (i - n) ≡ i = omega arith in z)
 
 module _ (dump lent : List ℕ) where
-  not-read : (r : ℕ) → readAnswer dump (length lent) ≡ Refused r → Refuses lent (read dump lent) r
+  not-read : (r : ℕ) → readAnswer dump (length lent) ≡ Refused r → RefusesDump lent (read dump lent) r
   unfolding dumpReply
   not-read r e = record { number-given = rw e; nothing-stored = read-refused dump lent r e }
 
@@ -117,7 +117,7 @@ module _ (dump lent : List ℕ) where
         words = λ i h. rw (read-words dump lent n e) (getD-left (dumpWords n dump) (drop n lent) n i done h ∙ get-dumpWords n dump i h ∙ sym (word-same dump i));
       }
 
-  reading : ByRows (readRows dump (length lent)) (Refuses lent (read dump lent)) (Reads lent (read dump lent) dump)
+  reading : ByRows (readRows dump (length lent)) (RefusesDump lent (read dump lent)) (Reads lent (read dump lent) dump)
   unfolding ByRows wordAt
   reading =
       bool-cases (damaged dump) (λ q. inl (true-damaged dump q, not-read 11 (read-damaged dump (length lent) q)))
@@ -192,7 +192,7 @@ module _ (card : List ℕ) where
       none (not-zero i a b d) = d (dump-zeros i (omega (arith, a, all)) (omega (arith, b, length-dump card)))
 
 module _ (card lent : List ℕ) where
-  not-written : (r : ℕ) → writeAnswer card (length lent) ≡ Refused r → Refuses lent (write card lent) r
+  not-written : (r : ℕ) → writeAnswer card (length lent) ≡ Refused r → RefusesDump lent (write card lent) r
   unfolding dumpReply
   not-written r e = record { number-given = rw e; nothing-stored = write-refused card lent r e }
 
@@ -217,10 +217,10 @@ module _ (card lent : List ℕ) where
   abbrev Short : Type 0
   Short = (size : ℕ) × PaddedLength (length card) size × (length lent < size)
 
-  writing : ByRows (writeRows card (length lent)) (Refuses lent (write card lent)) (Writes lent (write card lent) card)
+  writing : ByRows (writeRows card (length lent)) (RefusesDump lent (write card lent)) (Writes lent (write card lent) card)
   unfolding ByRows
   writing =
-      by-card (row 12 Short end) (Refuses lent (write card lent)) (Writes lent (write card lent) card) card (nodesOn card)
+      by-card (row 12 Short end) (RefusesDump lent (write card lent)) (Writes lent (write card lent) card) card (nodesOn card)
       (λ p. not-written 1 (write-refuses card (length lent) 1 (card-one card p) (λ z. omega (arith, z))))
       (λ r s e d. not-written r (write-refuses card (length lent) r (length-accepted card (nodesOn card) s ∙ e) d))
       (λ s f.

@@ -12,18 +12,18 @@ use Rattle.card.specs.Header.{Sized}
 use Rattle.card.specs.Layout.{place, nodeAt, keyWords, leafPairs, nodeImage}
 use Rattle.card.specs.Stores.{Store}
 use Rattle.change.specs.LayOut.{layOut}
-use Rattle.change_split.specs.Split.{absorbAt, splitParentAt}
+use Rattle.change_split.specs.Split.{absorbAt, splitParentAt, splitLeafOf}
 use Rattle.change.specs.Mending.{nextRepair}
-use Rattle.change_decide.specs.Decide.{nextRepair as decidedRepair}
+use Rattle.change_decide.specs.Decide.{decidedRepair}
 use Rattle.change_decide.specs.declared.Decision.{Decision}
-use Rattle.change_decide.specs.declared.Decision.the-variants.{Refused, Balanced, Absorb, SplitParent, Share, Merge, MergeRoot}
+use Rattle.change_decide.specs.declared.Decision.the-variants.{Refused, Balanced, PutPair, ClearKey, SplitLeaf, Absorb, SplitParent, Share, Merge, MergeRoot}
 use Rattle.card.proofs.NodeLaws.{length-node}
 use Rattle.demands.specs.Demand1.{begun, Refuses, Demand1}
 use Rattle.promises.specs.Table.{formatting}
 use Rattle.promises.specs.Way.{nodesOn, leadsTo, among}
-use Rattle.demands.specs.Refusals.{ByRows, NoneGiven, NoRepair, NoChange, stepRows, end, row}
+use Rattle.demands.specs.Refusals.{ByRows, NoneGiven, Unmakeable, NoChange, stepRows, end, row}
 use Rattle.demands.specs.Rules.{Given, FullLeaf}
-use Rattle.promises.specs.RationTable.{workOf, stepped, rationTable}
+use Rattle.promises.specs.RationTable.{workOf, asStepped, rationTable}
 use Rattle.demands.proofs.CardRows.{none-some, finds, formats, opens}
 use Rattle.demands.proofs.PlannedNumbers.{numbers-by-rule, numbers-counted, given-taken}
 use Rattle.demands.proofs.StartRows.{one-leaf, inserts, deletes}
@@ -78,7 +78,7 @@ module _ (c : List ℕ) (n key m link run : ℕ) (sized : Sized (length c) n) (l
 module _ (c : List ℕ) (m : Memory) where
   -- refused 9 exactly when this is due
   abbrev Nine : Type 0 → Step → Type 0
-  Nine due x = (due × Refuses rationTable c m (stepped x) 9) ⊎ ((due → ⊥) × Works c m x)
+  Nine due x = (due × Refuses rationTable c m (asStepped x) 9) ⊎ ((due → ⊥) × Works c m x)
 
   same-nine : (P Q : Type 0) (x : Step) → (P → Q) → (Q → P) → Nine P x → Nine Q x
   same-nine P Q x f g (inl (p, r)) = inl (f p, r)
@@ -90,7 +90,7 @@ module _ (c : List ℕ) (m : Memory) where
     unfolding stepPrepared
     answers f = inr (final-idle a c m f)
 
-    refuses-none : Refuses rationTable c m (stepped (stepPrepared c m doing a refused)) 9
+    refuses-none : Refuses rationTable c m (asStepped (stepPrepared c m doing a refused)) 9
     unfolding stepPrepared
     refuses-none = refused-same 9 c m
 
@@ -102,7 +102,7 @@ module _ (c : List ℕ) (m : Memory) where
           let then = planning m doing free last cut in
           inl (store-inside c m (getD ss 0 (0, 0)) (advanced then (drop 1 ss)) (advanced-nodes then (drop 1 ss)) (ap workOf (advanced-doing then (drop 1 ss)) ∙ w) o)
 
-      refuses-first : length c ≤ getD ss 0 (0, 0) .0 → Refuses rationTable c m (stepped (stepPrepared c m doing a (prepared ss free last cut))) 9
+      refuses-first : length c ≤ getD ss 0 (0, 0) .0 → Refuses rationTable c m (asStepped (stepPrepared c m doing a (prepared ss free last cut))) 9
       unfolding stepPrepared
       refuses-first o = store-outside c m (getD ss 0 (0, 0)) (advanced (planning m doing free last cut) (drop 1 ss)) o
 
@@ -224,18 +224,28 @@ module _ (c : List ℕ) (m : Memory) (key before : ℕ) (d : m .doing ≡ Deleti
 -- ---- a repair
 
 module _ (c : List ℕ) (m : Memory) (key : ℕ) (a : Answer) (f : Final a) (w : workOf (m .doing) ≡ begun (workOf (m .doing))) where
+  -- a change without new nodes, by its first store
+  over-one : (s : Store) (rest : List Store) → Nine c m (length c ≤ s .0) (stepPrepared c m (m .doing) a (prepared (s ∷ rest) (m .free) (m .last) []))
+  over-one s rest =
+      order (s .0) (length c)
+      (λ o. inr (λ z. omega (arith, o, z), stores-first c m (m .doing) a (s ∷ rest) (m .free) (m .last) [] w o))
+      (λ o. inl (o, refuses-first c m (m .doing) a (s ∷ rest) (m .free) (m .last) [] o))
+
   -- by the change decided
-  repair-decided : (x : Decision) → Nine c m (NoRepair c (m .free) (m .last) x) (stepPrepared c m (m .doing) a (layOut c x (m .free) (m .last)))
-  unfolding NoRepair layOut changeStores absorb splitParent share merge mergeRoot halves nodeImage
+  repair-decided : (x : Decision) → Nine c m (Unmakeable c (m .free) (m .last) x) (stepPrepared c m (m .doing) a (layOut c x (m .free) (m .last)))
+  unfolding Unmakeable layOut changeStores splitLeaf absorb splitParent share merge mergeRoot halves nodeImage
   repair-decided Refused = inl (tt, refuses-none c m (m .doing) a)
   repair-decided Balanced = inr (λ z. z, answers c m (m .doing) a f)
+  repair-decided (PutPair x i k v) = over-one (place x (12 + i), v) ((place x (1 + i), k) ∷ [])
+  repair-decided (ClearKey x i) = over-one (place x (1 + i), 0) []
+  repair-decided (SplitLeaf x link k v) = over-given c m (m .doing) a w 3 (splitLeafOf x link k v (nodeAt c x)) (λ ms. refl)
   repair-decided (Absorb p) = over-given c m (m .doing) a w 1 (absorbAt c p) (λ ms. refl)
   repair-decided (SplitParent p) = over-given c m (m .doing) a w 3 (splitParentAt c p) (λ ms. refl)
   repair-decided (Share p) = over-given c m (m .doing) a w 3 (shareAt c p) (λ ms. refl)
   repair-decided (Merge p) = over-given c m (m .doing) a w 2 (mergeAt c p) (λ ms. refl)
   repair-decided (MergeRoot p) = over-given c m (m .doing) a w 1 (mergeRootAt c p) (λ ms. refl)
 
-  repair-next : Sized (length c) (m .nodes) → Nine c m (NoRepair c (m .free) (m .last) (decidedRepair c (nodesOn c) key))
+  repair-next : Sized (length c) (m .nodes) → Nine c m (Unmakeable c (m .free) (m .last) (decidedRepair c (nodesOn c) key))
       (stepBegin c m (nextChange c (m .nodes) (m .free) (m .last) (m .doing) (Repair key a)))
   unfolding stepBegin nextChange nextRepair
   repair-next s = rw (sized-on c (m .nodes) s) (repair-decided (decidedRepair c (m .nodes) key))
@@ -247,9 +257,9 @@ module _ (c : List ℕ) (m : Memory) (s : Sized (length c) (m .nodes)) where
   Begins doing task = Nine c m (NoChange c (m .free) (m .last) (workOf doing)) (stepBegin c m (nextChange c (m .nodes) (m .free) (m .last) doing task))
 
   repairs : (key : ℕ) (a : Answer) → Final a → (doing : Doing) → m .doing ≡ doing → workOf doing ≡ begun (workOf doing)
-      → Nine c m (NoRepair c (m .free) (m .last) (decidedRepair c (nodesOn c) key)) (stepBegin c m (nextChange c (m .nodes) (m .free) (m .last) doing (Repair key a)))
+      → Nine c m (Unmakeable c (m .free) (m .last) (decidedRepair c (nodesOn c) key)) (stepBegin c m (nextChange c (m .nodes) (m .free) (m .last) doing (Repair key a)))
   repairs key a f doing e w =
-      subst (λ (x : Doing). Nine c m (NoRepair c (m .free) (m .last) (decidedRepair c (nodesOn c) key)) (stepBegin c m (nextChange c (m .nodes) (m .free) (m .last) x (Repair key a)))) e
+      subst (λ (x : Doing). Nine c m (Unmakeable c (m .free) (m .last) (decidedRepair c (nodesOn c) key)) (stepBegin c m (nextChange c (m .nodes) (m .free) (m .last) x (Repair key a)))) e
       (repair-next c m key a f (subst (λ (x : Doing). workOf x ≡ begun (workOf x)) (sym e) w) s)
 
   begins : {doing : Doing} {task : Task} → TaskOf doing task → m .doing ≡ doing → Begins doing task
@@ -260,11 +270,11 @@ module _ (c : List ℕ) (m : Memory) (s : Sized (length c) (m .nodes)) where
   begins (taken {key} {value}) e = repairs key (Value value) (inr (inl (value, refl))) (Deleting key true value) e refl
   begins (opened {key}) e = repairs key Ready (inl refl) (Repairing key) e refl
 
-change-rows : (c : List ℕ) (m : Memory) → m .rest ≡ [] → (workOf (m .doing) ≡ formatting → ⊥) → ByRows (stepRows rationTable c m (NoChange c (m .free) (m .last) (workOf (m .doing)))) (Refuses rationTable c m (stepped (stepOf c m))) (Works c m (stepOf c m))
+change-rows : (c : List ℕ) (m : Memory) → m .rest ≡ [] → (workOf (m .doing) ≡ formatting → ⊥) → ByRows (stepRows rationTable c m (NoChange c (m .free) (m .last) (workOf (m .doing)))) (Refuses rationTable c m (asStepped (stepOf c m))) (Works c m (stepOf c m))
 unfolding ByRows stepTask
 change-rows c m r q = go (idle-or-task (m .doing) q)
   where
-    go : IdleOrTask (m .doing) → ByRows (stepRows rationTable c m (NoChange c (m .free) (m .last) (workOf (m .doing)))) (Refuses rationTable c m (stepped (stepOf c m))) (Works c m (stepOf c m))
+    go : IdleOrTask (m .doing) → ByRows (stepRows rationTable c m (NoChange c (m .free) (m .last) (workOf (m .doing)))) (Refuses rationTable c m (asStepped (stepOf c m))) (Works c m (stepOf c m))
     go (inl (e, w)) = idle-rows c m e w (row 9 (NoChange c (m .free) (m .last) (workOf (m .doing))) end) (Works c m (stepOf c m))
     go (inr (task, e, w)) =
         task-rows c m task e w (row 9 (NoChange c (m .free) (m .last) (workOf (m .doing))) end) (Works c m (stepOf c m))

@@ -18,7 +18,7 @@ use Rattle.promises.specs.Way.{nodesOn, leadsTo, among}
 use Rattle.demands.specs.Refusals.{ByRows, openRows, end, row}
 use Rattle.demands.specs.List.{repairedWorld}
 use Rattle.demands.proofs.ListRight.{repaired-world}
-use Rattle.demands.specs.W209.{SplitBelow, TellsHeld, LeadsAbsent, TellsSlot, TellsSplit, Told, OfCard, W209}
+use Rattle.demands.specs.W209.{SplitBelow, TellsHeld, LeadsAbsent, TellsSlot, TellsSplit, TellsOfKey, OfCard, W209}
 use Rattle.demands.specs.Worked.{dictionary}
 use Rattle.demands.proofs.CardRows.{opens}
 use Rattle.demands.proofs.PowerCuts.{covered-nodes, always, demand-3}
@@ -166,7 +166,7 @@ module _ (dump file : List ℕ) where
     read : readAnswer dump cardRoom ≡ Length size
     read = read-whole dump cardRoom whole ∙ room-long size cardRoom (omega (arith, undamaged-whole dump whole .most))
 
-    told : OpensTo rationTable card (handed (openOf card)) → Told rationTable (repairedWorld rationTable card) (keyIn file) (checkText dump file)
+    told : OpensTo rationTable card (handed (openOf card)) → TellsOfKey rationTable (repairedWorld rationTable card) (keyIn file) (checkText dump file)
     told o = go (ℕ-discrete (keyIn file) 0)
       where
         opening : Opens rationTable card
@@ -182,7 +182,7 @@ module _ (dump file : List ℕ) where
             let reply = refused-eight (after card .card) (after card .state) (keyIn file) value in
             (λ e. text d value .0 (reply .0 e), λ p. reply .1 (text d value .1 p))
 
-        go : Dec (keyIn file ≡ 0) → Told rationTable (repairedWorld rationTable card) (keyIn file) (checkText dump file)
+        go : Dec (keyIn file ≡ 0) → TellsOfKey rationTable (repairedWorld rationTable card) (keyIn file) (checkText dump file)
         go (yes z) = inl (z, no-key-text dump file size read (o .table) opening (o .sound) z)
         go (no d) =
             let (r, is, holding) = text-holds dump file size read (o .table) opening (o .sound) d in

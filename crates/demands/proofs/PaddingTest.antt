@@ -9,7 +9,7 @@ use lib.ListN.{length, getD, length-drop, List·getD-eq-default}
 use lib.Seq.{getD-drop}
 use borrow.Author.Tests.{eq-eqb}
 use Rattle.demands.specs.Refusals.{ByRows}
-use Rattle.demands.specs.W202.{paddingLength, padding, Whole, readRows, W202}
+use Rattle.demands.specs.W202.{paddingLength, padding, WholeDump, readRowsByEights, W202}
 use Rattle.demands.proofs.Work.{true-false}
 use Rattle.card.specs.Replies.{refusal, long}
 use Rattle.dump.proofs.AnswerLaws.{Whole as WholeBytes, greatest-dump, padded-covers, padded-whole, padded-most, undamaged-whole, whole-undamaged, read-damaged, read-whole, room-short, room-long}
@@ -32,7 +32,7 @@ zeros-all (x ∷ l) f = rw (eq-eqb x 0 (f 0)) (zeros-all l (λ i. f (suc i)))
 
 module _ (dump : List ℕ) where
   -- a byte of the padding stands in one of its eights
-  byte-zero : Whole eightAt dump → (i : ℕ) → getD (padding dump) i 0 ≡ 0
+  byte-zero : WholeDump eightAt dump → (i : ℕ) → getD (padding dump) i 0 ≡ 0
   byte-zero w i =
       let at = 4 * wordsFor (dumpNodes dump) + i in
       getD-drop (4 * wordsFor (dumpNodes dump)) dump i 0
@@ -41,7 +41,7 @@ module _ (dump : List ℕ) where
       ∙ eight-exactly dump (at / 8) .0 (w .zeros (at / 8) (omega arith) (omega arith)) (at % 8) (omega arith))
       (λ o. List·getD-eq-default dump 0 {n = at} o)
 
-  to-bytes : Whole eightAt dump → WholeBytes dump
+  to-bytes : WholeDump eightAt dump → WholeBytes dump
   to-bytes w = record { least = w .least; most = w .most; padded = w .padded; zeros = zeros-all (padding dump) (byte-zero w) }
 
   byte-of : WholeBytes dump → (i : ℕ) → 4 * wordsFor (dumpNodes dump) ≤ i → getD dump i 0 ≡ 0
@@ -49,7 +49,7 @@ module _ (dump : List ℕ) where
       let from = 4 * wordsFor (dumpNodes dump) in
       ap (λ (j : ℕ). getD dump j 0) (let z : i ≡ from + (i - from) = omega arith in z) ∙ sym (getD-drop from dump (i - from) 0) ∙ getD-all-zero (padding dump) (i - from) (w .zeros)
 
-  from-bytes : WholeBytes dump → Whole eightAt dump
+  from-bytes : WholeBytes dump → WholeDump eightAt dump
   from-bytes w =
       record {
         not-empty = λ z. omega (arith, w .padded, padded-covers (wordsFor (dumpNodes dump)));
@@ -61,10 +61,10 @@ module _ (dump : List ℕ) where
         zeros = λ k a b. eight-exactly dump k .1 (λ i h. byte-of w (8 * k + i) (omega arith));
       }
 
-  long-as : Whole eightAt dump → length (padding dump) ≡ paddingLength (dumpNodes dump)
+  long-as : WholeDump eightAt dump → length (padding dump) ≡ paddingLength (dumpNodes dump)
   long-as w = omega (arith, length-drop (4 * wordsFor (dumpNodes dump)) dump, w .padded)
 
-  reading : (lent : ℕ) → ByRows (readRows eightAt dump lent) (λ r. dumpReply (readAnswer dump lent) ≡ refusal r)
+  reading : (lent : ℕ) → ByRows (readRowsByEights eightAt dump lent) (λ r. dumpReply (readAnswer dump lent) ≡ refusal r)
       (dumpReply (readAnswer dump lent) ≡ long (wordsFor (dumpNodes dump)))
   unfolding ByRows dumpReply
   reading lent =

@@ -11,7 +11,7 @@ use borrow.Author.Tests.{eqb-true, eqb-false, eq-eqb, ltb-true, leb-true, leb-fa
 use Rattle.card.specs.Layout.{rootPlace, depthLimit, nodeAt, kindOf, children, routingKeys}
 use Rattle.card.specs.Stores.{Store}
 use Rattle.change_decide.specs.Decide.{decideTagged, decideTogether, decideSiblings, isNode, leftSibling, leftNumber, rightNumber, decideUnderfull, decideAt, onSearch}
-use Rattle.change_decide.specs.Decide.{nextRepair as decidedRepair}
+use Rattle.change_decide.specs.Decide.{decidedRepair}
 use Rattle.change_decide.specs.Places.{parentAt, leftAt, rightAt}
 use Rattle.change_decide.specs.declared.Decision.{Decision}
 use Rattle.change.specs.LayOut.{layOut}

@@ -25,7 +25,7 @@ use Rattle.updates.specs.Updates.{landing, emptyReason, reasonIn, insertReason,
 use Rattle.state.specs.declared.Doing.{Doing}
 use Rattle.state.specs.declared.Task.the-variants.{PutIn, TakeOut}
 use Rattle.promises.specs.Way.{nodesOn, leadsTo, among}
-use Rattle.demands.specs.Rules.{leafOf, kindUnder, InsertRule, in-slot, leaf-split, DeleteRule, key-cleared}
+use Rattle.demands.specs.Rules.{leafHolding, kindUnder, InsertRule, in-slot, leaf-split, DeleteRule, key-cleared}
 use Rattle.demands.proofs.PlannedNumbers.{ByRule, not-refused, not-balanced, giving-three, none-taken}
 use Rattle.demands.proofs.Standing.{picked, landing-linked}
 use Rattle.promises.proofs.WayDown.{landed, leads-is, slotFound, slot-among}
@@ -131,7 +131,7 @@ insert-short {c} {key} {value} (leaf-split {m} {link = link} a b d twelve l k s)
     let n : length twelve ≤ 12 = omega (arith, ap length s, length-sort ((key, value) ∷ leafPairs (nodeAt c m)), leaf-few (nodeAt c m)) in
     let left : length (take 6 twelve) ≤ 11 = simp length-take (omega arith) in
     let right : length (drop 6 twelve) ≤ 11 = simp length-drop (omega arith) in
-    let nodes = leafOf a (take 6 twelve) ∷ leafOf b (drop 6 twelve) ∷ newNode d (kindUnder link) (keyAt 6 twelve ∷ []) (a ∷ b ∷ []) ∷ [] in
+    let nodes = leafHolding a (take 6 twelve) ∷ leafHolding b (drop 6 twelve) ∷ newNode d (kindUnder link) (keyAt 6 twelve ∷ []) (a ∷ b ∷ []) ∷ [] in
     let few : AllFew nodes = (
       (omega (arith, length-pair-keys (take 6 twelve)), omega (arith, length-pair-values (take 6 twelve))),
       ((omega (arith, length-pair-keys (drop 6 twelve)), omega (arith, length-pair-values (drop 6 twelve))), ((omega arith, omega arith), tt)),

@@ -31,7 +31,7 @@ use Rattle.descent.specs.declared.Slot.the-variants.{At, Absent as NoSlot}
 use Rattle.free_nodes.specs.NodeSet.{countTrue}
 use Rattle.laws.proofs.Cases.{bool-cases, order, impossible}
 use Rattle.laws.specs.Cases.{pick}
-use Rattle.starting.specs.Starts.{startRefused, started, startLanded, startChecked, startOf, insertOf, deleteOf}
+use Rattle.starting.specs.Starts.{startRefused, startAccepted, startLanded, startChecked, startOf, insertOf, deleteOf}
 use Rattle.state.specs.Answers.{startReply}
 use Rattle.state.specs.Memory.{Memory}
 use Rattle.state.specs.declared.Begun.{Begun}
@@ -64,13 +64,13 @@ module _ (c : List ℕ) (m : Memory) (key : ℕ) (doing : Doing) (room : Landing
   unfolding startRefused startReply
   refused-back r = record { number-given = refl; unchanged = refl }
 
-  start-begun : Starts rationTable m (handed (started m doing)) (workOf doing)
-  unfolding started startReply
+  start-begun : Starts rationTable m (handed (startAccepted m doing)) (workOf doing)
+  unfolding startAccepted startReply
   start-begun = record { reply-given = refl; in-progress = refl; all-kept = record { nodes-kept = refl; free-kept = refl; last-kept = refl } }
 
   -- the rows of a start, to where the key has led to its leaf
   by-start : (rows : Rows) (works : Type 0)
-      → ((leaf link j : ℕ) → leadsTo c key ≡ some (leaf, j) → startOf c m key doing room ≡ pick (room (LandingAt leaf link j)) (started m doing) (startRefused 8 m) → ByRows rows (HandsBack rationTable m (handed (startOf c m key doing room))) works)
+      → ((leaf link j : ℕ) → leadsTo c key ≡ some (leaf, j) → startOf c m key doing room ≡ pick (room (LandingAt leaf link j)) (startAccepted m doing) (startRefused 8 m) → ByRows rows (HandsBack rationTable m (handed (startOf c m key doing room))) works)
       → ByRows (startRows rationTable c m key rows) (HandsBack rationTable m (handed (startOf c m key doing room))) works
   unfolding ByRows startChecked startLanded landed
   by-start rows works next =
@@ -98,7 +98,7 @@ module _ (c : List ℕ) (m : Memory) (key : ℕ) (doing : Doing) (room : Landing
 
 -- what a started update is doing
 pub started-doing : (c : List ℕ) (m : Memory) (doing : Doing) (room : Landing → Bool) (key : ℕ) → startOf c m key doing room .begun ≡ Started → startOf c m key doing room .memory .doing ≡ doing
-unfolding startOf startChecked startLanded startRefused started
+unfolding startOf startChecked startLanded startRefused startAccepted
 started-doing c m doing room key e =
     bool-cases (eqb (nodesOfLength (length c)) 0) (λ q. absurd (never 1 (rw q at e))) (λ q.
     bool-cases (eqb (nodesOfLength (length c)) (m .nodes)) (λ q₁.
@@ -161,7 +161,7 @@ inserts c m key value =
     by-start c m key (Inserting key value false) (startRoom c key (m .free)) (row 8 (NoRoom c (m .free) key) end) (Starts rationTable m (handed (insertOf c m key value)) (inserting key value false))
     (λ leaf link j to e. at leaf link j e (room-row c (m .free) key leaf link j to))
   where
-    at : (leaf link j : ℕ) → startOf c m key (Inserting key value false) (startRoom c key (m .free)) ≡ pick (startRoom c key (m .free) (LandingAt leaf link j)) (started m (Inserting key value false)) (startRefused 8 m)
+    at : (leaf link j : ℕ) → startOf c m key (Inserting key value false) (startRoom c key (m .free)) ≡ pick (startRoom c key (m .free) (LandingAt leaf link j)) (startAccepted m (Inserting key value false)) (startRefused 8 m)
         → (NoRoom c (m .free) key × (startRoom c key (m .free) (LandingAt leaf link j) ≡ false)) ⊎ ((NoRoom c (m .free) key → ⊥) × (startRoom c key (m .free) (LandingAt leaf link j) ≡ true))
         → (NoRoom c (m .free) key × HandsBack rationTable m (handed (insertOf c m key value)) 8) ⊎ ((NoRoom c (m .free) key → ⊥) × Starts rationTable m (handed (insertOf c m key value)) (inserting key value false))
     at leaf link j e (inl (r, q)) = inl (r, rw (e, q) (refused-back c m key (Inserting key value false) (startRoom c key (m .free)) 8))

@@ -15,7 +15,7 @@ use Rattle.card.specs.Stores.{Store}
 use Rattle.demands.specs.Demand1.{begun, HandsBack, Stores, StoresNext, Answers, Refuses}
 use Rattle.promises.specs.Table.{noWork, formatting}
 use Rattle.demands.specs.Refusals.{Rows, ByRows, Idle, cardRows, end, row}
-use Rattle.promises.specs.RationTable.{workOf, stepped, rationTable}
+use Rattle.promises.specs.RationTable.{workOf, asStepped, rationTable}
 use Rattle.demands.proofs.Work.{IdleOrTask, idle-or-task, work-formatting}
 use Rattle.demands.proofs.StartRows.{not-sized, start-one, refused-back}
 use Rattle.demands.proofs.FirstRows.{NoCard, sized?, by-card}
@@ -27,7 +27,7 @@ use Rattle.descent.specs.declared.Slot.the-variants.{At, Absent as NoSlot}
 use Rattle.laws.proofs.Cases.{bool-cases, order}
 use Rattle.state.specs.Answers.{stepReply}
 use Rattle.state.specs.Memory.{Memory, idled, advanced}
-use Rattle.state.specs.Steps.{heldBy, Step, stepRefused, stepFinal, formatStore, stepFormat, stepStore, formatting as formattingThen}
+use Rattle.state.specs.Steps.{heldBy, Step, stepRefused, stepFinal, formatStore, stepFormat, stepStore, formattingFrom as formattingThen}
 use Rattle.state.specs.declared.Task.{Task}
 use Rattle.state.specs.declared.Held.the-variants.{Nothing as NoneHeld, Task as HeldTask}
 use Rattle.state.proofs.Tasks.{TaskOf, putting, taking, put, taken, opened}
@@ -73,13 +73,13 @@ next-final c n free last opened = inl refl
 -- ---- the cases
 
 abbrev pub Works : List ℕ → Memory → Step → Type 0
-Works c m s = Stores rationTable c m (stepped s) ⊎ Answers rationTable c m (stepped s)
+Works c m s = Stores rationTable c m (asStepped s) ⊎ Answers rationTable c m (asStepped s)
 
-pub refused-same : (r : ℕ) (c : List ℕ) (m : Memory) → Refuses rationTable c m (stepped (stepRefused r c m)) r
+pub refused-same : (r : ℕ) (c : List ℕ) (m : Memory) → Refuses rationTable c m (asStepped (stepRefused r c m)) r
 unfolding stepRefused stepReply
 refused-same r c m = record { number-given = refl; same-card = refl; unchanged = refl }
 
-pub final-idle : (a : Answer) (c : List ℕ) (m : Memory) → Final a → Answers rationTable c m (stepped (stepFinal a c m))
+pub final-idle : (a : Answer) (c : List ℕ) (m : Memory) → Final a → Answers rationTable c m (asStepped (stepFinal a c m))
 unfolding stepFinal idled workOf stepReply
 final-idle a c m (inl e) = record { final = inl (ap stepReply e); same-card = refl; idle-then = refl; all-kept = record { nodes-kept = refl; free-kept = refl; last-kept = refl } }
 final-idle a c m (inr (inl (v, e))) = record { final = inr (inl (v, ap stepReply e)); same-card = refl; idle-then = refl; all-kept = record { nodes-kept = refl; free-kept = refl; last-kept = refl } }
@@ -101,12 +101,12 @@ unfolding advanced
 advanced-rest m [] = refl
 advanced-rest m (s ∷ rest) = refl
 
-pub store-inside : (c : List ℕ) (m : Memory) (s : Store) (next : Memory) → next .nodes ≡ m .nodes → workOf (next .doing) ≡ begun (workOf (m .doing)) → s .0 < length c → Stores rationTable c m (stepped (stepStore c m s next))
+pub store-inside : (c : List ℕ) (m : Memory) (s : Store) (next : Memory) → next .nodes ≡ m .nodes → workOf (next .doing) ≡ begun (workOf (m .doing)) → s .0 < length c → Stores rationTable c m (asStepped (stepStore c m s next))
 unfolding stepStore stepReply
 store-inside c m s next en ew o =
     rw (lt-ltb (s .0) (length c) o) (s, o, record { reply-given = refl; one-store = refl; nodes-kept = en; work-then = ew })
 
-pub store-outside : (c : List ℕ) (m : Memory) (s : Store) (next : Memory) → length c ≤ s .0 → Refuses rationTable c m (stepped (stepStore c m s next)) 9
+pub store-outside : (c : List ℕ) (m : Memory) (s : Store) (next : Memory) → length c ≤ s .0 → Refuses rationTable c m (asStepped (stepStore c m s next)) 9
 unfolding stepStore
 store-outside c m s next o = rw (le-ltb (s .0) (length c) o) (refused-same 9 c m)
 
@@ -132,34 +132,34 @@ unfolding stepOf
 step-sized c m s = rw (sized-nodes (length c) (m .nodes) s, ne-eqb (m .nodes) 0 (λ z. omega (arith, z, s .least)), eq-eqb (m .nodes) (m .nodes) refl)
 
 module _ (c : List ℕ) (m : Memory) where
-  pub formatting-rows : workOf (m .doing) ≡ formatting → ByRows (row 1 (NoCard c (m .nodes)) end) (Refuses rationTable c m (stepped (stepOf c m))) (Works c m (stepOf c m))
+  pub formatting-rows : workOf (m .doing) ≡ formatting → ByRows (row 1 (NoCard c (m .nodes)) end) (Refuses rationTable c m (asStepped (stepOf c m))) (Works c m (stepOf c m))
   unfolding ByRows heldBy stepHeld
   formatting-rows q = go (sized? (length c) (m .nodes)) (work-formatting (m .doing) q)
     where
-      go : Dec (Sized (length c) (m .nodes)) → ((made : ℕ) × (m .doing ≡ Formatting made)) → (NoCard c (m .nodes) × Refuses rationTable c m (stepped (stepOf c m)) 1) ⊎ ((NoCard c (m .nodes) → ⊥) × Works c m (stepOf c m))
+      go : Dec (Sized (length c) (m .nodes)) → ((made : ℕ) × (m .doing ≡ Formatting made)) → (NoCard c (m .nodes) × Refuses rationTable c m (asStepped (stepOf c m)) 1) ⊎ ((NoCard c (m .nodes) → ⊥) × Works c m (stepOf c m))
       go (no p) d = inl (p, rw (step-one c m p) (refused-same 1 c m))
       go (yes s) (made, e) = inr (λ p. p s, rw (step-sized c m s ∙ ap (λ (d : Doing). stepHeld c m (heldBy d)) e) (format-cases c m made q (omega (arith, s .words))))
 
   -- 1, 2 and 3, and then 10 where nothing is held, whatever comes after it, or what comes after it where a task is
-  pub idle-rows : heldBy (m .doing) ≡ NoneHeld → workOf (m .doing) ≡ noWork → (rows : Rows) (works : Type 0) → ByRows (cardRows c (m .nodes) (row 10 (Idle rationTable m) rows)) (Refuses rationTable c m (stepped (stepOf c m))) works
+  pub idle-rows : heldBy (m .doing) ≡ NoneHeld → workOf (m .doing) ≡ noWork → (rows : Rows) (works : Type 0) → ByRows (cardRows c (m .nodes) (row 10 (Idle rationTable m) rows)) (Refuses rationTable c m (asStepped (stepOf c m))) works
   unfolding ByRows
   idle-rows e w rows works =
-      by-card (row 10 (Idle rationTable m) rows) (Refuses rationTable c m (stepped (stepOf c m))) works c (m .nodes)
+      by-card (row 10 (Idle rationTable m) rows) (Refuses rationTable c m (asStepped (stepOf c m))) works c (m .nodes)
       (λ p. rw (step-one c m p) (refused-same 1 c m))
       (λ r s k d. rw (step-sized c m s ∙ ap (stepHeld c m) e ∙ idle-unchecked c m r (sym k) d) (refused-same r c m))
       (λ s f. inl (w, rw (step-sized c m s ∙ ap (stepHeld c m) e ∙ idle-refused c m (formatted-header c (m .nodes) f)) (refused-same 10 c m)))
 
   pub task-rows : (task : Task) → heldBy (m .doing) ≡ HeldTask task → (workOf (m .doing) ≡ noWork → ⊥) → (rows : Rows) (works : Type 0)
-      → (Sized (length c) (m .nodes) → stepOf c m ≡ stepTask c m task (m .rest) → ByRows rows (Refuses rationTable c m (stepped (stepOf c m))) works) → ByRows (cardRows c (m .nodes) (row 10 (Idle rationTable m) rows)) (Refuses rationTable c m (stepped (stepOf c m))) works
+      → (Sized (length c) (m .nodes) → stepOf c m ≡ stepTask c m task (m .rest) → ByRows rows (Refuses rationTable c m (asStepped (stepOf c m))) works) → ByRows (cardRows c (m .nodes) (row 10 (Idle rationTable m) rows)) (Refuses rationTable c m (asStepped (stepOf c m))) works
   unfolding ByRows
   task-rows task e w rows works next =
-      by-card (row 10 (Idle rationTable m) rows) (Refuses rationTable c m (stepped (stepOf c m))) works c (m .nodes)
+      by-card (row 10 (Idle rationTable m) rows) (Refuses rationTable c m (asStepped (stepOf c m))) works c (m .nodes)
       (λ p. rw (step-one c m p) (refused-same 1 c m))
       (λ r s k d. rw (step-sized c m s ∙ ap (stepHeld c m) e ∙ task-unchecked c m r (sym k) d task) (refused-same r c m))
       (λ s f. inr (w, next s (step-sized c m s ∙ ap (stepHeld c m) e ∙ task-due c m (formatted-header c (m .nodes) f) task)))
 
 -- with a change in hand
-next-cases : (c : List ℕ) (m : Memory) (x : Store) (rest : List Store) → ByRows (row 9 (length c ≤ x .0) end) (Refuses rationTable c m (stepped (stepStore c m x (advanced m rest)))) (StoresNext rationTable c m (stepped (stepStore c m x (advanced m rest))) x rest)
+next-cases : (c : List ℕ) (m : Memory) (x : Store) (rest : List Store) → ByRows (row 9 (length c ≤ x .0) end) (Refuses rationTable c m (asStepped (stepStore c m x (advanced m rest)))) (StoresNext rationTable c m (asStepped (stepStore c m x (advanced m rest))) x rest)
 unfolding ByRows stepStore stepReply
 next-cases c m x rest =
     order (x .0) (length c)
@@ -167,15 +167,15 @@ next-cases c m x rest =
     (λ o. inl (o, rw (le-ltb (x .0) (length c) o) (refused-same 9 c m)))
 
 pub in-hand-rows : (c : List ℕ) (m : Memory) (x : Store) (rest : List Store) → m .rest ≡ x ∷ rest → (workOf (m .doing) ≡ formatting → ⊥)
-    → ByRows (cardRows c (m .nodes) (row 10 (Idle rationTable m) (row 9 (length c ≤ x .0) end))) (Refuses rationTable c m (stepped (stepOf c m))) (StoresNext rationTable c m (stepped (stepOf c m)) x rest)
+    → ByRows (cardRows c (m .nodes) (row 10 (Idle rationTable m) (row 9 (length c ≤ x .0) end))) (Refuses rationTable c m (asStepped (stepOf c m))) (StoresNext rationTable c m (asStepped (stepOf c m)) x rest)
 unfolding stepTask
 in-hand-rows c m x rest r q = go (idle-or-task (m .doing) q)
   where
-    go : IdleOrTask (m .doing) → ByRows (cardRows c (m .nodes) (row 10 (Idle rationTable m) (row 9 (length c ≤ x .0) end))) (Refuses rationTable c m (stepped (stepOf c m))) (StoresNext rationTable c m (stepped (stepOf c m)) x rest)
-    go (inl (e, w)) = idle-rows c m e w (row 9 (length c ≤ x .0) end) (StoresNext rationTable c m (stepped (stepOf c m)) x rest)
+    go : IdleOrTask (m .doing) → ByRows (cardRows c (m .nodes) (row 10 (Idle rationTable m) (row 9 (length c ≤ x .0) end))) (Refuses rationTable c m (asStepped (stepOf c m))) (StoresNext rationTable c m (asStepped (stepOf c m)) x rest)
+    go (inl (e, w)) = idle-rows c m e w (row 9 (length c ≤ x .0) end) (StoresNext rationTable c m (asStepped (stepOf c m)) x rest)
     go (inr (task, e, w)) =
-        task-rows c m task e w (row 9 (length c ≤ x .0) end) (StoresNext rationTable c m (stepped (stepOf c m)) x rest)
-        (λ s due. subst (λ (y : Step). ByRows (row 9 (length c ≤ x .0) end) (Refuses rationTable c m (stepped y)) (StoresNext rationTable c m (stepped y) x rest)) (sym (due ∙ ap (stepTask c m task) r)) (next-cases c m x rest))
+        task-rows c m task e w (row 9 (length c ≤ x .0) end) (StoresNext rationTable c m (asStepped (stepOf c m)) x rest)
+        (λ s due. subst (λ (y : Step). ByRows (row 9 (length c ≤ x .0) end) (Refuses rationTable c m (asStepped y)) (StoresNext rationTable c m (asStepped y) x rest)) (sym (due ∙ ap (stepTask c m task) r)) (next-cases c m x rest))
 
 -- no card has N = 0
 none-sized : (c : List ℕ) (n : ℕ) → n ≡ 0 → NoCard c n

@@ -54,32 +54,32 @@ writeRows card lent = cardRows card (nodesOn card) (row 12 ((size : ℕ) × Padd
 -- What a call gives back: its reply, and the lent slice as it is afterwards.
 module _ (lent : List ℕ) (result : Reply × List ℕ) where
   -- "A refusal gives its number, stores nothing"
-  pub record Refuses (number : ℕ) : Type 0 where
+  pub record RefusesDump (number : ℕ) : Type 0 where
     pub number-given : result .0 ≡ refusal number
     pub nothing-stored : result .1 ≡ lent
 
   -- "The answer is the result's length in words or bytes; those of the lent slice beyond it are untouched."
-  pub record Gives (size : ℕ) : Type 0 where
+  pub record GivesResult (size : ℕ) : Type 0 where
     pub length-given : result .0 ≡ long size
     pub as-long : length (result .1) ≡ length lent
     pub untouched : (i : ℕ) → size ≤ i → getD (result .1) i 0 ≡ getD lent i 0
 
   pub record Reads (dump : List ℕ) : Type 0 where
-    pub gives : Gives (wordsIn dump)
+    pub gives : GivesResult (wordsIn dump)
     pub words : (i : ℕ) → i < wordsIn dump → getD (result .1) i 0 ≡ wordOf dump i
 
   pub record Writes (card : List ℕ) : Type 0 where
     pub size : ℕ
     pub padded : PaddedLength (length card) size
-    pub gives : Gives size
+    pub gives : GivesResult size
     pub bytes : (i j : ℕ) → i < length card → j < 4 → getD (result .1) (4 * i + j) 0 ≡ byteOf (getD card i 0) j
     pub zeros : (i : ℕ) → 4 * length card ≤ i → i < size → getD (result .1) i 0 ≡ 0
 
 -- Reading takes a dump's bytes and the lent words, writing a card's words and the lent bytes; what is read or written stays as it
 -- is, since neither call gives it back.
 pub record Dumps (read write : List ℕ → List ℕ → Reply × List ℕ) : Type 0 where
-  pub reads : (dump lent : List ℕ) → ByRows (readRows dump (length lent)) (Refuses lent (read dump lent)) (Reads lent (read dump lent) dump)
-  pub writes : (card lent : List ℕ) → ByRows (writeRows card (length lent)) (Refuses lent (write card lent)) (Writes lent (write card lent) card)
+  pub reads : (dump lent : List ℕ) → ByRows (readRows dump (length lent)) (RefusesDump lent (read dump lent)) (Reads lent (read dump lent) dump)
+  pub writes : (card lent : List ℕ) → ByRows (writeRows card (length lent)) (RefusesDump lent (write card lent)) (Writes lent (write card lent) card)
   -- what was written is never refused 11,
   pub undamaged : (card lent : List ℕ) (size : ℕ) → write card lent .0 ≡ long size → Damaged (take size (write card lent .1)) → ⊥
   -- and a card of 32-bit words is read back from it, over any slice that is not shorter

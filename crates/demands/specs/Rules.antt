@@ -56,8 +56,8 @@ abbrev pub written : List NewNode → ℕ → ℕ → List Store
 written nodes link number = nodeStores nodes ++ (link, number) ∷ []
 
 -- "Pairs in new leaves ascend from slot 0; unused words are 0."
-abbrev pub leafOf : ℕ → List (ℕ × ℕ) → NewNode
-leafOf a ps = newNode a 1 (pairKeys ps) (pairValues ps)
+abbrev pub leafHolding : ℕ → List (ℕ × ℕ) → NewNode
+leafHolding a ps = newNode a 1 (pairKeys ps) (pairValues ps)
 
 -- the routing keys and the children of node m
 abbrev pub routes : List ℕ → ℕ → List ℕ
@@ -91,7 +91,7 @@ pub data InsertRule (c : List ℕ) (key value : ℕ) : List ℕ → List ℕ →
       → LinkedAt c link m
       → twelve ≡ sort ((key, value) ∷ leafPairs (nodeAt c m))
       → InsertRule c key value (a ∷ b ∷ d ∷ []) (m ∷ [])
-      (written (leafOf a (take 6 twelve) ∷ leafOf b (drop 6 twelve) ∷ newNode d (kindUnder link) (keyAt 6 twelve ∷ []) (a ∷ b ∷ []) ∷ []) link d)
+      (written (leafHolding a (take 6 twelve) ∷ leafHolding b (drop 6 twelve) ∷ newNode d (kindUnder link) (keyAt 6 twelve ∷ []) (a ∷ b ∷ []) ∷ []) link d)
 
 -- "Delete: key word to 0"; "In a leaf it is at the first slot whose key word equals the key."
 pub data DeleteRule (c : List ℕ) (key : ℕ) : List ℕ → List ℕ → List Store → Type 0 where

@@ -22,7 +22,7 @@ padding dump = drop (4 * wordsFor (dumpNodes dump)) dump
 module _ (eight : List ℕ → ℕ → ℕ) where
   -- "Refusal 11: length 0, not a multiple of 512, or above 57,856; word 1 not 4 to 600; padded length for that N not the dump's; a
   -- padding byte not 0", the last of them by eights
-  pub record Whole (dump : List ℕ) : Type 0 where
+  pub record WholeDump (dump : List ℕ) : Type 0 where
     pub not-empty : length dump ≡ 0 → ⊥
     pub in-blocks : length dump % 512 ≡ 0
     pub not-long : length dump ≤ 57856
@@ -32,8 +32,8 @@ module _ (eight : List ℕ → ℕ → ℕ) where
     pub zeros : (k : ℕ) → 4 * wordsFor (dumpNodes dump) ≤ 8 * k → 8 * k < length dump → eight dump k ≡ 0
 
   -- "Reading a dump checks 11, 12", where so many words are lent
-  abbrev pub readRows : List ℕ → ℕ → Rows
-  readRows dump lent = row 11 (Whole dump → ⊥) (row 12 (lent < wordsFor (dumpNodes dump)) end)
+  abbrev pub readRowsByEights : List ℕ → ℕ → Rows
+  readRowsByEights dump lent = row 11 (WholeDump dump → ⊥) (row 12 (lent < wordsFor (dumpNodes dump)) end)
 
 pub record W202 (eight : List ℕ → ℕ → ℕ) (read : List ℕ → ℕ → Reply) : Type 0 where
   -- "one 64-bit number", of bytes
@@ -41,6 +41,6 @@ pub record W202 (eight : List ℕ → ℕ → ℕ) (read : List ℕ → ℕ → 
   pub exactly : (dump : List ℕ) (k : ℕ) → (eight dump k ≡ 0) ↔ ((i : ℕ) → i < 8 → getD dump (8 * k + i) 0 ≡ 0)
   -- "its length is always a multiple of 32"
   pub in-eights : (n : ℕ) → leastNodes ≤ n → n ≤ greatestNodes → paddingLength n % 32 ≡ 0
-  pub as-long : (dump : List ℕ) → Whole eight dump → length (padding dump) ≡ paddingLength (dumpNodes dump)
+  pub as-long : (dump : List ℕ) → WholeDump eight dump → length (padding dump) ≡ paddingLength (dumpNodes dump)
   -- "Answers and refusals remain what they were."
-  pub reads : (dump : List ℕ) (lent : ℕ) → ByRows (readRows eight dump lent) (λ r. read dump lent ≡ refusal r) (read dump lent ≡ long (wordsFor (dumpNodes dump)))
+  pub reads : (dump : List ℕ) (lent : ℕ) → ByRows (readRowsByEights eight dump lent) (λ r. read dump lent ≡ refusal r) (read dump lent ≡ long (wordsFor (dumpNodes dump)))

@@ -63,12 +63,12 @@ module _ (T : Table) (w : World T) (key : ℕ) (out : List ℕ) where
     pub refused-exactly : (value : ℕ) → (T .insert (w .card) (w .state) key value .reply ≡ refusal 8) ↔ SplitBelow out
 
   -- "a file missing, longer, or without a decimal key .. prints `no key`": the key is then 0
-  abbrev pub Told : Type 0
-  Told = ((key ≡ 0) × (out ≡ noKeyWord ++ lineFeed)) ⊎ ((key ≡ 0 → ⊥) × Tells)
+  abbrev pub TellsOfKey : Type 0
+  TellsOfKey = ((key ≡ 0) × (out ≡ noKeyWord ++ lineFeed)) ⊎ ((key ≡ 0 → ⊥) × Tells)
 
 -- what is printed of a card
 abbrev pub OfCard : (T : Table) → List ℕ → ℕ → List ℕ → Type 0
-OfCard T c key out = ByRows (openRows c) (λ r. out ≡ refusalLine r) (Told T (repairedWorld T c) key out)
+OfCard T c key out = ByRows (openRows c) (λ r. out ≡ refusalLine r) (TellsOfKey T (repairedWorld T c) key out)
 
 -- The bytes of the dump and of the file `key`, none where it is missing, give the bytes printed.
 pub record W209 (T : Table) (text : List ℕ → List ℕ → List ℕ) : Type 0 where

@@ -12,7 +12,7 @@ use Rattle.laws.specs.Lists.{allZero}
 use Rattle.card.specs.Layout.{leastNodes, greatestNodes}
 use Rattle.card.specs.Header.{nodesOfLength, cardRefusal, Sized, Formatted}
 use Rattle.card.proofs.HeaderLaws.{nodes-sized, header-formatted, card-no-length, card-header}
-use Rattle.dump.specs.Dump.{paddedLength, dumpOf, dumpWords, wordsFor, greatestDump, dumpNodes, faults, any, damaged, roomFor, stored, readAnswer, readOver, writeAnswer, writeOver}
+use Rattle.dump.specs.Dump.{paddedLength, dumpOf, dumpWords, wordsFor, greatestDump, dumpNodes, faults, any, damaged, fittingLength, lentAfter, readAnswer, readOver, writeAnswer, writeOver}
 use Rattle.dump.specs.declared.Answer.{Answer}
 use Rattle.dump.specs.declared.Answer.the-variants.{Length, Refused}
 
@@ -129,15 +129,15 @@ good-card card e = go (ℕ-discrete (nodesOfLength (length card)) 0)
     go (yes z) = absurd (omega (arith, card-no-length card _ refl z))
     go (no z) = record { sized = nodes-sized (length card) z; header = header-formatted card _ (sym (card-header card _ refl z) ∙ e) }
 
-pub room-short : (size lent : ℕ) → lent < size → roomFor size lent ≡ Refused 12
-unfolding roomFor
+pub room-short : (size lent : ℕ) → lent < size → fittingLength size lent ≡ Refused 12
+unfolding fittingLength
 room-short size lent h = simp (lt-ltb lent size h)
 
-pub room-long : (size lent : ℕ) → size ≤ lent → roomFor size lent ≡ Length size
-unfolding roomFor
+pub room-long : (size lent : ℕ) → size ≤ lent → fittingLength size lent ≡ Length size
+unfolding fittingLength
 room-long size lent h = simp (le-ltb lent size h)
 
-room-length : (size lent n : ℕ) → roomFor size lent ≡ Length n → (n ≡ size) × (n ≤ lent)
+room-length : (size lent n : ℕ) → fittingLength size lent ≡ Length n → (n ≡ size) × (n ≤ lent)
 room-length size lent n e = go (decLt lent size)
   where
     go : Dec (lent < size) → (n ≡ size) × (n ≤ lent)
@@ -154,14 +154,14 @@ module _ (dump : List ℕ) (lent : ℕ) where
   unfolding readAnswer
   read-damaged h = rw h
 
-  pub read-whole : damaged dump ≡ false → readAnswer dump lent ≡ roomFor (wordsFor (dumpNodes dump)) lent
+  pub read-whole : damaged dump ≡ false → readAnswer dump lent ≡ fittingLength (wordsFor (dumpNodes dump)) lent
   unfolding readAnswer
   read-whole h = rw h
 
 -- what the lent words become, from the answer
-read-stores : (dump words : List ℕ) (a : Answer) → readAnswer dump (length words) ≡ a → readOver dump words ≡ stored a (dumpWords (wordsFor (dumpNodes dump)) dump) words
+read-stores : (dump words : List ℕ) (a : Answer) → readAnswer dump (length words) ≡ a → readOver dump words ≡ lentAfter a (dumpWords (wordsFor (dumpNodes dump)) dump) words
 unfolding readOver
-read-stores dump words a e = ap (λ (x : Answer). stored x (dumpWords (wordsFor (dumpNodes dump)) dump) words) e
+read-stores dump words a e = ap (λ (x : Answer). lentAfter x (dumpWords (wordsFor (dumpNodes dump)) dump) words) e
 
 -- a dump that is read is whole, and its result is a card's length and fits
 pub record Read (dump : List ℕ) (lent n : ℕ) : Type 0 where
@@ -195,14 +195,14 @@ module _ (card : List ℕ) (lent : ℕ) where
   unfolding writeAnswer
   write-refuses r e h = rw (ne-eqb (cardRefusal card) 0 (λ z. h (sym e ∙ z))) (ap Refused e)
 
-  pub write-good : cardRefusal card ≡ 0 → writeAnswer card lent ≡ roomFor (paddedLength (length card)) lent
+  pub write-good : cardRefusal card ≡ 0 → writeAnswer card lent ≡ fittingLength (paddedLength (length card)) lent
   unfolding writeAnswer
   write-good e = simp (eq-eqb (cardRefusal card) 0 e)
 
 -- what the lent bytes become, from the answer
-write-stores : (card bytes : List ℕ) (a : Answer) → writeAnswer card (length bytes) ≡ a → writeOver card bytes ≡ stored a (dumpOf card) bytes
+write-stores : (card bytes : List ℕ) (a : Answer) → writeAnswer card (length bytes) ≡ a → writeOver card bytes ≡ lentAfter a (dumpOf card) bytes
 unfolding writeOver
-write-stores card bytes a e = ap (λ (x : Answer). stored x (dumpOf card) bytes) e
+write-stores card bytes a e = ap (λ (x : Answer). lentAfter x (dumpOf card) bytes) e
 
 -- a card that is written is a formatted one, and its dump fits
 pub record Written (card : List ℕ) (lent n : ℕ) : Type 0 where

@@ -6,7 +6,7 @@ use lib.ListN.{set}
 use Rattle.laws.specs.Lists.{pad}
 use Rattle.card.specs.Layout.{nodeImage}
 use Rattle.card.specs.Header.{nodesOfLength, headerRefusal, cardRefusal}
-use Rattle.dump.specs.Dump.{wordBytes, cardBytes, paddedLength, dumpOf, wordAt, dumpWords, faults, damaged, roomFor, readAnswer, writeAnswer}
+use Rattle.dump.specs.Dump.{wordBytes, cardBytes, paddedLength, dumpOf, wordAt, dumpWords, faults, damaged, fittingLength, readAnswer, writeAnswer}
 use Rattle.dump.specs.declared.Answer.the-variants.{Length, Refused}
 
 -- "words 0 to 4 are 1, 4, 8, 24, 1; word 8 is 1; 9 and 10 are 7, 3; 20 and 21 are 70, 31; others 0"
@@ -15,15 +15,15 @@ example = pad 104 ((1 ∷ 4 ∷ 8 ∷ 24 ∷ 1 ∷ 0 ∷ 0 ∷ 0 ∷ []) ++ node
 
 -- "padded to 512 bytes"
 example-write : writeAnswer example 512 ≡ Length 512
-unfolding example nodeImage writeAnswer cardRefusal headerRefusal nodesOfLength roomFor paddedLength
+unfolding example nodeImage writeAnswer cardRefusal headerRefusal nodesOfLength fittingLength paddedLength
 example-write = refl
 
 example-no-room : writeAnswer example 511 ≡ Refused 12
-unfolding example nodeImage writeAnswer cardRefusal headerRefusal nodesOfLength roomFor paddedLength
+unfolding example nodeImage writeAnswer cardRefusal headerRefusal nodesOfLength fittingLength paddedLength
 example-no-room = refl
 
 example-read : readAnswer (dumpOf example) 104 ≡ Length 104
-unfolding example nodeImage readAnswer damaged faults roomFor dumpOf cardBytes wordBytes wordAt paddedLength
+unfolding example nodeImage readAnswer damaged faults fittingLength dumpOf cardBytes wordBytes wordAt paddedLength
 example-read = refl
 
 example-words : dumpWords 104 (dumpOf example) ≡ example
@@ -32,9 +32,9 @@ example-words = refl
 
 -- a dump is read whatever its mark is, and not with a padding byte that is not 0
 example-mark : readAnswer (set (dumpOf example) 0 0) 104 ≡ Length 104
-unfolding example nodeImage readAnswer damaged faults roomFor dumpOf cardBytes wordBytes wordAt paddedLength
+unfolding example nodeImage readAnswer damaged faults fittingLength dumpOf cardBytes wordBytes wordAt paddedLength
 example-mark = refl
 
 example-padding : readAnswer (set (dumpOf example) 416 1) 104 ≡ Refused 11
-unfolding example nodeImage readAnswer damaged faults roomFor dumpOf cardBytes wordBytes wordAt paddedLength
+unfolding example nodeImage readAnswer damaged faults fittingLength dumpOf cardBytes wordBytes wordAt paddedLength
 example-padding = refl

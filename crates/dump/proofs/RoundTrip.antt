@@ -7,7 +7,7 @@ use lib.ListN.{length, getD, take, drop, replicate}
 use lib.Seq.{take-at, drop-at}
 use Rattle.laws.proofs.Lists.{length-pad, all-zero-replicate}
 use Rattle.card.specs.Header.{nodesOfLength}
-use Rattle.dump.specs.Dump.{wordBytes, cardBytes, paddedLength, dumpOf, wordAt, dumpWords, wordsFor, dumpNodes, roomFor, readAnswer, readOver, writeAnswer, writeOver}
+use Rattle.dump.specs.Dump.{wordBytes, cardBytes, paddedLength, dumpOf, wordAt, dumpWords, wordsFor, dumpNodes, fittingLength, readAnswer, readOver, writeAnswer, writeOver}
 use Rattle.dump.proofs.ByteLaws.{length-cardBytes, get-dumpWords}
 use Rattle.dump.proofs.AnswerLaws.{Whole, Good, padded-covers, whole-undamaged, room-long, read-whole, read-words, write-sized, write-bytes}
 use Rattle.dump.specs.declared.Answer.the-variants.{Length}
@@ -75,5 +75,5 @@ round-trip card bytes words size fits e room =
     ap (take size) (write-bytes card bytes size e) ∙ take-at (dumpOf card) _ size (length-dump card ∙ sym (w .size)) in
     let answered : readAnswer (dumpOf card) (length words) ≡ Length (length card) =
     read-whole _ _ (whole-undamaged (dumpOf card) (dump-whole card fits (w .good)))
-    ∙ ap (λ (k : ℕ). roomFor k (length words)) (words-same card fits (w .good)) ∙ room-long _ _ room in
+    ∙ ap (λ (k : ℕ). fittingLength k (length words)) (words-same card fits (w .good)) ∙ room-long _ _ room in
     rw same (w .good .sized .words, answered, read-words (dumpOf card) words (length card) answered ∙ ap (λ (l : List ℕ). l ++ drop (length card) words) (dump-words card fits))

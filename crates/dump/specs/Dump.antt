@@ -77,30 +77,30 @@ unfoldable pub damaged : List ℕ → Bool
 damaged dump = any (faults dump)
 
 -- "The answer is the result's length in words or bytes"; "12: lent slice shorter than the result"
-unfoldable pub roomFor : ℕ → ℕ → Answer
-roomFor size lent = pick (ltb lent size) (Refused 12) (Length size)
+unfoldable pub fittingLength : ℕ → ℕ → Answer
+fittingLength size lent = pick (ltb lent size) (Refused 12) (Length size)
 
 -- "those of the lent slice beyond it are untouched"; "A refusal .. stores nothing"
-abbrev pub stored : Answer → List ℕ → List ℕ → List ℕ
-stored (Length size) result lent = result ++ drop size lent
-stored (Refused r) result lent = lent
+abbrev pub lentAfter : Answer → List ℕ → List ℕ → List ℕ
+lentAfter (Length size) result lent = result ++ drop size lent
+lentAfter (Refused r) result lent = lent
 
 -- ---- "Reading a dump checks 11, 12"
 
 -- the answer, where so many words are lent
 unfoldable pub readAnswer : List ℕ → ℕ → Answer
-readAnswer dump lent = pick (damaged dump) (Refused 11) (roomFor (wordsFor (dumpNodes dump)) lent)
+readAnswer dump lent = pick (damaged dump) (Refused 11) (fittingLength (wordsFor (dumpNodes dump)) lent)
 
 -- the lent words afterwards
 unfoldable pub readOver : List ℕ → List ℕ → List ℕ
-readOver dump words = stored (readAnswer dump (length words)) (dumpWords (wordsFor (dumpNodes dump)) dump) words
+readOver dump words = lentAfter (readAnswer dump (length words)) (dumpWords (wordsFor (dumpNodes dump)) dump) words
 
 -- ---- "writing one checks 1, 2, 3, 12"
 
 -- the answer, where so many bytes are lent
 unfoldable pub writeAnswer : List ℕ → ℕ → Answer
-writeAnswer card lent = pick (eqb (cardRefusal card) 0) (roomFor (paddedLength (length card)) lent) (Refused (cardRefusal card))
+writeAnswer card lent = pick (eqb (cardRefusal card) 0) (fittingLength (paddedLength (length card)) lent) (Refused (cardRefusal card))
 
 -- the lent bytes afterwards
 unfoldable pub writeOver : List ℕ → List ℕ → List ℕ
-writeOver card bytes = stored (writeAnswer card (length bytes)) (dumpOf card) bytes
+writeOver card bytes = lentAfter (writeAnswer card (length bytes)) (dumpOf card) bytes

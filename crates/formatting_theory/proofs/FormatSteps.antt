@@ -14,7 +14,7 @@ use Rattle.card.specs.Stores.{Store}
 use Rattle.formatting_theory.proofs.FormatCard.{placeOf, formatCard, format-untouched, format-next, format-length}
 use Rattle.formatting_theory.proofs.FormatStores.{some-store}
 use Rattle.free_nodes.specs.NodeSet.{allNodes}
-use Rattle.state.specs.Steps.{heldBy, Handed, noBeginning, Step, stepFinal, formatStore, formatting, stepFormat}
+use Rattle.state.specs.Steps.{heldBy, Handed, noBeginning, Step, stepFinal, formatStore, formattingFrom, stepFormat}
 use Rattle.starting.specs.Starts.{formatOf}
 use Rattle.table.specs.Calls.{stepHeld, stepOf}
 use Rattle.state.specs.Memory.{Memory, resting, idled}
@@ -53,7 +53,7 @@ step-formats card n made free o s e = rw (sized-nodes (length card) n s, ne-eqb 
 
 format-stores : (card : List ℕ) (n made : ℕ) (free : List Bool) (s : Store)
     → stepFormat card (resting n free (Formatting made)) made (some s) ≡ record { answer = Stored (s .0); card = set card (s .0) (s .1); memory = resting n free (Formatting (suc made)) }
-unfolding stepFormat formatting resting
+unfolding stepFormat formattingFrom resting
 format-stores card n made free s = refl
 
 format-ends : (card : List ℕ) (n made : ℕ) (free : List Bool) → stepFormat card (resting n free (Formatting made)) made none ≡ record { answer = Ready; card = card; memory = resting n free Idle }

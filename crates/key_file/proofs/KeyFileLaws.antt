@@ -13,7 +13,7 @@ use borrow.Author.Tests.{eq-eqb, ne-eqb, le-leb, lt-leb, lt-ltb, le-ltb, leb-tru
 use Rattle.laws.specs.Cases.{pick}
 use Rattle.laws.proofs.Cases.{bool-cases, order, and-true}
 use Rattle.card.specs.Layout.{lowestKey, keyLimit}
-use Rattle.key_file.specs.KeyFile.{mostBytes, lineFeed, withoutFinalFeed, hasFeed, lastLine, isDigit, allDigits, decimal, isKeyLine, keyOfLine, keyIn}
+use Rattle.key_file.specs.KeyFile.{mostBytes, lineFeedByte, withoutFinalFeed, hasFeed, lastLine, isDigit, allDigits, decimalValue, isKeyLine, keyOfLine, keyIn}
 
 and-false : (a : Bool) → (a && false) ≡ false
 and-false true = refl
@@ -30,18 +30,18 @@ unfolding withoutFinalFeed
 no-bytes [] h = refl
 no-bytes (byte ∷ bytes) h = absurd (omega arith)
 
-pub final-feed : (file : List ℕ) (last : ℕ) → length file ≡ suc last → getD file last 0 ≡ lineFeed → take last file ≡ withoutFinalFeed file
+pub final-feed : (file : List ℕ) (last : ℕ) → length file ≡ suc last → getD file last 0 ≡ lineFeedByte → take last file ≡ withoutFinalFeed file
 unfolding withoutFinalFeed
 final-feed [] last h e = absurd (omega arith)
-final-feed (byte ∷ []) zero h e = rw (eq-eqb byte lineFeed e)
+final-feed (byte ∷ []) zero h e = rw (eq-eqb byte lineFeedByte e)
 final-feed (byte ∷ []) (suc last) h e = absurd (omega arith)
 final-feed (byte ∷ next ∷ bytes) zero h e = absurd (omega arith)
 final-feed (byte ∷ next ∷ bytes) (suc last) h e = ap (λ (l : List ℕ). byte ∷ l) (final-feed (next ∷ bytes) last (omega arith) e)
 
-pub no-final-feed : (file : List ℕ) (last : ℕ) → length file ≡ suc last → (getD file last 0 ≡ lineFeed → ⊥) → file ≡ withoutFinalFeed file
+pub no-final-feed : (file : List ℕ) (last : ℕ) → length file ≡ suc last → (getD file last 0 ≡ lineFeedByte → ⊥) → file ≡ withoutFinalFeed file
 unfolding withoutFinalFeed
 no-final-feed [] last h d = refl
-no-final-feed (byte ∷ []) zero h d = rw (ne-eqb byte lineFeed d)
+no-final-feed (byte ∷ []) zero h d = rw (ne-eqb byte lineFeedByte d)
 no-final-feed (byte ∷ []) (suc last) h d = absurd (omega arith)
 no-final-feed (byte ∷ next ∷ bytes) zero h d = absurd (omega arith)
 no-final-feed (byte ∷ next ∷ bytes) (suc last) h d = ap (λ (l : List ℕ). byte ∷ l) (no-final-feed (next ∷ bytes) last (omega arith) d)
@@ -53,17 +53,17 @@ unfolding hasFeed
 feed-none text at h = rw (drop-of-length-le text {i = at} h)
 
 -- a byte more before those that hold no line feed
-pub feed-not-here : (text : List ℕ) (place at : ℕ) → at ≡ suc place → at ≤ length text → (getD text place 0 ≡ lineFeed → ⊥) → hasFeed (drop at text) ≡ false → hasFeed (drop place text) ≡ false
+pub feed-not-here : (text : List ℕ) (place at : ℕ) → at ≡ suc place → at ≤ length text → (getD text place 0 ≡ lineFeedByte → ⊥) → hasFeed (drop at text) ≡ false → hasFeed (drop place text) ≡ false
 unfolding hasFeed
 feed-not-here text place at e h d n =
     let after : hasFeed (drop (suc place) text) ≡ false = rw e at n in
-    rw (drop-cons text place 0 (omega arith), ne-eqb (getD text place 0) lineFeed d, after)
+    rw (drop-cons text place 0 (omega arith), ne-eqb (getD text place 0) lineFeedByte d, after)
 
-feed-there : (text : List ℕ) (place : ℕ) → place < length text → getD text place 0 ≡ lineFeed → hasFeed text ≡ true
+feed-there : (text : List ℕ) (place : ℕ) → place < length text → getD text place 0 ≡ lineFeedByte → hasFeed text ≡ true
 unfolding hasFeed
 feed-there [] place h e = absurd (omega arith)
-feed-there (byte ∷ bytes) zero h e = rw (eq-eqb byte lineFeed e)
-feed-there (byte ∷ bytes) (suc place) h e = rw (feed-there bytes place (omega arith) e) (or-right (eqb byte lineFeed))
+feed-there (byte ∷ bytes) zero h e = rw (eq-eqb byte lineFeedByte e)
+feed-there (byte ∷ bytes) (suc place) h e = rw (feed-there bytes place (omega arith) e) (or-right (eqb byte lineFeedByte))
 
 pub line-whole : (text : List ℕ) → hasFeed text ≡ false → text ≡ lastLine text
 unfolding lastLine
@@ -75,12 +75,12 @@ unfolding lastLine
 line-later byte bytes f = rw f
 
 -- after a line feed that none follows
-line-after : (text : List ℕ) (place : ℕ) → place < length text → getD text place 0 ≡ lineFeed → hasFeed (drop (suc place) text) ≡ false → drop (suc place) text ≡ lastLine text
+line-after : (text : List ℕ) (place : ℕ) → place < length text → getD text place 0 ≡ lineFeedByte → hasFeed (drop (suc place) text) ≡ false → drop (suc place) text ≡ lastLine text
 line-after [] place h e n = absurd (omega arith)
 line-after (byte ∷ bytes) zero h e n = line-whole bytes n ∙ line-later byte bytes (feed-there (byte ∷ bytes) 0 h e)
 line-after (byte ∷ bytes) (suc place) h e n = line-after bytes place (omega arith) e n ∙ line-later byte bytes (feed-there (byte ∷ bytes) (suc place) h e)
 
-pub line-starts : (text : List ℕ) (place at : ℕ) → at ≡ suc place → at ≤ length text → getD text place 0 ≡ lineFeed → hasFeed (drop at text) ≡ false → drop at text ≡ lastLine text
+pub line-starts : (text : List ℕ) (place at : ℕ) → at ≡ suc place → at ≤ length text → getD text place 0 ≡ lineFeedByte → hasFeed (drop at text) ≡ false → drop at text ≡ lastLine text
 line-starts text place at e h f n = rw e (line-after text place (omega arith) f (rw e at n))
 
 -- ---- digits
@@ -112,22 +112,22 @@ digits-end line i h = rw (drop-of-length-le line {i = i} h)
 -- ---- the value of digits that follow others, which are worth `value`
 
 abbrev pub continued : ℕ → List ℕ → ℕ
-continued value rest = value * 10 ^ length rest + decimal rest
+continued value rest = value * 10 ^ length rest + decimalValue rest
 
-pub continued-start : (line : List ℕ) → decimal line ≡ continued 0 line
+pub continued-start : (line : List ℕ) → decimalValue line ≡ continued 0 line
 continued-start line = omega (arith, zero-mul (10 ^ length line))
 
 one-digit : (value digit power rest : ℕ) → value * (10 * power) + (digit * power + rest) ≡ (10 * value + digit) * power + rest
 one-digit value digit power rest = omega (arith, add-mul (10 * value) digit power, mul-assoc 10 value power, mul-left-comm value 10 power)
 
 pub continued-next : (line : List ℕ) (i value digit : ℕ) → i < length line → digit ≡ getD line i 0 - 48 → continued value (drop i line) ≡ continued (10 * value + digit) (drop (i + 1) line)
-unfolding decimal
+unfolding decimalValue
 continued-next line i value digit h e =
     let rest = drop (suc i) line in
-    rw (add-one i, drop-cons line i 0 h, pow-succ' 10 (length rest), e) (one-digit value (getD line i 0 - 48) (10 ^ length rest) (decimal rest))
+    rw (add-one i, drop-cons line i 0 h, pow-succ' 10 (length rest), e) (one-digit value (getD line i 0 - 48) (10 ^ length rest) (decimalValue rest))
 
 pub continued-end : (line : List ℕ) (i value : ℕ) → length line ≤ i → continued value (drop i line) ≡ value
-unfolding decimal
+unfolding decimalValue
 continued-end line i value h = rw (drop-of-length-le line {i = i} h) (omega arith)
 
 -- the value only grows
@@ -141,11 +141,11 @@ module _ (line : List ℕ) where
   unfolding keyOfLine isKeyLine
   key-other n = rw n
 
-  pub key-great : keyLimit ≤ decimal line → 0 ≡ keyOfLine line
+  pub key-great : keyLimit ≤ decimalValue line → 0 ≡ keyOfLine line
   unfolding keyOfLine isKeyLine
-  key-great h = rw (le-ltb (decimal line) keyLimit h, and-false (leb lowestKey (decimal line)), and-false (allDigits line))
+  key-great h = rw (le-ltb (decimalValue line) keyLimit h, and-false (leb lowestKey (decimalValue line)), and-false (allDigits line))
 
-  pub key-found : (value : ℕ) → allDigits line ≡ true → decimal line ≡ value → value < keyLimit → value ≡ keyOfLine line
+  pub key-found : (value : ℕ) → allDigits line ≡ true → decimalValue line ≡ value → value < keyLimit → value ≡ keyOfLine line
   unfolding keyOfLine isKeyLine
   key-found value d e h =
       order value lowestKey (λ none. rw (d, e, lt-leb lowestKey value none) (omega arith))
@@ -155,8 +155,8 @@ module _ (line : List ℕ) where
   unfolding keyOfLine isKeyLine
   line-below = go (isKeyLine line) refl
     where
-      go : (b : Bool) → isKeyLine line ≡ b → pick b (decimal line) 0 < keyLimit
-      go true e = ltb-true (decimal line) keyLimit (and-true (leb lowestKey (decimal line)) (ltb (decimal line) keyLimit) (and-true (allDigits line) _ e .1) .1)
+      go : (b : Bool) → isKeyLine line ≡ b → pick b (decimalValue line) 0 < keyLimit
+      go true e = ltb-true (decimalValue line) keyLimit (and-true (leb lowestKey (decimalValue line)) (ltb (decimalValue line) keyLimit) (and-true (allDigits line) _ e .1) .1)
       go false e = omega arith
 
 module _ (file : List ℕ) where

@@ -12,19 +12,19 @@ abbrev pub mostBytes : ℕ
 mostBytes = 64
 
 -- the byte of a line feed
-abbrev pub lineFeed : ℕ
-lineFeed = 10
+abbrev pub lineFeedByte : ℕ
+lineFeedByte = 10
 
 -- "final line feed apart": without the last byte, where that is a line feed
 unfoldable pub withoutFinalFeed : List ℕ → List ℕ
 withoutFinalFeed [] = []
-withoutFinalFeed (byte ∷ []) = pick (eqb byte lineFeed) [] (byte ∷ [])
+withoutFinalFeed (byte ∷ []) = pick (eqb byte lineFeedByte) [] (byte ∷ [])
 withoutFinalFeed (byte ∷ next ∷ bytes) = byte ∷ withoutFinalFeed (next ∷ bytes)
 
 -- whether a line feed is among the bytes
 unfoldable pub hasFeed : List ℕ → Bool
 hasFeed [] = false
-hasFeed (byte ∷ bytes) = eqb byte lineFeed || hasFeed bytes
+hasFeed (byte ∷ bytes) = eqb byte lineFeedByte || hasFeed bytes
 
 -- "the last line": what stands after the last line feed, or all where there is none
 unfoldable pub lastLine : List ℕ → List ℕ
@@ -40,18 +40,18 @@ allDigits [] = true
 allDigits (byte ∷ bytes) = isDigit byte && allDigits bytes
 
 -- "decimal": each digit counts a power of ten, the last one 1, so that leading zeros change nothing
-unfoldable pub decimal : List ℕ → ℕ
-decimal [] = 0
-decimal (byte ∷ bytes) = (byte - 48) * 10 ^ length bytes + decimal bytes
+unfoldable pub decimalValue : List ℕ → ℕ
+decimalValue [] = 0
+decimalValue (byte ∷ bytes) = (byte - 48) * 10 ^ length bytes + decimalValue bytes
 
 -- "a decimal key from 1 to 4,294,967,295 (digits only, leading zeros allowed) as its whole last line"; a line without a byte is
 -- worth 0, which is no key
 unfoldable pub isKeyLine : List ℕ → Bool
-isKeyLine line = allDigits line && (leb lowestKey (decimal line) && ltb (decimal line) keyLimit)
+isKeyLine line = allDigits line && (leb lowestKey (decimalValue line) && ltb (decimalValue line) keyLimit)
 
 -- the key that a line is, or 0, which is no key
 unfoldable pub keyOfLine : List ℕ → ℕ
-keyOfLine line = pick (isKeyLine line) (decimal line) 0
+keyOfLine line = pick (isKeyLine line) (decimalValue line) 0
 
 -- the key of a file, or 0: "a file missing, longer, or without a decimal key .. prints `no key`"
 unfoldable pub keyIn : List ℕ → ℕ

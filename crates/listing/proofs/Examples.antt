@@ -3,7 +3,7 @@ use mathlib.Core.Path.{_≡_, refl}
 use mathlib.Core.List.{[], _∷_}
 use Rattle.card.specs.Header.{nodesOfLength, headerRefusal, cardRefusal}
 use Rattle.card.specs.Layout.{nodeAt, keyWords, valueWords, leafPairs, nodeImage}
-use Rattle.dump.specs.Dump.{wordBytes, cardBytes, paddedLength, dumpOf, wordAt, dumpWords, faults, damaged, roomFor, readAnswer}
+use Rattle.dump.specs.Dump.{wordBytes, cardBytes, paddedLength, dumpOf, wordAt, dumpWords, faults, damaged, fittingLength, readAnswer}
 use Rattle.dump.proofs.Examples.{example}
 use Rattle.free_nodes.specs.NodeSet.{allNodes, countTrue}
 use Rattle.soundness.specs.Check.{member, leafSound, enterLeaf, enterKind, enterNode, onLook, nodeCheck, tableCheck, slotSound}
@@ -15,5 +15,5 @@ use Rattle.listing.specs.Listing.{nodePairs, onCard, pairsFrom, listChec
 
 -- "nodes 4 free 3 levels 0 pairs 2", then "7 70" and "3 31"
 example-listed : listDump (dumpOf example) 104 ≡ listed (record { nodes = 4; free = 3; levels = 0; pairs = (7, 70) ∷ (3, 31) ∷ [] })
-unfolding example nodeImage readAnswer damaged faults roomFor dumpOf cardBytes wordBytes wordAt paddedLength dumpWords listDump listRead listCard listBegun listTable listChecked openedCard repairedCard isIdle openOf openChecked openSound resting cardRefusal headerRefusal nodesOfLength tableCheck nodeCheck onLook enterNode enterKind enterLeaf leafSound slotSound member allNodes countTrue nodeAt keyWords valueWords leafPairs pairsFrom onCard nodePairs
+unfolding example nodeImage readAnswer damaged faults fittingLength dumpOf cardBytes wordBytes wordAt paddedLength dumpWords listDump listRead listCard listBegun listTable listChecked openedCard repairedCard isIdle openOf openChecked openSound resting cardRefusal headerRefusal nodesOfLength tableCheck nodeCheck onLook enterNode enterKind enterLeaf leafSound slotSound member allNodes countTrue nodeAt keyWords valueWords leafPairs pairsFrom onCard nodePairs
 example-listed = refl

@@ -11,7 +11,7 @@ use Rattle.laws.proofs.Cases.{order}
 use Rattle.listing.specs.Listing.{Listed, refused, listed, listDump, Laid, laid, layPair, layPairs, layListed}
 use Rattle.listing.specs.Summaries.{summarized, summaryOf}
 use Rattle.listing.specs.declared.Summary.{Summary}
-use Rattle.printing.specs.Text.{space, firstLine, pairLine, pairLines, listText, pairsIn, told, pairRoom, zeros, handed}
+use Rattle.printing.specs.Text.{space, firstLine, pairLine, pairLines, listText, pairsOfWords, listingTold, pairRoom, zeros, listingHanded}
 use Rattle.repairing.specs.Repairing.{cardRoom}
 use Rattle.text_row.specs.Lines.{decimal, lineFeed, refusalLine}
 use Rattle.text_row.proofs.DecimalLaws.{word-short}
@@ -26,33 +26,33 @@ pair-short key value k v =
 
 -- ---- the pairs in a slice of words
 
-pairs-next : (words : List ℕ) (i : ℕ) → i + 1 < length words → pairsIn (drop i words) ≡ (getD words i 0, getD words (i + 1) 0) ∷ pairsIn (drop (i + 2) words)
-unfolding pairsIn
+pairs-next : (words : List ℕ) (i : ℕ) → i + 1 < length words → pairsOfWords (drop i words) ≡ (getD words i 0, getD words (i + 1) 0) ∷ pairsOfWords (drop (i + 2) words)
+unfolding pairsOfWords
 pairs-next words i h =
     let e : i + 2 ≡ suc (suc i) = omega arith in
     rw (drop-cons words i 0 (omega arith), drop-cons words (suc i) 0 (omega arith), add-one i, e)
 
-pairs-end : (words : List ℕ) (i : ℕ) → length words ≤ i + 1 → pairsIn (drop i words) ≡ []
-unfolding pairsIn
+pairs-end : (words : List ℕ) (i : ℕ) → length words ≤ i + 1 → pairsOfWords (drop i words) ≡ []
+unfolding pairsOfWords
 pairs-end words i h = few (drop i words) (omega (arith, length-drop i words))
   where
-    few : (ws : List ℕ) → length ws ≤ 1 → pairsIn ws ≡ []
+    few : (ws : List ℕ) → length ws ≤ 1 → pairsOfWords ws ≡ []
     few [] l = refl
     few (key ∷ []) l = refl
     few (key ∷ value ∷ ws) l = absurd (omega arith)
 
 pub lines-next : (words : List ℕ) (i at : ℕ) (row : List ℕ) {r : ℕ} {after : List ℕ} → i + 1 < length words → filled r after ≡ fill (pairLine (getD words i 0) (getD words (i + 1) 0)) (filled at row)
-    → fill (pairLines (pairsIn (drop i words))) (filled at row) ≡ fill (pairLines (pairsIn (drop (i + 2) words))) (filled r after)
+    → fill (pairLines (pairsOfWords (drop i words))) (filled at row) ≡ fill (pairLines (pairsOfWords (drop (i + 2) words))) (filled r after)
 unfolding pairLines
 lines-next words i at row h e =
-    rw (pairs-next words i h, e) (fill-append (pairLine (getD words i 0) (getD words (i + 1) 0)) (pairLines (pairsIn (drop (i + 2) words))) (filled at row))
+    rw (pairs-next words i h, e) (fill-append (pairLine (getD words i 0) (getD words (i + 1) 0)) (pairLines (pairsOfWords (drop (i + 2) words))) (filled at row))
 
-pub lines-end : (words : List ℕ) (i at : ℕ) (row : List ℕ) → length words ≤ i + 1 → fill (pairLines (pairsIn (drop i words))) (filled at row) ≡ filled at row
+pub lines-end : (words : List ℕ) (i at : ℕ) (row : List ℕ) → length words ≤ i + 1 → fill (pairLines (pairsOfWords (drop i words))) (filled at row) ≡ filled at row
 unfolding pairLines fill
 lines-end words i at row h = rw (pairs-end words i h)
 
-count-pairs : (words : List ℕ) → length (pairsIn words) ≡ length words / 2
-unfolding pairsIn
+count-pairs : (words : List ℕ) → length (pairsOfWords words) ≡ length words / 2
+unfolding pairsOfWords
 count-pairs [] = omega arith
 count-pairs (key ∷ []) = omega arith
 count-pairs (key ∷ value ∷ words) = omega (arith, count-pairs words)
@@ -84,24 +84,24 @@ words-within (refused number) lent = omega arith
 words-within (listed l) lent = lay-within (l .pairs) (laid 0 lent) (omega arith)
 
 module _ (s : Summary) (words : List ℕ) where
-  pub told-refused : (s .refusal ≡ 0 → ⊥) → refusalLine (s .refusal) ≡ listText (told s words)
-  unfolding told listText
+  pub told-refused : (s .refusal ≡ 0 → ⊥) → refusalLine (s .refusal) ≡ listText (listingTold s words)
+  unfolding listingTold listText
   told-refused d = rw (ne-eqb (s .refusal) 0 d)
 
   pub told-listed : s .refusal ≡ 0 → s .words ≤ length words
-      → firstLine (s .nodes) (s .free) (s .levels) (s .words / 2) ++ pairLines (pairsIn (take (s .words) words)) ≡ listText (told s words)
-  unfolding told listText
+      → firstLine (s .nodes) (s .free) (s .levels) (s .words / 2) ++ pairLines (pairsOfWords (take (s .words) words)) ≡ listText (listingTold s words)
+  unfolding listingTold listText
   told-listed e h =
-      let count : length (pairsIn (take (s .words) words)) ≡ s .words / 2 = count-pairs (take (s .words) words) ∙ ap (λ (n : ℕ). n / 2) (length-take-le (s .words) words h) in
+      let count : length (pairsOfWords (take (s .words) words)) ≡ s .words / 2 = count-pairs (take (s .words) words) ∙ ap (λ (n : ℕ). n / 2) (length-take-le (s .words) words h) in
       rw (eq-eqb (s .refusal) 0 e, count)
 
 -- the call of `listing::list_dump` on rows of zeros
 module _ (dump : List ℕ) (s : Summary) (e : s ≡ summaryOf (listDump dump (length (zeros cardRoom))) (zeros pairRoom)) where
-  pub handed-is : (after : List ℕ) → after ≡ layListed (listDump dump (length (zeros cardRoom))) (zeros pairRoom) .words → told s after ≡ handed dump
-  unfolding handed
+  pub handed-is : (after : List ℕ) → after ≡ layListed (listDump dump (length (zeros cardRoom))) (zeros pairRoom) .words → listingTold s after ≡ listingHanded dump
+  unfolding listingHanded
   handed-is after w =
       let size : length (zeros cardRoom) ≡ cardRoom = length-replicate {A = ℕ} cardRoom 0 in
-      ap₂ told (e ∙ ap (λ (k : ℕ). summaryOf (listDump dump k) (zeros pairRoom)) size) (w ∙ ap (λ (k : ℕ). layListed (listDump dump k) (zeros pairRoom) .words) size)
+      ap₂ listingTold (e ∙ ap (λ (k : ℕ). summaryOf (listDump dump k) (zeros pairRoom)) size) (w ∙ ap (λ (k : ℕ). layListed (listDump dump k) (zeros pairRoom) .words) size)
 
   pub words-fit : s .words ≤ pairRoom
   words-fit = omega (arith, ap (λ (x : Summary). x .words) e, words-within (listDump dump (length (zeros cardRoom))) (zeros pairRoom), length-replicate {A = ℕ} pairRoom 0)

@@ -51,15 +51,15 @@ listText (listed l) = firstLine (l .nodes) (l .free) (l .levels) (length (l .pai
 -- ---- what is printed of a dump
 
 -- the words key, value, key, value .. as pairs
-unfoldable pub pairsIn : List ℕ → List (ℕ × ℕ)
-pairsIn [] = []
-pairsIn (key ∷ []) = []
-pairsIn (key ∷ value ∷ words) = (key, value) ∷ pairsIn words
+unfoldable pub pairsOfWords : List ℕ → List (ℕ × ℕ)
+pairsOfWords [] = []
+pairsOfWords (key ∷ []) = []
+pairsOfWords (key ∷ value ∷ words) = (key, value) ∷ pairsOfWords words
 
 -- the listing that a summary and the words stored for it tell
-unfoldable pub told : Summary → List ℕ → Listed
-told s words =
-    pick (eqb (s .refusal) 0) (listed (record { nodes = s .nodes; free = s .free; levels = s .levels; pairs = pairsIn (take (s .words) words) })) (refused (s .refusal))
+unfoldable pub listingTold : Summary → List ℕ → Listed
+listingTold s words =
+    pick (eqb (s .refusal) 0) (listed (record { nodes = s .nodes; free = s .free; levels = s .levels; pairs = pairsOfWords (take (s .words) words) })) (refused (s .refusal))
 
 -- the words that the pairs of a dump are laid into: key and value of 11 pairs for each of 600 nodes
 abbrev pub pairRoom : ℕ
@@ -69,9 +69,9 @@ abbrev pub zeros : ℕ → List ℕ
 zeros n = replicate n 0
 
 -- the listing of a dump as it is handed to the printing. It is `listDump dump cardRoom`: printing_theory, `handed-whole`
-unfoldable pub handed : List ℕ → Listed
-handed dump = told (summaryOf (listDump dump cardRoom) (zeros pairRoom)) (layListed (listDump dump cardRoom) (zeros pairRoom) .words)
+unfoldable pub listingHanded : List ℕ → Listed
+listingHanded dump = listingTold (summaryOf (listDump dump cardRoom) (zeros pairRoom)) (layListed (listDump dump cardRoom) (zeros pairRoom) .words)
 
 -- the text of a dump. It is `listText (listDump dump cardRoom)`: printing_theory, `text-right`
 unfoldable pub dumpText : List ℕ → List ℕ
-dumpText dump = listText (handed dump)
+dumpText dump = listText (listingHanded dump)

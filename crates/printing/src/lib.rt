@@ -10,7 +10,7 @@ ghost use mathlib.Core.Path.{_≡_};
 ghost use mathlib.Core.List.{_++_};
 ghost use Prim.Native.Nat.{_+_, _*_, _/_, _≤_};
 ghost use lib.ListN.{length, drop};
-ghost use Rattle.printing.specs.Text.{firstLine, pairLine, pairLines, pairsIn, dumpText};
+ghost use Rattle.printing.specs.Text.{firstLine, pairLine, pairLines, pairsOfWords, dumpText};
 ghost use Rattle.text_row.specs.Filling.{filled, fill};
 
 // Room for the longest text: 6,600 pairs, those of 600 leaves, on lines of at most 22 bytes, and a first line with four numbers
@@ -48,7 +48,7 @@ fn put_pair(text: &mut [u8], at: usize, key: u32, value: u32) -> usize
 // "Then key and value": the pairs in the words.
 fn put_pairs(text: &mut [u8], at: usize, words: &[u32]) -> usize
     requires { ⌜ at + 11 * length (now words) ≤ length (now text) ⌝ }
-    ensures { λ r. ⌜ filled r (now (text .exit)) ≡ fill (pairLines (pairsIn (now (words .entry)))) (filled at (now (text .entry))) ⌝ }
+    ensures { λ r. ⌜ filled r (now (text .exit)) ≡ fill (pairLines (pairsOfWords (now (words .entry)))) (filled at (now (text .entry))) ⌝ }
     ensures { λ r. ⌜ r ≤ length (now (text .entry)) ⌝ }
 {
     let mut next = at;

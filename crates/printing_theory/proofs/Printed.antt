@@ -13,7 +13,7 @@ use borrow.Author.Tests.{ne-eqb, eq-eqb}
 use Rattle.laws.proofs.Cases.{bool-cases}
 use Rattle.card.specs.Header.{nodesOfLength, cardRefusal}
 use Rattle.card.specs.Layout.{greatestNodes}
-use Rattle.dump.specs.Dump.{dumpWords, wordsFor, dumpNodes, damaged, roomFor, readAnswer}
+use Rattle.dump.specs.Dump.{dumpWords, wordsFor, dumpNodes, damaged, fittingLength, readAnswer}
 use Rattle.dump.specs.declared.Answer.{Answer}
 use Rattle.dump.specs.declared.Answer.the-variants.{Length, Refused as ReadRefused}
 use Rattle.free_nodes.specs.NodeSet.{countTrue}
@@ -22,7 +22,7 @@ use Rattle.listing.specs.Summaries.{summarized, summaryOf}
 use Rattle.listing.proofs.SummaryLaws.{card-refused, dump-refused, dump-read}
 use Rattle.listing_theory.proofs.Right.{listing-right}
 use Rattle.listing_theory.proofs.Room.{pairWords, all-laid}
-use Rattle.printing.specs.Text.{listText, pairsIn, told, pairRoom, zeros, handed, dumpText}
+use Rattle.printing.specs.Text.{listText, pairsOfWords, listingTold, pairRoom, zeros, listingHanded, dumpText}
 use Rattle.promises.proofs.Accepting.{accepted-table, opens-unrefused}
 use Rattle.repairing.specs.Repairing.{cardRoom}
 use Rattle.soundness.specs.Check.{Findings, tableCheck}
@@ -38,8 +38,8 @@ abbrev Fits : Listed → Type 0
 Fits (refused number) = number ≡ 0 → ⊥
 Fits (listed l) = length (l .pairs) ≤ 11 * greatestNodes
 
-words-pairs : (ps : List (ℕ × ℕ)) → pairsIn (pairWords ps) ≡ ps
-unfolding pairsIn
+words-pairs : (ps : List (ℕ × ℕ)) → pairsOfWords (pairWords ps) ≡ ps
+unfolding pairsOfWords
 words-pairs [] = refl
 words-pairs (p ∷ ps) = ap (λ (l : List (ℕ × ℕ)). p ∷ l) (words-pairs ps)
 
@@ -47,8 +47,8 @@ length-words : (ps : List (ℕ × ℕ)) → length (pairWords ps) ≡ 2 * length
 length-words [] = refl
 length-words (p ∷ ps) = omega (arith, length-words ps)
 
-told-whole : (l : Listed) (words : List ℕ) → 22 * greatestNodes ≤ length words → Fits l → told (summaryOf l words) (layListed l words .words) ≡ l
-unfolding told summaryOf summarized layListed
+told-whole : (l : Listed) (words : List ℕ) → 22 * greatestNodes ≤ length words → Fits l → listingTold (summaryOf l words) (layListed l words .words) ≡ l
+unfolding listingTold summaryOf summarized layListed
 told-whole (refused number) words h f = rw (ne-eqb number 0 f)
 told-whole (listed l) words h f =
     let n = 2 * length (l .pairs) in
@@ -58,7 +58,7 @@ told-whole (listed l) words h f =
 -- ---- every listing is one
 
 read-number : (dump : List ℕ) (lent number : ℕ) → readAnswer dump lent ≡ ReadRefused number → number ≡ 0 → ⊥
-unfolding readAnswer roomFor
+unfolding readAnswer fittingLength
 read-number dump lent number e z =
     bool-cases (damaged dump) (λ q. let k : ReadRefused 11 ≡ ReadRefused number = rw q at e in let w : _≡_ {A = ℕ} 11 0 = cc in omega arith)
     (λ q. bool-cases (ltb lent (wordsFor (dumpNodes dump)))
@@ -112,8 +112,8 @@ dump-fits dump lent = go (readAnswer dump lent) refl
 -- ---- the text
 
 -- what is handed to the printing is the listing of the dump
-pub handed-whole : (dump : List ℕ) → handed dump ≡ listDump dump cardRoom
-unfolding handed
+pub handed-whole : (dump : List ℕ) → listingHanded dump ≡ listDump dump cardRoom
+unfolding listingHanded
 handed-whole dump = told-whole (listDump dump cardRoom) (zeros pairRoom) (omega (arith, length-replicate {A = ℕ} pairRoom 0)) (dump-fits dump cardRoom)
 
 -- the text that `printing::list_text` is proved to make is that of the listing

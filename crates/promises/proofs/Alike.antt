@@ -36,7 +36,7 @@ use Rattle.promises.proofs.Stepping.{right-final, Moves, kept-step, was
 use Rattle.promises.proofs.Steps.{memory}
 use Rattle.shapes.proofs.Bare.{bare, bare-pairs, bare-size}
 use Rattle.shapes.proofs.Need.{leafNeed, needOf, need-leaf}
-use Rattle.starting.specs.Starts.{insertOf, deleteOf, started, startRefused}
+use Rattle.starting.specs.Starts.{insertOf, deleteOf, startAccepted, startRefused}
 use Rattle.starting.proofs.StartLaws.{started-no-refusal}
 use Rattle.state.specs.Steps.{Handed, isIdle}
 use Rattle.state.specs.declared.Answer.{Answer}
@@ -191,13 +191,13 @@ module _ (n steps : ℕ) (w : World rationTable) (b : Book) (i : Inv n steps w b
 
   -- an update starts, or is refused 8
   pub start-decided : (u : Update) → lowestKey ≤ keyOf u → keyOf u < keyLimit → (r : Bool) → refuses n u t ≡ r → starts u w ≡ pick r (BegunRefused 8) Started
-  unfolding refuses insertOf deleteOf started startRefused
+  unfolding refuses insertOf deleteOf startAccepted startRefused
   start-decided (put key value) low high r e =
       let d = room-decides n steps w b i key (Inserting key value false) (startRoom (w .card) key (w .state .free)) idle low high in
       let q : startRoom (w .card) key (w .state .free) (landing (w .card) (w .state .nodes) key) ≡ not r = room-by-tree key value low high ∙ ap not e in
-      ap (λ (x : Handed). x .begun) (d ∙ ap (λ (x : Bool). pick x (started (w .state) (Inserting key value false)) (startRefused 8 (w .state))) q) ∙ at r
+      ap (λ (x : Handed). x .begun) (d ∙ ap (λ (x : Bool). pick x (startAccepted (w .state) (Inserting key value false)) (startRefused 8 (w .state))) q) ∙ at r
     where
-      at : (r : Bool) → pick (not r) (started (w .state) (Inserting key value false)) (startRefused 8 (w .state)) .begun ≡ pick r (BegunRefused 8) Started
+      at : (r : Bool) → pick (not r) (startAccepted (w .state) (Inserting key value false)) (startRefused 8 (w .state)) .begun ≡ pick r (BegunRefused 8) Started
       at true = refl
       at false = refl
   start-decided (remove key) low high true e = impossible (cc)

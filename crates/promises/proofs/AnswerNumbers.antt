@@ -22,7 +22,7 @@ use Rattle.card.specs.Layout.{nodeAt}
 use Rattle.laws.proofs.Cases.{bool-cases}
 use Rattle.opening.specs.Opening.{openSound, openChecked, openOf}
 use Rattle.soundness.specs.Check.{Findings, tableCheck}
-use Rattle.starting.specs.Starts.{startRefused, started, startLanded, startChecked, startOf}
+use Rattle.starting.specs.Starts.{startRefused, startAccepted, startLanded, startChecked, startOf}
 use Rattle.state.specs.Memory.{Memory}
 use Rattle.state.specs.Steps.{isIdle, noBeginning}
 use Rattle.state.specs.declared.Begun.{Begun}
@@ -61,7 +61,7 @@ unfolding openOf noBeginning
 open-small c = bool-cases (eqb (cardRefusal c) 0) (λ q. rw q (checked-small (nodesOfLength (length c)) (tableCheck c (nodesOfLength (length c))))) (λ q. rw q (card-small c))
 
 landed-small : (m : Memory) (doing : Doing) (room : Bool) (l : Landing) → SmallBegun (startLanded m doing room l .begun)
-unfolding startLanded startRefused started
+unfolding startLanded startRefused startAccepted
 landed-small m doing room NoLanding = omega arith
 landed-small m doing true (LandingAt node link run) = tt
 landed-small m doing false (LandingAt node link run) = omega arith

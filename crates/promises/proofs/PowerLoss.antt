@@ -11,7 +11,7 @@ use lib.Dec.{eqb}
 use Rattle.card.specs.Replies.{refusal, ready, stored, started as startedReply}
 use Rattle.state.specs.Answers.{stepReply, startReply}
 use Rattle.state.specs.Steps.{noBeginning, isIdle, stepRefused, formatStore}
-use Rattle.starting.specs.Starts.{formatOf, startRefused, started, startLanded, startChecked, startOf, insertOf, deleteOf}
+use Rattle.starting.specs.Starts.{formatOf, startRefused, startAccepted, startLanded, startChecked, startOf, insertOf, deleteOf}
 use Rattle.table.specs.Calls.{stepOf, repairSteps}
 use Rattle.state.specs.Memory.{Memory, resting}
 use Rattle.updates.specs.Updates.{landing, startRoom}
@@ -57,13 +57,13 @@ use Rattle.descent.specs.declared.Landing.the-variants.{Refused as NoLanding, L
 -- ---- a refused start changes nothing
 
 start-landed-unchanged : (m : Memory) (doing : Doing) (room : Bool) (x : Landing) (r : ℕ) → startLanded m doing room x .begun ≡ BegunRefused r → startLanded m doing room x .memory ≡ m
-unfolding startLanded startRefused started
+unfolding startLanded startRefused startAccepted
 start-landed-unchanged m doing room NoLanding r e = refl
 start-landed-unchanged m doing true (LandingAt number link run) r e = impossible (cc)
 start-landed-unchanged m doing false (LandingAt number link run) r e = refl
 
 start-unchanged : (c : List ℕ) (m : Memory) (key : ℕ) (doing : Doing) (room : Landing → Bool) (r : ℕ) → startOf c m key doing room .begun ≡ BegunRefused r → startOf c m key doing room .memory ≡ m
-unfolding startOf startChecked startRefused started
+unfolding startOf startChecked startRefused startAccepted
 start-unchanged c m key doing room r e =
     bool-cases (eqb (nodesOfLength (length c)) 0) (λ q. rw q) (λ q.
     bool-cases (eqb (nodesOfLength (length c)) (m .nodes)) (λ q₁.

@@ -3,7 +3,7 @@ use mathlib.Core.Path.{_≡_, ap, _∙_}
 use mathlib.Core.Bool.{Bool, true, false}
 use Prim.Native.Nat.{ℕ, _≤_, _<_}
 use Rattle.state.specs.Steps.{Handed}
-use Rattle.starting.specs.Starts.{startRefused, started, insertOf}
+use Rattle.starting.specs.Starts.{startRefused, startAccepted, insertOf}
 use Rattle.updates.specs.Updates.{full, landing, insertReason, splitNeed, startRoom}
 use Rattle.state.specs.declared.Doing.the-variants.{Idle, Inserting}
 use Rattle.state.specs.declared.Begun.the-variants.{Started}
@@ -30,7 +30,7 @@ module _ {n steps : ℕ} {w : World rationTable} {b : Book} (i : Inv n steps w b
   module _ (idle : w .state .doing ≡ Idle) (value : ℕ) where
     -- an insert's start, by its room
     insert-decided : (r : Bool) → startRoom (w .card) key (w .state .free) (landing (w .card) (w .state .nodes) key) ≡ r
-        → insertOf (w .card) (w .state) key value ≡ pick r (started (w .state) (Inserting key value false)) (startRefused 8 (w .state))
+        → insertOf (w .card) (w .state) key value ≡ pick r (startAccepted (w .state) (Inserting key value false)) (startRefused 8 (w .state))
     unfolding insertOf
     insert-decided r e = room-decides n steps w b i key (Inserting key value false) (startRoom (w .card) key (w .state .free)) idle low high ∙ rw e
 

@@ -6,7 +6,7 @@ use Prim.Native.Nat.{ℕ, _≤_, _<_}
 use borrow.Author.Tests.{lt-ltb, le-ltb}
 use Rattle.card.specs.Layout.{nodeAt}
 use Rattle.free_nodes.specs.NodeSet.{countTrue}
-use Rattle.starting.specs.Starts.{started}
+use Rattle.starting.specs.Starts.{startAccepted}
 use Rattle.state.specs.Memory.{Memory}
 use Rattle.updates.specs.Updates.{Reason, held, slot, full, landing, insertReason, splitNeed, roomFor, startRoom}
 use Rattle.state.specs.declared.Doing.{Doing}
@@ -31,6 +31,6 @@ room-other free j (held v) e = refl
 room-other free j (slot i) e = refl
 room-other free j full e = absurd (e refl)
 
-pub begun-started : (m : Memory) (doing : Doing) → started m doing .begun ≡ Started
-unfolding started
+pub begun-started : (m : Memory) (doing : Doing) → startAccepted m doing .begun ≡ Started
+unfolding startAccepted
 begun-started m doing = refl

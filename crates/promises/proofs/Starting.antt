@@ -27,7 +27,7 @@ use Rattle.promises.proofs.Reopen.{table-well-formed, table-depth-limit
 use Rattle.promises.proofs.Steps.{memory, job-busy}
 use Rattle.soundness_theory.proofs.Level.{same-height}
 use Rattle.state.specs.Steps.{Handed, isIdle}
-use Rattle.starting.specs.Starts.{startRefused, started, startLanded, startChecked, startOf, insertOf, deleteOf}
+use Rattle.starting.specs.Starts.{startRefused, startAccepted, startLanded, startChecked, startOf, insertOf, deleteOf}
 use Rattle.state.specs.Memory.{Memory}
 use Rattle.updates.specs.Updates.{landing, startRoom}
 use Rattle.state.specs.declared.Doing.{Doing}
@@ -64,7 +64,7 @@ unfolding startChecked
 start-zero c m key doing room e z = rw (e, eq-eqb key 0 z)
 
 start-landed : (c : List ℕ) (m : Memory) (key : ℕ) (doing : Doing) (room : Landing → Bool) (number link run : ℕ) → isIdle (m .doing) ≡ true → (key ≡ 0 → ⊥) → landing c (m .nodes) key ≡ LandingAt number link run
-    → startChecked c m key doing room ≡ pick (room (landing c (m .nodes) key)) (started m doing) (startRefused 8 m)
+    → startChecked c m key doing room ≡ pick (room (landing c (m .nodes) key)) (startAccepted m doing) (startRefused 8 m)
 unfolding startChecked startLanded
 start-landed c m key doing room number link run e z l = rw (e, ne-eqb key 0 z) (ap (startLanded m doing (room (landing c (m .nodes) key))) l)
 
@@ -136,8 +136,8 @@ module _ {n steps : ℕ} {w : World rationTable} {b : Book} (i : Inv n steps w b
 
 -- started: the update is in hand, and its answer by the map is due
 put-started : {n steps : ℕ} (w : World rationTable) (b : Book) (i : Inv n steps w b) (free : List Bool) (last key value : ℕ) → w .state ≡ memory n free last Idle [] [] → tableViolations (i .tree) ≡ 0 → 3 ≤ countTrue free → Exact n free (i .tree) → bare (i .tree) ≡ i .goal → lowestKey ≤ key → key < keyLimit
-    → startRoom (w .card) key (w .state .free) (landing (w .card) (w .state .nodes) key) ≡ true → Goal i (put key value) (started (w .state) (Inserting key value false))
-unfolding started startReply outcome feed fedStart isIdle
+    → startRoom (w .card) key (w .state .free) (landing (w .card) (w .state .nodes) key) ≡ true → Goal i (put key value) (startAccepted (w .state) (Inserting key value false))
+unfolding startAccepted startReply outcome feed fedStart isIdle
 put-started {n} w b i free last key value em z r x eg low high q =
     let q′ : startRoom (w .card) key free (landing (w .card) n key) ≡ true = rw em at q in (
       mostSteps i,
@@ -146,8 +146,8 @@ put-started {n} w b i free last key value em z r x eg low high q =
     )
 
 remove-started : {n steps : ℕ} (w : World rationTable) (b : Book) (i : Inv n steps w b) (free : List Bool) (last key : ℕ) → w .state ≡ memory n free last Idle [] [] → tableViolations (i .tree) ≡ 0 → 3 ≤ countTrue free → Exact n free (i .tree) → bare (i .tree) ≡ i .goal → lowestKey ≤ key → key < keyLimit
-    → Goal i (remove key) (started (w .state) (Deleting key false 0))
-unfolding started startReply outcome feed fedStart isIdle
+    → Goal i (remove key) (startAccepted (w .state) (Deleting key false 0))
+unfolding startAccepted startReply outcome feed fedStart isIdle
 remove-started w b i free last key em z r x eg low high = (
   mostSteps i,
   record { tree = i .tree; goal = afterShape (remove key) (i .goal); due = dictionaryAnswer (lookup key (pairs (i .tree))); table = i .table; openable = i .openable; same = i .same; stage = rw em (stage-remove {free = free} {last = last} z r x low high (enough-steps i) (ap (afterShape (remove key)) eg)) },
@@ -170,11 +170,11 @@ module _ (n steps : ℕ) (w : World rationTable) (b : Book) (i : Inv n steps w b
 
   -- on an idle state nothing but the room decides
   pub room-decides : (key : ℕ) (doing : Doing) (room : Landing → Bool) → w .state .doing ≡ Idle → lowestKey ≤ key → key < keyLimit
-      → startOf (w .card) (w .state) key doing room ≡ pick (room (landing (w .card) (w .state .nodes) key)) (started (w .state) doing) (startRefused 8 (w .state))
+      → startOf (w .card) (w .state) key doing room ≡ pick (room (landing (w .card) (w .state .nodes) key)) (startAccepted (w .state) doing) (startRefused 8 (w .state))
   room-decides key doing room idle low high = let g = lands key low high in passed key doing room ∙ start-landed (w .card) (w .state) key doing room (g .0) (g .1) (g .2) (is-idle idle) (omega arith) (g .3)
 
   start-with : (key : ℕ) (doing : Doing) (room : Landing → Bool) (u : Update) → key < keyLimit
-      → ((free : List Bool) (last : ℕ) → w .state ≡ memory n free last Idle [] [] → tableViolations (i .tree) ≡ 0 → 3 ≤ countTrue free → Exact n free (i .tree) → bare (i .tree) ≡ i .goal → lowestKey ≤ key → room (landing (w .card) (w .state .nodes) key) ≡ true → Goal i u (started (w .state) doing))
+      → ((free : List Bool) (last : ℕ) → w .state ≡ memory n free last Idle [] [] → tableViolations (i .tree) ≡ 0 → 3 ≤ countTrue free → Exact n free (i .tree) → bare (i .tree) ≡ i .goal → lowestKey ≤ key → room (landing (w .card) (w .state .nodes) key) ≡ true → Goal i u (startAccepted (w .state) doing))
       → Goal i u (startOf (w .card) (w .state) key doing room)
   start-with key doing room u high begin = go (idle-or-busy (i .stage) .1)
     where

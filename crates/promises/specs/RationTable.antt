@@ -23,8 +23,8 @@ workOf (Repairing key) = repairing key
 abbrev pub handed : Begun → Handed Memory
 handed h = record { reply = startReply (h .begun); state = h .memory }
 
-abbrev pub stepped : Step → Stepped Memory
-stepped s = record { reply = stepReply (s .answer); card = s .card; state = s .memory }
+abbrev pub asStepped : Step → Stepped Memory
+asStepped s = record { reply = stepReply (s .answer); card = s .card; state = s .memory }
 
 abbrev pub rationTable : Table
 rationTable =
@@ -40,5 +40,5 @@ rationTable =
       openCard = λ c. handed (openOf c);
       insert = λ c m key value. handed (insertOf c m key value);
       delete = λ c m key. handed (deleteOf c m key);
-      step = λ c m. stepped (stepOf c m);
+      step = λ c m. asStepped (stepOf c m);
     }

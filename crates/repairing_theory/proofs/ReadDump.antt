@@ -4,7 +4,7 @@ use mathlib.Core.List.{List}
 use Prim.Native.Nat.{ℕ, _^_, _≤_, _<_}
 use lib.ListN.{length, getD}
 use Rattle.dump.proofs.AnswerLaws.{Good, read-whole, whole-undamaged, room-long}
-use Rattle.dump.specs.Dump.{wordsFor, dumpOf, roomFor, readAnswer}
+use Rattle.dump.specs.Dump.{wordsFor, dumpOf, fittingLength, readAnswer}
 use Rattle.dump.proofs.RoundTrip.{dump-nodes, dump-whole}
 use Rattle.dump.specs.declared.Answer.the-variants.{Length}
 use Rattle.promises.proofs.Accepting.{accepted-card}
@@ -15,4 +15,4 @@ pub dump-answered : (c : List ℕ) → Opens rationTable c → ((i : ℕ) → ge
 dump-answered c a fits lent room =
     let k = accepted-card c a in
     let good : Good c = record { sized = k .1; header = k .2 } in
-    read-whole (dumpOf c) lent (whole-undamaged (dumpOf c) (dump-whole c fits good)) ∙ ap (λ (size : ℕ). roomFor size lent) (ap wordsFor (dump-nodes c fits good) ∙ sym (k .1 .words)) ∙ room-long (length c) lent room
+    read-whole (dumpOf c) lent (whole-undamaged (dumpOf c) (dump-whole c fits good)) ∙ ap (λ (size : ℕ). fittingLength size lent) (ap wordsFor (dump-nodes c fits good) ∙ sym (k .1 .words)) ∙ room-long (length c) lent room

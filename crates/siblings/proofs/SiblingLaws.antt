@@ -26,7 +26,7 @@ use Rattle.change_rows.proofs.PairLaws.{none-in, insert-all-append, gathered-ke
 use Rattle.change_rows.proofs.HalfLaws.{keys-leaf, keys-inner, keys-most}
 use Rattle.plans.proofs.NumberLaws.{three-numbers}
 use Rattle.plans.specs.Change.{Together, leavesTogether, innersTogether, copied}
-use Rattle.siblings.specs.Siblings.{togetherAt, Holds}
+use Rattle.siblings.specs.Siblings.{togetherAt, HoldsTogether}
 use Rattle.siblings.specs.declared.together.Held.{Held}
 
 -- ---- the rows
@@ -48,7 +48,7 @@ module _ (x y : List ℕ) where
       → length (leafPairs x) + length (leafPairs y) ≤ 12
       → Gathered keys₁ beside₁ m (length (leafPairs y) + 0) (insertAll (leafPairs y) (pairsIn z z′ 0))
       → Gathered keys beside n (length (leafPairs x) + m) (insertAll (leafPairs x) (pairsIn keys₁ beside₁ m))
-      → Holds (record { kind = 1; keys = n; values = n }) keys beside (leavesTogether x y)
+      → HoldsTogether (record { kind = 1; keys = n; values = n }) keys beside (leavesTogether x y)
   unfolding leavesTogether
   leaves-held z z′ keys₁ beside₁ keys beside m n lk lv room g h =
       let all : Gathered keys beside n (length (leafPairs x) + m) (sort (leafPairs x ++ leafPairs y)) =
@@ -69,7 +69,7 @@ module _ (x y : List ℕ) where
         → (a ≡ 0 + length rx) × (take a one ≡ take 0 keys₀ ++ rx) → (b ≡ a + 1) × (take b two ≡ take a one ++ between ∷ [])
         → (k ≡ b + length ry) × (take k keys ≡ take b two ++ ry)
         → (d ≡ 0 + length cx) × (take d first ≡ take 0 beside₀ ++ cx) → (n ≡ d + length cy) × (take n beside ≡ take d first ++ cy)
-        → Holds (record { kind = 2; keys = k; values = n }) keys beside (innersTogether x between y)
+        → HoldsTogether (record { kind = 2; keys = k; values = n }) keys beside (innersTogether x between y)
     unfolding innersTogether
     inners-held ex ey fx fy lx ly px py room ra rb rk rd rn =
         let count : n ≡ length (children x) + length (children y) = omega (arith, rn .0, rd .0, ap length fx, ap length fy) in
@@ -85,12 +85,12 @@ module _ (x y : List ℕ) where
         }
 
 -- what is held, named in another way
-pub held-as : (r : Held) (keys beside : List ℕ) {x y : Together} → x ≡ y → Holds r keys beside x → Holds r keys beside y
-held-as r keys beside e h = subst (Holds r keys beside) e h
+pub held-as : (r : Held) (keys beside : List ℕ) {x y : Together} → x ≡ y → HoldsTogether r keys beside x → HoldsTogether r keys beside y
+held-as r keys beside e h = subst (HoldsTogether r keys beside) e h
 
 -- ---- what is held, as the code cuts it out
 
-module _ (r : Held) (keys beside : List ℕ) (both : Together) (h : Holds r keys beside both) where
+module _ (r : Held) (keys beside : List ℕ) (both : Together) (h : HoldsTogether r keys beside both) where
   keys-cut : take (r .keys - 0) keys ≡ both .keys
   keys-cut = take-start (r .keys) keys ∙ h .keys-held
 

@@ -32,7 +32,7 @@ abbrev pub mergeRootAt : List ℕ → Position → List ℕ → Change
 mergeRootAt card p = λ ms. mergeRoot p (parentAt card p) (leftSibling p) (togetherAt card p) (first ms)
 
 -- what the first words of two rows hold, of which kind, with as many keys as go with the values
-pub record Holds (r : Held) (keys beside : List ℕ) (both : Together) : Type 0 where
+pub record HoldsTogether (r : Held) (keys beside : List ℕ) (both : Together) : Type 0 where
   pub kind : r .kind ≡ both .kind
   pub few : r .values ≤ 12
   pub keyed : r .keys ≡ keysFor (r .kind) (r .values)

@@ -12,7 +12,7 @@ ghost use lib.ListN.{length};
 ghost use Rattle.card.specs.Layout.{children, leafPairs};
 ghost use Rattle.change_decide.specs.Places.{SiblingsAt};
 ghost use Rattle.plans.specs.Change.{leavesTogether, innersTogether};
-ghost use Rattle.siblings.specs.Siblings.{Holds, togetherAt};
+ghost use Rattle.siblings.specs.Siblings.{HoldsTogether, togetherAt};
 
 // The kind of the two, and how many words of the rows are theirs.
 pub struct Held {
@@ -25,7 +25,7 @@ pub struct Held {
 fn gather_leaves(x: &[u32], y: &[u32], keys: &mut [u32], beside: &mut [u32]) -> Held
     requires { ⌜ (length (now x) ≡ 24) × (length (now y) ≡ 24) × (length (leafPairs (now x)) + length (leafPairs (now y)) ≤ 12)
         × (length (now keys) ≡ 12) × (length (now beside) ≡ 12) ⌝ }
-    ensures { λ r. ⌜ Holds r (now (keys .exit)) (now (beside .exit)) (leavesTogether (now (x .entry)) (now (y .entry))) ⌝ }
+    ensures { λ r. ⌜ HoldsTogether r (now (keys .exit)) (now (beside .exit)) (leavesTogether (now (x .entry)) (now (y .entry))) ⌝ }
 {
     let right = insert_leaf(keys, beside, 0, y);
     let all = insert_leaf(keys, beside, right, x);
@@ -40,7 +40,7 @@ fn gather_leaves(x: &[u32], y: &[u32], keys: &mut [u32], beside: &mut [u32]) -> 
 fn gather_inners(x: &[u32], between: u32, y: &[u32], keys: &mut [u32], beside: &mut [u32]) -> Held
     requires { ⌜ (length (now x) ≡ 24) × (length (now y) ≡ 24) × (0 < length (children (now x))) × (0 < length (children (now y)))
         × (length (children (now x)) + length (children (now y)) ≤ 12) × (length (now keys) ≡ 12) × (length (now beside) ≡ 12) ⌝ }
-    ensures { λ r. ⌜ Holds r (now (keys .exit)) (now (beside .exit)) (innersTogether (now (x .entry)) between (now (y .entry))) ⌝ }
+    ensures { λ r. ⌜ HoldsTogether r (now (keys .exit)) (now (beside .exit)) (innersTogether (now (x .entry)) between (now (y .entry))) ⌝ }
 {
     let left = append(keys, 0, routing_keys(x));
     let more = push(keys, left, between);
@@ -57,7 +57,7 @@ fn gather_inners(x: &[u32], between: u32, y: &[u32], keys: &mut [u32], beside: &
 // The two siblings at a position, by their kind.
 pub fn gather_siblings(card: &[u32], p: Position, keys: &mut [u32], beside: &mut [u32]) -> Held
     requires { ⌜ SiblingsAt (now card) p × (length (now keys) ≡ 12) × (length (now beside) ≡ 12) ⌝ }
-    ensures { λ r. ⌜ Holds r (now (keys .exit)) (now (beside .exit)) (togetherAt (now (card .entry)) p) ⌝ }
+    ensures { λ r. ⌜ HoldsTogether r (now (keys .exit)) (now (beside .exit)) (togetherAt (now (card .entry)) p) ⌝ }
 {
     let parent = card::node_at(card, p.parent);
     let j = left_sibling(p);

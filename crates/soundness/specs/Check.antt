@@ -156,6 +156,6 @@ unfoldable pub tableCheck : List ℕ → ℕ → Option (ℕ × Findings)
 tableCheck card n = nodeCheck depthLimit card n 0 true lowestKey keyLimit (getD card rootPlace 0) (record { free = allNodes n; violated = false; key = 0; run = 0 })
 
 -- the same as the code holds it
-unfoldable pub endOf : RangeEnd → Option ℕ
-endOf Wrong = none
-endOf (At end) = some end
+unfoldable pub rangeEndOf : RangeEnd → Option ℕ
+rangeEndOf Wrong = none
+rangeEndOf (At end) = some end

@@ -12,7 +12,7 @@ ghost use lib.ListN.{length, drop};
 ghost use lib.Dec.{eqb};
 ghost use Rattle.free_nodes.specs.NodeSet.{wordCount, nodesOf};
 ghost use Rattle.card.specs.Layout.{greatestNodes, depthLimit, children, routingKeys, runBelow};
-ghost use Rattle.soundness.specs.Check.{Findings, findingsOf, checkedOf, heightOf, raised, childrenCheck, nodeCheck, tableCheck, rangeEnd, endOf};
+ghost use Rattle.soundness.specs.Check.{Findings, findingsOf, checkedOf, heightOf, raised, childrenCheck, nodeCheck, tableCheck, rangeEnd, rangeEndOf};
 
 // What was learnt so far is lent: the nodes not reached, and three words of findings: whether a violation was met, a key that leads
 // to it, and how many 11-child nodes stand without a break straight above it where it is a tagged node. So no check copies it.
@@ -78,7 +78,7 @@ enum RangeEnd {
 // child, or `high` for the last. Wrong where that key does not rise above `from` or is not below `high`.
 fn range_end(node: &[u32], c: usize, i: usize, from: u32, high: u64) -> RangeEnd
     requires { ⌜ (length (now node) ≡ 24) × (c ≡ length (children (now node))) × (i < c) ⌝ }
-    ensures { λ r. ⌜ endOf r ≡ rangeEnd from high (drop i (routingKeys (now (node .entry)))) ⌝ }
+    ensures { λ r. ⌜ rangeEndOf r ≡ rangeEnd from high (drop i (routingKeys (now (node .entry)))) ⌝ }
 {
     if c <= i + 1 {
         return RangeEnd::At(high);

@@ -16,7 +16,7 @@ use Rattle.free_nodes.specs.NodeSet.{allNodes, countTrue}
 use Rattle.laws.proofs.Cases.{order, impossible}
 use Rattle.laws.specs.Cases.{pick}
 use Rattle.state.specs.Steps.{Handed, isIdle, noBeginning}
-use Rattle.starting.specs.Starts.{formatOf, startRefused, started, startLanded, startChecked, startOf}
+use Rattle.starting.specs.Starts.{formatOf, startRefused, startAccepted, startLanded, startChecked, startOf}
 use Rattle.state.specs.Memory.{Memory, resting}
 use Rattle.starting.specs.Refusals.{isSlot, startRefusal, landingRefusal, dueRefusal, begunBy}
 use Rattle.updates.specs.Updates.{landing, emptyReason, reasonIn, insertReason, splitNeed, roomFor}
@@ -114,7 +114,7 @@ module _ (card : List ℕ) (m : Memory) (key : ℕ) (doing : Doing) (room : Land
   start-due =
       by-cases (ℕ-discrete (startRefusal card (m .nodes) (isIdle (m .doing)) key) 0)
       (λ z. start-taken z ∙ landed-due m doing (room (landing card (m .nodes) key)) (landing card (m .nodes) key) ∙ sym (ap (λ (r : ℕ). begunBy r m doing) (due-landing card (m .nodes) (isIdle (m .doing)) key room z)))
-      (λ p. start-refused p ∙ sym (ap (λ (r : ℕ). begunBy r m doing) (due-early card (m .nodes) (isIdle (m .doing)) key room p) ∙ ap (λ (b : Bool). pick b (started m doing) (startRefused (startRefusal card (m .nodes) (isIdle (m .doing)) key) m)) (ne-eqb (startRefusal card (m .nodes) (isIdle (m .doing)) key) 0 p)))
+      (λ p. start-refused p ∙ sym (ap (λ (r : ℕ). begunBy r m doing) (due-early card (m .nodes) (isIdle (m .doing)) key room p) ∙ ap (λ (b : Bool). pick b (startAccepted m doing) (startRefused (startRefusal card (m .nodes) (isIdle (m .doing)) key) m)) (ne-eqb (startRefusal card (m .nodes) (isIdle (m .doing)) key) 0 p)))
 
 pub start-sized : (card : List ℕ) (nodes : ℕ) (idle : Bool) (key : ℕ) → startRefusal card nodes idle key ≡ 0 → Sized (length card) nodes
 start-sized card nodes idle key r =
@@ -178,7 +178,7 @@ module _ (block : List ℕ) (l : length block ≡ stateWords) (doing : Doing) (r
       rw (ne-eqb refusal 0 p) (record { answered = λ k. refl; handed = λ k. refl; words = λ k. refl; no-state = λ n. absurd (n l) })
 
   pub started-in : (after : List ℕ) → formatted doing ≡ 0 → refusal ≡ 0 → after ≡ begunBlock block doing → StartCall block after Started doing (begunBy refusal (memoryIn block) doing)
-  unfolding started startedBlock withDoing
+  unfolding startAccepted startedBlock withDoing
   started-in after f z e =
       rw (eq-eqb refusal 0 z) (record { answered = λ k. refl; handed = λ k. ap memoryIn e ∙ memory-begun block doing (omega arith) (omega arith); words = λ k. e; no-state = λ n. absurd (n l) })
 

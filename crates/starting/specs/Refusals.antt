@@ -9,7 +9,7 @@ use Rattle.laws.specs.Cases.{pick}
 use Rattle.state.specs.Steps.{Handed}
 use Rattle.state.specs.Memory.{Memory}
 use Rattle.updates.specs.Updates.{landing, startRoom}
-use Rattle.starting.specs.Starts.{startRefused, started}
+use Rattle.starting.specs.Starts.{startRefused, startAccepted}
 use Rattle.descent.specs.declared.Landing.{Landing}
 use Rattle.descent.specs.declared.Landing.the-variants.{Refused as NoLanding, Leaf as LandingAt}
 use Rattle.descent.specs.declared.Slot.{Slot}
@@ -45,4 +45,4 @@ dueRefusal card nodes idle key room =
 
 -- what starting an update hands back, by the refusal that is due
 abbrev pub begunBy : ℕ → Memory → Doing → Handed
-begunBy refusal m doing = pick (eqb refusal 0) (started m doing) (startRefused refusal m)
+begunBy refusal m doing = pick (eqb refusal 0) (startAccepted m doing) (startRefused refusal m)

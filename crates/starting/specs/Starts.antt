@@ -26,13 +26,13 @@ formatOf card =
 unfoldable pub startRefused : ℕ → Memory → Handed
 startRefused r m = record { begun = BegunRefused r; memory = m }
 
-unfoldable pub started : Memory → Doing → Handed
-started m doing = record { begun = Started; memory = record { nodes = m .nodes; free = m .free; last = m .last; doing = doing; rest = m .rest; cut = m .cut } }
+unfoldable pub startAccepted : Memory → Doing → Handed
+startAccepted m doing = record { begun = Started; memory = record { nodes = m .nodes; free = m .free; last = m .last; doing = doing; rest = m .rest; cut = m .cut } }
 
 -- "9: node number 0 or above N, kind not 1 to 3, no children, or more than 10 internal nodes"
 unfoldable pub startLanded : Memory → Doing → Bool → Landing → Handed
 startLanded m doing room NoLanding = startRefused 9 m
-startLanded m doing room (LandingAt node link run) = pick room (started m doing) (startRefused 8 m)
+startLanded m doing room (LandingAt node link run) = pick room (startAccepted m doing) (startRefused 8 m)
 
 -- "8: key absent, leaf full, free nodes fewer than j + 5"; an update that is no insert always has room
 unfoldable pub startChecked : List ℕ → Memory → ℕ → Doing → (Landing → Bool) → Handed

@@ -18,7 +18,7 @@ use Rattle.laws.proofs.Cases.{order, impossible}
 use Rattle.laws.specs.Lists.{beforeZero}
 use Rattle.state.specs.Steps.{Step, stepRefused, formattedWord, formatStore, stepStore}
 use Rattle.state.specs.Memory.{Memory, memoryOf, advanced}
-use Rattle.state.specs.Results.{stepLeft, more}
+use Rattle.state.specs.Results.{stepLeft, moreToStore}
 use Rattle.state.specs.declared.Stepped.{Stepped}
 use Rattle.state.specs.declared.Answer.{Answer}
 use Rattle.state.specs.declared.Answer.the-variants.{Stored, Ready, Refused}
@@ -60,22 +60,22 @@ module _ (p : Plan) (k : ℕ) (lp : length (p .places) ≡ 73) (lv : length (p .
       zip-drop k (take (p .count) (p .places)) (take (p .count) (p .values))
       ∙ ap (λ (x : List ℕ). zip x (drop k (take (p .count) (p .values)))) (drop-of-length-le (take (p .count) (p .places)) {i = k} (simp length-take (omega arith)))
 
-  pub more-full : 73 ≤ k → more (drop k (storesOf p)) ≡ false
-  unfolding more
-  more-full h = ap more (stores-full h)
+  pub more-full : 73 ≤ k → moreToStore (drop k (storesOf p)) ≡ false
+  unfolding moreToStore
+  more-full h = ap moreToStore (stores-full h)
 
-  pub more-test : k < 73 → more (drop k (storesOf p)) ≡ ltb k (p .count)
-  unfolding more
-  more-test l = order k (p .count) (λ o. ap more (store-at o l) ∙ sym (lt-ltb k (p .count) o)) (λ o. ap more (stores-end o) ∙ sym (le-ltb k (p .count) o))
+  pub more-test : k < 73 → moreToStore (drop k (storesOf p)) ≡ ltb k (p .count)
+  unfolding moreToStore
+  more-test l = order k (p .count) (λ o. ap moreToStore (store-at o l) ∙ sym (lt-ltb k (p .count) o)) (λ o. ap moreToStore (stores-end o) ∙ sym (le-ltb k (p .count) o))
 
   -- a store is to come exactly where it is below both ends
-  pub more-below : more (drop k (storesOf p)) ≡ true → (k < p .count) × (k < 73)
+  pub more-below : moreToStore (drop k (storesOf p)) ≡ true → (k < p .count) × (k < 73)
   more-below e =
       order k 73 (λ l. (ltb-true k (p .count) (sym (more-test l) ∙ e), l))
       (λ o. let z : false ≡ true = sym (more-full o) ∙ e in impossible (cc))
 
-pub more-none : (ss : List Store) → more ss ≡ false → ss ≡ []
-unfolding more
+pub more-none : (ss : List Store) → moreToStore ss ≡ false → ss ≡ []
+unfolding moreToStore
 more-none [] e = refl
 more-none (s ∷ rest) e = impossible (cc)
 

@@ -24,6 +24,6 @@ abbrev pub Final : Answer → Type 0
 Final a = (n : ℕ) → a ≡ Refused n → ⊥
 
 -- whether a store of the change in hand is still to come
-unfoldable pub more : List Store → Bool
-more [] = false
-more (s ∷ rest) = true
+unfoldable pub moreToStore : List Store → Bool
+moreToStore [] = false
+moreToStore (s ∷ rest) = true

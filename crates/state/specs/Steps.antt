@@ -68,12 +68,12 @@ unfoldable pub formatStore : ℕ → ℕ → ℕ → Option Store
 formatStore n len made =
     pick (eqb made 0) (some (0, 0)) (pick (ltb made len) (some (made, formattedWord n made)) (pick (eqb made len) (some (0, 1)) none))
 
-unfoldable pub formatting : Memory → ℕ → Memory
-formatting m made = record { nodes = m .nodes; free = m .free; last = m .last; doing = Formatting made; rest = m .rest; cut = m .cut }
+unfoldable pub formattingFrom : Memory → ℕ → Memory
+formattingFrom m made = record { nodes = m .nodes; free = m .free; last = m .last; doing = Formatting made; rest = m .rest; cut = m .cut }
 
 unfoldable pub stepFormat : List ℕ → Memory → ℕ → Option Store → Step
 stepFormat card m made none = stepFinal Ready card m
-stepFormat card m made (some s) = record { answer = Stored (s .0); card = set card (s .0) (s .1); memory = formatting m (suc made) }
+stepFormat card m made (some s) = record { answer = Stored (s .0); card = set card (s .0) (s .1); memory = formattingFrom m (suc made) }
 
 -- one store; "or its store is outside the card": refused, the state is handed back, and stored, the next one is
 unfoldable pub stepStore : List ℕ → Memory → Store → Memory → Step

@@ -10,7 +10,7 @@ ghost use lib.ListN.{length};
 ghost use Rattle.card.specs.Layout.{greatestNodes};
 ghost use Rattle.card.specs.Header.{Sized};
 ghost use Rattle.state.specs.Memory.{memoryOf};
-ghost use Rattle.state.specs.Steps.{formattedWord, formatStore, formatting, stepFormat};
+ghost use Rattle.state.specs.Steps.{formattedWord, formatStore, formattingFrom, stepFormat};
 ghost use Rattle.state.specs.Results.{stepLeft, Unchanged};
 ghost use Rattle.state.specs.declared.Answer.the-variants.{Stored};
 
@@ -32,7 +32,7 @@ fn formatted_word(n: usize, i: usize) -> u32
 // One store more was made, in this place.
 fn formatting(s: State, made: usize, place: u32) -> Stepped
     requires { ⌜ made ≤ 8 + 24 * greatestNodes ⌝ }
-    ensures { λ r. ⌜ (r .answer ≡ Stored place) × (memoryOf (r .state) ≡ formatting (memoryOf s) (suc made)) ⌝ }
+    ensures { λ r. ⌜ (r .answer ≡ Stored place) × (memoryOf (r .state) ≡ formattingFrom (memoryOf s) (suc made)) ⌝ }
 {
     let state = State {
         doing: Doing::Formatting { made: made + 1 },

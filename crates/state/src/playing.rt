@@ -14,14 +14,14 @@ ghost use Rattle.plans.specs.Planning.{withAll};
 ghost use Rattle.plans.specs.Plan.{storesOf};
 ghost use Rattle.state.specs.Memory.{memoryOf, advanced};
 ghost use Rattle.state.specs.Steps.{stepStore};
-ghost use Rattle.state.specs.Results.{stepLeft, Unchanged, more};
+ghost use Rattle.state.specs.Results.{stepLeft, Unchanged, moreToStore};
 
 // How many stores a plan has room for: "So a change is at most 73 stores."
 const PLAN_SIZE: usize = 73;
 
 // Whether a store of a plan is still to come after so many. A state may hold any numbers, so both ends are looked at.
 pub fn in_hand(plan: Plan, made: usize) -> bool
-    ensures { λ r. ⌜ r ≡ more (drop made (storesOf plan)) ⌝ }
+    ensures { λ r. ⌜ r ≡ moreToStore (drop made (storesOf plan)) ⌝ }
 {
     if PLAN_SIZE <= made {
         return false;
@@ -80,7 +80,7 @@ fn advance(s: State) -> State
 // The next store of the plan of `planned`, which has one; "or its store is outside the card": refused, and `s` is handed back.
 // The place is looked at before the store, so that a refusal stores nothing.
 pub fn store_next(card: &mut [u32], s: State, planned: State) -> Stepped
-    requires { ⌜ more (memoryOf planned .rest) ≡ true ⌝ }
+    requires { ⌜ moreToStore (memoryOf planned .rest) ≡ true ⌝ }
     ensures { λ r. ⌜ stepLeft (now (card .exit)) r ≡ stepStore (now (card .entry)) (memoryOf s) (getD (memoryOf planned .rest) 0 (0, 0)) (advanced (memoryOf planned) (drop 1 (memoryOf planned .rest))) ⌝ }
     ensures { λ r. ⌜ Unchanged s r ⌝ }
 {

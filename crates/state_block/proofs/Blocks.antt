@@ -18,7 +18,7 @@ use Rattle.state.specs.Memory.{memoryOf, resting, noMemory}
 use Rattle.state.specs.Steps.{isIdle}
 use Rattle.state.specs.declared.Doing.{Doing}
 use Rattle.state.specs.declared.Doing.the-variants.{Idle, Formatting, Inserting, Deleting, Repairing}
-use Rattle.state_block.specs.Block.{stateWords, word, part, doingIn, unpacked, memoryIn, doingWords, formatted}
+use Rattle.state_block.specs.Block.{stateWords, blockWord, part, doingIn, unpacked, memoryIn, doingWords, formatted}
 use Rattle.state_block.specs.Blocks.{over, begunBlock, numberOf, wordsOf, restingWords, restingBlock}
 use Rattle.state_block.specs.InPlace.{withDoing}
 use Rattle.state_block.proofs.Rows.{placed, placed-length, placed-part}
@@ -110,13 +110,13 @@ kind-idle (suc (suc (suc (suc (suc what))))) a b c p =
     lt-ltb 4 w (omega arith) ∙ sym (simp (ne-eqb w 1 (λ z. omega arith), ne-eqb w 2 (λ z. omega arith), ne-eqb w 3 (λ z. omega arith), ne-eqb w 4 (λ z. omega arith)))
 
 module _ (block : List ℕ) where
-  pub idle-none : word block 2 ≡ 0 → true ≡ isIdle (memoryIn block .doing)
+  pub idle-none : blockWord block 2 ≡ 0 → true ≡ isIdle (memoryIn block .doing)
   unfolding memoryOf unpacked doingIn isIdle
-  idle-none e = ap (λ (what : ℕ). isIdle (doingIn what (word block 3) (word block 4) (word block 5))) (sym e)
+  idle-none e = ap (λ (what : ℕ). isIdle (doingIn what (blockWord block 3) (blockWord block 4) (blockWord block 5))) (sym e)
 
-  pub idle-other : (word block 2 ≡ 0 → ⊥) → ltb 4 (word block 2) ≡ isIdle (memoryIn block .doing)
+  pub idle-other : (blockWord block 2 ≡ 0 → ⊥) → ltb 4 (blockWord block 2) ≡ isIdle (memoryIn block .doing)
   unfolding memoryOf unpacked
-  idle-other p = kind-idle (word block 2) (word block 3) (word block 4) (word block 5) p
+  idle-other p = kind-idle (blockWord block 2) (blockWord block 3) (blockWord block 4) (blockWord block 5) p
 
 -- ---- the words of the free nodes
 

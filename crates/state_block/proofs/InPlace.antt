@@ -12,9 +12,9 @@ use Rattle.free_nodes.proofs.NodeSetLaws.{length-nodes}
 use Rattle.card.specs.Stores.{Store}
 use Rattle.plans.specs.Plan.{storesOf}
 use Rattle.state.specs.Memory.{Memory, memoryOf}
-use Rattle.state.specs.Steps.{formatting}
+use Rattle.state.specs.Steps.{formattingFrom}
 use Rattle.state.specs.declared.Doing.{Doing}
-use Rattle.state_block.specs.Block.{stateWords, word, part, doingIn, unpacked, memoryIn}
+use Rattle.state_block.specs.Block.{stateWords, blockWord, part, doingIn, unpacked, memoryIn}
 use Rattle.state_block.proofs.Rows.{placed, placed-length, placed-before, placed-after, placed-part, same-part}
 use Rattle.state_block.proofs.RoundTrip.{stateFrom, same-state}
 use Rattle.state_block.specs.InPlace.{withFree, withCut}
@@ -25,7 +25,7 @@ withRest m rest = record { nodes = m .nodes; free = m .free; last = m .last; doi
 -- ---- a store elsewhere
 
 module _ (block : List ℕ) (i v : ℕ) where
-  word-other : (j : ℕ) → (j ≡ i → ⊥) → word (set block i v) j ≡ word block j
+  word-other : (j : ℕ) → (j ≡ i → ⊥) → blockWord (set block i v) j ≡ blockWord block j
   word-other j h = getD-set-other block i j v 0 h
 
   part-above : (from n : ℕ) → i < from → part (set block i v) from n ≡ part block from n
@@ -39,7 +39,7 @@ module _ (block : List ℕ) (i v : ℕ) where
   abbrev after : List ℕ
   after = set block i v
 
-  rows-stay : i < 8 → {nodes last count made : ℕ} {doing : Doing} → word after 0 ≡ nodes → word after 1 ≡ last → doingIn (word after 2) (word after 3) (word after 4) (word after 5) ≡ doing → word after 7 ≡ count → word after 6 ≡ made
+  rows-stay : i < 8 → {nodes last count made : ℕ} {doing : Doing} → blockWord after 0 ≡ nodes → blockWord after 1 ≡ last → doingIn (blockWord after 2) (blockWord after 3) (blockWord after 4) (blockWord after 5) ≡ doing → blockWord after 7 ≡ count → blockWord after 6 ≡ made
       → unpacked after ≡ stateFrom nodes (part block 11 20) last doing (part block 31 73) (part block 104 73) count made (part block 8 3)
   unfolding unpacked stateFrom
   rows-stay h nodes last doing count made =
@@ -47,9 +47,9 @@ module _ (block : List ℕ) (i v : ℕ) where
       same-state nodes (stays 11 20 (omega arith)) last doing (stays 31 73 (omega arith)) (stays 104 73 (omega arith)) count made (stays 8 3 (omega arith))
 
 -- the state of a block whose numbers are those of another
-numbers-stay : (block after : List ℕ) → ((j : ℕ) → j < 8 → word after j ≡ word block j)
+numbers-stay : (block after : List ℕ) → ((j : ℕ) → j < 8 → blockWord after j ≡ blockWord block j)
     → {free places values cut : List ℕ} → part after 11 20 ≡ free → part after 31 73 ≡ places → part after 104 73 ≡ values → part after 8 3 ≡ cut
-    → unpacked after ≡ stateFrom (word block 0) free (word block 1) (doingIn (word block 2) (word block 3) (word block 4) (word block 5)) places values (word block 7) (word block 6) cut
+    → unpacked after ≡ stateFrom (blockWord block 0) free (blockWord block 1) (doingIn (blockWord block 2) (blockWord block 3) (blockWord block 4) (blockWord block 5)) places values (blockWord block 7) (blockWord block 6) cut
 unfolding unpacked stateFrom
 numbers-stay block after stays free places values cut =
     same-state (stays 0 (omega arith)) free (stays 1 (omega arith))
@@ -61,17 +61,17 @@ numbers-stay block after stays free places values cut =
 pub memory-made : (block : List ℕ) (v : ℕ) → length block ≡ stateWords → memoryIn (set block 6 v) ≡ withRest (memoryIn block) (drop v (storesOf (unpacked block .plan)))
 unfolding unpacked stateFrom memoryOf withRest
 memory-made block v l =
-    let stays : (j : ℕ) → (j ≡ 6 → ⊥) → word (set block 6 v) j ≡ word block j = word-other block 6 v in
+    let stays : (j : ℕ) → (j ≡ 6 → ⊥) → blockWord (set block 6 v) j ≡ blockWord block j = word-other block 6 v in
     ap memoryOf
     (rows-stay block 6 v (omega arith) (stays 0 (λ e. omega arith)) (stays 1 (λ e. omega arith))
     (same-doing (stays 2 (λ e. omega arith)) (stays 3 (λ e. omega arith)) (stays 4 (λ e. omega arith)) (stays 5 (λ e. omega arith)))
     (stays 7 (λ e. omega arith)) (getD-set-same block 6 v 0 (omega arith)))
 
 -- the same while formatting
-pub memory-formatting : (block : List ℕ) (v : ℕ) → length block ≡ stateWords → word block 2 ≡ 1 → memoryIn (set block 3 v) ≡ formatting (memoryIn block) v
-unfolding unpacked stateFrom memoryOf formatting doingIn
+pub memory-formatting : (block : List ℕ) (v : ℕ) → length block ≡ stateWords → blockWord block 2 ≡ 1 → memoryIn (set block 3 v) ≡ formattingFrom (memoryIn block) v
+unfolding unpacked stateFrom memoryOf formattingFrom doingIn
 memory-formatting block v l e =
-    let stays : (j : ℕ) → (j ≡ 3 → ⊥) → word (set block 3 v) j ≡ word block j = word-other block 3 v in
+    let stays : (j : ℕ) → (j ≡ 3 → ⊥) → blockWord (set block 3 v) j ≡ blockWord block j = word-other block 3 v in
     ap memoryOf
     (rows-stay block 3 v (omega arith) (stays 0 (λ z. omega arith)) (stays 1 (λ z. omega arith))
     (same-doing (stays 2 (λ z. omega arith) ∙ e) (getD-set-same block 3 v 0 (omega arith)) (stays 4 (λ z. omega arith)) (stays 5 (λ z. omega arith)))
@@ -94,7 +94,7 @@ memory-cleared block l =
     let one : List ℕ = set block 8 0 in
     let two : List ℕ = set one 9 0 in
     let all : List ℕ = set two 10 0 in
-    let first : word all 8 ≡ 0 = word-other two 10 0 8 (λ z. omega arith) ∙ word-other one 9 0 8 (λ z. omega arith) ∙ getD-set-same block 8 0 0 (omega arith) in
+    let first : blockWord all 8 ≡ 0 = word-other two 10 0 8 (λ z. omega arith) ∙ word-other one 9 0 8 (λ z. omega arith) ∙ getD-set-same block 8 0 0 (omega arith) in
     let long : 8 < length all = omega (arith, length-set two 10 0, length-set one 9 0, length-set block 8 0) in
     let none : beforeZero (part all 8 3) ≡ [] = ap (λ (x : List ℕ). beforeZero (take 3 x)) (drop-cons all 8 0 long) ∙ ap (λ (x : ℕ). beforeZero (x ∷ take 2 (drop 9 all))) first in
     memory-cut two 10 0 (omega arith) (omega arith)
@@ -108,13 +108,13 @@ module _ (block row : List ℕ) (l : length block ≡ stateWords) (lr : length r
   abbrev anew : List ℕ
   anew = placed 11 20 block row
 
-  part-stays : (from n : ℕ) → ((j : ℕ) → from ≤ j → j < from + n → word anew j ≡ word block j) → part anew from n ≡ part block from n
+  part-stays : (from n : ℕ) → ((j : ℕ) → from ≤ j → j < from + n → blockWord anew j ≡ blockWord block j) → part anew from n ≡ part block from n
   part-stays from n = same-part anew block from n (placed-length block row 11 20 lr (omega arith))
 
-  before : (j : ℕ) → j < 11 → word anew j ≡ word block j
+  before : (j : ℕ) → j < 11 → blockWord anew j ≡ blockWord block j
   before = placed-before block row 11 20 lr (omega arith)
 
-  after-it : (j : ℕ) → 31 ≤ j → word anew j ≡ word block j
+  after-it : (j : ℕ) → 31 ≤ j → blockWord anew j ≡ blockWord block j
   after-it = placed-after block row 11 20 lr (omega arith)
 
   pub cut-kept : part anew 8 3 ≡ part block 8 3

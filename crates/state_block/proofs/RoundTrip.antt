@@ -19,7 +19,7 @@ use Rattle.state.specs.declared.State.{State}
 use Rattle.state.specs.declared.Doing.{Doing}
 use Rattle.state.specs.declared.Doing.the-variants.{Idle, Formatting, Inserting, Deleting, Repairing}
 use Rattle.state_block.proofs.Rows.{placed, placed-all}
-use Rattle.state_block.specs.Block.{stateWords, word, part, isTrue, doingIn, unpacked, narrow, doingWords, numberWords, packed, formatted, Small, Kept}
+use Rattle.state_block.specs.Block.{stateWords, blockWord, part, isTrue, doingIn, unpacked, narrow, doingWords, numberWords, packed, formatted, Small, Kept}
 
 -- the rows of a state have their lengths
 pub record HasRows (s : State) : Type 0 where
@@ -65,15 +65,15 @@ module _ (nodes last made count : ℕ) (rest : List ℕ) where
   abbrev block : Doing → List ℕ
   block doing = numberWords nodes last doing made count ++ rest
 
-  word-nodes : (doing : Doing) → word (block doing) 0 ≡ narrow nodes
+  word-nodes : (doing : Doing) → blockWord (block doing) 0 ≡ narrow nodes
   unfolding numberWords
   word-nodes doing = refl
 
-  word-last : (doing : Doing) → word (block doing) 1 ≡ narrow last
+  word-last : (doing : Doing) → blockWord (block doing) 1 ≡ narrow last
   unfolding numberWords
   word-last doing = refl
 
-  word-made : (doing : Doing) → word (block doing) 6 ≡ narrow made
+  word-made : (doing : Doing) → blockWord (block doing) 6 ≡ narrow made
   unfolding numberWords doingWords
   word-made Idle = refl
   word-made (Formatting k) = refl
@@ -81,7 +81,7 @@ module _ (nodes last made count : ℕ) (rest : List ℕ) where
   word-made (Deleting key begun value) = refl
   word-made (Repairing key) = refl
 
-  word-count : (doing : Doing) → word (block doing) 7 ≡ narrow count
+  word-count : (doing : Doing) → blockWord (block doing) 7 ≡ narrow count
   unfolding numberWords doingWords
   word-count Idle = refl
   word-count (Formatting k) = refl
@@ -89,7 +89,7 @@ module _ (nodes last made count : ℕ) (rest : List ℕ) where
   word-count (Deleting key begun value) = refl
   word-count (Repairing key) = refl
 
-  words-doing : (doing : Doing) → formatted doing < 2 ^ 32 → doingIn (word (block doing) 2) (word (block doing) 3) (word (block doing) 4) (word (block doing) 5) ≡ doing
+  words-doing : (doing : Doing) → formatted doing < 2 ^ 32 → doingIn (blockWord (block doing) 2) (blockWord (block doing) 3) (blockWord (block doing) 4) (blockWord (block doing) 5) ≡ doing
   unfolding numberWords doingWords doingIn formatted
   words-doing Idle h = refl
   words-doing (Formatting k) h = ap Formatting (narrow-fits k h)

@@ -18,8 +18,8 @@ abbrev pub stateWords : ℕ
 stateWords = 177
 
 -- word i of a block, and `count` words from word `from` on
-abbrev pub word : List ℕ → ℕ → ℕ
-word block i = getD block i 0
+abbrev pub blockWord : List ℕ → ℕ → ℕ
+blockWord block i = getD block i 0
 
 abbrev pub part : List ℕ → ℕ → ℕ → List ℕ
 part block from count = take count (drop from block)
@@ -38,12 +38,12 @@ doingIn what a b c =
 unfoldable pub unpacked : List ℕ → State
 unpacked block =
     record {
-      nodes = word block 0;
+      nodes = blockWord block 0;
       free = record { words = part block 11 20 };
-      last = word block 1;
-      doing = doingIn (word block 2) (word block 3) (word block 4) (word block 5);
-      plan = record { places = part block 31 73; values = part block 104 73; count = word block 7 };
-      made = word block 6;
+      last = blockWord block 1;
+      doing = doingIn (blockWord block 2) (blockWord block 3) (blockWord block 4) (blockWord block 5);
+      plan = record { places = part block 31 73; values = part block 104 73; count = blockWord block 7 };
+      made = blockWord block 6;
       cut = part block 8 3;
     }
 

@@ -12,7 +12,7 @@ use Rattle.card.specs.Header.{cardRefusal, nodesOfLength}
 use Rattle.card.specs.Layout.{keyLimit, keyWords, children, routingKeys, slotPairs}
 use Rattle.card.proofs.NodeLaws.{length-keyWords, get-keyWord, children-le, length-routing, leafFrom, leaf-next, leaf-end}
 use Rattle.descent.specs.Descent.{childIndex, way, leafOf}
-use Rattle.successor.specs.Successor.{nearer, nearerAbove, leastAbove, endBelow, inLeaf, inNextLeaf, nextIn, nextOf}
+use Rattle.successor.specs.Successor.{nearer, nearerAbove, leastAbove, endBelow, nextInLeaf, inNextLeaf, nextIn, nextOf}
 use Rattle.successor.specs.declared.Successor.the-variants.{Nothing, Refused}
 
 -- ---- a slot more
@@ -71,7 +71,7 @@ module _ (card : List ℕ) (n after end : ℕ) where
   unfolding inNextLeaf
   next-none e = rw (eq-eqb end keyLimit e)
 
-  pub next-there : (end ≡ keyLimit → ⊥) → inNextLeaf card n after end ≡ inLeaf card after (leafOf (way card n end))
+  pub next-there : (end ≡ keyLimit → ⊥) → inNextLeaf card n after end ≡ nextInLeaf card after (leafOf (way card n end))
   unfolding inNextLeaf
   next-there h = rw (ne-eqb end keyLimit h)
 

@@ -47,9 +47,9 @@ unfoldable pub endBelow : List ℕ → ℕ → ℕ → ℕ
 endBelow node key end = getD (routingKeys node) (childIndex node key) end
 
 -- the end of the range below the internal nodes of a way, where the range of the first of them ends at `end`
-unfoldable pub rangeEnd : List ℕ → ℕ → ℕ → List Position → ℕ
-rangeEnd card key end [] = end
-rangeEnd card key end (p ∷ ps) = rangeEnd card key (endBelow (nodeAt card (p .node)) key end) ps
+unfoldable pub endBelowAll : List ℕ → ℕ → ℕ → List Position → ℕ
+endBelowAll card key end [] = end
+endBelowAll card key end (p ∷ ps) = endBelowAll card key (endBelow (nodeAt card (p .node)) key end) ps
 
 -- ---- the call
 
@@ -58,22 +58,22 @@ found none = Nothing
 found (some p) = Pair (p .0) (p .1)
 
 -- in the leaf that was reached
-unfoldable pub inLeaf : List ℕ → ℕ → Reached → Successor
-inLeaf card after NotReached = Refused 9
-inLeaf card after (ReachedLeaf m depth) = found (leastAbove after (leafPairs (nodeAt card m)))
+unfoldable pub nextInLeaf : List ℕ → ℕ → Reached → Successor
+nextInLeaf card after NotReached = Refused 9
+nextInLeaf card after (ReachedLeaf m depth) = found (leastAbove after (leafPairs (nodeAt card m)))
 
 -- in the leaf whose range begins where another's ends; "the root's is all keys", and beyond them there is none
 unfoldable pub inNextLeaf : List ℕ → ℕ → ℕ → ℕ → Successor
-inNextLeaf card n after end = pick (eqb end keyLimit) Nothing (inLeaf card after (leafOf (way card n end)))
+inNextLeaf card n after end = pick (eqb end keyLimit) Nothing (nextInLeaf card after (leafOf (way card n end)))
 
 -- in the leaf that the number leads to, else in the next one
 unfoldable pub orNextLeaf : List ℕ → ℕ → ℕ → Successor → Successor
-orNextLeaf card n after Nothing = inNextLeaf card n after (rangeEnd card after keyLimit (way card n after .inner))
+orNextLeaf card n after Nothing = inNextLeaf card n after (endBelowAll card after keyLimit (way card n after .inner))
 orNextLeaf card n after (Pair key value) = Pair key value
 orNextLeaf card n after (Refused r) = Refused r
 
 unfoldable pub nextIn : List ℕ → ℕ → ℕ → Successor
-nextIn card n after = orNextLeaf card n after (inLeaf card after (leafOf (way card n after)))
+nextIn card n after = orNextLeaf card n after (nextInLeaf card after (leafOf (way card n after)))
 
 -- "It reads the card only, like a find": 1, 2, 3 and 9; "6 is not given"
 unfoldable pub nextOf : List ℕ → ℕ → Successor

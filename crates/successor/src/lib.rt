@@ -7,7 +7,7 @@ ghost use lib.ListN.{length, getD};
 ghost use Rattle.card.specs.Layout.{greatestNodes, depthLimit, keyLimit, leafPairs};
 ghost use Rattle.card.specs.Header.{Sized};
 ghost use Rattle.descent.specs.Descent.{rootPosition, wayFrom, way, leafOf};
-ghost use Rattle.successor.specs.Successor.{nearerAbove, leastAbove, leastOf, endBelow, rangeEnd, found, inLeaf, inNextLeaf, nextIn, nextOf};
+ghost use Rattle.successor.specs.Successor.{nearerAbove, leastAbove, leastOf, endBelow, endBelowAll, found, nextInLeaf, inNextLeaf, nextIn, nextOf};
 
 // What the call answers.
 pub enum Successor {
@@ -80,7 +80,7 @@ fn end_below(node: &[u32], key: u32, end: u64) -> u64
 // Where the range of the leaf that a key leads to ends.
 fn range_end(card: &[u32], n: usize, key: u32, root: usize) -> u64
     requires { ⌜ (length (now card) ≡ 8 + 24 * n) × (n ≤ greatestNodes) ⌝ }
-    ensures { λ r. ⌜ (r ≡ rangeEnd (now (card .entry)) key keyLimit (wayFrom (now (card .entry)) n key depthLimit (rootPosition root) .inner)) × (r ≤ keyLimit) ⌝ }
+    ensures { λ r. ⌜ (r ≡ endBelowAll (now (card .entry)) key keyLimit (wayFrom (now (card .entry)) n key depthLimit (rootPosition root) .inner)) × (r ≤ keyLimit) ⌝ }
 {
     let mut m = root;
     let mut end: u64 = card::KEY_LIMIT;
@@ -121,7 +121,7 @@ fn found(least: Least) -> Successor
 // In the leaf that a key leads to.
 fn in_leaf(card: &[u32], n: usize, key: u32, after: u32) -> Successor
     requires { ⌜ Sized (length (now card)) n ⌝ }
-    ensures { λ r. ⌜ r ≡ inLeaf (now (card .entry)) after (leafOf (way (now (card .entry)) n key)) ⌝ }
+    ensures { λ r. ⌜ r ≡ nextInLeaf (now (card .entry)) after (leafOf (way (now (card .entry)) n key)) ⌝ }
 {
     match descent::find_leaf(card, n, key, card[card::ROOT_PLACE] as usize) {
         Reached::Refused => Successor::Refused(9),
@@ -132,7 +132,7 @@ fn in_leaf(card: &[u32], n: usize, key: u32, after: u32) -> Successor
 // In the leaf whose range begins where that of the number's leaf ends.
 fn in_next_leaf(card: &[u32], n: usize, after: u32) -> Successor
     requires { ⌜ Sized (length (now card)) n ⌝ }
-    ensures { λ r. ⌜ r ≡ inNextLeaf (now (card .entry)) n after (rangeEnd (now (card .entry)) after keyLimit (way (now (card .entry)) n after .inner)) ⌝ }
+    ensures { λ r. ⌜ r ≡ inNextLeaf (now (card .entry)) n after (endBelowAll (now (card .entry)) after keyLimit (way (now (card .entry)) n after .inner)) ⌝ }
 {
     let end = range_end(card, n, after, card[card::ROOT_PLACE] as usize);
     if end == card::KEY_LIMIT {

@@ -12,7 +12,7 @@ use Rattle.descent.specs.declared.Reached.{Reached}
 use Rattle.descent.specs.declared.Reached.the-variants.{Refused as NotReached, Leaf as ReachedLeaf}
 use Rattle.laws.proofs.Cases.{bool-cases}
 use Rattle.successor.proofs.SuccessorLaws.{next-taken}
-use Rattle.successor.specs.Successor.{leastAbove, rangeEnd, found, inLeaf, inNextLeaf, orNextLeaf, nextIn, nextOf}
+use Rattle.successor.specs.Successor.{leastAbove, endBelowAll, found, nextInLeaf, inNextLeaf, orNextLeaf, nextIn, nextOf}
 use Rattle.successor.specs.declared.Successor.{Successor}
 use Rattle.successor.specs.declared.Successor.the-variants.{Pair, Nothing, Refused}
 use Rattle.successor_theory.proofs.IsNext.{IsNext}
@@ -30,8 +30,8 @@ next-is-above ps after Nothing i = tt
 next-is-above ps after (Refused r) i = absurd i
 
 module _ (card : List ℕ) (after : ℕ) where
-  in-leaf-above : (w : Reached) → AboveOrNine after (inLeaf card after w)
-  unfolding inLeaf
+  in-leaf-above : (w : Reached) → AboveOrNine after (nextInLeaf card after w)
+  unfolding nextInLeaf
   in-leaf-above NotReached = refl
   in-leaf-above (ReachedLeaf m depth) =
       let ps = leafPairs (nodeAt card m) in
@@ -44,7 +44,7 @@ module _ (card : List ℕ) (after : ℕ) where
   or-next-leaf-above : (n : ℕ) (s : Successor) → AboveOrNine after s → AboveOrNine after (orNextLeaf card n after s)
   unfolding orNextLeaf
   or-next-leaf-above n (Pair key value) a = a
-  or-next-leaf-above n Nothing a = in-next-leaf-above n (rangeEnd card after keyLimit (way card n after .inner))
+  or-next-leaf-above n Nothing a = in-next-leaf-above n (endBelowAll card after keyLimit (way card n after .inner))
   or-next-leaf-above n (Refused r) a = a
 
   -- where 1, 2 and 3 are not due
@@ -53,4 +53,4 @@ module _ (card : List ℕ) (after : ℕ) where
   next-above e =
       let n = nodesOfLength (length card) in
       let w = leafOf (way card n after) in
-      rw (next-taken card after e) (or-next-leaf-above n (inLeaf card after w) (in-leaf-above w))
+      rw (next-taken card after e) (or-next-leaf-above n (nextInLeaf card after w) (in-leaf-above w))

@@ -1,4 +1,4 @@
--- The leaf that a number leads to, with its range: on the card, every number of the range leads to it, `rangeEnd` finds where the
+-- The leaf that a number leads to, with its range: on the card, every number of the range leads to it, `endBelowAll` finds where the
 -- range ends, and the leaf answers for the whole tree.
 use mathlib.Core.Path.{_≡_, refl, ap, ap₂, _∙_}
 use mathlib.Core.List.{List}
@@ -12,7 +12,7 @@ use Rattle.descent.specs.Descent.{passed, Way, past, wayFrom, reachedAt, leafOf
 use Rattle.descent.specs.declared.Position.{Position}
 use Rattle.descent_theory.proofs.Way.{position, way-child, way-at-leaf}
 use Rattle.descent_theory.proofs.Routing.{index-on-card}
-use Rattle.successor.specs.Successor.{leastAbove, endBelow, rangeEnd, found, inLeaf}
+use Rattle.successor.specs.Successor.{leastAbove, endBelow, endBelowAll, found, nextInLeaf}
 use Rattle.successor_theory.proofs.ChildRange.{ChildRange, child-range, child-widths}
 use Rattle.tree.specs.Pairs.{pairs, lookup}
 use Rattle.tree.proofs.Pairs.{InRange, AllInRange, child, lookup-child, depth, child-represents, child-depth}
@@ -35,8 +35,8 @@ pub record LeafOf (c : List ℕ) (n key levels lo hi : ℕ) (s : Tree) : Type 0 
   pub filled : Widths s → 1 ≤ length (pairs reached)
   -- every number of the range leads to this leaf
   pub answers : (x : ℕ) → low ≤ x → x < high → lookup x (pairs s) ≡ lookup x (pairs reached)
-  pub ends : (x : ℕ) (p : Position) → p .node ≡ root s → low ≤ x → x < high → rangeEnd c x hi (wayFrom c n x levels p .inner) ≡ high
-  pub reads : (x after : ℕ) (p : Position) → p .node ≡ root s → low ≤ x → x < high → inLeaf c after (leafOf (wayFrom c n x levels p)) ≡ found (leastAbove after (pairs reached))
+  pub ends : (x : ℕ) (p : Position) → p .node ≡ root s → low ≤ x → x < high → endBelowAll c x hi (wayFrom c n x levels p .inner) ≡ high
+  pub reads : (x after : ℕ) (p : Position) → p .node ≡ root s → low ≤ x → x < high → nextInLeaf c after (leafOf (wayFrom c n x levels p)) ≡ found (leastAbove after (pairs reached))
 
 -- where the child's range ends, as the card's words say it
 end-on-card : (c : List ℕ) (key end m : ℕ) (g : Bool) (f : Forest) → Represents c (node m g f) → endBelow (nodeAt c m) key end ≡ getD (routing f) (passed (routing f) key) end
@@ -44,18 +44,18 @@ unfolding endBelow
 end-on-card c key end m g f r = ap₂ (λ (l : List ℕ) (i : ℕ). getD l i end) (node-routing c m g f r) (index-on-card c key m g f r)
 
 -- the leaf is read the same below however many internal nodes
-past-leaf : (c : List ℕ) (after : ℕ) (p : Position) (w : Way) → inLeaf c after (leafOf (past p w)) ≡ inLeaf c after (leafOf w)
-unfolding inLeaf leafOf reachedAt past
+past-leaf : (c : List ℕ) (after : ℕ) (p : Position) (w : Way) → nextInLeaf c after (leafOf (past p w)) ≡ nextInLeaf c after (leafOf w)
+unfolding nextInLeaf leafOf reachedAt past
 past-leaf c after p w = go (w .leaf)
   where
-    go : (l : Option Position) → inLeaf c after (reachedAt (suc (length (w .inner))) l) ≡ inLeaf c after (reachedAt (length (w .inner)) l)
+    go : (l : Option Position) → nextInLeaf c after (reachedAt (suc (length (w .inner))) l) ≡ nextInLeaf c after (reachedAt (length (w .inner)) l)
     go none = refl
     go (some q) = refl
 
 module _ (c : List ℕ) (n key : ℕ) (len : length c ≡ 8 + 24 * n) where
   -- a leaf is come to at once
   at-leaf : (levels lo hi m : ℕ) (ks vs : List ℕ) → Represents c (leaf m ks vs) → InRange lo hi (leaf m ks vs) → lo ≤ key → key < hi → LeafOf c n key levels lo hi (leaf m ks vs)
-  unfolding rangeEnd inLeaf leafOf reachedAt
+  unfolding endBelowAll nextInLeaf leafOf reachedAt
   at-leaf levels lo hi m ks vs r i l h =
       record {
         low = lo;
@@ -68,16 +68,16 @@ module _ (c : List ℕ) (n key : ℕ) (len : length c ≡ 8 + 24 * n) where
         range = i;
         filled = λ w. w;
         answers = λ x a b. refl;
-        ends = λ x p e a b. ap (λ (w : Way). rangeEnd c x hi (w .inner)) (way-at-leaf c n x len levels m ks vs r p e);
+        ends = λ x p e a b. ap (λ (w : Way). endBelowAll c x hi (w .inner)) (way-at-leaf c n x len levels m ks vs r p e);
         reads = λ x after p e a b.
-            ap (λ (w : Way). inLeaf c after (leafOf w)) (way-at-leaf c n x len levels m ks vs r p e)
+            ap (λ (w : Way). nextInLeaf c after (leafOf w)) (way-at-leaf c n x len levels m ks vs r p e)
             ∙ ap (λ (k : ℕ). found (leastAbove after (leafPairs (nodeAt c k)))) e
             ∙ ap (λ (ps : List (ℕ × ℕ)). found (leastAbove after ps)) (leaf-pairs c m ks vs r);
       }
 
   -- through an internal node, by the child that the key takes
   through : (levels lo hi m : ℕ) (g : Bool) (f : Forest) → Represents c (node m g f) → AllInRange lo hi f → (d : ChildRange key lo hi f) → LeafOf c n key levels (d .low) (d .high) (child key f) → LeafOf c n key (suc levels) lo hi (node m g f)
-  unfolding rangeEnd past
+  unfolding endBelowAll past
   through levels lo hi m g f r i d s =
       record {
         low = s .low;
@@ -91,11 +91,11 @@ module _ (c : List ℕ) (n key : ℕ) (len : length c ≡ 8 + 24 * n) where
         filled = λ w. s .filled (child-widths key f (w .1));
         answers = λ x a b. lookup-child lo hi x f i ∙ ap (λ (t : Tree). lookup x (pairs t)) (alike x a b) ∙ s .answers x a b;
         ends = λ x p e a b.
-            ap (λ (w : Way). rangeEnd c x hi (w .inner)) (way-child c n x len levels m g f r p e)
-            ∙ ap (λ (end : ℕ). rangeEnd c x end (wayFrom c n x levels (below x p) .inner)) (ap (λ (k : ℕ). endBelow (nodeAt c k) x hi) e ∙ end-on-card c x hi m g f r ∙ d .ends x (omega (arith, s .least)) (omega (arith, s .most)))
+            ap (λ (w : Way). endBelowAll c x hi (w .inner)) (way-child c n x len levels m g f r p e)
+            ∙ ap (λ (end : ℕ). endBelowAll c x end (wayFrom c n x levels (below x p) .inner)) (ap (λ (k : ℕ). endBelow (nodeAt c k) x hi) e ∙ end-on-card c x hi m g f r ∙ d .ends x (omega (arith, s .least)) (omega (arith, s .most)))
             ∙ s .ends x (below x p) (ap root (alike x a b)) a b;
         reads = λ x after p e a b.
-            ap (λ (w : Way). inLeaf c after (leafOf w)) (way-child c n x len levels m g f r p e)
+            ap (λ (w : Way). nextInLeaf c after (leafOf w)) (way-child c n x len levels m g f r p e)
             ∙ past-leaf c after p (wayFrom c n x levels (below x p))
             ∙ s .reads x after (below x p) (ap root (alike x a b)) a b;
       }

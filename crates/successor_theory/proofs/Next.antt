@@ -21,7 +21,7 @@ use Rattle.descent_theory.proofs.Way.{way-at-leaf}
 use Rattle.laws.proofs.Cases.{order}
 use Rattle.soundness_theory.proofs.Depth.{well-formed-depth}
 use Rattle.soundness_theory.proofs.Ranges.{well-formed-in-range}
-use Rattle.successor.specs.Successor.{leastAbove, rangeEnd, found, inNextLeaf, orNextLeaf, nextIn, nextOf}
+use Rattle.successor.specs.Successor.{leastAbove, endBelowAll, found, inNextLeaf, orNextLeaf, nextIn, nextOf}
 use Rattle.successor.specs.declared.Successor.the-variants.{Pair}
 use Rattle.successor_theory.proofs.ChildRange.{lower}
 use Rattle.successor_theory.proofs.IsNext.{IsNext}
@@ -39,9 +39,9 @@ use Rattle.tree.specs.WellFormed.{WellFormed}
 
 -- a table with a range that ends before all keys do is no single leaf, so that no leaf of it is empty
 not-one-leaf : (c : List ℕ) (n after : ℕ) → length c ≡ 8 + 24 * n → (t : Tree) → Represents c t → RootOk t → (p : Position) → p .node ≡ root t
-    → rangeEnd c after keyLimit (wayFrom c n after depthLimit p .inner) < keyLimit → Widths t
-unfolding rangeEnd
-not-one-leaf c n after len (leaf m ks vs) r ok p e h = absurd (omega (arith, ap (λ (w : Way). rangeEnd c after keyLimit (w .inner)) (way-at-leaf c n after len depthLimit m ks vs r p e)))
+    → endBelowAll c after keyLimit (wayFrom c n after depthLimit p .inner) < keyLimit → Widths t
+unfolding endBelowAll
+not-one-leaf c n after len (leaf m ks vs) r ok p e h = absurd (omega (arith, ap (λ (w : Way). endBelowAll c after keyLimit (w .inner)) (way-at-leaf c n after len depthLimit m ks vs r p e)))
 not-one-leaf c n after len (node m true f) r ok p e h = absurd ok
 not-one-leaf c n after len (node m false f) r ok p e h = ((omega (arith, ok .0), ok .1), ok .2)
 
@@ -59,7 +59,7 @@ module _ (c : List ℕ) (n : ℕ) (t : Tree) (len : length c ≡ 8 + 24 * n) (at
   start : rootPosition (getD c rootPlace 0) .node ≡ root t
   start = root-node (getD c rootPlace 0) ∙ at-root
 
-  here-ends : rangeEnd c after keyLimit (way c n after .inner) ≡ here .high
+  here-ends : endBelowAll c after keyLimit (way c n after .inner) ≡ here .high
   unfolding way
   here-ends = here .ends after (rootPosition (getD c rootPlace 0)) start (here .from) (here .until)
 

@@ -29,7 +29,7 @@ use Rattle.plans.specs.Planning.{Preparation, refused, balanced, prepared, numb
 use Rattle.state.specs.Memory.{Memory, memoryOf, idled, advanced}
 use Rattle.updates.specs.Updates.{Reason, held, slot, full, FirstChange, landing, insertReason, insertChange, deleteChange, insertIn, deleteIn, noWay, inLeaf, nextChange}
 use Rattle.updates.proofs.Preparations.{either, Preserved, next-by}
-use Rattle.state.specs.Steps.{heldBy, Step, stepRefused, stepFinal, formatStore, formatting, stepFormat, stepStore}
+use Rattle.state.specs.Steps.{heldBy, Step, stepRefused, stepFinal, formatStore, formattingFrom, stepFormat, stepStore}
 use Rattle.table.specs.Calls.{planning, stepPrepared, stepBegin, stepTask, stepChecked, stepHeld, stepOf}
 use Rattle.state.proofs.StepLaws.{format-end}
 use Rattle.state.specs.declared.Doing.{Doing}
@@ -40,7 +40,7 @@ use Rattle.state.specs.declared.Held.{Held}
 use Rattle.state.specs.declared.Held.the-variants.{Nothing as NoneHeld, Formatting as HeldFormatting, Task as HeldTask}
 use Rattle.state.specs.declared.Answer.{Answer}
 use Rattle.state.specs.declared.Answer.the-variants.{Stored, Ready}
-use Rattle.state_block.specs.Block.{word, part, isTrue, doingIn, unpacked, memoryIn, formatted, Small}
+use Rattle.state_block.specs.Block.{blockWord, part, isTrue, doingIn, unpacked, memoryIn, formatted, Small}
 use Rattle.state_block.proofs.Block.{Words}
 
 -- ---- the change that a step plans: the node that it gives last
@@ -154,7 +154,7 @@ module _ (card : List ℕ) (m : Memory) (small : Small m) where
 
     -- "so 8 + 24 × N + 1 stores, then ready"
     small-counted : (made : ℕ) (s : Option Store) → made ≤ 8 + 24 * greatestNodes → SmallStep (stepFormat card m made s)
-    unfolding stepFormat formatting SmallStep formatted
+    unfolding stepFormat formattingFrom SmallStep formatted
     small-counted made none h = small-final Ready
     small-counted made (some s) h = record { nodes = small .nodes; last = small .last; formatting = omega arith }
 
@@ -188,9 +188,9 @@ module _ (card block : List ℕ) (words : Words block) where
       record {
         nodes = words 0;
         last = words 1;
-        formatting = either LowDoing (eqb (word block 2) 1) (Formatting (word block 3)) _ (words 3)
-            (either LowDoing (eqb (word block 2) 2) (Inserting (word block 3) (word block 4) (isTrue (word block 5))) _ (omega arith)
-            (either LowDoing (eqb (word block 2) 3) (Deleting (word block 3) (isTrue (word block 5)) (word block 4)) _ (omega arith) (either LowDoing (eqb (word block 2) 4) (Repairing (word block 3)) Idle (omega arith) (omega arith))));
+        formatting = either LowDoing (eqb (blockWord block 2) 1) (Formatting (blockWord block 3)) _ (words 3)
+            (either LowDoing (eqb (blockWord block 2) 2) (Inserting (blockWord block 3) (blockWord block 4) (isTrue (blockWord block 5))) _ (omega arith)
+            (either LowDoing (eqb (blockWord block 2) 3) (Deleting (blockWord block 3) (isTrue (blockWord block 5)) (blockWord block 4)) _ (omega arith) (either LowDoing (eqb (blockWord block 2) 4) (Repairing (blockWord block 3)) Idle (omega arith) (omega arith))));
       }
 
   bits-in : length (memoryIn block .free) ≤ 2 ^ 32

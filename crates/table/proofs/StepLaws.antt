@@ -10,15 +10,15 @@ use Rattle.card.specs.Stores.{Store}
 use Rattle.state.specs.Steps.{Step, heldBy, stepRefused, stepStore}
 use Rattle.table.specs.Calls.{stepTask, stepChecked, stepHeld, stepOf}
 use Rattle.state.specs.Memory.{Memory, advanced}
-use Rattle.state.specs.Results.{more}
+use Rattle.state.specs.Results.{moreToStore}
 use Rattle.state.specs.declared.Task.{Task}
 use Rattle.state.specs.declared.Held.the-variants.{Nothing, Task as HeldTask}
 use Rattle.state.proofs.StepLaws.{more-none}
 use Rattle.laws.proofs.Cases.{impossible}
 
 -- a store of the change in hand, or the next change
-task-store : (card : List ℕ) (m : Memory) (task : Task) (ss : List Store) → more ss ≡ true → stepTask card m task ss ≡ stepStore card m (getD ss 0 (0, 0)) (advanced m (drop 1 ss))
-unfolding more stepTask
+task-store : (card : List ℕ) (m : Memory) (task : Task) (ss : List Store) → moreToStore ss ≡ true → stepTask card m task ss ≡ stepStore card m (getD ss 0 (0, 0)) (advanced m (drop 1 ss))
+unfolding moreToStore stepTask
 task-store card m task [] e = impossible (cc)
 task-store card m task (s ∷ rest) e = refl
 
@@ -36,10 +36,10 @@ module _ (card : List ℕ) (m : Memory) where
     unfolding stepHeld
     task-due task = checked (stepTask card m task (m .rest))
 
-    pub task-stores : (task : Task) → more (m .rest) ≡ true → stepHeld card m (HeldTask task) ≡ stepStore card m (getD (m .rest) 0 (0, 0)) (advanced m (drop 1 (m .rest)))
+    pub task-stores : (task : Task) → moreToStore (m .rest) ≡ true → stepHeld card m (HeldTask task) ≡ stepStore card m (getD (m .rest) 0 (0, 0)) (advanced m (drop 1 (m .rest)))
     task-stores task b = task-due task ∙ task-store card m task (m .rest) b
 
-    pub task-plans : (task : Task) → more (m .rest) ≡ false → stepHeld card m (HeldTask task) ≡ stepTask card m task []
+    pub task-plans : (task : Task) → moreToStore (m .rest) ≡ false → stepHeld card m (HeldTask task) ≡ stepTask card m task []
     task-plans task b = task-due task ∙ ap (stepTask card m task) (more-none (m .rest) b)
 
   -- 2 and 3

@@ -25,8 +25,8 @@ ghost use Rattle.state.specs.Memory.{advanced};
 ghost use Rattle.table.specs.Calls.{stepTask, stepOf};
 ghost use Rattle.state.specs.declared.Task.{Task};
 ghost use Rattle.state.specs.Steps.{formatStore, stepFormat};
-ghost use Rattle.state.specs.Results.{more};
-ghost use Rattle.state_block.specs.Block.{stateWords, word, part, unpacked, memoryIn};
+ghost use Rattle.state.specs.Results.{moreToStore};
+ghost use Rattle.state_block.specs.Block.{stateWords, blockWord, part, unpacked, memoryIn};
 ghost use Rattle.table.specs.Playing.{Played};
 ghost use Rattle.state_block.specs.InPlace.{withFree, withCut};
 
@@ -74,7 +74,7 @@ fn clear_cut(block: &mut [u32])
 // Whether a store of the plan is still to come after so many. A block may hold any numbers, so both ends are looked at.
 fn in_hand(block: &[u32], made: usize) -> bool
     requires { ⌜ length (now block) ≡ stateWords ⌝ }
-    ensures { λ r. ⌜ r ≡ more (drop made (storesOf (unpacked (now (block .entry)) .plan))) ⌝ }
+    ensures { λ r. ⌜ r ≡ moreToStore (drop made (storesOf (unpacked (now (block .entry)) .plan))) ⌝ }
 {
     if PLAN_SIZE <= made {
         return false;
@@ -124,8 +124,8 @@ fn play_store(card: &mut [u32], block: &mut [u32]) -> Placed
 
 // A store of formatting past the root's kind, "all else 0": all but the first nine and the last.
 fn play_format(card: &mut [u32], block: &mut [u32]) -> Placed
-    requires { ⌜ (length (now block) ≡ stateWords) × (word (now block) 2 ≡ 1) × (length (now card) ≤ 8 + 24 * greatestNodes) ⌝ }
-    ensures { λ r. ⌜ Played r (stepFormat (now (card .entry)) (memoryIn (now (block .entry))) (word (now (block .entry)) 3) (formatStore (memoryIn (now (block .entry)) .nodes) (length (now (card .entry))) (word (now (block .entry)) 3))) (now (card .entry)) (now (card .exit)) (now (block .entry)) (now (block .exit)) ⌝ }
+    requires { ⌜ (length (now block) ≡ stateWords) × (blockWord (now block) 2 ≡ 1) × (length (now card) ≤ 8 + 24 * greatestNodes) ⌝ }
+    ensures { λ r. ⌜ Played r (stepFormat (now (card .entry)) (memoryIn (now (block .entry))) (blockWord (now (block .entry)) 3) (formatStore (memoryIn (now (block .entry)) .nodes) (length (now (card .entry))) (blockWord (now (block .entry)) 3))) (now (card .entry)) (now (card .exit)) (now (block .entry)) (now (block .exit)) ⌝ }
 {
     let first = block[FIRST];
     let made = wide(first);

@@ -12,7 +12,7 @@ use Rattle.plans.specs.Planning.{Preparation, refused, balanced, prepared, over
 use Rattle.change_decide.specs.declared.Decision.{Decision}
 use Rattle.change_decide.specs.declared.Decision.the-variants.{Refused, Balanced, PutPair, ClearKey, SplitLeaf, Absorb, SplitParent, Share, Merge, MergeRoot}
 use Rattle.change.specs.LayOut.{layOut}
-use Rattle.state.specs.Results.{more}
+use Rattle.state.specs.Results.{moreToStore}
 use Rattle.state.specs.declared.Doing.{Doing}
 use Rattle.state.specs.declared.Task.{Task}
 use Rattle.updates.specs.Updates.{FirstChange, nextChange}
@@ -55,8 +55,8 @@ module _ (P : Preparation → Type 0) (free : List Bool) (last : ℕ) where
 
 -- ---- a change that is prepared has a store: its link, or a pair's key
 
-more-end : (ss : List Store) (s : Store) → more (ss ++ s ∷ []) ≡ true
-unfolding more
+more-end : (ss : List Store) (s : Store) → moreToStore (ss ++ s ∷ []) ≡ true
+unfolding moreToStore
 more-end [] s = refl
 more-end (x ∷ ss) s = refl
 
@@ -71,7 +71,7 @@ module _ (free : List Bool) (last : ℕ) where
   giving-stores k change = over-stores change (takeNumbers k free last)
 
   storing : Preserved Storing free last
-  unfolding Storing more
+  unfolding Storing moreToStore
   storing = record { none-planned = tt; nothing = tt; no-nodes = λ s ss. refl; given = giving-stores }
 
   pub next-stores : (card : List ℕ) (n : ℕ) (doing : Doing) (task : Task) → Storing (nextChange card n free last doing task .preparation)

@@ -6,7 +6,7 @@ use Prim.Native.Nat.{ℕ, _+_}
 use lib.ListN.{getD}
 use Rattle.card.specs.Layout.{nodeAt}
 use Rattle.change.specs.LayOut.{layOut}
-use Rattle.change_decide.specs.Decide.{nextRepair}
+use Rattle.change_decide.specs.Decide.{decidedRepair}
 use Rattle.change_decide.specs.declared.Decision.{Decision}
 use Rattle.change_decide.specs.declared.Decision.the-variants.{Refused, Balanced, PutPair, ClearKey, SplitLeaf}
 use Rattle.descent.specs.Descent.{slotOf}
@@ -59,7 +59,7 @@ deleteAt key m link leaf = deleteDecided key m leaf (slotOf leaf key)
 unfoldable pub decided : List ℕ → ℕ → Doing → Task → First
 decided card n doing (PutIn key value) = decidedIn card doing (insertAt key value) (landing card n key)
 decided card n doing (TakeOut key) = decidedIn card doing (deleteAt key) (landing card n key)
-decided card n doing (Repair key answer) = record { doing = doing; answer = answer; decision = nextRepair card n key }
+decided card n doing (Repair key answer) = record { doing = doing; answer = answer; decision = decidedRepair card n key }
 
 -- the change of it, over the nodes that are free and the one given last
 abbrev pub laidFirst : List ℕ → First → List Bool → ℕ → FirstChange

@@ -3,7 +3,7 @@ use mathlib.Core.Path.{_≡_}
 use Prim.Native.Nat.{ℕ}
 use mathlib.Core.Bool.{true}
 use Rattle.plans.specs.Planning.{Preparation, refused, balanced, prepared}
-use Rattle.state.specs.Results.{more}
+use Rattle.state.specs.Results.{moreToStore}
 use Rattle.updates.specs.declared.Arrival.{Arrival}
 use Rattle.updates.specs.declared.Arrival.the-variants.{Refused, Leaf}
 use Rattle.descent.specs.declared.Landing.{Landing}
@@ -13,7 +13,7 @@ use Rattle.descent.specs.declared.Landing.the-variants.{Refused as NoLanding, L
 unfoldable pub Storing : Preparation → Type 0
 Storing refused = Unit {0}
 Storing balanced = Unit {0}
-Storing (prepared stores free last cut) = more stores ≡ true
+Storing (prepared stores free last cut) = moreToStore stores ≡ true
 
 -- where the way of an update's key ends: at the landing, whatever the 11-child nodes above it
 unfoldable pub Arrives : Arrival → Landing → Type 0

@@ -2,7 +2,7 @@
 use mathlib.Core.Path.{_≡_, ap, sym, _∙_}
 use native.Mathlib.Omega.{arith}
 use Rattle.descent.specs.declared.Search.{Search}
-use Rattle.change_decide.specs.Decide.{onSearch, nextRepair}
+use Rattle.change_decide.specs.Decide.{onSearch, decidedRepair}
 use Rattle.change_decide.proofs.Positions.{position-within}
 use borrow.Author.Needs.{needs}
 use Rattle.change_decide.proofs.next_repair.Statement.{statement}
@@ -10,8 +10,8 @@ use Rattle.change_decide.proofs.next_repair.Tie as tie
 
 -- the repair follows from what the search found
 repair : (c : tie.After-find-violation) (found : Search) → c .find-violation .result ≡ found
-    → onSearch (c .before .before .before .args .card .now) (c .before .before .before .args .n) found ≡ nextRepair (c .before .before .before .args .card .now) (c .before .before .before .args .n) (c .before .before .before .args .key)
-unfolding nextRepair
+    → onSearch (c .before .before .before .args .card .now) (c .before .before .before .args .n) found ≡ decidedRepair (c .before .before .before .args .card .now) (c .before .before .before .args .n) (c .before .before .before .args .key)
+unfolding decidedRepair
 repair c found e =
     let s = c .before .before .before in
     ap (onSearch (s .args .card .now) (s .args .n)) (sym e ∙ c .find-violation .ensures)

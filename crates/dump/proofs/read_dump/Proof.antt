@@ -3,7 +3,7 @@ use Prim.Native.Nat.{ℕ, _+_, _*_}
 use native.Mathlib.Omega.{arith}
 use lib.ListN.{length}
 use borrow.Author.Needs.{needs}
-use Rattle.dump.specs.Dump.{wordsFor, roomFor, readAnswer}
+use Rattle.dump.specs.Dump.{wordsFor, fittingLength, readAnswer}
 use Rattle.dump.proofs.AnswerLaws.{Whole, whole-covers, undamaged-whole, read-damaged, read-whole, room-short, room-long, read-words, read-refused}
 use Rattle.dump.proofs.read_dump.Statement.{statement}
 use Rattle.dump.proofs.read_dump.Tie as tie
@@ -13,10 +13,10 @@ whole : (c : tie.Else1) → Whole (c .before .before .before .before .args .dump
 whole c = undamaged-whole _ (sym (c .before .is-damaged .ensures) ∙ c .if1 .left)
 
 -- and the answer as the lent slice's room says
-sized-answer : (c : tie.After-word-at) → readAnswer (c .before .before .before .before .before .args .dump .now) (length (c .before .before .before .before .before .args .words .now)) ≡ roomFor (8 + 24 * c .word-at .result) (length (c .before .before .before .before .before .args .words .now))
+sized-answer : (c : tie.After-word-at) → readAnswer (c .before .before .before .before .before .args .dump .now) (length (c .before .before .before .before .before .args .words .now)) ≡ fittingLength (8 + 24 * c .word-at .result) (length (c .before .before .before .before .before .args .words .now))
 sized-answer c =
     read-whole _ _ (sym (c .before .before .is-damaged .ensures) ∙ c .before .if1 .left)
-    ∙ ap (λ (k : ℕ). roomFor (wordsFor k) (length (c .before .before .before .before .before .args .words .now))) (sym (c .word-at .ensures))
+    ∙ ap (λ (k : ℕ). fittingLength (wordsFor k) (length (c .before .before .before .before .before .args .words .now))) (sym (c .word-at .ensures))
 
 is-damaged-requires : tie.Need-is-damaged-requires
 is-damaged-requires c κs = search needs

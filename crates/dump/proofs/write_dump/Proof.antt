@@ -3,7 +3,7 @@ use Prim.Native.Nat.{ℕ}
 use native.Mathlib.Omega.{arith}
 use lib.ListN.{length}
 use borrow.Author.Needs.{needs}
-use Rattle.dump.specs.Dump.{roomFor, writeAnswer}
+use Rattle.dump.specs.Dump.{fittingLength, writeAnswer}
 use Rattle.dump.proofs.AnswerLaws.{Good, good-card, write-refuses, write-good, room-short, room-long, write-bytes, write-refused}
 use Rattle.dump.proofs.write_dump.Statement.{statement}
 use Rattle.dump.proofs.write_dump.Tie as tie
@@ -13,9 +13,9 @@ good : (c : tie.Else1) → Good (c .before .before .before .before .args .card .
 good c = good-card _ (sym (c .before .card-refusal .ensures) ∙ c .if1 .left)
 
 -- and past that test the answer is as the lent slice's room says
-answer : (c : tie.After-padded-length) → writeAnswer (c .before .before .before .before .before .args .card .now) (length (c .before .before .before .before .before .args .bytes .now)) ≡ roomFor (c .padded-length .result) (length (c .before .before .before .before .before .args .bytes .now))
+answer : (c : tie.After-padded-length) → writeAnswer (c .before .before .before .before .before .args .card .now) (length (c .before .before .before .before .before .args .bytes .now)) ≡ fittingLength (c .padded-length .result) (length (c .before .before .before .before .before .args .bytes .now))
 answer c =
-    write-good _ _ (sym (c .before .before .card-refusal .ensures) ∙ c .before .if1 .left) ∙ ap (λ (k : ℕ). roomFor k (length (c .before .before .before .before .before .args .bytes .now))) (sym (c .padded-length .ensures))
+    write-good _ _ (sym (c .before .before .card-refusal .ensures) ∙ c .before .if1 .left) ∙ ap (λ (k : ℕ). fittingLength k (length (c .before .before .before .before .before .args .bytes .now))) (sym (c .padded-length .ensures))
 
 card-refusal-requires : tie.Need-card-refusal-requires
 card-refusal-requires c κs = search needs

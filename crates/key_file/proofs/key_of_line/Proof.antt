@@ -5,7 +5,7 @@ use native.Mathlib.Omega.{arith}
 use lib.ListN.{length, getD, drop}
 use borrow.Author.Needs.{needs}
 use Rattle.card.specs.Layout.{keyLimit}
-use Rattle.key_file.specs.KeyFile.{allDigits, decimal}
+use Rattle.key_file.specs.KeyFile.{allDigits, decimalValue}
 use Rattle.key_file.proofs.KeyFileLaws.{digit-range, digits-next, digits-stop, digits-end, continued, continued-start, continued-next, continued-end, continued-least, key-other, key-great, key-found}
 use Rattle.key_file.proofs.key_of_line.Statement.{statement}
 use Rattle.key_file.proofs.key_of_line.Tie as tie
@@ -13,13 +13,13 @@ use Rattle.key_file.proofs.key_of_line.Tie as tie
 -- the bytes read are digits, and the line is worth what their value and those left make
 abbrev Inv-loop : tie.InvT-loop
 Inv-loop line value₀ i₀ value i =
-    (i ≤ length line) × (value < keyLimit) × (allDigits line ≡ allDigits (drop i line)) × (decimal line ≡ continued value (drop i line))
+    (i ≤ length line) × (value < keyLimit) × (allDigits line ≡ allDigits (drop i line)) × (decimalValue line ≡ continued value (drop i line))
 
 abbrev μ-loop : tie.MeasureT-loop
 μ-loop line value₀ i₀ value i = length line - i
 
 -- the value with the digit that was read
-continued-more : (c : tie.After-worth Inv-loop μ-loop) → decimal (c .before .before .before .before .before .before .before .before .args .line .now) ≡ continued (10 * c .before .before .before .before .before .before .loop .value + c .worth .result) (drop (c .before .before .before .before .before .before .loop .i + 1) (c .before .before .before .before .before .before .before .before .args .line .now))
+continued-more : (c : tie.After-worth Inv-loop μ-loop) → decimalValue (c .before .before .before .before .before .before .before .before .args .line .now) ≡ continued (10 * c .before .before .before .before .before .before .loop .value + c .worth .result) (drop (c .before .before .before .before .before .before .loop .i + 1) (c .before .before .before .before .before .before .before .before .args .line .now))
 continued-more c =
     let s = c .before .before .before .before .before .before .before .before in
     c .before .before .before .before .before .before .loop .inv .3 ∙ continued-next (s .args .line .now) (c .before .before .before .before .before .before .loop .i) (c .before .before .before .before .before .before .loop .value) (c .worth .result) (omega arith) (c .worth .ensures .0)

@@ -4,7 +4,7 @@ use Prim.Native.Nat.{ℕ, _/_, _≤_}
 use native.Mathlib.Omega.{arith}
 use lib.ListN.{length, take, length-take, length-replicate}
 use borrow.Author.Needs.{needs}
-use Rattle.printing.specs.Text.{firstLine, pairLines, pairsIn, listText, told, pairRoom, handed, dumpText}
+use Rattle.printing.specs.Text.{firstLine, pairLines, pairsOfWords, listText, listingTold, pairRoom, listingHanded, dumpText}
 use Rattle.text_row.specs.Filling.{filled, fill}
 use Rattle.text_row.proofs.FillingLaws.{fill-then, fill-whole}
 use Rattle.printing.proofs.TextLaws.{told-refused, told-listed, handed-is, words-fit}
@@ -12,7 +12,7 @@ use Rattle.printing.proofs.list_text.Statement.{statement}
 use Rattle.printing.proofs.list_text.Tie as tie
 
 -- the listing handed over, and that its words lie inside the row
-known : (c : tie.After-list-dump) → told (c .list-dump .result) (c .list-dump .last .1 .1 .0) ≡ handed (c .before .before .before .before .args .dump .now)
+known : (c : tie.After-list-dump) → listingTold (c .list-dump .result) (c .list-dump .last .1 .1 .0) ≡ listingHanded (c .before .before .before .before .args .dump .now)
 known c = handed-is _ _ (c .list-dump .ensures .0) _ (c .list-dump .ensures .1 .0)
 
 inside : (c : tie.After-list-dump) → c .list-dump .result .words ≤ length (c .list-dump .last .1 .1 .0)
@@ -56,7 +56,7 @@ returns-2 c =
     let r = c .before .before .before .before .before .before .before .before .before .list-dump .result in
     let words = c .before .before .before .before .before .before .before .before .before .list-dump .last .1 .1 .0 in
     let text = told-listed r words (c .before .before .before .before .before .if1 .left) (inside (c .before .before .before .before .before .before .before .before .before)) ∙ ap listText (known (c .before .before .before .before .before .before .before .before .before)) in
-    let put = fill-then (firstLine (r .nodes) (r .free) (r .levels) (r .words / 2)) (pairLines (pairsIn (take (r .words) words))) _ (c .before .before .before .put-summary .ensures .0) (c .put-pairs .ensures .0) in
+    let put = fill-then (firstLine (r .nodes) (r .free) (r .levels) (r .words / 2)) (pairLines (pairsOfWords (take (r .words) words))) _ (c .before .before .before .put-summary .ensures .0) (c .put-pairs .ensures .0) in
     fill-whole (dumpText (s .args .dump .now)) (s .args .text .now) _ _ (omega (arith, c .put-pairs .ensures .1, c .before .before .before .put-summary .kept .0)) (put ∙ ap (λ (bytes : List ℕ). fill bytes (filled 0 (s .args .text .now))) text)
 
 pub list-text-spec : {M : Type 1} → statement M

@@ -3,7 +3,7 @@ use Prim.Native.Nat.{_+_, _-_, _*_, _≤_}
 use native.Mathlib.Omega.{arith}
 use lib.ListN.{length, getD, drop}
 use borrow.Author.Needs.{needs}
-use Rattle.printing.specs.Text.{pairLine, pairLines, pairsIn}
+use Rattle.printing.specs.Text.{pairLine, pairLines, pairsOfWords}
 use Rattle.text_row.specs.Filling.{filled, fill}
 use Rattle.text_row.proofs.FillingLaws.{fill-reached}
 use Rattle.printing.proofs.TextLaws.{pair-short, lines-next, lines-end}
@@ -11,7 +11,7 @@ use Rattle.printing.proofs.put_pairs.Statement.{statement}
 use Rattle.printing.proofs.put_pairs.Tie as tie
 
 abbrev Inv-loop : tie.InvT-loop
-Inv-loop text₀ at words next₀ i₀ text next i = (i ≤ length words) × (next ≤ at + 11 * i) × (length text ≡ length text₀) × (fill (pairLines (pairsIn words)) (filled at text₀) ≡ fill (pairLines (pairsIn (drop i words))) (filled next text))
+Inv-loop text₀ at words next₀ i₀ text next i = (i ≤ length words) × (next ≤ at + 11 * i) × (length text ≡ length text₀) × (fill (pairLines (pairsOfWords words)) (filled at text₀) ≡ fill (pairLines (pairsOfWords (drop i words))) (filled next text))
 
 abbrev μ-loop : tie.MeasureT-loop
 μ-loop text₀ at words next₀ i₀ text next i = length words - i

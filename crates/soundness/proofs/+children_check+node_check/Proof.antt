@@ -14,7 +14,7 @@ use Rattle.free_nodes.specs.NodeSet.{wordCount, nodesOf}
 use Rattle.soundness.specs.declared.Checked.{Checked}
 use Rattle.soundness.specs.declared.Entry.{Entry}
 use Rattle.soundness.proofs.CheckLaws.{Children, enter-children, sound-height, turn-wrong, turn-bad, turn-uneven, turn-on, turn-end, check-bad, check-leaf, check-deep, check-inner}
-use Rattle.soundness.specs.Check.{endOf, lookOf, findingsOf, checkedOf, heightOf, enterNode, inner, raised, childrenCheck, nodeCheck}
+use Rattle.soundness.specs.Check.{rangeEndOf, lookOf, findingsOf, checkedOf, heightOf, enterNode, inner, raised, childrenCheck, nodeCheck}
 use borrow.Fn.Kinds.{In}
 use borrow.Fn.PlainCycle.{Measures, is, falls, and}
 use Rattle.soundness.proofs.children_check.Reads as children-check
@@ -92,13 +92,13 @@ children-check-same-length-2 : (t : ℕ) → children-check-lts.Need-same-length
 children-check-same-length-2 t c = search needs
 
 children-check-returns : (t : ℕ) → children-check-lts.Need-returns (range-end-reads.Asked, range-end-reads.Learnt, node-check-below t, node-check.Post, is-level-reads.Asked, is-level-reads.Learnt) (children-check-at t) children-check.Post children-check-Inv-loop children-check-μ-loop
-unfolding endOf checkedOf heightOf
+unfolding rangeEndOf checkedOf heightOf
 children-check-returns t c =
     let s = c .before .before .before .before .before .before .before .before .before in
     let l = c .before .before .before .before .loop in (
       sym (l .inv .4 ∙ turn-wrong (s .args .node .now) (s .pre .1 .2) (s .args .c) (l .i) (s .pre .1 .3)
           (nodeCheck (s .args .levels) (s .args .card .now) (s .args .n) (s .args .run) false) (l .height) (l .from) (s .args .high) (findingsOf (nodesOf (l .free)) (l .found)) (omega arith)
-          (sym (c .before .before .range-end .ensures) ∙ ap endOf (c .enum-told .given .1))),
+          (sym (c .before .before .range-end .ensures) ∙ ap rangeEndOf (c .enum-told .given .1))),
       omega arith,
     )
 
@@ -130,13 +130,13 @@ children-check-same-length-4 : (t : ℕ) → children-check-lts.Need-same-length
 children-check-same-length-4 t c = search needs
 
 children-check-returns-2 : (t : ℕ) → children-check-lts.Need-returns-2 (range-end-reads.Asked, range-end-reads.Learnt, node-check-below t, node-check.Post, is-level-reads.Asked, is-level-reads.Learnt) (children-check-at t) children-check.Post children-check-Inv-loop children-check-μ-loop
-unfolding endOf checkedOf heightOf
+unfolding rangeEndOf checkedOf heightOf
 children-check-returns-2 t c =
     let s = c .before .before .before .before .before .before .before .before .before .before .before .before .before .before .before .before .before .before .before .before in
     let l = c .before .before .before .before .before .before .before .before .before .before .before .before .before .before .before .loop in (
       sym (l .inv .4 ∙ turn-bad (s .args .node .now) (s .pre .1 .2) (s .args .c) (l .i) (s .pre .1 .3)
           (nodeCheck (s .args .levels) (s .args .card .now) (s .args .n) (s .args .run) false) (l .height) (l .from) (s .args .high) (findingsOf (nodesOf (l .free)) (l .found)) (omega arith)
-          (c .before .before .before .before .before .before .before .before .before .before .before .to .given .0 .0) (sym (c .before .before .before .before .before .before .before .before .before .before .before .before .before .range-end .ensures) ∙ ap endOf (c .before .before .before .before .before .before .before .before .before .before .before .to .given .1))
+          (c .before .before .before .before .before .before .before .before .before .before .before .to .given .0 .0) (sym (c .before .before .before .before .before .before .before .before .before .before .before .before .before .range-end .ensures) ∙ ap rangeEndOf (c .before .before .before .before .before .before .before .before .before .before .before .to .given .1))
           (sym (c .before .before .before .before .before .before .node-check .ensures .0) ∙ ap (λ (r : Checked). checkedOf r (findingsOf (nodesOf (c .before .before .before .before .before .before .node-check .last .1 .1 .1 .1 .1 .1 .1 .1 .0)) (c .before .before .before .before .before .before .node-check .last .1 .1 .1 .1 .1 .1 .1 .1 .1 .0))) (c .enum-told2 .given .1))),
       omega arith,
     )
@@ -151,13 +151,13 @@ children-check-same-length-6 : (t : ℕ) → children-check-lts.Need-same-length
 children-check-same-length-6 t c = search needs
 
 children-check-returns-3 : (t : ℕ) → children-check-lts.Need-returns-3 (range-end-reads.Asked, range-end-reads.Learnt, node-check-below t, node-check.Post, is-level-reads.Asked, is-level-reads.Learnt) (children-check-at t) children-check.Post children-check-Inv-loop children-check-μ-loop
-unfolding endOf checkedOf heightOf
+unfolding rangeEndOf checkedOf heightOf
 children-check-returns-3 t c =
     let s = c .before .before .before .before .before .before .before .before .before .before .before .before .before .before .before .before .before .before .before .before .before .before .before in
     let l = c .before .before .before .before .before .before .before .before .before .before .before .before .before .before .before .before .before .before .loop in (
       sym (l .inv .4 ∙ turn-uneven (s .args .node .now) (s .pre .1 .2) (s .args .c) (l .i) (s .pre .1 .3)
           (nodeCheck (s .args .levels) (s .args .card .now) (s .args .n) (s .args .run) false) (l .height) (l .from) (s .args .high) (findingsOf (nodesOf (l .free)) (l .found)) (omega arith)
-          (c .before .before .before .before .before .before .before .before .before .before .before .before .before .before .to .given .0 .0) (sym (c .before .before .before .before .before .before .before .before .before .before .before .before .before .before .before .before .range-end .ensures) ∙ ap endOf (c .before .before .before .before .before .before .before .before .before .before .before .before .before .before .to .given .1))
+          (c .before .before .before .before .before .before .before .before .before .before .before .before .before .before .to .given .0 .0) (sym (c .before .before .before .before .before .before .before .before .before .before .before .before .before .before .before .before .range-end .ensures) ∙ ap rangeEndOf (c .before .before .before .before .before .before .before .before .before .before .before .before .before .before .to .given .1))
           (c .before .before .before .its .given .0 .0) (findingsOf (nodesOf (c .before .before .before .before .before .before .before .before .before .node-check .last .1 .1 .1 .1 .1 .1 .1 .1 .0)) (c .before .before .before .before .before .before .before .before .before .node-check .last .1 .1 .1 .1 .1 .1 .1 .1 .1 .0)) (sym (c .before .before .before .before .before .before .before .before .before .node-check .ensures .0) ∙ ap (λ (r : Checked). checkedOf r (findingsOf (nodesOf (c .before .before .before .before .before .before .before .before .before .node-check .last .1 .1 .1 .1 .1 .1 .1 .1 .0)) (c .before .before .before .before .before .before .before .before .before .node-check .last .1 .1 .1 .1 .1 .1 .1 .1 .1 .0))) (c .before .before .before .its .given .1))
           (sym (c .before .is-level .ensures) ∙ not-true _ (c .if1 .taken))),
       omega arith,
@@ -179,7 +179,7 @@ children-check-loop-less : (t : ℕ) → children-check-lts.Need-loop-less (rang
 children-check-loop-less t c = search needs
 
 children-check-loop-again : (t : ℕ) → children-check-lts.Need-loop-again (range-end-reads.Asked, range-end-reads.Learnt, node-check-below t, node-check.Post, is-level-reads.Asked, is-level-reads.Learnt) (children-check-at t) children-check.Post children-check-Inv-loop children-check-μ-loop
-unfolding endOf checkedOf heightOf
+unfolding rangeEndOf checkedOf heightOf
 children-check-loop-again t c =
     let s = c .before .before .before .before .before .before .before .before .before .before .before .before .before .before .before .before .before .before .before .before .before .before .before .before in
     let l = c .before .before .before .before .before .before .before .before .before .before .before .before .before .before .before .before .before .before .before .loop in (
@@ -189,7 +189,7 @@ children-check-loop-again t c =
       search needs,
       l .inv .4 ∙ turn-on (s .args .node .now) (s .pre .1 .2) (s .args .c) (l .i) (s .pre .1 .3)
           (nodeCheck (s .args .levels) (s .args .card .now) (s .args .n) (s .args .run) false) (l .height) (l .from) (s .args .high) (findingsOf (nodesOf (l .free)) (l .found)) (omega arith)
-          (c .before .before .before .before .before .before .before .before .before .before .before .before .before .before .before .to .given .0 .0) (sym (c .before .before .before .before .before .before .before .before .before .before .before .before .before .before .before .before .before .range-end .ensures) ∙ ap endOf (c .before .before .before .before .before .before .before .before .before .before .before .before .before .before .before .to .given .1))
+          (c .before .before .before .before .before .before .before .before .before .before .before .before .before .before .before .to .given .0 .0) (sym (c .before .before .before .before .before .before .before .before .before .before .before .before .before .before .before .before .before .range-end .ensures) ∙ ap rangeEndOf (c .before .before .before .before .before .before .before .before .before .before .before .before .before .before .before .to .given .1))
           (c .before .before .before .before .its .given .0 .0) (findingsOf (nodesOf (c .before .before .before .before .before .before .before .before .before .before .node-check .last .1 .1 .1 .1 .1 .1 .1 .1 .0)) (c .before .before .before .before .before .before .before .before .before .before .node-check .last .1 .1 .1 .1 .1 .1 .1 .1 .1 .0)) (sym (c .before .before .before .before .before .before .before .before .before .before .node-check .ensures .0) ∙ ap (λ (r : Checked). checkedOf r (findingsOf (nodesOf (c .before .before .before .before .before .before .before .before .before .before .node-check .last .1 .1 .1 .1 .1 .1 .1 .1 .0)) (c .before .before .before .before .before .before .before .before .before .before .node-check .last .1 .1 .1 .1 .1 .1 .1 .1 .1 .0))) (c .before .before .before .before .its .given .1))
           (sym (c .before .before .is-level .ensures) ∙ not-false _ (c .before .if1 .left)),
     )

@@ -3,7 +3,7 @@ use mathlib.Core.Path.{sym, ap, _∙_}
 use native.Mathlib.Omega.{arith}
 use borrow.Author.Needs.{needs}
 use Rattle.card.proofs.NodeLaws.{children-le}
-use Rattle.soundness.specs.Check.{endOf}
+use Rattle.soundness.specs.Check.{rangeEndOf}
 use Rattle.soundness.proofs.CheckLaws.{end-last, end-fallen, end-above, end-within}
 use Rattle.soundness.proofs.range_end.Statement.{statement}
 use Rattle.soundness.proofs.range_end.Tie as tie
@@ -12,7 +12,7 @@ add-if1 : tie.Need-add-if1
 add-if1 c = search needs
 
 returns : tie.Need-returns
-unfolding endOf
+unfolding rangeEndOf
 returns c = sym (end-last (c .before .before .args .node .now) (search needs) (c .before .before .args .c) (c .before .before .args .i) (search needs) (c .before .before .args .from) (c .before .before .args .high) (omega arith))
 
 add-key : tie.Need-add-key
@@ -25,18 +25,18 @@ shared-slice-read-key : tie.Need-shared-slice-read-key
 shared-slice-read-key c = omega (arith, children-le (c .before .before .before .args .node .now))
 
 returns-2 : tie.Need-returns-2
-unfolding endOf
+unfolding rangeEndOf
 returns-2 c = sym (end-fallen (c .before .before .before .before .args .node .now) (search needs) (c .before .before .before .before .args .c) (c .before .before .before .before .args .i) (search needs) (c .before .before .before .before .args .from) (c .before .before .before .before .args .high) (omega arith) (omega arith))
 
 wide-requires : tie.Need-wide-requires
 wide-requires c κs = search needs
 
 returns-3 : tie.Need-returns-3
-unfolding endOf
+unfolding rangeEndOf
 returns-3 c = sym (end-above (c .before .before .before .before .before .before .args .node .now) (search needs) (c .before .before .before .before .before .before .args .c) (c .before .before .before .before .before .before .args .i) (search needs) (c .before .before .before .before .before .before .args .from) (c .before .before .before .before .before .before .args .high) (omega arith) (omega arith) (omega (arith, c .before .wide .ensures)))
 
 returns-4 : tie.Need-returns-4
-unfolding endOf
+unfolding rangeEndOf
 returns-4 c = ap some (c .before .wide .ensures) ∙ sym (end-within (c .before .before .before .before .before .before .args .node .now) (search needs) (c .before .before .before .before .before .before .args .c) (c .before .before .before .before .before .before .args .i) (search needs) (c .before .before .before .before .before .before .args .from) (c .before .before .before .before .before .before .args .high) (omega arith) (omega arith) (omega (arith, c .before .wide .ensures)))
 
 pub range-end-spec : {M : Type 1} → statement M

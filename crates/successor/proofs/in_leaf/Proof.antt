@@ -10,7 +10,7 @@ use Rattle.card.proofs.NodeLaws.{length-node}
 use Rattle.descent.specs.Descent.{rootPosition, way}
 use Rattle.descent.proofs.Along.{reached-inside}
 use Rattle.descent.proofs.DescentLaws.{Inside}
-use Rattle.successor.specs.Successor.{leastAbove, found, inLeaf}
+use Rattle.successor.specs.Successor.{leastAbove, found, nextInLeaf}
 use borrow.Author.Needs.{needs}
 use Rattle.successor.proofs.in_leaf.Statement.{statement}
 use Rattle.successor.proofs.in_leaf.Tie as tie
@@ -46,15 +46,15 @@ found-requires : tie.Need-found-requires
 found-requires c κs = search needs
 
 returns : tie.Need-returns
-unfolding inLeaf way
-returns c = ap (inLeaf (c .before .before .before .before .before .args .card .now) (c .before .before .before .before .before .args .after)) (sym (sym (c .before .before .find-leaf .ensures) ∙ c .enum-told .given .1))
+unfolding nextInLeaf way
+returns c = ap (nextInLeaf (c .before .before .before .before .before .args .card .now) (c .before .before .before .before .before .args .after)) (sym (sym (c .before .before .find-leaf .ensures) ∙ c .enum-told .given .1))
 
 returns-2 : tie.Need-returns-2
-unfolding inLeaf way
+unfolding nextInLeaf way
 returns-2 c =
     c .found .ensures
     ∙ ap found (c .before .least-above .ensures ∙ ap (λ (x : List ℕ). leastAbove (c .before .before .before .before .before .before .before .before .before .args .after) (leafPairs x)) (c .before .before .node-at .ensures))
-    ∙ ap (inLeaf (c .before .before .before .before .before .before .before .before .before .args .card .now) (c .before .before .before .before .before .before .before .before .before .args .after)) (sym (sym (c .before .before .before .before .before .before .find-leaf .ensures) ∙ c .before .before .before .before .node .given .1))
+    ∙ ap (nextInLeaf (c .before .before .before .before .before .before .before .before .before .args .card .now) (c .before .before .before .before .before .before .before .before .before .args .after)) (sym (sym (c .before .before .before .before .before .before .find-leaf .ensures) ∙ c .before .before .before .before .node .given .1))
 
 pub in-leaf-spec : {M : Type 1} → statement M
 in-leaf-spec = tie.close (tie.spec shared-slice-read-find-leaf cast-find-leaf find-leaf-requires enum-told enum-known-node node-at-requires least-above-requires found-requires returns returns-2)

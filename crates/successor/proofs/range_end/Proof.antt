@@ -10,7 +10,7 @@ use Rattle.descent.specs.Descent.{lookAt, childPosition, rootPosition, Way, pas
 use Rattle.descent.proofs.DescentLaws.{Inside, inner-inside, index-le, children-stop, way-nowhere, way-leaf, way-childless, way-too-deep, way-on, root-node, held, no-child, some-child, next-node}
 use Rattle.descent.specs.declared.Position.{Position}
 use Rattle.descent.specs.declared.Look.the-variants.{Inner as IsInner}
-use Rattle.successor.specs.Successor.{endBelow, rangeEnd}
+use Rattle.successor.specs.Successor.{endBelow, endBelowAll}
 use Rattle.successor.proofs.SuccessorLaws.{end-last}
 use borrow.Author.Needs.{needs}
 use Rattle.successor.proofs.range_end.Statement.{statement}
@@ -20,7 +20,7 @@ use Rattle.successor.proofs.range_end.Tie as tie
 abbrev Inv-loop : tie.InvT-loop
 Inv-loop card n key root m₀ end₀ left₀ m end left =
     (left ≤ depthLimit) × (end ≤ keyLimit) × (p : Position) × (p .node ≡ m)
-    × (rangeEnd card key keyLimit (wayFrom card n key depthLimit (rootPosition root) .inner) ≡ rangeEnd card key end (wayFrom card n key left p .inner))
+    × (endBelowAll card key keyLimit (wayFrom card n key depthLimit (rootPosition root) .inner) ≡ endBelowAll card key end (wayFrom card n key left p .inner))
 
 abbrev μ-loop : tie.MeasureT-loop
 μ-loop card n key root m₀ end₀ left₀ m end left = left
@@ -64,15 +64,15 @@ enum-told : tie.Need-enum-told Inv-loop μ-loop
 enum-told c = search needs
 
 returns : tie.Need-returns Inv-loop μ-loop
-unfolding rangeEnd past
-returns c = (sym (c .before .before .before .loop .inv .4 ∙ ap (λ (w : Way). rangeEnd (c .before .before .before .before .before .args .card .now) (c .before .before .before .before .before .args .key) (c .before .before .before .loop .end) (w .inner)) (way-nowhere _ _ _ _ _ (ap (lookAt (c .before .before .before .before .before .args .card .now) (c .before .before .before .before .before .args .n)) (c .before .before .before .loop .inv .3) ∙ sym (c .before .before .look-at .ensures) ∙ c .enum-told .given .1))), c .before .before .before .loop .inv .1)
+unfolding endBelowAll past
+returns c = (sym (c .before .before .before .loop .inv .4 ∙ ap (λ (w : Way). endBelowAll (c .before .before .before .before .before .args .card .now) (c .before .before .before .before .before .args .key) (c .before .before .before .loop .end) (w .inner)) (way-nowhere _ _ _ _ _ (ap (lookAt (c .before .before .before .before .before .args .card .now) (c .before .before .before .before .before .args .n)) (c .before .before .before .loop .inv .3) ∙ sym (c .before .before .look-at .ensures) ∙ c .enum-told .given .1))), c .before .before .before .loop .inv .1)
 
 enum-told-2 : tie.Need-enum-told-2 Inv-loop μ-loop
 enum-told-2 c = search needs
 
 returns-2 : tie.Need-returns-2 Inv-loop μ-loop
-unfolding rangeEnd past
-returns-2 c = (sym (c .before .before .before .loop .inv .4 ∙ ap (λ (w : Way). rangeEnd (c .before .before .before .before .before .args .card .now) (c .before .before .before .before .before .args .key) (c .before .before .before .loop .end) (w .inner)) (way-leaf _ _ _ _ _ (ap (lookAt (c .before .before .before .before .before .args .card .now) (c .before .before .before .before .before .args .n)) (c .before .before .before .loop .inv .3) ∙ sym (c .before .before .look-at .ensures) ∙ c .enum-told2 .given .1))), c .before .before .before .loop .inv .1)
+unfolding endBelowAll past
+returns-2 c = (sym (c .before .before .before .loop .inv .4 ∙ ap (λ (w : Way). endBelowAll (c .before .before .before .before .before .args .card .now) (c .before .before .before .before .before .args .key) (c .before .before .before .loop .end) (w .inner)) (way-leaf _ _ _ _ _ (ap (lookAt (c .before .before .before .before .before .args .card .now) (c .before .before .before .before .before .args .n)) (c .before .before .before .loop .inv .3) ∙ sym (c .before .before .look-at .ensures) ∙ c .enum-told2 .given .1))), c .before .before .before .loop .inv .1)
 
 enum-told-3 : tie.Need-enum-told-3 Inv-loop μ-loop
 enum-told-3 c = search needs
@@ -84,15 +84,15 @@ shared-slice-read-if1 : tie.Need-shared-slice-read-if1 Inv-loop μ-loop
 shared-slice-read-if1 c = omega (arith, words (c .before))
 
 returns-3 : tie.Need-returns-3 Inv-loop μ-loop
-unfolding rangeEnd past
-returns-3 c = (sym (c .before .before .before .before .before .before .loop .inv .4 ∙ ap (λ (w : Way). rangeEnd (c .before .before .before .before .before .before .before .before .args .card .now) (c .before .before .before .before .before .before .before .before .args .key) (c .before .before .before .before .before .before .loop .end) (w .inner)) (way-childless _ _ _ _ _ (inner (c .before .before)) (no-child _ (c .before .before .before .before .before .before .before .before .args .key) (c .before .before .before .before .before .before .loop .inv .2) _ _ (c .before .before .before .before .before .before .loop .inv .3) (c .before .before .node-at .ensures) (c .if1 .taken))) ∙ childless (c .before .before) (c .if1 .taken)), c .before .before .before .before .before .before .loop .inv .1)
+unfolding endBelowAll past
+returns-3 c = (sym (c .before .before .before .before .before .before .loop .inv .4 ∙ ap (λ (w : Way). endBelowAll (c .before .before .before .before .before .before .before .before .args .card .now) (c .before .before .before .before .before .before .before .before .args .key) (c .before .before .before .before .before .before .loop .end) (w .inner)) (way-childless _ _ _ _ _ (inner (c .before .before)) (no-child _ (c .before .before .before .before .before .before .before .before .args .key) (c .before .before .before .before .before .before .loop .inv .2) _ _ (c .before .before .before .before .before .before .loop .inv .3) (c .before .before .node-at .ensures) (c .if1 .taken))) ∙ childless (c .before .before) (c .if1 .taken)), c .before .before .before .before .before .before .loop .inv .1)
 
 end-below-requires : tie.Need-end-below-requires Inv-loop μ-loop
 end-below-requires c κs = (words (c .before .before), c .if1 .left, c .before .before .before .before .before .before .loop .inv .1)
 
 returns-4 : tie.Need-returns-4 Inv-loop μ-loop
-unfolding rangeEnd past
-returns-4 c = (sym (c .before .before .before .before .before .before .before .before .loop .inv .4 ∙ ap (λ (w : Way). rangeEnd (c .before .before .before .before .before .before .before .before .before .before .args .card .now) (c .before .before .before .before .before .before .before .before .before .before .args .key) (c .before .before .before .before .before .before .before .before .loop .end) (w .inner)) (way-too-deep _ _ _ _ _ (inner (c .before .before .before .before)) (c .if2 .taken)) ∙ further (c .before)), c .before .end-below .ensures .1)
+unfolding endBelowAll past
+returns-4 c = (sym (c .before .before .before .before .before .before .before .before .loop .inv .4 ∙ ap (λ (w : Way). endBelowAll (c .before .before .before .before .before .before .before .before .before .before .args .card .now) (c .before .before .before .before .before .before .before .before .before .before .args .key) (c .before .before .before .before .before .before .before .before .loop .end) (w .inner)) (way-too-deep _ _ _ _ _ (inner (c .before .before .before .before)) (c .if2 .taken)) ∙ further (c .before)), c .before .end-below .ensures .1)
 
 sub-left : tie.Need-sub-left Inv-loop μ-loop
 sub-left c = search needs
@@ -116,15 +116,15 @@ loop-less : tie.Need-loop-less Inv-loop μ-loop
 loop-less c = search needs
 
 loop-again : tie.Need-loop-again Inv-loop μ-loop
-unfolding rangeEnd past
+unfolding endBelowAll past
 loop-again c = (
   omega arith,
   c .before .before .before .end-below .ensures .1,
   childPosition (nodeAt (c .before .before .before .before .before .before .before .before .before .before .before .before .args .card .now) (c .before .before .before .before .before .before .before .before .before .before .loop .inv .2 .node)) (c .before .before .before .before .before .before .before .before .before .before .before .before .args .key) (c .before .before .before .before .before .before .before .before .before .before .loop .inv .2),
   next-node _ _ (c .before .before .before .before .before .before .before .before .before .before .loop .inv .2) _ _ (c .before .before .before .before .before .before .before .before .before .before .loop .inv .3) (c .before .before .before .before .before .before .node-at .ensures) _ (c .before .child-index .ensures),
   c .before .before .before .before .before .before .before .before .before .before .loop .inv .4
-      ∙ ap (λ (w : Way). rangeEnd (c .before .before .before .before .before .before .before .before .before .before .before .before .args .card .now) (c .before .before .before .before .before .before .before .before .before .before .before .before .args .key) (c .before .before .before .before .before .before .before .before .before .before .loop .end) (w .inner)) (way-on _ _ _ _ _ (inner (c .before .before .before .before .before .before)) (c .before .before .if2 .left) (some-child _ (c .before .before .before .before .before .before .before .before .before .before .before .before .args .key) (c .before .before .before .before .before .before .before .before .before .before .loop .inv .2) _ _ (c .before .before .before .before .before .before .before .before .before .before .loop .inv .3) (c .before .before .before .before .before .before .node-at .ensures) (c .before .before .before .before .if1 .left)))
-      ∙ ap (λ (e : ℕ). rangeEnd (c .before .before .before .before .before .before .before .before .before .before .before .before .args .card .now) (c .before .before .before .before .before .before .before .before .before .before .before .before .args .key) e (wayFrom (c .before .before .before .before .before .before .before .before .before .before .before .before .args .card .now) (c .before .before .before .before .before .before .before .before .before .before .before .before .args .n) (c .before .before .before .before .before .before .before .before .before .before .before .before .args .key) (c .before .before .before .before .before .before .before .before .before .before .loop .left - 1) (childPosition (nodeAt (c .before .before .before .before .before .before .before .before .before .before .before .before .args .card .now) (c .before .before .before .before .before .before .before .before .before .before .loop .inv .2 .node)) (c .before .before .before .before .before .before .before .before .before .before .before .before .args .key) (c .before .before .before .before .before .before .before .before .before .before .loop .inv .2)) .inner)) (further (c .before .before .before)),
+      ∙ ap (λ (w : Way). endBelowAll (c .before .before .before .before .before .before .before .before .before .before .before .before .args .card .now) (c .before .before .before .before .before .before .before .before .before .before .before .before .args .key) (c .before .before .before .before .before .before .before .before .before .before .loop .end) (w .inner)) (way-on _ _ _ _ _ (inner (c .before .before .before .before .before .before)) (c .before .before .if2 .left) (some-child _ (c .before .before .before .before .before .before .before .before .before .before .before .before .args .key) (c .before .before .before .before .before .before .before .before .before .before .loop .inv .2) _ _ (c .before .before .before .before .before .before .before .before .before .before .loop .inv .3) (c .before .before .before .before .before .before .node-at .ensures) (c .before .before .before .before .if1 .left)))
+      ∙ ap (λ (e : ℕ). endBelowAll (c .before .before .before .before .before .before .before .before .before .before .before .before .args .card .now) (c .before .before .before .before .before .before .before .before .before .before .before .before .args .key) e (wayFrom (c .before .before .before .before .before .before .before .before .before .before .before .before .args .card .now) (c .before .before .before .before .before .before .before .before .before .before .before .before .args .n) (c .before .before .before .before .before .before .before .before .before .before .before .before .args .key) (c .before .before .before .before .before .before .before .before .before .before .loop .left - 1) (childPosition (nodeAt (c .before .before .before .before .before .before .before .before .before .before .before .before .args .card .now) (c .before .before .before .before .before .before .before .before .before .before .loop .inv .2 .node)) (c .before .before .before .before .before .before .before .before .before .before .before .before .args .key) (c .before .before .before .before .before .before .before .before .before .before .loop .inv .2)) .inner)) (further (c .before .before .before)),
 )
 
 pub range-end-spec : {M : Type 1} → statement M

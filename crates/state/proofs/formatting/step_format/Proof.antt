@@ -3,7 +3,7 @@ use mathlib.Core.Path.{ap, ap₂, sym, _∙_}
 use Prim.Native.Nat.{ℕ, suc}
 use native.Mathlib.Omega.{arith}
 use lib.ListN.{length, set}
-use Rattle.state.specs.Steps.{stepFinal, formatting, stepFormat}
+use Rattle.state.specs.Steps.{stepFinal, formattingFrom, stepFormat}
 use Rattle.state.specs.Memory.{Memory, memoryOf}
 use Rattle.state.specs.Results.{stepLeft}
 use Rattle.state.proofs.StepLaws.{format-first, format-middle, format-last, format-end, final-ready, stored-no-refusal}
@@ -50,7 +50,7 @@ same-length-2 c = search needs
 returns-2 : tie.Need-returns-2
 unfolding stepLeft stepFormat
 returns-2 c = (
-  ap₂ (λ (a : Answer) (m : Memory). record { answer = a; card = set (c .before .before .before .before .before .args .card .now) (c .before .before .before .before .before .args .made) (c .before .formatted-word .result); memory = m }) (c .formatting2 .ensures .0) (c .formatting2 .ensures .1) ∙ ap (λ (v : ℕ). record { answer = Stored (c .before .before .before .before .before .args .made); card = set (c .before .before .before .before .before .args .card .now) (c .before .before .before .before .before .args .made) v; memory = formatting (memoryOf (c .before .before .before .before .before .args .s)) (suc (c .before .before .before .before .before .args .made)) }) (c .before .formatted-word .ensures) ∙ sym (ap (stepFormat (c .before .before .before .before .before .args .card .now) (memoryOf (c .before .before .before .before .before .args .s)) (c .before .before .before .before .before .args .made)) (format-middle (c .before .before .before .before .before .args .s .nodes) (length (c .before .before .before .before .before .args .card .now)) (c .before .before .before .before .before .args .made) (c .before .before .before .if1 .left) (c .before .before .if2 .taken))),
+  ap₂ (λ (a : Answer) (m : Memory). record { answer = a; card = set (c .before .before .before .before .before .args .card .now) (c .before .before .before .before .before .args .made) (c .before .formatted-word .result); memory = m }) (c .formatting2 .ensures .0) (c .formatting2 .ensures .1) ∙ ap (λ (v : ℕ). record { answer = Stored (c .before .before .before .before .before .args .made); card = set (c .before .before .before .before .before .args .card .now) (c .before .before .before .before .before .args .made) v; memory = formattingFrom (memoryOf (c .before .before .before .before .before .args .s)) (suc (c .before .before .before .before .before .args .made)) }) (c .before .formatted-word .ensures) ∙ sym (ap (stepFormat (c .before .before .before .before .before .args .card .now) (memoryOf (c .before .before .before .before .before .args .s)) (c .before .before .before .before .before .args .made)) (format-middle (c .before .before .before .before .before .args .s .nodes) (length (c .before .before .before .before .before .args .card .now)) (c .before .before .before .before .before .args .made) (c .before .before .before .if1 .left) (c .before .before .if2 .taken))),
   (λ n e. absurd (stored-no-refusal _ n (sym (c .formatting2 .ensures .0) ∙ e))),
 )
 

@@ -8,7 +8,7 @@ use borrow.Author.Tests.{not-false}
 use borrow.Author.Needs.{needs}
 use Rattle.plans.specs.Plan.{storesOf}
 use Rattle.state.specs.Memory.{Memory}
-use Rattle.state.specs.Results.{more}
+use Rattle.state.specs.Results.{moreToStore}
 use Rattle.state.specs.Steps.{Step}
 use Rattle.state.specs.declared.Answer.the-variants.{Stored}
 use Rattle.state_block.specs.Block.{unpacked, memoryIn}
@@ -17,7 +17,7 @@ use Rattle.table.proofs.playing.play_store.Statement.{statement}
 use Rattle.table.proofs.playing.play_store.Tie as tie
 
 -- a store is to come
-hand : (c : tie.Else1) → more (drop (c .before .before .before .wide .result) (storesOf (unpacked (c .before .before .before .before .before .before .before .args .block .now) .plan))) ≡ true
+hand : (c : tie.Else1) → moreToStore (drop (c .before .before .before .wide .result) (storesOf (unpacked (c .before .before .before .before .before .before .before .args .block .now) .plan))) ≡ true
 hand c = sym (c .before .in-hand .ensures) ∙ not-false _ (c .if1 .left)
 
 below : (c : tie.Else1) → c .before .before .before .wide .result < 73

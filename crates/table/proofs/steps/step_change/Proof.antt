@@ -14,7 +14,7 @@ use Rattle.plans.specs.declared.numbers.Given.{Given}
 use Rattle.change.specs.LayOut.{needed}
 use Rattle.change.proofs.LayOutLaws.{needed-few, laid-none}
 use Rattle.state.specs.Memory.{Memory, memoryOf, advanced}
-use Rattle.state.specs.Results.{stepLeft, more}
+use Rattle.state.specs.Results.{stepLeft, moreToStore}
 use Rattle.state.specs.Steps.{stepRefused, stepStore}
 use Rattle.state.specs.declared.Answer.{Answer}
 use Rattle.state.specs.declared.Doing.{Doing}
@@ -83,9 +83,9 @@ unfolding Storing memoryOf
 store-next-requires c κs =
     let s = c .before .before .before .before .before .before .before .before .before .before .before .before .before in
     let p = c .before .planned in
-    let has : more (storesOf (p .result .plan)) ≡ true =
+    let has : moreToStore (storesOf (p .result .plan)) ≡ true =
     subst Storing (sym (p .ensures .0)) (laid-stores (nodesOf (s .args .s .free .words)) (s .args .s .last) (s .args .card .now) (s .args .decision)) in
-    subst (λ (k : ℕ). more (drop k (storesOf (p .result .plan))) ≡ true) (sym (p .ensures .3)) has
+    subst (λ (k : ℕ). moreToStore (drop k (storesOf (p .result .plan))) ≡ true) (sym (p .ensures .3)) has
 
 same-length : tie.Need-same-length
 same-length c = search needs
