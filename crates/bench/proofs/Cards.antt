@@ -5,27 +5,27 @@ use Prim.Native.Nat.{ℕ}
 use lib.ListN.{getD}
 use Rattle.card.specs.Header.{nodesOfLength, headerRefusal, cardRefusal}
 use Rattle.card.specs.Layout.{runBelow, nodeAt, keyWords, valueWords, children, routingKeys, leafPairs, nodeImage}
-use Rattle.plans.specs.Change.{changeStores, kindAbove, splitLeaf, joinedKeys, joinedChildren, absorb, splitParent, leavesTogether, innersTogether, half, leftKeys, keyBetween, share, merge, mergeRoot, halves, copied}
-use Rattle.plans.specs.Planning.{numbersFrom, takeNumbers, withoutAll, lastOf, overNumbers, giving, withAll}
+use Rattle.change_plan.specs.Change.{changeStores, kindAbove, splitLeaf, joinedKeys, joinedChildren, absorb, splitParent, leavesTogether, innersTogether, half, leftKeys, keyBetween, share, merge, mergeRoot, halves, copied}
+use Rattle.change_plan.specs.Planning.{numbersFrom, takeNumbers, withoutAll, lastOf, overNumbers, giving, withAll}
 use Rattle.change_decide.specs.Decide.{decideTagged, decideTogether, decideSiblings, isNode, decideUnderfull, decideAt, onSearch}
 use Rattle.change_decide.specs.Decide.{decidedRepair}
-use Rattle.change.specs.LayOut.{layOut}
-use Rattle.change.specs.Mending.{nextRepair}
-use Rattle.siblings.specs.Siblings.{togetherAt}
-use Rattle.descent.specs.Descent.{passed, childIndex, childFor, firstEqual, slotOf, lookAt, rootPosition, childPosition, past, byLook, wayFrom, way, reachedAt, leafOf, runOver, landedAt, landingOf, countOf, isFault, firstFault, ended, toList, endOf, searchOf, seek}
-use Rattle.free_nodes.specs.NodeSet.{allNodes, countTrue, firstTrue, firstFrom, orElse, nextFree}
+use Rattle.change_layout.specs.LayOut.{layOut}
+use Rattle.change_layout.specs.Mending.{nextRepair}
+use Rattle.change_siblings.specs.Siblings.{togetherAt}
+use Rattle.walk.specs.Descent.{passed, childIndex, childFor, firstEqual, slotOf, lookAt, rootPosition, childPosition, past, byLook, wayFrom, way, reachedAt, leafOf, runOver, landedAt, landingOf, countOf, isFault, firstFault, ended, toList, endOf, searchOf, seek}
+use Rattle.card_free.specs.NodeSet.{allNodes, countTrue, firstTrue, firstFrom, orElse, nextFree}
 use Rattle.laws.specs.Sorting.{insertPair, insertAll, sort, pairKeys}
-use Rattle.soundness.specs.Check.{member, leafSound, unusedZero, lookOf, noted, enterLeaf, innerSound, enterInner, enterKind, enterNode, childrenCheck, raised, onLook, nodeCheck, tableCheck, rangeEnd, slotSound}
+use Rattle.card_check.specs.Check.{member, leafSound, unusedZero, lookOf, noted, enterLeaf, innerSound, enterInner, enterKind, enterNode, childrenCheck, raised, onLook, nodeCheck, tableCheck, rangeEnd, slotSound}
 use Rattle.card.specs.Replies.{refusal, holds, absent, idle, started as begun}
-use Rattle.lookup.specs.Answers.{foundReply}
+use Rattle.call_find.specs.Answers.{foundReply}
 use Rattle.state.specs.Answers.{stepReply, startReply}
-use Rattle.lookup.specs.Find.{foundIn, foundAt, findOf}
-use Rattle.opening.specs.Opening.{openSound, openChecked, openOf}
-use Rattle.starting.specs.Starts.{formatOf, startRefused, startAccepted, startLanded, startChecked, startOf, insertOf, deleteOf}
+use Rattle.call_find.specs.Find.{foundIn, foundAt, findOf}
+use Rattle.call_open.specs.Opening.{openSound, openChecked, openOf}
+use Rattle.call_start.specs.Starts.{formatOf, startRefused, startAccepted, startLanded, startChecked, startOf, insertOf, deleteOf}
 use Rattle.table.specs.Calls.{planning, stepPrepared, stepBegin, stepHeld, stepOf, stepTask, stepChecked}
 use Rattle.state.specs.Steps.{noBeginning, stepRefused, stepFinal, formattedWord, formatStore, formattingFrom, stepFormat, stepStore, isIdle, heldBy}
 use Rattle.state.specs.Memory.{noMemory, resting, idled, advanced}
-use Rattle.updates.specs.Updates.{landing, emptyReason, reasonIn, insertReason, insertChange, deleteChange, roomFor, startRoom, nextChange, inLeaf, noWay}
+use Rattle.call_change.specs.Updates.{landing, emptyReason, reasonIn, insertReason, insertChange, deleteChange, roomFor, startRoom, nextChange, inLeaf, noWay}
 use Rattle.state.specs.declared.Answer.the-variants.{Absent, Value}
 use Rattle.state.specs.declared.Doing.the-variants.{Idle}
 use Rattle.bench.specs.Cards.{Bench, onAnswer, drive, fresh, insertWhole, deleteWhole, steps, upto, said, cardL, cardB, cardS, cardI, cardK, cardL2, cutB, againB, cutI, splitI, rowA, rowB, rowC, rowD, rowE, rowF, rowG104, rowG80, rowG103, rowG105, rowG14408, rowG14432, rowHinsert, rowHfind, rowHgreatest, rowI, rowJ, rowK, rowKleft, rowKright, rowL2, rowL2leaf, rowCutOpened, rowCutAbsent, rowCutHeld, StarredCards}

@@ -12,38 +12,38 @@ use Rattle.laws.specs.Cases.{pick}
 use Rattle.laws.proofs.Cases.{bool-cases}
 use Rattle.card.specs.Header.{nodesOfLength, headerRefusal, cardRefusal}
 use Rattle.card.specs.Layout.{runBelow, nodeAt, keyWords, valueWords, children, routingKeys, leafPairs, nodeImage}
-use Rattle.plans.specs.Change.{changeStores, kindAbove, splitLeaf, joinedKeys, joinedChildren, absorb, splitParent, leavesTogether, innersTogether, half, leftKeys, keyBetween, share, merge, mergeRoot, halves, copied}
-use Rattle.plans.specs.Planning.{numbersFrom, takeNumbers, withoutAll, lastOf, overNumbers, giving, withAll}
+use Rattle.change_plan.specs.Change.{changeStores, kindAbove, splitLeaf, joinedKeys, joinedChildren, absorb, splitParent, leavesTogether, innersTogether, half, leftKeys, keyBetween, share, merge, mergeRoot, halves, copied}
+use Rattle.change_plan.specs.Planning.{numbersFrom, takeNumbers, withoutAll, lastOf, overNumbers, giving, withAll}
 use Rattle.change_decide.specs.Decide.{decideTagged, decideTogether, decideSiblings, isNode, decideUnderfull, decideAt, onSearch}
 use Rattle.change_decide.specs.Decide.{decidedRepair}
-use Rattle.change.specs.LayOut.{layOut}
-use Rattle.change.specs.Mending.{nextRepair}
-use Rattle.siblings.specs.Siblings.{togetherAt}
-use Rattle.descent.specs.Descent.{passed, childIndex, childFor, firstEqual, slotOf, lookAt, rootPosition, childPosition, past, byLook, wayFrom, way, reachedAt, leafOf, runOver, landedAt, landingOf, countOf, isFault, firstFault, ended, toList, endOf, searchOf, seek}
-use Rattle.free_nodes.specs.NodeSet.{allNodes, countTrue, firstTrue, firstFrom, orElse, nextFree}
+use Rattle.change_layout.specs.LayOut.{layOut}
+use Rattle.change_layout.specs.Mending.{nextRepair}
+use Rattle.change_siblings.specs.Siblings.{togetherAt}
+use Rattle.walk.specs.Descent.{passed, childIndex, childFor, firstEqual, slotOf, lookAt, rootPosition, childPosition, past, byLook, wayFrom, way, reachedAt, leafOf, runOver, landedAt, landingOf, countOf, isFault, firstFault, ended, toList, endOf, searchOf, seek}
+use Rattle.card_free.specs.NodeSet.{allNodes, countTrue, firstTrue, firstFrom, orElse, nextFree}
 use Rattle.laws.specs.Sorting.{insertPair, insertAll, sort}
-use Rattle.soundness.specs.Check.{member, leafSound, unusedZero, lookOf, noted, enterLeaf, innerSound, enterInner, enterKind, enterNode, childrenCheck, raised, onLook, nodeCheck, tableCheck, rangeEnd, slotSound}
+use Rattle.card_check.specs.Check.{member, leafSound, unusedZero, lookOf, noted, enterLeaf, innerSound, enterInner, enterKind, enterNode, childrenCheck, raised, onLook, nodeCheck, tableCheck, rangeEnd, slotSound}
 use Rattle.state.specs.Memory.{noMemory, resting, idled, advanced}
-use Rattle.updates.specs.Updates.{landing, emptyReason, reasonIn, insertReason, insertChange, deleteChange, roomFor, startRoom, nextChange, inLeaf, noWay}
+use Rattle.call_change.specs.Updates.{landing, emptyReason, reasonIn, insertReason, insertChange, deleteChange, roomFor, startRoom, nextChange, inLeaf, noWay}
 use Rattle.state.specs.Answers.{stepReply, startReply}
-use Rattle.lookup.specs.Find.{foundIn, foundAt, findOf}
-use Rattle.opening.specs.Opening.{openSound, openChecked, openOf}
-use Rattle.starting.specs.Starts.{formatOf, startRefused, startAccepted, startLanded, startChecked, startOf, insertOf, deleteOf}
+use Rattle.call_find.specs.Find.{foundIn, foundAt, findOf}
+use Rattle.call_open.specs.Opening.{openSound, openChecked, openOf}
+use Rattle.call_start.specs.Starts.{formatOf, startRefused, startAccepted, startLanded, startChecked, startOf, insertOf, deleteOf}
 use Rattle.table.specs.Calls.{stepOf, planning, stepPrepared, stepBegin, stepHeld, stepTask, stepChecked}
 use Rattle.state.specs.Steps.{noBeginning, stepRefused, stepFinal, formattedWord, formatStore, formattingFrom, stepFormat, stepStore, isIdle, heldBy}
 use Rattle.state.specs.declared.Doing.the-variants.{Idle}
 use Rattle.state.specs.declared.Answer.{Answer}
 use Rattle.state.specs.declared.Answer.the-variants.{Stored, Ready, Absent, Value, Refused}
 use Rattle.card.specs.Replies.{holds, absent, ready}
-use Rattle.promises.specs.Book.{book, empty, added, entered, fedStart, fedStep, feed, outcome, told, kept}
-use Rattle.promises.proofs.BookLaws.{IsStored}
+use Rattle.theory_book.specs.Book.{book, empty, added, entered, fedStart, fedStep, feed, outcome, told, kept}
+use Rattle.theory_book.proofs.BookLaws.{IsStored}
 use Rattle.demands.specs.Demand3.{Survives}
-use Rattle.promises.specs.Events.{Event, World, replyTo, happens, run, LeftUncut, Begins, from-format, insert, step, cut}
-use Rattle.promises.specs.RationTable.{rationTable}
-use Rattle.promises.specs.Way.{among}
+use Rattle.theory_book.specs.Events.{Event, World, replyTo, happens, run, LeftUncut, Begins, from-format, insert, step, cut}
+use Rattle.theory_book.specs.RationTable.{rationTable}
+use Rattle.theory_book.specs.Way.{among}
 use Rattle.demands.specs.Worked.{dictionary}
 use Rattle.demands.proofs.Demands.{demand-3}
-use Rattle.tree.specs.Pairs.{lookup}
+use Rattle.theory_tree.specs.Pairs.{lookup}
 
 unfoldable pub isStored : Answer → Bool
 isStored (Stored place) = true

@@ -5,14 +5,14 @@ use mathlib.Core.List.{List, [], _∷_, _++_}
 use Prim.Native.Nat.{ℕ, zero, suc, _+_, _*_}
 use lib.ListN.{getD, replicate}
 use Rattle.card.specs.Layout.{nodeAt, children, routingKeys, leafPairs}
-use Rattle.free_nodes.specs.NodeSet.{countTrue}
+use Rattle.card_free.specs.NodeSet.{countTrue}
 use Rattle.laws.specs.Sorting.{pairKeys}
 use Rattle.card.specs.Replies.{Reply, refusal, holds, absent, idle, started as begun}
-use Rattle.lookup.specs.Answers.{foundReply}
+use Rattle.call_find.specs.Answers.{foundReply}
 use Rattle.state.specs.Answers.{stepReply, startReply}
-use Rattle.lookup.specs.Find.{findOf}
-use Rattle.opening.specs.Opening.{openOf}
-use Rattle.starting.specs.Starts.{formatOf, insertOf, deleteOf}
+use Rattle.call_find.specs.Find.{findOf}
+use Rattle.call_open.specs.Opening.{openOf}
+use Rattle.call_start.specs.Starts.{formatOf, insertOf, deleteOf}
 use Rattle.table.specs.Calls.{stepOf}
 use Rattle.state.specs.Steps.{Handed, Step}
 use Rattle.state.specs.Memory.{Memory}

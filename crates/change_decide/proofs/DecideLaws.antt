@@ -13,7 +13,7 @@ use Rattle.card.specs.Layout.{rootPlace, nodeAt, kindOf, children, leafPairs}
 use Rattle.card.proofs.NodeLaws.{children-words}
 use Rattle.change_decide.specs.Decide.{decideTagged, decideTogether, decideSiblings, isNode, leftSibling, leftNumber, rightNumber, decideUnderfull, decideAt}
 use Rattle.change_decide.specs.declared.Decision.the-variants.{Refused, Absorb, SplitParent, Share, Merge, MergeRoot}
-use Rattle.descent.specs.declared.Position.{Position}
+use Rattle.walk.specs.declared.Position.{Position}
 
 -- a test and then another, decided by the first
 pub and-second : (a b : Bool) → a ≡ true → b ≡ (a && b)

@@ -10,10 +10,10 @@ use borrow.Author.Tests.{ltb-true, ltb-false, leb-true, leb-false, eqb-true, eq-
 use Rattle.laws.proofs.Cases.{and-true}
 use Rattle.card.specs.Layout.{greatestNodes, rootPlace, depthLimit, nodeAt, kindOf, children, leafPairs}
 use Rattle.card.specs.NodeWords.{OnCard}
-use Rattle.descent.specs.Descent.{rootPosition, seek}
-use Rattle.descent.specs.declared.Position.{Position}
-use Rattle.descent.specs.declared.Search.{Search}
-use Rattle.descent.specs.declared.Search.the-variants.{Refused as NoSearch, Balanced as SearchBalanced, Violation as SearchViolation}
+use Rattle.walk.specs.Descent.{rootPosition, seek}
+use Rattle.walk.specs.declared.Position.{Position}
+use Rattle.walk.specs.declared.Search.{Search}
+use Rattle.walk.specs.declared.Search.the-variants.{Refused as NoSearch, Balanced as SearchBalanced, Violation as SearchViolation}
 use Rattle.change_decide.specs.Decide.{isNode, leftSibling, leftNumber, rightNumber}
 use Rattle.change_decide.specs.Decide.{decideTagged, decideTogether, decideSiblings, decideUnderfull, decideAt, onSearch, decidedRepair}
 use Rattle.change_decide.specs.Places.{PositionWithin, parentAt, TaggedAt, leftAt, rightAt, countTogether, togetherCount, SiblingsAt, Fits}

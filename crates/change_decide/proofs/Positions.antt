@@ -8,13 +8,13 @@ use lib.ListN.{length}
 use lib.Dec.{lit<}
 use Rattle.card.specs.Layout.{greatestNodes, nodeAt, children, routingKeys}
 use Rattle.card.proofs.NodeLaws.{length-node, children-le, length-routing}
-use Rattle.descent.specs.Descent.{childIndex, lookAt, rootPosition, childPosition, wayFrom, seek}
-use Rattle.descent.proofs.DescentLaws.{passed-le, look-inside, inner-inside, fault-below, search-fault}
-use Rattle.descent.proofs.Along.{along, fault-along}
+use Rattle.walk.specs.Descent.{childIndex, lookAt, rootPosition, childPosition, wayFrom, seek}
+use Rattle.walk.proofs.DescentLaws.{passed-le, look-inside, inner-inside, fault-below, search-fault}
+use Rattle.walk.proofs.Along.{along, fault-along}
 use Rattle.change_decide.specs.Places.{PositionWithin}
-use Rattle.descent.specs.declared.Position.{Position}
-use Rattle.descent.specs.declared.Look.the-variants.{Inner as IsInner}
-use Rattle.descent.specs.declared.Search.the-variants.{Violation as SearchViolation}
+use Rattle.walk.specs.declared.Position.{Position}
+use Rattle.walk.specs.declared.Look.the-variants.{Inner as IsInner}
+use Rattle.walk.specs.declared.Search.the-variants.{Violation as SearchViolation}
 
 -- a position on the way down: its links fit the words of a plan, and below the root its parent is a node of which it is a child
 record Placed (card : List ℕ) (n : ℕ) (q : Position) : Type 0 where

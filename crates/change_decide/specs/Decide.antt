@@ -6,10 +6,10 @@ use lib.ListN.{length, getD}
 use lib.Dec.{eqb, ltb, leb}
 use Rattle.laws.specs.Cases.{pick}
 use Rattle.card.specs.Layout.{rootPlace, depthLimit, nodeAt, kindOf, children, leafPairs}
-use Rattle.descent.specs.Descent.{rootPosition, seek}
-use Rattle.descent.specs.declared.Position.{Position}
-use Rattle.descent.specs.declared.Search.{Search}
-use Rattle.descent.specs.declared.Search.the-variants.{Refused as NoSearch, Balanced as SearchBalanced, Violation as SearchViolation}
+use Rattle.walk.specs.Descent.{rootPosition, seek}
+use Rattle.walk.specs.declared.Position.{Position}
+use Rattle.walk.specs.declared.Search.{Search}
+use Rattle.walk.specs.declared.Search.the-variants.{Refused as NoSearch, Balanced as SearchBalanced, Violation as SearchViolation}
 use Rattle.change_decide.specs.declared.Decision.{Decision}
 use Rattle.change_decide.specs.declared.Decision.the-variants.{Refused, Balanced, Absorb, SplitParent, Share, Merge, MergeRoot}
 

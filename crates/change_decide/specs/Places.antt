@@ -7,7 +7,7 @@ use lib.Dec.{eqb}
 use Rattle.laws.specs.Cases.{pick}
 use Rattle.card.specs.Layout.{greatestNodes, nodeAt, kindOf, children, leafPairs}
 use Rattle.card.specs.NodeWords.{OnCard}
-use Rattle.descent.specs.declared.Position.{Position}
+use Rattle.walk.specs.declared.Position.{Position}
 use Rattle.change_decide.specs.Decide.{leftSibling, leftNumber, rightNumber}
 use Rattle.change_decide.specs.declared.Decision.{Decision}
 use Rattle.change_decide.specs.declared.Decision.the-variants.{Refused, Balanced, PutPair, ClearKey, SplitLeaf, Absorb, SplitParent, Share, Merge, MergeRoot}

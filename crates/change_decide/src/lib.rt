@@ -1,7 +1,7 @@
 // Document 01, "The changes": which change a step is due that has no store left to make, and where. A decision is a small value
-// and plans nothing: what the new nodes hold is on the card, and `change` lays it out.
-use descent::Position;
-use descent::Search;
+// and plans nothing: what the new nodes hold is on the card, and `change_layout` lays it out.
+use walk::Position;
+use walk::Search;
 ghost use mathlib.Core.Path.{_≡_};
 ghost use mathlib.Core.Bool.{_&&_};
 ghost use Prim.Native.Nat.{_+_, _*_, _≤_};
@@ -174,7 +174,7 @@ pub fn next_repair(card: &[u32], n: usize, key: u32) -> Decision
     requires { ⌜ (length (now card) ≡ 8 + 24 * n) × (n ≤ greatestNodes) × (4 ≤ n) ⌝ }
     ensures { λ r. ⌜ r ≡ decidedRepair (now (card .entry)) n key ⌝ }
 {
-    match descent::find_violation(card, n, key, card[card::ROOT_PLACE] as usize) {
+    match walk::find_violation(card, n, key, card[card::ROOT_PLACE] as usize) {
         Search::Refused => Decision::Refused,
         Search::Balanced => Decision::Balanced,
         Search::Violation(p) => decide_at(card, n, p),

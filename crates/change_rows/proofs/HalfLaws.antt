@@ -9,7 +9,7 @@ use lib.Dec.{eqb}
 use borrow.Author.Tests.{ne-eqb, eq-eqb}
 use Rattle.laws.specs.Cases.{pick}
 use Rattle.card.specs.Layout.{nodeImage}
-use Rattle.plans.specs.Change.{Together, half, leftKeys, keyBetween, halves}
+use Rattle.change_plan.specs.Change.{Together, half, leftKeys, keyBetween, halves}
 use Rattle.change_rows.specs.Nodes.{newWords}
 use Rattle.change_rows.specs.Halves.{together, keysFor, Whole, leftWords, rightWords, halvesWords}
 use Rattle.change_rows.proofs.RowLaws.{take-start, drop-end}

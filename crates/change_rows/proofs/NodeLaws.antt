@@ -11,7 +11,7 @@ use Rattle.laws.proofs.Lists.{length-pad}
 use Rattle.card.specs.Layout.{place, nodeImage, children}
 use Rattle.card.specs.Stores.{Store, stores, NewNode, nodeStores}
 use Rattle.card.proofs.NodeLaws.{children-words}
-use Rattle.plans.specs.Change.{Change, changeStores}
+use Rattle.change_plan.specs.Change.{Change, changeStores}
 use Rattle.change_rows.specs.Nodes.{countFrom, nodePlaces, placesOf, imageOf, newWords, changePlaces, changeWords, changeLength}
 use Rattle.change_rows.proofs.RowLaws.{lay-next}
 

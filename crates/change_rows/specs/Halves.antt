@@ -6,7 +6,7 @@ use lib.ListN.{length, take, drop}
 use lib.Dec.{eqb}
 use Rattle.laws.specs.Cases.{pick}
 use Rattle.card.specs.Layout.{nodeImage}
-use Rattle.plans.specs.Change.{Together, leftKeys, leftValues}
+use Rattle.change_plan.specs.Change.{Together, leftKeys, leftValues}
 
 abbrev pub together : ℕ → List ℕ → List ℕ → Together
 together kind keys values = record { kind = kind; keys = keys; values = values }

@@ -4,7 +4,7 @@ use Prim.Native.Nat.{ℕ, zero, suc, _+_, _*_, _≤_, _<_, _^_}
 use lib.ListN.{length, getD, drop}
 use Rattle.card.specs.Layout.{place, nodeImage}
 use Rattle.card.specs.Stores.{NewNode}
-use Rattle.plans.specs.Change.{Change}
+use Rattle.change_plan.specs.Change.{Change}
 
 -- a number that a node can have, far above any card's, so that the places of its words fit 32 bits
 pub record IsNumber (m : ℕ) : Type 0 where

@@ -4,7 +4,7 @@ ghost use mathlib.Core.Path.{_≡_};
 ghost use mathlib.Core.List.{_++_};
 ghost use Prim.Native.Nat.{_≤_, _<_};
 ghost use lib.ListN.{length, drop};
-ghost use Rattle.plans.specs.Change.{keyBetween};
+ghost use Rattle.change_plan.specs.Change.{keyBetween};
 ghost use Rattle.change_rows.specs.Halves.{together, keysFor, Whole, leftWords, rightWords, halvesWords};
 
 // How many keys a node has that has so many values or children: "With c children the routing keys are words 1 to c − 1".

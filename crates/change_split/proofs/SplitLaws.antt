@@ -11,14 +11,14 @@ use Rattle.laws.specs.Lists.{beforeZero}
 use Rattle.laws.specs.Sorting.{Pairs, insertPair, insertAll, sort, pairKeys, pairValues, keyAt}
 use Rattle.laws.proofs.Sorting.{map-take, map-drop}
 use Rattle.card.specs.Layout.{rootPlace, children, routingKeys, leafPairs}
-use Rattle.descent.specs.declared.Position.{Position}
+use Rattle.walk.specs.declared.Position.{Position}
 use Rattle.change_rows.specs.Pairs.{pairsIn, Gathered}
 use Rattle.change_rows.specs.Nodes.{changeWords, changeLength, wordsLaid}
 use Rattle.change_rows.specs.Halves.{together, Whole}
 use Rattle.change_rows.proofs.PairLaws.{none-in, gathered-then}
 use Rattle.change_rows.proofs.HalfLaws.{keys-leaf, keys-inner}
-use Rattle.plans.specs.Change.{kindAbove, splitLeaf, joinedKeys, joinedChildren, splitParent, half, leftKeys, keyBetween, halves}
-use Rattle.plans.specs.Planning.{first, second, third}
+use Rattle.change_plan.specs.Change.{kindAbove, splitLeaf, joinedKeys, joinedChildren, splitParent, half, leftKeys, keyBetween, halves}
+use Rattle.change_plan.specs.Planning.{first, second, third}
 use Rattle.change_split.specs.Split.{under}
 
 -- ---- a split

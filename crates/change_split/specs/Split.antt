@@ -4,10 +4,10 @@ use Prim.Native.Nat.{ℕ}
 use Rattle.laws.specs.Sorting.{sort}
 use Rattle.card.specs.Layout.{nodeAt, leafPairs}
 use Rattle.card.specs.Stores.{newNode}
-use Rattle.descent.specs.declared.Position.{Position}
+use Rattle.walk.specs.declared.Position.{Position}
 use Rattle.change_decide.specs.Places.{parentAt}
-use Rattle.plans.specs.Change.{Change, kindAbove, splitLeaf, joinedKeys, joinedChildren, absorb, splitParent, Together, keyBetween, halves}
-use Rattle.plans.specs.Planning.{first, second, third}
+use Rattle.change_plan.specs.Change.{Change, kindAbove, splitLeaf, joinedKeys, joinedChildren, absorb, splitParent, Together, keyBetween, halves}
+use Rattle.change_plan.specs.Planning.{first, second, third}
 
 -- the two, and the one above them with the key between them, linked from a place: "under a tagged node (internal if it is the
 -- root)". It cuts out nothing of its own.

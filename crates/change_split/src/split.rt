@@ -10,7 +10,7 @@ ghost use lib.ListN.{length};
 ghost use Rattle.card.specs.Layout.{leafPairs};
 ghost use Rattle.change_rows.specs.Nodes.{wordsLaid};
 ghost use Rattle.change_rows.specs.Halves.{together, Whole};
-ghost use Rattle.plans.specs.Change.{kindAbove};
+ghost use Rattle.change_plan.specs.Change.{kindAbove};
 ghost use Rattle.change_split.specs.Split.{under, splitLeafOf};
 
 // "under a tagged node (internal if it is the root)"

@@ -4,7 +4,7 @@ use change_rows::nodes::children;
 use change_rows::nodes::routing_keys;
 use change_rows::nodes::write_node;
 use change_rows::words::replaced;
-use descent::Position;
+use walk::Position;
 ghost use mathlib.Core.Path.{_≡_};
 ghost use mathlib.Core.List.{[], _∷_};
 ghost use Prim.Native.Nat.{_+_, _-_, _≤_, _<_};

@@ -9,12 +9,12 @@ use Prim.Native.Nat.{ℕ, zero, suc, _-_, _≤_, _<_}
 use native.Mathlib.Omega.{arith}
 use lib.ListN.{length, getD, set, drop, length-append}
 use Rattle.card.specs.Stores.{Store}
-use Rattle.promises.specs.Events.{Event, World, replyTo, happens, run, LeftUncut, stepsIn, find, insert, delete, step, cut}
+use Rattle.theory_book.specs.Events.{Event, World, replyTo, happens, run, LeftUncut, stepsIn, find, insert, delete, step, cut}
 use Rattle.demands.specs.Demand2.{StoresNow, Makes, Between, Repairs, Updates, done, mends as mends-by, no-change, changes}
 use Rattle.demands.specs.Rules.{Given, marked}
-use Rattle.promises.specs.RationTable.{rationTable}
+use Rattle.theory_book.specs.RationTable.{rationTable}
 use Rattle.demands.proofs.Making.{Nears, nearer, storeAt, Left, run-left, stores-each}
-use Rattle.plans.specs.Planning.{Preparation, lastOf, withAll, refused, balanced, prepared}
+use Rattle.change_plan.specs.Planning.{Preparation, lastOf, withAll, refused, balanced, prepared}
 use Rattle.state.specs.Answers.{stepReply}
 use Rattle.state.specs.Memory.{Memory, advanced}
 use Rattle.state.specs.declared.Answer.{Answer}
@@ -25,32 +25,32 @@ use Rattle.demands.proofs.PlannedNumbers.{ByRule, cut-marked}
 use Rattle.demands.proofs.PlannedRepairs.{repair-by-rule}
 use Rattle.state.specs.Steps.{isIdle, stepRefused, stepFinal, stepStore}
 use Rattle.table.specs.Calls.{planning, stepPrepared, stepBegin, stepOf}
-use Rattle.updates.specs.Updates.{FirstChange, nextChange}
-use Rattle.updates.specs.Results.{Storing}
+use Rattle.call_change.specs.Updates.{FirstChange, nextChange}
+use Rattle.call_change.specs.Results.{Storing}
 use Rattle.state.specs.Results.{moreToStore}
 use Rattle.state.specs.declared.Task.the-variants.{PutIn, TakeOut}
 use Rattle.demands.proofs.Work.{true-false}
 use Rattle.demands.proofs.StepRows.{Final}
 use Rattle.laws.proofs.Cases.{order, impossible}
 use borrow.Author.Tests.{lt-ltb, le-ltb}
-use Rattle.change.specs.Mending.{nextRepair}
-use Rattle.change_theory.proofs.Plays.{Openable, pending-changing}
-use Rattle.change_theory.proofs.Repaired.{Repaired, settled, violated}
-use Rattle.promises.proofs.Invariant.{Table, Stage, Job, stage-idle, stage-put, stage-remove, stage-first, stage-between, stage-within, job-repair, job-insert, job-delete}
-use Rattle.promises.proofs.BookLaws.{IsFinal}
-use Rattle.promises.specs.Book.{Update, Hand}
-use Rattle.promises.proofs.Kept.{first-storable}
-use Rattle.promises.proofs.Reopen.{table-well-formed}
-use Rattle.promises.proofs.Starting.{nodes-same}
+use Rattle.change_layout.specs.Mending.{nextRepair}
+use Rattle.theory_change.proofs.Plays.{Openable, pending-changing}
+use Rattle.theory_change.proofs.Repaired.{Repaired, settled, violated}
+use Rattle.theory_book.proofs.Invariant.{Table, Stage, Job, stage-idle, stage-put, stage-remove, stage-first, stage-between, stage-within, job-repair, job-insert, job-delete}
+use Rattle.theory_book.proofs.BookLaws.{IsFinal}
+use Rattle.theory_book.specs.Book.{Update, Hand}
+use Rattle.theory_book.proofs.Kept.{first-storable}
+use Rattle.theory_book.proofs.Reopen.{table-well-formed}
+use Rattle.theory_book.proofs.Starting.{nodes-same}
 use Rattle.demands.proofs.PowerCuts.{Covered}
-use Rattle.promises.proofs.Stepping.{Right, right-final, kept-step, mends, rests}
-use Rattle.promises.proofs.PowerLoss.{loosen, loosen-due, find-same, insert-same, delete-same}
-use Rattle.promises.proofs.Finished.{work-not-refused}
-use Rattle.promises.proofs.Steps.{memory, step-repairs, prepared-ready, prepared-first, step-puts, step-removes}
-use Rattle.tree.proofs.Path.{depthOf}
-use Rattle.tree.specs.FreeNodes.{Exact}
-use Rattle.tree.specs.Tree.{Tree}
-use Rattle.tree.specs.Violations.{tableViolations}
+use Rattle.theory_book.proofs.Stepping.{Right, right-final, kept-step, mends, rests}
+use Rattle.theory_book.proofs.PowerLoss.{loosen, loosen-due, find-same, insert-same, delete-same}
+use Rattle.theory_book.proofs.Finished.{work-not-refused}
+use Rattle.theory_book.proofs.Steps.{memory, step-repairs, prepared-ready, prepared-first, step-puts, step-removes}
+use Rattle.theory_tree.proofs.Path.{depthOf}
+use Rattle.theory_tree.specs.FreeNodes.{Exact}
+use Rattle.theory_tree.specs.Tree.{Tree}
+use Rattle.theory_tree.specs.Violations.{tableViolations}
 
 -- a run without a cut either has no step and leaves the world, or goes on from its first step
 first-step : (w : World rationTable) (qs : List Event) → LeftUncut rationTable qs w

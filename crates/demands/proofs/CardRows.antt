@@ -15,34 +15,34 @@ use Rattle.card.specs.Layout.{nodeAt, keyWords, valueWords}
 use Rattle.card.proofs.NodeLaws.{get-valueWord}
 use Rattle.card.specs.Replies.{Reply, refusal, holds, absent}
 use Rattle.demands.specs.Demand1.{besideFirst, ReadsLeaf, HandsNone, StartsFormat, OpensTo}
-use Rattle.promises.specs.Way.{nodesOn, leadsTo}
+use Rattle.theory_book.specs.Way.{nodesOn, leadsTo}
 use Rattle.demands.specs.Refusals.{ByRows, Scarce, findRows, formatRows, openRows, end, row}
-use Rattle.promises.specs.RationTable.{workOf, handed, rationTable}
+use Rattle.theory_book.specs.RationTable.{workOf, handed, rationTable}
 use Rattle.demands.proofs.FirstRows.{NoCard, sized?, no-nodes, by-card, card-one}
-use Rattle.promises.proofs.WayDown.{arrived, reachedLeaf, leaf-way}
-use Rattle.descent.specs.Descent.{firstEqual, slotOf, way, leafOf}
-use Rattle.descent.specs.declared.Reached.{Reached}
-use Rattle.descent.specs.declared.Reached.the-variants.{Refused as NotReached, Leaf as ReachedLeaf}
-use Rattle.formatting_theory.proofs.FormatSteps.{formatMemory, format-starts, format-refused}
-use Rattle.free_nodes.specs.NodeSet.{countTrue}
+use Rattle.theory_book.proofs.WayDown.{arrived, reachedLeaf, leaf-way}
+use Rattle.walk.specs.Descent.{firstEqual, slotOf, way, leafOf}
+use Rattle.walk.specs.declared.Reached.{Reached}
+use Rattle.walk.specs.declared.Reached.the-variants.{Refused as NotReached, Leaf as ReachedLeaf}
+use Rattle.theory_format.proofs.FormatSteps.{formatMemory, format-starts, format-refused}
+use Rattle.card_free.specs.NodeSet.{countTrue}
 use Rattle.laws.proofs.Bits.{bit-true, bit-false}
 use Rattle.laws.proofs.Cases.{bool-cases, order, impossible}
-use Rattle.lookup.specs.Answers.{foundReply}
-use Rattle.lookup.specs.Find.{foundIn, foundAt, findOf}
-use Rattle.lookup.proofs.FindLaws.{find-refused, find-no-key, find-key}
-use Rattle.opening.specs.Opening.{openSound, openChecked, openOf}
-use Rattle.promises.proofs.OpenRefusals.{refuses-unsound, refuses-few}
-use Rattle.promises.proofs.Reopen.{length-accepted, card-accepted, open-sound, open-repair, open-idle, facts-exact}
-use Rattle.soundness.specs.Check.{Findings, tableCheck}
-use Rattle.soundness_theory.proofs.Facts.{Facts}
-use Rattle.soundness_theory.proofs.Soundness.{accepts-sound}
-use Rattle.starting.specs.Starts.{formatOf}
+use Rattle.call_find.specs.Answers.{foundReply}
+use Rattle.call_find.specs.Find.{foundIn, foundAt, findOf}
+use Rattle.call_find.proofs.FindLaws.{find-refused, find-no-key, find-key}
+use Rattle.call_open.specs.Opening.{openSound, openChecked, openOf}
+use Rattle.theory_book.proofs.OpenRefusals.{refuses-unsound, refuses-few}
+use Rattle.theory_book.proofs.Reopen.{length-accepted, card-accepted, open-sound, open-repair, open-idle, facts-exact}
+use Rattle.card_check.specs.Check.{Findings, tableCheck}
+use Rattle.theory_check.proofs.Facts.{Facts}
+use Rattle.theory_check.proofs.Soundness.{accepts-sound}
+use Rattle.call_start.specs.Starts.{formatOf}
 use Rattle.state.specs.Answers.{startReply}
 use Rattle.state.specs.Memory.{noMemory, resting}
 use Rattle.state.specs.Steps.{noBeginning}
 use Rattle.state.specs.declared.Begun.the-variants.{Started}
-use Rattle.tree.specs.Tree.{Tree}
-use Rattle.tree.specs.WellFormed.{WellFormed}
+use Rattle.theory_tree.specs.Tree.{Tree}
+use Rattle.theory_tree.specs.WellFormed.{WellFormed}
 
 -- ---- finds
 

@@ -5,7 +5,7 @@ use Rattle.demands.specs.Demand2.{Demand2}
 use Rattle.demands.specs.Demand3.{Demand3}
 use Rattle.demands.specs.Dumps.{Dumps}
 use Rattle.demands.specs.List.{ListProgram}
-use Rattle.promises.specs.RationTable.{rationTable}
+use Rattle.theory_book.specs.RationTable.{rationTable}
 use Rattle.demands.specs.W201.{W201}
 use Rattle.demands.specs.W202.{W202}
 use Rattle.demands.specs.W209.{W209}
@@ -21,14 +21,14 @@ use Rattle.demands.proofs.DumpsRight.{dumps-right as dumps-kept}
 use Rattle.demands.proofs.ListRight.{list-program as list-kept}
 use Rattle.demands.proofs.NextNumber.{w-201 as next-kept}
 use Rattle.demands.proofs.PaddingTest.{w-202 as padding-kept}
-use Rattle.dump.specs.Answers.{dumpReply}
-use Rattle.dump.specs.Dump.{readAnswer, readOver, writeAnswer, writeOver}
-use Rattle.dump.specs.Padding.{eightAt}
-use Rattle.listing.specs.Listing.{listCard}
-use Rattle.printing.specs.Text.{dumpText}
-use Rattle.reason_printing.specs.ReasonText.{checkText}
-use Rattle.records.specs.Records.{recordOf, fetchOf, fetchReply}
-use Rattle.successor.specs.Successor.{nextOf, nextReply}
+use Rattle.card_dump.specs.Answers.{dumpReply}
+use Rattle.card_dump.specs.Dump.{readAnswer, readOver, writeAnswer, writeOver}
+use Rattle.card_dump.specs.Padding.{eightAt}
+use Rattle.list_pairs.specs.Listing.{listCard}
+use Rattle.list_text.specs.Text.{dumpText}
+use Rattle.reason_text.specs.ReasonText.{checkText}
+use Rattle.call_record.specs.Records.{recordOf, fetchOf, fetchReply}
+use Rattle.walk_next.specs.Successor.{nextOf, nextReply}
 
 pub demand-1 : Demand1 rationTable
 demand-1 = rows-kept

@@ -7,26 +7,26 @@ use Prim.Native.Nat.{ℕ, _^_, _<_}
 use native.Mathlib.Omega.{arith}
 use native.Mathlib.Numerals.{add-one}
 use lib.ListN.{length}
-use Rattle.promises.specs.Book.{Book}
-use Rattle.promises.specs.Events.{World, replyTo, happens, insert, delete}
+use Rattle.theory_book.specs.Book.{Book}
+use Rattle.theory_book.specs.Events.{World, replyTo, happens, insert, delete}
 use Rattle.demands.specs.Refusals.{Idle}
 use Rattle.demands.specs.W214.{Levels, Line, storesAt, EndsByDepth, W214}
-use Rattle.promises.specs.RationTable.{rationTable}
+use Rattle.theory_book.specs.RationTable.{rationTable}
 use Rattle.demands.proofs.Dictionary.{finishes-by, is-dictionary}
 use Rattle.demands.proofs.PowerCuts.{Covered, always}
-use Rattle.promises.proofs.AnswerNumbers.{start-small}
-use Rattle.promises.proofs.ReplyLaws.{begun-started}
+use Rattle.theory_book.proofs.AnswerNumbers.{start-small}
+use Rattle.theory_book.proofs.ReplyLaws.{begun-started}
 use Rattle.card.specs.Layout.{keyLimit}
-use Rattle.promises.proofs.Dictionary.{insert-stores-by-depth, delete-stores-by-depth}
-use Rattle.soundness_theory.proofs.Level.{same-height}
-use Rattle.soundness_theory.proofs.Rations.{balanced-pairs, pairs-bound-levels, few-pairs-flat, flat-leaf}
-use Rattle.starting.specs.Starts.{insertOf, deleteOf}
+use Rattle.theory_book.proofs.Dictionary.{insert-stores-by-depth, delete-stores-by-depth}
+use Rattle.theory_check.proofs.Level.{same-height}
+use Rattle.theory_check.proofs.Rations.{balanced-pairs, pairs-bound-levels, few-pairs-flat, flat-leaf}
+use Rattle.call_start.specs.Starts.{insertOf, deleteOf}
 use Rattle.state.specs.declared.Doing.the-variants.{Inserting, Deleting}
-use Rattle.tree.specs.Height.{Height}
-use Rattle.tree.specs.Pairs.{pairs, lookup}
-use Rattle.tree.specs.Tree.{Tree}
-use Rattle.tree.specs.WellFormed.{Balanced}
-use Rattle.updates.specs.Updates.{startRoom}
+use Rattle.theory_tree.specs.Height.{Height}
+use Rattle.theory_tree.specs.Pairs.{pairs, lookup}
+use Rattle.theory_tree.specs.Tree.{Tree}
+use Rattle.theory_tree.specs.WellFormed.{Balanced}
+use Rattle.call_change.specs.Updates.{startRoom}
 
 tree-levels : (c : List ℕ) (t : Tree) → Balanced c t → (h : ℕ) → Height h t → Levels t h (length (pairs t))
 tree-levels c t b h level =

@@ -1,4 +1,4 @@
--- Document 01, dumps, of the calls `dump::read_dump` and `write_dump`.
+-- Document 01, dumps, of the calls `card_dump::read_dump` and `write_dump`.
 use mathlib.Core.Path.{_≡_, refl, ap, sym, subst, _∙_}
 use mathlib.Core.Bool.{true, false}
 use mathlib.Core.List.{List, [], _∷_, _++_}
@@ -12,22 +12,22 @@ use Rattle.card.specs.Header.{nodesOfLength, cardRefusal, Sized, Formatted}
 use Rattle.card.specs.Layout.{leastNodes, greatestNodes}
 use Rattle.card.specs.Replies.{Reply, long}
 use Rattle.demands.specs.Dumps.{wordOf, byteOf, PaddedLength, nodesIn, wordsIn, Damaged, empty, no-multiple, too-long, bad-nodes, other-length, not-zero, readRows, writeRows, RefusesDump, Reads, Writes, Dumps}
-use Rattle.promises.specs.Way.{nodesOn}
+use Rattle.theory_book.specs.Way.{nodesOn}
 use Rattle.demands.specs.Refusals.{ByRows, end, row}
-use Rattle.promises.proofs.AnswerNumbers.{card-small}
+use Rattle.theory_book.proofs.AnswerNumbers.{card-small}
 use Rattle.demands.proofs.FirstRows.{by-card, card-one}
-use Rattle.promises.proofs.ReplyLaws.{code-of}
+use Rattle.theory_book.proofs.ReplyLaws.{code-of}
 use Rattle.demands.proofs.Work.{true-false}
-use Rattle.dump.proofs.AnswerLaws.{greatest-dump, padded-most, damaged-empty, damaged-odd, damaged-long, damaged-few, damaged-many, damaged-length, damaged-padding, whole-undamaged, room-short, room-long, read-damaged, read-whole, read-words, read-refused, write-refuses, write-good, write-sized, write-bytes, write-refused}
-use Rattle.dump.proofs.ByteLaws.{length-dumpWords, get-dumpWords, length-cardBytes}
-use Rattle.dump.proofs.RoundTrip.{length-dump, round-trip}
-use Rattle.dump.specs.Answers.{dumpReply}
-use Rattle.dump.specs.Dump.{wordBytes, cardBytes, paddedLength, dumpOf, wordAt, dumpWords, wordsFor, damaged, readAnswer, readOver, writeAnswer, writeOver}
-use Rattle.dump.specs.declared.Answer.the-variants.{Length, Refused}
+use Rattle.card_dump.proofs.AnswerLaws.{greatest-dump, padded-most, damaged-empty, damaged-odd, damaged-long, damaged-few, damaged-many, damaged-length, damaged-padding, whole-undamaged, room-short, room-long, read-damaged, read-whole, read-words, read-refused, write-refuses, write-good, write-sized, write-bytes, write-refused}
+use Rattle.card_dump.proofs.ByteLaws.{length-dumpWords, get-dumpWords, length-cardBytes}
+use Rattle.card_dump.proofs.RoundTrip.{length-dump, round-trip}
+use Rattle.card_dump.specs.Answers.{dumpReply}
+use Rattle.card_dump.specs.Dump.{wordBytes, cardBytes, paddedLength, dumpOf, wordAt, dumpWords, wordsFor, damaged, readAnswer, readOver, writeAnswer, writeOver}
+use Rattle.card_dump.specs.declared.Answer.the-variants.{Length, Refused}
 use Rattle.laws.proofs.Cases.{bool-cases, order}
 use Rattle.laws.proofs.Lists.{getD-left, getD-right, getD-pad, getD-all-zero}
 use Rattle.laws.specs.Lists.{allZero}
-use Rattle.promises.proofs.Reopen.{length-accepted, card-accepted}
+use Rattle.theory_book.proofs.Reopen.{length-accepted, card-accepted}
 
 -- ---- the padded length
 

@@ -1,4 +1,4 @@
--- Document 02, W-213, of the two questions that `records` answers.
+-- Document 02, W-213, of the two questions that `call_record` answers.
 use mathlib.Core.Path.{_≡_, refl, ap, sym, _∙_, subst}
 use mathlib.Core.List.{List}
 use mathlib.Core.Logic.{_↔_, inl, inr, ⊎-elim, by-cases}
@@ -10,18 +10,18 @@ use borrow.Author.Tests.{eq-eqb, ne-eqb}
 use Rattle.demands.specs.Demand1.{ReadsLeaf}
 use Rattle.demands.specs.Refusals.{ByRows, findRows}
 use Rattle.demands.specs.W213.{recordRows, NoRecord, IsRecord, AtOffset, ByFind, W213}
-use Rattle.promises.specs.RationTable.{rationTable}
+use Rattle.theory_book.specs.RationTable.{rationTable}
 use Rattle.demands.proofs.CardRows.{Finds, finds, reads-finds}
-use Rattle.promises.proofs.AnswerNumbers.{find-small}
-use Rattle.promises.proofs.ReplyLaws.{code-of, found-refused, found-absent, found-value}
+use Rattle.theory_book.proofs.AnswerNumbers.{find-small}
+use Rattle.theory_book.proofs.ReplyLaws.{code-of, found-refused, found-absent, found-value}
 use Rattle.demands.proofs.RowLaws.{Numbers, rows-elim, rows-map}
 use Rattle.card.specs.Replies.{Reply, refusal, holds, absent, fetched}
 use Rattle.laws.proofs.Cases.{order}
-use Rattle.lookup.specs.Find.{findOf}
-use Rattle.lookup.specs.declared.Found.the-variants.{Value, Absent as NotHeld, Refused as NoLook}
-use Rattle.lookup.specs.declared.Found.{Found}
-use Rattle.records.proofs.RecordLaws.{refusal-past, refusal-empty, refusal-long, refusal-none}
-use Rattle.records.specs.Records.{recordRefusal, recordAt, recordFor, recordOf, fetchedAt, fetchedFor, fetchOf, fetchReply}
+use Rattle.call_find.specs.Find.{findOf}
+use Rattle.call_find.specs.declared.Found.the-variants.{Value, Absent as NotHeld, Refused as NoLook}
+use Rattle.call_find.specs.declared.Found.{Found}
+use Rattle.call_record.proofs.RecordLaws.{refusal-past, refusal-empty, refusal-long, refusal-none}
+use Rattle.call_record.specs.Records.{recordRefusal, recordAt, recordFor, recordOf, fetchedAt, fetchedFor, fetchOf, fetchReply}
 
 -- the two questions, by what the find answers
 abbrev partFor : List ℕ → Found → List ℕ

@@ -11,37 +11,37 @@ use lib.ListN.{length, getD, drop}
 use Rattle.card.specs.Header.{Sized}
 use Rattle.card.specs.Layout.{place, nodeAt, keyWords, leafPairs, nodeImage}
 use Rattle.card.specs.Stores.{Store}
-use Rattle.change.specs.LayOut.{layOut}
+use Rattle.change_layout.specs.LayOut.{layOut}
 use Rattle.change_split.specs.Split.{absorbAt, splitParentAt, splitLeafOf}
-use Rattle.change.specs.Mending.{nextRepair}
+use Rattle.change_layout.specs.Mending.{nextRepair}
 use Rattle.change_decide.specs.Decide.{decidedRepair}
 use Rattle.change_decide.specs.declared.Decision.{Decision}
 use Rattle.change_decide.specs.declared.Decision.the-variants.{Refused, Balanced, PutPair, ClearKey, SplitLeaf, Absorb, SplitParent, Share, Merge, MergeRoot}
 use Rattle.card.proofs.NodeLaws.{length-node}
 use Rattle.demands.specs.Demand1.{begun, Refuses, Demand1}
-use Rattle.promises.specs.Table.{formatting}
-use Rattle.promises.specs.Way.{nodesOn, leadsTo, among}
+use Rattle.theory_book.specs.Table.{formatting}
+use Rattle.theory_book.specs.Way.{nodesOn, leadsTo, among}
 use Rattle.demands.specs.Refusals.{ByRows, NoneGiven, Unmakeable, NoChange, stepRows, end, row}
 use Rattle.demands.specs.Rules.{Given, FullLeaf}
-use Rattle.promises.specs.RationTable.{workOf, asStepped, rationTable}
+use Rattle.theory_book.specs.RationTable.{workOf, asStepped, rationTable}
 use Rattle.demands.proofs.CardRows.{none-some, finds, formats, opens}
 use Rattle.demands.proofs.PlannedNumbers.{numbers-by-rule, numbers-counted, given-taken}
 use Rattle.demands.proofs.StartRows.{one-leaf, inserts, deletes}
 use Rattle.demands.proofs.StepRows.{Final, Works, refused-same, final-idle, advanced-nodes, advanced-doing, store-inside, store-outside, formatting-rows, idle-rows, task-rows, in-hand-rows, none-refused}
 use Rattle.demands.proofs.Work.{IdleOrTask, idle-or-task}
-use Rattle.promises.proofs.WayDown.{landed, slotFound, slot-among, leads-is, sized-on}
-use Rattle.descent.specs.Descent.{slotOf}
-use Rattle.descent.specs.declared.Landing.{Landing}
-use Rattle.descent.specs.declared.Landing.the-variants.{Refused as NoLanding, Leaf as LandingAt}
-use Rattle.descent.specs.declared.Slot.{Slot}
-use Rattle.descent.specs.declared.Slot.the-variants.{At, Absent as NoSlot}
-use Rattle.descent.proofs.DescentLaws.{slot-below}
+use Rattle.theory_book.proofs.WayDown.{landed, slotFound, slot-among, leads-is, sized-on}
+use Rattle.walk.specs.Descent.{slotOf}
+use Rattle.walk.specs.declared.Landing.{Landing}
+use Rattle.walk.specs.declared.Landing.the-variants.{Refused as NoLanding, Leaf as LandingAt}
+use Rattle.walk.specs.declared.Slot.{Slot}
+use Rattle.walk.specs.declared.Slot.the-variants.{At, Absent as NoSlot}
+use Rattle.walk.proofs.DescentLaws.{slot-below}
 use Rattle.laws.proofs.Cases.{order, impossible}
 use Rattle.laws.specs.Sorting.{sort}
-use Rattle.plans.specs.Change.{Change, changeStores, splitLeaf, absorb, splitParent, halves, share, merge, mergeRoot}
-use Rattle.plans.specs.Planning.{refused, balanced, prepared, takeNumbers, overNumbers, giving, first, second, third}
-use Rattle.promises.proofs.Begin.{put-held, put-slot, put-full, remove-held, remove-absent}
-use Rattle.siblings.specs.Siblings.{shareAt, mergeAt, mergeRootAt}
+use Rattle.change_plan.specs.Change.{Change, changeStores, splitLeaf, absorb, splitParent, halves, share, merge, mergeRoot}
+use Rattle.change_plan.specs.Planning.{refused, balanced, prepared, takeNumbers, overNumbers, giving, first, second, third}
+use Rattle.theory_book.proofs.Begin.{put-held, put-slot, put-full, remove-held, remove-absent}
+use Rattle.change_siblings.specs.Siblings.{shareAt, mergeAt, mergeRootAt}
 use Rattle.state.specs.Memory.{Memory, advanced}
 use Rattle.state.specs.Steps.{Step, stepRefused}
 use Rattle.state.specs.declared.Doing.{Doing}
@@ -52,8 +52,8 @@ use Rattle.state.specs.declared.Task.{Task}
 use Rattle.state.specs.declared.Task.the-variants.{PutIn, TakeOut, Repair}
 use Rattle.state.proofs.Tasks.{TaskOf, putting, taking, put, taken, opened, task-of}
 use Rattle.table.specs.Calls.{planning, stepPrepared, stepBegin, stepTask, stepOf}
-use Rattle.updates.specs.Updates.{landing, noWay, inLeaf, nextChange}
-use Rattle.updates.proofs.UpdateLaws.{landed as leaf-landed}
+use Rattle.call_change.specs.Updates.{landing, noWay, inLeaf, nextChange}
+use Rattle.call_change.proofs.UpdateLaws.{landed as leaf-landed}
 
 -- ---- the leaf
 

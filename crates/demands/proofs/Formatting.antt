@@ -12,15 +12,15 @@ use Rattle.card.specs.Header.{Sized}
 use Rattle.card.specs.Replies.{Reply, refusal, started}
 use Rattle.card.specs.Stores.{Store}
 use Rattle.demands.specs.Demand2.{StoresNow, freshWord, formatStore, Formats}
-use Rattle.promises.specs.Events.{Event, World, replyTo, happens, run, LeftUncut, stepsIn, formatBegun, find, insert, delete, step, cut}
-use Rattle.promises.specs.Way.{nodesOn}
-use Rattle.promises.specs.RationTable.{rationTable}
-use Rattle.promises.proofs.PowerLoss.{find-same, insert-same, delete-same}
+use Rattle.theory_book.specs.Events.{Event, World, replyTo, happens, run, LeftUncut, stepsIn, formatBegun, find, insert, delete, step, cut}
+use Rattle.theory_book.specs.Way.{nodesOn}
+use Rattle.theory_book.specs.RationTable.{rationTable}
+use Rattle.theory_book.proofs.PowerLoss.{find-same, insert-same, delete-same}
 use Rattle.demands.proofs.FirstRows.{sized?, no-nodes}
-use Rattle.formatting_theory.proofs.FormatSteps.{formatMemory, format-starts, format-refused, format-step-stores, format-step-ready}
-use Rattle.formatting_theory.proofs.FormatCard.{formatCard, format-next}
-use Rattle.formatting_theory.proofs.FormatCut.{cut-refused}
-use Rattle.formatting_theory.proofs.FormatStores.{some-store}
+use Rattle.theory_format.proofs.FormatSteps.{formatMemory, format-starts, format-refused, format-step-stores, format-step-ready}
+use Rattle.theory_format.proofs.FormatCard.{formatCard, format-next}
+use Rattle.theory_format.proofs.FormatCut.{cut-refused}
+use Rattle.theory_format.proofs.FormatStores.{some-store}
 use Rattle.laws.proofs.Cases.{bool-cases, impossible}
 use Rattle.state.specs.Answers.{stepReply, startReply}
 use Rattle.state.specs.Memory.{resting}

@@ -11,10 +11,10 @@ use lib.ListN.{length, drop, replicate, length-take}
 use borrow.Author.Tests.{ne-eqb}
 use Rattle.demands.specs.Demand1.{OpensTo}
 use Rattle.demands.specs.Demand3.{mostRepairSteps, Survives}
-use Rattle.promises.specs.Events.{World, opened, replyTo, happens, run, Opens, Begins, step, from-open}
-use Rattle.promises.specs.Book.{kept}
-use Rattle.promises.specs.RationTable.{handed, rationTable}
-use Rattle.promises.specs.Way.{nodesOn, leadsTo, among}
+use Rattle.theory_book.specs.Events.{World, opened, replyTo, happens, run, Opens, Begins, step, from-open}
+use Rattle.theory_book.specs.Book.{kept}
+use Rattle.theory_book.specs.RationTable.{handed, rationTable}
+use Rattle.theory_book.specs.Way.{nodesOn, leadsTo, among}
 use Rattle.demands.specs.Refusals.{ByRows, openRows, end, row}
 use Rattle.demands.specs.List.{repairedWorld}
 use Rattle.demands.proofs.ListRight.{repaired-world}
@@ -22,43 +22,43 @@ use Rattle.demands.specs.W209.{SplitBelow, TellsHeld, LeadsAbsent, Tells
 use Rattle.demands.specs.Worked.{dictionary}
 use Rattle.demands.proofs.CardRows.{opens}
 use Rattle.demands.proofs.PowerCuts.{covered-nodes, always, demand-3}
-use Rattle.promises.proofs.ReplyLaws.{begun-refused}
+use Rattle.theory_book.proofs.ReplyLaws.{begun-refused}
 use Rattle.demands.specs.Dumps.{Damaged}
 use Rattle.demands.proofs.DumpsRight.{damaged-exactly}
 use Rattle.demands.proofs.RowLaws.{rows-map}
-use Rattle.promises.proofs.WayDown.{landed, leads-is, slotFound, slot-is}
+use Rattle.theory_book.proofs.WayDown.{landed, leads-is, slotFound, slot-is}
 use Rattle.demands.proofs.Work.{true-false}
 use Rattle.card.specs.Layout.{nodeAt, keyWords, valueWords, slotPairs, leafPairs, keyLimit}
 use Rattle.card.specs.Replies.{refusal}
-use Rattle.descent.specs.Descent.{slotOf}
-use Rattle.descent.specs.declared.Slot.the-variants.{At}
-use Rattle.dump.proofs.AnswerLaws.{undamaged-whole, read-damaged, read-whole, room-long}
-use Rattle.dump.specs.Dump.{dumpWords, readAnswer, wordsFor, dumpNodes, damaged}
-use Rattle.dump.specs.declared.Answer.the-variants.{Length}
-use Rattle.free_nodes.specs.NodeSet.{countTrue}
-use Rattle.insert_reason.specs.declared.Reason.{Reason}
-use Rattle.insert_reason.specs.declared.Reason.the-variants.{Refused, NoKey, Held, Slot as EmptySlot, Split}
-use Rattle.insert_reason_theory.proofs.Printed.{unread-text, unopened-text, no-key-text, text-holds, text-refused}
-use Rattle.insert_reason_theory.proofs.Reasons.{ReasonHolds}
-use Rattle.key_file.proofs.KeyFileLaws.{key-below}
-use Rattle.key_file.specs.KeyFile.{keyIn}
+use Rattle.walk.specs.Descent.{slotOf}
+use Rattle.walk.specs.declared.Slot.the-variants.{At}
+use Rattle.card_dump.proofs.AnswerLaws.{undamaged-whole, read-damaged, read-whole, room-long}
+use Rattle.card_dump.specs.Dump.{dumpWords, readAnswer, wordsFor, dumpNodes, damaged}
+use Rattle.card_dump.specs.declared.Answer.the-variants.{Length}
+use Rattle.card_free.specs.NodeSet.{countTrue}
+use Rattle.reason.specs.declared.Reason.{Reason}
+use Rattle.reason.specs.declared.Reason.the-variants.{Refused, NoKey, Held, Slot as EmptySlot, Split}
+use Rattle.theory_reason.proofs.Printed.{unread-text, unopened-text, no-key-text, text-holds, text-refused}
+use Rattle.theory_reason.proofs.Reasons.{ReasonHolds}
+use Rattle.reason_key.proofs.KeyFileLaws.{key-below}
+use Rattle.reason_key.specs.KeyFile.{keyIn}
 use Rattle.laws.proofs.Cases.{bool-cases}
-use Rattle.opening.specs.Opening.{openOf}
-use Rattle.promises.proofs.PowerLoss.{insert-same}
-use Rattle.promises.proofs.Room.{LeadsTo}
-use Rattle.reason_printing.specs.ReasonText.{splitLine, reasonText, checkText}
-use Rattle.repairing.specs.Repairing.{cardRoom, openedCard}
-use Rattle.repairing_theory.proofs.Repair.{worldFrom, all-words, steps-uncut}
-use Rattle.starting.specs.Starts.{startRefused, insertOf}
+use Rattle.call_open.specs.Opening.{openOf}
+use Rattle.theory_book.proofs.PowerLoss.{insert-same}
+use Rattle.theory_book.proofs.Room.{LeadsTo}
+use Rattle.reason_text.specs.ReasonText.{splitLine, reasonText, checkText}
+use Rattle.call_repair.specs.Repairing.{cardRoom, openedCard}
+use Rattle.theory_repair.proofs.Repair.{worldFrom, all-words, steps-uncut}
+use Rattle.call_start.specs.Starts.{startRefused, insertOf}
 use Rattle.state.specs.Answers.{startReply}
 use Rattle.state.specs.Memory.{Memory}
 use Rattle.state.specs.Steps.{Handed}
 use Rattle.state.specs.declared.Begun.{Begun}
 use Rattle.state.specs.declared.Begun.the-variants.{Refused as BegunRefused}
 use Rattle.text_row.specs.Lines.{refusalLine}
-use Rattle.tree.specs.Pairs.{pairs, lookup}
-use Rattle.tree.specs.Tree.{Tree}
-use Rattle.tree.specs.WellFormed.{WellFormed}
+use Rattle.theory_tree.specs.Pairs.{pairs, lookup}
+use Rattle.theory_tree.specs.Tree.{Tree}
+use Rattle.theory_tree.specs.WellFormed.{WellFormed}
 
 -- ---- a leaf of eleven pairs has no empty slot
 

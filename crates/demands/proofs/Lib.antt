@@ -27,17 +27,17 @@ pub mod Formatting
 pub mod Dictionary
 -- laws of rows "in order"
 pub mod RowLaws
--- dumps, of the calls `dump::read_dump` and `write_dump`
+-- dumps, of the calls `card_dump::read_dump` and `write_dump`
 pub mod DumpsRight
 -- the program `list`
 pub mod ListRight
--- W-201, of the call `successor::next_pair`
+-- W-201, of the call `walk_next::next_pair`
 pub mod NextNumber
--- W-202, of the test that `dump` makes
+-- W-202, of the test that `card_dump` makes
 pub mod PaddingTest
 -- W-209, of the program `insert_check`
 pub mod InsertChecks
--- W-213, of the questions that `records` answers
+-- W-213, of the questions that `call_record` answers
 pub mod Fetching
 -- W-214, of the ration table
 pub mod Depths

@@ -6,15 +6,15 @@ use mathlib.Core.Logic.{⊎-map, inl, inr}
 use Prim.Native.Nat.{ℕ, _^_, _<_}
 use native.Mathlib.Omega.{arith}
 use lib.ListN.{length, getD}
-use Rattle.promises.proofs.WayDown.{sized-on}
+use Rattle.theory_book.proofs.WayDown.{sized-on}
 use Rattle.demands.specs.Demand1.{OpensTo}
-use Rattle.promises.specs.Events.{World, Opens}
+use Rattle.theory_book.specs.Events.{World, Opens}
 use Rattle.demands.specs.List.{repairedWorld, ListsRight, ListProgram}
-use Rattle.promises.specs.Way.{nodesOn}
+use Rattle.theory_book.specs.Way.{nodesOn}
 use Rattle.demands.specs.Refusals.{ByRows, openRows, end, row}
-use Rattle.promises.specs.RationTable.{handed, rationTable}
+use Rattle.theory_book.specs.RationTable.{handed, rationTable}
 use Rattle.demands.proofs.CardRows.{opens}
-use Rattle.promises.proofs.ReplyLaws.{begun-refused}
+use Rattle.theory_book.proofs.ReplyLaws.{begun-refused}
 use Rattle.demands.proofs.Work.{true-false}
 use Rattle.demands.specs.Dumps.{Damaged}
 use Rattle.demands.proofs.DumpsRight.{damaged-exactly}
@@ -22,22 +22,22 @@ use Rattle.demands.proofs.RowLaws.{rows-map}
 use Rattle.card.proofs.HeaderLaws.{sized-nodes}
 use Rattle.card.specs.Header.{nodesOfLength, Sized, Formatted}
 use Rattle.card.specs.Replies.{refusal}
-use Rattle.dump.proofs.AnswerLaws.{Good, undamaged-whole, whole-undamaged, read-damaged, read-whole, room-long}
-use Rattle.dump.proofs.RoundTrip.{dump-words, dump-whole, dump-nodes}
-use Rattle.dump.specs.Dump.{dumpOf, dumpWords, wordsFor, dumpNodes, damaged}
+use Rattle.card_dump.proofs.AnswerLaws.{Good, undamaged-whole, whole-undamaged, read-damaged, read-whole, room-long}
+use Rattle.card_dump.proofs.RoundTrip.{dump-words, dump-whole, dump-nodes}
+use Rattle.card_dump.specs.Dump.{dumpOf, dumpWords, wordsFor, dumpNodes, damaged}
 use Rattle.laws.proofs.Cases.{bool-cases}
-use Rattle.listing.proofs.SummaryLaws.{card-refused, dump-refused, dump-read}
-use Rattle.listing.specs.Listing.{Listing, refused, listed, listCard, listDump}
-use Rattle.listing_theory.proofs.Right.{ListedRight, listing-right}
-use Rattle.opening.specs.Opening.{openOf}
-use Rattle.printing.specs.Text.{listText, dumpText}
-use Rattle.printing_theory.proofs.Printed.{text-right}
-use Rattle.promises.proofs.Accepting.{accepted-card}
-use Rattle.repairing.specs.Repairing.{cardRoom, openedCard}
-use Rattle.repairing_theory.proofs.Repair.{worldFrom, opened-run}
-use Rattle.shapes.proofs.Unique.{one-held}
-use Rattle.tree.specs.Tree.{Tree}
-use Rattle.tree.specs.WellFormed.{WellFormed}
+use Rattle.list_pairs.proofs.SummaryLaws.{card-refused, dump-refused, dump-read}
+use Rattle.list_pairs.specs.Listing.{Listing, refused, listed, listCard, listDump}
+use Rattle.theory_list.proofs.Right.{ListedRight, listing-right}
+use Rattle.call_open.specs.Opening.{openOf}
+use Rattle.list_text.specs.Text.{listText, dumpText}
+use Rattle.theory_list_text.proofs.Printed.{text-right}
+use Rattle.theory_book.proofs.Accepting.{accepted-card}
+use Rattle.call_repair.specs.Repairing.{cardRoom, openedCard}
+use Rattle.theory_repair.proofs.Repair.{worldFrom, opened-run}
+use Rattle.theory_shapes.proofs.Unique.{one-held}
+use Rattle.theory_tree.specs.Tree.{Tree}
+use Rattle.theory_tree.specs.WellFormed.{WellFormed}
 
 -- ---- the repaired card
 

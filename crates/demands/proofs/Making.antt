@@ -6,18 +6,18 @@ use Prim.Native.Nat.{ℕ, zero, suc, _+_, _≤_, _<_}
 use native.Mathlib.Omega.{arith}
 use lib.ListN.{length, getD, set, drop}
 use Rattle.card.specs.Stores.{Store}
-use Rattle.promises.specs.Events.{Event, World, replyTo, happens, run, LeftUncut, stepsIn, find, insert, delete, step, cut}
-use Rattle.promises.specs.Book.{Hand, Book, feed, told}
+use Rattle.theory_book.specs.Events.{Event, World, replyTo, happens, run, LeftUncut, stepsIn, find, insert, delete, step, cut}
+use Rattle.theory_book.specs.Book.{Hand, Book, feed, told}
 use Rattle.demands.specs.Demand2.{StoresNow}
-use Rattle.promises.specs.RationTable.{rationTable}
+use Rattle.theory_book.specs.RationTable.{rationTable}
 use Rattle.demands.proofs.PowerCuts.{Covered}
 use Rattle.demands.proofs.StepRows.{advanced-rest}
-use Rattle.promises.proofs.Invariant.{Stage, Table, stage-idle, stage-put, stage-remove, stage-first, stage-between, stage-within}
-use Rattle.promises.proofs.BookLaws.{IsStored}
-use Rattle.promises.proofs.Kept.{first-storable}
-use Rattle.promises.proofs.PowerLoss.{loosen, loosen-due, at-rest, find-same, insert-same, delete-same}
-use Rattle.promises.proofs.Stepping.{kept-step}
-use Rattle.promises.proofs.Steps.{job-busy, step-stores, idle-refused}
+use Rattle.theory_book.proofs.Invariant.{Stage, Table, stage-idle, stage-put, stage-remove, stage-first, stage-between, stage-within}
+use Rattle.theory_book.proofs.BookLaws.{IsStored}
+use Rattle.theory_book.proofs.Kept.{first-storable}
+use Rattle.theory_book.proofs.PowerLoss.{loosen, loosen-due, at-rest, find-same, insert-same, delete-same}
+use Rattle.theory_book.proofs.Stepping.{kept-step}
+use Rattle.theory_book.proofs.Steps.{job-busy, step-stores, idle-refused}
 use Rattle.state.specs.Answers.{stepReply}
 use Rattle.state.specs.Memory.{Memory, advanced}
 use Rattle.state.specs.Steps.{stepRefused}
@@ -25,7 +25,7 @@ use Rattle.state.specs.declared.Answer.{Answer}
 use Rattle.state.specs.declared.Answer.the-variants.{Stored, Refused as WasRefused}
 use Rattle.state.specs.declared.Doing.the-variants.{Idle}
 use Rattle.table.specs.Calls.{stepOf}
-use Rattle.tree.specs.Tree.{Tree}
+use Rattle.theory_tree.specs.Tree.{Tree}
 use Rattle.laws.proofs.Cases.{impossible}
 
 -- A table that is worked, at most so many steps from the end of what is being done, with this final answer due.

@@ -1,37 +1,37 @@
--- Document 02, W-201, of the call `successor::next_pair`.
+-- Document 02, W-201, of the call `walk_next::next_pair`.
 use mathlib.Core.Path.{_≡_, refl, ap, sym, _∙_}
 use mathlib.Core.List.{List, [], _∷_}
 use mathlib.Core.Logic.{inl, inr}
 use Prim.Native.Nat.{ℕ, zero, suc, _<_}
 use native.Mathlib.Omega.{arith}
 use lib.ListN.{length}
-use Rattle.promises.specs.Book.{Book}
-use Rattle.promises.specs.Events.{World}
-use Rattle.promises.specs.Way.{nodesOn}
+use Rattle.theory_book.specs.Book.{Book}
+use Rattle.theory_book.specs.Events.{World}
+use Rattle.theory_book.specs.Way.{nodesOn}
 use Rattle.demands.specs.Refusals.{ByRows, cardRows, end}
 use Rattle.demands.specs.W201.{NextCall, AnswersNext, HeldTo, Rises, Walks, Walked, OnAnyCard, W201, ends, goes-on}
-use Rattle.promises.specs.RationTable.{rationTable}
+use Rattle.theory_book.specs.RationTable.{rationTable}
 use Rattle.demands.proofs.PowerCuts.{Covered, always}
 use Rattle.demands.proofs.FirstRows.{by-card, card-one}
 use Rattle.card.specs.Header.{cardRefusal}
 use Rattle.card.specs.Layout.{lowestKey, keyLimit}
 use Rattle.card.specs.Replies.{refusal}
-use Rattle.promises.proofs.PowerLoss.{map-is}
-use Rattle.promises.proofs.Reopen.{length-accepted, card-accepted, table-well-formed}
-use Rattle.soundness_theory.proofs.Ranges.{well-formed-in-range}
-use Rattle.successor.proofs.SuccessorLaws.{next-refused}
-use Rattle.successor.specs.Successor.{nextOf, onNext, walkFrom, nextReply}
-use Rattle.successor.specs.declared.Successor.the-variants.{Pair, Nothing, Refused}
-use Rattle.successor.specs.declared.Successor.{Successor}
-use Rattle.successor_theory.proofs.AnyCard.{AboveOrNine, next-above}
-use Rattle.successor_theory.proofs.IsNext.{IsNext}
-use Rattle.successor_theory.proofs.Lookups.{found-in-range}
-use Rattle.successor_theory.proofs.Next.{next-right}
-use Rattle.successor_theory.proofs.Walk.{walk-rises, walk-lookup, walk-length}
-use Rattle.tree.proofs.Sorted.{Rising}
-use Rattle.tree.specs.Pairs.{pairs, lookup}
-use Rattle.tree.specs.Tree.{Tree}
-use Rattle.tree.specs.WellFormed.{WellFormed}
+use Rattle.theory_book.proofs.PowerLoss.{map-is}
+use Rattle.theory_book.proofs.Reopen.{length-accepted, card-accepted, table-well-formed}
+use Rattle.theory_check.proofs.Ranges.{well-formed-in-range}
+use Rattle.walk_next.proofs.SuccessorLaws.{next-refused}
+use Rattle.walk_next.specs.Successor.{nextOf, onNext, walkFrom, nextReply}
+use Rattle.walk_next.specs.declared.Successor.the-variants.{Pair, Nothing, Refused}
+use Rattle.walk_next.specs.declared.Successor.{Successor}
+use Rattle.theory_next.proofs.AnyCard.{AboveOrNine, next-above}
+use Rattle.theory_next.proofs.IsNext.{IsNext}
+use Rattle.theory_next.proofs.Lookups.{found-in-range}
+use Rattle.theory_next.proofs.Next.{next-right}
+use Rattle.theory_next.proofs.Walk.{walk-rises, walk-lookup, walk-length}
+use Rattle.theory_tree.proofs.Sorted.{Rising}
+use Rattle.theory_tree.specs.Pairs.{pairs, lookup}
+use Rattle.theory_tree.specs.Tree.{Tree}
+use Rattle.theory_tree.specs.WellFormed.{WellFormed}
 
 abbrev call : NextCall
 call c number = nextReply (nextOf c number)

@@ -1,4 +1,4 @@
--- Document 02, W-202, of the test that `dump` makes.
+-- Document 02, W-202, of the test that `card_dump` makes.
 use mathlib.Core.Path.{_≡_, refl, ap, sym, _∙_}
 use mathlib.Core.Bool.{true}
 use mathlib.Core.List.{List, [], _∷_}
@@ -12,11 +12,11 @@ use Rattle.demands.specs.Refusals.{ByRows}
 use Rattle.demands.specs.W202.{paddingLength, padding, WholeDump, readRowsByEights, W202}
 use Rattle.demands.proofs.Work.{true-false}
 use Rattle.card.specs.Replies.{refusal, long}
-use Rattle.dump.proofs.AnswerLaws.{Whole as WholeBytes, greatest-dump, padded-covers, padded-whole, padded-most, undamaged-whole, whole-undamaged, read-damaged, read-whole, room-short, room-long}
-use Rattle.dump.proofs.Padding.{eight-exactly, padding-eights}
-use Rattle.dump.specs.Answers.{dumpReply}
-use Rattle.dump.specs.Dump.{wordsFor, dumpNodes, damaged, readAnswer}
-use Rattle.dump.specs.Padding.{eightAt}
+use Rattle.card_dump.proofs.AnswerLaws.{Whole as WholeBytes, greatest-dump, padded-covers, padded-whole, padded-most, undamaged-whole, whole-undamaged, read-damaged, read-whole, room-short, room-long}
+use Rattle.card_dump.proofs.Padding.{eight-exactly, padding-eights}
+use Rattle.card_dump.specs.Answers.{dumpReply}
+use Rattle.card_dump.specs.Dump.{wordsFor, dumpNodes, damaged, readAnswer}
+use Rattle.card_dump.specs.Padding.{eightAt}
 use Rattle.laws.proofs.Cases.{bool-cases, order}
 use Rattle.laws.proofs.Lists.{getD-all-zero}
 use Rattle.laws.specs.Lists.{allZero}

@@ -10,13 +10,13 @@ use native.Mathlib.Omega.{arith}
 use lib.ListN.{length, getD, set, drop}
 use lib.Seq.{getD-drop}
 use Rattle.card.specs.Stores.{Store}
-use Rattle.free_nodes.specs.NodeSet.{firstTrue, firstFrom, orElse, nextFree}
-use Rattle.free_nodes.specs.declared.Next.{Next}
-use Rattle.free_nodes.specs.declared.Next.the-variants.{Node, Nothing}
-use Rattle.free_nodes.proofs.NodeSetLaws.{from-found, next-found}
+use Rattle.card_free.specs.NodeSet.{firstTrue, firstFrom, orElse, nextFree}
+use Rattle.card_free.specs.declared.Next.{Next}
+use Rattle.card_free.specs.declared.Next.the-variants.{Node, Nothing}
+use Rattle.card_free.proofs.NodeSetLaws.{from-found, next-found}
 use Rattle.laws.proofs.Cases.{order, impossible}
-use Rattle.plans.specs.Change.{Change, changeStores}
-use Rattle.plans.specs.Planning.{numbersFrom, takeNumbers, withoutAll, lastOf, overNumbers, giving, withAll, refused, balanced, prepared}
+use Rattle.change_plan.specs.Change.{Change, changeStores}
+use Rattle.change_plan.specs.Planning.{numbersFrom, takeNumbers, withoutAll, lastOf, overNumbers, giving, withAll, refused, balanced, prepared}
 use Rattle.demands.specs.Rules.{NextFree, Given, none-given, then-given, marked}
 
 -- ---- the next free node

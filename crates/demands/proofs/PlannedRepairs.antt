@@ -14,19 +14,19 @@ use Rattle.change_decide.specs.Decide.{decideTagged, decideTogether, decideSibl
 use Rattle.change_decide.specs.Decide.{decidedRepair}
 use Rattle.change_decide.specs.Places.{parentAt, leftAt, rightAt}
 use Rattle.change_decide.specs.declared.Decision.{Decision}
-use Rattle.change.specs.LayOut.{layOut}
-use Rattle.change.specs.Mending.{nextRepair}
-use Rattle.descent.specs.Descent.{rootPosition, countOf, seek}
-use Rattle.descent.specs.declared.Position.{Position}
-use Rattle.descent.specs.declared.Search.{Search}
-use Rattle.descent.specs.declared.Search.the-variants.{Refused as NoSearch, Balanced as SearchBalanced, Violation as SearchViolation}
+use Rattle.change_layout.specs.LayOut.{layOut}
+use Rattle.change_layout.specs.Mending.{nextRepair}
+use Rattle.walk.specs.Descent.{rootPosition, countOf, seek}
+use Rattle.walk.specs.declared.Position.{Position}
+use Rattle.walk.specs.declared.Search.{Search}
+use Rattle.walk.specs.declared.Search.the-variants.{Refused as NoSearch, Balanced as SearchBalanced, Violation as SearchViolation}
 use Rattle.laws.specs.Cases.{pick}
 use Rattle.laws.proofs.Cases.{and-true, and-intro}
-use Rattle.plans.specs.Change.{changeStores, kindAbove, joinedKeys, joinedChildren, absorb, splitParent, halves, copied}
-use Rattle.plans.specs.Change.{Together as Both, leavesTogether, innersTogether, half, leftKeys, keyBetween, share, merge, mergeRoot}
-use Rattle.plans.specs.Planning.{prepared, first}
-use Rattle.siblings.specs.Siblings.{togetherAt}
-use Rattle.siblings.proofs.SiblingLaws.{leaves-count, inners-count, leaves-together, inners-together}
+use Rattle.change_plan.specs.Change.{changeStores, kindAbove, joinedKeys, joinedChildren, absorb, splitParent, halves, copied}
+use Rattle.change_plan.specs.Change.{Together as Both, leavesTogether, innersTogether, half, leftKeys, keyBetween, share, merge, mergeRoot}
+use Rattle.change_plan.specs.Planning.{prepared, first}
+use Rattle.change_siblings.specs.Siblings.{togetherAt}
+use Rattle.change_siblings.proofs.SiblingLaws.{leaves-count, inners-count, leaves-together, inners-together}
 use Rattle.demands.specs.Rules.{Together, two-leaves, two-internal, Underfull, TaggedChild, RepairRule, taken-in, parent-split, shared, merged, merged-root}
 use Rattle.demands.proofs.PlannedNumbers.{ByRule, RightOver, not-refused, not-balanced, giving-one, giving-two, giving-three}
 use Rattle.demands.proofs.Standing.{Below, Fault, fault-found}

@@ -11,24 +11,24 @@ use borrow.Author.Tests.{eqb-true, eqb-false}
 use Rattle.card.specs.Layout.{nodeAt, keyWords, leafPairs}
 use Rattle.card.specs.Stores.{Store, newNode, nodeStores}
 use Rattle.card.proofs.NodeLaws.{leaf-few}
-use Rattle.change_theory.proofs.LeafRows.{length-pair-keys, length-pair-values}
-use Rattle.change_theory.proofs.Mended.{length-node-stores}
-use Rattle.change_theory.proofs.Rewrite.{AllFew}
-use Rattle.descent.specs.Descent.{firstEqual, slotOf}
-use Rattle.descent.specs.declared.Landing.{Landing}
-use Rattle.descent.specs.declared.Landing.the-variants.{Refused as NoLanding, Leaf as LandingAt}
-use Rattle.descent.specs.declared.Slot.{Slot}
-use Rattle.descent.specs.declared.Slot.the-variants.{At, Absent as NoSlot}
-use Rattle.plans.specs.Change.{changeStores, kindAbove, splitLeaf}
-use Rattle.plans.specs.Planning.{prepared}
-use Rattle.updates.specs.Updates.{landing, emptyReason, reasonIn, insertReason, insertChange, deleteChange, insertIn, deleteIn, noWay, inLeaf, nextChange}
+use Rattle.theory_change.proofs.LeafRows.{length-pair-keys, length-pair-values}
+use Rattle.theory_change.proofs.Mended.{length-node-stores}
+use Rattle.theory_change.proofs.Rewrite.{AllFew}
+use Rattle.walk.specs.Descent.{firstEqual, slotOf}
+use Rattle.walk.specs.declared.Landing.{Landing}
+use Rattle.walk.specs.declared.Landing.the-variants.{Refused as NoLanding, Leaf as LandingAt}
+use Rattle.walk.specs.declared.Slot.{Slot}
+use Rattle.walk.specs.declared.Slot.the-variants.{At, Absent as NoSlot}
+use Rattle.change_plan.specs.Change.{changeStores, kindAbove, splitLeaf}
+use Rattle.change_plan.specs.Planning.{prepared}
+use Rattle.call_change.specs.Updates.{landing, emptyReason, reasonIn, insertReason, insertChange, deleteChange, insertIn, deleteIn, noWay, inLeaf, nextChange}
 use Rattle.state.specs.declared.Doing.{Doing}
 use Rattle.state.specs.declared.Task.the-variants.{PutIn, TakeOut}
-use Rattle.promises.specs.Way.{nodesOn, leadsTo, among}
+use Rattle.theory_book.specs.Way.{nodesOn, leadsTo, among}
 use Rattle.demands.specs.Rules.{leafHolding, kindUnder, InsertRule, in-slot, leaf-split, DeleteRule, key-cleared}
 use Rattle.demands.proofs.PlannedNumbers.{ByRule, not-refused, not-balanced, giving-three, none-taken}
 use Rattle.demands.proofs.Standing.{picked, landing-linked}
-use Rattle.promises.proofs.WayDown.{landed, leads-is, slotFound, slot-among}
+use Rattle.theory_book.proofs.WayDown.{landed, leads-is, slotFound, slot-among}
 use Rattle.laws.proofs.Cases.{impossible}
 use Rattle.laws.specs.Sorting.{keyAt}
 use Rattle.laws.proofs.Sorting.{length-sort}

@@ -12,16 +12,16 @@ use lib.Seq.{getD-take, getD-drop}
 use borrow.Author.Tests.{eqb-true, ltb-true}
 use Rattle.card.specs.Layout.{rootPlace, depthLimit, place, nodeAt, kindOf, keyWords, children, routingKeys}
 use Rattle.card.proofs.NodeLaws.{children-words}
-use Rattle.descent.specs.Descent.{childIndex, childFor, rootPosition, childPosition, way, countOf, isFault, seek}
-use Rattle.descent.proofs.DescentLaws.{passed-le, look-inside, leaf-inside, inner-inside, fault-below, search-fault}
-use Rattle.descent.proofs.Along.{Along, along, fault-along}
-use Rattle.descent.specs.declared.Position.{Position}
-use Rattle.descent.specs.declared.Landing.the-variants.{Leaf as LandingAt}
-use Rattle.descent.specs.declared.Search.the-variants.{Violation as SearchViolation}
+use Rattle.walk.specs.Descent.{childIndex, childFor, rootPosition, childPosition, way, countOf, isFault, seek}
+use Rattle.walk.proofs.DescentLaws.{passed-le, look-inside, leaf-inside, inner-inside, fault-below, search-fault}
+use Rattle.walk.proofs.Along.{Along, along, fault-along}
+use Rattle.walk.specs.declared.Position.{Position}
+use Rattle.walk.specs.declared.Landing.the-variants.{Leaf as LandingAt}
+use Rattle.walk.specs.declared.Search.the-variants.{Violation as SearchViolation}
 use Rattle.laws.proofs.Cases.{bool-cases, and-true}
 use Rattle.laws.specs.Cases.{pick}
-use Rattle.updates.specs.Updates.{landing}
-use Rattle.updates.proofs.UpdateLaws.{leaf-on}
+use Rattle.call_change.specs.Updates.{landing}
+use Rattle.call_change.proofs.UpdateLaws.{leaf-on}
 use Rattle.demands.specs.Rules.{LinkedAt, root-linked, child-linked}
 
 -- what a test came to, and what was picked then

@@ -15,23 +15,23 @@ use Rattle.card.proofs.HeaderLaws.{nodes-sized, sized-nodes, formatted-header}
 use Rattle.card.specs.Layout.{nodeAt, keyWords}
 use Rattle.card.specs.Replies.{absent}
 use Rattle.demands.specs.Demand1.{HandsBack, Starts}
-use Rattle.promises.specs.Table.{inserting, deleting}
-use Rattle.promises.specs.Way.{leadsTo, among}
+use Rattle.theory_book.specs.Table.{inserting, deleting}
+use Rattle.theory_book.specs.Way.{leadsTo, among}
 use Rattle.demands.specs.Refusals.{Rows, ByRows, Idle, NoRoom, startRows, end, row}
-use Rattle.promises.specs.RationTable.{workOf, handed, rationTable}
+use Rattle.theory_book.specs.RationTable.{workOf, handed, rationTable}
 use Rattle.demands.proofs.Work.{true-false, idle-work, busy-work}
 use Rattle.demands.proofs.CardRows.{none-some}
 use Rattle.demands.proofs.FirstRows.{NoCard, by-card}
-use Rattle.promises.proofs.WayDown.{landed, leads-is, slotFound, sized-on, slot-is}
-use Rattle.descent.specs.Descent.{slotOf}
-use Rattle.descent.specs.declared.Landing.{Landing}
-use Rattle.descent.specs.declared.Landing.the-variants.{Refused as NoLanding, Leaf as LandingAt}
-use Rattle.descent.specs.declared.Slot.{Slot}
-use Rattle.descent.specs.declared.Slot.the-variants.{At, Absent as NoSlot}
-use Rattle.free_nodes.specs.NodeSet.{countTrue}
+use Rattle.theory_book.proofs.WayDown.{landed, leads-is, slotFound, sized-on, slot-is}
+use Rattle.walk.specs.Descent.{slotOf}
+use Rattle.walk.specs.declared.Landing.{Landing}
+use Rattle.walk.specs.declared.Landing.the-variants.{Refused as NoLanding, Leaf as LandingAt}
+use Rattle.walk.specs.declared.Slot.{Slot}
+use Rattle.walk.specs.declared.Slot.the-variants.{At, Absent as NoSlot}
+use Rattle.card_free.specs.NodeSet.{countTrue}
 use Rattle.laws.proofs.Cases.{bool-cases, order, impossible}
 use Rattle.laws.specs.Cases.{pick}
-use Rattle.starting.specs.Starts.{startRefused, startAccepted, startLanded, startChecked, startOf, insertOf, deleteOf}
+use Rattle.call_start.specs.Starts.{startRefused, startAccepted, startLanded, startChecked, startOf, insertOf, deleteOf}
 use Rattle.state.specs.Answers.{startReply}
 use Rattle.state.specs.Memory.{Memory}
 use Rattle.state.specs.declared.Begun.{Begun}
@@ -39,7 +39,7 @@ use Rattle.state.specs.declared.Begun.the-variants.{Started, Refused as BegunRe
 use Rattle.state.specs.Steps.{isIdle}
 use Rattle.state.specs.declared.Doing.{Doing}
 use Rattle.state.specs.declared.Doing.the-variants.{Inserting, Deleting}
-use Rattle.updates.specs.Updates.{landing, reasonIn, emptyReason, insertReason, splitNeed, roomFor, startRoom, full}
+use Rattle.call_change.specs.Updates.{landing, reasonIn, emptyReason, insertReason, splitNeed, roomFor, startRoom, full}
 
 -- a state whose N does not fit the card
 pub not-sized : (c : List ℕ) (n : ℕ) → NoCard c n → (nodesOfLength (length c) ≡ 0 → ⊥) → nodesOfLength (length c) ≡ n → ⊥

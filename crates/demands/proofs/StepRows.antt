@@ -13,17 +13,17 @@ use Rattle.card.proofs.HeaderLaws.{sized-nodes, formatted-header}
 use Rattle.card.specs.Layout.{nodeAt}
 use Rattle.card.specs.Stores.{Store}
 use Rattle.demands.specs.Demand1.{begun, HandsBack, Stores, StoresNext, Answers, Refuses}
-use Rattle.promises.specs.Table.{noWork, formatting}
+use Rattle.theory_book.specs.Table.{noWork, formatting}
 use Rattle.demands.specs.Refusals.{Rows, ByRows, Idle, cardRows, end, row}
-use Rattle.promises.specs.RationTable.{workOf, asStepped, rationTable}
+use Rattle.theory_book.specs.RationTable.{workOf, asStepped, rationTable}
 use Rattle.demands.proofs.Work.{IdleOrTask, idle-or-task, work-formatting}
 use Rattle.demands.proofs.StartRows.{not-sized, start-one, refused-back}
 use Rattle.demands.proofs.FirstRows.{NoCard, sized?, by-card}
-use Rattle.descent.specs.Descent.{slotOf}
-use Rattle.descent.specs.declared.Landing.{Landing}
-use Rattle.descent.specs.declared.Landing.the-variants.{Refused as NoLanding, Leaf as LandingAt}
-use Rattle.descent.specs.declared.Slot.{Slot}
-use Rattle.descent.specs.declared.Slot.the-variants.{At, Absent as NoSlot}
+use Rattle.walk.specs.Descent.{slotOf}
+use Rattle.walk.specs.declared.Landing.{Landing}
+use Rattle.walk.specs.declared.Landing.the-variants.{Refused as NoLanding, Leaf as LandingAt}
+use Rattle.walk.specs.declared.Slot.{Slot}
+use Rattle.walk.specs.declared.Slot.the-variants.{At, Absent as NoSlot}
 use Rattle.laws.proofs.Cases.{bool-cases, order}
 use Rattle.state.specs.Answers.{stepReply}
 use Rattle.state.specs.Memory.{Memory, idled, advanced}
@@ -35,10 +35,10 @@ use Rattle.state.specs.declared.Answer.{Answer}
 use Rattle.state.specs.declared.Answer.the-variants.{Ready, Absent, Value}
 use Rattle.state.specs.declared.Doing.{Doing}
 use Rattle.state.specs.declared.Doing.the-variants.{Formatting, Inserting, Deleting}
-use Rattle.starting.specs.Starts.{insertOf, deleteOf}
+use Rattle.call_start.specs.Starts.{insertOf, deleteOf}
 use Rattle.table.specs.Calls.{stepTask, stepHeld, stepOf}
 use Rattle.table.proofs.StepLaws.{idle-refused, idle-unchecked, task-due, task-unchecked}
-use Rattle.updates.specs.Updates.{Reason, FirstChange, landing, startRoom, insertReason, insertChange, deleteChange, insertIn, deleteIn, noWay, inLeaf, nextChange, held, slot, full}
+use Rattle.call_change.specs.Updates.{Reason, FirstChange, landing, startRoom, insertReason, insertChange, deleteChange, insertIn, deleteIn, noWay, inLeaf, nextChange, held, slot, full}
 
 -- an answer that is final
 abbrev pub Final : Answer → Type 0

@@ -12,35 +12,35 @@ use Rattle.card.specs.Header.{nodesOfLength, cardRefusal}
 use Rattle.card.specs.Layout.{keyLimit, nodeAt}
 use Rattle.card.specs.Replies.{Reply, ready, started}
 use Rattle.card.specs.Stores.{Store}
-use Rattle.promises.specs.Book.{Book, book, feed, told, put, remove, empty}
+use Rattle.theory_book.specs.Book.{Book, book, feed, told, put, remove, empty}
 use Rattle.demands.specs.Demand2.{Repairs, Updates}
-use Rattle.promises.specs.Events.{World, opened, happens, insert, delete}
-use Rattle.promises.specs.Way.{nodesOn}
+use Rattle.theory_book.specs.Events.{World, opened, happens, insert, delete}
+use Rattle.theory_book.specs.Way.{nodesOn}
 use Rattle.demands.specs.Rules.{InsertRule, DeleteRule}
 use Rattle.demands.proofs.ByRules.{Begun, repairs-by-rules, first-by-rules, put-turns, remove-turns}
-use Rattle.promises.specs.RationTable.{rationTable}
+use Rattle.theory_book.specs.RationTable.{rationTable}
 use Rattle.demands.proofs.PowerCuts.{Covered, covered-nodes}
 use Rattle.demands.proofs.StartRows.{started-doing}
 use Rattle.demands.proofs.StepRows.{next-final}
 use Rattle.demands.proofs.Making.{Nears}
-use Rattle.promises.proofs.AnswerNumbers.{card-small}
+use Rattle.theory_book.proofs.AnswerNumbers.{card-small}
 use Rattle.demands.proofs.PlannedUpdates.{insert-by-rule, delete-by-rule, insert-short, delete-short}
-use Rattle.descent.specs.Descent.{slotOf}
-use Rattle.descent.specs.declared.Landing.{Landing}
-use Rattle.descent.specs.declared.Landing.the-variants.{Refused as NoLanding, Leaf as LandingAt}
-use Rattle.descent.specs.declared.Slot.{Slot}
-use Rattle.descent.specs.declared.Slot.the-variants.{At, Absent as NoSlot}
-use Rattle.free_nodes.specs.NodeSet.{countTrue}
+use Rattle.walk.specs.Descent.{slotOf}
+use Rattle.walk.specs.declared.Landing.{Landing}
+use Rattle.walk.specs.declared.Landing.the-variants.{Refused as NoLanding, Leaf as LandingAt}
+use Rattle.walk.specs.declared.Slot.{Slot}
+use Rattle.walk.specs.declared.Slot.the-variants.{At, Absent as NoSlot}
+use Rattle.card_free.specs.NodeSet.{countTrue}
 use Rattle.laws.proofs.Cases.{bool-cases, impossible}
-use Rattle.opening.specs.Opening.{openSound, openChecked, openOf}
-use Rattle.plans.specs.Change.{Change}
-use Rattle.plans.specs.Planning.{takeNumbers, overNumbers, giving, balanced, prepared}
-use Rattle.promises.proofs.BookLaws.{dictionaryAnswer}
-use Rattle.promises.proofs.Invariant.{job-repair, job-insert, job-delete}
-use Rattle.promises.proofs.PowerLoss.{reopened-inv, reopened-due}
-use Rattle.promises.proofs.Starting.{nodes-same, kept-insert, kept-delete}
-use Rattle.soundness.specs.Check.{Findings, tableCheck}
-use Rattle.starting.specs.Starts.{insertOf, deleteOf}
+use Rattle.call_open.specs.Opening.{openSound, openChecked, openOf}
+use Rattle.change_plan.specs.Change.{Change}
+use Rattle.change_plan.specs.Planning.{takeNumbers, overNumbers, giving, balanced, prepared}
+use Rattle.theory_book.proofs.BookLaws.{dictionaryAnswer}
+use Rattle.theory_book.proofs.Invariant.{job-repair, job-insert, job-delete}
+use Rattle.theory_book.proofs.PowerLoss.{reopened-inv, reopened-due}
+use Rattle.theory_book.proofs.Starting.{nodes-same, kept-insert, kept-delete}
+use Rattle.card_check.specs.Check.{Findings, tableCheck}
+use Rattle.call_start.specs.Starts.{insertOf, deleteOf}
 use Rattle.state.specs.Answers.{stepReply, startReply}
 use Rattle.state.specs.Memory.{noMemory, resting}
 use Rattle.state.specs.Steps.{isIdle, Handed, noBeginning}
@@ -49,11 +49,11 @@ use Rattle.state.specs.declared.Answer.the-variants.{Ready, Absent, Value}
 use Rattle.state.specs.declared.Begun.the-variants.{Started}
 use Rattle.state.specs.declared.Doing.the-variants.{Inserting, Deleting, Repairing}
 use Rattle.table.specs.Calls.{repairSteps}
-use Rattle.tree.specs.Pairs.{lookup}
-use Rattle.updates.proofs.Preparations.{next-stores}
+use Rattle.theory_tree.specs.Pairs.{lookup}
+use Rattle.call_change.proofs.Preparations.{next-stores}
 use Rattle.state.proofs.Tasks.{putting, taking}
 use Rattle.state.specs.declared.Task.the-variants.{PutIn, TakeOut}
-use Rattle.updates.specs.Updates.{Reason, landing, insertReason, insertChange, deleteChange, insertIn, deleteIn, noWay, inLeaf, nextChange, startRoom, held, slot, full}
+use Rattle.call_change.specs.Updates.{Reason, landing, insertReason, insertChange, deleteChange, insertIn, deleteIn, noWay, inLeaf, nextChange, startRoom, held, slot, full}
 
 -- what opening hands back: no stores to come, and a repair where it says so
 abbrev OpenDoing : Handed → Type 0

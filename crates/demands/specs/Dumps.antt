@@ -6,8 +6,8 @@ use Prim.Native.Nat.{ℕ, _+_, _*_, _/_, _%_, _^_, _≤_, _<_}
 use lib.ListN.{length, getD, take}
 use Rattle.card.specs.Layout.{leastNodes, greatestNodes}
 use Rattle.card.specs.Replies.{Reply, refusal, long}
-use Rattle.dump.specs.Dump.{wordsFor}
-use Rattle.promises.specs.Way.{nodesOn}
+use Rattle.card_dump.specs.Dump.{wordsFor}
+use Rattle.theory_book.specs.Way.{nodesOn}
 use Rattle.demands.specs.Refusals.{Rows, ByRows, end, row, cardRows}
 
 -- "A dump is the card's words as bytes, low byte first": the word of the four bytes from number 4 × i on, and byte j of a word

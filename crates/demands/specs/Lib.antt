@@ -1,5 +1,5 @@
 -- What is promised of a ration table, in the order in which to read it. No proof stands here.
--- (A table as its caller sees it, lists of calls and cuts, and the book stand in promises/specs: Table, Events, Way, Book.)
+-- (A table as its caller sees it, lists of calls and cuts, and the book stand in theory_book/specs: Table, Events, Way, Book.)
 -- the table "Refusal by place"
 pub mod Refusals
 -- a table that is worked by these calls alone

@@ -7,20 +7,20 @@ use Prim.Native.Nat.{ℕ, _^_, _<_}
 use lib.ListN.{length, getD, replicate}
 use Rattle.card.specs.Header.{Sized, Formatted}
 use Rattle.card.specs.Replies.{refusal}
-use Rattle.dump.specs.Dump.{dumpOf, dumpWords, wordsFor, dumpNodes}
-use Rattle.free_nodes.specs.NodeSet.{countTrue}
-use Rattle.listing.specs.Listing.{Listing, Listed, refused, listed}
-use Rattle.printing.specs.Text.{listText}
-use Rattle.tree.specs.FreeNodes.{Exact}
-use Rattle.tree.specs.Height.{Height}
-use Rattle.tree.specs.Pairs.{pairs, lookup}
-use Rattle.tree.specs.Tree.{Tree}
-use Rattle.tree.specs.WellFormed.{WellFormed, Balanced}
-use Rattle.promises.specs.Table.{Table}
+use Rattle.card_dump.specs.Dump.{dumpOf, dumpWords, wordsFor, dumpNodes}
+use Rattle.card_free.specs.NodeSet.{countTrue}
+use Rattle.list_pairs.specs.Listing.{Listing, Listed, refused, listed}
+use Rattle.list_text.specs.Text.{listText}
+use Rattle.theory_tree.specs.FreeNodes.{Exact}
+use Rattle.theory_tree.specs.Height.{Height}
+use Rattle.theory_tree.specs.Pairs.{pairs, lookup}
+use Rattle.theory_tree.specs.Tree.{Tree}
+use Rattle.theory_tree.specs.WellFormed.{WellFormed, Balanced}
+use Rattle.theory_book.specs.Table.{Table}
 use Rattle.demands.specs.Demand3.{mostRepairSteps}
 use Rattle.demands.specs.Dumps.{Damaged}
-use Rattle.promises.specs.Events.{World, opened, run, step}
-use Rattle.promises.specs.Way.{nodesOn}
+use Rattle.theory_book.specs.Events.{World, opened, run, step}
+use Rattle.theory_book.specs.Way.{nodesOn}
 use Rattle.demands.specs.Refusals.{ByRows, openRows, end, row}
 
 -- "opens and repairs it in memory": so many steps that the repair has ended (demand 3); those after its end store nothing

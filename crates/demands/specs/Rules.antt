@@ -10,11 +10,11 @@ use Prim.Native.Nat.{ℕ, suc, _+_, _-_, _/_, _≤_, _<_}
 use lib.Dec.{eqb}
 use lib.ListN.{length, getD, set, take, drop}
 use Rattle.card.specs.Layout.{rootPlace, place, nodeAt, kindOf, keyWords, children, routingKeys, leafPairs}
-use Rattle.descent.specs.Descent.{countOf}
+use Rattle.walk.specs.Descent.{countOf}
 use Rattle.card.specs.Stores.{Store, NewNode, newNode, nodeStores}
 use Rattle.laws.specs.Cases.{pick}
 use Rattle.laws.specs.Sorting.{sort, pairKeys, pairValues, keyAt}
-use Rattle.promises.specs.Way.{leadsTo, among}
+use Rattle.theory_book.specs.Way.{leadsTo, among}
 
 -- ---- the nodes that a change is given
 

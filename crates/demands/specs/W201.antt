@@ -8,12 +8,12 @@ use Prim.Native.Nat.{ℕ, _<_}
 use lib.ListN.{length}
 use Rattle.card.specs.Layout.{keyLimit}
 use Rattle.card.specs.Replies.{Reply, refusal, next, nothing}
-use Rattle.tree.specs.Pairs.{pairs, lookup}
-use Rattle.tree.specs.Tree.{Tree}
-use Rattle.tree.specs.WellFormed.{WellFormed}
-use Rattle.promises.specs.Table.{Table}
+use Rattle.theory_tree.specs.Pairs.{pairs, lookup}
+use Rattle.theory_tree.specs.Tree.{Tree}
+use Rattle.theory_tree.specs.WellFormed.{WellFormed}
+use Rattle.theory_book.specs.Table.{Table}
 use Rattle.demands.specs.Worked.{Always}
-use Rattle.promises.specs.Way.{nodesOn}
+use Rattle.theory_book.specs.Way.{nodesOn}
 use Rattle.demands.specs.Refusals.{ByRows, cardRows, end}
 
 -- The call: of a card and a number the reply, which tells the key and the value of the pair. "It reads the card only": no card comes back.

@@ -7,7 +7,7 @@ use Prim.Native.Nat.{ℕ, _+_, _-_, _*_, _%_, _^_, _≤_, _<_}
 use lib.ListN.{length, getD, drop}
 use Rattle.card.specs.Layout.{leastNodes, greatestNodes}
 use Rattle.card.specs.Replies.{Reply, refusal, long}
-use Rattle.dump.specs.Dump.{paddedLength, wordsFor, dumpNodes}
+use Rattle.card_dump.specs.Dump.{paddedLength, wordsFor, dumpNodes}
 use Rattle.demands.specs.Refusals.{Rows, ByRows, end, row}
 
 -- the padding of a dump with N nodes: what makes the bytes of its 8 + 24 × N words a multiple of 512

@@ -8,17 +8,17 @@ use mathlib.Core.Option.{some}
 use Prim.Native.Nat.{ℕ, _<_}
 use Rattle.card.specs.Layout.{nodeAt, keyWords}
 use Rattle.card.specs.Replies.{refusal, holds, absent}
-use Rattle.dump.specs.Dump.{dumpWords, wordsFor, dumpNodes}
-use Rattle.free_nodes.specs.NodeSet.{countTrue}
-use Rattle.key_file.specs.KeyFile.{keyIn}
-use Rattle.reason_printing.specs.ReasonText.{noKeyWord, heldWord, slotWord, splitLine}
+use Rattle.card_dump.specs.Dump.{dumpWords, wordsFor, dumpNodes}
+use Rattle.card_free.specs.NodeSet.{countTrue}
+use Rattle.reason_key.specs.KeyFile.{keyIn}
+use Rattle.reason_text.specs.ReasonText.{noKeyWord, heldWord, slotWord, splitLine}
 use Rattle.text_row.specs.Lines.{lineFeed, numberLine, refusalLine}
-use Rattle.updates.specs.Updates.{splitNeed}
+use Rattle.call_change.specs.Updates.{splitNeed}
 use Rattle.demands.specs.Dumps.{Damaged}
 use Rattle.demands.specs.List.{repairedWorld}
-use Rattle.promises.specs.Table.{Table}
-use Rattle.promises.specs.Events.{World}
-use Rattle.promises.specs.Way.{leadsTo, among}
+use Rattle.theory_book.specs.Table.{Table}
+use Rattle.theory_book.specs.Events.{World}
+use Rattle.theory_book.specs.Way.{leadsTo, among}
 use Rattle.demands.specs.Refusals.{ByRows, openRows, end, row}
 
 -- "`split` is printed with F below M"

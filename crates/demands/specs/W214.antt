@@ -5,12 +5,12 @@ use Prim.Native.Nat.{ℕ, _+_, _*_, _^_, _≤_, _<_}
 use lib.ListN.{length}
 use Rattle.card.specs.Layout.{keyLimit}
 use Rattle.card.specs.Replies.{started}
-use Rattle.tree.specs.Height.{Height}
-use Rattle.tree.specs.Pairs.{pairs, lookup}
-use Rattle.tree.specs.Tree.{Tree, leaf}
-use Rattle.tree.specs.WellFormed.{WellFormed, Balanced}
-use Rattle.promises.specs.Table.{Table}
-use Rattle.promises.specs.Events.{Event, World, replyTo, happens, insert, delete}
+use Rattle.theory_tree.specs.Height.{Height}
+use Rattle.theory_tree.specs.Pairs.{pairs, lookup}
+use Rattle.theory_tree.specs.Tree.{Tree, leaf}
+use Rattle.theory_tree.specs.WellFormed.{WellFormed, Balanced}
+use Rattle.theory_book.specs.Table.{Table}
+use Rattle.theory_book.specs.Events.{Event, World, replyTo, happens, insert, delete}
 use Rattle.demands.specs.Refusals.{Idle}
 use Rattle.demands.specs.Demand2.{Finishes}
 use Rattle.demands.specs.Worked.{dictionary, Always, BalancedWith}

@@ -6,5 +6,5 @@ fn main() {
     let fd = os::open_read(b"key");
     let mut file = io::buffer();
     let got = io::read_full(fd, &mut file);
-    reason_printing::print_check(&dump[..length], &file[..got]);
+    reason_text::print_check(&dump[..length], &file[..got]);
 }

@@ -1,4 +1,4 @@
 // The program `list` (document 01, "Dumps and the list program"), on the dump that the document gives.
 fn main() {
-    printing::list_input();
+    list_text::list_input();
 }

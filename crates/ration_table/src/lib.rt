@@ -1,25 +1,25 @@
 // The table and its dumps, for C and Rust to call: each call is the table's own, with its answer in four words.
-pub use replies::Reply;
-use replies::dump_reply;
-use replies::found_reply;
-use replies::start_reply;
-use replies::step_reply;
+pub use c_replies::Reply;
+use c_replies::dump_reply;
+use c_replies::found_reply;
+use c_replies::start_reply;
+use c_replies::step_reply;
 ghost use mathlib.Core.Path.{_≡_};
 ghost use mathlib.Core.Bool.{false};
 ghost use lib.ListN.{length};
-ghost use Rattle.dump.specs.Dump.{readAnswer, readOver, writeAnswer, writeOver};
-ghost use Rattle.dump.specs.Answers.{dumpReply};
-ghost use Rattle.lookup.specs.Answers.{foundReply};
-ghost use Rattle.lookup.specs.Find.{findOf};
-ghost use Rattle.opening.specs.Opening.{openOf};
-ghost use Rattle.starting.specs.Starts.{formatOf, insertOf, deleteOf};
+ghost use Rattle.card_dump.specs.Dump.{readAnswer, readOver, writeAnswer, writeOver};
+ghost use Rattle.card_dump.specs.Answers.{dumpReply};
+ghost use Rattle.call_find.specs.Answers.{foundReply};
+ghost use Rattle.call_find.specs.Find.{findOf};
+ghost use Rattle.call_open.specs.Opening.{openOf};
+ghost use Rattle.call_start.specs.Starts.{formatOf, insertOf, deleteOf};
 ghost use Rattle.state.specs.Answers.{startReply, stepReply};
 ghost use Rattle.state.specs.declared.Doing.the-variants.{Inserting, Deleting};
 ghost use Rattle.table.specs.Calls.{stepOf};
 ghost use Rattle.state_block.specs.Contracts.{OpenCall, StartCall, StepCall};
 ghost use Rattle.state_block.specs.Block.{memoryIn};
 ghost use Rattle.ration_table.specs.Contracts.{Replies};
-ghost use Rattle.replies.specs.ReplyWords.{replyOf};
+ghost use Rattle.c_replies.specs.ReplyWords.{replyOf};
 
 // "A find is one call on the card alone".
 #[no_mangle]
@@ -80,7 +80,7 @@ pub extern "C" fn ration_read_dump(dump: &[u8], words: &mut [u32]) -> Reply
     ensures { λ r. ⌜ replyOf r ≡ dumpReply (readAnswer (now (dump .entry)) (length (now (words .entry)))) ⌝ }
     ensures { λ r. ⌜ now (words .exit) ≡ readOver (now (dump .entry)) (now (words .entry)) ⌝ }
 {
-    let answer = dump::read_dump(dump, words);
+    let answer = card_dump::read_dump(dump, words);
     dump_reply(answer)
 }
 
@@ -90,6 +90,6 @@ pub extern "C" fn ration_write_dump(card: &[u32], bytes: &mut [u8]) -> Reply
     ensures { λ r. ⌜ replyOf r ≡ dumpReply (writeAnswer (now (card .entry)) (length (now (bytes .entry)))) ⌝ }
     ensures { λ r. ⌜ now (bytes .exit) ≡ writeOver (now (card .entry)) (now (bytes .entry)) ⌝ }
 {
-    let answer = dump::write_dump(card, bytes);
+    let answer = card_dump::write_dump(card, bytes);
     dump_reply(answer)
 }

@@ -11,9 +11,9 @@ use lib.Seq.{drop-cons, getD-take}
 use lib.Dec.{ltb}
 use borrow.Author.Tests.{ltb-true, lt-ltb, le-ltb, ne-eqb, eq-eqb}
 use Rattle.card.specs.Stores.{Store}
-use Rattle.plans.specs.Plan.{storesOf}
-use Rattle.plans.specs.Planning.{withAll}
-use Rattle.plans.specs.declared.Plan.{Plan}
+use Rattle.change_plan.specs.Plan.{storesOf}
+use Rattle.change_plan.specs.Planning.{withAll}
+use Rattle.change_plan.specs.declared.Plan.{Plan}
 use Rattle.laws.proofs.Cases.{order, impossible}
 use Rattle.laws.specs.Lists.{beforeZero}
 use Rattle.state.specs.Steps.{Step, stepRefused, formattedWord, formatStore, stepStore}

@@ -5,9 +5,9 @@ use Prim.Native.Nat.{ℕ}
 use lib.ListN.{drop}
 use Rattle.laws.specs.Lists.{beforeZero}
 use Rattle.card.specs.Stores.{Store}
-use Rattle.free_nodes.specs.NodeSet.{nodesOf, allNodes}
-use Rattle.plans.specs.Planning.{withAll}
-use Rattle.plans.specs.Plan.{storesOf}
+use Rattle.card_free.specs.NodeSet.{nodesOf, allNodes}
+use Rattle.change_plan.specs.Planning.{withAll}
+use Rattle.change_plan.specs.Plan.{storesOf}
 use Rattle.state.specs.declared.State.{State}
 use Rattle.state.specs.declared.Doing.{Doing}
 use Rattle.state.specs.declared.Doing.the-variants.{Idle}

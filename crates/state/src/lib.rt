@@ -3,9 +3,9 @@ mod formatting;
 mod playing;
 mod states;
 
+use card_free::NodeSet;
+use change_plan::Plan;
 pub use formatting::step_format;
-use free_nodes::NodeSet;
-use plans::Plan;
 pub use playing::in_hand;
 pub use playing::store_next;
 pub use states::held_by;

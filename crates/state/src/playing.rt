@@ -2,16 +2,16 @@
 use crate::Answer;
 use crate::State;
 use crate::Stepped;
-use free_nodes::NodeSet;
-use plans::Plan;
+use card_free::NodeSet;
+use change_plan::Plan;
 ghost use mathlib.Core.Path.{_≡_};
 ghost use Prim.Native.Nat.{_+_, _<_};
 ghost use mathlib.Core.Bool.{true};
 ghost use lib.ListN.{drop, getD, set};
 ghost use Rattle.laws.specs.Lists.{beforeZero};
-ghost use Rattle.free_nodes.specs.NodeSet.{nodesOf};
-ghost use Rattle.plans.specs.Planning.{withAll};
-ghost use Rattle.plans.specs.Plan.{storesOf};
+ghost use Rattle.card_free.specs.NodeSet.{nodesOf};
+ghost use Rattle.change_plan.specs.Planning.{withAll};
+ghost use Rattle.change_plan.specs.Plan.{storesOf};
 ghost use Rattle.state.specs.Memory.{memoryOf, advanced};
 ghost use Rattle.state.specs.Steps.{stepStore};
 ghost use Rattle.state.specs.Results.{stepLeft, Unchanged, moreToStore};
@@ -33,8 +33,8 @@ pub fn in_hand(plan: Plan, made: usize) -> bool
 fn with_one(free: NodeSet, m: usize) -> NodeSet
     ensures { λ r. ⌜ nodesOf (r .words) ≡ set (nodesOf (free .words)) m true ⌝ }
 {
-    if m < free_nodes::CAPACITY {
-        return free_nodes::with_node(free, m);
+    if m < card_free::CAPACITY {
+        return card_free::with_node(free, m);
     }
     free
 }

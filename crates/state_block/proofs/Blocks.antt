@@ -12,8 +12,8 @@ use borrow.Author.Tests.{lt-ltb, ne-eqb}
 use Rattle.laws.specs.Bits.{bit}
 use Rattle.laws.specs.Digits.{digitsOf}
 use Rattle.laws.proofs.Digits.{length-digits}
-use Rattle.free_nodes.specs.NodeSet.{nodesOf, allNodes}
-use Rattle.plans.specs.Plan.{storesOf}
+use Rattle.card_free.specs.NodeSet.{nodesOf, allNodes}
+use Rattle.change_plan.specs.Plan.{storesOf}
 use Rattle.state.specs.Memory.{memoryOf, resting, noMemory}
 use Rattle.state.specs.Steps.{isIdle}
 use Rattle.state.specs.declared.Doing.{Doing}

@@ -7,10 +7,10 @@ use native.Mathlib.Omega.{arith}
 use lib.ListN.{length, take, drop, set, length-set, length-take}
 use lib.Seq.{drop-cons, getD-set-same, getD-set-other, drop-set-lt, set-out}
 use Rattle.laws.specs.Lists.{beforeZero}
-use Rattle.free_nodes.specs.NodeSet.{capacity, nodesOf}
-use Rattle.free_nodes.proofs.NodeSetLaws.{length-nodes}
+use Rattle.card_free.specs.NodeSet.{capacity, nodesOf}
+use Rattle.card_free.proofs.NodeSetLaws.{length-nodes}
 use Rattle.card.specs.Stores.{Store}
-use Rattle.plans.specs.Plan.{storesOf}
+use Rattle.change_plan.specs.Plan.{storesOf}
 use Rattle.state.specs.Memory.{Memory, memoryOf}
 use Rattle.state.specs.Steps.{formattingFrom}
 use Rattle.state.specs.declared.Doing.{Doing}

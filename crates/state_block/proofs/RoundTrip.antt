@@ -9,10 +9,10 @@ use lib.Seq.{take-at, drop-at, take-all, drop-append-add}
 use Rattle.laws.specs.Bits.{bit}
 use Rattle.laws.proofs.Cases.{order}
 use Rattle.laws.specs.Lists.{beforeZero}
-use Rattle.free_nodes.specs.NodeSet.{nodesOf}
+use Rattle.card_free.specs.NodeSet.{nodesOf}
 use Rattle.card.specs.Stores.{Store}
-use Rattle.plans.specs.Plan.{storesOf}
-use Rattle.plans.specs.declared.Plan.{Plan}
+use Rattle.change_plan.specs.Plan.{storesOf}
+use Rattle.change_plan.specs.declared.Plan.{Plan}
 use Rattle.state.specs.Memory.{memoryOf}
 use Rattle.state.proofs.StepLaws.{stores-full}
 use Rattle.state.specs.declared.State.{State}

@@ -4,7 +4,7 @@ use mathlib.Core.List.{List, [], _∷_, _++_}
 use Prim.Native.Nat.{ℕ, zero, suc, _+_, _*_}
 use lib.ListN.{length, take, drop, replicate}
 use Rattle.laws.specs.Bits.{bit}
-use Rattle.free_nodes.specs.NodeSet.{wordCount}
+use Rattle.card_free.specs.NodeSet.{wordCount}
 use Rattle.state.specs.Memory.{Memory}
 use Rattle.state.specs.declared.Doing.{Doing}
 use Rattle.state.specs.declared.Begun.{Begun}

@@ -1,6 +1,6 @@
 // The state as the 177 words that a caller lends: unpacked for a call, packed after it.
-use free_nodes::NodeSet;
-use plans::Plan;
+use card_free::NodeSet;
+use change_plan::Plan;
 use state::Begun;
 use state::Doing;
 use state::State;
@@ -8,7 +8,7 @@ ghost use mathlib.Core.Path.{_≡_};
 ghost use Prim.Native.Nat.{_≤_};
 ghost use lib.ListN.{length, replicate};
 ghost use Rattle.card.specs.Layout.{greatestNodes};
-ghost use Rattle.free_nodes.specs.NodeSet.{wordCount, nodesOf};
+ghost use Rattle.card_free.specs.NodeSet.{wordCount, nodesOf};
 ghost use Rattle.laws.specs.Bits.{bit};
 ghost use Rattle.state.specs.Memory.{resting};
 ghost use Rattle.state.specs.Steps.{isIdle, noBeginning};
@@ -71,7 +71,7 @@ fn free_in(words: &[u32]) -> NodeSet
     requires { ⌜ length (now words) ≡ wordCount ⌝ }
     ensures { λ r. ⌜ r .words ≡ now (words .entry) ⌝ }
 {
-    let mut copy: [u32; free_nodes::WORDS] = [0; free_nodes::WORDS];
+    let mut copy: [u32; card_free::WORDS] = [0; card_free::WORDS];
     store_words(&mut copy, words);
     NodeSet { words: copy }
 }

@@ -15,20 +15,20 @@ use Rattle.card.specs.Layout.{greatestNodes, nodeAt}
 use Rattle.card.specs.Header.{nodesOfLength, headerRefusal}
 use Rattle.card.proofs.HeaderLaws.{nodes-sized}
 use Rattle.card.specs.Stores.{Store}
-use Rattle.free_nodes.specs.NodeSet.{nextFree}
-use Rattle.free_nodes.proofs.NodeSetLaws.{next-found, length-nodes}
-use Rattle.free_nodes.specs.declared.Next.{Next}
-use Rattle.free_nodes.specs.declared.Next.the-variants.{Node, Nothing}
-use Rattle.descent.specs.Descent.{slotOf}
-use Rattle.descent.specs.declared.Slot.{Slot}
-use Rattle.descent.specs.declared.Slot.the-variants.{At, Absent as NoSlot}
-use Rattle.descent.specs.declared.Landing.{Landing}
-use Rattle.descent.specs.declared.Landing.the-variants.{Refused as NoLanding, Leaf as LandingAt}
-use Rattle.plans.specs.Change.{Change}
-use Rattle.plans.specs.Planning.{Preparation, refused, balanced, prepared, numbersFrom, takeNumbers, lastOf, overNumbers, giving}
+use Rattle.card_free.specs.NodeSet.{nextFree}
+use Rattle.card_free.proofs.NodeSetLaws.{next-found, length-nodes}
+use Rattle.card_free.specs.declared.Next.{Next}
+use Rattle.card_free.specs.declared.Next.the-variants.{Node, Nothing}
+use Rattle.walk.specs.Descent.{slotOf}
+use Rattle.walk.specs.declared.Slot.{Slot}
+use Rattle.walk.specs.declared.Slot.the-variants.{At, Absent as NoSlot}
+use Rattle.walk.specs.declared.Landing.{Landing}
+use Rattle.walk.specs.declared.Landing.the-variants.{Refused as NoLanding, Leaf as LandingAt}
+use Rattle.change_plan.specs.Change.{Change}
+use Rattle.change_plan.specs.Planning.{Preparation, refused, balanced, prepared, numbersFrom, takeNumbers, lastOf, overNumbers, giving}
 use Rattle.state.specs.Memory.{Memory, memoryOf, idled, advanced}
-use Rattle.updates.specs.Updates.{Reason, held, slot, full, FirstChange, landing, insertReason, insertChange, deleteChange, insertIn, deleteIn, noWay, inLeaf, nextChange}
-use Rattle.updates.proofs.Preparations.{either, Preserved, next-by}
+use Rattle.call_change.specs.Updates.{Reason, held, slot, full, FirstChange, landing, insertReason, insertChange, deleteChange, insertIn, deleteIn, noWay, inLeaf, nextChange}
+use Rattle.call_change.proofs.Preparations.{either, Preserved, next-by}
 use Rattle.state.specs.Steps.{heldBy, Step, stepRefused, stepFinal, formatStore, formattingFrom, stepFormat, stepStore}
 use Rattle.table.specs.Calls.{planning, stepPrepared, stepBegin, stepTask, stepChecked, stepHeld, stepOf}
 use Rattle.state.proofs.StepLaws.{format-end}

@@ -12,8 +12,8 @@ use borrow.Author.Tests.{lt-ltb}
 use Rattle.laws.specs.Lists.{beforeZero}
 use Rattle.card.specs.Header.{headerRefusal}
 use Rattle.card.specs.Stores.{Store}
-use Rattle.plans.specs.Plan.{storesOf}
-use Rattle.plans.specs.Planning.{withAll}
+use Rattle.change_plan.specs.Plan.{storesOf}
+use Rattle.change_plan.specs.Planning.{withAll}
 use Rattle.state.specs.Memory.{Memory, memoryOf, advanced}
 use Rattle.state.specs.Steps.{heldBy, formattingFrom, formatStore, stepFormat, stepStore}
 use Rattle.table.specs.Calls.{stepTask, stepHeld}

@@ -8,8 +8,8 @@ use Rattle.laws.specs.Cases.{pick}
 use Rattle.card.specs.Layout.{depthLimit}
 use Rattle.card.specs.Header.{nodesOfLength, headerRefusal}
 use Rattle.card.specs.Stores.{Store}
-use Rattle.plans.specs.Planning.{Preparation, refused, balanced, prepared}
-use Rattle.updates.specs.Updates.{FirstChange, nextChange}
+use Rattle.change_plan.specs.Planning.{Preparation, refused, balanced, prepared}
+use Rattle.call_change.specs.Updates.{FirstChange, nextChange}
 use Rattle.state.specs.Memory.{Memory, advanced}
 use Rattle.state.specs.declared.Doing.{Doing}
 use Rattle.state.specs.declared.Task.{Task}

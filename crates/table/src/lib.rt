@@ -3,14 +3,14 @@
 mod playing;
 mod steps;
 
-pub use lookup::Found;
-pub use lookup::find;
-pub use opening::open;
+pub use call_find::Found;
+pub use call_find::find;
+pub use call_open::open;
+pub use call_start::start_delete;
+pub use call_start::start_format;
+pub use call_start::start_insert;
 use playing::Placed;
 use playing::play;
-pub use starting::start_delete;
-pub use starting::start_format;
-pub use starting::start_insert;
 pub use state::Answer;
 pub use state::Begun;
 use state::Held;

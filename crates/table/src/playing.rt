@@ -19,8 +19,8 @@ ghost use mathlib.Core.List.{[]};
 ghost use Prim.Native.Nat.{_+_, _*_, _≤_};
 ghost use lib.ListN.{length, set, drop};
 ghost use Rattle.card.specs.Layout.{greatestNodes};
-ghost use Rattle.plans.specs.Plan.{storesOf};
-ghost use Rattle.plans.specs.Planning.{withAll};
+ghost use Rattle.change_plan.specs.Plan.{storesOf};
+ghost use Rattle.change_plan.specs.Planning.{withAll};
 ghost use Rattle.state.specs.Memory.{advanced};
 ghost use Rattle.table.specs.Calls.{stepTask, stepOf};
 ghost use Rattle.state.specs.declared.Task.{Task};
@@ -39,10 +39,10 @@ fn free_node(block: &mut [u32], m: usize)
     ensures { λ _. ⌜ memoryIn (now (block .exit)) ≡ withFree (memoryIn (now (block .entry))) (set (memoryIn (now (block .entry)) .free) m true) ⌝ }
     ensures { λ _. ⌜ part (now (block .exit)) 8 3 ≡ part (now (block .entry)) 8 3 ⌝ }
 {
-    if free_nodes::CAPACITY <= m {
+    if card_free::CAPACITY <= m {
         return;
     }
-    free_nodes::put_in(&mut block[FREE..PLACES], m);
+    card_free::put_in(&mut block[FREE..PLACES], m);
 }
 
 // "Nodes cut out of the tree are free after the store that cuts them out": those before the first 0.

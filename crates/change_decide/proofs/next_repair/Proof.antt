@@ -1,7 +1,7 @@
 -- `change_decide::next_repair` meets its contract.
 use mathlib.Core.Path.{_≡_, ap, sym, _∙_}
 use native.Mathlib.Omega.{arith}
-use Rattle.descent.specs.declared.Search.{Search}
+use Rattle.walk.specs.declared.Search.{Search}
 use Rattle.change_decide.specs.Decide.{onSearch, decidedRepair}
 use Rattle.change_decide.proofs.Positions.{position-within}
 use borrow.Author.Needs.{needs}

@@ -1,7 +1,7 @@
 -- `ration_table::ration_find` meets its contract.
 use mathlib.Core.Path.{ap, _∙_}
 use borrow.Author.Needs.{needs}
-use Rattle.lookup.specs.Answers.{foundReply}
+use Rattle.call_find.specs.Answers.{foundReply}
 use Rattle.ration_table.proofs.ration_find.Statement.{statement}
 use Rattle.ration_table.proofs.ration_find.Tie as tie
 

@@ -2,7 +2,7 @@
 use mathlib.Core.Path.{ap, sym, _∙_}
 use lib.ListN.{length}
 use borrow.Author.Needs.{needs}
-use Rattle.dump.specs.Answers.{dumpReply}
+use Rattle.card_dump.specs.Answers.{dumpReply}
 use Rattle.ration_table.proofs.DumpLaws.{short-write}
 use Rattle.ration_table.proofs.ration_write_dump.Statement.{statement}
 use Rattle.ration_table.proofs.ration_write_dump.Tie as tie

@@ -11,8 +11,8 @@ use Rattle.change_rows.specs.Halves.{together}
 use Rattle.change_rows.proofs.RowLaws.{lent-kept}
 use Rattle.change_rows.proofs.NodeLaws.{words-laid}
 use Rattle.change_rows.proofs.HalfLaws.{halves-words}
-use Rattle.plans.specs.Change.{kindAbove, keyBetween, halves}
-use Rattle.siblings.proofs.SiblingLaws.{take-two}
+use Rattle.change_plan.specs.Change.{kindAbove, keyBetween, halves}
+use Rattle.change_siblings.proofs.SiblingLaws.{take-two}
 use Rattle.change_split.specs.Split.{under}
 use borrow.Author.Needs.{needs}
 use Rattle.change_split.proofs.split.lay_under.Statement.{statement}

@@ -9,7 +9,7 @@ use Rattle.card.specs.Stores.{newNode}
 use Rattle.change_rows.specs.Nodes.{newWords, changeWords, changeLength}
 use Rattle.change_rows.proofs.RowLaws.{take-start}
 use Rattle.change_rows.proofs.NodeLaws.{words-laid}
-use Rattle.plans.specs.Change.{absorb}
+use Rattle.change_plan.specs.Change.{absorb}
 use Rattle.change_split.specs.Split.{keysTakenIn, childrenTakenIn}
 use borrow.Author.Needs.{needs}
 use Rattle.change_split.proofs.tagged.lay_absorb.Statement.{statement}

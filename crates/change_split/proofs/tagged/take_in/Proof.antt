@@ -6,7 +6,7 @@ use native.Mathlib.Omega.{arith}
 use lib.ListN.{length, take}
 use Rattle.card.specs.Layout.{children}
 use Rattle.card.proofs.NodeLaws.{length-node, length-routing, children-le}
-use Rattle.plans.specs.Change.{joinedKeys, joinedChildren}
+use Rattle.change_plan.specs.Change.{joinedKeys, joinedChildren}
 use Rattle.change_split.proofs.SplitLaws.{keys-joined, children-joined}
 use borrow.Author.Needs.{needs}
 use Rattle.change_split.proofs.tagged.take_in.Statement.{statement}

@@ -4,7 +4,7 @@ use mathlib.Core.List.{List, []}
 use mathlib.Core.Bool.{Bool}
 use Prim.Native.Nat.{_+_}
 use lib.ListN.{length, drop}
-use Rattle.plans.specs.Plan.{storesOf}
+use Rattle.change_plan.specs.Plan.{storesOf}
 use Rattle.state.specs.Memory.{memoryOf}
 use Rattle.state.proofs.StepLaws.{store-at, more-below, more-none, advance-on, advance-last}
 use borrow.Author.Needs.{needs}

@@ -5,7 +5,7 @@ use Prim.Native.Nat.{_+_, _<_}
 use native.Mathlib.Omega.{arith}
 use lib.ListN.{length, set, getD, drop}
 use Rattle.card.specs.Stores.{Store}
-use Rattle.plans.specs.Plan.{storesOf}
+use Rattle.change_plan.specs.Plan.{storesOf}
 use Rattle.state.specs.Steps.{stepRefused, stepStore}
 use Rattle.state.specs.Memory.{Memory, memoryOf, advanced}
 use Rattle.state.specs.Results.{stepLeft}

@@ -5,8 +5,8 @@ use mathlib.Core.Bool.{Bool}
 use Prim.Native.Nat.{ℕ, _+_, _-_, _≤_}
 use native.Mathlib.Omega.{arith}
 use lib.ListN.{length, drop}
-use Rattle.plans.specs.Planning.{withAll}
-use Rattle.free_nodes.specs.NodeSet.{nodesOf}
+use Rattle.change_plan.specs.Planning.{withAll}
+use Rattle.card_free.specs.NodeSet.{nodesOf}
 use Rattle.laws.specs.Lists.{beforeZero}
 use Rattle.state.proofs.StepLaws.{cut-end, cut-zero, cut-next, no-cut}
 use borrow.Author.Needs.{needs}

@@ -4,8 +4,8 @@ use mathlib.Core.Bool.{true}
 use native.Mathlib.Omega.{arith}
 use lib.ListN.{length}
 use lib.Seq.{set-out}
-use Rattle.free_nodes.specs.NodeSet.{wordCount, nodesOf}
-use Rattle.free_nodes.proofs.NodeSetLaws.{length-nodes}
+use Rattle.card_free.specs.NodeSet.{wordCount, nodesOf}
+use Rattle.card_free.proofs.NodeSetLaws.{length-nodes}
 use borrow.Author.Needs.{needs}
 use Rattle.state.proofs.playing.with_one.Statement.{statement}
 use Rattle.state.proofs.playing.with_one.Tie as tie

@@ -1,7 +1,7 @@
 -- `state::states::resting` meets its contract.
 use mathlib.Core.Path.{refl}
 use mathlib.Core.List.{zip, zipWith}
-use Rattle.plans.specs.Plan.{storesOf}
+use Rattle.change_plan.specs.Plan.{storesOf}
 use Rattle.state.specs.Memory.{memoryOf, resting}
 use Rattle.state.proofs.states.resting.Statement.{statement}
 use Rattle.state.proofs.states.resting.Tie as tie

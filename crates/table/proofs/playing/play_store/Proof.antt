@@ -6,7 +6,7 @@ use native.Mathlib.Omega.{arith}
 use lib.ListN.{getD, set, drop}
 use borrow.Author.Tests.{not-false}
 use borrow.Author.Needs.{needs}
-use Rattle.plans.specs.Plan.{storesOf}
+use Rattle.change_plan.specs.Plan.{storesOf}
 use Rattle.state.specs.Memory.{Memory}
 use Rattle.state.specs.Results.{moreToStore}
 use Rattle.state.specs.Steps.{Step}

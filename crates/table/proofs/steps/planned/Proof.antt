@@ -3,11 +3,11 @@ use mathlib.Core.Path.{_≡_, refl, sym, subst}
 use Prim.Native.Nat.{ℕ}
 use native.Mathlib.Omega.{arith}
 use lib.ListN.{length}
-use Rattle.free_nodes.specs.NodeSet.{wordCount, nodesOf}
-use Rattle.plans.specs.Plan.{Among}
-use Rattle.plans.proofs.NumberLaws.{given-within}
-use Rattle.change.specs.LayOut.{needed}
-use Rattle.change.proofs.LayOutLaws.{all-numbered, needed-few, laid-given}
+use Rattle.card_free.specs.NodeSet.{wordCount, nodesOf}
+use Rattle.change_plan.specs.Plan.{Among}
+use Rattle.change_plan.proofs.NumberLaws.{given-within}
+use Rattle.change_layout.specs.LayOut.{needed}
+use Rattle.change_layout.proofs.LayOutLaws.{all-numbered, needed-few, laid-given}
 use borrow.Author.Needs.{needs}
 use Rattle.table.proofs.steps.planned.Statement.{statement}
 use Rattle.table.proofs.steps.planned.Tie as tie

@@ -7,12 +7,12 @@ use Prim.Native.Nat.{ℕ}
 use native.Mathlib.Omega.{arith}
 use lib.ListN.{length, getD, drop, take}
 use Rattle.laws.specs.Lists.{beforeZero}
-use Rattle.free_nodes.specs.NodeSet.{wordCount, nodesOf}
-use Rattle.plans.specs.Plan.{storesOf, givenBy}
-use Rattle.plans.specs.Planning.{prepared, takeNumbers}
-use Rattle.plans.specs.declared.numbers.Given.{Given}
-use Rattle.change.specs.LayOut.{needed}
-use Rattle.change.proofs.LayOutLaws.{needed-few, laid-none}
+use Rattle.card_free.specs.NodeSet.{wordCount, nodesOf}
+use Rattle.change_plan.specs.Plan.{storesOf, givenBy}
+use Rattle.change_plan.specs.Planning.{prepared, takeNumbers}
+use Rattle.change_plan.specs.declared.numbers.Given.{Given}
+use Rattle.change_layout.specs.LayOut.{needed}
+use Rattle.change_layout.proofs.LayOutLaws.{needed-few, laid-none}
 use Rattle.state.specs.Memory.{Memory, memoryOf, advanced}
 use Rattle.state.specs.Results.{stepLeft, moreToStore}
 use Rattle.state.specs.Steps.{stepRefused, stepStore}
@@ -20,8 +20,8 @@ use Rattle.state.specs.declared.Answer.{Answer}
 use Rattle.state.specs.declared.Doing.{Doing}
 use Rattle.state.specs.declared.State.{State}
 use Rattle.state.proofs.StepLaws.{advance-same}
-use Rattle.updates.specs.Results.{Storing}
-use Rattle.updates.proofs.Preparations.{laid-stores}
+use Rattle.call_change.specs.Results.{Storing}
+use Rattle.call_change.proofs.Preparations.{laid-stores}
 use Rattle.table.specs.Calls.{planning, stepPrepared}
 use borrow.Author.Needs.{needs}
 use Rattle.table.proofs.steps.step_change.Statement.{statement}

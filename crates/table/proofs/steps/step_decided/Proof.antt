@@ -1,7 +1,7 @@
 -- `table::steps::step_decided` meets its contract.
 use mathlib.Core.Path.{refl, ap, sym, _∙_}
-use Rattle.free_nodes.specs.NodeSet.{nodesOf}
-use Rattle.change.proofs.LayOutLaws.{laid-refused, laid-balanced}
+use Rattle.card_free.specs.NodeSet.{nodesOf}
+use Rattle.change_layout.proofs.LayOutLaws.{laid-refused, laid-balanced}
 use Rattle.state.specs.Memory.{Memory, memoryOf}
 use Rattle.state.specs.Results.{stepLeft}
 use Rattle.state.specs.Steps.{stepRefused, stepFinal}

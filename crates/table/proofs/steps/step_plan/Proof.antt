@@ -1,14 +1,14 @@
 -- `table::steps::step_plan` meets its contract.
 use mathlib.Core.Path.{ap, sym, subst, _∙_}
-use Rattle.free_nodes.specs.NodeSet.{nodesOf}
+use Rattle.card_free.specs.NodeSet.{nodesOf}
 use Rattle.change_decide.specs.Places.{Fits}
 use Rattle.state.specs.Memory.{memoryOf}
 use Rattle.state.proofs.Tasks.{task-of}
-use Rattle.updates.specs.Updates.{FirstChange}
-use Rattle.updates.specs.Decided.{laidFirst}
-use Rattle.updates.specs.declared.First.{First}
-use Rattle.updates.proofs.Decided.{next-decided, decided-fits}
-use Rattle.updates.proofs.UpdateLaws.{next-final}
+use Rattle.call_change.specs.Updates.{FirstChange}
+use Rattle.call_change.specs.Decided.{laidFirst}
+use Rattle.call_change.specs.declared.First.{First}
+use Rattle.call_change.proofs.Decided.{next-decided, decided-fits}
+use Rattle.call_change.proofs.UpdateLaws.{next-final}
 use Rattle.table.specs.Calls.{stepBegin, stepTask}
 use borrow.Author.Needs.{needs}
 use Rattle.table.proofs.steps.step_plan.Statement.{statement}

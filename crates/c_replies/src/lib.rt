@@ -1,0 +1,96 @@
+// The answers of the calls in four words, for C: a number for the answer and, where it has them, a value, a key and a depth.
+use call_find::Found;
+use state::Answer;
+use state::Begun;
+ghost use mathlib.Core.Path.{_≡_};
+ghost use Rattle.card.specs.Replies.{plain, valued};
+ghost use Rattle.call_find.specs.Answers.{foundReply};
+ghost use Rattle.state.specs.Answers.{stepReply, startReply};
+ghost use Rattle.card_dump.specs.Answers.{dumpReply};
+ghost use Rattle.c_replies.specs.ReplyWords.{replyOf, ShortDump};
+
+#[repr(C)]
+pub struct Reply {
+    pub code: u32,
+    pub value: u32,
+    pub key: u32,
+    pub depth: u32,
+}
+
+// The answers that have no number in document 01: the value held under a key, "absent", one word stored in a place, "ready", an
+// idle state opened, a call or repair in progress, and the length of a dump's result.
+const VALUE: u32 = 64;
+
+const ABSENT: u32 = 65;
+
+const STORED: u32 = 66;
+
+const READY: u32 = 67;
+
+const IDLE: u32 = 68;
+
+const STARTED: u32 = 69;
+
+const LENGTH: u32 = 70;
+
+// An answer with a value beside it.
+fn valued(code: u32, value: u32) -> Reply
+    ensures { λ r. ⌜ replyOf r ≡ valued code value ⌝ }
+{
+    Reply {
+        code,
+        value,
+        key: 0,
+        depth: 0,
+    }
+}
+
+// "A refusal gives its number"; the same for every answer that has no value beside it.
+fn plain(code: u32) -> Reply
+    ensures { λ r. ⌜ replyOf r ≡ plain code ⌝ }
+{
+    valued(code, 0)
+}
+
+pub fn found_reply(found: Found) -> Reply
+    ensures { λ r. ⌜ replyOf r ≡ foundReply found ⌝ }
+{
+    match found {
+        Found::Value(value) => valued(VALUE, value),
+        Found::Absent => plain(ABSENT),
+        Found::Refused(refusal) => plain(refusal),
+    }
+}
+
+pub fn step_reply(answer: Answer) -> Reply
+    ensures { λ r. ⌜ replyOf r ≡ stepReply answer ⌝ }
+{
+    match answer {
+        Answer::Stored(place) => valued(STORED, place),
+        Answer::Ready => plain(READY),
+        Answer::Absent => plain(ABSENT),
+        Answer::Value(value) => valued(VALUE, value),
+        Answer::Refused(refusal) => plain(refusal),
+    }
+}
+
+pub fn start_reply(begun: Begun) -> Reply
+    ensures { λ r. ⌜ replyOf r ≡ startReply begun ⌝ }
+{
+    match begun {
+        Begun::Idle => plain(IDLE),
+        Begun::Started => plain(STARTED),
+        Begun::Refused(refusal) => plain(refusal),
+    }
+}
+
+// "The answer is the result's length in words or bytes".
+pub fn dump_reply(answer: card_dump::Answer) -> Reply
+    requires { ⌜ ShortDump answer ⌝ }
+    ensures { λ r. ⌜ replyOf r ≡ dumpReply answer ⌝ }
+{
+    match answer {
+        card_dump::Answer::Length(length) => valued(LENGTH, length as u32),
+        card_dump::Answer::Refused(refusal) => plain(refusal),
+    }
+}

@@ -1,0 +1,165 @@
+-- Laws of the updates: one for each branch of the code.
+use mathlib.Core.Path.{_≡_, refl, ap, sym, subst, _∙_}
+use mathlib.Core.List.{List, [], _∷_}
+use mathlib.Core.Bool.{Bool, true, false}
+use mathlib.Core.Option.{Option, none, some}
+use Prim.Native.Nat.{ℕ, zero, suc, _^_, _≤_, _<_}
+use native.Mathlib.Omega.{arith}
+use lib.ListN.{length, getD}
+use borrow.Author.Tests.{ne-eqb}
+use Rattle.card.specs.Header.{Sized}
+use Rattle.card.specs.Layout.{depthLimit, rootPlace, nodeAt, keyWords, valueWords, children, slotPairs, leafPairs}
+use Rattle.card.proofs.NodeLaws.{length-node, length-keyWords, length-valueWords}
+use Rattle.walk.specs.Descent.{firstEqual, slotOf, lookAt, rootPosition, childPosition, Way, way, runOver, landedAt, landingOf, endOf}
+use Rattle.walk.proofs.DescentLaws.{Inside, index-le, leaf-inside, inner-inside, unsought-refused, unsought-leaf}
+use Rattle.walk.proofs.Along.{along, run-over-le}
+use Rattle.laws.proofs.Cases.{impossible}
+use Rattle.call_change.specs.Updates.{landing, Reason, emptyReason, insertReason, insertChange, deleteChange, nextChange, held, slot, full, FirstChange, insertIn, deleteIn, noWay, inLeaf}
+use Rattle.walk.specs.declared.Slot.{Slot}
+use Rattle.walk.specs.declared.Slot.the-variants.{At, Absent as NoSlot}
+use Rattle.walk.specs.declared.Landing.{Landing}
+use Rattle.walk.specs.declared.Landing.the-variants.{Refused as NoLanding, Leaf as LandingAt}
+use Rattle.walk.specs.declared.Position.{Position}
+use Rattle.walk.specs.declared.Look.the-variants.{Inner as IsInner}
+use Rattle.walk.specs.declared.End.the-variants.{Refused as EndRefused, Leaf as EndLeaf}
+use Rattle.state.specs.declared.Doing.{Doing}
+use Rattle.state.specs.declared.Doing.the-variants.{Inserting, Deleting}
+use Rattle.state.specs.declared.Answer.the-variants.{Refused, Absent}
+use Rattle.change_decide.specs.declared.Decision.the-variants.{Refused as NoStep}
+use Rattle.call_change.specs.Decided.{placed, insertAnswer, insertDecided, decidedIn}
+use Rattle.call_change.specs.Results.{Arrives}
+use Rattle.call_change.specs.declared.First.{First}
+use Rattle.call_change.specs.declared.Arrival.{Arrival}
+use Rattle.call_change.specs.declared.Arrival.the-variants.{Refused as NoArrival, Leaf as ArrivesAt}
+use Rattle.state.specs.declared.Task.{Task}
+use Rattle.state.proofs.Tasks.{TaskOf, putting, taking, put, taken, opened}
+
+-- a leaf without an empty slot has eleven pairs
+full-pairs : (ks vs : List ℕ) (a : ℕ) → length ks ≡ length vs → firstEqual ks 0 a ≡ NoSlot → length (slotPairs ks vs) ≡ length ks
+unfolding firstEqual
+full-pairs [] vs a l e = refl
+full-pairs (k ∷ ks) [] a l e = absurd (omega arith)
+full-pairs (zero ∷ ks) (v ∷ vs) a l e = impossible (cc)
+full-pairs (suc k ∷ ks) (v ∷ vs) a l e = ap suc (full-pairs ks vs (suc a) (omega arith) (rw (ne-eqb (suc k) 0 (λ z. omega arith)) at e))
+
+pub leaf-full : (leaf : List ℕ) → length leaf ≡ 24 → slotOf leaf 0 ≡ NoSlot → length (leafPairs leaf) ≡ 11
+unfolding slotOf leafPairs
+leaf-full leaf l e = full-pairs (keyWords leaf) (valueWords leaf) 0 (length-keyWords leaf l ∙ sym (length-valueWords leaf l)) e ∙ length-keyWords leaf l
+
+-- the link to a leaf is a word of a card
+pub record Landed (n m link : ℕ) : Type 0 where
+  pub inside : Inside n m
+  pub linked : link < 2 ^ 32
+
+-- a landing is at the leaf of the way
+pub record LeafOn (w : Way) (card : List ℕ) (m link run : ℕ) : Type 0 where
+  pub position : Position
+  pub on-way : w .leaf ≡ some position
+  pub node-is : position .node ≡ m
+  pub link-is : position .link ≡ link
+  pub run-is : runOver card 0 (w .inner) ≡ run
+
+pub leaf-on : (card : List ℕ) (w : Way) (m link run : ℕ) → landingOf card w ≡ LandingAt m link run → LeafOn w card m link run
+unfolding landingOf landedAt
+leaf-on card w m link run e = go (w .leaf) refl e
+  where
+    go : (l : Option Position) → w .leaf ≡ l → landedAt (runOver card 0 (w .inner)) l ≡ LandingAt m link run → LeafOn w card m link run
+    go none f z = impossible (cc)
+    go (some p) f z = record { position = p; on-way = f; node-is = cc; link-is = cc; run-is = cc }
+
+module _ (card : List ℕ) (n key : ℕ) where
+  -- what the walk to a leaf tells of the landing
+  pub land-refused : endOf card false (way card n key) ≡ EndRefused → landing card n key ≡ NoLanding
+  unfolding landing landingOf landedAt
+  land-refused e = ap (landedAt _) (unsought-refused card (way card n key) e)
+
+  pub land-leaf : (p : Position) → endOf card false (way card n key) ≡ EndLeaf p → landing card n key ≡ LandingAt (p .node) (p .link) (runOver card 0 (way card n key .inner))
+  unfolding landing landingOf landedAt
+  land-leaf p e = ap (landedAt _) (unsought-leaf card (way card n key) p e)
+
+module _ (card : List ℕ) (n key m link run : ℕ) (fits : Sized (length card) n) where
+  child-linked : (q : Position) → q .link < 2 ^ 32 → lookAt card n (q .node) ≡ IsInner → 0 < length (children (nodeAt card (q .node))) → childPosition (nodeAt card (q .node)) key q .link < 2 ^ 32
+  unfolding childPosition
+  child-linked q l e h =
+      let on = inner-inside card n (q .node) e in
+      let w : length (nodeAt card (q .node)) ≡ 24 = length-node card (q .node) (on .one) (omega (arith, on .most, fits .words)) in
+      omega (arith, on .one, on .most, fits .most, index-le (nodeAt card (q .node)) key w)
+
+  pub landed : landing card n key ≡ LandingAt m link run → Landed n m link
+  unfolding landing way rootPosition
+  landed e =
+      let f = leaf-on card (way card n key) m link run e in
+      let a = along card n (λ q. q .link < 2 ^ 32) key child-linked depthLimit (rootPosition (getD card rootPlace 0)) (omega arith) in
+      let on = a .leaf (f .position) (f .on-way) in
+      record { inside = rw (f .node-is) at (leaf-inside card n (f .position .node) (on .1)); linked = rw (f .link-is) at (on .0) }
+
+module _ (card : List ℕ) (n key m link run : ℕ) where
+  -- the run above a leaf is no longer than the way to it
+  pub landed-run : landing card n key ≡ LandingAt m link run → run ≤ depthLimit
+  unfolding landing way
+  landed-run e =
+      let f = leaf-on card (way card n key) m link run e in
+      let a = along card n (λ q. Unit {0}) key (λ q l z h. tt) depthLimit (rootPosition (getD card rootPlace 0)) tt in
+      omega (arith, f .run-is, run-over-le card 0 (way card n key .inner), a .short (f .position) (f .on-way))
+
+-- the final answer of a first change is no refusal
+insert-final-in : (key value : ℕ) (free : List Bool) (last m link : ℕ) (node : List ℕ) (r : Reason) (n : ℕ) → insertChange key value free last m link node r .final ≡ Refused n → ⊥
+unfolding insertChange
+insert-final-in key value free last m link node (held v) n e = impossible (cc)
+insert-final-in key value free last m link node (slot i) n e = impossible (cc)
+insert-final-in key value free last m link node full n e = impossible (cc)
+
+delete-final-in : (key : ℕ) (free : List Bool) (last m : ℕ) (node : List ℕ) (t : Slot) (n : ℕ) → deleteChange key free last m node t .final ≡ Refused n → ⊥
+unfolding deleteChange
+delete-final-in key free last m node (At i) n e = impossible (cc)
+delete-final-in key free last m node NoSlot n e = impossible (cc)
+
+-- the first change of an update, by where its key leads to
+module _ (card : List ℕ) (doing : Doing) (change : ℕ → ℕ → List ℕ → FirstChange) where
+  leaf-final : ((m link : ℕ) (node : List ℕ) (n : ℕ) → change m link node .final ≡ Refused n → ⊥) → (l : Landing) (n : ℕ) → inLeaf card doing change l .final ≡ Refused n → ⊥
+  unfolding inLeaf noWay
+  leaf-final h NoLanding n e = impossible (cc)
+  leaf-final h (LandingAt m link run) n e = h m link (nodeAt card m) n e
+
+-- where an update's key leads to, as the code finds it
+module _ (card : List ℕ) (n key : ℕ) (a : Arrival) (h : Arrives a (landing card n key)) where
+  pub nowhere : a ≡ NoArrival → landing card n key ≡ NoLanding
+  unfolding Arrives
+  nowhere e = subst (λ (r : Arrival). Arrives r (landing card n key)) e h
+
+  pub somewhere : (m link : ℕ) → a ≡ ArrivesAt m link → (run : ℕ) × (landing card n key ≡ LandingAt m link run)
+  unfolding Arrives
+  somewhere m link e = subst (λ (r : Arrival). Arrives r (landing card n key)) e h
+
+-- what is decided where the key is not held, by the lowest empty slot
+pub answer-empty : (leaf : List ℕ) (key value m link : ℕ)
+    → record { doing = Inserting key value true; answer = Absent; decision = placed key value m link (emptyReason (slotOf leaf 0)) }
+    ≡ insertDecided key value m link (emptyReason (slotOf leaf 0))
+unfolding insertAnswer emptyReason
+answer-empty leaf key value m link = go (slotOf leaf 0)
+  where
+    go : (found : Slot) → record { doing = Inserting key value true; answer = Absent; decision = placed key value m link (emptyReason found) }
+        ≡ insertDecided key value m link (emptyReason found)
+    go (At i) = refl
+    go NoSlot = refl
+
+-- what is decided, by where the key leads to
+module _ (card : List ℕ) (doing : Doing) (at : ℕ → ℕ → List ℕ → First) where
+  pub no-way : {l : Landing} → l ≡ NoLanding → record { doing = doing; answer = Absent; decision = NoStep } ≡ decidedIn card doing at l
+  unfolding decidedIn
+  no-way e = sym (ap (decidedIn card doing at) e)
+
+  pub in-leaf : {l : Landing} {m link run : ℕ} → l ≡ LandingAt m link run → at m link (nodeAt card m) ≡ decidedIn card doing at l
+  unfolding decidedIn
+  in-leaf e = sym (ap (decidedIn card doing at) e)
+
+-- nor is that of any task
+pub next-final : (card : List ℕ) (nodes : ℕ) (free : List Bool) (last : ℕ) {doing : Doing} {task : Task} → TaskOf doing task → (n : ℕ) → nextChange card nodes free last doing task .final ≡ Refused n → ⊥
+unfolding nextChange
+next-final card nodes free last (putting {key} {value}) n e =
+    leaf-final card (Inserting key value false) (insertIn key value free last) (λ m link node k. insert-final-in key value free last m link node (insertReason node key) k) (landing card nodes key) n e
+next-final card nodes free last (taking {key} {value}) n e =
+    leaf-final card (Deleting key false value) (deleteIn key free last) (λ m link node k. delete-final-in key free last m node (slotOf node key) k) (landing card nodes key) n e
+next-final card nodes free last put n e = impossible (cc)
+next-final card nodes free last taken n e = impossible (cc)
+next-final card nodes free last opened n e = impossible (cc)

@@ -1,0 +1,32 @@
+-- Document 01: "A find is one call on the card alone; it may come between steps and answers by the map at that moment."
+use mathlib.Core.List.{List}
+use Prim.Native.Nat.{ℕ, _+_}
+use lib.ListN.{length, getD}
+use lib.Dec.{eqb}
+use Rattle.laws.specs.Cases.{pick}
+use Rattle.card.specs.Layout.{nodeAt}
+use Rattle.card.specs.Header.{nodesOfLength, cardRefusal}
+use Rattle.walk.specs.Descent.{slotOf, way, leafOf}
+use Rattle.walk.specs.declared.Slot.{Slot}
+use Rattle.walk.specs.declared.Slot.the-variants.{At, Absent as NoSlot}
+use Rattle.walk.specs.declared.Reached.{Reached}
+use Rattle.walk.specs.declared.Reached.the-variants.{Refused as NotReached, Leaf as ReachedLeaf}
+use Rattle.call_find.specs.declared.Found.{Found}
+use Rattle.call_find.specs.declared.Found.the-variants.{Value as FoundValue, Absent as FoundAbsent, Refused as FoundRefused}
+
+-- in a leaf: the value beside "the first slot whose key word equals the key"
+unfoldable pub foundIn : List ℕ → Slot → Found
+foundIn node (At i) = FoundValue (getD node (12 + i) 0)
+foundIn node NoSlot = FoundAbsent
+
+-- "9: on the way down"
+unfoldable pub foundAt : List ℕ → ℕ → Reached → Found
+foundAt card key NotReached = FoundRefused 9
+foundAt card key (ReachedLeaf m depth) = foundIn (nodeAt card m) (slotOf (nodeAt card m) key)
+
+-- 1, 2, 3, then "6: key 0"
+unfoldable pub findOf : List ℕ → ℕ → Found
+findOf card key =
+    pick (eqb (cardRefusal card) 0)
+    (pick (eqb key 0) (FoundRefused 6) (foundAt card key (leafOf (way card (nodesOfLength (length card)) key))))
+    (FoundRefused (cardRefusal card))

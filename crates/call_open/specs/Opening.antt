@@ -1,0 +1,33 @@
+-- Document 01: "Opening stores nothing, works out the free nodes, and hands back an idle state, or one with the repair in progress".
+use mathlib.Core.List.{List}
+use mathlib.Core.Option.{Option, none, some}
+use Prim.Native.Nat.{ℕ, _+_}
+use lib.ListN.{length}
+use lib.Dec.{eqb, ltb}
+use Rattle.laws.specs.Cases.{pick}
+use Rattle.card.specs.Header.{nodesOfLength, cardRefusal}
+use Rattle.card_free.specs.NodeSet.{countTrue}
+use Rattle.card_check.specs.Check.{Findings, tableCheck}
+use Rattle.state.specs.Memory.{resting}
+use Rattle.state.specs.Steps.{Handed, noBeginning}
+use Rattle.state.specs.declared.Doing.the-variants.{Idle, Repairing}
+use Rattle.state.specs.declared.Begun.the-variants.{Idle as OpenedIdle, Started}
+
+-- "5: free nodes fewer than 3 plus the 11-child nodes without a break straight above a tagged node"; "an idle state, or one
+-- with the repair in progress"
+unfoldable pub openSound : ℕ → Findings → Handed
+openSound n f =
+    pick (ltb (countTrue (f .free)) (3 + f .run)) (noBeginning 5)
+    (pick (f .violated)
+    (record { begun = Started; memory = resting n (f .free) (Repairing (f .key)) })
+    (record { begun = OpenedIdle; memory = resting n (f .free) Idle }))
+
+-- "4: table not sound"
+unfoldable pub openChecked : ℕ → Option (ℕ × Findings) → Handed
+openChecked n none = noBeginning 4
+openChecked n (some r) = openSound n (r .1)
+
+-- 1, 2, 3
+unfoldable pub openOf : List ℕ → Handed
+openOf card =
+    pick (eqb (cardRefusal card) 0) (openChecked (nodesOfLength (length card)) (tableCheck card (nodesOfLength (length card)))) (noBeginning (cardRefusal card))

@@ -1,0 +1,70 @@
+// Opening: "works out the free nodes, and hands back an idle state, or one with the repair in progress".
+use card_check::Checked;
+use card_check::KEY;
+use card_check::RUN;
+use card_check::VIOLATED;
+use state::Begun;
+use state::Doing;
+use state_block::FREE;
+use state_block::NO_STATE;
+use state_block::PLACES;
+use state_block::STATE_WORDS;
+use state_block::refuse_beginning;
+use state_block::store_resting;
+ghost use mathlib.Core.Path.{_≡_};
+ghost use Prim.Native.Nat.{_+_, _*_, _≤_};
+ghost use lib.ListN.{length};
+ghost use Rattle.card.specs.Layout.{greatestNodes};
+ghost use Rattle.card_free.specs.NodeSet.{nodesOf};
+ghost use Rattle.card_check.specs.Check.{findingsOf, tableCheck};
+ghost use Rattle.state_block.specs.Block.{stateWords, part};
+ghost use Rattle.state_block.specs.Contracts.{Opened, OpenCall};
+ghost use Rattle.call_open.specs.Opening.{openSound, openChecked, openOf};
+
+// A sound table is opened, whose free nodes are in the block. The run may be any number here, so 3 is taken from the free nodes and
+// not added to it.
+fn open_sound(state: &mut [u32], n: usize, found: [u32; 3]) -> Begun
+    requires { ⌜ (length (now state) ≡ stateWords) × (n ≤ greatestNodes) ⌝ }
+    ensures { λ r. ⌜ Opened (now (state .exit)) r (openSound n (findingsOf (nodesOf (part (now (state .entry)) 11 20)) found)) ⌝ }
+{
+    let count = card_free::count(&state[FREE..PLACES]);
+    if count < 3 {
+        return refuse_beginning(state, 5);
+    }
+    let run = found[RUN] as usize;
+    if count - 3 < run {
+        return refuse_beginning(state, 5);
+    }
+    if found[VIOLATED] != 0 {
+        store_resting(state, n, Doing::Repairing { key: found[KEY] });
+        return Begun::Started;
+    }
+    store_resting(state, n, Doing::Idle);
+    Begun::Idle
+}
+
+// A card whose length and header are right is opened. The check works out the free nodes in the block's own words.
+fn open_checked(card: &[u32], n: usize, state: &mut [u32]) -> Begun
+    requires { ⌜ (length (now card) ≡ 8 + 24 * n) × (n ≤ greatestNodes) × (length (now state) ≡ stateWords) ⌝ }
+    ensures { λ r. ⌜ Opened (now (state .exit)) r (openChecked n (tableCheck (now (card .entry)) n)) ⌝ }
+{
+    let mut found: [u32; 3] = [0; 3];
+    match card_check::check_table(card, n, &mut state[FREE..PLACES], &mut found) {
+        Checked::Unsound => refuse_beginning(state, 4),
+        Checked::Sound(_) => open_sound(state, n, found),
+    }
+}
+
+// "Opening stores nothing, works out the free nodes, and hands back an idle state, or one with the repair in progress".
+pub fn open(card: &[u32], state: &mut [u32]) -> Begun
+    ensures { λ r. ⌜ OpenCall (now (state .entry)) (now (state .exit)) r (openOf (now (card .entry))) ⌝ }
+{
+    if state.len() != STATE_WORDS {
+        return Begun::Refused(NO_STATE);
+    }
+    let refusal = card::card_refusal(card);
+    if refusal != 0 {
+        return refuse_beginning(state, refusal);
+    }
+    open_checked(card, card::nodes_of(card.len()), state)
+}

@@ -1,0 +1,81 @@
+-- Laws of the repair: one for each branch of the code, and that a refused opening stores nothing.
+use mathlib.Core.Path.{_≡_, refl, ap, _∙_}
+use mathlib.Core.List.{List, _++_}
+use mathlib.Core.Bool.{true, false}
+use mathlib.Core.Option.{Option, none, some}
+use Prim.Native.Nat.{ℕ, zero, suc, _+_, _-_}
+use native.Mathlib.Omega.{arith}
+use lib.ListN.{length, take, drop}
+use lib.Seq.{take-at, drop-at}
+use lib.Dec.{eqb, ltb}
+use Rattle.laws.proofs.Cases.{bool-cases, impossible}
+use Rattle.card.specs.Header.{nodesOfLength, cardRefusal}
+use Rattle.card_free.specs.NodeSet.{countTrue}
+use Rattle.card_check.specs.Check.{Findings, tableCheck}
+use Rattle.state.specs.Memory.{Memory, resting, noMemory}
+use Rattle.state.specs.Steps.{isIdle, noBeginning}
+use Rattle.state.specs.declared.Begun.the-variants.{Refused}
+use Rattle.call_open.specs.Opening.{openSound, openChecked, openOf}
+use Rattle.table.specs.Calls.{stepOf, repairSteps}
+use Rattle.card_dump.specs.Dump.{dumpWords, readAnswer, readOver}
+use Rattle.card_dump.proofs.AnswerLaws.{read-words}
+use Rattle.card_dump.proofs.ByteLaws.{length-dumpWords}
+use Rattle.card_dump.specs.declared.Answer.the-variants.{Length, Refused as ReadRefused}
+use Rattle.call_repair.specs.Repairing.{Repaired, repairedCard, openedCard, openedRead, openedOver}
+
+pub repair-idle : (k : ℕ) (card : List ℕ) (m : Memory) → isIdle (m .doing) ≡ true → repairedCard k card m ≡ record { card = card; memory = m }
+unfolding repairedCard
+repair-idle zero card m e = refl
+repair-idle (suc k) card m e = rw e
+
+pub repair-over : (k : ℕ) (card : List ℕ) (m : Memory) → k ≡ 0 → repairedCard k card m ≡ record { card = card; memory = m }
+unfolding repairedCard
+repair-over k card m e = rw e
+
+pub repair-on : (k : ℕ) (card : List ℕ) (m : Memory) → (k ≡ 0 → ⊥) → isIdle (m .doing) ≡ false → repairedCard k card m ≡ repairedCard (k - 1) (stepOf card m .card) (stepOf card m .memory)
+unfolding repairedCard
+repair-on zero card m d e = absurd (d refl)
+repair-on (suc k) card m d e = let z : suc k - 1 ≡ k = omega arith in rw (e, z)
+
+-- "Opening .., refused, hands back an idle state for N = 0"
+sound-idle : (n : ℕ) (f : Findings) (r : ℕ) → openSound n f .begun ≡ Refused r → isIdle (openSound n f .memory .doing) ≡ true
+unfolding openSound noBeginning noMemory resting isIdle
+sound-idle n f r =
+    bool-cases (ltb (countTrue (f .free)) (3 + f .run)) (λ s. rw s (λ e. refl))
+    (λ s. rw s (bool-cases (f .violated) (λ v. rw v (λ e. impossible (cc))) (λ v. rw v (λ e. refl))))
+
+checked-idle : (n : ℕ) (x : Option (ℕ × Findings)) (r : ℕ) → openChecked n x .begun ≡ Refused r → isIdle (openChecked n x .memory .doing) ≡ true
+unfolding openChecked noBeginning noMemory resting isIdle
+checked-idle n none r e = refl
+checked-idle n (some x) r e = sound-idle n (x .1) r e
+
+pub refused-idle : (card : List ℕ) (r : ℕ) → openOf card .begun ≡ Refused r → isIdle (openOf card .memory .doing) ≡ true
+unfolding openOf noBeginning noMemory resting isIdle
+refused-idle card r =
+    bool-cases (eqb (cardRefusal card) 0) (λ s. rw s (λ e. checked-idle (nodesOfLength (length card)) (tableCheck card (nodesOfLength (length card))) r e))
+    (λ s. rw s (λ e. refl))
+
+-- "A refusal .. stores nothing"
+pub refused-untouched : (card : List ℕ) (r : ℕ) → openOf card .begun ≡ Refused r → openedCard card .card ≡ card
+unfolding openedCard
+refused-untouched card r e = ap (λ (x : Repaired). x .card) (repair-idle repairSteps card (openOf card .memory) (refused-idle card r e))
+
+-- ---- a dump
+
+-- the card that was read
+pub read-card : (dump words : List ℕ) (size : ℕ) → readAnswer dump (length words) ≡ Length size → take size (readOver dump words) ≡ dumpWords size dump
+read-card dump words size e = ap (take size) (read-words dump words size e) ∙ take-at (dumpWords size dump) (drop size words) size (length-dumpWords size dump)
+
+-- the words lent, by what reading answers
+module _ (dump words : List ℕ) where
+  pub over-refused : (r : ℕ) → readAnswer dump (length words) ≡ ReadRefused r → readOver dump words ≡ openedOver dump words
+  unfolding readOver openedOver openedRead
+  over-refused r e = rw e
+
+  pub over-read : (size : ℕ) → readAnswer dump (length words) ≡ Length size → openedOver dump words ≡ openedCard (dumpWords size dump) .card ++ drop size words
+  unfolding openedOver openedRead
+  over-read size e = rw e
+
+-- the words beyond the card that was read
+pub read-beyond : (dump words : List ℕ) (size : ℕ) → readAnswer dump (length words) ≡ Length size → drop size (readOver dump words) ≡ drop size words
+read-beyond dump words size e = ap (drop size) (read-words dump words size e) ∙ drop-at (dumpWords size dump) (drop size words) size (length-dumpWords size dump)

@@ -1,0 +1,194 @@
+-- Laws of the starts: one for each branch of the code.
+use mathlib.Core.Path.{_≡_, refl, ap, sym, _∙_}
+use mathlib.Core.List.{List}
+use mathlib.Core.Bool.{Bool, true, false, not}
+use mathlib.Core.Logic.{by-cases}
+use Prim.Native.Nat.{ℕ, _-_, _≤_, _<_}
+use native.Mathlib.Omega.{arith}
+use native.Mathlib.Decide.{ℕ-discrete}
+use lib.ListN.{length, set}
+use lib.Dec.{ltb, leb, eqb}
+use borrow.Author.Tests.{lt-ltb, le-ltb, le-leb, lt-leb, eqb-false, ne-eqb, eq-eqb}
+use Rattle.card.specs.Header.{nodesOfLength, headerRefusal, Sized}
+use Rattle.card.proofs.HeaderLaws.{nodes-sized}
+use Rattle.walk.specs.Descent.{slotOf}
+use Rattle.card_free.specs.NodeSet.{allNodes, countTrue}
+use Rattle.laws.proofs.Cases.{order, impossible}
+use Rattle.laws.specs.Cases.{pick}
+use Rattle.state.specs.Steps.{Handed, isIdle, noBeginning}
+use Rattle.call_start.specs.Starts.{formatOf, startRefused, startAccepted, startLanded, startChecked, startOf}
+use Rattle.state.specs.Memory.{Memory, resting}
+use Rattle.call_start.specs.Refusals.{isSlot, startRefusal, landingRefusal, dueRefusal, begunBy}
+use Rattle.call_change.specs.Updates.{landing, emptyReason, reasonIn, insertReason, splitNeed, roomFor}
+use Rattle.walk.specs.declared.Slot.{Slot}
+use Rattle.walk.specs.declared.Slot.the-variants.{At, Absent as NoSlot}
+use Rattle.walk.specs.declared.Landing.{Landing}
+use Rattle.walk.specs.declared.Landing.the-variants.{Refused as NoLanding, Leaf as LandingAt}
+use Rattle.state_block.specs.Block.{stateWords, memoryIn, formatted}
+use Rattle.state_block.specs.Blocks.{begunBlock, startedBlock}
+use Rattle.state_block.specs.InPlace.{withDoing}
+use Rattle.state_block.specs.Contracts.{StartCall}
+use Rattle.state_block.proofs.Blocks.{memory-begun}
+use Rattle.state.specs.declared.Doing.{Doing}
+use Rattle.state.specs.declared.Doing.the-variants.{Formatting}
+use Rattle.state.specs.declared.Begun.{Begun}
+use Rattle.state.specs.declared.Begun.the-variants.{Started, Refused as BegunRefused}
+
+-- the refusals of starting an update
+module _ (card : List ℕ) (nodes : ℕ) (idle : Bool) (key n : ℕ) (e : n ≡ nodesOfLength (length card)) where
+  pub start-no-length : n ≡ 0 → startRefusal card nodes idle key ≡ 1
+  unfolding startRefusal
+  start-no-length z = simp (eq-eqb (nodesOfLength (length card)) 0 (sym e ∙ z))
+
+  pub start-other : (n ≡ 0 → ⊥) → (n ≡ nodes → ⊥) → startRefusal card nodes idle key ≡ 1
+  unfolding startRefusal
+  start-other p q = simp (ne-eqb (nodesOfLength (length card)) 0 (λ z. p (e ∙ z)), ne-eqb (nodesOfLength (length card)) nodes (λ z. q (e ∙ z)))
+
+  module _ (p : n ≡ 0 → ⊥) (q : n ≡ nodes) where
+    pub start-header : (h : ℕ) → h ≡ headerRefusal card n → (h ≡ 0 → ⊥) → startRefusal card nodes idle key ≡ h
+    unfolding startRefusal
+    start-header h g w =
+        simp (ne-eqb (nodesOfLength (length card)) 0 (λ z. p (e ∙ z)), eq-eqb (nodesOfLength (length card)) nodes (sym e ∙ q), ne-eqb (headerRefusal card nodes) 0 (λ z. w (g ∙ ap (headerRefusal card) q ∙ z)))
+        (ap (headerRefusal card) (sym q) ∙ sym g)
+
+    module _ (w : headerRefusal card n ≡ 0) where
+      pub start-busy : idle ≡ false → startRefusal card nodes idle key ≡ 7
+      unfolding startRefusal
+      start-busy b = simp (ne-eqb (nodesOfLength (length card)) 0 (λ z. p (e ∙ z)), eq-eqb (nodesOfLength (length card)) nodes (sym e ∙ q), eq-eqb (headerRefusal card nodes) 0 (ap (headerRefusal card) (sym q) ∙ w), b)
+
+      pub start-no-key : idle ≡ true → key ≡ 0 → startRefusal card nodes idle key ≡ 6
+      unfolding startRefusal
+      start-no-key b k = simp (ne-eqb (nodesOfLength (length card)) 0 (λ z. p (e ∙ z)), eq-eqb (nodesOfLength (length card)) nodes (sym e ∙ q), eq-eqb (headerRefusal card nodes) 0 (ap (headerRefusal card) (sym q) ∙ w), b, eq-eqb key 0 k)
+
+      pub start-none : idle ≡ true → (key ≡ 0 → ⊥) → startRefusal card nodes idle key ≡ 0
+      unfolding startRefusal
+      start-none b k = simp (ne-eqb (nodesOfLength (length card)) 0 (λ z. p (e ∙ z)), eq-eqb (nodesOfLength (length card)) nodes (sym e ∙ q), eq-eqb (headerRefusal card nodes) 0 (ap (headerRefusal card) (sym q) ∙ w), b, ne-eqb key 0 k)
+
+-- the same five tests decide what starting an update hands back
+chain-refused : (a b c d e : Bool) (h : ℕ) (m : Memory) (x : Handed) → (pick a 1 (pick b (pick c (pick d (pick e 6 0) 7) h) 1) ≡ 0 → ⊥)
+    → pick a (startRefused 1 m) (pick b (pick c (pick d (pick e (startRefused 6 m) x) (startRefused 7 m)) (startRefused h m)) (startRefused 1 m))
+    ≡ startRefused (pick a 1 (pick b (pick c (pick d (pick e 6 0) 7) h) 1)) m
+chain-refused true b c d e h m x p = refl
+chain-refused false false c d e h m x p = refl
+chain-refused false true false d e h m x p = refl
+chain-refused false true true false e h m x p = refl
+chain-refused false true true true true h m x p = refl
+chain-refused false true true true false h m x p = absurd (p refl)
+
+chain-taken : (a b c d e : Bool) (h : ℕ) (m : Memory) (x : Handed) → (c ≡ false → h ≡ 0 → ⊥) → pick a 1 (pick b (pick c (pick d (pick e 6 0) 7) h) 1) ≡ 0
+    → pick a (startRefused 1 m) (pick b (pick c (pick d (pick e (startRefused 6 m) x) (startRefused 7 m)) (startRefused h m)) (startRefused 1 m)) ≡ x
+chain-taken true b c d e h m x p q = absurd (omega arith)
+chain-taken false false c d e h m x p q = absurd (omega arith)
+chain-taken false true false d e h m x p q = absurd (p refl q)
+chain-taken false true true false e h m x p q = absurd (omega arith)
+chain-taken false true true true true h m x p q = absurd (omega arith)
+chain-taken false true true true false h m x p q = refl
+
+module _ (card : List ℕ) (nodes : ℕ) (idle : Bool) (key : ℕ) (room : Landing → Bool) where
+  pub due-early : (startRefusal card nodes idle key ≡ 0 → ⊥) → dueRefusal card nodes idle key room ≡ startRefusal card nodes idle key
+  due-early p = rw (ne-eqb (startRefusal card nodes idle key) 0 p) refl
+
+  pub due-landing : startRefusal card nodes idle key ≡ 0 → dueRefusal card nodes idle key room ≡ landingRefusal (room (landing card nodes key)) (landing card nodes key)
+  due-landing z = rw (eq-eqb (startRefusal card nodes idle key) 0 z) refl
+
+landed-due : (m : Memory) (doing : Doing) (room : Bool) (l : Landing) → startLanded m doing room l ≡ begunBy (landingRefusal room l) m doing
+unfolding startLanded landingRefusal
+landed-due m doing room NoLanding = refl
+landed-due m doing true (LandingAt node link run) = refl
+landed-due m doing false (LandingAt node link run) = refl
+
+module _ (card : List ℕ) (m : Memory) (key : ℕ) (doing : Doing) (room : Landing → Bool) where
+  start-refused : (startRefusal card (m .nodes) (isIdle (m .doing)) key ≡ 0 → ⊥) → startOf card m key doing room ≡ startRefused (startRefusal card (m .nodes) (isIdle (m .doing)) key) m
+  unfolding startRefusal startOf startChecked
+  start-refused p =
+      chain-refused (eqb (nodesOfLength (length card)) 0) (eqb (nodesOfLength (length card)) (m .nodes)) (eqb (headerRefusal card (m .nodes)) 0) (isIdle (m .doing)) (eqb key 0) (headerRefusal card (m .nodes)) m _ p
+
+  start-taken : startRefusal card (m .nodes) (isIdle (m .doing)) key ≡ 0 → startOf card m key doing room ≡ startLanded m doing (room (landing card (m .nodes) key)) (landing card (m .nodes) key)
+  unfolding startRefusal startOf startChecked
+  start-taken q =
+      chain-taken (eqb (nodesOfLength (length card)) 0) (eqb (nodesOfLength (length card)) (m .nodes)) (eqb (headerRefusal card (m .nodes)) 0) (isIdle (m .doing)) (eqb key 0) (headerRefusal card (m .nodes)) m _
+      (λ c z. eqb-false (headerRefusal card (m .nodes)) 0 c z) q
+
+  -- the refusal due decides what is handed back
+  pub start-due : startOf card m key doing room ≡ begunBy (dueRefusal card (m .nodes) (isIdle (m .doing)) key room) m doing
+  start-due =
+      by-cases (ℕ-discrete (startRefusal card (m .nodes) (isIdle (m .doing)) key) 0)
+      (λ z. start-taken z ∙ landed-due m doing (room (landing card (m .nodes) key)) (landing card (m .nodes) key) ∙ sym (ap (λ (r : ℕ). begunBy r m doing) (due-landing card (m .nodes) (isIdle (m .doing)) key room z)))
+      (λ p. start-refused p ∙ sym (ap (λ (r : ℕ). begunBy r m doing) (due-early card (m .nodes) (isIdle (m .doing)) key room p) ∙ ap (λ (b : Bool). pick b (startAccepted m doing) (startRefused (startRefusal card (m .nodes) (isIdle (m .doing)) key) m)) (ne-eqb (startRefusal card (m .nodes) (isIdle (m .doing)) key) 0 p)))
+
+pub start-sized : (card : List ℕ) (nodes : ℕ) (idle : Bool) (key : ℕ) → startRefusal card nodes idle key ≡ 0 → Sized (length card) nodes
+start-sized card nodes idle key r =
+    by-cases (ℕ-discrete (nodesOfLength (length card)) 0) (λ z. let w = sym (start-no-length card nodes idle key (nodesOfLength (length card)) refl z) ∙ r in absurd (omega arith))
+    (λ p. by-cases (ℕ-discrete (nodesOfLength (length card)) nodes) (λ q. rw q at (nodes-sized (length card) p))
+    (λ q. let w = sym (start-other card nodes idle key (nodesOfLength (length card)) refl p q) ∙ r in absurd (omega arith)))
+
+-- room for an insert
+held-slot : (leaf : List ℕ) (run : ℕ) (free : List Bool) (t : Slot) → isSlot t ≡ true → roomFor free run (reasonIn leaf t) ≡ true
+unfolding isSlot roomFor reasonIn
+held-slot leaf run free (At i) h = refl
+held-slot leaf run free NoSlot h = impossible (cc)
+
+pub absent-reason : (leaf : List ℕ) (t : Slot) → isSlot t ≡ false → reasonIn leaf t ≡ emptyReason (slotOf leaf 0)
+unfolding isSlot reasonIn
+absent-reason leaf (At i) h = impossible (cc)
+absent-reason leaf NoSlot h = refl
+
+empty-slot : (run : ℕ) (free : List Bool) (t : Slot) → isSlot t ≡ true → roomFor free run (emptyReason t) ≡ true
+unfolding isSlot roomFor emptyReason
+empty-slot run free (At i) h = refl
+empty-slot run free NoSlot h = impossible (cc)
+
+full-slot : (run : ℕ) (free : List Bool) (t : Slot) → isSlot t ≡ false → roomFor free run (emptyReason t) ≡ not (ltb (countTrue free) (splitNeed run))
+unfolding isSlot roomFor emptyReason
+full-slot run free (At i) h = impossible (cc)
+full-slot run free NoSlot h = refl
+
+module _ (leaf : List ℕ) (key run : ℕ) (free : List Bool) where
+  pub room-held : isSlot (slotOf leaf key) ≡ true → roomFor free run (insertReason leaf key) ≡ true
+  unfolding insertReason
+  room-held e = held-slot leaf run free (slotOf leaf key) e
+
+  module _ (a : isSlot (slotOf leaf key) ≡ false) where
+    pub room-slot : isSlot (slotOf leaf 0) ≡ true → roomFor free run (insertReason leaf key) ≡ true
+    unfolding insertReason
+    room-slot e = ap (roomFor free run) (absent-reason leaf (slotOf leaf key) a) ∙ empty-slot run free (slotOf leaf 0) e
+
+    pub room-full : isSlot (slotOf leaf 0) ≡ false → roomFor free run (insertReason leaf key) ≡ not (ltb (countTrue free) (splitNeed run))
+    unfolding insertReason
+    room-full e = ap (roomFor free run) (absent-reason leaf (slotOf leaf key) a) ∙ full-slot run free (slotOf leaf 0) e
+
+pub not-scarce : (count run : ℕ) → count < splitNeed run → not (ltb count (splitNeed run)) ≡ false
+not-scarce count run h = ap not (lt-ltb count (splitNeed run) h)
+
+pub not-enough : (count run : ℕ) → splitNeed 0 ≤ count → not (ltb count (splitNeed run)) ≡ leb run (count - splitNeed 0)
+not-enough count run h =
+    order count (splitNeed run) (λ o. ap not (lt-ltb count (splitNeed run) o) ∙ sym (lt-leb run (count - splitNeed 0) (omega arith)))
+    (λ o. ap not (le-ltb count (splitNeed run) o) ∙ sym (le-leb run (count - splitNeed 0) (omega arith)))
+
+-- a start that is no refusal
+pub started-no-refusal : (n : ℕ) → _≡_ {A = Begun} Started (BegunRefused n) → ⊥
+started-no-refusal n e = impossible (cc)
+
+-- ---- what a start on the block leaves, by the refusal that it is due
+
+module _ (block : List ℕ) (l : length block ≡ stateWords) (doing : Doing) (refusal : ℕ) where
+  pub start-refused-in : (refusal ≡ 0 → ⊥) → StartCall block block (BegunRefused refusal) doing (begunBy refusal (memoryIn block) doing)
+  unfolding startRefused startedBlock
+  start-refused-in p =
+      rw (ne-eqb refusal 0 p) (record { answered = λ k. refl; handed = λ k. refl; words = λ k. refl; no-state = λ n. absurd (n l) })
+
+  pub started-in : (after : List ℕ) → formatted doing ≡ 0 → refusal ≡ 0 → after ≡ begunBlock block doing → StartCall block after Started doing (begunBy refusal (memoryIn block) doing)
+  unfolding startAccepted startedBlock withDoing
+  started-in after f z e =
+      rw (eq-eqb refusal 0 z) (record { answered = λ k. refl; handed = λ k. ap memoryIn e ∙ memory-begun block doing (omega arith) (omega arith); words = λ k. e; no-state = λ n. absurd (n l) })
+
+-- ---- starting to format
+
+module _ (card : List ℕ) (n : ℕ) (e : n ≡ nodesOfLength (length card)) where
+  pub format-no-length : n ≡ 0 → formatOf card ≡ noBeginning 1
+  unfolding formatOf
+  format-no-length z = simp (eq-eqb (nodesOfLength (length card)) 0 (sym e ∙ z))
+
+  pub format-length : (n ≡ 0 → ⊥) → formatOf card ≡ record { begun = Started; memory = resting n (set (allNodes n) 1 false) (Formatting 0) }
+  unfolding formatOf
+  format-length p = simp (ne-eqb (nodesOfLength (length card)) 0 (λ z. p (e ∙ z)), ← e)

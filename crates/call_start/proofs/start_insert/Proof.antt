@@ -1,0 +1,47 @@
+-- `call_start::start_insert` meets its contract.
+use mathlib.Core.Path.{refl, ap, sym, subst, _∙_}
+use mathlib.Core.Bool.{false}
+use Prim.Native.Nat.{ℕ}
+use Rattle.state.specs.Steps.{Handed}
+use Rattle.state.specs.declared.Doing.the-variants.{Inserting}
+use Rattle.state_block.specs.Block.{memoryIn, formatted}
+use Rattle.state_block.specs.Contracts.{StartCall}
+use Rattle.state_block.proofs.ContractLaws.{start-no-state}
+use Rattle.call_start.specs.Refusals.{begunBy}
+use Rattle.call_start.specs.Starts.{insertOf}
+use Rattle.call_start.proofs.StartLaws.{start-due}
+use borrow.Author.Needs.{needs}
+use Rattle.call_start.proofs.start_insert.Statement.{statement}
+use Rattle.call_start.proofs.start_insert.Tie as tie
+
+returns : tie.Need-returns
+returns c = let s = c .before .before .before in start-no-state (s .args .state .now) (c .if1 .taken) (Inserting (s .args .key) (s .args .value) false) (insertOf (s .args .card .now) (memoryIn (s .args .state .now)) (s .args .key) (s .args .value))
+
+block-refusal-requires : tie.Need-block-refusal-requires
+block-refusal-requires c κs = search needs
+
+begin-requires : tie.Need-begin-requires
+unfolding formatted
+begin-requires c κs = (c .before .before .before .if1 .left, refl)
+
+same-length : tie.Need-same-length
+same-length c = search needs
+
+returns-2 : tie.Need-returns-2
+unfolding insertOf
+returns-2 c =
+    let s = c .before .before .before .before .before .before .before .before .before in
+    let doing = Inserting (s .args .key) (s .args .value) false in
+    subst (λ (due : Handed). StartCall (s .args .state .now) (c .before .before .begin .last .0) (c .before .before .begin .result) doing due)
+    (ap (λ (r : ℕ). begunBy r (memoryIn (s .args .state .now)) doing) (c .before .before .before .before .block-refusal .ensures) ∙ sym (start-due (s .args .card .now) (memoryIn (s .args .state .now)) (s .args .key) doing _))
+    (c .before .before .begin .ensures)
+
+pub start-insert-spec : {M : Type 1} → statement M
+start-insert-spec =
+    tie.close
+    (tie.spec
+    returns
+    block-refusal-requires
+    begin-requires
+    same-length
+    returns-2)

@@ -1,0 +1,103 @@
+-- `call_start::start_refusal` meets its contract.
+use mathlib.Core.Path.{_≡_, ap, sym, _∙_}
+use mathlib.Core.Bool.{Bool}
+use Prim.Native.Nat.{_<_}
+use native.Mathlib.Omega.{arith}
+use lib.ListN.{length}
+use Rattle.laws.specs.Cases.{pick}
+use Rattle.card.specs.Header.{Sized}
+use Rattle.walk.specs.Descent.{way, runOver}
+use Rattle.walk.specs.declared.Landing.{Landing}
+use Rattle.walk.specs.declared.Landing.the-variants.{Leaf as LandingAt}
+use Rattle.walk.proofs.DescentLaws.{unsought-fault}
+use Rattle.card_free.specs.NodeSet.{nodesOf}
+use Rattle.call_start.specs.Refusals.{roomWhere, landingRefusal}
+use Rattle.call_start.proofs.StartLaws.{start-sized, due-early, due-landing}
+use Rattle.call_change.proofs.UpdateLaws.{Landed, landed, land-refused, land-leaf}
+use Rattle.call_change.specs.Updates.{landing, startRoom}
+use borrow.Author.Needs.{needs}
+use Rattle.call_start.proofs.start_refusal.Statement.{statement}
+use Rattle.call_start.proofs.start_refusal.Tie as tie
+
+whole : (c : tie.Else1) → Sized (length (c .before .before .before .before .args .card .now)) (c .before .before .before .before .args .nodes)
+whole c = start-sized (c .before .before .before .before .args .card .now) (c .before .before .before .before .args .nodes) (c .before .before .before .before .args .idle) (c .before .before .before .before .args .key) (sym (c .before .early-refusal .ensures) ∙ c .if1 .left)
+
+-- the walk ended at the leaf where the update lands
+lands : (c : tie.After-p) → landing (c .before .before .before .before .before .before .before .before .args .card .now) (c .before .before .before .before .before .before .before .before .args .nodes) (c .before .before .before .before .before .before .before .before .args .key) ≡ LandingAt (c .p .given .0 .0 .node) (c .p .given .0 .0 .link) (runOver (c .before .before .before .before .before .before .before .before .args .card .now) 0 (way (c .before .before .before .before .before .before .before .before .args .card .now) (c .before .before .before .before .before .before .before .before .args .nodes) (c .before .before .before .before .before .before .before .before .args .key) .inner))
+unfolding way
+lands c = land-leaf (c .before .before .before .before .before .before .before .before .args .card .now) (c .before .before .before .before .before .before .before .before .args .nodes) (c .before .before .before .before .before .before .before .before .args .key) (c .p .given .0 .0) (sym (c .before .before .descend .ensures) ∙ c .p .given .1)
+
+leaf : (c : tie.After-p) → Landed (c .before .before .before .before .before .before .before .before .args .nodes) (c .p .given .0 .0 .node) (c .p .given .0 .0 .link)
+leaf c = landed (c .before .before .before .before .before .before .before .before .args .card .now) (c .before .before .before .before .before .before .before .before .args .nodes) (c .before .before .before .before .before .before .before .before .args .key) _ _ _ (whole (c .before .before .before .before)) (lands c)
+
+early-refusal-requires : tie.Need-early-refusal-requires
+early-refusal-requires c κs = search needs
+
+returns : tie.Need-returns
+returns c =
+    c .before .early-refusal .ensures
+    ∙ sym (due-early (c .before .before .before .before .args .card .now) (c .before .before .before .before .args .nodes) (c .before .before .before .before .args .idle) (c .before .before .before .before .args .key) (roomWhere (c .before .before .before .before .args .splits) (c .before .before .before .before .args .card .now) (c .before .before .before .before .args .key) (nodesOf (c .before .before .before .before .args .free .now))) (λ z. c .if1 .taken (c .before .early-refusal .ensures ∙ z)))
+
+shared-slice-read-descend : tie.Need-shared-slice-read-descend
+shared-slice-read-descend c = let h = whole (c .before) in let l : 4 < length (c .before .before .before .before .before .args .card .now) = omega (arith, h .words) in l
+
+cast-descend : tie.Need-cast-descend
+cast-descend c = omega (arith, c .shared-slice-known3 .given 4)
+
+descend-requires : tie.Need-descend-requires
+descend-requires c κs = let h = whole (c .before) in (h .words, h .most)
+
+enum-told : tie.Need-enum-told
+enum-told c = search needs
+
+enum-told-2 : tie.Need-enum-told-2
+enum-told-2 c = search needs
+
+enum-known-p : tie.Need-enum-known-p
+enum-known-p c = search needs
+
+has-room-where-requires : tie.Need-has-room-where-requires
+has-room-where-requires c κs = let k = leaf (c .before) in (whole (c .before .before .before .before .before), k .inside .one, k .inside .most, c .before .before .before .before .before .before .before .before .before .pre)
+
+room-refusal-requires : tie.Need-room-refusal-requires
+room-refusal-requires c κs = search needs
+
+returns-2 : tie.Need-returns-2
+unfolding way landingRefusal
+returns-2 c =
+    let room = roomWhere (c .before .before .before .before .before .before .before .before .args .splits) (c .before .before .before .before .before .before .before .before .args .card .now) (c .before .before .before .before .before .before .before .before .args .key) (nodesOf (c .before .before .before .before .before .before .before .before .args .free .now)) in
+    sym
+    (due-landing (c .before .before .before .before .before .before .before .before .args .card .now) (c .before .before .before .before .before .before .before .before .args .nodes) (c .before .before .before .before .before .before .before .before .args .idle) (c .before .before .before .before .before .before .before .before .args .key) room (sym (c .before .before .before .before .before .early-refusal .ensures) ∙ c .before .before .before .before .if1 .left)
+    ∙ ap (λ (l : Landing). landingRefusal (room l) l) (land-refused (c .before .before .before .before .before .before .before .before .args .card .now) (c .before .before .before .before .before .before .before .before .args .nodes) (c .before .before .before .before .before .before .before .before .args .key) (sym (c .before .before .descend .ensures) ∙ c .enum-told .given .1)))
+
+returns-3 : tie.Need-returns-3
+unfolding way
+returns-3 c = absurd (unsought-fault _ _ _ (sym (c .before .before .descend .ensures) ∙ c .enum-told2 .given .1))
+
+returns-4 : tie.Need-returns-4
+unfolding landingRefusal startRoom
+returns-4 c =
+    let room = roomWhere (c .before .before .before .before .before .before .before .before .before .before .before .args .splits) (c .before .before .before .before .before .before .before .before .before .before .before .args .card .now) (c .before .before .before .before .before .before .before .before .before .before .before .args .key) (nodesOf (c .before .before .before .before .before .before .before .before .before .before .before .args .free .now)) in
+    c .room-refusal .ensures
+    ∙ ap (λ (b : Bool). pick b 0 8) (c .before .has-room-where .ensures)
+    ∙ sym
+    (due-landing (c .before .before .before .before .before .before .before .before .before .before .before .args .card .now) (c .before .before .before .before .before .before .before .before .before .before .before .args .nodes) (c .before .before .before .before .before .before .before .before .before .before .before .args .idle) (c .before .before .before .before .before .before .before .before .before .before .before .args .key) room (sym (c .before .before .before .before .before .before .before .before .early-refusal .ensures) ∙ c .before .before .before .before .before .before .before .if1 .left)
+    ∙ ap (λ (l : Landing). landingRefusal (room l) l) (lands (c .before .before .before)))
+
+pub start-refusal-spec : {M : Type 1} → statement M
+start-refusal-spec =
+    tie.close
+    (tie.spec
+    early-refusal-requires
+    returns
+    shared-slice-read-descend
+    cast-descend
+    descend-requires
+    enum-told
+    enum-told-2
+    enum-known-p
+    has-room-where-requires
+    room-refusal-requires
+    returns-2
+    returns-3
+    returns-4)

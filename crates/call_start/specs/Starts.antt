@@ -1,0 +1,53 @@
+-- Document 01: starting to format and starting an update, with their refusals in the order of "Refusal by place".
+use mathlib.Core.Bool.{Bool, true, false}
+use mathlib.Core.List.{List}
+use Prim.Native.Nat.{ℕ}
+use lib.ListN.{length, set}
+use lib.Dec.{eqb}
+use Rattle.laws.specs.Cases.{pick}
+use Rattle.card.specs.Header.{nodesOfLength, headerRefusal}
+use Rattle.walk.specs.declared.Landing.{Landing}
+use Rattle.walk.specs.declared.Landing.the-variants.{Refused as NoLanding, Leaf as LandingAt}
+use Rattle.card_free.specs.NodeSet.{allNodes}
+use Rattle.call_change.specs.Updates.{landing, startRoom}
+use Rattle.state.specs.Memory.{Memory, resting}
+use Rattle.state.specs.declared.Doing.{Doing}
+use Rattle.state.specs.declared.Doing.the-variants.{Formatting, Inserting, Deleting}
+use Rattle.state.specs.declared.Begun.the-variants.{Started, Refused as BegunRefused}
+use Rattle.state.specs.Steps.{isIdle, Handed, noBeginning}
+
+-- STARTING TO FORMAT. "Formatting needs no earlier state"; while it goes on the free nodes are those of the table it makes, whose root is node 1
+unfoldable pub formatOf : List ℕ → Handed
+formatOf card =
+    pick (eqb (nodesOfLength (length card)) 0) (noBeginning 1)
+    (record { begun = Started; memory = resting (nodesOfLength (length card)) (set (allNodes (nodesOfLength (length card))) 1 false) (Formatting 0) })
+
+-- STARTING AN UPDATE. "Starting an update stores nothing." Refusals 1, 2, 3, 7, 6, 9, and 8 for an insert.
+unfoldable pub startRefused : ℕ → Memory → Handed
+startRefused r m = record { begun = BegunRefused r; memory = m }
+
+unfoldable pub startAccepted : Memory → Doing → Handed
+startAccepted m doing = record { begun = Started; memory = record { nodes = m .nodes; free = m .free; last = m .last; doing = doing; rest = m .rest; cut = m .cut } }
+
+-- "9: node number 0 or above N, kind not 1 to 3, no children, or more than 10 internal nodes"
+unfoldable pub startLanded : Memory → Doing → Bool → Landing → Handed
+startLanded m doing room NoLanding = startRefused 9 m
+startLanded m doing room (LandingAt node link run) = pick room (startAccepted m doing) (startRefused 8 m)
+
+-- "8: key absent, leaf full, free nodes fewer than j + 5"; an update that is no insert always has room
+unfoldable pub startChecked : List ℕ → Memory → ℕ → Doing → (Landing → Bool) → Handed
+startChecked card m key doing room =
+    pick (isIdle (m .doing)) (pick (eqb key 0) (startRefused 6 m) (startLanded m doing (room (landing card (m .nodes) key)) (landing card (m .nodes) key))) (startRefused 7 m)
+
+unfoldable pub startOf : List ℕ → Memory → ℕ → Doing → (Landing → Bool) → Handed
+startOf card m key doing room =
+    pick (eqb (nodesOfLength (length card)) 0) (startRefused 1 m)
+    (pick (eqb (nodesOfLength (length card)) (m .nodes))
+    (pick (eqb (headerRefusal card (m .nodes)) 0) (startChecked card m key doing room) (startRefused (headerRefusal card (m .nodes)) m))
+    (startRefused 1 m))
+
+unfoldable pub insertOf : List ℕ → Memory → ℕ → ℕ → Handed
+insertOf card m key value = startOf card m key (Inserting key value false) (startRoom card key (m .free))
+
+unfoldable pub deleteOf : List ℕ → Memory → ℕ → Handed
+deleteOf card m key = startOf card m key (Deleting key false 0) (λ l. true)

@@ -1,0 +1,209 @@
+// Starting to format, and starting an update: its refusals, the room it needs, and the state it hands back (document 01, "State, steps
+// and free nodes").
+use state::Begun;
+use state::Doing;
+use state_block::FREE;
+use state_block::NO_STATE;
+use state_block::NODES;
+use state_block::PLACES;
+use state_block::STATE_WORDS;
+use state_block::is_idle;
+use state_block::refuse_beginning;
+use state_block::store_doing;
+use state_block::store_resting;
+use state_block::wide;
+use walk::End;
+use walk::Slot;
+ghost use mathlib.Core.Path.{_≡_};
+ghost use mathlib.Core.Bool.{true, false};
+ghost use Prim.Native.Nat.{_≤_, _<_};
+ghost use lib.ListN.{length, set};
+ghost use Rattle.card.specs.Header.{Sized};
+ghost use Rattle.card.specs.Layout.{nodeAt};
+ghost use Rattle.card_free.specs.NodeSet.{wordCount, capacity, nodesOf, allNodes};
+ghost use Rattle.walk.specs.Descent.{slotOf, way, runOver};
+ghost use Rattle.laws.specs.Cases.{pick};
+ghost use Rattle.state.specs.Steps.{isIdle};
+ghost use Rattle.state.specs.declared.Doing.the-variants.{Inserting, Deleting};
+ghost use Rattle.state_block.specs.Block.{stateWords, memoryIn, formatted};
+ghost use Rattle.state_block.specs.Contracts.{OpenCall, StartCall};
+ghost use Rattle.call_change.specs.Updates.{insertReason, roomFor};
+ghost use Rattle.call_start.specs.Starts.{formatOf, insertOf, deleteOf};
+ghost use Rattle.call_start.specs.Refusals.{startRefusal, isSlot, roomWhere, dueRefusal, begunBy};
+
+// The refusals 1, 2, 3, 7 and 6 of starting an update, in this order; 0 where none is due.
+fn early_refusal(card: &[u32], nodes: usize, idle: bool, key: u32) -> u32
+    ensures { λ r. ⌜ r ≡ startRefusal (now (card .entry)) nodes idle key ⌝ }
+{
+    let n = card::nodes_of(card.len());
+    if n == 0 {
+        return 1;
+    }
+    if n != nodes {
+        return 1;
+    }
+    let header = card::header_refusal(card, n);
+    if header != 0 {
+        return header;
+    }
+    if !idle {
+        return 7;
+    }
+    if key == 0 {
+        return 6;
+    }
+    0
+}
+
+// Whether a leaf has a slot with the key word.
+fn has_word(leaf: &[u32], word: u32) -> bool
+    requires { ⌜ length (now leaf) ≡ 24 ⌝ }
+    ensures { λ r. ⌜ r ≡ isSlot (slotOf (now (leaf .entry)) word) ⌝ }
+{
+    match walk::find_slot(leaf, word) {
+        Slot::At(_) => true,
+        Slot::Absent => false,
+    }
+}
+
+// "A splitting insert needs j + 5 free nodes." The 11-child nodes above leaf m are counted only where it is full; they may be any
+// number here, so the 5 are taken from the free nodes.
+fn has_room(card: &[u32], n: usize, m: usize, key: u32, free: &[u32]) -> bool
+    requires { ⌜ Sized (length (now card)) n × (1 ≤ m) × (m ≤ n) × (length (now free) ≡ wordCount) ⌝ }
+    ensures { λ r. ⌜ r ≡ roomFor (nodesOf (now (free .entry))) (runOver (now (card .entry)) 0 (way (now (card .entry)) n key .inner)) (insertReason (nodeAt (now (card .entry)) m) key) ⌝ }
+{
+    let leaf = card::node_at(card, m);
+    if has_word(leaf, key) {
+        return true;
+    }
+    if has_word(leaf, 0) {
+        return true;
+    }
+    let count = card_free::count(free);
+    if count < call_change::SPLIT_NEED {
+        return false;
+    }
+    let run = walk::run_above(card, n, key, card[card::ROOT_PLACE] as usize);
+    run <= count - call_change::SPLIT_NEED
+}
+
+// The same of an update that may split its leaf, or of one that never does and so needs no room.
+fn has_room_where(splits: bool, card: &[u32], n: usize, m: usize, key: u32, free: &[u32]) -> bool
+    requires { ⌜ Sized (length (now card)) n × (1 ≤ m) × (m ≤ n) × (length (now free) ≡ wordCount) ⌝ }
+    ensures { λ r. ⌜ r ≡ pick splits (roomFor (nodesOf (now (free .entry))) (runOver (now (card .entry)) 0 (way (now (card .entry)) n key .inner)) (insertReason (nodeAt (now (card .entry)) m) key)) true ⌝ }
+{
+    if splits {
+        return has_room(card, n, m, key, free);
+    }
+    true
+}
+
+// "8: key absent, leaf full, free nodes fewer than j + 5", and 0 where that is not so.
+fn room_refusal(room: bool) -> u32
+    ensures { λ r. ⌜ r ≡ pick room 0 8 ⌝ }
+{
+    if room { 0 } else { 8 }
+}
+
+// The refusal that starting an update is due, or 0: the early ones, then "9: node number 0 or above N, kind not 1 to 3, no
+// children, or more than 10 internal nodes", then 8. `splits` says whether the update may split its leaf.
+fn start_refusal(
+    card: &[u32],
+    nodes: usize,
+    idle: bool,
+    free: &[u32],
+    key: u32,
+    splits: bool,
+) -> u32
+    requires { ⌜ length (now free) ≡ wordCount ⌝ }
+    ensures { λ r. ⌜ r ≡ dueRefusal (now (card .entry)) nodes idle key (roomWhere splits (now (card .entry)) key (nodesOf (now (free .entry)))) ⌝ }
+{
+    let early = early_refusal(card, nodes, idle, key);
+    if early != 0 {
+        return early;
+    }
+    match walk::descend(card, nodes, key, card[card::ROOT_PLACE] as usize, false) {
+        End::Refused => 9,
+        End::Fault(_) => 9,
+        End::Leaf(p) => room_refusal(has_room_where(splits, card, nodes, p.node, key, free)),
+    }
+}
+
+// The same by the words of a block.
+fn block_refusal(card: &[u32], state: &[u32], key: u32, splits: bool) -> u32
+    requires { ⌜ length (now state) ≡ stateWords ⌝ }
+    ensures { λ r. ⌜ r ≡ dueRefusal (now (card .entry)) (memoryIn (now (state .entry)) .nodes) (isIdle (memoryIn (now (state .entry)) .doing)) key (roomWhere splits (now (card .entry)) key (memoryIn (now (state .entry)) .free)) ⌝ }
+{
+    let nodes = wide(state[NODES]);
+    let idle = is_idle(state);
+    start_refusal(card, nodes, idle, &state[FREE..PLACES], key, splits)
+}
+
+// "Starting an update stores nothing": the block with the update in hand, or as it was where a refusal is due.
+fn begin(state: &mut [u32], doing: Doing, refusal: u32) -> Begun
+    requires { ⌜ (length (now state) ≡ stateWords) × (formatted doing ≡ 0) ⌝ }
+    ensures { λ r. ⌜ StartCall (now (state .entry)) (now (state .exit)) r doing (begunBy refusal (memoryIn (now (state .entry))) doing) ⌝ }
+{
+    if refusal != 0 {
+        return Begun::Refused(refusal);
+    }
+    store_doing(state, doing);
+    Begun::Started
+}
+
+// All nodes but node 1 are free.
+fn free_but_root(free: &mut [u32], n: usize)
+    requires { ⌜ (length (now free) ≡ wordCount) × (n < capacity) ⌝ }
+    ensures { λ _. ⌜ nodesOf (now (free .exit)) ≡ set (allNodes n) 1 false ⌝ }
+{
+    card_free::fill(free, n);
+    card_free::take_out(free, 1);
+}
+
+// "Formatting needs no earlier state". While it goes on the free nodes are those of the table it makes, whose root is node 1.
+pub fn start_format(card: &[u32], state: &mut [u32]) -> Begun
+    ensures { λ r. ⌜ OpenCall (now (state .entry)) (now (state .exit)) r (formatOf (now (card .entry))) ⌝ }
+{
+    if state.len() != STATE_WORDS {
+        return Begun::Refused(NO_STATE);
+    }
+    let n = card::nodes_of(card.len());
+    if n == 0 {
+        return refuse_beginning(state, 1);
+    }
+    free_but_root(&mut state[FREE..PLACES], n);
+    store_resting(state, n, Doing::Formatting { made: 0 });
+    Begun::Started
+}
+
+// "Starting an update stores nothing."
+pub fn start_insert(card: &[u32], state: &mut [u32], key: u32, value: u32) -> Begun
+    ensures { λ r. ⌜ StartCall (now (state .entry)) (now (state .exit)) r (Inserting key value false) (insertOf (now (card .entry)) (memoryIn (now (state .entry))) key value) ⌝ }
+{
+    if state.len() != STATE_WORDS {
+        return Begun::Refused(NO_STATE);
+    }
+    let doing = Doing::Inserting {
+        key,
+        value,
+        begun: false,
+    };
+    let refusal = block_refusal(card, state, key, true);
+    begin(state, doing, refusal)
+}
+
+// "Refusing a delete on a full card" would spoil a bin: a delete needs no free nodes to start.
+pub fn start_delete(card: &[u32], state: &mut [u32], key: u32) -> Begun
+    ensures { λ r. ⌜ StartCall (now (state .entry)) (now (state .exit)) r (Deleting key false 0) (deleteOf (now (card .entry)) (memoryIn (now (state .entry))) key) ⌝ }
+{
+    if state.len() != STATE_WORDS {
+        return Begun::Refused(NO_STATE);
+    }
+    let doing = Doing::Deleting {
+        key,
+        begun: false,
+        value: 0,
+    };
+    let refusal = block_refusal(card, state, key, false);
+    begin(state, doing, refusal)
+}

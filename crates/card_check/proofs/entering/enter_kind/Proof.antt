@@ -1,0 +1,58 @@
+-- `card_check::entering::enter_kind` meets its contract.
+use mathlib.Core.Path.{sym, _∙_}
+use native.Mathlib.Omega.{arith}
+use borrow.Author.Needs.{needs}
+use Rattle.card_check.proofs.CheckLaws.{enter-kind-leaf, enter-kind-internal, enter-kind-tagged, enter-kind-none}
+use Rattle.card_check.specs.Check.{lookOf, findingsOf}
+use Rattle.card_check.proofs.entering.enter_kind.Statement.{statement}
+use Rattle.card_check.proofs.entering.enter_kind.Tie as tie
+
+shared-slice-read-kind : tie.Need-shared-slice-read-kind
+shared-slice-read-kind c = search needs
+
+enter-leaf-requires : tie.Need-enter-leaf-requires
+enter-leaf-requires c κs = search needs
+
+enter-inner-requires : tie.Need-enter-inner-requires
+enter-inner-requires c κs = search needs
+
+enter-inner-requires-2 : tie.Need-enter-inner-requires-2
+enter-inner-requires-2 c κs = search needs
+
+same-length : tie.Need-same-length
+same-length c = search needs
+
+returns : tie.Need-returns
+returns c free = c .before .before .enter-leaf .ensures free ∙ sym (enter-kind-leaf (c .before .before .before .before .before .before .before .before .args .node .now) (c .before .before .before .before .before .before .before .before .args .low) (c .before .before .before .before .before .before .before .before .args .high) (c .before .before .before .before .before .before .before .before .args .run) (c .before .before .before .before .before .before .before .before .args .root) (findingsOf free (c .before .before .before .before .before .before .before .before .args .found .now)) (omega (arith, c .before .before .before .before .match .keys1)))
+
+same-length-2 : tie.Need-same-length-2
+same-length-2 c = search needs
+
+returns-2 : tie.Need-returns-2
+returns-2 c free = c .before .before .enter-inner .ensures free ∙ sym (enter-kind-internal (c .before .before .before .before .before .before .before .before .args .node .now) (c .before .before .before .before .before .before .before .before .args .low) (c .before .before .before .before .before .before .before .before .args .high) (c .before .before .before .before .before .before .before .before .args .run) (c .before .before .before .before .before .before .before .before .args .root) (findingsOf free (c .before .before .before .before .before .before .before .before .args .found .now)) (omega (arith, c .before .before .before .before .match .keys2)))
+
+same-length-3 : tie.Need-same-length-3
+same-length-3 c = search needs
+
+returns-3 : tie.Need-returns-3
+returns-3 c free = c .before .before .enter-inner2 .ensures free ∙ sym (enter-kind-tagged (c .before .before .before .before .before .before .before .before .args .node .now) (c .before .before .before .before .before .before .before .before .args .low) (c .before .before .before .before .before .before .before .before .args .high) (c .before .before .before .before .before .before .before .before .args .run) (c .before .before .before .before .before .before .before .before .args .root) (findingsOf free (c .before .before .before .before .before .before .before .before .args .found .now)) (omega (arith, c .before .before .before .before .match .keys3)))
+
+returns-4 : tie.Need-returns-4
+unfolding lookOf
+returns-4 c free = sym (enter-kind-none (c .before .before .before .before .args .node .now) (c .before .before .before .before .args .low) (c .before .before .before .before .args .high) (c .before .before .before .before .args .run) (c .before .before .before .before .args .root) (findingsOf free (c .before .before .before .before .args .found .now)) (c .match .rest .0 .0 .1) (c .match .rest .0 .1) (c .match .rest .1))
+
+pub enter-kind-spec : {M : Type 1} → statement M
+enter-kind-spec =
+    tie.close
+    (tie.spec
+    shared-slice-read-kind
+    enter-leaf-requires
+    enter-inner-requires
+    enter-inner-requires-2
+    same-length
+    returns
+    same-length-2
+    returns-2
+    same-length-3
+    returns-3
+    returns-4)

@@ -1,0 +1,19 @@
+-- The definitions at work on the input that document 01 gives the list program.
+use mathlib.Core.Path.{_≡_, refl}
+use mathlib.Core.List.{[], _∷_}
+use Rattle.card.specs.Header.{nodesOfLength, headerRefusal, cardRefusal}
+use Rattle.card.specs.Layout.{nodeAt, keyWords, valueWords, leafPairs, nodeImage}
+use Rattle.card_dump.specs.Dump.{wordBytes, cardBytes, paddedLength, dumpOf, wordAt, dumpWords, faults, damaged, fittingLength, readAnswer}
+use Rattle.card_dump.proofs.Examples.{example}
+use Rattle.card_free.specs.NodeSet.{allNodes, countTrue}
+use Rattle.card_check.specs.Check.{member, leafSound, enterLeaf, enterKind, enterNode, onLook, nodeCheck, tableCheck, slotSound}
+use Rattle.call_open.specs.Opening.{openSound, openChecked, openOf}
+use Rattle.state.specs.Steps.{isIdle}
+use Rattle.state.specs.Memory.{resting}
+use Rattle.call_repair.specs.Repairing.{repairedCard, openedCard}
+use Rattle.list_pairs.specs.Listing.{nodePairs, onCard, pairsFrom, listChecked, listTable, listBegun, listCard, listRead, listDump, listed}
+
+-- "nodes 4 free 3 levels 0 pairs 2", then "7 70" and "3 31"
+example-listed : listDump (dumpOf example) 104 ≡ listed (record { nodes = 4; free = 3; levels = 0; pairs = (7, 70) ∷ (3, 31) ∷ [] })
+unfolding example nodeImage readAnswer damaged faults fittingLength dumpOf cardBytes wordBytes wordAt paddedLength dumpWords listDump listRead listCard listBegun listTable listChecked openedCard repairedCard isIdle openOf openChecked openSound resting cardRefusal headerRefusal nodesOfLength tableCheck nodeCheck onLook enterNode enterKind enterLeaf leafSound slotSound member allNodes countTrue nodeAt keyWords valueWords leafPairs pairsFrom onCard nodePairs
+example-listed = refl

@@ -1,0 +1,69 @@
+-- Laws of what is answered: one for each branch of the code.
+use mathlib.Core.Path.{_≡_, refl}
+use mathlib.Core.List.{List}
+use mathlib.Core.Option.{none, some}
+use Prim.Native.Nat.{ℕ}
+use lib.ListN.{length, getD}
+use borrow.Author.Tests.{ne-eqb, eq-eqb}
+use Rattle.card.specs.Header.{nodesOfLength}
+use Rattle.card.specs.Layout.{depthLimit, rootPlace}
+use Rattle.card_dump.specs.Dump.{dumpWords, readAnswer}
+use Rattle.card_dump.specs.declared.Answer.the-variants.{Length, Refused as ReadRefused}
+use Rattle.card_free.specs.NodeSet.{countTrue}
+use Rattle.card_check.specs.Check.{Findings, tableCheck}
+use Rattle.call_open.specs.Opening.{openOf}
+use Rattle.state.specs.declared.Begun.the-variants.{Idle, Started, Refused}
+use Rattle.call_repair.specs.Repairing.{openedCard}
+use Rattle.list_pairs.specs.Listing.{Listing, Listed, refused, listed, pairsFrom, listChecked, listTable, listBegun, listCard, listRead, listDump, laid, layPairs, layListed}
+use Rattle.list_pairs.specs.Summaries.{summarized, summaryOf}
+
+-- ---- a table
+
+pub summary-refused : (r : ℕ) (l : Listed) (words : List ℕ) → l ≡ refused r → (record { refusal = r; nodes = 0; free = 0; levels = 0; words = 0 } ≡ summaryOf l words) × (words ≡ layListed l words .words)
+unfolding summaryOf summarized layListed
+summary-refused r l words e = rw e (refl, refl)
+
+module _ (card : List ℕ) (n : ℕ) where
+  pub table-none : n ≡ 0 → listTable card n ≡ refused 1
+  unfolding listTable
+  table-none e = rw (eq-eqb n 0 e)
+
+  pub table-unsound : (n ≡ 0 → ⊥) → tableCheck card n ≡ none → listTable card n ≡ refused 4
+  unfolding listTable listChecked
+  table-unsound d e = rw (ne-eqb n 0 d, e)
+
+  pub table-sound : (h : ℕ) (f : Findings) → (n ≡ 0 → ⊥) → tableCheck card n ≡ some (h, f)
+      → listTable card n ≡ listed (record { nodes = n; free = countTrue (f .free); levels = h; pairs = pairsFrom depthLimit card n (getD card rootPlace 0) })
+  unfolding listTable listChecked
+  table-sound h f d e = rw (ne-eqb n 0 d, e)
+
+pub summary-listed : (x : Listing) (l : Listed) (words : List ℕ) (at : ℕ) (after : List ℕ) → l ≡ listed x → laid at after ≡ layPairs (x .pairs) (laid 0 words)
+    → (record { refusal = 0; nodes = x .nodes; free = x .free; levels = x .levels; words = at } ≡ summaryOf l words) × (after ≡ layListed l words .words)
+unfolding summaryOf summarized layListed
+summary-listed x l words at after e p = rw (e, ← p) (refl, refl)
+
+-- ---- a card, by what opening answers
+
+module _ (card : List ℕ) where
+  pub card-refused : (r : ℕ) → openOf card .begun ≡ Refused r → listCard card ≡ refused r
+  unfolding listCard listBegun
+  card-refused r e = rw e
+
+  pub card-idle : openOf card .begun ≡ Idle → listCard card ≡ listTable (openedCard card .card) (nodesOfLength (length card))
+  unfolding listCard listBegun
+  card-idle e = rw e
+
+  pub card-started : openOf card .begun ≡ Started → listCard card ≡ listTable (openedCard card .card) (nodesOfLength (length card))
+  unfolding listCard listBegun
+  card-started e = rw e
+
+-- ---- a dump
+
+module _ (dump : List ℕ) (lent : ℕ) where
+  pub dump-refused : (r : ℕ) → readAnswer dump lent ≡ ReadRefused r → listDump dump lent ≡ refused r
+  unfolding listDump listRead
+  dump-refused r e = rw e
+
+  pub dump-read : (size : ℕ) → readAnswer dump lent ≡ Length size → listDump dump lent ≡ listCard (dumpWords size dump)
+  unfolding listDump listRead
+  dump-read size e = rw e

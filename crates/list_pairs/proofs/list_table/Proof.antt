@@ -1,0 +1,112 @@
+-- `list_pairs::list_table` meets its contract.
+use mathlib.Core.Path.{_≡_, ap, sym, _∙_}
+use native.Mathlib.Omega.{arith}
+use lib.ListN.{length, getD}
+use Rattle.card.specs.Header.{nodesOfLength, Sized}
+use Rattle.card.proofs.HeaderLaws.{nodes-sized}
+use Rattle.card.specs.Layout.{depthLimit, rootPlace}
+use Rattle.card_free.specs.NodeSet.{nodesOf}
+use Rattle.card_check.specs.Check.{findingsOf, checkedOf}
+use Rattle.card_check.specs.declared.Checked.{Checked}
+use Rattle.list_pairs.specs.Listing.{Listing, listed, listTable, pairsFrom}
+use Rattle.list_pairs.proofs.SummaryLaws.{summary-refused, table-none, table-unsound, table-sound, summary-listed}
+use borrow.Author.Needs.{needs}
+use Rattle.list_pairs.proofs.list_table.Statement.{statement}
+use Rattle.list_pairs.proofs.list_table.Tie as tie
+
+sized : (c : tie.Else1) → Sized (length (c .before .before .before .before .args .card .now)) (c .before .nodes-of .result)
+sized c =
+    let e = c .before .nodes-of .ensures in
+    rw e (nodes-sized (length (c .before .before .before .before .args .card .now)) (λ z. c .if1 .left (e ∙ z)))
+
+nodes-of-requires : tie.Need-nodes-of-requires
+nodes-of-requires c κs = search needs
+
+refusing-requires : tie.Need-refusing-requires
+refusing-requires c κs = search needs
+
+returns : tie.Need-returns
+returns c =
+    let s = c .before .before .before .before .before in
+    let q = summary-refused 1 (listTable (s .args .card .now) (nodesOfLength (length (s .args .card .now)))) (s .args .out .now) (table-none (s .args .card .now) (nodesOfLength (length (s .args .card .now))) (sym (c .before .before .nodes-of .ensures) ∙ c .before .if1 .taken)) in
+    (c .refusing .ensures ∙ q .0, q .1)
+
+slice-aggregate-check-table : tie.Need-slice-aggregate-check-table
+slice-aggregate-check-table c = search needs
+
+slice-aggregate-check-table-2 : tie.Need-slice-aggregate-check-table-2
+slice-aggregate-check-table-2 c = search needs
+
+check-table-requires : tie.Need-check-table-requires
+check-table-requires c κs = let k = sized (c .before .before) in (k .words, k .most, search needs, search needs)
+
+enum-known-levels : tie.Need-enum-known-levels
+enum-known-levels c = search needs
+
+enum-told : tie.Need-enum-told
+enum-told c = search needs
+
+refusing-requires-2 : tie.Need-refusing-requires-2
+refusing-requires-2 c κs = search needs
+
+returns-2 : tie.Need-returns-2
+unfolding checkedOf
+returns-2 c =
+    let s = c .before .before .before .before .before .before .before .before .before .before .before .before in
+    let e = c .before .before .before .before .before .before .before .before .before .nodes-of .ensures in
+    let none-found = sym (c .before .before .before .before .before .check-table .ensures) ∙ ap (λ (r : Checked). checkedOf r (findingsOf (nodesOf (c .before .before .before .before .before .check-table .last .1 .1 .0)) (c .before .before .before .before .before .check-table .last .1 .1 .1 .0))) (c .before .enum-told .given .1) in
+    let q = summary-refused 4 (listTable (s .args .card .now) (nodesOfLength (length (s .args .card .now)))) (s .args .out .now) (ap (listTable (s .args .card .now)) (sym e) ∙ table-unsound (s .args .card .now) (c .before .before .before .before .before .before .before .before .before .nodes-of .result) (c .before .before .before .before .before .before .before .before .if1 .left) none-found) in
+    (c .refusing2 .ensures ∙ q .0, q .1)
+
+slice-aggregate-count : tie.Need-slice-aggregate-count
+slice-aggregate-count c = search needs
+
+count-requires : tie.Need-count-requires
+count-requires c κs = search needs
+
+shared-slice-read-root : tie.Need-shared-slice-read-root
+shared-slice-read-root c = omega (arith, sized (c .before .before .before .before .before .before .before .before .before .before .before) .words)
+
+cast-root : tie.Need-cast-root
+cast-root c = omega (arith, c .shared-slice-known2 .given 4)
+
+collect-requires : tie.Need-collect-requires
+collect-requires c κs = let z = sized (c .before .before .before .before .before .before .before .before .before .before .before .before) in (z .words, z .most, omega arith)
+
+same-length : tie.Need-same-length
+same-length c = search needs
+
+returns-3 : tie.Need-returns-3
+unfolding findingsOf checkedOf
+returns-3 c =
+    let s = c .before .before .before .before .before .before .before .before .before .before .before .before .before .before .before .before .before .before .before in
+    let n = c .before .before .before .before .before .before .before .before .before .before .before .before .before .before .before .before .nodes-of in
+    let levels = c .before .before .before .before .before .before .before .before .levels .given .0 .0 in
+    let found = sym (c .before .before .before .before .before .before .before .before .before .before .before .before .check-table .ensures) ∙ ap (λ (r : Checked). checkedOf r (findingsOf (nodesOf (c .before .before .before .before .before .before .before .before .before .before .before .before .check-table .last .1 .1 .0)) (c .before .before .before .before .before .before .before .before .before .before .before .before .check-table .last .1 .1 .1 .0))) (c .before .before .before .before .before .before .before .before .levels .given .1) in
+    let card = s .args .card .now in
+    let x : Listing = record { nodes = c .before .before .before .before .before .before .before .before .before .before .before .before .before .before .before .before .nodes-of .result; free = c .before .before .before .before .before .count .result; levels = c .before .before .before .before .before .before .before .before .levels .given .0 .0; pairs = pairsFrom depthLimit (s .args .card .now) (c .before .before .before .before .before .before .before .before .before .before .before .before .before .before .before .before .nodes-of .result) (getD (s .args .card .now) rootPlace 0) } in
+    let is : listTable (s .args .card .now) (nodesOfLength (length (s .args .card .now))) ≡ listed x =
+    ap (listTable card) (sym (n .ensures)) ∙ table-sound card (n .result) levels (findingsOf (nodesOf (c .before .before .before .before .before .before .before .before .before .before .before .before .check-table .last .1 .1 .0)) (c .before .before .before .before .before .before .before .before .before .before .before .before .check-table .last .1 .1 .1 .0)) (c .before .before .before .before .before .before .before .before .before .before .before .before .before .before .before .if1 .left) found ∙ rw (c .before .before .before .before .before .count .ensures) in
+    summary-listed x (listTable card (nodesOfLength (length card))) (s .args .out .now) (c .before .before .collect .result) (c .before .before .collect .last .1 .1 .1 .1 .0) is (c .before .before .collect .ensures .0)
+
+pub list-table-spec : {M : Type 1} → statement M
+list-table-spec =
+    tie.close
+    (tie.spec
+    nodes-of-requires
+    refusing-requires
+    returns
+    slice-aggregate-check-table
+    slice-aggregate-check-table-2
+    check-table-requires
+    enum-known-levels
+    enum-told
+    refusing-requires-2
+    returns-2
+    slice-aggregate-count
+    count-requires
+    shared-slice-read-root
+    cast-root
+    collect-requires
+    same-length
+    returns-3)

@@ -1,0 +1,89 @@
+// What the program `list` prints of a card or a dump (document 01, "Dumps and the list program").
+mod pairs;
+
+use call_repair::open_repaired;
+use card_check::Checked;
+use pairs::collect;
+use table::Begun;
+use table::STATE_WORDS;
+ghost use mathlib.Core.Path.{_≡_};
+ghost use lib.ListN.{length};
+ghost use Rattle.call_repair.specs.Repairing.{openedCard, openedOver};
+ghost use Rattle.card.specs.Header.{nodesOfLength};
+ghost use Rattle.list_pairs.specs.Listing.{listTable, listCard, listDump, layListed};
+ghost use Rattle.list_pairs.specs.Summaries.{summaryOf};
+
+// "First line: N, free nodes, internal levels, pairs", or the refusal, which is 0 where there is none. Of the lent slice
+// the first `words` words hold the pairs, key and value.
+pub struct Summary {
+    pub refusal: u32,
+    pub nodes: usize,
+    pub free: usize,
+    pub levels: usize,
+    pub words: usize,
+}
+
+// "Refused, it prints `refused ` and the number only."
+fn refusing(refusal: u32) -> Summary
+    ensures { λ r. ⌜ r ≡ record { refusal = refusal; nodes = 0; free = 0; levels = 0; words = 0 } ⌝ }
+{
+    Summary {
+        refusal,
+        nodes: 0,
+        free: 0,
+        levels: 0,
+        words: 0,
+    }
+}
+
+// The table of a card as it is, checked once more: its height and its free nodes are those that the check finds.
+fn list_table(card: &[u32], out: &mut [u32]) -> Summary
+    ensures { λ r. ⌜ r ≡ summaryOf (listTable (now (card .entry)) (nodesOfLength (length (now (card .entry))))) (now (out .entry)) ⌝ }
+    ensures { λ r. ⌜ now (out .exit) ≡ layListed (listTable (now (card .entry)) (nodesOfLength (length (now (card .entry))))) (now (out .entry)) .words ⌝ }
+{
+    let n = card::nodes_of(card.len());
+    if n == 0 {
+        return refusing(1);
+    }
+    let mut unreached: [u32; card_free::WORDS] = [0; card_free::WORDS];
+    let mut found: [u32; 3] = [0; 3];
+    let Checked::Sound(levels) = card_check::check_table(card, n, &mut unreached, &mut found) else {
+        return refusing(4);
+    };
+    let free = card_free::count(&unreached);
+    let root = card[card::ROOT_PLACE] as usize;
+    let words = collect(card, n, root, card::DEPTH_LIMIT, out, 0);
+    Summary {
+        refusal: 0,
+        nodes: n,
+        free,
+        levels,
+        words,
+    }
+}
+
+// "opens and repairs it in memory": a card.
+pub fn list_card(card: &mut [u32], out: &mut [u32]) -> Summary
+    ensures { λ r. ⌜ r ≡ summaryOf (listCard (now (card .entry))) (now (out .entry)) ⌝ }
+    ensures { λ r. ⌜ now (out .exit) ≡ layListed (listCard (now (card .entry))) (now (out .entry)) .words ⌝ }
+    ensures { λ r. ⌜ now (card .exit) ≡ openedCard (now (card .entry)) .card ⌝ }
+{
+    let mut state: [u32; STATE_WORDS] = [0; STATE_WORDS];
+    match open_repaired(card, &mut state) {
+        Begun::Refused(refusal) => refusing(refusal),
+        Begun::Idle => list_table(card, out),
+        Begun::Started => list_table(card, out),
+    }
+}
+
+// A dump, read into a lent slice.
+pub fn list_dump(bytes: &[u8], card: &mut [u32], out: &mut [u32]) -> Summary
+    ensures { λ r. ⌜ r ≡ summaryOf (listDump (now (bytes .entry)) (length (now (card .entry)))) (now (out .entry)) ⌝ }
+    ensures { λ r. ⌜ now (out .exit) ≡ layListed (listDump (now (bytes .entry)) (length (now (card .entry)))) (now (out .entry)) .words ⌝ }
+    ensures { λ r. ⌜ now (card .exit) ≡ openedOver (now (bytes .entry)) (now (card .entry)) ⌝ }
+{
+    match card_dump::read_dump(bytes, card) {
+        card_dump::Answer::Refused(refusal) => refusing(refusal),
+        card_dump::Answer::Length(size) => list_card(&mut card[..size], out),
+    }
+}

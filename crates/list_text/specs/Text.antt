@@ -1,0 +1,77 @@
+-- THE TEXT THAT `list` PRINTS, byte by byte (document 01, "Dumps and the list program").
+use mathlib.Core.List.{List, [], _∷_, _++_}
+use Prim.Native.Nat.{ℕ, _*_}
+use lib.ListN.{length, take, replicate}
+use lib.Dec.{eqb}
+use Rattle.laws.specs.Cases.{pick}
+use Rattle.card.specs.Layout.{programNodes}
+use Rattle.list_pairs.specs.Listing.{Listed, refused, listed, listDump, layListed}
+use Rattle.list_pairs.specs.Summaries.{summaryOf}
+use Rattle.list_pairs.specs.declared.Summary.{Summary}
+use Rattle.call_repair.specs.Repairing.{cardRoom}
+use Rattle.text_row.specs.Lines.{decimal, lineFeed, freeWord, refusalLine}
+
+-- ---- the lines
+
+-- one space
+unfoldable pub space : List ℕ
+space = 32 ∷ []
+
+-- "nodes "
+unfoldable pub nodesWord : List ℕ
+nodesWord = 110 ∷ 111 ∷ 100 ∷ 101 ∷ 115 ∷ 32 ∷ []
+
+-- " levels "
+unfoldable pub levelsWord : List ℕ
+levelsWord = 32 ∷ 108 ∷ 101 ∷ 118 ∷ 101 ∷ 108 ∷ 115 ∷ 32 ∷ []
+
+-- " pairs "
+unfoldable pub pairsWord : List ℕ
+pairsWord = 32 ∷ 112 ∷ 97 ∷ 105 ∷ 114 ∷ 115 ∷ 32 ∷ []
+
+-- "First line: N, free nodes, internal levels, pairs."
+unfoldable pub firstLine : ℕ → ℕ → ℕ → ℕ → List ℕ
+firstLine nodes free levels pairs =
+    (nodesWord ++ decimal nodes) ++ (freeWord ++ decimal free) ++ (levelsWord ++ decimal levels) ++ (pairsWord ++ decimal pairs) ++ lineFeed
+
+-- "Then key and value": a pair's line
+unfoldable pub pairLine : ℕ → ℕ → List ℕ
+pairLine key value = decimal key ++ (space ++ decimal value) ++ lineFeed
+
+-- the lines of all pairs
+unfoldable pub pairLines : List (ℕ × ℕ) → List ℕ
+pairLines [] = []
+pairLines (p ∷ ps) = pairLine (p .0) (p .1) ++ pairLines ps
+
+-- what is printed of a listing
+unfoldable pub listText : Listed → List ℕ
+listText (refused number) = refusalLine number
+listText (listed l) = firstLine (l .nodes) (l .free) (l .levels) (length (l .pairs)) ++ pairLines (l .pairs)
+
+-- ---- what is printed of a dump
+
+-- the words key, value, key, value .. as pairs
+unfoldable pub pairsOfWords : List ℕ → List (ℕ × ℕ)
+pairsOfWords [] = []
+pairsOfWords (key ∷ []) = []
+pairsOfWords (key ∷ value ∷ words) = (key, value) ∷ pairsOfWords words
+
+-- the listing that a summary and the words stored for it tell
+unfoldable pub listingTold : Summary → List ℕ → Listed
+listingTold s words =
+    pick (eqb (s .refusal) 0) (listed (record { nodes = s .nodes; free = s .free; levels = s .levels; pairs = pairsOfWords (take (s .words) words) })) (refused (s .refusal))
+
+-- the words that the pairs of a dump are laid into: key and value of 11 pairs for each of 600 nodes
+abbrev pub pairRoom : ℕ
+pairRoom = 22 * programNodes
+
+abbrev pub zeros : ℕ → List ℕ
+zeros n = replicate n 0
+
+-- the listing of a dump as it is handed to the printing. It is `listDump dump cardRoom`: printing_theory, `handed-whole`
+unfoldable pub listingHanded : List ℕ → Listed
+listingHanded dump = listingTold (summaryOf (listDump dump cardRoom) (zeros pairRoom)) (layListed (listDump dump cardRoom) (zeros pairRoom) .words)
+
+-- the text of a dump. It is `listText (listDump dump cardRoom)`: printing_theory, `text-right`
+unfoldable pub dumpText : List ℕ → List ℕ
+dumpText dump = listText (listingHanded dump)

@@ -1,1 +1,0 @@
-// Theory only: the text that `printing` makes is that of the whole listing; see specs/.

@@ -1,0 +1,51 @@
+-- Laws of the reason: one for each branch of the code.
+use mathlib.Core.Path.{_≡_, sym, _∙_}
+use mathlib.Core.Bool.{Bool}
+use mathlib.Core.List.{List}
+use Prim.Native.Nat.{ℕ}
+use lib.ListN.{length}
+use borrow.Author.Tests.{ne-eqb, eq-eqb}
+use Rattle.card.specs.Header.{nodesOfLength}
+use Rattle.state.specs.declared.Begun.the-variants.{Idle, Started, Refused as BegunRefused}
+use Rattle.call_change.specs.Updates.{landing}
+use Rattle.call_open.specs.Opening.{openOf}
+use Rattle.call_repair.specs.Repairing.{openedCard}
+use Rattle.card_dump.specs.Dump.{dumpWords, readAnswer}
+use Rattle.card_dump.specs.declared.Answer.the-variants.{Length, Refused as ReadRefused}
+use Rattle.reason.specs.InsertReason.{reasonLanded, reasonOn, reasonBegun, reasonOf, reasonRead, reasonInDump}
+use Rattle.reason.specs.declared.Reason.the-variants.{Refused, NoKey}
+
+module _ (card : List ℕ) (free : List Bool) (key n : ℕ) (counted : n ≡ nodesOfLength (length card)) where
+  pub on-no-length : n ≡ 0 → reasonOn card free key ≡ Refused 1
+  unfolding reasonOn
+  on-no-length z = simp (eq-eqb (nodesOfLength (length card)) 0 (sym counted ∙ z))
+
+  pub on-no-key : (n ≡ 0 → ⊥) → key ≡ 0 → reasonOn card free key ≡ NoKey
+  unfolding reasonOn
+  on-no-key p z = simp (ne-eqb (nodesOfLength (length card)) 0 (λ q. p (counted ∙ q)), eq-eqb key 0 z)
+
+  pub on-key : (n ≡ 0 → ⊥) → (key ≡ 0 → ⊥) → reasonOn card free key ≡ reasonLanded card free key (landing card n key)
+  unfolding reasonOn
+  on-key p q = simp (ne-eqb (nodesOfLength (length card)) 0 (λ z. p (counted ∙ z)), ne-eqb key 0 q, ← counted)
+
+module _ (card : List ℕ) (key : ℕ) where
+  pub of-refused : (r : ℕ) → openOf card .begun ≡ BegunRefused r → reasonOf card key ≡ Refused r
+  unfolding reasonOf reasonBegun
+  of-refused r e = rw e
+
+  pub of-idle : openOf card .begun ≡ Idle → reasonOf card key ≡ reasonOn (openedCard card .card) (openedCard card .memory .free) key
+  unfolding reasonOf reasonBegun
+  of-idle e = rw e
+
+  pub of-started : openOf card .begun ≡ Started → reasonOf card key ≡ reasonOn (openedCard card .card) (openedCard card .memory .free) key
+  unfolding reasonOf reasonBegun
+  of-started e = rw e
+
+module _ (dump : List ℕ) (lent key : ℕ) where
+  pub dump-refused : (r : ℕ) → readAnswer dump lent ≡ ReadRefused r → reasonInDump dump lent key ≡ Refused r
+  unfolding reasonInDump reasonRead
+  dump-refused r e = rw e
+
+  pub dump-read : (size : ℕ) → readAnswer dump lent ≡ Length size → reasonInDump dump lent key ≡ reasonOf (dumpWords size dump) key
+  unfolding reasonInDump reasonRead
+  dump-read size e = rw e

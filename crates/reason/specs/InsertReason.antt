@@ -1,0 +1,58 @@
+-- Document 02, W-209: what stands in the way of a new number. "For each line on the card it prints `held V`, `slot`, or `split J free
+-- F need M`, M being j + 5."
+use mathlib.Core.Bool.{Bool}
+use mathlib.Core.List.{List}
+use Prim.Native.Nat.{ℕ}
+use lib.ListN.{length}
+use lib.Dec.{eqb}
+use Rattle.laws.specs.Cases.{pick}
+use Rattle.card.specs.Header.{nodesOfLength}
+use Rattle.card.specs.Layout.{nodeAt}
+use Rattle.card_free.specs.NodeSet.{countTrue}
+use Rattle.walk.specs.declared.Landing.{Landing}
+use Rattle.walk.specs.declared.Landing.the-variants.{Refused as NoLanding, Leaf as LandingAt}
+use Rattle.state.specs.declared.Begun.{Begun}
+use Rattle.state.specs.declared.Begun.the-variants.{Idle, Started, Refused as BegunRefused}
+use Rattle.call_change.specs.Updates.{landing, insertReason, splitNeed, held, slot, full, Reason as InLeaf}
+use Rattle.call_open.specs.Opening.{openOf}
+use Rattle.call_repair.specs.Repairing.{openedCard}
+use Rattle.card_dump.specs.Dump.{dumpWords, readAnswer}
+use Rattle.card_dump.specs.declared.Answer.{Answer}
+use Rattle.card_dump.specs.declared.Answer.the-variants.{Length, Refused as ReadRefused}
+use Rattle.reason.specs.declared.Reason.{Reason}
+use Rattle.reason.specs.declared.Reason.the-variants.{Refused, NoKey, Held, Slot, Split}
+
+-- by what an insert finds in its leaf, below so many 11-child nodes without a break, with so many nodes free. "M being j + 5": what
+-- the split needs is part of the reason
+unfoldable pub reasonFor : InLeaf → ℕ → ℕ → Reason
+reasonFor (held v) run free = Held v
+reasonFor (slot i) run free = Slot
+reasonFor full run free = Split run free (splitNeed run)
+
+-- in the leaf that the key leads to; "9: on the way down"
+unfoldable pub reasonLanded : List ℕ → List Bool → ℕ → Landing → Reason
+reasonLanded card free key NoLanding = Refused 9
+reasonLanded card free key (LandingAt m link run) = reasonFor (insertReason (nodeAt card m) key) run (countTrue free)
+
+-- on a card with these free nodes; a key of 0 is no key
+unfoldable pub reasonOn : List ℕ → List Bool → ℕ → Reason
+reasonOn card free key =
+    pick (eqb (nodesOfLength (length card)) 0) (Refused 1)
+    (pick (eqb key 0) NoKey (reasonLanded card free key (landing card (nodesOfLength (length card)) key)))
+
+-- "opens and repairs it"; "refusals print first, as `list` prints them"
+unfoldable pub reasonBegun : List ℕ → ℕ → Begun → Reason
+reasonBegun card key (BegunRefused r) = Refused r
+reasonBegun card key Idle = reasonOn (openedCard card .card) (openedCard card .memory .free) key
+reasonBegun card key Started = reasonOn (openedCard card .card) (openedCard card .memory .free) key
+
+unfoldable pub reasonOf : List ℕ → ℕ → Reason
+reasonOf card key = reasonBegun card key (openOf card .begun)
+
+-- "A program reads a dump from standard input": into so many words
+unfoldable pub reasonRead : List ℕ → ℕ → Answer → Reason
+reasonRead dump key (ReadRefused r) = Refused r
+reasonRead dump key (Length size) = reasonOf (dumpWords size dump) key
+
+unfoldable pub reasonInDump : List ℕ → ℕ → ℕ → Reason
+reasonInDump dump lent key = reasonRead dump key (readAnswer dump lent)

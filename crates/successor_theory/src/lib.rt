@@ -1,1 +1,0 @@
-// Theory only: the pair that `successor` answers is the next one of the map, and a walk lists the map; see specs/.

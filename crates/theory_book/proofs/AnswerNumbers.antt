@@ -1,0 +1,99 @@
+-- Refusals have numbers below 64, so that the number of an answer tells which answer it is.
+use mathlib.Core.Bool.{Bool, true, false}
+use mathlib.Core.List.{List}
+use mathlib.Core.Option.{Option, none, some}
+use Prim.Native.Nat.{ℕ, _+_, _<_}
+use native.Mathlib.Omega.{arith}
+use lib.ListN.{length, getD}
+use lib.Dec.{eqb, ltb}
+use Rattle.card.specs.Header.{nodesOfLength, headerRefusal, cardRefusal, must}
+use Rattle.walk.specs.declared.Landing.{Landing}
+use Rattle.walk.specs.declared.Landing.the-variants.{Refused as NoLanding, Leaf as LandingAt}
+use Rattle.card_free.specs.NodeSet.{countTrue}
+use Rattle.walk.specs.Descent.{slotOf, way, leafOf}
+use Rattle.walk.specs.declared.Slot.{Slot}
+use Rattle.walk.specs.declared.Slot.the-variants.{At, Absent as NoSlot}
+use Rattle.walk.specs.declared.Reached.{Reached}
+use Rattle.walk.specs.declared.Reached.the-variants.{Refused as NotReached, Leaf as ReachedLeaf}
+use Rattle.call_find.specs.Find.{foundIn, foundAt, findOf}
+use Rattle.call_find.specs.declared.Found.{Found}
+use Rattle.call_find.specs.declared.Found.the-variants.{Value as FoundValue, Absent as FoundAbsent, Refused as FoundRefused}
+use Rattle.card.specs.Layout.{nodeAt}
+use Rattle.laws.proofs.Cases.{bool-cases}
+use Rattle.call_open.specs.Opening.{openSound, openChecked, openOf}
+use Rattle.card_check.specs.Check.{Findings, tableCheck}
+use Rattle.call_start.specs.Starts.{startRefused, startAccepted, startLanded, startChecked, startOf}
+use Rattle.state.specs.Memory.{Memory}
+use Rattle.state.specs.Steps.{isIdle, noBeginning}
+use Rattle.state.specs.declared.Begun.{Begun}
+use Rattle.state.specs.declared.Begun.the-variants.{Idle as OpenedIdle, Started, Refused as BegunRefused}
+use Rattle.state.specs.declared.Doing.{Doing}
+use Rattle.call_change.specs.Updates.{landing}
+
+abbrev pub SmallBegun : Begun → Type 0
+SmallBegun OpenedIdle = Unit
+SmallBegun Started = Unit
+SmallBegun (BegunRefused r) = r < 64
+
+must-small : (c : List ℕ) (i v r next : ℕ) → r < 64 → next < 64 → must c i v r next < 64
+must-small c i v r next a b = bool-cases (eqb (getD c i 0) v) (λ q. rw q b) (λ q. rw q a)
+
+header-small : (c : List ℕ) (n : ℕ) → headerRefusal c n < 64
+unfolding headerRefusal
+header-small c n =
+    must-small c 0 1 2 _ (omega arith) (must-small c 1 n 3 _ (omega arith) (must-small c 2 8 3 _ (omega arith) (must-small c 3 24 3 _ (omega arith) (must-small c 5 0 3 _ (omega arith) (must-small c 6 0 3 _ (omega arith) (must-small c 7 0 3 0 (omega arith) (omega arith)))))))
+
+pub card-small : (c : List ℕ) → cardRefusal c < 64
+unfolding cardRefusal
+card-small c = bool-cases (eqb (nodesOfLength (length c)) 0) (λ q. rw q (omega arith)) (λ q. rw q (header-small c (nodesOfLength (length c))))
+
+sound-small : (n : ℕ) (f : Findings) → SmallBegun (openSound n f .begun)
+unfolding openSound noBeginning
+sound-small n f = bool-cases (ltb (countTrue (f .free)) (3 + f .run)) (λ a. rw a (omega arith)) (λ a. bool-cases (f .violated) (λ v. rw (a, v) tt) (λ v. rw (a, v) tt))
+
+checked-small : (n : ℕ) (x : Option (ℕ × Findings)) → SmallBegun (openChecked n x .begun)
+unfolding openChecked noBeginning
+checked-small n none = omega arith
+checked-small n (some r) = sound-small n (r .1)
+
+pub open-small : (c : List ℕ) → SmallBegun (openOf c .begun)
+unfolding openOf noBeginning
+open-small c = bool-cases (eqb (cardRefusal c) 0) (λ q. rw q (checked-small (nodesOfLength (length c)) (tableCheck c (nodesOfLength (length c))))) (λ q. rw q (card-small c))
+
+landed-small : (m : Memory) (doing : Doing) (room : Bool) (l : Landing) → SmallBegun (startLanded m doing room l .begun)
+unfolding startLanded startRefused startAccepted
+landed-small m doing room NoLanding = omega arith
+landed-small m doing true (LandingAt node link run) = tt
+landed-small m doing false (LandingAt node link run) = omega arith
+
+pub start-small : (c : List ℕ) (m : Memory) (key : ℕ) (doing : Doing) (room : Landing → Bool) → SmallBegun (startOf c m key doing room .begun)
+unfolding startOf startChecked startRefused
+start-small c m key doing room =
+    bool-cases (eqb (nodesOfLength (length c)) 0) (λ q. rw q (omega arith)) (λ q.
+    bool-cases (eqb (nodesOfLength (length c)) (m .nodes)) (λ q₁.
+    bool-cases (eqb (headerRefusal c (m .nodes)) 0) (λ q₂.
+    bool-cases (isIdle (m .doing)) (λ q₃.
+    bool-cases (eqb key 0) (λ q₄. rw (q, q₁, q₂, q₃, q₄) (omega arith)) (λ q₄. rw (q, q₁, q₂, q₃, q₄) (landed-small m doing (room (landing c (m .nodes) key)) (landing c (m .nodes) key))))
+    (λ q₃. rw (q, q₁, q₂, q₃) (omega arith))) (λ q₂. rw (q, q₁, q₂) (header-small c (m .nodes)))) (λ q₁. rw (q, q₁) (omega arith)))
+
+abbrev pub SmallFound : Found → Type 0
+SmallFound (FoundValue v) = Unit
+SmallFound FoundAbsent = Unit
+SmallFound (FoundRefused r) = r < 64
+
+in-small : (words : List ℕ) (s : Slot) → SmallFound (foundIn words s)
+unfolding foundIn
+in-small words (At i) = tt
+in-small words NoSlot = tt
+
+at-small : (c : List ℕ) (key : ℕ) (x : Reached) → SmallFound (foundAt c key x)
+unfolding foundAt
+at-small c key NotReached = omega arith
+at-small c key (ReachedLeaf m depth) = in-small (nodeAt c m) (slotOf (nodeAt c m) key)
+
+pub find-small : (c : List ℕ) (key : ℕ) → SmallFound (findOf c key)
+unfolding findOf
+find-small c key =
+    bool-cases (eqb (cardRefusal c) 0)
+    (λ q. bool-cases (eqb key 0) (λ z. rw (q, z) (omega arith)) (λ z. rw (q, z) (at-small c key (leafOf (way c (nodesOfLength (length c)) key)))))
+    (λ q. rw q (card-small c))

@@ -1,0 +1,106 @@
+-- The calls of formatting: "Formatting needs no earlier state and is stepped too: 0 in word 0, then every word from 1 to the last
+-- in rising order .., then 1 in word 0; so 8 + 24 × N + 1 stores, then "ready"." The card may hold any words before.
+use mathlib.Core.Path.{_≡_, refl, ap, sym, _∙_}
+use mathlib.Core.List.{List}
+use mathlib.Core.Bool.{Bool, false}
+use mathlib.Core.Option.{Option, none, some}
+use Prim.Native.Nat.{ℕ, zero, suc, _≤_}
+use native.Mathlib.Omega.{arith}
+use lib.ListN.{length, set}
+use borrow.Author.Tests.{ne-eqb, eq-eqb}
+use Rattle.card.specs.Header.{nodesOfLength, Sized}
+use Rattle.card.proofs.HeaderLaws.{sized-nodes}
+use Rattle.card.specs.Stores.{Store}
+use Rattle.theory_format.proofs.FormatCard.{placeOf, formatCard, format-untouched, format-next, format-length}
+use Rattle.theory_format.proofs.FormatStores.{some-store}
+use Rattle.card_free.specs.NodeSet.{allNodes}
+use Rattle.state.specs.Steps.{heldBy, Handed, noBeginning, Step, stepFinal, formatStore, formattingFrom, stepFormat}
+use Rattle.call_start.specs.Starts.{formatOf}
+use Rattle.table.specs.Calls.{stepHeld, stepOf}
+use Rattle.state.specs.Memory.{Memory, resting, idled}
+use Rattle.state.specs.declared.Doing.the-variants.{Idle, Formatting}
+use Rattle.state.specs.declared.Answer.the-variants.{Stored, Ready}
+use Rattle.state.specs.declared.Begun.the-variants.{Started}
+use Rattle.state.proofs.StepLaws.{format-end}
+
+-- "those not reached from the root", which is node 1
+abbrev pub freshNodes : ℕ → List Bool
+freshNodes n = set (allNodes n) 1 false
+
+-- the state after so many stores of formatting
+abbrev pub formatMemory : ℕ → ℕ → Memory
+formatMemory n made = resting n (freshNodes n) (Formatting made)
+
+-- the state after "ready"
+abbrev pub freshMemory : ℕ → Memory
+freshMemory n = resting n (freshNodes n) Idle
+
+-- STARTING
+pub format-starts : (c : List ℕ) (n : ℕ) → Sized (length c) n → formatOf c ≡ record { begun = Started; memory = formatMemory n 0 }
+unfolding formatOf
+format-starts c n s = rw (sized-nodes (length c) n s, ne-eqb n 0 (omega (arith, s .least)))
+
+-- "1: length not 8 + 24 × N, N 4 to 600"
+pub format-refused : (c : List ℕ) → nodesOfLength (length c) ≡ 0 → formatOf c ≡ noBeginning 1
+unfolding formatOf
+format-refused c e = rw e
+
+-- ONE STEP: "Formatting steps check only 1."
+step-formats : (card : List ℕ) (n made : ℕ) (free : List Bool) (o : Option Store) → Sized (length card) n → formatStore n (length card) made ≡ o
+    → stepOf card (resting n free (Formatting made)) ≡ stepFormat card (resting n free (Formatting made)) made o
+unfolding stepOf heldBy stepHeld resting
+step-formats card n made free o s e = rw (sized-nodes (length card) n s, ne-eqb n 0 (omega (arith, s .least)), eq-eqb n n refl, e)
+
+format-stores : (card : List ℕ) (n made : ℕ) (free : List Bool) (s : Store)
+    → stepFormat card (resting n free (Formatting made)) made (some s) ≡ record { answer = Stored (s .0); card = set card (s .0) (s .1); memory = resting n free (Formatting (suc made)) }
+unfolding stepFormat formattingFrom resting
+format-stores card n made free s = refl
+
+format-ends : (card : List ℕ) (n made : ℕ) (free : List Bool) → stepFormat card (resting n free (Formatting made)) made none ≡ record { answer = Ready; card = card; memory = resting n free Idle }
+unfolding stepFormat stepFinal idled resting
+format-ends card n made free = refl
+
+module _ (c : List ℕ) (n : ℕ) (sized : Sized (length c) n) where
+  still-sized : (made : ℕ) → Sized (length (formatCard n c made)) n
+  still-sized made = rw (format-length n c made) sized
+
+  same-store : (made : ℕ) → formatStore n (length (formatCard n c made)) made ≡ formatStore n (length c) made
+  same-store made = rw (format-length n c made)
+
+  -- after so many stores, at most as many as the card has words, a step makes the next one
+  pub format-step-stores : (made : ℕ) → made ≤ length c
+      → stepOf (formatCard n c made) (formatMemory n made) ≡ record { answer = Stored (placeOf (formatStore n (length c) made)); card = formatCard n c (suc made); memory = formatMemory n (suc made) }
+  format-step-stores made h =
+      let f = some-store n (length c) made (omega (arith, sized .words)) h in
+      rw (format-next n c made (f .0) (f .1), f .1)
+      (step-formats (formatCard n c made) n made (freshNodes n) (some (f .0)) (still-sized made) (same-store made ∙ f .1)
+      ∙ format-stores (formatCard n c made) n made (freshNodes n) (f .0))
+
+  -- after the last store a step answers "ready" and makes the state idle
+  pub format-step-ready : stepOf (formatCard n c (suc (length c))) (formatMemory n (suc (length c))) ≡ record { answer = Ready; card = formatCard n c (suc (length c)); memory = freshMemory n }
+  format-step-ready =
+      let made : ℕ = suc (length c) in
+      step-formats (formatCard n c made) n made (freshNodes n) none (still-sized made) (same-store made ∙ format-end n (length c) made (omega arith))
+      ∙ format-ends (formatCard n c made) n made (freshNodes n)
+
+-- ALL STEPS
+abbrev pub stepAfter : Step → Step
+stepAfter s = stepOf (s .card) (s .memory)
+
+-- what is left by the step before which so many others were made, each given what the one before it left
+abbrev pub stepAt : List ℕ → Memory → ℕ → Step
+stepAt card m zero = stepOf card m
+stepAt card m (suc k) = stepAfter (stepAt card m k)
+
+module _ (c : List ℕ) (n : ℕ) (sized : Sized (length c) n) where
+  begun-memory : formatOf c .memory ≡ formatMemory n 0
+  begun-memory = ap (λ (b : Handed). b .memory) (format-starts c n sized)
+
+  -- the first 8 + 24 × N + 1 steps make one store each
+  pub format-stored : (k : ℕ) → k ≤ length c → stepAt c (formatOf c .memory) k ≡ record { answer = Stored (placeOf (formatStore n (length c) k)); card = formatCard n c (suc k); memory = formatMemory n (suc k) }
+  format-stored zero h = rw begun-memory (ap (λ (card : List ℕ). stepOf card (formatMemory n 0)) (sym (format-untouched n c)) ∙ format-step-stores c n sized 0 h)
+  format-stored (suc k) h = ap stepAfter (format-stored k (omega arith)) ∙ format-step-stores c n sized (suc k) h
+
+  -- the step after them answers "ready"
+  pub format-ready : stepAt c (formatOf c .memory) (suc (length c)) ≡ record { answer = Ready; card = formatCard n c (suc (length c)); memory = freshMemory n }
+  format-ready = ap stepAfter (format-stored (length c) (omega arith)) ∙ format-step-ready c n sized

@@ -1,0 +1,1 @@
+// Theory only: the text that `list_text` makes is that of the whole listing; see specs/.

@@ -1,0 +1,56 @@
+-- Document 02, W-201, on every card at all: "On a card opening would refuse with 4, it is held only to a pair above the number,
+-- "none" or 9."
+use mathlib.Core.Path.{_≡_, refl}
+use mathlib.Core.List.{List}
+use Prim.Native.Nat.{ℕ, _<_}
+use lib.ListN.{length}
+use lib.Dec.{eqb}
+use Rattle.card.specs.Header.{cardRefusal, nodesOfLength}
+use Rattle.card.specs.Layout.{keyLimit, nodeAt, leafPairs}
+use Rattle.walk.specs.Descent.{way, leafOf}
+use Rattle.walk.specs.declared.Reached.{Reached}
+use Rattle.walk.specs.declared.Reached.the-variants.{Refused as NotReached, Leaf as ReachedLeaf}
+use Rattle.laws.proofs.Cases.{bool-cases}
+use Rattle.walk_next.proofs.SuccessorLaws.{next-taken}
+use Rattle.walk_next.specs.Successor.{leastAbove, endBelowAll, found, nextInLeaf, inNextLeaf, orNextLeaf, nextIn, nextOf}
+use Rattle.walk_next.specs.declared.Successor.{Successor}
+use Rattle.walk_next.specs.declared.Successor.the-variants.{Pair, Nothing, Refused}
+use Rattle.theory_next.proofs.IsNext.{IsNext}
+use Rattle.theory_next.proofs.LeastAbove.{least-next}
+
+-- a pair is above the number, and a refusal is 9
+abbrev pub AboveOrNine : ℕ → Successor → Type 0
+AboveOrNine after (Pair key value) = after < key
+AboveOrNine after Nothing = Unit
+AboveOrNine after (Refused r) = r ≡ 9
+
+next-is-above : (ps : List (ℕ × ℕ)) (after : ℕ) (s : Successor) → IsNext ps after s → AboveOrNine after s
+next-is-above ps after (Pair key value) i = i .0
+next-is-above ps after Nothing i = tt
+next-is-above ps after (Refused r) i = absurd i
+
+module _ (card : List ℕ) (after : ℕ) where
+  in-leaf-above : (w : Reached) → AboveOrNine after (nextInLeaf card after w)
+  unfolding nextInLeaf
+  in-leaf-above NotReached = refl
+  in-leaf-above (ReachedLeaf m depth) =
+      let ps = leafPairs (nodeAt card m) in
+      next-is-above ps after (found (leastAbove after ps)) (least-next after ps)
+
+  in-next-leaf-above : (n end : ℕ) → AboveOrNine after (inNextLeaf card n after end)
+  unfolding inNextLeaf
+  in-next-leaf-above n end = bool-cases (eqb end keyLimit) (λ e. rw e tt) (λ e. rw e (in-leaf-above (leafOf (way card n end))))
+
+  or-next-leaf-above : (n : ℕ) (s : Successor) → AboveOrNine after s → AboveOrNine after (orNextLeaf card n after s)
+  unfolding orNextLeaf
+  or-next-leaf-above n (Pair key value) a = a
+  or-next-leaf-above n Nothing a = in-next-leaf-above n (endBelowAll card after keyLimit (way card n after .inner))
+  or-next-leaf-above n (Refused r) a = a
+
+  -- where 1, 2 and 3 are not due
+  pub next-above : cardRefusal card ≡ 0 → AboveOrNine after (nextOf card after)
+  unfolding nextIn
+  next-above e =
+      let n = nodesOfLength (length card) in
+      let w = leafOf (way card n after) in
+      rw (next-taken card after e) (or-next-leaf-above n (nextInLeaf card after w) (in-leaf-above w))

@@ -1,0 +1,98 @@
+-- Document 02, W-201: "Given any number from 0 up, the call answers the pair with the smallest key greater than it, or "none"
+-- exactly when the table holds no such key."
+use mathlib.Core.List.{List, [], _∷_}
+use mathlib.Core.Option.{Option, none, some}
+use Prim.Native.Nat.{ℕ, zero, suc}
+use lib.ListN.{length, getD}
+use lib.Dec.{eqb, ltb}
+use Rattle.laws.specs.Cases.{pick}
+use Rattle.card.specs.Header.{cardRefusal, nodesOfLength}
+use Rattle.card.specs.Layout.{keyLimit, nodeAt, routingKeys, leafPairs}
+use Rattle.card.specs.Replies.{Reply, refusal, nothing, next}
+use Rattle.walk.specs.Descent.{childIndex, way, leafOf}
+use Rattle.walk.specs.declared.Position.{Position}
+use Rattle.walk.specs.declared.Reached.{Reached}
+use Rattle.walk.specs.declared.Reached.the-variants.{Refused as NotReached, Leaf as ReachedLeaf}
+use Rattle.walk_next.specs.declared.Least.{Least}
+use Rattle.walk_next.specs.declared.Least.the-variants.{Pair as LeastPair, Nothing as NoLeast}
+use Rattle.walk_next.specs.declared.Successor.{Successor}
+use Rattle.walk_next.specs.declared.Successor.the-variants.{Pair, Nothing, Refused}
+
+-- ---- in a leaf
+
+-- of two pairs the one with the smaller key
+unfoldable pub nearer : ℕ × ℕ → Option (ℕ × ℕ) → Option (ℕ × ℕ)
+nearer p none = some p
+nearer p (some q) = pick (ltb (q .0) (p .0)) (some q) (some p)
+
+-- a pair more, where its key is greater than the number
+unfoldable pub nearerAbove : ℕ → ℕ × ℕ → Option (ℕ × ℕ) → Option (ℕ × ℕ)
+nearerAbove after p least = pick (ltb after (p .0)) (nearer p least) least
+
+-- "the pair with the smallest key greater than it", of a list of pairs
+unfoldable pub leastAbove : ℕ → List (ℕ × ℕ) → Option (ℕ × ℕ)
+leastAbove after [] = none
+leastAbove after (p ∷ ps) = nearerAbove after p (leastAbove after ps)
+
+-- the same as the code holds it
+unfoldable pub leastOf : Least → Option (ℕ × ℕ)
+leastOf NoLeast = none
+leastOf (LeastPair key value) = some (key, value)
+
+-- ---- where the leaf's range ends
+
+-- "a child's range runs from the routing key before it, included, to the one after it, excluded": the last child's ends where
+-- its parent's does
+unfoldable pub endBelow : List ℕ → ℕ → ℕ → ℕ
+endBelow node key end = getD (routingKeys node) (childIndex node key) end
+
+-- the end of the range below the internal nodes of a way, where the range of the first of them ends at `end`
+unfoldable pub endBelowAll : List ℕ → ℕ → ℕ → List Position → ℕ
+endBelowAll card key end [] = end
+endBelowAll card key end (p ∷ ps) = endBelowAll card key (endBelow (nodeAt card (p .node)) key end) ps
+
+-- ---- the call
+
+unfoldable pub found : Option (ℕ × ℕ) → Successor
+found none = Nothing
+found (some p) = Pair (p .0) (p .1)
+
+-- in the leaf that was reached
+unfoldable pub nextInLeaf : List ℕ → ℕ → Reached → Successor
+nextInLeaf card after NotReached = Refused 9
+nextInLeaf card after (ReachedLeaf m depth) = found (leastAbove after (leafPairs (nodeAt card m)))
+
+-- in the leaf whose range begins where another's ends; "the root's is all keys", and beyond them there is none
+unfoldable pub inNextLeaf : List ℕ → ℕ → ℕ → ℕ → Successor
+inNextLeaf card n after end = pick (eqb end keyLimit) Nothing (nextInLeaf card after (leafOf (way card n end)))
+
+-- in the leaf that the number leads to, else in the next one
+unfoldable pub orNextLeaf : List ℕ → ℕ → ℕ → Successor → Successor
+orNextLeaf card n after Nothing = inNextLeaf card n after (endBelowAll card after keyLimit (way card n after .inner))
+orNextLeaf card n after (Pair key value) = Pair key value
+orNextLeaf card n after (Refused r) = Refused r
+
+unfoldable pub nextIn : List ℕ → ℕ → ℕ → Successor
+nextIn card n after = orNextLeaf card n after (nextInLeaf card after (leafOf (way card n after)))
+
+-- "It reads the card only, like a find": 1, 2, 3 and 9; "6 is not given"
+unfoldable pub nextOf : List ℕ → ℕ → Successor
+nextOf card after = pick (eqb (cardRefusal card) 0) (nextIn card (nodesOfLength (length card)) after) (Refused (cardRefusal card))
+
+-- ---- "Walking an unchanged card from 0 lists each pair once, rising": at most so many pairs, from those above a number on
+
+unfoldable pub onNext : (ℕ → List (ℕ × ℕ)) → Successor → List (ℕ × ℕ)
+onNext rest (Pair key value) = (key, value) ∷ rest key
+onNext rest Nothing = []
+onNext rest (Refused r) = []
+
+unfoldable pub walkFrom : ℕ → List ℕ → ℕ → List (ℕ × ℕ)
+walkFrom zero card after = []
+walkFrom (suc most) card after = onNext (walkFrom most card) (nextOf card after)
+
+-- ---- its answer as numbers: a key and a value
+
+unfoldable pub nextReply : Successor → Reply
+nextReply (Pair key value) = next key value
+nextReply Nothing = nothing
+nextReply (Refused r) = refusal r
