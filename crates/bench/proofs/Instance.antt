@@ -35,12 +35,12 @@ use Rattle.state.specs.declared.Doing.the-variants.{Idle}
 use Rattle.state.specs.declared.Answer.{Answer}
 use Rattle.state.specs.declared.Answer.the-variants.{Stored, Ready, Absent, Value, Refused}
 use Rattle.card.specs.Replies.{holds, absent, ready}
-use Rattle.theory_book.specs.Book.{book, empty, added, entered, fedStart, fedStep, feed, outcome, told, kept}
-use Rattle.theory_book.proofs.BookLaws.{IsStored}
+use Rattle.demands.specs.Book.{book, empty, added, entered, fedStart, fedStep, feed, outcome, told, kept}
+use Rattle.demands.proofs.BookLaws.{IsStored}
 use Rattle.demands.specs.Demand3.{Survives}
-use Rattle.theory_book.specs.Events.{Event, World, replyTo, happens, run, LeftUncut, Begins, from-format, insert, step, cut}
-use Rattle.theory_book.specs.RationTable.{rationTable}
-use Rattle.theory_book.specs.Way.{among}
+use Rattle.demands.specs.Events.{Event, World, replyTo, happens, run, LeftUncut, Begins, from-format, insert, step, cut}
+use Rattle.demands.specs.RationTable.{rationTable}
+use Rattle.demands.specs.Way.{among}
 use Rattle.demands.specs.Worked.{dictionary}
 use Rattle.demands.proofs.Demands.{demand-3}
 use Rattle.theory_tree.specs.Pairs.{lookup}

@@ -9,10 +9,10 @@ use Prim.Native.Nat.{ℕ, zero, suc, _-_, _≤_, _<_}
 use native.Mathlib.Omega.{arith}
 use lib.ListN.{length, getD, set, drop, length-append}
 use Rattle.card.specs.Stores.{Store}
-use Rattle.theory_book.specs.Events.{Event, World, replyTo, happens, run, LeftUncut, stepsIn, find, insert, delete, step, cut}
+use Rattle.demands.specs.Events.{Event, World, replyTo, happens, run, LeftUncut, stepsIn, find, insert, delete, step, cut}
 use Rattle.demands.specs.Demand2.{StoresNow, Makes, Between, Repairs, Updates, done, mends as mends-by, no-change, changes}
 use Rattle.demands.specs.Rules.{Given, marked}
-use Rattle.theory_book.specs.RationTable.{rationTable}
+use Rattle.demands.specs.RationTable.{rationTable}
 use Rattle.demands.proofs.Making.{Nears, nearer, storeAt, Left, run-left, stores-each}
 use Rattle.change_plan.specs.Planning.{Preparation, lastOf, withAll, refused, balanced, prepared}
 use Rattle.state.specs.Answers.{stepReply}
@@ -36,17 +36,17 @@ use borrow.Author.Tests.{lt-ltb, le-ltb}
 use Rattle.change_layout.specs.Mending.{nextRepair}
 use Rattle.theory_change.proofs.Plays.{Openable, pending-changing}
 use Rattle.theory_change.proofs.Repaired.{Repaired, settled, violated}
-use Rattle.theory_book.proofs.Invariant.{Table, Stage, Job, stage-idle, stage-put, stage-remove, stage-first, stage-between, stage-within, job-repair, job-insert, job-delete}
-use Rattle.theory_book.proofs.BookLaws.{IsFinal}
-use Rattle.theory_book.specs.Book.{Update, Hand}
-use Rattle.theory_book.proofs.Kept.{first-storable}
-use Rattle.theory_book.proofs.Reopen.{table-well-formed}
-use Rattle.theory_book.proofs.Starting.{nodes-same}
+use Rattle.demands.proofs.Invariant.{Table, Stage, Job, stage-idle, stage-put, stage-remove, stage-first, stage-between, stage-within, job-repair, job-insert, job-delete}
+use Rattle.demands.proofs.BookLaws.{IsFinal}
+use Rattle.demands.specs.Book.{Update, Hand}
+use Rattle.demands.proofs.Kept.{first-storable}
+use Rattle.demands.proofs.Reopen.{table-well-formed}
+use Rattle.demands.proofs.Starting.{nodes-same}
 use Rattle.demands.proofs.PowerCuts.{Covered}
-use Rattle.theory_book.proofs.Stepping.{Right, right-final, kept-step, mends, rests}
-use Rattle.theory_book.proofs.PowerLoss.{loosen, loosen-due, find-same, insert-same, delete-same}
-use Rattle.theory_book.proofs.Finished.{work-not-refused}
-use Rattle.theory_book.proofs.Steps.{memory, step-repairs, prepared-ready, prepared-first, step-puts, step-removes}
+use Rattle.demands.proofs.Stepping.{Right, right-final, kept-step, mends, rests}
+use Rattle.demands.proofs.PowerLoss.{loosen, loosen-due, find-same, insert-same, delete-same}
+use Rattle.demands.proofs.Finished.{work-not-refused}
+use Rattle.demands.proofs.Steps.{memory, step-repairs, prepared-ready, prepared-first, step-puts, step-removes}
 use Rattle.theory_tree.proofs.Path.{depthOf}
 use Rattle.theory_tree.specs.FreeNodes.{Exact}
 use Rattle.theory_tree.specs.Tree.{Tree}

@@ -15,11 +15,11 @@ use Rattle.card.specs.Layout.{nodeAt, keyWords, valueWords}
 use Rattle.card.proofs.NodeLaws.{get-valueWord}
 use Rattle.card.specs.Replies.{Reply, refusal, holds, absent}
 use Rattle.demands.specs.Demand1.{besideFirst, ReadsLeaf, HandsNone, StartsFormat, OpensTo}
-use Rattle.theory_book.specs.Way.{nodesOn, leadsTo}
+use Rattle.demands.specs.Way.{nodesOn, leadsTo}
 use Rattle.demands.specs.Refusals.{ByRows, Scarce, findRows, formatRows, openRows, end, row}
-use Rattle.theory_book.specs.RationTable.{workOf, handed, rationTable}
+use Rattle.demands.specs.RationTable.{workOf, handed, rationTable}
 use Rattle.demands.proofs.FirstRows.{NoCard, sized?, no-nodes, by-card, card-one}
-use Rattle.theory_book.proofs.WayDown.{arrived, reachedLeaf, leaf-way}
+use Rattle.demands.proofs.WayDown.{arrived, reachedLeaf, leaf-way}
 use Rattle.walk.specs.Descent.{firstEqual, slotOf, way, leafOf}
 use Rattle.walk.specs.declared.Reached.{Reached}
 use Rattle.walk.specs.declared.Reached.the-variants.{Refused as NotReached, Leaf as ReachedLeaf}
@@ -31,8 +31,8 @@ use Rattle.call_find.specs.Answers.{foundReply}
 use Rattle.call_find.specs.Find.{foundIn, foundAt, findOf}
 use Rattle.call_find.proofs.FindLaws.{find-refused, find-no-key, find-key}
 use Rattle.call_open.specs.Opening.{openSound, openChecked, openOf}
-use Rattle.theory_book.proofs.OpenRefusals.{refuses-unsound, refuses-few}
-use Rattle.theory_book.proofs.Reopen.{length-accepted, card-accepted, open-sound, open-repair, open-idle, facts-exact}
+use Rattle.demands.proofs.OpenRefusals.{refuses-unsound, refuses-few}
+use Rattle.demands.proofs.Reopen.{length-accepted, card-accepted, open-sound, open-repair, open-idle, facts-exact}
 use Rattle.card_check.specs.Check.{Findings, tableCheck}
 use Rattle.theory_check.proofs.Facts.{Facts}
 use Rattle.theory_check.proofs.Soundness.{accepts-sound}

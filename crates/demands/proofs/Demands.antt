@@ -5,7 +5,7 @@ use Rattle.demands.specs.Demand2.{Demand2}
 use Rattle.demands.specs.Demand3.{Demand3}
 use Rattle.demands.specs.Dumps.{Dumps}
 use Rattle.demands.specs.List.{ListProgram}
-use Rattle.theory_book.specs.RationTable.{rationTable}
+use Rattle.demands.specs.RationTable.{rationTable}
 use Rattle.demands.specs.W201.{W201}
 use Rattle.demands.specs.W202.{W202}
 use Rattle.demands.specs.W209.{W209}

@@ -7,17 +7,17 @@ use Prim.Native.Nat.{ℕ, _^_, _<_}
 use native.Mathlib.Omega.{arith}
 use native.Mathlib.Numerals.{add-one}
 use lib.ListN.{length}
-use Rattle.theory_book.specs.Book.{Book}
-use Rattle.theory_book.specs.Events.{World, replyTo, happens, insert, delete}
+use Rattle.demands.specs.Book.{Book}
+use Rattle.demands.specs.Events.{World, replyTo, happens, insert, delete}
 use Rattle.demands.specs.Refusals.{Idle}
 use Rattle.demands.specs.W214.{Levels, Line, storesAt, EndsByDepth, W214}
-use Rattle.theory_book.specs.RationTable.{rationTable}
+use Rattle.demands.specs.RationTable.{rationTable}
 use Rattle.demands.proofs.Dictionary.{finishes-by, is-dictionary}
 use Rattle.demands.proofs.PowerCuts.{Covered, always}
-use Rattle.theory_book.proofs.AnswerNumbers.{start-small}
-use Rattle.theory_book.proofs.ReplyLaws.{begun-started}
+use Rattle.demands.proofs.AnswerNumbers.{start-small}
+use Rattle.demands.proofs.ReplyLaws.{begun-started}
 use Rattle.card.specs.Layout.{keyLimit}
-use Rattle.theory_book.proofs.Dictionary.{insert-stores-by-depth, delete-stores-by-depth}
+use Rattle.demands.proofs.UpdateAnswers.{insert-stores-by-depth, delete-stores-by-depth}
 use Rattle.theory_check.proofs.Level.{same-height}
 use Rattle.theory_check.proofs.Rations.{balanced-pairs, pairs-bound-levels, few-pairs-flat, flat-leaf}
 use Rattle.call_start.specs.Starts.{insertOf, deleteOf}

@@ -9,36 +9,36 @@ use native.Mathlib.Omega.{arith}
 use lib.ListN.{length}
 use Rattle.card.specs.Header.{Sized, Formatted}
 use Rattle.card.proofs.HeaderLaws.{formatted-header}
-use Rattle.theory_book.proofs.Invariant.{Inv}
-use Rattle.theory_book.specs.Events.{World, replyTo, happens, insert, delete, step}
-use Rattle.theory_book.specs.Book.{Book}
-use Rattle.theory_book.specs.RationTable.{rationTable}
+use Rattle.demands.proofs.Invariant.{Inv}
+use Rattle.demands.specs.Events.{World, replyTo, happens, insert, delete, step}
+use Rattle.demands.specs.Book.{Book}
+use Rattle.demands.specs.RationTable.{rationTable}
 use Rattle.demands.proofs.Work.{work-idle, idle-work, busy-work}
 use Rattle.card.specs.Layout.{keyLimit}
 use Rattle.card.specs.Replies.{Reply, refusal}
 use Rattle.demands.specs.Demand1.{HandsBack, Starts}
 use Rattle.demands.specs.Worked.{dictionary}
 use Rattle.demands.specs.Demand2.{Finishes, Updates, Rests, Works, Dictionary, Demand2}
-use Rattle.theory_book.specs.Table.{inserting, deleting}
-use Rattle.theory_book.specs.Way.{leadsTo}
+use Rattle.demands.specs.Table.{inserting, deleting}
+use Rattle.demands.specs.Way.{leadsTo}
 use Rattle.demands.specs.Refusals.{Rows, ByRows, Idle as Resting, NoRoom, cardRows, row, end}
 use Rattle.demands.specs.Rules.{InsertRule, DeleteRule}
 use Rattle.demands.proofs.CardRows.{none-some}
 use Rattle.demands.proofs.PowerCuts.{dictionary-same, Covered, always, restsRight}
 use Rattle.demands.proofs.FirstSteps.{demand-1}
-use Rattle.theory_book.proofs.AnswerNumbers.{start-small}
-use Rattle.theory_book.proofs.ReplyLaws.{begun-started}
+use Rattle.demands.proofs.AnswerNumbers.{start-small}
+use Rattle.demands.proofs.ReplyLaws.{begun-started}
 use Rattle.demands.proofs.StepRows.{step-sized}
 use Rattle.demands.proofs.UpdatesByRules.{insert-by-rules, delete-by-rules, opening-by-rules}
 use Rattle.demands.proofs.Formatting.{formats-right}
-use Rattle.theory_book.proofs.WayDown.{landed, leads-is, sized-on}
+use Rattle.demands.proofs.WayDown.{landed, leads-is, sized-on}
 use Rattle.laws.proofs.Cases.{bool-cases, order}
-use Rattle.theory_book.proofs.Accepting.{find-answers}
-use Rattle.theory_book.proofs.BookLaws.{dictionaryAnswer}
-use Rattle.theory_book.proofs.Dictionary.{Stores, insert-stores, delete-stores}
-use Rattle.theory_book.proofs.Finished.{each-stores, then-answers, work-not-refused, inv-rests}
-use Rattle.theory_book.proofs.Finishing.{Rests as WasRests}
-use Rattle.theory_book.proofs.Starting.{nodes-same, lands, same-lookup}
+use Rattle.demands.proofs.Accepting.{find-answers}
+use Rattle.demands.proofs.BookLaws.{dictionaryAnswer}
+use Rattle.demands.proofs.UpdateAnswers.{Stores, insert-stores, delete-stores}
+use Rattle.demands.proofs.Finished.{each-stores, then-answers, work-not-refused, inv-rests}
+use Rattle.demands.proofs.Finishing.{Rests as WasRests}
+use Rattle.demands.proofs.Starting.{nodes-same, lands, same-lookup}
 use Rattle.call_start.specs.Starts.{insertOf, deleteOf}
 use Rattle.state.specs.Answers.{stepReply, startReply}
 use Rattle.state.specs.Steps.{isIdle, heldBy, Step, stepRefused}
@@ -50,7 +50,7 @@ use Rattle.table.specs.Calls.{stepHeld, stepOf}
 use Rattle.table.proofs.StepLaws.{idle-refused}
 use Rattle.theory_tree.specs.Pairs.{pairs, lookup}
 use Rattle.call_change.specs.Updates.{startRoom}
-use Rattle.theory_repair.proofs.Repair.{is-idle}
+use Rattle.demands.proofs.RepairedCard.{is-idle}
 
 -- so many stores, and then the final answer
 pub finishes-by : (o : Option ℕ) (most : ℕ) (w : World rationTable) → Stores most (stepReply (dictionaryAnswer o)) w → Finishes rationTable most (dictionary o) w

@@ -12,11 +12,11 @@ use Rattle.card.specs.Header.{nodesOfLength, cardRefusal, Sized, Formatted}
 use Rattle.card.specs.Layout.{leastNodes, greatestNodes}
 use Rattle.card.specs.Replies.{Reply, long}
 use Rattle.demands.specs.Dumps.{wordOf, byteOf, PaddedLength, nodesIn, wordsIn, Damaged, empty, no-multiple, too-long, bad-nodes, other-length, not-zero, readRows, writeRows, RefusesDump, Reads, Writes, Dumps}
-use Rattle.theory_book.specs.Way.{nodesOn}
+use Rattle.demands.specs.Way.{nodesOn}
 use Rattle.demands.specs.Refusals.{ByRows, end, row}
-use Rattle.theory_book.proofs.AnswerNumbers.{card-small}
+use Rattle.demands.proofs.AnswerNumbers.{card-small}
 use Rattle.demands.proofs.FirstRows.{by-card, card-one}
-use Rattle.theory_book.proofs.ReplyLaws.{code-of}
+use Rattle.demands.proofs.ReplyLaws.{code-of}
 use Rattle.demands.proofs.Work.{true-false}
 use Rattle.card_dump.proofs.AnswerLaws.{greatest-dump, padded-most, damaged-empty, damaged-odd, damaged-long, damaged-few, damaged-many, damaged-length, damaged-padding, whole-undamaged, room-short, room-long, read-damaged, read-whole, read-words, read-refused, write-refuses, write-good, write-sized, write-bytes, write-refused}
 use Rattle.card_dump.proofs.ByteLaws.{length-dumpWords, get-dumpWords, length-cardBytes}
@@ -27,7 +27,7 @@ use Rattle.card_dump.specs.declared.Answer.the-variants.{Length, Refused}
 use Rattle.laws.proofs.Cases.{bool-cases, order}
 use Rattle.laws.proofs.Lists.{getD-left, getD-right, getD-pad, getD-all-zero}
 use Rattle.laws.specs.Lists.{allZero}
-use Rattle.theory_book.proofs.Reopen.{length-accepted, card-accepted}
+use Rattle.demands.proofs.Reopen.{length-accepted, card-accepted}
 
 -- ---- the padded length
 

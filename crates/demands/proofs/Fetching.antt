@@ -10,10 +10,10 @@ use borrow.Author.Tests.{eq-eqb, ne-eqb}
 use Rattle.demands.specs.Demand1.{ReadsLeaf}
 use Rattle.demands.specs.Refusals.{ByRows, findRows}
 use Rattle.demands.specs.W213.{recordRows, NoRecord, IsRecord, AtOffset, ByFind, W213}
-use Rattle.theory_book.specs.RationTable.{rationTable}
+use Rattle.demands.specs.RationTable.{rationTable}
 use Rattle.demands.proofs.CardRows.{Finds, finds, reads-finds}
-use Rattle.theory_book.proofs.AnswerNumbers.{find-small}
-use Rattle.theory_book.proofs.ReplyLaws.{code-of, found-refused, found-absent, found-value}
+use Rattle.demands.proofs.AnswerNumbers.{find-small}
+use Rattle.demands.proofs.ReplyLaws.{code-of, found-refused, found-absent, found-value}
 use Rattle.demands.proofs.RowLaws.{Numbers, rows-elim, rows-map}
 use Rattle.card.specs.Replies.{Reply, refusal, holds, absent, fetched}
 use Rattle.laws.proofs.Cases.{order}

@@ -9,10 +9,10 @@ use lib.ListN.{length, getD}
 use borrow.Author.Tests.{eq-eqb}
 use Rattle.card.specs.Header.{nodesOfLength, headerRefusal, cardRefusal, Sized, Formatted}
 use Rattle.card.proofs.HeaderLaws.{nodes-sized, sized-nodes, header-formatted, formatted-header, wrong-word0}
-use Rattle.theory_book.proofs.WayDown.{sized-on}
-use Rattle.theory_book.specs.Way.{nodesOn}
+use Rattle.demands.proofs.WayDown.{sized-on}
+use Rattle.demands.specs.Way.{nodesOn}
 use Rattle.demands.specs.Refusals.{Rows, ByRows, cardRows}
-use Rattle.theory_book.proofs.OpenRefusals.{header-three}
+use Rattle.demands.proofs.OpenRefusals.{header-three}
 
 pub sized? : (len n : ℕ) → Dec (Sized len n)
 sized? len n = go (ℕ-discrete (nodesOfLength len) n) (ℕ-discrete n 0)

@@ -19,17 +19,17 @@ use Rattle.change_decide.specs.declared.Decision.{Decision}
 use Rattle.change_decide.specs.declared.Decision.the-variants.{Refused, Balanced, PutPair, ClearKey, SplitLeaf, Absorb, SplitParent, Share, Merge, MergeRoot}
 use Rattle.card.proofs.NodeLaws.{length-node}
 use Rattle.demands.specs.Demand1.{begun, Refuses, Demand1}
-use Rattle.theory_book.specs.Table.{formatting}
-use Rattle.theory_book.specs.Way.{nodesOn, leadsTo, among}
+use Rattle.demands.specs.Table.{formatting}
+use Rattle.demands.specs.Way.{nodesOn, leadsTo, among}
 use Rattle.demands.specs.Refusals.{ByRows, NoneGiven, Unmakeable, NoChange, stepRows, end, row}
 use Rattle.demands.specs.Rules.{Given, FullLeaf}
-use Rattle.theory_book.specs.RationTable.{workOf, asStepped, rationTable}
+use Rattle.demands.specs.RationTable.{workOf, asStepped, rationTable}
 use Rattle.demands.proofs.CardRows.{none-some, finds, formats, opens}
 use Rattle.demands.proofs.PlannedNumbers.{numbers-by-rule, numbers-counted, given-taken}
 use Rattle.demands.proofs.StartRows.{one-leaf, inserts, deletes}
 use Rattle.demands.proofs.StepRows.{Final, Works, refused-same, final-idle, advanced-nodes, advanced-doing, store-inside, store-outside, formatting-rows, idle-rows, task-rows, in-hand-rows, none-refused}
 use Rattle.demands.proofs.Work.{IdleOrTask, idle-or-task}
-use Rattle.theory_book.proofs.WayDown.{landed, slotFound, slot-among, leads-is, sized-on}
+use Rattle.demands.proofs.WayDown.{landed, slotFound, slot-among, leads-is, sized-on}
 use Rattle.walk.specs.Descent.{slotOf}
 use Rattle.walk.specs.declared.Landing.{Landing}
 use Rattle.walk.specs.declared.Landing.the-variants.{Refused as NoLanding, Leaf as LandingAt}
@@ -40,7 +40,7 @@ use Rattle.laws.proofs.Cases.{order, impossible}
 use Rattle.laws.specs.Sorting.{sort}
 use Rattle.change_plan.specs.Change.{Change, changeStores, splitLeaf, absorb, splitParent, halves, share, merge, mergeRoot}
 use Rattle.change_plan.specs.Planning.{refused, balanced, prepared, takeNumbers, overNumbers, giving, first, second, third}
-use Rattle.theory_book.proofs.Begin.{put-held, put-slot, put-full, remove-held, remove-absent}
+use Rattle.demands.proofs.Begin.{put-held, put-slot, put-full, remove-held, remove-absent}
 use Rattle.change_siblings.specs.Siblings.{shareAt, mergeAt, mergeRootAt}
 use Rattle.state.specs.Memory.{Memory, advanced}
 use Rattle.state.specs.Steps.{Step, stepRefused}

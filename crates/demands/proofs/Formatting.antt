@@ -12,10 +12,10 @@ use Rattle.card.specs.Header.{Sized}
 use Rattle.card.specs.Replies.{Reply, refusal, started}
 use Rattle.card.specs.Stores.{Store}
 use Rattle.demands.specs.Demand2.{StoresNow, freshWord, formatStore, Formats}
-use Rattle.theory_book.specs.Events.{Event, World, replyTo, happens, run, LeftUncut, stepsIn, formatBegun, find, insert, delete, step, cut}
-use Rattle.theory_book.specs.Way.{nodesOn}
-use Rattle.theory_book.specs.RationTable.{rationTable}
-use Rattle.theory_book.proofs.PowerLoss.{find-same, insert-same, delete-same}
+use Rattle.demands.specs.Events.{Event, World, replyTo, happens, run, LeftUncut, stepsIn, formatBegun, find, insert, delete, step, cut}
+use Rattle.demands.specs.Way.{nodesOn}
+use Rattle.demands.specs.RationTable.{rationTable}
+use Rattle.demands.proofs.PowerLoss.{find-same, insert-same, delete-same}
 use Rattle.demands.proofs.FirstRows.{sized?, no-nodes}
 use Rattle.theory_format.proofs.FormatSteps.{formatMemory, format-starts, format-refused, format-step-stores, format-step-ready}
 use Rattle.theory_format.proofs.FormatCard.{formatCard, format-next}

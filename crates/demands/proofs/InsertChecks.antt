@@ -11,10 +11,10 @@ use lib.ListN.{length, drop, replicate, length-take}
 use borrow.Author.Tests.{ne-eqb}
 use Rattle.demands.specs.Demand1.{OpensTo}
 use Rattle.demands.specs.Demand3.{mostRepairSteps, Survives}
-use Rattle.theory_book.specs.Events.{World, opened, replyTo, happens, run, Opens, Begins, step, from-open}
-use Rattle.theory_book.specs.Book.{kept}
-use Rattle.theory_book.specs.RationTable.{handed, rationTable}
-use Rattle.theory_book.specs.Way.{nodesOn, leadsTo, among}
+use Rattle.demands.specs.Events.{World, opened, replyTo, happens, run, Opens, Begins, step, from-open}
+use Rattle.demands.specs.Book.{kept}
+use Rattle.demands.specs.RationTable.{handed, rationTable}
+use Rattle.demands.specs.Way.{nodesOn, leadsTo, among}
 use Rattle.demands.specs.Refusals.{ByRows, openRows, end, row}
 use Rattle.demands.specs.List.{repairedWorld}
 use Rattle.demands.proofs.ListRight.{repaired-world}
@@ -22,11 +22,11 @@ use Rattle.demands.specs.W209.{SplitBelow, TellsHeld, LeadsAbsent, Tells
 use Rattle.demands.specs.Worked.{dictionary}
 use Rattle.demands.proofs.CardRows.{opens}
 use Rattle.demands.proofs.PowerCuts.{covered-nodes, always, demand-3}
-use Rattle.theory_book.proofs.ReplyLaws.{begun-refused}
+use Rattle.demands.proofs.ReplyLaws.{begun-refused}
 use Rattle.demands.specs.Dumps.{Damaged}
 use Rattle.demands.proofs.DumpsRight.{damaged-exactly}
 use Rattle.demands.proofs.RowLaws.{rows-map}
-use Rattle.theory_book.proofs.WayDown.{landed, leads-is, slotFound, slot-is}
+use Rattle.demands.proofs.WayDown.{landed, leads-is, slotFound, slot-is}
 use Rattle.demands.proofs.Work.{true-false}
 use Rattle.card.specs.Layout.{nodeAt, keyWords, valueWords, slotPairs, leafPairs, keyLimit}
 use Rattle.card.specs.Replies.{refusal}
@@ -38,17 +38,17 @@ use Rattle.card_dump.specs.declared.Answer.the-variants.{Length}
 use Rattle.card_free.specs.NodeSet.{countTrue}
 use Rattle.reason.specs.declared.Reason.{Reason}
 use Rattle.reason.specs.declared.Reason.the-variants.{Refused, NoKey, Held, Slot as EmptySlot, Split}
-use Rattle.theory_reason.proofs.Printed.{unread-text, unopened-text, no-key-text, text-holds, text-refused}
-use Rattle.theory_reason.proofs.Reasons.{ReasonHolds}
+use Rattle.demands.proofs.ReasonText.{unread-text, unopened-text, no-key-text, text-holds, text-refused}
+use Rattle.demands.proofs.Reasons.{ReasonHolds}
 use Rattle.reason_key.proofs.KeyFileLaws.{key-below}
 use Rattle.reason_key.specs.KeyFile.{keyIn}
 use Rattle.laws.proofs.Cases.{bool-cases}
 use Rattle.call_open.specs.Opening.{openOf}
-use Rattle.theory_book.proofs.PowerLoss.{insert-same}
-use Rattle.theory_book.proofs.Room.{LeadsTo}
+use Rattle.demands.proofs.PowerLoss.{insert-same}
+use Rattle.demands.proofs.Room.{LeadsTo}
 use Rattle.reason_text.specs.ReasonText.{splitLine, reasonText, checkText}
 use Rattle.call_repair.specs.Repairing.{cardRoom, openedCard}
-use Rattle.theory_repair.proofs.Repair.{worldFrom, all-words, steps-uncut}
+use Rattle.demands.proofs.RepairedCard.{worldFrom, all-words, steps-uncut}
 use Rattle.call_start.specs.Starts.{startRefused, insertOf}
 use Rattle.state.specs.Answers.{startReply}
 use Rattle.state.specs.Memory.{Memory}

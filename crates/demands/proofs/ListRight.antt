@@ -6,15 +6,15 @@ use mathlib.Core.Logic.{⊎-map, inl, inr}
 use Prim.Native.Nat.{ℕ, _^_, _<_}
 use native.Mathlib.Omega.{arith}
 use lib.ListN.{length, getD}
-use Rattle.theory_book.proofs.WayDown.{sized-on}
+use Rattle.demands.proofs.WayDown.{sized-on}
 use Rattle.demands.specs.Demand1.{OpensTo}
-use Rattle.theory_book.specs.Events.{World, Opens}
+use Rattle.demands.specs.Events.{World, Opens}
 use Rattle.demands.specs.List.{repairedWorld, ListsRight, ListProgram}
-use Rattle.theory_book.specs.Way.{nodesOn}
+use Rattle.demands.specs.Way.{nodesOn}
 use Rattle.demands.specs.Refusals.{ByRows, openRows, end, row}
-use Rattle.theory_book.specs.RationTable.{handed, rationTable}
+use Rattle.demands.specs.RationTable.{handed, rationTable}
 use Rattle.demands.proofs.CardRows.{opens}
-use Rattle.theory_book.proofs.ReplyLaws.{begun-refused}
+use Rattle.demands.proofs.ReplyLaws.{begun-refused}
 use Rattle.demands.proofs.Work.{true-false}
 use Rattle.demands.specs.Dumps.{Damaged}
 use Rattle.demands.proofs.DumpsRight.{damaged-exactly}
@@ -28,13 +28,13 @@ use Rattle.card_dump.specs.Dump.{dumpOf, dumpWords, wordsFor, dumpNodes, damage
 use Rattle.laws.proofs.Cases.{bool-cases}
 use Rattle.list_pairs.proofs.SummaryLaws.{card-refused, dump-refused, dump-read}
 use Rattle.list_pairs.specs.Listing.{Listing, refused, listed, listCard, listDump}
-use Rattle.theory_list.proofs.Right.{ListedRight, listing-right}
+use Rattle.demands.proofs.ListedMap.{ListedRight, listing-right}
 use Rattle.call_open.specs.Opening.{openOf}
 use Rattle.list_text.specs.Text.{listText, dumpText}
-use Rattle.theory_list_text.proofs.Printed.{text-right}
-use Rattle.theory_book.proofs.Accepting.{accepted-card}
+use Rattle.demands.proofs.ListText.{text-right}
+use Rattle.demands.proofs.Accepting.{accepted-card}
 use Rattle.call_repair.specs.Repairing.{cardRoom, openedCard}
-use Rattle.theory_repair.proofs.Repair.{worldFrom, opened-run}
+use Rattle.demands.proofs.RepairedCard.{worldFrom, opened-run}
 use Rattle.theory_shapes.proofs.Unique.{one-held}
 use Rattle.theory_tree.specs.Tree.{Tree}
 use Rattle.theory_tree.specs.WellFormed.{WellFormed}

@@ -6,18 +6,18 @@ use Prim.Native.Nat.{ℕ, zero, suc, _+_, _≤_, _<_}
 use native.Mathlib.Omega.{arith}
 use lib.ListN.{length, getD, set, drop}
 use Rattle.card.specs.Stores.{Store}
-use Rattle.theory_book.specs.Events.{Event, World, replyTo, happens, run, LeftUncut, stepsIn, find, insert, delete, step, cut}
-use Rattle.theory_book.specs.Book.{Hand, Book, feed, told}
+use Rattle.demands.specs.Events.{Event, World, replyTo, happens, run, LeftUncut, stepsIn, find, insert, delete, step, cut}
+use Rattle.demands.specs.Book.{Hand, Book, feed, told}
 use Rattle.demands.specs.Demand2.{StoresNow}
-use Rattle.theory_book.specs.RationTable.{rationTable}
+use Rattle.demands.specs.RationTable.{rationTable}
 use Rattle.demands.proofs.PowerCuts.{Covered}
 use Rattle.demands.proofs.StepRows.{advanced-rest}
-use Rattle.theory_book.proofs.Invariant.{Stage, Table, stage-idle, stage-put, stage-remove, stage-first, stage-between, stage-within}
-use Rattle.theory_book.proofs.BookLaws.{IsStored}
-use Rattle.theory_book.proofs.Kept.{first-storable}
-use Rattle.theory_book.proofs.PowerLoss.{loosen, loosen-due, at-rest, find-same, insert-same, delete-same}
-use Rattle.theory_book.proofs.Stepping.{kept-step}
-use Rattle.theory_book.proofs.Steps.{job-busy, step-stores, idle-refused}
+use Rattle.demands.proofs.Invariant.{Stage, Table, stage-idle, stage-put, stage-remove, stage-first, stage-between, stage-within}
+use Rattle.demands.proofs.BookLaws.{IsStored}
+use Rattle.demands.proofs.Kept.{first-storable}
+use Rattle.demands.proofs.PowerLoss.{loosen, loosen-due, at-rest, find-same, insert-same, delete-same}
+use Rattle.demands.proofs.Stepping.{kept-step}
+use Rattle.demands.proofs.Steps.{job-busy, step-stores, idle-refused}
 use Rattle.state.specs.Answers.{stepReply}
 use Rattle.state.specs.Memory.{Memory, advanced}
 use Rattle.state.specs.Steps.{stepRefused}

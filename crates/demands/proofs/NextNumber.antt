@@ -5,19 +5,19 @@ use mathlib.Core.Logic.{inl, inr}
 use Prim.Native.Nat.{ℕ, zero, suc, _<_}
 use native.Mathlib.Omega.{arith}
 use lib.ListN.{length}
-use Rattle.theory_book.specs.Book.{Book}
-use Rattle.theory_book.specs.Events.{World}
-use Rattle.theory_book.specs.Way.{nodesOn}
+use Rattle.demands.specs.Book.{Book}
+use Rattle.demands.specs.Events.{World}
+use Rattle.demands.specs.Way.{nodesOn}
 use Rattle.demands.specs.Refusals.{ByRows, cardRows, end}
 use Rattle.demands.specs.W201.{NextCall, AnswersNext, HeldTo, Rises, Walks, Walked, OnAnyCard, W201, ends, goes-on}
-use Rattle.theory_book.specs.RationTable.{rationTable}
+use Rattle.demands.specs.RationTable.{rationTable}
 use Rattle.demands.proofs.PowerCuts.{Covered, always}
 use Rattle.demands.proofs.FirstRows.{by-card, card-one}
 use Rattle.card.specs.Header.{cardRefusal}
 use Rattle.card.specs.Layout.{lowestKey, keyLimit}
 use Rattle.card.specs.Replies.{refusal}
-use Rattle.theory_book.proofs.PowerLoss.{map-is}
-use Rattle.theory_book.proofs.Reopen.{length-accepted, card-accepted, table-well-formed}
+use Rattle.demands.proofs.PowerLoss.{map-is}
+use Rattle.demands.proofs.Reopen.{length-accepted, card-accepted, table-well-formed}
 use Rattle.theory_check.proofs.Ranges.{well-formed-in-range}
 use Rattle.walk_next.proofs.SuccessorLaws.{next-refused}
 use Rattle.walk_next.specs.Successor.{nextOf, onNext, walkFrom, nextReply}

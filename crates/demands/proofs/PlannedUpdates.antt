@@ -24,11 +24,11 @@ use Rattle.change_plan.specs.Planning.{prepared}
 use Rattle.call_change.specs.Updates.{landing, emptyReason, reasonIn, insertReason, insertChange, deleteChange, insertIn, deleteIn, noWay, inLeaf, nextChange}
 use Rattle.state.specs.declared.Doing.{Doing}
 use Rattle.state.specs.declared.Task.the-variants.{PutIn, TakeOut}
-use Rattle.theory_book.specs.Way.{nodesOn, leadsTo, among}
+use Rattle.demands.specs.Way.{nodesOn, leadsTo, among}
 use Rattle.demands.specs.Rules.{leafHolding, kindUnder, InsertRule, in-slot, leaf-split, DeleteRule, key-cleared}
 use Rattle.demands.proofs.PlannedNumbers.{ByRule, not-refused, not-balanced, giving-three, none-taken}
 use Rattle.demands.proofs.Standing.{picked, landing-linked}
-use Rattle.theory_book.proofs.WayDown.{landed, leads-is, slotFound, slot-among}
+use Rattle.demands.proofs.WayDown.{landed, leads-is, slotFound, slot-among}
 use Rattle.laws.proofs.Cases.{impossible}
 use Rattle.laws.specs.Sorting.{keyAt}
 use Rattle.laws.proofs.Sorting.{length-sort}

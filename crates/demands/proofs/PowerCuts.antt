@@ -6,31 +6,31 @@ use mathlib.Core.Logic.{_⊎_, inl, inr, ⊎-map}
 use mathlib.Core.Option.{Option, none, some}
 use Prim.Native.Nat.{ℕ, suc, _≤_, _<_}
 use native.Mathlib.Omega.{arith}
-use Rattle.theory_book.proofs.BookLaws.{dictionaryAnswer}
-use Rattle.theory_book.proofs.Invariant.{Inv}
-use Rattle.theory_book.proofs.WayDown.{sized-on}
-use Rattle.theory_book.specs.Events.{Event, World, opened, replyTo, happens, run, LeftUncut, stepsIn, SaysReady, Opens, find, insert, delete, step, cut}
-use Rattle.theory_book.specs.Book.{Book, book, feed, outcome, told, kept, empty}
-use Rattle.theory_book.specs.RationTable.{rationTable}
+use Rattle.demands.proofs.BookLaws.{dictionaryAnswer}
+use Rattle.demands.proofs.Invariant.{Inv}
+use Rattle.demands.proofs.WayDown.{sized-on}
+use Rattle.demands.specs.Events.{Event, World, opened, replyTo, happens, run, LeftUncut, stepsIn, SaysReady, Opens, find, insert, delete, step, cut}
+use Rattle.demands.specs.Book.{Book, book, feed, outcome, told, kept, empty}
+use Rattle.demands.specs.RationTable.{rationTable}
 use Rattle.card.specs.Replies.{ready, idle}
 use Rattle.demands.specs.Worked.{dictionary, Always, BalancedWith}
 use Rattle.demands.specs.Demand3.{mostRepairSteps, Ended, Survives, Demand3}
-use Rattle.theory_book.specs.Way.{nodesOn}
-use Rattle.theory_book.proofs.Finished.{inv-rests}
-use Rattle.theory_book.proofs.Finishing.{Rests}
-use Rattle.theory_book.proofs.PowerLoss.{loosen, reopened-inv, reopened-due, kept-from, repair-ends, empty-fed, find-same, insert-same, delete-same, idle-not-busy}
-use Rattle.theory_book.proofs.Reopen.{reopened}
-use Rattle.theory_book.proofs.ReplyLaws.{code-of}
-use Rattle.theory_book.proofs.Starting.{nodes-same, same-lookup}
-use Rattle.theory_book.proofs.Accepting.{find-answers}
+use Rattle.demands.specs.Way.{nodesOn}
+use Rattle.demands.proofs.Finished.{inv-rests}
+use Rattle.demands.proofs.Finishing.{Rests}
+use Rattle.demands.proofs.PowerLoss.{loosen, reopened-inv, reopened-due, kept-from, repair-ends, empty-fed, find-same, insert-same, delete-same, idle-not-busy}
+use Rattle.demands.proofs.Reopen.{reopened}
+use Rattle.demands.proofs.ReplyLaws.{code-of}
+use Rattle.demands.proofs.Starting.{nodes-same, same-lookup}
+use Rattle.demands.proofs.Accepting.{find-answers}
 use Rattle.laws.proofs.Cases.{impossible}
 use Rattle.call_find.specs.Answers.{foundReply}
 use Rattle.call_find.specs.Find.{findOf}
 use Rattle.card.specs.Layout.{keyLimit}
 use Rattle.call_open.specs.Opening.{openOf}
 use Rattle.theory_tree.specs.Pairs.{pairs, lookup}
-use Rattle.theory_book.proofs.Steps.{idle-world}
-use Rattle.theory_book.proofs.Stepping.{Moves, kept-step, was-idle, ends-now, goes-further}
+use Rattle.demands.proofs.Steps.{idle-world}
+use Rattle.demands.proofs.Stepping.{Moves, kept-step, was-idle, ends-now, goes-further}
 use Rattle.state.specs.Answers.{stepReply, startReply}
 use Rattle.state.specs.Steps.{isIdle}
 use Rattle.state.specs.declared.Begun.the-variants.{Idle as OpenedIdle, Started}
@@ -42,7 +42,7 @@ unfolding stepReply dictionaryAnswer dictionary
 dictionary-same none = refl
 dictionary-same (some v) = refl
 
--- the invariant of `theory_book`, whatever the number of nodes and of the steps left
+-- the invariant, whatever the number of nodes and of the steps left
 pub record Covered (w : World rationTable) (b : Book) : Type 0 where
   pub size : ℕ
   pub steps : ℕ

@@ -15,14 +15,14 @@ use Rattle.card.proofs.HeaderLaws.{nodes-sized, sized-nodes, formatted-header}
 use Rattle.card.specs.Layout.{nodeAt, keyWords}
 use Rattle.card.specs.Replies.{absent}
 use Rattle.demands.specs.Demand1.{HandsBack, Starts}
-use Rattle.theory_book.specs.Table.{inserting, deleting}
-use Rattle.theory_book.specs.Way.{leadsTo, among}
+use Rattle.demands.specs.Table.{inserting, deleting}
+use Rattle.demands.specs.Way.{leadsTo, among}
 use Rattle.demands.specs.Refusals.{Rows, ByRows, Idle, NoRoom, startRows, end, row}
-use Rattle.theory_book.specs.RationTable.{workOf, handed, rationTable}
+use Rattle.demands.specs.RationTable.{workOf, handed, rationTable}
 use Rattle.demands.proofs.Work.{true-false, idle-work, busy-work}
 use Rattle.demands.proofs.CardRows.{none-some}
 use Rattle.demands.proofs.FirstRows.{NoCard, by-card}
-use Rattle.theory_book.proofs.WayDown.{landed, leads-is, slotFound, sized-on, slot-is}
+use Rattle.demands.proofs.WayDown.{landed, leads-is, slotFound, sized-on, slot-is}
 use Rattle.walk.specs.Descent.{slotOf}
 use Rattle.walk.specs.declared.Landing.{Landing}
 use Rattle.walk.specs.declared.Landing.the-variants.{Refused as NoLanding, Leaf as LandingAt}

@@ -13,9 +13,9 @@ use Rattle.card.proofs.HeaderLaws.{sized-nodes, formatted-header}
 use Rattle.card.specs.Layout.{nodeAt}
 use Rattle.card.specs.Stores.{Store}
 use Rattle.demands.specs.Demand1.{begun, HandsBack, Stores, StoresNext, Answers, Refuses}
-use Rattle.theory_book.specs.Table.{noWork, formatting}
+use Rattle.demands.specs.Table.{noWork, formatting}
 use Rattle.demands.specs.Refusals.{Rows, ByRows, Idle, cardRows, end, row}
-use Rattle.theory_book.specs.RationTable.{workOf, asStepped, rationTable}
+use Rattle.demands.specs.RationTable.{workOf, asStepped, rationTable}
 use Rattle.demands.proofs.Work.{IdleOrTask, idle-or-task, work-formatting}
 use Rattle.demands.proofs.StartRows.{not-sized, start-one, refused-back}
 use Rattle.demands.proofs.FirstRows.{NoCard, sized?, by-card}

@@ -12,18 +12,18 @@ use Rattle.card.specs.Header.{nodesOfLength, cardRefusal}
 use Rattle.card.specs.Layout.{keyLimit, nodeAt}
 use Rattle.card.specs.Replies.{Reply, ready, started}
 use Rattle.card.specs.Stores.{Store}
-use Rattle.theory_book.specs.Book.{Book, book, feed, told, put, remove, empty}
+use Rattle.demands.specs.Book.{Book, book, feed, told, put, remove, empty}
 use Rattle.demands.specs.Demand2.{Repairs, Updates}
-use Rattle.theory_book.specs.Events.{World, opened, happens, insert, delete}
-use Rattle.theory_book.specs.Way.{nodesOn}
+use Rattle.demands.specs.Events.{World, opened, happens, insert, delete}
+use Rattle.demands.specs.Way.{nodesOn}
 use Rattle.demands.specs.Rules.{InsertRule, DeleteRule}
 use Rattle.demands.proofs.ByRules.{Begun, repairs-by-rules, first-by-rules, put-turns, remove-turns}
-use Rattle.theory_book.specs.RationTable.{rationTable}
+use Rattle.demands.specs.RationTable.{rationTable}
 use Rattle.demands.proofs.PowerCuts.{Covered, covered-nodes}
 use Rattle.demands.proofs.StartRows.{started-doing}
 use Rattle.demands.proofs.StepRows.{next-final}
 use Rattle.demands.proofs.Making.{Nears}
-use Rattle.theory_book.proofs.AnswerNumbers.{card-small}
+use Rattle.demands.proofs.AnswerNumbers.{card-small}
 use Rattle.demands.proofs.PlannedUpdates.{insert-by-rule, delete-by-rule, insert-short, delete-short}
 use Rattle.walk.specs.Descent.{slotOf}
 use Rattle.walk.specs.declared.Landing.{Landing}
@@ -35,10 +35,10 @@ use Rattle.laws.proofs.Cases.{bool-cases, impossible}
 use Rattle.call_open.specs.Opening.{openSound, openChecked, openOf}
 use Rattle.change_plan.specs.Change.{Change}
 use Rattle.change_plan.specs.Planning.{takeNumbers, overNumbers, giving, balanced, prepared}
-use Rattle.theory_book.proofs.BookLaws.{dictionaryAnswer}
-use Rattle.theory_book.proofs.Invariant.{job-repair, job-insert, job-delete}
-use Rattle.theory_book.proofs.PowerLoss.{reopened-inv, reopened-due}
-use Rattle.theory_book.proofs.Starting.{nodes-same, kept-insert, kept-delete}
+use Rattle.demands.proofs.BookLaws.{dictionaryAnswer}
+use Rattle.demands.proofs.Invariant.{job-repair, job-insert, job-delete}
+use Rattle.demands.proofs.PowerLoss.{reopened-inv, reopened-due}
+use Rattle.demands.proofs.Starting.{nodes-same, kept-insert, kept-delete}
 use Rattle.card_check.specs.Check.{Findings, tableCheck}
 use Rattle.call_start.specs.Starts.{insertOf, deleteOf}
 use Rattle.state.specs.Answers.{stepReply, startReply}

@@ -3,8 +3,8 @@ use mathlib.Core.Path.{_≡_, refl, sym, _∙_}
 use mathlib.Core.Bool.{Bool, true, false}
 use mathlib.Core.Logic.{_⊎_, inl, inr}
 use Prim.Native.Nat.{ℕ}
-use Rattle.theory_book.specs.RationTable.{workOf}
-use Rattle.theory_book.specs.Table.{noWork, formatting}
+use Rattle.demands.specs.RationTable.{workOf}
+use Rattle.demands.specs.Table.{noWork, formatting}
 use Rattle.state.specs.Steps.{isIdle, heldBy}
 use Rattle.state.specs.declared.Doing.{Doing}
 use Rattle.state.specs.declared.Doing.the-variants.{Idle, Formatting, Inserting, Deleting, Repairing}

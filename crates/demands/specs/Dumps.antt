@@ -7,7 +7,7 @@ use lib.ListN.{length, getD, take}
 use Rattle.card.specs.Layout.{leastNodes, greatestNodes}
 use Rattle.card.specs.Replies.{Reply, refusal, long}
 use Rattle.card_dump.specs.Dump.{wordsFor}
-use Rattle.theory_book.specs.Way.{nodesOn}
+use Rattle.demands.specs.Way.{nodesOn}
 use Rattle.demands.specs.Refusals.{Rows, ByRows, end, row, cardRows}
 
 -- "A dump is the card's words as bytes, low byte first": the word of the four bytes from number 4 × i on, and byte j of a word

@@ -1,5 +1,14 @@
 -- What is promised of a ration table, in the order in which to read it. No proof stands here.
--- (A table as its caller sees it, lists of calls and cuts, and the book stand in theory_book/specs: Table, Events, Way, Book.)
+-- a table as its caller sees it
+pub mod Table
+-- lists of calls and cuts, and where they begin
+pub mod Events
+-- where a key leads
+pub mod Way
+-- the book
+pub mod Book
+-- the table that the demands are proved of
+pub mod RationTable
 -- the table "Refusal by place"
 pub mod Refusals
 -- a table that is worked by these calls alone

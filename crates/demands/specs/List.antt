@@ -16,11 +16,11 @@ use Rattle.theory_tree.specs.Height.{Height}
 use Rattle.theory_tree.specs.Pairs.{pairs, lookup}
 use Rattle.theory_tree.specs.Tree.{Tree}
 use Rattle.theory_tree.specs.WellFormed.{WellFormed, Balanced}
-use Rattle.theory_book.specs.Table.{Table}
+use Rattle.demands.specs.Table.{Table}
 use Rattle.demands.specs.Demand3.{mostRepairSteps}
 use Rattle.demands.specs.Dumps.{Damaged}
-use Rattle.theory_book.specs.Events.{World, opened, run, step}
-use Rattle.theory_book.specs.Way.{nodesOn}
+use Rattle.demands.specs.Events.{World, opened, run, step}
+use Rattle.demands.specs.Way.{nodesOn}
 use Rattle.demands.specs.Refusals.{ByRows, openRows, end, row}
 
 -- "opens and repairs it in memory": so many steps that the repair has ended (demand 3); those after its end store nothing

@@ -14,7 +14,7 @@ use Rattle.walk.specs.Descent.{countOf}
 use Rattle.card.specs.Stores.{Store, NewNode, newNode, nodeStores}
 use Rattle.laws.specs.Cases.{pick}
 use Rattle.laws.specs.Sorting.{sort, pairKeys, pairValues, keyAt}
-use Rattle.theory_book.specs.Way.{leadsTo, among}
+use Rattle.demands.specs.Way.{leadsTo, among}
 
 -- ---- the nodes that a change is given
 

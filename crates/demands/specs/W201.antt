@@ -11,9 +11,9 @@ use Rattle.card.specs.Replies.{Reply, refusal, next, nothing}
 use Rattle.theory_tree.specs.Pairs.{pairs, lookup}
 use Rattle.theory_tree.specs.Tree.{Tree}
 use Rattle.theory_tree.specs.WellFormed.{WellFormed}
-use Rattle.theory_book.specs.Table.{Table}
+use Rattle.demands.specs.Table.{Table}
 use Rattle.demands.specs.Worked.{Always}
-use Rattle.theory_book.specs.Way.{nodesOn}
+use Rattle.demands.specs.Way.{nodesOn}
 use Rattle.demands.specs.Refusals.{ByRows, cardRows, end}
 
 -- The call: of a card and a number the reply, which tells the key and the value of the pair. "It reads the card only": no card comes back.

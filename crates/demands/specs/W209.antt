@@ -16,9 +16,9 @@ use Rattle.text_row.specs.Lines.{lineFeed, numberLine, refusalLine}
 use Rattle.call_change.specs.Updates.{splitNeed}
 use Rattle.demands.specs.Dumps.{Damaged}
 use Rattle.demands.specs.List.{repairedWorld}
-use Rattle.theory_book.specs.Table.{Table}
-use Rattle.theory_book.specs.Events.{World}
-use Rattle.theory_book.specs.Way.{leadsTo, among}
+use Rattle.demands.specs.Table.{Table}
+use Rattle.demands.specs.Events.{World}
+use Rattle.demands.specs.Way.{leadsTo, among}
 use Rattle.demands.specs.Refusals.{ByRows, openRows, end, row}
 
 -- "`split` is printed with F below M"

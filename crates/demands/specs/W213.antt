@@ -5,7 +5,7 @@ use mathlib.Core.Logic.{_⊎_, _↔_}
 use Prim.Native.Nat.{ℕ, _+_, _≤_, _<_}
 use lib.ListN.{length, getD, take, drop}
 use Rattle.card.specs.Replies.{Reply, refusal, holds, absent, fetched}
-use Rattle.theory_book.specs.Table.{Table}
+use Rattle.demands.specs.Table.{Table}
 use Rattle.demands.specs.Refusals.{Rows, ByRows, findRows, end, row}
 
 -- "23: offset at or past the block's end. 24: length 0 or record running past the end."

@@ -9,8 +9,8 @@ use Rattle.theory_tree.specs.Height.{Height}
 use Rattle.theory_tree.specs.Pairs.{pairs, lookup}
 use Rattle.theory_tree.specs.Tree.{Tree, leaf}
 use Rattle.theory_tree.specs.WellFormed.{WellFormed, Balanced}
-use Rattle.theory_book.specs.Table.{Table}
-use Rattle.theory_book.specs.Events.{Event, World, replyTo, happens, insert, delete}
+use Rattle.demands.specs.Table.{Table}
+use Rattle.demands.specs.Events.{Event, World, replyTo, happens, insert, delete}
 use Rattle.demands.specs.Refusals.{Idle}
 use Rattle.demands.specs.Demand2.{Finishes}
 use Rattle.demands.specs.Worked.{dictionary, Always, BalancedWith}

@@ -8,9 +8,9 @@ use Rattle.card.specs.Replies.{Reply, holds, absent}
 use Rattle.theory_tree.specs.Pairs.{pairs, lookup}
 use Rattle.theory_tree.specs.Tree.{Tree}
 use Rattle.theory_tree.specs.WellFormed.{Balanced}
-use Rattle.theory_book.specs.Table.{Table}
-use Rattle.theory_book.specs.Events.{Event, World, run, Words, Begins}
-use Rattle.theory_book.specs.Book.{Book, book, kept, empty}
+use Rattle.demands.specs.Table.{Table}
+use Rattle.demands.specs.Events.{Event, World, run, Words, Begins}
+use Rattle.demands.specs.Book.{Book, book, kept, empty}
 
 -- what the dictionary answers, to a find, an insert and a delete alike: the value held under the key, or "absent"
 unfoldable pub dictionary : Option ℕ → Reply

@@ -1,0 +1,139 @@
+-- What a card that opens shows: its header, its table, that it can be opened again; and what a find answers on a table.
+use mathlib.Core.Path.{_≡_, refl, ap, subst, _∙_}
+use mathlib.Core.Logic.{inl, inr}
+use mathlib.Core.List.{List}
+use mathlib.Core.Bool.{true, false}
+use mathlib.Core.Option.{Option, none, some}
+use Prim.Native.Nat.{ℕ, _+_, _≤_, _<_}
+use native.Mathlib.Omega.{arith}
+use native.Mathlib.Decide.{ℕ-discrete}
+use lib.ListN.{length}
+use borrow.Author.Tests.{ne-eqb, eq-eqb}
+use Rattle.walk.specs.declared.Reached.{Reached}
+use Rattle.demands.proofs.BookLaws.{dictionaryAnswer}
+use Rattle.call_find.specs.Answers.{foundReply}
+use Rattle.state.specs.Answers.{stepReply, startReply}
+use Rattle.call_find.specs.Find.{foundIn, foundAt, findOf}
+use Rattle.call_open.specs.Opening.{openSound, openChecked, openOf}
+use Rattle.call_open.proofs.OpeningLaws.{open-unrefused, open-scarce}
+use Rattle.state.specs.Steps.{noBeginning}
+use Rattle.card.specs.Header.{nodesOfLength, cardRefusal, Sized, Formatted}
+use Rattle.card.proofs.HeaderLaws.{nodes-sized, header-formatted}
+use Rattle.card.specs.Layout.{lowestKey, keyLimit, nodeAt}
+use Rattle.theory_change.proofs.Plays.{Openable}
+use Rattle.theory_change.proofs.Repaired.{settled, violated}
+use Rattle.walk.specs.Descent.{slotOf, way, leafOf}
+use Rattle.theory_walk.proofs.Find.{slotAnswer}
+use Rattle.theory_walk.proofs.Landing.{landing-found}
+use Rattle.card_free.specs.NodeSet.{countTrue}
+use Rattle.laws.proofs.Bits.{bit-true, bit-false}
+use Rattle.laws.proofs.Cases.{bool-cases, order}
+use Rattle.demands.proofs.Invariant.{Table}
+use Rattle.demands.proofs.AnswerNumbers.{SmallBegun, open-small}
+use Rattle.demands.proofs.ReplyLaws.{code-of}
+use Rattle.demands.specs.Events.{Opens}
+use Rattle.demands.specs.RationTable.{rationTable}
+use Rattle.state.specs.declared.Begun.{Begun}
+use Rattle.state.specs.declared.Begun.the-variants.{Idle as OpenedIdle, Started, Refused as BegunRefused}
+use Rattle.demands.proofs.Reopen.{table-depth-limited, card-accepted, facts-exact}
+use Rattle.card_check.specs.Check.{Findings, tableCheck}
+use Rattle.theory_check.proofs.Facts.{Facts}
+use Rattle.theory_check.proofs.Soundness.{accepts-sound, sound-accepted}
+use Rattle.theory_tree.specs.Pairs.{pairs, lookup}
+use Rattle.theory_tree.proofs.Path.{depthOf}
+use Rattle.theory_tree.specs.Tree.{Tree}
+use Rattle.theory_tree.specs.WellFormed.{WellFormed}
+use Rattle.walk.specs.declared.Slot.{Slot}
+use Rattle.walk.specs.declared.Slot.the-variants.{At, Absent as NoSlot}
+
+-- the reply of an opening tells whether it refused
+small-refused : (b : Begun) (r : ℕ) → SmallBegun b → b ≡ BegunRefused r → startReply b .code < 64
+unfolding startReply
+small-refused b r s e = let z : r < 64 = subst (λ x. SmallBegun x) e s in rw e z
+
+pub not-refused : (c : List ℕ) → Opens rationTable c → (r : ℕ) → openOf c .begun ≡ BegunRefused r → ⊥
+unfolding startReply
+not-refused c o r e = at (small-refused (openOf c .begun) r (open-small c) e) o
+  where
+    at : startReply (openOf c .begun) .code < 64 → Opens rationTable c → ⊥
+    at h (inl z) = omega (arith, h, code-of z)
+    at h (inr z) = omega (arith, h, code-of z)
+
+pub opens-unrefused : (c : List ℕ) → ((r : ℕ) → openOf c .begun ≡ BegunRefused r → ⊥) → Opens rationTable c
+unfolding startReply
+opens-unrefused c f = at (openOf c .begun) refl
+  where
+    at : (b : Begun) → openOf c .begun ≡ b → Opens rationTable c
+    at OpenedIdle e = inl (ap startReply e)
+    at Started e = inr (ap startReply e)
+    at (BegunRefused r) e = absurd (f r e)
+
+refuses : (c : List ℕ) (r : ℕ) → openOf c ≡ noBeginning r → Opens rationTable c → ⊥
+unfolding noBeginning
+refuses c r e a = not-refused c a r (rw e)
+
+pub accepted-card : (c : List ℕ) → Opens rationTable c → (cardRefusal c ≡ 0) × Sized (length c) (nodesOfLength (length c)) × Formatted c (nodesOfLength (length c))
+unfolding openOf cardRefusal
+accepted-card c a = go (ℕ-discrete (cardRefusal c) 0) (ℕ-discrete (nodesOfLength (length c)) 0)
+  where
+    go : Dec (cardRefusal c ≡ 0) → Dec (nodesOfLength (length c) ≡ 0) → (cardRefusal c ≡ 0) × Sized (length c) (nodesOfLength (length c)) × Formatted c (nodesOfLength (length c))
+    go (no d) q = absurd (refuses c (cardRefusal c) (rw (ne-eqb (cardRefusal c) 0 d)) a)
+    go (yes e) (yes z) = let k : _≡_ {A = ℕ} 1 0 = rw (eq-eqb (nodesOfLength (length c)) 0 z) at e in absurd (omega arith)
+    go (yes e) (no d) = (e, nodes-sized (length c) d, header-formatted c (nodesOfLength (length c)) (rw (ne-eqb (nodesOfLength (length c)) 0 d) at e))
+
+open-some : (n h : ℕ) (f : Findings) → openChecked n (some (h, f)) ≡ openSound n f
+unfolding openChecked
+open-some n h f = refl
+
+pub accepted-table : (c : List ℕ) → Opens rationTable c → (t : Tree) × WellFormed c t
+unfolding openChecked
+accepted-table c a = go (tableCheck c (nodesOfLength (length c))) refl
+  where
+    k : (cardRefusal c ≡ 0) × Sized (length c) (nodesOfLength (length c)) × Formatted c (nodesOfLength (length c))
+    k = accepted-card c a
+
+    go : (x : Option (ℕ × Findings)) → tableCheck c (nodesOfLength (length c)) ≡ x → (t : Tree) × WellFormed c t
+    go none e = absurd (refuses c 4 (open-unrefused c (k .0) ∙ rw e) a)
+    go (some r) e = let s = accepts-sound c (nodesOfLength (length c)) (k .1 .words) (k .1 .most) (r .0) (r .1) e in (s .0, s .1)
+
+-- the table of a card that opens can be opened again
+pub accepted-openable : (c : List ℕ) (t : Tree) → Opens rationTable c → WellFormed c t → Openable (nodesOfLength (length c)) t
+accepted-openable c t a w = go (sound-accepted c (nodesOfLength (length c)) (k .1 .words) (k .1 .most) t w)
+  where
+    k : (cardRefusal c ≡ 0) × Sized (length c) (nodesOfLength (length c)) × Formatted c (nodesOfLength (length c))
+    k = accepted-card c a
+
+    go : ((h : ℕ) × (f : Findings) × (tableCheck c (nodesOfLength (length c)) ≡ some (h, f)) × Facts c (nodesOfLength (length c)) t h f) → Openable (nodesOfLength (length c)) t
+    go (h, f, e, x) = bool-cases (f .violated) broken whole
+      where
+        room : 3 + f .run ≤ countTrue (f .free)
+        room = order (countTrue (f .free)) (3 + f .run) (λ o. absurd (refuses c 5 (open-unrefused c (k .0) ∙ ap (openChecked (nodesOfLength (length c))) e ∙ open-some (nodesOfLength (length c)) h f ∙ open-scarce (nodesOfLength (length c)) f o) a)) (λ o. o)
+
+        broken : f .violated ≡ true → Openable (nodesOfLength (length c)) t
+        broken q =
+            let v = x .violation q in
+            record { free = f .free; exact = facts-exact x; key = f .key; deep = depthOf (v .0 .context); ready = violated (v .0) (omega (arith, x .violated, bit-true (f .violated) q)) (omega (arith, room, v .1)) }
+
+        whole : f .violated ≡ false → Openable (nodesOfLength (length c)) t
+        whole q = record { free = f .free; exact = facts-exact x; key = f .key; deep = 0; ready = settled (omega (arith, x .violated, bit-false (f .violated) q)) (omega (arith, room)) }
+
+-- ---- finds
+
+find-is : (c : List ℕ) (n key : ℕ) → cardRefusal c ≡ 0 → nodesOfLength (length c) ≡ n → 0 < key → findOf c key ≡ foundAt c key (leafOf (way c n key))
+unfolding findOf
+find-is c n key e en h = rw (e, en, ne-eqb key 0 (omega arith))
+
+found-is : (words : List ℕ) (s : Slot) → foundReply (foundIn words s) ≡ stepReply (dictionaryAnswer (slotAnswer words s))
+unfolding foundIn slotAnswer foundReply stepReply dictionaryAnswer
+found-is words (At i) = refl
+found-is words NoSlot = refl
+
+pub find-answers : (c : List ℕ) (n : ℕ) (t : Tree) (key : ℕ) → Table c n t → 0 < key → key < keyLimit → foundReply (findOf c key) ≡ stepReply (dictionaryAnswer (lookup key (pairs t)))
+unfolding foundAt
+find-answers c n t key b h l =
+    let a = card-accepted (b .sized) (b .header) in
+    let f = landing-found c n key (b .sized .words) lowestKey keyLimit t (b .holds) (b .sound .range) (omega arith) l h (table-depth-limited b) in
+    ap foundReply (find-is c n key (a .0) (a .1) h)
+    ∙ ap (λ (x : Reached). foundReply (foundAt c key x)) (f .reached)
+    ∙ found-is (nodeAt c (f .number)) (slotOf (nodeAt c (f .number)) key)
+    ∙ ap (λ (x : Option ℕ). stepReply (dictionaryAnswer x)) (f .answers)

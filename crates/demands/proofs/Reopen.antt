@@ -1,0 +1,165 @@
+-- Opening a card that holds a sound table with enough free nodes succeeds, and hands back the state that the table asks for.
+use mathlib.Core.Path.{_≡_, refl, ap, sym, _∙_}
+use mathlib.Core.List.{List}
+use mathlib.Core.Bool.{Bool, true, false}
+use mathlib.Core.Option.{some}
+use mathlib.Core.Logic.{_⊎_, inl, inr}
+use Prim.Native.Nat.{ℕ, _+_, _*_, _≤_}
+use native.Mathlib.Omega.{arith}
+use lib.ListN.{length}
+use borrow.Author.Tests.{le-ltb, ne-eqb}
+use Rattle.card.specs.Header.{nodesOfLength, headerRefusal, cardRefusal, Sized, Formatted}
+use Rattle.card.proofs.HeaderLaws.{sized-nodes, formatted-header}
+use Rattle.card.specs.Layout.{lowestKey, keyLimit, depthLimit}
+use Rattle.theory_tree.specs.FreeNodes.{Exact}
+use Rattle.theory_change.proofs.Exact.{exact-same}
+use Rattle.theory_change.proofs.Plays.{Openable}
+use Rattle.theory_change.proofs.Repaired.{Mendable, settled, violated}
+use Rattle.theory_change.proofs.Reserve.{reserve-total}
+use Rattle.theory_walk.proofs.Way.{depth-plug}
+use Rattle.card_free.specs.NodeSet.{countTrue}
+use Rattle.laws.proofs.Bits.{bit-true, bit-false}
+use Rattle.laws.proofs.Cases.{bool-cases}
+use Rattle.demands.proofs.Invariant.{Table, Stage, job-repair, no-update, stage-idle, stage-between}
+use Rattle.demands.specs.Book.{empty}
+use Rattle.card_check.specs.Check.{Findings, tableCheck}
+use Rattle.theory_check.proofs.Depth.{well-formed-depth}
+use Rattle.theory_check.proofs.Facts.{Facts}
+use Rattle.theory_check.proofs.Ranges.{well-formed-in-range, range-sound}
+use Rattle.theory_check.proofs.Soundness.{sound-accepted}
+use Rattle.state.specs.Steps.{Handed, isIdle}
+use Rattle.call_open.specs.Opening.{openSound, openChecked, openOf}
+use Rattle.state.specs.Memory.{resting}
+use Rattle.state.specs.declared.Doing.the-variants.{Idle, Repairing}
+use Rattle.state.specs.declared.Answer.the-variants.{Ready}
+use Rattle.state.specs.declared.Begun.the-variants.{Idle as OpenedIdle, Started}
+use Rattle.theory_tree.proofs.Pairs.{depth}
+use Rattle.theory_tree.proofs.Path.{depthOf, reserve, Violation}
+use Rattle.theory_tree.specs.Tree.{Tree}
+use Rattle.theory_shapes.proofs.Bare.{bare, bare-table-violations}
+use Rattle.theory_shapes.proofs.Whole.{settledBy, heads-done}
+use Rattle.theory_tree.specs.Violations.{tableViolations}
+use Rattle.theory_tree.specs.WellFormed.{WellFormed}
+
+-- a sound tree on the card is a well-formed table, and the other way round
+pub table-well-formed : {c : List ℕ} {n : ℕ} {t : Tree} → Table c n t → WellFormed c t
+table-well-formed {c} {n} {t} b =
+    record {
+      holds = b .holds;
+      once = b .sound .once;
+      sound = range-sound lowestKey keyLimit t (b .sound .range);
+      widths = b .sound .widths;
+      level = b .sound .level;
+      few-violations = b .sound .few-violations;
+    }
+
+pub well-formed-table : {c : List ℕ} {n : ℕ} {t : Tree} → Sized (length c) n → Formatted c n → WellFormed c t → Table c n t
+well-formed-table s f w =
+    record {
+      sized = s;
+      header = f;
+      holds = w .holds;
+      sound = record { once = w .once; range = well-formed-in-range w; widths = w .widths; level = w .level; few-violations = w .few-violations };
+    }
+
+-- the way down is never too deep
+pub table-depth-limited : {c : List ℕ} {n : ℕ} {t : Tree} → Table c n t → depth t ≤ depthLimit
+table-depth-limited {c} {n} {t} b = well-formed-depth c n (b .sized .words) t (b .sized .most) (table-well-formed b)
+
+-- no refusal 1: what is left is the header's
+pub length-accepted : (c : List ℕ) (n : ℕ) → Sized (length c) n → cardRefusal c ≡ headerRefusal c n
+unfolding cardRefusal
+length-accepted c n s = let e = sized-nodes (length c) n s in rw (e, ne-eqb n 0 (omega (arith, s .least)))
+
+-- no refusal 1, 2 or 3
+pub card-accepted : {c : List ℕ} {n : ℕ} → Sized (length c) n → Formatted c n → (cardRefusal c ≡ 0) × (nodesOfLength (length c) ≡ n)
+card-accepted {c} {n} s f = (length-accepted c n s ∙ formatted-header c n f, sized-nodes (length c) n s)
+
+-- opening, by what the check finds
+module _ (c : List ℕ) (n h : ℕ) (f : Findings) (s : Sized (length c) n) (k : Formatted c n) (e : tableCheck c n ≡ some (h, f)) where
+  pub open-sound : openOf c ≡ openSound n f
+  unfolding openOf openChecked
+  open-sound = let a = card-accepted s k in rw (a .0, a .1, e)
+
+module _ (c : List ℕ) (n h : ℕ) (f : Findings) (s : Sized (length c) n) (k : Formatted c n) (e : tableCheck c n ≡ some (h, f)) (room : 3 + f .run ≤ countTrue (f .free)) where
+  pub open-repair : f .violated ≡ true → openOf c ≡ record { begun = Started; memory = resting n (f .free) (Repairing (f .key)) }
+  unfolding openSound
+  open-repair v = open-sound c n h f s k e ∙ rw (le-ltb (countTrue (f .free)) (3 + f .run) room, v)
+
+  pub open-idle : f .violated ≡ false → openOf c ≡ record { begun = OpenedIdle; memory = resting n (f .free) Idle }
+  unfolding openSound
+  open-idle v = open-sound c n h f s k e ∙ rw (le-ltb (countTrue (f .free)) (3 + f .run) room, v)
+
+pub facts-exact : {c : List ℕ} {n h : ℕ} {t : Tree} {f : Findings} → Facts c n t h f → Exact n (f .free) t
+facts-exact x = record { size = x .free-length; within = x .free-in; outside-none = x .free-out }
+
+-- what opening hands back, and that it does not refuse
+pub record Reopened (c : List ℕ) (n : ℕ) (t : Tree) : Type 0 where
+  pub steps : ℕ
+  pub few-steps : steps ≤ 73 * depthLimit + 1
+  pub goal : Tree
+  pub goal-is : goal ≡ settledBy depthLimit (bare t)
+  pub stage : Stage c n t goal steps (openOf c .memory) empty Ready
+  pub hands : ((openOf c .begun ≡ OpenedIdle) × (openOf c .memory .doing ≡ Idle)) ⊎ ((openOf c .begun ≡ Started) × (isIdle (openOf c .memory .doing) ≡ false))
+
+repair-busy : (n : ℕ) (free : List Bool) (key : ℕ) → isIdle (resting n free (Repairing key) .doing) ≡ false
+unfolding resting isIdle
+repair-busy n free key = refl
+
+-- the violation lies above the depth limit
+violation-deep : (t : Tree) (key : ℕ) (v : Violation t key) → depthOf (v .context) ≤ depth t
+violation-deep t key v = rw (v .is-tree) (omega (arith, depth-plug (v .context) (v .part)))
+
+pub reopened : (c : List ℕ) (n : ℕ) (t : Tree) → Table c n t → Openable n t → Reopened c n t
+unfolding resting
+reopened c n t b o = go (sound-accepted c n (b .sized .words) (b .sized .most) t (table-well-formed b))
+  where
+    count-same : (f : Findings) (h : ℕ) → Facts c n t h f → countTrue (f .free) ≡ countTrue (o .free)
+    count-same f h x = ap countTrue (exact-same n (f .free) (o .free) t (facts-exact x) (o .exact))
+
+    -- the nodes kept are enough, for whichever key leads to the violation
+    room-for : (count : ℕ) → countTrue (o .free) ≡ count → (key : ℕ) (v : Violation t key) → tableViolations t ≡ 1 → 3 + reserve (v .context) (v .part) ≤ count
+    room-for count e key v w = at (o .deep) (o .ready)
+      where
+        at : (d : ℕ) → Mendable (o .key) (o .free) t d → 3 + reserve (v .context) (v .part) ≤ count
+        at d (settled z r) = absurd (omega arith)
+        at d (violated v₀ w₀ r) = omega (arith, reserve-total t (o .key) (b .sound .widths) w v₀, reserve-total t key (b .sound .widths) w v)
+
+    room-idle : tableViolations t ≡ 0 → 3 ≤ countTrue (o .free)
+    room-idle z = at (o .deep) (o .ready)
+      where
+        at : (d : ℕ) → Mendable (o .key) (o .free) t d → 3 ≤ countTrue (o .free)
+        at d (settled z r) = r
+        at d (violated v₀ w₀ r) = absurd (omega arith)
+
+    go : ((h : ℕ) × (f : Findings) × (tableCheck c n ≡ some (h, f)) × Facts c n t h f) → Reopened c n t
+    go (h, f, e, x) = bool-cases (f .violated) broken whole
+      where
+        broken : f .violated ≡ true → Reopened c n t
+        broken q =
+            let w : tableViolations t ≡ 1 = omega (arith, x .violated, bit-true (f .violated) q) in
+            let v = x .violation q in
+            let room : 3 + reserve (v .0 .context) (v .0 .part) ≤ countTrue (f .free) = room-for (countTrue (f .free)) (sym (count-same f h x)) (f .key) (v .0) w in
+            let is = open-repair c n h f (b .sized) (b .header) e (omega (arith, v .1)) q in
+            record {
+              steps = 73 * depthOf (v .0 .context) + 1;
+              few-steps = omega (arith, violation-deep t (f .key) (v .0), x .deep);
+              stage = rw is (stage-between job-repair no-update (depthOf (v .0 .context)) (violated (v .0) w room) (facts-exact x) (omega arith) (record { repairs = depthLimit; enough = omega (arith, violation-deep t (f .key) (v .0), x .deep); reaches = refl }));
+              goal = settledBy depthLimit (bare t);
+              goal-is = refl;
+              hands = inr (ap (λ (x : Handed). x .begun) is, ap (λ (x : Handed). isIdle (x .memory .doing)) is ∙ repair-busy n (f .free) (f .key));
+            }
+
+        whole : f .violated ≡ false → Reopened c n t
+        whole q =
+            let z : tableViolations t ≡ 0 = omega (arith, x .violated, bit-false (f .violated) q) in
+            let r : f .run ≡ 0 = x .no-run q in
+            let is = open-idle c n h f (b .sized) (b .header) e (omega (arith, room-idle z, count-same f h x)) q in
+            record {
+              steps = 0;
+              few-steps = omega arith;
+              stage = let enough : 3 ≤ countTrue (f .free) = omega (arith, room-idle z, count-same f h x) in rw is (stage-idle z enough (facts-exact x) refl);
+              goal = bare t;
+              goal-is = heads-done {deep = 0} (record { repairs = depthLimit; enough = omega arith; reaches = refl }) (bare-table-violations t ∙ z);
+              hands = inl (ap (λ (x : Handed). x .begun) is, ap (λ (x : Handed). x .memory .doing) is);
+            }

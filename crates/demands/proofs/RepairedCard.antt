@@ -1,0 +1,102 @@
+-- A repair in one call is a run of steps, and leaves a balanced table with the same map and an idle state.
+use mathlib.Core.Path.{_≡_, refl, ap, sym, _∙_}
+use mathlib.Core.List.{List}
+use mathlib.Core.Bool.{true}
+use Prim.Native.Nat.{ℕ, zero, suc}
+use native.Mathlib.Omega.{arith}
+use lib.ListN.{length, replicate}
+use Rattle.laws.proofs.Cases.{bool-cases, impossible}
+use Rattle.card.specs.Header.{nodesOfLength, Sized}
+use Rattle.call_repair.specs.Repairing.{Repaired, repairedCard, openedCard}
+use Rattle.demands.specs.Book.{book, empty}
+use Rattle.demands.specs.Events.{Event, World, opened, happens, run, Words, LeftUncut, stepsIn, Opens, step}
+use Rattle.demands.specs.RationTable.{rationTable}
+use Rattle.demands.proofs.Finishing.{MapIs}
+use Rattle.demands.proofs.Invariant.{Inv}
+use Rattle.demands.proofs.PowerLoss.{opened-inv, at-rest, repair-ends, map-is}
+use Rattle.demands.proofs.Reopen.{table-well-formed}
+use Rattle.demands.proofs.Steps.{idle-world}
+use Rattle.state.specs.Steps.{isIdle}
+use Rattle.call_open.specs.Opening.{openOf}
+use Rattle.table.specs.Calls.{stepOf, repairSteps}
+use Rattle.state.specs.Memory.{Memory}
+use Rattle.state.specs.declared.Doing.{Doing}
+use Rattle.state.specs.declared.Doing.the-variants.{Idle, Formatting, Inserting, Deleting, Repairing}
+use Rattle.theory_tree.specs.Pairs.{pairs}
+use Rattle.theory_tree.specs.Tree.{Tree}
+use Rattle.theory_tree.specs.WellFormed.{WellFormed, Balanced}
+use mathlib.Core.Option.{none}
+
+-- so many steps
+abbrev pub steps : ℕ → List Event
+steps k = replicate k step
+
+rests : (k : ℕ) (w : World rationTable) → w .state .doing ≡ Idle → run rationTable (steps k) w ≡ w
+unfolding run
+rests zero w e = refl
+rests (suc k) w e = ap (run rationTable (steps k)) (idle-world w e) ∙ rests k w e
+
+pub is-idle : (d : Doing) → isIdle d ≡ true → d ≡ Idle
+unfolding isIdle
+is-idle Idle e = refl
+is-idle (Formatting made) e = impossible (cc)
+is-idle (Inserting key value begun) e = impossible (cc)
+is-idle (Deleting key begun value) e = impossible (cc)
+is-idle (Repairing key) e = impossible (cc)
+
+-- the card and the state that a repair leaves
+abbrev pub worldFrom : Repaired → World rationTable
+worldFrom r = record { card = r .card; state = r .memory }
+
+-- the loop that stops when the state is idle is the run of all the steps
+repair-run : (k : ℕ) (c : List ℕ) (m : Memory) → worldFrom (repairedCard k c m) ≡ run rationTable (steps k) (record { card = c; state = m })
+unfolding repairedCard run happens
+repair-run zero c m = refl
+repair-run (suc k) c m = bool-cases (isIdle (m .doing)) (λ q. rw q (stays q)) (λ q. rw q (repair-run k (stepOf c m .card) (stepOf c m .memory)))
+  where
+    stays : isIdle (m .doing) ≡ true → record { card = c; state = m } ≡ run rationTable (steps (suc k)) (record { card = c; state = m })
+    stays q = sym (rests (suc k) (record { card = c; state = m }) (is-idle (m .doing) q))
+
+-- a card that was opened, once its repair is done
+pub opened-run : (c : List ℕ) → worldFrom (openedCard c) ≡ run rationTable (steps repairSteps) (opened rationTable c)
+unfolding openedCard
+opened-run c = repair-run repairSteps c (openOf c .memory)
+
+pub all-words : (k : ℕ) → Words (steps k)
+all-words zero = tt
+all-words (suc k) = all-words k
+
+pub steps-uncut : (k : ℕ) (w : World rationTable) → LeftUncut rationTable (steps k) w
+unfolding LeftUncut
+steps-uncut zero w = tt
+steps-uncut (suc k) w = (tt, steps-uncut k (happens rationTable step w))
+
+pub count-steps : (k : ℕ) → stepsIn (steps k) ≡ k
+count-steps zero = refl
+count-steps (suc k) = ap suc (count-steps k)
+
+-- after the repair: a balanced table, with the map that the card had when it was opened, and an idle state
+pub record After (c : List ℕ) (t : Tree) : Type 0 where
+  pub table : Tree
+  pub sized : Sized (length (openedCard c .card)) (nodesOfLength (length c))
+  pub balanced : Balanced (openedCard c .card) table
+  pub map : MapIs table (pairs t)
+  pub idle : openedCard c .memory .doing ≡ Idle
+
+module _ (c : List ℕ) (t : Tree) (a : Opens rationTable c) (w : WellFormed c t) where
+  ended : Inv (nodesOfLength (length c)) 0 (run rationTable (steps repairSteps) (opened rationTable c)) (book (pairs t) empty)
+  ended =
+      let i = opened-inv c t a w in
+      repair-ends (nodesOfLength (length c)) (pairs t) (steps repairSteps) repairSteps (opened rationTable c) (steps-uncut repairSteps (opened rationTable c)) (omega (arith, count-steps repairSteps)) (i .0, i .2) .0
+
+  pub repaired : After c t
+  repaired =
+      let r = ap (λ (x : World rationTable). x .card) (opened-run c) in
+      let rest = at-rest (nodesOfLength (length c)) 0 (run rationTable (steps repairSteps) (opened rationTable c)) (book (pairs t) empty) refl ended in
+      record {
+        table = ended .tree;
+        sized = rw r (ended .table .sized);
+        balanced = rw r (record { well-formed = table-well-formed (ended .table); none = rest .1 });
+        map = map-is ended;
+        idle = ap (λ (x : World rationTable). x .state .doing) (opened-run c) ∙ rest .0;
+      }

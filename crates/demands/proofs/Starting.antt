@@ -1,0 +1,206 @@
+-- Starting an update keeps the invariant: refused, nothing changes; not refused, the update is in hand and its answer due.
+use mathlib.Core.Path.{_≡_, refl, ap, sym, subst, _∙_}
+use mathlib.Core.List.{List, []}
+use mathlib.Core.Bool.{Bool, true, false}
+use mathlib.Core.Logic.{_⊎_, inl, inr}
+use Prim.Native.Nat.{ℕ, _+_, _≤_, _<_}
+use native.Mathlib.Omega.{arith}
+use lib.ListN.{length}
+use borrow.Author.Tests.{ne-eqb, eq-eqb, lt-ltb}
+use Rattle.card.specs.Header.{nodesOfLength, Sized, Formatted}
+use Rattle.card.proofs.HeaderLaws.{sized-nodes, formatted-header}
+use Rattle.card.specs.Layout.{lowestKey, keyLimit}
+use Rattle.theory_tree.specs.FreeNodes.{Exact}
+use Rattle.walk.specs.Descent.{way, landingOf}
+use Rattle.theory_walk.proofs.Landing.{landing-found}
+use Rattle.card_free.specs.NodeSet.{countTrue}
+use Rattle.laws.proofs.Cases.{bool-cases, order, impossible}
+use Rattle.laws.specs.Cases.{pick}
+use Rattle.demands.proofs.BookLaws.{dictionaryAnswer}
+use Rattle.state.specs.Answers.{startReply}
+use Rattle.demands.proofs.Finishing.{updateStoresAt}
+use Rattle.demands.proofs.Invariant.{toldOf, UpdateSteps, Stage, Inv, stage-idle, stage-put, stage-remove, stage-first, stage-between, stage-within}
+use Rattle.demands.specs.Book.{Update, Hand, Book, fedStart, feed, outcome, told, put, remove}
+use Rattle.demands.specs.Events.{World, replyTo, happens, insert, delete}
+use Rattle.demands.specs.RationTable.{rationTable}
+use Rattle.demands.proofs.Reopen.{table-well-formed, table-depth-limited}
+use Rattle.demands.proofs.Steps.{memory, job-busy}
+use Rattle.theory_check.proofs.Level.{same-height}
+use Rattle.state.specs.Steps.{Handed, isIdle}
+use Rattle.call_start.specs.Starts.{startRefused, startAccepted, startLanded, startChecked, startOf, insertOf, deleteOf}
+use Rattle.state.specs.Memory.{Memory}
+use Rattle.call_change.specs.Updates.{landing, startRoom}
+use Rattle.state.specs.declared.Doing.{Doing}
+use Rattle.state.specs.declared.Doing.the-variants.{Idle, Inserting, Deleting}
+use Rattle.state.specs.declared.Answer.{Answer}
+use Rattle.state.specs.declared.Begun.{Begun}
+use Rattle.state.specs.declared.Begun.the-variants.{Started, Refused as BegunRefused}
+use Rattle.theory_tree.proofs.Lookup.{key-once, lookup-same}
+use Rattle.theory_tree.specs.Pairs.{pairs, lookup}
+use Rattle.theory_tree.proofs.Path.{fullRun}
+use Rattle.theory_tree.proofs.Represent.{linkPlace}
+use Rattle.theory_tree.specs.Height.{Height}
+use Rattle.theory_tree.specs.Tree.{Tree}
+use Rattle.demands.proofs.Shapes.{keyOf, afterShape}
+use Rattle.theory_shapes.proofs.Bare.{bare}
+use Rattle.theory_tree.specs.Violations.{few, tableViolations}
+use Rattle.theory_tree.specs.WellFormed.{WellFormed}
+use Rattle.walk.specs.declared.Landing.{Landing}
+use Rattle.walk.specs.declared.Landing.the-variants.{Leaf as LandingAt}
+
+-- the checks 1, 2 and 3 are passed
+start-passed : (c : List ℕ) (n : ℕ) → Sized (length c) n → Formatted c n → (m : Memory) (key : ℕ) (doing : Doing) (room : Landing → Bool) → m .nodes ≡ n → startOf c m key doing room ≡ startChecked c m key doing room
+unfolding startOf
+start-passed c n s f m key doing room e =
+    let a : nodesOfLength (length c) ≡ n = sized-nodes (length c) n s in
+    rw (a, e, ne-eqb n 0 (omega (arith, s .least)), eq-eqb n n refl, formatted-header c n f)
+
+start-busy : (c : List ℕ) (m : Memory) (key : ℕ) (doing : Doing) (room : Landing → Bool) → isIdle (m .doing) ≡ false → startChecked c m key doing room ≡ startRefused 7 m
+unfolding startChecked
+start-busy c m key doing room e = rw e
+
+start-zero : (c : List ℕ) (m : Memory) (key : ℕ) (doing : Doing) (room : Landing → Bool) → isIdle (m .doing) ≡ true → key ≡ 0 → startChecked c m key doing room ≡ startRefused 6 m
+unfolding startChecked
+start-zero c m key doing room e z = rw (e, eq-eqb key 0 z)
+
+start-landed : (c : List ℕ) (m : Memory) (key : ℕ) (doing : Doing) (room : Landing → Bool) (number link run : ℕ) → isIdle (m .doing) ≡ true → (key ≡ 0 → ⊥) → landing c (m .nodes) key ≡ LandingAt number link run
+    → startChecked c m key doing room ≡ pick (room (landing c (m .nodes) key)) (startAccepted m doing) (startRefused 8 m)
+unfolding startChecked startLanded
+start-landed c m key doing room number link run e z l = rw (e, ne-eqb key 0 z) (ap (startLanded m doing (room (landing c (m .nodes) key))) l)
+
+is-idle : {doing : Doing} → doing ≡ Idle → isIdle doing ≡ true
+unfolding isIdle
+is-idle e = rw e
+
+landing-is : (c : List ℕ) (n key : ℕ) {x : Landing} → landingOf c (way c n key) ≡ x → landing c n key ≡ x
+unfolding landing
+landing-is c n key e = e
+
+-- a state is idle, or some work is in progress
+pub idle-or-busy : {c : List ℕ} {n : ℕ} {t goal : Tree} {steps : ℕ} {m : Memory} {h : Hand} {due : Answer} → Stage c n t goal steps m h due
+    → (m .nodes ≡ n) × ((isIdle (m .doing) ≡ false) ⊎ ((free : List Bool) × (last : ℕ) × (m ≡ memory n free last Idle [] []) × (tableViolations t ≡ 0) × (3 ≤ countTrue free) × Exact n free t × (bare t ≡ goal)))
+unfolding isIdle
+idle-or-busy (stage-idle {free} {last} z r x g) = (refl, inr (free, last, refl, z, r, x, g))
+idle-or-busy (stage-put z r x low high room few g) = (refl, inl refl)
+idle-or-busy (stage-remove z r x low high few g) = (refl, inl refl)
+idle-or-busy (stage-first j p en count few g) = (refl, inl (job-busy j .not-idle))
+idle-or-busy (stage-between j en deep r x few g) = (refl, inl (job-busy j .not-idle))
+idle-or-busy (stage-within j en p e few g) = (refl, inl (job-busy j .not-idle))
+
+-- a start that was not refused: the state was idle, and work is in hand, with so many steps left as the table's depth asks for, with the
+-- update's goal, and with the dictionary's answer due
+pub record Fresh {n steps k : ℕ} {w v : World rationTable} {b l : Book} (u : Update) (g : Handed) (i : Inv n steps w b) (j : Inv n k v l) : Type 0 where
+  pub idle-before : g .begun ≡ Started → w .state .doing ≡ Idle
+  pub steps-left : g .begun ≡ Started → (t : Tree) → WellFormed (w .card) t → (h : ℕ) → Height h t → k ≤ updateStoresAt h + 1
+  pub busy : g .begun ≡ Started → isIdle (g .memory .doing) ≡ false
+  pub new-goal : g .begun ≡ Started → j .goal ≡ afterShape u (i .goal)
+  pub new-due : g .begun ≡ Started → j .due ≡ dictionaryAnswer (lookup (keyOf u) (b .held))
+
+-- what a start leaves, by the call's beginning
+abbrev Goal : {n steps : ℕ} {w : World rationTable} {b : Book} → Inv n steps w b → Update → Handed → Type 0
+Goal {n} {steps} {w} {b} i u g = (k : ℕ) × (j : Inv n k (record { card = w .card; state = g .memory }) (feed (toldOf u (w .card) (outcome (startReply (g .begun)))) b)) × Fresh u g i j
+
+-- a refused start leaves the book as it is
+refused-told : (u : Update) (c : List ℕ) (r : ℕ) (b : Book) → r < 64 → feed (toldOf u c (outcome (startReply (BegunRefused r)))) b ≡ b
+unfolding startReply outcome feed fedStart
+refused-told (put key value) c r b h = rw (lt-ltb r 64 h)
+refused-told (remove key) c r b h = rw (lt-ltb r 64 h)
+
+refused-goal : {n steps : ℕ} (w : World rationTable) (b : Book) (i : Inv n steps w b) (u : Update) (r : ℕ) → r < 64 → Goal i u (startRefused r (w .state))
+unfolding startRefused
+refused-goal {n} {steps} w b i u r h = at (feed (toldOf u (w .card) (outcome (startReply (BegunRefused r)))) b) (refused-told u (w .card) r b h)
+  where
+    not-started : {P : Type 0} → _≡_ {A = Begun} (BegunRefused r) Started → P
+    not-started e = impossible (cc)
+
+    at : (l : Book) → l ≡ b → (k : ℕ) × (j : Inv n k w l) × Fresh u (startRefused r (w .state)) i j
+    at l e =
+        rw e
+        (steps, i, record { idle-before = λ e. not-started e; steps-left = λ e. not-started e; busy = λ e. not-started e; new-goal = λ e. not-started e; new-due = λ e. not-started e })
+
+-- the answer due by the book's pairs is that by the tree's
+pub same-lookup : {n steps : ℕ} {w : World rationTable} {b : Book} (i : Inv n steps w b) (key : ℕ) → lookup key (pairs (i .tree)) ≡ lookup key (b .held)
+same-lookup {b = b} i key = lookup-same key (pairs (i .tree)) (b .held) (i .same .totals) (key-once lowestKey keyLimit key (i .tree) (i .table .sound .range))
+
+-- how many steps an update of the table may take. "h being the depth when the call began" (document 02, W-214) is that of every
+-- tree that the card's words represent.
+module _ {n steps : ℕ} {w : World rationTable} {b : Book} (i : Inv n steps w b) where
+  abbrev mostSteps : ℕ
+  mostSteps = updateStoresAt (i .table .sound .level .0) + 1
+
+  enough-steps : UpdateSteps (i .tree) mostSteps
+  enough-steps = record { height = i .table .sound .level .0; level = i .table .sound .level .1; enough = omega arith }
+
+  steps-by-depth : (t : Tree) → WellFormed (w .card) t → (h : ℕ) → Height h t → mostSteps ≤ updateStoresAt h + 1
+  steps-by-depth t v h j = omega (arith, same-height (w .card) n (i .table .sized .words) (i .table .sized .most) (i .tree) t (table-well-formed (i .table)) v (i .table .sound .level .0) h (i .table .sound .level .1) j)
+
+-- started: the update is in hand, and its answer by the map is due
+put-started : {n steps : ℕ} (w : World rationTable) (b : Book) (i : Inv n steps w b) (free : List Bool) (last key value : ℕ) → w .state ≡ memory n free last Idle [] [] → tableViolations (i .tree) ≡ 0 → 3 ≤ countTrue free → Exact n free (i .tree) → bare (i .tree) ≡ i .goal → lowestKey ≤ key → key < keyLimit
+    → startRoom (w .card) key (w .state .free) (landing (w .card) (w .state .nodes) key) ≡ true → Goal i (put key value) (startAccepted (w .state) (Inserting key value false))
+unfolding startAccepted startReply outcome feed fedStart isIdle
+put-started {n} w b i free last key value em z r x eg low high q =
+    let q′ : startRoom (w .card) key free (landing (w .card) n key) ≡ true = rw em at q in (
+      mostSteps i,
+      record { tree = i .tree; goal = afterShape (put key value) (i .goal); due = dictionaryAnswer (lookup key (pairs (i .tree))); table = i .table; openable = i .openable; same = i .same; stage = rw em (stage-put {free = free} {last = last} z r x low high q′ (enough-steps i) (ap (afterShape (put key value)) eg)) },
+      record { idle-before = λ e. ap (λ (y : Memory). y .doing) em; steps-left = λ e. steps-by-depth i; busy = λ e. refl; new-goal = λ e. refl; new-due = λ e. ap dictionaryAnswer (same-lookup i key) },
+    )
+
+remove-started : {n steps : ℕ} (w : World rationTable) (b : Book) (i : Inv n steps w b) (free : List Bool) (last key : ℕ) → w .state ≡ memory n free last Idle [] [] → tableViolations (i .tree) ≡ 0 → 3 ≤ countTrue free → Exact n free (i .tree) → bare (i .tree) ≡ i .goal → lowestKey ≤ key → key < keyLimit
+    → Goal i (remove key) (startAccepted (w .state) (Deleting key false 0))
+unfolding startAccepted startReply outcome feed fedStart isIdle
+remove-started w b i free last key em z r x eg low high = (
+  mostSteps i,
+  record { tree = i .tree; goal = afterShape (remove key) (i .goal); due = dictionaryAnswer (lookup key (pairs (i .tree))); table = i .table; openable = i .openable; same = i .same; stage = rw em (stage-remove {free = free} {last = last} z r x low high (enough-steps i) (ap (afterShape (remove key)) eg)) },
+  record { idle-before = λ e. ap (λ (y : Memory). y .doing) em; steps-left = λ e. steps-by-depth i; busy = λ e. refl; new-goal = λ e. refl; new-due = λ e. ap dictionaryAnswer (same-lookup i key) },
+)
+
+module _ (n steps : ℕ) (w : World rationTable) (b : Book) (i : Inv n steps w b) where
+  pub nodes-same : w .state .nodes ≡ n
+  nodes-same = idle-or-busy (i .stage) .0
+
+  -- the leaf that a key leads to
+  pub lands : (key : ℕ) → lowestKey ≤ key → key < keyLimit → (leaf : ℕ) × (link : ℕ) × (above : ℕ) × (landing (w .card) (w .state .nodes) key ≡ LandingAt leaf link above)
+  lands key low high =
+      let g = landing-found (w .card) n key (i .table .sized .words) lowestKey keyLimit (i .tree) (i .table .holds) (i .table .sound .range) low high (omega arith) (table-depth-limited (i .table)) in
+      (g .number, linkPlace (g .context), fullRun (g .context), rw nodes-same (landing-is (w .card) n key (g .landed)))
+
+  -- the checks 1, 2 and 3 are passed
+  passed : (key : ℕ) (doing : Doing) (room : Landing → Bool) → startOf (w .card) (w .state) key doing room ≡ startChecked (w .card) (w .state) key doing room
+  passed key doing room = start-passed (w .card) n (i .table .sized) (i .table .header) (w .state) key doing room nodes-same
+
+  -- on an idle state nothing but the room decides
+  pub room-decides : (key : ℕ) (doing : Doing) (room : Landing → Bool) → w .state .doing ≡ Idle → lowestKey ≤ key → key < keyLimit
+      → startOf (w .card) (w .state) key doing room ≡ pick (room (landing (w .card) (w .state .nodes) key)) (startAccepted (w .state) doing) (startRefused 8 (w .state))
+  room-decides key doing room idle low high = let g = lands key low high in passed key doing room ∙ start-landed (w .card) (w .state) key doing room (g .0) (g .1) (g .2) (is-idle idle) (omega arith) (g .3)
+
+  start-with : (key : ℕ) (doing : Doing) (room : Landing → Bool) (u : Update) → key < keyLimit
+      → ((free : List Bool) (last : ℕ) → w .state ≡ memory n free last Idle [] [] → tableViolations (i .tree) ≡ 0 → 3 ≤ countTrue free → Exact n free (i .tree) → bare (i .tree) ≡ i .goal → lowestKey ≤ key → room (landing (w .card) (w .state .nodes) key) ≡ true → Goal i u (startAccepted (w .state) doing))
+      → Goal i u (startOf (w .card) (w .state) key doing room)
+  start-with key doing room u high begin = go (idle-or-busy (i .stage) .1)
+    where
+      refused-with : (r : ℕ) → r < 64 → startOf (w .card) (w .state) key doing room ≡ startRefused r (w .state) → Goal i u (startOf (w .card) (w .state) key doing room)
+      refused-with r h e = subst (Goal i u) (sym e) (refused-goal w b i u r h)
+
+      go : (isIdle (w .state .doing) ≡ false) ⊎ ((free : List Bool) × (last : ℕ) × (w .state ≡ memory n free last Idle [] []) × (tableViolations (i .tree) ≡ 0) × (3 ≤ countTrue free) × Exact n free (i .tree) × (bare (i .tree) ≡ i .goal))
+          → Goal i u (startOf (w .card) (w .state) key doing room)
+      go (inl q) = refused-with 7 (omega arith) (passed key doing room ∙ start-busy (w .card) (w .state) key doing room q)
+      go (inr (free, last, em, z, r, x, eg)) =
+          order key 1
+          (λ o. refused-with 6 (omega arith) (passed key doing room ∙ start-zero (w .card) (w .state) key doing room (is-idle idle) (omega arith)))
+          (λ o. bool-cases (room (landing (w .card) (w .state .nodes) key))
+          (λ q. subst (Goal i u) (sym (room-decides key doing room idle o high ∙ rw q)) (begin free last em z r x eg o q))
+          (λ q. refused-with 8 (omega arith) (room-decides key doing room idle o high ∙ rw q)))
+        where
+          idle : w .state .doing ≡ Idle
+          idle = ap (λ (y : Memory). y .doing) em
+
+  -- "Starting an update stores nothing."
+  pub kept-insert : (key value : ℕ) → key < keyLimit → (k : ℕ) × (j : Inv n k (happens rationTable (insert key value) w) (feed (told rationTable (insert key value) w) b)) × Fresh (put key value) (insertOf (w .card) (w .state) key value) i j
+  unfolding happens told replyTo insertOf
+  kept-insert key value high =
+      start-with key (Inserting key value false) (startRoom (w .card) key (w .state .free)) (put key value) high
+      (λ free last em z r x eg low q. put-started w b i free last key value em z r x eg low high q)
+
+  pub kept-delete : (key : ℕ) → key < keyLimit → (k : ℕ) × (j : Inv n k (happens rationTable (delete key) w) (feed (told rationTable (delete key) w) b)) × Fresh (remove key) (deleteOf (w .card) (w .state) key) i j
+  unfolding happens told replyTo deleteOf
+  kept-delete key high = start-with key (Deleting key false 0) (λ l. true) (remove key) high (λ free last em z r x eg low q. remove-started w b i free last key em z r x eg low high)

@@ -1,0 +1,44 @@
+-- The ration table as its caller sees it: the definitions that the contracts of the calls say the code meets, and the numbers of
+-- its answers. (What those definitions are need not be read: the demands are proved of them.)
+use Rattle.demands.specs.Table.{Handed, Stepped, Work, Table, noWork, formatting, inserting, deleting, repairing}
+use Rattle.call_find.specs.Answers.{foundReply}
+use Rattle.call_find.specs.Find.{findOf}
+use Rattle.call_open.specs.Opening.{openOf}
+use Rattle.call_start.specs.Starts.{formatOf, insertOf, deleteOf}
+use Rattle.state.specs.Answers.{stepReply, startReply}
+use Rattle.state.specs.Memory.{Memory}
+use Rattle.state.specs.Steps.{Handed as Begun, Step}
+use Rattle.state.specs.declared.Doing.{Doing}
+use Rattle.state.specs.declared.Doing.the-variants.{Idle, Formatting, Inserting, Deleting, Repairing}
+use Rattle.table.specs.Calls.{stepOf}
+
+-- what is being done, as its caller sees it
+unfoldable pub workOf : Doing → Work
+workOf Idle = noWork
+workOf (Formatting made) = formatting
+workOf (Inserting key value begun) = inserting key value begun
+workOf (Deleting key begun value) = deleting key begun
+workOf (Repairing key) = repairing key
+
+abbrev pub handed : Begun → Handed Memory
+handed h = record { reply = startReply (h .begun); state = h .memory }
+
+abbrev pub asStepped : Step → Stepped Memory
+asStepped s = record { reply = stepReply (s .answer); card = s .card; state = s .memory }
+
+abbrev pub rationTable : Table
+rationTable =
+    record {
+      State = Memory;
+      nodes = λ m. m .nodes;
+      free = λ m. m .free;
+      lastGiven = λ m. m .last;
+      work = λ m. workOf (m .doing);
+      toCome = λ m. m .rest;
+      find = λ c key. foundReply (findOf c key);
+      format = λ c. handed (formatOf c);
+      openCard = λ c. handed (openOf c);
+      insert = λ c m key value. handed (insertOf c m key value);
+      delete = λ c m key. handed (deleteOf c m key);
+      step = λ c m. asStepped (stepOf c m);
+    }

@@ -1,1 +1,0 @@
-// Theory only: what `list_pairs` lists is the map of the table; see specs/.

@@ -1,2 +1,0 @@
--- WHAT THE PROGRAM `list` PRINTS: of every dump, the text of its whole listing
-pub mod Printed
