@@ -45,7 +45,7 @@ try_rust() { rustc --edition 2021 -C linker="$probe/linker" "$probe/probe.rs" -o
 look_for_python() {
     TOOLS_HERE=${TOOLS_HERE-}
     find_tool python python3 -c '' ||
-        left_out "tools/believed.py --check, that what is believed stands under specs/" "python3" "package python3"
+        left_out "tools/believed.py --check and tools/layers.py --check: what is believed, and the layers" "python3" "package python3"
 }
 
 look_for_test_tools() {

@@ -26,11 +26,11 @@ STATEMENTS = [
     ("all three demands", ["demands/Demand1/Demand1", "demands/Demand2/Demand2", "demands/Demand3/Demand3"]),
 ]
 # the definitions that the calls are proved to meet: the demands are proved of them, so that their text need not be read
-MET = {("lookup", "Find", "findOf"), ("opening", "Opening", "openOf"), ("starting", "Starts", "formatOf"),
-       ("starting", "Starts", "insertOf"), ("starting", "Starts", "deleteOf"), ("table", "Calls", "stepOf")}
+MET = {("call_find", "Find", "findOf"), ("call_open", "Opening", "openOf"), ("call_start", "Starts", "formatOf"),
+       ("call_start", "Starts", "insertOf"), ("call_start", "Starts", "deleteOf"), ("table", "Calls", "stepOf")}
 # the calls, as the crates offer them, and the table that is made of what they meet
-TABLE = "promises/RationTable/rationTable"
-CALLS = {"lookup": ["find"], "table": ["open", "start_format", "start_insert", "start_delete", "step"]}
+TABLE = "demands/RationTable/rationTable"
+CALLS = {"call_find": ["find"], "call_open": ["open"], "call_start": ["start_format", "start_insert", "start_delete"], "table": ["step"]}
 
 
 def uses_of(line):
