@@ -108,37 +108,37 @@ impl Desk {
     }
 
     pub fn start_format(&mut self) -> Result<(), Refusal> {
-        let result = test_calls::start_format(self.card.lend(), &mut self.state.block);
+        let result = calls::start_format(self.card.lend(), &mut self.state.block);
         self.beginning(result)
     }
 
-    pub fn open(&mut self) -> Result<test_calls::Opening, Refusal> {
-        let result = test_calls::open(self.card.lend(), &mut self.state.block);
+    pub fn open(&mut self) -> Result<calls::Opening, Refusal> {
+        let result = calls::open(self.card.lend(), &mut self.state.block);
         self.beginning(result)
     }
 
     pub fn find(&mut self, key: u32) -> Result<Option<u32>, Refusal> {
         let block = self.state.block.clone();
-        let result = test_calls::find(self.card.lend(), key);
+        let result = calls::find(self.card.lend(), key);
         assert!(block == self.state.block, "the block was changed");
         self.unchanged(&block, result)
     }
 
     pub fn start_insert(&mut self, key: u32, value: u32) -> Result<(), Refusal> {
         let block = self.state.block.clone();
-        let result = test_calls::start_insert(self.card.lend(), &mut self.state.block, key, value);
+        let result = calls::start_insert(self.card.lend(), &mut self.state.block, key, value);
         self.unchanged(&block, result)
     }
 
     pub fn start_delete(&mut self, key: u32) -> Result<(), Refusal> {
         let block = self.state.block.clone();
-        let result = test_calls::start_delete(self.card.lend(), &mut self.state.block, key);
+        let result = calls::start_delete(self.card.lend(), &mut self.state.block, key);
         self.unchanged(&block, result)
     }
 
     pub fn step(&mut self) -> Result<Step, Refusal> {
         let block = self.state.block.clone();
-        let result = test_calls::step(self.card.lend(), &mut self.state.block);
+        let result = calls::step(self.card.lend(), &mut self.state.block);
         if let Ok(Step::Stored { place }) = result {
             take_store_over(self.card.words(), &mut self.copy, place);
         }

@@ -129,14 +129,14 @@ pub fn test(text: &str) -> u64 {
             ["dump", hex] => bytes = dump(hex),
             ["read", lent] => {
                 let mut words = Guarded::new(&vec![7; number(lent) as usize]);
-                let length = test_calls::read_dump(&bytes, words.lend());
+                let length = calls::read_dump(&bytes, words.lend());
                 let crc = crc_of_words(words.lend());
                 answer = Some(refused_or(length.map(|length| format!("words {length} crc {crc:08x}"))));
                 desk.events += 1;
             }
             ["write", lent] => {
                 let mut lent = vec![7; number(lent) as usize];
-                let length = test_calls::write_dump(desk.card(), &mut lent);
+                let length = calls::write_dump(desk.card(), &mut lent);
                 answer = Some(refused_or(length.map(|length| format!("bytes {length} crc {:08x}", crc(&lent)))));
                 desk.events += 1;
             }

@@ -103,7 +103,7 @@ pub mod calls;
 mod refusal;
 mod table;
 
-pub use test_calls::StateBlock;
+pub use calls::StateBlock;
 pub use refusal::Refusal;
 pub use table::{FinalAnswer, Formatting, InProgress, Opened, Progress, Refused, Repair, Table, Unfinished, Update};
 

@@ -150,13 +150,13 @@ mod sealed {
 impl<'a> Table<'a> {
     /// Starts to format a card; what it held is lost with the first step.
     pub fn format(card: &'a mut [u32], state: &'a mut StateBlock) -> Result<Formatting<'a>, Refusal> {
-        test_calls::start_format(card, state)?;
+        calls::start_format(card, state)?;
         Ok(InProgress::on(Table { card, state }))
     }
 
     /// Opens a card, whatever the block holds.
     pub fn open(card: &'a mut [u32], state: &'a mut StateBlock) -> Result<Opened<'a>, Refusal> {
-        match test_calls::open(card, state)? {
+        match calls::open(card, state)? {
             Opening::Idle => Ok(Opened::Idle(Table { card, state })),
             Opening::Repairing => Ok(Opened::Repairing(InProgress::on(Table { card, state }))),
         }
@@ -167,7 +167,7 @@ impl<'a> Table<'a> {
     /// A delete and then an insert change the value, but they are two updates: **where power goes between them the key is
     /// absent**, and nothing on the card tells what its value was or was to be. Keep both elsewhere until the insert is done.
     pub fn insert(self, key: NonZeroU32, value: u32) -> Result<Update<'a>, Refused<Self>> {
-        match test_calls::start_insert(self.card, self.state, key.get(), value) {
+        match calls::start_insert(self.card, self.state, key.get(), value) {
             Ok(()) => Ok(InProgress::on(self)),
             Err(refusal) => Err(Refused { unchanged: self, refusal }),
         }
@@ -175,18 +175,18 @@ impl<'a> Table<'a> {
 
     /// Starts a delete. Before a delete that an insert of the same key is to follow see [`Table::insert`].
     pub fn delete(self, key: NonZeroU32) -> Result<Update<'a>, Refused<Self>> {
-        match test_calls::start_delete(self.card, self.state, key.get()) {
+        match calls::start_delete(self.card, self.state, key.get()) {
             Ok(()) => Ok(InProgress::on(self)),
             Err(refusal) => Err(Refused { unchanged: self, refusal }),
         }
     }
 
     pub fn find(&self, key: NonZeroU32) -> Result<Option<u32>, Refusal> {
-        test_calls::find(self.card, key.get())
+        calls::find(self.card, key.get())
     }
 
     pub fn write_dump(&self, bytes: &mut [u8]) -> Result<usize, Refusal> {
-        test_calls::write_dump(self.card, bytes)
+        calls::write_dump(self.card, bytes)
     }
 
     pub fn card(&self) -> &[u32] {
@@ -213,7 +213,7 @@ impl<'a, A: FinalAnswer> InProgress<'a, A> {
 
     /// Stores one word, or gives the final answer.
     pub fn step(self) -> Result<Progress<'a, A>, Refused<Self>> {
-        match test_calls::step(self.table.card, self.table.state) {
+        match calls::step(self.table.card, self.table.state) {
             Ok(Step::Stored { place }) => Ok(Progress::Stored { place, more: self }),
             Ok(last) => Ok(Progress::Done(self.table, A::of(last))),
             Err(refusal) => Err(Refused { unchanged: self, refusal }),
