@@ -27,10 +27,10 @@ STATEMENTS = [
 ]
 # the definitions that the calls are proved to meet: the demands are proved of them, so that their text need not be read
 MET = {("call_find", "Find", "findOf"), ("call_open", "Opening", "openOf"), ("call_start", "Starts", "formatOf"),
-       ("call_start", "Starts", "insertOf"), ("call_start", "Starts", "deleteOf"), ("table", "Calls", "stepOf")}
+       ("call_start", "Starts", "insertOf"), ("call_start", "Starts", "deleteOf"), ("call_step", "Calls", "stepOf")}
 # the calls, as the crates offer them, and the table that is made of what they meet
 TABLE = "demands/RationTable/rationTable"
-CALLS = {"call_find": ["find"], "call_open": ["open"], "call_start": ["start_format", "start_insert", "start_delete"], "table": ["step"]}
+CALLS = {"call_find": ["find"], "call_open": ["open"], "call_start": ["start_format", "start_insert", "start_delete"], "call_step": ["step"]}
 
 
 def uses_of(line):

@@ -44,13 +44,13 @@ def rewrite(text, fields, needs):
             n = up(fields, place, test)
             if n is None: sys.exit('no %s from %s' % (what, place))
             return 'c' + ' .before' * n
-        part = re.sub(r'let s = c(?: \.before)* in', lambda m: 'let s = ' + chain(lambda p: p == 'Start', 'start') + ' in', part)
+        part = re.sub(r'let s = c(?:\s+\.before)*\s+in', lambda m: 'let s = ' + chain(lambda p: p == 'Start', 'start') + ' in', part)
         for name in helpers:
-            part = re.sub(r'(?<![\w-])' + re.escape(name) + r' \(c(?: \.before)*\)',
+            part = re.sub(r'(?<![\w-])' + re.escape(name) + r'\s+\(c(?:\s+\.before)*\)',
                 lambda m: name + ' (' + chain(lambda p: p == helpers[name], name) + ')', part)
         def field(m):
             return chain(lambda p: m.group(1) in fields[p], m.group(1)) + ' .' + m.group(1)
-        out.append(re.sub(r'(?<![\w.-])c(?: \.before)* \.((?!before)[\w·«»-]+)', field, part))
+        out.append(re.sub(r'(?<![\w.-])c(?:\s+\.before)*\s+\.((?!before)[\w·«»-]+)', field, part))
     return '\n\n'.join(out)
 
 def main():

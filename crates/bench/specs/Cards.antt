@@ -13,7 +13,7 @@ use Rattle.state.specs.Answers.{stepReply, startReply}
 use Rattle.call_find.specs.Find.{findOf}
 use Rattle.call_open.specs.Opening.{openOf}
 use Rattle.call_start.specs.Starts.{formatOf, insertOf, deleteOf}
-use Rattle.table.specs.Calls.{stepOf}
+use Rattle.call_step.specs.Calls.{stepOf}
 use Rattle.state.specs.Steps.{Handed, Step}
 use Rattle.state.specs.Memory.{Memory}
 use Rattle.state.specs.declared.Answer.{Answer}
@@ -192,7 +192,8 @@ rowCutHeld = said (foundReply (findOf (splitI cardS) 12))
 -- the starred cards, as one table: what each row says
 abbrev pub StarredCards : Type 0
 StarredCards =
-    rowA ∷ rowB ∷ rowC ∷ rowD ∷ rowE ∷ rowF ∷ rowG104 ∷ rowG80 ∷ rowG103 ∷ rowG105 ∷ rowG14408 ∷ rowG14432 ∷ rowHinsert ∷ rowHfind ∷ rowHgreatest ∷ rowI ∷ rowJ ∷ rowK ∷ rowKleft ∷ rowKright ∷ rowL2 ∷ rowL2leaf ∷ rowCutOpened ∷ rowCutAbsent ∷ rowCutHeld ∷ []
+    rowA ∷ rowB ∷ rowC ∷ rowD ∷ rowE ∷ rowF ∷ rowG104 ∷ rowG80 ∷ rowG103 ∷ rowG105 ∷ rowG14408 ∷ rowG14432 ∷ rowHinsert ∷ rowHfind
+    ∷ rowHgreatest ∷ rowI ∷ rowJ ∷ rowK ∷ rowKleft ∷ rowKright ∷ rowL2 ∷ rowL2leaf ∷ rowCutOpened ∷ rowCutAbsent ∷ rowCutHeld ∷ []
     ≡ (said absent)
     ∷ (70 ∷ 0 ∷ 70 ∷ 7 ∷ 2 ∷ said absent)
     ∷ (said absent)

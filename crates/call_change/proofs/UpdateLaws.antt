@@ -1,7 +1,7 @@
 -- Laws of the updates: one for each branch of the code.
 use mathlib.Core.Path.{_≡_, refl, ap, sym, subst, _∙_}
 use mathlib.Core.List.{List, [], _∷_}
-use mathlib.Core.Bool.{Bool, true, false}
+use mathlib.Core.Bool.{Bool, false}
 use mathlib.Core.Option.{Option, none, some}
 use Prim.Native.Nat.{ℕ, zero, suc, _^_, _≤_, _<_}
 use native.Mathlib.Omega.{arith}
@@ -24,6 +24,7 @@ use Rattle.walk.specs.declared.Look.the-variants.{Inner as IsInner}
 use Rattle.walk.specs.declared.End.the-variants.{Refused as EndRefused, Leaf as EndLeaf}
 use Rattle.state.specs.declared.Doing.{Doing}
 use Rattle.state.specs.declared.Doing.the-variants.{Inserting, Deleting}
+use Rattle.state.specs.declared.Phase.the-variants.{NotBegun, InHand}
 use Rattle.state.specs.declared.Answer.the-variants.{Refused, Absent}
 use Rattle.change_decide.specs.declared.Decision.the-variants.{Refused as NoStep}
 use Rattle.call_change.specs.Decided.{placed, insertAnswer, insertDecided, decidedIn}
@@ -133,12 +134,12 @@ module _ (card : List ℕ) (n key : ℕ) (a : Arrival) (h : Arrives a (landing c
 
 -- what is decided where the key is not held, by the lowest empty slot
 pub answer-empty : (leaf : List ℕ) (key value m link : ℕ)
-    → record { doing = Inserting key value true; answer = Absent; decision = placed key value m link (emptyReason (slotOf leaf 0)) }
+    → record { doing = Inserting key value InHand; answer = Absent; decision = placed key value m link (emptyReason (slotOf leaf 0)) }
     ≡ insertDecided key value m link (emptyReason (slotOf leaf 0))
 unfolding insertAnswer emptyReason
 answer-empty leaf key value m link = go (slotOf leaf 0)
   where
-    go : (found : Slot) → record { doing = Inserting key value true; answer = Absent; decision = placed key value m link (emptyReason found) }
+    go : (found : Slot) → record { doing = Inserting key value InHand; answer = Absent; decision = placed key value m link (emptyReason found) }
         ≡ insertDecided key value m link (emptyReason found)
     go (At i) = refl
     go NoSlot = refl
@@ -154,12 +155,14 @@ module _ (card : List ℕ) (doing : Doing) (at : ℕ → ℕ → List ℕ → Fi
   in-leaf e = sym (ap (decidedIn card doing at) e)
 
 -- nor is that of any task
-pub next-final : (card : List ℕ) (nodes : ℕ) (free : List Bool) (last : ℕ) {doing : Doing} {task : Task} → TaskOf doing task → (n : ℕ) → nextChange card nodes free last doing task .final ≡ Refused n → ⊥
+pub next-final : (card : List ℕ) (nodes : ℕ) (free : List Bool) (last : ℕ) {doing : Doing} {task : Task} → TaskOf doing task → (n : ℕ)
+    → nextChange card nodes free last doing task .final ≡ Refused n → ⊥
 unfolding nextChange
 next-final card nodes free last (putting {key} {value}) n e =
-    leaf-final card (Inserting key value false) (insertIn key value free last) (λ m link node k. insert-final-in key value free last m link node (insertReason node key) k) (landing card nodes key) n e
+    leaf-final card (Inserting key value NotBegun) (insertIn key value free last)
+    (λ m link node k. insert-final-in key value free last m link node (insertReason node key) k) (landing card nodes key) n e
 next-final card nodes free last (taking {key} {value}) n e =
-    leaf-final card (Deleting key false value) (deleteIn key free last) (λ m link node k. delete-final-in key free last m node (slotOf node key) k) (landing card nodes key) n e
-next-final card nodes free last put n e = impossible (cc)
-next-final card nodes free last taken n e = impossible (cc)
+    leaf-final card (Deleting key NotBegun value) (deleteIn key free last) (λ m link node k. delete-final-in key free last m node (slotOf node key) k) (landing card nodes key) n e
+next-final card nodes free last (put p) n e = impossible (cc)
+next-final card nodes free last (taken p) n e = impossible (cc)
 next-final card nodes free last opened n e = impossible (cc)

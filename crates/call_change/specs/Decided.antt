@@ -1,6 +1,6 @@
 -- Document 01, "The changes", insert and delete: what an update decides in the leaf that its key leads to. `layOut` makes the change of
 -- it, so that what is decided says nothing of free nodes (`next-decided`, proofs/Decided).
-use mathlib.Core.Bool.{Bool, true}
+use mathlib.Core.Bool.{Bool}
 use mathlib.Core.List.{List}
 use Prim.Native.Nat.{ℕ, _+_}
 use lib.ListN.{getD}
@@ -16,6 +16,7 @@ use Rattle.walk.specs.declared.Landing.{Landing}
 use Rattle.walk.specs.declared.Landing.the-variants.{Refused as NoLanding, Leaf as LandingAt}
 use Rattle.state.specs.declared.Doing.{Doing}
 use Rattle.state.specs.declared.Doing.the-variants.{Inserting, Deleting}
+use Rattle.state.specs.declared.Phase.the-variants.{InHand}
 use Rattle.state.specs.declared.Task.{Task}
 use Rattle.state.specs.declared.Task.the-variants.{PutIn, TakeOut, Repair}
 use Rattle.state.specs.declared.Answer.{Answer}
@@ -36,13 +37,13 @@ insertAnswer (slot i) = Absent
 insertAnswer full = Absent
 
 abbrev pub insertDecided : ℕ → ℕ → ℕ → ℕ → Reason → First
-insertDecided key value m link reason = record { doing = Inserting key value true; answer = insertAnswer reason; decision = placed key value m link reason }
+insertDecided key value m link reason = record { doing = Inserting key value InHand; answer = insertAnswer reason; decision = placed key value m link reason }
 
 -- "Delete: key word to 0, answers the value; absent and no store if not held."
 unfoldable pub deleteDecided : ℕ → ℕ → List ℕ → Slot → First
 deleteDecided key m leaf (At i) =
-    record { doing = Deleting key true (getD leaf (12 + i) 0); answer = Value (getD leaf (12 + i) 0); decision = ClearKey m i }
-deleteDecided key m leaf NoSlot = record { doing = Deleting key true 0; answer = Absent; decision = Balanced }
+    record { doing = Deleting key InHand (getD leaf (12 + i) 0); answer = Value (getD leaf (12 + i) 0); decision = ClearKey m i }
+deleteDecided key m leaf NoSlot = record { doing = Deleting key InHand 0; answer = Absent; decision = Balanced }
 
 -- in the leaf that the key leads to; where the way down is refused the step is refused too
 unfoldable pub decidedIn : List ℕ → Doing → (ℕ → ℕ → List ℕ → First) → Landing → First

@@ -17,6 +17,7 @@ use Rattle.change_plan.specs.Planning.{Preparation, refused, balanced, prepared
 use Rattle.change_layout.specs.Mending.{nextRepair}
 use Rattle.state.specs.declared.Doing.{Doing}
 use Rattle.state.specs.declared.Doing.the-variants.{Inserting, Deleting}
+use Rattle.state.specs.declared.Phase.the-variants.{InHand}
 use Rattle.state.specs.declared.Task.{Task}
 use Rattle.state.specs.declared.Task.the-variants.{PutIn, TakeOut, Repair}
 use Rattle.state.specs.declared.Answer.{Answer}
@@ -51,17 +52,17 @@ pub record FirstChange : Type 0 where
 
 -- "Insert, key held: answers the held value, no store." "With an empty slot: value first, then key". "Leaf full: the 12 pairs .."
 unfoldable pub insertChange : ℕ → ℕ → List Bool → ℕ → ℕ → ℕ → List ℕ → Reason → FirstChange
-insertChange key value free last m link node (held v) = record { doing = Inserting key value true; final = Value v; preparation = balanced }
+insertChange key value free last m link node (held v) = record { doing = Inserting key value InHand; final = Value v; preparation = balanced }
 insertChange key value free last m link node (slot i) =
-    record { doing = Inserting key value true; final = Absent; preparation = prepared ((place m (12 + i), value) ∷ (place m (1 + i), key) ∷ []) free last [] }
+    record { doing = Inserting key value InHand; final = Absent; preparation = prepared ((place m (12 + i), value) ∷ (place m (1 + i), key) ∷ []) free last [] }
 insertChange key value free last m link node full =
-    record { doing = Inserting key value true; final = Absent; preparation = giving 3 free last (λ ms. splitLeaf m link (sort ((key, value) ∷ leafPairs node)) (first ms) (second ms) (third ms)) }
+    record { doing = Inserting key value InHand; final = Absent; preparation = giving 3 free last (λ ms. splitLeaf m link (sort ((key, value) ∷ leafPairs node)) (first ms) (second ms) (third ms)) }
 
 -- "Delete: key word to 0, answers the value; absent and no store if not held."
 unfoldable pub deleteChange : ℕ → List Bool → ℕ → ℕ → List ℕ → Slot → FirstChange
 deleteChange key free last m node (At i) =
-    record { doing = Deleting key true (getD node (12 + i) 0); final = Value (getD node (12 + i) 0); preparation = prepared ((place m (1 + i), 0) ∷ []) free last [] }
-deleteChange key free last m node NoSlot = record { doing = Deleting key true 0; final = Absent; preparation = balanced }
+    record { doing = Deleting key InHand (getD node (12 + i) 0); final = Value (getD node (12 + i) 0); preparation = prepared ((place m (1 + i), 0) ∷ []) free last [] }
+deleteChange key free last m node NoSlot = record { doing = Deleting key InHand 0; final = Absent; preparation = balanced }
 
 -- what the two make of the leaf that their key leads to
 abbrev pub insertIn : ℕ → ℕ → List Bool → ℕ → ℕ → ℕ → List ℕ → FirstChange

@@ -4,6 +4,7 @@ use change_decide::Decision;
 use change_decide::next_repair;
 use state::Answer;
 use state::Doing;
+use state::Phase;
 use state::Task;
 use walk::End;
 use walk::Slot;
@@ -56,12 +57,12 @@ fn insert_in(leaf: &[u32], node: usize, link: usize, key: u32, value: u32) -> Fi
     let doing = Doing::Inserting {
         key,
         value,
-        begun: true,
+        phase: Phase::InHand,
     };
     match walk::find_slot(leaf, key) {
         Slot::At(i) => First {
             doing,
-            answer: Answer::Value(leaf[12 + i]),
+            answer: Answer::Value(leaf[card::VALUES + i]),
             decision: Decision::Balanced,
         },
         Slot::Absent => First {
@@ -79,11 +80,11 @@ fn delete_in(leaf: &[u32], node: usize, key: u32) -> First
 {
     match walk::find_slot(leaf, key) {
         Slot::At(slot) => {
-            let value = leaf[12 + slot];
+            let value = leaf[card::VALUES + slot];
             First {
                 doing: Doing::Deleting {
                     key,
-                    begun: true,
+                    phase: Phase::InHand,
                     value,
                 },
                 answer: Answer::Value(value),
@@ -93,7 +94,7 @@ fn delete_in(leaf: &[u32], node: usize, key: u32) -> First
         Slot::Absent => First {
             doing: Doing::Deleting {
                 key,
-                begun: true,
+                phase: Phase::InHand,
                 value: 0,
             },
             answer: Answer::Absent,

@@ -5,20 +5,20 @@ use card_check::RUN;
 use card_check::VIOLATED;
 use state::Begun;
 use state::Doing;
-use state_block::FREE;
-use state_block::NO_STATE;
-use state_block::PLACES;
-use state_block::STATE_WORDS;
-use state_block::refuse_beginning;
-use state_block::store_resting;
+use state::block::FREE;
+use state::block::NO_STATE;
+use state::block::PLACES;
+use state::block::STATE_WORDS;
+use state::block::refuse_beginning;
+use state::block::store_resting;
 ghost use mathlib.Core.Path.{_≡_};
 ghost use Prim.Native.Nat.{_+_, _*_, _≤_};
 ghost use lib.ListN.{length};
 ghost use Rattle.card.specs.Layout.{greatestNodes};
 ghost use Rattle.card_free.specs.NodeSet.{nodesOf};
 ghost use Rattle.card_check.specs.Check.{findingsOf, tableCheck};
-ghost use Rattle.state_block.specs.Block.{stateWords, part};
-ghost use Rattle.state_block.specs.Contracts.{Opened, OpenCall};
+ghost use Rattle.state.specs.Block.{stateWords, part};
+ghost use Rattle.state.specs.Contracts.{Opened, OpenCall};
 ghost use Rattle.call_open.specs.Opening.{openSound, openChecked, openOf};
 
 // A sound table is opened, whose free nodes are in the block. The run may be any number here, so 3 is taken from the free nodes and

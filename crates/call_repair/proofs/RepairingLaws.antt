@@ -16,7 +16,7 @@ use Rattle.state.specs.Memory.{Memory, resting, noMemory}
 use Rattle.state.specs.Steps.{isIdle, noBeginning}
 use Rattle.state.specs.declared.Begun.the-variants.{Refused}
 use Rattle.call_open.specs.Opening.{openSound, openChecked, openOf}
-use Rattle.table.specs.Calls.{stepOf, repairSteps}
+use Rattle.call_step.specs.Calls.{stepOf, repairSteps}
 use Rattle.card_dump.specs.Dump.{dumpWords, readAnswer, readOver}
 use Rattle.card_dump.proofs.AnswerLaws.{read-words}
 use Rattle.card_dump.proofs.ByteLaws.{length-dumpWords}

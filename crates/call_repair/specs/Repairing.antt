@@ -5,9 +5,9 @@ use lib.ListN.{length, drop}
 use Rattle.laws.specs.Cases.{pick}
 use Rattle.state.specs.Memory.{Memory}
 use Rattle.state.specs.Steps.{isIdle}
-use Rattle.state_block.specs.Block.{memoryIn}
+use Rattle.state.specs.Block.{memoryIn}
 use Rattle.call_open.specs.Opening.{openOf}
-use Rattle.table.specs.Calls.{stepOf, repairSteps}
+use Rattle.call_step.specs.Calls.{stepOf, repairSteps}
 use Rattle.card.specs.Layout.{programNodes}
 use Rattle.card_dump.specs.Dump.{wordsFor, dumpWords, readAnswer}
 use Rattle.card_dump.specs.declared.Answer.{Answer}

@@ -5,8 +5,8 @@ use table::step;
 ghost use mathlib.Core.Path.{_≡_};
 ghost use lib.ListN.{length};
 ghost use Rattle.call_open.specs.Opening.{openOf};
-ghost use Rattle.table.specs.Calls.{repairSteps};
-ghost use Rattle.state_block.specs.Block.{stateWords, memoryIn};
+ghost use Rattle.call_step.specs.Calls.{repairSteps};
+ghost use Rattle.state.specs.Block.{stateWords, memoryIn};
 ghost use Rattle.call_repair.specs.Repairing.{repairedCard, openedCard, leftBy};
 
 // Steps until the state is idle. A repair takes at most 73 stores for each level, and one step for its answer.
@@ -14,7 +14,7 @@ fn repair(card: &mut [u32], state: &mut [u32])
     requires { ⌜ length (now state) ≡ stateWords ⌝ }
     ensures { λ _. ⌜ leftBy (now (card .exit)) (now (state .exit)) ≡ repairedCard repairSteps (now (card .entry)) (memoryIn (now (state .entry))) ⌝ }
 {
-    let mut left: usize = 73 * card::DEPTH_LIMIT + 1;
+    let mut left: usize = card::PLAN_SIZE * card::DEPTH_LIMIT + 1;
     while 0 < left {
         if is_idle(state) {
             return;

@@ -24,11 +24,10 @@ use Rattle.walk.specs.declared.Slot.{Slot}
 use Rattle.walk.specs.declared.Slot.the-variants.{At, Absent as NoSlot}
 use Rattle.walk.specs.declared.Landing.{Landing}
 use Rattle.walk.specs.declared.Landing.the-variants.{Refused as NoLanding, Leaf as LandingAt}
-use Rattle.state_block.specs.Block.{stateWords, memoryIn, formatted}
-use Rattle.state_block.specs.Blocks.{begunBlock, startedBlock}
-use Rattle.state_block.specs.InPlace.{withDoing}
-use Rattle.state_block.specs.Contracts.{StartCall}
-use Rattle.state_block.proofs.Blocks.{memory-begun}
+use Rattle.state.specs.Block.{stateWords, memoryIn}
+use Rattle.state.specs.Blocks.{begunBlock, startedBlock}
+use Rattle.state.specs.Contracts.{StartCall}
+use Rattle.state.proofs.Blocks.{withDoing, memory-begun}
 use Rattle.state.specs.declared.Doing.{Doing}
 use Rattle.state.specs.declared.Doing.the-variants.{Formatting}
 use Rattle.state.specs.declared.Begun.{Begun}
@@ -48,21 +47,45 @@ module _ (card : List ℕ) (nodes : ℕ) (idle : Bool) (key n : ℕ) (e : n ≡ 
     pub start-header : (h : ℕ) → h ≡ headerRefusal card n → (h ≡ 0 → ⊥) → startRefusal card nodes idle key ≡ h
     unfolding startRefusal
     start-header h g w =
-        simp (ne-eqb (nodesOfLength (length card)) 0 (λ z. p (e ∙ z)), eq-eqb (nodesOfLength (length card)) nodes (sym e ∙ q), ne-eqb (headerRefusal card nodes) 0 (λ z. w (g ∙ ap (headerRefusal card) q ∙ z)))
+        simp (
+          ne-eqb (nodesOfLength (length card)) 0 (λ z. p (e ∙ z)),
+          eq-eqb (nodesOfLength (length card)) nodes (sym e ∙ q),
+          ne-eqb (headerRefusal card nodes) 0 (λ z. w (g ∙ ap (headerRefusal card) q ∙ z)),
+        )
         (ap (headerRefusal card) (sym q) ∙ sym g)
 
     module _ (w : headerRefusal card n ≡ 0) where
       pub start-busy : idle ≡ false → startRefusal card nodes idle key ≡ 7
       unfolding startRefusal
-      start-busy b = simp (ne-eqb (nodesOfLength (length card)) 0 (λ z. p (e ∙ z)), eq-eqb (nodesOfLength (length card)) nodes (sym e ∙ q), eq-eqb (headerRefusal card nodes) 0 (ap (headerRefusal card) (sym q) ∙ w), b)
+      start-busy b =
+          simp (
+            ne-eqb (nodesOfLength (length card)) 0 (λ z. p (e ∙ z)),
+            eq-eqb (nodesOfLength (length card)) nodes (sym e ∙ q),
+            eq-eqb (headerRefusal card nodes) 0 (ap (headerRefusal card) (sym q) ∙ w),
+            b,
+          )
 
       pub start-no-key : idle ≡ true → key ≡ 0 → startRefusal card nodes idle key ≡ 6
       unfolding startRefusal
-      start-no-key b k = simp (ne-eqb (nodesOfLength (length card)) 0 (λ z. p (e ∙ z)), eq-eqb (nodesOfLength (length card)) nodes (sym e ∙ q), eq-eqb (headerRefusal card nodes) 0 (ap (headerRefusal card) (sym q) ∙ w), b, eq-eqb key 0 k)
+      start-no-key b k =
+          simp (
+            ne-eqb (nodesOfLength (length card)) 0 (λ z. p (e ∙ z)),
+            eq-eqb (nodesOfLength (length card)) nodes (sym e ∙ q),
+            eq-eqb (headerRefusal card nodes) 0 (ap (headerRefusal card) (sym q) ∙ w),
+            b,
+            eq-eqb key 0 k,
+          )
 
       pub start-none : idle ≡ true → (key ≡ 0 → ⊥) → startRefusal card nodes idle key ≡ 0
       unfolding startRefusal
-      start-none b k = simp (ne-eqb (nodesOfLength (length card)) 0 (λ z. p (e ∙ z)), eq-eqb (nodesOfLength (length card)) nodes (sym e ∙ q), eq-eqb (headerRefusal card nodes) 0 (ap (headerRefusal card) (sym q) ∙ w), b, ne-eqb key 0 k)
+      start-none b k =
+          simp (
+            ne-eqb (nodesOfLength (length card)) 0 (λ z. p (e ∙ z)),
+            eq-eqb (nodesOfLength (length card)) nodes (sym e ∙ q),
+            eq-eqb (headerRefusal card nodes) 0 (ap (headerRefusal card) (sym q) ∙ w),
+            b,
+            ne-eqb key 0 k,
+          )
 
 -- the same five tests decide what starting an update hands back
 chain-refused : (a b c d e : Bool) (h : ℕ) (m : Memory) (x : Handed) → (pick a 1 (pick b (pick c (pick d (pick e 6 0) 7) h) 1) ≡ 0 → ⊥)
@@ -101,20 +124,25 @@ module _ (card : List ℕ) (m : Memory) (key : ℕ) (doing : Doing) (room : Land
   start-refused : (startRefusal card (m .nodes) (isIdle (m .doing)) key ≡ 0 → ⊥) → startOf card m key doing room ≡ startRefused (startRefusal card (m .nodes) (isIdle (m .doing)) key) m
   unfolding startRefusal startOf startChecked
   start-refused p =
-      chain-refused (eqb (nodesOfLength (length card)) 0) (eqb (nodesOfLength (length card)) (m .nodes)) (eqb (headerRefusal card (m .nodes)) 0) (isIdle (m .doing)) (eqb key 0) (headerRefusal card (m .nodes)) m _ p
+      chain-refused (eqb (nodesOfLength (length card)) 0) (eqb (nodesOfLength (length card)) (m .nodes))
+      (eqb (headerRefusal card (m .nodes)) 0) (isIdle (m .doing)) (eqb key 0) (headerRefusal card (m .nodes)) m _ p
 
   start-taken : startRefusal card (m .nodes) (isIdle (m .doing)) key ≡ 0 → startOf card m key doing room ≡ startLanded m doing (room (landing card (m .nodes) key)) (landing card (m .nodes) key)
   unfolding startRefusal startOf startChecked
   start-taken q =
-      chain-taken (eqb (nodesOfLength (length card)) 0) (eqb (nodesOfLength (length card)) (m .nodes)) (eqb (headerRefusal card (m .nodes)) 0) (isIdle (m .doing)) (eqb key 0) (headerRefusal card (m .nodes)) m _
+      chain-taken (eqb (nodesOfLength (length card)) 0) (eqb (nodesOfLength (length card)) (m .nodes))
+      (eqb (headerRefusal card (m .nodes)) 0) (isIdle (m .doing)) (eqb key 0) (headerRefusal card (m .nodes)) m _
       (λ c z. eqb-false (headerRefusal card (m .nodes)) 0 c z) q
 
   -- the refusal due decides what is handed back
   pub start-due : startOf card m key doing room ≡ begunBy (dueRefusal card (m .nodes) (isIdle (m .doing)) key room) m doing
   start-due =
       by-cases (ℕ-discrete (startRefusal card (m .nodes) (isIdle (m .doing)) key) 0)
-      (λ z. start-taken z ∙ landed-due m doing (room (landing card (m .nodes) key)) (landing card (m .nodes) key) ∙ sym (ap (λ (r : ℕ). begunBy r m doing) (due-landing card (m .nodes) (isIdle (m .doing)) key room z)))
-      (λ p. start-refused p ∙ sym (ap (λ (r : ℕ). begunBy r m doing) (due-early card (m .nodes) (isIdle (m .doing)) key room p) ∙ ap (λ (b : Bool). pick b (startAccepted m doing) (startRefused (startRefusal card (m .nodes) (isIdle (m .doing)) key) m)) (ne-eqb (startRefusal card (m .nodes) (isIdle (m .doing)) key) 0 p)))
+      (λ z. start-taken z ∙ landed-due m doing (room (landing card (m .nodes) key)) (landing card (m .nodes) key)
+      ∙ sym (ap (λ (r : ℕ). begunBy r m doing) (due-landing card (m .nodes) (isIdle (m .doing)) key room z)))
+      (λ p. start-refused p ∙ sym (ap (λ (r : ℕ). begunBy r m doing) (due-early card (m .nodes) (isIdle (m .doing)) key room p)
+      ∙ ap (λ (b : Bool). pick b (startAccepted m doing) (startRefused (startRefusal card (m .nodes) (isIdle (m .doing)) key) m))
+      (ne-eqb (startRefusal card (m .nodes) (isIdle (m .doing)) key) 0 p)))
 
 pub start-sized : (card : List ℕ) (nodes : ℕ) (idle : Bool) (key : ℕ) → startRefusal card nodes idle key ≡ 0 → Sized (length card) nodes
 start-sized card nodes idle key r =
@@ -177,10 +205,10 @@ module _ (block : List ℕ) (l : length block ≡ stateWords) (doing : Doing) (r
   start-refused-in p =
       rw (ne-eqb refusal 0 p) (record { answered = λ k. refl; handed = λ k. refl; words = λ k. refl; no-state = λ n. absurd (n l) })
 
-  pub started-in : (after : List ℕ) → formatted doing ≡ 0 → refusal ≡ 0 → after ≡ begunBlock block doing → StartCall block after Started doing (begunBy refusal (memoryIn block) doing)
+  pub started-in : (after : List ℕ) → refusal ≡ 0 → after ≡ begunBlock block doing → StartCall block after Started doing (begunBy refusal (memoryIn block) doing)
   unfolding startAccepted startedBlock withDoing
-  started-in after f z e =
-      rw (eq-eqb refusal 0 z) (record { answered = λ k. refl; handed = λ k. ap memoryIn e ∙ memory-begun block doing (omega arith) (omega arith); words = λ k. e; no-state = λ n. absurd (n l) })
+  started-in after z e =
+      rw (eq-eqb refusal 0 z) (record { answered = λ k. refl; handed = λ k. ap memoryIn e ∙ memory-begun block doing (omega arith); words = λ k. e; no-state = λ n. absurd (n l) })
 
 -- ---- starting to format
 

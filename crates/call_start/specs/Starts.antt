@@ -13,6 +13,7 @@ use Rattle.call_change.specs.Updates.{landing, startRoom}
 use Rattle.state.specs.Memory.{Memory, resting}
 use Rattle.state.specs.declared.Doing.{Doing}
 use Rattle.state.specs.declared.Doing.the-variants.{Formatting, Inserting, Deleting}
+use Rattle.state.specs.declared.Phase.the-variants.{NotBegun}
 use Rattle.state.specs.declared.Begun.the-variants.{Started, Refused as BegunRefused}
 use Rattle.state.specs.Steps.{isIdle, Handed, noBeginning}
 
@@ -47,7 +48,7 @@ startOf card m key doing room =
     (startRefused 1 m))
 
 unfoldable pub insertOf : List ℕ → Memory → ℕ → ℕ → Handed
-insertOf card m key value = startOf card m key (Inserting key value false) (startRoom card key (m .free))
+insertOf card m key value = startOf card m key (Inserting key value NotBegun) (startRoom card key (m .free))
 
 unfoldable pub deleteOf : List ℕ → Memory → ℕ → Handed
-deleteOf card m key = startOf card m key (Deleting key false 0) (λ l. true)
+deleteOf card m key = startOf card m key (Deleting key NotBegun 0) (λ l. true)

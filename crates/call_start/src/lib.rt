@@ -2,16 +2,17 @@
 // and free nodes").
 use state::Begun;
 use state::Doing;
-use state_block::FREE;
-use state_block::NO_STATE;
-use state_block::NODES;
-use state_block::PLACES;
-use state_block::STATE_WORDS;
-use state_block::is_idle;
-use state_block::refuse_beginning;
-use state_block::store_doing;
-use state_block::store_resting;
-use state_block::wide;
+use state::Phase;
+use state::block::FREE;
+use state::block::NO_STATE;
+use state::block::NODES;
+use state::block::PLACES;
+use state::block::STATE_WORDS;
+use state::block::is_idle;
+use state::block::refuse_beginning;
+use state::block::store_doing;
+use state::block::store_resting;
+use state::block::wide;
 use walk::End;
 use walk::Slot;
 ghost use mathlib.Core.Path.{_≡_};
@@ -25,8 +26,9 @@ ghost use Rattle.walk.specs.Descent.{slotOf, way, runOver};
 ghost use Rattle.laws.specs.Cases.{pick};
 ghost use Rattle.state.specs.Steps.{isIdle};
 ghost use Rattle.state.specs.declared.Doing.the-variants.{Inserting, Deleting};
-ghost use Rattle.state_block.specs.Block.{stateWords, memoryIn, formatted};
-ghost use Rattle.state_block.specs.Contracts.{OpenCall, StartCall};
+ghost use Rattle.state.specs.declared.Phase.the-variants.{NotBegun};
+ghost use Rattle.state.specs.Block.{stateWords, memoryIn};
+ghost use Rattle.state.specs.Contracts.{OpenCall, StartCall};
 ghost use Rattle.call_change.specs.Updates.{insertReason, roomFor};
 ghost use Rattle.call_start.specs.Starts.{formatOf, insertOf, deleteOf};
 ghost use Rattle.call_start.specs.Refusals.{startRefusal, isSlot, roomWhere, dueRefusal, begunBy};
@@ -90,7 +92,8 @@ fn has_room(card: &[u32], n: usize, m: usize, key: u32, free: &[u32]) -> bool
 // The same of an update that may split its leaf, or of one that never does and so needs no room.
 fn has_room_where(splits: bool, card: &[u32], n: usize, m: usize, key: u32, free: &[u32]) -> bool
     requires { ⌜ Sized (length (now card)) n × (1 ≤ m) × (m ≤ n) × (length (now free) ≡ wordCount) ⌝ }
-    ensures { λ r. ⌜ r ≡ pick splits (roomFor (nodesOf (now (free .entry))) (runOver (now (card .entry)) 0 (way (now (card .entry)) n key .inner)) (insertReason (nodeAt (now (card .entry)) m) key)) true ⌝ }
+    ensures { λ r. ⌜ r ≡ pick splits (roomFor (nodesOf (now (free .entry)))
+        (runOver (now (card .entry)) 0 (way (now (card .entry)) n key .inner)) (insertReason (nodeAt (now (card .entry)) m) key)) true ⌝ }
 {
     if splits {
         return has_room(card, n, m, key, free);
@@ -132,7 +135,9 @@ fn start_refusal(
 // The same by the words of a block.
 fn block_refusal(card: &[u32], state: &[u32], key: u32, splits: bool) -> u32
     requires { ⌜ length (now state) ≡ stateWords ⌝ }
-    ensures { λ r. ⌜ r ≡ dueRefusal (now (card .entry)) (memoryIn (now (state .entry)) .nodes) (isIdle (memoryIn (now (state .entry)) .doing)) key (roomWhere splits (now (card .entry)) key (memoryIn (now (state .entry)) .free)) ⌝ }
+    ensures { λ r. ⌜ r
+        ≡ dueRefusal (now (card .entry)) (memoryIn (now (state .entry)) .nodes) (isIdle (memoryIn (now (state .entry)) .doing)) key
+        (roomWhere splits (now (card .entry)) key (memoryIn (now (state .entry)) .free)) ⌝ }
 {
     let nodes = wide(state[NODES]);
     let idle = is_idle(state);
@@ -141,7 +146,7 @@ fn block_refusal(card: &[u32], state: &[u32], key: u32, splits: bool) -> u32
 
 // "Starting an update stores nothing": the block with the update in hand, or as it was where a refusal is due.
 fn begin(state: &mut [u32], doing: Doing, refusal: u32) -> Begun
-    requires { ⌜ (length (now state) ≡ stateWords) × (formatted doing ≡ 0) ⌝ }
+    requires { ⌜ length (now state) ≡ stateWords ⌝ }
     ensures { λ r. ⌜ StartCall (now (state .entry)) (now (state .exit)) r doing (begunBy refusal (memoryIn (now (state .entry))) doing) ⌝ }
 {
     if refusal != 0 {
@@ -178,7 +183,7 @@ pub fn start_format(card: &[u32], state: &mut [u32]) -> Begun
 
 // "Starting an update stores nothing."
 pub fn start_insert(card: &[u32], state: &mut [u32], key: u32, value: u32) -> Begun
-    ensures { λ r. ⌜ StartCall (now (state .entry)) (now (state .exit)) r (Inserting key value false) (insertOf (now (card .entry)) (memoryIn (now (state .entry))) key value) ⌝ }
+    ensures { λ r. ⌜ StartCall (now (state .entry)) (now (state .exit)) r (Inserting key value NotBegun) (insertOf (now (card .entry)) (memoryIn (now (state .entry))) key value) ⌝ }
 {
     if state.len() != STATE_WORDS {
         return Begun::Refused(NO_STATE);
@@ -186,7 +191,7 @@ pub fn start_insert(card: &[u32], state: &mut [u32], key: u32, value: u32) -> Be
     let doing = Doing::Inserting {
         key,
         value,
-        begun: false,
+        phase: Phase::NotBegun,
     };
     let refusal = block_refusal(card, state, key, true);
     begin(state, doing, refusal)
@@ -194,14 +199,14 @@ pub fn start_insert(card: &[u32], state: &mut [u32], key: u32, value: u32) -> Be
 
 // "Refusing a delete on a full card" would spoil a bin: a delete needs no free nodes to start.
 pub fn start_delete(card: &[u32], state: &mut [u32], key: u32) -> Begun
-    ensures { λ r. ⌜ StartCall (now (state .entry)) (now (state .exit)) r (Deleting key false 0) (deleteOf (now (card .entry)) (memoryIn (now (state .entry))) key) ⌝ }
+    ensures { λ r. ⌜ StartCall (now (state .entry)) (now (state .exit)) r (Deleting key NotBegun 0) (deleteOf (now (card .entry)) (memoryIn (now (state .entry))) key) ⌝ }
 {
     if state.len() != STATE_WORDS {
         return Begun::Refused(NO_STATE);
     }
     let doing = Doing::Deleting {
         key,
-        begun: false,
+        phase: Phase::NotBegun,
         value: 0,
     };
     let refusal = block_refusal(card, state, key, false);

@@ -66,7 +66,15 @@ header-formatted card n e =
 pub formatted-header : (card : List ℕ) (n : ℕ) → Formatted card n → headerRefusal card n ≡ 0
 unfolding headerRefusal
 formatted-header card n f =
-    simp (eq-eqb (getD card 0 0) 1 (f .mark), eq-eqb (getD card 1 0) n (f .nodes), eq-eqb (getD card 2 0) 8 (f .first), eq-eqb (getD card 3 0) 24 (f .each), eq-eqb (getD card 5 0) 0 (f .five), eq-eqb (getD card 6 0) 0 (f .six), eq-eqb (getD card 7 0) 0 (f .seven))
+    simp (
+      eq-eqb (getD card 0 0) 1 (f .mark),
+      eq-eqb (getD card 1 0) n (f .nodes),
+      eq-eqb (getD card 2 0) 8 (f .first),
+      eq-eqb (getD card 3 0) 24 (f .each),
+      eq-eqb (getD card 5 0) 0 (f .five),
+      eq-eqb (getD card 6 0) 0 (f .six),
+      eq-eqb (getD card 7 0) 0 (f .seven),
+    )
 
 -- the first word that is not as it must be decides the refusal
 module _ (card : List ℕ) (n : ℕ) where
@@ -92,11 +100,28 @@ module _ (card : List ℕ) (n : ℕ) where
 
   pub wrong-word6 : getD card 0 0 ≡ 1 → getD card 1 0 ≡ n → getD card 2 0 ≡ 8 → getD card 3 0 ≡ 24 → getD card 5 0 ≡ 0 → (getD card 6 0 ≡ 0 → ⊥) → headerRefusal card n ≡ 3
   unfolding headerRefusal
-  wrong-word6 h0 h1 h2 h3 h5 wrong = simp (eq-eqb (getD card 0 0) 1 h0, eq-eqb (getD card 1 0) n h1, eq-eqb (getD card 2 0) 8 h2, eq-eqb (getD card 3 0) 24 h3, eq-eqb (getD card 5 0) 0 h5, ne-eqb (getD card 6 0) 0 wrong)
+  wrong-word6 h0 h1 h2 h3 h5 wrong =
+      simp (
+        eq-eqb (getD card 0 0) 1 h0,
+        eq-eqb (getD card 1 0) n h1,
+        eq-eqb (getD card 2 0) 8 h2,
+        eq-eqb (getD card 3 0) 24 h3,
+        eq-eqb (getD card 5 0) 0 h5,
+        ne-eqb (getD card 6 0) 0 wrong,
+      )
 
   pub wrong-word7 : getD card 0 0 ≡ 1 → getD card 1 0 ≡ n → getD card 2 0 ≡ 8 → getD card 3 0 ≡ 24 → getD card 5 0 ≡ 0 → getD card 6 0 ≡ 0 → (getD card 7 0 ≡ 0 → ⊥) → headerRefusal card n ≡ 3
   unfolding headerRefusal
-  wrong-word7 h0 h1 h2 h3 h5 h6 wrong = simp (eq-eqb (getD card 0 0) 1 h0, eq-eqb (getD card 1 0) n h1, eq-eqb (getD card 2 0) 8 h2, eq-eqb (getD card 3 0) 24 h3, eq-eqb (getD card 5 0) 0 h5, eq-eqb (getD card 6 0) 0 h6, ne-eqb (getD card 7 0) 0 wrong)
+  wrong-word7 h0 h1 h2 h3 h5 h6 wrong =
+      simp (
+        eq-eqb (getD card 0 0) 1 h0,
+        eq-eqb (getD card 1 0) n h1,
+        eq-eqb (getD card 2 0) 8 h2,
+        eq-eqb (getD card 3 0) 24 h3,
+        eq-eqb (getD card 5 0) 0 h5,
+        eq-eqb (getD card 6 0) 0 h6,
+        ne-eqb (getD card 7 0) 0 wrong,
+      )
 
 -- refusals 1, 2 and 3
 module _ (card : List ℕ) (n : ℕ) (e : n ≡ nodesOfLength (length card)) where

@@ -73,7 +73,9 @@ node-words-low c m i v {k} {a} {b} hi ha w =
     record {
       on = on-card-set c _ v m (w .on);
       kind = keep 0 (omega arith) ∙ w .kind;
-      low = λ j h. by-cases (ℕ-discrete j i) (λ e. rw e (getD-set-same c (place m (1 + i)) v 0 (omega (arith, w .on)) ∙ sym (getD-set-same a i v 0 ha))) (λ d. keep (1 + j) (omega arith) ∙ w .low j h ∙ sym (getD-set-other a i j v 0 d));
+      low = λ j h. by-cases (ℕ-discrete j i)
+          (λ e. rw e (getD-set-same c (place m (1 + i)) v 0 (omega (arith, w .on)) ∙ sym (getD-set-same a i v 0 ha)))
+          (λ d. keep (1 + j) (omega arith) ∙ w .low j h ∙ sym (getD-set-other a i j v 0 d));
       high = λ j h. keep (12 + j) (omega arith) ∙ w .high j h;
       last = keep 23 (omega arith) ∙ w .last;
     }

@@ -100,7 +100,9 @@ module _ (k : ℕ) (a b : List ℕ) (ha : length a ≤ 11) (hb : length b ≤ 11
       }
     where
       nodes-written : (j : ℕ) → j < 24 → word (play (stores (place m 0) (nodeImage k a b)) c) m j ≡ getD (nodeImage k a b) j 0
-      nodes-written j h = ap (λ (x : ℕ). getD (play (stores (place m 0) (nodeImage k a b)) c) x 0) (omega arith) ∙ play-in (nodeImage k a b) (place m 0) c j (omega (arith, length-node-image)) (omega (arith, length-node-image, o .pos, o .fits))
+      nodes-written j h =
+          ap (λ (x : ℕ). getD (play (stores (place m 0) (nodeImage k a b)) c) x 0) (omega arith)
+          ∙ play-in (nodeImage k a b) (place m 0) c j (omega (arith, length-node-image)) (omega (arith, length-node-image, o .pos, o .fits))
 
 pub record FitsCard (c : List ℕ) (X : NewNode) : Type 0 where
   pub on : OnCard c (X .number)
@@ -141,7 +143,8 @@ pub within-node-stores : (c : List ℕ) (Xs : List NewNode) → AllFitCard c Xs 
 within-node-stores c [] h = done
 within-node-stores c (X ∷ Xs) h =
     within-append
-    (within-stores (X .number) (h .0 .on .pos) (omega (arith, indicator-same (X .number))) (nodeImage (X .kind) (X .keys) (X .values)) 0 (place (X .number) 0) refl (omega (arith, length-node-image (X .kind) (X .keys) (X .values) (h .0 .few-keys) (h .0 .few-values))))
+    (within-stores (X .number) (h .0 .on .pos) (omega (arith, indicator-same (X .number))) (nodeImage (X .kind) (X .keys) (X .values)) 0
+    (place (X .number) 0) refl (omega (arith, length-node-image (X .kind) (X .keys) (X .values) (h .0 .few-keys) (h .0 .few-values))))
     (within-more (λ m. omega arith) (within-node-stores c Xs (h .1)))
 
 pub nodes-written : (c : List ℕ) (Xs : List NewNode) → AllFitCard c Xs → Distinct Xs → AllHaveWords (play (nodeStores Xs) c) Xs
@@ -150,6 +153,7 @@ nodes-written c (X ∷ Xs) h d =
     let P = stores (place (X .number) 0) (nodeImage (X .kind) (X .keys) (X .values)) in
     let f = fits-play P c Xs (h .1) in
     rw (play-append P (nodeStores Xs) c) (
-      keeps-play (within-node-stores (play P c) Xs f) (play P c) (X .number) (X .kind) (X .keys) (X .values) (d .0) (node-words-new (X .kind) (X .keys) (X .values) (h .0 .few-keys) (h .0 .few-values) (X .number) c (h .0 .on)),
+      keeps-play (within-node-stores (play P c) Xs f) (play P c) (X .number) (X .kind) (X .keys) (X .values) (d .0)
+          (node-words-new (X .kind) (X .keys) (X .values) (h .0 .few-keys) (h .0 .few-values) (X .number) c (h .0 .on)),
       nodes-written (play P c) Xs f (d .1),
     )

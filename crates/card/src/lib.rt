@@ -37,6 +37,16 @@ pub const VALUES: usize = 12;
 
 pub const LAST_WORD: usize = 23;
 
+// What two siblings hold at most together, and a full node with one more: "the 12 pairs go 6 and 6".
+pub const MOST_TOGETHER: usize = SLOTS + 1;
+
+// New nodes are laid out one after the other, "left, right, then above", and then the link: "So a change is at most 73 stores."
+pub const TWO_NODES: usize = 2 * NODE_WORDS;
+
+pub const THREE_NODES: usize = 3 * NODE_WORDS;
+
+pub const PLAN_SIZE: usize = THREE_NODES + 1;
+
 // "With N nodes (4 to 600)": the only places in code where the two limits stand.
 pub const LEAST_NODES: usize = 4;
 
@@ -46,6 +56,12 @@ pub const GREATEST_NODES: usize = 600;
 pub const PROGRAM_NODES: usize = 600;
 
 pub const PROGRAM_WORDS: usize = HEADER_WORDS + NODE_WORDS * PROGRAM_NODES;
+
+// "The free nodes are one bit each": how many words of 32 bits there are for them, enough for the greatest N.
+pub const FREE_WORDS: usize = 20;
+
+// "after formatting or opening the search starts at node 1": the node taken for given last then.
+pub const SEARCH_START: u32 = 0;
 
 // "more than 10 internal nodes": the only place in code where the depth limit stands.
 pub const DEPTH_LIMIT: usize = 10;

@@ -15,7 +15,9 @@ use Rattle.card.proofs.NodeLaws.{length-keyWords, get-keyWord, children-words, 
 use Rattle.laws.proofs.Cases.{order, guard-some, bind-some, impossible}
 use Rattle.laws.specs.Cases.{pick, guard, bind}
 use Rattle.laws.specs.Lists.{allZero, zeroAfter}
-use Rattle.card_check.specs.Check.{Least, Findings, findingsOf, checkedOf, heightOf, member, leafSound, unusedZero, Look, lookOf, noted, enterLeaf, innerSound, enterInner, enterKind, enterNode, ChildCheck, childrenCheck, raised, onLook, nodeCheck, bad, leaf, inner, slotSound, rangeEnd}
+use Rattle.card_check.specs.Check.{Least, Findings, findingsOf, checkedOf, heightOf, member, leafSound, unusedZero, Look, lookOf}
+use Rattle.card_check.specs.Check.{noted, enterLeaf, innerSound, enterInner, enterKind, enterNode, ChildCheck, childrenCheck, raised}
+use Rattle.card_check.specs.Check.{onLook, nodeCheck, bad, leaf, inner, slotSound, rangeEnd}
 use Rattle.card_check.specs.declared.Checked.{Checked}
 use Rattle.card_check.specs.declared.Checked.the-variants.{Unsound, Sound}
 use Rattle.card_check.specs.declared.Entry.{Entry}
@@ -432,7 +434,11 @@ module _ (node : List ℕ) (len : length node ≡ 24) (c i : ℕ) (counted : c �
     end-within h l g = end-key h ∙ rw (lt-ltb low (getD node (1 + i) 0) l, lt-ltb (getD node (1 + i) 0) high g)
 
     end-is-key : (to : ℕ) → i + 1 < c → rangeEnd low high (drop i (routingKeys node)) ≡ some to → to ≡ getD node (1 + i) 0
-    end-is-key to h e = let g = guard-some (ltb low (getD node (1 + i) 0) && ltb (getD node (1 + i) 0) high) (some (getD node (1 + i) 0)) to (sym (end-key h) ∙ e) in let z : to ≡ getD node (1 + i) 0 = cc in z
+    end-is-key to h e =
+        let g =
+        guard-some (ltb low (getD node (1 + i) 0) && ltb (getD node (1 + i) 0) high) (some (getD node (1 + i) 0)) to (sym (end-key h) ∙ e) in
+        let z : to ≡ getD node (1 + i) 0 = cc in
+        z
 
   -- child i, after the children before it were checked
   module _ (check : ChildCheck) (height low high : ℕ) (f : Findings) (h : i < c) where
@@ -500,7 +506,8 @@ module _ (card : List ℕ) (n run : ℕ) (root : Bool) (low high m : ℕ) (f : F
     unfolding nodeCheck onLook raised
     check-deep z =
         let k = enter-children card n m low high run root f c g found in
-        rw (z, found) (ap (raised (eqb (kindOf (nodeAt card m)) 3)) (children-none (λ l h k g. none) (λ l h k g. refl) 0 low high (routingKeys (nodeAt card m)) (children (nodeAt card m)) g (omega (arith, k .counted, k .some-child))))
+        rw (z, found) (ap (raised (eqb (kindOf (nodeAt card m)) 3)) (children-none (λ l h k g. none) (λ l h k g. refl) 0 low high
+        (routingKeys (nodeAt card m)) (children (nodeAt card m)) g (omega (arith, k .counted, k .some-child))))
 
     pub check-inner : (levels ≡ 0 → ⊥) → nodeCheck levels card n run root low high m f
         ≡ raised (eqb (kindOf (nodeAt card m)) 3) (childrenCheck (nodeCheck (levels - 1) card n (runBelow c run) false) true 0 low high (routingKeys (nodeAt card m)) (children (nodeAt card m)) g)
@@ -554,4 +561,5 @@ node-height (suc levels) card n run root low high m f r e = go (λ l h k g. node
     go each (leaf g) e = let z : _≡_ {A = ℕ × Findings} (0, g) r = cc in omega (arith, ap (λ (x : ℕ × Findings). x .0) z)
     go each (inner c g) e =
         raised-height (eqb (kindOf (nodeAt card m)) 3) _ levels r
-        (λ a q. children-height (nodeCheck levels card n (runBelow c run) false) levels (each (runBelow c run)) (children (nodeAt card m)) (routingKeys (nodeAt card m)) true 0 low high g a (omega arith) q) e
+        (λ a q. children-height (nodeCheck levels card n (runBelow c run) false) levels (each (runBelow c run)) (children (nodeAt card m))
+        (routingKeys (nodeAt card m)) true 0 low high g a (omega arith) q) e

@@ -99,7 +99,7 @@ fn enter_kind(node: &[u32], low: u32, high: u64, run: u32, root: bool, found: &m
     }
 }
 
-// Node m is looked at for the first time: its number, its kind, its words.
+// Node m is looked at for the first time: its number, its kind, its words. Nine arguments: see `node_check`.
 pub fn enter(
     card: &[u32],
     n: usize,
@@ -112,7 +112,8 @@ pub fn enter(
     found: &mut [u32],
 ) -> Entry
     requires { ⌜ (length (now card) ≡ 8 + 24 * n) × (n ≤ greatestNodes) × (length (now free) ≡ wordCount) × (length (now found) ≡ 3) ⌝ }
-    ensures { λ r. ⌜ lookOf r (findingsOf (nodesOf (now (free .exit))) (now (found .exit))) ≡ enterNode (now (card .entry)) n m low high run root (findingsOf (nodesOf (now (free .entry))) (now (found .entry))) ⌝ }
+    ensures { λ r. ⌜ lookOf r (findingsOf (nodesOf (now (free .exit))) (now (found .exit)))
+        ≡ enterNode (now (card .entry)) n m low high run root (findingsOf (nodesOf (now (free .entry))) (now (found .entry))) ⌝ }
 {
     if m == 0 {
         return Entry::Refused;

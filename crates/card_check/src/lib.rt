@@ -104,7 +104,8 @@ fn is_level(first: bool, height: usize, before: usize) -> bool
     height == before
 }
 
-// Node m and all below it, past at most `levels` internal nodes.
+// Node m and all below it, past at most `levels` internal nodes. Ten arguments, here and below, since the numbers that change from
+// node to node stay numbers: with `n` to `root` in a struct an opening of 3,000 pairs takes 135,361 instructions and not 127,921.
 fn node_check(
     card: &[u32],
     n: usize,
@@ -118,7 +119,8 @@ fn node_check(
     found: &mut [u32],
 ) -> Checked
     requires { ⌜ (length (now card) ≡ 8 + 24 * n) × (n ≤ greatestNodes) × (run + levels ≤ depthLimit) × (length (now free) ≡ wordCount) × (length (now found) ≡ 3) ⌝ }
-    ensures { λ r. ⌜ checkedOf r (findingsOf (nodesOf (now (free .exit))) (now (found .exit))) ≡ nodeCheck levels (now (card .entry)) n run root low high m (findingsOf (nodesOf (now (free .entry))) (now (found .entry))) ⌝ }
+    ensures { λ r. ⌜ checkedOf r (findingsOf (nodesOf (now (free .exit))) (now (found .exit)))
+        ≡ nodeCheck levels (now (card .entry)) n run root low high m (findingsOf (nodesOf (now (free .entry))) (now (found .entry))) ⌝ }
     ensures { λ r. ⌜ heightOf r ≤ levels ⌝ }
 {
     let entry = enter(card, n, m, low, high, run, root, free, found);
@@ -152,8 +154,11 @@ fn children_check(
     free: &mut [u32],
     found: &mut [u32],
 ) -> Checked
-    requires { ⌜ (length (now card) ≡ 8 + 24 * n) × (n ≤ greatestNodes) × (length (now node) ≡ 24) × (c ≡ length (children (now node))) × (run + levels ≤ depthLimit) × (length (now free) ≡ wordCount) × (length (now found) ≡ 3) ⌝ }
-    ensures { λ r. ⌜ checkedOf r (findingsOf (nodesOf (now (free .exit))) (now (found .exit))) ≡ childrenCheck (nodeCheck levels (now (card .entry)) n run false) true 0 low high (routingKeys (now (node .entry))) (children (now (node .entry))) (findingsOf (nodesOf (now (free .entry))) (now (found .entry))) ⌝ }
+    requires { ⌜ (length (now card) ≡ 8 + 24 * n) × (n ≤ greatestNodes) × (length (now node) ≡ 24)
+        × (c ≡ length (children (now node))) × (run + levels ≤ depthLimit) × (length (now free) ≡ wordCount) × (length (now found) ≡ 3) ⌝ }
+    ensures { λ r. ⌜ checkedOf r (findingsOf (nodesOf (now (free .exit))) (now (found .exit)))
+        ≡ childrenCheck (nodeCheck levels (now (card .entry)) n run false) true 0 low high
+        (routingKeys (now (node .entry))) (children (now (node .entry))) (findingsOf (nodesOf (now (free .entry))) (now (found .entry))) ⌝ }
     ensures { λ r. ⌜ heightOf r ≤ levels ⌝ }
 {
     let mut from = low;

@@ -36,7 +36,14 @@ length-dumpWords (suc n) dump = ap suc (length-dumpWords n (drop 4 dump))
 -- four bytes further on, each word is the next
 word-after : (dump : List ℕ) (i : ℕ) → wordAt (drop 4 dump) i ≡ wordAt dump (suc i)
 unfolding wordAt
-word-after dump i = omega (arith, at (4 * i) (4 * suc i) (omega arith), at (4 * i + 1) (4 * suc i + 1) (omega arith), at (4 * i + 2) (4 * suc i + 2) (omega arith), at (4 * i + 3) (4 * suc i + 3) (omega arith))
+word-after dump i =
+    omega (
+      arith,
+      at (4 * i) (4 * suc i) (omega arith),
+      at (4 * i + 1) (4 * suc i + 1) (omega arith),
+      at (4 * i + 2) (4 * suc i + 2) (omega arith),
+      at (4 * i + 3) (4 * suc i + 3) (omega arith),
+    )
   where
     at : (j k : ℕ) → 4 + j ≡ k → getD (drop 4 dump) j 0 ≡ getD dump k 0
     at j k e = getD-drop 4 dump j 0 ∙ ap (λ (a : ℕ). getD dump a 0) e

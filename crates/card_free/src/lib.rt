@@ -8,7 +8,7 @@ ghost use Rattle.laws.specs.Digits.{digitsOf};
 ghost use Rattle.card_free.specs.NodeSet.{wordCount, capacity, nodesOf, upTo, allNodes, countTrue, firstFrom, nextFree};
 
 // How many words a set has; `wordCount` of specs/NodeSet.antt says the same.
-pub const WORDS: usize = 20;
+pub const WORDS: usize = card::FREE_WORDS;
 
 // How many bits that makes: a node of the set is below it.
 pub const CAPACITY: usize = WORDS * 32;
@@ -114,36 +114,4 @@ pub fn count(words: &[u32]) -> usize
         sum += u32::count_ones(words[q]) as usize;
     }
     sum
-}
-
-// A set by value, for what still hands its state on whole.
-pub struct NodeSet {
-    pub words: [u32; WORDS],
-}
-
-pub fn with_node(nodes: NodeSet, m: usize) -> NodeSet
-    requires { ⌜ m < capacity ⌝ }
-    ensures { λ r. ⌜ nodesOf (r .words) ≡ set (nodesOf (nodes .words)) m true ⌝ }
-{
-    let mut words = nodes.words;
-    put_in(&mut words, m);
-    NodeSet { words }
-}
-
-pub fn without_node(nodes: NodeSet, m: usize) -> NodeSet
-    requires { ⌜ m < capacity ⌝ }
-    ensures { λ r. ⌜ nodesOf (r .words) ≡ set (nodesOf (nodes .words)) m false ⌝ }
-{
-    let mut words = nodes.words;
-    take_out(&mut words, m);
-    NodeSet { words }
-}
-
-pub fn all_nodes(n: usize) -> NodeSet
-    requires { ⌜ n < capacity ⌝ }
-    ensures { λ r. ⌜ nodesOf (r .words) ≡ allNodes n ⌝ }
-{
-    let mut words: [u32; WORDS] = [0; WORDS];
-    fill(&mut words, n);
-    NodeSet { words }
 }

@@ -76,7 +76,7 @@ fn decide_together(p: Position, parent: &[u32], count: usize) -> Decision
     requires { ⌜ length (now parent) ≡ 24 ⌝ }
     ensures { λ r. ⌜ r ≡ decideTogether p (now (parent .entry)) count ⌝ }
 {
-    if 12 < count {
+    if card::MOST_TOGETHER < count {
         return Decision::Refused;
     }
     if 4 <= count {
@@ -141,7 +141,7 @@ fn decide_underfull(card: &[u32], n: usize, p: Position, parent: &[u32]) -> Deci
     if card::child_count(parent) <= j + 1 {
         return Decision::Refused;
     }
-    let x = parent[12 + j] as usize;
+    let x = parent[card::VALUES + j] as usize;
     let y = parent[13 + j] as usize;
     if !is_node(n, x) {
         return Decision::Refused;
@@ -162,7 +162,7 @@ fn decide_at(card: &[u32], n: usize, p: Position) -> Decision
         return Decision::Refused;
     }
     let node = card::node_at(card, p.node);
-    if node[0] == 3 {
+    if node[0] == card::TAGGED {
         decide_tagged(p, parent, node)
     } else {
         decide_underfull(card, n, p, parent)

@@ -2,3 +2,5 @@
 pub mod LayOutLaws
 -- which change a repair comes to, where the tests on the card are decided
 pub mod Mending
+-- "So a change is at most 73 stores": what is laid out is within the bounds of a plan
+pub mod Bounds

@@ -1,9 +1,10 @@
 -- Document 01, "The changes": a change that is decided, laid out. Its nodes are given here, and what they hold is read off the card.
 use mathlib.Core.Bool.{Bool}
-use mathlib.Core.List.{List, [], _∷_}
+use mathlib.Core.List.{List, [], _∷_, zip}
 use Prim.Native.Nat.{ℕ, _+_}
 use lib.ListN.{take}
 use Rattle.card.specs.Layout.{place, nodeAt}
+use Rattle.card.specs.Stores.{Store}
 use Rattle.change_decide.specs.Decide.{leftSibling}
 use Rattle.change_decide.specs.Places.{parentAt, Fits}
 use Rattle.change_decide.specs.declared.Decision.{Decision}
@@ -15,6 +16,7 @@ use Rattle.change_plan.specs.Planning.{Preparation, refused, balanced, prepared
 use Rattle.change_plan.specs.declared.Outcome.{Outcome}
 use Rattle.change_plan.specs.declared.Outcome.the-variants.{Refused as NoStep, Balanced as NoChange, Prepared}
 use Rattle.change_siblings.specs.Siblings.{shareAt, mergeAt, mergeRootAt}
+use Rattle.change_layout.specs.declared.Size.{Size}
 
 -- "With an empty slot: value first, then key"; "Delete: key word to 0"; "or too few free nodes": refused too, by `giving`
 unfoldable pub layOut : List ℕ → Decision → List Bool → ℕ → Preparation
@@ -70,6 +72,16 @@ storeCount (Share p) = 73
 storeCount (Merge p) = 49
 storeCount (MergeRoot p) = 25
 
+-- the three in one, as the code has them
+unfoldable pub changeOf : ℕ → ℕ → Size
+changeOf nodes stores = record { outcome = Prepared; nodes = nodes; stores = stores }
+
+unfoldable pub noChange : Outcome → Size
+noChange outcome = record { outcome = outcome; nodes = 0; stores = 0 }
+
+unfoldable pub sizeOf : Decision → Size
+sizeOf d = record { outcome = outcomeOf d; nodes = needed d; stores = storeCount d }
+
 -- the nodes that the last store cuts out
 unfoldable pub cutBy : List ℕ → Decision → List ℕ
 cutBy card Refused = []
@@ -108,6 +120,10 @@ wordsBy card (SplitParent p) ms = changeWords (splitParentAt card p ms)
 wordsBy card (Share p) ms = changeWords (shareAt card p ms)
 wordsBy card (Merge p) ms = changeWords (mergeAt card p ms)
 wordsBy card (MergeRoot p) ms = changeWords (mergeRootAt card p ms)
+
+-- the stores: each place with its word
+abbrev pub storesBy : List ℕ → Decision → List ℕ → List Store
+storesBy card d ms = zip (placesBy d ms) (wordsBy card d ms)
 
 -- a decision that is made on some card
 abbrev pub FitsSome : Decision → Type 0

@@ -15,108 +15,89 @@ ghost use mathlib.Core.Path.{_≡_};
 ghost use mathlib.Core.List.{_++_};
 ghost use Prim.Native.Nat.{_≤_, _<_};
 ghost use lib.ListN.{length, drop};
-ghost use Rattle.laws.specs.Lists.{beforeZero};
+ghost use Rattle.laws.specs.Lists.{pad};
 ghost use Rattle.card.specs.Layout.{greatestNodes, place};
 ghost use Rattle.change_decide.specs.Places.{Fits};
 ghost use Rattle.change_rows.specs.Nodes.{Numbered};
-ghost use Rattle.change_layout.specs.LayOut.{FitsSome, needed, storeCount, outcomeOf, cutBy, placesBy, wordsBy};
+ghost use Rattle.change_layout.specs.LayOut.{FitsSome, needed, storeCount, sizeOf, changeOf, noChange, cutBy, placesBy, wordsBy};
 
 // "node m begins at word 8 + 24 × (m − 1)": the place of its word i.
 fn word_place(m: usize, i: usize) -> u32
     requires { ⌜ (1 ≤ m) × (m ≤ greatestNodes) × (i < 24) ⌝ }
     ensures { λ r. ⌜ r ≡ place m i ⌝ }
 {
-    (8 + 24 * (m - 1) + i) as u32
+    (card::HEADER_WORDS + card::NODE_WORDS * (m - 1) + i) as u32
 }
 
-// How many new nodes a change has: "(left, right, then above)".
-pub fn nodes_needed(decision: Decision) -> usize
-    ensures { λ r. ⌜ r ≡ needed decision ⌝ }
+// How many stores one, two and three new nodes take with their link.
+const STORES_OF_ONE: u32 = card::NODE_WORDS as u32 + 1;
+
+const STORES_OF_TWO: u32 = card::TWO_NODES as u32 + 1;
+
+const STORES_OF_THREE: u32 = card::PLAN_SIZE as u32;
+
+// What a decision comes to: whether there is a change at all, and how many new nodes and stores it has.
+pub struct Size {
+    pub outcome: Outcome,
+    pub nodes: usize,
+    pub stores: u32,
+}
+
+// A change of so many new nodes and stores.
+fn change_of(nodes: usize, stores: u32) -> Size
+    ensures { λ r. ⌜ r ≡ changeOf nodes stores ⌝ }
 {
-    match decision {
-        Decision::Refused => 0,
-        Decision::Balanced => 0,
-        Decision::PutPair {
-            node,
-            slot,
-            key,
-            value,
-        } => 0,
-        Decision::ClearKey { node, slot } => 0,
-        Decision::SplitLeaf {
-            node,
-            link,
-            key,
-            value,
-        } => 3,
-        Decision::Absorb(p) => 1,
-        Decision::SplitParent(p) => 3,
-        Decision::Share(p) => 3,
-        Decision::Merge(p) => 2,
-        Decision::MergeRoot(p) => 1,
+    Size {
+        outcome: Outcome::Prepared,
+        nodes,
+        stores,
     }
 }
 
-// How many stores it makes: "words 0 to 23 of each in order; a single link store .. comes last".
-pub fn store_count(decision: Decision) -> usize
-    ensures { λ r. ⌜ r ≡ storeCount decision ⌝ }
+// No change.
+fn no_change(outcome: Outcome) -> Size
+    ensures { λ r. ⌜ r ≡ noChange outcome ⌝ }
 {
-    match decision {
-        Decision::Refused => 0,
-        Decision::Balanced => 0,
-        Decision::PutPair {
-            node,
-            slot,
-            key,
-            value,
-        } => 2,
-        Decision::ClearKey { node, slot } => 1,
-        Decision::SplitLeaf {
-            node,
-            link,
-            key,
-            value,
-        } => 73,
-        Decision::Absorb(p) => 25,
-        Decision::SplitParent(p) => 73,
-        Decision::Share(p) => 73,
-        Decision::Merge(p) => 49,
-        Decision::MergeRoot(p) => 25,
+    Size {
+        outcome,
+        nodes: 0,
+        stores: 0,
     }
 }
 
-// Whether there is a change at all.
-pub fn outcome_of(decision: Decision) -> Outcome
-    ensures { λ r. ⌜ r ≡ outcomeOf decision ⌝ }
+// The new nodes of a decision, "(left, right, then above)", and its stores: "words 0 to 23 of each in order; a single link store ..
+// comes last".
+pub fn size_of(decision: Decision) -> Size
+    ensures { λ r. ⌜ r ≡ sizeOf decision ⌝ }
 {
     match decision {
-        Decision::Refused => Outcome::Refused,
-        Decision::Balanced => Outcome::Balanced,
+        Decision::Refused => no_change(Outcome::Refused),
+        Decision::Balanced => no_change(Outcome::Balanced),
         Decision::PutPair {
             node,
             slot,
             key,
             value,
-        } => Outcome::Prepared,
-        Decision::ClearKey { node, slot } => Outcome::Prepared,
+        } => change_of(0, 2),
+        Decision::ClearKey { node, slot } => change_of(0, 1),
         Decision::SplitLeaf {
             node,
             link,
             key,
             value,
-        } => Outcome::Prepared,
-        Decision::Absorb(p) => Outcome::Prepared,
-        Decision::SplitParent(p) => Outcome::Prepared,
-        Decision::Share(p) => Outcome::Prepared,
-        Decision::Merge(p) => Outcome::Prepared,
-        Decision::MergeRoot(p) => Outcome::Prepared,
+        } => change_of(3, STORES_OF_THREE),
+        Decision::Absorb(p) => change_of(1, STORES_OF_ONE),
+        Decision::SplitParent(p) => change_of(3, STORES_OF_THREE),
+        Decision::Share(p) => change_of(3, STORES_OF_THREE),
+        Decision::Merge(p) => change_of(2, STORES_OF_TWO),
+        Decision::MergeRoot(p) => change_of(1, STORES_OF_ONE),
     }
 }
 
 // The nodes that the last store cuts out of the tree.
 pub fn cut_of(card: &[u32], decision: Decision) -> [u32; 3]
     requires { ⌜ Fits (now card) decision ⌝ }
-    ensures { λ r. ⌜ beforeZero r ≡ cutBy (now (card .entry)) decision ⌝ }
+    ensures { λ r. ⌜ r ≡ pad 3 (cutBy (now (card .entry)) decision) ⌝ }
 {
     match decision {
         Decision::Refused => [0; 3],
@@ -156,11 +137,11 @@ pub fn lay_places(decision: Decision, nodes: [u32; 3], places: &mut [u32])
             key,
             value,
         } => {
-            places[0] = word_place(node, 12 + slot);
-            places[1] = word_place(node, 1 + slot);
+            places[0] = word_place(node, card::VALUES + slot);
+            places[1] = word_place(node, card::KEYS + slot);
         }
         Decision::ClearKey { node, slot } => {
-            places[0] = word_place(node, 1 + slot);
+            places[0] = word_place(node, card::KEYS + slot);
         }
         Decision::SplitLeaf {
             node,

@@ -153,6 +153,14 @@ module _ (nodes : List ℕ) (latest i k : ℕ) (free : List Bool) (last : ℕ) (
   pub taking-round : (m : ℕ) → i < k → nextFree free latest ≡ Node m → m ≡ getD nodes 0 0 → takeNumbers k free last ≡ none
   taking-round m h e z = ended h (fewer-round nodes latest i free m e (t .progress) z)
 
+  -- while none is looked for the first is 0
+  pub first-zero : i ≤ k → k ≡ 0 → getD nodes 0 0 ≡ 0
+  first-zero h z = go (t .progress)
+    where
+      go : Progress nodes latest i free → getD nodes 0 0 ≡ 0
+      go (none-yet e f) = f
+      go (some-yet p o e s) = absurd (omega arith)
+
   -- all are found
   pub taking-done : k ≤ i → takeNumbers k free last ≡ some (take k nodes)
   unfolding takeNumbers prefixed

@@ -6,7 +6,7 @@ ghost use Prim.Native.Nat.{_≤_};
 ghost use lib.ListN.{length, take};
 ghost use Rattle.card_free.specs.NodeSet.{wordCount, nodesOf};
 ghost use Rattle.change_plan.specs.Planning.{takeNumbers, withoutAll, lastOf};
-ghost use Rattle.change_plan.specs.Plan.{givenBy, Among};
+ghost use Rattle.change_plan.specs.Plan.{givenBy, leftGiven, Among};
 
 // "or too few free nodes", or the numbers in the order given, "left, right, then above", with 0 for those that are not needed.
 pub enum Given {
@@ -18,7 +18,7 @@ pub enum Given {
 // node that it found it has gone round and none is left. While none is found the first is 0, and there is no node 0.
 pub fn give(free: &[u32], last: usize, count: usize) -> Given
     requires { ⌜ (length (now free) ≡ wordCount) × (count ≤ 3) ⌝ }
-    ensures { λ r. ⌜ takeNumbers count (nodesOf (now (free .entry))) last ≡ givenBy r count ⌝ }
+    ensures { λ r. ⌜ (takeNumbers count (nodesOf (now (free .entry))) last ≡ givenBy r count) × (count ≡ 0 → leftGiven r ≡ 0) ⌝ }
 {
     let mut nodes: [u32; 3] = [0; 3];
     let mut latest = last;
@@ -55,12 +55,12 @@ pub fn take(free: &mut [u32], nodes: [u32; 3], count: usize)
 }
 
 // The node given last, then.
-pub fn last_given(nodes: [u32; 3], count: usize, last: usize) -> usize
+pub fn last_given(nodes: [u32; 3], count: usize, last: u32) -> u32
     requires { ⌜ count ≤ 3 ⌝ }
     ensures { λ r. ⌜ r ≡ lastOf last (take count nodes) ⌝ }
 {
     if count == 0 {
         return last;
     }
-    nodes[count - 1] as usize
+    nodes[count - 1]
 }

@@ -1,5 +1,7 @@
 // Two nodes that share what there is, "the left one getting the larger half", and the key between them.
 use crate::nodes::write_node;
+use card::NODE_WORDS;
+use card::TWO_NODES;
 ghost use mathlib.Core.Path.{_≡_};
 ghost use mathlib.Core.List.{_++_};
 ghost use Prim.Native.Nat.{_≤_, _<_};
@@ -12,7 +14,11 @@ fn keys_for(kind: u32, values: usize) -> usize
     requires { ⌜ 0 < values ⌝ }
     ensures { λ r. ⌜ r ≡ keysFor kind values ⌝ }
 {
-    if kind == 1 { values } else { values - 1 }
+    if kind == card::LEAF {
+        values
+    } else {
+        values - 1
+    }
 }
 
 // The key between the two: "Between shared leaves the routing key is the right one's smallest. Internal nodes .. sharing sends one up".
@@ -49,6 +55,6 @@ pub fn write_halves(words: &mut [u32], kind: u32, keys: &[u32], beside: &[u32])
     requires { ⌜ (48 ≤ length (now words)) × Whole kind (now keys) (now beside) ⌝ }
     ensures { λ _. ⌜ now (words .exit) ≡ halvesWords (together kind (now (keys .entry)) (now (beside .entry))) ++ drop 48 (now (words .entry)) ⌝ }
 {
-    write_left(&mut words[0..24], kind, keys, beside);
-    write_right(&mut words[24..48], kind, keys, beside);
+    write_left(&mut words[0..NODE_WORDS], kind, keys, beside);
+    write_right(&mut words[NODE_WORDS..TWO_NODES], kind, keys, beside);
 }

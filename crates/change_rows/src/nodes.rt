@@ -14,9 +14,9 @@ pub fn write_places(places: &mut [u32], m: usize)
     requires { ⌜ (length (now places) ≡ 24) × IsNumber m ⌝ }
     ensures { λ _. ⌜ now (places .exit) ≡ nodePlaces m ⌝ }
 {
-    let at = (8 + 24 * (m - 1)) as u32;
+    let at = (card::HEADER_WORDS + card::NODE_WORDS * (m - 1)) as u32;
     let mut i: usize = 0;
-    while i < 24 {
+    while i < card::NODE_WORDS {
         places[i] = at + i as u32;
         i += 1;
     }
@@ -29,7 +29,7 @@ fn write_row(row: &mut [u32], part: &[u32])
 {
     copy(row, 0, part);
     let used = part.len();
-    clear(&mut row[used..11]);
+    clear(&mut row[used..card::SLOTS]);
 }
 
 // The 24 words of a node: its kind, its keys, what is beside them, and 0.
@@ -37,10 +37,10 @@ pub fn write_node(words: &mut [u32], kind: u32, keys: &[u32], beside: &[u32])
     requires { ⌜ (length (now words) ≡ 24) × (length (now keys) ≤ 11) × (length (now beside) ≤ 11) ⌝ }
     ensures { λ _. ⌜ now (words .exit) ≡ nodeImage kind (now (keys .entry)) (now (beside .entry)) ⌝ }
 {
-    write_row(&mut words[1..12], keys);
-    write_row(&mut words[12..23], beside);
+    write_row(&mut words[card::KEYS..card::VALUES], keys);
+    write_row(&mut words[card::VALUES..card::LAST_WORD], beside);
     words[0] = kind;
-    words[23] = 0;
+    words[card::LAST_WORD] = 0;
 }
 
 // The places of a change over its new nodes, at the front of a row: "words 0 to 23 of each in order; a single link store .. comes last".
@@ -50,11 +50,11 @@ pub fn lay_places(places: &mut [u32], nodes: [u32; 3], count: usize, link: usize
 {
     let mut i: usize = 0;
     while i < count {
-        let at = 24 * i;
-        write_places(&mut places[at..at + 24], nodes[i] as usize);
+        let at = card::NODE_WORDS * i;
+        write_places(&mut places[at..at + card::NODE_WORDS], nodes[i] as usize);
         i += 1;
     }
-    places[24 * count] = link as u32;
+    places[card::NODE_WORDS * count] = link as u32;
 }
 
 // "its children being those before the first 0"
@@ -63,7 +63,7 @@ pub fn children(node: &[u32]) -> &[u32]
     ensures { λ r. ⌜ now r ≡ children (now (node .entry)) ⌝ }
 {
     let count = card::child_count(node);
-    &node[12..12 + count]
+    &node[card::VALUES..card::VALUES + count]
 }
 
 // "With c children the routing keys are words 1 to c − 1"

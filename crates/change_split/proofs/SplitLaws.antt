@@ -1,13 +1,12 @@
 -- Laws of a split, and of a parent that takes its tagged child in.
 use mathlib.Core.Path.{_≡_, refl, ap, ap₂, sym, _∙_, subst}
-use mathlib.Core.List.{List, [], _∷_, _++_}
-use Prim.Native.Nat.{ℕ, zero, suc, _+_, _-_, _<_}
+use mathlib.Core.List.{List, _∷_, _++_}
+use Prim.Native.Nat.{ℕ, _+_, _-_}
 use native.Mathlib.Omega.{arith}
 use native.Mathlib.Numerals.{add-one}
 use lib.ListN.{length, getD, take, drop, length-map, List·getD-map}
 use lib.Seq.{length-take-le}
 use borrow.Author.Tests.{ne-eqb, eq-eqb}
-use Rattle.laws.specs.Lists.{beforeZero}
 use Rattle.laws.specs.Sorting.{Pairs, insertPair, insertAll, sort, pairKeys, pairValues, keyAt}
 use Rattle.laws.proofs.Sorting.{map-take, map-drop}
 use Rattle.card.specs.Layout.{rootPlace, children, routingKeys, leafPairs}
@@ -84,9 +83,3 @@ module _ (parent tagged row part keys : List ℕ) (i n : ℕ) where
   children-joined e f h =
       h ∙ ap₂ (λ (l m : List ℕ). take i l ++ (m ++ drop (i + 1) l)) e f
       ∙ ap (λ (k : ℕ). take i (children parent) ++ (children tagged ++ drop k (children parent))) (add-one i)
-
--- the nodes that leave the tree with a tagged node
-pub cut-two : (a b : ℕ) → 0 < a → 0 < b → beforeZero (a ∷ b ∷ 0 ∷ []) ≡ a ∷ b ∷ []
-cut-two zero b p q = absurd (omega arith)
-cut-two (suc a) zero p q = absurd (omega arith)
-cut-two (suc a) (suc b) p q = refl

@@ -1,4 +1,6 @@
 // Two nodes that share what there is, "the left one getting the larger half", and one above them, laid out in a row of values.
+use card::THREE_NODES;
+use card::TWO_NODES;
 use change_rows::halves::key_between;
 use change_rows::halves::write_halves;
 use change_rows::nodes::write_node;
@@ -34,8 +36,13 @@ pub fn lay_under(
 {
     write_halves(values, kind, keys, beside);
     let key = [key_between(kind, keys, beside)];
-    write_node(&mut values[48..72], kind_above(link), &key, &nodes[0..2]);
-    values[72] = nodes[2];
+    write_node(
+        &mut values[TWO_NODES..THREE_NODES],
+        kind_above(link),
+        &key,
+        &nodes[0..2],
+    );
+    values[THREE_NODES] = nodes[2];
 }
 
 // "Leaf full: the 12 pairs go 6 and 6 into two leaves": a leaf, whichever it is, linked from the place, and a pair more.
@@ -50,8 +57,8 @@ pub fn lay_split_leaf(
     requires { ⌜ (length (now leaf) ≡ 24) × (length (leafPairs (now leaf)) ≡ 11) × (length (now values) ≡ 73) ⌝ }
     ensures { λ _. ⌜ ((m : ℕ) → now (values .exit) ≡ wordsLaid (splitLeafOf m link key value (now (leaf .entry)) nodes) (now (values .entry))) ⌝ }
 {
-    let mut keys: [u32; 12] = [0; 12];
-    let mut beside: [u32; 12] = [0; 12];
+    let mut keys: [u32; card::MOST_TOGETHER] = [0; card::MOST_TOGETHER];
+    let mut beside: [u32; card::MOST_TOGETHER] = [0; card::MOST_TOGETHER];
     let held = insert_leaf(&mut keys, &mut beside, 0, leaf);
     let all = insert_pair(&mut keys, &mut beside, held, key, value);
     lay_under(link, 1, &keys[0..all], &beside[0..all], nodes, values);

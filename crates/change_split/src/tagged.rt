@@ -9,7 +9,7 @@ ghost use mathlib.Core.Path.{_≡_};
 ghost use mathlib.Core.List.{[], _∷_};
 ghost use Prim.Native.Nat.{_+_, _-_, _≤_, _<_};
 ghost use lib.ListN.{length, take};
-ghost use Rattle.laws.specs.Lists.{beforeZero};
+ghost use Rattle.laws.specs.Lists.{pad};
 ghost use Rattle.card.specs.Layout.{greatestNodes, children};
 ghost use Rattle.change_decide.specs.Places.{parentAt, TaggedAt};
 ghost use Rattle.change_rows.specs.Nodes.{wordsLaid};
@@ -17,8 +17,8 @@ ghost use Rattle.change_split.specs.Split.{keysTakenIn, childrenTakenIn,
 
 // The nodes that leave the tree with a tagged node.
 pub fn cut_tagged(p: Position) -> [u32; 3]
-    requires { ⌜ (1 ≤ p .parent) × (p .parent ≤ greatestNodes) × (1 ≤ p .node) × (p .node ≤ greatestNodes) ⌝ }
-    ensures { λ r. ⌜ beforeZero r ≡ p .parent ∷ p .node ∷ [] ⌝ }
+    requires { ⌜ (p .parent ≤ greatestNodes) × (p .node ≤ greatestNodes) ⌝ }
+    ensures { λ r. ⌜ r ≡ pad 3 (p .parent ∷ p .node ∷ []) ⌝ }
 {
     [p.parent as u32, p.node as u32, 0]
 }
@@ -43,12 +43,17 @@ pub fn lay_absorb(card: &[u32], p: Position, nodes: [u32; 3], values: &mut [u32]
     requires { ⌜ TaggedAt (now card) p × (length (children (parentAt (now card) p)) ≤ 10) × (length (now values) ≡ 73) ⌝ }
     ensures { λ _. ⌜ now (values .exit) ≡ wordsLaid (absorbAt (now (card .entry)) p nodes) (now (values .entry)) ⌝ }
 {
-    let mut keys: [u32; 12] = [0; 12];
-    let mut kids: [u32; 12] = [0; 12];
+    let mut keys: [u32; card::MOST_TOGETHER] = [0; card::MOST_TOGETHER];
+    let mut kids: [u32; card::MOST_TOGETHER] = [0; card::MOST_TOGETHER];
     let n = take_in(card, p, &mut keys, &mut kids);
     let k = n - 1;
-    write_node(&mut values[0..24], 2, &keys[0..k], &kids[0..n]);
-    values[24] = nodes[0];
+    write_node(
+        &mut values[0..card::NODE_WORDS],
+        card::INTERNAL,
+        &keys[0..k],
+        &kids[0..n],
+    );
+    values[card::NODE_WORDS] = nodes[0];
 }
 
 // "Parent with 11: the 12 children go 6 and 6 into two internal nodes, the middle key above them in a tagged node"
@@ -56,8 +61,8 @@ pub fn lay_split_parent(card: &[u32], p: Position, nodes: [u32; 3], values: &mut
     requires { ⌜ TaggedAt (now card) p × (10 < length (children (parentAt (now card) p))) × (length (now values) ≡ 73) ⌝ }
     ensures { λ _. ⌜ now (values .exit) ≡ wordsLaid (splitParentAt (now (card .entry)) p nodes) (now (values .entry)) ⌝ }
 {
-    let mut keys: [u32; 12] = [0; 12];
-    let mut kids: [u32; 12] = [0; 12];
+    let mut keys: [u32; card::MOST_TOGETHER] = [0; card::MOST_TOGETHER];
+    let mut kids: [u32; card::MOST_TOGETHER] = [0; card::MOST_TOGETHER];
     let n = take_in(card, p, &mut keys, &mut kids);
     let k = n - 1;
     lay_under(p.above, 2, &keys[0..k], &kids[0..n], nodes, values);

@@ -107,12 +107,21 @@ accepted-openable c t a w = go (sound-accepted c (nodesOfLength (length c)) (k .
     go (h, f, e, x) = bool-cases (f .violated) broken whole
       where
         room : 3 + f .run ≤ countTrue (f .free)
-        room = order (countTrue (f .free)) (3 + f .run) (λ o. absurd (refuses c 5 (open-unrefused c (k .0) ∙ ap (openChecked (nodesOfLength (length c))) e ∙ open-some (nodesOfLength (length c)) h f ∙ open-scarce (nodesOfLength (length c)) f o) a)) (λ o. o)
+        room =
+            order (countTrue (f .free)) (3 + f .run)
+            (λ o. absurd (refuses c 5 (open-unrefused c (k .0) ∙ ap (openChecked (nodesOfLength (length c))) e
+            ∙ open-some (nodesOfLength (length c)) h f ∙ open-scarce (nodesOfLength (length c)) f o) a)) (λ o. o)
 
         broken : f .violated ≡ true → Openable (nodesOfLength (length c)) t
         broken q =
             let v = x .violation q in
-            record { free = f .free; exact = facts-exact x; key = f .key; deep = depthOf (v .0 .context); ready = violated (v .0) (omega (arith, x .violated, bit-true (f .violated) q)) (omega (arith, room, v .1)) }
+            record {
+              free = f .free;
+              exact = facts-exact x;
+              key = f .key;
+              deep = depthOf (v .0 .context);
+              ready = violated (v .0) (omega (arith, x .violated, bit-true (f .violated) q)) (omega (arith, room, v .1));
+            }
 
         whole : f .violated ≡ false → Openable (nodesOfLength (length c)) t
         whole q = record { free = f .free; exact = facts-exact x; key = f .key; deep = 0; ready = settled (omega (arith, x .violated, bit-false (f .violated) q)) (omega (arith, room)) }

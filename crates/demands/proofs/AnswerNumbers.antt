@@ -41,7 +41,9 @@ must-small c i v r next a b = bool-cases (eqb (getD c i 0) v) (λ q. rw q b) (λ
 header-small : (c : List ℕ) (n : ℕ) → headerRefusal c n < 64
 unfolding headerRefusal
 header-small c n =
-    must-small c 0 1 2 _ (omega arith) (must-small c 1 n 3 _ (omega arith) (must-small c 2 8 3 _ (omega arith) (must-small c 3 24 3 _ (omega arith) (must-small c 5 0 3 _ (omega arith) (must-small c 6 0 3 _ (omega arith) (must-small c 7 0 3 0 (omega arith) (omega arith)))))))
+    must-small c 0 1 2 _ (omega arith)
+    (must-small c 1 n 3 _ (omega arith) (must-small c 2 8 3 _ (omega arith) (must-small c 3 24 3 _ (omega arith)
+    (must-small c 5 0 3 _ (omega arith) (must-small c 6 0 3 _ (omega arith) (must-small c 7 0 3 0 (omega arith) (omega arith)))))))
 
 pub card-small : (c : List ℕ) → cardRefusal c < 64
 unfolding cardRefusal

@@ -16,15 +16,18 @@ use Rattle.demands.specs.RationTable.{rationTable}
 use Rattle.demands.proofs.Making.{Nears, nearer, storeAt, Left, run-left, stores-each}
 use Rattle.change_plan.specs.Planning.{Preparation, lastOf, withAll, refused, balanced, prepared}
 use Rattle.state.specs.Answers.{stepReply}
-use Rattle.state.specs.Memory.{Memory, advanced}
+use Rattle.state.specs.Memory.{Memory, settled as settledDoing, advanced}
 use Rattle.state.specs.declared.Answer.{Answer}
 use Rattle.state.specs.declared.Answer.the-variants.{Stored}
 use Rattle.state.specs.declared.Doing.{Doing}
 use Rattle.state.specs.declared.Doing.the-variants.{Idle, Inserting, Deleting}
+use Rattle.state.specs.declared.Phase.{Phase}
+use Rattle.state.specs.declared.Phase.the-variants.{NotBegun, Decided}
+use Rattle.state.proofs.Tasks.{in-hand, decided}
 use Rattle.demands.proofs.PlannedNumbers.{ByRule, cut-marked}
 use Rattle.demands.proofs.PlannedRepairs.{repair-by-rule}
 use Rattle.state.specs.Steps.{isIdle, stepRefused, stepFinal, stepStore}
-use Rattle.table.specs.Calls.{planning, stepPrepared, stepBegin, stepOf}
+use Rattle.call_step.specs.Calls.{planning, stepPrepared, stepBegin, stepOf}
 use Rattle.call_change.specs.Updates.{FirstChange, nextChange}
 use Rattle.call_change.specs.Results.{Storing}
 use Rattle.state.specs.Results.{moreToStore}
@@ -46,7 +49,7 @@ use Rattle.demands.proofs.PowerCuts.{Covered}
 use Rattle.demands.proofs.Stepping.{Right, right-final, kept-step, mends, rests}
 use Rattle.demands.proofs.PowerLoss.{loosen, loosen-due, find-same, insert-same, delete-same}
 use Rattle.demands.proofs.Finished.{work-not-refused}
-use Rattle.demands.proofs.Steps.{memory, step-repairs, prepared-ready, prepared-first, step-puts, step-removes}
+use Rattle.demands.proofs.Steps.{memory, job-settled, step-repairs, prepared-ready, prepared-first, step-puts, step-removes}
 use Rattle.theory_tree.proofs.Path.{depthOf}
 use Rattle.theory_tree.specs.FreeNodes.{Exact}
 use Rattle.theory_tree.specs.Tree.{Tree}
@@ -82,9 +85,9 @@ advanced-none : (m : Memory) → advanced m [] .rest ≡ []
 unfolding advanced
 advanced-none m = refl
 
-advanced-same : (m : Memory) → advanced m [] .doing ≡ m .doing
+advanced-doing : (m : Memory) → advanced m [] .doing ≡ settledDoing (m .doing)
 unfolding advanced
-advanced-same m = refl
+advanced-doing m = refl
 
 drop-all : (ss : List Store) (k : ℕ) → k ≡ length ss → drop k ss ≡ []
 drop-all [] zero e = refl
@@ -114,7 +117,9 @@ module _ (final : Answer) (most : ℕ) (w : World rationTable) (x : Nears final 
     pub all-left : (qs : List Event) → LeftUncut rationTable qs w → stepsIn qs ≡ suc (length rest) → (few : ℕ) × (few < most) × Left final m few [] (run rationTable qs w)
     all-left qs u h = at (first-step w qs u)
       where
-        at : ((stepsIn qs ≡ 0) × (run rationTable qs w ≡ w)) ⊎ ((more : List Event) × LeftUncut rationTable more (happens rationTable step w) × (stepsIn qs ≡ suc (stepsIn more)) × (run rationTable qs w ≡ run rationTable more (happens rationTable step w)))
+        at : ((stepsIn qs ≡ 0) × (run rationTable qs w ≡ w))
+            ⊎ ((more : List Event) × LeftUncut rationTable more (happens rationTable step w) × (stepsIn qs ≡ suc (stepsIn more))
+            × (run rationTable qs w ≡ run rationTable more (happens rationTable step w)))
             → (few : ℕ) × (few < most) × Left final m few [] (run rationTable qs w)
         at (inl (z, e)) = absurd (omega (arith, z, h))
         at (inr (more, v, k, e)) =
@@ -123,22 +128,29 @@ module _ (final : Answer) (most : ℕ) (w : World rationTable) (x : Nears final 
             let d = drop-all rest (stepsIn more) (omega (arith, k, h)) in
             (r .0, omega (arith, r .1, l .1), rw e (subst (λ (y : List Store). Left final m (r .0) y (run rationTable more (happens rationTable step w))) d (r .2)))
 
-    module _ (short : suc (length rest) ≤ 73) (given out : List ℕ) (taken : Given (w .state .free) (w .state .last) given) (is-free : m .free ≡ marked false given (w .state .free)) (is-last : m .last ≡ getD given (length given - 1) (w .state .last)) (is-cut : m .cut ≡ out) (freed : withAll out (m .free) ≡ marked true out (m .free)) where
+    module _ (short : suc (length rest) ≤ 73) (given out : List ℕ) (taken : Given (w .state .free) (w .state .last) given)
+        (is-free : m .free ≡ marked false given (w .state .free)) (is-last : m .last ≡ getD given (length given - 1) (w .state .last))
+        (is-cut : m .cut ≡ out) (freed : withAll out (m .free) ≡ marked true out (m .free)) where
       pub change-made : Makes rationTable w given out (s ∷ rest)
       change-made = record { short = short; taken = taken; last-taken = last; each = each; free-within = within; free-after = after }
         where
           each : (qs : List Event) → LeftUncut rationTable qs w → stepsIn qs < suc (length rest) → StoresNow rationTable (run rationTable qs w) (storeAt (s ∷ rest) (stepsIn qs))
           each qs u h = at (first-step w qs u)
             where
-              at : ((stepsIn qs ≡ 0) × (run rationTable qs w ≡ w)) ⊎ ((more : List Event) × LeftUncut rationTable more (happens rationTable step w) × (stepsIn qs ≡ suc (stepsIn more)) × (run rationTable qs w ≡ run rationTable more (happens rationTable step w)))
+              at : ((stepsIn qs ≡ 0) × (run rationTable qs w ≡ w))
+                  ⊎ ((more : List Event) × LeftUncut rationTable more (happens rationTable step w) × (stepsIn qs ≡ suc (stepsIn more))
+                  × (run rationTable qs w ≡ run rationTable more (happens rationTable step w)))
                   → StoresNow rationTable (run rationTable qs w) (storeAt (s ∷ rest) (stepsIn qs))
               at (inl (z, e)) = rw (z, e) first-stored
               at (inr (more, v, k, e)) = rw (k, e) (stores-each final m (then-left .0) rest (happens rationTable step w) (then-left .2) more v (omega (arith, k, h)))
 
-          state-at : (qs : List Event) → LeftUncut rationTable qs w → 0 < stepsIn qs → stepsIn qs ≤ suc (length rest) → (k : ℕ) × (stepsIn qs ≡ suc k) × (run rationTable qs w .state ≡ advanced m (drop k rest))
+          state-at : (qs : List Event) → LeftUncut rationTable qs w → 0 < stepsIn qs → stepsIn qs ≤ suc (length rest)
+              → (k : ℕ) × (stepsIn qs ≡ suc k) × (run rationTable qs w .state ≡ advanced m (drop k rest))
           state-at qs u p h = at (first-step w qs u)
             where
-              at : ((stepsIn qs ≡ 0) × (run rationTable qs w ≡ w)) ⊎ ((more : List Event) × LeftUncut rationTable more (happens rationTable step w) × (stepsIn qs ≡ suc (stepsIn more)) × (run rationTable qs w ≡ run rationTable more (happens rationTable step w)))
+              at : ((stepsIn qs ≡ 0) × (run rationTable qs w ≡ w))
+                  ⊎ ((more : List Event) × LeftUncut rationTable more (happens rationTable step w) × (stepsIn qs ≡ suc (stepsIn more))
+                  × (run rationTable qs w ≡ run rationTable more (happens rationTable step w)))
                   → (k : ℕ) × (stepsIn qs ≡ suc k) × (run rationTable qs w .state ≡ advanced m (drop k rest))
               at (inl (z, e)) = absurd (omega (arith, z, p))
               at (inr (more, v, k, e)) = (stepsIn more, k, rw e (run-left final m (then-left .0) rest (happens rationTable step w) (then-left .2) more v (omega (arith, k, h)) .2 .is-left))
@@ -154,7 +166,8 @@ module _ (final : Answer) (most : ℕ) (w : World rationTable) (x : Nears final 
           after : (qs : List Event) → LeftUncut rationTable qs w → stepsIn qs ≡ suc (length rest) → run rationTable qs w .state .free ≡ marked true out (marked false given (w .state .free))
           after qs u h =
               let a = state-at qs u (omega arith) (omega arith) in
-              ap (λ (y : Memory). y .free) (a .2 ∙ ap (advanced m) (drop-all rest (a .0) (omega (arith, a .1, h)))) ∙ advanced-all m ∙ ap (λ (y : List ℕ). withAll y (m .free)) is-cut ∙ freed ∙ ap (marked true out) is-free
+              ap (λ (y : Memory). y .free) (a .2 ∙ ap (advanced m) (drop-all rest (a .0) (omega (arith, a .1, h)))) ∙ advanced-all m
+              ∙ ap (λ (y : List ℕ). withAll y (m .free)) is-cut ∙ freed ∙ ap (marked true out) is-free
 
 -- ---- between two changes
 
@@ -169,7 +182,11 @@ last-same last (m ∷ x ∷ ms) =
 
 -- the work in hand has had its first change planned: an update that has, or a repair of opening's
 abbrev pub Begun : Doing → Type 0
-Begun doing = (key : ℕ) × (final : Answer) × (u : Option Update) × Job doing key final u
+Begun doing = (phase : Phase) × (key : ℕ) × (final : Answer) × (u : Option Update) × Job phase doing key final u
+
+-- and so it stays
+begun-settled : {doing : Doing} → Begun doing → Begun (settledDoing doing)
+begun-settled (phase, key, final, u, j) = (Decided, key, final, u, job-settled j)
 
 -- the next change of a repair
 record RepairNext (c : List ℕ) (n : ℕ) (m : Memory) : Type 0 where
@@ -187,29 +204,38 @@ record RepairNext (c : List ℕ) (n : ℕ) (m : Memory) : Type 0 where
 abbrev Turns : List ℕ → ℕ → Tree → Memory → Answer → Type 0
 Turns c n t m due = Exact n (m .free) t × (((tableViolations t ≡ 0) × (stepOf c m .answer ≡ due)) ⊎ RepairNext c n m)
 
-idle-no-job : {doing : Doing} {key : ℕ} {final : Answer} {u : Option Update} → Job doing key final u → doing ≡ Idle → ⊥
+idle-no-job : {phase : Phase} {doing : Doing} {key : ℕ} {final : Answer} {u : Option Update} → Job phase doing key final u → doing ≡ Idle → ⊥
 idle-no-job job-repair e = impossible (cc)
-idle-no-job job-insert e = impossible (cc)
-idle-no-job job-delete e = impossible (cc)
+idle-no-job (job-insert p) e = impossible (cc)
+idle-no-job (job-delete p) e = impossible (cc)
 
-put-no-job : (k v : ℕ) {doing : Doing} {key : ℕ} {final : Answer} {u : Option Update} → Job doing key final u → doing ≡ Inserting k v false → ⊥
+put-no-job : (k v : ℕ) {phase : Phase} {doing : Doing} {key : ℕ} {final : Answer} {u : Option Update} → Job phase doing key final u → doing ≡ Inserting k v NotBegun → ⊥
 put-no-job k v job-repair e = impossible (cc)
-put-no-job k v job-insert e = impossible (cc)
-put-no-job k v job-delete e = impossible (cc)
+put-no-job k v (job-insert in-hand) e = impossible (cc)
+put-no-job k v (job-insert decided) e = impossible (cc)
+put-no-job k v (job-delete p) e = impossible (cc)
 
-remove-no-job : (k : ℕ) {doing : Doing} {key : ℕ} {final : Answer} {u : Option Update} → Job doing key final u → doing ≡ Deleting k false 0 → ⊥
+remove-no-job : (k : ℕ) {phase : Phase} {doing : Doing} {key : ℕ} {final : Answer} {u : Option Update} → Job phase doing key final u → doing ≡ Deleting k NotBegun 0 → ⊥
 remove-no-job k job-repair e = impossible (cc)
-remove-no-job k job-insert e = impossible (cc)
-remove-no-job k job-delete e = impossible (cc)
+remove-no-job k (job-insert p) e = impossible (cc)
+remove-no-job k (job-delete in-hand) e = impossible (cc)
+remove-no-job k (job-delete decided) e = impossible (cc)
 
-turns-at : {c : List ℕ} {n : ℕ} {t goal : Tree} {steps : ℕ} {m : Memory} {h : Hand} {due : Answer} → Table c n t → Openable n t → Stage c n t goal steps m h due → m .rest ≡ [] → Begun (m .doing) → Turns c n t m due
-turns-at b o (stage-idle z r x g) e k = absurd (idle-no-job (k .3) refl)
-turns-at b o (stage-put {key = key} {value = value} z r x low high room q g) e k = absurd (put-no-job key value (k .3) refl)
-turns-at b o (stage-remove {key = key} z r x low high q g) e k = absurd (remove-no-job key (k .3) refl)
+turns-at : {c : List ℕ} {n : ℕ} {t goal : Tree} {steps : ℕ} {m : Memory} {h : Hand} {due : Answer} → Table c n t → Openable n t
+    → Stage c n t goal steps m h due → m .rest ≡ [] → Begun (m .doing) → Turns c n t m due
+turns-at b o (stage-idle z r x g) e k = absurd (idle-no-job (k .4) refl)
+turns-at b o (stage-put {key = key} {value = value} z r x low high room q g) e k = absurd (put-no-job key value (k .4) refl)
+turns-at b o (stage-remove {key = key} z r x low high q g) e k = absurd (remove-no-job key (k .4) refl)
 turns-at b o (stage-first {s = s} {rest = rest} j p en count few hd) e k = let y : _≡_ {A = List Store} (s ∷ rest) [] = e in impossible (cc)
 turns-at b o (stage-within {s = s} {rest = rest} j en p q few hd) e k = let y : _≡_ {A = List Store} (s ∷ rest) [] = e in impossible (cc)
-turns-at {c} {n} {t} {due = due} b o (stage-between {free} {last} {key} {doing} j en deep (settled z r) x few hd) e k =
-    (x, inl (z, ap (λ y. y .answer) (step-repairs c n (b .sized) (b .header) free last j ∙ prepared-ready c (memory n free last doing [] []) doing due (nextRepair c n key free last) (rests c n key t free last b z))))
+turns-at {c} {n} {t} {due = due} b o (stage-between {free} {last} {key} {doing} j en deep (settled z r) x few hd) e k = (
+  x,
+  inl (
+    z,
+    ap (λ y. y .answer) (step-repairs c n (b .sized) (b .header) free last j
+        ∙ prepared-ready c (memory n free last doing [] []) doing due (nextRepair c n key free last) (rests c n key t free last b z)),
+  ),
+)
 turns-at {c} {n} {t} {due = due} b o (stage-between {free} {last} {key} {doing} j en deep (violated v w r) x few hd) e k = (x, inr (apply (mends c n key t free last b x v w r)))
   where
     apply : Repaired c n key t free last (depthOf (v .context)) → RepairNext c n (memory n free last doing [] [])
@@ -229,12 +255,15 @@ turns-at {c} {n} {t} {due = due} b o (stage-between {free} {last} {key} {doing} 
               out = q .cut;
               planned = planned;
               short = rw e₁ at (q .short);
-              first-made = step-repairs c n (b .sized) (b .header) free last j ∙ prepared-first c (memory n free last doing [] []) doing due (nextRepair c n key free last) s rest (q .free-then) (q .last-then) (q .cut) planned (first-storable (p .0 .plays) .inside);
+              first-made = step-repairs c n (b .sized) (b .header) free last j ∙ prepared-first c (memory n free last doing [] []) doing due
+                  (nextRepair c n key free last) s rest (q .free-then) (q .last-then) (q .cut) planned (first-storable (p .0 .plays) .inside);
             }
 
 -- one turn of a repair, where all that come after it are by the rules
-repair-next : (final : Answer) (most : ℕ) (w : World rationTable) (x : Nears final most w) → Begun (w .state .doing) → Turns (w .card) (x .covered .size) (x .covered .inv .tree) (w .state) (x .covered .inv .due)
-    → ((few : ℕ) (v : World rationTable) → few < most → Nears final few v → v .state .rest ≡ [] → Begun (v .state .doing) → Repairs rationTable (stepReply final) v) → Repairs rationTable (stepReply final) w
+repair-next : (final : Answer) (most : ℕ) (w : World rationTable) (x : Nears final most w) → Begun (w .state .doing)
+    → Turns (w .card) (x .covered .size) (x .covered .inv .tree) (w .state) (x .covered .inv .due)
+    → ((few : ℕ) (v : World rationTable) → few < most → Nears final few v → v .state .rest ≡ [] → Begun (v .state .doing)
+    → Repairs rationTable (stepReply final) v) → Repairs rationTable (stepReply final) w
 unfolding replyTo
 repair-next final most w x k (exact, turn) later = at turn
   where
@@ -242,7 +271,11 @@ repair-next final most w x k (exact, turn) later = at turn
     v = x .covered
 
     between : Between rationTable w (v .inv .tree)
-    between = record { sound = table-well-formed (v .inv .table); free-exact = subst (λ y. Exact y (w .state .free) (v .inv .tree)) (sym (nodes-same (v .size) (v .steps) w (x .book-now) (v .inv))) exact }
+    between =
+        record {
+          sound = table-well-formed (v .inv .table);
+          free-exact = subst (λ y. Exact y (w .state .free) (v .inv .tree)) (sym (nodes-same (v .size) (v .steps) w (x .book-now) (v .inv))) exact;
+        }
 
     at : ((tableViolations (v .inv .tree) ≡ 0) × (stepOf (w .card) (w .state) .answer ≡ v .inv .due)) ⊎ RepairNext (w .card) (v .size) (w .state) → Repairs rationTable (stepReply final) w
     at (inl (z, a)) = done (v .inv .tree) between z (ap stepReply (a ∙ x .is-due))
@@ -250,12 +283,15 @@ repair-next final most w x k (exact, turn) later = at turn
         let r = repair-by-rule (w .card) (v .size) (q .key) (q .planned) in
         let m = memory (v .size) (q .then-free) (q .then-last) (w .state .doing) [] (q .out) in
         mends-by (v .inv .tree) between (r .rule)
-        (change-made final most w x m (q .first) (q .rest) (q .first-made) (q .short) (r .given) (q .out) (r .in-turn) (r .left) (r .given-last ∙ last-same (w .state .last) (r .given)) refl (cut-marked (q .out) (q .then-free)))
+        (change-made final most w x m (q .first) (q .rest) (q .first-made) (q .short) (r .given) (q .out) (r .in-turn) (r .left)
+        (r .given-last ∙ last-same (w .state .last) (r .given)) refl (cut-marked (q .out) (q .then-free)))
         (λ qs u n. let l = all-left final most w x m (q .first) (q .rest) (q .first-made) qs u n in
-        later (l .0) (run rationTable qs w) (l .1) (l .2 .nears) (ap (λ (y : Memory). y .rest) (l .2 .is-left) ∙ advanced-none m) (subst Begun (sym (ap (λ (y : Memory). y .doing) (l .2 .is-left) ∙ advanced-same m)) k))
+        later (l .0) (run rationTable qs w) (l .1) (l .2 .nears) (ap (λ (y : Memory). y .rest) (l .2 .is-left) ∙ advanced-none m)
+        (subst Begun (sym (ap (λ (y : Memory). y .doing) (l .2 .is-left) ∙ advanced-doing m)) (begun-settled k)))
 
 -- "Repairs go on until balanced": as many changes as there are steps left, at most
-pub repairs-by-rules : (final : Answer) (bound most : ℕ) (w : World rationTable) → most < bound → Nears final most w → w .state .rest ≡ [] → Begun (w .state .doing) → Repairs rationTable (stepReply final) w
+pub repairs-by-rules : (final : Answer) (bound most : ℕ) (w : World rationTable) → most < bound → Nears final most w → w .state .rest ≡ []
+    → Begun (w .state .doing) → Repairs rationTable (stepReply final) w
 repairs-by-rules final zero most w h x e k = absurd (omega arith)
 repairs-by-rules final (suc bound) most w h x e k =
     repair-next final most w x k (turns-at (x .covered .inv .table) (x .covered .inv .openable) (x .covered .inv .stage) e k)
@@ -283,10 +319,14 @@ module _ (final : Answer) (most : ℕ) (w : World rationTable) (x : Nears final 
         let v = x .covered in
         let i = loosen (v .size) (v .steps) (suc (v .steps)) w (x .book-now) (omega arith) (v .inv) in
         let q = kept-step (v .size) (v .steps) w (x .book-now) i in
-        right-final (subst (λ y. Right y (i .due)) (ap (λ y. y .answer) e) (q .1)) (final-counts a f) ∙ loosen-due (v .size) (v .steps) (suc (v .steps)) w (x .book-now) (omega arith) (v .inv) ∙ x .is-due
+        right-final (subst (λ y. Right y (i .due)) (ap (λ y. y .answer) e) (q .1)) (final-counts a f)
+        ∙ loosen-due (v .size) (v .steps) (suc (v .steps)) w (x .book-now) (omega arith) (v .inv) ∙ x .is-due
 
-    pub first-by-rules : (f : FirstChange) → stepOf (w .card) (w .state) ≡ stepBegin (w .card) (w .state) f → Final (f .final) → Storing (f .preparation) → (f .preparation ≡ balanced → f .final ≡ final → Nothing)
-        → ((ss : List Store) (fewer : List Bool) (now : ℕ) (out : List ℕ) → f .preparation ≡ prepared ss fewer now out → ByRule Rule (w .state .free) (w .state .last) ss fewer now out × Begun (f .doing)) → Updates rationTable Nothing Rule (stepReply final) w
+    pub first-by-rules : (f : FirstChange) → stepOf (w .card) (w .state) ≡ stepBegin (w .card) (w .state) f → Final (f .final)
+        → Storing (f .preparation) → (f .preparation ≡ balanced → f .final ≡ final → Nothing)
+        → ((ss : List Store) (fewer : List Bool) (now : ℕ) (out : List ℕ) → f .preparation ≡ prepared ss fewer now out
+        → ByRule Rule (w .state .free) (w .state .last) ss fewer now out × Begun (f .doing))
+        → Updates rationTable Nothing Rule (stepReply final) w
     unfolding stepBegin stepPrepared stepStore planning replyTo stepFinal Storing moreToStore
     first-by-rules f e fin stores none-due rule = at (f .preparation) refl stores
       where
@@ -305,15 +345,24 @@ module _ (final : Answer) (most : ℕ) (w : World rationTable) (x : Nears final 
 
             inside : s .0 < length (w .card) → Updates rationTable Nothing Rule (stepReply final) w
             inside o =
-                let first : stepOf (w .card) (w .state) ≡ record { answer = Stored (s .0); card = set (w .card) (s .0) (s .1); memory = advanced (memory (w .state .nodes) fewer now (f .doing) [] out) rest } = e ∙ ap (stepPrepared (w .card) (w .state) (f .doing) (f .final)) q ∙ rw (lt-ltb (s .0) (length (w .card)) o) in
+                let first : stepOf (w .card) (w .state) ≡ record {
+                  answer = Stored (s .0);
+                  card = set (w .card) (s .0) (s .1);
+                  memory = advanced (memory (w .state .nodes) fewer now (f .doing) [] out) rest;
+                } = e ∙ ap (stepPrepared (w .card) (w .state) (f .doing) (f .final)) q ∙ rw (lt-ltb (s .0) (length (w .card)) o) in
                 let r = rule (s ∷ rest) fewer now out q in
-                changes (r .0 .rule) (change-made final most w x m s rest first (short (r .0 .given) out (s ∷ rest) (r .0 .rule)) (r .0 .given) out (r .0 .in-turn) (r .0 .left) (r .0 .given-last ∙ last-same (w .state .last) (r .0 .given)) refl (cut-marked out fewer))
+                changes (r .0 .rule)
+                (change-made final most w x m s rest first (short (r .0 .given) out (s ∷ rest) (r .0 .rule)) (r .0 .given) out
+                (r .0 .in-turn) (r .0 .left) (r .0 .given-last ∙ last-same (w .state .last) (r .0 .given)) refl (cut-marked out fewer))
                 (λ qs u n. let l = all-left final most w x m s rest first qs u n in
-                repairs-by-rules final (suc (l .0)) (l .0) (run rationTable qs w) (omega arith) (l .2 .nears) (ap (λ (y : Memory). y .rest) (l .2 .is-left) ∙ advanced-none m) (subst Begun (sym (ap (λ (y : Memory). y .doing) (l .2 .is-left) ∙ advanced-same m)) (r .1)))
+                repairs-by-rules final (suc (l .0)) (l .0) (run rationTable qs w) (omega arith) (l .2 .nears)
+                (ap (λ (y : Memory). y .rest) (l .2 .is-left) ∙ advanced-none m)
+                (subst Begun (sym (ap (λ (y : Memory). y .doing) (l .2 .is-left) ∙ advanced-doing m)) (begun-settled (r .1))))
 
 -- where an update stands that has just been started
-pub put-turns : {c : List ℕ} {n : ℕ} {t goal : Tree} {steps : ℕ} {m : Memory} {h : Hand} {due : Answer} (key value : ℕ) → Table c n t → Stage c n t goal steps m h due → m .doing ≡ Inserting key value false
-    → stepOf c m ≡ stepBegin c m (nextChange c n (m .free) (m .last) (Inserting key value false) (PutIn key value))
+pub put-turns : {c : List ℕ} {n : ℕ} {t goal : Tree} {steps : ℕ} {m : Memory} {h : Hand} {due : Answer} (key value : ℕ) → Table c n t
+    → Stage c n t goal steps m h due → m .doing ≡ Inserting key value NotBegun
+    → stepOf c m ≡ stepBegin c m (nextChange c n (m .free) (m .last) (Inserting key value NotBegun) (PutIn key value))
 put-turns key value b (stage-idle z r x g) e = impossible (cc)
 put-turns {c} {n} key value b (stage-put {free} {last} {key = k} {value = v} z r x low high room q g) e =
     let ek : k ≡ key = cc in
@@ -324,8 +373,8 @@ put-turns key value b (stage-first j p en count few hd) e = absurd (put-no-job k
 put-turns key value b (stage-between j en deep k x few hd) e = absurd (put-no-job key value j e)
 put-turns key value b (stage-within j en p q few hd) e = absurd (put-no-job key value j e)
 
-pub remove-turns : {c : List ℕ} {n : ℕ} {t goal : Tree} {steps : ℕ} {m : Memory} {h : Hand} {due : Answer} (key : ℕ) → Table c n t → Stage c n t goal steps m h due → m .doing ≡ Deleting key false 0
-    → stepOf c m ≡ stepBegin c m (nextChange c n (m .free) (m .last) (Deleting key false 0) (TakeOut key))
+pub remove-turns : {c : List ℕ} {n : ℕ} {t goal : Tree} {steps : ℕ} {m : Memory} {h : Hand} {due : Answer} (key : ℕ) → Table c n t → Stage c n t goal steps m h due → m .doing ≡ Deleting key NotBegun 0
+    → stepOf c m ≡ stepBegin c m (nextChange c n (m .free) (m .last) (Deleting key NotBegun 0) (TakeOut key))
 remove-turns key b (stage-idle z r x g) e = impossible (cc)
 remove-turns key b (stage-put z r x low high room q g) e = impossible (cc)
 remove-turns {c} {n} key b (stage-remove {free} {last} {key = k} z r x low high q g) e =

@@ -94,13 +94,16 @@ finds c key =
     (λ r s e d. find-due c key r (length-accepted c (nodesOn c) s ∙ e) d)
     past
   where
-    past : Sized (length c) (nodesOn c) → Formatted c (nodesOn c) → ByRows (row 6 (key ≡ 0) (row 9 (leadsTo c key ≡ none) end)) (λ r. foundReply (findOf c key) ≡ refusal r) (ReadsLeaf c key (foundReply (findOf c key)))
+    past : Sized (length c) (nodesOn c) → Formatted c (nodesOn c) → ByRows (row 6 (key ≡ 0) (row 9 (leadsTo c key ≡ none) end))
+        (λ r. foundReply (findOf c key) ≡ refusal r) (ReadsLeaf c key (foundReply (findOf c key)))
     past s f = keyed (ℕ-discrete key 0)
       where
         a : (cardRefusal c ≡ 0) × (nodesOfLength (length c) ≡ nodesOn c)
         a = card-accepted s f
 
-        at : (key ≡ 0 → ⊥) → (x : Reached) → leafOf (way c (nodesOn c) key) ≡ x → ((leadsTo c key ≡ none) × (foundReply (findOf c key) ≡ refusal 9)) ⊎ ((leadsTo c key ≡ none → ⊥) × ReadsLeaf c key (foundReply (findOf c key)))
+        at : (key ≡ 0 → ⊥) → (x : Reached) → leafOf (way c (nodesOn c) key) ≡ x
+            → ((leadsTo c key ≡ none) × (foundReply (findOf c key) ≡ refusal 9))
+            ⊎ ((leadsTo c key ≡ none → ⊥) × ReadsLeaf c key (foundReply (findOf c key)))
         at d NotReached e = inl (leaf-none (leadsTo c key) (sym (leaf-way c key) ∙ ap arrived e), rw (find-key c key (a .0) d, a .1, e))
         at d (ReachedLeaf m deep) e =
             let l = leaf-some (leadsTo c key) m (sym (leaf-way c key) ∙ ap arrived e) in
@@ -109,7 +112,9 @@ finds c key =
               (m, l .0, l .1, rw (find-key c key (a .0) d, a .1, e) (found-works (nodeAt c m) key)),
             )
 
-        keyed : Dec (key ≡ 0) → ((key ≡ 0) × (foundReply (findOf c key) ≡ refusal 6)) ⊎ ((key ≡ 0 → ⊥) × (((leadsTo c key ≡ none) × (foundReply (findOf c key) ≡ refusal 9)) ⊎ ((leadsTo c key ≡ none → ⊥) × ReadsLeaf c key (foundReply (findOf c key)))))
+        keyed : Dec (key ≡ 0) → ((key ≡ 0) × (foundReply (findOf c key) ≡ refusal 6))
+            ⊎ ((key ≡ 0 → ⊥) × (((leadsTo c key ≡ none) × (foundReply (findOf c key) ≡ refusal 9))
+            ⊎ ((leadsTo c key ≡ none → ⊥) × ReadsLeaf c key (foundReply (findOf c key)))))
         keyed (yes z) = inl (z, rw (find-no-key c key (a .0) z))
         keyed (no d) = inr (d, at d (leafOf (way c (nodesOn c) key)) refl)
 
@@ -157,10 +162,13 @@ opens c =
     (λ r s e d. rw (open-due c r (length-accepted c (nodesOn c) s ∙ e) d) (none-handed r))
     past
   where
-    past : Sized (length c) (nodesOn c) → Formatted c (nodesOn c) → ByRows (row 4 (Unsound c) (row 5 (Scarce c) end)) (HandsNone rationTable (handed (openOf c))) (OpensTo rationTable c (handed (openOf c)))
+    past : Sized (length c) (nodesOn c) → Formatted c (nodesOn c) → ByRows (row 4 (Unsound c) (row 5 (Scarce c) end))
+        (HandsNone rationTable (handed (openOf c))) (OpensTo rationTable c (handed (openOf c)))
     past s k = checked (tableCheck c (nodesOn c)) refl
       where
-        checked : (x : Option (ℕ × Findings)) → tableCheck c (nodesOn c) ≡ x → (Unsound c × HandsNone rationTable (handed (openOf c)) 4) ⊎ ((Unsound c → ⊥) × ((Scarce c × HandsNone rationTable (handed (openOf c)) 5) ⊎ ((Scarce c → ⊥) × OpensTo rationTable c (handed (openOf c)))))
+        checked : (x : Option (ℕ × Findings)) → tableCheck c (nodesOn c) ≡ x
+            → (Unsound c × HandsNone rationTable (handed (openOf c)) 4) ⊎ ((Unsound c → ⊥)
+            × ((Scarce c × HandsNone rationTable (handed (openOf c)) 5) ⊎ ((Scarce c → ⊥) × OpensTo rationTable c (handed (openOf c)))))
         checked none e =
             let a = card-accepted s k in
             let is : openOf c ≡ noBeginning 4 = rw (a .0, a .1, e) in
@@ -184,7 +192,14 @@ opens c =
                     let code : startReply (openOf c .begun) .code ≡ 69 = rw is in
                     inr (
                       λ p. omega (arith, code, ap (λ (x : Reply). x .code) (refuses-few c (nodesOn c) s k .1 p)),
-                      record { table = t .0; sound = t .1; hands = inr (omega (arith, t .2 .violated, bit-true (f .violated) q), rw is, (f .key, rw is)); nodes-noted = rw is; free-noted = rw is (facts-exact (t .2)); search-first = rw is },
+                      record {
+                        table = t .0;
+                        sound = t .1;
+                        hands = inr (omega (arith, t .2 .violated, bit-true (f .violated) q), rw is, (f .key, rw is));
+                        nodes-noted = rw is;
+                        free-noted = rw is (facts-exact (t .2));
+                        search-first = rw is;
+                      },
                     )
 
                 whole : f .violated ≡ false → (Scarce c × HandsNone rationTable (handed (openOf c)) 5) ⊎ ((Scarce c → ⊥) × OpensTo rationTable c (handed (openOf c)))
@@ -193,5 +208,12 @@ opens c =
                     let code : startReply (openOf c .begun) .code ≡ 68 = rw is in
                     inr (
                       λ p. omega (arith, code, ap (λ (x : Reply). x .code) (refuses-few c (nodesOn c) s k .1 p)),
-                      record { table = t .0; sound = t .1; hands = inl (omega (arith, t .2 .violated, bit-false (f .violated) q), rw is, rw is); nodes-noted = rw is; free-noted = rw is (facts-exact (t .2)); search-first = rw is },
+                      record {
+                        table = t .0;
+                        sound = t .1;
+                        hands = inl (omega (arith, t .2 .violated, bit-false (f .violated) q), rw is, rw is);
+                        nodes-noted = rw is;
+                        free-noted = rw is (facts-exact (t .2));
+                        search-first = rw is;
+                      },
                     )

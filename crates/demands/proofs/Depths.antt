@@ -1,6 +1,6 @@
 -- Document 02, W-214, of the ration table.
 use mathlib.Core.Path.{ap, subst}
-use mathlib.Core.Bool.{true, false}
+use mathlib.Core.Bool.{true}
 use mathlib.Core.List.{List}
 use mathlib.Core.Option.{none}
 use Prim.Native.Nat.{ℕ, _^_, _<_}
@@ -22,6 +22,7 @@ use Rattle.theory_check.proofs.Level.{same-height}
 use Rattle.theory_check.proofs.Rations.{balanced-pairs, pairs-bound-levels, few-pairs-flat, flat-leaf}
 use Rattle.call_start.specs.Starts.{insertOf, deleteOf}
 use Rattle.state.specs.declared.Doing.the-variants.{Inserting, Deleting}
+use Rattle.state.specs.declared.Phase.the-variants.{NotBegun}
 use Rattle.theory_tree.specs.Height.{Height}
 use Rattle.theory_tree.specs.Pairs.{pairs, lookup}
 use Rattle.theory_tree.specs.Tree.{Tree}
@@ -59,13 +60,13 @@ module _ (w : World rationTable) (b : Book) (v : Covered w b) (key : ℕ) (high 
   insert-ends value t sound h level s =
       let e =
       begun-started (insertOf (w .card) (w .state) key value .begun)
-      (start-small (w .card) (w .state) key (Inserting key value false) (startRoom (w .card) key (w .state .free))) s in
+      (start-small (w .card) (w .state) key (Inserting key value NotBegun) (startRoom (w .card) key (w .state .free))) s in
       finishes-by (lookup key (b .held)) (storesAt h) (happens rationTable (insert key value) w) (insert-stores-by-depth (v .inv) key high value e t sound h level)
 
   delete-ends : EndsByDepth rationTable (delete key) key w (b .held)
   unfolding replyTo deleteOf
   delete-ends t sound h level s =
-      let e = begun-started (deleteOf (w .card) (w .state) key .begun) (start-small (w .card) (w .state) key (Deleting key false 0) (λ l. true)) s in
+      let e = begun-started (deleteOf (w .card) (w .state) key .begun) (start-small (w .card) (w .state) key (Deleting key NotBegun 0) (λ l. true)) s in
       finishes-by (lookup key (b .held)) (storesAt h) (happens rationTable (delete key) w) (delete-stores-by-depth (v .inv) key high e t sound h level)
 
 pub w-214 : W214 rationTable

@@ -28,7 +28,6 @@ use Rattle.demands.proofs.PowerCuts.{dictionary-same, Covered, always, 
 use Rattle.demands.proofs.FirstSteps.{demand-1}
 use Rattle.demands.proofs.AnswerNumbers.{start-small}
 use Rattle.demands.proofs.ReplyLaws.{begun-started}
-use Rattle.demands.proofs.StepRows.{step-sized}
 use Rattle.demands.proofs.UpdatesByRules.{insert-by-rules, delete-by-rules, opening-by-rules}
 use Rattle.demands.proofs.Formatting.{formats-right}
 use Rattle.demands.proofs.WayDown.{landed, leads-is, sized-on}
@@ -46,8 +45,9 @@ use Rattle.state.specs.declared.Answer.{Answer}
 use Rattle.state.specs.declared.Answer.the-variants.{Stored, Ready, Absent, Value, Refused}
 use Rattle.state.specs.declared.Doing.{Doing}
 use Rattle.state.specs.declared.Doing.the-variants.{Idle, Inserting, Deleting}
-use Rattle.table.specs.Calls.{stepHeld, stepOf}
-use Rattle.table.proofs.StepLaws.{idle-refused}
+use Rattle.state.specs.declared.Phase.the-variants.{NotBegun}
+use Rattle.call_step.specs.Calls.{stepHeld, stepOf}
+use Rattle.call_step.proofs.StepLaws.{step-sized, idle-refused}
 use Rattle.theory_tree.specs.Pairs.{pairs, lookup}
 use Rattle.call_change.specs.Updates.{startRoom}
 use Rattle.demands.proofs.RepairedCard.{is-idle}
@@ -101,23 +101,30 @@ module _ (w : World rationTable) (b : Book) (v : Covered w b) where
   rests-now : w .state .doing ≡ Idle → WasRests w (b .held)
   rests-now e = inv-rests n (v .steps) w b i e
 
-  insert-works : (key value : ℕ) → key < keyLimit → Starts rationTable (w .state) (rationTable .insert (w .card) (w .state) key value) (inserting key value false) → Works rationTable (insert key value) ((a : ℕ) × (lookup key (b .held) ≡ some a)) (InsertRule (w .card) key value) key w (b .held)
+  insert-works : (key value : ℕ) → key < keyLimit
+      → Starts rationTable (w .state) (rationTable .insert (w .card) (w .state) key value) (inserting key value false)
+      → Works rationTable (insert key value) ((a : ℕ) × (lookup key (b .held) ≡ some a)) (InsertRule (w .card) key value) key w (b .held)
   unfolding replyTo insertOf startReply
   insert-works key value high s =
-      let e = begun-started (insertOf (w .card) (w .state) key value .begun) (start-small (w .card) (w .state) key (Inserting key value false) (startRoom (w .card) key (w .state .free))) (s .reply-given) in
+      let e = begun-started (insertOf (w .card) (w .state) key value .begun)
+      (start-small (w .card) (w .state) key (Inserting key value NotBegun) (startRoom (w .card) key (w .state .free))) (s .reply-given) in
       record {
         begins = s .reply-given;
-        by-rules = subst (λ (r : Reply). Updates rationTable ((a : ℕ) × (lookup key (b .held) ≡ some a)) (InsertRule (w .card) key value) r (happens rationTable (insert key value) w)) (dictionary-same (lookup key (b .held))) (insert-by-rules w b v key value high e);
+        by-rules = subst (λ (r : Reply). Updates rationTable ((a : ℕ) × (lookup key (b .held) ≡ some a)) (InsertRule (w .card) key value) r
+            (happens rationTable (insert key value) w)) (dictionary-same (lookup key (b .held))) (insert-by-rules w b v key value high e);
         finishes = finishes-by (lookup key (b .held)) _ (happens rationTable (insert key value) w) (insert-stores i key high value e);
       }
 
-  delete-works : (key : ℕ) → key < keyLimit → Starts rationTable (w .state) (rationTable .delete (w .card) (w .state) key) (deleting key false) → Works rationTable (delete key) (lookup key (b .held) ≡ none) (DeleteRule (w .card) key) key w (b .held)
+  delete-works : (key : ℕ) → key < keyLimit
+      → Starts rationTable (w .state) (rationTable .delete (w .card) (w .state) key) (deleting key false)
+      → Works rationTable (delete key) (lookup key (b .held) ≡ none) (DeleteRule (w .card) key) key w (b .held)
   unfolding replyTo deleteOf startReply
   delete-works key high s =
-      let e = begun-started (deleteOf (w .card) (w .state) key .begun) (start-small (w .card) (w .state) key (Deleting key false 0) (λ l. true)) (s .reply-given) in
+      let e = begun-started (deleteOf (w .card) (w .state) key .begun) (start-small (w .card) (w .state) key (Deleting key NotBegun 0) (λ l. true)) (s .reply-given) in
       record {
         begins = s .reply-given;
-        by-rules = subst (λ (r : Reply). Updates rationTable (lookup key (b .held) ≡ none) (DeleteRule (w .card) key) r (happens rationTable (delete key) w)) (dictionary-same (lookup key (b .held))) (delete-by-rules w b v key high e);
+        by-rules = subst (λ (r : Reply). Updates rationTable (lookup key (b .held) ≡ none) (DeleteRule (w .card) key) r
+            (happens rationTable (delete key) w)) (dictionary-same (lookup key (b .held))) (delete-by-rules w b v key high e);
         finishes = finishes-by (lookup key (b .held)) _ (happens rationTable (delete key) w) (delete-stores i key high e);
       }
 
@@ -125,26 +132,39 @@ module _ (w : World rationTable) (b : Book) (v : Covered w b) where
       (λ r. replyTo rationTable (insert key value) w ≡ refusal r) (Works rationTable (insert key value) ((a : ℕ) × (lookup key (b .held) ≡ some a)) (InsertRule (w .card) key value) key w (b .held))
   unfolding ByRows replyTo
   inserts-right key value high =
-      go (past-card (row 7 (Resting rationTable (w .state) → ⊥) (row 6 (key ≡ 0) (row 9 (leadsTo (w .card) key ≡ none) (row 8 (NoRoom (w .card) (w .state .free) key) end)))) (HandsBack rationTable (w .state) (rationTable .insert (w .card) (w .state) key value))
-      (Starts rationTable (w .state) (rationTable .insert (w .card) (w .state) key value) (inserting key value false)) (w .card) (w .state .nodes) sized header (demand-1 .inserts (w .card) (w .state) key value))
+      go (past-card (row 7 (Resting rationTable (w .state) → ⊥)
+      (row 6 (key ≡ 0) (row 9 (leadsTo (w .card) key ≡ none) (row 8 (NoRoom (w .card) (w .state .free) key) end))))
+      (HandsBack rationTable (w .state) (rationTable .insert (w .card) (w .state) key value))
+      (Starts rationTable (w .state) (rationTable .insert (w .card) (w .state) key value) (inserting key value false)) (w .card)
+      (w .state .nodes) sized header (demand-1 .inserts (w .card) (w .state) key value))
     where
-      go : ByRows (row 7 (Resting rationTable (w .state) → ⊥) (row 6 (key ≡ 0) (row 9 (leadsTo (w .card) key ≡ none) (row 8 (NoRoom (w .card) (w .state .free) key) end)))) (HandsBack rationTable (w .state) (rationTable .insert (w .card) (w .state) key value))
+      go : ByRows (row 7 (Resting rationTable (w .state) → ⊥)
+          (row 6 (key ≡ 0) (row 9 (leadsTo (w .card) key ≡ none) (row 8 (NoRoom (w .card) (w .state .free) key) end))))
+          (HandsBack rationTable (w .state) (rationTable .insert (w .card) (w .state) key value))
           (Starts rationTable (w .state) (rationTable .insert (w .card) (w .state) key value) (inserting key value false))
-          → ByRows (row 7 (Resting rationTable (w .state) → ⊥) (row 6 (key ≡ 0) (row 8 (NoRoom (w .card) (w .state .free) key) end))) (λ r. replyTo rationTable (insert key value) w ≡ refusal r) (Works rationTable (insert key value) ((a : ℕ) × (lookup key (b .held) ≡ some a)) (InsertRule (w .card) key value) key w (b .held))
+          → ByRows (row 7 (Resting rationTable (w .state) → ⊥) (row 6 (key ≡ 0) (row 8 (NoRoom (w .card) (w .state .free) key) end)))
+          (λ r. replyTo rationTable (insert key value) w ≡ refusal r)
+          (Works rationTable (insert key value) ((a : ℕ) × (lookup key (b .held) ≡ some a)) (InsertRule (w .card) key value) key w (b .held))
       go (inl (p, h)) = inl (p, h .number-given)
       go (inr (a, inl (p, h))) = inr (a, inl (p, h .number-given))
       go (inr (a, inr (d, inl (p, h)))) = absurd (leads-somewhere key d high p)
       go (inr (a, inr (d, inr (l, inl (p, h))))) = inr (a, inr (d, inl (p, h .number-given)))
       go (inr (a, inr (d, inr (l, inr (r, s))))) = inr (a, inr (d, inr (r, insert-works key value high s)))
 
-  deletes-right : (key : ℕ) → key < keyLimit → ByRows (row 7 (Resting rationTable (w .state) → ⊥) (row 6 (key ≡ 0) end)) (λ r. replyTo rationTable (delete key) w ≡ refusal r) (Works rationTable (delete key) (lookup key (b .held) ≡ none) (DeleteRule (w .card) key) key w (b .held))
+  deletes-right : (key : ℕ) → key < keyLimit
+      → ByRows (row 7 (Resting rationTable (w .state) → ⊥) (row 6 (key ≡ 0) end)) (λ r. replyTo rationTable (delete key) w ≡ refusal r)
+      (Works rationTable (delete key) (lookup key (b .held) ≡ none) (DeleteRule (w .card) key) key w (b .held))
   unfolding ByRows replyTo
   deletes-right key high =
-      go (past-card (row 7 (Resting rationTable (w .state) → ⊥) (row 6 (key ≡ 0) (row 9 (leadsTo (w .card) key ≡ none) end))) (HandsBack rationTable (w .state) (rationTable .delete (w .card) (w .state) key))
+      go (past-card (row 7 (Resting rationTable (w .state) → ⊥) (row 6 (key ≡ 0) (row 9 (leadsTo (w .card) key ≡ none) end)))
+      (HandsBack rationTable (w .state) (rationTable .delete (w .card) (w .state) key))
       (Starts rationTable (w .state) (rationTable .delete (w .card) (w .state) key) (deleting key false)) (w .card) (w .state .nodes) sized header (demand-1 .deletes (w .card) (w .state) key))
     where
-      go : ByRows (row 7 (Resting rationTable (w .state) → ⊥) (row 6 (key ≡ 0) (row 9 (leadsTo (w .card) key ≡ none) end))) (HandsBack rationTable (w .state) (rationTable .delete (w .card) (w .state) key)) (Starts rationTable (w .state) (rationTable .delete (w .card) (w .state) key) (deleting key false))
-          → ByRows (row 7 (Resting rationTable (w .state) → ⊥) (row 6 (key ≡ 0) end)) (λ r. replyTo rationTable (delete key) w ≡ refusal r) (Works rationTable (delete key) (lookup key (b .held) ≡ none) (DeleteRule (w .card) key) key w (b .held))
+      go : ByRows (row 7 (Resting rationTable (w .state) → ⊥) (row 6 (key ≡ 0) (row 9 (leadsTo (w .card) key ≡ none) end)))
+          (HandsBack rationTable (w .state) (rationTable .delete (w .card) (w .state) key))
+          (Starts rationTable (w .state) (rationTable .delete (w .card) (w .state) key) (deleting key false))
+          → ByRows (row 7 (Resting rationTable (w .state) → ⊥) (row 6 (key ≡ 0) end)) (λ r. replyTo rationTable (delete key) w ≡ refusal r)
+          (Works rationTable (delete key) (lookup key (b .held) ≡ none) (DeleteRule (w .card) key) key w (b .held))
       go (inl (p, h)) = inl (p, h .number-given)
       go (inr (a, inl (p, h))) = inr (a, inl (p, h .number-given))
       go (inr (a, inr (d, inl (p, h)))) = absurd (leads-somewhere key d high p)

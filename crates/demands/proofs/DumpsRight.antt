@@ -11,14 +11,17 @@ use lib.Seq.{getD-drop, take-at}
 use Rattle.card.specs.Header.{nodesOfLength, cardRefusal, Sized, Formatted}
 use Rattle.card.specs.Layout.{leastNodes, greatestNodes}
 use Rattle.card.specs.Replies.{Reply, long}
-use Rattle.demands.specs.Dumps.{wordOf, byteOf, PaddedLength, nodesIn, wordsIn, Damaged, empty, no-multiple, too-long, bad-nodes, other-length, not-zero, readRows, writeRows, RefusesDump, Reads, Writes, Dumps}
+use Rattle.demands.specs.Dumps.{wordOf, byteOf, PaddedLength, nodesIn, wordsIn, Damaged, empty, no-multiple, too-long, bad-nodes}
+use Rattle.demands.specs.Dumps.{other-length, not-zero, readRows, writeRows, RefusesDump, Reads, Writes, Dumps}
 use Rattle.demands.specs.Way.{nodesOn}
 use Rattle.demands.specs.Refusals.{ByRows, end, row}
 use Rattle.demands.proofs.AnswerNumbers.{card-small}
 use Rattle.demands.proofs.FirstRows.{by-card, card-one}
 use Rattle.demands.proofs.ReplyLaws.{code-of}
 use Rattle.demands.proofs.Work.{true-false}
-use Rattle.card_dump.proofs.AnswerLaws.{greatest-dump, padded-most, damaged-empty, damaged-odd, damaged-long, damaged-few, damaged-many, damaged-length, damaged-padding, whole-undamaged, room-short, room-long, read-damaged, read-whole, read-words, read-refused, write-refuses, write-good, write-sized, write-bytes, write-refused}
+use Rattle.card_dump.proofs.AnswerLaws.{greatest-dump, padded-most, damaged-empty, damaged-odd, damaged-long, damaged-few, damaged-many}
+use Rattle.card_dump.proofs.AnswerLaws.{damaged-length, damaged-padding, whole-undamaged, room-short, room-long, read-damaged, read-whole}
+use Rattle.card_dump.proofs.AnswerLaws.{read-words, read-refused, write-refuses, write-good, write-sized, write-bytes, write-refused}
 use Rattle.card_dump.proofs.ByteLaws.{length-dumpWords, get-dumpWords, length-cardBytes}
 use Rattle.card_dump.proofs.RoundTrip.{length-dump, round-trip}
 use Rattle.card_dump.specs.Answers.{dumpReply}

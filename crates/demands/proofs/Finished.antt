@@ -9,7 +9,7 @@ use native.Mathlib.Omega.{arith}
 use Rattle.card.specs.Replies.{Reply, stored}
 use Rattle.state.specs.Answers.{stepReply}
 use Rattle.state.specs.Steps.{isIdle}
-use Rattle.table.specs.Calls.{stepOf}
+use Rattle.call_step.specs.Calls.{stepOf}
 use Rattle.state.specs.declared.Doing.the-variants.{Idle}
 use Rattle.state.specs.declared.Answer.{Answer}
 use Rattle.state.specs.declared.Answer.the-variants.{Stored, Refused}
@@ -42,17 +42,20 @@ unfolding replyTo stepReply
 counted n zero w b i busy = absurd (idle-not-busy (w .state .doing) (at-rest n 0 w b refl i .0) busy)
 counted n (suc steps) w b i busy =
     let q = kept-step n steps w b i in
-    go (q .2) (q .1) (λ e. subst (λ (a : Answer). (k : ℕ) × (k < steps) × Counted (stepReply a) k (happens rationTable step w)) (q .0 .2) (counted n steps (happens rationTable step w) _ (q .0 .0) (after-step w e)))
+    go (q .2) (q .1) (λ e. subst (λ (a : Answer). (k : ℕ) × (k < steps) × Counted (stepReply a) k (happens rationTable step w)) (q .0 .2)
+    (counted n steps (happens rationTable step w) _ (q .0 .0) (after-step w e)))
   where
     go : Moves (w .card) (w .state) (stepOf (w .card) (w .state)) → Right (stepOf (w .card) (w .state) .answer) (i .due)
-        → (isIdle (stepOf (w .card) (w .state) .memory .doing) ≡ false → (k : ℕ) × (k < steps) × Counted (stepReply (i .due)) k (happens rationTable step w)) → (k : ℕ) × (k < suc steps) × Counted (stepReply (i .due)) k w
+        → (isIdle (stepOf (w .card) (w .state) .memory .doing) ≡ false → (k : ℕ) × (k < steps)
+        × Counted (stepReply (i .due)) k (happens rationTable step w)) → (k : ℕ) × (k < suc steps) × Counted (stepReply (i .due)) k w
     go (was-idle e) r later = absurd (idle-not-busy (w .state .doing) e busy)
     go (ends-now f same idle) r later = (0, omega arith, answers-now (ap stepReply (right-final r f)))
     go (goes-further s e) r later = let q = later e in (suc (q .0), omega (arith, q .1), stores-first (s .0, ap stepReply (s .1)) (q .2))
 
 -- what the count says of a run without a cut, by its steps
 module _ {final : Reply} where
-  pub each-stores : {k : ℕ} {w : World rationTable} → Counted final k w → (qs : List Event) → LeftUncut rationTable qs w → stepsIn qs < k → (place : ℕ) × (replyTo rationTable step (run rationTable qs w) ≡ stored place)
+  pub each-stores : {k : ℕ} {w : World rationTable} → Counted final k w → (qs : List Event) → LeftUncut rationTable qs w → stepsIn qs < k
+      → (place : ℕ) × (replyTo rationTable step (run rationTable qs w) ≡ stored place)
   unfolding run LeftUncut
   each-stores (answers-now a) [] u h = absurd (omega arith)
   each-stores (stores-first s c) [] u h = s
@@ -86,14 +89,20 @@ work-not-refused n steps w b i busy r e = at (kept-step n steps w b (loosen n st
 pub inv-rests : (n steps : ℕ) (w : World rationTable) (b : Book) → Inv n steps w b → w .state .doing ≡ Idle → Rests w (b .held)
 inv-rests n steps w b i idle = go (idle-or-busy (i .stage))
   where
-    go : (w .state .nodes ≡ n) × ((isIdle (w .state .doing) ≡ false) ⊎ ((free : List Bool) × (last : ℕ) × (w .state ≡ memory n free last Idle [] []) × (tableViolations (i .tree) ≡ 0) × (3 ≤ countTrue free) × Exact n free (i .tree) × (bare (i .tree) ≡ i .goal))) → Rests w (b .held)
+    go : (w .state .nodes ≡ n)
+        × ((isIdle (w .state .doing) ≡ false) ⊎ ((free : List Bool) × (last : ℕ) × (w .state ≡ memory n free last Idle [] [])
+        × (tableViolations (i .tree) ≡ 0) × (3 ≤ countTrue free) × Exact n free (i .tree) × (bare (i .tree) ≡ i .goal))) → Rests w (b .held)
     go (e, inl busy) = absurd (idle-not-busy (w .state .doing) idle busy)
     go (e, inr (free, last, em, z, r, x, eg)) =
         record {
           table = i .tree;
           balanced = record { well-formed = table-well-formed (i .table); none = z };
           map = map-is i;
-          levels = λ h g. balanced-levels h (i .tree) g (i .table .sound .widths) z (omega (arith, nodes-within (w .card) n (i .table .sized .words) (i .tree) (i .table .holds .2) (i .table .sound .once), i .table .sized .most));
+          levels = λ h g. balanced-levels h (i .tree) g (i .table .sound .widths) z (omega (
+            arith,
+            nodes-within (w .card) n (i .table .sized .words) (i .tree) (i .table .holds .2) (i .table .sound .once),
+            i .table .sized .most,
+          ));
           free-exact = rw em x;
           three-kept = rw em r;
         }

@@ -62,7 +62,8 @@ leads-reach key (down C m g l r) p = (p .0, p .1, leads-reach key C (p .2))
 pub pairs-part : (w : ℕ × ℕ → ℕ) (C : Context) (s : Tree) → total w (pairs s) ≤ total w (pairs (plug C s))
 pairs-part w C s = omega (arith, pairs-plug w C s (leaf 0 [] []))
 
-module _ (c : List ℕ) (n key : ℕ) (free : List Bool) (C : Context) (m : ℕ) (ks vs : List ℕ) (holds : Holds c (plug C (leaf m ks vs))) (sound : Sound (plug C (leaf m ks vs))) (balanced : tableViolations (plug C (leaf m ks vs)) ≡ 0)
+module _ (c : List ℕ) (n key : ℕ) (free : List Bool) (C : Context) (m : ℕ) (ks vs : List ℕ) (holds : Holds c (plug C (leaf m ks vs)))
+    (sound : Sound (plug C (leaf m ks vs))) (balanced : tableViolations (plug C (leaf m ks vs)) ≡ 0)
     (exact : Exact n free (plug C (leaf m ks vs))) (room : 3 ≤ countTrue free) (leads : Leads key C) (low : lowestKey ≤ key) (high : key < keyLimit)
   where
     rows : (length ks ≡ 11) × (length vs ≡ 11)
@@ -74,7 +75,8 @@ module _ (c : List ℕ) (n key : ℕ) (free : List Bool) (C : Context) (m : ℕ)
     storable : (x : ℕ) → x < 24 → Storable c (place m x)
     storable x h = record { inside = omega (arith, on-card .fits, on-card .pos); apart = inr (omega arith) }
 
-    after : (ks′ vs′ : List ℕ) → ((a b : ℕ) → a ≤ key → key < b → LeafRange a b (slotPairs ks vs) → LeafRange a b (slotPairs ks′ vs′)) → (below C → 1 ≤ length (slotPairs ks′ vs′)) → LeafAfter n key free C (leaf m ks′ vs′)
+    after : (ks′ vs′ : List ℕ) → ((a b : ℕ) → a ≤ key → key < b → LeafRange a b (slotPairs ks vs) → LeafRange a b (slotPairs ks′ vs′))
+        → (below C → 1 ≤ length (slotPairs ks′ vs′)) → LeafAfter n key free C (leaf m ks′ vs′)
     after = leaf-after n key free C m ks vs sound balanced exact room leads low high
 
     two : below C → 2 ≤ length (slotPairs ks vs)
@@ -104,7 +106,8 @@ module _ (c : List ℕ) (n key : ℕ) (free : List Bool) (C : Context) (m : ℕ)
           after (set ks i key) (set vs i v)
           (λ a b p q r. record {
             inside = omega (arith, key-more (outside a b), outside-none a b (key, v) p q, r .inside);
-            once = λ k. by-cases (ℕ-discrete k key) (λ e. rw e (omega (arith, key-more (hasKey key), indicator-le key key, absent-here))) (λ d. omega (arith, key-more (hasKey k), indicator-other k key d, r .once k));
+            once = λ k. by-cases (ℕ-discrete k key) (λ e. rw e (omega (arith, key-more (hasKey key), indicator-le key key, absent-here)))
+                (λ d. omega (arith, key-more (hasKey k), indicator-other k key d, r .once k));
           })
           (λ b. omega (arith, length-total (slotPairs (set ks i key) (set vs i v)), length-total (slotPairs ks vs), key-more (λ p. 1)))
 
@@ -135,7 +138,9 @@ module _ (c : List ℕ) (n key : ℕ) (free : List Bool) (C : Context) (m : ℕ)
 
       pub slot-enters : Enters (put key v) (pairs (plug C (leaf m ks vs))) (pairs (slot-changing .next))
       unfolding slot-changing withAll
-      slot-enters = enters-put key v (pairs (plug C (leaf m ks vs))) (pairs (plug C (leaf m (set ks i key) (set vs i v)))) absent (λ w. omega (arith, pairs-plug w C (leaf m ks vs) (leaf m (set ks i key) (set vs i v)), key-more w))
+      slot-enters =
+          enters-put key v (pairs (plug C (leaf m ks vs))) (pairs (plug C (leaf m (set ks i key) (set vs i v)))) absent
+          (λ w. omega (arith, pairs-plug w C (leaf m ks vs) (leaf m (set ks i key) (set vs i v)), key-more w))
 
       pub slot-shaped : firstEqual ks 0 0 ≡ At i → bare (slot-changing .next) ≡ firstShape (put key v) (bare (plug C (leaf m ks vs)))
       unfolding slot-changing withAll firstShape putIn putAt
@@ -209,7 +214,9 @@ module _ (c : List ℕ) (n key : ℕ) (free : List Bool) (C : Context) (m : ℕ)
         reshape = reshaped C (leaf m ks vs) part key nodes (m ∷ []) (growth-reshape C (leaf m ks vs) part key v nodes (m ∷ []) G) sound balanced leads low high fresh
 
         card : OnTheCard c C (leaf m ks vs) part nodes
-        card = on-the-card c C (leaf m ks vs) part nodes (G .few) (G .represented) holds fresh (reshape .0 .once) (λ i q. given-on-card c n free (plug C (leaf m ks vs)) len (holds .2) exact ms given i (omega (arith, given-total i)))
+        card =
+            on-the-card c C (leaf m ks vs) part nodes (G .few) (G .represented) holds fresh (reshape .0 .once)
+            (λ i q. given-on-card c n free (plug C (leaf m ks vs)) len (holds .2) exact ms given i (omega (arith, given-total i)))
 
         moved : Exact n (withAll (m ∷ []) (withoutAll ms free)) (plug C part) × (countTrue (withAll (m ∷ []) (withoutAll ms free)) + length ms ≡ countTrue free + length (m ∷ []))
         moved =
@@ -237,7 +244,8 @@ module _ (c : List ℕ) (n key : ℕ) (free : List Bool) (C : Context) (m : ℕ)
             record {
               next = plug C part;
               plays =
-                  writes-play n (plug C part) (plug C (leaf m ks vs)) (numbered nodes) (linkPlace C) (third ms) sound (record { free = free; exact = exact; key = key; deep = 0; ready = settled balanced room })
+                  writes-play n (plug C part) (plug C (leaf m ks vs)) (numbered nodes) (linkPlace C) (third ms) sound
+                  (record { free = free; exact = exact; key = key; deep = 0; ready = settled balanced room })
                   (weight-apart (numbered nodes) (plug C (leaf m ks vs)) (λ i q. omega (arith, fresh i, numbered-total nodes i))) (place-of .1) (nodeStores nodes) c (card .within) holds
                   (λ i q. given-on-card c n free (plug C (leaf m ks vs)) len (holds .2) exact ms given i (omega (arith, given-total i, numbered-total nodes i))) (place-of .0) (card .after);
               sound = reshape .0;

@@ -44,11 +44,13 @@ by-card rows refuses works c n one header next = go (sized? (length c) n)
     past s m (inl z) = inr (λ p. p (header-formatted c n z), next s (header-formatted c n z))
     past s m (inr z) = inl (λ f. omega (arith, z, formatted-header c n f), header 3 s z (λ q. omega (arith, q)))
 
-    marked : Sized (length c) n → Dec (getD c 0 0 ≡ 1) → ((getD c 0 0 ≡ 1 → ⊥) × refuses 2) ⊎ (((getD c 0 0 ≡ 1 → ⊥) → ⊥) × (((Formatted c n → ⊥) × refuses 3) ⊎ (((Formatted c n → ⊥) → ⊥) × ByRows rows refuses works)))
+    marked : Sized (length c) n → Dec (getD c 0 0 ≡ 1) → ((getD c 0 0 ≡ 1 → ⊥) × refuses 2)
+        ⊎ (((getD c 0 0 ≡ 1 → ⊥) → ⊥) × (((Formatted c n → ⊥) × refuses 3) ⊎ (((Formatted c n → ⊥) → ⊥) × ByRows rows refuses works)))
     marked s (no q) = inl (q, header 2 s (wrong-word0 c n q) (λ z. omega (arith, z)))
     marked s (yes q) = inr (λ p. p q, past s q (header-three c n q))
 
-    go : Dec (Sized (length c) n) → (NoCard c n × refuses 1) ⊎ ((NoCard c n → ⊥) × (((getD c 0 0 ≡ 1 → ⊥) × refuses 2) ⊎ (((getD c 0 0 ≡ 1 → ⊥) → ⊥) × (((Formatted c n → ⊥) × refuses 3) ⊎ (((Formatted c n → ⊥) → ⊥) × ByRows rows refuses works)))))
+    go : Dec (Sized (length c) n) → (NoCard c n × refuses 1) ⊎ ((NoCard c n → ⊥) × (((getD c 0 0 ≡ 1 → ⊥) × refuses 2)
+        ⊎ (((getD c 0 0 ≡ 1 → ⊥) → ⊥) × (((Formatted c n → ⊥) × refuses 3) ⊎ (((Formatted c n → ⊥) → ⊥) × ByRows rows refuses works)))))
     go (no p) = inl (p, one p)
     go (yes s) = inr (λ p. p s, marked s (ℕ-discrete (getD c 0 0) 1))
 

@@ -23,11 +23,12 @@ use Rattle.demands.specs.Table.{formatting}
 use Rattle.demands.specs.Way.{nodesOn, leadsTo, among}
 use Rattle.demands.specs.Refusals.{ByRows, NoneGiven, Unmakeable, NoChange, stepRows, end, row}
 use Rattle.demands.specs.Rules.{Given, FullLeaf}
-use Rattle.demands.specs.RationTable.{workOf, asStepped, rationTable}
+use Rattle.demands.specs.RationTable.{hasBegun, workOf, asStepped, rationTable}
 use Rattle.demands.proofs.CardRows.{none-some, finds, formats, opens}
 use Rattle.demands.proofs.PlannedNumbers.{numbers-by-rule, numbers-counted, given-taken}
 use Rattle.demands.proofs.StartRows.{one-leaf, inserts, deletes}
-use Rattle.demands.proofs.StepRows.{Final, Works, refused-same, final-idle, advanced-nodes, advanced-doing, store-inside, store-outside, formatting-rows, idle-rows, task-rows, in-hand-rows, none-refused}
+use Rattle.demands.proofs.StepRows.{Final, Works, refused-same, final-idle, advanced-nodes, advanced-work, store-inside}
+use Rattle.demands.proofs.StepRows.{store-outside, formatting-rows, idle-rows, task-rows, in-hand-rows, none-refused}
 use Rattle.demands.proofs.Work.{IdleOrTask, idle-or-task}
 use Rattle.demands.proofs.WayDown.{landed, slotFound, slot-among, leads-is, sized-on}
 use Rattle.walk.specs.Descent.{slotOf}
@@ -46,12 +47,13 @@ use Rattle.state.specs.Memory.{Memory, advanced}
 use Rattle.state.specs.Steps.{Step, stepRefused}
 use Rattle.state.specs.declared.Doing.{Doing}
 use Rattle.state.specs.declared.Doing.the-variants.{Inserting, Deleting, Repairing}
+use Rattle.state.specs.declared.Phase.the-variants.{NotBegun, InHand, Decided}
 use Rattle.state.specs.declared.Answer.{Answer}
 use Rattle.state.specs.declared.Answer.the-variants.{Ready, Absent, Value}
 use Rattle.state.specs.declared.Task.{Task}
 use Rattle.state.specs.declared.Task.the-variants.{PutIn, TakeOut, Repair}
-use Rattle.state.proofs.Tasks.{TaskOf, putting, taking, put, taken, opened, task-of}
-use Rattle.table.specs.Calls.{planning, stepPrepared, stepBegin, stepTask, stepOf}
+use Rattle.state.proofs.Tasks.{in-hand, decided, TaskOf, putting, taking, put, taken, opened, task-of}
+use Rattle.call_step.specs.Calls.{planning, stepPrepared, stepBegin, stepTask, stepOf}
 use Rattle.call_change.specs.Updates.{landing, noWay, inLeaf, nextChange}
 use Rattle.call_change.proofs.UpdateLaws.{landed as leaf-landed}
 
@@ -100,7 +102,7 @@ module _ (c : List ℕ) (m : Memory) where
       unfolding stepPrepared planning
       stores-first w o =
           let then = planning m doing free last cut in
-          inl (store-inside c m (getD ss 0 (0, 0)) (advanced then (drop 1 ss)) (advanced-nodes then (drop 1 ss)) (ap workOf (advanced-doing then (drop 1 ss)) ∙ w) o)
+          inl (store-inside c m (getD ss 0 (0, 0)) (advanced then (drop 1 ss)) (advanced-nodes then (drop 1 ss)) (advanced-work then (drop 1 ss) ∙ w) o)
 
       refuses-first : length c ≤ getD ss 0 (0, 0) .0 → Refuses rationTable c m (asStepped (stepPrepared c m doing a (prepared ss free last cut))) 9
       unfolding stepPrepared
@@ -132,7 +134,7 @@ module _ (c : List ℕ) (m : Memory) where
 
 -- ---- an insert
 
-module _ (c : List ℕ) (m : Memory) (key value : ℕ) (d : m .doing ≡ Inserting key value false) where
+module _ (c : List ℕ) (m : Memory) (key value : ℕ) (d : m .doing ≡ Inserting key value NotBegun) where
   -- its leaf is full, and no three nodes are given to split it into
   abbrev NoNodes : Type 0
   NoNodes = (leaf : ℕ) × (j : ℕ) × FullLeaf c key leaf j × NoneGiven c (m .free) (m .last) 3
@@ -141,10 +143,10 @@ module _ (c : List ℕ) (m : Memory) (key value : ℕ) (d : m .doing ≡ Inserti
   InsertDue = (leadsTo c key ≡ none) ⊎ NoNodes
 
   abbrev inserted : Step
-  inserted = stepBegin c m (nextChange c (m .nodes) (m .free) (m .last) (Inserting key value false) (PutIn key value))
+  inserted = stepBegin c m (nextChange c (m .nodes) (m .free) (m .last) (Inserting key value NotBegun) (PutIn key value))
 
-  insert-work : workOf (Inserting key value true) ≡ begun (workOf (m .doing))
-  unfolding workOf begun
+  insert-work : workOf (Inserting key value InHand) ≡ begun (workOf (m .doing))
+  unfolding workOf hasBegun begun
   insert-work = rw d
 
   insert-no-way : landing c (m .nodes) key ≡ NoLanding → inserted ≡ stepRefused 9 c m
@@ -174,19 +176,23 @@ module _ (c : List ℕ) (m : Memory) (key value : ℕ) (d : m .doing ≡ Inserti
     unfolding changeStores splitLeaf nodeImage
     insert-slot (At i) e z f =
         subst (Nine c m InsertDue) (sym (put-held c (m .nodes) key leaf link run lands value (m .free) (m .last) m i e))
-        (inr (not-due (λ r. in-leaf r key (r .2 .absent) (found (nodeAt c leaf) key i e)), answers c m (Inserting key value true) (Value (getD (nodeAt c leaf) (12 + i) 0)) (inr (inl (getD (nodeAt c leaf) (12 + i) 0, refl)))))
+        (inr (
+          not-due (λ r. in-leaf r key (r .2 .absent) (found (nodeAt c leaf) key i e)),
+          answers c m (Inserting key value InHand) (Value (getD (nodeAt c leaf) (12 + i) 0)) (inr (inl (getD (nodeAt c leaf) (12 + i) 0, refl))),
+        ))
     insert-slot NoSlot e (At i) f =
         subst (Nine c m InsertDue) (sym (put-slot c (m .nodes) key leaf link run lands value (m .free) (m .last) m i e f))
         (inr (
           not-due (λ r. in-leaf r 0 (r .2 .full) (found (nodeAt c leaf) 0 i f)),
-          stores-first c m (Inserting key value true) Absent ((place leaf (12 + i), value) ∷ (place leaf (1 + i), key) ∷ []) (m .free) (m .last) [] insert-work (on-card c (m .nodes) key leaf link run s lands 0 i (12 + i) f (omega arith)),
+          stores-first c m (Inserting key value InHand) Absent ((place leaf (12 + i), value) ∷ (place leaf (1 + i), key) ∷ []) (m .free)
+              (m .last) [] insert-work (on-card c (m .nodes) key leaf link run s lands 0 i (12 + i) f (omega arith)),
         ))
     insert-slot NoSlot e NoSlot f =
         subst (Nine c m InsertDue) (sym (put-full c (m .nodes) key leaf link run lands value (m .free) (m .last) m e f))
         (same-nine c m (NoneGiven c (m .free) (m .last) 3) InsertDue _
         (λ h. inr (leaf, run, record { leads = leads; absent = missing (nodeAt c leaf) key e; full = missing (nodeAt c leaf) 0 f }, h))
         given-there
-        (over-given c m (Inserting key value true) Absent insert-work 3
+        (over-given c m (Inserting key value InHand) Absent insert-work 3
         (λ ms. splitLeaf leaf link (sort ((key, value) ∷ leafPairs (nodeAt c leaf))) (first ms) (second ms) (third ms)) (λ ms. refl)))
 
   insert-at : Sized (length c) (m .nodes) → (l : Landing) → landing c (m .nodes) key ≡ l → Nine c m InsertDue inserted
@@ -196,12 +202,12 @@ module _ (c : List ℕ) (m : Memory) (key value : ℕ) (d : m .doing ≡ Inserti
 
 -- ---- a delete
 
-module _ (c : List ℕ) (m : Memory) (key before : ℕ) (d : m .doing ≡ Deleting key false before) where
+module _ (c : List ℕ) (m : Memory) (key before : ℕ) (d : m .doing ≡ Deleting key NotBegun before) where
   abbrev deleted : Step
-  deleted = stepBegin c m (nextChange c (m .nodes) (m .free) (m .last) (Deleting key false before) (TakeOut key))
+  deleted = stepBegin c m (nextChange c (m .nodes) (m .free) (m .last) (Deleting key NotBegun before) (TakeOut key))
 
-  delete-work : (value : ℕ) → workOf (Deleting key true value) ≡ begun (workOf (m .doing))
-  unfolding workOf begun
+  delete-work : (value : ℕ) → workOf (Deleting key InHand value) ≡ begun (workOf (m .doing))
+  unfolding workOf hasBegun begun
   delete-work value = rw d
 
   delete-no-way : landing c (m .nodes) key ≡ NoLanding → deleted ≡ stepRefused 9 c m
@@ -211,9 +217,11 @@ module _ (c : List ℕ) (m : Memory) (key before : ℕ) (d : m .doing ≡ Deleti
   delete-slot : Sized (length c) (m .nodes) → (leaf link run : ℕ) → landing c (m .nodes) key ≡ LandingAt leaf link run → (k : Slot) → slotOf (nodeAt c leaf) key ≡ k → Works c m deleted
   delete-slot s leaf link run lands (At i) e =
       subst (Works c m) (sym (remove-held c (m .nodes) key leaf link run lands before (m .free) (m .last) m i e))
-      (stores-first c m (Deleting key true (getD (nodeAt c leaf) (12 + i) 0)) (Value (getD (nodeAt c leaf) (12 + i) 0)) ((place leaf (1 + i), 0) ∷ []) (m .free) (m .last) [] (delete-work (getD (nodeAt c leaf) (12 + i) 0)) (on-card c (m .nodes) key leaf link run s lands key i (1 + i) e (omega arith)))
+      (stores-first c m (Deleting key InHand (getD (nodeAt c leaf) (12 + i) 0)) (Value (getD (nodeAt c leaf) (12 + i) 0))
+      ((place leaf (1 + i), 0) ∷ []) (m .free) (m .last) [] (delete-work (getD (nodeAt c leaf) (12 + i) 0))
+      (on-card c (m .nodes) key leaf link run s lands key i (1 + i) e (omega arith)))
   delete-slot s leaf link run lands NoSlot e =
-      subst (Works c m) (sym (remove-absent c (m .nodes) key leaf link run lands before (m .free) (m .last) m e)) (answers c m (Deleting key true 0) Absent (inr (inr refl)))
+      subst (Works c m) (sym (remove-absent c (m .nodes) key leaf link run lands before (m .free) (m .last) m e)) (answers c m (Deleting key InHand 0) Absent (inr (inr refl)))
 
   delete-at : Sized (length c) (m .nodes) → (l : Landing) → landing c (m .nodes) key ≡ l → Nine c m (leadsTo c key ≡ none) deleted
   unfolding landed
@@ -263,14 +271,18 @@ module _ (c : List ℕ) (m : Memory) (s : Sized (length c) (m .nodes)) where
       (repair-next c m key a f (subst (λ (x : Doing). workOf x ≡ begun (workOf x)) (sym e) w) s)
 
   begins : {doing : Doing} {task : Task} → TaskOf doing task → m .doing ≡ doing → Begins doing task
-  unfolding NoChange workOf begun
+  unfolding NoChange workOf hasBegun begun
   begins (putting {key} {value}) e = insert-at c m key value e s (landing c (m .nodes) key) refl
   begins (taking {key} {value}) e = delete-at c m key value e s (landing c (m .nodes) key) refl
-  begins (put {key} {value}) e = repairs key Absent (inr (inr refl)) (Inserting key value true) e refl
-  begins (taken {key} {value}) e = repairs key (Value value) (inr (inl (value, refl))) (Deleting key true value) e refl
+  begins (put {key} {value} in-hand) e = repairs key Absent (inr (inr refl)) (Inserting key value InHand) e refl
+  begins (put {key} {value} decided) e = repairs key Absent (inr (inr refl)) (Inserting key value Decided) e refl
+  begins (taken {key} {value} in-hand) e = repairs key (Value value) (inr (inl (value, refl))) (Deleting key InHand value) e refl
+  begins (taken {key} {value} decided) e = repairs key (Value value) (inr (inl (value, refl))) (Deleting key Decided value) e refl
   begins (opened {key}) e = repairs key Ready (inl refl) (Repairing key) e refl
 
-change-rows : (c : List ℕ) (m : Memory) → m .rest ≡ [] → (workOf (m .doing) ≡ formatting → ⊥) → ByRows (stepRows rationTable c m (NoChange c (m .free) (m .last) (workOf (m .doing)))) (Refuses rationTable c m (asStepped (stepOf c m))) (Works c m (stepOf c m))
+change-rows : (c : List ℕ) (m : Memory) → m .rest ≡ [] → (workOf (m .doing) ≡ formatting → ⊥)
+    → ByRows (stepRows rationTable c m (NoChange c (m .free) (m .last) (workOf (m .doing))))
+    (Refuses rationTable c m (asStepped (stepOf c m))) (Works c m (stepOf c m))
 unfolding ByRows stepTask
 change-rows c m r q = go (idle-or-task (m .doing) q)
   where

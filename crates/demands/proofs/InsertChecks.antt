@@ -203,7 +203,8 @@ module _ (dump file : List ℕ) where
   of-dump : ByRows (row 11 (Damaged dump) end) (λ r. checkText dump file ≡ refusalLine r) (OfCard rationTable (dumpWords (wordsFor (dumpNodes dump)) dump) (keyIn file) (checkText dump file))
   unfolding ByRows
   of-dump =
-      bool-cases (damaged dump) (λ q. inl (damaged-exactly dump .1 q, unread-text dump file 11 (read-damaged dump cardRoom q))) (λ q. inr (λ z. true-false (sym (damaged-exactly dump .0 z) ∙ q), of-card q))
+      bool-cases (damaged dump) (λ q. inl (damaged-exactly dump .1 q, unread-text dump file 11 (read-damaged dump cardRoom q)))
+      (λ q. inr (λ z. true-false (sym (damaged-exactly dump .0 z) ∙ q), of-card q))
 
 pub w-209 : W209 rationTable checkText
 w-209 = record { dumps = of-dump }

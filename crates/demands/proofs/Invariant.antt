@@ -1,7 +1,7 @@
 -- What holds of a card, its state and the book, at every moment.
 use mathlib.Core.Path.{_≡_}
 use mathlib.Core.List.{List, [], _∷_}
-use mathlib.Core.Bool.{Bool, true, false}
+use mathlib.Core.Bool.{Bool, true}
 use mathlib.Core.Option.{Option, none, some}
 use Prim.Native.Nat.{ℕ, suc, _+_, _*_, _≤_, _<_}
 use lib.ListN.{length}
@@ -23,6 +23,9 @@ use Rattle.state.specs.Memory.{Memory}
 use Rattle.call_change.specs.Updates.{landing, startRoom}
 use Rattle.state.specs.declared.Doing.{Doing}
 use Rattle.state.specs.declared.Doing.the-variants.{Idle, Inserting, Deleting, Repairing}
+use Rattle.state.specs.declared.Phase.{Phase}
+use Rattle.state.specs.declared.Phase.the-variants.{NotBegun, InHand, Decided}
+use Rattle.state.proofs.Tasks.{Underway}
 use Rattle.state.specs.declared.Answer.{Answer}
 use Rattle.state.specs.declared.Answer.the-variants.{Ready, Absent, Value}
 use Rattle.demands.proofs.Shapes.{afterShape}
@@ -42,11 +45,12 @@ pub record Table (c : List ℕ) (n : ℕ) (t : Tree) : Type 0 where
   pub holds : Holds c t
   pub sound : Sound t
 
--- work whose first change was planned: the key it follows, its final answer, and its update, which opening's repair has not
-pub data Job : Doing → ℕ → Answer → Option Update → Type 0 where
-  job-repair : {key : ℕ} → Job (Repairing key) key Ready none
-  job-insert : {key value : ℕ} → Job (Inserting key value true) key Absent (some (put key value))
-  job-delete : {key value : ℕ} → Job (Deleting key true value) key (Value value) (some (remove key))
+-- work whose first change was planned, and whether that is in hand or made: the key it follows, its final answer, and its update,
+-- which opening's repair has not
+pub data Job : Phase → Doing → ℕ → Answer → Option Update → Type 0 where
+  job-repair : {phase : Phase} {key : ℕ} → Job phase (Repairing key) key Ready none
+  job-insert : {phase : Phase} {key value : ℕ} → Underway phase → Job phase (Inserting key value phase) key Absent (some (put key value))
+  job-delete : {phase : Phase} {key value : ℕ} → Underway phase → Job phase (Deleting key phase value) key (Value value) (some (remove key))
 
 -- the book has entered the update, if there is one: its deciding step was counted
 pub data Entered : Option Update → Hand → Type 0 where
@@ -73,19 +77,27 @@ pub data Stage (c : List ℕ) (n : ℕ) (t goal : Tree) (steps : ℕ) : Memory �
   stage-idle : {free : List Bool} {last : ℕ} {due : Answer} → tableViolations t ≡ 0 → 3 ≤ countTrue free → Exact n free t → bare t ≡ goal
       → Stage c n t goal steps (record { nodes = n; free = free; last = last; doing = Idle; rest = []; cut = [] }) empty due
   -- started: nothing is planned yet
-  stage-put : {free : List Bool} {last key value : ℕ} → tableViolations t ≡ 0 → 3 ≤ countTrue free → Exact n free t → lowestKey ≤ key → key < keyLimit → startRoom c key free (landing c n key) ≡ true → UpdateSteps t steps → afterShape (put key value) (bare t) ≡ goal
-      → Stage c n t goal steps (record { nodes = n; free = free; last = last; doing = Inserting key value false; rest = []; cut = [] }) (takenUp (toldOf (put key value) c goesOn)) (dictionaryAnswer (lookup key (pairs t)))
-  stage-remove : {free : List Bool} {last key : ℕ} → tableViolations t ≡ 0 → 3 ≤ countTrue free → Exact n free t → lowestKey ≤ key → key < keyLimit → UpdateSteps t steps → afterShape (remove key) (bare t) ≡ goal
-      → Stage c n t goal steps (record { nodes = n; free = free; last = last; doing = Deleting key false 0; rest = []; cut = [] }) (takenUp (toldOf (remove key) c goesOn)) (dictionaryAnswer (lookup key (pairs t)))
+  stage-put : {free : List Bool} {last key value : ℕ} → tableViolations t ≡ 0 → 3 ≤ countTrue free → Exact n free t → lowestKey ≤ key
+      → key < keyLimit → startRoom c key free (landing c n key) ≡ true → UpdateSteps t steps → afterShape (put key value) (bare t) ≡ goal
+      → Stage c n t goal steps (record { nodes = n; free = free; last = last; doing = Inserting key value NotBegun; rest = []; cut = [] })
+      (takenUp (toldOf (put key value) c goesOn)) (dictionaryAnswer (lookup key (pairs t)))
+  stage-remove : {free : List Bool} {last key : ℕ} → tableViolations t ≡ 0 → 3 ≤ countTrue free → Exact n free t
+      → lowestKey ≤ key → key < keyLimit → UpdateSteps t steps → afterShape (remove key) (bare t) ≡ goal
+      → Stage c n t goal steps (record { nodes = n; free = free; last = last; doing = Deleting key NotBegun 0; rest = []; cut = [] })
+      (takenUp (toldOf (remove key) c goesOn)) (dictionaryAnswer (lookup key (pairs t)))
   -- the first change of an update, whose last store enters it
-  stage-first : {free : List Bool} {last key : ℕ} {doing : Doing} {due : Answer} {u : Update} {deciding count : ℕ} {cut : List ℕ} {s : Store} {rest : List Store} → Job doing key due (some u) → (p : Changing c n key t (s ∷ rest) free cut) → Enters u (pairs t) (pairs (p .next))
+  stage-first : {free : List Bool} {last key : ℕ} {doing : Doing} {due : Answer} {u : Update}
+      {deciding count : ℕ} {cut : List ℕ} {s : Store} {rest : List Store} → Job InHand doing key due (some u)
+      → (p : Changing c n key t (s ∷ rest) free cut) → Enters u (pairs t) (pairs (p .next))
       → count + suc (length rest) ≡ deciding → suc (length rest) + (73 * p .level + 1) ≤ steps → Heads (p .level) (bare (p .next)) goal
       → Stage c n t goal steps (record { nodes = n; free = free; last = last; doing = doing; rest = s ∷ rest; cut = cut }) (holding u deciding count) due
   -- between two changes of a repair
-  stage-between : {free : List Bool} {last key : ℕ} {doing : Doing} {due : Answer} {u : Option Update} {h : Hand} → Job doing key due u → Entered u h → (deep : ℕ) → Mendable key free t deep → Exact n free t → 73 * deep + 1 ≤ steps → Heads deep (bare t) goal
+  stage-between : {free : List Bool} {last key : ℕ} {doing : Doing} {due : Answer} {u : Option Update} {h : Hand} → Job Decided doing key
+      due u → Entered u h → (deep : ℕ) → Mendable key free t deep → Exact n free t → 73 * deep + 1 ≤ steps → Heads deep (bare t) goal
       → Stage c n t goal steps (record { nodes = n; free = free; last = last; doing = doing; rest = []; cut = [] }) h due
   -- within a change of a repair, which keeps the pairs
-  stage-within : {free : List Bool} {last key : ℕ} {doing : Doing} {due : Answer} {u : Option Update} {h : Hand} {cut : List ℕ} {s : Store} {rest : List Store} → Job doing key due u → Entered u h → (p : Changing c n key t (s ∷ rest) free cut)
+  stage-within : {free : List Bool} {last key : ℕ} {doing : Doing} {due : Answer} {u : Option Update} {h : Hand} {cut : List ℕ} {s : Store}
+      {rest : List Store} → Job Decided doing key due u → Entered u h → (p : Changing c n key t (s ∷ rest) free cut)
       → Same (pairs (p .next)) (pairs t) → suc (length rest) + (73 * p .level + 1) ≤ steps → Heads (p .level) (bare (p .next)) goal
       → Stage c n t goal steps (record { nodes = n; free = free; last = last; doing = doing; rest = s ∷ rest; cut = cut }) h due
 

@@ -17,9 +17,10 @@ use Rattle.theory_change.proofs.Rewritten.{Sound}
 use Rattle.demands.proofs.Invariant.{Toward, Table, Job, Entered, updated, stage-first, stage-between, stage-within}
 use Rattle.demands.specs.Book.{Update, Hand, book, fedStep, goesOn, holding}
 use Rattle.demands.proofs.BookLaws.{Enters, Same, same-over, same-back, enters-from}
-use Rattle.demands.proofs.Steps.{memory}
+use Rattle.demands.proofs.Steps.{memory, job-settled}
 use Rattle.state.specs.Memory.{advanced}
 use Rattle.state.specs.declared.Doing.{Doing}
+use Rattle.state.specs.declared.Phase.the-variants.{InHand, Decided}
 use Rattle.state.specs.declared.Answer.{Answer}
 use Rattle.theory_shapes.proofs.Bare.{bare}
 use Rattle.theory_shapes.proofs.Whole.{Heads}
@@ -58,10 +59,12 @@ first-storable (store-then u s h k o e p) = s
 -- what one store of a change leaves: the rest of it, on a table with the same pairs, or the next tree
 pub data Left (n key : ℕ) (c : List ℕ) (t : Tree) (free : List Bool) (cut : List ℕ) (next : Tree) (level : ℕ) (s : Store) : List Store → Type 0 where
   all-made : Table (set c (s .0) (s .1)) n next → Left n key c t free cut next level s []
-  some-left : {x : Store} {rest : List Store} (u : Tree) → Table (set c (s .0) (s .1)) n u → Openable n u → Same (pairs u) (pairs t) → (p : Changing (set c (s .0) (s .1)) n key u (x ∷ rest) free cut) → p .next ≡ next → p .level ≡ level
+  some-left : {x : Store} {rest : List Store} (u : Tree) → Table (set c (s .0) (s .1)) n u → Openable n u → Same (pairs u) (pairs t)
+      → (p : Changing (set c (s .0) (s .1)) n key u (x ∷ rest) free cut) → p .next ≡ next → p .level ≡ level
       → Left n key c t free cut next level s (x ∷ rest)
 
-one-store : {c : List ℕ} {n key : ℕ} {t : Tree} {s : Store} {rest : List Store} {free : List Bool} {cut : List ℕ} → Table c n t → (p : Changing c n key t (s ∷ rest) free cut) → Left n key c t free cut (p .next) (p .level) s rest
+one-store : {c : List ℕ} {n key : ℕ} {t : Tree} {s : Store} {rest : List Store} {free : List Bool} {cut : List ℕ} → Table c n t
+    → (p : Changing c n key t (s ∷ rest) free cut) → Left n key c t free cut (p .next) (p .level) s rest
 one-store {c} {n} {key} {t} {free = free} {cut = cut} b p = at (p .plays)
   where
     at : {s : Store} {rest : List Store} → Plays n (p .next) c t (s ∷ rest) → Left n key c t free cut (p .next) (p .level) s rest
@@ -70,13 +73,17 @@ one-store {c} {n} {key} {t} {free = free} {cut = cut} b p = at (p .plays)
         some-left u (table-set a v s b h k) o (record { totals = e }) (record { next = p .next; plays = q; sound = p .sound; exact = p .exact; level = p .level; ready = p .ready }) refl refl
 
 -- a store of a repair's change
-pub repair-stored : {c : List ℕ} {n key : ℕ} {t : Tree} {s : Store} {rest : List Store} {free : List Bool} {cut : List ℕ} {doing : Doing} {due : Answer} {u : Option Update} {h : Hand} {goal : Tree} (last steps : ℕ) (z : List Store) (l : List (ℕ × ℕ)) → Table c n t → Same (pairs t) l
-    → Job doing key due u → Entered u h → (p : Changing c n key t (s ∷ rest) free cut) → Same (pairs (p .next)) (pairs t) → length rest + (73 * p .level + 1) ≤ steps → Heads (p .level) (bare (p .next)) goal
+pub repair-stored : {c : List ℕ} {n key : ℕ} {t : Tree} {s : Store} {rest : List Store} {free : List Bool} {cut : List ℕ} {doing : Doing}
+    {due : Answer} {u : Option Update} {h : Hand} {goal : Tree} (last steps : ℕ) (z : List Store) (l : List (ℕ × ℕ)) → Table c n t
+    → Same (pairs t) l
+    → Job Decided doing key due u → Entered u h → (p : Changing c n key t (s ∷ rest) free cut) → Same (pairs (p .next)) (pairs t)
+    → length rest + (73 * p .level + 1) ≤ steps → Heads (p .level) (bare (p .next)) goal
     → Toward goal due n steps (record { card = set c (s .0) (s .1); state = advanced (memory n free last doing z cut) rest }) (book l h)
 unfolding advanced
 repair-stored {c} {n} {key} {t} {s} {rest} {free} {cut} {doing} {due} {h = h} {goal = goal} last steps z l b same j en p e few hd = at rest (one-store b p) few
   where
-    at : (rest : List Store) → Left n key c t free cut (p .next) (p .level) s rest → length rest + (73 * p .level + 1) ≤ steps → Toward goal due n steps (record { card = set c (s .0) (s .1); state = advanced (memory n free last doing z cut) rest }) (book l h)
+    at : (rest : List Store) → Left n key c t free cut (p .next) (p .level) s rest → length rest + (73 * p .level + 1) ≤ steps
+        → Toward goal due n steps (record { card = set c (s .0) (s .1); state = advanced (memory n free last doing z cut) rest }) (book l h)
     at rest (all-made b′) few = (
       record {
         tree = p .next;
@@ -85,17 +92,30 @@ repair-stored {c} {n} {key} {t} {s} {rest} {free} {cut} {doing} {due} {h = h} {g
         table = b′;
         openable = record { free = withAll cut free; exact = p .exact; key = key; deep = p .level; ready = p .ready };
         same = same-over e same;
-        stage = stage-between j en (p .level) (p .ready) (p .exact) (omega arith) hd;
+        stage = stage-between (job-settled j) en (p .level) (p .ready) (p .exact) (omega arith) hd;
       },
       refl,
       refl,
     )
-    at rest (some-left v b′ o e₁ q en₁ el) few =
-        (record { tree = v; goal = goal; due = due; table = b′; openable = o; same = same-over e₁ same; stage = stage-within j en q (same-over (rw en₁ e) (same-back e₁)) (rw el few) (rw (en₁, el) hd) }, refl, refl)
+    at rest (some-left v b′ o e₁ q en₁ el) few = (
+      record {
+        tree = v;
+        goal = goal;
+        due = due;
+        table = b′;
+        openable = o;
+        same = same-over e₁ same;
+        stage = stage-within j en q (same-over (rw en₁ e) (same-back e₁)) (rw el few) (rw (en₁, el) hd);
+      },
+      refl,
+      refl,
+    )
 
 -- a store of an update's first change: the last one enters it
-pub update-stored : {c : List ℕ} {n key : ℕ} {t : Tree} {s : Store} {rest : List Store} {free : List Bool} {cut : List ℕ} {doing : Doing} {due : Answer} {u : Update} {goal : Tree} (deciding k last steps : ℕ) (z : List Store) (l : List (ℕ × ℕ)) → Table c n t → Same (pairs t) l
-    → Job doing key due (some u) → (p : Changing c n key t (s ∷ rest) free cut) → Enters u (pairs t) (pairs (p .next)) → k + suc (length rest) ≡ deciding → length rest + (73 * p .level + 1) ≤ steps → Heads (p .level) (bare (p .next)) goal
+pub update-stored : {c : List ℕ} {n key : ℕ} {t : Tree} {s : Store} {rest : List Store} {free : List Bool} {cut : List ℕ} {doing : Doing}
+    {due : Answer} {u : Update} {goal : Tree} (deciding k last steps : ℕ) (z : List Store) (l : List (ℕ × ℕ)) → Table c n t → Same (pairs t) l
+    → Job InHand doing key due (some u) → (p : Changing c n key t (s ∷ rest) free cut) → Enters u (pairs t) (pairs (p .next))
+    → k + suc (length rest) ≡ deciding → length rest + (73 * p .level + 1) ≤ steps → Heads (p .level) (bare (p .next)) goal
     → Toward goal due n steps (record { card = set c (s .0) (s .1); state = advanced (memory n free last doing z cut) rest }) (fedStep goesOn l (holding u deciding k))
 unfolding advanced fedStep
 update-stored {c} {n} {key} {t} {s} {rest} {free} {cut} {doing} {due} {u} {goal} deciding k last steps z l b same j p e count few hd = at rest (one-store b p) count few
@@ -111,12 +131,23 @@ update-stored {c} {n} {key} {t} {s} {rest} {free} {cut} {doing} {due} {u} {goal}
             table = b′;
             openable = record { free = withAll cut free; exact = p .exact; key = key; deep = p .level; ready = p .ready };
             same = e .to l same;
-            stage = stage-between j (updated {deciding = deciding} {count = suc k} (omega arith)) (p .level) (p .ready) (p .exact) (omega arith) hd;
+            stage = stage-between (job-settled j) (updated {deciding = deciding} {count = suc k} (omega arith)) (p .level) (p .ready) (p .exact) (omega arith) hd;
           },
           refl,
           refl,
         )
     at rest (some-left {rest = r} v b′ o e₁ q en el) count few =
         let q′ : suc k + suc (length r) ≡ deciding = omega arith in
-        rw (ne-eqb (suc k) deciding (omega arith))
-        (record { tree = v; goal = goal; due = due; table = b′; openable = o; same = same-over e₁ same; stage = stage-first {count = suc k} j q (enters-from (same-back e₁) (rw en e)) q′ (rw el few) (rw (en, el) hd) }, refl, refl)
+        rw (ne-eqb (suc k) deciding (omega arith)) (
+          record {
+            tree = v;
+            goal = goal;
+            due = due;
+            table = b′;
+            openable = o;
+            same = same-over e₁ same;
+            stage = stage-first {count = suc k} j q (enters-from (same-back e₁) (rw en e)) q′ (rw el few) (rw (en, el) hd);
+          },
+          refl,
+          refl,
+        )

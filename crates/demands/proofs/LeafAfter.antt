@@ -33,14 +33,16 @@ pub record LeafAfter (n key : ℕ) (free : List Bool) (C : Context) (s : Tree) :
   pub shallow : level ≤ depthOf C
 
 -- a part that is the table's only possible violation
-pub ready-after : (key : ℕ) (free : List Bool) (C : Context) (s : Tree) → tableViolations (plug C s) ≡ ownIn C s → ownIn C s ≤ 1 → OnPath key C → 3 + reserve C s ≤ countTrue free → (level : ℕ) × Mendable key free (plug C s) level × (level ≤ depthOf C)
+pub ready-after : (key : ℕ) (free : List Bool) (C : Context) (s : Tree) → tableViolations (plug C s) ≡ ownIn C s → ownIn C s ≤ 1
+    → OnPath key C → 3 + reserve C s ≤ countTrue free → (level : ℕ) × Mendable key free (plug C s) level × (level ≤ depthOf C)
 ready-after key free top s v o p r = (0, settled v (omega arith), omega arith)
 ready-after key free (down C m g l r) s v o p room =
     order 0 (ownViolation s)
     (λ a. (depthOf (down C m g l r), violated (record { context = down C m g l r; part = s; is-tree = refl; inside = tt; own = omega arith; on-path = p }) (omega arith) room, omega arith))
     (λ a. (0, settled (omega arith) (omega arith), omega arith))
 
-module _ (n key : ℕ) (free : List Bool) (C : Context) (m : ℕ) (ks vs : List ℕ) (sound : Sound (plug C (leaf m ks vs))) (balanced : tableViolations (plug C (leaf m ks vs)) ≡ 0) (exact : Exact n free (plug C (leaf m ks vs)))
+module _ (n key : ℕ) (free : List Bool) (C : Context) (m : ℕ) (ks vs : List ℕ) (sound : Sound (plug C (leaf m ks vs)))
+    (balanced : tableViolations (plug C (leaf m ks vs)) ≡ 0) (exact : Exact n free (plug C (leaf m ks vs)))
     (room : 3 ≤ countTrue free) (leads : Leads key C) (low : lowestKey ≤ key) (high : key < keyLimit)
   where
     pub on-path : OnPath key C
@@ -54,11 +56,14 @@ module _ (n key : ℕ) (free : List Bool) (C : Context) (m : ℕ) (ks vs : List 
         at top b q = absurd b
         at (down D i g l r) b q = omega arith
 
-    pub leaf-after : (ks′ vs′ : List ℕ) → ((a b : ℕ) → a ≤ key → key < b → LeafRange a b (slotPairs ks vs) → LeafRange a b (slotPairs ks′ vs′)) → (below C → 1 ≤ length (slotPairs ks′ vs′)) → LeafAfter n key free C (leaf m ks′ vs′)
+    pub leaf-after : (ks′ vs′ : List ℕ)
+        → ((a b : ℕ) → a ≤ key → key < b → LeafRange a b (slotPairs ks vs) → LeafRange a b (slotPairs ks′ vs′))
+        → (below C → 1 ≤ length (slotPairs ks′ vs′)) → LeafAfter n key free C (leaf m ks′ vs′)
     leaf-after ks′ vs′ range some-pair =
         let r = leaf-reshape C m ks vs ks′ vs′ key range some-pair in
         let q = reshaped C (leaf m ks vs) (leaf m ks′ vs′) key [] [] r sound balanced leads low high (λ i. omega (arith, sound .once i)) in
-        let e : (i : ℕ) → nodeTotal (indicator i) (plug C (leaf m ks′ vs′)) ≡ nodeTotal (indicator i) (plug C (leaf m ks vs)) = λ i. omega (arith, total-plug (indicator i) C (leaf m ks vs), total-plug (indicator i) C (leaf m ks′ vs′)) in
+        let e : (i : ℕ) → nodeTotal (indicator i) (plug C (leaf m ks′ vs′)) ≡ nodeTotal (indicator i) (plug C (leaf m ks vs)) =
+        λ i. omega (arith, total-plug (indicator i) C (leaf m ks vs), total-plug (indicator i) C (leaf m ks′ vs′)) in
         let d = ready-after key free C (leaf m ks′ vs′) (q .1) (r .at-most-one) on-path (omega arith) in
         record {
           sound = q .0;

@@ -44,7 +44,8 @@ unfolding layPairs
 lay-more p ps l = refl
 
 -- stored from the end of `done` on, over as many words
-pub all-laid : (ps : List (ℕ × ℕ)) (done rest : List ℕ) → 2 * length ps ≤ length rest → layPairs ps (laid (length done) (done ++ rest)) ≡ laid (length done + 2 * length ps) (done ++ (pairWords ps ++ drop (2 * length ps) rest))
+pub all-laid : (ps : List (ℕ × ℕ)) (done rest : List ℕ) → 2 * length ps ≤ length rest → layPairs ps (laid (length done) (done ++ rest))
+    ≡ laid (length done + 2 * length ps) (done ++ (pairWords ps ++ drop (2 * length ps) rest))
 all-laid [] done rest h = sym (lay-none (laid (length done) (done ++ rest))) ∙ ap (λ (a : ℕ). laid a (done ++ rest)) (omega arith)
 all-laid (p ∷ ps) done [] h = absurd (omega arith)
 all-laid (p ∷ ps) done (x ∷ []) h = absurd (omega arith)

@@ -52,7 +52,8 @@ unfolding listingTold summaryOf summarized layListed
 told-whole (refused number) words h f = rw (ne-eqb number 0 f)
 told-whole (listed l) words h f =
     let n = 2 * length (l .pairs) in
-    let e : layPairs (l .pairs) (laid 0 words) ≡ laid n (pairWords (l .pairs) ++ drop n words) = all-laid (l .pairs) [] words (omega arith) ∙ ap (λ (k : ℕ). laid k (pairWords (l .pairs) ++ drop n words)) (omega arith) in
+    let e : layPairs (l .pairs) (laid 0 words) ≡ laid n (pairWords (l .pairs) ++ drop n words) =
+    all-laid (l .pairs) [] words (omega arith) ∙ ap (λ (k : ℕ). laid k (pairWords (l .pairs) ++ drop n words)) (omega arith) in
     rw (e, take-at (pairWords (l .pairs)) (drop n words) n (length-words (l .pairs)), words-pairs (l .pairs))
 
 -- ---- every listing is one

@@ -79,7 +79,8 @@ module _ (c : List ℕ) where
           read : pairsFrom depthLimit after number (getD after rootPlace 0) ≡ pairs (x .table)
           read =
               ap (pairsFrom depthLimit after number) (x .balanced .well-formed .holds .0)
-              ∙ tree-pairs after number (x .sized .words) depthLimit (x .table) (x .balanced .well-formed .holds .2) (well-formed-depth after number (x .sized .words) (x .table) (x .sized .most) (x .balanced .well-formed))
+              ∙ tree-pairs after number (x .sized .words) depthLimit (x .table) (x .balanced .well-formed .holds .2)
+              (well-formed-depth after number (x .sized .words) (x .table) (x .sized .most) (x .balanced .well-formed))
 
           shown : ((h : ℕ) × (f : Findings) × (tableCheck after number ≡ some (h, f)) × Facts after number (x .table) h f) → ListedRight c t
           shown (h, f, e, k) =
@@ -95,14 +96,21 @@ module _ (c : List ℕ) where
                 unreached = f .free;
                 exact = facts-exact k;
                 free = refl;
-                few-pairs = rw read (omega (arith, pairs-le after (x .table) (x .balanced .well-formed .holds .2), well-formed-size after number (x .sized .words) (x .table) (x .balanced .well-formed), x .sized .most));
+                few-pairs = rw read (omega (
+                  arith,
+                  pairs-le after (x .table) (x .balanced .well-formed .holds .2),
+                  well-formed-size after number (x .sized .words) (x .table) (x .balanced .well-formed),
+                  x .sized .most,
+                ));
               }
 
   -- a slice of 22 words for each of 600 nodes holds all its pairs
   pub laid-whole : (t : Tree) (x : ListedRight c t) (words : List ℕ) → 22 * greatestNodes ≤ length words
       → layListed (listCard c) words ≡ laid (2 * length (x .listing .pairs)) (pairWords (x .listing .pairs) ++ drop (2 * length (x .listing .pairs)) words)
   unfolding layListed
-  laid-whole t x words h = rw (x .is-listed) (all-laid (x .listing .pairs) [] words (omega (arith, x .few-pairs)) ∙ ap (λ (a : ℕ). laid a (pairWords (x .listing .pairs) ++ drop (2 * length (x .listing .pairs)) words)) (omega arith))
+  laid-whole t x words h =
+      rw (x .is-listed) (all-laid (x .listing .pairs) [] words (omega (arith, x .few-pairs))
+      ∙ ap (λ (a : ℕ). laid a (pairWords (x .listing .pairs) ++ drop (2 * length (x .listing .pairs)) words)) (omega arith))
 
   -- the dump of an accepted card is listed as the card is
   pub dump-listed : Opens rationTable c → ((i : ℕ) → getD c i 0 < 2 ^ 32) → (lent : ℕ) → length c ≤ lent → listDump (dumpOf c) lent ≡ listCard c

@@ -24,7 +24,7 @@ use Rattle.state.specs.Steps.{stepRefused}
 use Rattle.state.specs.declared.Answer.{Answer}
 use Rattle.state.specs.declared.Answer.the-variants.{Stored, Refused as WasRefused}
 use Rattle.state.specs.declared.Doing.the-variants.{Idle}
-use Rattle.table.specs.Calls.{stepOf}
+use Rattle.call_step.specs.Calls.{stepOf}
 use Rattle.theory_tree.specs.Tree.{Tree}
 use Rattle.laws.proofs.Cases.{impossible}
 
@@ -36,7 +36,8 @@ pub record Nears (final : Answer) (most : ℕ) (w : World rationTable) : Type 0 
   pub is-due : covered .inv .due ≡ final
 
 -- a store brings it one step nearer
-pub nearer : (final : Answer) (most : ℕ) (w : World rationTable) → Nears final most w → IsStored (stepOf (w .card) (w .state) .answer) → (few : ℕ) × (most ≡ suc few) × Nears final few (happens rationTable step w)
+pub nearer : (final : Answer) (most : ℕ) (w : World rationTable) → Nears final most w → IsStored (stepOf (w .card) (w .state) .answer)
+    → (few : ℕ) × (most ≡ suc few) × Nears final few (happens rationTable step w)
 unfolding stepRefused
 nearer final zero w x e = absurd (never (idle-refused (w .card) (w .state) rested))
   where
@@ -75,9 +76,11 @@ stage-storing : {c : List ℕ} {n : ℕ} {t goal : Tree} {steps : ℕ} {m : Memo
 stage-storing b (stage-idle z r x g) = inl refl
 stage-storing b (stage-put z r x low high room q g) = inl refl
 stage-storing b (stage-remove z r x low high q g) = inl refl
-stage-storing {c} {n} b (stage-first {free} {last} {doing = doing} {cut = out} {s = s} {rest = rest} j p en count few hd) = inr (s, rest, refl, step-stores c n (b .sized) (b .header) free last doing (job-busy j) out s rest (first-storable (p .plays) .inside))
+stage-storing {c} {n} b (stage-first {free} {last} {doing = doing} {cut = out} {s = s} {rest = rest} j p en count few hd) =
+    inr (s, rest, refl, step-stores c n (b .sized) (b .header) free last doing (job-busy j) out s rest (first-storable (p .plays) .inside))
 stage-storing b (stage-between j en deep k x few hd) = inl refl
-stage-storing {c} {n} b (stage-within {free} {last} {doing = doing} {cut = out} {s = s} {rest = rest} j en p e few hd) = inr (s, rest, refl, step-stores c n (b .sized) (b .header) free last doing (job-busy j) out s rest (first-storable (p .plays) .inside))
+stage-storing {c} {n} b (stage-within {free} {last} {doing = doing} {cut = out} {s = s} {rest = rest} j en p e few hd) =
+    inr (s, rest, refl, step-stores c n (b .sized) (b .header) free last doing (job-busy j) out s rest (first-storable (p .plays) .inside))
 
 advanced-twice : (m : Memory) (s : Store) (rest more : List Store) → advanced (advanced m (s ∷ rest)) more ≡ advanced m more
 unfolding advanced
@@ -108,7 +111,9 @@ module _ (final : Answer) (m : Memory) where
     pub nears : Nears final most w
     pub is-left : w .state ≡ advanced m ss
 
-  stored-step : (w : World rationTable) (s : Store) (rest : List Store) → stepOf (w .card) (w .state) ≡ record { answer = Stored (s .0); card = set (w .card) (s .0) (s .1); memory = advanced m rest } → (StoresNow rationTable w s) × (happens rationTable step w .state ≡ advanced m rest)
+  stored-step : (w : World rationTable) (s : Store) (rest : List Store)
+      → stepOf (w .card) (w .state) ≡ record { answer = Stored (s .0); card = set (w .card) (s .0) (s .1); memory = advanced m rest }
+      → (StoresNow rationTable w s) × (happens rationTable step w .state ≡ advanced m rest)
   unfolding replyTo happens stepReply
   stored-step w s rest e = (record { reply-given = rw e; one-store = rw e }, rw e)
 
@@ -119,7 +124,8 @@ module _ (final : Answer) (m : Memory) where
       (q .0, q .1, record { nears = q .2; is-left = stored-step w s rest e .1 })
 
   -- what is left after a run without a cut
-  pub run-left : (most : ℕ) (ss : List Store) (w : World rationTable) → Left most ss w → (qs : List Event) → LeftUncut rationTable qs w → stepsIn qs ≤ length ss → (few : ℕ) × (few + stepsIn qs ≡ most) × Left few (drop (stepsIn qs) ss) (run rationTable qs w)
+  pub run-left : (most : ℕ) (ss : List Store) (w : World rationTable) → Left most ss w → (qs : List Event) → LeftUncut rationTable qs w
+      → stepsIn qs ≤ length ss → (few : ℕ) × (few + stepsIn qs ≡ most) × Left few (drop (stepsIn qs) ss) (run rationTable qs w)
   unfolding LeftUncut run
   run-left most ss w x [] u h = (most, omega arith, x)
   run-left most ss w x (find key ∷ qs) u h = rw (find-same key w) (run-left most ss w x qs (rw (find-same key w) at (u .1)) h)
@@ -141,7 +147,8 @@ module _ (final : Answer) (m : Memory) where
   drop-more (s ∷ ss) zero h = (omega arith, refl)
   drop-more (s ∷ ss) (suc k) h = drop-more ss k (omega arith)
 
-  pub stores-each : (most : ℕ) (ss : List Store) (w : World rationTable) → Left most ss w → (qs : List Event) → LeftUncut rationTable qs w → stepsIn qs < length ss → StoresNow rationTable (run rationTable qs w) (storeAt ss (stepsIn qs))
+  pub stores-each : (most : ℕ) (ss : List Store) (w : World rationTable) → Left most ss w → (qs : List Event)
+      → LeftUncut rationTable qs w → stepsIn qs < length ss → StoresNow rationTable (run rationTable qs w) (storeAt ss (stepsIn qs))
   stores-each most ss w x qs u h =
       let r = run-left most ss w x qs u (omega arith) in
       let d = drop-more ss (stepsIn qs) h in

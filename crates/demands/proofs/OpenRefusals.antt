@@ -144,7 +144,10 @@ module _ (c : List ℕ) (n : ℕ) (s : Sized (length c) n) where
   pub refuses-mark : (startReply (openOf c .begun) ≡ refusal 2) ↔ (getD c 0 0 ≡ 1 → ⊥)
   refuses-mark =
       let r = card-refused c 2 (omega arith) (omega arith) in
-      through (openOf c .begun) 2 (omega arith) (λ e q. omega (arith, marked-refused c n 2 q (sym (length-accepted c n s) ∙ r .0 e) (omega arith)), λ p. r .1 (length-accepted c n s ∙ wrong-word0 c n p))
+      through (openOf c .begun) 2 (omega arith) (
+        λ e q. omega (arith, marked-refused c n 2 q (sym (length-accepted c n s) ∙ r .0 e) (omega arith)),
+        λ p. r .1 (length-accepted c n s ∙ wrong-word0 c n p),
+      )
 
   -- "3: words 1, 2, 3 or 5 to 7 not as above", word 0 being 1
   pub refuses-header : (startReply (openOf c .begun) ≡ refusal 3) ↔ ((getD c 0 0 ≡ 1) × (Formatted c n → ⊥))
@@ -188,7 +191,8 @@ module _ (c : List ℕ) (n : ℕ) (s : Sized (length c) n) (h : Formatted c n) w
   pub refuses-few : (startReply (openOf c .begun) ≡ refusal 5) ↔ ((t : Tree) × WellFormed c t × (free : List Bool) × Exact n free t × (countTrue free < 3 + reserves 0 t))
   refuses-few = through (openOf c .begun) 5 (omega arith) (λ e. found e (tableCheck c n) refl, λ p. few (p .0) (p .1) (p .2) (p .3) (p .4) (sound-accepted c n (s .words) (s .most) (p .0) (p .1)))
     where
-      found : openOf c .begun ≡ BegunRefused 5 → (x : Option (ℕ × Findings)) → tableCheck c n ≡ x → (t : Tree) × WellFormed c t × (free : List Bool) × Exact n free t × (countTrue free < 3 + reserves 0 t)
+      found : openOf c .begun ≡ BegunRefused 5 → (x : Option (ℕ × Findings)) → tableCheck c n ≡ x
+          → (t : Tree) × WellFormed c t × (free : List Bool) × Exact n free t × (countTrue free < 3 + reserves 0 t)
       found e none q = let z : _≡_ {A = ℕ} 4 5 = refused-same 4 5 (sym (open-unsound c n s h q) ∙ e) in absurd (omega arith)
       found e (some (l, f)) q =
           let a = accepts-sound c n (s .words) (s .most) l f q in

@@ -63,7 +63,11 @@ next-by-rule free last m e = go (firstFrom free (last + 1)) refl e
     go : (first : Next) → firstFrom free (last + 1) ≡ first → orElse first (firstFrom free 1) ≡ Node m → NextFree free last m
     go (Node k) f g =
         let found : firstFrom free (last + 1) ≡ Node m = f ∙ g in
-        record { is-node = next-found free last m e .1; is-free = is-free; is-next = inl (omega (arith, from-found free (last + 1) m found .1), λ x a b. from-before free (last + 1) m found x (omega arith) b) }
+        record {
+          is-node = next-found free last m e .1;
+          is-free = is-free;
+          is-next = inl (omega (arith, from-found free (last + 1) m found .1), λ x a b. from-before free (last + 1) m found x (omega arith) b);
+        }
     go Nothing f g = record { is-node = next-found free last m e .1; is-free = is-free; is-next = inr (round f, (λ x a. from-nothing free (last + 1) f x (omega arith)), from-before free 1 m g) }
 
 -- and no other is: a node free before it would be next
@@ -79,8 +83,10 @@ same-next free last m k x y = order m k (λ o. absurd (before m k x y o)) (λ o.
         also : getD free b false ≡ false → ⊥
         also z = let t = y .is-free in impossible (cc)
 
-        go : ((last < a) × ((i : ℕ) → last < i → i < a → getD free i false ≡ false)) ⊎ ((a ≤ last) × ((i : ℕ) → last < i → getD free i false ≡ false) × ((i : ℕ) → 1 ≤ i → i < a → getD free i false ≡ false))
-            → ((last < b) × ((i : ℕ) → last < i → i < b → getD free i false ≡ false)) ⊎ ((b ≤ last) × ((i : ℕ) → last < i → getD free i false ≡ false) × ((i : ℕ) → 1 ≤ i → i < b → getD free i false ≡ false)) → ⊥
+        go : ((last < a) × ((i : ℕ) → last < i → i < a → getD free i false ≡ false))
+            ⊎ ((a ≤ last) × ((i : ℕ) → last < i → getD free i false ≡ false) × ((i : ℕ) → 1 ≤ i → i < a → getD free i false ≡ false))
+            → ((last < b) × ((i : ℕ) → last < i → i < b → getD free i false ≡ false))
+            ⊎ ((b ≤ last) × ((i : ℕ) → last < i → getD free i false ≡ false) × ((i : ℕ) → 1 ≤ i → i < b → getD free i false ≡ false)) → ⊥
         go (inl (p, f)) (inl (q, g)) = never (g a p o)
         go (inl (p, f)) (inr (q, g, h)) = never (g a p)
         go (inr (p, f, f₁)) (inl (q, g)) = also (f b q)

@@ -75,7 +75,8 @@ module _ (c : List ℕ) (free : List Bool) (last : ℕ) (ss : List Store) (fewer
   into-root p both above u t few two x = rw above (merged-root x _ _ (rw above at u) t few two)
 
   -- "Together 4 or more: shared out .. Together 3 or fewer: merged .."
-  together-mended : (p : Position) (count : ℕ) → length (togetherAt c p .values) ≡ count → 0 < p .parent → Underfull c (p .above) (p .parent) (leftSibling p) (leftNumber (parentAt c p) p) (rightNumber (parentAt c p) p)
+  together-mended : (p : Position) (count : ℕ) → length (togetherAt c p .values) ≡ count → 0 < p .parent
+      → Underfull c (p .above) (p .parent) (leftSibling p) (leftNumber (parentAt c p) p) (rightNumber (parentAt c p) p)
       → Held p (togetherAt c p) → Laid (decideTogether p (parentAt c p) count) → Repairs
   unfolding decideTogether layOut changeStores share merge mergeRoot halves copied half leftKeys keyBetween
   together-mended p count n m u t e =

@@ -35,7 +35,7 @@ use Rattle.state.specs.Answers.{stepReply, startReply}
 use Rattle.state.specs.Steps.{isIdle}
 use Rattle.state.specs.declared.Begun.the-variants.{Idle as OpenedIdle, Started}
 use Rattle.state.specs.declared.Doing.the-variants.{Idle}
-use Rattle.table.specs.Calls.{stepOf, repairSteps}
+use Rattle.call_step.specs.Calls.{stepOf, repairSteps}
 
 pub dictionary-same : (o : Option ℕ) → stepReply (dictionaryAnswer o) ≡ dictionary o
 unfolding stepReply dictionaryAnswer dictionary
@@ -89,7 +89,8 @@ module _ (n k : ℕ) (l : List (ℕ × ℕ)) where
   ready-idle w (goes-further s e) r = absurd (omega (arith, code-of (sym (ap stepReply (s .1)) ∙ r)))
 
   -- a step that says "ready" leaves an idle state, and an idle state stays so
-  step-idle : (w : World rationTable) → Moves (w .card) (w .state) (stepOf (w .card) (w .state)) → (w .state .doing ≡ Idle) ⊎ (replyTo rationTable step w ≡ ready) → happens rationTable step w .state .doing ≡ Idle
+  step-idle : (w : World rationTable) → Moves (w .card) (w .state) (stepOf (w .card) (w .state))
+      → (w .state .doing ≡ Idle) ⊎ (replyTo rationTable step w ≡ ready) → happens rationTable step w .state .doing ≡ Idle
   step-idle w m (inl e) = ap (λ (x : World rationTable). x .state .doing) (idle-world w e) ∙ e
   step-idle w m (inr r) = ready-idle w m r
 
@@ -97,7 +98,8 @@ module _ (n k : ℕ) (l : List (ℕ × ℕ)) where
   no-step d (inl z) = absurd (d (z .0))
   no-step d (inr z) = z
 
-  rest-idle : (qs : List Event) (w : World rationTable) → LeftUncut rationTable qs w → Held w → (w .state .doing ≡ Idle) ⊎ SaysReady rationTable qs w → Held (run rationTable qs w) × (run rationTable qs w .state .doing ≡ Idle)
+  rest-idle : (qs : List Event) (w : World rationTable) → LeftUncut rationTable qs w → Held w
+      → (w .state .doing ≡ Idle) ⊎ SaysReady rationTable qs w → Held (run rationTable qs w) × (run rationTable qs w .state .doing ≡ Idle)
   unfolding run LeftUncut SaysReady
   rest-idle [] w u i (inl e) = (i, e)
   rest-idle [] w u i (inr r) = absurd r
@@ -105,7 +107,9 @@ module _ (n k : ℕ) (l : List (ℕ × ℕ)) where
   rest-idle (step ∷ qs) w u i (inr (inl r)) = let q = step-held w i in rest-idle qs (happens rationTable step w) (u .1) (q .0) (inl (step-idle w (q .1) (inr (r .1))))
   rest-idle (step ∷ qs) w u i (inr (inr r)) = rest-idle qs (happens rationTable step w) (u .1) (step-held w i .0) (inr r)
   rest-idle (find key ∷ qs) w u i r = let e = find-same key w in rest-idle qs (happens rationTable (find key) w) (u .1) (rw e i) (⊎-map (λ z. rw e z) (no-step (λ z. impossible (cc))) r)
-  rest-idle (insert key value ∷ qs) w u i r = let e = insert-same key value w (u .0) in rest-idle qs (happens rationTable (insert key value) w) (u .1) (rw e i) (⊎-map (λ z. rw e z) (no-step (λ z. impossible (cc))) r)
+  rest-idle (insert key value ∷ qs) w u i r =
+      let e = insert-same key value w (u .0) in
+      rest-idle qs (happens rationTable (insert key value) w) (u .1) (rw e i) (⊎-map (λ z. rw e z) (no-step (λ z. impossible (cc))) r)
   rest-idle (delete key ∷ qs) w u i r = let e = delete-same key w (u .0) in rest-idle qs (happens rationTable (delete key) w) (u .1) (rw e i) (⊎-map (λ z. rw e z) (no-step (λ z. impossible (cc))) r)
   rest-idle (cut ∷ qs) w u i r = absurd (u .0)
 
@@ -152,12 +156,14 @@ module _ (w : World rationTable) (b : Book) (v : Covered w b) where
       let due = reopened-due (v .size) (w .card) (v .inv .tree) (b .held) (v .inv .table) (v .inv .openable) (v .inv .same) in
       ⊎-map idle-said (λ r. r) (repair-ends (v .size) (b .held) qs repairSteps (opened rationTable (w .card)) u h (begun, due) .1)
 
-  ends-right : (qs : List Event) → LeftUncut rationTable qs (opened rationTable (w .card)) → Ended rationTable (w .card) qs → BalancedWith (run rationTable qs (opened rationTable (w .card)) .card) (b .held)
+  ends-right : (qs : List Event) → LeftUncut rationTable qs (opened rationTable (w .card)) → Ended rationTable (w .card) qs
+      → BalancedWith (run rationTable qs (opened rationTable (w .card)) .card) (b .held)
   ends-right qs u e =
       let q = rest-idle (v .size) repairSteps (b .held) qs (opened rationTable (w .card)) u begun (⊎-map said-idle (λ r. r) e) in
       restsRight (inv-rests (v .size) repairSteps (run rationTable qs (opened rationTable (w .card))) (book (b .held) empty) (q .0) (q .1))
 
-  finds-throughout : (qs : List Event) → LeftUncut rationTable qs (opened rationTable (w .card)) → (key : ℕ) → 0 < key → key < keyLimit → rationTable .find (run rationTable qs (opened rationTable (w .card)) .card) key ≡ dictionary (lookup key (b .held))
+  finds-throughout : (qs : List Event) → LeftUncut rationTable qs (opened rationTable (w .card)) → (key : ℕ) → 0 < key → key < keyLimit
+      → rationTable .find (run rationTable qs (opened rationTable (w .card)) .card) key ≡ dictionary (lookup key (b .held))
   finds-throughout qs u =
       held-finds (v .size) repairSteps (b .held) (run rationTable qs (opened rationTable (w .card))) (run-held (v .size) repairSteps (b .held) qs (opened rationTable (w .card)) u begun)
 

@@ -12,11 +12,12 @@ use Rattle.card.specs.Replies.{refusal, ready, stored, started as startedReply}
 use Rattle.state.specs.Answers.{stepReply, startReply}
 use Rattle.state.specs.Steps.{noBeginning, isIdle, stepRefused, formatStore}
 use Rattle.call_start.specs.Starts.{formatOf, startRefused, startAccepted, startLanded, startChecked, startOf, insertOf, deleteOf}
-use Rattle.table.specs.Calls.{stepOf, repairSteps}
+use Rattle.call_step.specs.Calls.{stepOf, repairSteps}
 use Rattle.state.specs.Memory.{Memory, resting}
 use Rattle.call_change.specs.Updates.{landing, startRoom}
 use Rattle.state.specs.declared.Doing.{Doing}
 use Rattle.state.specs.declared.Doing.the-variants.{Idle, Inserting, Deleting}
+use Rattle.state.specs.declared.Phase.the-variants.{NotBegun}
 use Rattle.state.specs.declared.Answer.{Answer}
 use Rattle.state.specs.declared.Answer.the-variants.{Ready}
 use Rattle.state.specs.declared.Begun.the-variants.{Refused as BegunRefused}
@@ -35,7 +36,8 @@ use Rattle.demands.proofs.ReplyLaws.{code-of, is-refused}
 use Rattle.demands.proofs.Invariant.{Table, UpdateSteps, Stage, Inv, stage-idle, stage-put, stage-remove, stage-first, stage-between, stage-within}
 use Rattle.demands.specs.Book.{Outcome, Hand, Book, book, fedStep, feed, told, outcome, kept, empty}
 use Rattle.demands.proofs.BookLaws.{Same, same-refl}
-use Rattle.demands.specs.Events.{Event, World, opened, replyTo, happens, run, Words, LeftUncut, stepsIn, SaysReady, formatBegun, Opens, Begins, find, insert, delete, step, cut, from-format, from-open}
+use Rattle.demands.specs.Events.{Event, World, opened, replyTo, happens, run, Words, LeftUncut, stepsIn, SaysReady, formatBegun}
+use Rattle.demands.specs.Events.{Opens, Begins, find, insert, delete, step, cut, from-format, from-open}
 use Rattle.demands.specs.RationTable.{rationTable}
 use Rattle.demands.specs.Table.{Refused}
 use Rattle.demands.proofs.Finishing.{MapIs}
@@ -82,13 +84,13 @@ pub insert-same : (key value : ℕ) (w : World rationTable) → Refused (replyTo
 unfolding happens replyTo insertOf
 insert-same key value w h =
     let r = is-refused (insertOf (w .card) (w .state) key value .begun) h in
-    same-world w _ (start-unchanged (w .card) (w .state) key (Inserting key value false) (startRoom (w .card) key (w .state .free)) (r .0) (r .1))
+    same-world w _ (start-unchanged (w .card) (w .state) key (Inserting key value NotBegun) (startRoom (w .card) key (w .state .free)) (r .0) (r .1))
 
 pub delete-same : (key : ℕ) (w : World rationTable) → Refused (replyTo rationTable (delete key) w) → happens rationTable (delete key) w ≡ w
 unfolding happens replyTo deleteOf
 delete-same key w h =
     let r = is-refused (deleteOf (w .card) (w .state) key .begun) h in
-    same-world w _ (start-unchanged (w .card) (w .state) key (Deleting key false 0) (λ l. true) (r .0) (r .1))
+    same-world w _ (start-unchanged (w .card) (w .state) key (Deleting key NotBegun 0) (λ l. true) (r .0) (r .1))
 
 pub find-same : (key : ℕ) (w : World rationTable) → happens rationTable (find key) w ≡ w
 unfolding happens
@@ -187,13 +189,18 @@ ready-once c n f (delete key ∷ qs) w e u q = ready-once c n f qs (happens rati
 ready-once c n f (cut ∷ qs) w e u q = absurd (u .0)
 
 -- formatting stores word after word, and is ready after the last
-format-ready-inv : (c : List ℕ) (n made : ℕ) → Sized (length c) n → (qs : List Event) (w : World rationTable) → w ≡ record { card = formatCard n c made; state = formatMemory n made } → made ≤ suc (length c)
-    → LeftUncut rationTable qs w → replyTo rationTable step (run rationTable qs w) ≡ ready → happens rationTable step (run rationTable qs w) ≡ record { card = formatCard n c (suc (length c)); state = freshMemory n }
+format-ready-inv : (c : List ℕ) (n made : ℕ) → Sized (length c) n → (qs : List Event) (w : World rationTable)
+    → w ≡ record { card = formatCard n c made; state = formatMemory n made } → made ≤ suc (length c)
+    → LeftUncut rationTable qs w → replyTo rationTable step (run rationTable qs w) ≡ ready
+    → happens rationTable step (run rationTable qs w) ≡ record { card = formatCard n c (suc (length c)); state = freshMemory n }
 unfolding happens replyTo stepReply LeftUncut run
 format-ready-inv c n made s [] w e h u q =
     order (length c) made
     (λ o. let m : made ≡ suc (length c) = omega arith in rw (e, m, format-step-ready c n s))
-    (λ o. let z : stepReply (stepOf (w .card) (w .state) .answer) ≡ stored (placeOf (formatStore n (length c) made)) = rw (e, format-step-stores c n s made o) in absurd (omega (arith, code-of (sym z ∙ q))))
+    (λ o. let z : stepReply (stepOf (w .card) (w .state) .answer) ≡ stored (placeOf (formatStore n (length c) made)) = rw (
+      e,
+      format-step-stores c n s made o,
+    ) in absurd (omega (arith, code-of (sym z ∙ q))))
 format-ready-inv c n made s (step ∷ qs) w e h u q =
     order (length c) made
     (λ o. let m : made ≡ suc (length c) = omega arith in absurd (ready-once (formatCard n c (suc (length c))) n (format-fresh c n s) qs (happens rationTable step w) (ended m) (u .1) q))
@@ -221,13 +228,16 @@ begins-inv w l (from-format c qs e u r) = go (ℕ-discrete (nodesOfLength (lengt
     go (no d) =
         let s = nodes-sized (length c) d in
         let n = nodesOfLength (length c) in
-        let is : happens rationTable step (run rationTable qs (formatBegun rationTable c)) ≡ record { card = formatCard (nodesOfLength (length c)) c (suc (length c)); state = freshMemory (nodesOfLength (length c)) } =
+        let is : happens rationTable step (run rationTable qs (formatBegun rationTable c))
+        ≡ record { card = formatCard (nodesOfLength (length c)) c (suc (length c)); state = freshMemory (nodesOfLength (length c)) } =
         format-ready-inv c (nodesOfLength (length c)) 0 s qs (formatBegun rationTable c) (begun-world c (nodesOfLength (length c)) s) (omega arith) u r in
         let f = format-fresh c (nodesOfLength (length c)) s in
         (nodesOfLength (length c), rw is (fresh-inv (nodesOfLength (length c)) (formatCard (nodesOfLength (length c)) c (suc (length c))) f))
 
 -- a card just opened: the repair in hand, if there is one, comes to what the tree without numbers says
-pub opened-inv : (c : List ℕ) (t : Tree) → Opens rationTable c → WellFormed c t → (i : Inv (nodesOfLength (length c)) repairSteps (opened rationTable c) (book (pairs t) empty)) × (i .goal ≡ settledBy depthLimit (bare t)) × (i .due ≡ Ready)
+pub opened-inv : (c : List ℕ) (t : Tree) → Opens rationTable c → WellFormed c t
+    → (i : Inv (nodesOfLength (length c)) repairSteps (opened rationTable c) (book (pairs t) empty))
+    × (i .goal ≡ settledBy depthLimit (bare t)) × (i .due ≡ Ready)
 opened-inv c t a k =
     let q = accepted-card c a in
     let n = nodesOfLength (length c) in
@@ -237,7 +247,8 @@ opened-inv c t a k =
     (reopened-inv n c t (pairs t) b o s, reopened-goal n c t (pairs t) b o s, reopened-due n c t (pairs t) b o s)
 
 -- what holds after any list of events
-pub kept-from : (w : World rationTable) (l : List (ℕ × ℕ)) → Begins rationTable w l → (es : List Event) → Words es → (n : ℕ) × (k : ℕ) × Inv n k (run rationTable es w) (kept rationTable es w (book l empty))
+pub kept-from : (w : World rationTable) (l : List (ℕ × ℕ)) → Begins rationTable w l → (es : List Event) → Words es
+    → (n : ℕ) × (k : ℕ) × Inv n k (run rationTable es w) (kept rationTable es w (book l empty))
 kept-from w l s es u =
     let b = begins-inv w l s in
     let k = inv-kept (b .0) es repairSteps w (book l empty) u (b .1) in
@@ -288,9 +299,13 @@ repair-step n l steps w (i, d) =
     (at (k .0 .0) (k .0 .2 ∙ d), moves (k .2) (k .1))
   where
     at : (j : Inv n steps (happens rationTable step w) (fedStep (outcome (replyTo rationTable step w)) l empty)) → j .due ≡ Ready → Repairs n l steps (happens rationTable step w)
-    at = subst (λ (b : Book). (j : Inv n steps (happens rationTable step w) b) → j .due ≡ Ready → Repairs n l steps (happens rationTable step w)) (sym (empty-fed (outcome (replyTo rationTable step w)) l)) (λ j e. (j, e))
+    at =
+        subst (λ (b : Book). (j : Inv n steps (happens rationTable step w) b) → j .due ≡ Ready → Repairs n l steps (happens rationTable step w))
+        (sym (empty-fed (outcome (replyTo rationTable step w)) l)) (λ j e. (j, e))
 
-    moves : Moves (w .card) (w .state) (stepOf (w .card) (w .state)) → Right (stepOf (w .card) (w .state) .answer) (i .due) → (w .state .doing ≡ Idle) ⊎ ((stepOf (w .card) (w .state) .answer ≡ Ready) ⊎ (isIdle (happens rationTable step w .state .doing) ≡ false))
+    moves : Moves (w .card) (w .state) (stepOf (w .card) (w .state)) → Right (stepOf (w .card) (w .state) .answer) (i .due)
+        → (w .state .doing ≡ Idle)
+        ⊎ ((stepOf (w .card) (w .state) .answer ≡ Ready) ⊎ (isIdle (happens rationTable step w .state .doing) ≡ false))
     moves (was-idle e) r = inl e
     moves (ends-now e same idle) r = inr (inl (right-final r e ∙ d))
     moves (goes-further stored e) r = inr (inr (after-step w e))

@@ -15,4 +15,5 @@ pub dump-answered : (c : List ℕ) → Opens rationTable c → ((i : ℕ) → ge
 dump-answered c a fits lent room =
     let k = accepted-card c a in
     let good : Good c = record { sized = k .1; header = k .2 } in
-    read-whole (dumpOf c) lent (whole-undamaged (dumpOf c) (dump-whole c fits good)) ∙ ap (λ (size : ℕ). fittingLength size lent) (ap wordsFor (dump-nodes c fits good) ∙ sym (k .1 .words)) ∙ room-long (length c) lent room
+    read-whole (dumpOf c) lent (whole-undamaged (dumpOf c) (dump-whole c fits good))
+    ∙ ap (λ (size : ℕ). fittingLength size lent) (ap wordsFor (dump-nodes c fits good) ∙ sym (k .1 .words)) ∙ room-long (length c) lent room

@@ -42,7 +42,7 @@ use Rattle.state.specs.Steps.{Handed}
 use Rattle.state.specs.declared.Begun.{Begun}
 use Rattle.state.specs.declared.Begun.the-variants.{Idle as OpenedIdle, Started, Refused as BegunRefused}
 use Rattle.state.specs.declared.Doing.the-variants.{Idle}
-use Rattle.table.specs.Calls.{repairSteps}
+use Rattle.call_step.specs.Calls.{repairSteps}
 use Rattle.theory_tree.specs.Pairs.{pairs, lookup}
 use Rattle.theory_tree.specs.Tree.{Tree}
 use Rattle.theory_tree.specs.WellFormed.{WellFormed}
@@ -133,7 +133,9 @@ module _ (c : List ℕ) (t : Tree) (accepted : Opens rationTable c) (well : Well
 
         found : LandedAt (openedCard c .card) (nodesOfLength (length c)) key (left .table)
         found =
-            landing-found (openedCard c .card) (nodesOfLength (length c)) key (left .sized .words) lowestKey keyLimit (left .table) (well-after .holds) (root-in-range lowestKey keyLimit (left .table) (well-after .sound) (well-after .widths)) low high (omega arith)
+            landing-found (openedCard c .card)
+            (nodesOfLength (length c)) key (left .sized .words) lowestKey keyLimit (left .table) (well-after .holds)
+            (root-in-range lowestKey keyLimit (left .table) (well-after .sound) (well-after .widths)) low high (omega arith)
             (well-formed-depth (openedCard c .card) (nodesOfLength (length c)) (left .sized .words) (left .table) (left .sized .most) well-after)
 
         same-leaf : found .number ≡ leaf
@@ -202,8 +204,12 @@ module _ (c : List ℕ) (t : Tree) (accepted : Opens rationTable c) (well : Well
         go : (r : InLeaf) → leafReason ≡ r → ReasonHolds c t key (reasonFor r runAbove (countTrue (openedCard c .memory .free)))
         go (held v) e = sym answered ∙ leaf-held (nodeAt (openedCard c .card) leaf) key v e
         go (slot i) e = (sym answered ∙ leaf-absent (nodeAt (openedCard c .card) leaf) key (At i) e, (leaf, runAbove, i, leads .2, leaf-slot (nodeAt (openedCard c .card) leaf) key i e))
-        go full e =
-            (sym answered ∙ leaf-absent (nodeAt (openedCard c .card) leaf) key NoSlot e, (leaf, leads .2, leaf-full (nodeAt (openedCard c .card) leaf) leaf-words (leaf-no-slot (nodeAt (openedCard c .card) leaf) key e)), refl, refl)
+        go full e = (
+          sym answered ∙ leaf-absent (nodeAt (openedCard c .card) leaf) key NoSlot e,
+          (leaf, leads .2, leaf-full (nodeAt (openedCard c .card) leaf) leaf-words (leaf-no-slot (nodeAt (openedCard c .card) leaf) key e)),
+          refl,
+          refl,
+        )
 
     -- the insert of the key, with any value, after the repair
     abbrev insertCall : ℕ → Handed
@@ -217,12 +223,14 @@ module _ (c : List ℕ) (t : Tree) (accepted : Opens rationTable c) (well : Well
 
     refused-eight : (value : ℕ) → leafReason ≡ full → countTrue (openedCard c .memory .free) < splitNeed runAbove → insertCall value ≡ startRefused 8 (openedCard c .memory)
     refused-eight value =
-        subst (λ (w : World rationTable). insertReason (nodeAt (w .card) leaf) key ≡ full → countTrue (w .state .free) < splitNeed runAbove → insertOf (w .card) (w .state) key value ≡ startRefused 8 (w .state)) (sym is-after)
+        subst (λ (w : World rationTable). insertReason (nodeAt (w .card) leaf) key ≡ full → countTrue (w .state .free) < splitNeed runAbove
+        → insertOf (w .card) (w .state) key value ≡ startRefused 8 (w .state)) (sym is-after)
         (splitting-insert-refused (kept-after .2) key low high idle-after value leaf runAbove leads-after)
 
     started-room : (value : ℕ) → leafReason ≡ full → splitNeed runAbove ≤ countTrue (openedCard c .memory .free) → insertCall value .begun ≡ Started
     started-room value =
-        subst (λ (w : World rationTable). insertReason (nodeAt (w .card) leaf) key ≡ full → splitNeed runAbove ≤ countTrue (w .state .free) → insertOf (w .card) (w .state) key value .begun ≡ Started) (sym is-after)
+        subst (λ (w : World rationTable). insertReason (nodeAt (w .card) leaf) key ≡ full → splitNeed runAbove ≤ countTrue (w .state .free)
+        → insertOf (w .card) (w .state) key value .begun ≡ Started) (sym is-after)
         (splitting-insert-starts (kept-after .2) key low high idle-after value leaf runAbove leads-after)
 
     started-other : (value : ℕ) → (leafReason ≡ full → ⊥) → insertCall value .begun ≡ Started
@@ -248,8 +256,14 @@ module _ (c : List ℕ) (t : Tree) (accepted : Opens rationTable c) (well : Well
             (λ h. absurd (not-started value q (started-room value e h)))
 
         from : (r : InLeaf) → leafReason ≡ r → ((j : ℕ) × (free : ℕ) × (need : ℕ) × (reasonOf c key ≡ Split j free need) × (free < need)) → insertCall value ≡ startRefused 8 (openedCard c .memory)
-        from (held v) e (j, free, need, s, h) = let z : _≡_ {A = ℕ} 0 1 = cc (sym s ∙ reason-is ∙ ap (λ (r : InLeaf). reasonFor r runAbove (countTrue (openedCard c .memory .free))) e) in absurd (omega arith)
-        from (slot i) e (j, free, need, s, h) = let z : _≡_ {A = ℕ} 0 1 = cc (sym s ∙ reason-is ∙ ap (λ (r : InLeaf). reasonFor r runAbove (countTrue (openedCard c .memory .free))) e) in absurd (omega arith)
+        from (held v) e (j, free, need, s, h) =
+            let z : _≡_ {A = ℕ} 0 1 =
+            cc (sym s ∙ reason-is ∙ ap (λ (r : InLeaf). reasonFor r runAbove (countTrue (openedCard c .memory .free))) e) in
+            absurd (omega arith)
+        from (slot i) e (j, free, need, s, h) =
+            let z : _≡_ {A = ℕ} 0 1 =
+            cc (sym s ∙ reason-is ∙ ap (λ (r : InLeaf). reasonFor r runAbove (countTrue (openedCard c .memory .free))) e) in
+            absurd (omega arith)
         from full e (j, free, need, s, h) =
             let q = sym s ∙ reason-is ∙ ap (λ (r : InLeaf). reasonFor r runAbove (countTrue (openedCard c .memory .free))) e in
             let b : free ≡ countTrue (openedCard c .memory .free) = cc in

@@ -144,7 +144,8 @@ reopened c n t b o = go (sound-accepted c n (b .sized .words) (b .sized .most) t
             record {
               steps = 73 * depthOf (v .0 .context) + 1;
               few-steps = omega (arith, violation-deep t (f .key) (v .0), x .deep);
-              stage = rw is (stage-between job-repair no-update (depthOf (v .0 .context)) (violated (v .0) w room) (facts-exact x) (omega arith) (record { repairs = depthLimit; enough = omega (arith, violation-deep t (f .key) (v .0), x .deep); reaches = refl }));
+              stage = rw is (stage-between job-repair no-update (depthOf (v .0 .context)) (violated (v .0) w room) (facts-exact x) (omega arith)
+                  (record { repairs = depthLimit; enough = omega (arith, violation-deep t (f .key) (v .0), x .deep); reaches = refl }));
               goal = settledBy depthLimit (bare t);
               goal-is = refl;
               hands = inr (ap (λ (x : Handed). x .begun) is, ap (λ (x : Handed). isIdle (x .memory .doing)) is ∙ repair-busy n (f .free) (f .key));

@@ -18,7 +18,7 @@ use Rattle.demands.proofs.Reopen.{table-well-formed}
 use Rattle.demands.proofs.Steps.{idle-world}
 use Rattle.state.specs.Steps.{isIdle}
 use Rattle.call_open.specs.Opening.{openOf}
-use Rattle.table.specs.Calls.{stepOf, repairSteps}
+use Rattle.call_step.specs.Calls.{stepOf, repairSteps}
 use Rattle.state.specs.Memory.{Memory}
 use Rattle.state.specs.declared.Doing.{Doing}
 use Rattle.state.specs.declared.Doing.the-variants.{Idle, Formatting, Inserting, Deleting, Repairing}
@@ -40,8 +40,8 @@ pub is-idle : (d : Doing) → isIdle d ≡ true → d ≡ Idle
 unfolding isIdle
 is-idle Idle e = refl
 is-idle (Formatting made) e = impossible (cc)
-is-idle (Inserting key value begun) e = impossible (cc)
-is-idle (Deleting key begun value) e = impossible (cc)
+is-idle (Inserting key value phase) e = impossible (cc)
+is-idle (Deleting key phase value) e = impossible (cc)
 is-idle (Repairing key) e = impossible (cc)
 
 -- the card and the state that a repair leaves
@@ -87,7 +87,8 @@ module _ (c : List ℕ) (t : Tree) (a : Opens rationTable c) (w : WellFormed c t
   ended : Inv (nodesOfLength (length c)) 0 (run rationTable (steps repairSteps) (opened rationTable c)) (book (pairs t) empty)
   ended =
       let i = opened-inv c t a w in
-      repair-ends (nodesOfLength (length c)) (pairs t) (steps repairSteps) repairSteps (opened rationTable c) (steps-uncut repairSteps (opened rationTable c)) (omega (arith, count-steps repairSteps)) (i .0, i .2) .0
+      repair-ends (nodesOfLength (length c)) (pairs t) (steps repairSteps) repairSteps (opened rationTable c)
+      (steps-uncut repairSteps (opened rationTable c)) (omega (arith, count-steps repairSteps)) (i .0, i .2) .0
 
   pub repaired : After c t
   repaired =

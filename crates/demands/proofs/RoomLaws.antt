@@ -13,7 +13,8 @@ use Rattle.state.specs.declared.Doing.{Doing}
 use Rattle.state.specs.declared.Begun.the-variants.{Started}
 use Rattle.walk.specs.declared.Landing.the-variants.{Leaf as LandingAt}
 
-pub room-at : (c : List ℕ) (n key : ℕ) (free : List Bool) (leaf link j : ℕ) → landing c n key ≡ LandingAt leaf link j → startRoom c key free (landing c n key) ≡ roomFor free j (insertReason (nodeAt c leaf) key)
+pub room-at : (c : List ℕ) (n key : ℕ) (free : List Bool) (leaf link j : ℕ) → landing c n key ≡ LandingAt leaf link j
+    → startRoom c key free (landing c n key) ≡ roomFor free j (insertReason (nodeAt c leaf) key)
 unfolding startRoom
 room-at c n key free leaf link j e = ap (startRoom c key free) e
 

@@ -18,7 +18,7 @@ use Rattle.demands.specs.Demand1.{HandsBack, Starts}
 use Rattle.demands.specs.Table.{inserting, deleting}
 use Rattle.demands.specs.Way.{leadsTo, among}
 use Rattle.demands.specs.Refusals.{Rows, ByRows, Idle, NoRoom, startRows, end, row}
-use Rattle.demands.specs.RationTable.{workOf, handed, rationTable}
+use Rattle.demands.specs.RationTable.{hasBegun, workOf, handed, rationTable}
 use Rattle.demands.proofs.Work.{true-false, idle-work, busy-work}
 use Rattle.demands.proofs.CardRows.{none-some}
 use Rattle.demands.proofs.FirstRows.{NoCard, by-card}
@@ -39,6 +39,7 @@ use Rattle.state.specs.declared.Begun.the-variants.{Started, Refused as BegunRe
 use Rattle.state.specs.Steps.{isIdle}
 use Rattle.state.specs.declared.Doing.{Doing}
 use Rattle.state.specs.declared.Doing.the-variants.{Inserting, Deleting}
+use Rattle.state.specs.declared.Phase.the-variants.{NotBegun}
 use Rattle.call_change.specs.Updates.{landing, reasonIn, emptyReason, insertReason, splitNeed, roomFor, startRoom, full}
 
 -- a state whose N does not fit the card
@@ -50,7 +51,9 @@ module _ (c : List ℕ) (m : Memory) (key : ℕ) (doing : Doing) (room : Landing
   unfolding startOf
   start-one p =
       bool-cases (eqb (nodesOfLength (length c)) 0) (λ q. rw q) (λ q.
-      bool-cases (eqb (nodesOfLength (length c)) (m .nodes)) (λ q₁. absurd (not-sized c (m .nodes) p (eqb-false (nodesOfLength (length c)) 0 q) (eqb-true (nodesOfLength (length c)) (m .nodes) q₁))) (λ q₁. rw (q, q₁)))
+      bool-cases (eqb (nodesOfLength (length c)) (m .nodes))
+      (λ q₁. absurd (not-sized c (m .nodes) p (eqb-false (nodesOfLength (length c)) 0 q) (eqb-true (nodesOfLength (length c)) (m .nodes) q₁)))
+      (λ q₁. rw (q, q₁)))
 
   start-header : (r : ℕ) → Sized (length c) (m .nodes) → headerRefusal c (m .nodes) ≡ r → (r ≡ 0 → ⊥) → startOf c m key doing room ≡ startRefused r m
   unfolding startOf
@@ -70,14 +73,18 @@ module _ (c : List ℕ) (m : Memory) (key : ℕ) (doing : Doing) (room : Landing
 
   -- the rows of a start, to where the key has led to its leaf
   by-start : (rows : Rows) (works : Type 0)
-      → ((leaf link j : ℕ) → leadsTo c key ≡ some (leaf, j) → startOf c m key doing room ≡ pick (room (LandingAt leaf link j)) (startAccepted m doing) (startRefused 8 m) → ByRows rows (HandsBack rationTable m (handed (startOf c m key doing room))) works)
+      → ((leaf link j : ℕ) → leadsTo c key ≡ some (leaf, j)
+      → startOf c m key doing room ≡ pick (room (LandingAt leaf link j)) (startAccepted m doing) (startRefused 8 m)
+      → ByRows rows (HandsBack rationTable m (handed (startOf c m key doing room))) works)
       → ByRows (startRows rationTable c m key rows) (HandsBack rationTable m (handed (startOf c m key doing room))) works
   unfolding ByRows startChecked startLanded landed
   by-start rows works next =
       by-card (row 7 (Idle rationTable m → ⊥) (row 6 (key ≡ 0) (row 9 (leadsTo c key ≡ none) rows))) (HandsBack rationTable m (handed (startOf c m key doing room))) works c (m .nodes)
       (λ p. rw (start-one p) (refused-back 1)) (λ r s e d. rw (start-header r s e d) (refused-back r)) past
     where
-      past : Sized (length c) (m .nodes) → Formatted c (m .nodes) → ByRows (row 7 (Idle rationTable m → ⊥) (row 6 (key ≡ 0) (row 9 (leadsTo c key ≡ none) rows))) (HandsBack rationTable m (handed (startOf c m key doing room))) works
+      past : Sized (length c) (m .nodes) → Formatted c (m .nodes)
+          → ByRows (row 7 (Idle rationTable m → ⊥) (row 6 (key ≡ 0) (row 9 (leadsTo c key ≡ none) rows)))
+          (HandsBack rationTable m (handed (startOf c m key doing room))) works
       past s f =
           bool-cases (isIdle (m .doing)) (λ q. inr (λ b. b (idle-work (m .doing) q), keyed q (ℕ-discrete key 0))) (λ q. inl (busy-work (m .doing) q, rw (start-passed s f, q) (refused-back 7)))
         where
@@ -85,14 +92,16 @@ module _ (c : List ℕ) (m : Memory) (key : ℕ) (doing : Doing) (room : Landing
           lands = leads-is c (m .nodes) key (sized-on c (m .nodes) s)
 
           at : isIdle (m .doing) ≡ true → (key ≡ 0 → ⊥) → (x : Landing) → landing c (m .nodes) key ≡ x
-              → ((leadsTo c key ≡ none) × HandsBack rationTable m (handed (startOf c m key doing room)) 9) ⊎ ((leadsTo c key ≡ none → ⊥) × ByRows rows (HandsBack rationTable m (handed (startOf c m key doing room))) works)
+              → ((leadsTo c key ≡ none) × HandsBack rationTable m (handed (startOf c m key doing room)) 9)
+              ⊎ ((leadsTo c key ≡ none → ⊥) × ByRows rows (HandsBack rationTable m (handed (startOf c m key doing room))) works)
           at q d NoLanding e = inl (sym lands ∙ ap landed e, rw (start-passed s f, q, ne-eqb key 0 d, e) (refused-back 9))
           at q d (LandingAt leaf link j) e =
               let to : leadsTo c key ≡ some (leaf, j) = sym lands ∙ ap landed e in
               inr (λ z. none-some (leaf, j) (sym z ∙ to), next leaf link j to (start-passed s f ∙ rw (q, ne-eqb key 0 d, e)))
 
           keyed : isIdle (m .doing) ≡ true → Dec (key ≡ 0) → ((key ≡ 0) × HandsBack rationTable m (handed (startOf c m key doing room)) 6)
-              ⊎ ((key ≡ 0 → ⊥) × (((leadsTo c key ≡ none) × HandsBack rationTable m (handed (startOf c m key doing room)) 9) ⊎ ((leadsTo c key ≡ none → ⊥) × ByRows rows (HandsBack rationTable m (handed (startOf c m key doing room))) works)))
+              ⊎ ((key ≡ 0 → ⊥) × (((leadsTo c key ≡ none) × HandsBack rationTable m (handed (startOf c m key doing room)) 9)
+              ⊎ ((leadsTo c key ≡ none → ⊥) × ByRows rows (HandsBack rationTable m (handed (startOf c m key doing room))) works)))
           keyed q (yes z) = inl (z, rw (start-passed s f, q, eq-eqb key 0 z) (refused-back 6))
           keyed q (no d) = inr (d, at q d (landing c (m .nodes) key) refl)
 
@@ -118,11 +127,12 @@ started-doing c m doing room key e =
 
 -- an update's first change leaves it begun
 
-pub deletes : (c : List ℕ) (m : Memory) (key : ℕ) → ByRows (startRows rationTable c m key end) (HandsBack rationTable m (rationTable .delete c m key)) (Starts rationTable m (rationTable .delete c m key) (deleting key false))
-unfolding ByRows deleteOf workOf
+pub deletes : (c : List ℕ) (m : Memory) (key : ℕ) → ByRows (startRows rationTable c m key end)
+    (HandsBack rationTable m (rationTable .delete c m key)) (Starts rationTable m (rationTable .delete c m key) (deleting key false))
+unfolding ByRows deleteOf workOf hasBegun
 deletes c m key =
-    by-start c m key (Deleting key false 0) (λ l. true) end (Starts rationTable m (handed (deleteOf c m key)) (deleting key false))
-    (λ leaf link j to e. rw e (start-begun c m key (Deleting key false 0) (λ l. true)))
+    by-start c m key (Deleting key NotBegun 0) (λ l. true) end (Starts rationTable m (handed (deleteOf c m key)) (deleting key false))
+    (λ leaf link j to e. rw e (start-begun c m key (Deleting key NotBegun 0) (λ l. true)))
 
 -- where a key leads is one place
 at-leaf : Option (ℕ × ℕ) → ℕ
@@ -152,17 +162,25 @@ room-row c free key leaf link j to = at (slotOf (nodeAt c leaf) key) refl (slotO
     at NoSlot e (At i) f = inr (λ r. true-false (slot-is (nodeAt c leaf) 0 (At i) f ∙ ap (λ (x : ℕ). among 0 (keyWords (nodeAt c x))) (sym (same r .0)) ∙ r .2 .full), rw (e, f))
     at NoSlot e NoSlot f =
         order (countTrue free) (splitNeed j)
-        (λ o. inl ((leaf, j, record { leads = to; absent = sym (slot-is (nodeAt c leaf) key NoSlot e); full = sym (slot-is (nodeAt c leaf) 0 NoSlot f) }, o), rw (e, f, lt-ltb (countTrue free) (splitNeed j) o)))
+        (λ o. inl (
+          (leaf, j, record { leads = to; absent = sym (slot-is (nodeAt c leaf) key NoSlot e); full = sym (slot-is (nodeAt c leaf) 0 NoSlot f) }, o),
+          rw (e, f, lt-ltb (countTrue free) (splitNeed j) o),
+        ))
         (λ o. inr (λ r. omega (arith, r .3, same r .1), rw (e, f, le-ltb (countTrue free) (splitNeed j) o)))
 
-pub inserts : (c : List ℕ) (m : Memory) (key value : ℕ) → ByRows (startRows rationTable c m key (row 8 (NoRoom c (m .free) key) end)) (HandsBack rationTable m (rationTable .insert c m key value)) (Starts rationTable m (rationTable .insert c m key value) (inserting key value false))
-unfolding ByRows insertOf workOf
+pub inserts : (c : List ℕ) (m : Memory) (key value : ℕ)
+    → ByRows (startRows rationTable c m key (row 8 (NoRoom c (m .free) key) end)) (HandsBack rationTable m (rationTable .insert c m key value))
+    (Starts rationTable m (rationTable .insert c m key value) (inserting key value false))
+unfolding ByRows insertOf workOf hasBegun
 inserts c m key value =
-    by-start c m key (Inserting key value false) (startRoom c key (m .free)) (row 8 (NoRoom c (m .free) key) end) (Starts rationTable m (handed (insertOf c m key value)) (inserting key value false))
+    by-start c m key (Inserting key value NotBegun) (startRoom c key (m .free)) (row 8 (NoRoom c (m .free) key) end)
+    (Starts rationTable m (handed (insertOf c m key value)) (inserting key value false))
     (λ leaf link j to e. at leaf link j e (room-row c (m .free) key leaf link j to))
   where
-    at : (leaf link j : ℕ) → startOf c m key (Inserting key value false) (startRoom c key (m .free)) ≡ pick (startRoom c key (m .free) (LandingAt leaf link j)) (startAccepted m (Inserting key value false)) (startRefused 8 m)
+    at : (leaf link j : ℕ) → startOf c m key (Inserting key value NotBegun) (startRoom c key (m .free))
+        ≡ pick (startRoom c key (m .free) (LandingAt leaf link j)) (startAccepted m (Inserting key value NotBegun)) (startRefused 8 m)
         → (NoRoom c (m .free) key × (startRoom c key (m .free) (LandingAt leaf link j) ≡ false)) ⊎ ((NoRoom c (m .free) key → ⊥) × (startRoom c key (m .free) (LandingAt leaf link j) ≡ true))
-        → (NoRoom c (m .free) key × HandsBack rationTable m (handed (insertOf c m key value)) 8) ⊎ ((NoRoom c (m .free) key → ⊥) × Starts rationTable m (handed (insertOf c m key value)) (inserting key value false))
-    at leaf link j e (inl (r, q)) = inl (r, rw (e, q) (refused-back c m key (Inserting key value false) (startRoom c key (m .free)) 8))
-    at leaf link j e (inr (r, q)) = inr (r, rw (e, q) (start-begun c m key (Inserting key value false) (startRoom c key (m .free))))
+        → (NoRoom c (m .free) key × HandsBack rationTable m (handed (insertOf c m key value)) 8)
+        ⊎ ((NoRoom c (m .free) key → ⊥) × Starts rationTable m (handed (insertOf c m key value)) (inserting key value false))
+    at leaf link j e (inl (r, q)) = inl (r, rw (e, q) (refused-back c m key (Inserting key value NotBegun) (startRoom c key (m .free)) 8))
+    at leaf link j e (inr (r, q)) = inr (r, rw (e, q) (start-begun c m key (Inserting key value NotBegun) (startRoom c key (m .free))))

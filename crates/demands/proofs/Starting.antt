@@ -32,6 +32,7 @@ use Rattle.state.specs.Memory.{Memory}
 use Rattle.call_change.specs.Updates.{landing, startRoom}
 use Rattle.state.specs.declared.Doing.{Doing}
 use Rattle.state.specs.declared.Doing.the-variants.{Idle, Inserting, Deleting}
+use Rattle.state.specs.declared.Phase.the-variants.{NotBegun}
 use Rattle.state.specs.declared.Answer.{Answer}
 use Rattle.state.specs.declared.Begun.{Begun}
 use Rattle.state.specs.declared.Begun.the-variants.{Started, Refused as BegunRefused}
@@ -49,7 +50,8 @@ use Rattle.walk.specs.declared.Landing.{Landing}
 use Rattle.walk.specs.declared.Landing.the-variants.{Leaf as LandingAt}
 
 -- the checks 1, 2 and 3 are passed
-start-passed : (c : List ℕ) (n : ℕ) → Sized (length c) n → Formatted c n → (m : Memory) (key : ℕ) (doing : Doing) (room : Landing → Bool) → m .nodes ≡ n → startOf c m key doing room ≡ startChecked c m key doing room
+start-passed : (c : List ℕ) (n : ℕ) → Sized (length c) n → Formatted c n → (m : Memory) (key : ℕ) (doing : Doing) (room : Landing → Bool)
+    → m .nodes ≡ n → startOf c m key doing room ≡ startChecked c m key doing room
 unfolding startOf
 start-passed c n s f m key doing room e =
     let a : nodesOfLength (length c) ≡ n = sized-nodes (length c) n s in
@@ -63,7 +65,8 @@ start-zero : (c : List ℕ) (m : Memory) (key : ℕ) (doing : Doing) (room : Lan
 unfolding startChecked
 start-zero c m key doing room e z = rw (e, eq-eqb key 0 z)
 
-start-landed : (c : List ℕ) (m : Memory) (key : ℕ) (doing : Doing) (room : Landing → Bool) (number link run : ℕ) → isIdle (m .doing) ≡ true → (key ≡ 0 → ⊥) → landing c (m .nodes) key ≡ LandingAt number link run
+start-landed : (c : List ℕ) (m : Memory) (key : ℕ) (doing : Doing) (room : Landing → Bool) (number link run : ℕ)
+    → isIdle (m .doing) ≡ true → (key ≡ 0 → ⊥) → landing c (m .nodes) key ≡ LandingAt number link run
     → startChecked c m key doing room ≡ pick (room (landing c (m .nodes) key)) (startAccepted m doing) (startRefused 8 m)
 unfolding startChecked startLanded
 start-landed c m key doing room number link run e z l = rw (e, ne-eqb key 0 z) (ap (startLanded m doing (room (landing c (m .nodes) key))) l)
@@ -78,7 +81,8 @@ landing-is c n key e = e
 
 -- a state is idle, or some work is in progress
 pub idle-or-busy : {c : List ℕ} {n : ℕ} {t goal : Tree} {steps : ℕ} {m : Memory} {h : Hand} {due : Answer} → Stage c n t goal steps m h due
-    → (m .nodes ≡ n) × ((isIdle (m .doing) ≡ false) ⊎ ((free : List Bool) × (last : ℕ) × (m ≡ memory n free last Idle [] []) × (tableViolations t ≡ 0) × (3 ≤ countTrue free) × Exact n free t × (bare t ≡ goal)))
+    → (m .nodes ≡ n) × ((isIdle (m .doing) ≡ false) ⊎ ((free : List Bool) × (last : ℕ)
+    × (m ≡ memory n free last Idle [] []) × (tableViolations t ≡ 0) × (3 ≤ countTrue free) × Exact n free t × (bare t ≡ goal)))
 unfolding isIdle
 idle-or-busy (stage-idle {free} {last} z r x g) = (refl, inr (free, last, refl, z, r, x, g))
 idle-or-busy (stage-put z r x low high room few g) = (refl, inl refl)
@@ -132,25 +136,56 @@ module _ {n steps : ℕ} {w : World rationTable} {b : Book} (i : Inv n steps w b
   enough-steps = record { height = i .table .sound .level .0; level = i .table .sound .level .1; enough = omega arith }
 
   steps-by-depth : (t : Tree) → WellFormed (w .card) t → (h : ℕ) → Height h t → mostSteps ≤ updateStoresAt h + 1
-  steps-by-depth t v h j = omega (arith, same-height (w .card) n (i .table .sized .words) (i .table .sized .most) (i .tree) t (table-well-formed (i .table)) v (i .table .sound .level .0) h (i .table .sound .level .1) j)
+  steps-by-depth t v h j =
+      omega (
+        arith,
+        same-height (w .card) n (i .table .sized .words) (i .table .sized .most) (i .tree) t
+            (table-well-formed (i .table)) v (i .table .sound .level .0) h (i .table .sound .level .1) j,
+      )
 
 -- started: the update is in hand, and its answer by the map is due
-put-started : {n steps : ℕ} (w : World rationTable) (b : Book) (i : Inv n steps w b) (free : List Bool) (last key value : ℕ) → w .state ≡ memory n free last Idle [] [] → tableViolations (i .tree) ≡ 0 → 3 ≤ countTrue free → Exact n free (i .tree) → bare (i .tree) ≡ i .goal → lowestKey ≤ key → key < keyLimit
-    → startRoom (w .card) key (w .state .free) (landing (w .card) (w .state .nodes) key) ≡ true → Goal i (put key value) (startAccepted (w .state) (Inserting key value false))
+put-started : {n steps : ℕ} (w : World rationTable) (b : Book) (i : Inv n steps w b) (free : List Bool) (last key value : ℕ)
+    → w .state ≡ memory n free last Idle [] [] → tableViolations (i .tree) ≡ 0 → 3 ≤ countTrue free → Exact n free (i .tree)
+    → bare (i .tree) ≡ i .goal → lowestKey ≤ key → key < keyLimit
+    → startRoom (w .card) key (w .state .free) (landing (w .card) (w .state .nodes) key) ≡ true → Goal i (put key value) (startAccepted (w .state) (Inserting key value NotBegun))
 unfolding startAccepted startReply outcome feed fedStart isIdle
 put-started {n} w b i free last key value em z r x eg low high q =
     let q′ : startRoom (w .card) key free (landing (w .card) n key) ≡ true = rw em at q in (
       mostSteps i,
-      record { tree = i .tree; goal = afterShape (put key value) (i .goal); due = dictionaryAnswer (lookup key (pairs (i .tree))); table = i .table; openable = i .openable; same = i .same; stage = rw em (stage-put {free = free} {last = last} z r x low high q′ (enough-steps i) (ap (afterShape (put key value)) eg)) },
-      record { idle-before = λ e. ap (λ (y : Memory). y .doing) em; steps-left = λ e. steps-by-depth i; busy = λ e. refl; new-goal = λ e. refl; new-due = λ e. ap dictionaryAnswer (same-lookup i key) },
+      record {
+        tree = i .tree;
+        goal = afterShape (put key value) (i .goal);
+        due = dictionaryAnswer (lookup key (pairs (i .tree)));
+        table = i .table;
+        openable = i .openable;
+        same = i .same;
+        stage = rw em (stage-put {free = free} {last = last} z r x low high q′ (enough-steps i) (ap (afterShape (put key value)) eg));
+      },
+      record {
+        idle-before = λ e. ap (λ (y : Memory). y .doing) em;
+        steps-left = λ e. steps-by-depth i;
+        busy = λ e. refl;
+        new-goal = λ e. refl;
+        new-due = λ e. ap dictionaryAnswer (same-lookup i key);
+      },
     )
 
-remove-started : {n steps : ℕ} (w : World rationTable) (b : Book) (i : Inv n steps w b) (free : List Bool) (last key : ℕ) → w .state ≡ memory n free last Idle [] [] → tableViolations (i .tree) ≡ 0 → 3 ≤ countTrue free → Exact n free (i .tree) → bare (i .tree) ≡ i .goal → lowestKey ≤ key → key < keyLimit
-    → Goal i (remove key) (startAccepted (w .state) (Deleting key false 0))
+remove-started : {n steps : ℕ} (w : World rationTable) (b : Book) (i : Inv n steps w b) (free : List Bool) (last key : ℕ)
+    → w .state ≡ memory n free last Idle [] [] → tableViolations (i .tree) ≡ 0 → 3 ≤ countTrue free → Exact n free (i .tree)
+    → bare (i .tree) ≡ i .goal → lowestKey ≤ key → key < keyLimit
+    → Goal i (remove key) (startAccepted (w .state) (Deleting key NotBegun 0))
 unfolding startAccepted startReply outcome feed fedStart isIdle
 remove-started w b i free last key em z r x eg low high = (
   mostSteps i,
-  record { tree = i .tree; goal = afterShape (remove key) (i .goal); due = dictionaryAnswer (lookup key (pairs (i .tree))); table = i .table; openable = i .openable; same = i .same; stage = rw em (stage-remove {free = free} {last = last} z r x low high (enough-steps i) (ap (afterShape (remove key)) eg)) },
+  record {
+    tree = i .tree;
+    goal = afterShape (remove key) (i .goal);
+    due = dictionaryAnswer (lookup key (pairs (i .tree)));
+    table = i .table;
+    openable = i .openable;
+    same = i .same;
+    stage = rw em (stage-remove {free = free} {last = last} z r x low high (enough-steps i) (ap (afterShape (remove key)) eg));
+  },
   record { idle-before = λ e. ap (λ (y : Memory). y .doing) em; steps-left = λ e. steps-by-depth i; busy = λ e. refl; new-goal = λ e. refl; new-due = λ e. ap dictionaryAnswer (same-lookup i key) },
 )
 
@@ -171,17 +206,22 @@ module _ (n steps : ℕ) (w : World rationTable) (b : Book) (i : Inv n steps w b
   -- on an idle state nothing but the room decides
   pub room-decides : (key : ℕ) (doing : Doing) (room : Landing → Bool) → w .state .doing ≡ Idle → lowestKey ≤ key → key < keyLimit
       → startOf (w .card) (w .state) key doing room ≡ pick (room (landing (w .card) (w .state .nodes) key)) (startAccepted (w .state) doing) (startRefused 8 (w .state))
-  room-decides key doing room idle low high = let g = lands key low high in passed key doing room ∙ start-landed (w .card) (w .state) key doing room (g .0) (g .1) (g .2) (is-idle idle) (omega arith) (g .3)
+  room-decides key doing room idle low high =
+      let g = lands key low high in
+      passed key doing room ∙ start-landed (w .card) (w .state) key doing room (g .0) (g .1) (g .2) (is-idle idle) (omega arith) (g .3)
 
   start-with : (key : ℕ) (doing : Doing) (room : Landing → Bool) (u : Update) → key < keyLimit
-      → ((free : List Bool) (last : ℕ) → w .state ≡ memory n free last Idle [] [] → tableViolations (i .tree) ≡ 0 → 3 ≤ countTrue free → Exact n free (i .tree) → bare (i .tree) ≡ i .goal → lowestKey ≤ key → room (landing (w .card) (w .state .nodes) key) ≡ true → Goal i u (startAccepted (w .state) doing))
+      → ((free : List Bool) (last : ℕ) → w .state ≡ memory n free last Idle [] []
+      → tableViolations (i .tree) ≡ 0 → 3 ≤ countTrue free → Exact n free (i .tree) → bare (i .tree) ≡ i .goal → lowestKey ≤ key
+      → room (landing (w .card) (w .state .nodes) key) ≡ true → Goal i u (startAccepted (w .state) doing))
       → Goal i u (startOf (w .card) (w .state) key doing room)
   start-with key doing room u high begin = go (idle-or-busy (i .stage) .1)
     where
       refused-with : (r : ℕ) → r < 64 → startOf (w .card) (w .state) key doing room ≡ startRefused r (w .state) → Goal i u (startOf (w .card) (w .state) key doing room)
       refused-with r h e = subst (Goal i u) (sym e) (refused-goal w b i u r h)
 
-      go : (isIdle (w .state .doing) ≡ false) ⊎ ((free : List Bool) × (last : ℕ) × (w .state ≡ memory n free last Idle [] []) × (tableViolations (i .tree) ≡ 0) × (3 ≤ countTrue free) × Exact n free (i .tree) × (bare (i .tree) ≡ i .goal))
+      go : (isIdle (w .state .doing) ≡ false) ⊎ ((free : List Bool) × (last : ℕ) × (w .state ≡ memory n free last Idle [] [])
+          × (tableViolations (i .tree) ≡ 0) × (3 ≤ countTrue free) × Exact n free (i .tree) × (bare (i .tree) ≡ i .goal))
           → Goal i u (startOf (w .card) (w .state) key doing room)
       go (inl q) = refused-with 7 (omega arith) (passed key doing room ∙ start-busy (w .card) (w .state) key doing room q)
       go (inr (free, last, em, z, r, x, eg)) =
@@ -195,12 +235,16 @@ module _ (n steps : ℕ) (w : World rationTable) (b : Book) (i : Inv n steps w b
           idle = ap (λ (y : Memory). y .doing) em
 
   -- "Starting an update stores nothing."
-  pub kept-insert : (key value : ℕ) → key < keyLimit → (k : ℕ) × (j : Inv n k (happens rationTable (insert key value) w) (feed (told rationTable (insert key value) w) b)) × Fresh (put key value) (insertOf (w .card) (w .state) key value) i j
+  pub kept-insert : (key value : ℕ) → key < keyLimit
+      → (k : ℕ) × (j : Inv n k (happens rationTable (insert key value) w) (feed (told rationTable (insert key value) w) b))
+      × Fresh (put key value) (insertOf (w .card) (w .state) key value) i j
   unfolding happens told replyTo insertOf
   kept-insert key value high =
-      start-with key (Inserting key value false) (startRoom (w .card) key (w .state .free)) (put key value) high
+      start-with key (Inserting key value NotBegun) (startRoom (w .card) key (w .state .free)) (put key value) high
       (λ free last em z r x eg low q. put-started w b i free last key value em z r x eg low high q)
 
-  pub kept-delete : (key : ℕ) → key < keyLimit → (k : ℕ) × (j : Inv n k (happens rationTable (delete key) w) (feed (told rationTable (delete key) w) b)) × Fresh (remove key) (deleteOf (w .card) (w .state) key) i j
+  pub kept-delete : (key : ℕ) → key < keyLimit
+      → (k : ℕ) × (j : Inv n k (happens rationTable (delete key) w) (feed (told rationTable (delete key) w) b))
+      × Fresh (remove key) (deleteOf (w .card) (w .state) key) i j
   unfolding happens told replyTo deleteOf
-  kept-delete key high = start-with key (Deleting key false 0) (λ l. true) (remove key) high (λ free last em z r x eg low q. remove-started w b i free last key em z r x eg low high)
+  kept-delete key high = start-with key (Deleting key NotBegun 0) (λ l. true) (remove key) high (λ free last em z r x eg low q. remove-started w b i free last key em z r x eg low high)

@@ -1,30 +1,30 @@
 -- DEMAND 1, of a step: what it stores and answers, the rows before 9, and 9 within a change.
 use mathlib.Core.Path.{_≡_, refl, ap, sym, subst, _∙_}
-use mathlib.Core.Bool.{Bool, true, false}
+use mathlib.Core.Bool.{Bool, true}
 use mathlib.Core.List.{List, [], _∷_}
 use mathlib.Core.Logic.{_⊎_, inl, inr}
 use Prim.Native.Nat.{ℕ, _+_, _≤_, _<_}
 use native.Mathlib.Omega.{arith}
 use lib.ListN.{length, getD}
 use lib.Dec.{eqb, ltb}
-use borrow.Author.Tests.{eq-eqb, ne-eqb, lt-ltb, le-ltb, ltb-true, eqb-true, eqb-false}
-use Rattle.card.specs.Header.{nodesOfLength, Sized}
-use Rattle.card.proofs.HeaderLaws.{sized-nodes, formatted-header}
+use borrow.Author.Tests.{lt-ltb, le-ltb, ltb-true}
+use Rattle.card.specs.Header.{Sized}
+use Rattle.card.proofs.HeaderLaws.{formatted-header}
 use Rattle.card.specs.Layout.{nodeAt}
 use Rattle.card.specs.Stores.{Store}
 use Rattle.demands.specs.Demand1.{begun, HandsBack, Stores, StoresNext, Answers, Refuses}
 use Rattle.demands.specs.Table.{noWork, formatting}
 use Rattle.demands.specs.Refusals.{Rows, ByRows, Idle, cardRows, end, row}
 use Rattle.demands.specs.RationTable.{workOf, asStepped, rationTable}
-use Rattle.demands.proofs.Work.{IdleOrTask, idle-or-task, work-formatting}
-use Rattle.demands.proofs.StartRows.{not-sized, start-one, refused-back}
+use Rattle.demands.proofs.Work.{IdleOrTask, idle-or-task, settled-work, work-formatting}
+use Rattle.demands.proofs.StartRows.{start-one, refused-back}
 use Rattle.demands.proofs.FirstRows.{NoCard, sized?, by-card}
 use Rattle.walk.specs.Descent.{slotOf}
 use Rattle.walk.specs.declared.Landing.{Landing}
 use Rattle.walk.specs.declared.Landing.the-variants.{Refused as NoLanding, Leaf as LandingAt}
 use Rattle.walk.specs.declared.Slot.{Slot}
 use Rattle.walk.specs.declared.Slot.the-variants.{At, Absent as NoSlot}
-use Rattle.laws.proofs.Cases.{bool-cases, order}
+use Rattle.laws.proofs.Cases.{bool-cases, order, impossible}
 use Rattle.state.specs.Answers.{stepReply}
 use Rattle.state.specs.Memory.{Memory, idled, advanced}
 use Rattle.state.specs.Steps.{heldBy, Step, stepRefused, stepFinal, formatStore, stepFormat, stepStore, formattingFrom as formattingThen}
@@ -35,9 +35,10 @@ use Rattle.state.specs.declared.Answer.{Answer}
 use Rattle.state.specs.declared.Answer.the-variants.{Ready, Absent, Value}
 use Rattle.state.specs.declared.Doing.{Doing}
 use Rattle.state.specs.declared.Doing.the-variants.{Formatting, Inserting, Deleting}
+use Rattle.state.specs.declared.Phase.the-variants.{NotBegun}
 use Rattle.call_start.specs.Starts.{insertOf, deleteOf}
-use Rattle.table.specs.Calls.{stepTask, stepHeld, stepOf}
-use Rattle.table.proofs.StepLaws.{idle-refused, idle-unchecked, task-due, task-unchecked}
+use Rattle.call_step.specs.Calls.{stepTask, stepHeld, stepOf}
+use Rattle.call_step.proofs.StepLaws.{step-sized, step-unsized, idle-refused, task-due, held-unchecked}
 use Rattle.call_change.specs.Updates.{Reason, FirstChange, landing, startRoom, insertReason, insertChange, deleteChange, insertIn, deleteIn, noWay, inLeaf, nextChange, held, slot, full}
 
 -- an answer that is final
@@ -57,17 +58,22 @@ unfolding deleteChange stepReply
 delete-final key free last m words (At i) = inr (inl (getD words (12 + i) 0, refl))
 delete-final key free last m words NoSlot = inr (inr refl)
 
-leaf-final : (c : List ℕ) (doing : Doing) (change : ℕ → ℕ → List ℕ → FirstChange) → ((m link : ℕ) (words : List ℕ) → Final (change m link words .final)) → (l : Landing) → Final (inLeaf c doing change l .final)
+leaf-final : (c : List ℕ) (doing : Doing) (change : ℕ → ℕ → List ℕ → FirstChange)
+    → ((m link : ℕ) (words : List ℕ) → Final (change m link words .final)) → (l : Landing) → Final (inLeaf c doing change l .final)
 unfolding inLeaf noWay
 leaf-final c doing change f NoLanding = inr (inr refl)
 leaf-final c doing change f (LandingAt m link run) = f m link (nodeAt c m)
 
 pub next-final : (c : List ℕ) (n : ℕ) (free : List Bool) (last : ℕ) {doing : Doing} {task : Task} → TaskOf doing task → Final (nextChange c n free last doing task .final)
 unfolding nextChange
-next-final c n free last (putting {key} {value}) = leaf-final c (Inserting key value false) (insertIn key value free last) (λ m link words. insert-final key value free last m link words (insertReason words key)) (landing c n key)
-next-final c n free last (taking {key} {value}) = leaf-final c (Deleting key false value) (deleteIn key free last) (λ m link words. delete-final key free last m words (slotOf words key)) (landing c n key)
-next-final c n free last put = inr (inr refl)
-next-final c n free last (taken {value = value}) = inr (inl (value, refl))
+next-final c n free last (putting {key} {value}) =
+    leaf-final c (Inserting key value NotBegun) (insertIn key value free last)
+    (λ m link words. insert-final key value free last m link words (insertReason words key)) (landing c n key)
+next-final c n free last (taking {key} {value}) =
+    leaf-final c (Deleting key NotBegun value) (deleteIn key free last)
+    (λ m link words. delete-final key free last m words (slotOf words key)) (landing c n key)
+next-final c n free last (put p) = inr (inr refl)
+next-final c n free last (taken {value = value} p) = inr (inl (value, refl))
 next-final c n free last opened = inl refl
 
 -- ---- the cases
@@ -85,23 +91,24 @@ final-idle a c m (inl e) = record { final = inl (ap stepReply e); same-card = re
 final-idle a c m (inr (inl (v, e))) = record { final = inr (inl (v, ap stepReply e)); same-card = refl; idle-then = refl; all-kept = record { nodes-kept = refl; free-kept = refl; last-kept = refl } }
 final-idle a c m (inr (inr e)) = record { final = inr (inr (ap stepReply e)); same-card = refl; idle-then = refl; all-kept = record { nodes-kept = refl; free-kept = refl; last-kept = refl } }
 
--- a store leaves N and what is being done
+-- a store leaves N and the work in hand
 pub advanced-nodes : (m : Memory) (rest : List Store) → advanced m rest .nodes ≡ m .nodes
 unfolding advanced
 advanced-nodes m [] = refl
 advanced-nodes m (s ∷ rest) = refl
 
-pub advanced-doing : (m : Memory) (rest : List Store) → advanced m rest .doing ≡ m .doing
+pub advanced-work : (m : Memory) (rest : List Store) → workOf (advanced m rest .doing) ≡ workOf (m .doing)
 unfolding advanced
-advanced-doing m [] = refl
-advanced-doing m (s ∷ rest) = refl
+advanced-work m [] = settled-work (m .doing)
+advanced-work m (s ∷ rest) = refl
 
 pub advanced-rest : (m : Memory) (rest : List Store) → advanced m rest .rest ≡ rest
 unfolding advanced
 advanced-rest m [] = refl
 advanced-rest m (s ∷ rest) = refl
 
-pub store-inside : (c : List ℕ) (m : Memory) (s : Store) (next : Memory) → next .nodes ≡ m .nodes → workOf (next .doing) ≡ begun (workOf (m .doing)) → s .0 < length c → Stores rationTable c m (asStepped (stepStore c m s next))
+pub store-inside : (c : List ℕ) (m : Memory) (s : Store) (next : Memory) → next .nodes ≡ m .nodes
+    → workOf (next .doing) ≡ begun (workOf (m .doing)) → s .0 < length c → Stores rationTable c m (asStepped (stepStore c m s next))
 unfolding stepStore stepReply
 store-inside c m s next en ew o =
     rw (lt-ltb (s .0) (length c) o) (s, o, record { reply-given = refl; one-store = refl; nodes-kept = en; work-then = ew })
@@ -115,67 +122,75 @@ format-cases : (c : List ℕ) (m : Memory) (made : ℕ) → workOf (m .doing) �
 unfolding stepFormat formatStore stepReply formattingThen workOf begun
 format-cases c m made ew pos =
     bool-cases (eqb made 0) (λ q. inl (rw q ((0, 0), pos, record { reply-given = refl; one-store = refl; nodes-kept = refl; work-then = sym (ap begun ew) }))) (λ q.
-    bool-cases (ltb made (length c)) (λ q₁. inl (rw (q, q₁) ((made, _), ltb-true made (length c) q₁, record { reply-given = refl; one-store = refl; nodes-kept = refl; work-then = sym (ap begun ew) }))) (λ q₁.
+    bool-cases (ltb made (length c)) (λ q₁. inl (rw (q, q₁) (
+      (made, _),
+      ltb-true made (length c) q₁,
+      record { reply-given = refl; one-store = refl; nodes-kept = refl; work-then = sym (ap begun ew) },
+    ))) (λ q₁.
     bool-cases (eqb made (length c)) (λ q₂. inl (rw (q, q₁, q₂) ((0, 1), pos, record { reply-given = refl; one-store = refl; nodes-kept = refl; work-then = sym (ap begun ew) })))
     (λ q₂. inr (rw (q, q₁, q₂) (final-idle Ready c m (inl refl))))))
 
 -- ---- the rows
-
-pub step-one : (c : List ℕ) (m : Memory) → NoCard c (m .nodes) → stepOf c m ≡ stepRefused 1 c m
-unfolding stepOf
-step-one c m p =
-    bool-cases (eqb (nodesOfLength (length c)) 0) (λ q. rw q) (λ q.
-    bool-cases (eqb (nodesOfLength (length c)) (m .nodes)) (λ q₁. absurd (not-sized c (m .nodes) p (eqb-false (nodesOfLength (length c)) 0 q) (eqb-true (nodesOfLength (length c)) (m .nodes) q₁))) (λ q₁. rw (q, q₁)))
-
-pub step-sized : (c : List ℕ) (m : Memory) → Sized (length c) (m .nodes) → stepOf c m ≡ stepHeld c m (heldBy (m .doing))
-unfolding stepOf
-step-sized c m s = rw (sized-nodes (length c) (m .nodes) s, ne-eqb (m .nodes) 0 (λ z. omega (arith, z, s .least)), eq-eqb (m .nodes) (m .nodes) refl)
 
 module _ (c : List ℕ) (m : Memory) where
   pub formatting-rows : workOf (m .doing) ≡ formatting → ByRows (row 1 (NoCard c (m .nodes)) end) (Refuses rationTable c m (asStepped (stepOf c m))) (Works c m (stepOf c m))
   unfolding ByRows heldBy stepHeld
   formatting-rows q = go (sized? (length c) (m .nodes)) (work-formatting (m .doing) q)
     where
-      go : Dec (Sized (length c) (m .nodes)) → ((made : ℕ) × (m .doing ≡ Formatting made)) → (NoCard c (m .nodes) × Refuses rationTable c m (asStepped (stepOf c m)) 1) ⊎ ((NoCard c (m .nodes) → ⊥) × Works c m (stepOf c m))
-      go (no p) d = inl (p, rw (step-one c m p) (refused-same 1 c m))
+      go : Dec (Sized (length c) (m .nodes)) → ((made : ℕ) × (m .doing ≡ Formatting made))
+          → (NoCard c (m .nodes) × Refuses rationTable c m (asStepped (stepOf c m)) 1) ⊎ ((NoCard c (m .nodes) → ⊥) × Works c m (stepOf c m))
+      go (no p) d = inl (p, rw (step-unsized c m p) (refused-same 1 c m))
       go (yes s) (made, e) = inr (λ p. p s, rw (step-sized c m s ∙ ap (λ (d : Doing). stepHeld c m (heldBy d)) e) (format-cases c m made q (omega (arith, s .words))))
 
   -- 1, 2 and 3, and then 10 where nothing is held, whatever comes after it, or what comes after it where a task is
-  pub idle-rows : heldBy (m .doing) ≡ NoneHeld → workOf (m .doing) ≡ noWork → (rows : Rows) (works : Type 0) → ByRows (cardRows c (m .nodes) (row 10 (Idle rationTable m) rows)) (Refuses rationTable c m (asStepped (stepOf c m))) works
+  pub idle-rows : heldBy (m .doing) ≡ NoneHeld → workOf (m .doing) ≡ noWork → (rows : Rows) (works : Type 0)
+      → ByRows (cardRows c (m .nodes) (row 10 (Idle rationTable m) rows)) (Refuses rationTable c m (asStepped (stepOf c m))) works
   unfolding ByRows
   idle-rows e w rows works =
       by-card (row 10 (Idle rationTable m) rows) (Refuses rationTable c m (asStepped (stepOf c m))) works c (m .nodes)
-      (λ p. rw (step-one c m p) (refused-same 1 c m))
-      (λ r s k d. rw (step-sized c m s ∙ ap (stepHeld c m) e ∙ idle-unchecked c m r (sym k) d) (refused-same r c m))
+      (λ p. rw (step-unsized c m p) (refused-same 1 c m))
+      (λ r s k d. rw (step-sized c m s ∙ ap (stepHeld c m) e ∙ held-unchecked c m r (sym k) d NoneHeld (λ made z. impossible (cc))) (refused-same r c m))
       (λ s f. inl (w, rw (step-sized c m s ∙ ap (stepHeld c m) e ∙ idle-refused c m (formatted-header c (m .nodes) f)) (refused-same 10 c m)))
 
   pub task-rows : (task : Task) → heldBy (m .doing) ≡ HeldTask task → (workOf (m .doing) ≡ noWork → ⊥) → (rows : Rows) (works : Type 0)
-      → (Sized (length c) (m .nodes) → stepOf c m ≡ stepTask c m task (m .rest) → ByRows rows (Refuses rationTable c m (asStepped (stepOf c m))) works) → ByRows (cardRows c (m .nodes) (row 10 (Idle rationTable m) rows)) (Refuses rationTable c m (asStepped (stepOf c m))) works
+      → (Sized (length c) (m .nodes) → stepOf c m ≡ stepTask c m task (m .rest) → ByRows rows (Refuses rationTable c m (asStepped (stepOf c m))) works)
+      → ByRows (cardRows c (m .nodes) (row 10 (Idle rationTable m) rows)) (Refuses rationTable c m (asStepped (stepOf c m))) works
   unfolding ByRows
   task-rows task e w rows works next =
       by-card (row 10 (Idle rationTable m) rows) (Refuses rationTable c m (asStepped (stepOf c m))) works c (m .nodes)
-      (λ p. rw (step-one c m p) (refused-same 1 c m))
-      (λ r s k d. rw (step-sized c m s ∙ ap (stepHeld c m) e ∙ task-unchecked c m r (sym k) d task) (refused-same r c m))
+      (λ p. rw (step-unsized c m p) (refused-same 1 c m))
+      (λ r s k d. rw (step-sized c m s ∙ ap (stepHeld c m) e ∙ held-unchecked c m r (sym k) d (HeldTask task) (λ made z. impossible (cc))) (refused-same r c m))
       (λ s f. inr (w, next s (step-sized c m s ∙ ap (stepHeld c m) e ∙ task-due c m (formatted-header c (m .nodes) f) task)))
 
 -- with a change in hand
-next-cases : (c : List ℕ) (m : Memory) (x : Store) (rest : List Store) → ByRows (row 9 (length c ≤ x .0) end) (Refuses rationTable c m (asStepped (stepStore c m x (advanced m rest)))) (StoresNext rationTable c m (asStepped (stepStore c m x (advanced m rest))) x rest)
+next-cases : (c : List ℕ) (m : Memory) (x : Store) (rest : List Store)
+    → ByRows (row 9 (length c ≤ x .0) end) (Refuses rationTable c m (asStepped (stepStore c m x (advanced m rest))))
+    (StoresNext rationTable c m (asStepped (stepStore c m x (advanced m rest))) x rest)
 unfolding ByRows stepStore stepReply
 next-cases c m x rest =
     order (x .0) (length c)
-    (λ o. inr (λ z. omega (arith, o, z), rw (lt-ltb (x .0) (length c) o) (record { reply-given = refl; one-store = refl; nodes-kept = advanced-nodes m rest; work-then = ap workOf (advanced-doing m rest) }, advanced-rest m rest)))
+    (λ o. inr (
+      λ z. omega (arith, o, z),
+      rw (lt-ltb (x .0) (length c) o) (
+        record { reply-given = refl; one-store = refl; nodes-kept = advanced-nodes m rest; work-then = advanced-work m rest },
+        advanced-rest m rest,
+      ),
+    ))
     (λ o. inl (o, rw (le-ltb (x .0) (length c) o) (refused-same 9 c m)))
 
 pub in-hand-rows : (c : List ℕ) (m : Memory) (x : Store) (rest : List Store) → m .rest ≡ x ∷ rest → (workOf (m .doing) ≡ formatting → ⊥)
-    → ByRows (cardRows c (m .nodes) (row 10 (Idle rationTable m) (row 9 (length c ≤ x .0) end))) (Refuses rationTable c m (asStepped (stepOf c m))) (StoresNext rationTable c m (asStepped (stepOf c m)) x rest)
+    → ByRows (cardRows c (m .nodes) (row 10 (Idle rationTable m) (row 9 (length c ≤ x .0) end)))
+    (Refuses rationTable c m (asStepped (stepOf c m))) (StoresNext rationTable c m (asStepped (stepOf c m)) x rest)
 unfolding stepTask
 in-hand-rows c m x rest r q = go (idle-or-task (m .doing) q)
   where
-    go : IdleOrTask (m .doing) → ByRows (cardRows c (m .nodes) (row 10 (Idle rationTable m) (row 9 (length c ≤ x .0) end))) (Refuses rationTable c m (asStepped (stepOf c m))) (StoresNext rationTable c m (asStepped (stepOf c m)) x rest)
+    go : IdleOrTask (m .doing) → ByRows (cardRows c (m .nodes) (row 10 (Idle rationTable m) (row 9 (length c ≤ x .0) end)))
+        (Refuses rationTable c m (asStepped (stepOf c m))) (StoresNext rationTable c m (asStepped (stepOf c m)) x rest)
     go (inl (e, w)) = idle-rows c m e w (row 9 (length c ≤ x .0) end) (StoresNext rationTable c m (asStepped (stepOf c m)) x rest)
     go (inr (task, e, w)) =
         task-rows c m task e w (row 9 (length c ≤ x .0) end) (StoresNext rationTable c m (asStepped (stepOf c m)) x rest)
-        (λ s due. subst (λ (y : Step). ByRows (row 9 (length c ≤ x .0) end) (Refuses rationTable c m (asStepped y)) (StoresNext rationTable c m (asStepped y) x rest)) (sym (due ∙ ap (stepTask c m task) r)) (next-cases c m x rest))
+        (λ s due. subst (λ (y : Step). ByRows (row 9 (length c ≤ x .0) end) (Refuses rationTable c m (asStepped y))
+        (StoresNext rationTable c m (asStepped y) x rest)) (sym (due ∙ ap (stepTask c m task) r)) (next-cases c m x rest))
 
 -- no card has N = 0
 none-sized : (c : List ℕ) (n : ℕ) → n ≡ 0 → NoCard c n
@@ -186,7 +201,7 @@ pub none-refused : (c : List ℕ) (m : Memory) → m .nodes ≡ 0 → (key value
 unfolding insertOf deleteOf
 none-refused c m e key value =
     let p = none-sized c (m .nodes) e in (
-      rw (start-one c m key (Inserting key value false) (startRoom c key (m .free)) p) (refused-back c m key (Inserting key value false) (startRoom c key (m .free)) 1),
-      rw (start-one c m key (Deleting key false 0) (λ l. true) p) (refused-back c m key (Deleting key false 0) (λ l. true) 1),
-      rw (step-one c m p) (refused-same 1 c m),
+      rw (start-one c m key (Inserting key value NotBegun) (startRoom c key (m .free)) p) (refused-back c m key (Inserting key value NotBegun) (startRoom c key (m .free)) 1),
+      rw (start-one c m key (Deleting key NotBegun 0) (λ l. true) p) (refused-back c m key (Deleting key NotBegun 0) (λ l. true) 1),
+      rw (step-unsized c m p) (refused-same 1 c m),
     )

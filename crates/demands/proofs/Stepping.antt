@@ -39,8 +39,12 @@ use Rattle.demands.proofs.Begin.{put-held, put-slot, put-full, remove-h
 use Rattle.demands.specs.Way.{leafFull}
 use Rattle.state.specs.Answers.{stepReply}
 use borrow.Author.Tests.{le-ltb, ne-eqb}
-use Rattle.demands.proofs.FirstChanges.{slot-changing, slot-level, slot-enters, delete-changing, delete-level, delete-enters, slot-shaped, delete-shaped, split-shaped, split-changing, split-level, split-enters, split-count, First}
-use Rattle.demands.proofs.Invariant.{toldOf, takenUp, Toward, Table, Job, Entered, UpdateSteps, Stage, Inv, job-repair, job-insert, job-delete, no-update, updated, stage-idle, stage-put, stage-remove, stage-first, stage-between, stage-within}
+use Rattle.demands.proofs.FirstChanges.{slot-changing, slot-level, slot-enters, delete-changing, delete-level, delete-enters}
+use Rattle.demands.proofs.FirstChanges.{slot-shaped, delete-shaped, split-shaped, split-changing, split-level, split-enters}
+use Rattle.demands.proofs.FirstChanges.{split-count, First}
+use Rattle.demands.proofs.Invariant.{toldOf, takenUp, Toward, Table, Job, Entered, UpdateSteps, Stage, Inv, job-repair, job-insert}
+use Rattle.demands.proofs.Invariant.{job-delete, no-update, updated, stage-idle, stage-put, stage-remove, stage-first, stage-between}
+use Rattle.demands.proofs.Invariant.{stage-within}
 use Rattle.demands.proofs.Kept.{first-storable, repair-stored, update-stored}
 use Rattle.demands.specs.Book.{Update, Hand, Book, book, entered, fedStart, fedStep, feed, outcome, told, put, remove, anInsert, final, goesOn, empty, holding}
 use Rattle.demands.proofs.BookLaws.{Enters, Same, IsStored, IsFinal, final-told, dictionaryAnswer, enters-held, enters-gone}
@@ -49,14 +53,17 @@ use Rattle.demands.specs.RationTable.{rationTable}
 use Rattle.demands.proofs.Reopen.{table-depth-limited}
 use Rattle.demands.proofs.Slots.{slot-holds, slots-full}
 use Rattle.demands.proofs.Steps.{memory, Busy, job-busy, step-idle, step-stores, prepared-ready, prepared-first, step-repairs, step-puts, step-removes}
+use Rattle.demands.proofs.Work.{settled-idle}
 use Rattle.theory_check.proofs.Depth.{table-depth}
 use Rattle.theory_check.proofs.Found.{found}
 use Rattle.state.specs.Steps.{Step, stepRefused, isIdle}
-use Rattle.table.specs.Calls.{stepPrepared, stepOf}
+use Rattle.call_step.specs.Calls.{stepPrepared, stepOf}
 use Rattle.state.specs.Memory.{Memory, idled, advanced}
 use Rattle.call_change.specs.Updates.{landing, splitNeed, startRoom}
 use Rattle.state.specs.declared.Doing.{Doing}
 use Rattle.state.specs.declared.Doing.the-variants.{Idle, Inserting, Deleting}
+use Rattle.state.specs.declared.Phase.the-variants.{NotBegun, InHand, Decided}
+use Rattle.state.proofs.Tasks.{in-hand}
 use Rattle.state.specs.declared.Answer.{Answer}
 use Rattle.state.specs.declared.Answer.the-variants.{Stored, Absent, Value, Refused}
 use Rattle.theory_tree.proofs.Cut.{cut}
@@ -75,7 +82,8 @@ use Rattle.walk.specs.declared.Slot.the-variants.{At, Absent as NoSlot}
 use Rattle.walk.specs.declared.Landing.the-variants.{Leaf as LandingAt}
 
 -- a table with a violation has its next change planned
-pub mends : (c : List ℕ) (n key : ℕ) (t : Tree) (free : List Bool) (last : ℕ) → Table c n t → Exact n free t → (v : Violation t key) → tableViolations t ≡ 1 → 3 + reserve (v .context) (v .part) ≤ countTrue free
+pub mends : (c : List ℕ) (n key : ℕ) (t : Tree) (free : List Bool) (last : ℕ) → Table c n t → Exact n free t → (v : Violation t key)
+    → tableViolations t ≡ 1 → 3 + reserve (v .context) (v .part) ≤ countTrue free
     → Repaired c n key t free last (depthOf (v .context))
 mends c n key t free last b x v single room = mended c n key t free last (b .sized .words) (omega (arith, b .sized .most)) (b .holds) (b .sound) (table-depth-limited b) x v single room
 
@@ -90,10 +98,11 @@ pub data Moves (c : List ℕ) (m : Memory) (s : Step) : Type 0 where
   ends-now : IsFinal (s .answer) → s .card ≡ c → s .memory .doing ≡ Idle → Moves c m s
   goes-further : IsStored (s .answer) → isIdle (s .memory .doing) ≡ false → Moves c m s
 
--- a store does not change what is being done
-busy-after : {doing : Doing} (n : ℕ) (free : List Bool) (last : ℕ) (z : List Store) (cut : List ℕ) → Busy doing → (rest : List Store) → isIdle (advanced (memory n free last doing z cut) rest .doing) ≡ false
+-- a store leaves the work in hand
+busy-after : {doing : Doing} (n : ℕ) (free : List Bool) (last : ℕ) (z : List Store) (cut : List ℕ) → Busy doing → (rest : List Store)
+    → isIdle (advanced (memory n free last doing z cut) rest .doing) ≡ false
 unfolding advanced
-busy-after n free last z cut b [] = b .not-idle
+busy-after {doing} n free last z cut b [] = settled-idle doing ∙ b .not-idle
 busy-after n free last z cut b (s ∷ rest) = b .not-idle
 
 -- the answer is the one due, or none: a store, or the refusal of an idle state
@@ -111,30 +120,41 @@ module _ (n steps : ℕ) (c : List ℕ) (t : Tree) (b : Table c n t) (o : Openab
   -- what a step must leave
   abbrev Goal : Memory → Hand → Answer → Type 0
   Goal m h due =
-      Toward goal due n steps (record { card = stepOf c m .card; state = stepOf c m .memory }) (fedStep (outcome (stepReply (stepOf c m .answer))) l h) × Right (stepOf c m .answer) due × Moves c m (stepOf c m)
+      Toward goal due n steps (record { card = stepOf c m .card; state = stepOf c m .memory })
+      (fedStep (outcome (stepReply (stepOf c m .answer))) l h) × Right (stepOf c m .answer) due × Moves c m (stepOf c m)
 
-  stored-goal : {place : ℕ} (m m′ : Memory) (c′ : List ℕ) (h : Hand) (due : Answer) → stepOf c m ≡ record { answer = Stored place; card = c′; memory = m′ } → isIdle (m′ .doing) ≡ false → Toward goal due n steps (record { card = c′; state = m′ }) (fedStep goesOn l h) → Goal m h due
+  stored-goal : {place : ℕ} (m m′ : Memory) (c′ : List ℕ) (h : Hand) (due : Answer)
+      → stepOf c m ≡ record { answer = Stored place; card = c′; memory = m′ } → isIdle (m′ .doing) ≡ false
+      → Toward goal due n steps (record { card = c′; state = m′ }) (fedStep goesOn l h) → Goal m h due
   unfolding outcome stepReply
   stored-goal m m′ c′ h due e busy i = rw e (i, no-answer, goes-further (_, refl) busy)
 
-  final-goal : (m m′ : Memory) (a : Answer) (h : Hand) (due : Answer) → stepOf c m ≡ record { answer = a; card = c; memory = m′ } → m′ .doing ≡ Idle → IsFinal a → Toward goal due n steps (record { card = c; state = m′ }) (fedStep final l h) → Right a due → Goal m h due
+  final-goal : (m m′ : Memory) (a : Answer) (h : Hand) (due : Answer)
+      → stepOf c m ≡ record { answer = a; card = c; memory = m′ } → m′ .doing ≡ Idle → IsFinal a
+      → Toward goal due n steps (record { card = c; state = m′ }) (fedStep final l h) → Right a due → Goal m h due
   final-goal m m′ a h due e idle f i r = rw (e, final-told a f) (i, r, ends-now f refl idle)
 
   -- the state idle again
-  idle-inv : (due : Answer) (free : List Bool) (last : ℕ) (l′ : List (ℕ × ℕ)) → Same (pairs t) l′ → tableViolations t ≡ 0 → 3 ≤ countTrue free → Exact n free t → bare t ≡ goal → Toward goal due n steps (record { card = c; state = memory n free last Idle [] [] }) (book l′ empty)
+  idle-inv : (due : Answer) (free : List Bool) (last : ℕ) (l′ : List (ℕ × ℕ)) → Same (pairs t) l′
+      → tableViolations t ≡ 0 → 3 ≤ countTrue free → Exact n free t → bare t ≡ goal
+      → Toward goal due n steps (record { card = c; state = memory n free last Idle [] [] }) (book l′ empty)
   idle-inv due free last l′ s z r x eg = (record { tree = t; goal = goal; due = due; table = b; openable = o; same = s; stage = stage-idle z r x eg }, refl, refl)
 
   -- a repair that has nothing left to do gives its final answer
-  ended : {doing : Doing} {key : ℕ} {due : Answer} {u : Option Update} {h : Hand} (free : List Bool) (last : ℕ) → Job doing key due u → Entered u h → tableViolations t ≡ 0 → 3 ≤ countTrue free → Exact n free t → bare t ≡ goal → Goal (memory n free last doing [] []) h due
+  ended : {doing : Doing} {key : ℕ} {due : Answer} {u : Option Update} {h : Hand} (free : List Bool) (last : ℕ)
+      → Job Decided doing key due u → Entered u h → tableViolations t ≡ 0 → 3 ≤ countTrue free → Exact n free t → bare t ≡ goal
+      → Goal (memory n free last doing [] []) h due
   unfolding idled outcome stepReply fedStep
   ended {doing} {key} {due} {u} {h} free last j en z r x eg =
       final-goal (memory n free last doing [] []) (memory n free last Idle [] []) due h due
-      (step-repairs c n (b .sized) (b .header) free last j ∙ prepared-ready c (memory n free last doing [] []) doing due (nextRepair c n key free last) (rests c n key t free last b z)) refl (is-final j) (entered-inv en) final-answer
+      (step-repairs c n (b .sized) (b .header) free last j
+      ∙ prepared-ready c (memory n free last doing [] []) doing due (nextRepair c n key free last) (rests c n key t free last b z)) refl
+      (is-final j) (entered-inv en) final-answer
     where
-      is-final : {doing : Doing} {key : ℕ} {due : Answer} {u : Option Update} → Job doing key due u → IsFinal due
+      is-final : {doing : Doing} {key : ℕ} {due : Answer} {u : Option Update} → Job Decided doing key due u → IsFinal due
       is-final job-repair = tt
-      is-final job-insert = tt
-      is-final job-delete = tt
+      is-final (job-insert p) = tt
+      is-final (job-delete p) = tt
 
       entered-inv : {u : Option Update} {h : Hand} → Entered u h → Toward goal due n steps (record { card = c; state = memory n free last Idle [] [] }) (fedStep final l h)
       entered-inv no-update = idle-inv due free last l same z r x eg
@@ -144,10 +164,15 @@ module _ (n steps : ℕ) (c : List ℕ) (t : Tree) (b : Table c n t) (o : Openab
   entered-on : {u : Option Update} {h : Hand} → Entered u h → (h′ : Hand) × (fedStep goesOn l h ≡ book l h′) × Entered u h′
   unfolding fedStep
   entered-on no-update = (empty, refl, no-update)
-  entered-on (updated {u} {deciding} {count} e) = (holding u deciding (suc count), rw (ne-eqb (suc count) deciding (λ q. omega (arith, q, e))), updated {deciding = deciding} {count = suc count} (omega arith))
+  entered-on (updated {u} {deciding} {count} e) = (
+    holding u deciding (suc count),
+    rw (ne-eqb (suc count) deciding (λ q. omega (arith, q, e))),
+    updated {deciding = deciding} {count = suc count} (omega arith),
+  )
 
   -- a repair that goes on
-  repaired : {doing : Doing} {key : ℕ} {due : Answer} {u : Option Update} {h : Hand} (free : List Bool) (last deep : ℕ) → Job doing key due u → Entered u h → Mendable key free t deep → Exact n free t → 73 * deep + 1 ≤ suc steps → Heads deep (bare t) goal
+  repaired : {doing : Doing} {key : ℕ} {due : Answer} {u : Option Update} {h : Hand} (free : List Bool) (last deep : ℕ) → Job Decided
+      doing key due u → Entered u h → Mendable key free t deep → Exact n free t → 73 * deep + 1 ≤ suc steps → Heads deep (bare t) goal
       → Goal (memory n free last doing [] []) h due
   repaired free last deep j en (settled z r) x few hd = ended free last j en z r x (heads-done hd (bare-table-violations t ∙ z))
   repaired {doing} {key} {due} {u} {h} free last deep j en (violated v w r) x few hd = apply (mends c n key t free last b x v w r)
@@ -163,14 +188,17 @@ module _ (n steps : ℕ) (c : List ℕ) (t : Tree) (b : Table c n t) (o : Openab
               let p = pending-changing (b .holds) (b .sound) o (rw e at (q .pending)) in
               let g = entered-on en in
               stored-goal (memory n free last doing [] []) _ (set c (s .0) (s .1)) h due
-              (step-repairs c n (b .sized) (b .header) free last j ∙ prepared-first c (memory n free last doing [] []) doing due (nextRepair c n key free last) s rest (q .free-then) (q .last-then) (q .cut) k (first-storable (p .0 .plays) .inside))
+              (step-repairs c n (b .sized) (b .header) free last j ∙ prepared-first c (memory n free last doing [] []) doing due
+              (nextRepair c n key free last) s rest (q .free-then) (q .last-then) (q .cut) k (first-storable (p .0 .plays) .inside))
               (busy-after n (q .free-then) (q .last-then) [] (q .cut) (job-busy j) rest)
-              (rw (g .1) (repair-stored (q .last-then) steps [] l b same j (g .2) (p .0) (record { totals = p .1 }) (omega (arith, p .2)) (heads-on (p .0 .level) (bare (p .0 .next)) hd (bare-table-violations t ∙ w) (p .2) (p .3))))
+              (rw (g .1) (repair-stored (q .last-then) steps [] l b same j (g .2) (p .0) (record { totals = p .1 }) (omega (arith, p .2))
+              (heads-on (p .0 .level) (bare (p .0 .next)) hd (bare-table-violations t ∙ w) (p .2) (p .3))))
 
   -- the first store of an update's first change
-  begins : {doing : Doing} {key : ℕ} {due : Answer} {u : Update} (d : ℕ) (m : Memory) (s : Store) (rest : List Store) (free : List Bool) (last : ℕ) (cut : List ℕ) → Job doing key due (some u)
+  begins : {doing : Doing} {key : ℕ} {due : Answer} {u : Update} (d : ℕ) (m : Memory) (s : Store) (rest : List Store) (free : List Bool) (last : ℕ) (cut : List ℕ) → Job InHand doing key due (some u)
       → stepOf c m ≡ record { answer = Stored (s .0); card = set c (s .0) (s .1); memory = advanced (memory n free last doing [] cut) rest }
-      → (p : Changing c n key t (s ∷ rest) free cut) → Enters u (pairs t) (pairs (p .next)) → suc (length rest) ≡ d → length rest + (73 * p .level + 1) ≤ steps → Heads (p .level) (bare (p .next)) goal → Goal m (holding u d 0) due
+      → (p : Changing c n key t (s ∷ rest) free cut) → Enters u (pairs t) (pairs (p .next)) → suc (length rest) ≡ d
+      → length rest + (73 * p .level + 1) ≤ steps → Heads (p .level) (bare (p .next)) goal → Goal m (holding u d 0) due
   begins {due = due} {u = u} d m s rest free last cut j e p en count few hd =
       let q : 0 + suc (length rest) ≡ d = omega arith in
       stored-goal m _ (set c (s .0) (s .1)) (holding u d 0) due e (busy-after n free last [] cut (job-busy j) rest) (update-stored d 0 last steps [] l b same j p en q few hd)
@@ -218,25 +246,33 @@ module _ (n steps : ℕ) (c : List ℕ) (t : Tree) (b : Table c n t) (o : Openab
   entered-at-end key value false = refl
 
   -- "Insert, key held: answers the held value, no store."
-  put-answers : (free : List Bool) (last key value i : ℕ) → tableViolations t ≡ 0 → 3 ≤ countTrue free → Exact n free t → (g : LandedAt c n key t) → slotOf (nodeAt c (g .number)) key ≡ At i → (full : Bool) → afterShape (put key value) (bare t) ≡ goal
-      → Goal (memory n free last (Inserting key value false) [] []) (takenUp (anInsert key value goesOn full)) (dictionaryAnswer (lookup key (pairs t)))
+  put-answers : (free : List Bool) (last key value i : ℕ) → tableViolations t ≡ 0 → 3 ≤ countTrue free → Exact n free t
+      → (g : LandedAt c n key t) → slotOf (nodeAt c (g .number)) key ≡ At i → (full : Bool) → afterShape (put key value) (bare t) ≡ goal
+      → Goal (memory n free last (Inserting key value NotBegun) [] []) (takenUp (anInsert key value goesOn full)) (dictionaryAnswer (lookup key (pairs t)))
   unfolding idled outcome stepReply fedStep slotAnswer dictionaryAnswer
   put-answers free last key value i z r x g e full eg =
-      let m = memory n free last (Inserting key value false) [] [] in
+      let m = memory n free last (Inserting key value NotBegun) [] [] in
       let v = getD (nodeAt c (g .number)) (12 + i) 0 in
       let found : lookup key (pairs t) ≡ some (getD (nodeAt c (g .number)) (12 + i) 0) = sym (g .answers) ∙ ap (slotAnswer (nodeAt c (g .number))) e in
-      final-goal (memory n free last (Inserting key value false) [] []) (memory n free last Idle [] []) (Value v) (takenUp (anInsert key value goesOn full)) (dictionaryAnswer (lookup key (pairs t)))
-      (step-puts c n (b .sized) (b .header) free last key value ∙ put-held c n key (g .number) (linkPlace (g .context)) (fullRun (g .context)) (landed key g) value free last m i e ∙ prepared-ready c m (Inserting key value true) (Value v) balanced refl)
+      final-goal (memory n free last (Inserting key value NotBegun) [] []) (memory n free last Idle [] []) (Value v)
+      (takenUp (anInsert key value goesOn full)) (dictionaryAnswer (lookup key (pairs t)))
+      (step-puts c n (b .sized) (b .header) free last key value ∙ put-held c n key (g .number) (linkPlace (g .context))
+      (fullRun (g .context)) (landed key g) value free last m i e ∙ prepared-ready c m (Inserting key value InHand) (Value v) balanced refl)
       refl tt
-      (rw (entered-at-end key value full) (idle-inv _ free last (entered (put key value) l) (enters-held key value (pairs t) (held-positive key (getD (nodeAt c (g .number)) (12 + i) 0) (pairs t) found) .to l same) z r x (goal-held key value (getD (nodeAt c (g .number)) (12 + i) 0) found eg)))
+      (rw (entered-at-end key value full) (idle-inv _ free last (entered (put key value) l)
+      (enters-held key value (pairs t) (held-positive key (getD (nodeAt c (g .number)) (12 + i) 0) (pairs t) found) .to l same) z r x
+      (goal-held key value (getD (nodeAt c (g .number)) (12 + i) 0) found eg)))
       (rw found final-answer)
     where
       held-positive : (k v : ℕ) (ps : List (ℕ × ℕ)) → lookup k ps ≡ some v → 0 < total (hasKey k) ps
       held-positive k v ps q = order 0 (total (hasKey k) ps) (λ a. a) (λ a. absurd (Option·none-ne-some v (sym (lookup-none k ps (omega arith)) ∙ q)))
 
   -- the first change is planned, and its first store made
-  first-made : {doing : Doing} {key : ℕ} {due : Answer} {u : Update} (d : ℕ) (m : Memory) (prep : Preparation) (s : Store) (rest : List Store) (free : List Bool) (last : ℕ) (cut : List ℕ) (deep : ℕ) → m .nodes ≡ n → Job doing key due (some u)
-      → stepOf c m ≡ stepPrepared c m doing due prep → prep ≡ prepared (s ∷ rest) free last cut → First c n key t (s ∷ rest) free cut u deep → suc (length rest) ≡ d → length rest + (73 * deep + 1) ≤ steps → deep ≤ depthLimit → settledBy depthLimit (firstShape u (bare t)) ≡ goal → Goal m (holding u d 0) due
+  first-made : {doing : Doing} {key : ℕ} {due : Answer} {u : Update} (d : ℕ) (m : Memory) (prep : Preparation) (s : Store)
+      (rest : List Store) (free : List Bool) (last : ℕ) (cut : List ℕ) (deep : ℕ) → m .nodes ≡ n → Job InHand doing key due (some u)
+      → stepOf c m ≡ stepPrepared c m doing due prep → prep ≡ prepared (s ∷ rest) free last cut
+      → First c n key t (s ∷ rest) free cut u deep → suc (length rest) ≡ d → length rest + (73 * deep + 1) ≤ steps → deep ≤ depthLimit
+      → settledBy depthLimit (firstShape u (bare t)) ≡ goal → Goal m (holding u d 0) due
   first-made {doing} {key} {due} {u} d m prep s rest free last cut deep en j e e₁ p count few lim eg =
       let q = p .shallow in
       begins d m s rest free last cut j
@@ -244,11 +280,13 @@ module _ (n steps : ℕ) (c : List ℕ) (t : Tree) (b : Table c n t) (o : Openab
       (record { repairs = depthLimit; enough = omega arith; reaches = ap (settledBy depthLimit) (p .shaped) ∙ eg })
 
   -- "With an empty slot: value first, then key, in the lowest empty slot."
-  put-into-slot : (free : List Bool) (last key value i : ℕ) → tableViolations t ≡ 0 → 3 ≤ countTrue free → Exact n free t → lowestKey ≤ key → key < keyLimit → UpdateSteps t (suc steps) → (g : LandedAt c n key t) → slotOf (nodeAt c (g .number)) key ≡ NoSlot → slotOf (nodeAt c (g .number)) 0 ≡ At i → afterShape (put key value) (bare t) ≡ goal
-      → Goal (memory n free last (Inserting key value false) [] []) (takenUp (toldOf (put key value) c goesOn)) (dictionaryAnswer (lookup key (pairs t)))
+  put-into-slot : (free : List Bool) (last key value i : ℕ) → tableViolations t ≡ 0
+      → 3 ≤ countTrue free → Exact n free t → lowestKey ≤ key → key < keyLimit → UpdateSteps t (suc steps) → (g : LandedAt c n key t)
+      → slotOf (nodeAt c (g .number)) key ≡ NoSlot → slotOf (nodeAt c (g .number)) 0 ≡ At i → afterShape (put key value) (bare t) ≡ goal
+      → Goal (memory n free last (Inserting key value NotBegun) [] []) (takenUp (toldOf (put key value) c goesOn)) (dictionaryAnswer (lookup key (pairs t)))
   unfolding slotAnswer dictionaryAnswer feed fedStart
   put-into-slot free last key value i z r x low high few g e e₀ eg =
-      let m = memory n free last (Inserting key value false) [] [] in
+      let m = memory n free last (Inserting key value NotBegun) [] [] in
       let none-there : lookup key (pairs t) ≡ none = sym (g .answers) ∙ ap (slotAnswer (nodeAt c (g .number))) e in
       let words = read-length c (g .number) 1 (g .keys) (g .values) (g .on-card .0) in
       let s = slot-holds (nodeAt c (g .number)) 0 i words e₀ in
@@ -257,14 +295,21 @@ module _ (n steps : ℕ) (c : List ℕ) (t : Tree) (b : Table c n t) (o : Openab
       let none-held = absent-counted key (pairs t) none-there in
       let is = g .is-tree in
       let way = way-short key g z few in
-      let p : First c n key (plug (g .context) (leaf (g .number) (g .keys) (g .values))) ((place (g .number) (12 + i), value) ∷ (place (g .number) (1 + i), key) ∷ []) free [] (put key value) (depthOf (g .context)) =
-      at-slot (g .context) (g .number) (g .keys) (g .values) i (rw is (b .holds)) (rw is (b .sound)) (rw is z) (rw is x) r (g .leads) low high value (s .0) empty-slot (rw is none-held) (row-slot key 0 g ∙ e₀) in
+      let p : First c n key (plug (g .context) (leaf (g .number) (g .keys) (g .values)))
+      ((place (g .number) (12 + i), value) ∷ (place (g .number) (1 + i), key) ∷ []) free [] (put key value) (depthOf (g .context)) =
+      at-slot (g .context) (g .number) (g .keys) (g .values) i (rw is (b .holds))
+      (rw is (b .sound)) (rw is z) (rw is x) r (g .leads) low high value (s .0) empty-slot (rw is none-held) (row-slot key 0 g ∙ e₀) in
       rw (none-there, flag)
-      (first-made _ m _ (place (g .number) (12 + i), value) ((place (g .number) (1 + i), key) ∷ []) free last [] (depthOf (g .context)) refl job-insert
-      (step-puts c n (b .sized) (b .header) free last key value ∙ put-slot c n key (g .number) (linkPlace (g .context)) (fullRun (g .context)) (landed key g) value free last m i e e₀) refl (rw is at p) refl (omega arith) (way-limited key g) (goal-put key value none-there eg))
+      (first-made _ m _ (place (g .number) (12 + i), value) ((place (g .number) (1 + i), key) ∷ []) free last [] (depthOf (g .context)) refl (job-insert in-hand)
+      (step-puts c n (b .sized) (b .header) free last key value
+      ∙ put-slot c n key (g .number) (linkPlace (g .context)) (fullRun (g .context)) (landed key g) value free last m i e e₀) refl
+      (rw is at p) refl (omega arith) (way-limited key g) (goal-put key value none-there eg))
     where
-      at-slot : (C : Context) (m : ℕ) (ks vs : List ℕ) (i : ℕ) → Holds c (plug C (leaf m ks vs)) → Sound (plug C (leaf m ks vs)) → tableViolations (plug C (leaf m ks vs)) ≡ 0 → Exact n free (plug C (leaf m ks vs)) → 3 ≤ countTrue free → Leads key C → lowestKey ≤ key → key < keyLimit
-          → (v : ℕ) → i < 11 → getD ks i 0 ≡ 0 → total (hasKey key) (pairs (plug C (leaf m ks vs))) ≡ 0 → firstEqual ks 0 0 ≡ At i → First c n key (plug C (leaf m ks vs)) ((place m (12 + i), v) ∷ (place m (1 + i), key) ∷ []) free [] (put key v) (depthOf C)
+      at-slot : (C : Context) (m : ℕ) (ks vs : List ℕ) (i : ℕ) → Holds c (plug C (leaf m ks vs)) → Sound (plug C (leaf m ks vs))
+          → tableViolations (plug C (leaf m ks vs)) ≡ 0
+          → Exact n free (plug C (leaf m ks vs)) → 3 ≤ countTrue free → Leads key C → lowestKey ≤ key → key < keyLimit
+          → (v : ℕ) → i < 11 → getD ks i 0 ≡ 0 → total (hasKey key) (pairs (plug C (leaf m ks vs))) ≡ 0 → firstEqual ks 0 0 ≡ At i
+          → First c n key (plug C (leaf m ks vs)) ((place m (12 + i), v) ∷ (place m (1 + i), key) ∷ []) free [] (put key v) (depthOf C)
       at-slot C m ks vs i h s z x r w lo hi v small e₁ a e₂ =
           record {
             changing = slot-changing c n key free C m ks vs h s z x r w lo hi i v small e₁ a;
@@ -274,11 +319,13 @@ module _ (n steps : ℕ) (c : List ℕ) (t : Tree) (b : Table c n t) (o : Openab
           }
 
   -- "Delete: key word to 0, answers the value"
-  remove-from-slot : (free : List Bool) (last key i : ℕ) → tableViolations t ≡ 0 → 3 ≤ countTrue free → Exact n free t → lowestKey ≤ key → key < keyLimit → UpdateSteps t (suc steps) → (g : LandedAt c n key t) → slotOf (nodeAt c (g .number)) key ≡ At i → afterShape (remove key) (bare t) ≡ goal
-      → Goal (memory n free last (Deleting key false 0) [] []) (takenUp (toldOf (remove key) c goesOn)) (dictionaryAnswer (lookup key (pairs t)))
+  remove-from-slot : (free : List Bool) (last key i : ℕ) → tableViolations t ≡ 0
+      → 3 ≤ countTrue free → Exact n free t → lowestKey ≤ key → key < keyLimit → UpdateSteps t (suc steps) → (g : LandedAt c n key t)
+      → slotOf (nodeAt c (g .number)) key ≡ At i → afterShape (remove key) (bare t) ≡ goal
+      → Goal (memory n free last (Deleting key NotBegun 0) [] []) (takenUp (toldOf (remove key) c goesOn)) (dictionaryAnswer (lookup key (pairs t)))
   unfolding slotAnswer dictionaryAnswer feed fedStart
   remove-from-slot free last key i z r x low high few g e eg =
-      let m = memory n free last (Deleting key false 0) [] [] in
+      let m = memory n free last (Deleting key NotBegun 0) [] [] in
       let found : lookup key (pairs t) ≡ some (getD (nodeAt c (g .number)) (12 + i) 0) = sym (g .answers) ∙ ap (slotAnswer (nodeAt c (g .number))) e in
       let words = read-length c (g .number) 1 (g .keys) (g .values) (g .on-card .0) in
       let s = slot-holds (nodeAt c (g .number)) key i words e in
@@ -288,10 +335,14 @@ module _ (n steps : ℕ) (c : List ℕ) (t : Tree) (b : Table c n t) (o : Openab
       let p : First c n key (plug (g .context) (leaf (g .number) (g .keys) (g .values))) ((place (g .number) (1 + i), 0) ∷ []) free [] (remove key) (depthOf (g .context)) =
       at-slot (g .context) (g .number) (g .keys) (g .values) (rw is (b .holds)) (rw is (b .sound)) (rw is z) (rw is x) r (g .leads) low high (s .0) held-slot (row-slot key key g ∙ e) in
       rw found
-      (first-made _ m _ (place (g .number) (1 + i), 0) [] free last [] (depthOf (g .context)) refl job-delete
-      (step-removes c n (b .sized) (b .header) free last key ∙ remove-held c n key (g .number) (linkPlace (g .context)) (fullRun (g .context)) (landed key g) 0 free last m i e) refl (rw is at p) refl (omega arith) (way-limited key g) (goal-remove key (getD (nodeAt c (g .number)) (12 + i) 0) found eg))
+      (first-made _ m _ (place (g .number) (1 + i), 0) [] free last [] (depthOf (g .context)) refl (job-delete in-hand)
+      (step-removes c n (b .sized) (b .header) free last key
+      ∙ remove-held c n key (g .number) (linkPlace (g .context)) (fullRun (g .context)) (landed key g) 0 free last m i e) refl
+      (rw is at p) refl (omega arith) (way-limited key g) (goal-remove key (getD (nodeAt c (g .number)) (12 + i) 0) found eg))
     where
-      at-slot : (C : Context) (m : ℕ) (ks vs : List ℕ) → Holds c (plug C (leaf m ks vs)) → Sound (plug C (leaf m ks vs)) → tableViolations (plug C (leaf m ks vs)) ≡ 0 → Exact n free (plug C (leaf m ks vs)) → 3 ≤ countTrue free → Leads key C → lowestKey ≤ key → key < keyLimit
+      at-slot : (C : Context) (m : ℕ) (ks vs : List ℕ) → Holds c (plug C (leaf m ks vs)) → Sound (plug C (leaf m ks vs))
+          → tableViolations (plug C (leaf m ks vs)) ≡ 0
+          → Exact n free (plug C (leaf m ks vs)) → 3 ≤ countTrue free → Leads key C → lowestKey ≤ key → key < keyLimit
           → i < 11 → getD ks i 0 ≡ key → firstEqual ks key 0 ≡ At i → First c n key (plug C (leaf m ks vs)) ((place m (1 + i), 0) ∷ []) free [] (remove key) (depthOf C)
       at-slot C m ks vs h s z x r w lo hi small e₁ e₂ =
           record {
@@ -302,22 +353,25 @@ module _ (n steps : ℕ) (c : List ℕ) (t : Tree) (b : Table c n t) (o : Openab
           }
 
   -- "absent and no store if not held"
-  remove-answers : (free : List Bool) (last key : ℕ) → tableViolations t ≡ 0 → 3 ≤ countTrue free → Exact n free t → (g : LandedAt c n key t) → slotOf (nodeAt c (g .number)) key ≡ NoSlot → afterShape (remove key) (bare t) ≡ goal
-      → Goal (memory n free last (Deleting key false 0) [] []) (takenUp (toldOf (remove key) c goesOn)) (dictionaryAnswer (lookup key (pairs t)))
+  remove-answers : (free : List Bool) (last key : ℕ) → tableViolations t ≡ 0 → 3 ≤ countTrue free → Exact n free t
+      → (g : LandedAt c n key t) → slotOf (nodeAt c (g .number)) key ≡ NoSlot → afterShape (remove key) (bare t) ≡ goal
+      → Goal (memory n free last (Deleting key NotBegun 0) [] []) (takenUp (toldOf (remove key) c goesOn)) (dictionaryAnswer (lookup key (pairs t)))
   unfolding idled outcome stepReply fedStep slotAnswer dictionaryAnswer feed fedStart
   remove-answers free last key z r x g e eg =
-      let m = memory n free last (Deleting key false 0) [] [] in
+      let m = memory n free last (Deleting key NotBegun 0) [] [] in
       let none-there : lookup key (pairs t) ≡ none = sym (g .answers) ∙ ap (slotAnswer (nodeAt c (g .number))) e in
-      final-goal (memory n free last (Deleting key false 0) [] []) (memory n free last Idle [] []) Absent (takenUp (toldOf (remove key) c goesOn)) (dictionaryAnswer (lookup key (pairs t)))
-      (step-removes c n (b .sized) (b .header) free last key ∙ remove-absent c n key (g .number) (linkPlace (g .context)) (fullRun (g .context)) (landed key g) 0 free last m e ∙ prepared-ready c m (Deleting key true 0) Absent balanced refl)
+      final-goal (memory n free last (Deleting key NotBegun 0) [] []) (memory n free last Idle [] []) Absent (takenUp (toldOf (remove key) c goesOn)) (dictionaryAnswer (lookup key (pairs t)))
+      (step-removes c n (b .sized) (b .header) free last key ∙ remove-absent c n key (g .number) (linkPlace (g .context))
+      (fullRun (g .context)) (landed key g) 0 free last m e ∙ prepared-ready c m (Deleting key InHand 0) Absent balanced refl)
       refl tt
       (idle-inv _ free last (entered (remove key) l) (enters-gone key (pairs t) (absent-counted key (pairs t) none-there) .to l same) z r x (goal-absent key none-there eg))
       (rw none-there final-answer)
 
   -- "Leaf full: the 12 pairs go 6 and 6 into two leaves under a tagged node"
-  put-by-split : (free : List Bool) (last key value : ℕ) → tableViolations t ≡ 0 → 3 ≤ countTrue free → Exact n free t → lowestKey ≤ key → key < keyLimit → UpdateSteps t (suc steps) → startRoom c key free (landing c n key) ≡ true → (g : LandedAt c n key t)
+  put-by-split : (free : List Bool) (last key value : ℕ) → tableViolations t ≡ 0 → 3 ≤ countTrue free → Exact n free t → lowestKey ≤ key
+      → key < keyLimit → UpdateSteps t (suc steps) → startRoom c key free (landing c n key) ≡ true → (g : LandedAt c n key t)
       → slotOf (nodeAt c (g .number)) key ≡ NoSlot → slotOf (nodeAt c (g .number)) 0 ≡ NoSlot → afterShape (put key value) (bare t) ≡ goal
-      → Goal (memory n free last (Inserting key value false) [] []) (takenUp (toldOf (put key value) c goesOn)) (dictionaryAnswer (lookup key (pairs t)))
+      → Goal (memory n free last (Inserting key value NotBegun) [] []) (takenUp (toldOf (put key value) c goesOn)) (dictionaryAnswer (lookup key (pairs t)))
   unfolding slotAnswer dictionaryAnswer feed fedStart
   put-by-split free last key value z r x low high few room g e e₀ eg =
       let none-there : lookup key (pairs t) ≡ none = sym (g .answers) ∙ ap (slotAnswer (nodeAt c (g .number))) e in
@@ -333,24 +387,34 @@ module _ (n steps : ℕ) (c : List ℕ) (t : Tree) (b : Table c n t) (o : Openab
       stores ms = nodeStores (splitNodes (g .context) (first ms) (second ms) (third ms) (withPair key value (g .keys) (g .values))) ++ (linkPlace (g .context), third ms) ∷ []
 
       planned-as : (ms : List ℕ) → takeNumbers 3 free last ≡ some ms
-          → giving 3 free last (λ ms. splitLeaf (g .number) (linkPlace (g .context)) (sort ((key, value) ∷ leafPairs (nodeAt c (g .number)))) (first ms) (second ms) (third ms)) ≡ prepared (stores ms) (withoutAll ms free) (lastOf last ms) (g .number ∷ [])
+          → giving 3 free last (λ ms. splitLeaf (g .number) (linkPlace (g .context)) (sort ((key, value) ∷ leafPairs (nodeAt c (g .number))))
+          (first ms) (second ms) (third ms)) ≡ prepared (stores ms) (withoutAll ms free) (lastOf last ms) (g .number ∷ [])
       planned-as ms e₁ =
           giving-same 3 free last _ (λ ms. rewriteAt (g .context) (splitNodes (g .context) (first ms) (second ms) (third ms) (withPair key value (g .keys) (g .values))) (third ms) (g .number ∷ []))
-          (λ ms. ap (λ (q : List (ℕ × ℕ)). splitLeaf (g .number) (linkPlace (g .context)) (sort ((key, value) ∷ q)) (first ms) (second ms) (third ms)) (leaf-pairs c (g .number) (g .keys) (g .values) (g .on-card))
+          (λ ms. ap (λ (q : List (ℕ × ℕ)). splitLeaf (g .number) (linkPlace (g .context)) (sort ((key, value) ∷ q)) (first ms) (second ms) (third ms))
+          (leaf-pairs c (g .number) (g .keys) (g .values) (g .on-card))
           ∙ split-change (g .context) (g .number) (withPair key value (g .keys) (g .values)) (first ms) (second ms) (third ms))
           ∙ giving-some 3 free last _ ms e₁
           ∙ ap (λ (q : List Store). prepared q (withoutAll ms free) (lastOf last ms) (g .number ∷ [])) (change-stores (g .context) _ (third ms) (g .number ∷ []))
 
-      go : ((ms : List ℕ) × (takeNumbers 3 free last ≡ some ms) × (length ms ≡ 3) × Given free ms) → 73 + 73 * depthOf (g .context) ≤ steps → length (slotPairs (g .keys) (g .values)) ≡ 11 → splitNeed (fullRun (g .context)) ≤ countTrue free → total (hasKey key) (pairs t) ≡ 0 → settledBy depthLimit (firstShape (put key value) (bare t)) ≡ goal
-          → Goal (memory n free last (Inserting key value false) [] []) (takenUp (anInsert key value goesOn true)) Absent
+      go : ((ms : List ℕ) × (takeNumbers 3 free last ≡ some ms) × (length ms ≡ 3) × Given free ms) → 73 + 73 * depthOf (g .context) ≤ steps
+          → length (slotPairs (g .keys) (g .values)) ≡ 11 → splitNeed (fullRun (g .context)) ≤ countTrue free
+          → total (hasKey key) (pairs t) ≡ 0 → settledBy depthLimit (firstShape (put key value) (bare t)) ≡ goal
+          → Goal (memory n free last (Inserting key value NotBegun) [] []) (takenUp (anInsert key value goesOn true)) Absent
       go (ms, e₁, three, gv) way eleven spare none-held reach = split (stores ms) refl
         where
           p : First c n key (plug (g .context) (leaf (g .number) (g .keys) (g .values))) (stores ms) (withoutAll ms free) (g .number ∷ []) (put key value) (depthOf (g .context))
-          p = at (g .context) (g .number) (g .keys) (g .values) (rw (g .is-tree) (b .holds)) (rw (g .is-tree) (b .sound)) (rw (g .is-tree) z) (rw (g .is-tree) x) (g .leads) eleven (rw (g .is-tree) none-held) spare (row-slot key 0 g ∙ e₀)
+          p =
+              at (g .context) (g .number) (g .keys) (g .values) (rw (g .is-tree) (b .holds)) (rw (g .is-tree) (b .sound))
+              (rw (g .is-tree) z) (rw (g .is-tree) x) (g .leads) eleven (rw (g .is-tree) none-held) spare (row-slot key 0 g ∙ e₀)
             where
-              at : (C : Context) (m : ℕ) (ks vs : List ℕ) → Holds c (plug C (leaf m ks vs)) → Sound (plug C (leaf m ks vs)) → tableViolations (plug C (leaf m ks vs)) ≡ 0 → Exact n free (plug C (leaf m ks vs)) → Leads key C → length (slotPairs ks vs) ≡ 11
+              at : (C : Context) (m : ℕ) (ks vs : List ℕ) → Holds c (plug C (leaf m ks vs)) → Sound (plug C (leaf m ks vs))
+                  → tableViolations (plug C (leaf m ks vs)) ≡ 0
+                  → Exact n free (plug C (leaf m ks vs)) → Leads key C → length (slotPairs ks vs) ≡ 11
                   → total (hasKey key) (pairs (plug C (leaf m ks vs))) ≡ 0 → splitNeed (fullRun C) ≤ countTrue free → firstEqual ks 0 0 ≡ NoSlot
-                  → First c n key (plug C (leaf m ks vs)) (nodeStores (splitNodes C (first ms) (second ms) (third ms) (withPair key value ks vs)) ++ (linkPlace C, third ms) ∷ []) (withoutAll ms free) (m ∷ []) (put key value) (depthOf C)
+                  → First c n key (plug C (leaf m ks vs))
+                  (nodeStores (splitNodes C (first ms) (second ms) (third ms) (withPair key value ks vs)) ++ (linkPlace C, third ms) ∷ [])
+                  (withoutAll ms free) (m ∷ []) (put key value) (depthOf C)
               at C m ks vs h s z x w full-leaf a sp e₂ =
                   record {
                     changing = split-changing c n key free C m ks vs h s z x r w low high value ms three gv (b .sized .words) (omega (arith, b .sized .most)) full-leaf a sp;
@@ -360,42 +424,51 @@ module _ (n steps : ℕ) (c : List ℕ) (t : Tree) (b : Table c n t) (o : Openab
                   }
 
           count : length (stores ms) ≡ 73
-          count = split-count c n key free (g .context) (g .number) (g .keys) (g .values) (rw (g .is-tree) (b .holds)) (rw (g .is-tree) (b .sound)) (rw (g .is-tree) z) (rw (g .is-tree) x) r (g .leads) low high value ms three gv (b .sized .words) (omega (arith, b .sized .most)) eleven (rw (g .is-tree) none-held) spare
+          count =
+              split-count c n key free (g .context) (g .number) (g .keys) (g .values) (rw (g .is-tree) (b .holds))
+              (rw (g .is-tree) (b .sound)) (rw (g .is-tree) z) (rw (g .is-tree) x) r (g .leads) low high value ms three gv (b .sized .words)
+              (omega (arith, b .sized .most)) eleven (rw (g .is-tree) none-held) spare
 
-          split : (q : List Store) → stores ms ≡ q → Goal (memory n free last (Inserting key value false) [] []) (takenUp (anInsert key value goesOn true)) Absent
+          split : (q : List Store) → stores ms ≡ q → Goal (memory n free last (Inserting key value NotBegun) [] []) (takenUp (anInsert key value goesOn true)) Absent
           split [] q = absurd (omega (arith, count, ap length q))
           split (s ∷ rest) q =
               let l₁ : suc (length rest) ≡ 73 = sym (ap length q) ∙ count in
               let p₁ : First c n key t (s ∷ rest) (withoutAll ms free) (g .number ∷ []) (put key value) (depthOf (g .context)) = rw (g .is-tree, q) at p in
-              first-made _ (memory n free last (Inserting key value false) [] []) _ s rest (withoutAll ms free) (lastOf last ms) (g .number ∷ []) (depthOf (g .context)) refl job-insert
+              first-made _ (memory n free last (Inserting key value NotBegun) [] []) _ s rest (withoutAll ms free) (lastOf last ms) (g .number ∷ []) (depthOf (g .context)) refl (job-insert in-hand)
               (step-puts c n (b .sized) (b .header) free last key value
-              ∙ put-full c n key (g .number) (linkPlace (g .context)) (fullRun (g .context)) (landed key g) value free last (memory n free last (Inserting key value false) [] []) e e₀)
+              ∙ put-full c n key (g .number) (linkPlace (g .context)) (fullRun (g .context)) (landed key g) value free last (memory n free last (Inserting key value NotBegun) [] []) e e₀)
               (planned-as ms e₁ ∙ ap (λ (q : List Store). prepared q (withoutAll ms free) (lastOf last ms) (g .number ∷ [])) q) p₁ l₁ (omega arith) (way-limited key g) reach
 
   -- by what its leaf holds
-  put-begins : (free : List Bool) (last key value : ℕ) → tableViolations t ≡ 0 → 3 ≤ countTrue free → Exact n free t → lowestKey ≤ key → key < keyLimit → UpdateSteps t (suc steps) → startRoom c key free (landing c n key) ≡ true → afterShape (put key value) (bare t) ≡ goal
-      → Goal (memory n free last (Inserting key value false) [] []) (takenUp (toldOf (put key value) c goesOn)) (dictionaryAnswer (lookup key (pairs t)))
+  put-begins : (free : List Bool) (last key value : ℕ) → tableViolations t ≡ 0 → 3 ≤ countTrue free → Exact n free t → lowestKey ≤ key → key
+      < keyLimit → UpdateSteps t (suc steps) → startRoom c key free (landing c n key) ≡ true → afterShape (put key value) (bare t) ≡ goal
+      → Goal (memory n free last (Inserting key value NotBegun) [] []) (takenUp (toldOf (put key value) c goesOn)) (dictionaryAnswer (lookup key (pairs t)))
   put-begins free last key value z r x low high few room eg = go (lands key low high)
     where
-      go : (g : LandedAt c n key t) → Goal (memory n free last (Inserting key value false) [] []) (takenUp (toldOf (put key value) c goesOn)) (dictionaryAnswer (lookup key (pairs t)))
+      go : (g : LandedAt c n key t) → Goal (memory n free last (Inserting key value NotBegun) [] []) (takenUp (toldOf (put key value) c goesOn)) (dictionaryAnswer (lookup key (pairs t)))
       go g = at (slotOf (nodeAt c (g .number)) key) refl
         where
-          empty-at : (s : Slot) → slotOf (nodeAt c (g .number)) 0 ≡ s → slotOf (nodeAt c (g .number)) key ≡ NoSlot → Goal (memory n free last (Inserting key value false) [] []) (takenUp (toldOf (put key value) c goesOn)) (dictionaryAnswer (lookup key (pairs t)))
+          empty-at : (s : Slot) → slotOf (nodeAt c (g .number)) 0 ≡ s → slotOf (nodeAt c (g .number)) key ≡ NoSlot
+              → Goal (memory n free last (Inserting key value NotBegun) [] [])
+              (takenUp (toldOf (put key value) c goesOn)) (dictionaryAnswer (lookup key (pairs t)))
           empty-at (At i) e₀ e = put-into-slot free last key value i z r x low high few g e e₀ eg
           empty-at NoSlot e₀ e = put-by-split free last key value z r x low high few room g e e₀ eg
 
-          at : (s : Slot) → slotOf (nodeAt c (g .number)) key ≡ s → Goal (memory n free last (Inserting key value false) [] []) (takenUp (toldOf (put key value) c goesOn)) (dictionaryAnswer (lookup key (pairs t)))
+          at : (s : Slot) → slotOf (nodeAt c (g .number)) key ≡ s → Goal (memory n free last (Inserting key value NotBegun) [] [])
+              (takenUp (toldOf (put key value) c goesOn)) (dictionaryAnswer (lookup key (pairs t)))
           at (At i) e = put-answers free last key value i z r x g e (leafFull c key) eg
           at NoSlot e = empty-at (slotOf (nodeAt c (g .number)) 0) refl e
 
-  remove-begins : (free : List Bool) (last key : ℕ) → tableViolations t ≡ 0 → 3 ≤ countTrue free → Exact n free t → lowestKey ≤ key → key < keyLimit → UpdateSteps t (suc steps) → afterShape (remove key) (bare t) ≡ goal
-      → Goal (memory n free last (Deleting key false 0) [] []) (takenUp (toldOf (remove key) c goesOn)) (dictionaryAnswer (lookup key (pairs t)))
+  remove-begins : (free : List Bool) (last key : ℕ) → tableViolations t ≡ 0 → 3 ≤ countTrue free → Exact n free t
+      → lowestKey ≤ key → key < keyLimit → UpdateSteps t (suc steps) → afterShape (remove key) (bare t) ≡ goal
+      → Goal (memory n free last (Deleting key NotBegun 0) [] []) (takenUp (toldOf (remove key) c goesOn)) (dictionaryAnswer (lookup key (pairs t)))
   remove-begins free last key z r x low high few eg = go (lands key low high)
     where
-      go : (g : LandedAt c n key t) → Goal (memory n free last (Deleting key false 0) [] []) (takenUp (toldOf (remove key) c goesOn)) (dictionaryAnswer (lookup key (pairs t)))
+      go : (g : LandedAt c n key t) → Goal (memory n free last (Deleting key NotBegun 0) [] []) (takenUp (toldOf (remove key) c goesOn)) (dictionaryAnswer (lookup key (pairs t)))
       go g = at (slotOf (nodeAt c (g .number)) key) refl
         where
-          at : (s : Slot) → slotOf (nodeAt c (g .number)) key ≡ s → Goal (memory n free last (Deleting key false 0) [] []) (takenUp (toldOf (remove key) c goesOn)) (dictionaryAnswer (lookup key (pairs t)))
+          at : (s : Slot) → slotOf (nodeAt c (g .number)) key ≡ s → Goal (memory n free last (Deleting key NotBegun 0) [] [])
+              (takenUp (toldOf (remove key) c goesOn)) (dictionaryAnswer (lookup key (pairs t)))
           at (At i) e = remove-from-slot free last key i z r x low high few g e eg
           at NoSlot e = remove-answers free last key z r x g e eg
 
@@ -406,16 +479,19 @@ module _ (n steps : ℕ) (c : List ℕ) (t : Tree) (b : Table c n t) (o : Openab
   stage-steps m h due (stage-put {free} {last} {key} {value} z r x low high room few eg) = put-begins free last key value z r x low high few room eg
   stage-steps m h due (stage-remove {free} {last} {key} z r x low high few eg) = remove-begins free last key z r x low high few eg
   stage-steps m h due (stage-first {free} {last} {key} {doing} {u = u} {deciding = deciding} {count = k} {cut = cut} {s = s} {rest = rest} j p en count few hd) =
-      stored-goal (memory n free last doing (s ∷ rest) cut) _ (set c (s .0) (s .1)) (holding u deciding k) due (step-stores c n (b .sized) (b .header) free last doing (job-busy j) cut s rest (first-storable (p .plays) .inside))
+      stored-goal (memory n free last doing (s ∷ rest) cut) _ (set c (s .0) (s .1)) (holding u deciding k) due
+      (step-stores c n (b .sized) (b .header) free last doing (job-busy j) cut s rest (first-storable (p .plays) .inside))
       (busy-after n free last (s ∷ rest) cut (job-busy j) rest) (update-stored deciding k last steps (s ∷ rest) l b same j p en count (omega arith) hd)
   stage-steps m h due (stage-between {free} {last} j en deep r x few hd) = repaired free last deep j en r x few hd
   stage-steps m h due (stage-within {free} {last} {key} {doing} {cut = cut} {s = s} {rest = rest} j en p e few hd) =
       let g = entered-on en in
-      stored-goal (memory n free last doing (s ∷ rest) cut) _ (set c (s .0) (s .1)) h due (step-stores c n (b .sized) (b .header) free last doing (job-busy j) cut s rest (first-storable (p .plays) .inside))
+      stored-goal (memory n free last doing (s ∷ rest) cut) _ (set c (s .0) (s .1)) h due
+      (step-stores c n (b .sized) (b .header) free last doing (job-busy j) cut s rest (first-storable (p .plays) .inside))
       (busy-after n free last (s ∷ rest) cut (job-busy j) rest) (rw (g .1) (repair-stored last steps (s ∷ rest) l b same j (g .2) p e (omega arith) hd))
 
 -- THE STEP: the invariant is kept, and an answer given is the one due
 pub kept-step : (n steps : ℕ) (w : World rationTable) (b : Book) (i : Inv n (suc steps) w b)
-    → Toward (i .goal) (i .due) n steps (happens rationTable step w) (feed (told rationTable step w) b) × Right (stepOf (w .card) (w .state) .answer) (i .due) × Moves (w .card) (w .state) (stepOf (w .card) (w .state))
+    → Toward (i .goal) (i .due) n steps (happens rationTable step w) (feed (told rationTable step w) b)
+    × Right (stepOf (w .card) (w .state) .answer) (i .due) × Moves (w .card) (w .state) (stepOf (w .card) (w .state))
 unfolding happens feed told replyTo
 kept-step n steps w b i = stage-steps n steps (w .card) (i .tree) (i .table) (i .openable) (b .held) (i .same) (i .goal) (w .state) (b .inHand) (i .due) (i .stage)

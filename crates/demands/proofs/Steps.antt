@@ -1,15 +1,14 @@
 -- What a step is on a card that holds a table, by what is being done.
-use mathlib.Core.Path.{_≡_, refl, ap, sym, _∙_}
+use mathlib.Core.Path.{_≡_, refl, ap, _∙_}
 use mathlib.Core.List.{List, [], _∷_}
 use mathlib.Core.Bool.{Bool, false}
 use mathlib.Core.Option.{Option}
 use Prim.Native.Nat.{ℕ, _<_}
-use native.Mathlib.Omega.{arith}
 use lib.ListN.{length, set}
 use lib.Dec.{eqb}
 use borrow.Author.Tests.{lt-ltb}
 use Rattle.card.specs.Header.{nodesOfLength, headerRefusal, Sized, Formatted}
-use Rattle.card.proofs.HeaderLaws.{sized-nodes, formatted-header}
+use Rattle.card.proofs.HeaderLaws.{formatted-header}
 use Rattle.card.specs.Stores.{Store}
 use Rattle.change_plan.specs.Planning.{Preparation, balanced, prepared}
 use Rattle.change_layout.specs.Mending.{nextRepair}
@@ -19,12 +18,15 @@ use Rattle.demands.specs.Book.{Update}
 use Rattle.demands.specs.Events.{World, happens, step}
 use Rattle.demands.specs.RationTable.{rationTable}
 use Rattle.state.specs.Steps.{heldBy, stepRefused, stepFinal, stepStore, isIdle}
-use Rattle.table.specs.Calls.{planning, stepPrepared, stepBegin, stepTask, stepChecked, stepHeld, stepOf}
-use Rattle.table.proofs.StepLaws.{task-due, idle-refused as table-idle, step-same}
-use Rattle.state.specs.Memory.{Memory, idled, advanced}
+use Rattle.call_step.specs.Calls.{planning, stepPrepared, stepBegin, stepTask, stepChecked, stepHeld, stepOf}
+use Rattle.call_step.proofs.StepLaws.{step-sized, task-due, idle-refused as table-idle}
+use Rattle.state.specs.Memory.{Memory, idled, settledPhase, settled, advanced}
 use Rattle.call_change.specs.Updates.{nextChange}
 use Rattle.state.specs.declared.Doing.{Doing}
 use Rattle.state.specs.declared.Doing.the-variants.{Idle, Inserting, Deleting}
+use Rattle.state.specs.declared.Phase.{Phase}
+use Rattle.state.specs.declared.Phase.the-variants.{NotBegun, Decided}
+use Rattle.state.proofs.Tasks.{in-hand, decided}
 use Rattle.state.specs.declared.Answer.{Answer}
 use Rattle.state.specs.declared.Answer.the-variants.{Stored, Ready, Absent, Value}
 use Rattle.state.specs.declared.Task.{Task}
@@ -42,31 +44,44 @@ pub record Busy (doing : Doing) : Type 0 where
   pub held : heldBy doing ≡ HeldTask task
   pub not-idle : isIdle doing ≡ false
 
-pub job-busy : {doing : Doing} {key : ℕ} {final : Answer} {u : Option Update} → Job doing key final u → Busy doing
+pub job-busy : {phase : Phase} {doing : Doing} {key : ℕ} {final : Answer} {u : Option Update} → Job phase doing key final u → Busy doing
 unfolding heldBy isIdle
-job-busy (job-repair {key}) = record { task = Repair key Ready; held = refl; not-idle = refl }
-job-busy (job-insert {key}) = record { task = Repair key Absent; held = refl; not-idle = refl }
-job-busy (job-delete {key} {value}) = record { task = Repair key (Value value); held = refl; not-idle = refl }
+job-busy (job-repair {key = key}) = record { task = Repair key Ready; held = refl; not-idle = refl }
+job-busy (job-insert {key = key} in-hand) = record { task = Repair key Absent; held = refl; not-idle = refl }
+job-busy (job-insert {key = key} decided) = record { task = Repair key Absent; held = refl; not-idle = refl }
+job-busy (job-delete {key = key} {value = value} in-hand) = record { task = Repair key (Value value); held = refl; not-idle = refl }
+job-busy (job-delete {key = key} {value = value} decided) = record { task = Repair key (Value value); held = refl; not-idle = refl }
 
-put-busy : (key value : ℕ) → Busy (Inserting key value false)
+-- the last store of a change decides it
+pub job-settled : {phase : Phase} {doing : Doing} {key : ℕ} {final : Answer} {u : Option Update} → Job phase doing key final u → Job Decided (settled doing) key final u
+unfolding settled settledPhase
+job-settled job-repair = job-repair
+job-settled (job-insert in-hand) = job-insert decided
+job-settled (job-insert decided) = job-insert decided
+job-settled (job-delete in-hand) = job-delete decided
+job-settled (job-delete decided) = job-delete decided
+
+put-busy : (key value : ℕ) → Busy (Inserting key value NotBegun)
 unfolding heldBy isIdle
 put-busy key value = record { task = PutIn key value; held = refl; not-idle = refl }
 
-remove-busy : (key value : ℕ) → Busy (Deleting key false value)
+remove-busy : (key value : ℕ) → Busy (Deleting key NotBegun value)
 unfolding heldBy isIdle
 remove-busy key value = record { task = TakeOut key; held = refl; not-idle = refl }
 
-job-plan : {doing : Doing} {key : ℕ} {final : Answer} {u : Option Update} (j : Job doing key final u) (c : List ℕ) (m : Memory) → m .doing ≡ doing
+job-plan : {phase : Phase} {doing : Doing} {key : ℕ} {final : Answer} {u : Option Update} (j : Job phase doing key final u) (c : List ℕ) (m : Memory) → m .doing ≡ doing
     → stepTask c m (job-busy j .task) [] ≡ stepPrepared c m doing final (nextRepair c (m .nodes) key (m .free) (m .last))
 unfolding job-busy stepTask stepBegin nextChange
 job-plan job-repair c m e = rw e
-job-plan job-insert c m e = rw e
-job-plan job-delete c m e = rw e
+job-plan (job-insert in-hand) c m e = rw e
+job-plan (job-insert decided) c m e = rw e
+job-plan (job-delete in-hand) c m e = rw e
+job-plan (job-delete decided) c m e = rw e
 
 module _ (c : List ℕ) (n : ℕ) (sized : Sized (length c) n) (header : Formatted c n) where
   -- the checks that come first are passed
   checks-passed : (m : Memory) → m .nodes ≡ n → stepOf c m ≡ stepHeld c m (heldBy (m .doing))
-  checks-passed m e = step-same c m n (sym (sized-nodes (length c) n sized)) (omega (arith, sized .least)) (sym e)
+  checks-passed m e = step-sized c m (rw e sized)
 
   headed : (m : Memory) → m .nodes ≡ n → headerRefusal c (m .nodes) ≡ 0
   headed m e = rw e (formatted-header c n header)
@@ -83,7 +98,8 @@ module _ (c : List ℕ) (n : ℕ) (sized : Sized (length c) n) (header : Formatt
           checks-passed m refl ∙ ap (stepHeld c m) (busy .held) ∙ task-due c m (headed m refl) (busy .task)
 
       -- a store of the change in hand
-      pub step-stores : (s : Store) (rest : List Store) → s .0 < length c → stepOf c (memory n free last doing (s ∷ rest) cut) ≡ record { answer = Stored (s .0); card = set c (s .0) (s .1); memory = advanced (memory n free last doing (s ∷ rest) cut) rest }
+      pub step-stores : (s : Store) (rest : List Store) → s .0 < length c → stepOf c (memory n free last doing (s ∷ rest) cut)
+          ≡ record { answer = Stored (s .0); card = set c (s .0) (s .1); memory = advanced (memory n free last doing (s ∷ rest) cut) rest }
       unfolding stepTask stepStore
       step-stores s rest h = work (s ∷ rest) ∙ rw (lt-ltb (s .0) (length c) h)
 
@@ -92,30 +108,35 @@ module _ (c : List ℕ) (n : ℕ) (sized : Sized (length c) n) (header : Formatt
       step-plans = work []
 
 -- what a preparation makes of a step
-pub prepared-ready : (c : List ℕ) (m : Memory) (doing : Doing) (final : Answer) (p : Preparation) → p ≡ balanced → stepPrepared c m doing final p ≡ record { answer = final; card = c; memory = idled m }
+pub prepared-ready : (c : List ℕ) (m : Memory) (doing : Doing) (final : Answer) (p : Preparation) → p ≡ balanced
+    → stepPrepared c m doing final p ≡ record { answer = final; card = c; memory = idled m }
 unfolding stepPrepared stepFinal
 prepared-ready c m doing final p e = ap (stepPrepared c m doing final) e
 
-pub prepared-first : (c : List ℕ) (m : Memory) (doing : Doing) (final : Answer) (p : Preparation) (s : Store) (rest : List Store) (free : List Bool) (last : ℕ) (cut : List ℕ) → p ≡ prepared (s ∷ rest) free last cut → s .0 < length c
+pub prepared-first : (c : List ℕ) (m : Memory) (doing : Doing) (final : Answer) (p : Preparation) (s : Store)
+    (rest : List Store) (free : List Bool) (last : ℕ) (cut : List ℕ) → p ≡ prepared (s ∷ rest) free last cut → s .0 < length c
     → stepPrepared c m doing final p ≡ record { answer = Stored (s .0); card = set c (s .0) (s .1); memory = advanced (memory (m .nodes) free last doing [] cut) rest }
 unfolding stepPrepared stepStore planning
 prepared-first c m doing final p s rest free last cut e h = ap (stepPrepared c m doing final) e ∙ rw (lt-ltb (s .0) (length c) h)
 
 -- the next change of a repair
-pub step-repairs : (c : List ℕ) (n : ℕ) → Sized (length c) n → Formatted c n → (free : List Bool) (last : ℕ) {doing : Doing} {key : ℕ} {final : Answer} {u : Option Update} (j : Job doing key final u)
+pub step-repairs : (c : List ℕ) (n : ℕ) → Sized (length c) n → Formatted c n → (free : List Bool) (last : ℕ) {phase : Phase}
+    {doing : Doing} {key : ℕ} {final : Answer} {u : Option Update} (j : Job phase doing key final u)
     → stepOf c (memory n free last doing [] []) ≡ stepPrepared c (memory n free last doing [] []) doing final (nextRepair c n key free last)
-step-repairs c n s f free last {doing} j = step-plans c n s f free last doing (job-busy j) [] ∙ job-plan j c (memory n free last doing [] []) refl
+step-repairs c n s f free last {doing = doing} j = step-plans c n s f free last doing (job-busy j) [] ∙ job-plan j c (memory n free last doing [] []) refl
 
 -- the first change of an update
 pub step-puts : (c : List ℕ) (n : ℕ) → Sized (length c) n → Formatted c n → (free : List Bool) (last key value : ℕ)
-    → stepOf c (memory n free last (Inserting key value false) [] []) ≡ stepBegin c (memory n free last (Inserting key value false) [] []) (nextChange c n free last (Inserting key value false) (PutIn key value))
+    → stepOf c (memory n free last (Inserting key value NotBegun) [] []) ≡ stepBegin c
+    (memory n free last (Inserting key value NotBegun) [] []) (nextChange c n free last (Inserting key value NotBegun) (PutIn key value))
 unfolding put-busy stepTask
-step-puts c n s f free last key value = step-plans c n s f free last (Inserting key value false) (put-busy key value) []
+step-puts c n s f free last key value = step-plans c n s f free last (Inserting key value NotBegun) (put-busy key value) []
 
 pub step-removes : (c : List ℕ) (n : ℕ) → Sized (length c) n → Formatted c n → (free : List Bool) (last key : ℕ)
-    → stepOf c (memory n free last (Deleting key false 0) [] []) ≡ stepBegin c (memory n free last (Deleting key false 0) [] []) (nextChange c n free last (Deleting key false 0) (TakeOut key))
+    → stepOf c (memory n free last (Deleting key NotBegun 0) [] [])
+    ≡ stepBegin c (memory n free last (Deleting key NotBegun 0) [] []) (nextChange c n free last (Deleting key NotBegun 0) (TakeOut key))
 unfolding remove-busy stepTask
-step-removes c n s f free last key = step-plans c n s f free last (Deleting key false 0) (remove-busy key 0) []
+step-removes c n s f free last key = step-plans c n s f free last (Deleting key NotBegun 0) (remove-busy key 0) []
 
 -- a step of an idle state is refused and changes nothing, whatever the card
 pub idle-refused : (c : List ℕ) (m : Memory) → m .doing ≡ Idle → (r : ℕ) × (stepOf c m ≡ stepRefused r c m)

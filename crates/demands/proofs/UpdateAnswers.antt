@@ -29,7 +29,8 @@ use Rattle.theory_tree.specs.WellFormed.{WellFormed}
 abbrev pub Stores : ℕ → Reply → World rationTable → Type 0
 Stores most final w = (k : ℕ) × (k ≤ most) × Counted final k w
 
-work-stores : {n steps : ℕ} {w : World rationTable} {b : Book} (i : Inv n steps w b) → isIdle (w .state .doing) ≡ false → (due : Answer) → i .due ≡ due → (most : ℕ) → steps ≤ most + 1 → Stores most (stepReply due) w
+work-stores : {n steps : ℕ} {w : World rationTable} {b : Book} (i : Inv n steps w b)
+    → isIdle (w .state .doing) ≡ false → (due : Answer) → i .due ≡ due → (most : ℕ) → steps ≤ most + 1 → Stores most (stepReply due) w
 work-stores {n} {steps} {w} {b} i busy due e most h =
     let q = counted n steps w b i busy in
     (q .0, omega (arith, q .1), subst (λ (a : Answer). Counted (stepReply a) (q .0) w) e (q .2))
@@ -51,14 +52,16 @@ module _ {n steps : ℕ} {w : World rationTable} {b : Book} (i : Inv n steps w b
       work-stores (q .1) (q .2 .busy e) (dictionaryAnswer (lookup key (b .held))) (q .2 .new-due e) (updateStoresAt h) (q .2 .steps-left e t sound h level)
 
   -- "With 600 nodes a balanced tree has at most 8 internal levels"
-  within-bound : {final : Reply} {v : World rationTable} → w .state .doing ≡ Idle → ((t : Tree) → WellFormed (w .card) t → (h : ℕ) → Height h t → Stores (updateStoresAt h) final v) → Stores updateStores final v
+  within-bound : {final : Reply} {v : World rationTable} → w .state .doing ≡ Idle
+      → ((t : Tree) → WellFormed (w .card) t → (h : ℕ) → Height h t → Stores (updateStoresAt h) final v) → Stores updateStores final v
   within-bound idle by-depth =
       let r = inv-rests n steps w b i idle in
       let level = r .balanced .well-formed .level in
       let q = by-depth (r .table) (r .balanced .well-formed) (level .0) (level .1) in
       (q .0, omega (arith, q .1, r .levels (level .0) (level .1)), q .2)
 
-  pub insert-stores : (value : ℕ) → insertOf (w .card) (w .state) key value .begun ≡ Started → Stores updateStores (stepReply (dictionaryAnswer (lookup key (b .held)))) (happens rationTable (insert key value) w)
+  pub insert-stores : (value : ℕ) → insertOf (w .card) (w .state) key value .begun ≡ Started
+      → Stores updateStores (stepReply (dictionaryAnswer (lookup key (b .held)))) (happens rationTable (insert key value) w)
   insert-stores value e = within-bound (kept-insert n steps w b i key value high .2 .idle-before e) (insert-stores-by-depth value e)
 
   pub delete-stores : deleteOf (w .card) (w .state) key .begun ≡ Started → Stores updateStores (stepReply (dictionaryAnswer (lookup key (b .held)))) (happens rationTable (delete key) w)

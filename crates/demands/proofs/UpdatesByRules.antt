@@ -48,10 +48,11 @@ use Rattle.state.specs.declared.Answer.{Answer}
 use Rattle.state.specs.declared.Answer.the-variants.{Ready, Absent, Value}
 use Rattle.state.specs.declared.Begun.the-variants.{Started}
 use Rattle.state.specs.declared.Doing.the-variants.{Inserting, Deleting, Repairing}
-use Rattle.table.specs.Calls.{repairSteps}
+use Rattle.state.specs.declared.Phase.the-variants.{NotBegun, InHand, Decided}
+use Rattle.call_step.specs.Calls.{repairSteps}
 use Rattle.theory_tree.specs.Pairs.{lookup}
 use Rattle.call_change.proofs.Preparations.{next-stores}
-use Rattle.state.proofs.Tasks.{putting, taking}
+use Rattle.state.proofs.Tasks.{in-hand, putting, taking}
 use Rattle.state.specs.declared.Task.the-variants.{PutIn, TakeOut}
 use Rattle.call_change.specs.Updates.{Reason, landing, insertReason, insertChange, deleteChange, insertIn, deleteIn, noWay, inLeaf, nextChange, startRoom, held, slot, full}
 
@@ -112,65 +113,84 @@ module _ (w : World rationTable) (b : Book) (v : Covered w b) where
       )
 
   -- what is planned for a started update
-  insert-begun : (key value : ℕ) (free : List Bool) (last m link : ℕ) (words : List ℕ) (r : Reason) → insertChange key value free last m link words r .doing ≡ Inserting key value true
+  insert-begun : (key value : ℕ) (free : List Bool) (last m link : ℕ) (words : List ℕ) (r : Reason) → insertChange key value free last m link words r .doing ≡ Inserting key value InHand
   unfolding insertChange
   insert-begun key value free last m link words (held a) = refl
   insert-begun key value free last m link words (slot i) = refl
   insert-begun key value free last m link words full = refl
 
-  delete-begun : (key : ℕ) (free : List Bool) (last m : ℕ) (words : List ℕ) (s : Slot) → (a : ℕ) × (deleteChange key free last m words s .doing ≡ Deleting key true a)
+  delete-begun : (key : ℕ) (free : List Bool) (last m : ℕ) (words : List ℕ) (s : Slot) → (a : ℕ) × (deleteChange key free last m words s .doing ≡ Deleting key InHand a)
   unfolding deleteChange
   delete-begun key free last m words (At i) = (getD words (12 + i) 0, refl)
   delete-begun key free last m words NoSlot = (0, refl)
 
-  prepared-insert : (c : List ℕ) (key value : ℕ) (free : List Bool) (last : ℕ) (l : Landing) {ss : List Store} {fewer : List Bool} {now : ℕ} {out : List ℕ} → inLeaf c (Inserting key value false) (insertIn key value free last) l .preparation ≡ prepared ss fewer now out → Begun (inLeaf c (Inserting key value false) (insertIn key value free last) l .doing)
+  prepared-insert : (c : List ℕ) (key value : ℕ) (free : List Bool) (last : ℕ) (l : Landing) {ss : List Store} {fewer : List Bool} {now : ℕ}
+      {out : List ℕ} → inLeaf c (Inserting key value NotBegun) (insertIn key value free last) l .preparation ≡ prepared ss fewer now out
+      → Begun (inLeaf c (Inserting key value NotBegun) (insertIn key value free last) l .doing)
   unfolding inLeaf noWay
   prepared-insert c key value free last NoLanding e = impossible (cc)
-  prepared-insert c key value free last (LandingAt m link run) e = subst Begun (sym (insert-begun key value free last m link (nodeAt c m) (insertReason (nodeAt c m) key))) (key, Absent, some (put key value), job-insert)
+  prepared-insert c key value free last (LandingAt m link run) e =
+      subst Begun (sym (insert-begun key value free last m link (nodeAt c m) (insertReason (nodeAt c m) key)))
+      (InHand, key, Absent, some (put key value), job-insert in-hand)
 
-  prepared-delete : (c : List ℕ) (key : ℕ) (free : List Bool) (last : ℕ) (l : Landing) {ss : List Store} {fewer : List Bool} {now : ℕ} {out : List ℕ} → inLeaf c (Deleting key false 0) (deleteIn key free last) l .preparation ≡ prepared ss fewer now out → Begun (inLeaf c (Deleting key false 0) (deleteIn key free last) l .doing)
+  prepared-delete : (c : List ℕ) (key : ℕ) (free : List Bool) (last : ℕ) (l : Landing) {ss : List Store} {fewer : List Bool} {now : ℕ}
+      {out : List ℕ} → inLeaf c (Deleting key NotBegun 0) (deleteIn key free last) l .preparation ≡ prepared ss fewer now out
+      → Begun (inLeaf c (Deleting key NotBegun 0) (deleteIn key free last) l .doing)
   unfolding inLeaf noWay
   prepared-delete c key free last NoLanding e = impossible (cc)
-  prepared-delete c key free last (LandingAt m link run) e = let d = delete-begun key free last m (nodeAt c m) (slotOf (nodeAt c m) key) in subst Begun (sym (d .1)) (key, Value (d .0), some (remove key), job-delete)
+  prepared-delete c key free last (LandingAt m link run) e =
+      let d = delete-begun key free last m (nodeAt c m) (slotOf (nodeAt c m) key) in
+      subst Begun (sym (d .1)) (InHand, key, Value (d .0), some (remove key), job-delete in-hand)
 
   -- where nothing is planned, the key is held by an insert and absent to a delete
-  insert-nothing : (c : List ℕ) (key value : ℕ) (free : List Bool) (last : ℕ) (l : Landing) (o : Option ℕ) → inLeaf c (Inserting key value false) (insertIn key value free last) l .preparation ≡ balanced → inLeaf c (Inserting key value false) (insertIn key value free last) l .final ≡ dictionaryAnswer o → (a : ℕ) × (o ≡ some a)
+  insert-nothing : (c : List ℕ) (key value : ℕ) (free : List Bool) (last : ℕ) (l : Landing) (o : Option ℕ)
+      → inLeaf c (Inserting key value NotBegun) (insertIn key value free last) l .preparation ≡ balanced
+      → inLeaf c (Inserting key value NotBegun) (insertIn key value free last) l .final ≡ dictionaryAnswer o → (a : ℕ) × (o ≡ some a)
   unfolding inLeaf noWay insertChange dictionaryAnswer
   insert-nothing c key value free last NoLanding o e q = impossible (cc)
   insert-nothing c key value free last (LandingAt m link run) o e q = at (insertReason (nodeAt c m) key) e q o refl
     where
-      at : (r : Reason) → insertChange key value free last m link (nodeAt c m) r .preparation ≡ balanced → insertChange key value free last m link (nodeAt c m) r .final ≡ dictionaryAnswer o → (p : Option ℕ) → o ≡ p → (a : ℕ) × (o ≡ some a)
+      at : (r : Reason) → insertChange key value free last m link (nodeAt c m) r .preparation ≡ balanced
+          → insertChange key value free last m link (nodeAt c m) r .final ≡ dictionaryAnswer o → (p : Option ℕ) → o ≡ p → (a : ℕ) × (o ≡ some a)
       at (held a) e q none k = let y : _≡_ {A = Answer} (Value a) Absent = q ∙ ap dictionaryAnswer k in impossible (cc)
       at (held a) e q (some v) k = (v, k)
       at (slot i) e q p k = impossible (cc)
       at full e q p k = absurd (giving-not-balanced 3 free last _ e)
 
-  delete-nothing : (c : List ℕ) (key : ℕ) (free : List Bool) (last : ℕ) (l : Landing) (o : Option ℕ) → inLeaf c (Deleting key false 0) (deleteIn key free last) l .preparation ≡ balanced → inLeaf c (Deleting key false 0) (deleteIn key free last) l .final ≡ dictionaryAnswer o → o ≡ none
+  delete-nothing : (c : List ℕ) (key : ℕ) (free : List Bool) (last : ℕ) (l : Landing) (o : Option ℕ)
+      → inLeaf c (Deleting key NotBegun 0) (deleteIn key free last) l .preparation ≡ balanced
+      → inLeaf c (Deleting key NotBegun 0) (deleteIn key free last) l .final ≡ dictionaryAnswer o → o ≡ none
   unfolding inLeaf noWay deleteChange dictionaryAnswer
   delete-nothing c key free last NoLanding o e q = impossible (cc)
   delete-nothing c key free last (LandingAt m link run) o e q = at (slotOf (nodeAt c m) key) e q o refl
     where
-      at : (s : Slot) → deleteChange key free last m (nodeAt c m) s .preparation ≡ balanced → deleteChange key free last m (nodeAt c m) s .final ≡ dictionaryAnswer o → (p : Option ℕ) → o ≡ p → o ≡ none
+      at : (s : Slot) → deleteChange key free last m (nodeAt c m) s .preparation ≡ balanced
+          → deleteChange key free last m (nodeAt c m) s .final ≡ dictionaryAnswer o → (p : Option ℕ) → o ≡ p → o ≡ none
       at (At i) e q p k = impossible (cc)
       at NoSlot e q none k = k
       at NoSlot e q (some v) k = let y : _≡_ {A = Answer} Absent (Value v) = q ∙ ap dictionaryAnswer k in impossible (cc)
 
   pub insert-by-rules : (key value : ℕ) → key < keyLimit → insertOf (w .card) (w .state) key value .begun ≡ Started
-      → Updates rationTable ((a : ℕ) × (lookup key (b .held) ≡ some a)) (InsertRule (w .card) key value) (stepReply (dictionaryAnswer (lookup key (b .held)))) (happens rationTable (insert key value) w)
+      → Updates rationTable ((a : ℕ) × (lookup key (b .held) ≡ some a)) (InsertRule (w .card) key value)
+      (stepReply (dictionaryAnswer (lookup key (b .held)))) (happens rationTable (insert key value) w)
   unfolding happens insertOf nextChange
   insert-by-rules key value high e =
       let q = insert-nears key value high e in
       let u = q .1 .covered in
       let m = insertOf (w .card) (w .state) key value .memory in
-      let d : m .doing ≡ Inserting key value false = started-doing (w .card) (w .state) (Inserting key value false) (startRoom (w .card) key (w .state .free)) key e in
+      let d : m .doing ≡ Inserting key value NotBegun = started-doing (w .card) (w .state) (Inserting key value NotBegun) (startRoom (w .card) key (w .state .free)) key e in
       let n : nodesOn (w .card) ≡ u .size = covered-nodes u ∙ nodes-same (u .size) (u .steps) (happens rationTable (insert key value) w) (q .1 .book-now) (u .inv) in
-      first-by-rules (dictionaryAnswer (lookup key (b .held))) (q .0) (happens rationTable (insert key value) w) (q .1) (q .2) ((a : ℕ) × (lookup key (b .held) ≡ some a)) (InsertRule (w .card) key value) (λ given out ss r. insert-short r)
-      (nextChange (w .card) (u .size) (m .free) (m .last) (Inserting key value false) (PutIn key value))
+      first-by-rules (dictionaryAnswer (lookup key (b .held))) (q .0) (happens rationTable (insert key value) w) (q .1) (q .2)
+      ((a : ℕ) × (lookup key (b .held) ≡ some a)) (InsertRule (w .card) key value) (λ given out ss r. insert-short r)
+      (nextChange (w .card) (u .size) (m .free) (m .last) (Inserting key value NotBegun) (PutIn key value))
       (put-turns key value (u .inv .table) (u .inv .stage) d)
       (next-final (w .card) (u .size) (m .free) (m .last) putting)
-      (next-stores (m .free) (m .last) (w .card) (u .size) (Inserting key value false) (PutIn key value))
+      (next-stores (m .free) (m .last) (w .card) (u .size) (Inserting key value NotBegun) (PutIn key value))
       (insert-nothing (w .card) key value (m .free) (m .last) (landing (w .card) (u .size) key) (lookup key (b .held)))
-      (λ ss fewer now out p. (insert-by-rule (w .card) (u .size) key n (Inserting key value false) value p, prepared-insert (w .card) key value (m .free) (m .last) (landing (w .card) (u .size) key) p))
+      (λ ss fewer now out p. (
+        insert-by-rule (w .card) (u .size) key n (Inserting key value NotBegun) value p,
+        prepared-insert (w .card) key value (m .free) (m .last) (landing (w .card) (u .size) key) p,
+      ))
 
   pub delete-by-rules : (key : ℕ) → key < keyLimit → deleteOf (w .card) (w .state) key .begun ≡ Started
       → Updates rationTable (lookup key (b .held) ≡ none) (DeleteRule (w .card) key) (stepReply (dictionaryAnswer (lookup key (b .held)))) (happens rationTable (delete key) w)
@@ -179,22 +199,25 @@ module _ (w : World rationTable) (b : Book) (v : Covered w b) where
       let q = delete-nears key high e in
       let u = q .1 .covered in
       let m = deleteOf (w .card) (w .state) key .memory in
-      let d : m .doing ≡ Deleting key false 0 = started-doing (w .card) (w .state) (Deleting key false 0) (λ l. true) key e in
+      let d : m .doing ≡ Deleting key NotBegun 0 = started-doing (w .card) (w .state) (Deleting key NotBegun 0) (λ l. true) key e in
       let n : nodesOn (w .card) ≡ u .size = covered-nodes u ∙ nodes-same (u .size) (u .steps) (happens rationTable (delete key) w) (q .1 .book-now) (u .inv) in
-      first-by-rules (dictionaryAnswer (lookup key (b .held))) (q .0) (happens rationTable (delete key) w) (q .1) (q .2) (lookup key (b .held) ≡ none) (DeleteRule (w .card) key) (λ given out ss r. delete-short r)
-      (nextChange (w .card) (u .size) (m .free) (m .last) (Deleting key false 0) (TakeOut key))
+      first-by-rules (dictionaryAnswer (lookup key (b .held))) (q .0) (happens rationTable (delete key) w) (q .1) (q .2)
+      (lookup key (b .held) ≡ none) (DeleteRule (w .card) key) (λ given out ss r. delete-short r)
+      (nextChange (w .card) (u .size) (m .free) (m .last) (Deleting key NotBegun 0) (TakeOut key))
       (remove-turns key (u .inv .table) (u .inv .stage) d)
       (next-final (w .card) (u .size) (m .free) (m .last) taking)
-      (next-stores (m .free) (m .last) (w .card) (u .size) (Deleting key false 0) (TakeOut key))
+      (next-stores (m .free) (m .last) (w .card) (u .size) (Deleting key NotBegun 0) (TakeOut key))
       (delete-nothing (w .card) key (m .free) (m .last) (landing (w .card) (u .size) key) (lookup key (b .held)))
-      (λ ss fewer now out p. (delete-by-rule (w .card) (u .size) key n (Deleting key false 0) p, prepared-delete (w .card) key (m .free) (m .last) (landing (w .card) (u .size) key) p))
+      (λ ss fewer now out p. (delete-by-rule (w .card) (u .size) key n (Deleting key NotBegun 0) p, prepared-delete (w .card) key (m .free) (m .last) (landing (w .card) (u .size) key) p))
 
   -- opening's repair
   pub opening-by-rules : rationTable .openCard (w .card) .reply ≡ started → Repairs rationTable ready (opened rationTable (w .card))
   unfolding startReply stepReply
   opening-by-rules e = at (open-doing (w .card))
     where
-      at : (openOf (w .card) .memory .rest ≡ []) × ((startReply (openOf (w .card) .begun) ≡ started → ⊥) ⊎ ((key : ℕ) × (openOf (w .card) .memory .doing ≡ Repairing key))) → Repairs rationTable ready (opened rationTable (w .card))
+      at : (openOf (w .card) .memory .rest ≡ [])
+          × ((startReply (openOf (w .card) .begun) ≡ started → ⊥) ⊎ ((key : ℕ) × (openOf (w .card) .memory .doing ≡ Repairing key)))
+          → Repairs rationTable ready (opened rationTable (w .card))
       at (r, inl not) = absurd (not e)
       at (r, inr (key, d)) =
           repairs-by-rules Ready (suc repairSteps) repairSteps (opened rationTable (w .card)) (omega arith)
@@ -204,4 +227,4 @@ module _ (w : World rationTable) (b : Book) (v : Covered w b) where
             soon = omega arith;
             is-due = reopened-due (v .size) (w .card) (v .inv .tree) (b .held) (v .inv .table) (v .inv .openable) (v .inv .same);
           })
-          r (subst Begun (sym d) (key, Ready, none, job-repair))
+          r (subst Begun (sym d) (Decided, key, Ready, none, job-repair))

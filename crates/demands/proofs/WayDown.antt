@@ -72,4 +72,6 @@ slot-is words x s e = ap slotFound (sym e) ∙ slot-among (keyWords words) x 0
 -- the leaf is full exactly where no slot of it is empty
 pub full-is : (c : List ℕ) (n key m link run : ℕ) (s : Slot) → Sized (length c) n → landing c n key ≡ LandingAt m link run → slotOf (nodeAt c m) 0 ≡ s → leafFull c key ≡ not (slotFound s)
 unfolding Option·elim landed
-full-is c n key m link run s z e f = ap (λ (o : Option (ℕ × ℕ)). Option·elim o false (λ l. not (among 0 (keyWords (nodeAt c (l .0)))))) (sym (leads-is c n key (sized-on c n z)) ∙ ap landed e) ∙ ap not (sym (slot-is (nodeAt c m) 0 s f))
+full-is c n key m link run s z e f =
+    ap (λ (o : Option (ℕ × ℕ)). Option·elim o false (λ l. not (among 0 (keyWords (nodeAt c (l .0))))))
+    (sym (leads-is c n key (sized-on c n z)) ∙ ap landed e) ∙ ap not (sym (slot-is (nodeAt c m) 0 s f))

@@ -1,13 +1,16 @@
 -- What the work that a state tells says of what is being done.
-use mathlib.Core.Path.{_≡_, refl, sym, _∙_}
+use mathlib.Core.Path.{_≡_, refl, ap, sym, _∙_}
 use mathlib.Core.Bool.{Bool, true, false}
 use mathlib.Core.Logic.{_⊎_, inl, inr}
 use Prim.Native.Nat.{ℕ}
-use Rattle.demands.specs.RationTable.{workOf}
-use Rattle.demands.specs.Table.{noWork, formatting}
+use Rattle.demands.specs.RationTable.{hasBegun, workOf}
+use Rattle.demands.specs.Table.{noWork, formatting, inserting, deleting}
+use Rattle.state.specs.Memory.{settledPhase, settled}
 use Rattle.state.specs.Steps.{isIdle, heldBy}
 use Rattle.state.specs.declared.Doing.{Doing}
 use Rattle.state.specs.declared.Doing.the-variants.{Idle, Formatting, Inserting, Deleting, Repairing}
+use Rattle.state.specs.declared.Phase.{Phase}
+use Rattle.state.specs.declared.Phase.the-variants.{NotBegun, InHand, Decided}
 use Rattle.state.specs.declared.Answer.the-variants.{Ready, Absent, Value}
 use Rattle.state.specs.declared.Task.{Task}
 use Rattle.state.specs.declared.Task.the-variants.{PutIn, TakeOut, Repair}
@@ -22,16 +25,16 @@ pub idle-work : (d : Doing) → isIdle d ≡ true → workOf d ≡ noWork
 unfolding workOf isIdle
 idle-work Idle e = refl
 idle-work (Formatting made) e = true-false (sym e)
-idle-work (Inserting key value begun) e = true-false (sym e)
-idle-work (Deleting key begun value) e = true-false (sym e)
+idle-work (Inserting key value phase) e = true-false (sym e)
+idle-work (Deleting key phase value) e = true-false (sym e)
 idle-work (Repairing key) e = true-false (sym e)
 
 pub work-idle : (d : Doing) → workOf d ≡ noWork → isIdle d ≡ true
 unfolding workOf isIdle
 work-idle Idle e = refl
 work-idle (Formatting made) e = impossible (cc)
-work-idle (Inserting key value begun) e = impossible (cc)
-work-idle (Deleting key begun value) e = impossible (cc)
+work-idle (Inserting key value phase) e = impossible (cc)
+work-idle (Deleting key phase value) e = impossible (cc)
 work-idle (Repairing key) e = impossible (cc)
 
 pub busy-work : (d : Doing) → isIdle d ≡ false → workOf d ≡ noWork → ⊥
@@ -41,9 +44,32 @@ pub work-formatting : (d : Doing) → workOf d ≡ formatting → (made : ℕ) �
 unfolding workOf
 work-formatting Idle e = impossible (cc)
 work-formatting (Formatting made) e = (made, refl)
-work-formatting (Inserting key value begun) e = impossible (cc)
-work-formatting (Deleting key begun value) e = impossible (cc)
+work-formatting (Inserting key value phase) e = impossible (cc)
+work-formatting (Deleting key phase value) e = impossible (cc)
 work-formatting (Repairing key) e = impossible (cc)
+
+-- the last store of a change leaves both as they are
+pub settled-idle : (d : Doing) → isIdle (settled d) ≡ isIdle d
+unfolding settled isIdle
+settled-idle Idle = refl
+settled-idle (Formatting made) = refl
+settled-idle (Inserting key value phase) = refl
+settled-idle (Deleting key phase value) = refl
+settled-idle (Repairing key) = refl
+
+settled-begun : (phase : Phase) → hasBegun (settledPhase phase) ≡ hasBegun phase
+unfolding settledPhase hasBegun
+settled-begun NotBegun = refl
+settled-begun InHand = refl
+settled-begun Decided = refl
+
+pub settled-work : (d : Doing) → workOf (settled d) ≡ workOf d
+unfolding settled workOf
+settled-work Idle = refl
+settled-work (Formatting made) = refl
+settled-work (Inserting key value phase) = ap (inserting key value) (settled-begun phase)
+settled-work (Deleting key phase value) = ap (deleting key) (settled-begun phase)
+settled-work (Repairing key) = refl
 
 -- what is not formatting holds nothing, or a task
 abbrev pub IdleOrTask : Doing → Type 0
@@ -53,8 +79,10 @@ pub idle-or-task : (d : Doing) → (workOf d ≡ formatting → ⊥) → IdleOrT
 unfolding workOf heldBy
 idle-or-task Idle q = inl (refl, refl)
 idle-or-task (Formatting made) q = absurd (q refl)
-idle-or-task (Inserting key value false) q = inr (PutIn key value, refl, λ e. impossible (cc))
-idle-or-task (Inserting key value true) q = inr (Repair key Absent, refl, λ e. impossible (cc))
-idle-or-task (Deleting key false value) q = inr (TakeOut key, refl, λ e. impossible (cc))
-idle-or-task (Deleting key true value) q = inr (Repair key (Value value), refl, λ e. impossible (cc))
+idle-or-task (Inserting key value NotBegun) q = inr (PutIn key value, refl, λ e. impossible (cc))
+idle-or-task (Inserting key value InHand) q = inr (Repair key Absent, refl, λ e. impossible (cc))
+idle-or-task (Inserting key value Decided) q = inr (Repair key Absent, refl, λ e. impossible (cc))
+idle-or-task (Deleting key NotBegun value) q = inr (TakeOut key, refl, λ e. impossible (cc))
+idle-or-task (Deleting key InHand value) q = inr (Repair key (Value value), refl, λ e. impossible (cc))
+idle-or-task (Deleting key Decided value) q = inr (Repair key (Value value), refl, λ e. impossible (cc))
 idle-or-task (Repairing key) q = inr (Repair key Ready, refl, λ e. impossible (cc))

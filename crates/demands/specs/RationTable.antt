@@ -1,5 +1,6 @@
 -- The ration table as its caller sees it: the definitions that the contracts of the calls say the code meets, and the numbers of
 -- its answers. (What those definitions are need not be read: the demands are proved of them.)
+use mathlib.Core.Bool.{Bool, true, false}
 use Rattle.demands.specs.Table.{Handed, Stepped, Work, Table, noWork, formatting, inserting, deleting, repairing}
 use Rattle.call_find.specs.Answers.{foundReply}
 use Rattle.call_find.specs.Find.{findOf}
@@ -10,14 +11,22 @@ use Rattle.state.specs.Memory.{Memory}
 use Rattle.state.specs.Steps.{Handed as Begun, Step}
 use Rattle.state.specs.declared.Doing.{Doing}
 use Rattle.state.specs.declared.Doing.the-variants.{Idle, Formatting, Inserting, Deleting, Repairing}
-use Rattle.table.specs.Calls.{stepOf}
+use Rattle.state.specs.declared.Phase.{Phase}
+use Rattle.state.specs.declared.Phase.the-variants.{NotBegun, InHand, Decided}
+use Rattle.call_step.specs.Calls.{stepOf}
+
+-- whether the first change of an insert or a delete has begun
+unfoldable pub hasBegun : Phase → Bool
+hasBegun NotBegun = false
+hasBegun InHand = true
+hasBegun Decided = true
 
 -- what is being done, as its caller sees it
 unfoldable pub workOf : Doing → Work
 workOf Idle = noWork
 workOf (Formatting made) = formatting
-workOf (Inserting key value begun) = inserting key value begun
-workOf (Deleting key begun value) = deleting key begun
+workOf (Inserting key value phase) = inserting key value (hasBegun phase)
+workOf (Deleting key phase value) = deleting key (hasBegun phase)
 workOf (Repairing key) = repairing key
 
 abbrev pub handed : Begun → Handed Memory

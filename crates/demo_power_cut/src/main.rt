@@ -3,23 +3,15 @@ use table::Found;
 use table::STATE_WORDS;
 use test_calls::Block;
 use test_calls::Words;
+use test_calls::make_steps;
 
 // The words of a card with 6 nodes.
 const LENGTH: usize = 152;
 
-// As many steps as asked. A step after the final answer is refused and changes nothing.
-fn run(card: &mut Words, state: &mut Block, steps: usize) {
-    let mut left = steps;
-    while 0 < left {
-        test_calls::step(card, LENGTH, state);
-        left -= 1;
-    }
-}
-
 // Starts an insert and makes so many of its steps.
-fn insert(card: &mut Words, state: &mut Block, key: u32, value: u32, steps: usize) {
+fn insert(card: &mut Words, state: &mut Block, key: u32, value: u32, steps: u64) {
     test_calls::start_insert(card, LENGTH, state, key, value);
-    run(card, state, steps);
+    make_steps(card, LENGTH, state, steps);
 }
 
 // Rations 1 to 11, which fill the one leaf of a new table.
@@ -34,7 +26,7 @@ fn fill(card: &mut Words, state: &mut Block) {
 // Power is back: the card is opened and its repair, if there is one, is finished.
 fn power_on(card: &mut Words, state: &mut Block) {
     test_calls::open(card, LENGTH, state);
-    run(card, state, 731);
+    make_steps(card, LENGTH, state, 731);
 }
 
 // What the card says of a ration.
@@ -63,10 +55,10 @@ fn say_both(card: &Words) {
 }
 
 fn main() {
-    let mut card = [0u32; 14432];
+    let mut card = [0u32; test_calls::MOST];
     let mut state: Block = [0; STATE_WORDS];
     test_calls::start_format(&card, LENGTH, &mut state);
-    run(&mut card, &mut state, 154);
+    make_steps(&mut card, LENGTH, &mut state, 154);
     fill(&mut card, &mut state);
     io::write_all(1, b"rations 1 to 11 are on the card\n");
     say_both(&card);

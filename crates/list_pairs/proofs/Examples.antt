@@ -15,5 +15,8 @@ use Rattle.list_pairs.specs.Listing.{nodePairs, onCard, pairsFrom, listC
 
 -- "nodes 4 free 3 levels 0 pairs 2", then "7 70" and "3 31"
 example-listed : listDump (dumpOf example) 104 ≡ listed (record { nodes = 4; free = 3; levels = 0; pairs = (7, 70) ∷ (3, 31) ∷ [] })
-unfolding example nodeImage readAnswer damaged faults fittingLength dumpOf cardBytes wordBytes wordAt paddedLength dumpWords listDump listRead listCard listBegun listTable listChecked openedCard repairedCard isIdle openOf openChecked openSound resting cardRefusal headerRefusal nodesOfLength tableCheck nodeCheck onLook enterNode enterKind enterLeaf leafSound slotSound member allNodes countTrue nodeAt keyWords valueWords leafPairs pairsFrom onCard nodePairs
+unfolding example nodeImage readAnswer damaged faults fittingLength dumpOf cardBytes wordBytes wordAt paddedLength dumpWords listDump
+    listRead listCard listBegun listTable listChecked openedCard repairedCard isIdle openOf openChecked openSound resting cardRefusal
+    headerRefusal nodesOfLength tableCheck nodeCheck onLook enterNode enterKind enterLeaf leafSound slotSound member allNodes countTrue
+    nodeAt keyWords valueWords leafPairs pairsFrom onCard nodePairs
 example-listed = refl

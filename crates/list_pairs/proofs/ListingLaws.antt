@@ -50,7 +50,8 @@ unfolding layPairs
 lay-none l = refl
 
 module _ (below : ℕ → List (ℕ × ℕ)) (node : List ℕ) (len : length node ≡ 24) (c i : ℕ) (counted : c ≡ length (children node)) where
-  pub children-next : i < c → (l : Laid) → layPairs (childPairs below (drop i (children node))) l ≡ layPairs (childPairs below (drop (i + 1) (children node))) (layPairs (below (getD node (12 + i) 0)) l)
+  pub children-next : i < c → (l : Laid) → layPairs (childPairs below (drop i (children node))) l
+      ≡ layPairs (childPairs below (drop (i + 1) (children node))) (layPairs (below (getD node (12 + i) 0)) l)
   unfolding childPairs
   children-next h l = rw (child-drop node len c i counted h) (lay-append (below (getD node (12 + i) 0)) (childPairs below (drop (i + 1) (children node))) l)
 

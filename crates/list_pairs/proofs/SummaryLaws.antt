@@ -19,7 +19,8 @@ use Rattle.list_pairs.specs.Summaries.{summarized, summaryOf}
 
 -- ---- a table
 
-pub summary-refused : (r : ℕ) (l : Listed) (words : List ℕ) → l ≡ refused r → (record { refusal = r; nodes = 0; free = 0; levels = 0; words = 0 } ≡ summaryOf l words) × (words ≡ layListed l words .words)
+pub summary-refused : (r : ℕ) (l : Listed) (words : List ℕ) → l ≡ refused r
+    → (record { refusal = r; nodes = 0; free = 0; levels = 0; words = 0 } ≡ summaryOf l words) × (words ≡ layListed l words .words)
 unfolding summaryOf summarized layListed
 summary-refused r l words e = rw e (refl, refl)
 

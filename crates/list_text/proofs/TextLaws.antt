@@ -22,7 +22,14 @@ use Rattle.text_row.proofs.FillingLaws.{fill-append}
 pub pair-short : (key value : ℕ) → key < 2 ^ 32 → value < 2 ^ 32 → length (pairLine key value) ≤ 22
 unfolding pairLine space lineFeed
 pair-short key value k v =
-    omega (arith, length-append (decimal key ++ (space ++ decimal value)) lineFeed, length-append (decimal key) (space ++ decimal value), length-append space (decimal value), word-short key k, word-short value v)
+    omega (
+      arith,
+      length-append (decimal key ++ (space ++ decimal value)) lineFeed,
+      length-append (decimal key) (space ++ decimal value),
+      length-append space (decimal value),
+      word-short key k,
+      word-short value v,
+    )
 
 -- ---- the pairs in a slice of words
 

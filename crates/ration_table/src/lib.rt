@@ -15,9 +15,10 @@ ghost use Rattle.call_open.specs.Opening.{openOf};
 ghost use Rattle.call_start.specs.Starts.{formatOf, insertOf, deleteOf};
 ghost use Rattle.state.specs.Answers.{startReply, stepReply};
 ghost use Rattle.state.specs.declared.Doing.the-variants.{Inserting, Deleting};
-ghost use Rattle.table.specs.Calls.{stepOf};
-ghost use Rattle.state_block.specs.Contracts.{OpenCall, StartCall, StepCall};
-ghost use Rattle.state_block.specs.Block.{memoryIn};
+ghost use Rattle.state.specs.declared.Phase.the-variants.{NotBegun};
+ghost use Rattle.state.specs.Contracts.{OpenCall, StartCall};
+ghost use Rattle.call_step.specs.Contracts.{StepCall};
+ghost use Rattle.state.specs.Block.{memoryIn};
 ghost use Rattle.ration_table.specs.Contracts.{Replies};
 ghost use Rattle.c_replies.specs.ReplyWords.{replyOf};
 
@@ -53,7 +54,8 @@ pub extern "C" fn ration_start_insert(
     key: u32,
     value: u32,
 ) -> Reply
-    ensures { λ r. ⌜ Replies startReply (replyOf r) (λ begun. StartCall (now (state .entry)) (now (state .exit)) begun (Inserting key value false) (insertOf (now (card .entry)) (memoryIn (now (state .entry))) key value)) ⌝ }
+    ensures { λ r. ⌜ Replies startReply (replyOf r) (λ begun. StartCall (now (state .entry)) (now (state .exit)) begun
+        (Inserting key value NotBegun) (insertOf (now (card .entry)) (memoryIn (now (state .entry))) key value)) ⌝ }
 {
     start_reply(table::start_insert(card, state, key, value))
 }
@@ -61,7 +63,8 @@ pub extern "C" fn ration_start_insert(
 // The same for a delete.
 #[no_mangle]
 pub extern "C" fn ration_start_delete(card: &[u32], state: &mut [u32], key: u32) -> Reply
-    ensures { λ r. ⌜ Replies startReply (replyOf r) (λ begun. StartCall (now (state .entry)) (now (state .exit)) begun (Deleting key false 0) (deleteOf (now (card .entry)) (memoryIn (now (state .entry))) key)) ⌝ }
+    ensures { λ r. ⌜ Replies startReply (replyOf r) (λ begun. StartCall (now (state .entry)) (now (state .exit)) begun
+        (Deleting key NotBegun 0) (deleteOf (now (card .entry)) (memoryIn (now (state .entry))) key)) ⌝ }
 {
     start_reply(table::start_delete(card, state, key))
 }
@@ -69,7 +72,7 @@ pub extern "C" fn ration_start_delete(card: &[u32], state: &mut [u32], key: u32)
 // "Each step then either stores one word or gives the final answer and makes the state idle."
 #[no_mangle]
 pub extern "C" fn ration_step(card: &mut [u32], state: &mut [u32]) -> Reply
-    ensures { λ r. ⌜ Replies stepReply (replyOf r) (λ answer. StepCall (now (state .entry)) (now (state .exit)) (now (card .entry)) (now (card .exit)) answer (stepOf (now (card .entry)) (memoryIn (now (state .entry))))) ⌝ }
+    ensures { λ r. ⌜ Replies stepReply (replyOf r) (λ answer. StepCall (now (card .entry)) (now (state .entry)) (now (card .exit)) (now (state .exit)) answer) ⌝ }
 {
     step_reply(table::step(card, state))
 }

@@ -1,8 +1,8 @@
 // What stands in the way of a new number: the value that its key holds already, a leaf with an empty slot, or a split and the room
 // for it (document 02, W-209).
 use call_repair::open_repaired;
-use state_block::FREE;
-use state_block::PLACES;
+use state::block::FREE;
+use state::block::PLACES;
 use table::Begun;
 use table::STATE_WORDS;
 use walk::Landing;
@@ -14,7 +14,7 @@ ghost use Rattle.card.specs.Layout.{depthLimit};
 ghost use Rattle.card_free.specs.NodeSet.{wordCount, nodesOf, countTrue};
 ghost use Rattle.walk.specs.Descent.{slotOf};
 ghost use Rattle.call_change.specs.Updates.{emptyReason, insertReason};
-ghost use Rattle.state_block.specs.Block.{stateWords, memoryIn};
+ghost use Rattle.state.specs.Block.{stateWords, memoryIn};
 ghost use Rattle.call_repair.specs.Repairing.{openedCard, openedOver};
 ghost use Rattle.reason_key.specs.KeyFile.{keyIn};
 ghost use Rattle.reason.specs.InsertReason.{reasonFor, reasonOn, reasonOf, reasonInDump};
@@ -54,7 +54,7 @@ fn reason_in(leaf: &[u32], key: u32, free: &[u32], run: usize) -> Reason
     ensures { λ r. ⌜ r ≡ reasonFor (insertReason (now (leaf .entry)) key) run (countTrue (nodesOf (now (free .entry)))) ⌝ }
 {
     match walk::find_slot(leaf, key) {
-        Slot::At(i) => Reason::Held(leaf[12 + i]),
+        Slot::At(i) => Reason::Held(leaf[card::VALUES + i]),
         Slot::Absent => reason_absent(leaf, free, run),
     }
 }

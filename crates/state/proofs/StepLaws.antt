@@ -13,15 +13,12 @@ use borrow.Author.Tests.{ltb-true, lt-ltb, le-ltb, ne-eqb, eq-eqb}
 use Rattle.card.specs.Stores.{Store}
 use Rattle.change_plan.specs.Plan.{storesOf}
 use Rattle.change_plan.specs.Planning.{withAll}
-use Rattle.change_plan.specs.declared.Plan.{Plan}
 use Rattle.laws.proofs.Cases.{order, impossible}
 use Rattle.laws.specs.Lists.{beforeZero}
-use Rattle.state.specs.Steps.{Step, stepRefused, formattedWord, formatStore, stepStore}
-use Rattle.state.specs.Memory.{Memory, memoryOf, advanced}
-use Rattle.state.specs.Results.{stepLeft, moreToStore}
-use Rattle.state.specs.declared.Stepped.{Stepped}
-use Rattle.state.specs.declared.Answer.{Answer}
-use Rattle.state.specs.declared.Answer.the-variants.{Stored, Ready, Refused}
+use Rattle.state.specs.Steps.{stepRefused, formattedWord, formatStore, stepStore}
+use Rattle.state.specs.Memory.{Memory, advanced}
+use Rattle.state.specs.Results.{moreToStore}
+use Rattle.state.specs.declared.Answer.the-variants.{Stored}
 
 -- the stores of a plan, from one on
 zip-nil : (xs : List ℕ) → zip {A = ℕ} {B = ℕ} xs [] ≡ []
@@ -36,42 +33,42 @@ zip-drop (suc k) [] ys = refl
 zip-drop (suc k) (x ∷ xs) [] = sym (zip-nil (drop k xs))
 zip-drop (suc k) (x ∷ xs) (y ∷ ys) = zip-drop k xs ys
 
-module _ (p : Plan) (k : ℕ) (lp : length (p .places) ≡ 73) (lv : length (p .values) ≡ 73) where
-  pub store-at : k < p .count → k < 73 → drop k (storesOf p) ≡ (getD (p .places) k 0, getD (p .values) k 0) ∷ drop (k + 1) (storesOf p)
+module _ (places values : List ℕ) (count k : ℕ) (lp : length places ≡ 73) (lv : length values ≡ 73) where
+  pub store-at : k < count → k < 73 → drop k (storesOf places values count) ≡ (getD places k 0, getD values k 0) ∷ drop (k + 1) (storesOf places values count)
   unfolding storesOf zip zipWith
   store-at h l =
-      let hp : k < length (take (p .count) (p .places)) = simp length-take (omega arith) in
-      let hv : k < length (take (p .count) (p .values)) = simp length-take (omega arith) in
-      zip-drop k (take (p .count) (p .places)) (take (p .count) (p .values))
-      ∙ ap₂ (λ (x y : List ℕ). zip x y) (drop-cons (take (p .count) (p .places)) k 0 hp) (drop-cons (take (p .count) (p .values)) k 0 hv)
-      ∙ ap₂ (λ (x y : ℕ). (x, y) ∷ zip (drop (suc k) (take (p .count) (p .places))) (drop (suc k) (take (p .count) (p .values)))) (getD-take (p .count) (p .places) k 0 h) (getD-take (p .count) (p .values) k 0 h)
-      ∙ ap (λ (r : List Store). (getD (p .places) k 0, getD (p .values) k 0) ∷ r) (sym (zip-drop (suc k) (take (p .count) (p .places)) (take (p .count) (p .values))))
-      ∙ ap (λ (j : ℕ). (getD (p .places) k 0, getD (p .values) k 0) ∷ drop j (zip (take (p .count) (p .places)) (take (p .count) (p .values)))) (sym (add-one k))
+      let hp : k < length (take count places) = simp length-take (omega arith) in
+      let hv : k < length (take count values) = simp length-take (omega arith) in
+      zip-drop k (take count places) (take count values)
+      ∙ ap₂ (λ (x y : List ℕ). zip x y) (drop-cons (take count places) k 0 hp) (drop-cons (take count values) k 0 hv)
+      ∙ ap₂ (λ (x y : ℕ). (x, y) ∷ zip (drop (suc k) (take count places)) (drop (suc k) (take count values))) (getD-take count places k 0 h) (getD-take count values k 0 h)
+      ∙ ap (λ (r : List Store). (getD places k 0, getD values k 0) ∷ r) (sym (zip-drop (suc k) (take count places) (take count values)))
+      ∙ ap (λ (j : ℕ). (getD places k 0, getD values k 0) ∷ drop j (zip (take count places) (take count values))) (sym (add-one k))
 
-  pub stores-full : 73 ≤ k → drop k (storesOf p) ≡ []
+  pub stores-full : 73 ≤ k → drop k (storesOf places values count) ≡ []
   unfolding storesOf zip zipWith
   stores-full h =
-      zip-drop k (take (p .count) (p .places)) (take (p .count) (p .values))
-      ∙ ap (λ (x : List ℕ). zip x (drop k (take (p .count) (p .values)))) (drop-of-length-le (take (p .count) (p .places)) {i = k} (simp length-take (omega arith)))
+      zip-drop k (take count places) (take count values)
+      ∙ ap (λ (x : List ℕ). zip x (drop k (take count values))) (drop-of-length-le (take count places) {i = k} (simp length-take (omega arith)))
 
-  pub stores-end : p .count ≤ k → drop k (storesOf p) ≡ []
+  pub stores-end : count ≤ k → drop k (storesOf places values count) ≡ []
   unfolding storesOf zip zipWith
   stores-end h =
-      zip-drop k (take (p .count) (p .places)) (take (p .count) (p .values))
-      ∙ ap (λ (x : List ℕ). zip x (drop k (take (p .count) (p .values)))) (drop-of-length-le (take (p .count) (p .places)) {i = k} (simp length-take (omega arith)))
+      zip-drop k (take count places) (take count values)
+      ∙ ap (λ (x : List ℕ). zip x (drop k (take count values))) (drop-of-length-le (take count places) {i = k} (simp length-take (omega arith)))
 
-  pub more-full : 73 ≤ k → moreToStore (drop k (storesOf p)) ≡ false
+  pub more-full : 73 ≤ k → moreToStore (drop k (storesOf places values count)) ≡ false
   unfolding moreToStore
   more-full h = ap moreToStore (stores-full h)
 
-  pub more-test : k < 73 → moreToStore (drop k (storesOf p)) ≡ ltb k (p .count)
+  pub more-test : k < 73 → moreToStore (drop k (storesOf places values count)) ≡ ltb k count
   unfolding moreToStore
-  more-test l = order k (p .count) (λ o. ap moreToStore (store-at o l) ∙ sym (lt-ltb k (p .count) o)) (λ o. ap moreToStore (stores-end o) ∙ sym (le-ltb k (p .count) o))
+  more-test l = order k count (λ o. ap moreToStore (store-at o l) ∙ sym (lt-ltb k count o)) (λ o. ap moreToStore (stores-end o) ∙ sym (le-ltb k count o))
 
   -- a store is to come exactly where it is below both ends
-  pub more-below : moreToStore (drop k (storesOf p)) ≡ true → (k < p .count) × (k < 73)
+  pub more-below : moreToStore (drop k (storesOf places values count)) ≡ true → (k < count) × (k < 73)
   more-below e =
-      order k 73 (λ l. (ltb-true k (p .count) (sym (more-test l) ∙ e), l))
+      order k 73 (λ l. (ltb-true k count (sym (more-test l) ∙ e), l))
       (λ o. let z : false ≡ true = sym (more-full o) ∙ e in impossible (cc))
 
 pub more-none : (ss : List Store) → moreToStore ss ≡ false → ss ≡ []
@@ -101,15 +98,6 @@ module _ (cut : List ℕ) (i : ℕ) where
 pub no-cut : (free : List Bool) → withAll [] free ≡ free
 unfolding withAll
 no-cut free = refl
-
--- one store more
-pub advance-on : (m : Memory) (ss rest : List Store) (s : Store) → ss ≡ s ∷ rest → advanced m ss ≡ record { nodes = m .nodes; free = m .free; last = m .last; doing = m .doing; rest = ss; cut = m .cut }
-unfolding advanced
-advance-on m ss rest s e = ap (advanced m) e ∙ ap (λ (x : List Store). record { nodes = m .nodes; free = m .free; last = m .last; doing = m .doing; rest = x; cut = m .cut }) (sym e)
-
-pub advance-last : (m : Memory) (ss : List Store) → ss ≡ [] → advanced m ss ≡ record { nodes = m .nodes; free = withAll (m .cut) (m .free); last = m .last; doing = m .doing; rest = ss; cut = [] }
-unfolding advanced
-advance-last m ss e = ap (advanced m) e ∙ ap (λ (x : List Store). record { nodes = m .nodes; free = withAll (m .cut) (m .free); last = m .last; doing = m .doing; rest = x; cut = [] }) (sym e)
 
 -- one store, by whether its place is on the card
 module _ (card : List ℕ) (m : Memory) (s : Store) (next : Memory) where
@@ -145,19 +133,7 @@ module _ (n len made : ℕ) where
   unfolding formatStore
   format-end h = simp (ne-eqb made 0 (λ z. omega arith), le-ltb made len (omega arith), ne-eqb made len (λ z. omega arith))
 
--- a final answer is no refusal
-pub final-ready : (n : ℕ) → _≡_ {A = Answer} Ready (Refused n) → ⊥
-final-ready n e = impossible (cc)
-
-pub stored-no-refusal : (place n : ℕ) → _≡_ {A = Answer} (Stored place) (Refused n) → ⊥
-stored-no-refusal place n e = impossible (cc)
-
 -- the words of a formatted card that are 0
 pub word-other : (n i : ℕ) → (i ≡ 1 → ⊥) → (i ≡ 2 → ⊥) → (i ≡ 3 → ⊥) → (i ≡ 4 → ⊥) → (i ≡ 8 → ⊥) → formattedWord n i ≡ 0
 unfolding formattedWord
 word-other n i a b c d e = simp (ne-eqb i 1 a, ne-eqb i 2 b, ne-eqb i 3 c, ne-eqb i 4 d, ne-eqb i 8 e)
-
--- the parts of what a step leaves
-pub step-parts : (after : List ℕ) (r : Stepped) (x : Step) → stepLeft after r ≡ x → (after ≡ x .card) × (r .answer ≡ x .answer) × (memoryOf (r .state) ≡ x .memory)
-unfolding stepLeft
-step-parts after r x e = (ap (λ (y : Step). y .card) e, ap (λ (y : Step). y .answer) e, ap (λ (y : Step). y .memory) e)

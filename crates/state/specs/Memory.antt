@@ -2,15 +2,13 @@
 use mathlib.Core.Bool.{Bool}
 use mathlib.Core.List.{List, [], _∷_}
 use Prim.Native.Nat.{ℕ}
-use lib.ListN.{drop}
-use Rattle.laws.specs.Lists.{beforeZero}
 use Rattle.card.specs.Stores.{Store}
-use Rattle.card_free.specs.NodeSet.{nodesOf, allNodes}
+use Rattle.card_free.specs.NodeSet.{allNodes}
 use Rattle.change_plan.specs.Planning.{withAll}
-use Rattle.change_plan.specs.Plan.{storesOf}
-use Rattle.state.specs.declared.State.{State}
 use Rattle.state.specs.declared.Doing.{Doing}
-use Rattle.state.specs.declared.Doing.the-variants.{Idle}
+use Rattle.state.specs.declared.Doing.the-variants.{Idle, Formatting, Inserting, Deleting, Repairing}
+use Rattle.state.specs.declared.Phase.{Phase}
+use Rattle.state.specs.declared.Phase.the-variants.{NotBegun, InHand, Decided}
 
 -- N, the free nodes, the node given last, what is being done, the stores of the change in hand that are still to come, and
 -- the nodes that the last of them cuts out. Two states that agree in these are one state to every call.
@@ -21,17 +19,6 @@ pub record Memory : Type 0 where
   pub doing : Doing
   pub rest : List Store
   pub cut : List ℕ
-
-unfoldable pub memoryOf : State → Memory
-memoryOf s =
-    record {
-      nodes = s .nodes;
-      free = nodesOf (s .free .words);
-      last = s .last;
-      doing = s .doing;
-      rest = drop (s .made) (storesOf (s .plan));
-      cut = beforeZero (s .cut);
-    }
 
 -- "after formatting or opening the search starts at node 1": the node taken for given last then
 abbrev pub searchStart : ℕ
@@ -49,7 +36,20 @@ resting n free doing = record { nodes = n; free = free; last = searchStart; doin
 unfoldable pub idled : Memory → Memory
 idled m = record { nodes = m .nodes; free = m .free; last = m .last; doing = Idle; rest = []; cut = [] }
 
+-- after the last store of a change: a first change that was in hand is made, which decides the call
+unfoldable pub settledPhase : Phase → Phase
+settledPhase NotBegun = NotBegun
+settledPhase InHand = Decided
+settledPhase Decided = Decided
+
+unfoldable pub settled : Doing → Doing
+settled Idle = Idle
+settled (Formatting made) = Formatting made
+settled (Inserting key value phase) = Inserting key value (settledPhase phase)
+settled (Deleting key phase value) = Deleting key (settledPhase phase) value
+settled (Repairing key) = Repairing key
+
 -- one store made, with those of `rest` still to come; "Nodes cut out of the tree are free after the store that cuts them out"
 unfoldable pub advanced : Memory → List Store → Memory
-advanced m [] = record { nodes = m .nodes; free = withAll (m .cut) (m .free); last = m .last; doing = m .doing; rest = []; cut = [] }
+advanced m [] = record { nodes = m .nodes; free = withAll (m .cut) (m .free); last = m .last; doing = settled (m .doing); rest = []; cut = [] }
 advanced m (s ∷ rest) = record { nodes = m .nodes; free = m .free; last = m .last; doing = m .doing; rest = s ∷ rest; cut = m .cut }

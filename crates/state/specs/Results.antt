@@ -4,20 +4,8 @@ use mathlib.Core.List.{List, [], _∷_}
 use mathlib.Core.Bool.{Bool, true, false}
 use Prim.Native.Nat.{ℕ}
 use Rattle.card.specs.Stores.{Store}
-use Rattle.state.specs.Steps.{Step}
-use Rattle.state.specs.Memory.{memoryOf}
-use Rattle.state.specs.declared.State.{State}
 use Rattle.state.specs.declared.Answer.{Answer}
 use Rattle.state.specs.declared.Answer.the-variants.{Refused}
-use Rattle.state.specs.declared.Stepped.{Stepped}
-
--- what a step leaves, with the card after it
-unfoldable pub stepLeft : List ℕ → Stepped → Step
-stepLeft card r = record { answer = r .answer; card = card; memory = memoryOf (r .state) }
-
--- "A refusal .. hands the state back unchanged": the whole state, and not only what a reader sees of it
-abbrev pub Unchanged : State → Stepped → Type 0
-Unchanged s r = (n : ℕ) → r .answer ≡ Refused n → r .state ≡ s
 
 -- an answer that is no refusal
 abbrev pub Final : Answer → Type 0

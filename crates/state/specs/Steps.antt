@@ -10,6 +10,7 @@ use Rattle.card.specs.Stores.{Store}
 use Rattle.state.specs.Memory.{Memory, noMemory, idled}
 use Rattle.state.specs.declared.Doing.{Doing}
 use Rattle.state.specs.declared.Doing.the-variants.{Idle, Formatting, Inserting, Deleting, Repairing}
+use Rattle.state.specs.declared.Phase.the-variants.{NotBegun, InHand, Decided}
 use Rattle.state.specs.declared.Answer.{Answer}
 use Rattle.state.specs.declared.Answer.the-variants.{Stored, Ready, Absent, Value, Refused}
 use Rattle.state.specs.declared.Task.the-variants.{PutIn, TakeOut, Repair}
@@ -21,8 +22,8 @@ use Rattle.state.specs.declared.Begun.the-variants.{Refused as BegunRefu
 unfoldable pub isIdle : Doing → Bool
 isIdle Idle = true
 isIdle (Formatting made) = false
-isIdle (Inserting key value begun) = false
-isIdle (Deleting key begun value) = false
+isIdle (Inserting key value phase) = false
+isIdle (Deleting key phase value) = false
 isIdle (Repairing key) = false
 
 -- what a state holds that is doing this: an insert or a delete has its first change to make, and then, as opening's repair has from
@@ -30,10 +31,12 @@ isIdle (Repairing key) = false
 unfoldable pub heldBy : Doing → Held
 heldBy Idle = Nothing
 heldBy (Formatting made) = HeldFormatting made
-heldBy (Inserting key value false) = HeldTask (PutIn key value)
-heldBy (Inserting key value true) = HeldTask (Repair key Absent)
-heldBy (Deleting key false value) = HeldTask (TakeOut key)
-heldBy (Deleting key true value) = HeldTask (Repair key (Value value))
+heldBy (Inserting key value NotBegun) = HeldTask (PutIn key value)
+heldBy (Inserting key value InHand) = HeldTask (Repair key Absent)
+heldBy (Inserting key value Decided) = HeldTask (Repair key Absent)
+heldBy (Deleting key NotBegun value) = HeldTask (TakeOut key)
+heldBy (Deleting key InHand value) = HeldTask (Repair key (Value value))
+heldBy (Deleting key Decided value) = HeldTask (Repair key (Value value))
 heldBy (Repairing key) = HeldTask (Repair key Ready)
 
 -- What opening and starting hand back: the answer and the state.

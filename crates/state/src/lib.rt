@@ -1,25 +1,26 @@
-// The state, and the steps that store: of formatting, and of the change in hand (document 01, "State, steps and free nodes").
-mod formatting;
-mod playing;
-mod states;
+// The state (document 01, "State, steps and free nodes"): what is being done, what is answered, and the words that hold a state.
+pub mod block;
+mod holding;
 
-use card_free::NodeSet;
-use change_plan::Plan;
-pub use formatting::step_format;
-pub use playing::in_hand;
-pub use playing::store_next;
-pub use states::held_by;
-pub use states::idled;
+pub use holding::held_by;
+
+// How far an insert or a delete is: its first change is not begun; it is in hand; it is made, which decides the call, so that
+// repairs are left.
+pub enum Phase {
+    NotBegun,
+    InHand,
+    Decided,
+}
 
 // What is being done: "either idle or holds one call or repair in progress". Formatting counts as a call.
 pub enum Doing {
     Idle,
     // how many stores were made
-    Formatting { made: usize },
-    // the pair to put in, and whether its first change was planned
-    Inserting { key: u32, value: u32, begun: bool },
-    // the key to take out, whether its first change was planned, and the value taken out
-    Deleting { key: u32, begun: bool, value: u32 },
+    Formatting { made: u32 },
+    // the pair to put in, and how far that is
+    Inserting { key: u32, value: u32, phase: Phase },
+    // the key to take out, how far that is, and the value taken out
+    Deleting { key: u32, phase: Phase, value: u32 },
     // a key that leads to the violation
     Repairing { key: u32 },
 }
@@ -35,19 +36,18 @@ pub enum Task {
 // What a state holds: nothing, a formatting with so many stores made, or a task.
 pub enum Held {
     Nothing,
-    Formatting(usize),
+    Formatting(u32),
     Task(Task),
 }
 
-// "The state is held off the card and lost with power: N, the free nodes, the node given last, and what is being done."
-// The stores of the change in hand are the plan's from `made` on; the last of them cuts the nodes of `cut` out.
+// "The state is held off the card and lost with power: N, the free nodes, the node given last, and what is being done." The free nodes
+// and the two rows of the change in hand are lent beside it; so many of its stores are made, and the last cuts the nodes of `cut` out.
 pub struct State {
-    pub nodes: usize,
-    pub free: NodeSet,
-    pub last: usize,
+    pub nodes: u32,
+    pub last: u32,
     pub doing: Doing,
-    pub plan: Plan,
-    pub made: usize,
+    pub made: u32,
+    pub count: u32,
     pub cut: [u32; 3],
 }
 
@@ -58,11 +58,6 @@ pub enum Answer {
     Absent,
     Value(u32),
     Refused(u32),
-}
-
-pub struct Stepped {
-    pub answer: Answer,
-    pub state: State,
 }
 
 // What opening and starting to format answer.

@@ -9,9 +9,9 @@ use table::Found;
 use table::STATE_WORDS;
 
 // As many words as a card of 601 nodes would have, which is one too many.
-pub const MOST: usize = 14432;
+pub const MOST: usize = card::PROGRAM_WORDS + card::NODE_WORDS;
 
-pub type Words = [u32; 14432];
+pub type Words = [u32; MOST];
 
 // The block of a state.
 pub type Block = [u32; STATE_WORDS];
@@ -124,6 +124,15 @@ fn step_within(all: &mut [u32], n: usize, state: &mut Block) -> Answer {
 
 pub fn step(words: &mut Words, n: usize, state: &mut Block) -> Answer {
     step_within(words, n, state)
+}
+
+// So many steps, whatever each answers. A step after the final answer is refused and changes nothing.
+pub fn make_steps(words: &mut Words, n: usize, state: &mut Block, count: u64) {
+    let mut left = count;
+    while left > 0 {
+        step(words, n, state);
+        left -= 1;
+    }
 }
 
 // The state is lost: the block becomes the idle state for N = 0, which a refused opening hands back.

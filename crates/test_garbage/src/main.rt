@@ -1,18 +1,18 @@
 // Garbage: words that are no table, cards of any length, and states that no call handed back. Every call returns. Prints how many
 // calls there were.
-use state_block::COUNT;
-use state_block::CUT;
-use state_block::DOING;
-use state_block::FIRST;
-use state_block::FREE;
-use state_block::IDLE;
-use state_block::LAST;
-use state_block::MADE;
-use state_block::NODES;
-use state_block::PLACES;
-use state_block::SECOND;
-use state_block::THIRD;
-use state_block::VALUES;
+use state::block::COUNT;
+use state::block::CUT;
+use state::block::DOING;
+use state::block::FIRST;
+use state::block::FREE;
+use state::block::IDLE;
+use state::block::LAST;
+use state::block::MADE;
+use state::block::NODES;
+use state::block::PLACES;
+use state::block::SECOND;
+use state::block::THIRD;
+use state::block::VALUES;
 use table::STATE_WORDS;
 use test_calls::Block;
 use test_calls::Words;
@@ -120,13 +120,8 @@ fn any_state(state: &mut Block, row: &mut [u64; 32], n: u64) {
 
 // Some steps with the state that each hands back.
 fn walk(card: &mut Words, row: &mut [u64; 32], state: &mut Block) {
-    let n = row[LENGTH] as usize;
-    let mut left: u64 = 80;
-    while left > 0 {
-        test_calls::step(card, n, state);
-        count(row, CALLS);
-        left -= 1;
-    }
+    test_calls::make_steps(card, row[LENGTH] as usize, state, 80);
+    row[CALLS] = row[CALLS] % 4294967296 + 80;
 }
 
 // A call that handed back a state is counted, and steps are made from there.
@@ -210,7 +205,7 @@ fn turns(words: &mut Words, row: &mut [u64; 32]) {
 }
 
 fn main() {
-    let mut words = [0u32; 14432];
+    let mut words = [0u32; test_calls::MOST];
     let mut row = [0u64; 32];
     row[SEED] = 1994;
     turns(&mut words, &mut row);

@@ -79,7 +79,7 @@ fn write_within(words: &[u32], size: usize, lent: &mut [u8], n: usize) -> Answer
 
 fn read(bytes: &Bytes, input: &mut [u8; 4096], row: &mut [u64; 8]) {
     let n = next_number(input, row) as usize;
-    let mut lent = [7u32; 14432];
+    let mut lent = [7u32; test_calls::MOST];
     let answer = read_within(bytes, row[DUMP] as usize, &mut lent, n);
     feed_lent(row, 11, answer, crc::of_words(&lent, n));
 }

@@ -6,8 +6,8 @@ mod stream;
 
 use dumps::Bytes;
 use dumps::dump_turn;
-use state_block::FREE;
-use state_block::PLACES;
+use state::block::FREE;
+use state::block::PLACES;
 use stream::HASH;
 use stream::LENGTH;
 use stream::MORE;
@@ -105,6 +105,12 @@ fn steps(
     }
 }
 
+// The same, with a row for the card before each step.
+fn make_steps(card: &mut Words, n: usize, row: &mut [u64; 8], count: u64, state: &mut Block) {
+    let mut old = [0u32; test_calls::MOST];
+    steps(card, n, &mut old, row, count, state);
+}
+
 // How many nodes are free.
 fn free_count(state: &[u32]) -> usize {
     if state.len() != STATE_WORDS {
@@ -151,7 +157,6 @@ fn begin(card: &Words, n: usize, row: &mut [u64; 8], kind: u64, state: &mut Bloc
 fn call_with(
     card: &mut Words,
     n: usize,
-    old: &mut Words,
     row: &mut [u64; 8],
     kind: u64,
     number: u64,
@@ -162,7 +167,7 @@ fn call_with(
     } else if kind == 12 {
         delete(card, n, row, state, narrow(number));
     } else {
-        steps(card, n, old, row, number, state);
+        make_steps(card, n, row, number, state);
     }
 }
 
@@ -170,7 +175,6 @@ fn call_with(
 fn call(
     card: &mut Words,
     n: usize,
-    old: &mut Words,
     input: &mut [u8; 4096],
     row: &mut [u64; 8],
     kind: u64,
@@ -184,7 +188,7 @@ fn call(
         let value = next_number(input, row);
         return insert(card, n, row, state, narrow(first), narrow(value));
     }
-    call_with(card, n, old, row, kind, first, state);
+    call_with(card, n, row, kind, first, state);
 }
 
 // The CRC of the card in hand.
@@ -259,44 +263,32 @@ fn outside(
 }
 
 // A call on a copy of the card that is shorter or longer.
-fn call_on_copy(
-    words: &Words,
-    other: &mut Words,
-    old: &mut Words,
-    input: &mut [u8; 4096],
-    row: &mut [u64; 8],
-    state: &mut Block,
-) {
+fn call_on_copy(words: &Words, input: &mut [u8; 4096], row: &mut [u64; 8], state: &mut Block) {
     let length = next_number(input, row) as usize;
     let kind = next_number(input, row);
-    let n = row[LENGTH] as usize;
-    copy_words(words, other, n);
-    test_calls::clear_from(other, n);
-    call(other, length, old, input, row, kind, state);
+    let mut copy = [0u32; test_calls::MOST];
+    copy_words(words, &mut copy, row[LENGTH] as usize);
+    call(&mut copy, length, input, row, kind, state);
 }
 
 // A call of the stream.
 fn call_turn(
     words: &mut Words,
-    other: &mut Words,
-    old: &mut Words,
     input: &mut [u8; 4096],
     row: &mut [u64; 8],
     kind: u64,
     state: &mut Block,
 ) {
     if kind == 7 {
-        call_on_copy(words, other, old, input, row, state);
+        call_on_copy(words, input, row, state);
     } else {
-        call(words, row[LENGTH] as usize, old, input, row, kind, state);
+        call(words, row[LENGTH] as usize, input, row, kind, state);
     }
 }
 
 // One operation of the stream.
 fn turn(
     words: &mut Words,
-    other: &mut Words,
-    old: &mut Words,
     bytes: &mut Bytes,
     input: &mut [u8; 4096],
     row: &mut [u64; 8],
@@ -310,40 +302,24 @@ fn turn(
     } else if kind > 13 {
         dump_turn(words, bytes, input, row, kind);
     } else {
-        call_turn(words, other, old, input, row, kind, state);
+        call_turn(words, input, row, kind, state);
     }
 }
 
-fn run(
-    words: &mut Words,
-    other: &mut Words,
-    old: &mut Words,
-    bytes: &mut Bytes,
-    input: &mut [u8; 4096],
-    row: &mut [u64; 8],
-) {
+fn run(words: &mut Words, bytes: &mut Bytes, input: &mut [u8; 4096], row: &mut [u64; 8]) {
     row[MORE] = 1;
     let mut state: Block = [0; STATE_WORDS];
     let mut turns: u64 = 1000000;
     while turns > 0 && row[MORE] == 1 {
-        turn(words, other, old, bytes, input, row, &mut state);
+        turn(words, bytes, input, row, &mut state);
         turns -= 1;
     }
 }
 
 fn main() {
-    let mut words = [0u32; 14432];
-    let mut other = [0u32; 14432];
-    let mut old = [0u32; 14432];
+    let mut words = [0u32; test_calls::MOST];
     let mut bytes = [0u8; 58368];
     let mut input = [0u8; 4096];
     let mut row = [0u64; 8];
-    run(
-        &mut words,
-        &mut other,
-        &mut old,
-        &mut bytes,
-        &mut input,
-        &mut row,
-    );
+    run(&mut words, &mut bytes, &mut input, &mut row);
 }

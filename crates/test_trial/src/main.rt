@@ -189,9 +189,9 @@ fn print_counts(row: &[u64; 32]) {
 }
 
 fn main() {
-    let mut words = [0u32; 14432];
-    let mut other = [0u32; 14432];
-    let mut book = [0u32; 14432];
+    let mut words = [0u32; test_calls::MOST];
+    let mut other = [0u32; test_calls::MOST];
+    let mut book = [0u32; test_calls::MOST];
     let mut row = [0u64; 32];
     row[SEED] = 1994;
     lists(&mut words, &mut other, &mut book, &mut row);

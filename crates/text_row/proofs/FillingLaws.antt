@@ -49,5 +49,6 @@ fill-whole bytes row r after h e =
     (all, ap (λ (f : Filled). f .row) e ∙ fill-sets bytes (filled 0 row) ∙ sets-eq bytes row 0 (omega arith) ∙ ap (λ (k : ℕ). bytes ++ drop k row) z)
 
 -- a word and a number of at most so many digits
-pub number-within : (word : List ℕ) (n most at : ℕ) (row : List ℕ) → length (decimal n) ≤ most → {r : ℕ} {after : List ℕ} → filled r after ≡ fill (word ++ decimal n) (filled at row) → r ≤ at + length word + most
+pub number-within : (word : List ℕ) (n most at : ℕ) (row : List ℕ) → length (decimal n) ≤ most → {r : ℕ} {after : List ℕ}
+    → filled r after ≡ fill (word ++ decimal n) (filled at row) → r ≤ at + length word + most
 number-within word n most at row h e = omega (arith, fill-reached (word ++ decimal n) at row e, length-append word (decimal n))

@@ -37,12 +37,15 @@ count-exact c n free t len small rep x =
     omega (arith, numbers-total (λ m. 1) t, total-length (numbersIn t))
 
 -- two trees on one card: what the bits count is at least the room that either has below its limit
-pub count-both : (n : ℕ) (free : List Bool) (t s : Tree) → n < capacity → ExactOver n free (λ m. nodeTotal (indicator m) t + nodeTotal (indicator m) s) → countTrue free + (nodeTotal (λ m. 1) t + nodeTotal (λ m. 1) s) ≡ n
+pub count-both : (n : ℕ) (free : List Bool) (t s : Tree) → n < capacity → ExactOver n free
+    (λ m. nodeTotal (indicator m) t + nodeTotal (indicator m) s) → countTrue free + (nodeTotal (λ m. 1) t + nodeTotal (λ m. 1) s) ≡ n
 count-both n free t s small x =
     let e =
     over-count n free (λ m. nodeTotal (indicator m) t + nodeTotal (indicator m) s) x (numbersIn t ++ numbersIn s) small
     (λ i. omega (arith, total-append (indicator i) (numbersIn t) (numbersIn s), numbers-total (indicator i) t, numbers-total (indicator i) s)) in
     omega (arith, length-append (numbersIn t) (numbersIn s), numbers-total (λ m. 1) t, total-length (numbersIn t), numbers-total (λ m. 1) s, total-length (numbersIn s))
 
-pub room-in-bits : (n limit limit′ : ℕ) (free : List Bool) (t s : Tree) → n < capacity → ExactOver n free (λ m. nodeTotal (indicator m) t + nodeTotal (indicator m) s) → limit + limit′ ≤ n → nodeTotal (λ m. 1) s ≤ limit′ → limit ≤ countTrue free + nodeTotal (λ m. 1) t
+pub room-in-bits : (n limit limit′ : ℕ) (free : List Bool) (t s : Tree) → n < capacity
+    → ExactOver n free (λ m. nodeTotal (indicator m) t + nodeTotal (indicator m) s) → limit + limit′ ≤ n → nodeTotal (λ m. 1) s ≤ limit′
+    → limit ≤ countTrue free + nodeTotal (λ m. 1) t
 room-in-bits n limit limit′ free t s small x h k = omega (arith, count-both n free t s small x)

@@ -43,11 +43,13 @@ module _ (n : ℕ) (free : List Bool) (count : ℕ → ℕ) (x : ExactOver n fre
   over-inside i h = order i 1 (λ o. absurd (omega (arith, x .outside-none i (inl (omega arith)) .1))) (λ o. order n i (λ p. absurd (omega (arith, x .outside-none i (inr p) .1))) (λ p. (o, p)))
 
   -- a change of one tree: ms were given for it, cut are cut out of it; nothing is asked of the other tree
-  pub over-after : (count′ : ℕ → ℕ) (ms cut : List ℕ) → n < capacity → Given free ms → ((i : ℕ) → count′ i + total (indicator i) cut ≡ count i + total (indicator i) ms) → ((i : ℕ) → total (indicator i) cut ≤ count i)
+  pub over-after : (count′ : ℕ → ℕ) (ms cut : List ℕ) → n < capacity → Given free ms
+      → ((i : ℕ) → count′ i + total (indicator i) cut ≡ count i + total (indicator i) ms) → ((i : ℕ) → total (indicator i) cut ≤ count i)
       → ExactOver n (withAll cut (withoutAll ms free)) count′ × (countTrue (withAll cut (withoutAll ms free)) + length ms ≡ countTrue free + length cut)
   over-after count′ ms cut small g move sub =
       let f : Freed (withoutAll ms free) cut =
-      freed cut (withoutAll ms free) (λ i. omega (arith, sub i, g .left i, over-once i)) (λ i o. let b = over-inside i (omega (arith, sub i)) in (b .0, omega (arith, b .1, x .size, g .kept-length))) in (
+      freed cut (withoutAll ms free) (λ i. omega (arith, sub i, g .left i, over-once i))
+      (λ i o. let b = over-inside i (omega (arith, sub i)) in (b .0, omega (arith, b .1, x .size, g .kept-length))) in (
         record {
           size = f .kept-length ∙ g .kept-length ∙ x .size;
           within = λ m a b. omega (arith, f .now m, g .left m, move m, x .within m a b);
@@ -69,7 +71,8 @@ module _ (n : ℕ) (free : List Bool) (count : ℕ → ℕ) (x : ExactOver n fre
       let all : withAll ms free ≡ allNodes n =
       ext-getD false (withAll ms free) (allNodes n) (f .kept-length ∙ x .size ∙ sym (length-all n small))
       (λ i h. order i 1 (λ o. let z : i ≡ 0 = omega arith in out i (inl z) ∙ sym (ap (λ (j : ℕ). getD (allNodes n) j false) z ∙ all-zero n))
-      (λ o. order n i (λ p. out i (inr p) ∙ sym (all-above n i p)) (λ p. set-bit (getD (withAll ms free) i false) (omega (arith, f .now i, x .within i o p, listed i)) ∙ sym (all-get n i o p small)))) in
+      (λ o. order n i (λ p. out i (inr p) ∙ sym (all-above n i p))
+      (λ p. set-bit (getD (withAll ms free) i false) (omega (arith, f .now i, x .within i o p, listed i)) ∙ sym (all-get n i o p small)))) in
       omega (arith, f .counted, ap countTrue all, count-all n)
     where
       set-bit : (p : Bool) → bit p ≡ 1 → p ≡ true

@@ -38,7 +38,8 @@ pub record Exchange (F G : Forest) (new : List NewNode) (out : List ℕ) : Type 
   pub represented : (c : List ℕ) → RepresentsAll c F → AllHaveWords c new → RepresentsAll c G
 
 -- a range starts above 0 wherever the whole range does, so the exchange may ask for that
-range-exchange : (lo hi : ℕ) (l : Left) (F G : Forest) (r : Right) → ((a b : ℕ) → 0 < a → AllInRange a b F → AllInRange a b G) → 0 < lo → AllInRange lo hi (splice l F r) → AllInRange lo hi (splice l G r)
+range-exchange : (lo hi : ℕ) (l : Left) (F G : Forest) (r : Right)
+    → ((a b : ℕ) → 0 < a → AllInRange a b F → AllInRange a b G) → 0 < lo → AllInRange lo hi (splice l F r) → AllInRange lo hi (splice l G r)
 range-exchange lo hi [] F G rightmost e z i = e lo hi z i
 range-exchange lo hi [] F G (followed k f) e z i = let u = range-unjoin lo hi F k f i in range-join lo hi G k f (e lo k z (u .0)) (u .1) (u .2) (u .3)
 range-exchange lo hi (x ∷ l) F G r e z i = (i .0, i .1, i .2, range-exchange (x .1) hi l F G r e (omega (arith, i .1)) (i .3))

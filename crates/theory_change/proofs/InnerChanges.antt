@@ -10,7 +10,8 @@ use Rattle.card.specs.NodeWords.{NodeWords}
 use Rattle.card.specs.Stores.{NewNode, newNode}
 use Rattle.change_plan.specs.Change.{half}
 use Rattle.theory_change.proofs.Above.{above-height, above-shape, above-settled, above-own}
-use Rattle.theory_change.proofs.Exchange.{Exchange, exchange-splice, enough, Remains, remains-enough, OneViolation, together-le, half-size, copied, widths-join, widths-unjoin, Parts, parts-size}
+use Rattle.theory_change.proofs.Exchange.{Exchange, exchange-splice, enough, Remains, remains-enough, OneViolation, together-le}
+use Rattle.theory_change.proofs.Exchange.{half-size, copied, widths-join, widths-unjoin, Parts, parts-size}
 use Rattle.theory_shapes.proofs.Next.{taggedIn}
 use Rattle.theory_change.proofs.Rewrite.{SameHeight, Rewrite}
 use Rattle.laws.specs.Totals.{total}
@@ -56,7 +57,8 @@ module _ (n : ℕ) (K L : Forest) (key : ℕ) (R : Forest) (q : Parts n K L key 
   parted-widths : 1 ≤ length (roots L) → length (roots L) ≤ 11 → 1 ≤ length (roots R) → length (roots R) ≤ 11 → AllWidths K → AllWidths (innerPair a L key b R)
   parted-widths hl hl′ hr hr′ i = let j : AllWidths (join L key R) = rw (q .joined) i in let u = widths-unjoin L key R j in (((hl, hl′), u .0), ((hr, hr′), u .1))
 
-  parted-represented : (c : List ℕ) → length (roots L) ≤ 11 → length (roots R) ≤ 11 → NodeWords c a 2 (routing L) (roots L) → NodeWords c b 2 (routing R) (roots R) → RepresentsAll c K → RepresentsAll c (innerPair a L key b R)
+  parted-represented : (c : List ℕ) → length (roots L) ≤ 11 → length (roots R) ≤ 11 → NodeWords c a 2 (routing L) (roots L)
+      → NodeWords c b 2 (routing R) (roots R) → RepresentsAll c K → RepresentsAll c (innerPair a L key b R)
   parted-represented c hl hr wl wr i = let j : RepresentsAll c (join L key R) = rw (q .joined) i in let u = represents-unjoin c L key R j in ((wl, u .0, hl), (wr, u .1, hr))
 
 -- "New nodes are given and written left, right, then above": two new internal nodes side by side, and with the one above them
@@ -67,7 +69,8 @@ abbrev pub partedNodes : ℕ → ℕ → ℕ → ℕ → Forest → ℕ → Fore
 partedNodes kd a b c L key R = newSiblings a L b R ++ newNode c kd (key ∷ []) (a ∷ b ∷ []) ∷ []
 
 -- on the card the node above is tagged or not as its kind says
-above-represented : (C : Context) (c : List ℕ) (m : ℕ) (f : Forest) → NodeWords c m (kind (taggedIn C)) (routing f) (roots f) → RepresentsAll c f → length (roots f) ≤ 11 → Represents c (node m (taggedIn C) f)
+above-represented : (C : Context) (c : List ℕ) (m : ℕ) (f : Forest) → NodeWords c m (kind (taggedIn C)) (routing f) (roots f)
+    → RepresentsAll c f → length (roots f) ≤ 11 → Represents c (node m (taggedIn C) f)
 above-represented top c m f w i h = (w, i, h)
 above-represented (down C n g l r) c m f w i h = (w, i, h)
 
@@ -92,7 +95,8 @@ module _ (C : Context) (p : ℕ) (f K : Forest) (out : List ℕ) (x : Exchange f
         at-most-one = above-own C c two refl;
         same-numbers = λ v. omega (arith, x .same-numbers v, parted-totals 6 K L key R q a b v);
         few = ((omega (arith, routing-roots L), omega arith), ((omega (arith, routing-roots R), omega arith), ((omega arith, omega arith), tt)));
-        represented = λ d i h. above-represented C d c two (h .1 .1 .0) (parted-represented 6 K L key R q a b d (omega arith) (omega arith) (h .0) (h .1 .0) (x .represented d (i .1) tt)) (omega arith);
+        represented = λ d i h. above-represented C d c two (h .1 .1 .0)
+            (parted-represented 6 K L key R q a b d (omega arith) (omega arith) (h .0) (h .1 .0) (x .represented d (i .1) tt)) (omega arith);
       }
 
 -- "Tagged node": a tagged node q with its two children
@@ -121,7 +125,8 @@ module _ (C : Context) (p : ℕ) (l : Left) (q : ℕ) (a : Tree) (k : ℕ) (b : 
   absorb-rewrite a′ h =
       let n = taken-in-size in
       let m = v .least in
-      copied C p a′ (splice l (taggedChild q a k b) r) kids [] (q ∷ []) taken-in (v .widths) (enough C (length (roots kids)) (omega arith)) (omega arith) taken-in-settled (omega (arith, few-none (length (roots kids)) (omega arith)))
+      copied C p a′ (splice l (taggedChild q a k b) r) kids [] (q ∷ []) taken-in (v .widths) (enough C (length (roots kids)) (omega arith))
+      (omega arith) taken-in-settled (omega (arith, few-none (length (roots kids)) (omega arith)))
 
   -- "Parent with 11": twelve children, parted
   pub split-rewrite : (L : Forest) (key : ℕ) (R : Forest) → Parts 6 kids L key R → (a′ b′ c′ : ℕ) → length (roots (splice l (taggedChild q a k b) r)) ≡ 11
@@ -194,7 +199,9 @@ module _ (x : ℕ) (fx : Forest) (k y : ℕ) (fy : Forest) where
 
     -- "Together 4 or more: shared out, the left one getting the larger half, under a new copy of the parent."
     pub share-rewrite : (n : ℕ) → n ≡ length (roots fx) + length (roots fy) → 4 ≤ n → (L : Forest) (key : ℕ) (R : Forest) → Parts (half n) both L key R → (a b c : ℕ)
-        → Rewrite C (node p false (splice l (innerPair x fx k y fy) r)) (node c false (splice l (innerPair a L key b R) r)) (newSiblings a L b R ++ newNode c 2 (routing (splice l (innerPair a L key b R) r)) (roots (splice l (innerPair a L key b R) r)) ∷ []) (p ∷ x ∷ y ∷ [])
+        → Rewrite C (node p false (splice l (innerPair x fx k y fy) r)) (node c false (splice l (innerPair a L key b R) r))
+        (newSiblings a L b R ++ newNode c 2 (routing (splice l (innerPair a L key b R) r)) (roots (splice l (innerPair a L key b R) r)) ∷ [])
+        (p ∷ x ∷ y ∷ [])
     share-rewrite n e h L key R q a b c =
         let old = innerPair x fx k y fy in
         let new = innerPair a L key b R in
@@ -236,7 +243,8 @@ module _ (x : ℕ) (fx : Forest) (k y : ℕ) (fy : Forest) where
     sunk-height a zero i = absurd i
     sunk-height a (suc h) i = let s = joined-height h x fx k y fy i in (suc (s .0), s .2, tt)
 
-    merge-root : length (roots fx) + length (roots fy) ≤ 3 → (a : ℕ) → Rewrite top (node p false (innerPair x fx k y fy)) (node a false both) (newNode a 2 (routing both) (roots both) ∷ []) (p ∷ x ∷ y ∷ [])
+    merge-root : length (roots fx) + length (roots fy) ≤ 3 → (a : ℕ)
+        → Rewrite top (node p false (innerPair x fx k y fy)) (node a false both) (newNode a 2 (routing both) (roots both) ∷ []) (p ∷ x ∷ y ∷ [])
     merge-root h a =
         let w = v .widths in
         let wx = w .0 .0 in

@@ -37,11 +37,25 @@ module _ (pos : Position) (C : Context) (p q : ℕ) (ea : pos .above ≡ linkPla
   unfolding absorb
   absorb-is a = rw (ea, ep, en)
 
-  split-is : (L : Forest) (key : ℕ) (R : Forest) → Parts 6 K L key R → (a b c : ℕ) → splitParent pos (routing K) (roots K) a b c ≡ rewriteAt C (partedNodes (kind (taggedIn C)) a b c L key R) c (p ∷ q ∷ [])
+  split-is : (L : Forest) (key : ℕ) (R : Forest) → Parts 6 K L key R → (a b c : ℕ)
+      → splitParent pos (routing K) (roots K) a b c ≡ rewriteAt C (partedNodes (kind (taggedIn C)) a b c L key R) c (p ∷ q ∷ [])
   unfolding splitParent
-  split-is L key R u a b c = rw (ea, ep, en, kind-above C, left-routing 6 K L key R u 5 refl, middle-key 6 K L key R u 5 refl, left-roots 6 K L key R u, right-routing 6 K L key R u, right-roots 6 K L key R u)
+  split-is L key R u a b c =
+      rw (
+        ea,
+        ep,
+        en,
+        kind-above C,
+        left-routing 6 K L key R u 5 refl,
+        middle-key 6 K L key R u 5 refl,
+        left-roots 6 K L key R u,
+        right-routing 6 K L key R u,
+        right-roots 6 K L key R u,
+      )
 
-module _ (c : List ℕ) (n : ℕ) (pos : Position) (free : List Bool) (last : ℕ) (C : Context) (p : ℕ) (l : Left) (q : ℕ) (a : Tree) (k : ℕ) (b : Tree) (r : Right) (s : StandsAt pos C p l (node q true (more a k (one b)))) (w : Represents c (node p false (splice l (taggedChild q a k b) r))) where
+module _ (c : List ℕ) (n : ℕ) (pos : Position) (free : List Bool) (last : ℕ) (C : Context) (p : ℕ) (l : Left) (q : ℕ) (a : Tree) (k : ℕ)
+    (b : Tree) (r : Right) (s : StandsAt pos C p l (node q true (more a k (one b))))
+    (w : Represents c (node p false (splice l (taggedChild q a k b) r))) where
   abbrev kids : Forest
   kids = splice l (more a k (one b)) r
 
@@ -50,11 +64,15 @@ module _ (c : List ℕ) (n : ℕ) (pos : Position) (free : List Bool) (last : �
 
   keys-read : keysTakenIn c pos ≡ routing kids
   unfolding joinedKeys
-  keys-read = rw (s .parent-is, s .node-is, s .index-is) (routing-with c p l (taggedChild q a k b) r w (more a k (one b)) (routingKeys (nodeAt c q)) (length l) (sym (node-routing c q true (more a k (one b)) tagged-represented)) (omega arith))
+  keys-read =
+      rw (s .parent-is, s .node-is, s .index-is) (routing-with c p l (taggedChild q a k b) r w (more a k (one b))
+      (routingKeys (nodeAt c q)) (length l) (sym (node-routing c q true (more a k (one b)) tagged-represented)) (omega arith))
 
   children-read : childrenTakenIn c pos ≡ roots kids
   unfolding joinedChildren
-  children-read = rw (s .parent-is, s .node-is, s .index-is) (children-with c p l (taggedChild q a k b) r w (more a k (one b)) (children (nodeAt c q)) (suc (length l)) (sym (node-children c q true (more a k (one b)) tagged-represented)) (omega arith))
+  children-read =
+      rw (s .parent-is, s .node-is, s .index-is) (children-with c p l (taggedChild q a k b) r w (more a k (one b))
+      (children (nodeAt c q)) (suc (length l)) (sym (node-children c q true (more a k (one b)) tagged-represented)) (omega arith))
 
   inner-read : kindOf (nodeAt c (pos .parent)) ≡ 2
   inner-read = rw (s .parent-is) (read-kind c p 2 _ _ (w .0))
@@ -86,17 +104,33 @@ module _ (c : List ℕ) (n : ℕ) (pos : Position) (free : List Bool) (last : �
 abbrev innerTogether : Forest → Together
 innerTogether K = record { kind = 2; keys = routing K; values = roots K }
 
-together-is : (X Y : List ℕ) (key : ℕ) (fx : Forest) (k : ℕ) (fy : Forest) → children X ≡ roots fx → children Y ≡ roots fy → routingKeys X ≡ routing fx → routingKeys Y ≡ routing fy → key ≡ k → innersTogether X key Y ≡ innerTogether (join fx k fy)
+together-is : (X Y : List ℕ) (key : ℕ) (fx : Forest) (k : ℕ) (fy : Forest) → children X ≡ roots fx → children Y ≡ roots fy
+    → routingKeys X ≡ routing fx → routingKeys Y ≡ routing fy → key ≡ k → innersTogether X key Y ≡ innerTogether (join fx k fy)
 unfolding innersTogether
 together-is X Y key fx k fy cx cy kx ky e = rw (cx, cy, kx, ky, e, roots-join fx k fy, routing-join fx k fy)
 
 -- each change of two siblings, from the lists of the parent P: N are the children of its new copy
-module _ (pos : Position) (C : Context) (p : ℕ) (ea : pos .above ≡ linkPlace C) (ep : pos .parent ≡ p) (P : List ℕ) (j x y : ℕ) (ex : getD (children P) j 0 ≡ x) (ey : getD (children P) (suc j) 0 ≡ y) (K : Forest) where
+module _ (pos : Position) (C : Context) (p : ℕ) (ea : pos .above ≡ linkPlace C) (ep : pos .parent ≡ p) (P : List ℕ) (j x y : ℕ)
+    (ex : getD (children P) j 0 ≡ x) (ey : getD (children P) (suc j) 0 ≡ y) (K : Forest) where
   share-is : (h : ℕ) → half (length (roots K)) ≡ h → (L : Forest) (key : ℕ) (R : Forest) → Parts h K L key R → (N : Forest) (a b c : ℕ)
       → take j (routingKeys P) ++ key ∷ drop (suc j) (routingKeys P) ≡ routing N → take j (children P) ++ a ∷ b ∷ drop (suc (suc j)) (children P) ≡ roots N
       → share pos P j (innerTogether K) a b c ≡ rewriteAt C (newSiblings a L b R ++ newNode c 2 (routing N) (roots N) ∷ []) c (p ∷ x ∷ y ∷ [])
   unfolding share halves copied leftKeys keyBetween
-  share-is h eh L key R q N a b c ek ec = rw (eh, left-routing h K L key R q (h - 1) refl, middle-key h K L key R q (h - 1) refl, left-roots h K L key R q, right-routing h K L key R q, right-roots h K L key R q, ek, ec, ea, ep, ex, ey)
+  share-is h eh L key R q N a b c ek ec =
+      rw (
+        eh,
+        left-routing h K L key R q (h - 1) refl,
+        middle-key h K L key R q (h - 1) refl,
+        left-roots h K L key R q,
+        right-routing h K L key R q,
+        right-roots h K L key R q,
+        ek,
+        ec,
+        ea,
+        ep,
+        ex,
+        ey,
+      )
 
   merge-is : (N : Forest) (a b : ℕ) → take j (routingKeys P) ++ drop (suc j) (routingKeys P) ≡ routing N → take j (children P) ++ a ∷ drop (suc (suc j)) (children P) ≡ roots N
       → merge pos P j (innerTogether K) a b ≡ rewriteAt C (newNode a 2 (routing K) (roots K) ∷ newNode b 2 (routing N) (roots N) ∷ []) b (p ∷ x ∷ y ∷ [])
@@ -171,20 +205,24 @@ module _ (c : List ℕ) (n : ℕ) (pos : Position) (free : List Bool) (last : �
     -- "Together 4 or more: shared out, the left one getting the larger half, under a new copy of the parent."
     pub share-plan : (m : ℕ) → m ≡ length (roots fx) + length (roots fy) → 4 ≤ m → (L : Forest) (key : ℕ) (R : Forest) → Parts (half m) both L key R
         → mend c n pos free last
-        ≡ giving 3 free last (λ ms. rewriteAt C (newSiblings (first ms) L (second ms) R ++ newNode (third ms) 2 (routing (twoChildren (first ms) L key (second ms) R)) (roots (twoChildren (first ms) L key (second ms) R)) ∷ []) (third ms) (p ∷ x ∷ y ∷ []))
+        ≡ giving 3 free last
+        (λ ms. rewriteAt C (newSiblings (first ms) L (second ms) R ++ newNode (third ms) 2 (routing (twoChildren (first ms) L key (second ms) R))
+        (roots (twoChildren (first ms) L key (second ms) R)) ∷ []) (third ms) (p ∷ x ∷ y ∷ []))
     share-plan m e h L key R q =
         let s = sizes in
         let j = both-size in
         due
         ∙ share-made c n pos free last (nodeAt c p) (length l) (innerTogether both) (ap (nodeAt c) ep) ei together-read (omega arith) (omega arith)
         ∙ giving-same 3 free last _ _
-        (λ ms. share-is pos C p ea ep (nodeAt c p) (length l) x y x-read y-read both (half m) (ap half (omega arith)) L key R q (twoChildren (first ms) L key (second ms) R) (first ms) (second ms) (third ms)
+        (λ ms. share-is pos C p ea ep (nodeAt c p) (length l) x y x-read y-read both (half m) (ap half (omega arith)) L key R q
+        (twoChildren (first ms) L key (second ms) R) (first ms) (second ms) (third ms)
         (routing-shared c p l (node x false fx) k (node y false fy) r (length l) refl w (innerPair (first ms) L key (second ms) R) key refl)
         (children-shared c p l (node x false fx) k (node y false fy) r (length l) refl w (innerPair (first ms) L key (second ms) R) (first ms) (second ms) refl))
 
     -- "Together 3 or fewer: merged, the parent copied with one child less"
     pub merge-plan : length (roots fx) + length (roots fy) ≤ 3 → Remains C (length (roots (splice l (innerPair x fx k y fy) r)))
-        → mend c n pos free last ≡ giving 2 free last (λ ms. rewriteAt C (newNode (first ms) 2 (routing both) (roots both) ∷ newNode (second ms) 2 (routing (oneChild (first ms))) (roots (oneChild (first ms))) ∷ []) (second ms) (p ∷ x ∷ y ∷ []))
+        → mend c n pos free last ≡ giving 2 free last (λ ms. rewriteAt C (newNode (first ms) 2 (routing both) (roots both)
+        ∷ newNode (second ms) 2 (routing (oneChild (first ms))) (roots (oneChild (first ms))) ∷ []) (second ms) (p ∷ x ∷ y ∷ []))
     merge-plan h o =
         let j = both-size in
         due

@@ -14,7 +14,8 @@ use Rattle.theory_change.proofs.Exchange.{alone, beside, Remains, OneVi
 use Rattle.theory_shapes.proofs.Bare.{bare, bareLeft, bareRight}
 use Rattle.theory_shapes.proofs.Next.{taggedIn, mendTwo, mendAt}
 use Rattle.theory_shapes.proofs.Shaped.{absorb-shaped, split-shaped, inner-share-shaped, inner-merge-shaped, inner-merge-root-shaped}
-use Rattle.theory_change.proofs.InnerChanges.{innerPair, newSiblings, partedNodes, taggedChild, absorb-rewrite, split-rewrite, Underfull, together, share-rewrite, merge-rewrite, merge-root-rewrite}
+use Rattle.theory_change.proofs.InnerChanges.{innerPair, newSiblings, partedNodes, taggedChild, absorb-rewrite, split-rewrite}
+use Rattle.theory_change.proofs.InnerChanges.{Underfull, together, share-rewrite, merge-rewrite, merge-root-rewrite}
 use Rattle.theory_change.proofs.InnerPlans.{absorb-plan, split-plan, share-plan, merge-plan, merge-root-plan}
 use Rattle.theory_change.proofs.Mending.{StandsAt, Planned, first-of, two-of, three-of, root-of-two}
 use Rattle.theory_change.proofs.Siblings.{inner-due, Pair, siblings}
@@ -43,8 +44,10 @@ reserve-above (down C i g l r) m f = omega arith
 
 -- "Tagged node"
 module _ (c : List ℕ) (n : ℕ) (pos : Position) (free : List Bool) (last : ℕ) (C : Context) (p : ℕ) (l : Left) (r : Right) where
-  two-taken : (q : ℕ) (a : Tree) (k : ℕ) (b : Tree) → StandsAt pos C p l (node q true (more a k (one b))) → Represents c (node p false (splice l (taggedChild q a k b) r)) → OneViolation (splice l (taggedChild q a k b) r)
-      → Planned c n pos free last C (node p false (splice l (taggedChild q a k b) r)) (fullRun (down C p false l r)) (mendAt (taggedIn C) (bareLeft l) (bare (node q true (more a k (one b)))) (bareRight r))
+  two-taken : (q : ℕ) (a : Tree) (k : ℕ) (b : Tree) → StandsAt pos C p l (node q true (more a k (one b)))
+      → Represents c (node p false (splice l (taggedChild q a k b) r)) → OneViolation (splice l (taggedChild q a k b) r)
+      → Planned c n pos free last C (node p false (splice l (taggedChild q a k b) r)) (fullRun (down C p false l r))
+      (mendAt (taggedIn C) (bareLeft l) (bare (node q true (more a k (one b)))) (bareRight r))
   two-taken q a k b s w v =
       let N = length (roots (splice l (taggedChild q a k b) r)) in
       let kids = splice l (more a k (one b)) r in
@@ -93,7 +96,8 @@ module _ (c : List ℕ) (n : ℕ) (pos : Position) (free : List Bool) (last : �
 module _ (c : List ℕ) (n : ℕ) (pos : Position) (free : List Bool) (last : ℕ) (C : Context) (p : ℕ) (size : length c ≡ 8 + 24 * n) (ea : pos .above ≡ linkPlace C) (ep : pos .parent ≡ p) where
   module _ (l : Left) (x : ℕ) (fx : Forest) (k y : ℕ) (fy : Forest) (r : Right) (w : Represents c (node p false (splice l (innerPair x fx k y fy) r)))
       (ei : pos .index - 1 ≡ length l) (en : (pos .node ≡ x) ⊎ (pos .node ≡ y)) (v : OneViolation (splice l (innerPair x fx k y fy) r)) (u : Underfull fx fy) where
-    shared : 4 ≤ length (roots fx) + length (roots fy) → Planned c n pos free last C (node p false (splice l (innerPair x fx k y fy) r)) 0 (mendTwo (taggedIn C) (bareLeft l) (bare (node x false fx)) k (bare (node y false fy)) (bareRight r))
+    shared : 4 ≤ length (roots fx) + length (roots fy) → Planned c n pos free last C (node p false (splice l (innerPair x fx k y fy) r)) 0
+        (mendTwo (taggedIn C) (bareLeft l) (bare (node x false fx)) k (bare (node y false fy)) (bareRight r))
     shared h =
         let m = length (roots fx) + length (roots fy) in
         let K = join fx k fy in
@@ -106,7 +110,8 @@ module _ (c : List ℕ) (n : ℕ) (pos : Position) (free : List Bool) (last : �
         let q : Parts (half m) K L key R = parts (half m) K (omega arith) (omega arith) in
         record {
           given = 3;
-          nodes = λ ms. newSiblings (first ms) L (second ms) R ++ newNode (third ms) 2 (routing (splice l (innerPair (first ms) L key (second ms) R) r)) (roots (splice l (innerPair (first ms) L key (second ms) R) r)) ∷ [];
+          nodes = λ ms. newSiblings (first ms) L (second ms) R ++ newNode (third ms) 2
+              (routing (splice l (innerPair (first ms) L key (second ms) R) r)) (roots (splice l (innerPair (first ms) L key (second ms) R) r)) ∷ [];
           part = λ ms. node (third ms) false (splice l (innerPair (first ms) L key (second ms) R) r);
           out = p ∷ x ∷ y ∷ [];
           planned = share-plan c n pos free last C p l x fx k y fy r size w ea ep ei en v u m refl h L key R q;
@@ -135,7 +140,9 @@ module _ (c : List ℕ) (n : ℕ) (pos : Position) (free : List Bool) (last : �
     merged h (inr o) =
         record {
           given = 2;
-          nodes = λ ms. newNode (first ms) 2 (routing (join fx k fy)) (roots (join fx k fy)) ∷ newNode (second ms) 2 (routing (splice l (one (node (first ms) false (join fx k fy))) r)) (roots (splice l (one (node (first ms) false (join fx k fy))) r)) ∷ [];
+          nodes = λ ms. newNode (first ms) 2 (routing (join fx k fy)) (roots (join fx k fy))
+              ∷ newNode (second ms) 2 (routing (splice l (one (node (first ms) false (join fx k fy))) r))
+              (roots (splice l (one (node (first ms) false (join fx k fy))) r)) ∷ [];
           part = λ ms. node (second ms) false (splice l (one (node (first ms) false (join fx k fy))) r);
           out = p ∷ x ∷ y ∷ [];
           planned = merge-plan c n pos free last C p l x fx k y fy r size w ea ep ei en v u h o;
@@ -146,7 +153,8 @@ module _ (c : List ℕ) (n : ℕ) (pos : Position) (free : List Bool) (last : �
           budget = λ ms. omega arith;
         }
 
-    pub siblings-mended : Planned c n pos free last C (node p false (splice l (innerPair x fx k y fy) r)) 0 (mendTwo (taggedIn C) (bareLeft l) (bare (node x false fx)) k (bare (node y false fy)) (bareRight r))
+    pub siblings-mended : Planned c n pos free last C (node p false (splice l (innerPair x fx k y fy) r)) 0
+        (mendTwo (taggedIn C) (bareLeft l) (bare (node x false fx)) k (bare (node y false fy)) (bareRight r))
     siblings-mended = order (length (roots fx) + length (roots fy)) 4 (λ o. merged (omega arith) (root-of-two C (length (roots (splice l (innerPair x fx k y fy) r))) (v .least))) (λ o. shared o)
 
 -- an internal node that is not tagged
@@ -162,16 +170,20 @@ inner-of (node m true f) h i z = absurd (omega arith)
 inner-of (node m false f) h i z = tt
 
 -- so the sibling of an underfull internal node is one too
-both-inner : (q : ℕ) (f : Forest) (x y : Tree) (h : ℕ) → Height h x → Height h y → violations x + violations y ≤ 1 → 1 ≤ violations (node q false f) → (x ≡ node q false f) ⊎ (y ≡ node q false f) → Inner x × Inner y
+both-inner : (q : ℕ) (f : Forest) (x y : Tree) (h : ℕ) → Height h x → Height h y → violations x + violations y ≤ 1
+    → 1 ≤ violations (node q false f) → (x ≡ node q false f) ⊎ (y ≡ node q false f) → Inner x × Inner y
 both-inner q f x y zero i j z o (inl e) = absurd (subst (λ (t : Tree). Height 0 t) e i)
 both-inner q f x y zero i j z o (inr e) = absurd (subst (λ (t : Tree). Height 0 t) e j)
 both-inner q f x y (suc h) i j z o (inl e) = (subst Inner (sym e) tt, inner-of y h j (omega (arith, ap violations e)))
 both-inner q f x y (suc h) i j z o (inr e) = (inner-of x h i (omega (arith, ap violations e)), subst Inner (sym e) tt)
 
-module _ (c : List ℕ) (n : ℕ) (pos : Position) (free : List Bool) (last : ℕ) (C : Context) (p : ℕ) (size : length c ≡ 8 + 24 * n) (ea : pos .above ≡ linkPlace C) (ep : pos .parent ≡ p) (q : ℕ) (f : Forest) (en : pos .node ≡ q) (own : ownViolation (node q false f) ≡ 1) where
+module _ (c : List ℕ) (n : ℕ) (pos : Position) (free : List Bool) (last : ℕ) (C : Context) (p : ℕ) (size : length c ≡ 8 + 24 * n)
+    (ea : pos .above ≡ linkPlace C) (ep : pos .parent ≡ p) (q : ℕ) (f : Forest) (en : pos .node ≡ q)
+    (own : ownViolation (node q false f) ≡ 1) where
   -- the part is one of two internal siblings
   inner-siblings : (l : Left) (x : Tree) (k : ℕ) (y : Tree) (r : Right) → Inner x → Inner y → Represents c (node p false (splice l (more x k (one y)) r)) → pos .index - 1 ≡ length l
-      → OneViolation (splice l (more x k (one y)) r) → (x ≡ node q false f) ⊎ (y ≡ node q false f) → Planned c n pos free last C (node p false (splice l (more x k (one y)) r)) 0 (mendTwo (taggedIn C) (bareLeft l) (bare x) k (bare y) (bareRight r))
+      → OneViolation (splice l (more x k (one y)) r) → (x ≡ node q false f) ⊎ (y ≡ node q false f) → Planned c n pos free last C
+      (node p false (splice l (more x k (one y)) r)) 0 (mendTwo (taggedIn C) (bareLeft l) (bare x) k (bare y) (bareRight r))
   inner-siblings l (leaf m ks vs) k y r ix iy w ei v s = absurd ix
   inner-siblings l (node m true g) k y r ix iy w ei v s = absurd ix
   inner-siblings l (node m false g) k (leaf i ks vs) r ix iy w ei v s = absurd iy
@@ -190,9 +202,12 @@ module _ (c : List ℕ) (n : ℕ) (pos : Position) (free : List Bool) (last : �
   level-below zero g i = absurd i
   level-below (suc h) g i = (h, i)
 
-  of-pair : (l₀ : Left) (r₀ : Right) (u : Pair l₀ (node q false f) r₀) (h : ℕ) → pos .index ≡ length l₀ → Height h (node p false (splice (u .left) (more (u .lesser) (u .key) (one (u .greater))) (u .right)))
-      → Represents c (node p false (splice (u .left) (more (u .lesser) (u .key) (one (u .greater))) (u .right))) → OneViolation (splice (u .left) (more (u .lesser) (u .key) (one (u .greater))) (u .right))
-      → Planned c n pos free last C (node p false (splice (u .left) (more (u .lesser) (u .key) (one (u .greater))) (u .right))) 0 (mendTwo (taggedIn C) (bareLeft (u .left)) (bare (u .lesser)) (u .key) (bare (u .greater)) (bareRight (u .right)))
+  of-pair : (l₀ : Left) (r₀ : Right) (u : Pair l₀ (node q false f) r₀) (h : ℕ) → pos .index ≡ length l₀
+      → Height h (node p false (splice (u .left) (more (u .lesser) (u .key) (one (u .greater))) (u .right)))
+      → Represents c (node p false (splice (u .left) (more (u .lesser) (u .key) (one (u .greater))) (u .right)))
+      → OneViolation (splice (u .left) (more (u .lesser) (u .key) (one (u .greater))) (u .right))
+      → Planned c n pos free last C (node p false (splice (u .left) (more (u .lesser) (u .key) (one (u .greater))) (u .right))) 0
+      (mendTwo (taggedIn C) (bareLeft (u .left)) (bare (u .lesser)) (u .key) (bare (u .greater)) (bareRight (u .right)))
   of-pair l₀ r₀ u h ei i w v =
       let two = more (u .lesser) (u .key) (one (u .greater)) in
       let b = level-below h (splice (u .left) two (u .right)) i in
@@ -202,7 +217,8 @@ module _ (c : List ℕ) (n : ℕ) (pos : Position) (free : List Bool) (last : �
       let g = both-inner q f (u .lesser) (u .greater) (b .0) (t .0) (t .1) (omega arith) (omega arith) (u .member) in
       inner-siblings (u .left) (u .lesser) (u .key) (u .greater) (u .right) (g .0) (g .1) w (omega (arith, u .index)) v (u .member)
 
-  pub underfull-mended : (l : Left) (r : Right) → pos .index ≡ length l → Represents c (node p false (fill l (node q false f) r)) → (h : ℕ) → Height h (node p false (fill l (node q false f) r)) → OneViolation (fill l (node q false f) r)
+  pub underfull-mended : (l : Left) (r : Right) → pos .index ≡ length l → Represents c (node p false (fill l (node q false f) r)) → (h : ℕ)
+      → Height h (node p false (fill l (node q false f) r)) → OneViolation (fill l (node q false f) r)
       → Planned c n pos free last C (node p false (fill l (node q false f) r)) 0 (mendAt (taggedIn C) (bareLeft l) (bare (node q false f)) (bareRight r))
   underfull-mended l r ei w h i v =
       with-pair (siblings l (node q false f) r (omega (arith, v .least, width-fill l (node q false f) r)))
@@ -211,7 +227,8 @@ module _ (c : List ℕ) (n : ℕ) (pos : Position) (free : List Bool) (last : �
       with-pair u = rw (inner-due (taggedIn C) l q f r u, u .whole) (of-pair l r u h ei (rw (u .whole) at i) (rw (u .whole) at w) (rw (u .whole) at v))
 
 -- Document 01, "The changes": an internal node with the only violation of the table is mended.
-pub inner-mended : (c : List ℕ) (n : ℕ) (pos : Position) (free : List Bool) (last : ℕ) (C : Context) (p : ℕ) (l : Left) (q : ℕ) (g : Bool) (f : Forest) (r : Right) → length c ≡ 8 + 24 * n → StandsAt pos C p l (node q g f)
+pub inner-mended : (c : List ℕ) (n : ℕ) (pos : Position) (free : List Bool) (last : ℕ)
+    (C : Context) (p : ℕ) (l : Left) (q : ℕ) (g : Bool) (f : Forest) (r : Right) → length c ≡ 8 + 24 * n → StandsAt pos C p l (node q g f)
     → Represents c (node p false (fill l (node q g f) r)) → (h : ℕ) → Height h (node p false (fill l (node q g f) r)) → OneViolation (fill l (node q g f) r) → ownViolation (node q g f) ≡ 1
     → Planned c n pos free last C (node p false (fill l (node q g f) r)) (reserve (down C p false l r) (node q g f)) (mendAt (taggedIn C) (bareLeft l) (bare (node q g f)) (bareRight r))
 inner-mended c n pos free last C p l q true f r size s w h i v o = tagged-mended c n pos free last C p l r q f s w v

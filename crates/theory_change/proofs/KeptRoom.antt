@@ -15,7 +15,8 @@ use Rattle.theory_tree.proofs.Path.{reserve}
 use Rattle.theory_tree.specs.Tree.{Tree, nodeTotal}
 use Rattle.theory_tree.proofs.Tree.{Context, plug, total-plug}
 
-pub room-kept : {c : List ℕ} {n : ℕ} {pos : Position} {free : List Bool} {last : ℕ} {C : Context} {o : Tree} {spare : ℕ} {due : Tree} (p : Planned c n pos free last C o spare due) (ms : List ℕ) (limit : ℕ) → length ms ≡ p .given
+pub room-kept : {c : List ℕ} {n : ℕ} {pos : Position} {free : List Bool} {last : ℕ} {C : Context} {o : Tree} {spare : ℕ} {due : Tree}
+    (p : Planned c n pos free last C o spare due) (ms : List ℕ) (limit : ℕ) → length ms ≡ p .given
     → nodeTotal (λ m. 1) (plug C o) + 3 + spare ≤ limit → nodeTotal (λ m. 1) (plug C (p .part ms)) + 3 + reserve C (p .part ms) ≤ limit
 room-kept {C = C} {o = o} p ms limit e h =
     let R = p .rewrites ms .same-numbers (λ m. 1) in

@@ -15,7 +15,9 @@ use Rattle.card.specs.Stores.{NewNode, newNode}
 use Rattle.card.proofs.NodeLaws.{slot-pairs-le}
 use Rattle.change_plan.specs.Change.{half}
 use Rattle.theory_change.proofs.Exchange.{Exchange, exchange-splice, Enough, enough, Remains, remains-enough, OneViolation, copied, half-size}
-use Rattle.theory_change.proofs.LeafRows.{newLeaf, slot-keys, new-leaf-pairs, new-leaf-range, new-leaf-settled, length-pair-keys, length-pair-values, new-leaf-represented, twoLeaves, two-leaves-pairs, two-leaves-range, two-leaves-settled, two-leaves-widths}
+use Rattle.theory_change.proofs.LeafRows.{newLeaf, slot-keys, new-leaf-pairs, new-leaf-range, new-leaf-settled, length-pair-keys}
+use Rattle.theory_change.proofs.LeafRows.{length-pair-values, new-leaf-represented, twoLeaves, two-leaves-pairs, two-leaves-range}
+use Rattle.theory_change.proofs.LeafRows.{two-leaves-settled, two-leaves-widths}
 use Rattle.theory_change.proofs.Rewrite.{SameHeight, Rewrite}
 use Rattle.laws.proofs.Cases.{order}
 use Rattle.laws.specs.Cases.{pick}
@@ -70,7 +72,14 @@ outside-wider lo hi hi′ h p =
 range-append : (lo k hi : ℕ) (ps qs : Pairs) → lo < k → k < hi → LeafRange lo k ps → LeafRange k hi qs → LeafRange lo hi (ps ++ qs)
 range-append lo k hi ps qs h g u v =
     record {
-      inside = omega (arith, total-append (outside lo hi) ps qs, total-le (outside lo hi) (outside lo k) (outside-wider lo k hi (omega arith)) ps, total-le (outside lo hi) (outside k hi) (outside-le lo k hi (omega arith)) qs, u .inside, v .inside);
+      inside = omega (
+        arith,
+        total-append (outside lo hi) ps qs,
+        total-le (outside lo hi) (outside lo k) (outside-wider lo k hi (omega arith)) ps,
+        total-le (outside lo hi) (outside k hi) (outside-le lo k hi (omega arith)) qs,
+        u .inside,
+        v .inside,
+      );
       once = λ j. order j k
           (λ o. omega (arith, total-append (hasKey j) ps qs, u .once j, total-le (hasKey j) (outside k hi) (has-outside k hi j (inl o)) qs, v .inside))
           (λ o. omega (arith, total-append (hasKey j) ps qs, v .once j, total-le (hasKey j) (outside lo k) (has-outside lo k j (inr o)) ps, u .inside));
@@ -129,7 +138,8 @@ module _ (x : ℕ) (ks vs : List ℕ) (k y : ℕ) (ks′ vs′ : List ℕ) where
         represented = λ c q w. new-leaf-represented c a ps g (w .0);
       }
 
-module _ (l : Left) (x : ℕ) (ks vs : List ℕ) (k y : ℕ) (ks′ vs′ : List ℕ) (r : Right) (one-violation : OneViolation (splice l (leaves x ks vs k y ks′ vs′) r)) (underfull : UnderfullLeaf ks vs ks′ vs′) where
+module _ (l : Left) (x : ℕ) (ks vs : List ℕ) (k y : ℕ) (ks′ vs′ : List ℕ) (r : Right)
+    (one-violation : OneViolation (splice l (leaves x ks vs k y ks′ vs′) r)) (underfull : UnderfullLeaf ks vs ks′ vs′) where
   -- the one violation is that of the two
   leaves-single : few (length (slotPairs ks vs)) + few (length (slotPairs ks′ vs′)) ≡ 1
   leaves-single = omega (arith, violations-inside l (leaves x ks vs k y ks′ vs′) r, one-violation .single)
@@ -143,7 +153,8 @@ module _ (l : Left) (x : ℕ) (ks vs : List ℕ) (k y : ℕ) (ks′ vs′ : List
       let w = leaves-widths in
       let s = leaves-single in
       let n = together-length ks vs ks′ vs′ in
-      order 0 (few (length (slotPairs ks vs))) (λ o. omega (arith, few-zero (length (slotPairs ks′ vs′)) (omega arith), w .0)) (λ o. omega (arith, few-zero (length (slotPairs ks vs)) (omega arith), w .1))
+      order 0 (few (length (slotPairs ks vs))) (λ o. omega (arith, few-zero (length (slotPairs ks′ vs′)) (omega arith), w .0))
+      (λ o. omega (arith, few-zero (length (slotPairs ks vs)) (omega arith), w .1))
 
   -- and a leaf of eleven slots at most eleven
   pub leaves-most : (c : List ℕ) (p : ℕ) → Represents c (node p false (splice l (leaves x ks vs k y ks′ vs′) r)) → length (pairsTogether ks vs ks′ vs′) ≤ 12
@@ -160,13 +171,16 @@ module _ (l : Left) (x : ℕ) (ks vs : List ℕ) (k y : ℕ) (ks′ vs′ : List
   leaves-settled g z = omega (arith, violations-splice l (leaves x ks vs k y ks′ vs′) g r, one-violation .single, leaves-single)
 
   -- other leaves in their place, under a new copy of the parent
-  leaves-copied : (C : Context) (p c : ℕ) (g : Forest) (new : List NewNode) → Exchange (leaves x ks vs k y ks′ vs′) g new (x ∷ y ∷ []) → forestViolations g ≡ 0 → 1 ≤ length (roots g) → length (roots g) ≤ 2 → Enough C (length (roots (splice l g r)))
+  leaves-copied : (C : Context) (p c : ℕ) (g : Forest) (new : List NewNode) → Exchange (leaves x ks vs k y ks′ vs′) g new (x ∷ y ∷ [])
+      → forestViolations g ≡ 0 → 1 ≤ length (roots g) → length (roots g) ≤ 2 → Enough C (length (roots (splice l g r)))
       → Rewrite C (node p false (splice l (leaves x ks vs k y ks′ vs′) r)) (node c false (splice l g r)) (new ++ innerNode c (splice l g r) ∷ []) (p ∷ x ∷ y ∷ [])
   leaves-copied C p c g new E z h h′ e =
       let s = size-splice l (leaves x ks vs k y ks′ vs′) g r in
       let least = one-violation .least in
       let most = one-violation .most in
-      copied C p c (splice l (leaves x ks vs k y ks′ vs′) r) (splice l g r) new (x ∷ y ∷ []) (exchange-splice l (leaves x ks vs k y ks′ vs′) g r new (x ∷ y ∷ []) E) (one-violation .widths) e (omega arith) (leaves-settled g z) (few-le (length (roots (splice l g r))))
+      copied C p c (splice l (leaves x ks vs k y ks′ vs′) r) (splice l g r) new (x ∷ y ∷ [])
+      (exchange-splice l (leaves x ks vs k y ks′ vs′) g r new (x ∷ y ∷ []) E) (one-violation .widths) e (omega arith) (leaves-settled g z)
+      (few-le (length (roots (splice l g r))))
 
   -- "Together 4 or more: shared out, the left one getting the larger half, under a new copy of the parent."
   pub leaf-share : (C : Context) (p a b c : ℕ) → 4 ≤ length (pairsTogether ks vs ks′ vs′) → length (pairsTogether ks vs ks′ vs′) ≤ 12
@@ -182,7 +196,10 @@ module _ (l : Left) (x : ℕ) (ks vs : List ℕ) (k y : ℕ) (ks′ vs′ : List
       let e = half-size (length ps) h g in
       let s = size-splice l (leaves x ks vs k y ks′ vs′) (twoLeaves a b n ps) r in
       let least = one-violation .least in
-      leaves-copied C p c (twoLeaves a b n ps) (leafNodes a b n ps) (leaves-share x ks vs k y ks′ vs′ a b n (e .0) (e .1) (omega (arith, e .3)) (omega (arith, e .2))) (two-leaves-settled a b n ps (together-nonzero ks vs ks′ vs′) (e .0) (e .1)) (omega arith) (omega arith) (enough C (length (roots (splice l (twoLeaves a b n ps) r))) (omega arith))
+      leaves-copied C p c (twoLeaves a b n ps) (leafNodes a b n ps)
+      (leaves-share x ks vs k y ks′ vs′ a b n (e .0) (e .1) (omega (arith, e .3)) (omega (arith, e .2)))
+      (two-leaves-settled a b n ps (together-nonzero ks vs ks′ vs′) (e .0) (e .1)) (omega arith) (omega arith)
+      (enough C (length (roots (splice l (twoLeaves a b n ps) r))) (omega arith))
 
   -- "Together 3 or fewer: merged, the parent copied with one child less"
   pub leaf-merge : (C : Context) (p a b : ℕ) → length (pairsTogether ks vs ks′ vs′) ≤ 3 → Remains C (length (roots (splice l (leaves x ks vs k y ks′ vs′) r)))
@@ -193,7 +210,8 @@ module _ (l : Left) (x : ℕ) (ks vs : List ℕ) (k y : ℕ) (ks′ vs′ : List
       let ps = pairsTogether ks vs ks′ vs′ in
       let m = leaves-least in
       let s = size-splice l (leaves x ks vs k y ks′ vs′) (one (newLeaf a ps)) r in
-      leaves-copied C p b (one (newLeaf a ps)) (leafNode a ps ∷ []) (leaves-merge x ks vs k y ks′ vs′ a (omega arith) (omega arith)) (new-leaf-settled a ps (together-nonzero ks vs ks′ vs′) (omega arith)) (omega arith) (omega arith)
+      leaves-copied C p b (one (newLeaf a ps)) (leafNode a ps ∷ []) (leaves-merge x ks vs k y ks′ vs′ a (omega arith) (omega arith))
+      (new-leaf-settled a ps (together-nonzero ks vs ks′ vs′) (omega arith)) (omega arith) (omega arith)
       (remains-enough C (length (roots (splice l (leaves x ks vs k y ks′ vs′) r))) (length (roots (splice l (one (newLeaf a ps)) r))) (one-violation .least) (omega arith) g)
 
 -- "if that parent is the root with 2 children, the merged node becomes the root"
@@ -201,7 +219,8 @@ module _ (x : ℕ) (ks vs : List ℕ) (k y : ℕ) (ks′ vs′ : List ℕ) (one-
   root-height : (h : ℕ) → Height h (node p false (leaves x ks vs k y ks′ vs′)) → (h′ : ℕ) × Height h′ (newLeaf a (pairsTogether ks vs ks′ vs′)) × SameHeight top h h′
   root-height h i = (0, refl, tt)
 
-  pub leaf-merge-root : length (pairsTogether ks vs ks′ vs′) ≤ 3 → Rewrite top (node p false (leaves x ks vs k y ks′ vs′)) (newLeaf a (pairsTogether ks vs ks′ vs′)) (leafNode a (pairsTogether ks vs ks′ vs′) ∷ []) (p ∷ x ∷ y ∷ [])
+  pub leaf-merge-root : length (pairsTogether ks vs ks′ vs′) ≤ 3 → Rewrite top (node p false (leaves x ks vs k y ks′ vs′))
+      (newLeaf a (pairsTogether ks vs ks′ vs′)) (leafNode a (pairsTogether ks vs ks′ vs′) ∷ []) (p ∷ x ∷ y ∷ [])
   leaf-merge-root h =
       let E = leaves-merge x ks vs k y ks′ vs′ a (omega (arith, leaves-least [] x ks vs k y ks′ vs′ rightmost one-violation underfull)) (omega arith) in
       record {

@@ -47,8 +47,11 @@ unfolding leavesTogether
 leaves-rows x y ps qs e f = rw (e, f)
 
 -- the changes at these rows; keys, kids and the numbers x and y are read off the parent
-module _ (q : Position) (parent : List ℕ) (j : ℕ) (ps : Pairs) (C : Context) (p x y : ℕ) (el : q .above ≡ linkPlace C) (ep : q .parent ≡ p) (ex : getD (children parent) j 0 ≡ x) (ey : getD (children parent) (suc j) 0 ≡ y) where
-  share-leaves : (a b c : ℕ) (keys kids : List ℕ) → take j (routingKeys parent) ++ keyAt (half (length ps)) ps ∷ drop (suc j) (routingKeys parent) ≡ keys → take j (children parent) ++ a ∷ b ∷ drop (suc (suc j)) (children parent) ≡ kids
+module _ (q : Position) (parent : List ℕ) (j : ℕ) (ps : Pairs) (C : Context) (p x y : ℕ) (el : q .above ≡ linkPlace C) (ep : q .parent ≡ p)
+    (ex : getD (children parent) j 0 ≡ x) (ey : getD (children parent) (suc j) 0 ≡ y) where
+  share-leaves : (a b c : ℕ) (keys kids : List ℕ)
+      → take j (routingKeys parent) ++ keyAt (half (length ps)) ps ∷ drop (suc j) (routingKeys parent) ≡ keys
+      → take j (children parent) ++ a ∷ b ∷ drop (suc (suc j)) (children parent) ≡ kids
       → share q parent j (rowsOf ps) a b c ≡ rewriteAt C (leafNode a (take (half (length ps)) ps) ∷ leafNode b (drop (half (length ps)) ps) ∷ newNode c 2 keys kids ∷ []) c (p ∷ x ∷ y ∷ [])
   unfolding share halves copied leftKeys keyBetween
   share-leaves a b c keys kids e f = rw (length-pair-values ps, keys-take, values-take, keys-drop, values-drop, key-at-row, e, f, ex, ey, el, ep)
@@ -62,7 +65,9 @@ module _ (q : Position) (parent : List ℕ) (j : ℕ) (ps : Pairs) (C : Context)
   unfolding mergeRoot
   mergeRoot-leaves a = rw (ex, ey, el, ep)
 
-module _ (c : List ℕ) (n : ℕ) (long : length c ≡ 8 + 24 * n) (C : Context) (p : ℕ) (l : Left) (x : ℕ) (ks vs : List ℕ) (k y : ℕ) (ks′ vs′ : List ℕ) (r : Right) (w : Represents c (node p false (splice l (leaves x ks vs k y ks′ vs′) r))) (q : Position) (at : AtSiblings q C p l x y) (free : List Bool) (last : ℕ) where
+module _ (c : List ℕ) (n : ℕ) (long : length c ≡ 8 + 24 * n) (C : Context) (p : ℕ) (l : Left) (x : ℕ) (ks vs : List ℕ) (k y : ℕ)
+    (ks′ vs′ : List ℕ) (r : Right) (w : Represents c (node p false (splice l (leaves x ks vs k y ks′ vs′) r))) (q : Position)
+    (at : AtSiblings q C p l x y) (free : List Bool) (last : ℕ) where
   first-leaf : Represents c (leaf x ks vs)
   first-leaf = two-represented c p l (leaf x ks vs) k (leaf y ks′ vs′) r (length l) refl w .0
 
@@ -108,7 +113,8 @@ module _ (c : List ℕ) (n : ℕ) (long : length c ≡ 8 + 24 * n) (C : Context)
       (routing-shared c p l (leaf x ks vs) k (leaf y ks′ vs′) r (length l) refl w (twoLeaves a b (half (length ps)) ps) (keyAt (half (length ps)) ps) refl)
       (children-shared c p l (leaf x ks vs) k (leaf y ks′ vs′) r (length l) refl w (twoLeaves a b (half (length ps)) ps) a b refl)
 
-  leaf-merge-due : (a b : ℕ) → merge q (nodeAt c p) (length l) (rowsOf (pairsTogether ks vs ks′ vs′)) a b ≡ rewriteAt C (leafNode a (pairsTogether ks vs ks′ vs′) ∷ innerNode b (splice l (one (newLeaf a (pairsTogether ks vs ks′ vs′))) r) ∷ []) b (p ∷ x ∷ y ∷ [])
+  leaf-merge-due : (a b : ℕ) → merge q (nodeAt c p) (length l) (rowsOf (pairsTogether ks vs ks′ vs′)) a b ≡ rewriteAt C
+      (leafNode a (pairsTogether ks vs ks′ vs′) ∷ innerNode b (splice l (one (newLeaf a (pairsTogether ks vs ks′ vs′))) r) ∷ []) b (p ∷ x ∷ y ∷ [])
   leaf-merge-due a b =
       let ps = pairsTogether ks vs ks′ vs′ in
       merge-leaves q (nodeAt c p) (length l) ps C p x y (at .above) (at .parent) first-number second-number a b _ _
@@ -138,15 +144,22 @@ module _ (c : List ℕ) (n : ℕ) (long : length c ≡ 8 + 24 * n) (C : Context)
   leaf-merge-plan h g =
       let e = length-pair-values (pairsTogether ks vs ks′ vs′) in
       leaves-due
-      ∙ merge-made c n q free last (nodeAt c p) (length l) (rowsOf (pairsTogether ks vs ks′ vs′)) (ap (nodeAt c) (at .parent)) (at .index) together-read C (omega arith) (at .above) (rw children-size g)
+      ∙ merge-made c n q free last (nodeAt c p) (length l) (rowsOf (pairsTogether ks vs ks′ vs′))
+      (ap (nodeAt c) (at .parent)) (at .index) together-read C (omega arith) (at .above) (rw children-size g)
       ∙ giving-same 2 free last _ _ (λ ms. leaf-merge-due (first ms) (second ms))
 
 -- "if that parent is the root with 2 children, the merged node becomes the root"
-pub leaf-merge-root-plan : (c : List ℕ) (n : ℕ) → length c ≡ 8 + 24 * n → (p x : ℕ) (ks vs : List ℕ) (k y : ℕ) (ks′ vs′ : List ℕ) → Represents c (node p false (leaves x ks vs k y ks′ vs′)) → (q : Position) → AtSiblings q top p [] x y → (free : List Bool) (last : ℕ) → length (pairsTogether ks vs ks′ vs′) ≤ 3
+pub leaf-merge-root-plan : (c : List ℕ) (n : ℕ) → length c ≡ 8 + 24 * n → (p x : ℕ) (ks vs : List ℕ) (k y : ℕ) (ks′ vs′ : List ℕ)
+    → Represents c (node p false (leaves x ks vs k y ks′ vs′)) → (q : Position) → AtSiblings q top p [] x y → (free : List Bool) (last : ℕ)
+    → length (pairsTogether ks vs ks′ vs′) ≤ 3
     → mend c n q free last ≡ giving 1 free last (λ ms. rewriteAt top (leafNode (first ms) (pairsTogether ks vs ks′ vs′) ∷ []) (first ms) (p ∷ x ∷ y ∷ []))
 leaf-merge-root-plan c n long p x ks vs k y ks′ vs′ w q at free last h =
     let ps = pairsTogether ks vs ks′ vs′ in
     let e = length-pair-values ps in
     leaves-due c n long top p [] x ks vs k y ks′ vs′ rightmost w q at free last
-    ∙ merge-root-made c n q free last (nodeAt c p) 0 (rowsOf ps) (ap (nodeAt c) (at .parent)) (at .index) (together-read c n long top p [] x ks vs k y ks′ vs′ rightmost w q at free last) (omega arith) (at .above) (children-size c n long top p [] x ks vs k y ks′ vs′ rightmost w q at free last)
-    ∙ giving-same 1 free last _ _ (λ ms. mergeRoot-leaves q (nodeAt c p) 0 ps top p x y (at .above) (at .parent) (first-number c n long top p [] x ks vs k y ks′ vs′ rightmost w q at free last) (second-number c n long top p [] x ks vs k y ks′ vs′ rightmost w q at free last) (first ms))
+    ∙ merge-root-made c n q free last (nodeAt c p) 0 (rowsOf ps) (ap (nodeAt c) (at .parent)) (at .index)
+    (together-read c n long top p [] x ks vs k y ks′ vs′ rightmost w q at free last) (omega arith) (at .above)
+    (children-size c n long top p [] x ks vs k y ks′ vs′ rightmost w q at free last)
+    ∙ giving-same 1 free last _ _
+    (λ ms. mergeRoot-leaves q (nodeAt c p) 0 ps top p x y (at .above) (at .parent) (first-number c n long top p [] x ks vs k y ks′ vs′
+    rightmost w q at free last) (second-number c n long top p [] x ks vs k y ks′ vs′ rightmost w q at free last) (first ms))

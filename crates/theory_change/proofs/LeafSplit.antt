@@ -14,7 +14,8 @@ use Rattle.change_plan.specs.Change.{splitLeaf}
 use Rattle.theory_change.proofs.Above.{above-height, above-shape, above-settled, above-own}
 use Rattle.theory_shapes.proofs.Next.{taggedIn}
 use Rattle.theory_change.proofs.LeafChanges.{leafNode}
-use Rattle.theory_change.proofs.LeafRows.{slot-keys, length-pair-keys, length-pair-values, new-leaf-represented, twoLeaves, two-leaves-pairs, two-leaves-range, two-leaves-settled, two-leaves-widths}
+use Rattle.theory_change.proofs.LeafRows.{slot-keys, length-pair-keys, length-pair-values, new-leaf-represented, twoLeaves}
+use Rattle.theory_change.proofs.LeafRows.{two-leaves-pairs, two-leaves-range, two-leaves-settled, two-leaves-widths}
 use Rattle.theory_change.proofs.Mending.{rewriteAt, kind-above}
 use Rattle.theory_change.proofs.Rewrite.{Shape, violationsIn, ownIn, SameHeight, AllFew, numbers}
 use Rattle.laws.specs.Sorting.{Pairs, sort, keyAt}
@@ -75,7 +76,8 @@ module _ (C : Context) (m : ℕ) (ks vs : List ℕ) (k v : ℕ) (positive : 0 < 
       let lt : length (take 6 ps) ≤ 11 = simp length-take (omega arith) in
       let ld : length (drop 6 ps) ≤ 11 = simp length-drop (omega arith) in
       record {
-        range = λ lo hi h g i. two-leaves-range a b 6 ps z lo hi (omega arith) (omega arith) (rising-sort lo hi ((k, v) ∷ slotPairs ks vs) (omega arith) (range-cons lo hi k v (slotPairs ks vs) h g absent-key i));
+        range = λ lo hi h g i. two-leaves-range a b 6 ps z lo hi (omega arith) (omega arith)
+            (rising-sort lo hi ((k, v) ∷ slotPairs ks vs) (omega arith) (range-cons lo hi k v (slotPairs ks vs) h g absent-key i));
         pair-more = λ w. ap (total w) (two-leaves-pairs a b 6 ps z) ∙ total-sort w ((k, v) ∷ slotPairs ks vs);
         height = λ h i. above-height C c h two (i, i);
         shape = above-shape C c two refl (two-leaves-widths a b 6 ps z (omega arith) (omega arith));

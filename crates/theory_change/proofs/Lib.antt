@@ -42,7 +42,8 @@ pub mod Repaired
 pub mod Mended
 -- A part of a balanced table gives way to another by an update: like a rewrite, but the pairs change at the key
 pub mod Reshape
--- the stores of a change, one after the other, each with the tree that the card then holds: every store but the last leaves a sound table with the same pairs that can be opened; the last one puts the next tree there
+-- the stores of a change, one after the other, each with the tree that the card then holds: every store but the last leaves a sound table
+-- with the same pairs that can be opened; the last one puts the next tree there
 pub mod Plays
 -- free nodes over a count of the nodes that are reached, whichever trees they stand in: what `Exact` says of one tree, without a card
 pub mod ExactOver

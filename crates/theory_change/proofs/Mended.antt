@@ -64,7 +64,12 @@ length-stores p (x ∷ ws) = ap suc (length-stores (suc p) ws)
 pub length-node-stores : (nodes : List NewNode) → AllFew nodes → length (nodeStores nodes) ≡ 24 * length (numbers nodes)
 length-node-stores [] f = refl
 length-node-stores (X ∷ Xs) f =
-    simp length-append (omega (arith, length-stores (place (X .number) 0) (nodeImage (X .kind) (X .keys) (X .values)), length-node-image (X .kind) (X .keys) (X .values) (f .0 .0) (f .0 .1), length-node-stores Xs (f .1)))
+    simp length-append (omega (
+      arith,
+      length-stores (place (X .number) 0) (nodeImage (X .kind) (X .keys) (X .values)),
+      length-node-image (X .kind) (X .keys) (X .values) (f .0 .0) (f .0 .1),
+      length-node-stores Xs (f .1),
+    ))
 
 -- the link stands on the card, outside the words that the header needs
 pub link-on-card : (c : List ℕ) (C : Context) (x : ℕ) → RepresentsContext c C x → (linkPlace C < length c) × ((linkPlace C ≡ 4) ⊎ (8 ≤ linkPlace C))
@@ -79,7 +84,8 @@ other-numbers : (k i : ℕ) → (length (replicate k (suc i)) ≡ k) × (total (
 other-numbers zero i = (refl, refl)
 other-numbers (suc k) i = let r = other-numbers k i in (ap suc (r .0), omega (arith, r .1, indicator-other i (suc i) (omega arith)))
 
-out-inside : {c : List ℕ} {n : ℕ} {pos : Position} {free : List Bool} {last : ℕ} {C : Context} {o : Tree} {spare : ℕ} {due : Tree} (p : Planned c n pos free last C o spare due) (i : ℕ) → total (indicator i) (p .out) ≤ nodeTotal (indicator i) o
+out-inside : {c : List ℕ} {n : ℕ} {pos : Position} {free : List Bool} {last : ℕ} {C : Context} {o : Tree} {spare : ℕ} {due : Tree}
+    (p : Planned c n pos free last C o spare due) (i : ℕ) → total (indicator i) (p .out) ≤ nodeTotal (indicator i) o
 out-inside p i =
     let q = other-numbers (p .given) i in
     let e : total (indicator i) (numbers (p .nodes (replicate (p .given) (suc i)))) ≡ 0 = ap (total (indicator i)) (p .in-order (replicate (p .given) (suc i)) (q .0)) ∙ q .1 in
@@ -104,7 +110,8 @@ module _ (c : List ℕ) (n : ℕ) (free : List Bool) (t : Tree) (len : length c 
 -- a planned change, given its numbers, on the card
 module _ (c : List ℕ) (n key : ℕ) (free : List Bool) (last : ℕ) (len : length c ≡ 8 + 24 * n) (small : n < capacity) (C : Context) (o : Tree) (spare deep : ℕ) (due : Tree) where
   pub planned-repaired : (pos : Position) → Holds c (plug C o) → Sound (plug C o) → Exact n free (plug C o) → tableViolations (plug C o) ≡ 1 → violationsIn C o ≡ 1 → 3 + spare ≤ countTrue free
-      → OnPath key C → depthOf C < deep → Planned c n pos free last C o spare due → repairedBy false (bare (plug C o)) ≡ plug (bareContext C) due → nextRepair c n key free last ≡ mend c n pos free last → Repaired c n key (plug C o) free last deep
+      → OnPath key C → depthOf C < deep → Planned c n pos free last C o spare due → repairedBy false (bare (plug C o))
+      ≡ plug (bareContext C) due → nextRepair c n key free last ≡ mend c n pos free last → Repaired c n key (plug C o) free last deep
   planned-repaired pos h s x v vi room path fall p reached is = go (numbers-given (p .given) free last (x .outside-none 0 (inl refl)) (omega (arith, p .at-most-three)))
     where
       go : ((ms : List ℕ) × (takeNumbers (p .given) free last ≡ some ms) × (length ms ≡ p .given) × Given free ms) → Repaired c n key (plug C o) free last deep
@@ -114,7 +121,8 @@ module _ (c : List ℕ) (n key : ℕ) (free : List Bool) (last : ℕ) (len : len
             free-then = withoutAll ms free;
             last-then = lastOf last ms;
             cut = p .out;
-            planned = is ∙ p .planned ∙ giving-some (p .given) free last _ ms e ∙ ap (λ (z : List Store). prepared z (withoutAll ms free) (lastOf last ms) (p .out)) (change-stores C nodes (root part) (p .out));
+            planned = is ∙ p .planned ∙ giving-some (p .given) free last _ ms e
+                ∙ ap (λ (z : List Store). prepared z (withoutAll ms free) (lastOf last ms) (p .out)) (change-stores C nodes (root part) (p .out));
             short = simp length-append (omega (arith, length-node-stores nodes (R .few), ap length in-order, p .at-most-three));
             pending = record {
               next = plug C part;
@@ -178,7 +186,8 @@ module _ (c : List ℕ) (n key : ℕ) (free : List Bool) (last : ℕ) (len : len
           ready : (d : ℕ) × Mendable key (withAll (p .out) (withoutAll ms free)) (plug C part) d × (d < deep)
           ready = at C (after .violations-left) path (R .at-most-one) fall (omega (arith, moved .1, p .budget ms, el))
             where
-              at : (D : Context) → tableViolations (plug D part) ≡ ownIn D part → OnPath key D → ownIn D part ≤ 1 → depthOf D < deep → 3 + reserve D part ≤ countTrue (withAll (p .out) (withoutAll ms free))
+              at : (D : Context) → tableViolations (plug D part) ≡ ownIn D part → OnPath key D → ownIn D part ≤ 1 → depthOf D < deep
+                  → 3 + reserve D part ≤ countTrue (withAll (p .out) (withoutAll ms free))
                   → (d : ℕ) × Mendable key (withAll (p .out) (withoutAll ms free)) (plug D part) d × (d < deep)
               at top w q k f r = (0, settled w (omega arith), omega arith)
               at (down D m b l r) w q k f room =
@@ -190,9 +199,12 @@ module _ (c : List ℕ) (n key : ℕ) (free : List Bool) (last : ℕ) (len : len
 -- THE NEXT CHANGE of a table with a violation
 pub mended : (c : List ℕ) (n key : ℕ) (t : Tree) (free : List Bool) (last : ℕ) → length c ≡ 8 + 24 * n → n < capacity → Holds c t → Sound t → depth t ≤ depthLimit → Exact n free t
     → (v : Violation t key) → tableViolations t ≡ 1 → 3 + reserve (v .context) (v .part) ≤ countTrue free → Repaired c n key t free last (depthOf (v .context))
-mended c n key t free last len small h s deep x v single room = go (v .context) (v .part) (v .is-tree) (v .inside) (v .own) (v .on-path) room (violation-found c n key len depthLimit t h (s .widths) single deep v)
+mended c n key t free last len small h s deep x v single room =
+    go (v .context) (v .part) (v .is-tree) (v .inside) (v .own) (v .on-path) room
+    (violation-found c n key len depthLimit t h (s .widths) single deep v)
   where
-    go : (D : Context) (q : Tree) → t ≡ plug D q → below D → ownViolation q ≡ 1 → OnPath key D → 3 + reserve D q ≤ countTrue free → seek c n key depthLimit (rootPosition (getD c rootPlace 0)) ≡ SearchViolation (positionOf D q)
+    go : (D : Context) (q : Tree) → t ≡ plug D q → below D → ownViolation q ≡ 1 → OnPath key D → 3 + reserve D q ≤ countTrue free
+        → seek c n key depthLimit (rootPosition (getD c rootPlace 0)) ≡ SearchViolation (positionOf D q)
         → Repaired c n key t free last (depthOf D)
     go top q e b own path room found = absurd b
     go (down C p true l r) q e b own path room found = let z = path .0 in impossible (cc)
@@ -200,20 +212,27 @@ mended c n key t free last len small h s deep x v single room = go (v .context) 
         rw e
         (at (rw e at h) (rw e at s) (rw e at x) (rw e at single))
       where
-        at : Holds c (plug C (node p false (fill l q r))) → Sound (plug C (node p false (fill l q r))) → Exact n free (plug C (node p false (fill l q r))) → tableViolations (plug C (node p false (fill l q r))) ≡ 1
+        at : Holds c (plug C (node p false (fill l q r))) → Sound (plug C (node p false (fill l q r)))
+            → Exact n free (plug C (node p false (fill l q r))) → tableViolations (plug C (node p false (fill l q r))) ≡ 1
             → Repaired c n key (plug C (node p false (fill l q r))) free last (suc (depthOf C))
         at h₁ s₁ x₁ v₁ =
             let one-below = violation-parent C p l q r (s₁ .widths) (omega arith) own in
             let rep = unplugged c C (node p false (fill l q r)) h₁ .1 in
             let high = height-plug (s₁ .level .0) C (node p false (fill l q r)) (s₁ .level .1) in
-            planned-repaired c n key free last len small C (node p false (fill l q r)) (reserve (down C p false l r) q) (suc (depthOf C)) (mendAt (taggedIn C) (bareLeft l) (bare q) (bareRight r)) (positionOf (down C p false l r) q) h₁ s₁ x₁ v₁
-            (here C one-below) room (path .3) (omega arith) (plan q rep high one-below own) (repair-reached C p l q r own (omega arith)) (repair-mends c n free last key (positionOf (down C p false l r) q) found)
+            planned-repaired c n key free last len small C (node p false (fill l q r)) (reserve (down C p false l r) q) (suc (depthOf C))
+            (mendAt (taggedIn C) (bareLeft l) (bare q) (bareRight r)) (positionOf (down C p false l r) q) h₁ s₁ x₁ v₁
+            (here C one-below) room (path .3) (omega arith) (plan q rep high one-below own) (repair-reached C p l q r own (omega arith))
+            (repair-mends c n free last key (positionOf (down C p false l r) q) found)
           where
             here : (D : Context) → OneViolation (fill l q r) → violationsIn D (node p false (fill l q r)) ≡ 1
             here top o = o .single
             here (down D m b i j) o = omega (arith, o .single, few-none (length (roots (fill l q r))) (o .least))
 
-            plan : (q : Tree) → Represents c (node p false (fill l q r)) → ((k : ℕ) × Height k (node p false (fill l q r)) × ((s′ : Tree) → Height k s′ → Height (s₁ .level .0) (plug C s′))) → OneViolation (fill l q r) → ownViolation q ≡ 1
+            plan : (q : Tree) → Represents c (node p false (fill l q r))
+                → ((k : ℕ) × Height k (node p false (fill l q r)) × ((s′ : Tree) → Height k s′ → Height (s₁ .level .0) (plug C s′)))
+                → OneViolation (fill l q r) → ownViolation q ≡ 1
                 → Planned c n (positionOf (down C p false l r) q) free last C (node p false (fill l q r)) (reserve (down C p false l r) q) (mendAt (taggedIn C) (bareLeft l) (bare q) (bareRight r))
-            plan (leaf m ks vs) rep high o own = leaf-mended c n (positionOf (down C p false l r) (leaf m ks vs)) free last C p l r m ks vs len (stands C p l r (leaf m ks vs)) rep o own (high .0) (high .1)
+            plan (leaf m ks vs) rep high o own =
+                leaf-mended c n (positionOf (down C p false l r) (leaf m ks vs)) free last C p l r m ks vs len
+                (stands C p l r (leaf m ks vs)) rep o own (high .0) (high .1)
             plan (node m g f) rep high o own = inner-mended c n (positionOf (down C p false l r) (node m g f)) free last C p l m g f r len (stands C p l r (node m g f)) rep (high .0) (high .1) o own

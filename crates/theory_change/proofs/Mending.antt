@@ -107,7 +107,8 @@ siblings-decide c n pos free last p l x k y r kd e w ep ej kq h =
     ∙ ap (λ (d : Decision). layOut c d free last) (siblings-as pos (ap (nodeAt c) ep) (ap (nodeAt c) left) (ap (nodeAt c) right))
 
 -- what two siblings hold together decides: shared out, merged, or merged into the root
-module _ (c : List ℕ) (n : ℕ) (pos : Position) (free : List Bool) (last : ℕ) (P : List ℕ) (j : ℕ) (both : Together) (eP : nodeAt c (pos .parent) ≡ P) (ej : pos .index - 1 ≡ j) (eb : togetherAt c pos ≡ both) where
+module _ (c : List ℕ) (n : ℕ) (pos : Position) (free : List Bool) (last : ℕ) (P : List ℕ) (j : ℕ) (both : Together)
+    (eP : nodeAt c (pos .parent) ≡ P) (ej : pos .index - 1 ≡ j) (eb : togetherAt c pos ≡ both) where
   pub share-made : 4 ≤ length (both .values) → length (both .values) ≤ 12
       → layOut c (decideTogether pos P (length (both .values))) free last ≡ giving 3 free last (λ ms. share pos P j both (first ms) (second ms) (third ms))
   share-made h o = rw (eP, ej, eb) at (share-due c n free last pos (length (both .values)) h o)

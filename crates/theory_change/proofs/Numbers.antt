@@ -44,7 +44,8 @@ pub record Given (free : List Bool) (ms : List ℕ) : Type 0 where
   pub counted : countTrue (withoutAll ms free) + length ms ≡ countTrue free
   pub kept-length : length (withoutAll ms free) ≡ length free
 
-numbers-step : (k : ℕ) (free : List Bool) (last m : ℕ) → nextFree free last ≡ Node m → takeNumbers (suc k) free last ≡ elim (takeNumbers k (set free m false) m) [ none ↦ none | some ms ↦ some (m ∷ ms) ]
+numbers-step : (k : ℕ) (free : List Bool) (last m : ℕ) → nextFree free last ≡ Node m
+    → takeNumbers (suc k) free last ≡ elim (takeNumbers k (set free m false) m) [ none ↦ none | some ms ↦ some (m ∷ ms) ]
 unfolding takeNumbers numbersFrom
 numbers-step k free last m e = ap (λ (x : Next). numbersFrom x (λ m. takeNumbers k (set free m false) m)) e
 
@@ -54,7 +55,8 @@ numbers-given zero free last z h = ([], refl, refl, record { were-free = λ i. o
 numbers-given (suc k) free last z h = go (next-exists free last z (omega arith)) (λ m. numbers-given k (set free m false) m)
   where
     go : ((m : ℕ) × (nextFree free last ≡ Node m))
-        → ((m : ℕ) → getD (set free m false) 0 false ≡ false → k ≤ countTrue (set free m false) → (ms : List ℕ) × (takeNumbers k (set free m false) m ≡ some ms) × (length ms ≡ k) × Given (set free m false) ms)
+        → ((m : ℕ) → getD (set free m false) 0 false ≡ false → k ≤ countTrue (set free m false)
+        → (ms : List ℕ) × (takeNumbers k (set free m false) m ≡ some ms) × (length ms ≡ k) × Given (set free m false) ms)
         → (ms : List ℕ) × (takeNumbers (suc k) free last ≡ some ms) × (length ms ≡ suc k) × Given free ms
     go (m, e) ih =
         let f = next-found free last m e in

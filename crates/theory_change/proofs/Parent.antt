@@ -31,7 +31,8 @@ violations-part top s = omega arith
 violations-part (down C m g l r) s = omega (arith, violations-inside l (one s) r, forest-part C m g (fill l s r), violations-part C (node m g (fill l s r)))
 
 -- the children of an internal node that has the only violation of the table below it
-pub violation-parent : (C : Context) (p : ℕ) (l : Left) (s : Tree) (r : Right) → RootOk (plug C (node p false (fill l s r))) → tableViolations (plug C (node p false (fill l s r))) ≤ 1 → ownViolation s ≡ 1 → OneViolation (fill l s r)
+pub violation-parent : (C : Context) (p : ℕ) (l : Left) (s : Tree) (r : Right) → RootOk (plug C (node p false (fill l s r)))
+    → tableViolations (plug C (node p false (fill l s r))) ≤ 1 → ownViolation s ≡ 1 → OneViolation (fill l s r)
 violation-parent C p l s r h t o =
     let v = violations-part C (node p false (fill l s r)) in
     let i = violations-inside l (one s) r in

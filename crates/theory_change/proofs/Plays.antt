@@ -39,14 +39,18 @@ pub record Storable (c : List ℕ) (p : ℕ) : Type 0 where
 
 pub data Plays (n : ℕ) (next : Tree) : List ℕ → Tree → List Store → Type 0 where
   last-store : {c : List ℕ} {t : Tree} {p v : ℕ} → Storable c p → Holds (set c p v) next → Plays n next c t ((p, v) ∷ [])
-  store-then : {c : List ℕ} {t : Tree} {p v : ℕ} {s : Store} {rest : List Store} (u : Tree) → Storable c p → Holds (set c p v) u → Sound u → Openable n u → ((w : ℕ × ℕ → ℕ) → total w (pairs u) ≡ total w (pairs t)) → Plays n next (set c p v) u (s ∷ rest)
+  store-then : {c : List ℕ} {t : Tree} {p v : ℕ} {s : Store} {rest : List Store} (u : Tree) → Storable c p → Holds (set c p v) u → Sound u
+      → Openable n u → ((w : ℕ × ℕ → ℕ) → total w (pairs u) ≡ total w (pairs t)) → Plays n next (set c p v) u (s ∷ rest)
       → Plays n next c t ((p, v) ∷ s ∷ rest)
 
 -- stores in nodes that the tree has not, and then the link
-pub writes-play : (n : ℕ) (next t : Tree) (w : ℕ → ℕ) (link value : ℕ) → Sound t → Openable n t → nodeTotal w t ≡ 0 → (link ≡ 4) ⊎ (8 ≤ link) → (writes : List Store) (c : List ℕ) → Within w writes → Holds c t → ((i : ℕ) → 0 < w i → OnCard c i)
+pub writes-play : (n : ℕ) (next t : Tree) (w : ℕ → ℕ) (link value : ℕ) → Sound t → Openable n t → nodeTotal w t ≡ 0
+    → (link ≡ 4) ⊎ (8 ≤ link) → (writes : List Store) (c : List ℕ) → Within w writes → Holds c t → ((i : ℕ) → 0 < w i → OnCard c i)
     → link < length c → Holds (set (play writes c) link value) next → Plays n next c t (writes ++ (link, value) ∷ [])
 writes-play n next t w link value s o z a [] c h b on l e = last-store (record { inside = l; apart = a }) e
-writes-play n next t w link value s o z a (x ∷ writes) c h b on l e = first writes (within-one h) (writes-play n next t w link value s o z a writes (set c (x .0) (x .1)) (within-one h .1) kept (λ i q. on-card-set c (x .0) (x .1) i (on i q)) (rw (length-set c (x .0) (x .1)) l) e)
+writes-play n next t w link value s o z a (x ∷ writes) c h b on l e =
+    first writes (within-one h) (writes-play n next t w link value s o z a writes (set c (x .0) (x .1)) (within-one h .1) kept
+    (λ i q. on-card-set c (x .0) (x .1) i (on i q)) (rw (length-set c (x .0) (x .1)) l) e)
   where
     within-one : {y : Store} {P : List Store} → Within w (y ∷ P) → Within w (y ∷ []) × Within w P × Storable c (y .0)
     within-one (also i j v p q hi hj hw r) = (also i j v p q hi hj hw done, r, record { inside = omega (arith, on i hw .fits, on i hw .pos); apart = inr (omega arith) })
@@ -68,7 +72,8 @@ pub record Changing (c : List ℕ) (n key : ℕ) (t : Tree) (rest : List Store) 
   pub ready : Mendable key (withAll cut free) next level
 
 -- a repair's change is one that keeps the pairs and comes nearer to the root
-pub pending-changing : {c : List ℕ} {n key : ℕ} {t : Tree} {rest : List Store} {free : List Bool} {cut : List ℕ} {deep : ℕ} → Holds c t → Sound t → Openable n t → (p : Pending c n key t rest free cut deep)
+pub pending-changing : {c : List ℕ} {n key : ℕ} {t : Tree} {rest : List Store} {free : List Bool} {cut : List ℕ} {deep : ℕ}
+    → Holds c t → Sound t → Openable n t → (p : Pending c n key t rest free cut deep)
     → (q : Changing c n key t rest free cut) × ((w : ℕ × ℕ → ℕ) → total w (pairs (q .next)) ≡ total w (pairs t)) × (q .level < deep) × (bare (q .next) ≡ repairedBy false (bare t))
 pending-changing {c} {n} {key} {t} h s o p = (
   record {

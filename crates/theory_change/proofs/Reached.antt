@@ -26,7 +26,8 @@ pub repair-reached : (C : Context) (p : ℕ) (l : Left) (s : Tree) (r : Right) �
 repair-reached C p l s r own few =
     let whole : bare (plug C (node p false (fill l s r))) ≡ plug (bareContext C) (node 0 false (fill (bareLeft l) (bare s) (bareRight r))) =
     bare-plug C (node p false (fill l s r)) ∙ ap (λ (f : Forest). plug (bareContext C) (node 0 false f)) (bare-splice l (one s) r) in
-    let few-bare : tableViolations (plug (bareContext C) (node 0 false (fill (bareLeft l) (bare s) (bareRight r)))) ≤ 1 = omega (arith, ap tableViolations whole, bare-table-violations (plug C (node p false (fill l s r)))) in
+    let few-bare : tableViolations (plug (bareContext C) (node 0 false (fill (bareLeft l) (bare s) (bareRight r)))) ≤ 1 =
+    omega (arith, ap tableViolations whole, bare-table-violations (plug C (node p false (fill l s r)))) in
     let u = violations-fill (bareLeft l) (bare s) (bareRight r) in
     let whole-part = violations-part (bareContext C) (node 0 false (fill (bareLeft l) (bare s) (bareRight r))) in
     let v = forest-part (bareContext C) 0 false (fill (bareLeft l) (bare s) (bareRight r)) in

@@ -31,7 +31,8 @@ pub record Reshape (C : Context) (o s : Tree) (key : ℕ) (nodes : List NewNode)
   pub same-numbers : (w : ℕ → ℕ) → nodeTotal w s + total w out ≡ nodeTotal w o + total w (numbers nodes)
 
 -- the table after it is sound, and has no violation but its part's own
-pub reshaped : (C : Context) (o s : Tree) (key : ℕ) (nodes : List NewNode) (out : List ℕ) → Reshape C o s key nodes out → Sound (plug C o) → tableViolations (plug C o) ≡ 0 → Leads key C → lowestKey ≤ key → key < keyLimit
+pub reshaped : (C : Context) (o s : Tree) (key : ℕ) (nodes : List NewNode) (out : List ℕ) → Reshape C o s key nodes out → Sound (plug C o)
+    → tableViolations (plug C o) ≡ 0 → Leads key C → lowestKey ≤ key → key < keyLimit
     → ((i : ℕ) → nodeTotal (indicator i) (plug C o) + total (indicator i) (numbers nodes) ≤ 1) → Sound (plug C s) × (tableViolations (plug C s) ≡ ownIn C s)
 reshaped C o s key nodes out r h z path low high fresh =
     let parts = violations-part C o in
@@ -61,7 +62,8 @@ balanced-untagged (down C m g l r) s w z =
 
 -- a leaf that stays a leaf
 module _ (C : Context) (m : ℕ) (ks vs ks′ vs′ : List ℕ) (key : ℕ) where
-  pub leaf-reshape : ((a b : ℕ) → a ≤ key → key < b → LeafRange a b (slotPairs ks vs) → LeafRange a b (slotPairs ks′ vs′)) → (below C → 1 ≤ length (slotPairs ks′ vs′)) → Reshape C (leaf m ks vs) (leaf m ks′ vs′) key [] []
+  pub leaf-reshape : ((a b : ℕ) → a ≤ key → key < b → LeafRange a b (slotPairs ks vs) → LeafRange a b (slotPairs ks′ vs′))
+      → (below C → 1 ≤ length (slotPairs ks′ vs′)) → Reshape C (leaf m ks vs) (leaf m ks′ vs′) key [] []
   leaf-reshape range some-pair =
       record {
         range = range;

@@ -81,10 +81,12 @@ module _ (c : List ℕ) (p : ℕ) (l : Left) (F : Forest) (r : Right) (w : Repre
   pub parent-routing : routingKeys (nodeAt c p) ≡ routingLeft l ++ (routing F ++ routingRight r)
   parent-routing = node-routing c p false (splice l F r) w ∙ routing-splice l F r
 
-  pub children-with : (G : Forest) (ms : List ℕ) (n : ℕ) → roots G ≡ ms → n ≡ length l + length (roots F) → take (length l) (children (nodeAt c p)) ++ (ms ++ drop n (children (nodeAt c p))) ≡ roots (splice l G r)
+  pub children-with : (G : Forest) (ms : List ℕ) (n : ℕ) → roots G ≡ ms → n ≡ length l + length (roots F)
+      → take (length l) (children (nodeAt c p)) ++ (ms ++ drop n (children (nodeAt c p))) ≡ roots (splice l G r)
   children-with G ms n e f = rw (parent-children, ← e) (swap-middle (rootsLeft l) (roots F) (rootsRight r) (roots G) (length l) n (length-roots-left l) f ∙ sym (roots-splice l G r))
 
-  pub routing-with : (G : Forest) (ks : List ℕ) (n : ℕ) → routing G ≡ ks → n ≡ length l + length (routing F) → take (length l) (routingKeys (nodeAt c p)) ++ (ks ++ drop n (routingKeys (nodeAt c p))) ≡ routing (splice l G r)
+  pub routing-with : (G : Forest) (ks : List ℕ) (n : ℕ) → routing G ≡ ks → n ≡ length l + length (routing F)
+      → take (length l) (routingKeys (nodeAt c p)) ++ (ks ++ drop n (routingKeys (nodeAt c p))) ≡ routing (splice l G r)
   routing-with G ks n e f = rw (parent-routing, ← e) (swap-middle (routingLeft l) (routing F) (routingRight r) (routing G) (length l) n (length-routing-left l) f ∙ sym (routing-splice l G r))
 
 -- two children side by side, of which the first is child j

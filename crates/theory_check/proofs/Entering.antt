@@ -130,7 +130,8 @@ unfolding enterNode enterKind
 enter-shown c n m low high run isRoot f L a e =
     let words : List ℕ = nodeAt c m in
     let g : Findings = taken m f in
-    let kinds : Look = pick (eqb (kindOf words) 1) (enterLeaf words low high isRoot g) (pick (eqb (kindOf words) 2) (enterInner words false low run isRoot g) (pick (eqb (kindOf words) 3) (enterInner words true low run isRoot g) bad)) in
+    let kinds : Look = pick (eqb (kindOf words) 1) (enterLeaf words low high isRoot g) (pick (eqb (kindOf words) 2)
+    (enterInner words false low run isRoot g) (pick (eqb (kindOf words) 3) (enterInner words true low run isRoot g) bad)) in
     let p = fails (eqb m 0) (pick (ltb n m) bad (pick (getD (f .free) m false) (pick (eqb (getD words 23 0) 0) kinds bad) bad)) L a e in
     let q = fails (ltb n m) (pick (getD (f .free) m false) (pick (eqb (getD words 23 0) 0) kinds bad) bad) L a (p .1) in
     let r = passes (getD (f .free) m false) (pick (eqb (getD words 23 0) 0) kinds bad) L a (q .1) in
@@ -143,19 +144,24 @@ enter-shown c n m low high run isRoot f L a e =
     kind-three h false k e = absurd (not-bad L a e)
 
     kind-two : Present c n m f → (b : Bool) → eqb (kindOf (nodeAt c m)) 2 ≡ b
-        → pick b (enterInner (nodeAt c m) false low run isRoot (taken m f)) (pick (eqb (kindOf (nodeAt c m)) 3) (enterInner (nodeAt c m) true low run isRoot (taken m f)) bad) ≡ L → Enters c n m low high run isRoot f L
+        → pick b (enterInner (nodeAt c m) false low run isRoot (taken m f))
+        (pick (eqb (kindOf (nodeAt c m)) 3) (enterInner (nodeAt c m) true low run isRoot (taken m f)) bad) ≡ L
+        → Enters c n m low high run isRoot f L
     kind-two h true k e = enters-inner false h (inner-look-shown (nodeAt c m) false low run isRoot (taken m f) L a (eqb-true (kindOf (nodeAt c m)) 2 k) e)
     kind-two h false k e = kind-three h (eqb (kindOf (nodeAt c m)) 3) refl e
 
     kind-one : Present c n m f → (b : Bool) → eqb (kindOf (nodeAt c m)) 1 ≡ b
-        → pick b (enterLeaf (nodeAt c m) low high isRoot (taken m f)) (pick (eqb (kindOf (nodeAt c m)) 2) (enterInner (nodeAt c m) false low run isRoot (taken m f)) (pick (eqb (kindOf (nodeAt c m)) 3) (enterInner (nodeAt c m) true low run isRoot (taken m f)) bad)) ≡ L
+        → pick b (enterLeaf (nodeAt c m) low high isRoot (taken m f))
+        (pick (eqb (kindOf (nodeAt c m)) 2) (enterInner (nodeAt c m) false low run isRoot (taken m f))
+        (pick (eqb (kindOf (nodeAt c m)) 3) (enterInner (nodeAt c m) true low run isRoot (taken m f)) bad)) ≡ L
         → Enters c n m low high run isRoot f L
     kind-one h true k e = enters-leaf h (leaf-look-shown (nodeAt c m) low high isRoot (taken m f) L a (eqb-true (kindOf (nodeAt c m)) 1 k) e)
     kind-one h false k e = kind-two h (eqb (kindOf (nodeAt c m)) 2) refl e
 
 -- ---- and conversely
 
-leaf-accepted : (words : List ℕ) (low high : ℕ) (isRoot : Bool) (f : Findings) → LeafEntry words low high isRoot (f .violated) → enterLeaf words low high isRoot f ≡ leaf-look (note (fewPairs isRoot words) low 0 f)
+leaf-accepted : (words : List ℕ) (low high : ℕ) (isRoot : Bool) (f : Findings) → LeafEntry words low high isRoot (f .violated)
+    → enterLeaf words low high isRoot f ≡ leaf-look (note (fewPairs isRoot words) low 0 f)
 unfolding enterLeaf leafPairs lookOf
 leaf-accepted words low high true f h = rw (h .sound)
 leaf-accepted words low high false f h =
@@ -175,7 +181,8 @@ present-enters c n m low high run isRoot f h =
     let z : eqb m 0 ≡ false = ne-eqb m 0 (omega (arith, h .pos)) in
     rw (z, le-ltb n m (h .within), h .free, eq-eqb (getD (nodeAt c m) 23 0) 0 (h .last))
 
-kind-inner : (words : List ℕ) (tagged : Bool) (low high run : ℕ) (isRoot : Bool) (f : Findings) → kindOf words ≡ kind tagged → enterKind words low high run isRoot f ≡ enterInner words tagged low run isRoot f
+kind-inner : (words : List ℕ) (tagged : Bool) (low high run : ℕ) (isRoot : Bool) (f : Findings) → kindOf words ≡ kind tagged
+    → enterKind words low high run isRoot f ≡ enterInner words tagged low run isRoot f
 unfolding enterKind
 kind-inner words true low high run isRoot f k = rw k
 kind-inner words false low high run isRoot f k = rw k

@@ -91,7 +91,8 @@ pub root-free : (b : Bool) (key run m : ℕ) (f : Findings) (i : ℕ) → indica
 root-free b key run m f i h =
     rw (note-free b key run (taken m f))
     (by-cases (ℕ-discrete i m)
-    (λ e. let u : indicator i m ≡ 1 = rw e (indicator-same m) in let z : getD (set (f .free) m false) i false ≡ false = rw e (get-cleared (f .free) m) in omega (arith, ap bit z, bit-le (getD (f .free) i false)))
+    (λ e. let u : indicator i m ≡ 1 = rw e (indicator-same m) in let z : getD (set (f .free) m false) i false ≡ false =
+    rw e (get-cleared (f .free) m) in omega (arith, ap bit z, bit-le (getD (f .free) i false)))
     (λ d. omega (arith, indicator-other i m d, ap bit (getD-set-other (f .free) m i false false d))))
 
 mutual
@@ -102,7 +103,8 @@ mutual
       let q = found-below-free (runBelow (length (roots k)) run) low k (atRoot isRoot run low (node m g k) f) (λ i. omega (arith, p i, h i)) i in
       omega (arith, p i)
 
-  pub found-below-free : (run low : ℕ) (k : Forest) (f : Findings) → ((i : ℕ) → nodeTotals (indicator i) k ≤ isFree f i) → (i : ℕ) → isFree (foundBelow run low k f) i + nodeTotals (indicator i) k ≡ isFree f i
+  pub found-below-free : (run low : ℕ) (k : Forest) (f : Findings) → ((i : ℕ) → nodeTotals (indicator i) k ≤ isFree f i) → (i : ℕ)
+      → isFree (foundBelow run low k f) i + nodeTotals (indicator i) k ≡ isFree f i
   found-below-free run low (one t) f h i = found-free false run low t f h i
   found-below-free run low (more t x k) f h i =
       let p : (i : ℕ) → isFree (found false run low t f) i + nodeTotal (indicator i) t ≡ isFree f i = λ j. found-free false run low t f (λ i. omega (arith, h i)) j in

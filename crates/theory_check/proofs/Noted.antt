@@ -48,7 +48,8 @@ told-same low high t f g s p =
 told-widen : (low high a b : ℕ) (t : Tree) (f : Findings) → a ≤ low → high ≤ b → Told low high t f → Told a b t f
 told-widen low high a b t f h g p = record { violation = p .violation; run = p .run; above = omega (arith, p .above); under = omega (arith, p .under) }
 
-told-here : (low high : ℕ) (whole : Tree) (C : Context) (s : Tree) (f : Findings) → whole ≡ plug C s → below C → ownViolation s ≡ 1 → OnPath low C → f .key ≡ low → f .run ≡ reserve C s → low < high → Told low high whole f
+told-here : (low high : ℕ) (whole : Tree) (C : Context) (s : Tree) (f : Findings) → whole ≡ plug C s → below C
+    → ownViolation s ≡ 1 → OnPath low C → f .key ≡ low → f .run ≡ reserve C s → low < high → Told low high whole f
 told-here low high whole C s f e b o p k r h =
     record { violation = record { context = C; part = s; is-tree = e; inside = b; own = o; on-path = rw k p }; run = r; above = omega arith; under = omega arith }
 
@@ -102,7 +103,8 @@ mutual
       (λ u. let z : g ≡ false = untagged g (ltb (length (roots k)) 2) (omega arith) in
       found-below-told (runBelow (length (roots k)) run) low high k here whole C m [] (e ∙ ap (λ (b : Bool). plug C (node m b k)) z) (w .1) i h (omega arith) (ap₂ runBelow (omega arith) r) tt p)
 
-  pub found-below-told : (run low high : ℕ) (k : Forest) (f : Findings) (whole : Tree) (C : Context) (m : ℕ) (l : Left) → whole ≡ plug C (node m false (splice l k rightmost)) → AllWidths k → AllInRange low high k → low < high → forestViolations k ≡ 1
+  pub found-below-told : (run low high : ℕ) (k : Forest) (f : Findings) (whole : Tree) (C : Context) (m : ℕ) (l : Left)
+      → whole ≡ plug C (node m false (splice l k rightmost)) → AllWidths k → AllInRange low high k → low < high → forestViolations k ≡ 1
       → runBelow (length l + length (roots k)) (fullRun C) ≡ run → Past low l → ((x : ℕ) → low ≤ x → x < high → OnPath x C) → Told low high whole (foundBelow run low k f)
   found-below-told run low high (one t) f whole C m l e w i h v r q p =
       found-told run low high t f whole (down C m false l rightmost) e tt w i h v (run-of C m l rightmost (length l + 1) run refl r)

@@ -84,7 +84,8 @@ height-down (suc h) m false k i = (h, refl, i)
 
 module _ {c : List ℕ} where
   -- the children after the first, with what its check found
-  pub part-rest : (run : ℕ) {low high h bound : ℕ} {f : Findings} {t : Tree} {x : ℕ} {k : Forest} → SoundParts c low high h bound f (more t x k) → SoundParts c x high h bound (found false run low t f) k
+  pub part-rest : (run : ℕ) {low high h bound : ℕ} {f : Findings} {t : Tree} {x : ℕ} {k : Forest}
+      → SoundParts c low high h bound f (more t x k) → SoundParts c x high h bound (found false run low t f) k
   part-rest run {low} {high} {h} {bound} {f} {t} {x} {k} p =
       record {
         represents = p .represents .1;
@@ -96,7 +97,8 @@ module _ {c : List ℕ} where
         deep = omega (arith, p .deep);
       }
 
-  pub part-more : (run : ℕ) {low high h bound : ℕ} {f : Findings} {t : Tree} {x : ℕ} {k : Forest} → SoundPart c false low x h bound f t → low < x → x < high → SoundParts c x high h bound (found false run low t f) k → SoundParts c low high h bound f (more t x k)
+  pub part-more : (run : ℕ) {low high h bound : ℕ} {f : Findings} {t : Tree} {x : ℕ} {k : Forest} → SoundPart c false low x h bound f t
+      → low < x → x < high → SoundParts c x high h bound (found false run low t f) k → SoundParts c low high h bound f (more t x k)
   part-more run {low} {high} {h} {bound} {f} {t} {x} {k} p a b q =
       record {
         represents = (p .represents, q .represents);
@@ -110,7 +112,8 @@ module _ {c : List ℕ} where
 
   -- an internal node over its children, which are checked with what was found at the node
   module _ (isRoot : Bool) (run m : ℕ) (g : Bool) {low high h bound : ℕ} {f : Findings} {k : Forest} where
-    pub part-node : NodeWords c m (kind g) (routing k) (roots k) → length (roots k) ≤ 11 → WidthsAt isRoot (node m g k) → (violates isRoot (node m g k) ≡ true → f .violated ≡ false) → ((i : ℕ) → indicator i m ≤ isFree f i)
+    pub part-node : NodeWords c m (kind g) (routing k) (roots k) → length (roots k) ≤ 11 → WidthsAt isRoot (node m g k)
+        → (violates isRoot (node m g k) ≡ true → f .violated ≡ false) → ((i : ℕ) → indicator i m ≤ isFree f i)
         → SoundParts c low high h bound (atRoot isRoot run low (node m g k) f) k → SoundPart c isRoot low high (pick g h (suc h)) (suc bound) f (node m g k)
     part-node words n w v u q =
         let o = note-one (violates isRoot (node m g k)) low (pick g run 0) (taken m f) (one-of (f .violated) (violates isRoot (node m g k)) v) in

@@ -32,7 +32,8 @@ use Rattle.theory_tree.specs.Tree.{Tree, Forest, root, roots, routing, leaf, no
 
 -- ---- the steps of the check
 
-pub zero-step : (c : List ℕ) (n run : ℕ) (isRoot : Bool) (low high m : ℕ) (f : Findings) → nodeCheck 0 c n run isRoot low high m f ≡ onLook (nodeAt c m) low high (λ r l h k g. none) run (enterNode c n m low high run isRoot f)
+pub zero-step : (c : List ℕ) (n run : ℕ) (isRoot : Bool) (low high m : ℕ) (f : Findings)
+    → nodeCheck 0 c n run isRoot low high m f ≡ onLook (nodeAt c m) low high (λ r l h k g. none) run (enterNode c n m low high run isRoot f)
 unfolding nodeCheck
 zero-step c n run isRoot low high m f = refl
 
@@ -78,7 +79,9 @@ module _ (c : List ℕ) (n : ℕ) (len : length c ≡ 8 + 24 * n) where
 
   present-free : (m : ℕ) (f : Findings) → Present c n m f → (i : ℕ) → indicator i m ≤ isFree f i
   present-free m f p i =
-      by-cases (ℕ-discrete i m) (λ e. let z : isFree f i ≡ 1 = ap bit (ap (λ (j : ℕ). getD (f .free) j false) e ∙ p .free) in omega (arith, indicator-le i m)) (λ d. omega (arith, indicator-other i m d))
+      by-cases (ℕ-discrete i m)
+      (λ e. let z : isFree f i ≡ 1 = ap bit (ap (λ (j : ℕ). getD (f .free) j false) e ∙ p .free) in omega (arith, indicator-le i m))
+      (λ d. omega (arith, indicator-other i m d))
 
   present-words : (m : ℕ) (f : Findings) (k : ℕ) (a b : List ℕ) → Present c n m f → kindOf (nodeAt c m) ≡ k
       → ((j : ℕ) → j < 11 → getD (keyWords (nodeAt c m)) j 0 ≡ getD a j 0) → ((j : ℕ) → j < 11 → getD (valueWords (nodeAt c m)) j 0 ≡ getD b j 0) → NodeWords c m k a b
@@ -145,7 +148,8 @@ module _ (c : List ℕ) (n : ℕ) (len : length c ≡ 8 + 24 * n) where
       height-in none = 0
       height-in (some q) = q .0
   children-shown bound run check ih first height low high (k ∷ ks) (m ∷ x ∷ ms) f r z e =
-      let t = bind-some (guard (ltb low k && ltb k high) (some k)) (λ end. bind (check low end m f) (λ q. guard (first || eqb (q .0) height) (childrenCheck check false (q .0) end high ks (x ∷ ms) (q .1)))) r e in
+      let t = bind-some (guard (ltb low k && ltb k high) (some k))
+      (λ end. bind (check low end m f) (λ q. guard (first || eqb (q .0) height) (childrenCheck check false (q .0) end high ks (x ∷ ms) (q .1)))) r e in
       let a = guard-some (ltb low k && ltb k high) (some k) (t .0) (t .1) in
       let o = and-true (ltb low k) (ltb k high) (a .0) in
       let end : k ≡ t .0 = cc in
@@ -168,7 +172,8 @@ module _ (c : List ℕ) (n : ℕ) (len : length c ≡ 8 + 24 * n) where
           }
 
   inner-shown : (isRoot : Bool) (run low high m bound : ℕ) (f : Findings) (g : Bool) (r : ℕ × Findings) → Present c n m f → InnerEntry (nodeAt c m) g isRoot (f .violated)
-      → AllShown c true 0 (runBelow (width (nodeAt c m)) run) low high (routingKeys (nodeAt c m)) (children (nodeAt c m)) bound (note (g || ltb (width (nodeAt c m)) 2) low (pick g run 0) (taken m f)) r
+      → AllShown c true 0 (runBelow (width (nodeAt c m)) run) low high (routingKeys (nodeAt c m)) (children (nodeAt c m)) bound
+      (note (g || ltb (width (nodeAt c m)) 2) low (pick g run 0) (taken m f)) r
       → Shown c isRoot run low high m (suc bound) f (pick g (r .0) (suc (r .0)), r .1)
   unfolding routingKeys children unusedZero
   inner-shown isRoot run low high m bound f g r p e s =
@@ -193,7 +198,8 @@ module _ (c : List ℕ) (n : ℕ) (len : length c ≡ 8 + 24 * n) where
       }
 
   look-shown : (child : ℕ → ChildCheck) (bound : ℕ) → ((run low high m : ℕ) (f : Findings) (r : ℕ × Findings) → child run low high m f ≡ some r → Shown c false run low high m bound f r)
-      → (isRoot : Bool) (run low high m : ℕ) (f : Findings) (r : ℕ × Findings) → onLook (nodeAt c m) low high child run (enterNode c n m low high run isRoot f) ≡ some r → Shown c isRoot run low high m (suc bound) f r
+      → (isRoot : Bool) (run low high m : ℕ) (f : Findings) (r : ℕ × Findings)
+      → onLook (nodeAt c m) low high child run (enterNode c n m low high run isRoot f) ≡ some r → Shown c isRoot run low high m (suc bound) f r
   unfolding onLook
   look-shown child bound ih isRoot run low high m f r e = look (enterNode c n m low high run isRoot f) refl e
     where
@@ -203,16 +209,19 @@ module _ (c : List ℕ) (n : ℕ) (len : length c ≡ 8 + 24 * n) where
       below-check : Bool → Option (ℕ × Findings)
       below-check g = childrenCheck (child (runBelow (width (nodeAt c m)) run)) true 0 low high (routingKeys (nodeAt c m)) (children (nodeAt c m)) (here g)
 
-      inside : (g : Bool) → Present c n m f → InnerEntry (nodeAt c m) g isRoot (f .violated) → (q : ℕ × Findings) → below-check g ≡ some q → (pick g (q .0) (suc (q .0)), q .1) ≡ r → Shown c isRoot run low high m (suc bound) f r
+      inside : (g : Bool) → Present c n m f → InnerEntry (nodeAt c m) g isRoot (f .violated) → (q : ℕ × Findings) → below-check g ≡ some q
+          → (pick g (q .0) (suc (q .0)), q .1) ≡ r → Shown c isRoot run low high m (suc bound) f r
       inside g p h q e t =
           subst (λ (x : ℕ × Findings). Shown c isRoot run low high m (suc bound) f x) t
           (inner-shown isRoot run low high m bound f g q p h
-          (children-shown bound (runBelow (width (nodeAt c m)) run) (child (runBelow (width (nodeAt c m)) run)) (ih (runBelow (width (nodeAt c m)) run)) true 0 low high (routingKeys (nodeAt c m)) (children (nodeAt c m)) (here g) q
+          (children-shown bound (runBelow (width (nodeAt c m)) run) (child (runBelow (width (nodeAt c m)) run))
+          (ih (runBelow (width (nodeAt c m)) run)) true 0 low high (routingKeys (nodeAt c m)) (children (nodeAt c m)) (here g) q
           (omega (arith, length-routing (nodeAt c m) (present-length m f p), h .filled)) e))
 
       entered : (L : Look) → Enters c n m low high run isRoot f L → onLook (nodeAt c m) low high child run L ≡ some r → Shown c isRoot run low high m (suc bound) f r
       entered L (as-leaf p h) e =
-          subst (λ (q : ℕ × Findings). Shown c isRoot run low high m (suc bound) f q) (Option·some-injective (0, note (fewPairs isRoot (nodeAt c m)) low 0 (taken m f)) r e) (leaf-shown isRoot run low high m bound f p h)
+          subst (λ (q : ℕ × Findings). Shown c isRoot run low high m (suc bound) f q)
+          (Option·some-injective (0, note (fewPairs isRoot (nodeAt c m)) low 0 (taken m f)) r e) (leaf-shown isRoot run low high m bound f p h)
       entered L (as-inner g p h) e = let q = raised-some g (below-check g) r (rw (kind-tagged (nodeAt c m) g (h .kind-is)) at e) in inside g p h (q .0) (q .1) (q .2)
 
       look : (L : Look) → enterNode c n m low high run isRoot f ≡ L → onLook (nodeAt c m) low high child run L ≡ some r → Shown c isRoot run low high m (suc bound) f r
@@ -221,7 +230,11 @@ module _ (c : List ℕ) (n : ℕ) (len : length c ≡ 8 + 24 * n) where
       look (inner k g) q e = entered (inner k g) (enter-shown c n m low high run isRoot f (inner k g) tt q) e
 
   -- an accepted part is sound
-  pub check-shown : (levels run : ℕ) (isRoot : Bool) (low high m : ℕ) (f : Findings) (r : ℕ × Findings) → nodeCheck levels c n run isRoot low high m f ≡ some r → Shown c isRoot run low high m (suc levels) f r
-  check-shown zero run isRoot low high m f r e = look-shown (λ r l h k g. none) 0 (λ run low high m f r e. absurd (Option·none-ne-some r e)) isRoot run low high m f r (sym (zero-step c n run isRoot low high m f) ∙ e)
+  pub check-shown : (levels run : ℕ) (isRoot : Bool) (low high m : ℕ) (f : Findings) (r : ℕ × Findings)
+      → nodeCheck levels c n run isRoot low high m f ≡ some r → Shown c isRoot run low high m (suc levels) f r
+  check-shown zero run isRoot low high m f r e =
+      look-shown (λ r l h k g. none) 0
+      (λ run low high m f r e. absurd (Option·none-ne-some r e)) isRoot run low high m f r (sym (zero-step c n run isRoot low high m f) ∙ e)
   check-shown (suc levels) run isRoot low high m f r e =
-      look-shown (λ r. nodeCheck levels c n r false) (suc levels) (λ run low high m f r e. check-shown levels run false low high m f r e) isRoot run low high m f r (sym (suc-step levels c n run isRoot low high m f) ∙ e)
+      look-shown (λ r. nodeCheck levels c n r false) (suc levels) (λ run low high m f r e. check-shown levels run false low high m f r e)
+      isRoot run low high m f r (sym (suc-step levels c n run isRoot low high m f) ∙ e)

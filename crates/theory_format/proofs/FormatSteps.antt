@@ -16,7 +16,7 @@ use Rattle.theory_format.proofs.FormatStores.{some-store}
 use Rattle.card_free.specs.NodeSet.{allNodes}
 use Rattle.state.specs.Steps.{heldBy, Handed, noBeginning, Step, stepFinal, formatStore, formattingFrom, stepFormat}
 use Rattle.call_start.specs.Starts.{formatOf}
-use Rattle.table.specs.Calls.{stepHeld, stepOf}
+use Rattle.call_step.specs.Calls.{stepHeld, stepOf}
 use Rattle.state.specs.Memory.{Memory, resting, idled}
 use Rattle.state.specs.declared.Doing.the-variants.{Idle, Formatting}
 use Rattle.state.specs.declared.Answer.the-variants.{Stored, Ready}
@@ -97,7 +97,8 @@ module _ (c : List ℕ) (n : ℕ) (sized : Sized (length c) n) where
   begun-memory = ap (λ (b : Handed). b .memory) (format-starts c n sized)
 
   -- the first 8 + 24 × N + 1 steps make one store each
-  pub format-stored : (k : ℕ) → k ≤ length c → stepAt c (formatOf c .memory) k ≡ record { answer = Stored (placeOf (formatStore n (length c) k)); card = formatCard n c (suc k); memory = formatMemory n (suc k) }
+  pub format-stored : (k : ℕ) → k ≤ length c → stepAt c (formatOf c .memory) k
+      ≡ record { answer = Stored (placeOf (formatStore n (length c) k)); card = formatCard n c (suc k); memory = formatMemory n (suc k) }
   format-stored zero h = rw begun-memory (ap (λ (card : List ℕ). stepOf card (formatMemory n 0)) (sym (format-untouched n c)) ∙ format-step-stores c n sized 0 h)
   format-stored (suc k) h = ap stepAfter (format-stored k (omega arith)) ∙ format-step-stores c n sized (suc k) h
 

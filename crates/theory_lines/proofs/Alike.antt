@@ -43,7 +43,8 @@ use Rattle.state.specs.declared.Answer.{Answer}
 use Rattle.state.specs.declared.Begun.{Begun}
 use Rattle.state.specs.declared.Begun.the-variants.{Started, Refused as BegunRefused}
 use Rattle.state.specs.declared.Doing.the-variants.{Idle, Inserting, Deleting}
-use Rattle.table.specs.Calls.{stepOf}
+use Rattle.state.specs.declared.Phase.the-variants.{NotBegun}
+use Rattle.call_step.specs.Calls.{stepOf}
 use Rattle.theory_tree.specs.Pairs.{pairs, lookup}
 use Rattle.theory_tree.proofs.Path.{fullRun}
 use Rattle.theory_tree.proofs.Reading.{leaf-keys}
@@ -113,7 +114,8 @@ unfolding happens
 after-idle w e = e
 
 -- the work in hand ends with the answer due, and at its goal
-pub ends-at : {w v : World rationTable} {a : Answer} → Ends w v a → (n steps : ℕ) (b : Book) (i : Inv n steps w b) (goal : Tree) → i .goal ≡ goal → isIdle (w .state .doing) ≡ false → (a ≡ i .due) × Resting n v goal
+pub ends-at : {w v : World rationTable} {a : Answer} → Ends w v a → (n steps : ℕ) (b : Book) (i : Inv n steps w b) (goal : Tree)
+    → i .goal ≡ goal → isIdle (w .state .doing) ≡ false → (a ≡ i .due) × Resting n v goal
 ends-at {w} {v} {a} (ends-here e f) n steps b i goal eg busy =
     let q = kept-step n steps w b (loosen n steps (suc steps) w b (omega arith) i) in
     let f′ : IsFinal (stepOf (w .card) (w .state) .answer) = subst IsFinal (sym e) f in (
@@ -145,7 +147,9 @@ module _ (n steps : ℕ) (w : World rationTable) (b : Book) (i : Inv n steps w b
   pub resting-goal : (bare (i .tree) ≡ i .goal) × (countTrue (w .state .free) + nodeTotal (λ m. 1) (bare (i .tree)) ≡ n)
   resting-goal = at (idle-or-busy (i .stage) .1)
     where
-      at : (isIdle (w .state .doing) ≡ false) ⊎ ((free : List Bool) × (last : ℕ) × (w .state ≡ memory n free last Idle [] []) × (tableViolations (i .tree) ≡ 0) × (3 ≤ countTrue free) × Exact n free (i .tree) × (bare (i .tree) ≡ i .goal)) → (bare (i .tree) ≡ i .goal) × (countTrue (w .state .free) + nodeTotal (λ m. 1) (bare (i .tree)) ≡ n)
+      at : (isIdle (w .state .doing) ≡ false) ⊎ ((free : List Bool) × (last : ℕ) × (w .state ≡ memory n free last Idle [] [])
+          × (tableViolations (i .tree) ≡ 0) × (3 ≤ countTrue free) × Exact n free (i .tree) × (bare (i .tree) ≡ i .goal))
+          → (bare (i .tree) ≡ i .goal) × (countTrue (w .state .free) + nodeTotal (λ m. 1) (bare (i .tree)) ≡ n)
       at (inl q) = absurd (idle-not-busy (w .state .doing) idle q)
       at (inr (free, last, em, z, r, x, eg)) =
           (eg, rw em (omega (arith, bare-size (i .tree), count-exact (w .card) n free (i .tree) (i .table .sized .words) (omega (arith, i .table .sized .most)) (i .table .holds .2) x)))
@@ -160,10 +164,14 @@ module _ (n steps : ℕ) (w : World rationTable) (b : Book) (i : Inv n steps w b
 
   pub room-by-tree : (key value : ℕ) → lowestKey ≤ key → key < keyLimit → startRoom (w .card) key (w .state .free) (landing (w .card) (w .state .nodes) key) ≡ not (refuses n (put key value) t)
   unfolding refuses roomFor insertReason reasonIn emptyReason slotAnswer leafNeed
-  room-by-tree key value low high = go (landing-found (w .card) n key (i .table .sized .words) lowestKey keyLimit (i .tree) (i .table .holds) (i .table .sound .range) low high (omega arith) (table-depth-limited (i .table)))
+  room-by-tree key value low high =
+      go (landing-found (w .card) n key (i .table .sized .words) lowestKey keyLimit (i .tree) (i .table .holds)
+      (i .table .sound .range) low high (omega arith) (table-depth-limited (i .table)))
     where
       go : LandedAt (w .card) n key (i .tree) → startRoom (w .card) key (w .state .free) (landing (w .card) (w .state .nodes) key) ≡ not (refuses n (put key value) t)
-      go g = room-at (w .card) (w .state .nodes) key (w .state .free) (g .number) (linkPlace (g .context)) (fullRun (g .context)) (landed key g) ∙ by-key (slotOf (nodeAt (w .card) (g .number)) key) refl
+      go g =
+          room-at (w .card) (w .state .nodes) key (w .state .free) (g .number) (linkPlace (g .context)) (fullRun (g .context)) (landed key g)
+          ∙ by-key (slotOf (nodeAt (w .card) (g .number)) key) refl
         where
           found : (s : Slot) → slotOf (nodeAt (w .card) (g .number)) key ≡ s → lookup key (pairs t) ≡ slotAnswer (nodeAt (w .card) (g .number)) s
           found s e = ap (lookup key) (bare-pairs (i .tree)) ∙ sym (g .answers) ∙ ap (slotAnswer (nodeAt (w .card) (g .number))) e
@@ -172,10 +180,14 @@ module _ (n steps : ℕ) (w : World rationTable) (b : Book) (i : Inv n steps w b
           row k = row-slot key k g
 
           need : (s : Slot) → slotOf (nodeAt (w .card) (g .number)) 0 ≡ s → needOf key 0 t ≡ leafNeed s (fullRun (g .context))
-          need s e = ap (λ (x : Tree). needOf key 0 (bare x)) (sym (g .is-tree)) ∙ need-leaf key (g .context) (g .number) (g .keys) (g .values) (leads-reach key (g .context) (g .leads)) ∙ ap (λ (x : Slot). leafNeed x (fullRun (g .context))) (row 0 ∙ e)
+          need s e =
+              ap (λ (x : Tree). needOf key 0 (bare x)) (sym (g .is-tree))
+              ∙ need-leaf key (g .context) (g .number) (g .keys) (g .values) (leads-reach key (g .context) (g .leads))
+              ∙ ap (λ (x : Slot). leafNeed x (fullRun (g .context))) (row 0 ∙ e)
 
           by-empty : (s : Slot) → slotOf (nodeAt (w .card) (g .number)) 0 ≡ s → slotOf (nodeAt (w .card) (g .number)) key ≡ NoSlot
-              → roomFor (w .state .free) (fullRun (g .context)) (insertReason (nodeAt (w .card) (g .number)) key) ≡ not (both (isAbsent (lookup key (pairs t))) (ltb n (nodeTotal (λ m. 1) t + needOf key 0 t)))
+              → roomFor (w .state .free) (fullRun (g .context)) (insertReason (nodeAt (w .card) (g .number)) key)
+              ≡ not (both (isAbsent (lookup key (pairs t))) (ltb n (nodeTotal (λ m. 1) t + needOf key 0 t)))
           by-empty (At j) e₀ e = rw (e, e₀, found NoSlot e, need (At j) e₀, le-ltb n (nodeTotal (λ m. 1) t + 0) (omega (arith, resting-goal .1)))
           by-empty NoSlot e₀ e =
               let c = resting-goal .1 in
@@ -185,7 +197,8 @@ module _ (n steps : ℕ) (w : World rationTable) (b : Book) (i : Inv n steps w b
               (λ o. le-ltb (countTrue (w .state .free)) (splitNeed (fullRun (g .context))) o ∙ sym (le-ltb n (nodeTotal (λ m. 1) t + (splitNeed (fullRun (g .context)))) (omega arith)))))
 
           by-key : (s : Slot) → slotOf (nodeAt (w .card) (g .number)) key ≡ s
-              → roomFor (w .state .free) (fullRun (g .context)) (insertReason (nodeAt (w .card) (g .number)) key) ≡ not (both (isAbsent (lookup key (pairs t))) (ltb n (nodeTotal (λ m. 1) t + needOf key 0 t)))
+              → roomFor (w .state .free) (fullRun (g .context)) (insertReason (nodeAt (w .card) (g .number)) key)
+              ≡ not (both (isAbsent (lookup key (pairs t))) (ltb n (nodeTotal (λ m. 1) t + needOf key 0 t)))
           by-key (At j) e = rw (e, found (At j) e)
           by-key NoSlot e = by-empty (slotOf (nodeAt (w .card) (g .number)) 0) refl e
 
@@ -193,19 +206,20 @@ module _ (n steps : ℕ) (w : World rationTable) (b : Book) (i : Inv n steps w b
   pub start-decided : (u : Update) → lowestKey ≤ keyOf u → keyOf u < keyLimit → (r : Bool) → refuses n u t ≡ r → starts u w ≡ pick r (BegunRefused 8) Started
   unfolding refuses insertOf deleteOf startAccepted startRefused
   start-decided (put key value) low high r e =
-      let d = room-decides n steps w b i key (Inserting key value false) (startRoom (w .card) key (w .state .free)) idle low high in
+      let d = room-decides n steps w b i key (Inserting key value NotBegun) (startRoom (w .card) key (w .state .free)) idle low high in
       let q : startRoom (w .card) key (w .state .free) (landing (w .card) (w .state .nodes) key) ≡ not r = room-by-tree key value low high ∙ ap not e in
-      ap (λ (x : Handed). x .begun) (d ∙ ap (λ (x : Bool). pick x (startAccepted (w .state) (Inserting key value false)) (startRefused 8 (w .state))) q) ∙ at r
+      ap (λ (x : Handed). x .begun) (d ∙ ap (λ (x : Bool). pick x (startAccepted (w .state) (Inserting key value NotBegun)) (startRefused 8 (w .state))) q) ∙ at r
     where
-      at : (r : Bool) → pick (not r) (startAccepted (w .state) (Inserting key value false)) (startRefused 8 (w .state)) .begun ≡ pick r (BegunRefused 8) Started
+      at : (r : Bool) → pick (not r) (startAccepted (w .state) (Inserting key value NotBegun)) (startRefused 8 (w .state)) .begun ≡ pick r (BegunRefused 8) Started
       at true = refl
       at false = refl
   start-decided (remove key) low high true e = impossible (cc)
-  start-decided (remove key) low high false e = ap (λ (x : Handed). x .begun) (room-decides n steps w b i key (Deleting key false 0) (λ x. true) idle low high)
+  start-decided (remove key) low high false e = ap (λ (x : Handed). x .begun) (room-decides n steps w b i key (Deleting key NotBegun 0) (λ x. true) idle low high)
 
   -- what a start that is not refused leaves
   pub begun-right : (u : Update) → keyOf u < keyLimit → starts u w ≡ Started
-      → (k : ℕ) × (l : Book) × (j : Inv n k (happens rationTable (event u) w) l) × (j .goal ≡ afterShape u (i .goal)) × (j .due ≡ dictionaryAnswer (lookup (keyOf u) (pairs t))) × (isIdle (happens rationTable (event u) w .state .doing) ≡ false)
+      → (k : ℕ) × (l : Book) × (j : Inv n k (happens rationTable (event u) w) l) × (j .goal ≡ afterShape u (i .goal))
+      × (j .due ≡ dictionaryAnswer (lookup (keyOf u) (pairs t))) × (isIdle (happens rationTable (event u) w .state .doing) ≡ false)
   unfolding happens
   begun-right (put key value) high e =
       let q = kept-insert n steps w b i key value high in
@@ -226,12 +240,14 @@ unfolding outcome leaves
 outcome-answered n u t e = (rw e, rw e)
 
 -- ONE WHOLE UPDATE: its outcome, and what it leaves, are functions of N and of the tree without numbers
-pub one-whole : {u : Update} {w v : World rationTable} {o : Outcome} → Whole u w v o → (n : ℕ) (t : Tree) → Resting n w t → lowestKey ≤ keyOf u → keyOf u < keyLimit → (o ≡ outcome n u t) × Resting n v (leaves n u t)
+pub one-whole : {u : Update} {w v : World rationTable} {o : Outcome} → Whole u w v o → (n : ℕ) (t : Tree) → Resting n w t
+    → lowestKey ≤ keyOf u → keyOf u < keyLimit → (o ≡ outcome n u t) × Resting n v (leaves n u t)
 one-whole {u} (not-begun {w} r e) n t x low high =
     let i = x .inv in
     let now : bare (i .tree) ≡ t = resting-goal n (x .steps) w (x .book) i (x .idle) .0 ∙ x .goal in
     bool-cases (refuses n u t)
-    (λ d. let s = start-decided n (x .steps) w (x .book) i (x .idle) u low high true (ap (refuses n u) now ∙ d) in let z = outcome-refused n u t d in (ap refused (refused-same (sym e ∙ s)) ∙ sym (z .0), rw (z .1) x))
+    (λ d. let s = start-decided n (x .steps) w (x .book) i (x .idle) u low high true (ap (refuses n u) now ∙ d) in
+    let z = outcome-refused n u t d in (ap refused (refused-same (sym e ∙ s)) ∙ sym (z .0), rw (z .1) x))
     (λ d. let s = start-decided n (x .steps) w (x .book) i (x .idle) u low high false (ap (refuses n u) now ∙ d) in absurd (started-no-refusal _ (sym s ∙ e)))
 one-whole {u} (worked {w} {v} {a} e ends) n t x low high =
     let i = x .inv in
@@ -257,7 +273,8 @@ abbrev pub Keys : List Update → Type 0
 Keys [] = Unit
 Keys (u ∷ us) = (lowestKey ≤ keyOf u) × (keyOf u < keyLimit) × Keys us
 
-pub whole-runs : {us : List Update} {w v : World rationTable} {os : List Outcome} → Runs us w v os → (n : ℕ) (t : Tree) → Resting n w t → Keys us → (os ≡ outcomes n us t) × Resting n v (shapeLeft n us t)
+pub whole-runs : {us : List Update} {w v : World rationTable} {os : List Outcome} → Runs us w v os
+    → (n : ℕ) (t : Tree) → Resting n w t → Keys us → (os ≡ outcomes n us t) × Resting n v (shapeLeft n us t)
 whole-runs no-more n t x k = (refl, x)
 whole-runs (one-more {u} {us} c rest) n t x k =
     let p = one-whole c n t x (k .0) (k .1) in

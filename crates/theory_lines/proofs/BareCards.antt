@@ -44,10 +44,12 @@ shared =
     (one (leaf 0 (10 ∷ 11 ∷ 12 ∷ 0 ∷ 0 ∷ 0 ∷ 0 ∷ 0 ∷ 0 ∷ 0 ∷ 0 ∷ []) (100 ∷ 110 ∷ 120 ∷ 0 ∷ 0 ∷ 0 ∷ 0 ∷ 0 ∷ 0 ∷ 0 ∷ 0 ∷ []))))
 
 card-K : shapeLeft 6 (remove 1 ∷ remove 2 ∷ remove 3 ∷ remove 4 ∷ remove 5 ∷ []) split ≡ shared
-unfolding leaves refuses firstEqual afterShape firstShape changedBy changedIn takeOut takeAt sort insertAll insertPair settledBy few apart repairedBy repairedIn mendAt siblingsOf mendTwo mendLeaves half
+unfolding leaves refuses firstEqual afterShape firstShape changedBy changedIn takeOut takeAt sort insertAll insertPair settledBy few apart
+    repairedBy repairedIn mendAt siblingsOf mendTwo mendLeaves half
 card-K = refl
 
 -- L2: then delete 7, 8, 10, 9: the root is a leaf with 6, 11, 12
 card-L2 : shapeLeft 6 (remove 7 ∷ remove 8 ∷ remove 10 ∷ remove 9 ∷ []) shared ≡ leaf 0 (6 ∷ 11 ∷ 12 ∷ 0 ∷ 0 ∷ 0 ∷ 0 ∷ 0 ∷ 0 ∷ 0 ∷ 0 ∷ []) (60 ∷ 110 ∷ 120 ∷ 0 ∷ 0 ∷ 0 ∷ 0 ∷ 0 ∷ 0 ∷ 0 ∷ 0 ∷ [])
-unfolding leaves refuses firstEqual afterShape firstShape changedBy changedIn takeOut takeAt sort insertAll insertPair settledBy few apart repairedBy repairedIn mendAt siblingsOf mendTwo mendLeaves half
+unfolding leaves refuses firstEqual afterShape firstShape changedBy changedIn takeOut takeAt sort insertAll insertPair settledBy few apart
+    repairedBy repairedIn mendAt siblingsOf mendTwo mendLeaves half
 card-L2 = refl

@@ -3,7 +3,8 @@
 pub mod Alike
 -- THE PROMISE, on a card of one line: of two tables as in demand 2, at rest, with the same N, whose trees differ in node numbers alone
 pub mod SameAnswers
--- LINES APART, the induction over lists of calls, with what one whole call of either line does as its premise: a call of a line has the outcome that its own limit and tree give, and leaves the other line's tree as it is
+-- LINES APART, the induction over lists of calls, with what one whole call of either line does as its premise: a call of a line has the
+-- outcome that its own limit and tree give, and leaves the other line's tree as it is
 pub mod Lines
 -- bench cards I, J, K and L2 on trees without numbers: the functions that show the promise compute
 pub mod BareCards

@@ -27,15 +27,18 @@ own second ((second, a) ∷ rest) = a ∷ own second rest
 
 pub data Works (World : Type 0) (Whole : Line → Update → World → World → Outcome → Type 0) : List (Line × Update) → World → World → List (Line × Outcome) → Type 0 where
   no-more : {w : World} → Works World Whole [] w w []
-  one-more : {l : Line} {u : Update} {us : List (Line × Update)} {w v x : World} {o : Outcome} {os : List (Line × Outcome)} → Whole l u w v o → Works World Whole us v x os → Works World Whole ((l, u) ∷ us) w x ((l, o) ∷ os)
+  one-more : {l : Line} {u : Update} {us : List (Line × Update)} {w v x : World} {o : Outcome} {os : List (Line × Outcome)}
+      → Whole l u w v o → Works World Whole us v x os → Works World Whole ((l, u) ∷ us) w x ((l, o) ∷ os)
 
 abbrev pub AllKeys : List (Line × Update) → Type 0
 AllKeys [] = Unit
 AllKeys (u ∷ us) = (lowestKey ≤ keyOf (u .1)) × (keyOf (u .1) < keyLimit) × AllKeys us
 
 module _ (World : Type 0) (Whole : Line → Update → World → World → Outcome → Type 0) (Resting : World → Tree → Tree → Type 0) (limit limit′ : ℕ)
-    (first-whole : (u : Update) (w v : World) (o : Outcome) (t s : Tree) → Whole first u w v o → Resting w t s → lowestKey ≤ keyOf u → keyOf u < keyLimit → (o ≡ outcome limit u t) × Resting v (leaves limit u t) s)
-    (second-whole : (u : Update) (w v : World) (o : Outcome) (t s : Tree) → Whole second u w v o → Resting w t s → lowestKey ≤ keyOf u → keyOf u < keyLimit → (o ≡ outcome limit′ u s) × Resting v t (leaves limit′ u s))
+    (first-whole : (u : Update) (w v : World) (o : Outcome) (t s : Tree) → Whole first u w v o → Resting w t s
+    → lowestKey ≤ keyOf u → keyOf u < keyLimit → (o ≡ outcome limit u t) × Resting v (leaves limit u t) s)
+    (second-whole : (u : Update) (w v : World) (o : Outcome) (t s : Tree) → Whole second u w v o → Resting w t s
+    → lowestKey ≤ keyOf u → keyOf u < keyLimit → (o ≡ outcome limit′ u s) × Resting v t (leaves limit′ u s))
   where
     pub lines-apart : {us : List (Line × Update)} {w v : World} {os : List (Line × Outcome)} → Works World Whole us w v os → (t s : Tree) → Resting w t s → AllKeys us
         → (own first os ≡ outcomes limit (own first us) t) × (own second os ≡ outcomes limit′ (own second us) s) × Resting v (shapeLeft limit (own first us) t) (shapeLeft limit′ (own second us) s)

@@ -56,11 +56,13 @@ at-rest-resting {w} a t h = go (rw (a .now) at (kept-from (a .begin) (a .map) (a
 resting-held : {n : ℕ} {w : World rationTable} {s : Tree} → Resting n w s → (t : Tree) × Holds (w .card) t × (bare t ≡ s)
 resting-held {n} {w} x = (x .inv .tree, x .inv .table .holds, resting-goal n (x .steps) w (x .book) (x .inv) (x .idle) .0 ∙ x .goal)
 
-pub same-answers : {w w′ v v′ : World rationTable} {us : List Update} {os os′ : List Outcome} → AtRest w → AtRest w′ → w .state .nodes ≡ w′ .state .nodes → (t t′ : Tree) → Holds (w .card) t → Holds (w′ .card) t′ → Alike t t′ → Keys us
+pub same-answers : {w w′ v v′ : World rationTable} {us : List Update} {os os′ : List Outcome} → AtRest w → AtRest w′
+    → w .state .nodes ≡ w′ .state .nodes → (t t′ : Tree) → Holds (w .card) t → Holds (w′ .card) t′ → Alike t t′ → Keys us
     → Runs us w v os → Runs us w′ v′ os′ → (os ≡ os′) × (s : Tree) × (s′ : Tree) × Holds (v .card) s × Holds (v′ .card) s′ × Alike s s′
 same-answers {w} {w′} a a′ en t t′ h h′ e k r r′ =
     let q =
-    same-outcomes r r′ (w .state .nodes) (bare t) (at-rest-resting a t h) (subst (λ (x : ℕ). Resting x w′ (bare t)) (sym en) (subst (λ (s : Tree). Resting (w′ .state .nodes) w′ s) (sym e) (at-rest-resting a′ t′ h′))) k in
+    same-outcomes r r′ (w .state .nodes) (bare t) (at-rest-resting a t h) (subst (λ (x : ℕ). Resting x w′ (bare t)) (sym en)
+    (subst (λ (s : Tree). Resting (w′ .state .nodes) w′ s) (sym e) (at-rest-resting a′ t′ h′))) k in
     let x = resting-held (q .2) in
     let y = resting-held (q .3) in
     (q .0, x .0, y .0, x .1, y .1, x .2 ∙ sym (y .2))

@@ -76,7 +76,8 @@ module _ (c : List ℕ) (n key : ℕ) (len : length c ≡ 8 + 24 * n) where
       }
 
   -- through an internal node, by the child that the key takes
-  through : (levels lo hi m : ℕ) (g : Bool) (f : Forest) → Represents c (node m g f) → AllInRange lo hi f → (d : ChildRange key lo hi f) → LeafOf c n key levels (d .low) (d .high) (child key f) → LeafOf c n key (suc levels) lo hi (node m g f)
+  through : (levels lo hi m : ℕ) (g : Bool) (f : Forest) → Represents c (node m g f) → AllInRange lo hi f → (d : ChildRange key lo hi f)
+      → LeafOf c n key levels (d .low) (d .high) (child key f) → LeafOf c n key (suc levels) lo hi (node m g f)
   unfolding endBelowAll past
   through levels lo hi m g f r i d s =
       record {
@@ -92,7 +93,8 @@ module _ (c : List ℕ) (n key : ℕ) (len : length c ≡ 8 + 24 * n) where
         answers = λ x a b. lookup-child lo hi x f i ∙ ap (λ (t : Tree). lookup x (pairs t)) (alike x a b) ∙ s .answers x a b;
         ends = λ x p e a b.
             ap (λ (w : Way). endBelowAll c x hi (w .inner)) (way-child c n x len levels m g f r p e)
-            ∙ ap (λ (end : ℕ). endBelowAll c x end (wayFrom c n x levels (below x p) .inner)) (ap (λ (k : ℕ). endBelow (nodeAt c k) x hi) e ∙ end-on-card c x hi m g f r ∙ d .ends x (omega (arith, s .least)) (omega (arith, s .most)))
+            ∙ ap (λ (end : ℕ). endBelowAll c x end (wayFrom c n x levels (below x p) .inner)) (ap (λ (k : ℕ). endBelow (nodeAt c k) x hi) e
+            ∙ end-on-card c x hi m g f r ∙ d .ends x (omega (arith, s .least)) (omega (arith, s .most)))
             ∙ s .ends x (below x p) (ap root (alike x a b)) a b;
         reads = λ x after p e a b.
             ap (λ (w : Way). nextInLeaf c after (leafOf w)) (way-child c n x len levels m g f r p e)

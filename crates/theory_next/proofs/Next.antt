@@ -46,7 +46,9 @@ not-one-leaf c n after len (node m true f) r ok p e h = absurd ok
 not-one-leaf c n after len (node m false f) r ok p e h = ((omega (arith, ok .0), ok .1), ok .2)
 
 -- the next pair of a leaf is that of the table, where the table has no pair above the number that is before the leaf's range
-leaf-next : {c : List ℕ} {n key levels lo hi : ℕ} {t : Tree} (there : LeafOf c n key levels lo hi t) (after k v : ℕ) → ((x : ℕ) → after < x → x < there .low → lookup x (pairs t) ≡ none) → IsNext (pairs (there .reached)) after (Pair k v) → IsNext (pairs t) after (Pair k v)
+leaf-next : {c : List ℕ} {n key levels lo hi : ℕ} {t : Tree} (there : LeafOf c n key levels lo hi t) (after k v : ℕ)
+    → ((x : ℕ) → after < x → x < there .low → lookup x (pairs t) ≡ none)
+    → IsNext (pairs (there .reached)) after (Pair k v) → IsNext (pairs t) after (Pair k v)
 leaf-next there after k v before i =
     let within = found-in-range (there .low) (there .high) k v (there .reached) (there .range) (i .1) in (
       i .0,
@@ -54,7 +56,8 @@ leaf-next there after k v before i =
       λ x a b. order x (there .low) (λ o. before x a o) (λ o. there .answers x o (omega (arith, within .1)) ∙ i .2 x a b),
     )
 
-module _ (c : List ℕ) (n : ℕ) (t : Tree) (len : length c ≡ 8 + 24 * n) (at-root : getD c rootPlace 0 ≡ root t) (r : Represents c t) (i : InRange 0 keyLimit t) (deep : depth t ≤ depthLimit) (ok : RootOk t) (after : ℕ) (here : LeafOf c n after depthLimit 0 keyLimit t) where
+module _ (c : List ℕ) (n : ℕ) (t : Tree) (len : length c ≡ 8 + 24 * n) (at-root : getD c rootPlace 0 ≡ root t) (r : Represents c t)
+    (i : InRange 0 keyLimit t) (deep : depth t ≤ depthLimit) (ok : RootOk t) (after : ℕ) (here : LeafOf c n after depthLimit 0 keyLimit t) where
   -- where every way begins
   start : rootPosition (getD c rootPlace 0) .node ≡ root t
   start = root-node (getD c rootPlace 0) ∙ at-root
@@ -72,7 +75,8 @@ module _ (c : List ℕ) (n : ℕ) (t : Tree) (len : length c ≡ 8 + 24 * n) (at
     none-at-all e x a = order x keyLimit (λ o. none-before x a (omega arith)) (λ o. lookup-none x (pairs t) (absent 0 keyLimit x (inr o) t i))
 
     -- the leaf that the end of the range leads to: if none of its pairs were above the number, the number would lead there too
-    next-there : (there : LeafOf c n (here .high) depthLimit 0 keyLimit t) → here .high < keyLimit → (least : Option (ℕ × ℕ)) → IsNext (pairs (there .reached)) after (found least) → IsNext (pairs t) after (found least)
+    next-there : (there : LeafOf c n (here .high) depthLimit 0 keyLimit t) → here .high < keyLimit → (least : Option (ℕ × ℕ))
+        → IsNext (pairs (there .reached)) after (found least) → IsNext (pairs t) after (found least)
     unfolding found way
     next-there there h none j =
         let q = some-pair (pairs (there .reached)) (there .filled (not-one-leaf c n after len t r ok (rootPosition (getD c rootPlace 0)) start (omega (arith, here-ends)))) in
@@ -88,7 +92,8 @@ module _ (c : List ℕ) (n : ℕ) (t : Tree) (len : length c ≡ 8 + 24 * n) (at
         (λ e. let h : here .high < keyLimit = omega (arith, here .most) in
         let there = leaf-of c n (here .high) len depthLimit 0 keyLimit t r i (omega arith) h deep in
         let ps = pairs (there .reached) in
-        rw (ne-eqb (here .high) keyLimit e, there .reads (here .high) after (rootPosition (getD c rootPlace 0)) start (there .from) (there .until)) (next-there there h (leastAbove after ps) (least-next after ps)))
+        rw (ne-eqb (here .high) keyLimit e, there .reads (here .high) after (rootPosition (getD c rootPlace 0)) start (there .from) (there .until))
+        (next-there there h (leastAbove after ps) (least-next after ps)))
 
   next-here : (least : Option (ℕ × ℕ)) → IsNext (pairs (here .reached)) after (found least) → IsNext (pairs t) after (orNextLeaf c n after (found least))
   unfolding orNextLeaf found

@@ -50,7 +50,8 @@ module _ (key : ℕ) where
   need-fill run [] s (followed k f) p q = rw (lt-ltb key k q)
   need-fill run (a ∷ l) s r p q = rw (le-ltb key (a .1) (p .0)) (need-fill run l s r (p .1) q)
 
-  need-through : (C : Context) (m : ℕ) (g : Bool) (l : Left) (s : Tree) (r : Right) → Past key l → Short key r → needOf key (fullRun C) (node m g (fill l s r)) ≡ needOf key (fullRun (down C m g l r)) s
+  need-through : (C : Context) (m : ℕ) (g : Bool) (l : Left) (s : Tree) (r : Right) → Past key l → Short key r
+      → needOf key (fullRun C) (node m g (fill l s r)) ≡ needOf key (fullRun (down C m g l r)) s
   unfolding needOf fullRun
   need-through C m g l s r p q =
       need-fill (runBelow (length (roots (fill l s r))) (fullRun C)) l s r p q ∙ ap (λ (w : ℕ). needOf key (runBelow w (fullRun C)) s) (width-fill l s r)

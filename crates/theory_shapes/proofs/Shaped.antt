@@ -27,7 +27,9 @@ unfolding mendAt mendTagged
 absorb-shaped below l q f r a h = rw (← bare-splice l f r, bare-width (splice l f r), le-leb (length (roots (splice l f r))) 11 h)
 
 pub split-shaped : (below : Bool) (l : Left) (q : ℕ) (f : Forest) (r : Right) (a b c : ℕ) → 11 < length (roots (splice l f r))
-    → bare (node c below (more (node a false (cut 6 (splice l f r) .left)) (cut 6 (splice l f r) .key) (one (node b false (cut 6 (splice l f r) .right))))) ≡ mendAt below (bareLeft l) (bare (node q true f)) (bareRight r)
+    → bare (node c below
+    (more (node a false (cut 6 (splice l f r) .left)) (cut 6 (splice l f r) .key) (one (node b false (cut 6 (splice l f r) .right)))))
+    ≡ mendAt below (bareLeft l) (bare (node q true f)) (bareRight r)
 unfolding mendAt mendTagged
 split-shaped below l q f r a b c h =
     rw (← bare-splice l f r, bare-width (splice l f r), lt-leb (length (roots (splice l f r))) 11 h) (ap (λ (g : Forest). node 0 below g) (inners-shaped 6 (splice l f r) a b))
@@ -46,7 +48,9 @@ module _ (below : Bool) (l : Left) (x : ℕ) (f : Forest) (k y : ℕ) (g : Fores
 
   pub inner-merge-shaped : (a b : ℕ) → length (roots f) + length (roots g) ≤ 3 → rootOfTwo below (bareLeft l) (bareRight r) ≡ false → Due (node b false (splice l (one (node a false (join f k g))) r))
   unfolding mendTwo mendInners
-  inner-merge-shaped a b h o = rw (bare-width f, bare-width g, lt-leb 4 (length (roots f) + length (roots g)) (omega arith), o, ← bare-join f k g) (ap (λ (u : Forest). node 0 false u) (bare-splice l _ r))
+  inner-merge-shaped a b h o =
+      rw (bare-width f, bare-width g, lt-leb 4 (length (roots f) + length (roots g)) (omega arith), o, ← bare-join f k g)
+      (ap (λ (u : Forest). node 0 false u) (bare-splice l _ r))
 
   pub inner-merge-root-shaped : (a : ℕ) → length (roots f) + length (roots g) ≤ 3 → rootOfTwo below (bareLeft l) (bareRight r) ≡ true → Due (node a false (join f k g))
   unfolding mendTwo mendInners
@@ -66,7 +70,9 @@ module _ (below : Bool) (l : Left) (x : ℕ) (ks vs : List ℕ) (k y : ℕ) (ks�
 
   pub leaf-merge-shaped : (b : ℕ) (t : Tree) → bare t ≡ bareLeaf ps → length ps ≤ 3 → rootOfTwo below (bareLeft l) (bareRight r) ≡ false → LeafDue (node b false (splice l (one t) r))
   unfolding mendTwo mendLeaves
-  leaf-merge-shaped b t e h o = rw (lt-leb 4 (length ps) (omega arith), o) (ap (λ (u : Forest). node 0 false u) (bare-splice l (one t) r ∙ ap (λ (u : Tree). splice (bareLeft l) (one u) (bareRight r)) e))
+  leaf-merge-shaped b t e h o =
+      rw (lt-leb 4 (length ps) (omega arith), o)
+      (ap (λ (u : Forest). node 0 false u) (bare-splice l (one t) r ∙ ap (λ (u : Tree). splice (bareLeft l) (one u) (bareRight r)) e))
 
   pub leaf-merge-root-shaped : (t : Tree) → bare t ≡ bareLeaf ps → length ps ≤ 3 → rootOfTwo below (bareLeft l) (bareRight r) ≡ true → LeafDue t
   unfolding mendTwo mendLeaves
@@ -74,10 +80,18 @@ module _ (below : Bool) (l : Left) (x : ℕ) (ks vs : List ℕ) (k y : ℕ) (ks�
 
 -- the siblings chosen are the same ones
 pub siblings-shaped : (l : Left) (s : Tree) (r : Right)
-    → siblingsOf (bareLeft l) (bare s) (bareRight r) ≡ record { left = bareLeft (siblingsOf l s r .left); lesser = bare (siblingsOf l s r .lesser); key = siblingsOf l s r .key; greater = bare (siblingsOf l s r .greater); right = bareRight (siblingsOf l s r .right) }
+    → siblingsOf (bareLeft l) (bare s) (bareRight r) ≡ record {
+      left = bareLeft (siblingsOf l s r .left);
+      lesser = bare (siblingsOf l s r .lesser);
+      key = siblingsOf l s r .key;
+      greater = bare (siblingsOf l s r .greater);
+      right = bareRight (siblingsOf l s r .right);
+    }
 unfolding siblingsOf
 siblings-shaped [] s rightmost = refl
 siblings-shaped [] s (followed k (one y)) = refl
 siblings-shaped [] s (followed k (more y x f)) = refl
 siblings-shaped (a ∷ []) s r = refl
-siblings-shaped (a ∷ b ∷ l) s r = ap (λ (u : Siblings). record { left = (bare (a .0), a .1) ∷ u .left; lesser = u .lesser; key = u .key; greater = u .greater; right = u .right }) (siblings-shaped (b ∷ l) s r)
+siblings-shaped (a ∷ b ∷ l) s r =
+    ap (λ (u : Siblings). record { left = (bare (a .0), a .1) ∷ u .left; lesser = u .lesser; key = u .key; greater = u .greater; right = u .right })
+    (siblings-shaped (b ∷ l) s r)

@@ -34,8 +34,12 @@ module _ (c : List ℕ) where
         let a = sym (leaf-keys c m ks vs p) ∙ ap (λ (x : ℕ). keyWords (nodeAt c x)) e ∙ leaf-keys c i ks′ vs′ q in
         let b = sym (leaf-values c m ks vs p) ∙ ap (λ (x : ℕ). valueWords (nodeAt c x)) e ∙ leaf-values c i ks′ vs′ q in
         rw (e, a, b)
-    one-tree (leaf m ks vs) (node i h f) e p q = absurd (inner-kind h (sym (read-kind c i (kind h) (routing f) (roots f) (q .0)) ∙ ap (λ (x : ℕ). kindOf (nodeAt c x)) (sym e) ∙ read-kind c m 1 ks vs (p .0)))
-    one-tree (node m g f) (leaf i ks vs) e p q = absurd (inner-kind g (sym (read-kind c m (kind g) (routing f) (roots f) (p .0)) ∙ ap (λ (x : ℕ). kindOf (nodeAt c x)) e ∙ read-kind c i 1 ks vs (q .0)))
+    one-tree (leaf m ks vs) (node i h f) e p q =
+        absurd (inner-kind h
+        (sym (read-kind c i (kind h) (routing f) (roots f) (q .0)) ∙ ap (λ (x : ℕ). kindOf (nodeAt c x)) (sym e) ∙ read-kind c m 1 ks vs (p .0)))
+    one-tree (node m g f) (leaf i ks vs) e p q =
+        absurd (inner-kind g
+        (sym (read-kind c m (kind g) (routing f) (roots f) (p .0)) ∙ ap (λ (x : ℕ). kindOf (nodeAt c x)) e ∙ read-kind c i 1 ks vs (q .0)))
     one-tree (node m g f) (node i h f′) e p q =
         let k = same-kind g h (sym (read-kind c m (kind g) (routing f) (roots f) (p .0)) ∙ ap (λ (x : ℕ). kindOf (nodeAt c x)) e ∙ read-kind c i (kind h) (routing f′) (roots f′) (q .0)) in
         let a : roots f ≡ roots f′ = sym (node-children c m g f p) ∙ ap (λ (x : ℕ). children (nodeAt c x)) e ∙ node-children c i h f′ q in

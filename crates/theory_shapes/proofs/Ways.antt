@@ -60,7 +60,8 @@ repaired-fill [] s rightmost z o = refl
 repaired-fill [] s (followed k f) z o = rw (lt-ltb 0 (violations s) o)
 repaired-fill (a ∷ l) s r z o = rw (le-ltb 0 (violations (a .0)) (omega arith), repaired-fill l s r (omega arith) o)
 
-repaired-through : (below : Bool) (m : ℕ) (g : Bool) (l : Left) (s s′ : Tree) (r : Right) → leftViolations l ≡ 0 → 0 < violations s → ownViolation s ≡ 0 → repairedBy true s ≡ s′ → repairedBy below (node m g (fill l s r)) ≡ node m g (fill l s′ r)
+repaired-through : (below : Bool) (m : ℕ) (g : Bool) (l : Left) (s s′ : Tree) (r : Right) → leftViolations l ≡ 0 → 0 < violations s
+    → ownViolation s ≡ 0 → repairedBy true s ≡ s′ → repairedBy below (node m g (fill l s r)) ≡ node m g (fill l s′ r)
 unfolding repairedBy
 repaired-through below m g l s s′ r z o e₀ e = rw (apart-fill l s r z o, e₀, repaired-fill l s r z o, e)
 
@@ -70,7 +71,8 @@ repaired-plug top s s′ z e = e
 repaired-plug (down C m g l r) s s′ z e =
     repaired-plug C (node m g (fill l s r)) (node m g (fill l s′ r)) (z .3) (repaired-through (taggedIn C) m g l s s′ r (z .1) (z .2) (z .0) e)
 
-pub repaired-here : (below : Bool) (m : ℕ) (g : Bool) (l : Left) (s : Tree) (r : Right) → leftViolations l ≡ 0 → 0 < violations s → ownViolation s ≡ 1 → repairedBy below (node m g (fill l s r)) ≡ mendAt below l s r
+pub repaired-here : (below : Bool) (m : ℕ) (g : Bool) (l : Left) (s : Tree) (r : Right)
+    → leftViolations l ≡ 0 → 0 < violations s → ownViolation s ≡ 1 → repairedBy below (node m g (fill l s r)) ≡ mendAt below l s r
 unfolding repairedBy
 repaired-here below m g l s r z o e = rw (apart-fill l s r z o, e)
 
@@ -81,7 +83,8 @@ module _ (change : Bool → List ℕ → List ℕ → Tree) (key : ℕ) where
   changed-fill [] s (followed k f) p q = rw (lt-ltb key k q)
   changed-fill (a ∷ l) s r p q = rw (le-ltb key (a .1) (p .0), changed-fill l s r (p .1) q)
 
-  changed-through : (below : Bool) (m : ℕ) (g : Bool) (l : Left) (s s′ : Tree) (r : Right) → Past key l → Short key r → changedBy change key true s ≡ s′ → changedBy change key below (node m g (fill l s r)) ≡ node m g (fill l s′ r)
+  changed-through : (below : Bool) (m : ℕ) (g : Bool) (l : Left) (s s′ : Tree) (r : Right) → Past key l → Short key r
+      → changedBy change key true s ≡ s′ → changedBy change key below (node m g (fill l s r)) ≡ node m g (fill l s′ r)
   unfolding changedBy
   changed-through below m g l s s′ r p q e = rw (changed-fill l s r p q, e)
 

@@ -29,7 +29,8 @@ module _ (w : ℕ × ℕ → ℕ) where
   slot-pairs-value (zero ∷ ks) (x ∷ vs) (suc i) v e = slot-pairs-value ks vs i v e
   slot-pairs-value (suc k ∷ ks) (x ∷ vs) (suc i) v e = omega (arith, slot-pairs-value ks vs i v e)
 
-  pub slot-pairs-key : (ks vs : List ℕ) (i k : ℕ) → getD ks i 0 ≡ 0 → i < length ks → length ks ≡ length vs → total w (slotPairs (set ks i (suc k)) vs) ≡ w (suc k, getD vs i 0) + total w (slotPairs ks vs)
+  pub slot-pairs-key : (ks vs : List ℕ) (i k : ℕ) → getD ks i 0 ≡ 0 → i < length ks → length ks ≡ length vs
+      → total w (slotPairs (set ks i (suc k)) vs) ≡ w (suc k, getD vs i 0) + total w (slotPairs ks vs)
   slot-pairs-key [] vs i k e h n = omega arith
   slot-pairs-key (x ∷ ks) [] i k e h n = omega arith
   slot-pairs-key (zero ∷ ks) (x ∷ vs) zero k e h n = refl
@@ -79,7 +80,13 @@ mutual
 
   pub absents : (lo hi k : ℕ) → (k < lo) ⊎ (hi ≤ k) → (f : Forest) → AllInRange lo hi f → total (hasKey k) (forestPairs f) ≡ 0
   absents lo hi k o (one t) h = absent lo hi k o t h
-  absents lo hi k o (more t r f) h = omega (arith, total-append (hasKey k) (pairs t) (forestPairs f), absent lo r k (⊎-map (λ a. a) (λ a. omega arith) o) t (h .0), absents r hi k (⊎-map (λ a. omega arith) (λ a. a) o) f (h .3))
+  absents lo hi k o (more t r f) h =
+      omega (
+        arith,
+        total-append (hasKey k) (pairs t) (forestPairs f),
+        absent lo r k (⊎-map (λ a. a) (λ a. omega arith) o) t (h .0),
+        absents r hi k (⊎-map (λ a. omega arith) (λ a. a) o) f (h .3),
+      )
 
 -- the child that a key leads to
 abbrev pub child : ℕ → Forest → Tree

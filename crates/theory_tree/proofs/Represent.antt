@@ -41,7 +41,9 @@ routingRight (followed k f) = k ∷ routing f
 -- the card holds all of the tree but the hole, and the link to the hole is x
 abbrev pub RepresentsContext : List ℕ → Context → ℕ → Type 0
 RepresentsContext c top x = (getD c rootPlace 0 ≡ x) × (8 ≤ length c)
-RepresentsContext c (down C m g l r) x = NodeWords c m (kind g) (routingLeft l ++ routingRight r) (rootsLeft l ++ x ∷ rootsRight r) × RepresentsLeft c l × RepresentsRight c r × RepresentsContext c C m × (length (rootsLeft l ++ x ∷ rootsRight r) ≤ 11)
+RepresentsContext c (down C m g l r) x =
+    NodeWords c m (kind g) (routingLeft l ++ routingRight r) (rootsLeft l ++ x ∷ rootsRight r) × RepresentsLeft c l × RepresentsRight c r
+    × RepresentsContext c C m × (length (rootsLeft l ++ x ∷ rootsRight r) ≤ 11)
 
 -- where the link to the hole stands
 abbrev pub linkPlace : Context → ℕ
@@ -138,7 +140,8 @@ module _ (c : List ℕ) (y : ℕ) where
       )
 
 -- the store at the link, seen by a tree that has not the link's node
-pub frame-link : (c : List ℕ) (y : ℕ) (C : Context) (x : ℕ) (s : Tree) → RepresentsContext c C x → ((i : ℕ) → contextTotal (indicator i) C + nodeTotal (indicator i) s ≤ 1) → Represents c s → Represents (set c (linkPlace C) y) s
+pub frame-link : (c : List ℕ) (y : ℕ) (C : Context) (x : ℕ) (s : Tree) → RepresentsContext c C x
+    → ((i : ℕ) → contextTotal (indicator i) C + nodeTotal (indicator i) s ≤ 1) → Represents c s → Represents (set c (linkPlace C) y) s
 frame-link c y top x s p d q = frame c _ (λ m. 0) (keeps-head c 4 y (omega arith)) s (total-zero s) q
 frame-link c y (down C m g l r) x s p d q =
     let dm = d m in
@@ -147,7 +150,8 @@ frame-link c y (down C m g l r) x s p d q =
     frame c _ (indicator m) (keeps-node c m _ y (p .0 .on .pos) (omega arith)) s (omega arith) q
 
 -- THE LINK: one store puts s′ for s
-pub replaced : (c : List ℕ) (C : Context) (s s′ : Tree) → ((i : ℕ) → contextTotal (indicator i) C + nodeTotal (indicator i) s′ ≤ 1) → Holds c (plug C s) → Represents c s′ → Holds (set c (linkPlace C) (root s′)) (plug C s′)
+pub replaced : (c : List ℕ) (C : Context) (s s′ : Tree) → ((i : ℕ) → contextTotal (indicator i) C + nodeTotal (indicator i) s′ ≤ 1)
+    → Holds c (plug C s) → Represents c s′ → Holds (set c (linkPlace C) (root s′)) (plug C s′)
 replaced c C s s′ d w q =
     let u = unplugged c C s w in
     plugged (set c (linkPlace C) (root s′)) C s′ (relink c (root s′) C (root s) (λ i. omega (arith, d i)) (u .0)) (frame-link c (root s′) C (root s) s′ (u .0) d q)

@@ -54,7 +54,8 @@ rising-sort lo hi [] h i = rw sort-nil h
 rising-sort lo hi (p ∷ l) h i =
     let o = outside-zero lo hi p (omega (arith, i .inside)) in
     rw (sort-cons p l)
-    (rising-insert lo hi p (sort l) (o .0) (o .1) (total-sort (hasKey (p .0)) l ∙ omega (arith, i .once (p .0), indicator-same (p .0))) (rising-sort lo hi l h (record { inside = omega (arith, i .inside); once = λ k. omega (arith, i .once k) })))
+    (rising-insert lo hi p (sort l) (o .0) (o .1) (total-sort (hasKey (p .0)) l ∙ omega (arith, i .once (p .0), indicator-same (p .0)))
+    (rising-sort lo hi l h (record { inside = omega (arith, i .inside); once = λ k. omega (arith, i .once k) })))
 
 -- the n first and the others, around the key of the first other
 pub rising-cut : (lo hi n : ℕ) (l : Pairs) → Rising lo hi l → n < length l → Rising lo (keyAt n l) (take n l) × Rising (keyAt n l) hi (drop n l)
@@ -70,7 +71,12 @@ rising-le lo hi (p ∷ l) u = omega (arith, rising-le (suc (p .0)) hi l (u .1), 
 pub rising-inside : (lo hi : ℕ) (l : Pairs) → Rising lo hi l → total (outside lo hi) l ≡ 0
 rising-inside lo hi [] u = refl
 rising-inside lo hi (p ∷ l) u =
-    omega (arith, outside-none lo hi p (u .0) (rising-le _ _ l (u .1)), rising-inside (suc (p .0)) hi l (u .1), total-le (outside lo hi) (outside (suc (p .0)) hi) (outside-le lo (suc (p .0)) hi (omega (arith, u .0))) l)
+    omega (
+      arith,
+      outside-none lo hi p (u .0) (rising-le _ _ l (u .1)),
+      rising-inside (suc (p .0)) hi l (u .1),
+      total-le (outside lo hi) (outside (suc (p .0)) hi) (outside-le lo (suc (p .0)) hi (omega (arith, u .0))) l,
+    )
 
 pub rising-below : (lo hi k : ℕ) (l : Pairs) → k < lo → Rising lo hi l → total (hasKey k) l ≡ 0
 rising-below lo hi k [] h u = refl

@@ -45,12 +45,14 @@ represents-join c (one t) k g p q = (p, q)
 represents-join c (more t x f) k g p q = (p .0, represents-join c f k g (p .1) q)
 
 -- splices: the part in the middle may be replaced by one of the same range, pairs and height
-pub range-splice : (lo hi : ℕ) (l : Left) (f : Forest) (r : Right) → AllInRange lo hi (splice l f r) → (a : ℕ) × (b : ℕ) × AllInRange a b f × ((g : Forest) → AllInRange a b g → AllInRange lo hi (splice l g r))
+pub range-splice : (lo hi : ℕ) (l : Left) (f : Forest) (r : Right) → AllInRange lo hi (splice l f r)
+    → (a : ℕ) × (b : ℕ) × AllInRange a b f × ((g : Forest) → AllInRange a b g → AllInRange lo hi (splice l g r))
 range-splice lo hi [] f rightmost i = (lo, hi, i, λ g j. j)
 range-splice lo hi [] f (followed k e) i = let u = range-unjoin lo hi f k e i in (lo, k, u .0, λ g j. range-join lo hi g k e j (u .1) (u .2) (u .3))
 range-splice lo hi (x ∷ l) f r i = let u = range-splice (x .1) hi l f r (i .3) in (u .0, u .1, u .2, λ g j. (i .0, i .1, i .2, u .3 g j))
 
-pub pairs-splice : (w : ℕ × ℕ → ℕ) (l : Left) (f g : Forest) (r : Right) → total w (forestPairs (splice l g r)) + total w (forestPairs f) ≡ total w (forestPairs (splice l f r)) + total w (forestPairs g)
+pub pairs-splice : (w : ℕ × ℕ → ℕ) (l : Left) (f g : Forest) (r : Right)
+    → total w (forestPairs (splice l g r)) + total w (forestPairs f) ≡ total w (forestPairs (splice l f r)) + total w (forestPairs g)
 pairs-splice w [] f g rightmost = omega arith
 pairs-splice w [] f g (followed k e) = simp (pairs-join, total-append) (omega arith)
 pairs-splice w (x ∷ l) f g r = simp total-append (omega (arith, pairs-splice w l f g r))
@@ -103,10 +105,12 @@ height-plug h (down C m true l r) s i =
     (u .0, v .0, λ s′ j. u .2 _ (v .1 (one s′) j))
 height-plug h (down C m false l r) s i = step (height-plug h C (node m false (fill l s r)) i)
   where
-    step : ((k : ℕ) × Height k (node m false (fill l s r)) × ((s′ : Tree) → Height k s′ → Height h (plug C s′))) → (k : ℕ) × Height k s × ((s′ : Tree) → Height k s′ → Height h (plug C (node m false (fill l s′ r))))
+    step : ((k : ℕ) × Height k (node m false (fill l s r)) × ((s′ : Tree) → Height k s′ → Height h (plug C s′)))
+        → (k : ℕ) × Height k s × ((s′ : Tree) → Height k s′ → Height h (plug C (node m false (fill l s′ r))))
     step u = place (u .0) (u .1) (u .2)
       where
-        place : (k : ℕ) → Height k (node m false (fill l s r)) → ((s′ : Tree) → Height k s′ → Height h (plug C s′)) → (k : ℕ) × Height k s × ((s′ : Tree) → Height k s′ → Height h (plug C (node m false (fill l s′ r))))
+        place : (k : ℕ) → Height k (node m false (fill l s r)) → ((s′ : Tree) → Height k s′ → Height h (plug C s′))
+            → (k : ℕ) × Height k s × ((s′ : Tree) → Height k s′ → Height h (plug C (node m false (fill l s′ r))))
         place zero p q = absurd p
         place (suc k) p q = let v = height-splice k l (one s) r p in (k, v .0, λ s′ j. q _ (v .1 (one s′) j))
 

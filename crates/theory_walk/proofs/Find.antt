@@ -36,7 +36,8 @@ rowAnswer vs Absent = none
 rowAnswer vs (At i) = some (getD vs i 0)
 
 -- from slot j on, with so many slots left
-row-lookup : (key : ℕ) (ks vs : List ℕ) → 0 < key → length ks ≡ length vs → (left j : ℕ) → j + left ≡ length ks → rowAnswer vs (firstEqual (drop j ks) key j) ≡ lookup key (slotPairs (drop j ks) (drop j vs))
+row-lookup : (key : ℕ) (ks vs : List ℕ) → 0 < key → length ks ≡ length vs → (left j : ℕ) → j + left ≡ length ks
+    → rowAnswer vs (firstEqual (drop j ks) key j) ≡ lookup key (slotPairs (drop j ks) (drop j vs))
 unfolding firstEqual rowAnswer
 row-lookup key ks vs pos e zero j h = rw (drop-of-length-le ks {i = j} (omega arith))
 row-lookup key ks vs pos e (suc left) j h =
@@ -83,7 +84,8 @@ module _ (c : List ℕ) (key : ℕ) (pos : 0 < key) where
       record { number = m; context = C; keys = ks; values = vs; is-tree = refl; leads = λ p. p; on-card = r; answers = leaf-answer c key m ks vs pos r }
 
   -- through an internal node, by the child that the key leads to
-  found-child : (lo hi : ℕ) (C : Context) (m : ℕ) (g : Bool) (f : Forest) (p : Parted key f) → AllInRange lo hi f → LeafFound c key (down C m g (p .left) (p .right)) (child key f) → LeafFound c key C (node m g f)
+  found-child : (lo hi : ℕ) (C : Context) (m : ℕ) (g : Bool) (f : Forest) (p : Parted key f) → AllInRange lo hi f
+      → LeafFound c key (down C m g (p .left) (p .right)) (child key f) → LeafFound c key C (node m g f)
   found-child lo hi C m g f p i s =
       record {
         number = s .number;

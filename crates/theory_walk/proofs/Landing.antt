@@ -56,7 +56,8 @@ landing-found c n key len lo hi t w i l h pos d =
     let f = find-map c key pos lo hi t (w .2) i l h in
     let there : Holds c (plug (f .context) (leaf (f .number) (f .keys) (f .values))) = subst (Holds c) (sym (f .is-tree)) w in
     let leads = f .leads tt in
-    let led = way-to-leaf c n key len (f .context) (f .number) (f .keys) (f .values) there leads (omega (arith, depth-plug (f .context) (leaf (f .number) (f .keys) (f .values)), ap depth (f .is-tree))) in
+    let led = way-to-leaf c n key len (f .context) (f .number) (f .keys) (f .values) there leads
+    (omega (arith, depth-plug (f .context) (leaf (f .number) (f .keys) (f .values)), ap depth (f .is-tree))) in
     record {
       number = f .number;
       keys = f .keys;

@@ -110,7 +110,8 @@ module _ (c : List ℕ) (n key : ℕ) (len : length c ≡ 8 + 24 * n) where
       let on = unplugged c C (node m false (fill l s r)) h in
       ap (endOf c true) (sym (pastAll-past (positionsAbove C (node m false (fill l s r))) p w))
       ∙ no-fault-above C (node m false (fill l s r)) (past p w) h (u .1) (wide .1)
-      ∙ end-past c true p w (rw (position-node C (node m false (fill l s r))) (sound-node c m (fill l s r) (on .1) (p .parent) (λ z. omega (arith, wide .0 (under C (node m false (fill l s r)) z), width-fill l s r))))
+      ∙ end-past c true p w (rw (position-node C (node m false (fill l s r)))
+      (sound-node c m (fill l s r) (on .1) (p .parent) (λ z. omega (arith, wide .0 (under C (node m false (fill l s r)) z), width-fill l s r))))
 
   -- ---- the violation is found
 
@@ -130,7 +131,8 @@ module _ (c : List ℕ) (n key : ℕ) (len : length c ≡ 8 + 24 * n) where
   stops-at levels (node m g f) r p e q = fault-at c n key true levels p (rw e (look-at-node c n key len m g f r)) q
 
   -- the search by a key finds the violation on the key's path, where no node above it is one
-  pub seek-violation : (levels : ℕ) (C : Context) (s : Tree) → Holds c (plug C s) → below C → OnPath key C → WideAbove C → ownViolation s ≡ 1 → depthOf C ≤ levels → seek c n key levels (rootPosition (getD c 4 0)) ≡ SearchViolation (positionOf C s)
+  pub seek-violation : (levels : ℕ) (C : Context) (s : Tree) → Holds c (plug C s) → below C → OnPath key C → WideAbove C
+      → ownViolation s ≡ 1 → depthOf C ≤ levels → seek c n key levels (rootPosition (getD c 4 0)) ≡ SearchViolation (positionOf C s)
   unfolding seek searchOf
   seek-violation levels C s w b p wide own d =
       let u = unplugged c C s w in
@@ -142,7 +144,8 @@ module _ (c : List ℕ) (n key : ℕ) (len : length c ≡ 8 + 24 * n) where
       ∙ stops-at left s (u .1) (positionOf C s) (position-node C s) (rw (position-node C s) (fault-part s (u .1) own (positionOf C s .parent) (parent-there c C s (u .0) b))))
 
   -- the violation of a table that has one is found by every key that leads to it
-  pub violation-found : (levels : ℕ) (t : Tree) → Holds c t → RootOk t → tableViolations t ≡ 1 → depth t ≤ levels → (v : Violation t key) → seek c n key levels (rootPosition (getD c 4 0)) ≡ SearchViolation (positionOf (v .context) (v .part))
+  pub violation-found : (levels : ℕ) (t : Tree) → Holds c t → RootOk t → tableViolations t ≡ 1 → depth t ≤ levels → (v : Violation t key)
+      → seek c n key levels (rootPosition (getD c 4 0)) ≡ SearchViolation (positionOf (v .context) (v .part))
   violation-found levels t w ok count d v =
       seek-violation levels (v .context) (v .part) (subst (Holds c) (v .is-tree) w) (v .inside) (v .on-path)
       (sound-above (v .context) (v .part) (subst RootOk (v .is-tree) ok) (omega (arith, ap tableViolations (v .is-tree))) (omega (arith, own-violation-le (v .part), v .own)) .1)

@@ -96,7 +96,8 @@ module _ (c : List ℕ) (n key : ℕ) (len : length c ≡ 8 + 24 * n) where
       ∙ ap (λ (q : Position). past (positionOf C (node m g (fill l s r))) (wayFrom c n key levels q)) (arrive (positionOf C (node m g (fill l s r)) .link) (position-link C (node m g (fill l s r))))
     where
       arrive : (link : ℕ) → link ≡ linkPlace C
-          → position (root (child key (fill l s r))) (place m (12 + passed (routing (fill l s r)) key)) m (passed (routing (fill l s r)) key) link ≡ position (root s) (place m (12 + length (rootsLeft l))) m (length l) (linkPlace C)
+          → position (root (child key (fill l s r))) (place m (12 + passed (routing (fill l s r)) key)) m (passed (routing (fill l s r)) key) link
+          ≡ position (root s) (place m (12 + length (rootsLeft l))) m (length l) (linkPlace C)
       arrive link e = rw (e, child-fill key l s r past-left short-right, passed-fill key l s r past-left short-right, length-roots-left l)
 
   -- the way goes down to every part that the key leads to

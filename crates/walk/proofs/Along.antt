@@ -65,7 +65,8 @@ module _ (card : List ℕ) (n : ℕ) (P : Position → Type 0) where
         go IsInner e = subst (Along zero) (sym (way-too-deep card n key p zero e refl)) (along-stop zero p h e)
     along (suc levels) p h = go (λ q k. along levels q k) (lookAt card n (p .node)) refl
       where
-        inner : ((q : Position) → P q → Along levels (wayFrom card n key levels q)) → lookAt card n (p .node) ≡ IsInner → Dec (length (children (nodeAt card (p .node))) ≡ 0) → Along (suc levels) (wayFrom card n key (suc levels) p)
+        inner : ((q : Position) → P q → Along levels (wayFrom card n key levels q)) → lookAt card n (p .node) ≡ IsInner
+            → Dec (length (children (nodeAt card (p .node))) ≡ 0) → Along (suc levels) (wayFrom card n key (suc levels) p)
         inner ih e (yes z) = subst (Along (suc levels)) (sym (way-childless card n key p (suc levels) e z)) (along-stop (suc levels) p h e)
         inner ih e (no z) =
             let some-child : 0 < length (children (nodeAt card (p .node))) = omega arith in
@@ -91,14 +92,16 @@ module _ (card : List ℕ) (n : ℕ) (P : Position → Type 0) where
       subst FaultOn z (record { holds = h; there = there; fault = and-true seeks (isFault (nodeAt card (p .node)) (p .parent)) yes .1 }))
       (λ no. later (rw no at e))
 
-  fault-last : (seeks : Bool) (l : Option Position) (q : Position) → ((x : Position) → l ≡ some x → P x × (lookAt card n (x .node) ≡ IsLeaf)) → firstFault card seeks (ended l) (toList l) ≡ EndFault q → FaultOn q
+  fault-last : (seeks : Bool) (l : Option Position) (q : Position) → ((x : Position) → l ≡ some x → P x × (lookAt card n (x .node) ≡ IsLeaf))
+      → firstFault card seeks (ended l) (toList l) ≡ EndFault q → FaultOn q
   unfolding firstFault ended toList
   fault-last seeks none q a e = impossible (cc)
   fault-last seeks (some p) q a e =
       let at = a p refl in
       found-first seeks p q (EndLeaf p) (at .0) (λ z. let y = sym z ∙ at .1 in impossible (cc)) (λ z. impossible (cc)) e
 
-  fault-among : (seeks : Bool) (end : End) (ps rest : List Position) (q : Position) → All (λ x. P x × (lookAt card n (x .node) ≡ IsInner)) ps → (firstFault card seeks end rest ≡ EndFault q → FaultOn q)
+  fault-among : (seeks : Bool) (end : End) (ps rest : List Position) (q : Position)
+      → All (λ x. P x × (lookAt card n (x .node) ≡ IsInner)) ps → (firstFault card seeks end rest ≡ EndFault q → FaultOn q)
       → firstFault card seeks end (ps ++ rest) ≡ EndFault q → FaultOn q
   unfolding firstFault
   fault-among seeks end [] rest q a last e = last e

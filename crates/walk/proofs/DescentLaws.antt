@@ -15,7 +15,9 @@ use lib.Dec.{ltb, eqb}
 use borrow.Author.Tests.{lt-ltb, le-ltb, ne-eqb, eq-eqb}
 use Rattle.card.specs.Layout.{nodeAt, kindOf, keyWords, valueWords, children, routingKeys, leafPairs, depthLimit}
 use Rattle.card.proofs.NodeLaws.{length-keyWords, get-keyWord, get-valueWord, children-le, length-routing}
-use Rattle.walk.specs.Descent.{passed, childIndex, childFor, firstEqual, slotOf, lookAt, rootPosition, childPosition, Way, nowhere, past, byLook, wayFrom, reachedAt, leafOf, countOf, isFault, firstFault, ended, toList, endOf, searchOf, seek}
+use Rattle.walk.specs.Descent.{passed, childIndex, childFor, firstEqual, slotOf, lookAt, rootPosition, childPosition, Way, nowhere}
+use Rattle.walk.specs.Descent.{past, byLook, wayFrom, reachedAt, leafOf, countOf, isFault, firstFault, ended, toList, endOf, searchOf}
+use Rattle.walk.specs.Descent.{seek}
 use Rattle.laws.specs.Cases.{pick}
 use Rattle.laws.proofs.Cases.{order, impossible}
 use Rattle.laws.specs.Lists.{beforeZero}
@@ -288,7 +290,8 @@ leaf-past p w = go (length (w .inner)) (w .leaf)
     go d (some q) = ap (ReachedLeaf (q .node)) (omega arith)
 
 -- a level more, as the code counts them
-pub deeper-on : (way : ℕ → Reached) (depth : ℕ) → depth ≤ depthLimit → (depth ≡ depthLimit → ⊥) → deeper depth (deeper 1 (way (depthLimit - depth - 1))) ≡ deeper (depth + 1) (way (depthLimit - (depth + 1)))
+pub deeper-on : (way : ℕ → Reached) (depth : ℕ) → depth ≤ depthLimit → (depth ≡ depthLimit → ⊥)
+    → deeper depth (deeper 1 (way (depthLimit - depth - 1))) ≡ deeper (depth + 1) (way (depthLimit - (depth + 1)))
 unfolding deeper
 deeper-on way depth l h = deeper-twice (way (depthLimit - depth - 1)) ∙ ap (λ (x : ℕ). deeper (depth + 1) (way x)) (omega arith)
   where
@@ -366,7 +369,8 @@ search-fault card n key levels p q e = go (endOf card true (wayFrom card n key l
     go (EndFault r) z = let w : r ≡ q = cc in ap EndFault w
 
 -- an internal node where a search stops
-pub fault-at : (card : List ℕ) (n key : ℕ) (seeks : Bool) (levels : ℕ) (p : Position) → lookAt card n (p .node) ≡ IsInner → stops card seeks p ≡ true → endOf card seeks (wayFrom card n key levels p) ≡ EndFault p
+pub fault-at : (card : List ℕ) (n key : ℕ) (seeks : Bool) (levels : ℕ) (p : Position)
+    → lookAt card n (p .node) ≡ IsInner → stops card seeks p ≡ true → endOf card seeks (wayFrom card n key levels p) ≡ EndFault p
 fault-at card n key seeks zero p e f = ap (endOf card seeks) (way-too-deep card n key p zero e refl) ∙ end-fault card seeks p nowhere f
 fault-at card n key seeks (suc levels) p e f =
     by-cases (ℕ-discrete (length (children (nodeAt card (p .node)))) 0)

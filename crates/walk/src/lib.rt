@@ -296,10 +296,10 @@ pub fn find_leaf(card: &[u32], n: usize, key: u32, root: usize) -> Reached
             }
             Look::Inner => {
                 let node = card::node_at(card, m);
-                if node[card::VALUES] == 0 {
+                if depth == card::DEPTH_LIMIT {
                     return Reached::Refused;
                 }
-                if depth == card::DEPTH_LIMIT {
+                if node[card::VALUES] == 0 {
                     return Reached::Refused;
                 }
                 depth += 1;

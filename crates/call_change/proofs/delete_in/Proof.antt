@@ -9,7 +9,10 @@ use Rattle.call_change.proofs.delete_in.Statement.{statement}
 use Rattle.call_change.proofs.delete_in.Tie as tie
 
 few : (c : tie.After-slot) → c .slot .given .0 .0 < 11
-few c = let s = c .before .before .before .before in slot-below (s .args .leaf .now) (s .args .key) (c .slot .given .0 .0) (search needs) (sym (c .before .before .find-slot .ensures) ∙ c .slot .given .1)
+few c =
+    let s = c .before .before .before .before in
+    slot-below (s .args .leaf .now) (s .args .key) (c .slot .given .0 .0) (search needs)
+    (sym (c .before .before .find-slot .ensures) ∙ c .slot .given .1)
 
 find-slot-requires : tie.Need-find-slot-requires
 find-slot-requires c κs = search needs
@@ -31,11 +34,17 @@ enum-told c = search needs
 
 returns : tie.Need-returns
 unfolding deleteDecided
-returns c = let s = c .before .before .before .before .before .before in ap (deleteDecided (s .args .key) (s .args .node) (s .args .leaf .now)) (sym (sym (c .before .before .before .before .find-slot .ensures) ∙ c .before .before .slot .given .1))
+returns c =
+    let s = c .before .before .before .before .before .before in
+    ap (deleteDecided (s .args .key) (s .args .node) (s .args .leaf .now))
+    (sym (sym (c .before .before .before .before .find-slot .ensures) ∙ c .before .before .slot .given .1))
 
 returns-2 : tie.Need-returns-2
 unfolding deleteDecided
-returns-2 c = let s = c .before .before .before .before in ap (deleteDecided (s .args .key) (s .args .node) (s .args .leaf .now)) (sym (sym (c .before .before .find-slot .ensures) ∙ c .enum-told .given .1))
+returns-2 c =
+    let s = c .before .before .before .before in
+    ap (deleteDecided (s .args .key) (s .args .node) (s .args .leaf .now))
+    (sym (sym (c .before .before .find-slot .ensures) ∙ c .enum-told .given .1))
 
 pub delete-in-spec : {M : Type 1} → statement M
 delete-in-spec =

@@ -1,11 +1,11 @@
 -- `call_change::insert_in` meets its contract.
-use mathlib.Core.Bool.{true}
 use mathlib.Core.Path.{ap, sym, _∙_}
 use Prim.Native.Nat.{_<_}
 use native.Mathlib.Omega.{arith}
 use Rattle.change_decide.specs.declared.Decision.{Decision}
 use Rattle.state.specs.declared.Answer.the-variants.{Absent}
 use Rattle.state.specs.declared.Doing.the-variants.{Inserting}
+use Rattle.state.specs.declared.Phase.the-variants.{InHand}
 use Rattle.walk.specs.declared.Slot.{Slot}
 use Rattle.walk.proofs.DescentLaws.{slot-below}
 use Rattle.call_change.specs.Updates.{reasonIn, insertReason}
@@ -24,14 +24,14 @@ find-slot-requires c κs = search needs
 enum-known-i : tie.Need-enum-known-i
 enum-known-i c = search needs
 
-add-t10 : tie.Need-add-t10
-add-t10 c = omega (arith, few (c .before))
+add-t11 : tie.Need-add-t11
+add-t11 c = omega (arith, few (c .before))
 
-mul-t11 : tie.Need-mul-t11
-mul-t11 c = omega (arith, few (c .before))
+mul-t12 : tie.Need-mul-t12
+mul-t12 c = omega (arith, few (c .before))
 
-shared-slice-read-t13 : tie.Need-shared-slice-read-t13
-shared-slice-read-t13 c = omega (arith, few (c .before .before))
+shared-slice-read-t14 : tie.Need-shared-slice-read-t14
+shared-slice-read-t14 c = omega (arith, few (c .before .before))
 
 enum-told : tie.Need-enum-told
 enum-told c = search needs
@@ -50,7 +50,7 @@ returns-2 : tie.Need-returns-2
 unfolding insertReason reasonIn
 returns-2 c =
     let s = c .before .before .before .before .before in
-    ap (λ (d : Decision). record { doing = Inserting (s .args .key) (s .args .value) true; answer = Absent; decision = d }) (c .place-new .ensures)
+    ap (λ (d : Decision). record { doing = Inserting (s .args .key) (s .args .value) InHand; answer = Absent; decision = d }) (c .place-new .ensures)
     ∙ answer-empty (s .args .leaf .now) (s .args .key) (s .args .value) (s .args .node) (s .args .link)
     ∙ ap (λ (t : Slot). insertDecided (s .args .key) (s .args .value) (s .args .node) (s .args .link) (reasonIn (s .args .leaf .now) t))
     (sym (sym (c .before .before .before .find-slot .ensures) ∙ c .before .enum-told .given .1))
@@ -61,9 +61,9 @@ insert-in-spec =
     (tie.spec
     find-slot-requires
     enum-known-i
-    add-t10
-    mul-t11
-    shared-slice-read-t13
+    add-t11
+    mul-t12
+    shared-slice-read-t14
     enum-told
     place-new-requires
     returns

@@ -13,8 +13,13 @@ use Rattle.call_change.proofs.put_in.Statement.{statement}
 use Rattle.call_change.proofs.put_in.Tie as tie
 
 -- where the key leads to
-at : (c : tie.After-node) → (run : ℕ) × (landing (c .before .before .before .before .args .card .now) (c .before .before .before .before .args .n) (c .before .before .before .before .args .key) ≡ LandingAt (c .node .given .0 .0) (c .node .given .0 .1 .0) run)
-at c = let s = c .before .before .before .before in somewhere (s .args .card .now) (s .args .n) (s .args .key) (c .before .before .arrive .result) (c .before .before .arrive .ensures) _ _ (c .node .given .1)
+at : (c : tie.After-node)
+    → (run : ℕ) × (landing (c .before .before .before .before .args .card .now) (c .before .before .before .before .args .n)
+    (c .before .before .before .before .args .key) ≡ LandingAt (c .node .given .0 .0) (c .node .given .0 .1 .0) run)
+at c =
+    let s = c .before .before .before .before in
+    somewhere (s .args .card .now) (s .args .n) (s .args .key) (c .before .before .arrive .result)
+    (c .before .before .arrive .ensures) _ _ (c .node .given .1)
 
 leaf : (c : tie.After-node) → Landed (c .before .before .before .before .args .n) (c .node .given .0 .0) (c .node .given .0 .1 .0)
 leaf c = let s = c .before .before .before .before in landed (s .args .card .now) (s .args .n) (s .args .key) _ _ (at (c) .0) (s .pre) (at (c) .1)
@@ -29,7 +34,10 @@ enum-known-node : tie.Need-enum-known-node
 enum-known-node c = search needs
 
 node-at-requires : tie.Need-node-at-requires
-node-at-requires c κs = let s = c .before .before .before .before .before in let k = leaf (c .before) in (k .inside .one, omega (arith, k .inside .most, s .pre .most), omega (arith, k .inside .most, s .pre .words))
+node-at-requires c κs =
+    let s = c .before .before .before .before .before in
+    let k = leaf (c .before) in
+    (k .inside .one, omega (arith, k .inside .most, s .pre .most), omega (arith, k .inside .most, s .pre .words))
 
 insert-in-requires : tie.Need-insert-in-requires
 insert-in-requires c κs =

@@ -13,7 +13,10 @@ use Rattle.call_find.proofs.find.Statement.{statement}
 use Rattle.call_find.proofs.find.Tie as tie
 
 whole : (c : tie.After-nodes-of) → Sized (length (c .before .before .before .before .before .args .card .now)) (c .nodes-of .result)
-whole c = sized (c .before .before .before .before .before .args .card .now) (c .nodes-of .result) (c .nodes-of .ensures) (λ z. card-sized (c .before .before .before .before .before .args .card .now) (sym (c .before .before .before .card-refusal .ensures) ∙ c .before .before .if1 .left) (sym (c .nodes-of .ensures) ∙ z))
+whole c =
+    sized (c .before .before .before .before .before .args .card .now) (c .nodes-of .result) (c .nodes-of .ensures)
+    (λ z. card-sized (c .before .before .before .before .before .args .card .now)
+    (sym (c .before .before .before .card-refusal .ensures) ∙ c .before .before .if1 .left) (sym (c .nodes-of .ensures) ∙ z))
 
 card-refusal-requires : tie.Need-card-refusal-requires
 card-refusal-requires c κs = search needs
@@ -32,7 +35,8 @@ found-at-requires c κs = let k = whole c in (k .words, k .most)
 
 returns-3 : tie.Need-returns-3
 returns-3 c =
-    c .found-at .ensures ∙ ap (λ (n : ℕ). foundAt (c .before .before .before .before .before .before .args .card .now) (c .before .before .before .before .before .before .args .key) (leafOf (way (c .before .before .before .before .before .before .args .card .now) n (c .before .before .before .before .before .before .args .key)))) (c .before .nodes-of .ensures)
+    let s = c .before .before .before .before .before .before in
+    c .found-at .ensures ∙ ap (λ (n : ℕ). foundAt (s .args .card .now) (s .args .key) (leafOf (way (s .args .card .now) n (s .args .key)))) (c .before .nodes-of .ensures)
     ∙ sym (find-key _ _ (sym (c .before .before .before .before .card-refusal .ensures) ∙ c .before .before .before .if1 .left) (c .before .before .if2 .left))
 
 pub find-spec : {M : Type 1} → statement M

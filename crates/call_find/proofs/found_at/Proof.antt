@@ -15,7 +15,10 @@ use Rattle.call_find.proofs.found_at.Statement.{statement}
 use Rattle.call_find.proofs.found_at.Tie as tie
 
 leaf : (c : tie.After-node) → Inside (c .before .before .before .before .before .args .n) (c .node .given .0 .0)
-leaf c = reached-inside (c .before .before .before .before .before .args .card .now) (c .before .before .before .before .before .args .n) (c .before .before .before .before .before .args .key) depthLimit (rootPosition (getD (c .before .before .before .before .before .args .card .now) rootPlace 0)) (c .node .given .0 .0) (c .node .given .0 .1 .0) (sym (c .before .before .find-leaf .ensures) ∙ c .node .given .1)
+leaf c =
+    let s = c .before .before .before .before .before in
+    reached-inside (s .args .card .now) (s .args .n) (s .args .key) depthLimit (rootPosition (getD (s .args .card .now) rootPlace 0))
+    (c .node .given .0 .0) (c .node .given .0 .1 .0) (sym (c .before .before .find-leaf .ensures) ∙ c .node .given .1)
 
 shared-slice-read-find-leaf : tie.Need-shared-slice-read-find-leaf
 shared-slice-read-find-leaf c = search needs
@@ -36,11 +39,16 @@ node-at-requires : tie.Need-node-at-requires
 node-at-requires c κs = let k = leaf (c .before) in (k .one, omega (arith, k .most), omega (arith, k .most))
 
 found-in-requires : tie.Need-found-in-requires
-found-in-requires c κs = let k = leaf (c .before .before) in ap length (c .node-at .ensures) ∙ length-node (c .before .before .before .before .before .before .before .args .card .now) (c .before .before .node .given .0 .0) (k .one) (omega (arith, k .most))
+found-in-requires c κs =
+    let k = leaf (c .before .before) in
+    ap length (c .node-at .ensures) ∙ length-node (c .before .before .before .before .before .before .before .args .card .now)
+    (c .before .before .node .given .0 .0) (k .one) (omega (arith, k .most))
 
 returns : tie.Need-returns
 unfolding foundAt way
-returns c = ap (foundAt (c .before .before .before .before .before .args .card .now) (c .before .before .before .before .before .args .key)) (sym (sym (c .before .before .find-leaf .ensures) ∙ c .enum-told .given .1))
+returns c =
+    ap (foundAt (c .before .before .before .before .before .args .card .now) (c .before .before .before .before .before .args .key))
+    (sym (sym (c .before .before .find-leaf .ensures) ∙ c .enum-told .given .1))
 
 returns-2 : tie.Need-returns-2
 unfolding foundAt way

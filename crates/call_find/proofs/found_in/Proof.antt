@@ -9,7 +9,9 @@ use Rattle.call_find.proofs.found_in.Statement.{statement}
 use Rattle.call_find.proofs.found_in.Tie as tie
 
 few : (c : tie.After-i) → c .i .given .0 .0 < 11
-few c = slot-few (c .before .before .before .before .args .node .now) (c .before .before .before .before .args .key) (c .i .given .0 .0) (search needs) (sym (c .before .before .find-slot .ensures) ∙ c .i .given .1)
+few c =
+    slot-few (c .before .before .before .before .args .node .now) (c .before .before .before .before .args .key)
+    (c .i .given .0 .0) (search needs) (sym (c .before .before .find-slot .ensures) ∙ c .i .given .1)
 
 find-slot-requires : tie.Need-find-slot-requires
 find-slot-requires c κs = search needs

@@ -6,8 +6,8 @@ use Rattle.card.specs.Header.{Sized}
 use Rattle.card.proofs.HeaderLaws.{sized, card-sized}
 use Rattle.card_check.specs.Check.{tableCheck}
 use Rattle.state.specs.Steps.{Handed, noBeginning}
-use Rattle.state_block.specs.Contracts.{Opened}
-use Rattle.state_block.proofs.ContractLaws.{open-no-state, opened-call}
+use Rattle.state.specs.Contracts.{Opened}
+use Rattle.state.proofs.ContractLaws.{open-no-state, opened-call}
 use Rattle.call_open.specs.Opening.{openChecked, openOf}
 use Rattle.call_open.proofs.OpeningLaws.{open-refused, open-unrefused}
 use borrow.Author.Needs.{needs}
@@ -15,7 +15,10 @@ use Rattle.call_open.proofs.open.Statement.{statement}
 use Rattle.call_open.proofs.open.Tie as tie
 
 whole : (c : tie.After-nodes-of) → Sized (length (c .before .before .before .before .before .before .args .card .now)) (c .nodes-of .result)
-whole c = let s = c .before .before .before .before .before .before in sized (s .args .card .now) (c .nodes-of .result) (c .nodes-of .ensures) (λ z. card-sized (s .args .card .now) (sym (c .before .before .card-refusal .ensures) ∙ c .before .if2 .left) (sym (c .nodes-of .ensures) ∙ z))
+whole c =
+    let s = c .before .before .before .before .before .before in
+    sized (s .args .card .now) (c .nodes-of .result) (c .nodes-of .ensures)
+    (λ z. card-sized (s .args .card .now) (sym (c .before .before .card-refusal .ensures) ∙ c .before .if2 .left) (sym (c .nodes-of .ensures) ∙ z))
 
 returns : tie.Need-returns
 returns c = let s = c .before .before .before in open-no-state (s .args .state .now) (c .if1 .taken) (openOf (s .args .card .now))
@@ -34,7 +37,8 @@ returns-2 c =
     let s = c .before .before .before .before .before .before .before .before .before in
     opened-call (s .args .state .now) (c .before .before .refuse-beginning .last .0) _ _ (c .before .before .before .before .before .before .if1 .left)
     (subst (λ (due : Handed). Opened (c .before .before .refuse-beginning .last .0) (c .before .before .refuse-beginning .result) due)
-    (ap noBeginning (c .before .before .before .before .before .card-refusal .ensures) ∙ sym (open-refused _ (λ z. c .before .before .before .before .if2 .taken (c .before .before .before .before .before .card-refusal .ensures ∙ z))))
+    (ap noBeginning (c .before .before .before .before .before .card-refusal .ensures)
+    ∙ sym (open-refused _ (λ z. c .before .before .before .before .if2 .taken (c .before .before .before .before .before .card-refusal .ensures ∙ z))))
     (c .before .before .refuse-beginning .ensures))
 
 nodes-of-requires : tie.Need-nodes-of-requires
@@ -51,7 +55,9 @@ returns-3 c =
     let s = c .before .before .before .before .before .before .before .before .before .before in
     opened-call (s .args .state .now) (c .before .before .open-checked .last .1 .1 .0) _ _ (c .before .before .before .before .before .before .before .if1 .left)
     (subst (λ (due : Handed). Opened (c .before .before .open-checked .last .1 .1 .0) (c .before .before .open-checked .result) due)
-    (ap (λ (n : ℕ). openChecked n (tableCheck (s .args .card .now) n)) (c .before .before .before .before .nodes-of .ensures) ∙ sym (open-unrefused _ (sym (c .before .before .before .before .before .before .card-refusal .ensures) ∙ c .before .before .before .before .before .if2 .left)))
+    (ap (λ (n : ℕ). openChecked n (tableCheck (s .args .card .now) n)) (c .before .before .before .before .nodes-of .ensures)
+    ∙ sym (open-unrefused _
+    (sym (c .before .before .before .before .before .before .card-refusal .ensures) ∙ c .before .before .before .before .before .if2 .left)))
     (c .before .before .open-checked .ensures))
 
 pub open-spec : {M : Type 1} → statement M

@@ -7,9 +7,9 @@ use Rattle.card_free.specs.NodeSet.{nodesOf}
 use Rattle.card_check.specs.Check.{findingsOf, checkedOf}
 use Rattle.card_check.specs.declared.Checked.{Checked}
 use Rattle.state.specs.Steps.{Handed}
-use Rattle.state_block.specs.Contracts.{Opened}
-use Rattle.state_block.proofs.Rows.{placed}
-use Rattle.state_block.proofs.Blocks.{freed-length, freed-part}
+use Rattle.state.specs.Contracts.{Opened}
+use Rattle.state.proofs.Rows.{placed}
+use Rattle.state.proofs.Blocks.{freed-length, freed-part}
 use Rattle.call_open.specs.Opening.{openSound, openChecked}
 use borrow.Author.Needs.{needs}
 use Rattle.call_open.proofs.open_checked.Statement.{statement}
@@ -47,26 +47,43 @@ open-sound-requires : tie.Need-open-sound-requires
 open-sound-requires c κs = let s = c .before .before .before .before .before .before .before .before .before .before .before in (long (c .before .before .before .before .before .before), s .pre .1)
 
 same-length : tie.Need-same-length
-same-length c = let s = c .before .before .before .before .before .before .before .before .before .before .before .before .before .before in c .before .before .refuse-beginning .kept .0 ∙ long (c .before .before .before .before .before .before .before .before .before) ∙ sym (s .pre .2)
+same-length c =
+    let s = c .before .before .before .before .before .before .before .before .before .before .before .before .before .before in
+    c .before .before .refuse-beginning .kept .0
+    ∙ long (c .before .before .before .before .before .before .before .before .before) ∙ sym (s .pre .2)
 
 returns : tie.Need-returns
 unfolding openChecked checkedOf
 returns c =
     let s = c .before .before .before .before .before .before .before .before .before .before .before .before .before .before in
     subst (λ (due : Handed). Opened (c .before .before .refuse-beginning .last .0) (c .before .before .refuse-beginning .result) due)
-    (ap (openChecked (s .args .n)) (sym (ap (λ (r : Checked). checkedOf r (findingsOf (nodesOf (c .before .before .before .before .before .before .before .before .before .check-table .last .1 .1 .0)) (c .before .before .before .before .before .before .before .before .before .check-table .last .1 .1 .1 .0))) (c .before .before .before .before .enum-told .given .1)) ∙ c .before .before .before .before .before .before .before .before .before .check-table .ensures))
+    (ap (openChecked (s .args .n)) (sym (ap (λ (r : Checked). checkedOf r
+    (findingsOf (nodesOf (c .before .before .before .before .before .before .before .before .before .check-table .last .1 .1 .0))
+    (c .before .before .before .before .before .before .before .before .before .check-table .last .1 .1 .1 .0)))
+    (c .before .before .before .before .enum-told .given .1))
+    ∙ c .before .before .before .before .before .before .before .before .before .check-table .ensures))
     (c .before .before .refuse-beginning .ensures)
 
 same-length-2 : tie.Need-same-length-2
-same-length-2 c = let s = c .before .before .before .before .before .before .before .before .before .before .before .before .before .before in c .before .before .open-sound .kept .0 ∙ long (c .before .before .before .before .before .before .before .before .before) ∙ sym (s .pre .2)
+same-length-2 c =
+    let s = c .before .before .before .before .before .before .before .before .before .before .before .before .before .before in
+    c .before .before .open-sound .kept .0
+    ∙ long (c .before .before .before .before .before .before .before .before .before) ∙ sym (s .pre .2)
 
 returns-2 : tie.Need-returns-2
 unfolding openChecked checkedOf
 returns-2 c =
     let s = c .before .before .before .before .before .before .before .before .before .before .before .before .before .before in
     subst (λ (due : Handed). Opened (c .before .before .open-sound .last .0) (c .before .before .open-sound .result) due)
-    (ap (λ (row : List ℕ). openSound (s .args .n) (findingsOf (nodesOf row) (c .before .before .before .before .before .before .before .before .before .check-table .last .1 .1 .1 .0))) (freed-part (s .args .state .now) (c .before .before .before .before .before .before .before .before .before .check-table .last .1 .1 .0) (s .pre .2) (c .before .before .before .before .before .before .before .before .before .check-table .kept .1 .1 .0))
-    ∙ ap (openChecked (s .args .n)) (sym (ap (λ (r : Checked). checkedOf r (findingsOf (nodesOf (c .before .before .before .before .before .before .before .before .before .check-table .last .1 .1 .0)) (c .before .before .before .before .before .before .before .before .before .check-table .last .1 .1 .1 .0))) (c .before .before .before .before .enum-told2 .given .1)) ∙ c .before .before .before .before .before .before .before .before .before .check-table .ensures))
+    (ap (λ (row : List ℕ). openSound (s .args .n)
+    (findingsOf (nodesOf row) (c .before .before .before .before .before .before .before .before .before .check-table .last .1 .1 .1 .0)))
+    (freed-part (s .args .state .now) (c .before .before .before .before .before .before .before .before .before .check-table .last .1 .1 .0)
+    (s .pre .2) (c .before .before .before .before .before .before .before .before .before .check-table .kept .1 .1 .0))
+    ∙ ap (openChecked (s .args .n)) (sym (ap (λ (r : Checked). checkedOf r
+    (findingsOf (nodesOf (c .before .before .before .before .before .before .before .before .before .check-table .last .1 .1 .0))
+    (c .before .before .before .before .before .before .before .before .before .check-table .last .1 .1 .1 .0)))
+    (c .before .before .before .before .enum-told2 .given .1))
+    ∙ c .before .before .before .before .before .before .before .before .before .check-table .ensures))
     (c .before .before .open-sound .ensures)
 
 pub open-checked-spec : {M : Type 1} → statement M

@@ -8,8 +8,8 @@ use Rattle.card_free.specs.NodeSet.{nodesOf}
 use Rattle.card_check.specs.Check.{findingsOf}
 use Rattle.state.specs.Steps.{Handed}
 use Rattle.state.specs.declared.Begun.the-variants.{Idle as OpenedIdle, Started}
-use Rattle.state_block.specs.Block.{part, formatted}
-use Rattle.state_block.specs.Contracts.{Opened}
+use Rattle.state.specs.Block.{part}
+use Rattle.state.specs.Contracts.{Opened}
 use Rattle.call_open.proofs.OpeningLaws.{open-scarce, open-repair, open-idle}
 use borrow.Author.Needs.{needs}
 use Rattle.call_open.proofs.open_sound.Statement.{statement}
@@ -36,7 +36,9 @@ same-length c = search needs
 returns : tie.Need-returns
 unfolding findingsOf
 returns c =
-    subst (λ (due : Handed). Opened (c .before .before .refuse-beginning .last .0) (c .before .before .refuse-beginning .result) due) (sym (open-scarce _ _ (omega (arith, c .before .before .before .before .before .count .ensures, c .before .before .before .before .if1 .taken)))) (c .before .before .refuse-beginning .ensures)
+    subst (λ (due : Handed). Opened (c .before .before .refuse-beginning .last .0) (c .before .before .refuse-beginning .result) due)
+    (sym (open-scarce _ _ (omega (arith, c .before .before .before .before .before .count .ensures, c .before .before .before .before .if1 .taken))))
+    (c .before .before .refuse-beginning .ensures)
 
 array-read-run : tie.Need-array-read-run
 array-read-run c = search needs
@@ -53,7 +55,13 @@ same-length-2 c = search needs
 returns-2 : tie.Need-returns-2
 unfolding findingsOf
 returns-2 c =
-    subst (λ (due : Handed). Opened (c .before .before .refuse-beginning2 .last .0) (c .before .before .refuse-beginning2 .result) due) (sym (open-scarce _ _ (omega (arith, c .before .before .before .before .before .before .count .ensures, c .before .before .before .before .before .if1 .left, c .before .before .before .before .if2 .taken)))) (c .before .before .refuse-beginning2 .ensures)
+    subst (λ (due : Handed). Opened (c .before .before .refuse-beginning2 .last .0) (c .before .before .refuse-beginning2 .result) due)
+    (sym (open-scarce _ _ (omega (
+      arith,
+      c .before .before .before .before .before .before .count .ensures,
+      c .before .before .before .before .before .if1 .left,
+      c .before .before .before .before .if2 .taken,
+    )))) (c .before .before .refuse-beginning2 .ensures)
 
 array-read-if3 : tie.Need-array-read-if3
 array-read-if3 c = search needs
@@ -62,8 +70,7 @@ array-read-t26 : tie.Need-array-read-t26
 array-read-t26 c = search needs
 
 store-resting-requires : tie.Need-store-resting-requires
-unfolding formatted
-store-resting-requires c κs = let s = c .before .before .before .before .before .before .before .before in (s .pre .0, s .pre .1, refl)
+store-resting-requires c κs = let s = c .before .before .before .before .before .before .before .before in (s .pre .0, s .pre .1)
 
 same-length-3 : tie.Need-same-length-3
 same-length-3 c = search needs
@@ -73,12 +80,16 @@ unfolding findingsOf
 returns-3 c =
     let s = c .before .before .before .before .before .before .before .before .before .before .before in
     subst (λ (due : Handed). Opened (c .before .before .store-resting .last .0) Started due)
-    (sym (open-repair _ (findingsOf (nodesOf (part (s .args .state .now) 11 20)) (s .args .t3)) (omega (arith, c .before .before .before .before .before .before .before .count .ensures, c .before .before .before .before .before .before .if1 .left, c .before .before .before .before .before .if2 .left)) (ap not (ne-eqb (getD (s .args .t3) 0 0) 0 (c .before .before .before .before .if3 .taken)))))
+    (sym (open-repair _ (findingsOf (nodesOf (part (s .args .state .now) 11 20)) (s .args .t3)) (omega (
+      arith,
+      c .before .before .before .before .before .before .before .count .ensures,
+      c .before .before .before .before .before .before .if1 .left,
+      c .before .before .before .before .before .if2 .left,
+    )) (ap not (ne-eqb (getD (s .args .t3) 0 0) 0 (c .before .before .before .before .if3 .taken)))))
     (record { answered = refl; handed = c .before .before .store-resting .ensures .1; words = c .before .before .store-resting .ensures .0 })
 
 store-resting-requires-2 : tie.Need-store-resting-requires-2
-unfolding formatted
-store-resting-requires-2 c κs = let s = c .before .before .before .before .before .before .before .before in (s .pre .0, s .pre .1, refl)
+store-resting-requires-2 c κs = let s = c .before .before .before .before .before .before .before .before in (s .pre .0, s .pre .1)
 
 same-length-4 : tie.Need-same-length-4
 same-length-4 c = search needs
@@ -88,7 +99,12 @@ unfolding findingsOf
 returns-4 c =
     let s = c .before .before .before .before .before .before .before .before .before .before .before in
     subst (λ (due : Handed). Opened (c .before .before .store-resting2 .last .0) OpenedIdle due)
-    (sym (open-idle _ (findingsOf (nodesOf (part (s .args .state .now) 11 20)) (s .args .t3)) (omega (arith, c .before .before .before .before .before .before .before .count .ensures, c .before .before .before .before .before .before .if1 .left, c .before .before .before .before .before .if2 .left)) (ap not (eq-eqb (getD (s .args .t3) 0 0) 0 (c .before .before .before .before .if3 .left)))))
+    (sym (open-idle _ (findingsOf (nodesOf (part (s .args .state .now) 11 20)) (s .args .t3)) (omega (
+      arith,
+      c .before .before .before .before .before .before .before .count .ensures,
+      c .before .before .before .before .before .before .if1 .left,
+      c .before .before .before .before .before .if2 .left,
+    )) (ap not (eq-eqb (getD (s .args .t3) 0 0) 0 (c .before .before .before .before .if3 .left)))))
     (record { answered = refl; handed = c .before .before .store-resting2 .ensures .1; words = c .before .before .store-resting2 .ensures .0 })
 
 pub open-sound-spec : {M : Type 1} → statement M

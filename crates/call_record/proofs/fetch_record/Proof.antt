@@ -43,7 +43,9 @@ part-result-end-2 c = search needs
 
 returns : tie.Need-returns
 unfolding recordOf recordFor
-returns c = c .record-at .ensures ∙ ap (recordFor (c .before .before .before .before .before .before .before .args .block .now)) (sym (sym (c .before .before .before .before .find .ensures) ∙ c .before .before .value .given .1))
+returns c =
+    c .record-at .ensures ∙ ap (recordFor (c .before .before .before .before .before .before .before .args .block .now))
+    (sym (sym (c .before .before .before .before .find .ensures) ∙ c .before .before .value .given .1))
 
 returns-2 : tie.Need-returns-2
 unfolding recordOf recordFor
@@ -54,4 +56,6 @@ unfolding recordOf recordFor
 returns-3 c = ap (recordFor (c .before .before .before .before .before .before .args .block .now)) (sym (sym (c .before .before .before .find .ensures) ∙ c .before .enum-told2 .given .1))
 
 pub fetch-record-spec : {M : Type 1} → statement M
-fetch-record-spec = tie.close (tie.spec find-requires enum-known-value cast-record-at record-at-requires enum-told sub-result part-result-start part-result-end enum-told-2 sub-result-2 part-result-start-2 part-result-end-2 returns returns-2 returns-3)
+fetch-record-spec =
+    tie.close (tie.spec find-requires enum-known-value cast-record-at record-at-requires enum-told sub-result
+    part-result-start part-result-end enum-told-2 sub-result-2 part-result-start-2 part-result-end-2 returns returns-2 returns-3)

@@ -25,7 +25,9 @@ enum-known-refusal c = search needs
 
 returns : tie.Need-returns
 unfolding fetchOf fetchedFor
-returns c = c .fetched-at .ensures ∙ ap (fetchedFor (c .before .before .before .before .before .before .before .args .block .now)) (sym (sym (c .before .before .before .before .find .ensures) ∙ c .before .before .value .given .1))
+returns c =
+    c .fetched-at .ensures ∙ ap (fetchedFor (c .before .before .before .before .before .before .before .args .block .now))
+    (sym (sym (c .before .before .before .before .find .ensures) ∙ c .before .before .value .given .1))
 
 returns-2 : tie.Need-returns-2
 unfolding fetchOf fetchedFor

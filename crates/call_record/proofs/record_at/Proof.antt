@@ -24,7 +24,9 @@ part-result-end : tie.Need-part-result-end
 part-result-end c = search needs
 
 returns : tie.Need-returns
-returns c = rw (ne-eqb (recordRefusal (c .before .before .before .before .args .block .now) (c .before .before .before .before .args .at)) 0 (λ z. c .before .if1 .taken (c .before .before .record-refusal .ensures ∙ z))) refl
+returns c =
+    rw (ne-eqb (recordRefusal (c .before .before .before .before .args .block .now) (c .before .before .before .before .args .at)) 0
+    (λ z. c .before .if1 .taken (c .before .before .record-refusal .ensures ∙ z))) refl
 
 add-from : tie.Need-add-from
 add-from c = let k = inside (c) in let fits = c .before .before .shared-slice-known .given in omega (arith, k .inside)
@@ -49,8 +51,11 @@ part-result-end-2 c = let k = inside (c .before .before) in omega (arith, k .who
 
 returns-2 : tie.Need-returns-2
 returns-2 c =
-    rw (eq-eqb (recordRefusal (c .before .before .before .before .before .before .args .block .now) (c .before .before .before .before .before .before .args .at)) 0 (sym (c .before .before .before .before .record-refusal .ensures) ∙ c .before .before .before .if1 .left))
-    (record-part (c .before .before .before .before .before .before .args .block .now) (c .before .before .before .before .before .before .args .at) _ _ refl (omega (arith, c .before .wide .ensures .0)))
+    let s = c .before .before .before .before .before .before in
+    rw (eq-eqb (recordRefusal (s .args .block .now) (s .args .at)) 0 (sym (c .before .before .before .before .record-refusal .ensures) ∙ c .before .before .before .if1 .left))
+    (record-part (s .args .block .now) (s .args .at) _ _ refl (omega (arith, c .before .wide .ensures .0)))
 
 pub record-at-spec : {M : Type 1} → statement M
-record-at-spec = tie.close (tie.spec record-refusal-requires sub-result part-result-start part-result-end returns add-from shared-slice-read-wide wide-requires add-end sub-result-2 part-result-start-2 part-result-end-2 returns-2)
+record-at-spec =
+    tie.close (tie.spec record-refusal-requires sub-result part-result-start part-result-end returns add-from
+    shared-slice-read-wide wide-requires add-end sub-result-2 part-result-start-2 part-result-end-2 returns-2)

@@ -3,8 +3,8 @@ use mathlib.Core.Path.{_≡_, refl, ap₂, sym, _∙_}
 use Prim.Native.Nat.{_-_}
 use native.Mathlib.Omega.{arith}
 use lib.ListN.{length}
-use Rattle.table.specs.Calls.{repairSteps}
-use Rattle.state_block.specs.Block.{stateWords, memoryIn}
+use Rattle.call_step.specs.Calls.{repairSteps}
+use Rattle.state.specs.Block.{stateWords, memoryIn}
 use Rattle.call_repair.specs.Repairing.{repairedCard, leftBy}
 use Rattle.call_repair.proofs.RepairingLaws.{repair-idle, repair-over, repair-on}
 use borrow.Author.Needs.{needs}
@@ -37,7 +37,10 @@ same-length-2 c = search needs
 
 returns : tie.Need-returns Inv-loop μ-loop
 unfolding leftBy
-returns c = sym (c .before .before .before .before .loop .inv .0 ∙ repair-idle (c .before .before .before .before .loop .left) (c .before .before .before .before .loop .card) (memoryIn (c .before .before .before .before .loop .state)) (sym (c .before .is-idle .ensures .0 (c .before .before .before .before .loop .inv .2)) ∙ c .if1 .taken))
+returns c =
+    sym (c .before .before .before .before .loop .inv .0 ∙ repair-idle (c .before .before .before .before .loop .left)
+    (c .before .before .before .before .loop .card) (memoryIn (c .before .before .before .before .loop .state))
+    (sym (c .before .is-idle .ensures .0 (c .before .before .before .before .loop .inv .2)) ∙ c .if1 .taken))
 
 step-requires : tie.Need-step-requires Inv-loop μ-loop
 step-requires c κs = search needs
@@ -51,8 +54,15 @@ loop-less c = search needs
 loop-again : tie.Need-loop-again Inv-loop μ-loop
 loop-again c =
     let long = c .before .before .before .before .before .before .before .before .before .before .before .loop .inv .2 in (
-      c .before .before .before .before .before .before .before .before .before .before .before .loop .inv .0 ∙ repair-on (c .before .before .before .before .before .before .before .before .before .before .before .loop .left) (c .before .before .before .before .before .before .before .before .before .before .before .loop .card) (memoryIn (c .before .before .before .before .before .before .before .before .before .before .before .loop .state)) (omega arith) (sym (c .before .before .before .before .before .before .before .before .is-idle .ensures .0 long) ∙ c .before .before .before .before .before .before .before .if1 .left)
-          ∙ ap₂ (repairedCard (c .before .before .before .before .before .before .before .before .before .before .before .loop .left - 1)) (sym (c .before .before .before .before .step .ensures .stored long)) (sym (c .before .before .before .before .step .ensures .handed long)),
+      c .before .before .before .before .before .before .before .before .before .before .before .loop .inv .0
+          ∙ repair-on (c .before .before .before .before .before .before .before .before .before .before .before .loop .left)
+          (c .before .before .before .before .before .before .before .before .before .before .before .loop .card)
+          (memoryIn (c .before .before .before .before .before .before .before .before .before .before .before .loop .state)) (omega arith)
+          (sym (c .before .before .before .before .before .before .before .before .is-idle .ensures .0 long)
+          ∙ c .before .before .before .before .before .before .before .if1 .left)
+          ∙ ap₂ (repairedCard (c .before .before .before .before .before .before .before .before .before .before .before .loop .left - 1))
+          (sym (c .before .before .before .before .step .ensures .made long .stored))
+          (sym (c .before .before .before .before .step .ensures .made long .handed)),
       c .before .before .before .before .step .kept .0 ∙ c .before .before .before .before .before .before .before .before .before .before .before .loop .inv .1,
       c .before .before .before .before .step .kept .1 .0 ∙ long,
     )

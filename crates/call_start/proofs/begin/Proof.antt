@@ -5,7 +5,7 @@ use Rattle.call_start.proofs.begin.Statement.{statement}
 use Rattle.call_start.proofs.begin.Tie as tie
 
 returns : tie.Need-returns
-returns c = let s = c .before .before in start-refused-in (s .args .state .now) (s .pre .0) (s .args .doing) (s .args .refusal) (c .if1 .taken)
+returns c = let s = c .before .before in start-refused-in (s .args .state .now) (s .pre) (s .args .doing) (s .args .refusal) (c .if1 .taken)
 
 store-doing-requires : tie.Need-store-doing-requires
 store-doing-requires c κs = search needs
@@ -14,7 +14,10 @@ same-length : tie.Need-same-length
 same-length c = search needs
 
 returns-2 : tie.Need-returns-2
-returns-2 c = let s = c .before .before .before .before .before .before in started-in (s .args .state .now) (s .pre .0) (s .args .doing) (s .args .refusal) (c .before .before .store-doing .last .0) (s .pre .1) (c .before .before .before .before .if1 .left) (c .before .before .store-doing .ensures)
+returns-2 c =
+    let s = c .before .before .before .before .before .before in
+    started-in (s .args .state .now) (s .pre) (s .args .doing) (s .args .refusal) (c .before .before .store-doing .last .0)
+    (c .before .before .before .before .if1 .left) (c .before .before .store-doing .ensures)
 
 pub begin-spec : {M : Type 1} → statement M
 begin-spec =

@@ -3,8 +3,7 @@ use mathlib.Core.Path.{ap₂, _∙_}
 use mathlib.Core.Bool.{Bool}
 use Prim.Native.Nat.{ℕ}
 use Rattle.card_free.specs.NodeSet.{nodesOf}
-use Rattle.state.specs.Memory.{memoryOf}
-use Rattle.state_block.specs.Block.{part, unpacked}
+use Rattle.state.specs.Block.{part, memoryIn}
 use Rattle.call_start.specs.Refusals.{dueRefusal, roomWhere}
 use borrow.Author.Needs.{needs}
 use Rattle.call_start.proofs.block_refusal.Statement.{statement}
@@ -32,10 +31,12 @@ start-refusal-requires : tie.Need-start-refusal-requires
 start-refusal-requires c κs = search needs
 
 returns : tie.Need-returns
-unfolding memoryOf unpacked
+unfolding memoryIn
 returns c =
     let s = c .before .before .before .before .before .before .before in
-    c .start-refusal .ensures ∙ ap₂ (λ (n : ℕ) (idle : Bool). dueRefusal (s .args .card .now) n idle (s .args .key) (roomWhere (s .args .splits) (s .args .card .now) (s .args .key) (nodesOf (part (s .args .state .now) 11 20)))) (c .before .before .before .wide .ensures) (c .before .before .is-idle .ensures)
+    c .start-refusal .ensures ∙ ap₂ (λ (n : ℕ) (idle : Bool). dueRefusal (s .args .card .now) n idle (s .args .key)
+    (roomWhere (s .args .splits) (s .args .card .now) (s .args .key) (nodesOf (part (s .args .state .now) 11 20))))
+    (c .before .before .before .wide .ensures) (c .before .before .is-idle .ensures .0 (s .pre))
 
 pub block-refusal-spec : {M : Type 1} → statement M
 block-refusal-spec =

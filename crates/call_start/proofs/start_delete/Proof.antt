@@ -1,12 +1,12 @@
 -- `call_start::start_delete` meets its contract.
-use mathlib.Core.Path.{refl, ap, sym, subst, _∙_}
-use mathlib.Core.Bool.{false}
+use mathlib.Core.Path.{ap, sym, subst, _∙_}
 use Prim.Native.Nat.{ℕ}
 use Rattle.state.specs.Steps.{Handed}
 use Rattle.state.specs.declared.Doing.the-variants.{Deleting}
-use Rattle.state_block.specs.Block.{memoryIn, formatted}
-use Rattle.state_block.specs.Contracts.{StartCall}
-use Rattle.state_block.proofs.ContractLaws.{start-no-state}
+use Rattle.state.specs.declared.Phase.the-variants.{NotBegun}
+use Rattle.state.specs.Block.{memoryIn}
+use Rattle.state.specs.Contracts.{StartCall}
+use Rattle.state.proofs.ContractLaws.{start-no-state}
 use Rattle.call_start.specs.Refusals.{begunBy}
 use Rattle.call_start.specs.Starts.{deleteOf}
 use Rattle.call_start.proofs.StartLaws.{start-due}
@@ -15,14 +15,16 @@ use Rattle.call_start.proofs.start_delete.Statement.{statement}
 use Rattle.call_start.proofs.start_delete.Tie as tie
 
 returns : tie.Need-returns
-returns c = let s = c .before .before .before in start-no-state (s .args .state .now) (c .if1 .taken) (Deleting (s .args .key) false 0) (deleteOf (s .args .card .now) (memoryIn (s .args .state .now)) (s .args .key))
+returns c =
+    let s = c .before .before .before in
+    start-no-state (s .args .state .now) (c .if1 .taken) (Deleting (s .args .key) NotBegun 0)
+    (deleteOf (s .args .card .now) (memoryIn (s .args .state .now)) (s .args .key))
 
 block-refusal-requires : tie.Need-block-refusal-requires
 block-refusal-requires c κs = search needs
 
 begin-requires : tie.Need-begin-requires
-unfolding formatted
-begin-requires c κs = (c .before .before .before .if1 .left, refl)
+begin-requires c κs = c .before .before .before .if1 .left
 
 same-length : tie.Need-same-length
 same-length c = search needs
@@ -31,9 +33,10 @@ returns-2 : tie.Need-returns-2
 unfolding deleteOf
 returns-2 c =
     let s = c .before .before .before .before .before .before .before .before .before in
-    let doing = Deleting (s .args .key) false 0 in
+    let doing = Deleting (s .args .key) NotBegun 0 in
     subst (λ (due : Handed). StartCall (s .args .state .now) (c .before .before .begin .last .0) (c .before .before .begin .result) doing due)
-    (ap (λ (r : ℕ). begunBy r (memoryIn (s .args .state .now)) doing) (c .before .before .before .before .block-refusal .ensures) ∙ sym (start-due (s .args .card .now) (memoryIn (s .args .state .now)) (s .args .key) doing _))
+    (ap (λ (r : ℕ). begunBy r (memoryIn (s .args .state .now)) doing) (c .before .before .before .before .block-refusal .ensures)
+    ∙ sym (start-due (s .args .card .now) (memoryIn (s .args .state .now)) (s .args .key) doing _))
     (c .before .before .begin .ensures)
 
 pub start-delete-spec : {M : Type 1} → statement M

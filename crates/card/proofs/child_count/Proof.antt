@@ -27,7 +27,9 @@ shared-slice-read-if1 : tie.Need-shared-slice-read-if1 Inv-loop μ-loop
 shared-slice-read-if1 c = search needs
 
 returns : tie.Need-returns Inv-loop μ-loop
-returns c = sym (children-count (c .before .before .before .before .args .node .now) (c .before .before .before .loop .c) (search needs) (omega arith) (c .before .before .before .loop .inv .1) (λ l. c .if1 .taken))
+returns c =
+    sym (children-count (c .before .before .before .before .args .node .now)
+    (c .before .before .before .loop .c) (search needs) (omega arith) (c .before .before .before .loop .inv .1) (λ l. c .if1 .taken))
 
 add-c : tie.Need-add-c Inv-loop μ-loop
 add-c c = search needs

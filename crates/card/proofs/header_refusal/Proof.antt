@@ -42,22 +42,41 @@ shared-slice-read-if5 : tie.Need-shared-slice-read-if5
 shared-slice-read-if5 c = search needs
 
 returns-5 : tie.Need-returns-5
-returns-5 c = sym (wrong-word5 _ _ (c .before .before .before .before .before .before .before .before .if1 .left) (c .before .before .before .before .before .before .if2 .left) (c .before .before .before .before .if3 .left) (c .before .before .if4 .left) (c .if5 .taken))
+returns-5 c =
+    sym (wrong-word5 _ _ (c .before .before .before .before .before .before .before .before .if1 .left)
+    (c .before .before .before .before .before .before .if2 .left)
+    (c .before .before .before .before .if3 .left) (c .before .before .if4 .left) (c .if5 .taken))
 
 shared-slice-read-if6 : tie.Need-shared-slice-read-if6
 shared-slice-read-if6 c = search needs
 
 returns-6 : tie.Need-returns-6
-returns-6 c = sym (wrong-word6 _ _ (c .before .before .before .before .before .before .before .before .before .before .if1 .left) (c .before .before .before .before .before .before .before .before .if2 .left) (c .before .before .before .before .before .before .if3 .left) (c .before .before .before .before .if4 .left) (c .before .before .if5 .left) (c .if6 .taken))
+returns-6 c =
+    sym (wrong-word6 _ _ (c .before .before .before .before .before .before .before .before .before .before .if1 .left)
+    (c .before .before .before .before .before .before .before .before .if2 .left) (c .before .before .before .before .before .before .if3 .left)
+    (c .before .before .before .before .if4 .left) (c .before .before .if5 .left) (c .if6 .taken))
 
 shared-slice-read-if7 : tie.Need-shared-slice-read-if7
 shared-slice-read-if7 c = search needs
 
 returns-7 : tie.Need-returns-7
-returns-7 c = sym (wrong-word7 _ _ (c .before .before .before .before .before .before .before .before .before .before .before .before .if1 .left) (c .before .before .before .before .before .before .before .before .before .before .if2 .left) (c .before .before .before .before .before .before .before .before .if3 .left) (c .before .before .before .before .before .before .if4 .left) (c .before .before .before .before .if5 .left) (c .before .before .if6 .left) (c .if7 .taken))
+returns-7 c =
+    sym (wrong-word7 _ _ (c .before .before .before .before .before .before .before .before .before .before .before .before .if1 .left)
+    (c .before .before .before .before .before .before .before .before .before .before .if2 .left)
+    (c .before .before .before .before .before .before .before .before .if3 .left) (c .before .before .before .before .before .before .if4 .left)
+    (c .before .before .before .before .if5 .left) (c .before .before .if6 .left) (c .if7 .taken))
 
 returns-8 : tie.Need-returns-8
-returns-8 c = sym (formatted-header _ _ (record { mark = c .before .before .before .before .before .before .before .before .before .before .before .before .if1 .left; nodes = c .before .before .before .before .before .before .before .before .before .before .if2 .left; first = c .before .before .before .before .before .before .before .before .if3 .left; each = c .before .before .before .before .before .before .if4 .left; five = c .before .before .before .before .if5 .left; six = c .before .before .if6 .left; seven = c .if7 .left }))
+returns-8 c =
+    sym (formatted-header _ _ (record {
+      mark = c .before .before .before .before .before .before .before .before .before .before .before .before .if1 .left;
+      nodes = c .before .before .before .before .before .before .before .before .before .before .if2 .left;
+      first = c .before .before .before .before .before .before .before .before .if3 .left;
+      each = c .before .before .before .before .before .before .if4 .left;
+      five = c .before .before .before .before .if5 .left;
+      six = c .before .before .if6 .left;
+      seven = c .if7 .left;
+    }))
 
 pub header-refusal-spec : {M : Type 1} → statement M
 header-refusal-spec =

@@ -23,12 +23,12 @@ use Rattle.card_check.proofs.+children_check+node_check.Lts-children_ch
 use Rattle.card_check.proofs.node_check.Reads as node-check
 use Rattle.card_check.proofs.node_check.Kinds as node-check-kinds
 use Rattle.card_check.proofs.+children_check+node_check.Lts-node_check as node-check-lts
-use Rattle.card.proofs.node_at.Reads as node-at-reads
-use Rattle.card_check.proofs.child_run.Reads as child-run-reads
-use Rattle.card_check.proofs.entering.enter.Reads as enter-reads
-use Rattle.card_check.proofs.is_level.Reads as is-level-reads
-use Rattle.card_check.proofs.raise.Reads as raise-reads
-use Rattle.card_check.proofs.range_end.Reads as range-end-reads
+use Rattle.card.proofs.node_at.Reads as node-at
+use Rattle.card_check.proofs.child_run.Reads as child-run
+use Rattle.card_check.proofs.entering.enter.Reads as enter
+use Rattle.card_check.proofs.is_level.Reads as is-level
+use Rattle.card_check.proofs.raise.Reads as raise
+use Rattle.card_check.proofs.range_end.Reads as range-end
 use Rattle.card_check.proofs.+children_check+node_check.{statement}
 use Rattle.card_check.proofs.+children_check+node_check.Tie.{close}
 
@@ -73,25 +73,39 @@ children-check-Inv-loop card node n c levels low high run free₀ found₀ from�
 abbrev children-check-μ-loop : children-check-lts.MeasureT-loop
 children-check-μ-loop card node n c levels low high run free₀ found₀ from₀ height₀ i₀ free found from height i = c - i
 
-children-check-loop-holds : (t : ℕ) → children-check-lts.Need-loop-holds (range-end-reads.Asked, range-end-reads.Learnt, node-check-below t, node-check.Post, is-level-reads.Asked, is-level-reads.Learnt) (children-check-at t) children-check.Post children-check-Inv-loop children-check-μ-loop
+children-check-loop-holds : (t : ℕ)
+    → children-check-lts.Need-loop-holds (range-end.Asked, range-end.Learnt, node-check-below t, node-check.Post, is-level.Asked, is-level.Learnt)
+    (children-check-at t) children-check.Post children-check-Inv-loop children-check-μ-loop
 children-check-loop-holds t c = (search needs, search needs, search needs, search needs, refl)
 
-children-check-range-end-requires : (t : ℕ) → children-check-lts.Need-range-end-requires (range-end-reads.Asked, range-end-reads.Learnt, node-check-below t, node-check.Post, is-level-reads.Asked, is-level-reads.Learnt) (children-check-at t) children-check.Post children-check-Inv-loop children-check-μ-loop
+children-check-range-end-requires : (t : ℕ) → children-check-lts.Need-range-end-requires
+    (range-end.Asked, range-end.Learnt, node-check-below t, node-check.Post, is-level.Asked, is-level.Learnt)
+    (children-check-at t) children-check.Post children-check-Inv-loop children-check-μ-loop
 children-check-range-end-requires t c κs = search needs
 
-children-check-enum-known-to : (t : ℕ) → children-check-lts.Need-enum-known-to (range-end-reads.Asked, range-end-reads.Learnt, node-check-below t, node-check.Post, is-level-reads.Asked, is-level-reads.Learnt) (children-check-at t) children-check.Post children-check-Inv-loop children-check-μ-loop
+children-check-enum-known-to : (t : ℕ)
+    → children-check-lts.Need-enum-known-to (range-end.Asked, range-end.Learnt, node-check-below t, node-check.Post, is-level.Asked, is-level.Learnt)
+    (children-check-at t) children-check.Post children-check-Inv-loop children-check-μ-loop
 children-check-enum-known-to t c = search needs
 
-children-check-enum-told : (t : ℕ) → children-check-lts.Need-enum-told (range-end-reads.Asked, range-end-reads.Learnt, node-check-below t, node-check.Post, is-level-reads.Asked, is-level-reads.Learnt) (children-check-at t) children-check.Post children-check-Inv-loop children-check-μ-loop
+children-check-enum-told : (t : ℕ)
+    → children-check-lts.Need-enum-told (range-end.Asked, range-end.Learnt, node-check-below t, node-check.Post, is-level.Asked, is-level.Learnt)
+    (children-check-at t) children-check.Post children-check-Inv-loop children-check-μ-loop
 children-check-enum-told t c = search needs
 
-children-check-same-length : (t : ℕ) → children-check-lts.Need-same-length (range-end-reads.Asked, range-end-reads.Learnt, node-check-below t, node-check.Post, is-level-reads.Asked, is-level-reads.Learnt) (children-check-at t) children-check.Post children-check-Inv-loop children-check-μ-loop
+children-check-same-length : (t : ℕ)
+    → children-check-lts.Need-same-length (range-end.Asked, range-end.Learnt, node-check-below t, node-check.Post, is-level.Asked, is-level.Learnt)
+    (children-check-at t) children-check.Post children-check-Inv-loop children-check-μ-loop
 children-check-same-length t c = search needs
 
-children-check-same-length-2 : (t : ℕ) → children-check-lts.Need-same-length-2 (range-end-reads.Asked, range-end-reads.Learnt, node-check-below t, node-check.Post, is-level-reads.Asked, is-level-reads.Learnt) (children-check-at t) children-check.Post children-check-Inv-loop children-check-μ-loop
+children-check-same-length-2 : (t : ℕ)
+    → children-check-lts.Need-same-length-2 (range-end.Asked, range-end.Learnt, node-check-below t, node-check.Post, is-level.Asked, is-level.Learnt)
+    (children-check-at t) children-check.Post children-check-Inv-loop children-check-μ-loop
 children-check-same-length-2 t c = search needs
 
-children-check-returns : (t : ℕ) → children-check-lts.Need-returns (range-end-reads.Asked, range-end-reads.Learnt, node-check-below t, node-check.Post, is-level-reads.Asked, is-level-reads.Learnt) (children-check-at t) children-check.Post children-check-Inv-loop children-check-μ-loop
+children-check-returns : (t : ℕ)
+    → children-check-lts.Need-returns (range-end.Asked, range-end.Learnt, node-check-below t, node-check.Post, is-level.Asked, is-level.Learnt)
+    (children-check-at t) children-check.Post children-check-Inv-loop children-check-μ-loop
 unfolding rangeEndOf checkedOf heightOf
 children-check-returns t c =
     let s = c .before .before .before .before .before .before .before .before .before in
@@ -102,86 +116,160 @@ children-check-returns t c =
       omega arith,
     )
 
-children-check-add-m : (t : ℕ) → children-check-lts.Need-add-m (range-end-reads.Asked, range-end-reads.Learnt, node-check-below t, node-check.Post, is-level-reads.Asked, is-level-reads.Learnt) (children-check-at t) children-check.Post children-check-Inv-loop children-check-μ-loop
+children-check-add-m : (t : ℕ)
+    → children-check-lts.Need-add-m (range-end.Asked, range-end.Learnt, node-check-below t, node-check.Post, is-level.Asked, is-level.Learnt)
+    (children-check-at t) children-check.Post children-check-Inv-loop children-check-μ-loop
 children-check-add-m t c = omega (arith, children-le (c .before .before .before .before .before .before .before .before .before .before .args .node .now))
 
-children-check-mul-m : (t : ℕ) → children-check-lts.Need-mul-m (range-end-reads.Asked, range-end-reads.Learnt, node-check-below t, node-check.Post, is-level-reads.Asked, is-level-reads.Learnt) (children-check-at t) children-check.Post children-check-Inv-loop children-check-μ-loop
+children-check-mul-m : (t : ℕ)
+    → children-check-lts.Need-mul-m (range-end.Asked, range-end.Learnt, node-check-below t, node-check.Post, is-level.Asked, is-level.Learnt)
+    (children-check-at t) children-check.Post children-check-Inv-loop children-check-μ-loop
 children-check-mul-m t c = omega (arith, children-le (c .before .before .before .before .before .before .before .before .before .before .args .node .now))
 
-children-check-shared-slice-read-m : (t : ℕ) → children-check-lts.Need-shared-slice-read-m (range-end-reads.Asked, range-end-reads.Learnt, node-check-below t, node-check.Post, is-level-reads.Asked, is-level-reads.Learnt) (children-check-at t) children-check.Post children-check-Inv-loop children-check-μ-loop
+children-check-shared-slice-read-m : (t : ℕ) → children-check-lts.Need-shared-slice-read-m
+    (range-end.Asked, range-end.Learnt, node-check-below t, node-check.Post, is-level.Asked, is-level.Learnt)
+    (children-check-at t) children-check.Post children-check-Inv-loop children-check-μ-loop
 children-check-shared-slice-read-m t c = omega (arith, children-le (c .before .before .before .before .before .before .before .before .before .before .before .args .node .now))
 
-children-check-cast-m : (t : ℕ) → children-check-lts.Need-cast-m (range-end-reads.Asked, range-end-reads.Learnt, node-check-below t, node-check.Post, is-level-reads.Asked, is-level-reads.Learnt) (children-check-at t) children-check.Post children-check-Inv-loop children-check-μ-loop
+children-check-cast-m : (t : ℕ)
+    → children-check-lts.Need-cast-m (range-end.Asked, range-end.Learnt, node-check-below t, node-check.Post, is-level.Asked, is-level.Learnt)
+    (children-check-at t) children-check.Post children-check-Inv-loop children-check-μ-loop
 children-check-cast-m t c = omega (arith, c .shared-slice-known3 .given (12 + c .before .before .before .before .before .before .loop .i))
 
-children-check-node-check-requires : (t : ℕ) → children-check-lts.Need-node-check-requires (range-end-reads.Asked, range-end-reads.Learnt, node-check-below t, node-check.Post, is-level-reads.Asked, is-level-reads.Learnt) (children-check-at t) children-check.Post children-check-Inv-loop children-check-μ-loop
+children-check-node-check-requires : (t : ℕ) → children-check-lts.Need-node-check-requires
+    (range-end.Asked, range-end.Learnt, node-check-below t, node-check.Post, is-level.Asked, is-level.Learnt)
+    (children-check-at t) children-check.Post children-check-Inv-loop children-check-μ-loop
 children-check-node-check-requires t c κs = search needs
 
-children-check-enum-known-its : (t : ℕ) → children-check-lts.Need-enum-known-its (range-end-reads.Asked, range-end-reads.Learnt, node-check-below t, node-check.Post, is-level-reads.Asked, is-level-reads.Learnt) (children-check-at t) children-check.Post children-check-Inv-loop children-check-μ-loop
+children-check-enum-known-its : (t : ℕ)
+    → children-check-lts.Need-enum-known-its (range-end.Asked, range-end.Learnt, node-check-below t, node-check.Post, is-level.Asked, is-level.Learnt)
+    (children-check-at t) children-check.Post children-check-Inv-loop children-check-μ-loop
 children-check-enum-known-its t c = search needs
 
-children-check-enum-told-2 : (t : ℕ) → children-check-lts.Need-enum-told-2 (range-end-reads.Asked, range-end-reads.Learnt, node-check-below t, node-check.Post, is-level-reads.Asked, is-level-reads.Learnt) (children-check-at t) children-check.Post children-check-Inv-loop children-check-μ-loop
+children-check-enum-told-2 : (t : ℕ)
+    → children-check-lts.Need-enum-told-2 (range-end.Asked, range-end.Learnt, node-check-below t, node-check.Post, is-level.Asked, is-level.Learnt)
+    (children-check-at t) children-check.Post children-check-Inv-loop children-check-μ-loop
 children-check-enum-told-2 t c = search needs
 
-children-check-same-length-3 : (t : ℕ) → children-check-lts.Need-same-length-3 (range-end-reads.Asked, range-end-reads.Learnt, node-check-below t, node-check.Post, is-level-reads.Asked, is-level-reads.Learnt) (children-check-at t) children-check.Post children-check-Inv-loop children-check-μ-loop
+children-check-same-length-3 : (t : ℕ)
+    → children-check-lts.Need-same-length-3 (range-end.Asked, range-end.Learnt, node-check-below t, node-check.Post, is-level.Asked, is-level.Learnt)
+    (children-check-at t) children-check.Post children-check-Inv-loop children-check-μ-loop
 children-check-same-length-3 t c = search needs
 
-children-check-same-length-4 : (t : ℕ) → children-check-lts.Need-same-length-4 (range-end-reads.Asked, range-end-reads.Learnt, node-check-below t, node-check.Post, is-level-reads.Asked, is-level-reads.Learnt) (children-check-at t) children-check.Post children-check-Inv-loop children-check-μ-loop
+children-check-same-length-4 : (t : ℕ)
+    → children-check-lts.Need-same-length-4 (range-end.Asked, range-end.Learnt, node-check-below t, node-check.Post, is-level.Asked, is-level.Learnt)
+    (children-check-at t) children-check.Post children-check-Inv-loop children-check-μ-loop
 children-check-same-length-4 t c = search needs
 
-children-check-returns-2 : (t : ℕ) → children-check-lts.Need-returns-2 (range-end-reads.Asked, range-end-reads.Learnt, node-check-below t, node-check.Post, is-level-reads.Asked, is-level-reads.Learnt) (children-check-at t) children-check.Post children-check-Inv-loop children-check-μ-loop
+children-check-returns-2 : (t : ℕ)
+    → children-check-lts.Need-returns-2 (range-end.Asked, range-end.Learnt, node-check-below t, node-check.Post, is-level.Asked, is-level.Learnt)
+    (children-check-at t) children-check.Post children-check-Inv-loop children-check-μ-loop
 unfolding rangeEndOf checkedOf heightOf
 children-check-returns-2 t c =
     let s = c .before .before .before .before .before .before .before .before .before .before .before .before .before .before .before .before .before .before .before .before in
     let l = c .before .before .before .before .before .before .before .before .before .before .before .before .before .before .before .loop in (
       sym (l .inv .4 ∙ turn-bad (s .args .node .now) (s .pre .1 .2) (s .args .c) (l .i) (s .pre .1 .3)
           (nodeCheck (s .args .levels) (s .args .card .now) (s .args .n) (s .args .run) false) (l .height) (l .from) (s .args .high) (findingsOf (nodesOf (l .free)) (l .found)) (omega arith)
-          (c .before .before .before .before .before .before .before .before .before .before .before .to .given .0 .0) (sym (c .before .before .before .before .before .before .before .before .before .before .before .before .before .range-end .ensures) ∙ ap rangeEndOf (c .before .before .before .before .before .before .before .before .before .before .before .to .given .1))
-          (sym (c .before .before .before .before .before .before .node-check .ensures .0) ∙ ap (λ (r : Checked). checkedOf r (findingsOf (nodesOf (c .before .before .before .before .before .before .node-check .last .1 .1 .1 .1 .1 .1 .1 .1 .0)) (c .before .before .before .before .before .before .node-check .last .1 .1 .1 .1 .1 .1 .1 .1 .1 .0))) (c .enum-told2 .given .1))),
+          (c .before .before .before .before .before .before .before .before .before .before .before .to .given .0 .0)
+          (sym (c .before .before .before .before .before .before .before .before .before .before .before .before .before .range-end .ensures)
+          ∙ ap rangeEndOf (c .before .before .before .before .before .before .before .before .before .before .before .to .given .1))
+          (sym (c .before .before .before .before .before .before .node-check .ensures .0) ∙ ap (λ (r : Checked). checkedOf r
+          (findingsOf (nodesOf (c .before .before .before .before .before .before .node-check .last .1 .1 .1 .1 .1 .1 .1 .1 .0))
+          (c .before .before .before .before .before .before .node-check .last .1 .1 .1 .1 .1 .1 .1 .1 .1 .0))) (c .enum-told2 .given .1))),
       omega arith,
     )
 
-children-check-is-level-requires : (t : ℕ) → children-check-lts.Need-is-level-requires (range-end-reads.Asked, range-end-reads.Learnt, node-check-below t, node-check.Post, is-level-reads.Asked, is-level-reads.Learnt) (children-check-at t) children-check.Post children-check-Inv-loop children-check-μ-loop
+children-check-is-level-requires : (t : ℕ) → children-check-lts.Need-is-level-requires
+    (range-end.Asked, range-end.Learnt, node-check-below t, node-check.Post, is-level.Asked, is-level.Learnt)
+    (children-check-at t) children-check.Post children-check-Inv-loop children-check-μ-loop
 children-check-is-level-requires t c κs = search needs
 
-children-check-same-length-5 : (t : ℕ) → children-check-lts.Need-same-length-5 (range-end-reads.Asked, range-end-reads.Learnt, node-check-below t, node-check.Post, is-level-reads.Asked, is-level-reads.Learnt) (children-check-at t) children-check.Post children-check-Inv-loop children-check-μ-loop
+children-check-same-length-5 : (t : ℕ)
+    → children-check-lts.Need-same-length-5 (range-end.Asked, range-end.Learnt, node-check-below t, node-check.Post, is-level.Asked, is-level.Learnt)
+    (children-check-at t) children-check.Post children-check-Inv-loop children-check-μ-loop
 children-check-same-length-5 t c = search needs
 
-children-check-same-length-6 : (t : ℕ) → children-check-lts.Need-same-length-6 (range-end-reads.Asked, range-end-reads.Learnt, node-check-below t, node-check.Post, is-level-reads.Asked, is-level-reads.Learnt) (children-check-at t) children-check.Post children-check-Inv-loop children-check-μ-loop
+children-check-same-length-6 : (t : ℕ)
+    → children-check-lts.Need-same-length-6 (range-end.Asked, range-end.Learnt, node-check-below t, node-check.Post, is-level.Asked, is-level.Learnt)
+    (children-check-at t) children-check.Post children-check-Inv-loop children-check-μ-loop
 children-check-same-length-6 t c = search needs
 
-children-check-returns-3 : (t : ℕ) → children-check-lts.Need-returns-3 (range-end-reads.Asked, range-end-reads.Learnt, node-check-below t, node-check.Post, is-level-reads.Asked, is-level-reads.Learnt) (children-check-at t) children-check.Post children-check-Inv-loop children-check-μ-loop
+children-check-returns-3 : (t : ℕ)
+    → children-check-lts.Need-returns-3 (range-end.Asked, range-end.Learnt, node-check-below t, node-check.Post, is-level.Asked, is-level.Learnt)
+    (children-check-at t) children-check.Post children-check-Inv-loop children-check-μ-loop
 unfolding rangeEndOf checkedOf heightOf
 children-check-returns-3 t c =
     let s = c .before .before .before .before .before .before .before .before .before .before .before .before .before .before .before .before .before .before .before .before .before .before .before in
     let l = c .before .before .before .before .before .before .before .before .before .before .before .before .before .before .before .before .before .before .loop in (
       sym (l .inv .4 ∙ turn-uneven (s .args .node .now) (s .pre .1 .2) (s .args .c) (l .i) (s .pre .1 .3)
           (nodeCheck (s .args .levels) (s .args .card .now) (s .args .n) (s .args .run) false) (l .height) (l .from) (s .args .high) (findingsOf (nodesOf (l .free)) (l .found)) (omega arith)
-          (c .before .before .before .before .before .before .before .before .before .before .before .before .before .before .to .given .0 .0) (sym (c .before .before .before .before .before .before .before .before .before .before .before .before .before .before .before .before .range-end .ensures) ∙ ap rangeEndOf (c .before .before .before .before .before .before .before .before .before .before .before .before .before .before .to .given .1))
-          (c .before .before .before .its .given .0 .0) (findingsOf (nodesOf (c .before .before .before .before .before .before .before .before .before .node-check .last .1 .1 .1 .1 .1 .1 .1 .1 .0)) (c .before .before .before .before .before .before .before .before .before .node-check .last .1 .1 .1 .1 .1 .1 .1 .1 .1 .0)) (sym (c .before .before .before .before .before .before .before .before .before .node-check .ensures .0) ∙ ap (λ (r : Checked). checkedOf r (findingsOf (nodesOf (c .before .before .before .before .before .before .before .before .before .node-check .last .1 .1 .1 .1 .1 .1 .1 .1 .0)) (c .before .before .before .before .before .before .before .before .before .node-check .last .1 .1 .1 .1 .1 .1 .1 .1 .1 .0))) (c .before .before .before .its .given .1))
+          (c .before .before .before .before .before .before .before .before .before .before .before .before .before .before .to .given .0 .0)
+          (sym (c .before .before .before .before .before .before .before .before .before .before .before .before .before .before .before
+          .before .range-end .ensures) ∙ ap rangeEndOf
+          (c .before .before .before .before .before .before .before .before .before .before .before .before .before .before .to .given .1))
+          (c .before .before .before .its .given .0 .0) (findingsOf
+          (nodesOf (c .before .before .before .before .before .before .before .before .before .node-check .last .1 .1 .1 .1 .1 .1 .1 .1 .0))
+          (c .before .before .before .before .before .before .before .before .before .node-check .last .1 .1 .1 .1 .1 .1 .1 .1 .1 .0))
+          (sym (c .before .before .before .before .before .before .before .before .before .node-check .ensures .0)
+          ∙ ap (λ (r : Checked). checkedOf r
+          (findingsOf (nodesOf (c .before .before .before .before .before .before .before .before .before .node-check .last .1 .1 .1 .1 .1 .1 .1 .1 .0))
+          (c .before .before .before .before .before .before .before .before .before .node-check .last .1 .1 .1 .1 .1 .1 .1 .1 .1 .0)))
+          (c .before .before .before .its .given .1))
           (sym (c .before .is-level .ensures) ∙ not-true _ (c .if1 .taken))),
       omega arith,
     )
 
-children-check-add-from : (t : ℕ) → children-check-lts.Need-add-from (range-end-reads.Asked, range-end-reads.Learnt, node-check-below t, node-check.Post, is-level-reads.Asked, is-level-reads.Learnt) (children-check-at t) children-check.Post children-check-Inv-loop children-check-μ-loop
+children-check-add-from : (t : ℕ)
+    → children-check-lts.Need-add-from (range-end.Asked, range-end.Learnt, node-check-below t, node-check.Post, is-level.Asked, is-level.Learnt)
+    (children-check-at t) children-check.Post children-check-Inv-loop children-check-μ-loop
 children-check-add-from t c = search needs
 
-children-check-mul-from : (t : ℕ) → children-check-lts.Need-mul-from (range-end-reads.Asked, range-end-reads.Learnt, node-check-below t, node-check.Post, is-level-reads.Asked, is-level-reads.Learnt) (children-check-at t) children-check.Post children-check-Inv-loop children-check-μ-loop
-children-check-mul-from t c = omega (arith, children-le (c .before .before .before .before .before .before .before .before .before .before .before .before .before .before .before .before .before .before .before .before .before .before .before .args .node .now), c .before .before .before .before .before .before .before .before .before .before .before .before .before .before .before .before .before .before .before .before .before .before .before .pre .1 .3, c .before .before .before .before .before .before .before .before .before .before .before .before .before .before .before .before .before .loop-test .taken)
+children-check-mul-from : (t : ℕ)
+    → children-check-lts.Need-mul-from (range-end.Asked, range-end.Learnt, node-check-below t, node-check.Post, is-level.Asked, is-level.Learnt)
+    (children-check-at t) children-check.Post children-check-Inv-loop children-check-μ-loop
+children-check-mul-from t c =
+    omega (
+      arith,
+      children-le (c .before .before .before .before .before .before .before .before .before .before .before .before .before .before .before
+          .before .before .before .before .before .before .before .before .args .node .now),
+      c .before .before .before .before .before .before .before .before .before .before .before .before .before .before .before .before
+          .before .before .before .before .before .before .before .pre .1 .3,
+      c .before .before .before .before .before .before .before .before .before .before .before .before .before .before .before .before
+          .before .loop-test .taken,
+    )
 
-children-check-shared-slice-read-from : (t : ℕ) → children-check-lts.Need-shared-slice-read-from (range-end-reads.Asked, range-end-reads.Learnt, node-check-below t, node-check.Post, is-level-reads.Asked, is-level-reads.Learnt) (children-check-at t) children-check.Post children-check-Inv-loop children-check-μ-loop
-children-check-shared-slice-read-from t c = omega (arith, children-le (c .before .before .before .before .before .before .before .before .before .before .before .before .before .before .before .before .before .before .before .before .before .before .before .before .args .node .now), c .before .before .before .before .before .before .before .before .before .before .before .before .before .before .before .before .before .before .before .before .before .before .before .before .pre .1 .2, c .before .before .before .before .before .before .before .before .before .before .before .before .before .before .before .before .before .before .before .before .before .before .before .before .pre .1 .3, c .before .before .before .before .before .before .before .before .before .before .before .before .before .before .before .before .before .before .loop-test .taken)
+children-check-shared-slice-read-from : (t : ℕ) → children-check-lts.Need-shared-slice-read-from
+    (range-end.Asked, range-end.Learnt, node-check-below t, node-check.Post, is-level.Asked, is-level.Learnt)
+    (children-check-at t) children-check.Post children-check-Inv-loop children-check-μ-loop
+children-check-shared-slice-read-from t c =
+    let s = c .before .before .before .before .before .before .before .before .before .before .before .before .before .before .before
+    .before .before .before .before .before .before .before .before .before in
+    omega (
+      arith,
+      children-le (s .args .node .now),
+      s .pre .1 .2,
+      s .pre .1 .3,
+      c .before .before .before .before .before .before .before .before .before .before .before .before .before .before .before .before
+          .before .before .loop-test .taken,
+    )
 
-children-check-add-i : (t : ℕ) → children-check-lts.Need-add-i (range-end-reads.Asked, range-end-reads.Learnt, node-check-below t, node-check.Post, is-level-reads.Asked, is-level-reads.Learnt) (children-check-at t) children-check.Post children-check-Inv-loop children-check-μ-loop
+children-check-add-i : (t : ℕ)
+    → children-check-lts.Need-add-i (range-end.Asked, range-end.Learnt, node-check-below t, node-check.Post, is-level.Asked, is-level.Learnt)
+    (children-check-at t) children-check.Post children-check-Inv-loop children-check-μ-loop
 children-check-add-i t c = search needs
 
-children-check-loop-less : (t : ℕ) → children-check-lts.Need-loop-less (range-end-reads.Asked, range-end-reads.Learnt, node-check-below t, node-check.Post, is-level-reads.Asked, is-level-reads.Learnt) (children-check-at t) children-check.Post children-check-Inv-loop children-check-μ-loop
+children-check-loop-less : (t : ℕ)
+    → children-check-lts.Need-loop-less (range-end.Asked, range-end.Learnt, node-check-below t, node-check.Post, is-level.Asked, is-level.Learnt)
+    (children-check-at t) children-check.Post children-check-Inv-loop children-check-μ-loop
 children-check-loop-less t c = search needs
 
-children-check-loop-again : (t : ℕ) → children-check-lts.Need-loop-again (range-end-reads.Asked, range-end-reads.Learnt, node-check-below t, node-check.Post, is-level-reads.Asked, is-level-reads.Learnt) (children-check-at t) children-check.Post children-check-Inv-loop children-check-μ-loop
+children-check-loop-again : (t : ℕ)
+    → children-check-lts.Need-loop-again (range-end.Asked, range-end.Learnt, node-check-below t, node-check.Post, is-level.Asked, is-level.Learnt)
+    (children-check-at t) children-check.Post children-check-Inv-loop children-check-μ-loop
 unfolding rangeEndOf checkedOf heightOf
 children-check-loop-again t c =
-    let s = c .before .before .before .before .before .before .before .before .before .before .before .before .before .before .before .before .before .before .before .before .before .before .before .before in
+    let s = c .before .before .before .before .before .before .before .before .before .before .before .before .before .before .before
+    .before .before .before .before .before .before .before .before .before in
     let l = c .before .before .before .before .before .before .before .before .before .before .before .before .before .before .before .before .before .before .before .loop in (
       omega arith,
       omega (arith, c .before .before .before .before .before .before .before .before .before .before .node-check .ensures .1, sound-height _ _ (c .before .before .before .before .its .given .1)),
@@ -189,64 +277,116 @@ children-check-loop-again t c =
       search needs,
       l .inv .4 ∙ turn-on (s .args .node .now) (s .pre .1 .2) (s .args .c) (l .i) (s .pre .1 .3)
           (nodeCheck (s .args .levels) (s .args .card .now) (s .args .n) (s .args .run) false) (l .height) (l .from) (s .args .high) (findingsOf (nodesOf (l .free)) (l .found)) (omega arith)
-          (c .before .before .before .before .before .before .before .before .before .before .before .before .before .before .before .to .given .0 .0) (sym (c .before .before .before .before .before .before .before .before .before .before .before .before .before .before .before .before .before .range-end .ensures) ∙ ap rangeEndOf (c .before .before .before .before .before .before .before .before .before .before .before .before .before .before .before .to .given .1))
-          (c .before .before .before .before .its .given .0 .0) (findingsOf (nodesOf (c .before .before .before .before .before .before .before .before .before .before .node-check .last .1 .1 .1 .1 .1 .1 .1 .1 .0)) (c .before .before .before .before .before .before .before .before .before .before .node-check .last .1 .1 .1 .1 .1 .1 .1 .1 .1 .0)) (sym (c .before .before .before .before .before .before .before .before .before .before .node-check .ensures .0) ∙ ap (λ (r : Checked). checkedOf r (findingsOf (nodesOf (c .before .before .before .before .before .before .before .before .before .before .node-check .last .1 .1 .1 .1 .1 .1 .1 .1 .0)) (c .before .before .before .before .before .before .before .before .before .before .node-check .last .1 .1 .1 .1 .1 .1 .1 .1 .1 .0))) (c .before .before .before .before .its .given .1))
+          (c .before .before .before .before .before .before .before .before .before .before .before .before .before .before .before .to .given .0 .0)
+          (sym (c .before .before .before .before .before .before .before .before .before .before .before .before .before .before .before
+          .before .before .range-end .ensures) ∙ ap rangeEndOf
+          (c .before .before .before .before .before .before .before .before .before .before .before .before .before .before .before .to .given .1))
+          (c .before .before .before .before .its .given .0 .0) (findingsOf (nodesOf
+          (c .before .before .before .before .before .before .before .before .before .before .node-check .last .1 .1 .1 .1 .1 .1 .1 .1 .0))
+          (c .before .before .before .before .before .before .before .before .before .before .node-check .last .1 .1 .1 .1 .1 .1 .1 .1 .1 .0))
+          (sym (c .before .before .before .before .before .before .before .before .before .before .node-check .ensures .0)
+          ∙ ap (λ (r : Checked). checkedOf r (findingsOf (nodesOf
+          (c .before .before .before .before .before .before .before .before .before .before .node-check .last .1 .1 .1 .1 .1 .1 .1 .1 .0))
+          (c .before .before .before .before .before .before .before .before .before .before .node-check .last .1 .1 .1 .1 .1 .1 .1 .1 .1 .0)))
+          (c .before .before .before .before .its .given .1))
           (sym (c .before .before .is-level .ensures) ∙ not-false _ (c .before .if1 .left)),
     )
 
-children-check-same-length-7 : (t : ℕ) → children-check-lts.Need-same-length-7 (range-end-reads.Asked, range-end-reads.Learnt, node-check-below t, node-check.Post, is-level-reads.Asked, is-level-reads.Learnt) (children-check-at t) children-check.Post children-check-Inv-loop children-check-μ-loop
+children-check-same-length-7 : (t : ℕ)
+    → children-check-lts.Need-same-length-7 (range-end.Asked, range-end.Learnt, node-check-below t, node-check.Post, is-level.Asked, is-level.Learnt)
+    (children-check-at t) children-check.Post children-check-Inv-loop children-check-μ-loop
 children-check-same-length-7 t c = search needs
 
-children-check-same-length-8 : (t : ℕ) → children-check-lts.Need-same-length-8 (range-end-reads.Asked, range-end-reads.Learnt, node-check-below t, node-check.Post, is-level-reads.Asked, is-level-reads.Learnt) (children-check-at t) children-check.Post children-check-Inv-loop children-check-μ-loop
+children-check-same-length-8 : (t : ℕ)
+    → children-check-lts.Need-same-length-8 (range-end.Asked, range-end.Learnt, node-check-below t, node-check.Post, is-level.Asked, is-level.Learnt)
+    (children-check-at t) children-check.Post children-check-Inv-loop children-check-μ-loop
 children-check-same-length-8 t c = search needs
 
-children-check-returns-4 : (t : ℕ) → children-check-lts.Need-returns-4 (range-end-reads.Asked, range-end-reads.Learnt, node-check-below t, node-check.Post, is-level-reads.Asked, is-level-reads.Learnt) (children-check-at t) children-check.Post children-check-Inv-loop children-check-μ-loop
+children-check-returns-4 : (t : ℕ)
+    → children-check-lts.Need-returns-4 (range-end.Asked, range-end.Learnt, node-check-below t, node-check.Post, is-level.Asked, is-level.Learnt)
+    (children-check-at t) children-check.Post children-check-Inv-loop children-check-μ-loop
 unfolding checkedOf heightOf
 children-check-returns-4 t c =
     let s = c .before .before .before .before .before .before in
     let l = c .before .loop in (
       sym (l .inv .4 ∙ turn-end (s .args .node .now) (s .pre .1 .2) (s .args .c) (l .i) (s .pre .1 .3)
-          (nodeCheck (s .args .levels) (s .args .card .now) (s .args .n) (s .args .run) false) (eqb (l .i) 0) (l .height) (l .from) (s .args .high) (findingsOf (nodesOf (l .free)) (l .found)) (omega arith)),
+          (nodeCheck (s .args .levels) (s .args .card .now) (s .args .n) (s .args .run) false) (eqb (l .i) 0) (l .height) (l .from)
+          (s .args .high) (findingsOf (nodesOf (l .free)) (l .found)) (omega arith)),
       l .inv .1,
     )
 
 -- the arm of an internal node: what `enter` found
-found : (t : ℕ) (c : node-check-lts.After-entry (enter-reads.Asked, enter-reads.Learnt, node-at-reads.Asked, node-at-reads.Learnt, child-run-reads.Asked, child-run-reads.Learnt, children-check-below t, children-check.Post, raise-reads.Asked, raise-reads.Learnt) (node-check-at t) node-check.Post)
-    → enterNode (c .before .before .before .before .before .before .before .before .before .before .before .before .args .card .now) (c .before .before .before .before .before .before .before .before .before .before .before .before .args .n) (c .before .before .before .before .before .before .before .before .before .before .before .before .args .m) (c .before .before .before .before .before .before .before .before .before .before .before .before .args .low) (c .before .before .before .before .before .before .before .before .before .before .before .before .args .high) (c .before .before .before .before .before .before .before .before .before .before .before .before .args .run) (c .before .before .before .before .before .before .before .before .before .before .before .before .args .root) (findingsOf (nodesOf (c .before .before .before .before .before .before .before .before .before .before .before .before .args .free .now)) (c .before .before .before .before .before .before .before .before .before .before .before .before .args .found .now))
-    ≡ inner (c .entry .given .0 .0) (findingsOf (nodesOf (c .before .before .before .before .before .before .enter .last .1 .1 .1 .1 .1 .1 .1 .0)) (c .before .before .before .before .before .before .enter .last .1 .1 .1 .1 .1 .1 .1 .1 .0))
+found : (t : ℕ) (c : node-check-lts.After-entry
+    (enter.Asked, enter.Learnt, node-at.Asked, node-at.Learnt, child-run.Asked, child-run.Learnt, children-check-below t, children-check.Post, raise.Asked, raise.Learnt)
+    (node-check-at t) node-check.Post)
+    → enterNode (c .before .before .before .before .before .before .before .before .before .before .before .before .args .card .now)
+    (c .before .before .before .before .before .before .before .before .before .before .before .before .args .n)
+    (c .before .before .before .before .before .before .before .before .before .before .before .before .args .m)
+    (c .before .before .before .before .before .before .before .before .before .before .before .before .args .low)
+    (c .before .before .before .before .before .before .before .before .before .before .before .before .args .high)
+    (c .before .before .before .before .before .before .before .before .before .before .before .before .args .run)
+    (c .before .before .before .before .before .before .before .before .before .before .before .before .args .root)
+    (findingsOf (nodesOf (c .before .before .before .before .before .before .before .before .before .before .before .before .args .free .now))
+    (c .before .before .before .before .before .before .before .before .before .before .before .before .args .found .now))
+    ≡ inner (c .entry .given .0 .0)
+    (findingsOf (nodesOf (c .before .before .before .before .before .before .enter .last .1 .1 .1 .1 .1 .1 .1 .0))
+    (c .before .before .before .before .before .before .enter .last .1 .1 .1 .1 .1 .1 .1 .1 .0))
 unfolding lookOf
-found t c = sym (c .before .before .before .before .before .before .enter .ensures) ∙ ap (λ (e : Entry). lookOf e (findingsOf (nodesOf (c .before .before .before .before .before .before .enter .last .1 .1 .1 .1 .1 .1 .1 .0)) (c .before .before .before .before .before .before .enter .last .1 .1 .1 .1 .1 .1 .1 .1 .0))) (c .entry .given .1)
+found t c =
+    sym (c .before .before .before .before .before .before .enter .ensures)
+    ∙ ap (λ (e : Entry). lookOf e (findingsOf (nodesOf (c .before .before .before .before .before .before .enter .last .1 .1 .1 .1 .1 .1 .1 .0))
+    (c .before .before .before .before .before .before .enter .last .1 .1 .1 .1 .1 .1 .1 .1 .0))) (c .entry .given .1)
 
-children-of : (t : ℕ) (c : node-check-lts.After-entry (enter-reads.Asked, enter-reads.Learnt, node-at-reads.Asked, node-at-reads.Learnt, child-run-reads.Asked, child-run-reads.Learnt, children-check-below t, children-check.Post, raise-reads.Asked, raise-reads.Learnt) (node-check-at t) node-check.Post)
-    → Children (c .before .before .before .before .before .before .before .before .before .before .before .before .args .card .now) (c .before .before .before .before .before .before .before .before .before .before .before .before .args .n) (c .before .before .before .before .before .before .before .before .before .before .before .before .args .m) (c .entry .given .0 .0)
+children-of : (t : ℕ) (c : node-check-lts.After-entry
+    (enter.Asked, enter.Learnt, node-at.Asked, node-at.Learnt, child-run.Asked, child-run.Learnt, children-check-below t, children-check.Post, raise.Asked, raise.Learnt)
+    (node-check-at t) node-check.Post)
+    → Children (c .before .before .before .before .before .before .before .before .before .before .before .before .args .card .now)
+    (c .before .before .before .before .before .before .before .before .before .before .before .before .args .n)
+    (c .before .before .before .before .before .before .before .before .before .before .before .before .args .m) (c .entry .given .0 .0)
 children-of t c = enter-children _ _ _ _ _ _ _ _ _ _ (found t (c))
 
 -- the part that `node_at` handed back has 24 words
-words : (t : ℕ) (c : node-check-lts.After-node-at (enter-reads.Asked, enter-reads.Learnt, node-at-reads.Asked, node-at-reads.Learnt, child-run-reads.Asked, child-run-reads.Learnt, children-check-below t, children-check.Post, raise-reads.Asked, raise-reads.Learnt) (node-check-at t) node-check.Post) → length (c .node-at .result .now) ≡ 24
+words : (t : ℕ) (c : node-check-lts.After-node-at
+    (enter.Asked, enter.Learnt, node-at.Asked, node-at.Learnt, child-run.Asked, child-run.Learnt, children-check-below t, children-check.Post, raise.Asked, raise.Learnt)
+    (node-check-at t) node-check.Post) → length (c .node-at .result .now) ≡ 24
 words t c =
     let s = c .before .before .before .before .before .before .before .before .before .before .before .before .before .before .before in
     let k = children-of t (c .before .before .before) in
     ap length (c .node-at .ensures) ∙ length-node (s .args .card .now) (s .args .m) (k .one) (omega arith)
 
-node-check-enter-requires : (t : ℕ) → node-check-lts.Need-enter-requires (enter-reads.Asked, enter-reads.Learnt, node-at-reads.Asked, node-at-reads.Learnt, child-run-reads.Asked, child-run-reads.Learnt, children-check-below t, children-check.Post, raise-reads.Asked, raise-reads.Learnt) (node-check-at t) node-check.Post
+node-check-enter-requires : (t : ℕ) → node-check-lts.Need-enter-requires
+    (enter.Asked, enter.Learnt, node-at.Asked, node-at.Learnt, child-run.Asked, child-run.Learnt, children-check-below t, children-check.Post, raise.Asked, raise.Learnt)
+    (node-check-at t) node-check.Post
 node-check-enter-requires t c κs = search needs
 
-node-check-enum-told : (t : ℕ) → node-check-lts.Need-enum-told (enter-reads.Asked, enter-reads.Learnt, node-at-reads.Asked, node-at-reads.Learnt, child-run-reads.Asked, child-run-reads.Learnt, children-check-below t, children-check.Post, raise-reads.Asked, raise-reads.Learnt) (node-check-at t) node-check.Post
+node-check-enum-told : (t : ℕ) → node-check-lts.Need-enum-told
+    (enter.Asked, enter.Learnt, node-at.Asked, node-at.Learnt, child-run.Asked, child-run.Learnt, children-check-below t, children-check.Post, raise.Asked, raise.Learnt)
+    (node-check-at t) node-check.Post
 node-check-enum-told t c = search needs
 
-node-check-enum-told-2 : (t : ℕ) → node-check-lts.Need-enum-told-2 (enter-reads.Asked, enter-reads.Learnt, node-at-reads.Asked, node-at-reads.Learnt, child-run-reads.Asked, child-run-reads.Learnt, children-check-below t, children-check.Post, raise-reads.Asked, raise-reads.Learnt) (node-check-at t) node-check.Post
+node-check-enum-told-2 : (t : ℕ) → node-check-lts.Need-enum-told-2
+    (enter.Asked, enter.Learnt, node-at.Asked, node-at.Learnt, child-run.Asked, child-run.Learnt, children-check-below t, children-check.Post, raise.Asked, raise.Learnt)
+    (node-check-at t) node-check.Post
 node-check-enum-told-2 t c = search needs
 
-node-check-enum-known-entry : (t : ℕ) → node-check-lts.Need-enum-known-entry (enter-reads.Asked, enter-reads.Learnt, node-at-reads.Asked, node-at-reads.Learnt, child-run-reads.Asked, child-run-reads.Learnt, children-check-below t, children-check.Post, raise-reads.Asked, raise-reads.Learnt) (node-check-at t) node-check.Post
+node-check-enum-known-entry : (t : ℕ) → node-check-lts.Need-enum-known-entry
+    (enter.Asked, enter.Learnt, node-at.Asked, node-at.Learnt, child-run.Asked, child-run.Learnt, children-check-below t, children-check.Post, raise.Asked, raise.Learnt)
+    (node-check-at t) node-check.Post
 node-check-enum-known-entry t c = search needs
 
-node-check-same-length : (t : ℕ) → node-check-lts.Need-same-length (enter-reads.Asked, enter-reads.Learnt, node-at-reads.Asked, node-at-reads.Learnt, child-run-reads.Asked, child-run-reads.Learnt, children-check-below t, children-check.Post, raise-reads.Asked, raise-reads.Learnt) (node-check-at t) node-check.Post
+node-check-same-length : (t : ℕ) → node-check-lts.Need-same-length
+    (enter.Asked, enter.Learnt, node-at.Asked, node-at.Learnt, child-run.Asked, child-run.Learnt, children-check-below t, children-check.Post, raise.Asked, raise.Learnt)
+    (node-check-at t) node-check.Post
 node-check-same-length t c = search needs
 
-node-check-same-length-2 : (t : ℕ) → node-check-lts.Need-same-length-2 (enter-reads.Asked, enter-reads.Learnt, node-at-reads.Asked, node-at-reads.Learnt, child-run-reads.Asked, child-run-reads.Learnt, children-check-below t, children-check.Post, raise-reads.Asked, raise-reads.Learnt) (node-check-at t) node-check.Post
+node-check-same-length-2 : (t : ℕ) → node-check-lts.Need-same-length-2
+    (enter.Asked, enter.Learnt, node-at.Asked, node-at.Learnt, child-run.Asked, child-run.Learnt, children-check-below t, children-check.Post, raise.Asked, raise.Learnt)
+    (node-check-at t) node-check.Post
 node-check-same-length-2 t c = search needs
 
-node-check-returns : (t : ℕ) → node-check-lts.Need-returns (enter-reads.Asked, enter-reads.Learnt, node-at-reads.Asked, node-at-reads.Learnt, child-run-reads.Asked, child-run-reads.Learnt, children-check-below t, children-check.Post, raise-reads.Asked, raise-reads.Learnt) (node-check-at t) node-check.Post
+node-check-returns : (t : ℕ) → node-check-lts.Need-returns
+    (enter.Asked, enter.Learnt, node-at.Asked, node-at.Learnt, child-run.Asked, child-run.Learnt, children-check-below t, children-check.Post, raise.Asked, raise.Learnt)
+    (node-check-at t) node-check.Post
 unfolding checkedOf heightOf
 node-check-returns t c =
     let s = c .before .before .before .before .before .before .before .before .before .before .before .before .before .before in (
@@ -255,21 +395,31 @@ node-check-returns t c =
       omega arith,
     )
 
-node-check-node-at-requires : (t : ℕ) → node-check-lts.Need-node-at-requires (enter-reads.Asked, enter-reads.Learnt, node-at-reads.Asked, node-at-reads.Learnt, child-run-reads.Asked, child-run-reads.Learnt, children-check-below t, children-check.Post, raise-reads.Asked, raise-reads.Learnt) (node-check-at t) node-check.Post
+node-check-node-at-requires : (t : ℕ) → node-check-lts.Need-node-at-requires
+    (enter.Asked, enter.Learnt, node-at.Asked, node-at.Learnt, child-run.Asked, child-run.Learnt, children-check-below t, children-check.Post, raise.Asked, raise.Learnt)
+    (node-check-at t) node-check.Post
 node-check-node-at-requires t c κs =
     let k = children-of t (c .before .before) in
     (k .one, omega arith, omega arith)
 
-node-check-shared-slice-read-kind : (t : ℕ) → node-check-lts.Need-shared-slice-read-kind (enter-reads.Asked, enter-reads.Learnt, node-at-reads.Asked, node-at-reads.Learnt, child-run-reads.Asked, child-run-reads.Learnt, children-check-below t, children-check.Post, raise-reads.Asked, raise-reads.Learnt) (node-check-at t) node-check.Post
+node-check-shared-slice-read-kind : (t : ℕ) → node-check-lts.Need-shared-slice-read-kind
+    (enter.Asked, enter.Learnt, node-at.Asked, node-at.Learnt, child-run.Asked, child-run.Learnt, children-check-below t, children-check.Post, raise.Asked, raise.Learnt)
+    (node-check-at t) node-check.Post
 node-check-shared-slice-read-kind t c = omega (arith, words t (c .before))
 
-node-check-child-run-requires : (t : ℕ) → node-check-lts.Need-child-run-requires (enter-reads.Asked, enter-reads.Learnt, node-at-reads.Asked, node-at-reads.Learnt, child-run-reads.Asked, child-run-reads.Learnt, children-check-below t, children-check.Post, raise-reads.Asked, raise-reads.Learnt) (node-check-at t) node-check.Post
+node-check-child-run-requires : (t : ℕ) → node-check-lts.Need-child-run-requires
+    (enter.Asked, enter.Learnt, node-at.Asked, node-at.Learnt, child-run.Asked, child-run.Learnt, children-check-below t, children-check.Post, raise.Asked, raise.Learnt)
+    (node-check-at t) node-check.Post
 node-check-child-run-requires t c κs = omega arith
 
-node-check-sub-children-check : (t : ℕ) → node-check-lts.Need-sub-children-check (enter-reads.Asked, enter-reads.Learnt, node-at-reads.Asked, node-at-reads.Learnt, child-run-reads.Asked, child-run-reads.Learnt, children-check-below t, children-check.Post, raise-reads.Asked, raise-reads.Learnt) (node-check-at t) node-check.Post
+node-check-sub-children-check : (t : ℕ) → node-check-lts.Need-sub-children-check
+    (enter.Asked, enter.Learnt, node-at.Asked, node-at.Learnt, child-run.Asked, child-run.Learnt, children-check-below t, children-check.Post, raise.Asked, raise.Learnt)
+    (node-check-at t) node-check.Post
 node-check-sub-children-check t c = search needs
 
-node-check-children-check-requires : (t : ℕ) → node-check-lts.Need-children-check-requires (enter-reads.Asked, enter-reads.Learnt, node-at-reads.Asked, node-at-reads.Learnt, child-run-reads.Asked, child-run-reads.Learnt, children-check-below t, children-check.Post, raise-reads.Asked, raise-reads.Learnt) (node-check-at t) node-check.Post
+node-check-children-check-requires : (t : ℕ) → node-check-lts.Need-children-check-requires
+    (enter.Asked, enter.Learnt, node-at.Asked, node-at.Learnt, child-run.Asked, child-run.Learnt, children-check-below t, children-check.Post, raise.Asked, raise.Learnt)
+    (node-check-at t) node-check.Post
 node-check-children-check-requires t c κs =
     let s = c .before .before .before .before .before .before .before .before .before .before .before .before .before .before .before .before .before .before .before in
     let k = children-of t (c .before .before .before .before .before .before .before) in (
@@ -285,64 +435,96 @@ node-check-children-check-requires t c κs =
       ),
     )
 
-node-check-raise-requires : (t : ℕ) → node-check-lts.Need-raise-requires (enter-reads.Asked, enter-reads.Learnt, node-at-reads.Asked, node-at-reads.Learnt, child-run-reads.Asked, child-run-reads.Learnt, children-check-below t, children-check.Post, raise-reads.Asked, raise-reads.Learnt) (node-check-at t) node-check.Post
+node-check-raise-requires : (t : ℕ) → node-check-lts.Need-raise-requires
+    (enter.Asked, enter.Learnt, node-at.Asked, node-at.Learnt, child-run.Asked, child-run.Learnt, children-check-below t, children-check.Post, raise.Asked, raise.Learnt)
+    (node-check-at t) node-check.Post
 node-check-raise-requires t c κs = omega (arith, c .before .before .before .before .children-check .ensures .1)
 
-node-check-same-length-3 : (t : ℕ) → node-check-lts.Need-same-length-3 (enter-reads.Asked, enter-reads.Learnt, node-at-reads.Asked, node-at-reads.Learnt, child-run-reads.Asked, child-run-reads.Learnt, children-check-below t, children-check.Post, raise-reads.Asked, raise-reads.Learnt) (node-check-at t) node-check.Post
+node-check-same-length-3 : (t : ℕ) → node-check-lts.Need-same-length-3
+    (enter.Asked, enter.Learnt, node-at.Asked, node-at.Learnt, child-run.Asked, child-run.Learnt, children-check-below t, children-check.Post, raise.Asked, raise.Learnt)
+    (node-check-at t) node-check.Post
 node-check-same-length-3 t c = search needs
 
-node-check-same-length-4 : (t : ℕ) → node-check-lts.Need-same-length-4 (enter-reads.Asked, enter-reads.Learnt, node-at-reads.Asked, node-at-reads.Learnt, child-run-reads.Asked, child-run-reads.Learnt, children-check-below t, children-check.Post, raise-reads.Asked, raise-reads.Learnt) (node-check-at t) node-check.Post
+node-check-same-length-4 : (t : ℕ) → node-check-lts.Need-same-length-4
+    (enter.Asked, enter.Learnt, node-at.Asked, node-at.Learnt, child-run.Asked, child-run.Learnt, children-check-below t, children-check.Post, raise.Asked, raise.Learnt)
+    (node-check-at t) node-check.Post
 node-check-same-length-4 t c = search needs
 
-node-check-returns-2 : (t : ℕ) → node-check-lts.Need-returns-2 (enter-reads.Asked, enter-reads.Learnt, node-at-reads.Asked, node-at-reads.Learnt, child-run-reads.Asked, child-run-reads.Learnt, children-check-below t, children-check.Post, raise-reads.Asked, raise-reads.Learnt) (node-check-at t) node-check.Post
+node-check-returns-2 : (t : ℕ) → node-check-lts.Need-returns-2
+    (enter.Asked, enter.Learnt, node-at.Asked, node-at.Learnt, child-run.Asked, child-run.Learnt, children-check-below t, children-check.Post, raise.Asked, raise.Learnt)
+    (node-check-at t) node-check.Post
 unfolding checkedOf heightOf lookOf
 node-check-returns-2 t c =
     let s = c .before .before .before .before .before .before .before .before .before .before .before .before in (
       sym (check-bad (s .args .card .now) (s .args .n) (s .args .run) (s .args .root) (s .args .low) (s .args .high) (s .args .m)
-          (findingsOf (nodesOf (s .args .free .now)) (s .args .found .now)) (s .args .levels) (sym (c .before .before .before .before .before .before .enter .ensures) ∙ (ap (λ (e : Entry). lookOf e (findingsOf (nodesOf (c .before .before .before .before .before .before .enter .last .1 .1 .1 .1 .1 .1 .1 .0)) (c .before .before .before .before .before .before .enter .last .1 .1 .1 .1 .1 .1 .1 .1 .0))) (c .enum-told .given .1)))),
+          (findingsOf (nodesOf (s .args .free .now)) (s .args .found .now)) (s .args .levels)
+          (sym (c .before .before .before .before .before .before .enter .ensures)
+          ∙ (ap (λ (e : Entry). lookOf e (findingsOf (nodesOf (c .before .before .before .before .before .before .enter .last .1 .1 .1 .1 .1 .1 .1 .0))
+          (c .before .before .before .before .before .before .enter .last .1 .1 .1 .1 .1 .1 .1 .1 .0))) (c .enum-told .given .1)))),
       omega arith,
     )
 
-node-check-same-length-5 : (t : ℕ) → node-check-lts.Need-same-length-5 (enter-reads.Asked, enter-reads.Learnt, node-at-reads.Asked, node-at-reads.Learnt, child-run-reads.Asked, child-run-reads.Learnt, children-check-below t, children-check.Post, raise-reads.Asked, raise-reads.Learnt) (node-check-at t) node-check.Post
+node-check-same-length-5 : (t : ℕ) → node-check-lts.Need-same-length-5
+    (enter.Asked, enter.Learnt, node-at.Asked, node-at.Learnt, child-run.Asked, child-run.Learnt, children-check-below t, children-check.Post, raise.Asked, raise.Learnt)
+    (node-check-at t) node-check.Post
 node-check-same-length-5 t c = search needs
 
-node-check-same-length-6 : (t : ℕ) → node-check-lts.Need-same-length-6 (enter-reads.Asked, enter-reads.Learnt, node-at-reads.Asked, node-at-reads.Learnt, child-run-reads.Asked, child-run-reads.Learnt, children-check-below t, children-check.Post, raise-reads.Asked, raise-reads.Learnt) (node-check-at t) node-check.Post
+node-check-same-length-6 : (t : ℕ) → node-check-lts.Need-same-length-6
+    (enter.Asked, enter.Learnt, node-at.Asked, node-at.Learnt, child-run.Asked, child-run.Learnt, children-check-below t, children-check.Post, raise.Asked, raise.Learnt)
+    (node-check-at t) node-check.Post
 node-check-same-length-6 t c = search needs
 
-node-check-returns-3 : (t : ℕ) → node-check-lts.Need-returns-3 (enter-reads.Asked, enter-reads.Learnt, node-at-reads.Asked, node-at-reads.Learnt, child-run-reads.Asked, child-run-reads.Learnt, children-check-below t, children-check.Post, raise-reads.Asked, raise-reads.Learnt) (node-check-at t) node-check.Post
+node-check-returns-3 : (t : ℕ) → node-check-lts.Need-returns-3
+    (enter.Asked, enter.Learnt, node-at.Asked, node-at.Learnt, child-run.Asked, child-run.Learnt, children-check-below t, children-check.Post, raise.Asked, raise.Learnt)
+    (node-check-at t) node-check.Post
 unfolding checkedOf heightOf lookOf
 node-check-returns-3 t c =
     let s = c .before .before .before .before .before .before .before .before .before .before .before .before in (
       sym (check-leaf (s .args .card .now) (s .args .n) (s .args .run) (s .args .root) (s .args .low) (s .args .high) (s .args .m)
-          (findingsOf (nodesOf (s .args .free .now)) (s .args .found .now)) (s .args .levels) _ (sym (c .before .before .before .before .before .before .enter .ensures) ∙ (ap (λ (e : Entry). lookOf e (findingsOf (nodesOf (c .before .before .before .before .before .before .enter .last .1 .1 .1 .1 .1 .1 .1 .0)) (c .before .before .before .before .before .before .enter .last .1 .1 .1 .1 .1 .1 .1 .1 .0))) (c .enum-told2 .given .1)))),
+          (findingsOf (nodesOf (s .args .free .now)) (s .args .found .now)) (s .args .levels) _
+          (sym (c .before .before .before .before .before .before .enter .ensures)
+          ∙ (ap (λ (e : Entry). lookOf e (findingsOf (nodesOf (c .before .before .before .before .before .before .enter .last .1 .1 .1 .1 .1 .1 .1 .0))
+          (c .before .before .before .before .before .before .enter .last .1 .1 .1 .1 .1 .1 .1 .1 .0))) (c .enum-told2 .given .1)))),
       omega arith,
     )
 
-node-check-same-length-7 : (t : ℕ) → node-check-lts.Need-same-length-7 (enter-reads.Asked, enter-reads.Learnt, node-at-reads.Asked, node-at-reads.Learnt, child-run-reads.Asked, child-run-reads.Learnt, children-check-below t, children-check.Post, raise-reads.Asked, raise-reads.Learnt) (node-check-at t) node-check.Post
+node-check-same-length-7 : (t : ℕ) → node-check-lts.Need-same-length-7
+    (enter.Asked, enter.Learnt, node-at.Asked, node-at.Learnt, child-run.Asked, child-run.Learnt, children-check-below t, children-check.Post, raise.Asked, raise.Learnt)
+    (node-check-at t) node-check.Post
 node-check-same-length-7 t c = search needs
 
-node-check-same-length-8 : (t : ℕ) → node-check-lts.Need-same-length-8 (enter-reads.Asked, enter-reads.Learnt, node-at-reads.Asked, node-at-reads.Learnt, child-run-reads.Asked, child-run-reads.Learnt, children-check-below t, children-check.Post, raise-reads.Asked, raise-reads.Learnt) (node-check-at t) node-check.Post
+node-check-same-length-8 : (t : ℕ) → node-check-lts.Need-same-length-8
+    (enter.Asked, enter.Learnt, node-at.Asked, node-at.Learnt, child-run.Asked, child-run.Learnt, children-check-below t, children-check.Post, raise.Asked, raise.Learnt)
+    (node-check-at t) node-check.Post
 node-check-same-length-8 t c = search needs
 
-node-check-returns-4 : (t : ℕ) → node-check-lts.Need-returns-4 (enter-reads.Asked, enter-reads.Learnt, node-at-reads.Asked, node-at-reads.Learnt, child-run-reads.Asked, child-run-reads.Learnt, children-check-below t, children-check.Post, raise-reads.Asked, raise-reads.Learnt) (node-check-at t) node-check.Post
+node-check-returns-4 : (t : ℕ) → node-check-lts.Need-returns-4
+    (enter.Asked, enter.Learnt, node-at.Asked, node-at.Learnt, child-run.Asked, child-run.Learnt, children-check-below t, children-check.Post, raise.Asked, raise.Learnt)
+    (node-check-at t) node-check.Post
 node-check-returns-4 t c =
-    let s = c .before .before .before .before .before .before .before .before .before .before .before .before .before .before .before .before .before .before .before .before .before .before .before .before .before in (
+    let s = c .before .before .before .before .before .before .before .before .before .before .before .before .before .before .before
+    .before .before .before .before .before .before .before .before .before .before in (
       c .raise .ensures .0 _ ∙ ap (raised _) (c .before .before .before .before .before .children-check .ensures .0)
-          ∙ rw (c .before .before .before .before .before .before .before .before .child-run .ensures, c .before .before .before .before .before .before .before .before .before .before .node-at .ensures)
+          ∙ rw (
+            c .before .before .before .before .before .before .before .before .child-run .ensures,
+            c .before .before .before .before .before .before .before .before .before .before .node-at .ensures,
+          )
           (sym (check-inner (s .args .card .now) (s .args .n) (s .args .run) (s .args .root) (s .args .low) (s .args .high) (s .args .m)
-          (findingsOf (nodesOf (s .args .free .now)) (s .args .found .now)) (s .args .levels) _ _ (found t (c .before .before .before .before .before .before .before .before .before .before .before .before .before)) (c .before .before .before .before .before .before .before .before .before .before .before .if1 .left))),
+          (findingsOf (nodesOf (s .args .free .now)) (s .args .found .now)) (s .args .levels) _ _
+          (found t (c .before .before .before .before .before .before .before .before .before .before .before .before .before))
+          (c .before .before .before .before .before .before .before .before .before .before .before .if1 .left))),
       omega (arith, c .raise .ensures .1, c .before .before .before .before .before .children-check .ensures .1),
     )
 
 pub +children-check+node-check-spec : {M : Type 1} → statement M
 +children-check+node-check-spec =
     close μ-children-check μ-node-check (λ t. children-check-lts.spec (
-      range-end-reads.Asked,
-      range-end-reads.Learnt,
+      range-end.Asked,
+      range-end.Learnt,
       node-check-below t,
       node-check.Post,
-      is-level-reads.Asked,
-      is-level-reads.Learnt,
+      is-level.Asked,
+      is-level.Learnt,
     )
     (children-check-at t)
     children-check.Post
@@ -379,16 +561,16 @@ pub +children-check+node-check-spec : {M : Type 1} → statement M
     (children-check-same-length-8 t)
     (children-check-returns-4 t))
     λ t. node-check-lts.spec (
-      enter-reads.Asked,
-      enter-reads.Learnt,
-      node-at-reads.Asked,
-      node-at-reads.Learnt,
-      child-run-reads.Asked,
-      child-run-reads.Learnt,
+      enter.Asked,
+      enter.Learnt,
+      node-at.Asked,
+      node-at.Learnt,
+      child-run.Asked,
+      child-run.Learnt,
       children-check-below t,
       children-check.Post,
-      raise-reads.Asked,
-      raise-reads.Learnt,
+      raise.Asked,
+      raise.Learnt,
     )
     (node-check-at t)
     node-check.Post

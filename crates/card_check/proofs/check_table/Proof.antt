@@ -29,19 +29,32 @@ cast-node-check : tie.Need-cast-node-check
 cast-node-check c = omega (arith, c .shared-slice-known2 .given 4)
 
 node-check-requires : tie.Need-node-check-requires
-node-check-requires c κs = (search needs, search needs, search needs, search needs, stored-length (c .before .before .before .before .before .before .before .before .before .before .args .found .now) 0 0 0 ∙ c .before .before .before .before .before .before .before .before .before .before .pre .3)
+node-check-requires c κs = (
+  search needs,
+  search needs,
+  search needs,
+  search needs,
+  stored-length (c .before .before .before .before .before .before .before .before .before .before .args .found .now) 0 0 0
+      ∙ c .before .before .before .before .before .before .before .before .before .before .pre .3,
+)
 
 same-length : tie.Need-same-length
 same-length c = search needs
 
 same-length-2 : tie.Need-same-length-2
-same-length-2 c = c .before .before .before .before .node-check .kept .1 .1 .1 .1 .1 .1 .1 .1 .1 .0 ∙ stored-length (c .before .before .before .before .before .before .before .before .before .before .before .before .before .before .before .args .found .now) 0 0 0
+same-length-2 c =
+    c .before .before .before .before .node-check .kept .1 .1 .1 .1 .1 .1 .1 .1 .1 .0 ∙ stored-length
+    (c .before .before .before .before .before .before .before .before .before .before .before .before .before .before .before .args .found .now) 0 0 0
 
 returns : tie.Need-returns
 unfolding tableCheck
 returns c =
     let found = c .before .before .before .before .before .before .before .before .before .before .before .before .before .before .before .args .found .now in
-    c .before .before .before .before .node-check .ensures .0 ∙ rw (found-stored _ found 0 0 0 (c .before .before .before .before .before .before .before .before .before .before .before .before .before .before .before .pre .3), c .before .before .before .before .before .before .before .before .before .before .fill .ensures)
+    c .before .before .before .before .node-check .ensures .0 ∙ rw (
+      found-stored _ found 0 0 0
+          (c .before .before .before .before .before .before .before .before .before .before .before .before .before .before .before .pre .3),
+      c .before .before .before .before .before .before .before .before .before .before .fill .ensures,
+    )
 
 pub check-table-spec : {M : Type 1} → statement M
 check-table-spec =

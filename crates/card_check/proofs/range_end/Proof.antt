@@ -13,7 +13,9 @@ add-if1 c = search needs
 
 returns : tie.Need-returns
 unfolding rangeEndOf
-returns c = sym (end-last (c .before .before .args .node .now) (search needs) (c .before .before .args .c) (c .before .before .args .i) (search needs) (c .before .before .args .from) (c .before .before .args .high) (omega arith))
+returns c =
+    let s = c .before .before in
+    sym (end-last (s .args .node .now) (search needs) (s .args .c) (s .args .i) (search needs) (s .args .from) (s .args .high) (omega arith))
 
 add-key : tie.Need-add-key
 add-key c = search needs
@@ -26,18 +28,25 @@ shared-slice-read-key c = omega (arith, children-le (c .before .before .before .
 
 returns-2 : tie.Need-returns-2
 unfolding rangeEndOf
-returns-2 c = sym (end-fallen (c .before .before .before .before .args .node .now) (search needs) (c .before .before .before .before .args .c) (c .before .before .before .before .args .i) (search needs) (c .before .before .before .before .args .from) (c .before .before .before .before .args .high) (omega arith) (omega arith))
+returns-2 c =
+    let s = c .before .before .before .before in
+    sym (end-fallen (s .args .node .now) (search needs) (s .args .c) (s .args .i) (search needs) (s .args .from) (s .args .high) (omega arith) (omega arith))
 
 wide-requires : tie.Need-wide-requires
 wide-requires c κs = search needs
 
 returns-3 : tie.Need-returns-3
 unfolding rangeEndOf
-returns-3 c = sym (end-above (c .before .before .before .before .before .before .args .node .now) (search needs) (c .before .before .before .before .before .before .args .c) (c .before .before .before .before .before .before .args .i) (search needs) (c .before .before .before .before .before .before .args .from) (c .before .before .before .before .before .before .args .high) (omega arith) (omega arith) (omega (arith, c .before .wide .ensures)))
+returns-3 c =
+    let s = c .before .before .before .before .before .before in
+    sym (end-above (s .args .node .now) (search needs) (s .args .c) (s .args .i) (search needs) (s .args .from) (s .args .high) (omega arith) (omega arith) (omega (arith, c .before .wide .ensures)))
 
 returns-4 : tie.Need-returns-4
 unfolding rangeEndOf
-returns-4 c = ap some (c .before .wide .ensures) ∙ sym (end-within (c .before .before .before .before .before .before .args .node .now) (search needs) (c .before .before .before .before .before .before .args .c) (c .before .before .before .before .before .before .args .i) (search needs) (c .before .before .before .before .before .before .args .from) (c .before .before .before .before .before .before .args .high) (omega arith) (omega arith) (omega (arith, c .before .wide .ensures)))
+returns-4 c =
+    let s = c .before .before .before .before .before .before in
+    ap some (c .before .wide .ensures) ∙ sym (end-within (s .args .node .now) (search needs) (s .args .c) (s .args .i) (search needs)
+    (s .args .from) (s .args .high) (omega arith) (omega arith) (omega (arith, c .before .wide .ensures)))
 
 pub range-end-spec : {M : Type 1} → statement M
 range-end-spec =

@@ -14,10 +14,15 @@ use Rattle.card_dump.proofs.is_damaged.Tie as tie
 padded : (c : tie.After-padded-length2) → paddedLength (wordsFor (dumpNodes (c .before .before .before .before .before .before .before .before .before .args .dump .now))) ≡ c .padded-length2 .result
 padded c = ap (λ (k : ℕ). paddedLength (wordsFor k)) (sym (c .before .before .before .word-at .ensures)) ∙ sym (c .padded-length2 .ensures)
 
-zeros : (c : tie.After-padding-is-zero) → allZero (drop (4 * wordsFor (dumpNodes (c .before .before .before .before .before .before .before .before .before .before .before .args .dump .now))) (c .before .before .before .before .before .before .before .before .before .before .before .args .dump .now)) ≡ c .padding-is-zero .result
+zeros : (c : tie.After-padding-is-zero)
+    → allZero (drop (4 * wordsFor (dumpNodes (c .before .before .before .before .before .before .before .before .before .before .before .args .dump .now)))
+    (c .before .before .before .before .before .before .before .before .before .before .before .args .dump .now)) ≡ c .padding-is-zero .result
 zeros c =
-    ap (λ (k : ℕ). allZero (drop (4 * wordsFor k) (c .before .before .before .before .before .before .before .before .before .before .before .args .dump .now))) (sym (c .before .before .before .before .before .word-at .ensures))
-    ∙ ap (λ (i : ℕ). allZero (drop i (c .before .before .before .before .before .before .before .before .before .before .before .args .dump .now))) (sym (padding-start (c .before .before .before .before .before .word-at .result)))
+    ap (λ (k : ℕ). allZero (drop (4 * wordsFor k)
+    (c .before .before .before .before .before .before .before .before .before .before .before .args .dump .now)))
+    (sym (c .before .before .before .before .before .word-at .ensures))
+    ∙ ap (λ (i : ℕ). allZero (drop i (c .before .before .before .before .before .before .before .before .before .before .before .args .dump .now)))
+    (sym (padding-start (c .before .before .before .before .before .word-at .result)))
     ∙ sym (c .padding-is-zero .ensures)
 
 returns : tie.Need-returns

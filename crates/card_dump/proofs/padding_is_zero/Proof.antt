@@ -24,7 +24,9 @@ eight-at-requires : tie.Need-eight-at-requires Inv-loop μ-loop
 eight-at-requires c κs = omega (arith, c .before .loop .inv .0)
 
 returns : tie.Need-returns Inv-loop μ-loop
-returns c = sym (c .before .before .before .loop .inv .1 ∙ eight-found (c .before .before .before .before .before .args .dump .now) (c .before .before .before .loop .k) (omega (arith, c .before .before .before .loop .inv .0)) (λ z. c .if1 .taken (c .before .eight-at .ensures ∙ z)))
+returns c =
+    let l = c .before .before .before .loop in
+    sym (l .inv .1 ∙ eight-found (c .before .before .before .before .before .args .dump .now) (l .k) (omega (arith, l .inv .0)) (λ z. c .if1 .taken (c .before .eight-at .ensures ∙ z)))
 
 add-k : tie.Need-add-k Inv-loop μ-loop
 add-k c = search needs
@@ -33,7 +35,9 @@ loop-less : tie.Need-loop-less Inv-loop μ-loop
 loop-less c = search needs
 
 loop-again : tie.Need-loop-again Inv-loop μ-loop
-loop-again c = (c .before .before .before .loop .inv .0, c .before .before .before .loop .inv .1 ∙ eight-passed (c .before .before .before .before .before .args .dump .now) (c .before .before .before .loop .k) (omega (arith, c .before .before .before .loop .inv .0)) (sym (c .before .eight-at .ensures) ∙ c .if1 .left))
+loop-again c =
+    let l = c .before .before .before .loop in
+    (l .inv .0, l .inv .1 ∙ eight-passed (c .before .before .before .before .before .args .dump .now) (l .k) (omega (arith, l .inv .0)) (sym (c .before .eight-at .ensures) ∙ c .if1 .left))
 
 returns-2 : tie.Need-returns-2 Inv-loop μ-loop
 returns-2 c = sym (c .before .loop .inv .1 ∙ no-bytes (c .before .before .before .args .dump .now) (8 * c .before .loop .k) (omega (arith, c .before .loop .inv .0, c .before .before .before .pre)))

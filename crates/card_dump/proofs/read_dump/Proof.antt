@@ -13,7 +13,9 @@ whole : (c : tie.Else1) → Whole (c .before .before .before .before .args .dump
 whole c = undamaged-whole _ (sym (c .before .is-damaged .ensures) ∙ c .if1 .left)
 
 -- and the answer as the lent slice's room says
-sized-answer : (c : tie.After-word-at) → readAnswer (c .before .before .before .before .before .args .dump .now) (length (c .before .before .before .before .before .args .words .now)) ≡ fittingLength (8 + 24 * c .word-at .result) (length (c .before .before .before .before .before .args .words .now))
+sized-answer : (c : tie.After-word-at)
+    → readAnswer (c .before .before .before .before .before .args .dump .now) (length (c .before .before .before .before .before .args .words .now))
+    ≡ fittingLength (8 + 24 * c .word-at .result) (length (c .before .before .before .before .before .args .words .now))
 sized-answer c =
     read-whole _ _ (sym (c .before .before .is-damaged .ensures) ∙ c .before .if1 .left)
     ∙ ap (λ (k : ℕ). fittingLength (wordsFor k) (length (c .before .before .before .before .before .args .words .now))) (sym (c .word-at .ensures))

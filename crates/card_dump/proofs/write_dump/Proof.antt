@@ -13,16 +13,20 @@ good : (c : tie.Else1) → Good (c .before .before .before .before .args .card .
 good c = good-card _ (sym (c .before .card-refusal .ensures) ∙ c .if1 .left)
 
 -- and past that test the answer is as the lent slice's room says
-answer : (c : tie.After-padded-length) → writeAnswer (c .before .before .before .before .before .args .card .now) (length (c .before .before .before .before .before .args .bytes .now)) ≡ fittingLength (c .padded-length .result) (length (c .before .before .before .before .before .args .bytes .now))
+answer : (c : tie.After-padded-length)
+    → writeAnswer (c .before .before .before .before .before .args .card .now) (length (c .before .before .before .before .before .args .bytes .now))
+    ≡ fittingLength (c .padded-length .result) (length (c .before .before .before .before .before .args .bytes .now))
 answer c =
-    write-good _ _ (sym (c .before .before .card-refusal .ensures) ∙ c .before .if1 .left) ∙ ap (λ (k : ℕ). fittingLength k (length (c .before .before .before .before .before .args .bytes .now))) (sym (c .padded-length .ensures))
+    write-good _ _ (sym (c .before .before .card-refusal .ensures) ∙ c .before .if1 .left)
+    ∙ ap (λ (k : ℕ). fittingLength k (length (c .before .before .before .before .before .args .bytes .now))) (sym (c .padded-length .ensures))
 
 card-refusal-requires : tie.Need-card-refusal-requires
 card-refusal-requires c κs = search needs
 
 returns : tie.Need-returns
 returns c =
-    let e = write-refuses (c .before .before .before .before .args .card .now) (length (c .before .before .before .before .args .bytes .now)) _ (sym (c .before .card-refusal .ensures)) (c .if1 .taken) in
+    let e = write-refuses (c .before .before .before .before .args .card .now)
+    (length (c .before .before .before .before .args .bytes .now)) _ (sym (c .before .card-refusal .ensures)) (c .if1 .taken) in
     (sym e, sym (write-refused _ _ _ e))
 
 padded-length-requires : tie.Need-padded-length-requires

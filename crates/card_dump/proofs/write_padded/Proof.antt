@@ -40,7 +40,9 @@ returns : tie.Need-returns
 unfolding dumpOf
 returns c =
     let s = c .before .before .before .before .before .before .before .before .before .before in
-    pad-after (cardBytes (s .args .card .now)) (s .args .bytes .now) _ _ (4 * length (s .args .card .now)) (s .args .size) (length-cardBytes (s .args .card .now)) (covers s) (s .pre .1) (c .before .before .before .before .before .before .write-words .ensures) (c .before .before .write-zeros .ensures)
+    pad-after (cardBytes (s .args .card .now)) (s .args .bytes .now) _ _ (4 * length (s .args .card .now)) (s .args .size)
+    (length-cardBytes (s .args .card .now)) (covers s) (s .pre .1)
+    (c .before .before .before .before .before .before .write-words .ensures) (c .before .before .write-zeros .ensures)
     ∙ ap (λ (k : ℕ). pad k (cardBytes (s .args .card .now)) ++ drop (s .args .size) (s .args .bytes .now)) (s .pre .0)
 
 pub write-padded-spec : {M : Type 1} → statement M

@@ -45,7 +45,9 @@ returns c =
     let l = c .before .loop in
     let s = c .before .before in
     let whole : l .i ≡ length (s .args .bytes .now) = omega arith in
-    l .inv .1 ∙ ap (λ (k : ℕ). replicate k 0 ++ drop k (s .args .bytes .now)) whole ∙ ap (λ (x : List ℕ). replicate (length (s .args .bytes .now)) 0 ++ x) (drop-length (s .args .bytes .now)) ∙ append-nil (replicate (length (s .args .bytes .now)) 0)
+    l .inv .1 ∙ ap (λ (k : ℕ). replicate k 0 ++ drop k (s .args .bytes .now)) whole
+    ∙ ap (λ (x : List ℕ). replicate (length (s .args .bytes .now)) 0 ++ x) (drop-length (s .args .bytes .now))
+    ∙ append-nil (replicate (length (s .args .bytes .now)) 0)
 
 pub write-zeros-spec : {M : Type 1} → statement M
 write-zeros-spec =

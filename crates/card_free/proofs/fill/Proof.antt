@@ -51,7 +51,8 @@ same-length c = search needs
 returns : tie.Need-returns Inv-loop μ-loop
 returns c =
     let l = c .before .before .before .before .before .loop in
-    c .before .before .take-out .ensures ∙ filled-all (l .words) (c .before .before .before .before .before .before .before .args .n) (l .q) (c .before .before .before .before .before .before .before .pre .1) (l .inv .1) (omega arith) (l .inv .2)
+    c .before .before .take-out .ensures ∙ filled-all (l .words) (c .before .before .before .before .before .before .before .args .n) (l .q)
+    (c .before .before .before .before .before .before .before .pre .1) (l .inv .1) (omega arith) (l .inv .2)
 
 pub fill-spec : {M : Type 1} → statement M
 fill-spec =

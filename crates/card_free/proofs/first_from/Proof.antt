@@ -42,7 +42,8 @@ add-q c = search needs
 returns : tie.Need-returns Inv-loop μ-loop
 returns c =
     let l = c .before .before .loop in
-    sym (search-none (c .before .before .before .before .args .words .now) (c .before .before .before .before .args .a) (l .q + 1) (omega arith) (passed-next _ _ _ _ (l .inv .3) (c .before .loop-test .taken) (l .inv .4)))
+    sym (search-none (c .before .before .before .before .args .words .now) (c .before .before .before .before .args .a) (l .q + 1)
+    (omega arith) (passed-next _ _ _ _ (l .inv .3) (c .before .loop-test .taken) (l .inv .4)))
 
 mul-word-2 : tie.Need-mul-word-2 Inv-loop μ-loop
 mul-word-2 c = search needs
@@ -71,7 +72,8 @@ add-t15 c = omega (arith, trailing-le 32 (c .before .loop .word))
 returns-2 : tie.Need-returns-2 Inv-loop μ-loop
 returns-2 c =
     let l = c .before .loop in
-    sym (search-found (c .before .before .before .args .words .now) (c .before .before .before .args .a) (l .q) (l .word) (omega arith) (l .inv .1) (l .inv .2) (c .loop-test .left) (l .inv .3) (l .inv .4))
+    sym (search-found (c .before .before .before .args .words .now) (c .before .before .before .args .a) (l .q) (l .word)
+    (omega arith) (l .inv .1) (l .inv .2) (c .loop-test .left) (l .inv .3) (l .inv .4))
 
 pub first-from-spec : {M : Type 1} → statement M
 first-from-spec =

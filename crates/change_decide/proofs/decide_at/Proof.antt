@@ -49,14 +49,19 @@ decide-underfull-requires c κs =
 returns-2 : tie.Need-returns-2
 returns-2 c =
     let s = c .before .before .before .before .before .before .before .before in
-    c .decide-tagged .ensures ∙ ap₂ (λ (x y : List ℕ). decideTagged (s .args .p) x y) (c .before .before .before .before .before .before .node-at .ensures) (c .before .before .before .node-at2 .ensures)
-    ∙ sym (decided-tagged _ _ _ (sym (ap kindOf (c .before .before .before .before .before .before .node-at .ensures)) ∙ c .before .before .before .before .if1 .left) (sym (ap kindOf (c .before .before .before .node-at2 .ensures)) ∙ c .before .if2 .taken))
+    c .decide-tagged .ensures ∙ ap₂ (λ (x y : List ℕ). decideTagged (s .args .p) x y)
+    (c .before .before .before .before .before .before .node-at .ensures) (c .before .before .before .node-at2 .ensures)
+    ∙ sym (decided-tagged _ _ _
+    (sym (ap kindOf (c .before .before .before .before .before .before .node-at .ensures)) ∙ c .before .before .before .before .if1 .left)
+    (sym (ap kindOf (c .before .before .before .node-at2 .ensures)) ∙ c .before .if2 .taken))
 
 returns-3 : tie.Need-returns-3
 returns-3 c =
     let s = c .before .before .before .before .before .before .before .before in
     c .decide-underfull .ensures ∙ ap (decideUnderfull (s .args .card .now) (s .args .n) (s .args .p)) (c .before .before .before .before .before .before .node-at .ensures)
-    ∙ sym (decided-underfull _ _ _ (sym (ap kindOf (c .before .before .before .before .before .before .node-at .ensures)) ∙ c .before .before .before .before .if1 .left) (λ e. c .before .if2 .left (ap kindOf (c .before .before .before .node-at2 .ensures) ∙ e)))
+    ∙ sym (decided-underfull _ _ _
+    (sym (ap kindOf (c .before .before .before .before .before .before .node-at .ensures)) ∙ c .before .before .before .before .if1 .left)
+    (λ e. c .before .if2 .left (ap kindOf (c .before .before .before .node-at2 .ensures) ∙ e)))
 
 pub decide-at-spec : {M : Type 1} → statement M
 decide-at-spec =

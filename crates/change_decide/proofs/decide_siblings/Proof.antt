@@ -20,7 +20,9 @@ pair-count-requires-2 : tie.Need-pair-count-requires-2
 pair-count-requires-2 c κs = search needs
 
 add-decide-together : tie.Need-add-decide-together
-add-decide-together c = let s = c .before .before .before .before .before .before .before in omega (arith, c .before .pair-count .ensures, c .pair-count2 .ensures, leaf-few (s .args .x .now), leaf-few (s .args .y .now))
+add-decide-together c =
+    let s = c .before .before .before .before .before .before .before in
+    omega (arith, c .before .pair-count .ensures, c .pair-count2 .ensures, leaf-few (s .args .x .now), leaf-few (s .args .y .now))
 
 decide-together-requires : tie.Need-decide-together-requires
 decide-together-requires c κs = search needs
@@ -43,7 +45,9 @@ child-count-requires c κs = search needs
 returns-3 : tie.Need-returns-3
 returns-3 c =
     sym
-    (siblings-left-bare _ _ _ _ (sym (c .before .before .before .before .before .both-are .ensures) ∙ c .before .before .before .before .if1 .left) (sym (c .before .before .before .both-are2 .ensures) ∙ not-false _ (c .before .before .if2 .left)) (sym (c .before .child-count .ensures) ∙ c .if3 .taken))
+    (siblings-left-bare _ _ _ _ (sym (c .before .before .before .before .before .both-are .ensures) ∙ c .before .before .before .before .if1 .left)
+    (sym (c .before .before .before .both-are2 .ensures) ∙ not-false _ (c .before .before .if2 .left))
+    (sym (c .before .child-count .ensures) ∙ c .if3 .taken))
 
 child-count-requires-2 : tie.Need-child-count-requires-2
 child-count-requires-2 c κs = search needs
@@ -51,11 +55,21 @@ child-count-requires-2 c κs = search needs
 returns-4 : tie.Need-returns-4
 returns-4 c =
     sym
-    (siblings-right-bare _ _ _ _ (sym (c .before .before .before .before .before .before .before .both-are .ensures) ∙ c .before .before .before .before .before .before .if1 .left) (sym (c .before .before .before .before .before .both-are2 .ensures) ∙ not-false _ (c .before .before .before .before .if2 .left))
+    (siblings-right-bare _ _ _ _ (sym (c .before .before .before .before .before .before .before .both-are .ensures)
+    ∙ c .before .before .before .before .before .before .if1 .left)
+    (sym (c .before .before .before .before .before .both-are2 .ensures) ∙ not-false _ (c .before .before .before .before .if2 .left))
     (omega (arith, c .before .before .before .child-count .ensures, c .before .before .if3 .left)) (sym (c .before .child-count2 .ensures) ∙ c .if4 .taken))
 
 add-decide-together-2 : tie.Need-add-decide-together-2
-add-decide-together-2 c = let s = c .before .before .before .before .before .before .before .before .before .before .before in omega (arith, c .before .before .before .child-count .ensures, c .before .child-count2 .ensures, children-le (s .args .x .now), children-le (s .args .y .now))
+add-decide-together-2 c =
+    let s = c .before .before .before .before .before .before .before .before .before .before .before in
+    omega (
+      arith,
+      c .before .before .before .child-count .ensures,
+      c .before .child-count2 .ensures,
+      children-le (s .args .x .now),
+      children-le (s .args .y .now),
+    )
 
 decide-together-requires-2 : tie.Need-decide-together-requires-2
 decide-together-requires-2 c κs = search needs
@@ -63,9 +77,13 @@ decide-together-requires-2 c κs = search needs
 returns-5 : tie.Need-returns-5
 returns-5 c =
     let s = c .before .before .before .before .before .before .before .before .before .before .before .before in
-    c .decide-together2 .ensures ∙ ap₂ (λ (a b : ℕ). decideTogether (s .args .p) (s .args .parent .now) (a + b)) (c .before .before .before .before .child-count .ensures) (c .before .before .child-count2 .ensures)
+    c .decide-together2 .ensures ∙ ap₂ (λ (a b : ℕ). decideTogether (s .args .p) (s .args .parent .now) (a + b))
+    (c .before .before .before .before .child-count .ensures) (c .before .before .child-count2 .ensures)
     ∙ sym
-    (siblings-inners _ _ _ _ (sym (c .before .before .before .before .before .before .before .before .both-are .ensures) ∙ c .before .before .before .before .before .before .before .if1 .left) (sym (c .before .before .before .before .before .before .both-are2 .ensures) ∙ not-false _ (c .before .before .before .before .before .if2 .left))
+    (siblings-inners _ _ _ _ (sym (c .before .before .before .before .before .before .before .before .both-are .ensures)
+    ∙ c .before .before .before .before .before .before .before .if1 .left)
+    (sym (c .before .before .before .before .before .before .both-are2 .ensures)
+    ∙ not-false _ (c .before .before .before .before .before .if2 .left))
     (omega (arith, c .before .before .before .before .child-count .ensures, c .before .before .before .if3 .left)) (omega (arith, c .before .before .child-count2 .ensures, c .before .if4 .left)))
 
 pub decide-siblings-spec : {M : Type 1} → statement M

@@ -18,17 +18,25 @@ use Rattle.change_decide.proofs.decide_underfull.Tie as tie
 beside : (c : tie.Else1) → suc (leftSibling (c .before .before .before .before .before .args .p)) < length (children (c .before .before .before .before .before .args .parent .now))
 beside c = omega (arith, c .if1 .left, c .before .child-count .ensures, c .before .before .left-sibling .ensures)
 
-left-read : (c : tie.Else1) → getD (c .before .before .before .before .before .args .parent .now) (12 + c .before .before .left-sibling .result) 0 ≡ leftNumber (c .before .before .before .before .before .args .parent .now) (c .before .before .before .before .before .args .p)
+left-read : (c : tie.Else1)
+    → getD (c .before .before .before .before .before .args .parent .now) (12 + c .before .before .left-sibling .result) 0
+    ≡ leftNumber (c .before .before .before .before .before .args .parent .now) (c .before .before .before .before .before .args .p)
 left-read c = child-read _ _ _ (ap (λ (i : ℕ). 12 + i) (c .before .before .left-sibling .ensures)) (omega (arith, beside c))
 
-right-read : (c : tie.Else1) → getD (c .before .before .before .before .before .args .parent .now) (13 + c .before .before .left-sibling .result) 0 ≡ rightNumber (c .before .before .before .before .before .args .parent .now) (c .before .before .before .before .before .args .p)
+right-read : (c : tie.Else1)
+    → getD (c .before .before .before .before .before .args .parent .now) (13 + c .before .before .left-sibling .result) 0
+    ≡ rightNumber (c .before .before .before .before .before .args .parent .now) (c .before .before .before .before .before .args .p)
 right-read c = child-read _ _ _ (omega (arith, c .before .before .left-sibling .ensures)) (beside c)
 
 -- which are on the card
-left-node : (c : tie.Else2) → isNode (c .before .before .before .before .before .before .before .before .before .args .n) (getD (c .before .before .before .before .before .before .before .before .before .args .parent .now) (12 + c .before .before .before .before .before .before .left-sibling .result) 0) ≡ true
+left-node : (c : tie.Else2) → isNode (c .before .before .before .before .before .before .before .before .before .args .n)
+    (getD (c .before .before .before .before .before .before .before .before .before .args .parent .now)
+    (12 + c .before .before .before .before .before .before .left-sibling .result) 0) ≡ true
 left-node c = sym (c .before .is-node .ensures) ∙ not-false _ (c .if2 .left)
 
-right-node : (c : tie.Else3) → isNode (c .before .before .before .before .before .before .before .before .before .before .before .args .n) (getD (c .before .before .before .before .before .before .before .before .before .before .before .args .parent .now) (13 + c .before .before .before .before .before .before .before .before .left-sibling .result) 0) ≡ true
+right-node : (c : tie.Else3) → isNode (c .before .before .before .before .before .before .before .before .before .before .before .args .n)
+    (getD (c .before .before .before .before .before .before .before .before .before .before .before .args .parent .now)
+    (13 + c .before .before .before .before .before .before .before .before .left-sibling .result) 0) ≡ true
 right-node c = sym (c .before .is-node2 .ensures) ∙ not-false _ (c .if3 .left)
 
 left-sibling-requires : tie.Need-left-sibling-requires
@@ -73,7 +81,8 @@ is-node-requires c κs = search needs
 returns-2 : tie.Need-returns-2
 returns-2 c =
     let s = c .before .before .before .before .before .before .before .before .before in
-    sym (underfull-left-off _ _ _ _ (beside (c .before .before .before .before)) (ap (isNode (s .args .n)) (sym (left-read (c .before .before .before .before))) ∙ sym (c .before .is-node .ensures) ∙ not-true _ (c .if2 .taken)))
+    sym (underfull-left-off _ _ _ _ (beside (c .before .before .before .before))
+    (ap (isNode (s .args .n)) (sym (left-read (c .before .before .before .before))) ∙ sym (c .before .is-node .ensures) ∙ not-true _ (c .if2 .taken)))
 
 is-node-requires-2 : tie.Need-is-node-requires-2
 is-node-requires-2 c κs = search needs
@@ -82,7 +91,8 @@ returns-3 : tie.Need-returns-3
 returns-3 c =
     let s = c .before .before .before .before .before .before .before .before .before .before .before in
     sym
-    (underfull-right-off _ _ _ _ (beside (c .before .before .before .before .before .before)) (ap (isNode (s .args .n)) (sym (left-read (c .before .before .before .before .before .before))) ∙ left-node (c .before .before))
+    (underfull-right-off _ _ _ _ (beside (c .before .before .before .before .before .before))
+    (ap (isNode (s .args .n)) (sym (left-read (c .before .before .before .before .before .before))) ∙ left-node (c .before .before))
     (ap (isNode (s .args .n)) (sym (right-read (c .before .before .before .before .before .before))) ∙ sym (c .before .is-node2 .ensures) ∙ not-true _ (c .if3 .taken)))
 
 node-at-requires : tie.Need-node-at-requires
@@ -99,17 +109,25 @@ decide-siblings-requires : tie.Need-decide-siblings-requires
 decide-siblings-requires c κs =
     let s = c .before .before .before .before .before .before .before .before .before .before .before .before .before in
     let left = node-numbered _ _ (left-node (c .before .before .before .before)) in
-    let right = node-numbered _ _ (right-node (c .before .before)) in
-    (s .pre .2, ap length (c .before .node-at .ensures) ∙ length-node (s .args .card .now) _ (left .0) (omega (arith, left .1, s .pre .0)), ap length (c .node-at2 .ensures) ∙ length-node (s .args .card .now) _ (right .0) (omega (arith, right .1, s .pre .0)))
+    let right = node-numbered _ _ (right-node (c .before .before)) in (
+      s .pre .2,
+      ap length (c .before .node-at .ensures) ∙ length-node (s .args .card .now) _ (left .0) (omega (arith, left .1, s .pre .0)),
+      ap length (c .node-at2 .ensures) ∙ length-node (s .args .card .now) _ (right .0) (omega (arith, right .1, s .pre .0)),
+    )
 
 returns-4 : tie.Need-returns-4
 returns-4 c =
     let s = c .before .before .before .before .before .before .before .before .before .before .before .before .before .before in
     c .decide-siblings .ensures
     ∙ ap₂ (λ (x y : List ℕ). decideSiblings (s .args .p) (s .args .parent .now) x y)
-    (c .before .before .node-at .ensures ∙ ap (nodeAt (s .args .card .now)) (left-read (c .before .before .before .before .before .before .before .before .before))) (c .before .node-at2 .ensures ∙ ap (nodeAt (s .args .card .now)) (right-read (c .before .before .before .before .before .before .before .before .before)))
+    (c .before .before .node-at .ensures ∙ ap (nodeAt (s .args .card .now))
+    (left-read (c .before .before .before .before .before .before .before .before .before))) (c .before .node-at2 .ensures
+    ∙ ap (nodeAt (s .args .card .now)) (right-read (c .before .before .before .before .before .before .before .before .before)))
     ∙ sym
-    (underfull-both _ _ _ _ (beside (c .before .before .before .before .before .before .before .before .before)) (ap (isNode (s .args .n)) (sym (left-read (c .before .before .before .before .before .before .before .before .before))) ∙ left-node (c .before .before .before .before .before)) (ap (isNode (s .args .n)) (sym (right-read (c .before .before .before .before .before .before .before .before .before))) ∙ right-node (c .before .before .before)))
+    (underfull-both _ _ _ _ (beside (c .before .before .before .before .before .before .before .before .before))
+    (ap (isNode (s .args .n)) (sym (left-read (c .before .before .before .before .before .before .before .before .before)))
+    ∙ left-node (c .before .before .before .before .before)) (ap (isNode (s .args .n))
+    (sym (right-read (c .before .before .before .before .before .before .before .before .before))) ∙ right-node (c .before .before .before)))
 
 pub decide-underfull-spec : {M : Type 1} → statement M
 decide-underfull-spec =

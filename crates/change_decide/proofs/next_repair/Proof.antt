@@ -10,7 +10,8 @@ use Rattle.change_decide.proofs.next_repair.Tie as tie
 
 -- the repair follows from what the search found
 repair : (c : tie.After-find-violation) (found : Search) → c .find-violation .result ≡ found
-    → onSearch (c .before .before .before .args .card .now) (c .before .before .before .args .n) found ≡ decidedRepair (c .before .before .before .args .card .now) (c .before .before .before .args .n) (c .before .before .before .args .key)
+    → onSearch (c .before .before .before .args .card .now) (c .before .before .before .args .n) found
+    ≡ decidedRepair (c .before .before .before .args .card .now) (c .before .before .before .args .n) (c .before .before .before .args .key)
 unfolding decidedRepair
 repair c found e =
     let s = c .before .before .before in

@@ -1,9 +1,10 @@
 -- `change_layout::cut_of` meets its contract.
 use mathlib.Core.Path.{sym, ap, subst, _∙_}
 use native.Mathlib.Omega.{arith}
+use Rattle.laws.specs.Lists.{pad}
+use Rattle.change_decide.specs.declared.Decision.{Decision}
 use Rattle.change_decide.specs.Places.{Fits}
 use Rattle.change_layout.specs.LayOut.{cutBy}
-use Rattle.change_layout.proofs.LayOutLaws.{cut-one}
 use borrow.Author.Needs.{needs}
 use Rattle.change_layout.proofs.cut_of.Statement.{statement}
 use Rattle.change_layout.proofs.cut_of.Tie as tie
@@ -35,7 +36,7 @@ unfolding Fits
 cut-tagged-requires c κs =
     let s = c .before .before .before .before in
     let w = subst (Fits (s .args .card .now)) (c .before .decision4 .given .1) (s .pre) .0 .within in
-    (w .parent-from, omega (arith, w .parent-to, w .few), w .node-from, omega (arith, w .node-to, w .few))
+    (omega (arith, w .parent-to, w .few), omega (arith, w .node-to, w .few))
 
 enum-known-decision-5 : tie.Need-enum-known-decision-5
 enum-known-decision-5 c = search needs
@@ -45,7 +46,7 @@ unfolding Fits
 cut-tagged-requires-2 c κs =
     let s = c .before .before .before .before in
     let w = subst (Fits (s .args .card .now)) (c .before .decision5 .given .1) (s .pre) .0 .within in
-    (w .parent-from, omega (arith, w .parent-to, w .few), w .node-from, omega (arith, w .node-to, w .few))
+    (omega (arith, w .parent-to, w .few), omega (arith, w .node-to, w .few))
 
 enum-known-decision-6 : tie.Need-enum-known-decision-6
 enum-known-decision-6 c = search needs
@@ -70,43 +71,43 @@ cut-siblings-requires-3 c κs = let s = c .before .before .before .before in sub
 
 returns : tie.Need-returns
 unfolding cutBy
-returns c = sym (ap (cutBy _) (c .enum-told .given .1))
+returns c = sym (ap (λ (d : Decision). pad 3 (cutBy (c .before .before .before .args .card .now) d)) (c .enum-told .given .1))
 
 returns-2 : tie.Need-returns-2
 unfolding cutBy
-returns-2 c = sym (ap (cutBy _) (c .enum-told2 .given .1))
+returns-2 c = sym (ap (λ (d : Decision). pad 3 (cutBy (c .before .before .before .args .card .now) d)) (c .enum-told2 .given .1))
 
 returns-3 : tie.Need-returns-3
 unfolding cutBy
-returns-3 c = sym (ap (cutBy _) (c .before .decision .given .1))
+returns-3 c = sym (ap (λ (d : Decision). pad 3 (cutBy (c .before .before .before .before .args .card .now) d)) (c .before .decision .given .1))
 
 returns-4 : tie.Need-returns-4
 unfolding cutBy
-returns-4 c = sym (ap (cutBy _) (c .before .decision2 .given .1))
+returns-4 c = sym (ap (λ (d : Decision). pad 3 (cutBy (c .before .before .before .before .args .card .now) d)) (c .before .decision2 .given .1))
 
 returns-5 : tie.Need-returns-5
-unfolding cutBy Fits
-returns-5 c = let s = c .before .before .before .before in cut-one _ (subst (Fits (s .args .card .now)) (c .before .decision3 .given .1) (s .pre) .0 .on .pos) ∙ sym (ap (cutBy _) (c .before .decision3 .given .1))
+unfolding cutBy
+returns-5 c = sym (ap (λ (d : Decision). pad 3 (cutBy (c .before .before .before .before .args .card .now) d)) (c .before .decision3 .given .1))
 
 returns-6 : tie.Need-returns-6
 unfolding cutBy
-returns-6 c = c .cut-tagged .ensures ∙ sym (ap (cutBy _) (c .before .before .decision4 .given .1))
+returns-6 c = c .cut-tagged .ensures ∙ sym (ap (λ (d : Decision). pad 3 (cutBy (c .before .before .before .before .before .args .card .now) d)) (c .before .before .decision4 .given .1))
 
 returns-7 : tie.Need-returns-7
 unfolding cutBy
-returns-7 c = c .cut-tagged2 .ensures ∙ sym (ap (cutBy _) (c .before .before .decision5 .given .1))
+returns-7 c = c .cut-tagged2 .ensures ∙ sym (ap (λ (d : Decision). pad 3 (cutBy (c .before .before .before .before .before .args .card .now) d)) (c .before .before .decision5 .given .1))
 
 returns-8 : tie.Need-returns-8
 unfolding cutBy
-returns-8 c = c .cut-siblings .ensures ∙ sym (ap (cutBy _) (c .before .before .decision6 .given .1))
+returns-8 c = c .cut-siblings .ensures ∙ sym (ap (λ (d : Decision). pad 3 (cutBy (c .before .before .before .before .before .args .card .now) d)) (c .before .before .decision6 .given .1))
 
 returns-9 : tie.Need-returns-9
 unfolding cutBy
-returns-9 c = c .cut-siblings2 .ensures ∙ sym (ap (cutBy _) (c .before .before .decision7 .given .1))
+returns-9 c = c .cut-siblings2 .ensures ∙ sym (ap (λ (d : Decision). pad 3 (cutBy (c .before .before .before .before .before .args .card .now) d)) (c .before .before .decision7 .given .1))
 
 returns-10 : tie.Need-returns-10
 unfolding cutBy
-returns-10 c = c .cut-siblings3 .ensures ∙ sym (ap (cutBy _) (c .before .before .decision8 .given .1))
+returns-10 c = c .cut-siblings3 .ensures ∙ sym (ap (λ (d : Decision). pad 3 (cutBy (c .before .before .before .before .before .args .card .now) d)) (c .before .before .decision8 .given .1))
 
 pub cut-of-spec : {M : Type 1} → statement M
 cut-of-spec =

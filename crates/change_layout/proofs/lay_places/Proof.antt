@@ -46,7 +46,10 @@ add-word-place-2 c = let s = c .before .before .before .before .before in omega 
 
 word-place-requires-2 : tie.Need-word-place-requires-2
 unfolding Fits
-word-place-requires-2 c κs = let s = c .before .before .before .before .before in let f = subst FitsSome (c .before .before .decision .given .1) (s .pre .0) .1 in (f .0 .on .pos, f .0 .most, omega (arith, f .1))
+word-place-requires-2 c κs =
+    let s = c .before .before .before .before .before in
+    let f = subst FitsSome (c .before .before .decision .given .1) (s .pre .0) .1 in
+    (f .0 .on .pos, f .0 .most, omega (arith, f .1))
 
 slice-write-places-2 : tie.Need-slice-write-places-2
 slice-write-places-2 c = search needs
@@ -70,42 +73,78 @@ enum-known-decision-3 c = search needs
 
 lay-places-requires : tie.Need-lay-places-requires
 unfolding Fits needed
-lay-places-requires c κs = let s = c .before .before .before .before .before in (s .pre .2, omega arith, numbers (s .args .nodes) (c .before .before .decision3 .given .1) (s .pre .1), subst FitsSome (c .before .before .decision3 .given .1) (s .pre .0) .1 .1)
+lay-places-requires c κs =
+    let s = c .before .before .before .before .before in (
+      s .pre .2,
+      omega arith,
+      numbers (s .args .nodes) (c .before .before .decision3 .given .1) (s .pre .1),
+      subst FitsSome (c .before .before .decision3 .given .1) (s .pre .0) .1 .1,
+    )
 
 enum-known-decision-4 : tie.Need-enum-known-decision-4
 enum-known-decision-4 c = search needs
 
 lay-places-requires-2 : tie.Need-lay-places-requires-2
 unfolding Fits needed
-lay-places-requires-2 c κs = let s = c .before .before .before .before .before in (s .pre .2, omega arith, numbers (s .args .nodes) (c .before .before .decision4 .given .1) (s .pre .1), subst FitsSome (c .before .before .decision4 .given .1) (s .pre .0) .1 .0 .within .link)
+lay-places-requires-2 c κs =
+    let s = c .before .before .before .before .before in (
+      s .pre .2,
+      omega arith,
+      numbers (s .args .nodes) (c .before .before .decision4 .given .1) (s .pre .1),
+      subst FitsSome (c .before .before .decision4 .given .1) (s .pre .0) .1 .0 .within .link,
+    )
 
 enum-known-decision-5 : tie.Need-enum-known-decision-5
 enum-known-decision-5 c = search needs
 
 lay-places-requires-3 : tie.Need-lay-places-requires-3
 unfolding Fits needed
-lay-places-requires-3 c κs = let s = c .before .before .before .before .before in (s .pre .2, omega arith, numbers (s .args .nodes) (c .before .before .decision5 .given .1) (s .pre .1), subst FitsSome (c .before .before .decision5 .given .1) (s .pre .0) .1 .0 .within .link)
+lay-places-requires-3 c κs =
+    let s = c .before .before .before .before .before in (
+      s .pre .2,
+      omega arith,
+      numbers (s .args .nodes) (c .before .before .decision5 .given .1) (s .pre .1),
+      subst FitsSome (c .before .before .decision5 .given .1) (s .pre .0) .1 .0 .within .link,
+    )
 
 enum-known-decision-6 : tie.Need-enum-known-decision-6
 enum-known-decision-6 c = search needs
 
 lay-places-requires-4 : tie.Need-lay-places-requires-4
 unfolding Fits needed
-lay-places-requires-4 c κs = let s = c .before .before .before .before .before in (s .pre .2, omega arith, numbers (s .args .nodes) (c .before .before .decision6 .given .1) (s .pre .1), subst FitsSome (c .before .before .decision6 .given .1) (s .pre .0) .1 .0 .within .link)
+lay-places-requires-4 c κs =
+    let s = c .before .before .before .before .before in (
+      s .pre .2,
+      omega arith,
+      numbers (s .args .nodes) (c .before .before .decision6 .given .1) (s .pre .1),
+      subst FitsSome (c .before .before .decision6 .given .1) (s .pre .0) .1 .0 .within .link,
+    )
 
 enum-known-decision-7 : tie.Need-enum-known-decision-7
 enum-known-decision-7 c = search needs
 
 lay-places-requires-5 : tie.Need-lay-places-requires-5
 unfolding Fits needed
-lay-places-requires-5 c κs = let s = c .before .before .before .before .before in (s .pre .2, omega arith, numbers (s .args .nodes) (c .before .before .decision7 .given .1) (s .pre .1), subst FitsSome (c .before .before .decision7 .given .1) (s .pre .0) .1 .0 .within .link)
+lay-places-requires-5 c κs =
+    let s = c .before .before .before .before .before in (
+      s .pre .2,
+      omega arith,
+      numbers (s .args .nodes) (c .before .before .decision7 .given .1) (s .pre .1),
+      subst FitsSome (c .before .before .decision7 .given .1) (s .pre .0) .1 .0 .within .link,
+    )
 
 enum-known-decision-8 : tie.Need-enum-known-decision-8
 enum-known-decision-8 c = search needs
 
 lay-places-requires-6 : tie.Need-lay-places-requires-6
 unfolding Fits needed
-lay-places-requires-6 c κs = let s = c .before .before .before .before .before in (s .pre .2, omega arith, numbers (s .args .nodes) (c .before .before .decision8 .given .1) (s .pre .1), subst FitsSome (c .before .before .decision8 .given .1) (s .pre .0) .1 .0 .within .link)
+lay-places-requires-6 c κs =
+    let s = c .before .before .before .before .before in (
+      s .pre .2,
+      omega arith,
+      numbers (s .args .nodes) (c .before .before .decision8 .given .1) (s .pre .1),
+      subst FitsSome (c .before .before .decision8 .given .1) (s .pre .0) .1 .0 .within .link,
+    )
 
 returns : tie.Need-returns
 unfolding placesBy storeCount
@@ -142,42 +181,60 @@ same-length-3 c = search needs
 
 returns-5 : tie.Need-returns-5
 unfolding placesBy storeCount
-returns-5 c = let s = c .before .before .before .before .before .before .before .before in c .before .before .lay-places .ensures ∙ turned (s .args .nodes) (s .args .places .now) (c .before .before .before .before .before .decision3 .given .1)
+returns-5 c =
+    let s = c .before .before .before .before .before .before .before .before in
+    c .before .before .lay-places .ensures
+    ∙ turned (s .args .nodes) (s .args .places .now) (c .before .before .before .before .before .decision3 .given .1)
 
 same-length-4 : tie.Need-same-length-4
 same-length-4 c = search needs
 
 returns-6 : tie.Need-returns-6
 unfolding placesBy storeCount
-returns-6 c = let s = c .before .before .before .before .before .before .before .before in c .before .before .lay-places2 .ensures ∙ turned (s .args .nodes) (s .args .places .now) (c .before .before .before .before .before .decision4 .given .1)
+returns-6 c =
+    let s = c .before .before .before .before .before .before .before .before in
+    c .before .before .lay-places2 .ensures
+    ∙ turned (s .args .nodes) (s .args .places .now) (c .before .before .before .before .before .decision4 .given .1)
 
 same-length-5 : tie.Need-same-length-5
 same-length-5 c = search needs
 
 returns-7 : tie.Need-returns-7
 unfolding placesBy storeCount
-returns-7 c = let s = c .before .before .before .before .before .before .before .before in c .before .before .lay-places3 .ensures ∙ turned (s .args .nodes) (s .args .places .now) (c .before .before .before .before .before .decision5 .given .1)
+returns-7 c =
+    let s = c .before .before .before .before .before .before .before .before in
+    c .before .before .lay-places3 .ensures
+    ∙ turned (s .args .nodes) (s .args .places .now) (c .before .before .before .before .before .decision5 .given .1)
 
 same-length-6 : tie.Need-same-length-6
 same-length-6 c = search needs
 
 returns-8 : tie.Need-returns-8
 unfolding placesBy storeCount
-returns-8 c = let s = c .before .before .before .before .before .before .before .before in c .before .before .lay-places4 .ensures ∙ turned (s .args .nodes) (s .args .places .now) (c .before .before .before .before .before .decision6 .given .1)
+returns-8 c =
+    let s = c .before .before .before .before .before .before .before .before in
+    c .before .before .lay-places4 .ensures
+    ∙ turned (s .args .nodes) (s .args .places .now) (c .before .before .before .before .before .decision6 .given .1)
 
 same-length-7 : tie.Need-same-length-7
 same-length-7 c = search needs
 
 returns-9 : tie.Need-returns-9
 unfolding placesBy storeCount
-returns-9 c = let s = c .before .before .before .before .before .before .before .before in c .before .before .lay-places5 .ensures ∙ turned (s .args .nodes) (s .args .places .now) (c .before .before .before .before .before .decision7 .given .1)
+returns-9 c =
+    let s = c .before .before .before .before .before .before .before .before in
+    c .before .before .lay-places5 .ensures
+    ∙ turned (s .args .nodes) (s .args .places .now) (c .before .before .before .before .before .decision7 .given .1)
 
 same-length-8 : tie.Need-same-length-8
 same-length-8 c = search needs
 
 returns-10 : tie.Need-returns-10
 unfolding placesBy storeCount
-returns-10 c = let s = c .before .before .before .before .before .before .before .before in c .before .before .lay-places6 .ensures ∙ turned (s .args .nodes) (s .args .places .now) (c .before .before .before .before .before .decision8 .given .1)
+returns-10 c =
+    let s = c .before .before .before .before .before .before .before .before in
+    c .before .before .lay-places6 .ensures
+    ∙ turned (s .args .nodes) (s .args .places .now) (c .before .before .before .before .before .decision8 .given .1)
 
 pub lay-places-spec : {M : Type 1} → statement M
 lay-places-spec =

@@ -47,7 +47,10 @@ enum-known-decision-3 c = search needs
 
 node-at-requires : tie.Need-node-at-requires
 unfolding Fits
-node-at-requires c κs = let s = c .before .before .before .before .before in let f = subst (Fits (s .args .card .now)) (c .before .decision3 .given .1) (s .pre .0) in (f .0 .on .pos, f .0 .most, f .0 .on .fits)
+node-at-requires c κs =
+    let s = c .before .before .before .before .before in
+    let f = subst (Fits (s .args .card .now)) (c .before .decision3 .given .1) (s .pre .0) in
+    (f .0 .on .pos, f .0 .most, f .0 .on .fits)
 
 lay-split-leaf-requires : tie.Need-lay-split-leaf-requires
 unfolding Fits
@@ -65,35 +68,50 @@ enum-known-decision-4 c = search needs
 
 lay-absorb-requires : tie.Need-lay-absorb-requires
 unfolding Fits
-lay-absorb-requires c κs = let s = c .before .before .before .before .before .before in let f = subst (Fits (s .args .card .now)) (c .before .before .decision4 .given .1) (s .pre .0) in (f .0, f .1, s .pre .1)
+lay-absorb-requires c κs =
+    let s = c .before .before .before .before .before .before in
+    let f = subst (Fits (s .args .card .now)) (c .before .before .decision4 .given .1) (s .pre .0) in
+    (f .0, f .1, s .pre .1)
 
 enum-known-decision-5 : tie.Need-enum-known-decision-5
 enum-known-decision-5 c = search needs
 
 lay-split-parent-requires : tie.Need-lay-split-parent-requires
 unfolding Fits
-lay-split-parent-requires c κs = let s = c .before .before .before .before .before .before in let f = subst (Fits (s .args .card .now)) (c .before .before .decision5 .given .1) (s .pre .0) in (f .0, f .1, s .pre .1)
+lay-split-parent-requires c κs =
+    let s = c .before .before .before .before .before .before in
+    let f = subst (Fits (s .args .card .now)) (c .before .before .decision5 .given .1) (s .pre .0) in
+    (f .0, f .1, s .pre .1)
 
 enum-known-decision-6 : tie.Need-enum-known-decision-6
 enum-known-decision-6 c = search needs
 
 lay-share-requires : tie.Need-lay-share-requires
 unfolding Fits
-lay-share-requires c κs = let s = c .before .before .before .before .before .before in let f = subst (Fits (s .args .card .now)) (c .before .before .decision6 .given .1) (s .pre .0) in (f .0, f .1, s .pre .1)
+lay-share-requires c κs =
+    let s = c .before .before .before .before .before .before in
+    let f = subst (Fits (s .args .card .now)) (c .before .before .decision6 .given .1) (s .pre .0) in
+    (f .0, f .1, s .pre .1)
 
 enum-known-decision-7 : tie.Need-enum-known-decision-7
 enum-known-decision-7 c = search needs
 
 lay-merge-requires : tie.Need-lay-merge-requires
 unfolding Fits
-lay-merge-requires c κs = let s = c .before .before .before .before .before .before in let f = subst (Fits (s .args .card .now)) (c .before .before .decision7 .given .1) (s .pre .0) in (f .0, f .1, s .pre .1)
+lay-merge-requires c κs =
+    let s = c .before .before .before .before .before .before in
+    let f = subst (Fits (s .args .card .now)) (c .before .before .decision7 .given .1) (s .pre .0) in
+    (f .0, f .1, s .pre .1)
 
 enum-known-decision-8 : tie.Need-enum-known-decision-8
 enum-known-decision-8 c = search needs
 
 lay-merge-root-requires : tie.Need-lay-merge-root-requires
 unfolding Fits
-lay-merge-root-requires c κs = let s = c .before .before .before .before .before .before in let f = subst (Fits (s .args .card .now)) (c .before .before .decision8 .given .1) (s .pre .0) in (f .0, f .1, s .pre .1)
+lay-merge-root-requires c κs =
+    let s = c .before .before .before .before .before .before in
+    let f = subst (Fits (s .args .card .now)) (c .before .before .decision8 .given .1) (s .pre .0) in
+    (f .0, f .1, s .pre .1)
 
 returns : tie.Need-returns
 unfolding wordsBy storeCount
@@ -108,14 +126,20 @@ same-length c = search needs
 
 returns-3 : tie.Need-returns-3
 unfolding wordsBy storeCount
-returns-3 c = let s = c .before .before .before .before .before in two-set (s .args .values .now) _ _ (omega (arith, s .pre .1)) ∙ turned (s .args .card .now) (s .args .nodes) (s .args .values .now) (c .before .decision .given .1)
+returns-3 c =
+    let s = c .before .before .before .before .before in
+    two-set (s .args .values .now) _ _ (omega (arith, s .pre .1))
+    ∙ turned (s .args .card .now) (s .args .nodes) (s .args .values .now) (c .before .decision .given .1)
 
 same-length-2 : tie.Need-same-length-2
 same-length-2 c = search needs
 
 returns-4 : tie.Need-returns-4
 unfolding wordsBy storeCount
-returns-4 c = let s = c .before .before .before .before .before in one-set (s .args .values .now) _ (omega (arith, s .pre .1)) ∙ turned (s .args .card .now) (s .args .nodes) (s .args .values .now) (c .before .decision2 .given .1)
+returns-4 c =
+    let s = c .before .before .before .before .before in
+    one-set (s .args .values .now) _ (omega (arith, s .pre .1))
+    ∙ turned (s .args .card .now) (s .args .nodes) (s .args .values .now) (c .before .decision2 .given .1)
 
 same-length-3 : tie.Need-same-length-3
 same-length-3 c = search needs
@@ -134,35 +158,50 @@ same-length-4 c = search needs
 
 returns-6 : tie.Need-returns-6
 unfolding wordsBy storeCount changeLength absorb
-returns-6 c = let s = c .before .before .before .before .before .before .before .before .before in c .before .before .lay-absorb .ensures ∙ turned (s .args .card .now) (s .args .nodes) (s .args .values .now) (c .before .before .before .before .before .decision4 .given .1)
+returns-6 c =
+    let s = c .before .before .before .before .before .before .before .before .before in
+    c .before .before .lay-absorb .ensures
+    ∙ turned (s .args .card .now) (s .args .nodes) (s .args .values .now) (c .before .before .before .before .before .decision4 .given .1)
 
 same-length-5 : tie.Need-same-length-5
 same-length-5 c = search needs
 
 returns-7 : tie.Need-returns-7
 unfolding wordsBy storeCount changeLength splitParent
-returns-7 c = let s = c .before .before .before .before .before .before .before .before .before in c .before .before .lay-split-parent .ensures ∙ turned (s .args .card .now) (s .args .nodes) (s .args .values .now) (c .before .before .before .before .before .decision5 .given .1)
+returns-7 c =
+    let s = c .before .before .before .before .before .before .before .before .before in
+    c .before .before .lay-split-parent .ensures
+    ∙ turned (s .args .card .now) (s .args .nodes) (s .args .values .now) (c .before .before .before .before .before .decision5 .given .1)
 
 same-length-6 : tie.Need-same-length-6
 same-length-6 c = search needs
 
 returns-8 : tie.Need-returns-8
 unfolding wordsBy storeCount changeLength share halves
-returns-8 c = let s = c .before .before .before .before .before .before .before .before .before in c .before .before .lay-share .ensures ∙ turned (s .args .card .now) (s .args .nodes) (s .args .values .now) (c .before .before .before .before .before .decision6 .given .1)
+returns-8 c =
+    let s = c .before .before .before .before .before .before .before .before .before in
+    c .before .before .lay-share .ensures
+    ∙ turned (s .args .card .now) (s .args .nodes) (s .args .values .now) (c .before .before .before .before .before .decision6 .given .1)
 
 same-length-7 : tie.Need-same-length-7
 same-length-7 c = search needs
 
 returns-9 : tie.Need-returns-9
 unfolding wordsBy storeCount changeLength merge
-returns-9 c = let s = c .before .before .before .before .before .before .before .before .before in c .before .before .lay-merge .ensures ∙ turned (s .args .card .now) (s .args .nodes) (s .args .values .now) (c .before .before .before .before .before .decision7 .given .1)
+returns-9 c =
+    let s = c .before .before .before .before .before .before .before .before .before in
+    c .before .before .lay-merge .ensures
+    ∙ turned (s .args .card .now) (s .args .nodes) (s .args .values .now) (c .before .before .before .before .before .decision7 .given .1)
 
 same-length-8 : tie.Need-same-length-8
 same-length-8 c = search needs
 
 returns-10 : tie.Need-returns-10
 unfolding wordsBy storeCount changeLength mergeRoot
-returns-10 c = let s = c .before .before .before .before .before .before .before .before .before in c .before .before .lay-merge-root .ensures ∙ turned (s .args .card .now) (s .args .nodes) (s .args .values .now) (c .before .before .before .before .before .decision8 .given .1)
+returns-10 c =
+    let s = c .before .before .before .before .before .before .before .before .before in
+    c .before .before .lay-merge-root .ensures
+    ∙ turned (s .args .card .now) (s .args .nodes) (s .args .values .now) (c .before .before .before .before .before .decision8 .given .1)
 
 pub lay-values-spec : {M : Type 1} → statement M
 lay-values-spec =

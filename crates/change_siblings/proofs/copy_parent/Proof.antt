@@ -43,7 +43,13 @@ kids-count c =
     let s = c .before .before .before .before .before .before .before .before .before .before .before .before .before .before in
     let r = ap length (c .before .before .before .children .ensures) in
     let b = beside (c .before .before .before .before .before .before .before .before .before) in
-    omega (arith, c .replaced2 .ensures .0, children-le (c .before .before .before .before .before .before .before .before .before .before .node-at .result .now), length-take (length (s .args .keys .now) + 1 - 0) (s .args .t4), s .pre .1)
+    omega (
+      arith,
+      c .replaced2 .ensures .0,
+      children-le (c .before .before .before .before .before .before .before .before .before .before .node-at .result .now),
+      length-take (length (s .args .keys .now) + 1 - 0) (s .args .t4),
+      s .pre .1,
+    )
 
 node-at-requires : tie.Need-node-at-requires
 node-at-requires c κs = search needs
@@ -138,9 +144,17 @@ returns c =
     let a = c .before .before .before .before .before .before .before .before .before .before .before .before .before .before .before .replaced in
     let b = c .before .before .before .before .before .before .before .before .before .replaced2 in
     c .before .before .write-node .ensures
-    ∙ parent-copied (getD nodes count 0) (c .before .before .before .before .before .before .before .before .before .before .before .before .before .before .before .before .before .before .left-sibling .result) (c .before .before .before .before .before .before .before .before .before .before .before .before .before .before .before .before .before .before .before .node-at .result .now) _ _ keys _ (a .last .0) (b .last .0) (a .result) (b .result)
-    (c .before .before .before .before .before .before .before .before .before .before .before .before .before .before .before .before .routing-keys .ensures) (c .before .before .before .before .before .before .before .before .before .before .before .before .children .ensures) (a .ensures .1) (b .ensures .1)
-    ∙ ap₂ (λ (l : List ℕ) (i : ℕ). imageOf (copied (getD nodes count 0) l i keys (take (count - 0) nodes))) (c .before .before .before .before .before .before .before .before .before .before .before .before .before .before .before .before .before .before .before .node-at .ensures) (c .before .before .before .before .before .before .before .before .before .before .before .before .before .before .before .before .before .before .left-sibling .ensures)
+    ∙ parent-copied (getD nodes count 0) (c .before .before .before .before .before .before .before .before .before .before .before .before
+    .before .before .before .before .before .before .left-sibling .result)
+    (c .before .before .before .before .before .before .before .before .before .before .before .before .before .before .before .before
+    .before .before .before .node-at .result .now) _ _ keys _ (a .last .0) (b .last .0) (a .result) (b .result)
+    (c .before .before .before .before .before .before .before .before .before .before .before .before .before .before .before .before
+    .routing-keys .ensures) (c .before .before .before .before .before .before .before .before .before .before .before .before .children .ensures)
+    (a .ensures .1) (b .ensures .1)
+    ∙ ap₂ (λ (l : List ℕ) (i : ℕ). imageOf (copied (getD nodes count 0) l i keys (take (count - 0) nodes)))
+    (c .before .before .before .before .before .before .before .before .before .before .before .before .before .before .before .before
+    .before .before .before .node-at .ensures) (c .before .before .before .before .before .before .before .before .before .before .before
+    .before .before .before .before .before .before .before .left-sibling .ensures)
     ∙ ap (λ (l : List ℕ). imageOf (copied (getD nodes count 0) (parentAt (s .args .card .now) (s .args .p)) (leftSibling (s .args .p)) keys l)) (take-start count nodes)
 
 pub copy-parent-spec : {M : Type 1} → statement M

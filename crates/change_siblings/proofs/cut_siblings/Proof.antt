@@ -4,11 +4,10 @@ use mathlib.Core.Path.{_≡_, refl, ap, ap₂, _∙_}
 use Prim.Native.Nat.{ℕ, suc, _+_, _<_}
 use native.Mathlib.Omega.{arith}
 use lib.ListN.{length, getD}
-use Rattle.laws.specs.Lists.{beforeZero}
 use Rattle.card.specs.Layout.{children}
 use Rattle.card.proofs.NodeLaws.{children-le}
 use Rattle.change_decide.proofs.DecideLaws.{child-read}
-use Rattle.change_siblings.proofs.SiblingLaws.{parent-words, cut-three, child-positive}
+use Rattle.change_siblings.proofs.SiblingLaws.{parent-words}
 use borrow.Author.Needs.{needs}
 use Rattle.change_siblings.proofs.cut_siblings.Statement.{statement}
 use Rattle.change_siblings.proofs.cut_siblings.Tie as tie
@@ -55,9 +54,10 @@ returns c =
     let s = c .before .before .before .before .before .before in
     let j = c .before .before .before .left-sibling .result in
     let parent = c .before .before .before .before .node-at .result .now in
-    ap₂ (λ (a b : ℕ). beforeZero (s .args .p .parent ∷ a ∷ b ∷ [])) (child-read parent j (12 + j) refl (omega (arith, beside (c .before .before .before)))) (child-read parent (suc j) (13 + j) (omega arith) (beside (c .before .before .before)))
-    ∙ cut-three _ _ _ (omega (arith, s .pre .within .parent-from)) (child-positive parent j (omega (arith, beside (c .before .before .before)))) (child-positive parent (suc j) (beside (c .before .before .before)))
-    ∙ ap₂ (λ (l : List ℕ) (i : ℕ). s .args .p .parent ∷ getD (children l) i 0 ∷ getD (children l) (suc i) 0 ∷ []) (c .before .before .before .before .node-at .ensures) (c .before .before .before .left-sibling .ensures)
+    ap₂ (λ (a b : ℕ). s .args .p .parent ∷ a ∷ b ∷ []) (child-read parent j (12 + j) refl (omega (arith, beside (c .before .before .before))))
+    (child-read parent (suc j) (13 + j) (omega arith) (beside (c .before .before .before)))
+    ∙ ap₂ (λ (l : List ℕ) (i : ℕ). s .args .p .parent ∷ getD (children l) i 0 ∷ getD (children l) (suc i) 0 ∷ [])
+    (c .before .before .before .before .node-at .ensures) (c .before .before .before .left-sibling .ensures)
 
 pub cut-siblings-spec : {M : Type 1} → statement M
 cut-siblings-spec =

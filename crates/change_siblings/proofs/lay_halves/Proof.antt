@@ -84,8 +84,11 @@ returns : tie.Need-returns
 returns c =
     let s = c .before .before .before .before .before .before .before .before .before .before .before .before .before .before .before .before .before .before .before .before in
     let g = c .before .before .before .before .before .before .before .before .before .before .before .before .before .before .before .gather-siblings in
-    let same = held-both (g .result) (g .last .1 .1 .0) (g .last .1 .1 .1 .0) (togetherAt (s .args .card .now) (s .args .p)) (g .ensures) in
-    (c .before .before .before .before .before .before .before .write-halves .ensures ∙ ap (λ (both : Together). halvesWords both ++ drop 48 (s .args .values .now)) same, c .key-between .ensures ∙ ap keyBetween same)
+    let same = held-both (g .result) (g .last .1 .1 .0) (g .last .1 .1 .1 .0) (togetherAt (s .args .card .now) (s .args .p)) (g .ensures) in (
+      c .before .before .before .before .before .before .before .write-halves .ensures
+          ∙ ap (λ (both : Together). halvesWords both ++ drop 48 (s .args .values .now)) same,
+      c .key-between .ensures ∙ ap keyBetween same,
+    )
 
 pub lay-halves-spec : {M : Type 1} → statement M
 lay-halves-spec =

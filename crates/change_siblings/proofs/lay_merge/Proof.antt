@@ -19,7 +19,8 @@ use Rattle.change_siblings.proofs.lay_merge.Statement.{statement}
 use Rattle.change_siblings.proofs.lay_merge.Tie as tie
 
 -- the merged node at the front leaves the row as long as it was
-front : (c : tie.After-lay-merged) → length (c .lay-merged .last .1 .1 .0 ++ drop 24 (c .before .before .before .before .args .values .now)) ≡ length (c .before .before .before .before .args .values .now)
+front : (c : tie.After-lay-merged) → length (c .lay-merged .last .1 .1 .0 ++ drop 24 (c .before .before .before .before .args .values .now))
+    ≡ length (c .before .before .before .before .args .values .now)
 front c = let s = c .before .before .before .before in same-len-mid 0 24 (s .args .values .now) (c .lay-merged .last .1 .1 .0) (c .lay-merged .kept .1 .1 .0)
 
 sub-lay-merged : tie.Need-sub-lay-merged
@@ -66,7 +67,8 @@ same-length c =
     let s = c .before .before .before .before .before .before .before .before .before .before .before .before in
     let h = c .before .before .before .before .before .before .before .before .lay-merged in
     let f = c .before .before .copy-parent in
-    lent-kept (h .last .1 .1 .0 ++ drop 24 (s .args .values .now)) (f .last .1 .1 .1 .1 .0) 24 24 _ _ (f .kept .1 .1 .1 .1 .0) ∙ front (c .before .before .before .before .before .before .before .before)
+    lent-kept (h .last .1 .1 .0 ++ drop 24 (s .args .values .now)) (f .last .1 .1 .1 .1 .0) 24 24 _ _ (f .kept .1 .1 .1 .1 .0)
+    ∙ front (c .before .before .before .before .before .before .before .before)
 
 returns : tie.Need-returns
 unfolding changeWords changeLength merge newWords

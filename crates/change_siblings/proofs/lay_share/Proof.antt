@@ -42,7 +42,10 @@ slice-write-values : tie.Need-slice-write-values
 slice-write-values c = search needs
 
 same-length : tie.Need-same-length
-same-length c = let h = c .before .before .before .before .before .before .before .lay-halves in let f = c .before .before .copy-parent in lent-kept (h .last .1 .1 .0) (f .last .1 .1 .1 .1 .0) 48 24 _ _ (f .kept .1 .1 .1 .1 .0) ∙ h .kept .1 .1 .0
+same-length c =
+    let h = c .before .before .before .before .before .before .before .lay-halves in
+    let f = c .before .before .copy-parent in
+    lent-kept (h .last .1 .1 .0) (f .last .1 .1 .1 .1 .0) 48 24 _ _ (f .kept .1 .1 .1 .1 .0) ∙ h .kept .1 .1 .0
 
 returns : tie.Need-returns
 unfolding changeWords changeLength share halves

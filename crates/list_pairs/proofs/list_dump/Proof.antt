@@ -70,10 +70,17 @@ returns-2 c =
     let k = c .before .before .before .before .list-card in
     let size = z .0 .0 in
     let e = sym (d .ensures .0) ∙ z .1 in
-    let is = ap (λ (l : List ℕ). listCard (take (z .0 .0) l)) (d .ensures .1) ∙ ap listCard (read-card (s .args .bytes .now) (s .args .card .now) size e) ∙ sym (dump-read (s .args .bytes .now) (length (s .args .card .now)) size e) in
+    let is =
+    ap (λ (l : List ℕ). listCard (take (z .0 .0) l)) (d .ensures .1) ∙ ap listCard (read-card (s .args .bytes .now) (s .args .card .now) size e)
+    ∙ sym (dump-read (s .args .bytes .now) (length (s .args .card .now)) size e) in
     let left = k .ensures .1 .1 ∙ ap (λ (l : List ℕ). openedCard l .card) (ap (take (z .0 .0)) (d .ensures .1) ∙ read-card (s .args .bytes .now) (s .args .card .now) size e) in
-    let beyond = ap (drop (z .0 .0)) (d .ensures .1) ∙ read-beyond (s .args .bytes .now) (s .args .card .now) size e in
-    (k .ensures .0 ∙ ap (λ (l : Listed). summaryOf l (s .args .out .now)) is, (k .ensures .1 .0 ∙ ap (λ (l : Listed). layListed l (s .args .out .now) .words) is, ap₂ (λ (a b : List ℕ). a ++ b) left beyond ∙ sym (over-read (s .args .bytes .now) (s .args .card .now) size e)))
+    let beyond = ap (drop (z .0 .0)) (d .ensures .1) ∙ read-beyond (s .args .bytes .now) (s .args .card .now) size e in (
+      k .ensures .0 ∙ ap (λ (l : Listed). summaryOf l (s .args .out .now)) is,
+      (
+        k .ensures .1 .0 ∙ ap (λ (l : Listed). layListed l (s .args .out .now) .words) is,
+        ap₂ (λ (a b : List ℕ). a ++ b) left beyond ∙ sym (over-read (s .args .bytes .now) (s .args .card .now) size e),
+      ),
+    )
 
 pub list-dump-spec : {M : Type 1} → statement M
 list-dump-spec =

@@ -28,7 +28,8 @@ refusing-requires c κs = search needs
 returns : tie.Need-returns
 returns c =
     let s = c .before .before .before .before .before in
-    let q = summary-refused 1 (listTable (s .args .card .now) (nodesOfLength (length (s .args .card .now)))) (s .args .out .now) (table-none (s .args .card .now) (nodesOfLength (length (s .args .card .now))) (sym (c .before .before .nodes-of .ensures) ∙ c .before .if1 .taken)) in
+    let q = summary-refused 1 (listTable (s .args .card .now) (nodesOfLength (length (s .args .card .now)))) (s .args .out .now)
+    (table-none (s .args .card .now) (nodesOfLength (length (s .args .card .now))) (sym (c .before .before .nodes-of .ensures) ∙ c .before .if1 .taken)) in
     (c .refusing .ensures ∙ q .0, q .1)
 
 slice-aggregate-check-table : tie.Need-slice-aggregate-check-table
@@ -54,8 +55,13 @@ unfolding checkedOf
 returns-2 c =
     let s = c .before .before .before .before .before .before .before .before .before .before .before .before in
     let e = c .before .before .before .before .before .before .before .before .before .nodes-of .ensures in
-    let none-found = sym (c .before .before .before .before .before .check-table .ensures) ∙ ap (λ (r : Checked). checkedOf r (findingsOf (nodesOf (c .before .before .before .before .before .check-table .last .1 .1 .0)) (c .before .before .before .before .before .check-table .last .1 .1 .1 .0))) (c .before .enum-told .given .1) in
-    let q = summary-refused 4 (listTable (s .args .card .now) (nodesOfLength (length (s .args .card .now)))) (s .args .out .now) (ap (listTable (s .args .card .now)) (sym e) ∙ table-unsound (s .args .card .now) (c .before .before .before .before .before .before .before .before .before .nodes-of .result) (c .before .before .before .before .before .before .before .before .if1 .left) none-found) in
+    let none-found = sym (c .before .before .before .before .before .check-table .ensures)
+    ∙ ap (λ (r : Checked). checkedOf r (findingsOf (nodesOf (c .before .before .before .before .before .check-table .last .1 .1 .0))
+    (c .before .before .before .before .before .check-table .last .1 .1 .1 .0))) (c .before .enum-told .given .1) in
+    let q = summary-refused 4 (listTable (s .args .card .now) (nodesOfLength (length (s .args .card .now)))) (s .args .out .now)
+    (ap (listTable (s .args .card .now)) (sym e)
+    ∙ table-unsound (s .args .card .now) (c .before .before .before .before .before .before .before .before .before .nodes-of .result)
+    (c .before .before .before .before .before .before .before .before .if1 .left) none-found) in
     (c .refusing2 .ensures ∙ q .0, q .1)
 
 slice-aggregate-count : tie.Need-slice-aggregate-count
@@ -82,12 +88,28 @@ returns-3 c =
     let s = c .before .before .before .before .before .before .before .before .before .before .before .before .before .before .before .before .before .before .before in
     let n = c .before .before .before .before .before .before .before .before .before .before .before .before .before .before .before .before .nodes-of in
     let levels = c .before .before .before .before .before .before .before .before .levels .given .0 .0 in
-    let found = sym (c .before .before .before .before .before .before .before .before .before .before .before .before .check-table .ensures) ∙ ap (λ (r : Checked). checkedOf r (findingsOf (nodesOf (c .before .before .before .before .before .before .before .before .before .before .before .before .check-table .last .1 .1 .0)) (c .before .before .before .before .before .before .before .before .before .before .before .before .check-table .last .1 .1 .1 .0))) (c .before .before .before .before .before .before .before .before .levels .given .1) in
+    let found = sym (c .before .before .before .before .before .before .before .before .before .before .before .before .check-table .ensures)
+    ∙ ap (λ (r : Checked). checkedOf r
+    (findingsOf (nodesOf (c .before .before .before .before .before .before .before .before .before .before .before .before .check-table .last .1 .1 .0))
+    (c .before .before .before .before .before .before .before .before .before .before .before .before .check-table .last .1 .1 .1 .0)))
+    (c .before .before .before .before .before .before .before .before .levels .given .1) in
     let card = s .args .card .now in
-    let x : Listing = record { nodes = c .before .before .before .before .before .before .before .before .before .before .before .before .before .before .before .before .nodes-of .result; free = c .before .before .before .before .before .count .result; levels = c .before .before .before .before .before .before .before .before .levels .given .0 .0; pairs = pairsFrom depthLimit (s .args .card .now) (c .before .before .before .before .before .before .before .before .before .before .before .before .before .before .before .before .nodes-of .result) (getD (s .args .card .now) rootPlace 0) } in
+    let x : Listing = record {
+      nodes = c .before .before .before .before .before .before .before .before .before .before .before .before .before .before .before
+          .before .nodes-of .result;
+      free = c .before .before .before .before .before .count .result;
+      levels = c .before .before .before .before .before .before .before .before .levels .given .0 .0;
+      pairs = pairsFrom depthLimit (s .args .card .now) (c .before .before .before .before .before .before .before .before .before .before
+          .before .before .before .before .before .before .nodes-of .result) (getD (s .args .card .now) rootPlace 0);
+    } in
     let is : listTable (s .args .card .now) (nodesOfLength (length (s .args .card .now))) ≡ listed x =
-    ap (listTable card) (sym (n .ensures)) ∙ table-sound card (n .result) levels (findingsOf (nodesOf (c .before .before .before .before .before .before .before .before .before .before .before .before .check-table .last .1 .1 .0)) (c .before .before .before .before .before .before .before .before .before .before .before .before .check-table .last .1 .1 .1 .0)) (c .before .before .before .before .before .before .before .before .before .before .before .before .before .before .before .if1 .left) found ∙ rw (c .before .before .before .before .before .count .ensures) in
-    summary-listed x (listTable card (nodesOfLength (length card))) (s .args .out .now) (c .before .before .collect .result) (c .before .before .collect .last .1 .1 .1 .1 .0) is (c .before .before .collect .ensures .0)
+    ap (listTable card) (sym (n .ensures)) ∙ table-sound card (n .result) levels
+    (findingsOf (nodesOf (c .before .before .before .before .before .before .before .before .before .before .before .before .check-table .last .1 .1 .0))
+    (c .before .before .before .before .before .before .before .before .before .before .before .before .check-table .last .1 .1 .1 .0))
+    (c .before .before .before .before .before .before .before .before .before .before .before .before .before .before .before .if1 .left) found
+    ∙ rw (c .before .before .before .before .before .count .ensures) in
+    summary-listed x (listTable card (nodesOfLength (length card))) (s .args .out .now) (c .before .before .collect .result)
+    (c .before .before .collect .last .1 .1 .1 .1 .0) is (c .before .before .collect .ensures .0)
 
 pub list-table-spec : {M : Type 1} → statement M
 list-table-spec =

@@ -34,8 +34,11 @@ returns : tie.Need-returns
 unfolding dumpText
 returns c =
     let s = c .before .before .before .before .before .before .before .before .before .before in
-    let text = told-refused (c .before .before .before .before .before .before .list-dump .result) (c .before .before .before .before .before .before .list-dump .last .1 .1 .0) (c .before .before .if1 .taken) ∙ ap listText (known (c .before .before .before .before .before .before)) in
-    fill-whole (dumpText (s .args .dump .now)) (s .args .text .now) _ _ (c .put-refusal .ensures .1) (c .put-refusal .ensures .0 ∙ ap (λ (bytes : List ℕ). fill bytes (filled 0 (s .args .text .now))) text)
+    let text = told-refused (c .before .before .before .before .before .before .list-dump .result)
+    (c .before .before .before .before .before .before .list-dump .last .1 .1 .0) (c .before .before .if1 .taken)
+    ∙ ap listText (known (c .before .before .before .before .before .before)) in
+    fill-whole (dumpText (s .args .dump .now)) (s .args .text .now) _ _ (c .put-refusal .ensures .1)
+    (c .put-refusal .ensures .0 ∙ ap (λ (bytes : List ℕ). fill bytes (filled 0 (s .args .text .now))) text)
 
 put-summary-requires : tie.Need-put-summary-requires
 put-summary-requires c κs = search needs
@@ -44,10 +47,23 @@ array-share-prefix-out : tie.Need-array-share-prefix-out
 array-share-prefix-out c = inside (c .before .before .before .before .before .before .before)
 
 slice-aggregate-put-pairs : tie.Need-slice-aggregate-put-pairs
-slice-aggregate-put-pairs c = omega (arith, inside (c .before .before .before .before .before .before .before .before), length-take (c .before .before .before .before .before .before .before .before .list-dump .result .words) (c .before .before .before .before .before .before .before .before .list-dump .last .1 .1 .0))
+slice-aggregate-put-pairs c =
+    omega (
+      arith,
+      inside (c .before .before .before .before .before .before .before .before),
+      length-take (c .before .before .before .before .before .before .before .before .list-dump .result .words)
+          (c .before .before .before .before .before .before .before .before .list-dump .last .1 .1 .0),
+    )
 
 put-pairs-requires : tie.Need-put-pairs-requires
-put-pairs-requires c κs = omega (arith, words-fit _ _ (c .before .before .before .before .before .before .before .before .list-dump .ensures .0), length-take (c .before .before .before .before .before .before .before .before .list-dump .result .words) (c .before .before .before .before .before .before .before .before .list-dump .last .1 .1 .0), c .before .before .put-summary .ensures .1)
+put-pairs-requires c κs =
+    omega (
+      arith,
+      words-fit _ _ (c .before .before .before .before .before .before .before .before .list-dump .ensures .0),
+      length-take (c .before .before .before .before .before .before .before .before .list-dump .result .words)
+          (c .before .before .before .before .before .before .before .before .list-dump .last .1 .1 .0),
+      c .before .before .put-summary .ensures .1,
+    )
 
 returns-2 : tie.Need-returns-2
 unfolding dumpText
@@ -55,9 +71,14 @@ returns-2 c =
     let s = c .before .before .before .before .before .before .before .before .before .before .before .before .before in
     let r = c .before .before .before .before .before .before .before .before .before .list-dump .result in
     let words = c .before .before .before .before .before .before .before .before .before .list-dump .last .1 .1 .0 in
-    let text = told-listed r words (c .before .before .before .before .before .if1 .left) (inside (c .before .before .before .before .before .before .before .before .before)) ∙ ap listText (known (c .before .before .before .before .before .before .before .before .before)) in
-    let put = fill-then (firstLine (r .nodes) (r .free) (r .levels) (r .words / 2)) (pairLines (pairsOfWords (take (r .words) words))) _ (c .before .before .before .put-summary .ensures .0) (c .put-pairs .ensures .0) in
-    fill-whole (dumpText (s .args .dump .now)) (s .args .text .now) _ _ (omega (arith, c .put-pairs .ensures .1, c .before .before .before .put-summary .kept .0)) (put ∙ ap (λ (bytes : List ℕ). fill bytes (filled 0 (s .args .text .now))) text)
+    let text = told-listed r words (c .before .before .before .before .before .if1 .left)
+    (inside (c .before .before .before .before .before .before .before .before .before))
+    ∙ ap listText (known (c .before .before .before .before .before .before .before .before .before)) in
+    let put = fill-then (firstLine (r .nodes) (r .free) (r .levels) (r .words / 2)) (pairLines (pairsOfWords (take (r .words) words))) _
+    (c .before .before .before .put-summary .ensures .0) (c .put-pairs .ensures .0) in
+    fill-whole (dumpText (s .args .dump .now)) (s .args .text .now) _ _
+    (omega (arith, c .put-pairs .ensures .1, c .before .before .before .put-summary .kept .0))
+    (put ∙ ap (λ (bytes : List ℕ). fill bytes (filled 0 (s .args .text .now))) text)
 
 pub list-text-spec : {M : Type 1} → statement M
 list-text-spec =

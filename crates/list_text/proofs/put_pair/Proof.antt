@@ -15,7 +15,14 @@ key-end c = omega (arith, number-within [] (c .before .before .before .before .a
 
 value-end : (c : tie.After-put-number2) → c .put-number2 .result ≤ c .before .before .before .before .before .before .before .before .before .args .at + 21
 unfolding space
-value-end c = omega (arith, number-within space (c .before .before .before .before .before .before .before .before .before .args .value) 10 _ _ (word-short (c .before .before .before .before .before .before .before .before .before .args .value) (omega arith)) (c .put-number2 .ensures), key-end (c .before .before .before .before .before))
+value-end c =
+    omega (
+      arith,
+      number-within space (c .before .before .before .before .before .before .before .before .before .args .value) 10 _ _
+          (word-short (c .before .before .before .before .before .before .before .before .before .args .value) (omega arith))
+          (c .put-number2 .ensures),
+      key-end (c .before .before .before .before .before),
+    )
 
 slice-aggregate-put-number : tie.Need-slice-aggregate-put-number
 slice-aggregate-put-number c = search needs
@@ -42,7 +49,9 @@ returns : tie.Need-returns
 unfolding pairLine space lineFeed
 returns c =
     let s = c .before .before .before .before .before .before .before .before .before .before .before .before .before .before .before .before in
-    let value = fill-then (decimal (s .args .key)) (space ++ decimal (s .args .value)) _ (c .before .before .before .before .before .before .before .before .before .before .before .before .put-number .ensures) (c .before .before .before .before .before .before .before .put-number2 .ensures) in
+    let value = fill-then (decimal (s .args .key)) (space ++ decimal (s .args .value)) _
+    (c .before .before .before .before .before .before .before .before .before .before .before .before .put-number .ensures)
+    (c .before .before .before .before .before .before .before .put-number2 .ensures) in
     fill-then _ lineFeed _ value (c .before .before .put-all .ensures)
 
 pub put-pair-spec : {M : Type 1} → statement M

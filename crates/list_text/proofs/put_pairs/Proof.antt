@@ -11,7 +11,9 @@ use Rattle.list_text.proofs.put_pairs.Statement.{statement}
 use Rattle.list_text.proofs.put_pairs.Tie as tie
 
 abbrev Inv-loop : tie.InvT-loop
-Inv-loop text₀ at words next₀ i₀ text next i = (i ≤ length words) × (next ≤ at + 11 * i) × (length text ≡ length text₀) × (fill (pairLines (pairsOfWords words)) (filled at text₀) ≡ fill (pairLines (pairsOfWords (drop i words))) (filled next text))
+Inv-loop text₀ at words next₀ i₀ text next i =
+    (i ≤ length words) × (next ≤ at + 11 * i) × (length text ≡ length text₀)
+    × (fill (pairLines (pairsOfWords words)) (filled at text₀) ≡ fill (pairLines (pairsOfWords (drop i words))) (filled next text))
 
 abbrev μ-loop : tie.MeasureT-loop
 μ-loop text₀ at words next₀ i₀ text next i = length words - i
@@ -53,7 +55,12 @@ loop-again c =
     let key = getD (s .args .words .now) (l .i) 0 in
     let value = getD (s .args .words .now) (l .i + 1) 0 in (
       omega arith,
-      omega (arith, fill-reached (pairLine key value) _ _ (c .before .before .put-pair .ensures), pair-short key value (omega (arith, c .before .before .before .before .before .before .before .before .shared-slice-known .given (l .i))) (omega (arith, c .before .before .before .before .before .before .before .before .shared-slice-known .given (l .i + 1)))),
+      omega (
+        arith,
+        fill-reached (pairLine key value) _ _ (c .before .before .put-pair .ensures),
+        pair-short key value (omega (arith, c .before .before .before .before .before .before .before .before .shared-slice-known .given (l .i)))
+            (omega (arith, c .before .before .before .before .before .before .before .before .shared-slice-known .given (l .i + 1))),
+      ),
       c .before .before .put-pair .kept .0 ∙ l .inv .2,
       l .inv .3 ∙ lines-next (s .args .words .now) (l .i) (l .next) (l .text) (omega arith) (c .before .before .put-pair .ensures),
     )

@@ -11,7 +11,9 @@ read-dump-requires : tie.Need-read-dump-requires
 read-dump-requires c κs = search needs
 
 dump-reply-requires : tie.Need-dump-reply-requires
-dump-reply-requires c κs = λ n e. short-read (c .before .before .before .before .before .before .args .dump .now) (length (c .before .before .before .before .before .before .args .words .now)) n (sym (c .before .before .read-dump .ensures .0) ∙ e)
+dump-reply-requires c κs =
+    λ n e. short-read (c .before .before .before .before .before .before .args .dump .now)
+    (length (c .before .before .before .before .before .before .args .words .now)) n (sym (c .before .before .read-dump .ensures .0) ∙ e)
 
 same-length : tie.Need-same-length
 same-length c = search needs

@@ -11,7 +11,9 @@ write-dump-requires : tie.Need-write-dump-requires
 write-dump-requires c κs = search needs
 
 dump-reply-requires : tie.Need-dump-reply-requires
-dump-reply-requires c κs = λ n e. short-write (c .before .before .before .before .before .before .args .card .now) (length (c .before .before .before .before .before .before .args .bytes .now)) n (sym (c .before .before .write-dump .ensures .0) ∙ e)
+dump-reply-requires c κs =
+    λ n e. short-write (c .before .before .before .before .before .before .args .card .now)
+    (length (c .before .before .before .before .before .before .args .bytes .now)) n (sym (c .before .before .write-dump .ensures .0) ∙ e)
 
 same-length : tie.Need-same-length
 same-length c = search needs

@@ -40,8 +40,11 @@ same-length c = search needs
 returns : tie.Need-returns
 unfolding leftBy
 returns c =
-    let s = c .before .before .before .before .before .before .before .before .before .before in
-    (sym (of-refused (s .args .card .now) (s .args .key) (c .before .refusal .given .0 .0) (sym (c .before .before .before .before .before .before .open-repaired .ensures .0) ∙ c .before .refusal .given .1)), ap (λ (x : Repaired). x .card) (c .before .before .before .before .before .before .open-repaired .ensures .1))
+    let s = c .before .before .before .before .before .before .before .before .before .before in (
+      sym (of-refused (s .args .card .now) (s .args .key) (c .before .refusal .given .0 .0)
+          (sym (c .before .before .before .before .before .before .open-repaired .ensures .0) ∙ c .before .refusal .given .1)),
+      ap (λ (x : Repaired). x .card) (c .before .before .before .before .before .before .open-repaired .ensures .1),
+    )
 
 same-length-2 : tie.Need-same-length-2
 same-length-2 c = search needs
@@ -50,8 +53,12 @@ returns-2 : tie.Need-returns-2
 unfolding leftBy
 returns-2 c =
     let s = c .before .before .before .before .before .before .before .before .before .before .before .before in
-    let e = sym (c .before .before .before .before .before .before .before .before .open-repaired .ensures .0) ∙ c .before .before .before .enum-told .given .1 in
-    (c .reason-with .ensures ∙ ap (λ (x : Repaired). reasonOn (x .card) (x .memory .free) (s .args .key)) (c .before .before .before .before .before .before .before .before .open-repaired .ensures .1) ∙ sym (of-idle (s .args .card .now) (s .args .key) e), ap (λ (x : Repaired). x .card) (c .before .before .before .before .before .before .before .before .open-repaired .ensures .1))
+    let e = sym (c .before .before .before .before .before .before .before .before .open-repaired .ensures .0) ∙ c .before .before .before .enum-told .given .1 in (
+      c .reason-with .ensures ∙ ap (λ (x : Repaired). reasonOn (x .card) (x .memory .free) (s .args .key))
+          (c .before .before .before .before .before .before .before .before .open-repaired .ensures .1)
+          ∙ sym (of-idle (s .args .card .now) (s .args .key) e),
+      ap (λ (x : Repaired). x .card) (c .before .before .before .before .before .before .before .before .open-repaired .ensures .1),
+    )
 
 same-length-3 : tie.Need-same-length-3
 same-length-3 c = search needs
@@ -60,8 +67,12 @@ returns-3 : tie.Need-returns-3
 unfolding leftBy
 returns-3 c =
     let s = c .before .before .before .before .before .before .before .before .before .before .before .before in
-    let e = sym (c .before .before .before .before .before .before .before .before .open-repaired .ensures .0) ∙ c .before .before .before .enum-told2 .given .1 in
-    (c .reason-with2 .ensures ∙ ap (λ (x : Repaired). reasonOn (x .card) (x .memory .free) (s .args .key)) (c .before .before .before .before .before .before .before .before .open-repaired .ensures .1) ∙ sym (of-started (s .args .card .now) (s .args .key) e), ap (λ (x : Repaired). x .card) (c .before .before .before .before .before .before .before .before .open-repaired .ensures .1))
+    let e = sym (c .before .before .before .before .before .before .before .before .open-repaired .ensures .0) ∙ c .before .before .before .enum-told2 .given .1 in (
+      c .reason-with2 .ensures ∙ ap (λ (x : Repaired). reasonOn (x .card) (x .memory .free) (s .args .key))
+          (c .before .before .before .before .before .before .before .before .open-repaired .ensures .1)
+          ∙ sym (of-started (s .args .card .now) (s .args .key) e),
+      ap (λ (x : Repaired). x .card) (c .before .before .before .before .before .before .before .before .open-repaired .ensures .1),
+    )
 
 pub insert-reason-spec : {M : Type 1} → statement M
 insert-reason-spec =

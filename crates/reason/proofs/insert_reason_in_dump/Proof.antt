@@ -48,8 +48,10 @@ returns c =
     let s = c .before .before .before .before .before .before .before .before .before in
     let b = c .before .refusal in
     let d = c .before .before .before .before .before .read-dump in
-    let e = sym (d .ensures .0) ∙ b .given .1 in
-    (sym (dump-refused (s .args .bytes .now) (length (s .args .card .now)) (s .args .key) (b .given .0 .0) e), d .ensures .1 ∙ over-refused (s .args .bytes .now) (s .args .card .now) (b .given .0 .0) e)
+    let e = sym (d .ensures .0) ∙ b .given .1 in (
+      sym (dump-refused (s .args .bytes .now) (length (s .args .card .now)) (s .args .key) (b .given .0 .0) e),
+      d .ensures .1 ∙ over-refused (s .args .bytes .now) (s .args .card .now) (b .given .0 .0) e,
+    )
 
 same-length-2 : tie.Need-same-length-2
 same-length-2 c = search needs
@@ -62,8 +64,12 @@ returns-2 c =
     let k = c .before .before .insert-reason in
     let e = sym (d .ensures .0) ∙ z .1 in
     let card = ap (take (z .0 .0)) (d .ensures .1) ∙ read-card (s .args .bytes .now) (s .args .card .now) (z .0 .0) e in
-    let beyond = ap (drop (z .0 .0)) (d .ensures .1) ∙ read-beyond (s .args .bytes .now) (s .args .card .now) (z .0 .0) e in
-    (k .ensures .0 ∙ ap (λ (l : List ℕ). reasonOf l (s .args .key)) card ∙ sym (dump-read (s .args .bytes .now) (length (s .args .card .now)) (s .args .key) (z .0 .0) e), ap₂ (λ (a b : List ℕ). a ++ b) (k .ensures .1 ∙ ap (λ (l : List ℕ). openedCard l .card) card) beyond ∙ sym (over-read (s .args .bytes .now) (s .args .card .now) (z .0 .0) e))
+    let beyond = ap (drop (z .0 .0)) (d .ensures .1) ∙ read-beyond (s .args .bytes .now) (s .args .card .now) (z .0 .0) e in (
+      k .ensures .0 ∙ ap (λ (l : List ℕ). reasonOf l (s .args .key)) card
+          ∙ sym (dump-read (s .args .bytes .now) (length (s .args .card .now)) (s .args .key) (z .0 .0) e),
+      ap₂ (λ (a b : List ℕ). a ++ b) (k .ensures .1 ∙ ap (λ (l : List ℕ). openedCard l .card) card) beyond
+          ∙ sym (over-read (s .args .bytes .now) (s .args .card .now) (z .0 .0) e),
+    )
 
 pub insert-reason-in-dump-spec : {M : Type 1} → statement M
 insert-reason-in-dump-spec =

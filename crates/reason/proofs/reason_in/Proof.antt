@@ -12,7 +12,9 @@ use Rattle.reason.proofs.reason_in.Statement.{statement}
 use Rattle.reason.proofs.reason_in.Tie as tie
 
 few : (c : tie.After-i) → c .i .given .0 .0 < 11
-few c = slot-few (c .before .before .before .before .before .args .leaf .now) (c .before .before .before .before .before .args .key) (c .i .given .0 .0) (search needs) (sym (c .before .before .find-slot .ensures) ∙ c .i .given .1)
+few c =
+    slot-few (c .before .before .before .before .before .args .leaf .now) (c .before .before .before .before .before .args .key)
+    (c .i .given .0 .0) (search needs) (sym (c .before .before .find-slot .ensures) ∙ c .i .given .1)
 
 find-slot-requires : tie.Need-find-slot-requires
 find-slot-requires c κs = search needs
@@ -37,11 +39,18 @@ reason-absent-requires c κs = search needs
 
 returns : tie.Need-returns
 unfolding reasonFor reasonIn insertReason
-returns c = ap (λ (t : Slot). reasonFor (reasonIn (c .before .before .before .before .before .before .before .args .leaf .now) t) (c .before .before .before .before .before .before .before .args .run) (countTrue (nodesOf (c .before .before .before .before .before .before .before .args .free .now)))) (sym (sym (c .before .before .before .before .find-slot .ensures) ∙ c .before .before .i .given .1))
+returns c =
+    let s = c .before .before .before .before .before .before .before in
+    ap (λ (t : Slot). reasonFor (reasonIn (s .args .leaf .now) t) (s .args .run) (countTrue (nodesOf (s .args .free .now))))
+    (sym (sym (c .before .before .before .before .find-slot .ensures) ∙ c .before .before .i .given .1))
 
 returns-2 : tie.Need-returns-2
 unfolding reasonFor reasonIn insertReason
-returns-2 c = c .reason-absent .ensures ∙ ap (λ (t : Slot). reasonFor (reasonIn (c .before .before .before .before .before .before .args .leaf .now) t) (c .before .before .before .before .before .before .args .run) (countTrue (nodesOf (c .before .before .before .before .before .before .args .free .now)))) (sym (sym (c .before .before .before .find-slot .ensures) ∙ c .before .enum-told .given .1))
+returns-2 c =
+    let s = c .before .before .before .before .before .before in
+    c .reason-absent .ensures
+    ∙ ap (λ (t : Slot). reasonFor (reasonIn (s .args .leaf .now) t) (s .args .run) (countTrue (nodesOf (s .args .free .now))))
+    (sym (sym (c .before .before .before .find-slot .ensures) ∙ c .before .enum-told .given .1))
 
 pub reason-in-spec : {M : Type 1} → statement M
 reason-in-spec =

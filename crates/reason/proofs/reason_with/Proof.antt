@@ -1,7 +1,6 @@
 -- `reason::reason_with` meets its contract.
 use borrow.Author.Needs.{needs}
-use Rattle.state.specs.Memory.{memoryOf}
-use Rattle.state_block.specs.Block.{unpacked}
+use Rattle.state.specs.Block.{memoryIn}
 use Rattle.reason.proofs.reason_with.Statement.{statement}
 use Rattle.reason.proofs.reason_with.Tie as tie
 
@@ -18,7 +17,7 @@ reason-on-requires : tie.Need-reason-on-requires
 reason-on-requires c κs = search needs
 
 returns : tie.Need-returns
-unfolding memoryOf unpacked
+unfolding memoryIn
 returns c = c .reason-on .ensures
 
 pub reason-with-spec : {M : Type 1} → statement M

@@ -27,7 +27,9 @@ key-of-line-requires c κs = search needs
 returns : tie.Need-returns
 returns c =
     let s = c .before .before .before .before in
-    c .key-of-line .ensures ∙ ap keyOfLine (take-all (length (s .args .text .now) - c .before .before .line-start .result) (drop (c .before .before .line-start .result) (s .args .text .now)) (omega (arith, length-drop (c .before .before .line-start .result) (s .args .text .now))) ∙ c .before .before .line-start .ensures .1)
+    c .key-of-line .ensures ∙ ap keyOfLine
+    (take-all (length (s .args .text .now) - c .before .before .line-start .result) (drop (c .before .before .line-start .result) (s .args .text .now))
+    (omega (arith, length-drop (c .before .before .line-start .result) (s .args .text .now))) ∙ c .before .before .line-start .ensures .1)
 
 pub key-of-text-spec : {M : Type 1} → statement M
 key-of-text-spec =

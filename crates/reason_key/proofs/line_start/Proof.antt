@@ -27,7 +27,9 @@ shared-slice-read-if1 : tie.Need-shared-slice-read-if1 Inv-loop μ-loop
 shared-slice-read-if1 c = search needs
 
 returns : tie.Need-returns Inv-loop μ-loop
-returns c = let s = c .before .before .before .before in (omega arith, line-starts (s .args .text .now) (c .before .before .before .loop .at - 1) (c .before .before .before .loop .at) (omega arith) (c .before .before .before .loop .inv .0) (c .if1 .taken) (c .before .before .before .loop .inv .1))
+returns c =
+    let l = c .before .before .before .loop in
+    let s = c .before .before .before .before in (omega arith, line-starts (s .args .text .now) (l .at - 1) (l .at) (omega arith) (l .inv .0) (c .if1 .taken) (l .inv .1))
 
 sub-at : tie.Need-sub-at Inv-loop μ-loop
 sub-at c = search needs
@@ -36,7 +38,9 @@ loop-less : tie.Need-loop-less Inv-loop μ-loop
 loop-less c = search needs
 
 loop-again : tie.Need-loop-again Inv-loop μ-loop
-loop-again c = let s = c .before .before .before .before in (omega arith, feed-not-here (s .args .text .now) (c .before .before .before .loop .at - 1) (c .before .before .before .loop .at) (omega arith) (c .before .before .before .loop .inv .0) (c .if1 .left) (c .before .before .before .loop .inv .1))
+loop-again c =
+    let l = c .before .before .before .loop in
+    let s = c .before .before .before .before in (omega arith, feed-not-here (s .args .text .now) (l .at - 1) (l .at) (omega arith) (l .inv .0) (c .if1 .left) (l .inv .1))
 
 returns-2 : tie.Need-returns-2 Inv-loop μ-loop
 returns-2 c =

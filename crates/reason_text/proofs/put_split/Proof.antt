@@ -76,7 +76,8 @@ unfolding splitLine splitWord freeWord needWord lineFeed
 returns c =
     let s = c .before .before .before .before .before .before .before .before .before .before .before .before .before .before .before .before .before .before .before .before .before in
     let run = c .before .before .before .before .before .before .before .before .before .before .before .before .before .before .before .before .before .put-number .ensures in
-    let free = fill-then (splitWord ++ decimal (s .args .run)) (freeWord ++ decimal (s .args .free)) _ run (c .before .before .before .before .before .before .before .before .before .before .before .before .put-number2 .ensures) in
+    let free = fill-then (splitWord ++ decimal (s .args .run)) (freeWord ++ decimal (s .args .free)) _ run
+    (c .before .before .before .before .before .before .before .before .before .before .before .before .put-number2 .ensures) in
     let need = fill-then _ (needWord ++ decimal (s .args .need)) _ free (c .before .before .before .before .before .before .before .put-number3 .ensures) in
     let line-end = c .before .before .put-all .ensures in
     (fill-then _ lineFeed _ need line-end, omega (arith, fill-reached lineFeed _ _ line-end, need-end (c .before .before .before .before .before .before .before)))

@@ -4,12 +4,10 @@ use Rattle.test_replay.proofs.run.Statement.{statement}
 use Rattle.test_replay.proofs.run.Tie as tie
 
 abbrev Inv-loop : tie.InvT-loop
-Inv-loop words₀ other₀ old₀ bytes₀ input₀ row₀ state₀ turns₀ words other old bytes input row state turns =
-    Unit {0}
+Inv-loop words₀ bytes₀ input₀ row₀ state₀ turns₀ words bytes input row state turns = Unit {0}
 
 abbrev μ-loop : tie.MeasureT-loop
-μ-loop words₀ other₀ old₀ bytes₀ input₀ row₀ state₀ turns₀ words other old bytes input row state turns =
-    turns
+μ-loop words₀ bytes₀ input₀ row₀ state₀ turns₀ words bytes input row state turns = turns
 
 element-write-row : tie.Need-element-write-row Inv-loop μ-loop
 element-write-row c = search needs

@@ -34,8 +34,12 @@ loop-less c = search needs
 
 loop-again : tie.Need-loop-again Inv-loop μ-loop
 loop-again c =
-    let l = c .before .before .loop in
-    (omega arith, omega arith, length-set (l .text) (l .next) (getD (c .before .before .before .args .bytes .now) (l .i) 0) ∙ l .inv .2, l .inv .3 ∙ fill-next (c .before .before .before .args .bytes .now) (l .i) (l .next) (l .text) (omega arith))
+    let l = c .before .before .loop in (
+      omega arith,
+      omega arith,
+      length-set (l .text) (l .next) (getD (c .before .before .before .args .bytes .now) (l .i) 0) ∙ l .inv .2,
+      l .inv .3 ∙ fill-next (c .before .before .before .args .bytes .now) (l .i) (l .next) (l .text) (omega arith),
+    )
 
 same-length : tie.Need-same-length Inv-loop μ-loop
 same-length c = search needs

@@ -37,8 +37,10 @@ unfolding numberLine lineFeed
 returns c =
     let s = c .before .before .before .before .before .before .before .before .before .before .before in
     let number = c .before .before .before .before .before .before .before .put-number .ensures in
-    let line-end = c .before .before .put-all .ensures in
-    (fill-then (s .args .word .now ++ decimal (s .args .number)) lineFeed _ number line-end, omega (arith, fill-reached lineFeed _ _ line-end, number-end (c .before .before .before .before .before .before .before)))
+    let line-end = c .before .before .put-all .ensures in (
+      fill-then (s .args .word .now ++ decimal (s .args .number)) lineFeed _ number line-end,
+      omega (arith, fill-reached lineFeed _ _ line-end, number-end (c .before .before .before .before .before .before .before)),
+    )
 
 pub put-line-spec : {M : Type 1} → statement M
 put-line-spec =

@@ -39,7 +39,10 @@ returns : tie.Need-returns
 returns c =
     let s = c .before .before .before .before .before .before .before .before .before .before .before .before .before in
     fill-then (s .args .word .now) _ _ (c .before .before .before .before .before .before .before .put-all .ensures)
-    (c .before .before .put-all2 .ensures ∙ ap (λ (bytes : List ℕ). fill bytes (filled (c .before .before .before .before .before .before .before .put-all .result) (c .before .before .before .before .before .before .before .put-all .last .0))) (made (c .before .before .before .before .before .before .before .before .before)))
+    (c .before .before .put-all2 .ensures
+    ∙ ap (λ (bytes : List ℕ). fill bytes (filled (c .before .before .before .before .before .before .before .put-all .result)
+    (c .before .before .before .before .before .before .before .put-all .last .0)))
+    (made (c .before .before .before .before .before .before .before .before .before)))
 
 pub put-number-spec : {M : Type 1} → statement M
 put-number-spec =

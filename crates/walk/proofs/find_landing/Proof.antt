@@ -31,7 +31,9 @@ run-above-requires c κs = search needs
 
 returns-3 : tie.Need-returns-3
 unfolding landingOf landedAt
-returns-3 c = ap (LandingAt (c .before .before .p .given .0 .0 .node) (c .before .before .p .given .0 .0 .link)) (c .run-above .ensures) ∙ sym (ap (landedAt _) (unsought-leaf _ _ _ (sym (c .before .before .before .before .descend .ensures) ∙ c .before .before .p .given .1)))
+returns-3 c =
+    ap (LandingAt (c .before .before .p .given .0 .0 .node) (c .before .before .p .given .0 .0 .link)) (c .run-above .ensures)
+    ∙ sym (ap (landedAt _) (unsought-leaf _ _ _ (sym (c .before .before .before .before .descend .ensures) ∙ c .before .before .p .given .1)))
 
 pub find-landing-spec : {M : Type 1} → statement M
 find-landing-spec =

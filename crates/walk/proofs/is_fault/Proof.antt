@@ -30,13 +30,18 @@ shared-slice-read-if4 : tie.Need-shared-slice-read-if4
 shared-slice-read-if4 c = search needs
 
 returns-4 : tie.Need-returns-4
-returns-4 c = sym (fault-inner _ _ (c .before .before .before .before .before .if1 .left) (c .before .before .before .if2 .left) (c .before .before .if3 .left) ∙ lt-ltb (length (children (c .before .before .before .before .before .before .before .args .node .now))) 2 (omega (arith, children-stop (c .before .before .before .before .before .before .before .args .node .now) 0 (omega arith) (c .if4 .taken))))
+returns-4 c =
+    sym (fault-inner _ _ (c .before .before .before .before .before .if1 .left) (c .before .before .before .if2 .left) (c .before .before .if3 .left)
+    ∙ lt-ltb (length (children (c .before .before .before .before .before .before .before .args .node .now))) 2
+    (omega (arith, children-stop (c .before .before .before .before .before .before .before .args .node .now) 0 (omega arith) (c .if4 .taken))))
 
 shared-slice-read-result : tie.Need-shared-slice-read-result
 shared-slice-read-result c = search needs
 
 returns-5 : tie.Need-returns-5
-returns-5 c = second-child _ (c .before .if4 .left) ∙ sym (fault-inner _ _ (c .before .before .before .before .before .before .if1 .left) (c .before .before .before .before .if2 .left) (c .before .before .before .if3 .left))
+returns-5 c =
+    second-child _ (c .before .if4 .left) ∙ sym (fault-inner _ _ (c .before .before .before .before .before .before .if1 .left)
+    (c .before .before .before .before .if2 .left) (c .before .before .before .if3 .left))
 
 pub is-fault-spec : {M : Type 1} → statement M
 is-fault-spec =

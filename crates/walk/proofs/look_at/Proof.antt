@@ -35,7 +35,10 @@ returns-3 : tie.Need-returns-3
 returns-3 c = sym (look-leaf _ _ _ (c .before .before .before .before .if1 .left) (omega arith) (same-kind (c .before .before) ∙ c .if3 .taken))
 
 returns-4 : tie.Need-returns-4
-returns-4 c = let k = same-kind (c .before .before .before .before) in sym (look-unknown _ _ _ (c .before .before .before .before .before .before .if1 .left) (omega arith) (λ q. c .before .before .if3 .left (sym k ∙ q)) (λ q. c .before .if4 .taken (sym k ∙ q)) (λ q. c .if5 .taken (sym k ∙ q)))
+returns-4 c =
+    let k = same-kind (c .before .before .before .before) in
+    sym (look-unknown _ _ _ (c .before .before .before .before .before .before .if1 .left) (omega arith)
+    (λ q. c .before .before .if3 .left (sym k ∙ q)) (λ q. c .before .if4 .taken (sym k ∙ q)) (λ q. c .if5 .taken (sym k ∙ q)))
 
 returns-5 : tie.Need-returns-5
 returns-5 c = sym (look-inner _ _ _ (c .before .before .before .before .before .before .if1 .left) (omega arith) (inr (same-kind (c .before .before .before .before) ∙ c .if5 .left)))

@@ -23,23 +23,44 @@ abbrev μ-loop : tie.MeasureT-loop
 μ-loop card n key root m₀ run₀ left₀ m run left = left
 
 -- what stands at the node
-inner : (c : tie.After-node-at Inv-loop μ-loop) → lookAt (c .before .before .before .before .before .before .args .card .now) (c .before .before .before .before .before .before .args .n) (c .before .before .before .before .loop .inv .1 .node) ≡ IsInner
-inner c = ap (lookAt (c .before .before .before .before .before .before .args .card .now) (c .before .before .before .before .before .before .args .n)) (c .before .before .before .before .loop .inv .2) ∙ sym (c .before .before .before .look-at .ensures) ∙ c .before .enum-told3 .given .1
+inner : (c : tie.After-node-at Inv-loop μ-loop) → lookAt (c .before .before .before .before .before .before .args .card .now)
+    (c .before .before .before .before .before .before .args .n) (c .before .before .before .before .loop .inv .1 .node) ≡ IsInner
+inner c =
+    ap (lookAt (c .before .before .before .before .before .before .args .card .now) (c .before .before .before .before .before .before .args .n))
+    (c .before .before .before .before .loop .inv .2) ∙ sym (c .before .before .before .look-at .ensures) ∙ c .before .enum-told3 .given .1
 
 on-card : (c : tie.After-enum-told3 Inv-loop μ-loop) → Inside (c .before .before .before .before .before .args .n) (c .before .before .before .loop .m)
-on-card c = inner-inside (c .before .before .before .before .before .args .card .now) (c .before .before .before .before .before .args .n) (c .before .before .before .loop .m) (sym (c .before .before .look-at .ensures) ∙ c .enum-told3 .given .1)
+on-card c =
+    inner-inside (c .before .before .before .before .before .args .card .now) (c .before .before .before .before .before .args .n)
+    (c .before .before .before .loop .m) (sym (c .before .before .look-at .ensures) ∙ c .enum-told3 .given .1)
 
 -- the part that `node_at` handed back has 24 words
 words : (c : tie.After-node-at Inv-loop μ-loop) → length (c .node-at .result .now) ≡ 24
-words c = let k = on-card (c .before) in ap length (c .node-at .ensures) ∙ length-node (c .before .before .before .before .before .before .args .card .now) (c .before .before .before .before .loop .m) (k .one) (omega (arith, k .most))
+words c =
+    let k = on-card (c .before) in
+    ap length (c .node-at .ensures) ∙ length-node (c .before .before .before .before .before .before .args .card .now)
+    (c .before .before .before .before .loop .m) (k .one) (omega (arith, k .most))
 
 less : (c : tie.After-child-index Inv-loop μ-loop) → c .child-index .result ≤ 10
-less c = omega (arith, c .child-index .ensures, index-le (c .before .before .before .before .before .node-at .result .now) (c .before .before .before .before .before .before .before .before .before .before .before .args .key) (words (c .before .before .before .before .before)))
+less c =
+    omega (
+      arith,
+      c .child-index .ensures,
+      index-le (c .before .before .before .before .before .node-at .result .now)
+          (c .before .before .before .before .before .before .before .before .before .before .before .args .key)
+          (words (c .before .before .before .before .before)),
+    )
 
 -- the run as it is below the node
-further : (c : tie.After-run-below Inv-loop μ-loop) → runBelow (length (children (nodeAt (c .before .before .before .before .before .before .before .args .card .now) (c .before .before .before .before .before .loop .inv .1 .node)))) (c .before .before .before .before .before .loop .run) ≡ c .run-below .result
+further : (c : tie.After-run-below Inv-loop μ-loop)
+    → runBelow (length (children (nodeAt (c .before .before .before .before .before .before .before .args .card .now)
+    (c .before .before .before .before .before .loop .inv .1 .node)))) (c .before .before .before .before .before .loop .run)
+    ≡ c .run-below .result
 further c =
-    ap (λ (x : List ℕ). runBelow (length (children x)) (c .before .before .before .before .before .loop .run)) (held (c .before .before .before .before .before .before .before .args .card .now) (c .before .before .before .before .before .before .before .args .key) (c .before .before .before .before .before .loop .inv .1) _ _ (c .before .before .before .before .before .loop .inv .2) (c .before .node-at .ensures))
+    let l = c .before .before .before .before .before .loop in
+    ap (λ (x : List ℕ). runBelow (length (children x)) (l .run))
+    (held (c .before .before .before .before .before .before .before .args .card .now)
+    (c .before .before .before .before .before .before .before .args .key) (l .inv .1) _ _ (l .inv .2) (c .before .node-at .ensures))
     ∙ sym (c .run-below .ensures)
 
 loop-holds : tie.Need-loop-holds Inv-loop μ-loop
@@ -53,14 +74,22 @@ enum-told c = search needs
 
 returns : tie.Need-returns Inv-loop μ-loop
 unfolding runOver past
-returns c = sym (c .before .before .before .loop .inv .3 ∙ ap (λ (w : Way). runOver (c .before .before .before .before .before .args .card .now) (c .before .before .before .loop .run) (w .inner)) (way-nowhere _ _ _ _ _ (ap (lookAt (c .before .before .before .before .before .args .card .now) (c .before .before .before .before .before .args .n)) (c .before .before .before .loop .inv .2) ∙ sym (c .before .before .look-at .ensures) ∙ c .enum-told .given .1)))
+returns c =
+    let s = c .before .before .before .before .before in
+    let l = c .before .before .before .loop in
+    sym (l .inv .3 ∙ ap (λ (w : Way). runOver (s .args .card .now) (l .run) (w .inner)) (way-nowhere _ _ _ _ _
+    (ap (lookAt (s .args .card .now) (s .args .n)) (l .inv .2) ∙ sym (c .before .before .look-at .ensures) ∙ c .enum-told .given .1)))
 
 enum-told-2 : tie.Need-enum-told-2 Inv-loop μ-loop
 enum-told-2 c = search needs
 
 returns-2 : tie.Need-returns-2 Inv-loop μ-loop
 unfolding runOver past
-returns-2 c = sym (c .before .before .before .loop .inv .3 ∙ ap (λ (w : Way). runOver (c .before .before .before .before .before .args .card .now) (c .before .before .before .loop .run) (w .inner)) (way-leaf _ _ _ _ _ (ap (lookAt (c .before .before .before .before .before .args .card .now) (c .before .before .before .before .before .args .n)) (c .before .before .before .loop .inv .2) ∙ sym (c .before .before .look-at .ensures) ∙ c .enum-told2 .given .1)))
+returns-2 c =
+    let s = c .before .before .before .before .before in
+    let l = c .before .before .before .loop in
+    sym (l .inv .3 ∙ ap (λ (w : Way). runOver (s .args .card .now) (l .run) (w .inner)) (way-leaf _ _ _ _ _
+    (ap (lookAt (s .args .card .now) (s .args .n)) (l .inv .2) ∙ sym (c .before .before .look-at .ensures) ∙ c .enum-told2 .given .1)))
 
 enum-told-3 : tie.Need-enum-told-3 Inv-loop μ-loop
 enum-told-3 c = search needs
@@ -76,11 +105,21 @@ shared-slice-read-if1 c = omega (arith, words (c .before .before))
 
 returns-3 : tie.Need-returns-3 Inv-loop μ-loop
 unfolding runOver past
-returns-3 c = sym (c .before .before .before .before .before .before .before .loop .inv .3 ∙ ap (λ (w : Way). runOver (c .before .before .before .before .before .before .before .before .before .args .card .now) (c .before .before .before .before .before .before .before .loop .run) (w .inner)) (way-childless _ _ _ _ _ (inner (c .before .before .before)) (no-child _ (c .before .before .before .before .before .before .before .before .before .args .key) (c .before .before .before .before .before .before .before .loop .inv .1) _ _ (c .before .before .before .before .before .before .before .loop .inv .2) (c .before .before .before .node-at .ensures) (c .if1 .taken))) ∙ further (c .before .before))
+returns-3 c =
+    let l = c .before .before .before .before .before .before .before .loop in
+    sym (l .inv .3
+    ∙ ap (λ (w : Way). runOver (c .before .before .before .before .before .before .before .before .before .args .card .now) (l .run) (w .inner))
+    (way-childless _ _ _ _ _ (inner (c .before .before .before))
+    (no-child _ (c .before .before .before .before .before .before .before .before .before .args .key) (l .inv .1) _ _ (l .inv .2)
+    (c .before .before .before .node-at .ensures) (c .if1 .taken))) ∙ further (c .before .before))
 
 returns-4 : tie.Need-returns-4 Inv-loop μ-loop
 unfolding runOver past
-returns-4 c = sym (c .before .before .before .before .before .before .before .before .loop .inv .3 ∙ ap (λ (w : Way). runOver (c .before .before .before .before .before .before .before .before .before .before .args .card .now) (c .before .before .before .before .before .before .before .before .loop .run) (w .inner)) (way-too-deep _ _ _ _ _ (inner (c .before .before .before .before)) (c .if2 .taken)) ∙ further (c .before .before .before))
+returns-4 c =
+    sym (c .before .before .before .before .before .before .before .before .loop .inv .3
+    ∙ ap (λ (w : Way). runOver (c .before .before .before .before .before .before .before .before .before .before .args .card .now)
+    (c .before .before .before .before .before .before .before .before .loop .run) (w .inner))
+    (way-too-deep _ _ _ _ _ (inner (c .before .before .before .before)) (c .if2 .taken)) ∙ further (c .before .before .before))
 
 sub-left : tie.Need-sub-left Inv-loop μ-loop
 sub-left c = search needs
@@ -105,14 +144,21 @@ loop-less c = search needs
 
 loop-again : tie.Need-loop-again Inv-loop μ-loop
 unfolding runOver past
-loop-again c = (
-  omega (arith, c .before .before .before .before .before .run-below .ensures, run-below-le (length (children (c .before .before .before .before .before .before .node-at .result .now))) (c .before .before .before .before .before .before .before .before .before .before .loop .run)),
-  childPosition (nodeAt (c .before .before .before .before .before .before .before .before .before .before .before .before .args .card .now) (c .before .before .before .before .before .before .before .before .before .before .loop .inv .1 .node)) (c .before .before .before .before .before .before .before .before .before .before .before .before .args .key) (c .before .before .before .before .before .before .before .before .before .before .loop .inv .1),
-  next-node _ _ (c .before .before .before .before .before .before .before .before .before .before .loop .inv .1) _ _ (c .before .before .before .before .before .before .before .before .before .before .loop .inv .2) (c .before .before .before .before .before .before .node-at .ensures) _ (c .before .child-index .ensures),
-  c .before .before .before .before .before .before .before .before .before .before .loop .inv .3
-      ∙ ap (λ (w : Way). runOver (c .before .before .before .before .before .before .before .before .before .before .before .before .args .card .now) (c .before .before .before .before .before .before .before .before .before .before .loop .run) (w .inner)) (way-on _ _ _ _ _ (inner (c .before .before .before .before .before .before)) (c .before .before .if2 .left) (some-child _ (c .before .before .before .before .before .before .before .before .before .before .before .before .args .key) (c .before .before .before .before .before .before .before .before .before .before .loop .inv .1) _ _ (c .before .before .before .before .before .before .before .before .before .before .loop .inv .2) (c .before .before .before .before .before .before .node-at .ensures) (c .before .before .before .if1 .left)))
-      ∙ ap (λ (k : ℕ). runOver (c .before .before .before .before .before .before .before .before .before .before .before .before .args .card .now) k (wayFrom (c .before .before .before .before .before .before .before .before .before .before .before .before .args .card .now) (c .before .before .before .before .before .before .before .before .before .before .before .before .args .n) (c .before .before .before .before .before .before .before .before .before .before .before .before .args .key) (c .before .before .before .before .before .before .before .before .before .before .loop .left - 1) (childPosition (nodeAt (c .before .before .before .before .before .before .before .before .before .before .before .before .args .card .now) (c .before .before .before .before .before .before .before .before .before .before .loop .inv .1 .node)) (c .before .before .before .before .before .before .before .before .before .before .before .before .args .key) (c .before .before .before .before .before .before .before .before .before .before .loop .inv .1)) .inner)) (further (c .before .before .before .before .before)),
-)
+loop-again c =
+    let s = c .before .before .before .before .before .before .before .before .before .before .before .before in
+    let l = c .before .before .before .before .before .before .before .before .before .before .loop in (
+      omega (arith, c .before .before .before .before .before .run-below .ensures, run-below-le (length (children (c .before .before .before .before .before .before .node-at .result .now))) (l .run)),
+      childPosition (nodeAt (s .args .card .now) (l .inv .1 .node)) (s .args .key) (l .inv .1),
+      next-node _ _ (l .inv .1) _ _ (l .inv .2) (c .before .before .before .before .before .before .node-at .ensures) _ (c .before .child-index .ensures),
+      l .inv .3
+          ∙ ap (λ (w : Way). runOver (s .args .card .now) (l .run) (w .inner))
+          (way-on _ _ _ _ _ (inner (c .before .before .before .before .before .before)) (c .before .before .if2 .left)
+          (some-child _ (s .args .key) (l .inv .1) _ _ (l .inv .2)
+          (c .before .before .before .before .before .before .node-at .ensures) (c .before .before .before .if1 .left)))
+          ∙ ap (λ (k : ℕ). runOver (s .args .card .now) k (wayFrom (s .args .card .now) (s .args .n) (s .args .key) (l .left - 1)
+          (childPosition (nodeAt (s .args .card .now) (l .inv .1 .node)) (s .args .key) (l .inv .1)) .inner))
+          (further (c .before .before .before .before .before)),
+    )
 
 pub run-above-spec : {M : Type 1} → statement M
 run-above-spec =

@@ -11,7 +11,9 @@ use Rattle.walk_next.proofs.end_below.Statement.{statement}
 use Rattle.walk_next.proofs.end_below.Tie as tie
 
 index-small : (c : tie.After-child-index) → c .child-index .result ≤ 10
-index-small c = let len : length (c .before .before .args .node .now) ≡ 24 = search needs in omega (arith, c .child-index .ensures, index-le (c .before .before .args .node .now) (c .before .before .args .key) len)
+index-small c =
+    let s = c .before .before in
+    let len : length (s .args .node .now) ≡ 24 = search needs in omega (arith, c .child-index .ensures, index-le (s .args .node .now) (s .args .key) len)
 
 child-index-requires : tie.Need-child-index-requires
 child-index-requires c κs = search needs
@@ -36,17 +38,22 @@ wide-requires c κs = search needs
 
 returns : tie.Need-returns
 returns c =
-    let len : length (c .before .before .before .before .before .before .args .node .now) ≡ 24 = search needs in
+    let s = c .before .before .before .before .before .before in
+    let len : length (s .args .node .now) ≡ 24 = search needs in
     let below : c .before .before .before .before .child-index .result ≤ 10 = index-small (c .before .before .before .before) in (
-      c .wide .ensures .0 ∙ sym (end-key (c .before .before .before .before .before .before .args .node .now) (c .before .before .before .before .before .before .args .key) (c .before .before .before .before .before .before .args .end) (c .before .before .before .before .child-index .result) len (c .before .before .before .before .child-index .ensures) (omega (arith, c .before .before .if1 .taken, c .before .before .before .child-count .ensures))),
+      c .wide .ensures .0 ∙ sym (end-key (s .args .node .now) (s .args .key) (s .args .end)
+          (c .before .before .before .before .child-index .result) len (c .before .before .before .before .child-index .ensures)
+          (omega (arith, c .before .before .if1 .taken, c .before .before .before .child-count .ensures))),
       omega (arith, c .wide .ensures .1),
     )
 
 returns-2 : tie.Need-returns-2
 returns-2 c =
-    let len : length (c .before .before .before .before .args .node .now) ≡ 24 = search needs in
-    let most : c .before .before .before .before .args .end ≤ keyLimit = search needs in (
-      sym (end-last (c .before .before .before .before .args .node .now) (c .before .before .before .before .args .key) (c .before .before .before .before .args .end) (c .before .before .child-index .result) len (c .before .before .child-index .ensures) (omega (arith, c .if1 .left, c .before .child-count .ensures))),
+    let s = c .before .before .before .before in
+    let len : length (s .args .node .now) ≡ 24 = search needs in
+    let most : s .args .end ≤ keyLimit = search needs in (
+      sym (end-last (s .args .node .now) (s .args .key) (s .args .end) (c .before .before .child-index .result) len
+          (c .before .before .child-index .ensures) (omega (arith, c .if1 .left, c .before .child-count .ensures))),
       most,
     )
 

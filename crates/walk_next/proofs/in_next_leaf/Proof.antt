@@ -19,7 +19,9 @@ range-end-requires c κs = search needs
 
 returns : tie.Need-returns
 unfolding way
-returns c = sym (next-none (c .before .before .before .before .args .card .now) (c .before .before .before .before .args .n) (c .before .before .before .before .args .after) _ (sym (c .before .range-end .ensures .0) ∙ c .if1 .taken))
+returns c =
+    let s = c .before .before .before .before in
+    sym (next-none (s .args .card .now) (s .args .n) (s .args .after) _ (sym (c .before .range-end .ensures .0) ∙ c .if1 .taken))
 
 cast-in-leaf : tie.Need-cast-in-leaf
 cast-in-leaf c = search needs
@@ -30,9 +32,10 @@ in-leaf-requires c κs = search needs
 returns-2 : tie.Need-returns-2
 unfolding way
 returns-2 c =
+    let s = c .before .before .before .before .before in
     c .in-leaf .ensures
-    ∙ sym (next-there (c .before .before .before .before .before .args .card .now) (c .before .before .before .before .before .args .n) (c .before .before .before .before .before .args .after) (c .before .before .range-end .result) (c .before .if1 .left))
-    ∙ ap (inNextLeaf (c .before .before .before .before .before .args .card .now) (c .before .before .before .before .before .args .n) (c .before .before .before .before .before .args .after)) (c .before .before .range-end .ensures .0)
+    ∙ sym (next-there (s .args .card .now) (s .args .n) (s .args .after) (c .before .before .range-end .result) (c .before .if1 .left))
+    ∙ ap (inNextLeaf (s .args .card .now) (s .args .n) (s .args .after)) (c .before .before .range-end .ensures .0)
 
 pub in-next-leaf-spec : {M : Type 1} → statement M
 in-next-leaf-spec = tie.close (tie.spec shared-slice-read-range-end cast-range-end range-end-requires returns cast-in-leaf in-leaf-requires returns-2)

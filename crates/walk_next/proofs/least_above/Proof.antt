@@ -49,13 +49,16 @@ loop-less c = search needs
 
 loop-again : tie.Need-loop-again Inv-loop μ-loop
 loop-again c =
-    let len : length (c .before .before .before .before .before .before .args .node .now) ≡ 24 = search needs in
-    let i : ℕ = c .before .before .before .before .loop .i - 1 in
-    let e : i + 1 ≡ c .before .before .before .before .loop .i = omega arith in (
+    let s = c .before .before .before .before .before .before in
+    let l = c .before .before .before .before .loop in
+    let len : length (s .args .node .now) ≡ 24 = search needs in
+    let i : ℕ = l .i - 1 in
+    let e : i + 1 ≡ l .i = omega arith in (
       omega arith,
       c .nearer .ensures
-          ∙ ap (nearerAbove (c .before .before .before .before .before .before .args .after) (getD (c .before .before .before .before .before .before .args .node .now) (1 + i) 0, getD (c .before .before .before .before .before .before .args .node .now) (12 + i) 0)) (c .before .before .before .before .loop .inv .1 ∙ ap (λ (j : ℕ). leastAbove (c .before .before .before .before .before .before .args .after) (leafFrom (c .before .before .before .before .before .before .args .node .now) j)) (sym e))
-          ∙ sym (least-slot (c .before .before .before .before .before .before .args .after) (c .before .before .before .before .before .before .args .node .now) len i (omega arith)),
+          ∙ ap (nearerAbove (s .args .after) (getD (s .args .node .now) (1 + i) 0, getD (s .args .node .now) (12 + i) 0))
+          (l .inv .1 ∙ ap (λ (j : ℕ). leastAbove (s .args .after) (leafFrom (s .args .node .now) j)) (sym e))
+          ∙ sym (least-slot (s .args .after) (s .args .node .now) len i (omega arith)),
     )
 
 returns : tie.Need-returns Inv-loop μ-loop
@@ -65,4 +68,6 @@ returns c =
     c .before .loop .inv .1 ∙ ap (leastAbove (c .before .before .before .args .after)) (ap (leafFrom node) e ∙ leaf-start node)
 
 pub least-above-spec : {M : Type 1} → statement M
-least-above-spec = tie.close (tie.spec Inv-loop μ-loop loop-holds sub-i add-nearer mul-nearer shared-slice-read-nearer add-nearer-2 mul-nearer-2 shared-slice-read-nearer-2 nearer-requires loop-less loop-again returns)
+least-above-spec =
+    tie.close (tie.spec Inv-loop μ-loop loop-holds sub-i add-nearer mul-nearer shared-slice-read-nearer add-nearer-2 mul-nearer-2
+    shared-slice-read-nearer-2 nearer-requires loop-less loop-again returns)

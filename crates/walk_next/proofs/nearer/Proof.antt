@@ -27,16 +27,22 @@ returns-2 c =
 returns-3 : tie.Need-returns-3
 unfolding leastOf
 returns-3 c =
+    let s = c .before .before .before .before .before in
     sym
-    (ap (λ (l : Least). nearerAbove (c .before .before .before .before .before .args .after) (c .before .before .before .before .before .args .key, c .before .before .before .before .before .args .value) (leastOf l)) (c .before .before .least .given .1)
-    ∙ nearer-other (c .before .before .before .before .before .args .after) (c .before .before .before .before .before .args .key, c .before .before .before .before .before .args .value) (c .before .before .least .given .0 .0, c .before .before .least .given .0 .1 .0) (omega (arith, c .before .before .before .before .if1 .left)) (c .if2 .taken))
+    (ap (λ (l : Least). nearerAbove (s .args .after) (s .args .key, s .args .value) (leastOf l)) (c .before .before .least .given .1)
+    ∙ nearer-other (s .args .after) (s .args .key, s .args .value)
+    (c .before .before .least .given .0 .0, c .before .before .least .given .0 .1 .0)
+    (omega (arith, c .before .before .before .before .if1 .left)) (c .if2 .taken))
 
 returns-4 : tie.Need-returns-4
 unfolding leastOf
 returns-4 c =
+    let s = c .before .before .before .before .before in
     sym
-    (ap (λ (l : Least). nearerAbove (c .before .before .before .before .before .args .after) (c .before .before .before .before .before .args .key, c .before .before .before .before .before .args .value) (leastOf l)) (c .before .before .least .given .1)
-    ∙ nearer-now (c .before .before .before .before .before .args .after) (c .before .before .before .before .before .args .key, c .before .before .before .before .before .args .value) (c .before .before .least .given .0 .0, c .before .before .least .given .0 .1 .0) (omega (arith, c .before .before .before .before .if1 .left)) (omega (arith, c .if2 .left)))
+    (ap (λ (l : Least). nearerAbove (s .args .after) (s .args .key, s .args .value) (leastOf l)) (c .before .before .least .given .1)
+    ∙ nearer-now (s .args .after) (s .args .key, s .args .value)
+    (c .before .before .least .given .0 .0, c .before .before .least .given .0 .1 .0)
+    (omega (arith, c .before .before .before .before .if1 .left)) (omega (arith, c .if2 .left)))
 
 pub nearer-spec : {M : Type 1} → statement M
 nearer-spec = tie.close (tie.spec returns enum-told enum-known-least returns-2 returns-3 returns-4)

@@ -19,13 +19,17 @@ nodes-of-requires : tie.Need-nodes-of-requires
 nodes-of-requires c κs = search needs
 
 next-in-requires : tie.Need-next-in-requires
-next-in-requires c κs = sized (c .before .before .before .before .args .card .now) (c .nodes-of .result) (c .nodes-of .ensures) (λ z. card-sized (c .before .before .before .before .args .card .now) (sym (c .before .before .card-refusal .ensures) ∙ c .before .if1 .left) (sym (c .nodes-of .ensures) ∙ z))
+next-in-requires c κs =
+    sized (c .before .before .before .before .args .card .now) (c .nodes-of .result) (c .nodes-of .ensures)
+    (λ z. card-sized (c .before .before .before .before .args .card .now)
+    (sym (c .before .before .card-refusal .ensures) ∙ c .before .if1 .left) (sym (c .nodes-of .ensures) ∙ z))
 
 returns-2 : tie.Need-returns-2
 returns-2 c =
+    let s = c .before .before .before .before .before in
     c .next-in .ensures
-    ∙ ap (λ (n : ℕ). nextIn (c .before .before .before .before .before .args .card .now) n (c .before .before .before .before .before .args .after)) (c .before .nodes-of .ensures)
-    ∙ sym (next-taken (c .before .before .before .before .before .args .card .now) (c .before .before .before .before .before .args .after) (sym (c .before .before .before .card-refusal .ensures) ∙ c .before .before .if1 .left))
+    ∙ ap (λ (n : ℕ). nextIn (s .args .card .now) n (s .args .after)) (c .before .nodes-of .ensures)
+    ∙ sym (next-taken (s .args .card .now) (s .args .after) (sym (c .before .before .before .card-refusal .ensures) ∙ c .before .before .if1 .left))
 
 pub next-pair-spec : {M : Type 1} → statement M
 next-pair-spec = tie.close (tie.spec card-refusal-requires returns nodes-of-requires next-in-requires returns-2)

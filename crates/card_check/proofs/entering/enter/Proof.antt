@@ -21,11 +21,17 @@ words c =
 
 returns : tie.Need-returns
 unfolding lookOf
-returns c = sym (enter-zero (c .before .before .before .before .args .card .now) (c .before .before .before .before .args .n) (c .before .before .before .before .args .m) (c .before .before .before .before .args .low) (c .before .before .before .before .args .high) (c .before .before .before .before .args .run) (c .before .before .before .before .args .root) (findingsOf (nodesOf (c .before .before .before .before .args .free .now)) (c .before .before .before .before .args .found .now)) (c .if1 .taken))
+returns c =
+    let s = c .before .before .before .before in
+    sym (enter-zero (s .args .card .now) (s .args .n) (s .args .m) (s .args .low) (s .args .high) (s .args .run) (s .args .root)
+    (findingsOf (nodesOf (s .args .free .now)) (s .args .found .now)) (c .if1 .taken))
 
 returns-2 : tie.Need-returns-2
 unfolding lookOf
-returns-2 c = sym (enter-beyond (c .before .before .before .before .before .args .card .now) (c .before .before .before .before .before .args .n) (c .before .before .before .before .before .args .m) (c .before .before .before .before .before .args .low) (c .before .before .before .before .before .args .high) (c .before .before .before .before .before .args .run) (c .before .before .before .before .before .args .root) (findingsOf (nodesOf (c .before .before .before .before .before .args .free .now)) (c .before .before .before .before .before .args .found .now)) (c .before .if1 .left) (omega arith))
+returns-2 c =
+    let s = c .before .before .before .before .before in
+    sym (enter-beyond (s .args .card .now) (s .args .n) (s .args .m) (s .args .low) (s .args .high) (s .args .run) (s .args .root)
+    (findingsOf (nodesOf (s .args .free .now)) (s .args .found .now)) (c .before .if1 .left) (omega arith))
 
 contains-requires : tie.Need-contains-requires
 contains-requires c κs = search needs
@@ -35,7 +41,11 @@ same-length c = search needs
 
 returns-3 : tie.Need-returns-3
 unfolding lookOf findingsOf
-returns-3 c = sym (enter-again (c .before .before .before .before .before .before .before .before .args .card .now) (c .before .before .before .before .before .before .before .before .args .n) (c .before .before .before .before .before .before .before .before .args .m) (c .before .before .before .before .before .before .before .before .args .low) (c .before .before .before .before .before .before .before .before .args .high) (c .before .before .before .before .before .before .before .before .args .run) (c .before .before .before .before .before .before .before .before .args .root) (findingsOf (nodesOf (c .before .before .before .before .before .before .before .before .args .free .now)) (c .before .before .before .before .before .before .before .before .args .found .now)) (c .before .before .before .before .if1 .left) (omega arith) (sym (c .before .contains .ensures) ∙ not-true _ (c .if3 .taken)))
+returns-3 c =
+    let s = c .before .before .before .before .before .before .before .before in
+    sym (enter-again (s .args .card .now) (s .args .n) (s .args .m) (s .args .low) (s .args .high) (s .args .run) (s .args .root)
+    (findingsOf (nodesOf (s .args .free .now)) (s .args .found .now)) (c .before .before .before .before .if1 .left) (omega arith)
+    (sym (c .before .contains .ensures) ∙ not-true _ (c .if3 .taken)))
 
 node-at-requires : tie.Need-node-at-requires
 node-at-requires c κs = search needs
@@ -48,7 +58,12 @@ same-length-2 c = search needs
 
 returns-4 : tie.Need-returns-4
 unfolding lookOf findingsOf
-returns-4 c = sym (enter-last-word (c .before .before .before .before .before .before .before .before .before .before .before .args .card .now) (c .before .before .before .before .before .before .before .before .before .before .before .args .n) (c .before .before .before .before .before .before .before .before .before .before .before .args .m) (c .before .before .before .before .before .before .before .before .before .before .before .args .low) (c .before .before .before .before .before .before .before .before .before .before .before .args .high) (c .before .before .before .before .before .before .before .before .before .before .before .args .run) (c .before .before .before .before .before .before .before .before .before .before .before .args .root) (findingsOf (nodesOf (c .before .before .before .before .before .before .before .before .before .before .before .args .free .now)) (c .before .before .before .before .before .before .before .before .before .before .before .args .found .now)) (c .before .before .before .before .before .before .before .if1 .left) (omega arith) (sym (c .before .before .before .before .contains .ensures) ∙ not-false _ (c .before .before .before .if3 .left)) (λ e. c .if4 .taken (ap (λ (l : List ℕ). getD l 23 0) (c .before .before .node-at .ensures) ∙ e)))
+returns-4 c =
+    let s = c .before .before .before .before .before .before .before .before .before .before .before in
+    sym (enter-last-word (s .args .card .now) (s .args .n) (s .args .m) (s .args .low) (s .args .high) (s .args .run) (s .args .root)
+    (findingsOf (nodesOf (s .args .free .now)) (s .args .found .now)) (c .before .before .before .before .before .before .before .if1 .left)
+    (omega arith) (sym (c .before .before .before .before .contains .ensures) ∙ not-false _ (c .before .before .before .if3 .left))
+    (λ e. c .if4 .taken (ap (λ (l : List ℕ). getD l 23 0) (c .before .before .node-at .ensures) ∙ e)))
 
 take-out-requires : tie.Need-take-out-requires
 take-out-requires c κs = search needs
@@ -64,7 +79,18 @@ same-length-4 c = search needs
 
 returns-5 : tie.Need-returns-5
 unfolding findingsOf reached
-returns-5 c = c .before .before .enter-kind .ensures _ ∙ rw (c .before .before .before .before .before .before .before .before .before .before .node-at .ensures, c .before .before .before .before .before .before .take-out .ensures) (sym (enter-new (c .before .before .before .before .before .before .before .before .before .before .before .before .before .before .before .before .before .before .before .args .card .now) (c .before .before .before .before .before .before .before .before .before .before .before .before .before .before .before .before .before .before .before .args .n) (c .before .before .before .before .before .before .before .before .before .before .before .before .before .before .before .before .before .before .before .args .m) (c .before .before .before .before .before .before .before .before .before .before .before .before .before .before .before .before .before .before .before .args .low) (c .before .before .before .before .before .before .before .before .before .before .before .before .before .before .before .before .before .before .before .args .high) (c .before .before .before .before .before .before .before .before .before .before .before .before .before .before .before .before .before .before .before .args .run) (c .before .before .before .before .before .before .before .before .before .before .before .before .before .before .before .before .before .before .before .args .root) (findingsOf (nodesOf (c .before .before .before .before .before .before .before .before .before .before .before .before .before .before .before .before .before .before .before .args .free .now)) (c .before .before .before .before .before .before .before .before .before .before .before .before .before .before .before .before .before .before .before .args .found .now)) (c .before .before .before .before .before .before .before .before .before .before .before .before .before .before .before .if1 .left) (omega arith) (sym (c .before .before .before .before .before .before .before .before .before .before .before .before .contains .ensures) ∙ not-false _ (c .before .before .before .before .before .before .before .before .before .before .before .if3 .left)) (sym (ap (λ (l : List ℕ). getD l 23 0) (c .before .before .before .before .before .before .before .before .before .before .node-at .ensures)) ∙ c .before .before .before .before .before .before .before .before .if4 .left)))
+returns-5 c =
+    let s = c .before .before .before .before .before .before .before .before .before .before .before .before .before .before .before .before .before .before .before in
+    c .before .before .enter-kind .ensures _ ∙ rw (
+      c .before .before .before .before .before .before .before .before .before .before .node-at .ensures,
+      c .before .before .before .before .before .before .take-out .ensures,
+    ) (sym (enter-new (s .args .card .now) (s .args .n) (s .args .m) (s .args .low) (s .args .high) (s .args .run) (s .args .root)
+    (findingsOf (nodesOf (s .args .free .now)) (s .args .found .now))
+    (c .before .before .before .before .before .before .before .before .before .before .before .before .before .before .before .if1 .left)
+    (omega arith) (sym (c .before .before .before .before .before .before .before .before .before .before .before .before .contains .ensures)
+    ∙ not-false _ (c .before .before .before .before .before .before .before .before .before .before .before .if3 .left))
+    (sym (ap (λ (l : List ℕ). getD l 23 0) (c .before .before .before .before .before .before .before .before .before .before .node-at .ensures))
+    ∙ c .before .before .before .before .before .before .before .before .if4 .left)))
 
 pub enter-spec : {M : Type 1} → statement M
 enter-spec =

@@ -14,22 +14,40 @@ child-count-requires c κs = search needs
 
 returns : tie.Need-returns
 unfolding lookOf
-returns c free = sym (enter-inner-none (c .before .before .before .before .args .node .now) (c .before .before .before .before .args .tagged) (c .before .before .before .before .args .low) (c .before .before .before .before .args .run) (c .before .before .before .before .args .root) (findingsOf free (c .before .before .before .before .args .found .now)) (c .before .child-count .result) (c .before .child-count .ensures) (c .if1 .taken))
+returns c free =
+    let s = c .before .before .before .before in
+    sym (enter-inner-none (s .args .node .now) (s .args .tagged) (s .args .low) (s .args .run) (s .args .root)
+    (findingsOf free (s .args .found .now)) (c .before .child-count .result) (c .before .child-count .ensures) (c .if1 .taken))
 
 unused-is-zero-requires : tie.Need-unused-is-zero-requires
 unused-is-zero-requires c κs = (search needs, omega arith, omega (arith, children-le (c .before .before .before .before .args .node .now), c .before .child-count .ensures))
 
 returns-2 : tie.Need-returns-2
 unfolding lookOf
-returns-2 c free = sym (enter-inner-unused (c .before .before .before .before .before .before .args .node .now) (c .before .before .before .before .before .before .args .tagged) (c .before .before .before .before .before .before .args .low) (c .before .before .before .before .before .before .args .run) (c .before .before .before .before .before .before .args .root) (findingsOf free (c .before .before .before .before .before .before .args .found .now)) (c .before .before .before .child-count .result) (c .before .before .before .child-count .ensures) (c .before .before .if1 .left) (sym (c .before .unused-is-zero .ensures) ∙ not-true _ (c .if2 .taken)))
+returns-2 c free =
+    let s = c .before .before .before .before .before .before in
+    sym (enter-inner-unused (s .args .node .now) (s .args .tagged) (s .args .low) (s .args .run) (s .args .root)
+    (findingsOf free (s .args .found .now)) (c .before .before .before .child-count .result) (c .before .before .before .child-count .ensures)
+    (c .before .before .if1 .left) (sym (c .before .unused-is-zero .ensures) ∙ not-true _ (c .if2 .taken)))
 
 returns-3 : tie.Need-returns-3
 unfolding lookOf
-returns-3 c free = sym (enter-tagged-root (c .before .before .before .before .before .before .before .before .args .node .now) (c .before .before .before .before .before .before .before .before .args .tagged) (c .before .before .before .before .before .before .before .before .args .low) (c .before .before .before .before .before .before .before .before .args .run) (c .before .before .before .before .before .before .before .before .args .root) (findingsOf free (c .before .before .before .before .before .before .before .before .args .found .now)) (c .before .before .before .before .before .child-count .result) (c .before .before .before .before .before .child-count .ensures) (c .before .before .before .before .if1 .left) (sym (c .before .before .before .unused-is-zero .ensures) ∙ not-false _ (c .before .before .if2 .left)) (c .before .if3 .taken) (c .if4 .taken))
+returns-3 c free =
+    let s = c .before .before .before .before .before .before .before .before in
+    sym (enter-tagged-root (s .args .node .now) (s .args .tagged) (s .args .low) (s .args .run) (s .args .root)
+    (findingsOf free (s .args .found .now)) (c .before .before .before .before .before .child-count .result)
+    (c .before .before .before .before .before .child-count .ensures) (c .before .before .before .before .if1 .left)
+    (sym (c .before .before .before .unused-is-zero .ensures) ∙ not-false _ (c .before .before .if2 .left)) (c .before .if3 .taken) (c .if4 .taken))
 
 returns-4 : tie.Need-returns-4
 unfolding lookOf
-returns-4 c free = sym (enter-tagged-count (c .before .before .before .before .before .before .before .before .before .args .node .now) (c .before .before .before .before .before .before .before .before .before .args .tagged) (c .before .before .before .before .before .before .before .before .before .args .low) (c .before .before .before .before .before .before .before .before .before .args .run) (c .before .before .before .before .before .before .before .before .before .args .root) (findingsOf free (c .before .before .before .before .before .before .before .before .before .args .found .now)) (c .before .before .before .before .before .before .child-count .result) (c .before .before .before .before .before .before .child-count .ensures) (c .before .before .before .before .before .if1 .left) (sym (c .before .before .before .before .unused-is-zero .ensures) ∙ not-false _ (c .before .before .before .if2 .left)) (c .before .before .if3 .taken) (c .if5 .taken))
+returns-4 c free =
+    let s = c .before .before .before .before .before .before .before .before .before in
+    sym (enter-tagged-count (s .args .node .now) (s .args .tagged) (s .args .low) (s .args .run) (s .args .root)
+    (findingsOf free (s .args .found .now)) (c .before .before .before .before .before .before .child-count .result)
+    (c .before .before .before .before .before .before .child-count .ensures) (c .before .before .before .before .before .if1 .left)
+    (sym (c .before .before .before .before .unused-is-zero .ensures) ∙ not-false _ (c .before .before .before .if2 .left))
+    (c .before .before .if3 .taken) (c .if5 .taken))
 
 with-violation-requires : tie.Need-with-violation-requires
 with-violation-requires c κs = search needs
@@ -38,11 +56,26 @@ same-length : tie.Need-same-length
 same-length c = search needs
 
 returns-5 : tie.Need-returns-5
-returns-5 c free = c .before .before .with-violation .ensures free ∙ sym (enter-tagged (c .before .before .before .before .before .before .before .before .before .before .before .before .before .args .node .now) (c .before .before .before .before .before .before .before .before .before .before .before .before .before .args .tagged) (c .before .before .before .before .before .before .before .before .before .before .before .before .before .args .low) (c .before .before .before .before .before .before .before .before .before .before .before .before .before .args .run) (c .before .before .before .before .before .before .before .before .before .before .before .before .before .args .root) (findingsOf free (c .before .before .before .before .before .before .before .before .before .before .before .before .before .args .found .now)) (c .before .before .before .before .before .before .before .before .before .before .child-count .result) (c .before .before .before .before .before .before .before .before .before .before .child-count .ensures) (c .before .before .before .before .before .before .before .before .before .if1 .left) (sym (c .before .before .before .before .before .before .before .before .unused-is-zero .ensures) ∙ not-false _ (c .before .before .before .before .before .before .before .if2 .left)) (c .before .before .before .before .before .before .if3 .taken) (c .before .before .before .before .before .if4 .left) (c .before .before .before .before .if5 .left))
+returns-5 c free =
+    let s = c .before .before .before .before .before .before .before .before .before .before .before .before .before in
+    c .before .before .with-violation .ensures free
+    ∙ sym (enter-tagged (s .args .node .now) (s .args .tagged) (s .args .low) (s .args .run) (s .args .root) (findingsOf free (s .args .found .now))
+    (c .before .before .before .before .before .before .before .before .before .before .child-count .result)
+    (c .before .before .before .before .before .before .before .before .before .before .child-count .ensures)
+    (c .before .before .before .before .before .before .before .before .before .if1 .left)
+    (sym (c .before .before .before .before .before .before .before .before .unused-is-zero .ensures) ∙ not-false _
+    (c .before .before .before .before .before .before .before .if2 .left)) (c .before .before .before .before .before .before .if3 .taken)
+    (c .before .before .before .before .before .if4 .left) (c .before .before .before .before .if5 .left))
 
 returns-6 : tie.Need-returns-6
 unfolding lookOf
-returns-6 c free = sym (enter-single-root (c .before .before .before .before .before .before .before .before .before .args .node .now) (c .before .before .before .before .before .before .before .before .before .args .tagged) (c .before .before .before .before .before .before .before .before .before .args .low) (c .before .before .before .before .before .before .before .before .before .args .run) (c .before .before .before .before .before .before .before .before .before .args .root) (findingsOf free (c .before .before .before .before .before .before .before .before .before .args .found .now)) (c .before .before .before .before .before .before .child-count .result) (c .before .before .before .before .before .before .child-count .ensures) (c .before .before .before .before .before .if1 .left) (sym (c .before .before .before .before .unused-is-zero .ensures) ∙ not-false _ (c .before .before .before .if2 .left)) (c .before .before .if3 .left) (c .before .if6 .taken) (c .if7 .taken))
+returns-6 c free =
+    let s = c .before .before .before .before .before .before .before .before .before in
+    sym (enter-single-root (s .args .node .now) (s .args .tagged) (s .args .low) (s .args .run) (s .args .root)
+    (findingsOf free (s .args .found .now)) (c .before .before .before .before .before .before .child-count .result)
+    (c .before .before .before .before .before .before .child-count .ensures) (c .before .before .before .before .before .if1 .left)
+    (sym (c .before .before .before .before .unused-is-zero .ensures) ∙ not-false _ (c .before .before .before .if2 .left))
+    (c .before .before .if3 .left) (c .before .if6 .taken) (c .if7 .taken))
 
 with-violation-requires-2 : tie.Need-with-violation-requires-2
 with-violation-requires-2 c κs = search needs
@@ -51,11 +84,25 @@ same-length-2 : tie.Need-same-length-2
 same-length-2 c = search needs
 
 returns-7 : tie.Need-returns-7
-returns-7 c free = c .before .before .with-violation2 .ensures free ∙ sym (enter-single (c .before .before .before .before .before .before .before .before .before .before .before .before .before .args .node .now) (c .before .before .before .before .before .before .before .before .before .before .before .before .before .args .tagged) (c .before .before .before .before .before .before .before .before .before .before .before .before .before .args .low) (c .before .before .before .before .before .before .before .before .before .before .before .before .before .args .run) (c .before .before .before .before .before .before .before .before .before .before .before .before .before .args .root) (findingsOf free (c .before .before .before .before .before .before .before .before .before .before .before .before .before .args .found .now)) (c .before .before .before .before .before .before .before .before .before .before .child-count .result) (c .before .before .before .before .before .before .before .before .before .before .child-count .ensures) (c .before .before .before .before .before .before .before .before .before .if1 .left) (sym (c .before .before .before .before .before .before .before .before .unused-is-zero .ensures) ∙ not-false _ (c .before .before .before .before .before .before .before .if2 .left)) (c .before .before .before .before .before .before .if3 .left) (c .before .before .before .before .before .if6 .taken) (c .before .before .before .before .if7 .left))
+returns-7 c free =
+    let s = c .before .before .before .before .before .before .before .before .before .before .before .before .before in
+    c .before .before .with-violation2 .ensures free
+    ∙ sym (enter-single (s .args .node .now) (s .args .tagged) (s .args .low) (s .args .run) (s .args .root) (findingsOf free (s .args .found .now))
+    (c .before .before .before .before .before .before .before .before .before .before .child-count .result)
+    (c .before .before .before .before .before .before .before .before .before .before .child-count .ensures)
+    (c .before .before .before .before .before .before .before .before .before .if1 .left)
+    (sym (c .before .before .before .before .before .before .before .before .unused-is-zero .ensures) ∙ not-false _
+    (c .before .before .before .before .before .before .before .if2 .left)) (c .before .before .before .before .before .before .if3 .left)
+    (c .before .before .before .before .before .if6 .taken) (c .before .before .before .before .if7 .left))
 
 returns-8 : tie.Need-returns-8
 unfolding lookOf
-returns-8 c free = sym (enter-several (c .before .before .before .before .before .before .before .before .args .node .now) (c .before .before .before .before .before .before .before .before .args .tagged) (c .before .before .before .before .before .before .before .before .args .low) (c .before .before .before .before .before .before .before .before .args .run) (c .before .before .before .before .before .before .before .before .args .root) (findingsOf free (c .before .before .before .before .before .before .before .before .args .found .now)) (c .before .before .before .before .before .child-count .result) (c .before .before .before .before .before .child-count .ensures) (c .before .before .before .before .if1 .left) (sym (c .before .before .before .unused-is-zero .ensures) ∙ not-false _ (c .before .before .if2 .left)) (c .before .if3 .left) (c .if6 .left))
+returns-8 c free =
+    let s = c .before .before .before .before .before .before .before .before in
+    sym (enter-several (s .args .node .now) (s .args .tagged) (s .args .low) (s .args .run) (s .args .root)
+    (findingsOf free (s .args .found .now)) (c .before .before .before .before .before .child-count .result)
+    (c .before .before .before .before .before .child-count .ensures) (c .before .before .before .before .if1 .left)
+    (sym (c .before .before .before .unused-is-zero .ensures) ∙ not-false _ (c .before .before .if2 .left)) (c .before .if3 .left) (c .if6 .left))
 
 pub enter-inner-spec : {M : Type 1} → statement M
 enter-inner-spec =

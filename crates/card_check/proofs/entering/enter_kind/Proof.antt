@@ -23,23 +23,35 @@ same-length : tie.Need-same-length
 same-length c = search needs
 
 returns : tie.Need-returns
-returns c free = c .before .before .enter-leaf .ensures free ∙ sym (enter-kind-leaf (c .before .before .before .before .before .before .before .before .args .node .now) (c .before .before .before .before .before .before .before .before .args .low) (c .before .before .before .before .before .before .before .before .args .high) (c .before .before .before .before .before .before .before .before .args .run) (c .before .before .before .before .before .before .before .before .args .root) (findingsOf free (c .before .before .before .before .before .before .before .before .args .found .now)) (omega (arith, c .before .before .before .before .match .keys1)))
+returns c free =
+    let s = c .before .before .before .before .before .before .before .before in
+    c .before .before .enter-leaf .ensures free ∙ sym (enter-kind-leaf (s .args .node .now) (s .args .low) (s .args .high) (s .args .run)
+    (s .args .root) (findingsOf free (s .args .found .now)) (omega (arith, c .before .before .before .before .match .keys1)))
 
 same-length-2 : tie.Need-same-length-2
 same-length-2 c = search needs
 
 returns-2 : tie.Need-returns-2
-returns-2 c free = c .before .before .enter-inner .ensures free ∙ sym (enter-kind-internal (c .before .before .before .before .before .before .before .before .args .node .now) (c .before .before .before .before .before .before .before .before .args .low) (c .before .before .before .before .before .before .before .before .args .high) (c .before .before .before .before .before .before .before .before .args .run) (c .before .before .before .before .before .before .before .before .args .root) (findingsOf free (c .before .before .before .before .before .before .before .before .args .found .now)) (omega (arith, c .before .before .before .before .match .keys2)))
+returns-2 c free =
+    let s = c .before .before .before .before .before .before .before .before in
+    c .before .before .enter-inner .ensures free ∙ sym (enter-kind-internal (s .args .node .now) (s .args .low) (s .args .high)
+    (s .args .run) (s .args .root) (findingsOf free (s .args .found .now)) (omega (arith, c .before .before .before .before .match .keys2)))
 
 same-length-3 : tie.Need-same-length-3
 same-length-3 c = search needs
 
 returns-3 : tie.Need-returns-3
-returns-3 c free = c .before .before .enter-inner2 .ensures free ∙ sym (enter-kind-tagged (c .before .before .before .before .before .before .before .before .args .node .now) (c .before .before .before .before .before .before .before .before .args .low) (c .before .before .before .before .before .before .before .before .args .high) (c .before .before .before .before .before .before .before .before .args .run) (c .before .before .before .before .before .before .before .before .args .root) (findingsOf free (c .before .before .before .before .before .before .before .before .args .found .now)) (omega (arith, c .before .before .before .before .match .keys3)))
+returns-3 c free =
+    let s = c .before .before .before .before .before .before .before .before in
+    c .before .before .enter-inner2 .ensures free ∙ sym (enter-kind-tagged (s .args .node .now) (s .args .low) (s .args .high)
+    (s .args .run) (s .args .root) (findingsOf free (s .args .found .now)) (omega (arith, c .before .before .before .before .match .keys3)))
 
 returns-4 : tie.Need-returns-4
 unfolding lookOf
-returns-4 c free = sym (enter-kind-none (c .before .before .before .before .args .node .now) (c .before .before .before .before .args .low) (c .before .before .before .before .args .high) (c .before .before .before .before .args .run) (c .before .before .before .before .args .root) (findingsOf free (c .before .before .before .before .args .found .now)) (c .match .rest .0 .0 .1) (c .match .rest .0 .1) (c .match .rest .1))
+returns-4 c free =
+    let s = c .before .before .before .before in
+    sym (enter-kind-none (s .args .node .now) (s .args .low) (s .args .high) (s .args .run) (s .args .root)
+    (findingsOf free (s .args .found .now)) (c .match .rest .0 .0 .1) (c .match .rest .0 .1) (c .match .rest .1))
 
 pub enter-kind-spec : {M : Type 1} → statement M
 enter-kind-spec =

@@ -10,8 +10,14 @@ use Rattle.card_check.specs.declared.leaves.Counted.{Counted}
 use Rattle.card_check.proofs.entering.enter_leaf.Statement.{statement}
 use Rattle.card_check.proofs.entering.enter_leaf.Tie as tie
 
-counts : (c : tie.After-known-told) → (leafSound (c .before .before .before .before .before .before .args .low) (c .before .before .before .before .before .before .args .high) (keyWords (c .before .before .before .before .before .before .args .node .now)) ≡ true) × (c .before .count .given .0 .0 ≡ length (leafPairs (c .before .before .before .before .before .before .args .node .now)))
-counts c = subst (λ (r : Counted). Counts r (leafSound (c .before .before .before .before .before .before .args .low) (c .before .before .before .before .before .before .args .high) (keyWords (c .before .before .before .before .before .before .args .node .now))) (length (leafPairs (c .before .before .before .before .before .before .args .node .now)))) (c .before .count .given .1) (c .before .before .before .leaf-pairs .ensures)
+counts : (c : tie.After-known-told)
+    → (leafSound (c .before .before .before .before .before .before .args .low) (c .before .before .before .before .before .before .args .high)
+    (keyWords (c .before .before .before .before .before .before .args .node .now)) ≡ true)
+    × (c .before .count .given .0 .0 ≡ length (leafPairs (c .before .before .before .before .before .before .args .node .now)))
+counts c =
+    let s = c .before .before .before .before .before .before in
+    subst (λ (r : Counted). Counts r (leafSound (s .args .low) (s .args .high) (keyWords (s .args .node .now)))
+    (length (leafPairs (s .args .node .now)))) (c .before .count .given .1) (c .before .before .before .leaf-pairs .ensures)
 
 leaf-pairs-requires : tie.Need-leaf-pairs-requires
 leaf-pairs-requires c κs = search needs
@@ -26,7 +32,9 @@ returns : tie.Need-returns
 unfolding lookOf
 returns c free =
     let s = c .before .before .before .before .before in
-    sym (enter-leaf-unsound (s .args .node .now) (s .args .low) (s .args .high) (s .args .root) (findingsOf free (s .args .found .now)) (subst (λ (r : Counted). Counts r (leafSound (s .args .low) (s .args .high) (keyWords (s .args .node .now))) (length (leafPairs (s .args .node .now)))) (c .enum-told .given .1) (c .before .before .leaf-pairs .ensures)))
+    sym (enter-leaf-unsound (s .args .node .now) (s .args .low) (s .args .high) (s .args .root) (findingsOf free (s .args .found .now))
+    (subst (λ (r : Counted). Counts r (leafSound (s .args .low) (s .args .high) (keyWords (s .args .node .now)))
+    (length (leafPairs (s .args .node .now)))) (c .enum-told .given .1) (c .before .before .leaf-pairs .ensures)))
 
 returns-2 : tie.Need-returns-2
 unfolding lookOf
@@ -38,7 +46,9 @@ returns-3 : tie.Need-returns-3
 unfolding lookOf
 returns-3 c free =
     let s = c .before .before .before .before .before .before .before .before in
-    sym (enter-leaf-empty (s .args .node .now) (s .args .low) (s .args .high) (s .args .root) (findingsOf free (s .args .found .now)) (counts (c .before .before) .0) (c .before .if1 .left) (c .before .before .before .count .given .0 .0) (counts (c .before .before) .1) (c .if2 .taken))
+    sym (enter-leaf-empty (s .args .node .now) (s .args .low) (s .args .high) (s .args .root)
+    (findingsOf free (s .args .found .now)) (counts (c .before .before) .0) (c .before .if1 .left)
+    (c .before .before .before .count .given .0 .0) (counts (c .before .before) .1) (c .if2 .taken))
 
 with-violation-requires : tie.Need-with-violation-requires
 with-violation-requires c κs = search needs
@@ -49,13 +59,20 @@ same-length c = search needs
 returns-4 : tie.Need-returns-4
 returns-4 c free =
     let s = c .before .before .before .before .before .before .before .before .before .before .before .before .before in
-    c .before .before .with-violation .ensures free ∙ sym (enter-leaf-few (s .args .node .now) (s .args .low) (s .args .high) (s .args .root) (findingsOf free (s .args .found .now)) (counts (c .before .before .before .before .before .before .before) .0) (c .before .before .before .before .before .before .if1 .left) (c .before .before .before .before .before .before .before .before .count .given .0 .0) (counts (c .before .before .before .before .before .before .before) .1) (c .before .before .before .before .before .if2 .left) (c .before .before .before .before .if3 .taken))
+    c .before .before .with-violation .ensures free
+    ∙ sym (enter-leaf-few (s .args .node .now) (s .args .low) (s .args .high) (s .args .root) (findingsOf free (s .args .found .now))
+    (counts (c .before .before .before .before .before .before .before) .0) (c .before .before .before .before .before .before .if1 .left)
+    (c .before .before .before .before .before .before .before .before .count .given .0 .0)
+    (counts (c .before .before .before .before .before .before .before) .1)
+    (c .before .before .before .before .before .if2 .left) (c .before .before .before .before .if3 .taken))
 
 returns-5 : tie.Need-returns-5
 unfolding lookOf
 returns-5 c free =
     let s = c .before .before .before .before .before .before .before .before .before in
-    sym (enter-leaf-enough (s .args .node .now) (s .args .low) (s .args .high) (s .args .root) (findingsOf free (s .args .found .now)) (counts (c .before .before .before) .0) (c .before .before .if1 .left) (c .before .before .before .before .count .given .0 .0) (counts (c .before .before .before) .1) (c .if3 .left))
+    sym (enter-leaf-enough (s .args .node .now) (s .args .low) (s .args .high) (s .args .root) (findingsOf free (s .args .found .now))
+    (counts (c .before .before .before) .0) (c .before .before .if1 .left)
+    (c .before .before .before .before .count .given .0 .0) (counts (c .before .before .before) .1) (c .if3 .left))
 
 pub enter-leaf-spec : {M : Type 1} → statement M
 enter-leaf-spec =

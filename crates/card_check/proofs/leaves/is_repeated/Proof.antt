@@ -41,7 +41,9 @@ shared-slice-read-if1 : tie.Need-shared-slice-read-if1 Inv-loop μ-loop
 shared-slice-read-if1 c = search needs
 
 returns : tie.Need-returns Inv-loop μ-loop
-returns c = sym (c .before .before .before .loop .inv .2 ∙ member-here (c .before .before .before .before .before .args .node .now) (search needs) _ (c .before .before .before .loop .j) (omega arith) (c .if1 .taken))
+returns c =
+    sym (c .before .before .before .loop .inv .2 ∙ member-here (c .before .before .before .before .before .args .node .now) (search needs) _
+    (c .before .before .before .loop .j) (omega arith) (c .if1 .taken))
 
 add-j-2 : tie.Need-add-j-2 Inv-loop μ-loop
 add-j-2 c = search needs
@@ -50,7 +52,12 @@ loop-less : tie.Need-loop-less Inv-loop μ-loop
 loop-less c = search needs
 
 loop-again : tie.Need-loop-again Inv-loop μ-loop
-loop-again c = (omega arith, refl, c .before .before .before .loop .inv .2 ∙ member-next (c .before .before .before .before .before .args .node .now) (search needs) _ (c .before .before .before .loop .j) (omega arith) (c .if1 .left))
+loop-again c = (
+  omega arith,
+  refl,
+  c .before .before .before .loop .inv .2 ∙ member-next (c .before .before .before .before .before .args .node .now) (search needs) _
+      (c .before .before .before .loop .j) (omega arith) (c .if1 .left),
+)
 
 returns-2 : tie.Need-returns-2 Inv-loop μ-loop
 returns-2 c = sym (c .before .loop .inv .2 ∙ member-end (c .before .before .before .args .node .now) (search needs) _ (c .before .loop .j) (omega arith))

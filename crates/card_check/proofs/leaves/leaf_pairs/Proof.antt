@@ -23,8 +23,12 @@ abbrev μ-loop : tie.MeasureT-loop
 
 loop-holds : tie.Need-loop-holds Inv-loop μ-loop
 loop-holds c =
-    let node = c .before .args .node .now in
-    (search needs, sym (ap length (leaf-end node (c .before .pre) 11 (omega arith))), leaf-none node (c .before .pre) (c .before .args .low) (c .before .args .high) 11 (omega arith), least-none node (c .before .pre) _ 11 (omega arith))
+    let node = c .before .args .node .now in (
+      search needs,
+      sym (ap length (leaf-end node (c .before .pre) 11 (omega arith))),
+      leaf-none node (c .before .pre) (c .before .args .low) (c .before .args .high) 11 (omega arith),
+      least-none node (c .before .pre) _ 11 (omega arith),
+    )
 
 sub-i : tie.Need-sub-i Inv-loop μ-loop
 sub-i c = search needs
@@ -78,11 +82,17 @@ loop-again c =
     let node = s .args .node .now in
     let j = l .i - 1 in
     let e : (c .before .before .before .before .before .before .before .before .loop .i - 1) + 1 ≡ c .before .before .before .before .before .before .before .before .loop .i = omega arith in
-    let more : length (leafFrom (c .before .before .before .before .before .before .before .before .before .before .args .node .now) ((c .before .before .before .before .before .before .before .before .loop .i - 1) + 1)) ≡ c .before .before .before .before .before .before .before .before .loop .pairs = rw e (sym (l .inv .1)) in
-    let rest : Least (c .before .before .before .before .before .before .before .before .loop .least) (drop ((c .before .before .before .before .before .before .before .before .loop .i - 1) + 1) (keyWords (c .before .before .before .before .before .before .before .before .before .before .args .node .now))) = rw e (l .inv .3) in (
+    let more : length (leafFrom (c .before .before .before .before .before .before .before .before .before .before .args .node .now)
+    ((c .before .before .before .before .before .before .before .before .loop .i - 1) + 1))
+    ≡ c .before .before .before .before .before .before .before .before .loop .pairs = rw e (sym (l .inv .1)) in
+    let rest : Least (c .before .before .before .before .before .before .before .before .loop .least)
+    (drop ((c .before .before .before .before .before .before .before .before .loop .i - 1) + 1)
+    (keyWords (c .before .before .before .before .before .before .before .before .before .before .args .node .now))) = rw e (l .inv .3) in (
       omega arith,
       omega (arith, leaf-length node (s .pre) j (omega arith), is-key-some (getD node (1 + j) 0) (c .before .before .before .before .before .if1 .taken)),
-      leaf-key node (s .pre) (s .args .low) (s .args .high) j (omega arith) (c .before .before .before .before .before .if1 .taken) (sym (c .before .before .before .before .is-in-range .ensures) ∙ not-false _ (c .before .before .before .if2 .left)) (sym (c .before .before .is-new .ensures) ∙ not-false _ (c .before .if3 .left))
+      leaf-key node (s .pre) (s .args .low) (s .args .high) j (omega arith) (c .before .before .before .before .before .if1 .taken)
+          (sym (c .before .before .before .before .is-in-range .ensures) ∙ not-false _ (c .before .before .before .if2 .left))
+          (sym (c .before .before .is-new .ensures) ∙ not-false _ (c .before .if3 .left))
           ∙ rw e (l .inv .2),
       least-more node (s .pre) (l .least) j (omega arith) rest _ (c .lesser .ensures .0) (c .lesser .ensures .1),
     )
@@ -97,8 +107,11 @@ loop-again-2 c =
     let node = s .args .node .now in
     let j = l .i - 1 in
     let e : (c .before .before .before .loop .i - 1) + 1 ≡ c .before .before .before .loop .i = omega arith in
-    let more : length (leafFrom (c .before .before .before .before .before .args .node .now) ((c .before .before .before .loop .i - 1) + 1)) ≡ c .before .before .before .loop .pairs = rw e (sym (l .inv .1)) in
-    let rest : Least (c .before .before .before .loop .least) (drop ((c .before .before .before .loop .i - 1) + 1) (keyWords (c .before .before .before .before .before .args .node .now))) = rw e (l .inv .3) in (
+    let more : length (leafFrom (c .before .before .before .before .before .args .node .now) ((c .before .before .before .loop .i - 1) + 1))
+    ≡ c .before .before .before .loop .pairs = rw e (sym (l .inv .1)) in
+    let rest : Least (c .before .before .before .loop .least)
+    (drop ((c .before .before .before .loop .i - 1) + 1) (keyWords (c .before .before .before .before .before .args .node .now))) =
+    rw e (l .inv .3) in (
       omega arith,
       omega (arith, leaf-length node (s .pre) j (omega arith), is-key-none (getD node (1 + j) 0) (c .if1 .left)),
       leaf-empty node (s .pre) (s .args .low) (s .args .high) j (omega arith) (c .if1 .left) ∙ rw e (l .inv .2),

@@ -26,7 +26,9 @@ shared-slice-read-if1 : tie.Need-shared-slice-read-if1 Inv-loop μ-loop
 shared-slice-read-if1 c = search needs
 
 returns : tie.Need-returns Inv-loop μ-loop
-returns c = sym (c .before .before .before .loop .inv .3 ∙ zero-stop (c .before .before .before .before .args .node .now) (c .before .before .before .loop .i) (c .before .before .before .before .args .to) (omega arith) (omega arith) (c .if1 .taken))
+returns c =
+    sym (c .before .before .before .loop .inv .3 ∙ zero-stop (c .before .before .before .before .args .node .now)
+    (c .before .before .before .loop .i) (c .before .before .before .before .args .to) (omega arith) (omega arith) (c .if1 .taken))
 
 add-i : tie.Need-add-i Inv-loop μ-loop
 add-i c = search needs
@@ -35,7 +37,13 @@ loop-less : tie.Need-loop-less Inv-loop μ-loop
 loop-less c = search needs
 
 loop-again : tie.Need-loop-again Inv-loop μ-loop
-loop-again c = (omega arith, omega arith, omega arith, c .before .before .before .loop .inv .3 ∙ zero-next (c .before .before .before .before .args .node .now) (c .before .before .before .loop .i) (c .before .before .before .before .args .to) (omega arith) (omega arith) (c .if1 .left))
+loop-again c = (
+  omega arith,
+  omega arith,
+  omega arith,
+  c .before .before .before .loop .inv .3 ∙ zero-next (c .before .before .before .before .args .node .now)
+      (c .before .before .before .loop .i) (c .before .before .before .before .args .to) (omega arith) (omega arith) (c .if1 .left),
+)
 
 returns-2 : tie.Need-returns-2 Inv-loop μ-loop
 returns-2 c = sym (c .before .loop .inv .3 ∙ zero-end (c .before .before .args .node .now) (c .before .loop .i) (c .before .before .args .to) (omega arith))

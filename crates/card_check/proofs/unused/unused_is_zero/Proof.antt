@@ -18,7 +18,10 @@ are-zero-requires-2 : tie.Need-are-zero-requires-2
 are-zero-requires-2 c κs = search needs
 
 returns-2 : tie.Need-returns-2
-returns-2 c = c .are-zero2 .ensures ∙ sym (unused-values (c .before .before .before .before .args .node .now) (c .before .before .before .before .args .c) (search needs) (sym (c .before .before .are-zero .ensures) ∙ not-false _ (c .before .if1 .left)))
+returns-2 c =
+    c .are-zero2 .ensures
+    ∙ sym (unused-values (c .before .before .before .before .args .node .now) (c .before .before .before .before .args .c) (search needs)
+    (sym (c .before .before .are-zero .ensures) ∙ not-false _ (c .before .if1 .left)))
 
 pub unused-is-zero-spec : {M : Type 1} → statement M
 unused-is-zero-spec =

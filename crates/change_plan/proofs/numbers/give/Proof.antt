@@ -6,8 +6,8 @@ use Prim.Native.Nat.{ℕ, _-_, _≤_, _<_}
 use native.Mathlib.Omega.{arith}
 use lib.ListN.{length, take, length-set}
 use Rattle.card_free.specs.NodeSet.{capacity, nodesOf}
-use Rattle.change_plan.specs.Plan.{givenBy}
-use Rattle.change_plan.proofs.NumberLaws.{Taking, taking-start, taking-more, taking-none, taking-round, taking-done, found-below, three-numbers}
+use Rattle.change_plan.specs.Plan.{givenBy, leftGiven}
+use Rattle.change_plan.proofs.NumberLaws.{Taking, taking-start, taking-more, taking-none, taking-round, taking-done, first-zero, found-below, three-numbers}
 use borrow.Author.Needs.{needs}
 use Rattle.change_plan.proofs.numbers.give.Statement.{statement}
 use Rattle.change_plan.proofs.numbers.give.Tie as tie
@@ -20,7 +20,10 @@ abbrev μ-loop : tie.MeasureT-loop
 
 -- the node found is one of the set
 found : (c : tie.After-m Inv-loop μ-loop) → (1 ≤ c .m .given .0 .0) × (c .m .given .0 .0 < capacity)
-found c = let s = c .before .before .before .before .before .before in found-below (s .args .free .now) (c .before .before .before .before .loop .latest) _ (s .pre .0) (sym (c .before .before .next-free .ensures) ∙ c .m .given .1)
+found c =
+    let s = c .before .before .before .before .before .before in
+    found-below (s .args .free .now) (c .before .before .before .before .loop .latest) _ (s .pre .0)
+    (sym (c .before .before .next-free .ensures) ∙ c .m .given .1)
 
 loop-holds : tie.Need-loop-holds Inv-loop μ-loop
 loop-holds c = (taking-start _ _ _ _ refl, refl)
@@ -35,8 +38,12 @@ enum-told : tie.Need-enum-told Inv-loop μ-loop
 enum-told c = search needs
 
 returns : tie.Need-returns Inv-loop μ-loop
-unfolding givenBy
-returns c = let l = c .before .before .before .before .loop in taking-none _ _ (l .i) _ _ _ (l .inv .0) (c .before .before .before .loop-test .taken) (sym (c .before .before .next-free .ensures) ∙ c .enum-told .given .1)
+unfolding givenBy leftGiven
+returns c =
+    let l = c .before .before .before .before .loop in (
+      taking-none _ _ (l .i) _ _ _ (l .inv .0) (c .before .before .before .loop-test .taken) (sym (c .before .before .next-free .ensures) ∙ c .enum-told .given .1),
+      λ z. refl,
+    )
 
 cast-number : tie.Need-cast-number Inv-loop μ-loop
 cast-number c = omega (arith, found (c .before))
@@ -45,8 +52,14 @@ array-read-if1 : tie.Need-array-read-if1 Inv-loop μ-loop
 array-read-if1 c = search needs
 
 returns-2 : tie.Need-returns-2 Inv-loop μ-loop
-unfolding givenBy
-returns-2 c = let l = c .before .before .before .before .before .before .loop in taking-round _ _ (l .i) _ _ _ (l .inv .0) (c .before .before .m .given .0 .0) (c .before .before .before .before .before .loop-test .taken) (sym (c .before .before .before .before .next-free .ensures) ∙ c .before .before .m .given .1) (c .if1 .taken)
+unfolding givenBy leftGiven
+returns-2 c =
+    let l = c .before .before .before .before .before .before .loop in (
+      taking-round _ _ (l .i) _ _ _ (l .inv .0) (c .before .before .m .given .0 .0)
+          (c .before .before .before .before .before .loop-test .taken)
+          (sym (c .before .before .before .before .next-free .ensures) ∙ c .before .before .m .given .1) (c .if1 .taken),
+      λ z. refl,
+    )
 
 mul-nodes : tie.Need-mul-nodes Inv-loop μ-loop
 mul-nodes c = search needs
@@ -64,7 +77,8 @@ loop-again : tie.Need-loop-again Inv-loop μ-loop
 loop-again c =
     let s = c .before .before .before .before .before .before .before .before in
     let l = c .before .before .before .before .before .before .loop in (
-      taking-more _ _ (l .i) _ _ _ (l .inv .0) _ (l .inv .1) (s .pre .1) (c .before .before .before .before .before .loop-test .taken) (sym (c .before .before .before .before .next-free .ensures) ∙ c .before .before .m .given .1) (c .if1 .left),
+      taking-more _ _ (l .i) _ _ _ (l .inv .0) _ (l .inv .1) (s .pre .1) (c .before .before .before .before .before .loop-test .taken)
+          (sym (c .before .before .before .before .next-free .ensures) ∙ c .before .before .m .given .1) (c .if1 .left),
       length-set (l .nodes) (l .i) (c .before .before .m .given .0 .0) ∙ l .inv .1,
     )
 
@@ -78,11 +92,13 @@ array-read-t25 : tie.Need-array-read-t25 Inv-loop μ-loop
 array-read-t25 c = search needs
 
 returns-3 : tie.Need-returns-3 Inv-loop μ-loop
-unfolding givenBy
+unfolding givenBy leftGiven
 returns-3 c =
     let s = c .before .before .before in
-    let l = c .before .loop in
-    taking-done _ _ (l .i) _ _ _ (l .inv .0) (omega arith) ∙ ap (λ (x : List ℕ). some (take (s .args .count) x)) (three-numbers (l .nodes) (l .inv .1))
+    let l = c .before .loop in (
+      taking-done _ _ (l .i) _ _ _ (l .inv .0) (omega arith) ∙ ap (λ (x : List ℕ). some (take (s .args .count) x)) (three-numbers (l .nodes) (l .inv .1)),
+      λ z. first-zero _ _ (l .i) _ _ _ (l .inv .0) (l .inv .0 .within) z,
+    )
 
 pub give-spec : {M : Type 1} → statement M
 give-spec =

@@ -19,9 +19,6 @@ mul-result c = search needs
 array-read-result : tie.Need-array-read-result
 array-read-result c = search needs
 
-cast-result : tie.Need-cast-result
-cast-result c = search needs
-
 returns-2 : tie.Need-returns-2
 returns-2 c =
     let s = c .before in
@@ -36,5 +33,4 @@ last-given-spec =
     sub-result
     mul-result
     array-read-result
-    cast-result
     returns-2)

@@ -27,30 +27,44 @@ words : (c : tie.After-left-sibling) → length (c .before .node-at .result .now
 words c = let s = c .before .before .before .before .before in ap length (c .before .node-at .ensures) ∙ parent-words (s .args .card .now) (s .args .p) (s .pre .0)
 
 -- the words read are the numbers of the two
-left-read : (c : tie.After-left-sibling) → getD (c .before .node-at .result .now) (12 + c .left-sibling .result) 0 ≡ leftNumber (parentAt (c .before .before .before .before .before .args .card .now) (c .before .before .before .before .before .args .p)) (c .before .before .before .before .before .args .p)
+left-read : (c : tie.After-left-sibling) → getD (c .before .node-at .result .now) (12 + c .left-sibling .result) 0
+    ≡ leftNumber (parentAt (c .before .before .before .before .before .args .card .now) (c .before .before .before .before .before .args .p))
+    (c .before .before .before .before .before .args .p)
 left-read c =
     child-read _ (c .left-sibling .result) _ refl (omega (arith, beside (c)))
     ∙ ap₂ (λ (l : List ℕ) (i : ℕ). getD (children l) i 0) (c .before .node-at .ensures) (c .left-sibling .ensures)
 
-right-read : (c : tie.After-left-sibling) → getD (c .before .node-at .result .now) (13 + c .left-sibling .result) 0 ≡ rightNumber (parentAt (c .before .before .before .before .before .args .card .now) (c .before .before .before .before .before .args .p)) (c .before .before .before .before .before .args .p)
+right-read : (c : tie.After-left-sibling) → getD (c .before .node-at .result .now) (13 + c .left-sibling .result) 0
+    ≡ rightNumber (parentAt (c .before .before .before .before .before .args .card .now) (c .before .before .before .before .before .args .p))
+    (c .before .before .before .before .before .args .p)
 right-read c =
     child-read _ (suc (c .left-sibling .result)) _ (omega arith) (beside (c))
     ∙ ap₂ (λ (l : List ℕ) (i : ℕ). getD (children l) (suc i) 0) (c .before .node-at .ensures) (c .left-sibling .ensures)
 
-key-read : (c : tie.After-left-sibling) → getD (c .before .node-at .result .now) (1 + c .left-sibling .result) 0 ≡ getD (routingKeys (parentAt (c .before .before .before .before .before .args .card .now) (c .before .before .before .before .before .args .p))) (leftSibling (c .before .before .before .before .before .args .p)) 0
+key-read : (c : tie.After-left-sibling) → getD (c .before .node-at .result .now) (1 + c .left-sibling .result) 0
+    ≡ getD (routingKeys (parentAt (c .before .before .before .before .before .args .card .now) (c .before .before .before .before .before .args .p)))
+    (leftSibling (c .before .before .before .before .before .args .p)) 0
 key-read c =
     routing-read _ (c .left-sibling .result) _ (words (c)) refl (beside (c))
     ∙ ap₂ (λ (l : List ℕ) (i : ℕ). getD (routingKeys l) i 0) (c .before .node-at .ensures) (c .left-sibling .ensures)
 
 -- and so are the words of the two
-left-is : (c : tie.After-node-at2) → c .node-at2 .result .now ≡ leftAt (c .before .before .before .before .before .before .before .args .card .now) (c .before .before .before .before .before .before .before .args .p)
+left-is : (c : tie.After-node-at2)
+    → c .node-at2 .result .now ≡ leftAt (c .before .before .before .before .before .before .before .args .card .now)
+    (c .before .before .before .before .before .before .before .args .p)
 left-is c = let s = c .before .before .before .before .before .before .before in c .node-at2 .ensures ∙ ap (nodeAt (s .args .card .now)) (left-read (c .before .before))
 
-right-is : (c : tie.After-node-at3) → c .node-at3 .result .now ≡ rightAt (c .before .before .before .before .before .before .before .before .before .args .card .now) (c .before .before .before .before .before .before .before .before .before .args .p)
-right-is c = let s = c .before .before .before .before .before .before .before .before .before in c .node-at3 .ensures ∙ ap (nodeAt (s .args .card .now)) (right-read (c .before .before .before .before))
+right-is : (c : tie.After-node-at3)
+    → c .node-at3 .result .now ≡ rightAt (c .before .before .before .before .before .before .before .before .before .args .card .now)
+    (c .before .before .before .before .before .before .before .before .before .args .p)
+right-is c =
+    let s = c .before .before .before .before .before .before .before .before .before in
+    c .node-at3 .ensures ∙ ap (nodeAt (s .args .card .now)) (right-read (c .before .before .before .before))
 
 -- internal nodes
-not-leaves : (c : tie.Else1) → kindOf (leftAt (c .before .before .before .before .before .before .before .before .before .before .before .args .card .now) (c .before .before .before .before .before .before .before .before .before .before .before .args .p)) ≡ 1 → ⊥
+not-leaves : (c : tie.Else1)
+    → kindOf (leftAt (c .before .before .before .before .before .before .before .before .before .before .before .args .card .now)
+    (c .before .before .before .before .before .before .before .before .before .before .before .args .p)) ≡ 1 → ⊥
 not-leaves c e = c .if1 .left (ap kindOf (left-is (c .before .before .before .before)) ∙ e)
 
 node-at-requires : tie.Need-node-at-requires
@@ -96,7 +110,9 @@ node-at-requires-3 c κs =
     (omega (arith, l, s .pre .0 .right .pos), omega (arith, l, s .pre .0 .right .fits, s .pre .0 .within .size, s .pre .0 .within .few), omega (arith, l, s .pre .0 .right .fits))
 
 shared-slice-read-if1 : tie.Need-shared-slice-read-if1
-shared-slice-read-if1 c = let s = c .before .before .before .before .before .before .before .before .before .before in omega (arith, ap length (left-is (c .before .before .before)) ∙ left-words (s .args .card .now) (s .args .p) (s .pre .0))
+shared-slice-read-if1 c =
+    let s = c .before .before .before .before .before .before .before .before .before .before in
+    omega (arith, ap length (left-is (c .before .before .before)) ∙ left-words (s .args .card .now) (s .args .p) (s .pre .0))
 
 gather-leaves-requires : tie.Need-gather-leaves-requires
 gather-leaves-requires c κs =
@@ -104,7 +120,13 @@ gather-leaves-requires c κs =
     let k = sym (ap kindOf (left-is (c .before .before .before .before .before .before))) ∙ c .before .before .if1 .taken in (
       ap length (left-is (c .before .before .before .before .before .before)) ∙ left-words (s .args .card .now) (s .args .p) (s .pre .0),
       ap length (right-is (c .before .before .before .before)) ∙ right-words (s .args .card .now) (s .args .p) (s .pre .0),
-      omega (arith, ap (λ (l : List ℕ). length (leafPairs l)) (left-is (c .before .before .before .before .before .before)), ap (λ (l : List ℕ). length (leafPairs l)) (right-is (c .before .before .before .before)), leaves-counted (leftAt (s .args .card .now) (s .args .p)) (rightAt (s .args .card .now) (s .args .p)) k, s .pre .0 .few),
+      omega (
+        arith,
+        ap (λ (l : List ℕ). length (leafPairs l)) (left-is (c .before .before .before .before .before .before)),
+        ap (λ (l : List ℕ). length (leafPairs l)) (right-is (c .before .before .before .before)),
+        leaves-counted (leftAt (s .args .card .now) (s .args .p)) (rightAt (s .args .card .now) (s .args .p)) k,
+        s .pre .0 .few,
+      ),
       s .pre .1,
       s .pre .2,
     )
@@ -124,8 +146,15 @@ gather-inners-requires c κs =
     let k = not-leaves (c .before .before .before) in
     let some = s .pre .0 .inner k in
     let l = ap (λ (x : List ℕ). length (children x)) (left-is (c .before .before .before .before .before .before .before)) in
-    let r = ap (λ (x : List ℕ). length (children x)) (right-is (c .before .before .before .before .before)) in
-    (ap length (left-is (c .before .before .before .before .before .before .before)) ∙ left-words (s .args .card .now) (s .args .p) (s .pre .0), ap length (right-is (c .before .before .before .before .before)) ∙ right-words (s .args .card .now) (s .args .p) (s .pre .0), omega (arith, l, some .0), omega (arith, r, some .1), omega (arith, l, r, inners-counted (leftAt (s .args .card .now) (s .args .p)) (rightAt (s .args .card .now) (s .args .p)) k, s .pre .0 .few), s .pre .1, s .pre .2)
+    let r = ap (λ (x : List ℕ). length (children x)) (right-is (c .before .before .before .before .before)) in (
+      ap length (left-is (c .before .before .before .before .before .before .before)) ∙ left-words (s .args .card .now) (s .args .p) (s .pre .0),
+      ap length (right-is (c .before .before .before .before .before)) ∙ right-words (s .args .card .now) (s .args .p) (s .pre .0),
+      omega (arith, l, some .0),
+      omega (arith, r, some .1),
+      omega (arith, l, r, inners-counted (leftAt (s .args .card .now) (s .args .p)) (rightAt (s .args .card .now) (s .args .p)) k, s .pre .0 .few),
+      s .pre .1,
+      s .pre .2,
+    )
 
 same-length : tie.Need-same-length
 same-length c = search needs
@@ -136,9 +165,12 @@ same-length-2 c = search needs
 returns : tie.Need-returns
 returns c =
     let s = c .before .before .before .before .before .before .before .before .before .before .before .before .before .before .before .before .before .before in
-    let k = sym (ap kindOf (left-is (c .before .before .before .before .before .before .before .before .before .before .before))) ∙ c .before .before .before .before .before .before .before .if1 .taken in
+    let k = sym (ap kindOf (left-is (c .before .before .before .before .before .before .before .before .before .before .before)))
+    ∙ c .before .before .before .before .before .before .before .if1 .taken in
     held-as _ _ _
-    (ap₂ leavesTogether (left-is (c .before .before .before .before .before .before .before .before .before .before .before)) (right-is (c .before .before .before .before .before .before .before .before .before)) ∙ sym (leaves-together (s .args .card .now) (s .args .p) k)) (c .before .before .before .before .gather-leaves .ensures)
+    (ap₂ leavesTogether (left-is (c .before .before .before .before .before .before .before .before .before .before .before))
+    (right-is (c .before .before .before .before .before .before .before .before .before))
+    ∙ sym (leaves-together (s .args .card .now) (s .args .p) k)) (c .before .before .before .before .gather-leaves .ensures)
 
 same-length-3 : tie.Need-same-length-3
 same-length-3 c = search needs
@@ -151,7 +183,10 @@ returns-2 c =
     let s = c .before .before .before .before .before .before .before .before .before .before .before .before .before .before .before .before .before .before .before in
     let k = not-leaves (c .before .before .before .before .before .before .before .before) in
     held-as _ _ _
-    (inners-read (left-is (c .before .before .before .before .before .before .before .before .before .before .before .before)) (key-read (c .before .before .before .before .before .before .before .before .before .before .before .before .before .before)) (right-is (c .before .before .before .before .before .before .before .before .before .before)) ∙ sym (inners-together (s .args .card .now) (s .args .p) k)) (c .before .before .before .before .gather-inners .ensures)
+    (inners-read (left-is (c .before .before .before .before .before .before .before .before .before .before .before .before))
+    (key-read (c .before .before .before .before .before .before .before .before .before .before .before .before .before .before))
+    (right-is (c .before .before .before .before .before .before .before .before .before .before))
+    ∙ sym (inners-together (s .args .card .now) (s .args .p) k)) (c .before .before .before .before .gather-inners .ensures)
 
 pub gather-siblings-spec : {M : Type 1} → statement M
 gather-siblings-spec =

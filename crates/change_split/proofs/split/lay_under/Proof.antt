@@ -58,7 +58,10 @@ slice-write-values : tie.Need-slice-write-values
 slice-write-values c = search needs
 
 same-length : tie.Need-same-length
-same-length c = let w = c .before .before .before .before .before .before .before .before .before .before .before .write-halves in let n = c .before .before .write-node in lent-kept (w .last .0) (n .last .0) 48 24 _ _ (n .kept .0) ∙ w .kept .0
+same-length c =
+    let w = c .before .before .before .before .before .before .before .before .before .before .before .write-halves in
+    let n = c .before .before .write-node in
+    lent-kept (w .last .0) (n .last .0) 48 24 _ _ (n .kept .0) ∙ w .kept .0
 
 returns : tie.Need-returns
 unfolding under changeWords changeLength halves
@@ -75,7 +78,8 @@ returns c =
     (w .ensures ∙ ap (λ (l : List ℕ). l ++ drop 48 (s .args .values .now)) (halves-words both (getD nodes 0 0) (getD nodes 1 0)))
     (w .kept .0) (n .kept .0) (omega (arith, s .pre .1))
     (n .ensures
-    ∙ ap (λ (k : ℕ). nodeImage k (c .before .before .before .before .before .before .before .before .key-between .result ∷ []) (take 2 nodes)) (c .before .before .before .before .before .before .kind-above .ensures)
+    ∙ ap (λ (k : ℕ). nodeImage k (c .before .before .before .before .before .before .before .before .key-between .result ∷ []) (take 2 nodes))
+    (c .before .before .before .before .before .before .kind-above .ensures)
     ∙ ap₂ (λ (k : ℕ) (l : List ℕ). nodeImage (kindAbove link) (k ∷ []) l) (c .before .before .before .before .before .before .before .before .key-between .ensures) (take-two nodes len))
 
 pub lay-under-spec : {M : Type 1} → statement M

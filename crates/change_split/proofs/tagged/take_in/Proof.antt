@@ -37,7 +37,10 @@ routing : (c : tie.After-routing-keys) → length (c .routing-keys .result .now)
 routing c = ap length (c .routing-keys .ensures) ∙ length-routing (c .before .before .before .node-at .result .now) (parent-words (c .before .before .before))
 
 one-key : (c : tie.After-routing-keys2) → length (c .routing-keys2 .result .now) ≡ 1
-one-key c = ap length (c .routing-keys2 .ensures) ∙ length-routing (c .before .before .before .node-at2 .result .now) (node-words (c .before .before .before)) ∙ omega (arith, two (c .before .before .before))
+one-key c =
+    ap length (c .routing-keys2 .ensures)
+    ∙ length-routing (c .before .before .before .node-at2 .result .now) (node-words (c .before .before .before))
+    ∙ omega (arith, two (c .before .before .before))
 
 node-at-requires : tie.Need-node-at-requires
 node-at-requires c κs = search needs
@@ -64,7 +67,12 @@ children-requires : tie.Need-children-requires
 children-requires c κs = parent-words (c .before .before .before .before .before .before .before .before)
 
 add-replaced : tie.Need-add-replaced
-add-replaced c = omega (arith, child (c .before .before .before .before .before .before .before .before), children-le (c .before .before .before .before .before .before .before .before .before .node-at .result .now))
+add-replaced c =
+    omega (
+      arith,
+      child (c .before .before .before .before .before .before .before .before),
+      children-le (c .before .before .before .before .before .before .before .before .before .node-at .result .now),
+    )
 
 children-requires-2 : tie.Need-children-requires-2
 children-requires-2 c κs = node-words (c .before .before .before .before .before .before .before .before)
@@ -96,13 +104,22 @@ returns c =
     let parent = c .before .before .before .before .before .before .before .before .before .before .before .before .before .node-at .ensures in
     let tagged = c .before .before .before .before .before .before .before .before .before .before .before .before .node-at2 .ensures in
     let count = ap (λ (l : List ℕ). length (children l)) parent in
-    let fewer : c .before .before .replaced2 .result - 1 ≡ c .before .before .before .before .before .before .before .before .replaced .result = omega (arith, c .before .before .before .before .before .before .before .before .replaced .ensures .0, c .before .before .replaced2 .ensures .0) in (
+    let fewer : c .before .before .replaced2 .result - 1 ≡ c .before .before .before .before .before .before .before .before .replaced .result =
+    omega (arith, c .before .before .before .before .before .before .before .before .replaced .ensures .0, c .before .before .replaced2 .ensures .0) in (
       omega (arith, c .before .before .replaced2 .ensures .0),
       ap (λ (n : ℕ). take n (c .before .before .before .before .before .before .before .before .replaced .last .0)) fewer
-          ∙ keys-joined (c .before .before .before .before .before .before .before .before .before .before .before .before .before .node-at .result .now) (c .before .before .before .before .before .before .before .before .before .before .before .before .node-at2 .result .now) _ _ (c .before .before .before .before .before .before .before .before .replaced .last .0) i (c .before .before .before .before .before .before .before .before .replaced .result) (c .before .before .before .before .before .before .before .before .before .before .routing-keys .ensures)
+          ∙ keys-joined
+          (c .before .before .before .before .before .before .before .before .before .before .before .before .before .node-at .result .now)
+          (c .before .before .before .before .before .before .before .before .before .before .before .before .node-at2 .result .now) _ _
+          (c .before .before .before .before .before .before .before .before .replaced .last .0) i
+          (c .before .before .before .before .before .before .before .before .replaced .result)
+          (c .before .before .before .before .before .before .before .before .before .before .routing-keys .ensures)
           (c .before .before .before .before .before .before .before .before .before .routing-keys2 .ensures) (c .before .before .before .before .before .before .before .before .replaced .ensures .1)
           ∙ ap₂ (λ (x y : List ℕ). joinedKeys x i y) parent tagged,
-      children-joined (c .before .before .before .before .before .before .before .before .before .before .before .before .before .node-at .result .now) (c .before .before .before .before .before .before .before .before .before .before .before .before .node-at2 .result .now) _ _ (c .before .before .replaced2 .last .0) i (c .before .before .replaced2 .result) (c .before .before .before .before .children .ensures)
+      children-joined (c .before .before .before .before .before .before .before .before .before .before .before .before .before .node-at .result .now)
+          (c .before .before .before .before .before .before .before .before .before .before .before .before .node-at2 .result .now) _ _
+          (c .before .before .replaced2 .last .0) i (c .before .before .replaced2 .result)
+          (c .before .before .before .before .children .ensures)
           (c .before .before .before .children2 .ensures) (c .before .before .replaced2 .ensures .1)
           ∙ ap₂ (λ (x y : List ℕ). joinedChildren x i y) parent tagged,
     )

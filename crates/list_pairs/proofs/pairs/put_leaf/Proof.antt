@@ -53,8 +53,13 @@ loop-again : tie.Need-loop-again Inv-loop μ-loop
 loop-again c =
     let s = c .before .before .before .before .before .before .before .before .before .before in
     let l = c .before .before .before .before .before .before .before .loop in
-    let k = c .before .before .put-slot in
-    (search needs, omega (arith, k .kept .0, k .ensures .1), omega (arith, k .kept .0, l .inv .2), l .inv .3 ∙ leaf-laid (s .args .node .now) (s .pre .0) (l .i) (omega arith) (laid (l .next) (l .out)) ∙ ap (layPairs (leafFrom (s .args .node .now) (l .i + 1))) (sym (k .ensures .0)))
+    let k = c .before .before .put-slot in (
+      search needs,
+      omega (arith, k .kept .0, k .ensures .1),
+      omega (arith, k .kept .0, l .inv .2),
+      l .inv .3 ∙ leaf-laid (s .args .node .now) (s .pre .0) (l .i) (omega arith) (laid (l .next) (l .out))
+          ∙ ap (layPairs (leafFrom (s .args .node .now) (l .i + 1))) (sym (k .ensures .0)),
+    )
 
 same-length : tie.Need-same-length Inv-loop μ-loop
 same-length c = search needs
@@ -62,8 +67,11 @@ same-length c = search needs
 returns : tie.Need-returns Inv-loop μ-loop
 returns c =
     let s = c .before .before .before .before in
-    let l = c .before .loop in
-    (lay-none (laid (l .next) (l .out)) ∙ ap (λ (ps : List (ℕ × ℕ)). layPairs ps (laid (l .next) (l .out))) (sym (leaf-end (s .args .node .now) (s .pre .0) (l .i) (omega arith))) ∙ sym (l .inv .3), omega (arith, l .inv .1, l .inv .2))
+    let l = c .before .loop in (
+      lay-none (laid (l .next) (l .out)) ∙ ap (λ (ps : List (ℕ × ℕ)). layPairs ps (laid (l .next) (l .out)))
+          (sym (leaf-end (s .args .node .now) (s .pre .0) (l .i) (omega arith))) ∙ sym (l .inv .3),
+      omega (arith, l .inv .1, l .inv .2),
+    )
 
 pub put-leaf-spec : {M : Type 1} → statement M
 put-leaf-spec =

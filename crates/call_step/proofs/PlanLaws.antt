@@ -1,0 +1,122 @@
+-- Laws of a change that is planned in a block: its words, its stores, and where the first of them goes.
+use mathlib.Core.Path.{_≡_, refl, sym, ap, _∙_}
+use mathlib.Core.List.{List, [], _∷_, _++_, map, zip, zipWith, append-assoc}
+use Prim.Native.Nat.{ℕ, suc, _<_}
+use native.Mathlib.Omega.{arith}
+use lib.ListN.{length, getD, take, drop, length-append, length-take}
+use lib.Seq.{drop-at, drop-drop}
+use Rattle.laws.specs.Lists.{pad}
+use Rattle.card_free.specs.NodeSet.{wordCount, nodesOf}
+use Rattle.change_decide.specs.declared.Decision.{Decision}
+use Rattle.change_plan.specs.Planning.{withoutAll, lastOf}
+use Rattle.change_layout.specs.LayOut.{needed, storeCount, cutBy, placesBy, wordsBy, storesBy}
+use Rattle.change_layout.proofs.LayOutLaws.{length-by}
+use Rattle.state.specs.Block.{stateWords, blockWord, part, doingWords, headWords}
+use Rattle.state.specs.Blocks.{wordsOf}
+use Rattle.state.specs.declared.Doing.{Doing}
+use Rattle.state.specs.declared.State.{State}
+use Rattle.state.proofs.Rows.{placed, placed-length, placed-before, same-part}
+use Rattle.call_step.specs.StepBlocks.{atFront, plannedBlock, plannedOver}
+
+-- ---- the rows and the words of the free nodes, stored one after the other
+
+module _ (b x : List ℕ) (long : length b ≡ stateWords) (lx : length x ≡ 73) where
+  -- the block with the places
+  abbrev withPlaces : List ℕ
+  withPlaces = placed 31 73 b x
+
+  pub places-length : length withPlaces ≡ stateWords
+  places-length = placed-length b x 31 73 lx (omega arith) ∙ long
+
+  -- what was there before in the part that is stored next
+  pub values-stood : part withPlaces 104 73 ≡ part b 104 73
+  values-stood =
+      let rest : List ℕ = drop 73 (drop 31 b) in
+      let front : length (take 31 b ++ x) ≡ 104 = omega (arith, length-append (take 31 b) x, length-take 31 b) in
+      ap (take 73) (ap (drop 104) (sym (append-assoc (take 31 b) x rest)) ∙ drop-at (take 31 b ++ x) rest 104 front ∙ drop-drop 73 31 b)
+
+  module _ (y : List ℕ) (ly : length y ≡ 73) where
+    -- with the values too
+    abbrev withValues : List ℕ
+    withValues = placed 104 73 withPlaces y
+
+    pub values-length : length withValues ≡ stateWords
+    values-length = placed-length withPlaces y 104 73 ly (omega (arith, places-length)) ∙ places-length
+
+    pub free-stood : part withValues 11 20 ≡ part b 11 20
+    free-stood =
+        same-part withValues b 11 20 (values-length ∙ sym long)
+        (λ j h k. placed-before withPlaces y 104 73 ly (omega (arith, places-length)) j (omega arith)
+        ∙ placed-before b x 31 73 lx (omega arith) j (omega arith))
+
+    -- and with the free nodes: the head is still as it was
+    pub word-stood : (z : List ℕ) → length z ≡ 20 → (j : ℕ) → j < 11 → blockWord (placed 11 20 withValues z) j ≡ blockWord b j
+    word-stood z lz j h =
+        placed-before withValues z 11 20 lz (omega (arith, values-length)) j h
+        ∙ placed-before withPlaces y 104 73 ly (omega (arith, places-length)) j (omega arith)
+        ∙ placed-before b x 31 73 lx (omega arith) j (omega arith)
+
+-- ---- the stores of two rows
+
+zip-places : (x y : List ℕ) → length x ≡ length y → map (λ s. s .0) (zip x y) ≡ x
+unfolding zip zipWith
+zip-places [] [] e = refl
+zip-places [] (b ∷ y) e = absurd (omega arith)
+zip-places (a ∷ x) [] e = absurd (omega arith)
+zip-places (a ∷ x) (b ∷ y) e = ap (λ (l : List ℕ). a ∷ l) (zip-places x y (omega arith))
+
+zip-values : (x y : List ℕ) → length x ≡ length y → map (λ s. s .1) (zip x y) ≡ y
+unfolding zip zipWith
+zip-values [] [] e = refl
+zip-values [] (b ∷ y) e = absurd (omega arith)
+zip-values (a ∷ x) [] e = absurd (omega arith)
+zip-values (a ∷ x) (b ∷ y) e = ap (λ (l : List ℕ). b ∷ l) (zip-values x y (omega arith))
+
+zip-length : (x y : List ℕ) → length x ≡ length y → length (zip x y) ≡ length x
+unfolding zip zipWith
+zip-length [] [] e = refl
+zip-length [] (b ∷ y) e = absurd (omega arith)
+zip-length (a ∷ x) [] e = absurd (omega arith)
+zip-length (a ∷ x) (b ∷ y) e = ap suc (zip-length x y (omega arith))
+
+pub zip-first : (x y : List ℕ) → length x ≡ length y → getD (zip x y) 0 (0, 0) ≡ (getD x 0 0, getD y 0 0)
+unfolding zip zipWith
+zip-first [] [] e = refl
+zip-first [] (b ∷ y) e = absurd (omega arith)
+zip-first (a ∷ x) [] e = absurd (omega arith)
+zip-first (a ∷ x) (b ∷ y) e = refl
+
+-- ---- the words of the block
+
+words-same : (doing : Doing) {n m l k i j : ℕ} {c d u v p q r s : List ℕ} → n ≡ m → l ≡ k → i ≡ j → c ≡ d → u ≡ v → p ≡ q → r ≡ s
+    → n ∷ l ∷ doingWords doing ++ (0 ∷ i ∷ c ++ (u ++ (p ++ r))) ≡ m ∷ k ∷ doingWords doing ++ (0 ∷ j ∷ d ++ (v ++ (q ++ s)))
+words-same doing e f g h o t w = rw (e, f, g, h, o, t, w)
+
+module _ (card b : List ℕ) (doing : Doing) (d : Decision) (ms : List ℕ) (three : length ms ≡ 3)
+    (count : length (wordsBy card d ms) ≡ storeCount d) where
+  same-count : length (placesBy d ms) ≡ length (wordsBy card d ms)
+  same-count = length-by d ms three ∙ sym count
+
+  stores-count : length (storesBy card d ms) ≡ storeCount d
+  stores-count = zip-length (placesBy d ms) (wordsBy card d ms) same-count ∙ length-by d ms three
+
+  -- a row that begins with the places, and one that begins with the words
+  places-front : (row : List ℕ) → atFront (map (λ s. s .0) (storesBy card d ms)) row ≡ placesBy d ms ++ drop (storeCount d) row
+  places-front row =
+      ap (λ (l : List ℕ). atFront l row) (zip-places (placesBy d ms) (wordsBy card d ms) same-count)
+      ∙ ap (λ (k : ℕ). placesBy d ms ++ drop k row) (length-by d ms three)
+
+  values-front : (row : List ℕ) → atFront (map (λ s. s .1) (storesBy card d ms)) row ≡ wordsBy card d ms ++ drop (storeCount d) row
+  values-front row =
+      ap (λ (l : List ℕ). atFront l row) (zip-values (placesBy d ms) (wordsBy card d ms) same-count)
+      ∙ ap (λ (k : ℕ). wordsBy card d ms ++ drop k row) count
+
+  pub plan-stored : (head : State) (x y z after : List ℕ) → head .nodes ≡ blockWord b 0 → head .last ≡ lastOf (blockWord b 1) (take (needed d) ms)
+      → head .doing ≡ doing → head .made ≡ 0 → head .count ≡ storeCount d → head .cut ≡ pad 3 (cutBy card d) → after ≡ z ++ (x ++ y)
+      → x ≡ placesBy d ms ++ drop (storeCount d) (part b 31 73) → y ≡ wordsBy card d ms ++ drop (storeCount d) (part b 104 73)
+      → z ≡ wordsOf wordCount (withoutAll (take (needed d) ms) (nodesOf (part b 11 20))) → headWords head ++ after ≡ plannedOver card b doing d ms
+  unfolding headWords plannedOver plannedBlock
+  plan-stored head x y z after en el ed em ec ecut ea ex ey ez =
+      rw (ed, em, ea)
+      (ap (λ (l : List ℕ). head .nodes ∷ head .last ∷ l) (append-assoc (doingWords doing) (0 ∷ head .count ∷ head .cut) (z ++ (x ++ y)))
+      ∙ words-same doing en el (ec ∙ sym stores-count) ecut ez (ex ∙ sym (places-front (part b 31 73))) (ey ∙ sym (values-front (part b 104 73))))

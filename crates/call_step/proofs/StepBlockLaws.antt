@@ -1,0 +1,340 @@
+-- Laws of StepBlocks: what a block holds that is left idle, formatting, with a store of the plan made, or with a change planned.
+use mathlib.Core.Path.{_≡_, refl, sym, ap, ap₂, subst, _∙_}
+use mathlib.Core.Bool.{Bool, true}
+use mathlib.Core.List.{List, [], _∷_, _++_, zip, zipWith, map}
+use Prim.Native.Nat.{ℕ, _-_, _≤_}
+use native.Mathlib.Omega.{arith}
+use lib.ListN.{length, getD, set, take, drop, replicate, length-append, length-map, length-take, length-drop, length-set, length-replicate}
+use lib.Seq.{take-at, drop-at, drop-drop, take-all}
+use lib.Dec.{eqb}
+use borrow.Author.Tests.{eqb-true}
+use Rattle.laws.proofs.Cases.{bool-cases}
+use Rattle.laws.specs.Lists.{pad, beforeZero}
+use Rattle.card.specs.Stores.{Store}
+use Rattle.card_free.specs.NodeSet.{wordCount, capacity, nodesOf}
+use Rattle.card_free.proofs.NodeSetLaws.{length-nodes}
+use Rattle.change_plan.specs.Plan.{storesOf}
+use Rattle.change_plan.specs.Planning.{withAll}
+use Rattle.state.specs.Memory.{Memory, idled, settledPhase, settled, advanced}
+use Rattle.state.specs.Steps.{formattingFrom}
+use Rattle.state.specs.Block.{stateWords, blockWord, part, phaseIn, doingIn, memoryIn, doingWords}
+use Rattle.state.specs.Blocks.{over, wordsOf}
+use Rattle.state.specs.declared.Doing.{Doing}
+use Rattle.state.specs.declared.Doing.the-variants.{Inserting, Deleting}
+use Rattle.state.specs.declared.Phase.{Phase}
+use Rattle.state.proofs.Rows.{three, placed}
+use Rattle.state.proofs.Blocks.{by-head, words-each, doing-read, nodes-words, length-words, over-placed}
+use Rattle.state.proofs.StepLaws.{advance-same}
+use Rattle.call_step.specs.Calls.{planning}
+use Rattle.call_step.specs.StepBlocks.{idledBlock, settledWord, playedBlock, atFront, plannedBlock}
+
+-- ---- the final answer
+
+pub memory-idled : (b : List ℕ) → length b ≡ stateWords → memoryIn (idledBlock b) ≡ idled (memoryIn b)
+unfolding idledBlock memoryIn idled doingIn storesOf zip zipWith
+memory-idled b l =
+    by-head (λ (x : List ℕ). memoryIn (idledBlock x) ≡ idled (memoryIn x)) b (omega arith) (λ n last c d e f g i j k m rest. refl)
+
+-- ---- formatting
+
+pub memory-formatting : (b : List ℕ) (v : ℕ) → length b ≡ stateWords → blockWord b 2 ≡ 1 → memoryIn (set b 3 v) ≡ formattingFrom (memoryIn b) v
+unfolding memoryIn formattingFrom doingIn
+memory-formatting b v l =
+    by-head (λ (x : List ℕ). blockWord x 2 ≡ 1 → memoryIn (set x 3 v) ≡ formattingFrom (memoryIn x) v) b (omega arith)
+    (λ n last c d e f g i j k m rest h.
+    ap
+    (λ (w : ℕ). record {
+      nodes = n;
+      free = nodesOf (take 20 rest);
+      last = last;
+      doing = doingIn w v e f;
+      rest = drop g (storesOf (take 73 (drop 20 rest)) (take 73 (drop 93 rest)) i);
+      cut = beforeZero (j ∷ k ∷ m ∷ []);
+    }) h)
+
+-- ---- a store of the plan
+
+-- other words of free nodes
+module _ (words rest : List ℕ) (l : length words ≡ 20) where
+  abbrev freed : List ℕ
+  freed = words ++ drop 20 rest
+
+  freed-words : take 20 freed ≡ words
+  freed-words = take-at words (drop 20 rest) 20 l
+
+  freed-rows : drop 20 freed ≡ drop 20 rest
+  freed-rows = drop-at words (drop 20 rest) 20 l
+
+  freed-values : drop 93 freed ≡ drop 93 rest
+  freed-values = sym (drop-drop 73 20 freed) ∙ ap (drop 73) freed-rows ∙ drop-drop 73 20 rest
+
+-- the last one: how far the update is, the free nodes and the nodes cut out are others
+abbrev lastPlayed : List ℕ → List ℕ → ℕ → ℕ → Memory
+lastPlayed b words made phase =
+    record {
+      nodes = memoryIn b .nodes;
+      free = nodesOf words;
+      last = memoryIn b .last;
+      doing = doingIn (blockWord b 2) (blockWord b 3) (blockWord b 4) phase;
+      rest = drop made (storesOf (part b 31 73) (part b 104 73) (blockWord b 7));
+      cut = [];
+    }
+
+last-played : (b words : List ℕ) (made phase : ℕ) → length b ≡ stateWords → length words ≡ 20
+    → memoryIn (over (set (set b 6 made) 5 phase) 8 (0 ∷ 0 ∷ 0 ∷ words)) ≡ lastPlayed b words made phase
+unfolding memoryIn
+last-played b words made phase l w =
+    let long : length (0 ∷ 0 ∷ 0 ∷ words) ≡ 23 = omega arith in
+    ap memoryIn (over-placed (set (set b 6 made) 5 phase) (0 ∷ 0 ∷ 0 ∷ words) 8 23 long)
+    ∙ by-head (λ (x : List ℕ). memoryIn (placed 8 23 (set (set x 6 made) 5 phase) (0 ∷ 0 ∷ 0 ∷ words)) ≡ lastPlayed x words made phase)
+    b (omega arith)
+    (λ n last c d e f g i j k m rest.
+    let with : List ℕ → List ℕ → List ℕ → Memory = λ x y z. record {
+      nodes = n;
+      free = nodesOf x;
+      last = last;
+      doing = doingIn c d e phase;
+      rest = drop made (storesOf (take 73 y) (take 73 z) i);
+      cut = [];
+    } in
+    ap (λ (x : List ℕ). with x (drop 20 (freed words rest w)) (drop 93 (freed words rest w))) (freed-words words rest w)
+    ∙ ap₂ (λ (y z : List ℕ). with words y z) (freed-rows words rest w) (freed-values words rest w))
+
+-- one more is made
+on-played : (b : List ℕ) (made : ℕ) → length b ≡ stateWords
+    → memoryIn (set b 6 made)
+    ≡ record {
+      nodes = memoryIn b .nodes;
+      free = memoryIn b .free;
+      last = memoryIn b .last;
+      doing = memoryIn b .doing;
+      rest = drop made (storesOf (part b 31 73) (part b 104 73) (blockWord b 7));
+      cut = memoryIn b .cut;
+    }
+unfolding memoryIn
+on-played b made l =
+    by-head
+    (λ (x : List ℕ). memoryIn (set x 6 made)
+    ≡ record {
+      nodes = memoryIn x .nodes;
+      free = memoryIn x .free;
+      last = memoryIn x .last;
+      doing = memoryIn x .doing;
+      rest = drop made (storesOf (part x 31 73) (part x 104 73) (blockWord x 7));
+      cut = memoryIn x .cut;
+    })
+    b (omega arith) (λ n last c d e f g i j k m rest. refl)
+
+-- whatever is being done, word 5 after the last store of a change says what `settled` says
+settled-phase : (w : ℕ) → phaseIn (settledWord w) ≡ settledPhase (phaseIn w)
+unfolding phaseIn settledPhase
+settled-phase w =
+    bool-cases (eqb w 1)
+    (λ y. subst (λ (x : ℕ). phaseIn (settledWord x) ≡ settledPhase (phaseIn x)) (sym (eqb-true w 1 y)) refl)
+    (λ n. bool-cases (eqb w 0) (λ y. rw (n, y) refl) (λ z. rw n (rw (z, n) refl)))
+
+settled-read : (what x y w : ℕ) → doingIn what x y (settledWord w) ≡ settled (doingIn what x y w)
+unfolding doingIn settled
+settled-read what x y w =
+    bool-cases (eqb what 1) (λ h. rw h refl)
+    (λ n. bool-cases (eqb what 2) (λ h. rw (n, h) (ap (Inserting x y) (settled-phase w)))
+    (λ n₂. bool-cases (eqb what 3) (λ h. rw (n, n₂, h) (ap (λ (p : Phase). Deleting x p y) (settled-phase w)))
+    (λ n₃. bool-cases (eqb what 4) (λ h. rw (n, n₂, n₃, h) refl) (λ n₄. rw (n, n₂, n₃, n₄) refl))))
+
+-- as many bits as before
+pub length-with-all : (ms : List ℕ) (free : List Bool) → length (withAll ms free) ≡ length free
+unfolding withAll
+length-with-all [] free = refl
+length-with-all (m ∷ ms) free = length-with-all ms (set free m true) ∙ length-set free m true
+
+pub memory-played : (b : List ℕ) (made : ℕ) (rest : List Store) → length b ≡ stateWords
+    → rest ≡ drop made (storesOf (part b 31 73) (part b 104 73) (blockWord b 7)) → memoryIn (playedBlock b made rest) ≡ advanced (memoryIn b) rest
+unfolding playedBlock advanced memoryIn
+memory-played b made (s ∷ rest) l e =
+    on-played b made l
+    ∙ ap
+    (λ (r : List Store). record {
+      nodes = memoryIn b .nodes;
+      free = memoryIn b .free;
+      last = memoryIn b .last;
+      doing = memoryIn b .doing;
+      rest = r;
+      cut = memoryIn b .cut;
+    }) (sym e)
+memory-played b made [] l e =
+    let bits : List Bool = withAll (beforeZero (part b 8 3)) (nodesOf (part b 11 20)) in
+    let twenty : length (part b 11 20) ≡ 20 = omega (arith, length-take 20 (drop 11 b), length-drop 11 b) in
+    let full : length bits ≡ capacity =
+    omega (arith, length-with-all (beforeZero (part b 8 3)) (nodesOf (part b 11 20)), length-nodes (part b 11 20)) in
+    last-played b (wordsOf wordCount bits) made (settledWord (blockWord b 5)) l (length-words wordCount bits)
+    ∙ ap₂
+    (λ (free : List Bool) (r : List Store). record {
+      nodes = memoryIn b .nodes;
+      free = free;
+      last = memoryIn b .last;
+      doing = doingIn (blockWord b 2) (blockWord b 3) (blockWord b 4) (settledWord (blockWord b 5));
+      rest = r;
+      cut = [];
+    }) (nodes-words wordCount bits full) (sym e)
+    ∙ ap
+    (λ (doing : Doing). record {
+      nodes = memoryIn b .nodes;
+      free = bits;
+      last = memoryIn b .last;
+      doing = doing;
+      rest = [];
+      cut = [];
+    }) (settled-read (blockWord b 2) (blockWord b 3) (blockWord b 4) (blockWord b 5))
+
+-- ---- a change planned
+
+-- a change that the words of a block can hold
+pub record Plannable (stores : List Store) (free : List Bool) (cut : List ℕ) : Type 0 where
+  pub short : length stores ≤ 73
+  pub full : length free ≡ capacity
+  pub few : length cut ≤ 3
+  pub readable : beforeZero (pad 3 cut) ≡ cut
+
+zip-parts : (ss : List Store) → zip (map (λ (s : Store). s .0) ss) (map (λ (s : Store). s .1) ss) ≡ ss
+unfolding zip zipWith
+zip-parts [] = refl
+zip-parts (s ∷ ss) = ap (λ (r : List Store). s ∷ r) (zip-parts ss)
+
+-- a block of these words
+abbrev written : ℕ → ℕ → List ℕ → ℕ → List ℕ → List ℕ → List ℕ → List ℕ → List ℕ
+written n last doing count cut free places values = n ∷ last ∷ doing ++ (0 ∷ count ∷ cut ++ (free ++ (places ++ values)))
+
+-- its free nodes and rows
+module _ (free places values : List ℕ) (lf : length free ≡ 20) (lp : length places ≡ 73) (lv : length values ≡ 73) where
+  abbrev tail : List ℕ
+  tail = free ++ (places ++ values)
+
+  tail-free : take 20 tail ≡ free
+  tail-free = take-at free (places ++ values) 20 lf
+
+  tail-rows : drop 20 tail ≡ places ++ values
+  tail-rows = drop-at free (places ++ values) 20 lf
+
+  tail-places : take 73 (drop 20 tail) ≡ places
+  tail-places = ap (take 73) tail-rows ∙ take-at places values 73 lp
+
+  tail-values : take 73 (drop 93 tail) ≡ values
+  tail-values =
+      ap (take 73) (sym (drop-drop 73 20 tail) ∙ ap (drop 73) tail-rows ∙ drop-at places values 73 lp) ∙ take-all 73 values (omega arith)
+
+  tail-length : length tail ≡ 166
+  tail-length = omega (arith, length-append free (places ++ values), length-append places values)
+
+length-front : (words row : List ℕ) → length words ≤ 73 → length row ≡ 73 → length (atFront words row) ≡ 73
+length-front words row h l = omega (arith, length-append words (drop (length words) row), length-drop (length words) row)
+
+module _ (b : List ℕ) (doing : Doing) (stores : List Store) (free : List Bool) (last : ℕ) (cut : List ℕ)
+    (l : length b ≡ stateWords) (h : Plannable stores free cut) where
+  abbrev places : List ℕ
+  places = map (λ (s : Store). s .0) stores
+
+  abbrev values : List ℕ
+  values = map (λ (s : Store). s .1) stores
+
+  abbrev placesRow : List ℕ
+  placesRow = atFront places (part b 31 73)
+
+  abbrev valuesRow : List ℕ
+  valuesRow = atFront values (part b 104 73)
+
+  places-long : length places ≡ length stores
+  places-long = length-map stores (λ (s : Store). s .0)
+
+  values-long : length values ≡ length stores
+  values-long = length-map stores (λ (s : Store). s .1)
+
+  places-row : length placesRow ≡ 73
+  places-row =
+      length-front places (part b 31 73) (omega (arith, places-long, h .short)) (omega (arith, length-take 73 (drop 31 b), length-drop 31 b))
+
+  values-row : length valuesRow ≡ 73
+  values-row =
+      length-front values (part b 104 73) (omega (arith, values-long, h .short)) (omega (arith, length-take 73 (drop 104 b), length-drop 104 b))
+
+  cut-long : length (pad 3 cut) ≡ 3
+  cut-long = omega (arith, length-append cut (replicate (3 - length cut) 0), length-replicate {A = ℕ} (3 - length cut) 0, h .few)
+
+  abbrev doingWord : ℕ → ℕ
+  doingWord i = getD (doingWords doing) i 0
+
+  abbrev cutWord : ℕ → ℕ
+  cutWord i = getD (pad 3 cut) i 0
+
+  cut-each : cutWord 0 ∷ cutWord 1 ∷ cutWord 2 ∷ [] ≡ pad 3 cut
+  cut-each = three (pad 3 cut) 0 (omega (arith, cut-long)) ∙ take-all 3 (pad 3 cut) (omega (arith, cut-long))
+
+  abbrev planned : List ℕ
+  planned = plannedBlock b doing stores free last cut
+
+  -- word by word, as far as what is being done and the nodes cut out
+  abbrev inWords : List ℕ
+  inWords =
+      written (blockWord b 0) last (doingWord 0 ∷ doingWord 1 ∷ doingWord 2 ∷ doingWord 3 ∷ []) (length stores)
+      (cutWord 0 ∷ cutWord 1 ∷ cutWord 2 ∷ []) (wordsOf wordCount free) placesRow valuesRow
+
+  in-words : inWords ≡ planned
+  unfolding plannedBlock
+  in-words =
+      ap₂ (λ (d c : List ℕ). written (blockWord b 0) last d (length stores) c (wordsOf wordCount free) placesRow valuesRow) (words-each doing) cut-each
+
+  pub planned-length : length planned ≡ stateWords
+  planned-length =
+      let long : length inWords ≡ stateWords =
+      omega (arith, tail-length (wordsOf wordCount free) placesRow valuesRow (length-words wordCount free) places-row values-row) in
+      ap length (sym in-words) ∙ long
+
+  rows-read : storesOf placesRow valuesRow (length stores) ≡ stores
+  unfolding storesOf
+  rows-read =
+      ap₂ (λ (x y : List ℕ). zip x y)
+      (take-at places (drop (length places) (part b 31 73)) (length stores) places-long)
+      (take-at values (drop (length values) (part b 104 73)) (length stores) values-long)
+      ∙ zip-parts stores
+
+  stores-in : storesOf (part inWords 31 73) (part inWords 104 73) (blockWord inWords 7) ≡ stores
+  stores-in =
+      ap₂ (λ (x y : List ℕ). storesOf x y (length stores))
+      (tail-places (wordsOf wordCount free) placesRow valuesRow (length-words wordCount free) places-row values-row)
+      (tail-values (wordsOf wordCount free) placesRow valuesRow (length-words wordCount free) places-row values-row)
+      ∙ rows-read
+
+  pub planned-stores : storesOf (part planned 31 73) (part planned 104 73) (blockWord planned 7) ≡ stores
+  planned-stores = ap (λ (x : List ℕ). storesOf (part x 31 73) (part x 104 73) (blockWord x 7)) (sym in-words) ∙ stores-in
+
+  pub memory-planned : memoryIn planned ≡ record { nodes = memoryIn b .nodes; free = free; last = last; doing = doing; rest = stores; cut = cut }
+  unfolding memoryIn
+  memory-planned =
+      ap memoryIn (sym in-words)
+      ∙ ap₂
+      (λ (f : List ℕ) (ss : List Store). record {
+        nodes = blockWord b 0;
+        free = nodesOf f;
+        last = last;
+        doing = doingIn (doingWord 0) (doingWord 1) (doingWord 2) (doingWord 3);
+        rest = ss;
+        cut = beforeZero (cutWord 0 ∷ cutWord 1 ∷ cutWord 2 ∷ []);
+      })
+      (tail-free (wordsOf wordCount free) placesRow valuesRow (length-words wordCount free) places-row values-row) stores-in
+      ∙ ap₂ (λ (f : List Bool) (d : Doing). record {
+        nodes = blockWord b 0;
+        free = f;
+        last = last;
+        doing = d;
+        rest = stores;
+        cut = beforeZero (cutWord 0 ∷ cutWord 1 ∷ cutWord 2 ∷ []);
+      }) (nodes-words wordCount free (h .full)) (doing-read doing)
+      ∙ ap (λ (c : List ℕ). record { nodes = blockWord b 0; free = free; last = last; doing = doing; rest = stores; cut = c })
+      (ap beforeZero cut-each ∙ h .readable)
+
+  -- and its first store made
+  pub memory-first-stored : memoryIn (playedBlock planned 1 (drop 1 stores)) ≡ advanced (planning (memoryIn b) doing free last cut) (drop 1 stores)
+  unfolding planning
+  memory-first-stored =
+      memory-played planned 1 (drop 1 stores) planned-length (ap (drop 1) (sym planned-stores))
+      ∙ ap (λ (m : Memory). advanced m (drop 1 stores)) memory-planned
+      ∙ advance-same (planning (memoryIn b) doing free last cut) stores (drop 1 stores)

@@ -1,0 +1,29 @@
+-- `call_step::is_sized` meets its contract.
+use native.Mathlib.Omega.{arith}
+use borrow.Author.Tests.{eqb-true, eqb-false}
+use Rattle.laws.proofs.Cases.{impossible}
+use borrow.Author.Needs.{needs}
+use Rattle.call_step.proofs.is_sized.Statement.{statement}
+use Rattle.call_step.proofs.is_sized.Tie as tie
+
+returns : tie.Need-returns
+returns c = ((λ e. impossible (cc)), (λ e z. omega (arith, z .least, c .if1 .taken)))
+
+returns-2 : tie.Need-returns-2
+returns-2 c = ((λ e. impossible (cc)), (λ e z. omega (arith, z .most, c .if2 .taken)))
+
+mul-result : tie.Need-mul-result
+mul-result c = search needs
+
+add-result : tie.Need-add-result
+add-result c = search needs
+
+returns-3 : tie.Need-returns-3
+returns-3 c =
+    let s = c .before .before in (
+      (λ e. record { words = eqb-true _ _ e; least = c .before .if1 .left; most = c .if2 .left }),
+      (λ e z. eqb-false _ _ e (z .words)),
+    )
+
+pub is-sized-spec : {M : Type 1} → statement M
+is-sized-spec = tie.close (tie.spec returns returns-2 mul-result add-result returns-3)

@@ -1,0 +1,97 @@
+-- Laws of a row filled word by word, and of parts of a block stored anew.
+use mathlib.Core.Path.{_≡_, sym, ap, ap₂, _∙_}
+use mathlib.Core.List.{List, [], _∷_, _++_, append-assoc, append-nil}
+use Prim.Native.Nat.{ℕ, suc, _+_, _-_, _≤_, _<_, min}
+use native.Mathlib.Omega.{arith}
+use native.Mathlib.Numerals.{add-one}
+use lib.ListN.{length, getD, take, drop, set, length-append, length-take, length-drop, drop-of-length-le, List·getD-append}
+use lib.Seq.{take-at, drop-at, drop-drop, drop-cons, take-suc, take-suc-set, take-all, getD-take, getD-drop, ext-getD}
+use Rattle.state.specs.Block.{part}
+
+-- ---- a row filled word by word
+
+pub copy-more : (row from : List ℕ) (i : ℕ) → i < length row → i < length from → take i row ≡ take i from → take (i + 1) (set row i (getD from i 0)) ≡ take (i + 1) from
+copy-more row from i h k e = rw (add-one i) (take-suc-set row i (getD from i 0) h ∙ ap (λ (l : List ℕ). l ++ getD from i 0 ∷ []) e ∙ sym (take-suc from i 0 k))
+
+pub copy-all : (n : ℕ) (row from : List ℕ) → length row ≡ n → length from ≡ n → take n row ≡ take n from → row ≡ from
+copy-all n row from e f h = sym (take-all n row (omega arith)) ∙ h ∙ take-all n from (omega arith)
+
+-- three words of a block, one by one
+pub three : (block : List ℕ) (i : ℕ) → i + 3 ≤ length block → getD block i 0 ∷ getD block (i + 1) 0 ∷ getD block (i + 2) 0 ∷ [] ≡ part block i 3
+three block i h =
+    let e : i + 1 ≡ suc i = omega arith in
+    let f : i + 2 ≡ suc (suc i) = omega arith in
+    rw (e, f)
+    (sym (ap (take 3) (drop-cons block i 0 (omega arith)) ∙ ap (λ (l : List ℕ). getD block i 0 ∷ take 2 l) (drop-cons block (suc i) 0 (omega arith))
+    ∙ ap (λ (l : List ℕ). getD block i 0 ∷ getD block (suc i) 0 ∷ take 1 l) (drop-cons block (suc (suc i)) 0 (omega arith))))
+
+-- ---- parts of a block stored one after the other
+
+-- the list with other words in the place of `count` words from word `from` on
+abbrev pub placed : ℕ → ℕ → List ℕ → List ℕ → List ℕ
+placed from count xs ys = take from xs ++ (ys ++ drop count (drop from xs))
+
+placed-next : (xs rest ys : List ℕ) (a n : ℕ) → length xs ≡ a → placed a n (xs ++ rest) ys ≡ (xs ++ ys) ++ drop n rest
+placed-next xs rest ys a n e = ap₂ (λ (x y : List ℕ). x ++ (ys ++ drop n y)) (take-at xs rest a e) (drop-at xs rest a e) ∙ sym (append-assoc xs ys (drop n rest))
+
+-- the free nodes, the places and the values, stored in one order or the other
+pub rows-placed : (block free places values : List ℕ) → length block ≡ 177 → length free ≡ 20 → length places ≡ 73 → length values ≡ 73
+    → drop 11 (placed 11 20 (placed 104 73 (placed 31 73 block places) values) free) ≡ free ++ (places ++ values)
+rows-placed block free places values lb lf lp lv =
+    let head : List ℕ = take 31 block in
+    let rest : List ℕ = drop 73 (drop 31 block) in
+    let lh : length head ≡ 31 = omega (arith, length-take 31 block) in
+    let lhp : length (head ++ places) ≡ 104 = omega (arith, length-append head places) in
+    let few : length (drop 31 block) ≡ 146 = omega (arith, length-drop 31 block) in
+    let less : length rest ≤ 73 = omega (arith, length-drop 73 (drop 31 block)) in
+    let none : drop 73 rest ≡ [] = drop-of-length-le rest {i = 73} less in
+    let both : placed 104 73 (placed 31 73 block places) values ≡ head ++ (places ++ values) =
+    ap (λ (l : List ℕ). placed 104 73 l values) (sym (append-assoc head places rest))
+    ∙ placed-next (head ++ places) rest values 104 73 lhp
+    ∙ rw (none, append-nil) (append-assoc head places values) in
+    let front : length (take 11 (head ++ (places ++ values))) ≡ 11 = omega (arith, length-take 11 (head ++ (places ++ values)), length-append head (places ++ values)) in
+    ap (λ (l : List ℕ). drop 11 (placed 11 20 l free)) both
+    ∙ drop-at (take 11 (head ++ (places ++ values))) (free ++ drop 20 (drop 11 (head ++ (places ++ values)))) 11 front
+    ∙ ap (λ (l : List ℕ). free ++ l) (drop-drop 20 11 (head ++ (places ++ values)) ∙ drop-at head (places ++ values) 31 lh)
+
+-- ---- a part of a block stored anew
+
+module _ (block row : List ℕ) (from count : ℕ) (l : length row ≡ count) (fits : from + count ≤ length block) where
+  abbrev rest : List ℕ
+  rest = drop count (drop from block)
+
+  pub placed-length : length (placed from count block row) ≡ length block
+  placed-length =
+      omega (
+        arith,
+        length-append (take from block) (row ++ rest),
+        length-append row rest,
+        length-take from block,
+        length-drop count (drop from block),
+        length-drop from block,
+      )
+
+  -- the words before it stay
+  pub placed-before : (j : ℕ) → j < from → getD (placed from count block row) j 0 ≡ getD block j 0
+  placed-before j h = List·getD-append (take from block) (row ++ rest) 0 j (omega (arith, length-take from block)) ∙ getD-take from block j 0 h
+
+  pub placed-part : part (placed from count block row) from count ≡ row
+  placed-part = ap (take count) (drop-at (take from block) (row ++ rest) from (omega (arith, length-take from block))) ∙ take-at row rest count l
+
+-- parts of two blocks that have the same words there
+pub same-part : (a b : List ℕ) (from n : ℕ) → length a ≡ length b → ((j : ℕ) → from ≤ j → j < from + n → getD a j 0 ≡ getD b j 0)
+    → part a from n ≡ part b from n
+same-part a b from n e same =
+    ext-getD 0 (part a from n) (part b from n) (omega (arith, longs a, longs b)) (λ i h. at a i (small i h) ∙ same (from + i) (omega arith) (up i (small i h)) ∙ sym (at b i (small i h)))
+  where
+    longs : (l : List ℕ) → length (part l from n) ≡ min n (length l - from)
+    longs l = length-take n (drop from l) ∙ ap (λ (k : ℕ). min n k) (length-drop from l)
+
+    small : (i : ℕ) → i < length (part a from n) → i < n
+    small i h = omega (arith, longs a)
+
+    up : (i : ℕ) → i < n → from + i < from + n
+    up i h = omega arith
+
+    at : (l : List ℕ) (i : ℕ) → i < n → getD (part l from n) i 0 ≡ getD l (from + i) 0
+    at l i h = getD-take n (drop from l) i 0 h ∙ getD-drop from l i 0

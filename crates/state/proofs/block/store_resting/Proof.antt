@@ -1,0 +1,124 @@
+-- `state::block::store_resting` meets its contract.
+use mathlib.Core.Path.{_≡_, ap, _∙_}
+use mathlib.Core.List.{List}
+use Prim.Native.Nat.{ℕ, _+_, _^_, _<_}
+use native.Mathlib.Omega.{arith}
+use lib.ListN.{length, getD, take, drop, replicate, length-take, length-drop, List·getD-eq-default}
+use lib.Seq.{getD-take, getD-drop}
+use Rattle.laws.proofs.Cases.{order}
+use Rattle.state.specs.Block.{part, memoryIn}
+use Rattle.state.proofs.Rows.{placed, placed-length}
+use Rattle.state.proofs.Blocks.{numbered-length, memory-resting, resting-block, rest-stored}
+use borrow.Author.Needs.{needs}
+use Rattle.state.proofs.block.store_resting.Statement.{statement}
+use Rattle.state.proofs.block.store_resting.Tie as tie
+
+-- the block before its rows are cleared
+long : (c : tie.After-store-doing) → length (c .store-doing .last .0) ≡ 177
+long c = let s = c .before .before .before in c .store-doing .kept .0 ∙ numbered-length (s .args .block .now) (s .args .n) ∙ s .pre .0
+
+-- the rows
+span : (c : tie.After-store-doing) → length (take 146 (drop 31 (c .store-doing .last .0))) ≡ 146
+span c = omega (arith, long c, length-take 146 (drop 31 (c .store-doing .last .0)), length-drop 31 (c .store-doing .last .0))
+
+cast-block : tie.Need-cast-block
+cast-block c = search needs
+
+slice-write-block : tie.Need-slice-write-block
+slice-write-block c = search needs
+
+slice-write-block-2 : tie.Need-slice-write-block-2
+slice-write-block-2 c = search needs
+
+slice-write-block-3 : tie.Need-slice-write-block-3
+slice-write-block-3 c = search needs
+
+slice-write-block-4 : tie.Need-slice-write-block-4
+slice-write-block-4 c = search needs
+
+slice-write-block-5 : tie.Need-slice-write-block-5
+slice-write-block-5 c = search needs depth 12
+
+add-block : tie.Need-add-block
+add-block c = search needs
+
+mul-block : tie.Need-mul-block
+mul-block c = search needs
+
+slice-write-block-6 : tie.Need-slice-write-block-6
+slice-write-block-6 c = search needs depth 12
+
+add-block-2 : tie.Need-add-block-2
+add-block-2 c = search needs
+
+mul-block-2 : tie.Need-mul-block-2
+mul-block-2 c = search needs
+
+slice-write-block-7 : tie.Need-slice-write-block-7
+slice-write-block-7 c = search needs depth 12
+
+store-doing-requires : tie.Need-store-doing-requires
+store-doing-requires c κs = let s = c .before .before in numbered-length (s .args .block .now) (s .args .n) ∙ s .pre .0
+
+sub-clear-words : tie.Need-sub-clear-words
+sub-clear-words c = search needs
+
+part-clear-words-start : tie.Need-part-clear-words-start
+part-clear-words-start c = search needs
+
+part-clear-words-end : tie.Need-part-clear-words-end
+part-clear-words-end c = omega (arith, long (c .before .before))
+
+clear-words-requires : tie.Need-clear-words-requires
+clear-words-requires c κs = search needs
+
+same-length : tie.Need-same-length
+same-length c =
+    let s = c .before .before .before .before .before .before .before .before .before in
+    placed-length (c .before .before .before .before .before .before .store-doing .last .0) (c .before .before .clear-words .last .0) 31 146
+    (c .before .before .clear-words .kept .0 ∙ span (c .before .before .before .before .before .before))
+    (omega (arith, long (c .before .before .before .before .before .before)))
+    ∙ c .before .before .before .before .before .before .store-doing .kept .0 ∙ numbered-length (s .args .block .now) (s .args .n)
+
+returns : tie.Need-returns
+returns c =
+    let s = c .before .before .before .before .before .before .before .before .before in
+    let block = s .args .block .now in
+    let row = part block 11 20 in
+    let whole = ap (λ (b : List ℕ). placed 31 146 b (c .before .before .clear-words .last .0))
+    (c .before .before .before .before .before .before .store-doing .ensures)
+    ∙ rest-stored block (c .before .before .clear-words .last .0) (s .args .n) (s .args .doing) (s .pre .0)
+    (c .before .before .clear-words .ensures ∙ ap (λ (k : ℕ). replicate k 0) (span (c .before .before .before .before .before .before))) in
+    let twenty : length row ≡ 20 = omega (arith, length-take 20 (drop 11 block), length-drop 11 block, s .pre .0) in
+    let words : (i : ℕ) → getD row i 0 < 2 ^ 32 =
+    λ i. order i 20 (λ h. rw (getD-take 20 (drop 11 block) i 0 h ∙ getD-drop 11 block i 0) (omega (
+      arith,
+      c .before .before .before .before .before .before .before .before .slice-known .given (11 + i),
+    ))) (λ h. rw (List·getD-eq-default row 0 {n = i} (omega (arith, twenty))) (omega arith)) in (
+      whole ∙ resting-block (s .args .n) row twenty (s .args .doing) words,
+      ap memoryIn whole ∙ memory-resting (s .args .n) row twenty (s .args .doing),
+    )
+
+pub store-resting-spec : {M : Type 1} → statement M
+store-resting-spec =
+    tie.close
+    (tie.spec
+    cast-block
+    slice-write-block
+    slice-write-block-2
+    slice-write-block-3
+    slice-write-block-4
+    slice-write-block-5
+    add-block
+    mul-block
+    slice-write-block-6
+    add-block-2
+    mul-block-2
+    slice-write-block-7
+    store-doing-requires
+    sub-clear-words
+    part-clear-words-start
+    part-clear-words-end
+    clear-words-requires
+    same-length
+    returns)
