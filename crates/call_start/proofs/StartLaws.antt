@@ -1,5 +1,5 @@
 -- Laws of the starts: one for each branch of the code.
-use mathlib.Core.Path.{_≡_, refl, ap, sym, _∙_}
+use mathlib.Core.Path.{_≡_, refl, ap, sym, subst, _∙_}
 use mathlib.Core.List.{List}
 use mathlib.Core.Bool.{Bool, true, false, not}
 use mathlib.Core.Logic.{by-cases}
@@ -8,12 +8,12 @@ use native.Mathlib.Omega.{arith}
 use native.Mathlib.Decide.{ℕ-discrete}
 use lib.ListN.{length, set}
 use lib.Dec.{ltb, leb, eqb}
-use borrow.Author.Tests.{lt-ltb, le-ltb, le-leb, lt-leb, eqb-false, ne-eqb, eq-eqb}
+use borrow.Author.Tests.{lt-ltb, le-ltb, le-leb, lt-leb, eqb-true, eqb-false, ne-eqb, eq-eqb}
 use Rattle.card.specs.Header.{nodesOfLength, headerRefusal, Sized}
 use Rattle.card.proofs.HeaderLaws.{nodes-sized}
 use Rattle.walk.specs.Descent.{slotOf}
 use Rattle.card_free.specs.NodeSet.{allNodes, countTrue}
-use Rattle.laws.proofs.Cases.{order, impossible}
+use Rattle.laws.proofs.Cases.{bool-cases, order, impossible}
 use Rattle.laws.specs.Cases.{pick}
 use Rattle.state.specs.Steps.{Handed, isIdle, noBeginning}
 use Rattle.call_start.specs.Starts.{formatOf, startRefused, startAccepted, startLanded, startChecked, startOf}
@@ -32,6 +32,15 @@ use Rattle.state.specs.declared.Doing.{Doing}
 use Rattle.state.specs.declared.Doing.the-variants.{Formatting}
 use Rattle.state.specs.declared.Begun.{Begun}
 use Rattle.state.specs.declared.Begun.the-variants.{Started, Refused as BegunRefused}
+
+-- "1: length not 8 + 24 × N, N 4 to 600; or N not the state's"
+pub start-unsized : (card : List ℕ) (nodes : ℕ) (idle : Bool) (key : ℕ) → (Sized (length card) nodes → ⊥) → startRefusal card nodes idle key ≡ 1
+unfolding startRefusal
+start-unsized card nodes idle key p =
+    bool-cases (eqb (nodesOfLength (length card)) 0) (λ y. rw y refl)
+    (λ n. bool-cases (eqb (nodesOfLength (length card)) nodes)
+    (λ y. absurd (p (subst (Sized (length card)) (eqb-true _ _ y) (nodes-sized (length card) (eqb-false _ _ n)))))
+    (λ z. rw (n, z) refl))
 
 -- the refusals of starting an update
 module _ (card : List ℕ) (nodes : ℕ) (idle : Bool) (key n : ℕ) (e : n ≡ nodesOfLength (length card)) where

@@ -37,14 +37,10 @@ ghost use Rattle.call_start.specs.Refusals.{startRefusal, isSlot, roomWh
 fn early_refusal(card: &[u32], nodes: usize, idle: bool, key: u32) -> u32
     ensures { λ r. ⌜ r ≡ startRefusal (now (card .entry)) nodes idle key ⌝ }
 {
-    let n = card::nodes_of(card.len());
-    if n == 0 {
+    if !card::is_sized(card.len(), nodes) {
         return 1;
     }
-    if n != nodes {
-        return 1;
-    }
-    let header = card::header_refusal(card, n);
+    let header = card::header_refusal(card, nodes);
     if header != 0 {
         return header;
     }

@@ -20,19 +20,6 @@ ghost use mathlib.Core.Bool.{true, false};
 ghost use Rattle.card.specs.Header.{Sized};
 ghost use Rattle.call_step.specs.Contracts.{StepCall};
 
-// Whether a card of so many words has n nodes: "8 + 24 × N words, N 4 to 600". N is the state's, so nothing is divided.
-fn is_sized(length: usize, n: usize) -> bool
-    ensures { λ r. ⌜ (r ≡ true → Sized length n) × (r ≡ false → Sized length n → ⊥) ⌝ }
-{
-    if n < card::LEAST_NODES {
-        return false;
-    }
-    if card::GREATEST_NODES < n {
-        return false;
-    }
-    length == card::HEADER_WORDS + card::NODE_WORDS * n
-}
-
 // The refusals of a step are looked at in the order of "Refusal by place"; "Formatting steps check only 1."
 pub fn step(card: &mut [u32], state: &mut [u32]) -> Answer
     ensures { λ r. ⌜ StepCall (now (card .entry)) (now (state .entry)) (now (card .exit)) (now (state .exit)) r ⌝ }
@@ -41,7 +28,7 @@ pub fn step(card: &mut [u32], state: &mut [u32]) -> Answer
         return Answer::Refused(NO_STATE);
     }
     let n = wide(state[NODES]);
-    if !is_sized(card.len(), n) {
+    if !card::is_sized(card.len(), n) {
         return Answer::Refused(1);
     }
     if state[DOING] == FORMATTING {

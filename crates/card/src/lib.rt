@@ -9,10 +9,11 @@
 //       5 to 7   0
 //       8 on     nodes 1 to N
 ghost use mathlib.Core.Path.{_≡_};
+ghost use mathlib.Core.Bool.{true, false};
 ghost use Prim.Native.Nat.{_+_, _*_, _≤_};
 ghost use lib.ListN.{length};
 ghost use Rattle.card.specs.Layout.{greatestNodes, nodeAt, children, isKey, leafPairs};
-ghost use Rattle.card.specs.Header.{nodesOfLength, headerRefusal, cardRefusal};
+ghost use Rattle.card.specs.Header.{nodesOfLength, headerRefusal, cardRefusal, Sized};
 
 // The numbers of the drawing: the only places in code where they stand.
 pub const MARK: u32 = 1;
@@ -89,6 +90,19 @@ pub fn nodes_of(length: usize) -> usize
     } else {
         0
     }
+}
+
+// Whether a card of so many words has n nodes: "8 + 24 × N words, N 4 to 600". N is known, so nothing is divided.
+pub fn is_sized(length: usize, n: usize) -> bool
+    ensures { λ r. ⌜ (r ≡ true → Sized length n) × (r ≡ false → Sized length n → ⊥) ⌝ }
+{
+    if n < LEAST_NODES {
+        return false;
+    }
+    if GREATEST_NODES < n {
+        return false;
+    }
+    length == HEADER_WORDS + NODE_WORDS * n
 }
 
 // The refusal that words 0 to 3 and 5 to 7 of a card with n nodes are due: 2, 3, or 0 for none.

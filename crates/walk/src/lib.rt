@@ -171,10 +171,10 @@ pub fn descend(card: &[u32], n: usize, key: u32, root: usize, seeks: bool) -> En
                 if stops(node, p.parent, seeks) {
                     return End::Fault(p);
                 }
-                if node[card::VALUES] == 0 {
+                if left == 0 {
                     return End::Refused;
                 }
-                if left == 0 {
+                if node[card::VALUES] == 0 {
                     return End::Refused;
                 }
                 left -= 1;

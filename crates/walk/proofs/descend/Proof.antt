@@ -127,24 +127,24 @@ stops-requires-2 c κs = words c
 returns-4 : tie.Need-returns-4 Inv-loop μ-loop
 returns-4 c = sym (c .before .before .before .before .before .before .loop .inv .1 ∙ ended-here (c .before) (stops-inner (c .before) ∙ c .if2 .taken))
 
-shared-slice-read-if3 : tie.Need-shared-slice-read-if3 Inv-loop μ-loop
-shared-slice-read-if3 c = omega (arith, words (c .before .before .before))
+shared-slice-read-if4 : tie.Need-shared-slice-read-if4 Inv-loop μ-loop
+shared-slice-read-if4 c = omega (arith, words (c .before .before .before .before))
 
 returns-5 : tie.Need-returns-5 Inv-loop μ-loop
 returns-5 c =
-    let s = c .before .before .before .before .before .before .before .before .before .before in
-    sym (c .before .before .before .before .before .before .before .before .loop .inv .1
-    ∙ ap (endOf (s .args .card .now) (s .args .seeks)) (way-childless _ _ _ _ _ (inner (c .before .before .before .before))
-    (no-child _ (s .args .key) (c .before .before .before .before .before .before .before .before .loop .p) _ _ refl
-    (c .before .before .before .before .node-at2 .ensures) (c .if3 .taken)))
-    ∙ end-past _ _ _ _ (stops-inner (c .before .before .before) ∙ c .before .before .if2 .left) ∙ end-nowhere _ _)
+    sym (c .before .before .before .before .before .before .before .loop .inv .1
+    ∙ ap (endOf (c .before .before .before .before .before .before .before .before .before .args .card .now)
+    (c .before .before .before .before .before .before .before .before .before .args .seeks))
+    (way-too-deep _ _ _ _ _ (inner (c .before .before .before)) (c .if3 .taken))
+    ∙ end-past _ _ _ _ (stops-inner (c .before .before) ∙ c .before .if2 .left) ∙ end-nowhere _ _)
 
 returns-6 : tie.Need-returns-6 Inv-loop μ-loop
 returns-6 c =
+    let s = c .before .before .before .before .before .before .before .before .before .before .before in
     sym (c .before .before .before .before .before .before .before .before .before .loop .inv .1
-    ∙ ap (endOf (c .before .before .before .before .before .before .before .before .before .before .before .args .card .now)
-    (c .before .before .before .before .before .before .before .before .before .before .before .args .seeks))
-    (way-too-deep _ _ _ _ _ (inner (c .before .before .before .before .before)) (c .if4 .taken))
+    ∙ ap (endOf (s .args .card .now) (s .args .seeks)) (way-childless _ _ _ _ _ (inner (c .before .before .before .before .before))
+    (no-child _ (s .args .key) (c .before .before .before .before .before .before .before .before .before .loop .p) _ _ refl
+    (c .before .before .before .before .before .node-at2 .ensures) (c .if4 .taken)))
     ∙ end-past _ _ _ _ (stops-inner (c .before .before .before .before) ∙ c .before .before .before .if2 .left) ∙ end-nowhere _ _)
 
 sub-left : tie.Need-sub-left Inv-loop μ-loop
@@ -153,7 +153,7 @@ sub-left c = search needs
 child-of-requires : tie.Need-child-of-requires Inv-loop μ-loop
 child-of-requires c κs =
     let k = on-card (c .before .before .before .before .before .before) in
-    (words (c .before .before .before .before .before), c .before .if3 .left, k .one, omega (arith, k .most))
+    (words (c .before .before .before .before .before), c .if4 .left, k .one, omega (arith, k .most))
 
 loop-less : tie.Need-loop-less Inv-loop μ-loop
 loop-less c = search needs
@@ -165,8 +165,8 @@ loop-again c =
       omega arith,
       l .inv .1
           ∙ ap (endOf (s .args .card .now) (s .args .seeks))
-          (way-on _ _ _ _ _ (inner (c .before .before .before .before .before .before)) (c .before .if4 .left) (some-child _ (s .args .key)
-          (l .p) _ _ refl (c .before .before .before .before .before .before .node-at2 .ensures) (c .before .before .if3 .left)))
+          (way-on _ _ _ _ _ (inner (c .before .before .before .before .before .before)) (c .before .before .before .if3 .left) (some-child _ (s .args .key)
+          (l .p) _ _ refl (c .before .before .before .before .before .before .node-at2 .ensures) (c .before .if4 .left)))
           ∙ end-past _ _ _ _ (stops-inner (c .before .before .before .before .before) ∙ c .before .before .before .before .if2 .left)
           ∙ ap (λ (x : Position). endOf (s .args .card .now) (s .args .seeks) (wayFrom (s .args .card .now) (s .args .n) (s .args .key) (l .left - 1) x))
           (ap (λ (x : List ℕ). childPosition x (s .args .key) (l .p)) (sym (c .before .before .before .before .before .before .node-at2 .ensures)) ∙ sym (c .child-of .ensures)),
@@ -191,8 +191,8 @@ descend-spec =
     node-at-requires-2
     stops-requires-2
     returns-4
-    shared-slice-read-if3
     returns-5
+    shared-slice-read-if4
     returns-6
     sub-left
     child-of-requires

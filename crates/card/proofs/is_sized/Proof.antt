@@ -1,10 +1,10 @@
--- `call_step::is_sized` meets its contract.
+-- `card::is_sized` meets its contract.
 use native.Mathlib.Omega.{arith}
 use borrow.Author.Tests.{eqb-true, eqb-false}
 use Rattle.laws.proofs.Cases.{impossible}
 use borrow.Author.Needs.{needs}
-use Rattle.call_step.proofs.is_sized.Statement.{statement}
-use Rattle.call_step.proofs.is_sized.Tie as tie
+use Rattle.card.proofs.is_sized.Statement.{statement}
+use Rattle.card.proofs.is_sized.Tie as tie
 
 returns : tie.Need-returns
 returns c = ((λ e. impossible (cc)), (λ e z. omega (arith, z .least, c .if1 .taken)))
