@@ -13,7 +13,7 @@ use Rattle.change_decide.specs.Decide.{decidedRepair}
 use Rattle.change_layout.specs.LayOut.{layOut}
 use Rattle.change_layout.specs.Mending.{nextRepair}
 use Rattle.change_siblings.specs.Siblings.{togetherAt}
-use Rattle.walk.specs.Descent.{passed, childIndex, childFor, firstEqual, slotOf, lookAt, rootPosition, childPosition, past, byLook, wayFrom}
+use Rattle.walk.specs.Descent.{passed, childIndex, childFor, firstEqual, slotOf, outside, lookIn, lookAt, rootPosition, childPosition, past, byLook, wayFrom}
 use Rattle.walk.specs.Descent.{way, reachedAt, leafOf, runOver, landedAt, landingOf, countOf, isFault, firstFault, ended, toList, endOf}
 use Rattle.walk.specs.Descent.{searchOf, seek}
 use Rattle.card_free.specs.NodeSet.{allNodes, countTrue, firstTrue, firstFrom, orElse, nextFree}
@@ -106,49 +106,32 @@ heldL2 =
       answer = (Value 90);
     }
 
-pub again-B : againB ≡ heldB
+-- all that the cards are worked by: to unfold this is to unfold every definition that it names
+computing : Unit {0}
 unfolding fresh drive onAnswer insertWhole deleteWhole upto steps cardL cardB cardS cardI cardK cardL2 foundReply stepReply startReply
     stepOf stepFormat formatStore formattedWord formatOf stepFinal nodesOfLength formattingFrom resting idled allNodes headerRefusal
-    stepHeld isIdle stepBegin stepPrepared landing landingOf landedAt way wayFrom byLook past lookAt runOver nodeAt children valueWords
+    stepHeld isIdle stepBegin stepPrepared landing landingOf landedAt way wayFrom byLook past outside lookIn lookAt runOver nodeAt children valueWords
     keyWords slotOf firstEqual insertReason reasonIn emptyReason insertChange stepStore planning advanced settled settledPhase nextChange
     nextRepair onSearch seek searchOf endOf firstFault ended toList isFault countOf rootPosition leafPairs insertOf startOf startChecked
     startRoom roomFor startLanded startAccepted stepRefused startRefused withAll giving overNumbers takeNumbers numbersFrom nextFree
     firstFrom firstTrue orElse withoutAll lastOf splitLeaf changeStores sort insertAll insertPair kindAbove nodeImage countTrue
     childPosition childFor childIndex passed routingKeys runBelow deleteOf deleteChange isNode share merge mergeRoot leavesTogether
-    innersTogether half leftKeys keyBetween absorb splitParent joinedKeys joinedChildren findOf cardRefusal foundAt leafOf reachedAt foundIn
-    noBeginning noMemory openOf openChecked openSound tableCheck nodeCheck onLook enterNode enterKind enterLeaf enterInner innerSound noted
-    lookOf leafSound member unusedZero childrenCheck raised halves copied rangeEnd slotSound heldBy stepChecked stepTask inLeaf noWay layOut
-    decidedRepair decideAt decideTagged decideUnderfull decideSiblings decideTogether togetherAt
+    innersTogether half leftKeys keyBetween absorb splitParent joinedKeys joinedChildren findOf cardRefusal foundAt leafOf reachedAt
+    foundIn noBeginning noMemory openOf openChecked openSound tableCheck nodeCheck onLook enterNode enterKind enterLeaf enterInner
+    innerSound noted lookOf leafSound member unusedZero childrenCheck raised halves copied rangeEnd slotSound heldBy stepChecked stepTask
+    inLeaf noWay layOut decidedRepair decideAt decideTagged decideUnderfull decideSiblings decideTogether togetherAt
+computing = tt
+
+pub again-B : againB ≡ heldB
+unfolding computing
 again-B = refl
 
 pub worked-S : cardS ≡ heldS
-unfolding fresh drive onAnswer insertWhole deleteWhole upto steps cardL cardB cardS cardI cardK cardL2 foundReply stepReply startReply
-    stepOf stepFormat formatStore formattedWord formatOf stepFinal nodesOfLength formattingFrom resting idled allNodes headerRefusal
-    stepHeld isIdle stepBegin stepPrepared landing landingOf landedAt way wayFrom byLook past lookAt runOver nodeAt children valueWords
-    keyWords slotOf firstEqual insertReason reasonIn emptyReason insertChange stepStore planning advanced settled settledPhase nextChange
-    nextRepair onSearch seek searchOf endOf firstFault ended toList isFault countOf rootPosition leafPairs insertOf startOf startChecked
-    startRoom roomFor startLanded startAccepted stepRefused startRefused withAll giving overNumbers takeNumbers numbersFrom nextFree
-    firstFrom firstTrue orElse withoutAll lastOf splitLeaf changeStores sort insertAll insertPair kindAbove nodeImage countTrue
-    childPosition childFor childIndex passed routingKeys runBelow deleteOf deleteChange isNode share merge mergeRoot leavesTogether
-    innersTogether half leftKeys keyBetween absorb splitParent joinedKeys joinedChildren findOf cardRefusal foundAt leafOf reachedAt foundIn
-    noBeginning noMemory openOf openChecked openSound tableCheck nodeCheck onLook enterNode enterKind enterLeaf enterInner innerSound noted
-    lookOf leafSound member unusedZero childrenCheck raised halves copied rangeEnd slotSound heldBy stepChecked stepTask inLeaf noWay layOut
-    decidedRepair decideAt decideTagged decideUnderfull decideSiblings decideTogether togetherAt
+unfolding computing
 worked-S = refl
 
 pub from-S : insertWhole 12 120 heldS ≡ heldI
-unfolding fresh drive onAnswer insertWhole deleteWhole upto steps cardL cardB cardS cardI cardK cardL2 foundReply stepReply startReply
-    stepOf stepFormat formatStore formattedWord formatOf stepFinal nodesOfLength formattingFrom resting idled allNodes headerRefusal
-    stepHeld isIdle stepBegin stepPrepared landing landingOf landedAt way wayFrom byLook past lookAt runOver nodeAt children valueWords
-    keyWords slotOf firstEqual insertReason reasonIn emptyReason insertChange stepStore planning advanced settled settledPhase nextChange
-    nextRepair onSearch seek searchOf endOf firstFault ended toList isFault countOf rootPosition leafPairs insertOf startOf startChecked
-    startRoom roomFor startLanded startAccepted stepRefused startRefused withAll giving overNumbers takeNumbers numbersFrom nextFree
-    firstFrom firstTrue orElse withoutAll lastOf splitLeaf changeStores sort insertAll insertPair kindAbove nodeImage countTrue
-    childPosition childFor childIndex passed routingKeys runBelow deleteOf deleteChange isNode share merge mergeRoot leavesTogether
-    innersTogether half leftKeys keyBetween absorb splitParent joinedKeys joinedChildren findOf cardRefusal foundAt leafOf reachedAt foundIn
-    noBeginning noMemory openOf openChecked openSound tableCheck nodeCheck onLook enterNode enterKind enterLeaf enterInner innerSound noted
-    lookOf leafSound member unusedZero childrenCheck raised halves copied rangeEnd slotSound heldBy stepChecked stepTask inLeaf noWay layOut
-    decidedRepair decideAt decideTagged decideUnderfull decideSiblings decideTogether togetherAt
+unfolding computing
 from-S = refl
 
 pub worked-I : cardI ≡ heldI
@@ -156,18 +139,7 @@ unfolding cardI
 worked-I = ap (insertWhole 12 120) worked-S ∙ from-S
 
 pub from-I : deleteWhole 5 (deleteWhole 4 (deleteWhole 3 (deleteWhole 2 (deleteWhole 1 heldI)))) ≡ heldK
-unfolding fresh drive onAnswer insertWhole deleteWhole upto steps cardL cardB cardS cardI cardK cardL2 foundReply stepReply startReply
-    stepOf stepFormat formatStore formattedWord formatOf stepFinal nodesOfLength formattingFrom resting idled allNodes headerRefusal
-    stepHeld isIdle stepBegin stepPrepared landing landingOf landedAt way wayFrom byLook past lookAt runOver nodeAt children valueWords
-    keyWords slotOf firstEqual insertReason reasonIn emptyReason insertChange stepStore planning advanced settled settledPhase nextChange
-    nextRepair onSearch seek searchOf endOf firstFault ended toList isFault countOf rootPosition leafPairs insertOf startOf startChecked
-    startRoom roomFor startLanded startAccepted stepRefused startRefused withAll giving overNumbers takeNumbers numbersFrom nextFree
-    firstFrom firstTrue orElse withoutAll lastOf splitLeaf changeStores sort insertAll insertPair kindAbove nodeImage countTrue
-    childPosition childFor childIndex passed routingKeys runBelow deleteOf deleteChange isNode share merge mergeRoot leavesTogether
-    innersTogether half leftKeys keyBetween absorb splitParent joinedKeys joinedChildren findOf cardRefusal foundAt leafOf reachedAt foundIn
-    noBeginning noMemory openOf openChecked openSound tableCheck nodeCheck onLook enterNode enterKind enterLeaf enterInner innerSound noted
-    lookOf leafSound member unusedZero childrenCheck raised halves copied rangeEnd slotSound heldBy stepChecked stepTask inLeaf noWay layOut
-    decidedRepair decideAt decideTagged decideUnderfull decideSiblings decideTogether togetherAt
+unfolding computing
 from-I = refl
 
 pub worked-K : cardK ≡ heldK
@@ -175,18 +147,7 @@ unfolding cardK
 worked-K = ap (λ b. deleteWhole 5 (deleteWhole 4 (deleteWhole 3 (deleteWhole 2 (deleteWhole 1 b))))) worked-I ∙ from-I
 
 pub from-K : deleteWhole 9 (deleteWhole 10 (deleteWhole 8 (deleteWhole 7 heldK))) ≡ heldL2
-unfolding fresh drive onAnswer insertWhole deleteWhole upto steps cardL cardB cardS cardI cardK cardL2 foundReply stepReply startReply
-    stepOf stepFormat formatStore formattedWord formatOf stepFinal nodesOfLength formattingFrom resting idled allNodes headerRefusal
-    stepHeld isIdle stepBegin stepPrepared landing landingOf landedAt way wayFrom byLook past lookAt runOver nodeAt children valueWords
-    keyWords slotOf firstEqual insertReason reasonIn emptyReason insertChange stepStore planning advanced settled settledPhase nextChange
-    nextRepair onSearch seek searchOf endOf firstFault ended toList isFault countOf rootPosition leafPairs insertOf startOf startChecked
-    startRoom roomFor startLanded startAccepted stepRefused startRefused withAll giving overNumbers takeNumbers numbersFrom nextFree
-    firstFrom firstTrue orElse withoutAll lastOf splitLeaf changeStores sort insertAll insertPair kindAbove nodeImage countTrue
-    childPosition childFor childIndex passed routingKeys runBelow deleteOf deleteChange isNode share merge mergeRoot leavesTogether
-    innersTogether half leftKeys keyBetween absorb splitParent joinedKeys joinedChildren findOf cardRefusal foundAt leafOf reachedAt foundIn
-    noBeginning noMemory openOf openChecked openSound tableCheck nodeCheck onLook enterNode enterKind enterLeaf enterInner innerSound noted
-    lookOf leafSound member unusedZero childrenCheck raised halves copied rangeEnd slotSound heldBy stepChecked stepTask inLeaf noWay layOut
-    decidedRepair decideAt decideTagged decideUnderfull decideSiblings decideTogether togetherAt
+unfolding computing
 from-K = refl
 
 pub worked-L2 : cardL2 ≡ heldL2
@@ -194,48 +155,15 @@ unfolding cardL2
 worked-L2 = ap (λ b. deleteWhole 9 (deleteWhole 10 (deleteWhole 8 (deleteWhole 7 b)))) worked-K ∙ from-K
 
 pub rowA-is : rowA ≡ said absent
-unfolding rowA fresh drive onAnswer insertWhole deleteWhole upto steps cardL cardB cardS cardI cardK cardL2 foundReply stepReply startReply
-    stepOf stepFormat formatStore formattedWord formatOf stepFinal nodesOfLength formattingFrom resting idled allNodes headerRefusal
-    stepHeld isIdle stepBegin stepPrepared landing landingOf landedAt way wayFrom byLook past lookAt runOver nodeAt children valueWords
-    keyWords slotOf firstEqual insertReason reasonIn emptyReason insertChange stepStore planning advanced settled settledPhase nextChange
-    nextRepair onSearch seek searchOf endOf firstFault ended toList isFault countOf rootPosition leafPairs insertOf startOf startChecked
-    startRoom roomFor startLanded startAccepted stepRefused startRefused withAll giving overNumbers takeNumbers numbersFrom nextFree
-    firstFrom firstTrue orElse withoutAll lastOf splitLeaf changeStores sort insertAll insertPair kindAbove nodeImage countTrue
-    childPosition childFor childIndex passed routingKeys runBelow deleteOf deleteChange isNode share merge mergeRoot leavesTogether
-    innersTogether half leftKeys keyBetween absorb splitParent joinedKeys joinedChildren findOf cardRefusal foundAt leafOf reachedAt foundIn
-    noBeginning noMemory openOf openChecked openSound tableCheck nodeCheck onLook enterNode enterKind enterLeaf enterInner innerSound noted
-    lookOf leafSound member unusedZero childrenCheck raised halves copied rangeEnd slotSound heldBy stepChecked stepTask inLeaf noWay layOut
-    decidedRepair decideAt decideTagged decideUnderfull decideSiblings decideTogether togetherAt
+unfolding rowA computing
 rowA-is = refl
 
 pub rowB-is : rowB ≡ (70 ∷ 0 ∷ 70 ∷ 7 ∷ 2 ∷ said absent)
-unfolding rowB fresh drive onAnswer insertWhole deleteWhole upto steps cardL cardB cardS cardI cardK cardL2 foundReply stepReply startReply
-    stepOf stepFormat formatStore formattedWord formatOf stepFinal nodesOfLength formattingFrom resting idled allNodes headerRefusal
-    stepHeld isIdle stepBegin stepPrepared landing landingOf landedAt way wayFrom byLook past lookAt runOver nodeAt children valueWords
-    keyWords slotOf firstEqual insertReason reasonIn emptyReason insertChange stepStore planning advanced settled settledPhase nextChange
-    nextRepair onSearch seek searchOf endOf firstFault ended toList isFault countOf rootPosition leafPairs insertOf startOf startChecked
-    startRoom roomFor startLanded startAccepted stepRefused startRefused withAll giving overNumbers takeNumbers numbersFrom nextFree
-    firstFrom firstTrue orElse withoutAll lastOf splitLeaf changeStores sort insertAll insertPair kindAbove nodeImage countTrue
-    childPosition childFor childIndex passed routingKeys runBelow deleteOf deleteChange isNode share merge mergeRoot leavesTogether
-    innersTogether half leftKeys keyBetween absorb splitParent joinedKeys joinedChildren findOf cardRefusal foundAt leafOf reachedAt foundIn
-    noBeginning noMemory openOf openChecked openSound tableCheck nodeCheck onLook enterNode enterKind enterLeaf enterInner innerSound noted
-    lookOf leafSound member unusedZero childrenCheck raised halves copied rangeEnd slotSound heldBy stepChecked stepTask inLeaf noWay layOut
-    decidedRepair decideAt decideTagged decideUnderfull decideSiblings decideTogether togetherAt
+unfolding rowB computing
 rowB-is = refl
 
 cutB-absent : foundReply (findOf cutB 7) ≡ absent
-unfolding fresh drive onAnswer insertWhole deleteWhole upto steps cardL cardB cardS cardI cardK cardL2 foundReply stepReply startReply
-    stepOf stepFormat formatStore formattedWord formatOf stepFinal nodesOfLength formattingFrom resting idled allNodes headerRefusal
-    stepHeld isIdle stepBegin stepPrepared landing landingOf landedAt way wayFrom byLook past lookAt runOver nodeAt children valueWords
-    keyWords slotOf firstEqual insertReason reasonIn emptyReason insertChange stepStore planning advanced settled settledPhase nextChange
-    nextRepair onSearch seek searchOf endOf firstFault ended toList isFault countOf rootPosition leafPairs insertOf startOf startChecked
-    startRoom roomFor startLanded startAccepted stepRefused startRefused withAll giving overNumbers takeNumbers numbersFrom nextFree
-    firstFrom firstTrue orElse withoutAll lastOf splitLeaf changeStores sort insertAll insertPair kindAbove nodeImage countTrue
-    childPosition childFor childIndex passed routingKeys runBelow deleteOf deleteChange isNode share merge mergeRoot leavesTogether
-    innersTogether half leftKeys keyBetween absorb splitParent joinedKeys joinedChildren findOf cardRefusal foundAt leafOf reachedAt foundIn
-    noBeginning noMemory openOf openChecked openSound tableCheck nodeCheck onLook enterNode enterKind enterLeaf enterInner innerSound noted
-    lookOf leafSound member unusedZero childrenCheck raised halves copied rangeEnd slotSound heldBy stepChecked stepTask inLeaf noWay layOut
-    decidedRepair decideAt decideTagged decideUnderfull decideSiblings decideTogether togetherAt
+unfolding computing
 cutB-absent = refl
 
 pub rowC-is : rowC ≡ said absent
@@ -243,18 +171,7 @@ unfolding rowC
 rowC-is = ap said cutB-absent
 
 pub rowD-held : heldB .stores ∷ insertWhole 7 71 heldB .stores ∷ said (stepReply (insertWhole 7 71 heldB .answer)) ≡ (2 ∷ 0 ∷ said (holds 70))
-unfolding fresh drive onAnswer insertWhole deleteWhole upto steps cardL cardB cardS cardI cardK cardL2 foundReply stepReply startReply
-    stepOf stepFormat formatStore formattedWord formatOf stepFinal nodesOfLength formattingFrom resting idled allNodes headerRefusal
-    stepHeld isIdle stepBegin stepPrepared landing landingOf landedAt way wayFrom byLook past lookAt runOver nodeAt children valueWords
-    keyWords slotOf firstEqual insertReason reasonIn emptyReason insertChange stepStore planning advanced settled settledPhase nextChange
-    nextRepair onSearch seek searchOf endOf firstFault ended toList isFault countOf rootPosition leafPairs insertOf startOf startChecked
-    startRoom roomFor startLanded startAccepted stepRefused startRefused withAll giving overNumbers takeNumbers numbersFrom nextFree
-    firstFrom firstTrue orElse withoutAll lastOf splitLeaf changeStores sort insertAll insertPair kindAbove nodeImage countTrue
-    childPosition childFor childIndex passed routingKeys runBelow deleteOf deleteChange isNode share merge mergeRoot leavesTogether
-    innersTogether half leftKeys keyBetween absorb splitParent joinedKeys joinedChildren findOf cardRefusal foundAt leafOf reachedAt foundIn
-    noBeginning noMemory openOf openChecked openSound tableCheck nodeCheck onLook enterNode enterKind enterLeaf enterInner innerSound noted
-    lookOf leafSound member unusedZero childrenCheck raised halves copied rangeEnd slotSound heldBy stepChecked stepTask inLeaf noWay layOut
-    decidedRepair decideAt decideTagged decideUnderfull decideSiblings decideTogether togetherAt
+unfolding computing
 rowD-held = refl
 
 pub rowD-is : rowD ≡ (2 ∷ 0 ∷ said (holds 70))
@@ -262,183 +179,51 @@ unfolding rowD
 rowD-is = ap (λ b. b .stores ∷ insertWhole 7 71 b .stores ∷ said (stepReply (insertWhole 7 71 b .answer))) again-B ∙ rowD-held
 
 pub rowE-is : rowE ≡ (1 ∷ 0 ∷ said (holds 70))
-unfolding rowE fresh drive onAnswer insertWhole deleteWhole upto steps cardL cardB cardS cardI cardK cardL2 foundReply stepReply startReply
-    stepOf stepFormat formatStore formattedWord formatOf stepFinal nodesOfLength formattingFrom resting idled allNodes headerRefusal
-    stepHeld isIdle stepBegin stepPrepared landing landingOf landedAt way wayFrom byLook past lookAt runOver nodeAt children valueWords
-    keyWords slotOf firstEqual insertReason reasonIn emptyReason insertChange stepStore planning advanced settled settledPhase nextChange
-    nextRepair onSearch seek searchOf endOf firstFault ended toList isFault countOf rootPosition leafPairs insertOf startOf startChecked
-    startRoom roomFor startLanded startAccepted stepRefused startRefused withAll giving overNumbers takeNumbers numbersFrom nextFree
-    firstFrom firstTrue orElse withoutAll lastOf splitLeaf changeStores sort insertAll insertPair kindAbove nodeImage countTrue
-    childPosition childFor childIndex passed routingKeys runBelow deleteOf deleteChange isNode share merge mergeRoot leavesTogether
-    innersTogether half leftKeys keyBetween absorb splitParent joinedKeys joinedChildren findOf cardRefusal foundAt leafOf reachedAt foundIn
-    noBeginning noMemory openOf openChecked openSound tableCheck nodeCheck onLook enterNode enterKind enterLeaf enterInner innerSound noted
-    lookOf leafSound member unusedZero childrenCheck raised halves copied rangeEnd slotSound heldBy stepChecked stepTask inLeaf noWay layOut
-    decidedRepair decideAt decideTagged decideUnderfull decideSiblings decideTogether togetherAt
+unfolding rowE computing
 rowE-is = refl
 
 pub rowF-is : rowF ≡ (0 ∷ said absent)
-unfolding rowF fresh drive onAnswer insertWhole deleteWhole upto steps cardL cardB cardS cardI cardK cardL2 foundReply stepReply startReply
-    stepOf stepFormat formatStore formattedWord formatOf stepFinal nodesOfLength formattingFrom resting idled allNodes headerRefusal
-    stepHeld isIdle stepBegin stepPrepared landing landingOf landedAt way wayFrom byLook past lookAt runOver nodeAt children valueWords
-    keyWords slotOf firstEqual insertReason reasonIn emptyReason insertChange stepStore planning advanced settled settledPhase nextChange
-    nextRepair onSearch seek searchOf endOf firstFault ended toList isFault countOf rootPosition leafPairs insertOf startOf startChecked
-    startRoom roomFor startLanded startAccepted stepRefused startRefused withAll giving overNumbers takeNumbers numbersFrom nextFree
-    firstFrom firstTrue orElse withoutAll lastOf splitLeaf changeStores sort insertAll insertPair kindAbove nodeImage countTrue
-    childPosition childFor childIndex passed routingKeys runBelow deleteOf deleteChange isNode share merge mergeRoot leavesTogether
-    innersTogether half leftKeys keyBetween absorb splitParent joinedKeys joinedChildren findOf cardRefusal foundAt leafOf reachedAt foundIn
-    noBeginning noMemory openOf openChecked openSound tableCheck nodeCheck onLook enterNode enterKind enterLeaf enterInner innerSound noted
-    lookOf leafSound member unusedZero childrenCheck raised halves copied rangeEnd slotSound heldBy stepChecked stepTask inLeaf noWay layOut
-    decidedRepair decideAt decideTagged decideUnderfull decideSiblings decideTogether togetherAt
+unfolding rowF computing
 rowF-is = refl
 
 pub rowG104-is : rowG104 ≡ said begun
-unfolding rowG104 fresh drive onAnswer insertWhole deleteWhole upto steps cardL cardB cardS cardI cardK cardL2 foundReply stepReply
-    startReply stepOf stepFormat formatStore formattedWord formatOf stepFinal nodesOfLength formattingFrom resting idled allNodes
-    headerRefusal stepHeld isIdle stepBegin stepPrepared landing landingOf landedAt way wayFrom byLook past lookAt runOver nodeAt children
-    valueWords keyWords slotOf firstEqual insertReason reasonIn emptyReason insertChange stepStore planning advanced settled settledPhase
-    nextChange nextRepair onSearch seek searchOf endOf firstFault ended toList isFault countOf rootPosition leafPairs insertOf startOf
-    startChecked startRoom roomFor startLanded startAccepted stepRefused startRefused withAll giving overNumbers takeNumbers numbersFrom
-    nextFree firstFrom firstTrue orElse withoutAll lastOf splitLeaf changeStores sort insertAll insertPair kindAbove nodeImage countTrue
-    childPosition childFor childIndex passed routingKeys runBelow deleteOf deleteChange isNode share merge mergeRoot leavesTogether
-    innersTogether half leftKeys keyBetween absorb splitParent joinedKeys joinedChildren findOf cardRefusal foundAt leafOf reachedAt foundIn
-    noBeginning noMemory openOf openChecked openSound tableCheck nodeCheck onLook enterNode enterKind enterLeaf enterInner innerSound noted
-    lookOf leafSound member unusedZero childrenCheck raised halves copied rangeEnd slotSound heldBy stepChecked stepTask inLeaf noWay layOut
-    decidedRepair decideAt decideTagged decideUnderfull decideSiblings decideTogether togetherAt
+unfolding rowG104 computing
 rowG104-is = refl
 
 pub rowG80-is : rowG80 ≡ said (refusal 1)
-unfolding rowG80 fresh drive onAnswer insertWhole deleteWhole upto steps cardL cardB cardS cardI cardK cardL2 foundReply stepReply
-    startReply stepOf stepFormat formatStore formattedWord formatOf stepFinal nodesOfLength formattingFrom resting idled allNodes
-    headerRefusal stepHeld isIdle stepBegin stepPrepared landing landingOf landedAt way wayFrom byLook past lookAt runOver nodeAt children
-    valueWords keyWords slotOf firstEqual insertReason reasonIn emptyReason insertChange stepStore planning advanced settled settledPhase
-    nextChange nextRepair onSearch seek searchOf endOf firstFault ended toList isFault countOf rootPosition leafPairs insertOf startOf
-    startChecked startRoom roomFor startLanded startAccepted stepRefused startRefused withAll giving overNumbers takeNumbers numbersFrom
-    nextFree firstFrom firstTrue orElse withoutAll lastOf splitLeaf changeStores sort insertAll insertPair kindAbove nodeImage countTrue
-    childPosition childFor childIndex passed routingKeys runBelow deleteOf deleteChange isNode share merge mergeRoot leavesTogether
-    innersTogether half leftKeys keyBetween absorb splitParent joinedKeys joinedChildren findOf cardRefusal foundAt leafOf reachedAt foundIn
-    noBeginning noMemory openOf openChecked openSound tableCheck nodeCheck onLook enterNode enterKind enterLeaf enterInner innerSound noted
-    lookOf leafSound member unusedZero childrenCheck raised halves copied rangeEnd slotSound heldBy stepChecked stepTask inLeaf noWay layOut
-    decidedRepair decideAt decideTagged decideUnderfull decideSiblings decideTogether togetherAt
+unfolding rowG80 computing
 rowG80-is = refl
 
 pub rowG103-is : rowG103 ≡ said (refusal 1)
-unfolding rowG103 fresh drive onAnswer insertWhole deleteWhole upto steps cardL cardB cardS cardI cardK cardL2 foundReply stepReply
-    startReply stepOf stepFormat formatStore formattedWord formatOf stepFinal nodesOfLength formattingFrom resting idled allNodes
-    headerRefusal stepHeld isIdle stepBegin stepPrepared landing landingOf landedAt way wayFrom byLook past lookAt runOver nodeAt children
-    valueWords keyWords slotOf firstEqual insertReason reasonIn emptyReason insertChange stepStore planning advanced settled settledPhase
-    nextChange nextRepair onSearch seek searchOf endOf firstFault ended toList isFault countOf rootPosition leafPairs insertOf startOf
-    startChecked startRoom roomFor startLanded startAccepted stepRefused startRefused withAll giving overNumbers takeNumbers numbersFrom
-    nextFree firstFrom firstTrue orElse withoutAll lastOf splitLeaf changeStores sort insertAll insertPair kindAbove nodeImage countTrue
-    childPosition childFor childIndex passed routingKeys runBelow deleteOf deleteChange isNode share merge mergeRoot leavesTogether
-    innersTogether half leftKeys keyBetween absorb splitParent joinedKeys joinedChildren findOf cardRefusal foundAt leafOf reachedAt foundIn
-    noBeginning noMemory openOf openChecked openSound tableCheck nodeCheck onLook enterNode enterKind enterLeaf enterInner innerSound noted
-    lookOf leafSound member unusedZero childrenCheck raised halves copied rangeEnd slotSound heldBy stepChecked stepTask inLeaf noWay layOut
-    decidedRepair decideAt decideTagged decideUnderfull decideSiblings decideTogether togetherAt
+unfolding rowG103 computing
 rowG103-is = refl
 
 pub rowG105-is : rowG105 ≡ said (refusal 1)
-unfolding rowG105 fresh drive onAnswer insertWhole deleteWhole upto steps cardL cardB cardS cardI cardK cardL2 foundReply stepReply
-    startReply stepOf stepFormat formatStore formattedWord formatOf stepFinal nodesOfLength formattingFrom resting idled allNodes
-    headerRefusal stepHeld isIdle stepBegin stepPrepared landing landingOf landedAt way wayFrom byLook past lookAt runOver nodeAt children
-    valueWords keyWords slotOf firstEqual insertReason reasonIn emptyReason insertChange stepStore planning advanced settled settledPhase
-    nextChange nextRepair onSearch seek searchOf endOf firstFault ended toList isFault countOf rootPosition leafPairs insertOf startOf
-    startChecked startRoom roomFor startLanded startAccepted stepRefused startRefused withAll giving overNumbers takeNumbers numbersFrom
-    nextFree firstFrom firstTrue orElse withoutAll lastOf splitLeaf changeStores sort insertAll insertPair kindAbove nodeImage countTrue
-    childPosition childFor childIndex passed routingKeys runBelow deleteOf deleteChange isNode share merge mergeRoot leavesTogether
-    innersTogether half leftKeys keyBetween absorb splitParent joinedKeys joinedChildren findOf cardRefusal foundAt leafOf reachedAt foundIn
-    noBeginning noMemory openOf openChecked openSound tableCheck nodeCheck onLook enterNode enterKind enterLeaf enterInner innerSound noted
-    lookOf leafSound member unusedZero childrenCheck raised halves copied rangeEnd slotSound heldBy stepChecked stepTask inLeaf noWay layOut
-    decidedRepair decideAt decideTagged decideUnderfull decideSiblings decideTogether togetherAt
+unfolding rowG105 computing
 rowG105-is = refl
 
 pub rowG14408-is : rowG14408 ≡ said begun
-unfolding rowG14408 fresh drive onAnswer insertWhole deleteWhole upto steps cardL cardB cardS cardI cardK cardL2 foundReply stepReply
-    startReply stepOf stepFormat formatStore formattedWord formatOf stepFinal nodesOfLength formattingFrom resting idled allNodes
-    headerRefusal stepHeld isIdle stepBegin stepPrepared landing landingOf landedAt way wayFrom byLook past lookAt runOver nodeAt children
-    valueWords keyWords slotOf firstEqual insertReason reasonIn emptyReason insertChange stepStore planning advanced settled settledPhase
-    nextChange nextRepair onSearch seek searchOf endOf firstFault ended toList isFault countOf rootPosition leafPairs insertOf startOf
-    startChecked startRoom roomFor startLanded startAccepted stepRefused startRefused withAll giving overNumbers takeNumbers numbersFrom
-    nextFree firstFrom firstTrue orElse withoutAll lastOf splitLeaf changeStores sort insertAll insertPair kindAbove nodeImage countTrue
-    childPosition childFor childIndex passed routingKeys runBelow deleteOf deleteChange isNode share merge mergeRoot leavesTogether
-    innersTogether half leftKeys keyBetween absorb splitParent joinedKeys joinedChildren findOf cardRefusal foundAt leafOf reachedAt foundIn
-    noBeginning noMemory openOf openChecked openSound tableCheck nodeCheck onLook enterNode enterKind enterLeaf enterInner innerSound noted
-    lookOf leafSound member unusedZero childrenCheck raised halves copied rangeEnd slotSound heldBy stepChecked stepTask inLeaf noWay layOut
-    decidedRepair decideAt decideTagged decideUnderfull decideSiblings decideTogether togetherAt
+unfolding rowG14408 computing
 rowG14408-is = refl
 
 pub rowG14432-is : rowG14432 ≡ said (refusal 1)
-unfolding rowG14432 fresh drive onAnswer insertWhole deleteWhole upto steps cardL cardB cardS cardI cardK cardL2 foundReply stepReply
-    startReply stepOf stepFormat formatStore formattedWord formatOf stepFinal nodesOfLength formattingFrom resting idled allNodes
-    headerRefusal stepHeld isIdle stepBegin stepPrepared landing landingOf landedAt way wayFrom byLook past lookAt runOver nodeAt children
-    valueWords keyWords slotOf firstEqual insertReason reasonIn emptyReason insertChange stepStore planning advanced settled settledPhase
-    nextChange nextRepair onSearch seek searchOf endOf firstFault ended toList isFault countOf rootPosition leafPairs insertOf startOf
-    startChecked startRoom roomFor startLanded startAccepted stepRefused startRefused withAll giving overNumbers takeNumbers numbersFrom
-    nextFree firstFrom firstTrue orElse withoutAll lastOf splitLeaf changeStores sort insertAll insertPair kindAbove nodeImage countTrue
-    childPosition childFor childIndex passed routingKeys runBelow deleteOf deleteChange isNode share merge mergeRoot leavesTogether
-    innersTogether half leftKeys keyBetween absorb splitParent joinedKeys joinedChildren findOf cardRefusal foundAt leafOf reachedAt foundIn
-    noBeginning noMemory openOf openChecked openSound tableCheck nodeCheck onLook enterNode enterKind enterLeaf enterInner innerSound noted
-    lookOf leafSound member unusedZero childrenCheck raised halves copied rangeEnd slotSound heldBy stepChecked stepTask inLeaf noWay layOut
-    decidedRepair decideAt decideTagged decideUnderfull decideSiblings decideTogether togetherAt
+unfolding rowG14432 computing
 rowG14432-is = refl
 
 pub rowHinsert-is : rowHinsert ≡ said (refusal 6)
-unfolding rowHinsert fresh drive onAnswer insertWhole deleteWhole upto steps cardL cardB cardS cardI cardK cardL2 foundReply stepReply
-    startReply stepOf stepFormat formatStore formattedWord formatOf stepFinal nodesOfLength formattingFrom resting idled allNodes
-    headerRefusal stepHeld isIdle stepBegin stepPrepared landing landingOf landedAt way wayFrom byLook past lookAt runOver nodeAt children
-    valueWords keyWords slotOf firstEqual insertReason reasonIn emptyReason insertChange stepStore planning advanced settled settledPhase
-    nextChange nextRepair onSearch seek searchOf endOf firstFault ended toList isFault countOf rootPosition leafPairs insertOf startOf
-    startChecked startRoom roomFor startLanded startAccepted stepRefused startRefused withAll giving overNumbers takeNumbers numbersFrom
-    nextFree firstFrom firstTrue orElse withoutAll lastOf splitLeaf changeStores sort insertAll insertPair kindAbove nodeImage countTrue
-    childPosition childFor childIndex passed routingKeys runBelow deleteOf deleteChange isNode share merge mergeRoot leavesTogether
-    innersTogether half leftKeys keyBetween absorb splitParent joinedKeys joinedChildren findOf cardRefusal foundAt leafOf reachedAt foundIn
-    noBeginning noMemory openOf openChecked openSound tableCheck nodeCheck onLook enterNode enterKind enterLeaf enterInner innerSound noted
-    lookOf leafSound member unusedZero childrenCheck raised halves copied rangeEnd slotSound heldBy stepChecked stepTask inLeaf noWay layOut
-    decidedRepair decideAt decideTagged decideUnderfull decideSiblings decideTogether togetherAt
+unfolding rowHinsert computing
 rowHinsert-is = refl
 
 pub rowHfind-is : rowHfind ≡ said (refusal 6)
-unfolding rowHfind fresh drive onAnswer insertWhole deleteWhole upto steps cardL cardB cardS cardI cardK cardL2 foundReply stepReply
-    startReply stepOf stepFormat formatStore formattedWord formatOf stepFinal nodesOfLength formattingFrom resting idled allNodes
-    headerRefusal stepHeld isIdle stepBegin stepPrepared landing landingOf landedAt way wayFrom byLook past lookAt runOver nodeAt children
-    valueWords keyWords slotOf firstEqual insertReason reasonIn emptyReason insertChange stepStore planning advanced settled settledPhase
-    nextChange nextRepair onSearch seek searchOf endOf firstFault ended toList isFault countOf rootPosition leafPairs insertOf startOf
-    startChecked startRoom roomFor startLanded startAccepted stepRefused startRefused withAll giving overNumbers takeNumbers numbersFrom
-    nextFree firstFrom firstTrue orElse withoutAll lastOf splitLeaf changeStores sort insertAll insertPair kindAbove nodeImage countTrue
-    childPosition childFor childIndex passed routingKeys runBelow deleteOf deleteChange isNode share merge mergeRoot leavesTogether
-    innersTogether half leftKeys keyBetween absorb splitParent joinedKeys joinedChildren findOf cardRefusal foundAt leafOf reachedAt foundIn
-    noBeginning noMemory openOf openChecked openSound tableCheck nodeCheck onLook enterNode enterKind enterLeaf enterInner innerSound noted
-    lookOf leafSound member unusedZero childrenCheck raised halves copied rangeEnd slotSound heldBy stepChecked stepTask inLeaf noWay layOut
-    decidedRepair decideAt decideTagged decideUnderfull decideSiblings decideTogether togetherAt
+unfolding rowHfind computing
 rowHfind-is = refl
 
 pub rowHgreatest-is : rowHgreatest ≡ said begun
-unfolding rowHgreatest fresh drive onAnswer insertWhole deleteWhole upto steps cardL cardB cardS cardI cardK cardL2 foundReply stepReply
-    startReply stepOf stepFormat formatStore formattedWord formatOf stepFinal nodesOfLength formattingFrom resting idled allNodes
-    headerRefusal stepHeld isIdle stepBegin stepPrepared landing landingOf landedAt way wayFrom byLook past lookAt runOver nodeAt children
-    valueWords keyWords slotOf firstEqual insertReason reasonIn emptyReason insertChange stepStore planning advanced settled settledPhase
-    nextChange nextRepair onSearch seek searchOf endOf firstFault ended toList isFault countOf rootPosition leafPairs insertOf startOf
-    startChecked startRoom roomFor startLanded startAccepted stepRefused startRefused withAll giving overNumbers takeNumbers numbersFrom
-    nextFree firstFrom firstTrue orElse withoutAll lastOf splitLeaf changeStores sort insertAll insertPair kindAbove nodeImage countTrue
-    childPosition childFor childIndex passed routingKeys runBelow deleteOf deleteChange isNode share merge mergeRoot leavesTogether
-    innersTogether half leftKeys keyBetween absorb splitParent joinedKeys joinedChildren findOf cardRefusal foundAt leafOf reachedAt foundIn
-    noBeginning noMemory openOf openChecked openSound tableCheck nodeCheck onLook enterNode enterKind enterLeaf enterInner innerSound noted
-    lookOf leafSound member unusedZero childrenCheck raised halves copied rangeEnd slotSound heldBy stepChecked stepTask inLeaf noWay layOut
-    decidedRepair decideAt decideTagged decideUnderfull decideSiblings decideTogether togetherAt
+unfolding rowHgreatest computing
 rowHgreatest-is = refl
 
 pub rowI-held : heldI .stores ∷ getD (heldI .card) 4 0 ∷ (children (nodeAt (heldI .card) 4) ++ routingKeys (nodeAt (heldI .card) 4)) ≡ (73 ∷ 4 ∷ 2 ∷ 3 ∷ 7 ∷ [])
-unfolding fresh drive onAnswer insertWhole deleteWhole upto steps cardL cardB cardS cardI cardK cardL2 foundReply stepReply startReply
-    stepOf stepFormat formatStore formattedWord formatOf stepFinal nodesOfLength formattingFrom resting idled allNodes headerRefusal
-    stepHeld isIdle stepBegin stepPrepared landing landingOf landedAt way wayFrom byLook past lookAt runOver nodeAt children valueWords
-    keyWords slotOf firstEqual insertReason reasonIn emptyReason insertChange stepStore planning advanced settled settledPhase nextChange
-    nextRepair onSearch seek searchOf endOf firstFault ended toList isFault countOf rootPosition leafPairs insertOf startOf startChecked
-    startRoom roomFor startLanded startAccepted stepRefused startRefused withAll giving overNumbers takeNumbers numbersFrom nextFree
-    firstFrom firstTrue orElse withoutAll lastOf splitLeaf changeStores sort insertAll insertPair kindAbove nodeImage countTrue
-    childPosition childFor childIndex passed routingKeys runBelow deleteOf deleteChange isNode share merge mergeRoot leavesTogether
-    innersTogether half leftKeys keyBetween absorb splitParent joinedKeys joinedChildren findOf cardRefusal foundAt leafOf reachedAt foundIn
-    noBeginning noMemory openOf openChecked openSound tableCheck nodeCheck onLook enterNode enterKind enterLeaf enterInner innerSound noted
-    lookOf leafSound member unusedZero childrenCheck raised halves copied rangeEnd slotSound heldBy stepChecked stepTask inLeaf noWay layOut
-    decidedRepair decideAt decideTagged decideUnderfull decideSiblings decideTogether togetherAt
+unfolding computing
 rowI-held = refl
 
 pub rowI-is : rowI ≡ (73 ∷ 4 ∷ 2 ∷ 3 ∷ 7 ∷ [])
@@ -446,33 +231,11 @@ unfolding rowI
 rowI-is = ap (λ b. b .stores ∷ getD (b .card) 4 0 ∷ (children (nodeAt (b .card) 4) ++ routingKeys (nodeAt (b .card) 4))) worked-I ∙ rowI-held
 
 pub rowJ-is : rowJ ≡ said (refusal 8)
-unfolding rowJ fresh drive onAnswer insertWhole deleteWhole upto steps cardL cardB cardS cardI cardK cardL2 foundReply stepReply startReply
-    stepOf stepFormat formatStore formattedWord formatOf stepFinal nodesOfLength formattingFrom resting idled allNodes headerRefusal
-    stepHeld isIdle stepBegin stepPrepared landing landingOf landedAt way wayFrom byLook past lookAt runOver nodeAt children valueWords
-    keyWords slotOf firstEqual insertReason reasonIn emptyReason insertChange stepStore planning advanced settled settledPhase nextChange
-    nextRepair onSearch seek searchOf endOf firstFault ended toList isFault countOf rootPosition leafPairs insertOf startOf startChecked
-    startRoom roomFor startLanded startAccepted stepRefused startRefused withAll giving overNumbers takeNumbers numbersFrom nextFree
-    firstFrom firstTrue orElse withoutAll lastOf splitLeaf changeStores sort insertAll insertPair kindAbove nodeImage countTrue
-    childPosition childFor childIndex passed routingKeys runBelow deleteOf deleteChange isNode share merge mergeRoot leavesTogether
-    innersTogether half leftKeys keyBetween absorb splitParent joinedKeys joinedChildren findOf cardRefusal foundAt leafOf reachedAt foundIn
-    noBeginning noMemory openOf openChecked openSound tableCheck nodeCheck onLook enterNode enterKind enterLeaf enterInner innerSound noted
-    lookOf leafSound member unusedZero childrenCheck raised halves copied rangeEnd slotSound heldBy stepChecked stepTask inLeaf noWay layOut
-    decidedRepair decideAt decideTagged decideUnderfull decideSiblings decideTogether togetherAt
+unfolding rowJ computing
 rowJ-is = refl
 
 pub rowK-held : heldK .stores ∷ getD (heldK .card) 4 0 ∷ (children (nodeAt (heldK .card) 1) ++ routingKeys (nodeAt (heldK .card) 1)) ≡ (74 ∷ 1 ∷ 5 ∷ 6 ∷ 10 ∷ [])
-unfolding fresh drive onAnswer insertWhole deleteWhole upto steps cardL cardB cardS cardI cardK cardL2 foundReply stepReply startReply
-    stepOf stepFormat formatStore formattedWord formatOf stepFinal nodesOfLength formattingFrom resting idled allNodes headerRefusal
-    stepHeld isIdle stepBegin stepPrepared landing landingOf landedAt way wayFrom byLook past lookAt runOver nodeAt children valueWords
-    keyWords slotOf firstEqual insertReason reasonIn emptyReason insertChange stepStore planning advanced settled settledPhase nextChange
-    nextRepair onSearch seek searchOf endOf firstFault ended toList isFault countOf rootPosition leafPairs insertOf startOf startChecked
-    startRoom roomFor startLanded startAccepted stepRefused startRefused withAll giving overNumbers takeNumbers numbersFrom nextFree
-    firstFrom firstTrue orElse withoutAll lastOf splitLeaf changeStores sort insertAll insertPair kindAbove nodeImage countTrue
-    childPosition childFor childIndex passed routingKeys runBelow deleteOf deleteChange isNode share merge mergeRoot leavesTogether
-    innersTogether half leftKeys keyBetween absorb splitParent joinedKeys joinedChildren findOf cardRefusal foundAt leafOf reachedAt foundIn
-    noBeginning noMemory openOf openChecked openSound tableCheck nodeCheck onLook enterNode enterKind enterLeaf enterInner innerSound noted
-    lookOf leafSound member unusedZero childrenCheck raised halves copied rangeEnd slotSound heldBy stepChecked stepTask inLeaf noWay layOut
-    decidedRepair decideAt decideTagged decideUnderfull decideSiblings decideTogether togetherAt
+unfolding computing
 rowK-held = refl
 
 pub rowK-is : rowK ≡ (74 ∷ 1 ∷ 5 ∷ 6 ∷ 10 ∷ [])
@@ -480,18 +243,7 @@ unfolding rowK
 rowK-is = ap (λ b. b .stores ∷ getD (b .card) 4 0 ∷ (children (nodeAt (b .card) 1) ++ routingKeys (nodeAt (b .card) 1))) worked-K ∙ rowK-held
 
 pub rowKleft-held : pairKeys (leafPairs (nodeAt (heldK .card) 5)) ≡ (6 ∷ 7 ∷ 8 ∷ 9 ∷ [])
-unfolding fresh drive onAnswer insertWhole deleteWhole upto steps cardL cardB cardS cardI cardK cardL2 foundReply stepReply startReply
-    stepOf stepFormat formatStore formattedWord formatOf stepFinal nodesOfLength formattingFrom resting idled allNodes headerRefusal
-    stepHeld isIdle stepBegin stepPrepared landing landingOf landedAt way wayFrom byLook past lookAt runOver nodeAt children valueWords
-    keyWords slotOf firstEqual insertReason reasonIn emptyReason insertChange stepStore planning advanced settled settledPhase nextChange
-    nextRepair onSearch seek searchOf endOf firstFault ended toList isFault countOf rootPosition leafPairs insertOf startOf startChecked
-    startRoom roomFor startLanded startAccepted stepRefused startRefused withAll giving overNumbers takeNumbers numbersFrom nextFree
-    firstFrom firstTrue orElse withoutAll lastOf splitLeaf changeStores sort insertAll insertPair kindAbove nodeImage countTrue
-    childPosition childFor childIndex passed routingKeys runBelow deleteOf deleteChange isNode share merge mergeRoot leavesTogether
-    innersTogether half leftKeys keyBetween absorb splitParent joinedKeys joinedChildren findOf cardRefusal foundAt leafOf reachedAt foundIn
-    noBeginning noMemory openOf openChecked openSound tableCheck nodeCheck onLook enterNode enterKind enterLeaf enterInner innerSound noted
-    lookOf leafSound member unusedZero childrenCheck raised halves copied rangeEnd slotSound heldBy stepChecked stepTask inLeaf noWay layOut
-    decidedRepair decideAt decideTagged decideUnderfull decideSiblings decideTogether togetherAt
+unfolding computing
 rowKleft-held = refl
 
 pub rowKleft-is : rowKleft ≡ (6 ∷ 7 ∷ 8 ∷ 9 ∷ [])
@@ -499,18 +251,7 @@ unfolding rowKleft
 rowKleft-is = ap (λ b. pairKeys (leafPairs (nodeAt (b .card) 5))) worked-K ∙ rowKleft-held
 
 pub rowKright-held : pairKeys (leafPairs (nodeAt (heldK .card) 6)) ≡ (10 ∷ 11 ∷ 12 ∷ [])
-unfolding fresh drive onAnswer insertWhole deleteWhole upto steps cardL cardB cardS cardI cardK cardL2 foundReply stepReply startReply
-    stepOf stepFormat formatStore formattedWord formatOf stepFinal nodesOfLength formattingFrom resting idled allNodes headerRefusal
-    stepHeld isIdle stepBegin stepPrepared landing landingOf landedAt way wayFrom byLook past lookAt runOver nodeAt children valueWords
-    keyWords slotOf firstEqual insertReason reasonIn emptyReason insertChange stepStore planning advanced settled settledPhase nextChange
-    nextRepair onSearch seek searchOf endOf firstFault ended toList isFault countOf rootPosition leafPairs insertOf startOf startChecked
-    startRoom roomFor startLanded startAccepted stepRefused startRefused withAll giving overNumbers takeNumbers numbersFrom nextFree
-    firstFrom firstTrue orElse withoutAll lastOf splitLeaf changeStores sort insertAll insertPair kindAbove nodeImage countTrue
-    childPosition childFor childIndex passed routingKeys runBelow deleteOf deleteChange isNode share merge mergeRoot leavesTogether
-    innersTogether half leftKeys keyBetween absorb splitParent joinedKeys joinedChildren findOf cardRefusal foundAt leafOf reachedAt foundIn
-    noBeginning noMemory openOf openChecked openSound tableCheck nodeCheck onLook enterNode enterKind enterLeaf enterInner innerSound noted
-    lookOf leafSound member unusedZero childrenCheck raised halves copied rangeEnd slotSound heldBy stepChecked stepTask inLeaf noWay layOut
-    decidedRepair decideAt decideTagged decideUnderfull decideSiblings decideTogether togetherAt
+unfolding computing
 rowKright-held = refl
 
 pub rowKright-is : rowKright ≡ (10 ∷ 11 ∷ 12 ∷ [])
@@ -518,18 +259,7 @@ unfolding rowKright
 rowKright-is = ap (λ b. pairKeys (leafPairs (nodeAt (b .card) 6))) worked-K ∙ rowKright-held
 
 pub rowL2-held : heldL2 .stores ∷ getD (heldL2 .card) 4 0 ∷ countTrue (heldL2 .memory .free) ∷ said (stepReply (heldL2 .answer)) ≡ (26 ∷ 2 ∷ 5 ∷ said (holds 90))
-unfolding fresh drive onAnswer insertWhole deleteWhole upto steps cardL cardB cardS cardI cardK cardL2 foundReply stepReply startReply
-    stepOf stepFormat formatStore formattedWord formatOf stepFinal nodesOfLength formattingFrom resting idled allNodes headerRefusal
-    stepHeld isIdle stepBegin stepPrepared landing landingOf landedAt way wayFrom byLook past lookAt runOver nodeAt children valueWords
-    keyWords slotOf firstEqual insertReason reasonIn emptyReason insertChange stepStore planning advanced settled settledPhase nextChange
-    nextRepair onSearch seek searchOf endOf firstFault ended toList isFault countOf rootPosition leafPairs insertOf startOf startChecked
-    startRoom roomFor startLanded startAccepted stepRefused startRefused withAll giving overNumbers takeNumbers numbersFrom nextFree
-    firstFrom firstTrue orElse withoutAll lastOf splitLeaf changeStores sort insertAll insertPair kindAbove nodeImage countTrue
-    childPosition childFor childIndex passed routingKeys runBelow deleteOf deleteChange isNode share merge mergeRoot leavesTogether
-    innersTogether half leftKeys keyBetween absorb splitParent joinedKeys joinedChildren findOf cardRefusal foundAt leafOf reachedAt foundIn
-    noBeginning noMemory openOf openChecked openSound tableCheck nodeCheck onLook enterNode enterKind enterLeaf enterInner innerSound noted
-    lookOf leafSound member unusedZero childrenCheck raised halves copied rangeEnd slotSound heldBy stepChecked stepTask inLeaf noWay layOut
-    decidedRepair decideAt decideTagged decideUnderfull decideSiblings decideTogether togetherAt
+unfolding computing
 rowL2-held = refl
 
 pub rowL2-is : rowL2 ≡ (26 ∷ 2 ∷ 5 ∷ said (holds 90))
@@ -537,18 +267,7 @@ unfolding rowL2
 rowL2-is = ap (λ b. b .stores ∷ getD (b .card) 4 0 ∷ countTrue (b .memory .free) ∷ said (stepReply (b .answer))) worked-L2 ∙ rowL2-held
 
 pub rowL2leaf-held : pairKeys (leafPairs (nodeAt (heldL2 .card) 2)) ≡ (6 ∷ 11 ∷ 12 ∷ [])
-unfolding fresh drive onAnswer insertWhole deleteWhole upto steps cardL cardB cardS cardI cardK cardL2 foundReply stepReply startReply
-    stepOf stepFormat formatStore formattedWord formatOf stepFinal nodesOfLength formattingFrom resting idled allNodes headerRefusal
-    stepHeld isIdle stepBegin stepPrepared landing landingOf landedAt way wayFrom byLook past lookAt runOver nodeAt children valueWords
-    keyWords slotOf firstEqual insertReason reasonIn emptyReason insertChange stepStore planning advanced settled settledPhase nextChange
-    nextRepair onSearch seek searchOf endOf firstFault ended toList isFault countOf rootPosition leafPairs insertOf startOf startChecked
-    startRoom roomFor startLanded startAccepted stepRefused startRefused withAll giving overNumbers takeNumbers numbersFrom nextFree
-    firstFrom firstTrue orElse withoutAll lastOf splitLeaf changeStores sort insertAll insertPair kindAbove nodeImage countTrue
-    childPosition childFor childIndex passed routingKeys runBelow deleteOf deleteChange isNode share merge mergeRoot leavesTogether
-    innersTogether half leftKeys keyBetween absorb splitParent joinedKeys joinedChildren findOf cardRefusal foundAt leafOf reachedAt foundIn
-    noBeginning noMemory openOf openChecked openSound tableCheck nodeCheck onLook enterNode enterKind enterLeaf enterInner innerSound noted
-    lookOf leafSound member unusedZero childrenCheck raised halves copied rangeEnd slotSound heldBy stepChecked stepTask inLeaf noWay layOut
-    decidedRepair decideAt decideTagged decideUnderfull decideSiblings decideTogether togetherAt
+unfolding computing
 rowL2leaf-held = refl
 
 pub rowL2leaf-is : rowL2leaf ≡ (6 ∷ 11 ∷ 12 ∷ [])
@@ -556,18 +275,7 @@ unfolding rowL2leaf
 rowL2leaf-is = ap (λ b. pairKeys (leafPairs (nodeAt (b .card) 2))) worked-L2 ∙ rowL2leaf-held
 
 pub rowCutOpened-held : said (startReply (openOf (cutI heldS) .begun)) ≡ said idle
-unfolding fresh drive onAnswer insertWhole deleteWhole upto steps cardL cardB cardS cardI cardK cardL2 foundReply stepReply startReply
-    stepOf stepFormat formatStore formattedWord formatOf stepFinal nodesOfLength formattingFrom resting idled allNodes headerRefusal
-    stepHeld isIdle stepBegin stepPrepared landing landingOf landedAt way wayFrom byLook past lookAt runOver nodeAt children valueWords
-    keyWords slotOf firstEqual insertReason reasonIn emptyReason insertChange stepStore planning advanced settled settledPhase nextChange
-    nextRepair onSearch seek searchOf endOf firstFault ended toList isFault countOf rootPosition leafPairs insertOf startOf startChecked
-    startRoom roomFor startLanded startAccepted stepRefused startRefused withAll giving overNumbers takeNumbers numbersFrom nextFree
-    firstFrom firstTrue orElse withoutAll lastOf splitLeaf changeStores sort insertAll insertPair kindAbove nodeImage countTrue
-    childPosition childFor childIndex passed routingKeys runBelow deleteOf deleteChange isNode share merge mergeRoot leavesTogether
-    innersTogether half leftKeys keyBetween absorb splitParent joinedKeys joinedChildren findOf cardRefusal foundAt leafOf reachedAt foundIn
-    noBeginning noMemory openOf openChecked openSound tableCheck nodeCheck onLook enterNode enterKind enterLeaf enterInner innerSound noted
-    lookOf leafSound member unusedZero childrenCheck raised halves copied rangeEnd slotSound heldBy stepChecked stepTask inLeaf noWay layOut
-    decidedRepair decideAt decideTagged decideUnderfull decideSiblings decideTogether togetherAt
+unfolding computing
 rowCutOpened-held = refl
 
 pub rowCutOpened-is : rowCutOpened ≡ said idle
@@ -575,18 +283,7 @@ unfolding rowCutOpened
 rowCutOpened-is = ap (λ b. said (startReply (openOf (cutI b) .begun))) worked-S ∙ rowCutOpened-held
 
 pub rowCutAbsent-held : said (foundReply (findOf (cutI heldS) 12)) ≡ said absent
-unfolding fresh drive onAnswer insertWhole deleteWhole upto steps cardL cardB cardS cardI cardK cardL2 foundReply stepReply startReply
-    stepOf stepFormat formatStore formattedWord formatOf stepFinal nodesOfLength formattingFrom resting idled allNodes headerRefusal
-    stepHeld isIdle stepBegin stepPrepared landing landingOf landedAt way wayFrom byLook past lookAt runOver nodeAt children valueWords
-    keyWords slotOf firstEqual insertReason reasonIn emptyReason insertChange stepStore planning advanced settled settledPhase nextChange
-    nextRepair onSearch seek searchOf endOf firstFault ended toList isFault countOf rootPosition leafPairs insertOf startOf startChecked
-    startRoom roomFor startLanded startAccepted stepRefused startRefused withAll giving overNumbers takeNumbers numbersFrom nextFree
-    firstFrom firstTrue orElse withoutAll lastOf splitLeaf changeStores sort insertAll insertPair kindAbove nodeImage countTrue
-    childPosition childFor childIndex passed routingKeys runBelow deleteOf deleteChange isNode share merge mergeRoot leavesTogether
-    innersTogether half leftKeys keyBetween absorb splitParent joinedKeys joinedChildren findOf cardRefusal foundAt leafOf reachedAt foundIn
-    noBeginning noMemory openOf openChecked openSound tableCheck nodeCheck onLook enterNode enterKind enterLeaf enterInner innerSound noted
-    lookOf leafSound member unusedZero childrenCheck raised halves copied rangeEnd slotSound heldBy stepChecked stepTask inLeaf noWay layOut
-    decidedRepair decideAt decideTagged decideUnderfull decideSiblings decideTogether togetherAt
+unfolding computing
 rowCutAbsent-held = refl
 
 pub rowCutAbsent-is : rowCutAbsent ≡ said absent
@@ -594,18 +291,7 @@ unfolding rowCutAbsent
 rowCutAbsent-is = ap (λ b. said (foundReply (findOf (cutI b) 12))) worked-S ∙ rowCutAbsent-held
 
 pub rowCutHeld-held : said (foundReply (findOf (splitI heldS) 12)) ≡ said (holds 120)
-unfolding fresh drive onAnswer insertWhole deleteWhole upto steps cardL cardB cardS cardI cardK cardL2 foundReply stepReply startReply
-    stepOf stepFormat formatStore formattedWord formatOf stepFinal nodesOfLength formattingFrom resting idled allNodes headerRefusal
-    stepHeld isIdle stepBegin stepPrepared landing landingOf landedAt way wayFrom byLook past lookAt runOver nodeAt children valueWords
-    keyWords slotOf firstEqual insertReason reasonIn emptyReason insertChange stepStore planning advanced settled settledPhase nextChange
-    nextRepair onSearch seek searchOf endOf firstFault ended toList isFault countOf rootPosition leafPairs insertOf startOf startChecked
-    startRoom roomFor startLanded startAccepted stepRefused startRefused withAll giving overNumbers takeNumbers numbersFrom nextFree
-    firstFrom firstTrue orElse withoutAll lastOf splitLeaf changeStores sort insertAll insertPair kindAbove nodeImage countTrue
-    childPosition childFor childIndex passed routingKeys runBelow deleteOf deleteChange isNode share merge mergeRoot leavesTogether
-    innersTogether half leftKeys keyBetween absorb splitParent joinedKeys joinedChildren findOf cardRefusal foundAt leafOf reachedAt foundIn
-    noBeginning noMemory openOf openChecked openSound tableCheck nodeCheck onLook enterNode enterKind enterLeaf enterInner innerSound noted
-    lookOf leafSound member unusedZero childrenCheck raised halves copied rangeEnd slotSound heldBy stepChecked stepTask inLeaf noWay layOut
-    decidedRepair decideAt decideTagged decideUnderfull decideSiblings decideTogether togetherAt
+unfolding computing
 rowCutHeld-held = refl
 
 pub rowCutHeld-is : rowCutHeld ≡ said (holds 120)

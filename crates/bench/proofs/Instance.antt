@@ -20,7 +20,7 @@ use Rattle.change_decide.specs.Decide.{decidedRepair}
 use Rattle.change_layout.specs.LayOut.{layOut}
 use Rattle.change_layout.specs.Mending.{nextRepair}
 use Rattle.change_siblings.specs.Siblings.{togetherAt}
-use Rattle.walk.specs.Descent.{passed, childIndex, childFor, firstEqual, slotOf, lookAt, rootPosition, childPosition, past, byLook, wayFrom}
+use Rattle.walk.specs.Descent.{passed, childIndex, childFor, firstEqual, slotOf, outside, lookIn, lookAt, rootPosition, childPosition, past, byLook, wayFrom}
 use Rattle.walk.specs.Descent.{way, reachedAt, leafOf, runOver, landedAt, landingOf, countOf, isFault, firstFault, ended, toList, endOf}
 use Rattle.walk.specs.Descent.{searchOf, seek}
 use Rattle.card_free.specs.NodeSet.{allNodes, countTrue, firstTrue, firstFrom, orElse, nextFree}
@@ -40,7 +40,6 @@ use Rattle.state.specs.declared.Answer.{Answer}
 use Rattle.state.specs.declared.Answer.the-variants.{Stored, Ready, Absent, Value, Refused}
 use Rattle.card.specs.Replies.{holds, absent, ready}
 use Rattle.demands.specs.Book.{book, empty, added, entered, fedStart, fedStep, feed, outcome, told, kept}
-use Rattle.demands.proofs.BookLaws.{IsStored}
 use Rattle.demands.specs.Demand3.{Survives}
 use Rattle.demands.specs.Events.{Event, World, replyTo, happens, run, LeftUncut, Begins, from-format, insert, step, cut}
 use Rattle.demands.specs.RationTable.{rationTable}
@@ -74,14 +73,6 @@ after (suc k) w = after k (happens rationTable step w)
 
 not-true : _≡_ {A = Bool} false true → ⊥
 not-true z = let k : _≡_ {A = ℕ} 0 1 = cc in omega arith
-
-stored-is : (a : Answer) → isStored a ≡ true → IsStored a
-unfolding isStored
-stored-is (Stored place) e = (place, refl)
-stored-is Ready e = absurd (not-true e)
-stored-is Absent e = absurd (not-true e)
-stored-is (Value v) e = absurd (not-true e)
-stored-is (Refused r) e = absurd (not-true e)
 
 ready-is : (a : Answer) → isReady a ≡ true → a ≡ Ready
 unfolding isReady
@@ -131,7 +122,7 @@ pub computed : (readyIn 153 beingFormatted ≡ true) × (after 153 beingFormatte
     × (kept rationTable (cutAfter 73) formatted (book [] empty) ≡ book ((12, 120) ∷ pairsTo11) empty)
 unfolding readyIn isStored isReady after kept feed told outcome replyTo fedStart fedStep entered added Option·elim among stepReply
     startReply happens stepOf stepFormat formatStore formattedWord formatOf stepFinal nodesOfLength formattingFrom resting idled allNodes
-    headerRefusal stepHeld isIdle stepBegin stepPrepared landing landingOf landedAt way wayFrom byLook past lookAt runOver nodeAt children
+    headerRefusal stepHeld isIdle stepBegin stepPrepared landing landingOf landedAt way wayFrom byLook past outside lookIn lookAt runOver nodeAt children
     valueWords keyWords slotOf firstEqual insertReason reasonIn emptyReason insertChange stepStore planning advanced settled settledPhase
     nextChange nextRepair onSearch seek searchOf endOf firstFault ended toList isFault countOf rootPosition leafPairs insertOf startOf
     startChecked startRoom roomFor startLanded startAccepted stepRefused startRefused withAll giving overNumbers takeNumbers numbersFrom

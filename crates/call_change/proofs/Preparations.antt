@@ -2,10 +2,9 @@
 -- node and of every change over nodes given holds of whatever is decided; and a change that is prepared has a store.
 use mathlib.Core.Path.{_≡_, refl, ap, sym, subst}
 use mathlib.Core.List.{List, [], _∷_, _++_}
-use mathlib.Core.Bool.{Bool, true, false}
+use mathlib.Core.Bool.{Bool, true}
 use mathlib.Core.Option.{Option, none, some}
 use Prim.Native.Nat.{ℕ}
-use Rattle.laws.specs.Cases.{pick}
 use Rattle.card.specs.Stores.{Store, nodeStores}
 use Rattle.change_plan.specs.Change.{Change, changeStores}
 use Rattle.change_plan.specs.Planning.{Preparation, refused, balanced, prepared, overNumbers, takeNumbers, giving}
@@ -19,11 +18,6 @@ use Rattle.call_change.specs.Updates.{FirstChange, nextChange}
 use Rattle.call_change.specs.Decided.{decided}
 use Rattle.call_change.specs.Results.{Storing}
 use Rattle.call_change.proofs.Decided.{next-decided}
-
--- either of two
-pub either : {A : Type 0} (P : A → Type 0) (t : Bool) (x y : A) → P x → P y → P (pick t x y)
-either P true x y h k = h
-either P false x y h k = k
 
 -- ---- whatever is decided
 

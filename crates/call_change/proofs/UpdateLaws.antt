@@ -1,39 +1,36 @@
 -- Laws of the updates: one for each branch of the code.
 use mathlib.Core.Path.{_≡_, refl, ap, sym, subst, _∙_}
 use mathlib.Core.List.{List, [], _∷_}
-use mathlib.Core.Bool.{Bool, false}
+use mathlib.Core.Bool.{false}
 use mathlib.Core.Option.{Option, none, some}
-use Prim.Native.Nat.{ℕ, zero, suc, _^_, _≤_, _<_}
+use Prim.Native.Nat.{ℕ, zero, suc, _+_, _*_, _^_, _≤_, _<_}
 use native.Mathlib.Omega.{arith}
 use lib.ListN.{length, getD}
 use borrow.Author.Tests.{ne-eqb}
 use Rattle.card.specs.Header.{Sized}
-use Rattle.card.specs.Layout.{depthLimit, rootPlace, nodeAt, keyWords, valueWords, children, slotPairs, leafPairs}
+use Rattle.card.specs.Layout.{depthLimit, greatestNodes, rootPlace, nodeAt, keyWords, valueWords, children, slotPairs, leafPairs}
 use Rattle.card.proofs.NodeLaws.{length-node, length-keyWords, length-valueWords}
 use Rattle.walk.specs.Descent.{firstEqual, slotOf, lookAt, rootPosition, childPosition, Way, way, runOver, landedAt, landingOf, endOf}
 use Rattle.walk.proofs.DescentLaws.{Inside, index-le, leaf-inside, inner-inside, unsought-refused, unsought-leaf}
 use Rattle.walk.proofs.Along.{along, run-over-le}
 use Rattle.laws.proofs.Cases.{impossible}
-use Rattle.call_change.specs.Updates.{landing, Reason, emptyReason, insertReason, insertChange, deleteChange, nextChange, held, slot, full, FirstChange, insertIn, deleteIn, noWay, inLeaf}
+use Rattle.call_change.specs.Updates.{landing, emptyReason}
 use Rattle.walk.specs.declared.Slot.{Slot}
 use Rattle.walk.specs.declared.Slot.the-variants.{At, Absent as NoSlot}
-use Rattle.walk.specs.declared.Landing.{Landing}
 use Rattle.walk.specs.declared.Landing.the-variants.{Refused as NoLanding, Leaf as LandingAt}
 use Rattle.walk.specs.declared.Position.{Position}
 use Rattle.walk.specs.declared.Look.the-variants.{Inner as IsInner}
 use Rattle.walk.specs.declared.End.the-variants.{Refused as EndRefused, Leaf as EndLeaf}
 use Rattle.state.specs.declared.Doing.{Doing}
-use Rattle.state.specs.declared.Doing.the-variants.{Inserting, Deleting}
-use Rattle.state.specs.declared.Phase.the-variants.{NotBegun, InHand}
-use Rattle.state.specs.declared.Answer.the-variants.{Refused, Absent}
+use Rattle.state.specs.declared.Doing.the-variants.{Inserting}
+use Rattle.state.specs.declared.Phase.the-variants.{InHand}
+use Rattle.state.specs.declared.Answer.the-variants.{Absent}
 use Rattle.change_decide.specs.declared.Decision.the-variants.{Refused as NoStep}
 use Rattle.call_change.specs.Decided.{placed, insertAnswer, insertDecided, decidedIn}
 use Rattle.call_change.specs.Results.{Arrives}
 use Rattle.call_change.specs.declared.First.{First}
 use Rattle.call_change.specs.declared.Arrival.{Arrival}
 use Rattle.call_change.specs.declared.Arrival.the-variants.{Refused as NoArrival, Leaf as ArrivesAt}
-use Rattle.state.specs.declared.Task.{Task}
-use Rattle.state.proofs.Tasks.{TaskOf, putting, taking, put, taken, opened}
 
 -- a leaf without an empty slot has eleven pairs
 full-pairs : (ks vs : List ℕ) (a : ℕ) → length ks ≡ length vs → firstEqual ks 0 a ≡ NoSlot → length (slotPairs ks vs) ≡ length ks
@@ -103,35 +100,6 @@ module _ (card : List ℕ) (n key m link run : ℕ) where
       let a = along card n (λ q. Unit {0}) key (λ q l z h. tt) depthLimit (rootPosition (getD card rootPlace 0)) tt in
       omega (arith, f .run-is, run-over-le card 0 (way card n key .inner), a .short (f .position) (f .on-way))
 
--- the final answer of a first change is no refusal
-insert-final-in : (key value : ℕ) (free : List Bool) (last m link : ℕ) (node : List ℕ) (r : Reason) (n : ℕ) → insertChange key value free last m link node r .final ≡ Refused n → ⊥
-unfolding insertChange
-insert-final-in key value free last m link node (held v) n e = impossible (cc)
-insert-final-in key value free last m link node (slot i) n e = impossible (cc)
-insert-final-in key value free last m link node full n e = impossible (cc)
-
-delete-final-in : (key : ℕ) (free : List Bool) (last m : ℕ) (node : List ℕ) (t : Slot) (n : ℕ) → deleteChange key free last m node t .final ≡ Refused n → ⊥
-unfolding deleteChange
-delete-final-in key free last m node (At i) n e = impossible (cc)
-delete-final-in key free last m node NoSlot n e = impossible (cc)
-
--- the first change of an update, by where its key leads to
-module _ (card : List ℕ) (doing : Doing) (change : ℕ → ℕ → List ℕ → FirstChange) where
-  leaf-final : ((m link : ℕ) (node : List ℕ) (n : ℕ) → change m link node .final ≡ Refused n → ⊥) → (l : Landing) (n : ℕ) → inLeaf card doing change l .final ≡ Refused n → ⊥
-  unfolding inLeaf noWay
-  leaf-final h NoLanding n e = impossible (cc)
-  leaf-final h (LandingAt m link run) n e = h m link (nodeAt card m) n e
-
--- where an update's key leads to, as the code finds it
-module _ (card : List ℕ) (n key : ℕ) (a : Arrival) (h : Arrives a (landing card n key)) where
-  pub nowhere : a ≡ NoArrival → landing card n key ≡ NoLanding
-  unfolding Arrives
-  nowhere e = subst (λ (r : Arrival). Arrives r (landing card n key)) e h
-
-  pub somewhere : (m link : ℕ) → a ≡ ArrivesAt m link → (run : ℕ) × (landing card n key ≡ LandingAt m link run)
-  unfolding Arrives
-  somewhere m link e = subst (λ (r : Arrival). Arrives r (landing card n key)) e h
-
 -- what is decided where the key is not held, by the lowest empty slot
 pub answer-empty : (leaf : List ℕ) (key value m link : ℕ)
     → record { doing = Inserting key value InHand; answer = Absent; decision = placed key value m link (emptyReason (slotOf leaf 0)) }
@@ -144,25 +112,27 @@ answer-empty leaf key value m link = go (slotOf leaf 0)
     go (At i) = refl
     go NoSlot = refl
 
--- what is decided, by where the key leads to
-module _ (card : List ℕ) (doing : Doing) (at : ℕ → ℕ → List ℕ → First) where
-  pub no-way : {l : Landing} → l ≡ NoLanding → record { doing = doing; answer = Absent; decision = NoStep } ≡ decidedIn card doing at l
-  unfolding decidedIn
-  no-way e = sym (ap (decidedIn card doing at) e)
+-- where an update's key leads to, as the code finds it, and what is decided there
+module _ (card : List ℕ) (n key : ℕ) (a : Arrival) (arrives : Arrives a (landing card n key)) where
+  pub decided-nowhere : (doing : Doing) (at : ℕ → ℕ → List ℕ → First) → a ≡ NoArrival
+      → record { doing = doing; answer = Absent; decision = NoStep } ≡ decidedIn card doing at (landing card n key)
+  unfolding Arrives decidedIn
+  decided-nowhere doing at e = sym (ap (decidedIn card doing at) (subst (λ (r : Arrival). Arrives r (landing card n key)) e arrives))
 
-  pub in-leaf : {l : Landing} {m link run : ℕ} → l ≡ LandingAt m link run → at m link (nodeAt card m) ≡ decidedIn card doing at l
-  unfolding decidedIn
-  in-leaf e = sym (ap (decidedIn card doing at) e)
+  module _ (m link : ℕ) (e : a ≡ ArrivesAt m link) where
+    somewhere : (run : ℕ) × (landing card n key ≡ LandingAt m link run)
+    unfolding Arrives
+    somewhere = subst (λ (r : Arrival). Arrives r (landing card n key)) e arrives
 
--- nor is that of any task
-pub next-final : (card : List ℕ) (nodes : ℕ) (free : List Bool) (last : ℕ) {doing : Doing} {task : Task} → TaskOf doing task → (n : ℕ)
-    → nextChange card nodes free last doing task .final ≡ Refused n → ⊥
-unfolding nextChange
-next-final card nodes free last (putting {key} {value}) n e =
-    leaf-final card (Inserting key value NotBegun) (insertIn key value free last)
-    (λ m link node k. insert-final-in key value free last m link node (insertReason node key) k) (landing card nodes key) n e
-next-final card nodes free last (taking {key} {value}) n e =
-    leaf-final card (Deleting key NotBegun value) (deleteIn key free last) (λ m link node k. delete-final-in key free last m node (slotOf node key) k) (landing card nodes key) n e
-next-final card nodes free last (put p) n e = impossible (cc)
-next-final card nodes free last (taken p) n e = impossible (cc)
-next-final card nodes free last opened n e = impossible (cc)
+    pub decided-there : (doing : Doing) (at : ℕ → ℕ → List ℕ → First) → at m link (nodeAt card m) ≡ decidedIn card doing at (landing card n key)
+    unfolding decidedIn
+    decided-there doing at = sym (ap (decidedIn card doing at) (somewhere .1))
+
+    -- the leaf is one of the card's nodes
+    pub leaf-there : Sized (length card) n → (1 ≤ m) × (m ≤ greatestNodes) × (8 + 24 * m ≤ length card)
+    leaf-there fits =
+        let on = landed card n key m link (somewhere .0) fits (somewhere .1) .inside in
+        (on .one, omega (arith, on .most, fits .most), omega (arith, on .most, fits .words))
+
+    pub leaf-words : Sized (length card) n → length (nodeAt card m) ≡ 24
+    leaf-words fits = let on = leaf-there fits in length-node card m (on .0) (on .2)

@@ -7,6 +7,8 @@ use Prim.Native.Nat.{ℕ}
 use native.Mathlib.Omega.{arith}
 use native.Mathlib.Decide.{ℕ-discrete}
 use lib.ListN.{length, getD, drop}
+use denote.Enum.Declared.{tagOf}
+use types.Run.{OneOf, miss}
 use borrow.Author.Tests.{ne-eqb, eq-eqb}
 use Rattle.laws.proofs.Cases.{impossible}
 use Rattle.card.specs.Header.{nodesOfLength, headerRefusal, Sized}
@@ -23,6 +25,7 @@ use Rattle.state.specs.declared.Doing.the-variants.{Idle, Formatting, Inserting
 use Rattle.state.specs.declared.Phase.the-variants.{NotBegun, InHand, Decided}
 use Rattle.state.specs.declared.Task.{Task}
 use Rattle.state.specs.declared.Task.the-variants.{PutIn, TakeOut, Repair}
+use Rattle.state.proofs.Held.{the-type}
 use Rattle.state.specs.declared.Held.{Held}
 use Rattle.state.specs.declared.Held.the-variants.{Nothing, Formatting as HeldFormatting, Task as HeldTask}
 use Rattle.state.proofs.StepLaws.{more-none}
@@ -120,6 +123,12 @@ module _ (b : List ℕ) where
   pub not-formatting : (blockWord b 2 ≡ 1 → ⊥) → (made : ℕ) → heldBy (memoryIn b .doing) ≡ HeldFormatting made → ⊥
   unfolding memoryIn
   not-formatting p made e = p (formatting-word _ _ _ _ made (held-formatting (memoryIn b .doing) made e))
+
+  -- so that a state which holds no task, the variants 0 and 1 of what may be held, holds nothing
+  pub holds-nothing : (blockWord b 2 ≡ 1 → ⊥) → (h : Held) → heldBy (memoryIn b .doing) ≡ h → OneOf (0 ∷ 1 ∷ []) (tagOf the-type h) → h ≡ Nothing
+  holds-nothing p Nothing e o = refl
+  holds-nothing p (HeldFormatting made) e o = absurd (not-formatting p made e)
+  holds-nothing p (HeldTask task) e o = absurd (miss (0 ∷ 1 ∷ []) 2 tt o)
 
   pub doing-format : (card : List ℕ) → blockWord b 2 ≡ 1
       → stepHeld card (memoryIn b) (heldBy (memoryIn b .doing))

@@ -141,9 +141,8 @@ pub fn step_plan(card: &mut [u32], state: &mut [u32]) -> Answer
 {
     let head = head_in(state);
     let doing = head.doing;
-    match held_by(doing) {
-        Held::Nothing => Answer::Refused(10),
-        Held::Formatting(made) => Answer::Refused(10),
-        Held::Task(task) => step_task(card, state, doing, task),
-    }
+    let Held::Task(task) = held_by(doing) else {
+        return Answer::Refused(10);
+    };
+    step_task(card, state, doing, task)
 }

@@ -28,13 +28,15 @@ pub const INTERNAL: u32 = 2;
 
 pub const TAGGED: u32 = 3;
 
-// How many keys a leaf has room for, and how many children an internal node; where keys begin, and the values or children beside them;
-// and the last word, which is 0.
+// How many keys a leaf has room for, and how many children an internal node; where keys begin, the values or children beside them,
+// and the children after the first; and the last word, which is 0.
 pub const SLOTS: usize = 11;
 
 pub const KEYS: usize = 1;
 
 pub const VALUES: usize = 12;
+
+pub const SECOND_CHILD: usize = 13;
 
 pub const LAST_WORD: usize = 23;
 
@@ -72,6 +74,8 @@ pub const ROOT_PLACE: usize = 4;
 
 // "Keys are 1 to 4,294,967,295": where the range of all keys begins and ends.
 pub const LOWEST_KEY: u32 = 1;
+
+pub const GREATEST_KEY: u32 = 4294967295;
 
 pub const KEY_LIMIT: u64 = 4294967296;
 

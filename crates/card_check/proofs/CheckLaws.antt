@@ -12,7 +12,7 @@ use lib.Dec.{ltb, leb, eqb}
 use borrow.Author.Tests.{ltb-false, lt-ltb, le-ltb, eqb-false, ne-eqb, eq-eqb}
 use Rattle.card.specs.Layout.{nodeAt, kindOf, keyWords, valueWords, children, routingKeys, leafPairs, runBelow}
 use Rattle.card.proofs.NodeLaws.{length-keyWords, get-keyWord, children-words, routing-words, length-routing}
-use Rattle.laws.proofs.Cases.{order, guard-some, bind-some, impossible}
+use Rattle.laws.proofs.Cases.{order, guard-some, impossible}
 use Rattle.laws.specs.Cases.{pick, guard, bind}
 use Rattle.laws.specs.Lists.{allZero, zeroAfter}
 use Rattle.card_check.specs.Check.{Least, Findings, findingsOf, checkedOf, heightOf, member, leafSound, unusedZero, Look, lookOf}
@@ -517,49 +517,3 @@ module _ (card : List ℕ) (n run : ℕ) (root : Bool) (low high m : ℕ) (f : F
         go : (l : ℕ) → nodeCheck (suc l) card n run root low high m f
             ≡ raised (eqb (kindOf (nodeAt card m)) 3) (childrenCheck (nodeCheck l card n (runBelow c run) false) true 0 low high (routingKeys (nodeAt card m)) (children (nodeAt card m)) g)
         go l = rw found
-
--- ---- heights: a sound part is at most as high as the levels that its check may pass
-
-children-height : (check : ChildCheck) (levels : ℕ) → ((low high m : ℕ) (f : Findings) (r : ℕ × Findings) → check low high m f ≡ some r → r .0 ≤ levels)
-    → (ms ks : List ℕ) (first : Bool) (height low high : ℕ) (f : Findings) (r : ℕ × Findings)
-    → height ≤ levels → childrenCheck check first height low high ks ms f ≡ some r → r .0 ≤ levels
-unfolding childrenCheck
-children-height check levels each [] ks first height low high f r h e =
-    let z : _≡_ {A = ℕ × Findings} (height, f) r = cc in
-    omega (arith, ap (λ (x : ℕ × Findings). x .0) z)
-children-height check levels each (m ∷ ms) ks first height low high f r h e =
-    let p = bind-some (rangeEnd low high ks) _ r e in
-    let q = bind-some (check low (p .0) m f) _ r (p .2) in
-    let g = guard-some (first || eqb (q .0 .0) height) _ r (q .2) in
-    children-height check levels each ms (drop 1 ks) false (q .0 .0) (p .0) high (q .0 .1) r (each low (p .0) m f (q .0) (q .1)) (g .1)
-
-raised-height : (tagged : Bool) (x : Option (ℕ × Findings)) (levels : ℕ) (r : ℕ × Findings)
-    → ((a : ℕ × Findings) → x ≡ some a → a .0 ≤ levels) → raised tagged x ≡ some r → r .0 ≤ suc levels
-unfolding raised
-raised-height tagged none levels r h e = impossible (cc)
-raised-height true (some a) levels r h e =
-    let z : _≡_ {A = ℕ × Findings} (a .0, a .1) r = cc in
-    omega (arith, h a refl, ap (λ (x : ℕ × Findings). x .0) z)
-raised-height false (some a) levels r h e =
-    let z : _≡_ {A = ℕ × Findings} (suc (a .0), a .1) r = cc in
-    omega (arith, h a refl, ap (λ (x : ℕ × Findings). x .0) z)
-
-pub node-height : (levels : ℕ) (card : List ℕ) (n run : ℕ) (root : Bool) (low high m : ℕ) (f : Findings) (r : ℕ × Findings)
-    → nodeCheck levels card n run root low high m f ≡ some r → r .0 ≤ levels
-unfolding nodeCheck onLook
-node-height zero card n run root low high m f r e = go (enterNode card n m low high run root f) refl e
-  where
-    go : (x : Look) → enterNode card n m low high run root f ≡ x → onLook (nodeAt card m) low high (λ r l h k g. none) run x ≡ some r → r .0 ≤ 0
-    go bad q d = impossible (cc)
-    go (leaf g) q d = let z : _≡_ {A = ℕ × Findings} (0, g) r = cc in omega (arith, ap (λ (x : ℕ × Findings). x .0) z)
-    go (inner c g) q d = impossible (cc (sym (check-deep card n run root low high m f 0 c g q refl) ∙ e))
-node-height (suc levels) card n run root low high m f r e = go (λ l h k g. node-height levels card n l false h k g) (enterNode card n m low high run root f) e
-  where
-    go : ((b low high m : ℕ) (f : Findings) (r : ℕ × Findings) → nodeCheck levels card n b false low high m f ≡ some r → r .0 ≤ levels)
-        → (x : Look) → onLook (nodeAt card m) low high (λ r. nodeCheck levels card n r false) run x ≡ some r → r .0 ≤ suc levels
-    go each bad e = impossible (cc)
-    go each (leaf g) e = let z : _≡_ {A = ℕ × Findings} (0, g) r = cc in omega (arith, ap (λ (x : ℕ × Findings). x .0) z)
-    go each (inner c g) e =
-        raised-height (eqb (kindOf (nodeAt card m)) 3) _ levels r
-        (λ a q. children-height (nodeCheck levels card n (runBelow c run) false) levels (each (runBelow c run)) (children (nodeAt card m))
-        (routingKeys (nodeAt card m)) true 0 low high g a (omega arith) q) e

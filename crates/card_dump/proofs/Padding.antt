@@ -7,35 +7,47 @@ use Prim.Native.Nat.{ℕ, zero, suc, _+_, _-_, _*_, _/_, _%_, _≤_, _<_}
 use native.Mathlib.Omega.{arith}
 use lib.ListN.{length, getD, drop}
 use lib.Seq.{getD-drop}
-use Rattle.laws.proofs.Cases.{bool-cases}
+use Rattle.laws.proofs.Cases.{bool-cases, order}
 use Rattle.laws.specs.Lists.{allZero}
 use Rattle.laws.proofs.Lists.{getD-all-zero}
 use Rattle.card_dump.proofs.ByteLaws.{zero-here}
-use Rattle.card_dump.specs.Dump.{paddedLength, wordsFor}
+use Rattle.card_dump.specs.Dump.{paddedLength, wordAt, wordsFor}
 use Rattle.card_dump.specs.Padding.{eightAt}
 
 -- all eight are 0
 abbrev pub EightZero : List ℕ → ℕ → Type 0
 EightZero dump k = (i : ℕ) → i < 8 → getD dump (8 * k + i) 0 ≡ 0
 
+-- the same byte, its number written in another way
+byte-is : (dump : List ℕ) (i j : ℕ) → i ≡ j → getD dump i 0 ≡ getD dump j 0
+byte-is dump i j = ap (λ (a : ℕ). getD dump a 0)
+
+module _ (dump : List ℕ) (i : ℕ) where
+  of-word-zero : wordAt dump i ≡ 0 → (j : ℕ) → j < 4 → getD dump (4 * i + j) 0 ≡ 0
+  unfolding wordAt
+  of-word-zero e zero h = byte-is dump (4 * i + 0) (4 * i) (omega arith) ∙ omega arith
+  of-word-zero e (suc zero) h = omega arith
+  of-word-zero e (suc (suc zero)) h = omega arith
+  of-word-zero e (suc (suc (suc zero))) h = omega arith
+  of-word-zero e (suc (suc (suc (suc j)))) h = absurd (omega arith)
+
+  word-zero : ((j : ℕ) → j < 4 → getD dump (4 * i + j) 0 ≡ 0) → wordAt dump i ≡ 0
+  unfolding wordAt
+  word-zero f = omega (arith, byte-is dump (4 * i) (4 * i + 0) (omega arith), f 0 (omega arith), f 1 (omega arith), f 2 (omega arith), f 3 (omega arith))
+
 module _ (dump : List ℕ) (k : ℕ) where
   bytes-zero : eightAt dump k ≡ 0 → EightZero dump k
-  unfolding eightAt
-  bytes-zero e zero h = ap (λ (i : ℕ). getD dump i 0) (let z : 8 * k + 0 ≡ 8 * k = omega arith in z) ∙ omega arith
-  bytes-zero e (suc zero) h = omega arith
-  bytes-zero e (suc (suc zero)) h = omega arith
-  bytes-zero e (suc (suc (suc zero))) h = omega arith
-  bytes-zero e (suc (suc (suc (suc zero)))) h = omega arith
-  bytes-zero e (suc (suc (suc (suc (suc zero))))) h = omega arith
-  bytes-zero e (suc (suc (suc (suc (suc (suc zero)))))) h = omega arith
-  bytes-zero e (suc (suc (suc (suc (suc (suc (suc zero))))))) h = omega arith
-  bytes-zero e (suc (suc (suc (suc (suc (suc (suc (suc i)))))))) h = absurd (omega arith)
+  bytes-zero e i h =
+      order i 4 (λ low. byte-is dump (8 * k + i) (4 * (2 * k) + i) (omega arith) ∙ of-word-zero dump (2 * k) (omega arith) i low)
+      (λ high. byte-is dump (8 * k + i) (4 * (2 * k + 1) + (i - 4)) (omega arith) ∙ of-word-zero dump (2 * k + 1) (omega arith) (i - 4) (omega arith))
 
   number-zero : EightZero dump k → eightAt dump k ≡ 0
-  unfolding eightAt
   number-zero f =
-      let first : getD dump (8 * k) 0 ≡ 0 = ap (λ (i : ℕ). getD dump i 0) (let z : 8 * k ≡ 8 * k + 0 = omega arith in z) ∙ f 0 (omega arith) in
-      omega (arith, first, f 1 (omega arith), f 2 (omega arith), f 3 (omega arith), f 4 (omega arith), f 5 (omega arith), f 6 (omega arith), f 7 (omega arith))
+      omega (
+        arith,
+        word-zero dump (2 * k) (λ j h. byte-is dump (4 * (2 * k) + j) (8 * k + j) (omega arith) ∙ f j (omega arith)),
+        word-zero dump (2 * k + 1) (λ j h. byte-is dump (4 * (2 * k + 1) + j) (8 * k + (4 + j)) (omega arith) ∙ f (4 + j) (omega arith)),
+      )
 
   -- "0 exactly when all eight are"
   pub eight-exactly : (eightAt dump k ≡ 0) ↔ EightZero dump k

@@ -104,11 +104,11 @@ fn padding_is_zero(dump: &[u8], from: usize) -> bool
     true
 }
 
-// A byte as a 64-bit number; its bound is what lets eight of them make one.
-fn long(byte: u8) -> u64
-    ensures { λ r. ⌜ (r ≡ byte) × (r < 256) ⌝ }
+// A word as a 64-bit number; its bound is what lets two of them make one.
+fn long(word: u32) -> u64
+    ensures { λ r. ⌜ (r ≡ word) × (r < 4294967296) ⌝ }
 {
-    byte as u64
+    word as u64
 }
 
 // Eight bytes of a dump, those from number 8 × k on, as one 64-bit number: 0 exactly when all eight are.
@@ -116,15 +116,7 @@ fn eight_at(dump: &[u8], k: usize) -> u64
     requires { ⌜ 8 * k + 8 ≤ length (now dump) ⌝ }
     ensures { λ r. ⌜ r ≡ eightAt (now (dump .entry)) k ⌝ }
 {
-    let at = 8 * k;
-    long(dump[at])
-        + 256 * long(dump[at + 1])
-        + 65536 * long(dump[at + 2])
-        + 16777216 * long(dump[at + 3])
-        + 4294967296 * long(dump[at + 4])
-        + 1099511627776 * long(dump[at + 5])
-        + 281474976710656 * long(dump[at + 6])
-        + 72057594037927936 * long(dump[at + 7])
+    long(word_at(dump, 2 * k)) + 4294967296 * long(word_at(dump, 2 * k + 1))
 }
 
 // A byte as a word; its bound is what lets four of them make one.

@@ -92,12 +92,6 @@ count-append [] b = omega arith
 count-append (true ∷ a) b = omega (arith, count-append a b)
 count-append (false ∷ a) b = count-append a b
 
-pub count-le : (bits : List Bool) → countTrue bits ≤ length bits
-unfolding countTrue
-count-le [] = omega arith
-count-le (true ∷ bits) = omega (arith, count-le bits)
-count-le (false ∷ bits) = omega (arith, count-le bits)
-
 -- a store in place m changes the count by what it puts there and what it takes away
 count-set : (bits : List Bool) (m : ℕ) (b : Bool) → m < length bits
     → countTrue (set bits m b) + countTrue (getD bits m false ∷ []) ≡ countTrue bits + countTrue (b ∷ [])

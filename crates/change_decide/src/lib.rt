@@ -142,7 +142,7 @@ fn decide_underfull(card: &[u32], n: usize, p: Position, parent: &[u32]) -> Deci
         return Decision::Refused;
     }
     let x = parent[card::VALUES + j] as usize;
-    let y = parent[13 + j] as usize;
+    let y = parent[card::SECOND_CHILD + j] as usize;
     if !is_node(n, x) {
         return Decision::Refused;
     }

@@ -100,8 +100,12 @@ module _ (r : Held) (keys beside : List ℕ) (both : Together) (h : HoldsTogethe
   pub held-both : together (r .kind) (take (r .keys - 0) keys) (take (r .values - 0) beside) ≡ both
   held-both = rw (h .kind, keys-cut, values-cut)
 
-  pub few-keys : r .keys ≤ r .values
+  few-keys : r .keys ≤ r .values
   few-keys = omega (arith, h .keyed, keys-most (r .kind) (r .values))
+
+  -- the keys are within their row
+  pub keys-within : r .keys ≤ 12
+  keys-within = omega (arith, h .few, few-keys)
 
   module _ (lk : length keys ≡ 12) (lv : length beside ≡ 12) where
     -- how many values there are, and keys

@@ -62,7 +62,7 @@ pub fn gather_siblings(card: &[u32], p: Position, keys: &mut [u32], beside: &mut
     let parent = card::node_at(card, p.parent);
     let j = left_sibling(p);
     let x = card::node_at(card, parent[card::VALUES + j] as usize);
-    let y = card::node_at(card, parent[13 + j] as usize);
+    let y = card::node_at(card, parent[card::SECOND_CHILD + j] as usize);
     if x[0] == 1 {
         gather_leaves(x, y, keys, beside)
     } else {

@@ -1,26 +1,22 @@
 -- WHAT THE PROGRAM `list` LISTS: the map of the card, from the balanced table that its repair leaves.
 use mathlib.Core.Path.{_≡_, refl, ap, _∙_}
-use mathlib.Core.List.{List, [], _++_}
+use mathlib.Core.List.{List}
 use mathlib.Core.Bool.{Bool}
 use mathlib.Core.Option.{some}
-use mathlib.Core.Logic.{_↔_}
-use Prim.Native.Nat.{ℕ, _*_, _^_, _≤_, _<_}
+use Prim.Native.Nat.{ℕ, _*_, _≤_}
 use native.Mathlib.Omega.{arith}
-use lib.ListN.{length, getD, drop}
+use lib.ListN.{length, getD}
 use Rattle.card.specs.Header.{nodesOfLength}
 use Rattle.card.specs.Layout.{rootPlace, depthLimit, greatestNodes}
 use Rattle.theory_tree.specs.FreeNodes.{Exact}
-use Rattle.card_dump.specs.Dump.{dumpOf}
-use Rattle.card_dump.proofs.RoundTrip.{dump-words}
 use Rattle.card_free.specs.NodeSet.{countTrue}
-use Rattle.list_pairs.specs.Listing.{Listing, pairsFrom, listTable, listCard, listDump, refused, listed, laid, layListed}
-use Rattle.list_pairs.proofs.SummaryLaws.{table-sound, card-refused, card-idle, card-started, dump-read}
+use Rattle.list_pairs.specs.Listing.{Listing, pairsFrom, listTable, listCard, listed}
+use Rattle.list_pairs.proofs.SummaryLaws.{table-sound, card-idle, card-started}
 use Rattle.call_repair.specs.Repairing.{openedCard}
-use Rattle.demands.proofs.ReadDump.{dump-answered}
 use Rattle.demands.proofs.RepairedCard.{After, repaired}
-use Rattle.demands.proofs.ListRoom.{pairs-le, pairWords, all-laid}
+use Rattle.demands.proofs.ListRoom.{pairs-le}
 use Rattle.demands.proofs.ListedPairs.{tree-pairs}
-use Rattle.demands.proofs.Accepting.{accepted-table, opens-unrefused, not-refused}
+use Rattle.demands.proofs.Accepting.{not-refused}
 use Rattle.demands.specs.Events.{Opens}
 use Rattle.demands.specs.RationTable.{rationTable}
 use Rattle.demands.proofs.Finishing.{MapIs}
@@ -36,7 +32,6 @@ use Rattle.theory_tree.specs.Pairs.{pairs}
 use Rattle.theory_tree.specs.Height.{Height}
 use Rattle.theory_tree.specs.Tree.{Tree}
 use Rattle.theory_tree.specs.WellFormed.{WellFormed, Balanced}
-use Rattle.laws.proofs.Cases.{impossible}
 
 -- "N, free nodes, internal levels, pairs. Then key and value, leaves left to right, slots rising": of a balanced table whose
 -- map is that of the card listed
@@ -103,31 +98,3 @@ module _ (c : List ℕ) where
                   x .sized .most,
                 ));
               }
-
-  -- a slice of 22 words for each of 600 nodes holds all its pairs
-  pub laid-whole : (t : Tree) (x : ListedRight c t) (words : List ℕ) → 22 * greatestNodes ≤ length words
-      → layListed (listCard c) words ≡ laid (2 * length (x .listing .pairs)) (pairWords (x .listing .pairs) ++ drop (2 * length (x .listing .pairs)) words)
-  unfolding layListed
-  laid-whole t x words h =
-      rw (x .is-listed) (all-laid (x .listing .pairs) [] words (omega (arith, x .few-pairs))
-      ∙ ap (λ (a : ℕ). laid a (pairWords (x .listing .pairs) ++ drop (2 * length (x .listing .pairs)) words)) (omega arith))
-
-  -- the dump of an accepted card is listed as the card is
-  pub dump-listed : Opens rationTable c → ((i : ℕ) → getD c i 0 < 2 ^ 32) → (lent : ℕ) → length c ≤ lent → listDump (dumpOf c) lent ≡ listCard c
-  dump-listed a fits lent room = dump-read (dumpOf c) lent (length c) (dump-answered c a fits lent room) ∙ ap listCard (dump-words c fits)
-
-  -- `list` refuses as opening does, and only then
-  pub refuses-exactly : (r : ℕ) → (listCard c ≡ refused r) ↔ (openOf c .begun ≡ Refused r)
-  refuses-exactly r = (λ e. go (openOf c .begun) refl e, card-refused c r)
-    where
-      opens : ((k : ℕ) → openOf c .begun ≡ Refused k → ⊥) → listCard c ≡ refused r → openOf c .begun ≡ Refused r
-      opens f e =
-          let a = opens-unrefused c f in
-          let t = accepted-table c a in
-          let k = listing-right (t .0) (t .1) a .is-listed in
-          impossible (cc)
-
-      go : (b : Begun) → openOf c .begun ≡ b → listCard c ≡ refused r → openOf c .begun ≡ Refused r
-      go (Refused k) q e = let s = card-refused c k q in let z : k ≡ r = cc in rw z at q
-      go Idle q e = opens (λ k s. impossible (cc)) e
-      go Started q e = opens (λ k s. impossible (cc)) e

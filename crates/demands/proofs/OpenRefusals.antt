@@ -1,19 +1,17 @@
--- What opening refuses, exactly. Document 01, "Refusal by place": the rows 1 to 5, each with the cards that it refuses and no
+-- What opening refuses, exactly. Document 01, "Refusal by place": the rows 4 and 5, each with the cards that it refuses and no
 -- others, where no earlier row refuses it.
 use mathlib.Core.Path.{_≡_, refl, ap, sym, _∙_}
 use mathlib.Core.List.{List}
 use mathlib.Core.Bool.{Bool, true, false}
 use mathlib.Core.Option.{Option, none, some}
 use mathlib.Core.Logic.{_↔_, _⊎_, inl, inr}
-use Prim.Native.Nat.{ℕ, _+_, _≤_, _<_}
+use Prim.Native.Nat.{ℕ, _+_, _<_}
 use native.Mathlib.Omega.{arith}
-use native.Mathlib.Decide.{ℕ-discrete}
 use lib.ListN.{length, getD}
 use lib.Dec.{eqb}
-use borrow.Author.Tests.{lt-ltb, le-ltb, eq-eqb, ne-eqb}
-use Rattle.card.specs.Header.{nodesOfLength, headerRefusal, must, cardRefusal, Sized, Formatted}
+use borrow.Author.Tests.{lt-ltb, le-ltb, eq-eqb}
+use Rattle.card.specs.Header.{headerRefusal, must, Sized, Formatted}
 use Rattle.card.specs.Replies.{Reply, refusal}
-use Rattle.card.proofs.HeaderLaws.{nodes-sized, header-formatted, formatted-header, wrong-word0}
 use Rattle.card.specs.Layout.{runBelow}
 use Rattle.theory_tree.specs.FreeNodes.{Exact}
 use Rattle.theory_change.proofs.Exact.{exact-same}
@@ -22,7 +20,7 @@ use Rattle.theory_change.proofs.Reserve.{all-reserves-none, reserve-total}
 use Rattle.card_free.specs.NodeSet.{countTrue}
 use Rattle.laws.proofs.Bits.{bit-true, bit-false}
 use Rattle.laws.proofs.Cases.{bool-cases, order, impossible}
-use Rattle.demands.proofs.Reopen.{length-accepted, card-accepted, open-sound, facts-exact}
+use Rattle.demands.proofs.Reopen.{card-accepted, open-sound, facts-exact}
 use Rattle.card_check.specs.Check.{Findings, tableCheck}
 use Rattle.theory_check.proofs.Facts.{Facts}
 use Rattle.theory_check.proofs.Soundness.{accepts-sound, sound-accepted}
@@ -73,22 +71,6 @@ sound-refused n f r e =
     (λ q. started-not r (rw (le-ltb (countTrue (f .free)) (3 + f .run) o, q) at e))
     (λ q. idle-not r (rw (le-ltb (countTrue (f .free)) (3 + f .run) o, q) at e)))
 
--- past the refusals 1, 2 and 3 the number is at least 4
-checked-refused : (n : ℕ) (x : Option (ℕ × Findings)) (r : ℕ) → openChecked n x .begun ≡ BegunRefused r → 4 ≤ r
-unfolding openChecked noBeginning
-checked-refused n none r e = let z : 4 ≡ r = refused-same 4 r e in omega arith
-checked-refused n (some p) r e = omega (arith, sound-refused n (p .1) r e .0)
-
--- so the numbers 1, 2 and 3 are those of the card
-card-refused : (c : List ℕ) (r : ℕ) → 1 ≤ r → r < 4 → (openOf c .begun ≡ BegunRefused r) ↔ (cardRefusal c ≡ r)
-unfolding openOf noBeginning
-card-refused c r a b = (
-  λ e. bool-cases (eqb (cardRefusal c) 0)
-      (λ q. absurd (omega (arith, checked-refused (nodesOfLength (length c)) (tableCheck c (nodesOfLength (length c))) r (rw q at e))))
-      (λ q. refused-same (cardRefusal c) r (rw q at e)),
-  λ e. rw (ne-eqb (cardRefusal c) 0 (omega (arith, e)), e),
-)
-
 -- the header's refusal: 2 by word 0, and past that 3 or none
 must-three : (c : List ℕ) (i v next : ℕ) → (next ≡ 0) ⊎ (next ≡ 3) → (must c i v 3 next ≡ 0) ⊎ (must c i v 3 next ≡ 3)
 must-three c i v next o = bool-cases (eqb (getD c i 0) v) (λ q. rw q o) (λ q. rw q (inr refl))
@@ -97,66 +79,6 @@ pub header-three : (c : List ℕ) (n : ℕ) → getD c 0 0 ≡ 1 → (headerRefu
 unfolding headerRefusal
 header-three c n e =
     rw (eq-eqb (getD c 0 0) 1 e) (must-three c 1 n _ (must-three c 2 8 _ (must-three c 3 24 _ (must-three c 5 0 _ (must-three c 6 0 _ (must-three c 7 0 0 (inl refl)))))))
-
-marked-refused : (c : List ℕ) (n r : ℕ) → getD c 0 0 ≡ 1 → headerRefusal c n ≡ r → 1 ≤ r → r ≡ 3
-marked-refused c n r q e o = past (header-three c n q)
-  where
-    past : (headerRefusal c n ≡ 0) ⊎ (headerRefusal c n ≡ 3) → r ≡ 3
-    past (inl z) = absurd (omega (arith, e, z))
-    past (inr z) = omega (arith, e, z)
-
-header-not-one : (c : List ℕ) (n : ℕ) → headerRefusal c n ≡ 1 → ⊥
-header-not-one c n e = go (ℕ-discrete (getD c 0 0) 1)
-  where
-    go : Dec (getD c 0 0 ≡ 1) → ⊥
-    go (yes q) = omega (arith, marked-refused c n 1 q e (omega arith))
-    go (no q) = omega (arith, e, wrong-word0 c n q)
-
-header-not-formatted : (c : List ℕ) (n : ℕ) → (headerRefusal c n ≡ 0) ⊎ (headerRefusal c n ≡ 3) → (Formatted c n → ⊥) → headerRefusal c n ≡ 3
-header-not-formatted c n (inl z) p = absurd (p (header-formatted c n z))
-header-not-formatted c n (inr z) p = z
-
-header-mark : (c : List ℕ) (n : ℕ) → headerRefusal c n ≡ 3 → getD c 0 0 ≡ 1
-header-mark c n e = go (ℕ-discrete (getD c 0 0) 1)
-  where
-    go : Dec (getD c 0 0 ≡ 1) → getD c 0 0 ≡ 1
-    go (yes q) = q
-    go (no q) = absurd (omega (arith, e, wrong-word0 c n q))
-
--- the card's refusal by its length
-length-refused : (c : List ℕ) → nodesOfLength (length c) ≡ 0 → cardRefusal c ≡ 1
-unfolding cardRefusal
-length-refused c e = rw (eq-eqb (nodesOfLength (length c)) 0 e)
-
--- "1: length not 8 + 24 × N, N 4 to 600"
-pub refuses-length : (c : List ℕ) → (startReply (openOf c .begun) ≡ refusal 1) ↔ ((n : ℕ) → Sized (length c) n → ⊥)
-refuses-length c =
-    let r = card-refused c 1 (omega arith) (omega arith) in
-    through (openOf c .begun) 1 (omega arith) (λ e n s. header-not-one c n (sym (length-accepted c n s) ∙ r .0 e), λ p. go p (ℕ-discrete (nodesOfLength (length c)) 0))
-  where
-    go : ((n : ℕ) → Sized (length c) n → ⊥) → Dec (nodesOfLength (length c) ≡ 0) → openOf c .begun ≡ BegunRefused 1
-    go p (yes q) = card-refused c 1 (omega arith) (omega arith) .1 (length-refused c q)
-    go p (no q) = absurd (p (nodesOfLength (length c)) (nodes-sized (length c) q))
-
--- past the length
-module _ (c : List ℕ) (n : ℕ) (s : Sized (length c) n) where
-  -- "2: word 0 not 1"
-  pub refuses-mark : (startReply (openOf c .begun) ≡ refusal 2) ↔ (getD c 0 0 ≡ 1 → ⊥)
-  refuses-mark =
-      let r = card-refused c 2 (omega arith) (omega arith) in
-      through (openOf c .begun) 2 (omega arith) (
-        λ e q. omega (arith, marked-refused c n 2 q (sym (length-accepted c n s) ∙ r .0 e) (omega arith)),
-        λ p. r .1 (length-accepted c n s ∙ wrong-word0 c n p),
-      )
-
-  -- "3: words 1, 2, 3 or 5 to 7 not as above", word 0 being 1
-  pub refuses-header : (startReply (openOf c .begun) ≡ refusal 3) ↔ ((getD c 0 0 ≡ 1) × (Formatted c n → ⊥))
-  refuses-header =
-      let r = card-refused c 3 (omega arith) (omega arith) in
-      through (openOf c .begun) 3 (omega arith) (
-        λ e. let q = sym (length-accepted c n s) ∙ r .0 e in (header-mark c n q, λ f. omega (arith, q, formatted-header c n f)),
-        λ p. r .1 (length-accepted c n s ∙ header-not-formatted c n (header-three c n (p .0)) (p .1)),
-      )
 
 -- what the check notes is what the tree has: "the 11-child nodes without a break straight above a tagged node"
 balanced-reserves : (t : Tree) → RootOk t → tableViolations t ≡ 0 → reserves 0 t ≡ 0

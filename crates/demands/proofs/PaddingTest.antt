@@ -15,16 +15,18 @@ use Rattle.card.specs.Replies.{refusal, long}
 use Rattle.card_dump.proofs.AnswerLaws.{Whole as WholeBytes, greatest-dump, padded-covers, padded-whole, padded-most, undamaged-whole, whole-undamaged, read-damaged, read-whole, room-short, room-long}
 use Rattle.card_dump.proofs.Padding.{eight-exactly, padding-eights}
 use Rattle.card_dump.specs.Answers.{dumpReply}
-use Rattle.card_dump.specs.Dump.{wordsFor, dumpNodes, damaged, readAnswer}
+use Rattle.card_dump.specs.Dump.{wordAt, wordsFor, dumpNodes, damaged, readAnswer}
 use Rattle.card_dump.specs.Padding.{eightAt}
 use Rattle.laws.proofs.Cases.{bool-cases, order}
 use Rattle.laws.proofs.Lists.{getD-all-zero}
 use Rattle.laws.specs.Lists.{allZero}
 
+word-fits : (dump : List ℕ) (i : ℕ) → ((j : ℕ) → getD dump j 0 < 256) → wordAt dump i < 2 ^ 32
+unfolding wordAt
+word-fits dump i bytes = omega (arith, bytes (4 * i), bytes (4 * i + 1), bytes (4 * i + 2), bytes (4 * i + 3))
+
 fits : (dump : List ℕ) (k : ℕ) → ((i : ℕ) → getD dump i 0 < 256) → eightAt dump k < 2 ^ 64
-unfolding eightAt
-fits dump k bytes =
-    omega (arith, bytes (8 * k), bytes (8 * k + 1), bytes (8 * k + 2), bytes (8 * k + 3), bytes (8 * k + 4), bytes (8 * k + 5), bytes (8 * k + 6), bytes (8 * k + 7))
+fits dump k bytes = omega (arith, word-fits dump (2 * k) bytes, word-fits dump (2 * k + 1) bytes)
 
 zeros-all : (l : List ℕ) → ((i : ℕ) → getD l i 0 ≡ 0) → allZero l ≡ true
 zeros-all [] f = refl

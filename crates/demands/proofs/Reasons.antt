@@ -20,11 +20,10 @@ use Rattle.theory_walk.proofs.Landing.{LandedAt, landing-found}
 use Rattle.card_dump.specs.Dump.{dumpOf}
 use Rattle.card_dump.proofs.RoundTrip.{dump-words}
 use Rattle.card_free.specs.NodeSet.{countTrue}
-use Rattle.reason.specs.InsertReason.{reasonFor, reasonLanded, reasonOn, reasonOf, reasonInDump}
-use Rattle.reason.proofs.InsertReasonLaws.{of-idle, of-started, on-no-key, on-key, dump-read}
+use Rattle.reason.specs.InsertReason.{reasonFor, reasonLanded, reasonOf, reasonInDump}
+use Rattle.reason.proofs.InsertReasonLaws.{of-opened, on-no-key, on-key, dump-read}
 use Rattle.reason.specs.declared.Reason.{Reason}
 use Rattle.reason.specs.declared.Reason.the-variants.{Refused, NoKey, Held, Slot as EmptySlot, Split}
-use Rattle.call_open.specs.Opening.{openOf}
 use Rattle.demands.specs.Book.{book, kept, empty}
 use Rattle.demands.specs.Events.{World, run, opened, Opens, from-open}
 use Rattle.demands.specs.RationTable.{rationTable}
@@ -39,8 +38,7 @@ use Rattle.demands.proofs.RepairedCard.{After, steps, all-words, worldF
 use Rattle.theory_check.proofs.Depth.{well-formed-depth}
 use Rattle.theory_check.proofs.Ranges.{root-in-range}
 use Rattle.state.specs.Steps.{Handed}
-use Rattle.state.specs.declared.Begun.{Begun}
-use Rattle.state.specs.declared.Begun.the-variants.{Idle as OpenedIdle, Started, Refused as BegunRefused}
+use Rattle.state.specs.declared.Begun.the-variants.{Started}
 use Rattle.state.specs.declared.Doing.the-variants.{Idle}
 use Rattle.call_step.specs.Calls.{repairSteps}
 use Rattle.theory_tree.specs.Pairs.{pairs, lookup}
@@ -92,14 +90,9 @@ module _ (c : List ℕ) (t : Tree) (accepted : Opens rationTable c) (well : Well
   some-nodes : openedCard c .memory .nodes ≡ 0 → ⊥
   some-nodes z = omega (arith, same-nodes, left .sized .least)
 
-  is-open : (key : ℕ) (b : Begun) → openOf c .begun ≡ b → reasonOf c key ≡ reasonOn (openedCard c .card) (openedCard c .memory .free) key
-  is-open key OpenedIdle e = of-idle c key e
-  is-open key Started e = of-started c key e
-  is-open key (BegunRefused r) e = absurd (not-refused c accepted r e)
-
   -- "prints `no key`" where the file has none: on a card that opens, key 0 has no other reason
   pub no-key : reasonOf c 0 ≡ NoKey
-  no-key = is-open 0 (openOf c .begun) refl ∙ on-no-key (openedCard c .card) (openedCard c .memory .free) 0 (openedCard c .memory .nodes) counted some-nodes refl
+  no-key = of-opened c 0 (not-refused c accepted) ∙ on-no-key (openedCard c .card) (openedCard c .memory .free) 0 (openedCard c .memory .nodes) counted some-nodes refl
 
   module _ (key : ℕ) (low : lowestKey ≤ key) (high : key < keyLimit) where
     -- the leaf that the key leads to
@@ -119,7 +112,7 @@ module _ (c : List ℕ) (t : Tree) (accepted : Opens rationTable c) (well : Well
     reason-is : reasonOf c key ≡ reasonFor leafReason runAbove (countTrue (openedCard c .memory .free))
     unfolding reasonLanded
     reason-is =
-        is-open key (openOf c .begun) refl
+        of-opened c key (not-refused c accepted)
         ∙ on-key (openedCard c .card) (openedCard c .memory .free) key (openedCard c .memory .nodes) counted some-nodes (λ z. omega arith)
         ∙ ap (reasonLanded (openedCard c .card) (openedCard c .memory .free) key) (leads .2 .1)
 

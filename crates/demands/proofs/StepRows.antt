@@ -3,14 +3,13 @@ use mathlib.Core.Path.{_≡_, refl, ap, sym, subst, _∙_}
 use mathlib.Core.Bool.{Bool, true}
 use mathlib.Core.List.{List, [], _∷_}
 use mathlib.Core.Logic.{_⊎_, inl, inr}
-use Prim.Native.Nat.{ℕ, _+_, _≤_, _<_}
+use Prim.Native.Nat.{ℕ, _≤_, _<_}
 use native.Mathlib.Omega.{arith}
-use lib.ListN.{length, getD}
+use lib.ListN.{length}
 use lib.Dec.{eqb, ltb}
 use borrow.Author.Tests.{lt-ltb, le-ltb, ltb-true}
 use Rattle.card.specs.Header.{Sized}
 use Rattle.card.proofs.HeaderLaws.{formatted-header}
-use Rattle.card.specs.Layout.{nodeAt}
 use Rattle.card.specs.Stores.{Store}
 use Rattle.demands.specs.Demand1.{begun, HandsBack, Stores, StoresNext, Answers, Refuses}
 use Rattle.demands.specs.Table.{noWork, formatting}
@@ -19,27 +18,23 @@ use Rattle.demands.specs.RationTable.{workOf, asStepped, rationTable}
 use Rattle.demands.proofs.Work.{IdleOrTask, idle-or-task, settled-work, work-formatting}
 use Rattle.demands.proofs.StartRows.{start-one, refused-back}
 use Rattle.demands.proofs.FirstRows.{NoCard, sized?, by-card}
-use Rattle.walk.specs.Descent.{slotOf}
-use Rattle.walk.specs.declared.Landing.{Landing}
-use Rattle.walk.specs.declared.Landing.the-variants.{Refused as NoLanding, Leaf as LandingAt}
-use Rattle.walk.specs.declared.Slot.{Slot}
-use Rattle.walk.specs.declared.Slot.the-variants.{At, Absent as NoSlot}
 use Rattle.laws.proofs.Cases.{bool-cases, order, impossible}
 use Rattle.state.specs.Answers.{stepReply}
 use Rattle.state.specs.Memory.{Memory, idled, advanced}
 use Rattle.state.specs.Steps.{heldBy, Step, stepRefused, stepFinal, formatStore, stepFormat, stepStore, formattingFrom as formattingThen}
 use Rattle.state.specs.declared.Task.{Task}
 use Rattle.state.specs.declared.Held.the-variants.{Nothing as NoneHeld, Task as HeldTask}
-use Rattle.state.proofs.Tasks.{TaskOf, putting, taking, put, taken, opened}
+use Rattle.state.proofs.Tasks.{TaskOf}
 use Rattle.state.specs.declared.Answer.{Answer}
-use Rattle.state.specs.declared.Answer.the-variants.{Ready, Absent, Value}
+use Rattle.state.specs.declared.Answer.the-variants.{Stored, Ready, Absent, Value, Refused}
 use Rattle.state.specs.declared.Doing.{Doing}
 use Rattle.state.specs.declared.Doing.the-variants.{Formatting, Inserting, Deleting}
 use Rattle.state.specs.declared.Phase.the-variants.{NotBegun}
 use Rattle.call_start.specs.Starts.{insertOf, deleteOf}
 use Rattle.call_step.specs.Calls.{stepTask, stepHeld, stepOf}
+use Rattle.call_step.proofs.StepMemory.{Ends, next-ends}
 use Rattle.call_step.proofs.StepLaws.{step-sized, step-unsized, idle-refused, task-due, held-unchecked}
-use Rattle.call_change.specs.Updates.{Reason, FirstChange, landing, startRoom, insertReason, insertChange, deleteChange, insertIn, deleteIn, noWay, inLeaf, nextChange, held, slot, full}
+use Rattle.call_change.specs.Updates.{startRoom, nextChange}
 
 -- an answer that is final
 abbrev pub Final : Answer → Type 0
@@ -47,34 +42,16 @@ Final a = (a ≡ Ready) ⊎ (((v : ℕ) × (a ≡ Value v)) ⊎ (a ≡ Absent))
 
 -- ---- the final answer of whatever is planned
 
-insert-final : (key value : ℕ) (free : List Bool) (last m link : ℕ) (words : List ℕ) (r : Reason) → Final (insertChange key value free last m link words r .final)
-unfolding insertChange stepReply
-insert-final key value free last m link words (held v) = inr (inl (v, refl))
-insert-final key value free last m link words (slot i) = inr (inr refl)
-insert-final key value free last m link words full = inr (inr refl)
-
-delete-final : (key : ℕ) (free : List Bool) (last m : ℕ) (words : List ℕ) (s : Slot) → Final (deleteChange key free last m words s .final)
-unfolding deleteChange stepReply
-delete-final key free last m words (At i) = inr (inl (getD words (12 + i) 0, refl))
-delete-final key free last m words NoSlot = inr (inr refl)
-
-leaf-final : (c : List ℕ) (doing : Doing) (change : ℕ → ℕ → List ℕ → FirstChange)
-    → ((m link : ℕ) (words : List ℕ) → Final (change m link words .final)) → (l : Landing) → Final (inLeaf c doing change l .final)
-unfolding inLeaf noWay
-leaf-final c doing change f NoLanding = inr (inr refl)
-leaf-final c doing change f (LandingAt m link run) = f m link (nodeAt c m)
+ends-final : (a : Answer) → Ends a → Final a
+unfolding Ends
+ends-final (Stored place) e = absurd e
+ends-final Ready e = inl refl
+ends-final Absent e = inr (inr refl)
+ends-final (Value v) e = inr (inl (v, refl))
+ends-final (Refused r) e = absurd e
 
 pub next-final : (c : List ℕ) (n : ℕ) (free : List Bool) (last : ℕ) {doing : Doing} {task : Task} → TaskOf doing task → Final (nextChange c n free last doing task .final)
-unfolding nextChange
-next-final c n free last (putting {key} {value}) =
-    leaf-final c (Inserting key value NotBegun) (insertIn key value free last)
-    (λ m link words. insert-final key value free last m link words (insertReason words key)) (landing c n key)
-next-final c n free last (taking {key} {value}) =
-    leaf-final c (Deleting key NotBegun value) (deleteIn key free last)
-    (λ m link words. delete-final key free last m words (slotOf words key)) (landing c n key)
-next-final c n free last (put p) = inr (inr refl)
-next-final c n free last (taken {value = value} p) = inr (inl (value, refl))
-next-final c n free last opened = inl refl
+next-final c n free last t = ends-final _ (next-ends c n free last _ _ t)
 
 -- ---- the cases
 

@@ -1,11 +1,15 @@
 -- Laws of the reason: one for each branch of the code.
-use mathlib.Core.Path.{_≡_, sym, _∙_}
+use mathlib.Core.Path.{_≡_, refl, sym, subst, _∙_}
 use mathlib.Core.Bool.{Bool}
-use mathlib.Core.List.{List}
+use mathlib.Core.List.{List, [], _∷_}
 use Prim.Native.Nat.{ℕ}
 use lib.ListN.{length}
+use denote.Enum.Declared.{tagOf}
+use types.Run.{OneOf, miss}
 use borrow.Author.Tests.{ne-eqb, eq-eqb}
 use Rattle.card.specs.Header.{nodesOfLength}
+use Rattle.state.proofs.Begun.{the-type}
+use Rattle.state.specs.declared.Begun.{Begun}
 use Rattle.state.specs.declared.Begun.the-variants.{Idle, Started, Refused as BegunRefused}
 use Rattle.call_change.specs.Updates.{landing}
 use Rattle.call_open.specs.Opening.{openOf}
@@ -33,13 +37,18 @@ module _ (card : List ℕ) (key : ℕ) where
   unfolding reasonOf reasonBegun
   of-refused r e = rw e
 
-  pub of-idle : openOf card .begun ≡ Idle → reasonOf card key ≡ reasonOn (openedCard card .card) (openedCard card .memory .free) key
+  pub of-opened : ((r : ℕ) → openOf card .begun ≡ BegunRefused r → ⊥) → reasonOf card key ≡ reasonOn (openedCard card .card) (openedCard card .memory .free) key
   unfolding reasonOf reasonBegun
-  of-idle e = rw e
+  of-opened unrefused = go (openOf card .begun) refl
+    where
+      go : (b : Begun) → openOf card .begun ≡ b → reasonOf card key ≡ reasonOn (openedCard card .card) (openedCard card .memory .free) key
+      go Idle e = rw e
+      go Started e = rw e
+      go (BegunRefused r) e = absurd (unrefused r e)
 
-  pub of-started : openOf card .begun ≡ Started → reasonOf card key ≡ reasonOn (openedCard card .card) (openedCard card .memory .free) key
-  unfolding reasonOf reasonBegun
-  of-started e = rw e
+-- what opening answered, told by its variant's number: 0 and 1 are those of no refusal
+pub is-unrefused : (b : Begun) → OneOf (0 ∷ 1 ∷ []) (tagOf the-type b) → (r : ℕ) → b ≡ BegunRefused r → ⊥
+is-unrefused b o r e = miss (0 ∷ 1 ∷ []) 2 tt (subst (λ (x : Begun). OneOf (0 ∷ 1 ∷ []) (tagOf the-type x)) e o)
 
 module _ (dump : List ℕ) (lent key : ℕ) where
   pub dump-refused : (r : ℕ) → readAnswer dump lent ≡ ReadRefused r → reasonInDump dump lent key ≡ Refused r

@@ -93,11 +93,10 @@ pub fn insert_reason(card: &mut [u32], key: u32) -> Reason
     ensures { λ r. ⌜ now (card .exit) ≡ openedCard (now (card .entry)) .card ⌝ }
 {
     let mut state: [u32; STATE_WORDS] = [0; STATE_WORDS];
-    match open_repaired(card, &mut state) {
-        Begun::Refused(refusal) => Reason::Refused(refusal),
-        Begun::Idle => reason_with(card, &state, key),
-        Begun::Started => reason_with(card, &state, key),
+    if let Begun::Refused(refusal) = open_repaired(card, &mut state) {
+        return Reason::Refused(refusal);
     }
+    reason_with(card, &state, key)
 }
 
 // A dump, read into a lent slice.

@@ -9,7 +9,7 @@ use Rattle.theory_walk.proofs.Routing.{Untagged}
 use Rattle.theory_walk.proofs.Seek.{violations-part, sound-above}
 use Rattle.theory_tree.proofs.Path.{widthOf, fullRun, ownViolation, reserve, Violation, width-fill, own-violation-le}
 use Rattle.theory_tree.specs.Tree.{Tree, Forest, roots, leaf, node, one, more}
-use Rattle.theory_tree.proofs.Tree.{Left, Right, join, fill, Context, plug, rightmost, followed, top, down}
+use Rattle.theory_tree.proofs.Tree.{Left, Right, fill, Context, plug, rightmost, followed, top, down}
 use Rattle.theory_tree.proofs.Violations.{below, violations-inside}
 use Rattle.theory_tree.specs.Violations.{violations, forestViolations, RootOk, tableViolations}
 use Rattle.theory_tree.specs.Reserve.{reserves, allReserves}
@@ -26,10 +26,6 @@ mutual
   pub all-reserves-none : (run : ℕ) (f : Forest) → forestViolations f ≡ 0 → allReserves run f ≡ 0
   all-reserves-none run (one t) z = reserves-none run t z
   all-reserves-none run (more t k f) z = omega (arith, reserves-none run t (omega arith), all-reserves-none run f (omega arith))
-
-all-reserves-join : (run : ℕ) (f : Forest) (k : ℕ) (g : Forest) → allReserves run (join f k g) ≡ allReserves run f + allReserves run g
-all-reserves-join run (one t) k g = refl
-all-reserves-join run (more t x f) k g = omega (arith, all-reserves-join run f k g)
 
 -- only the child in the hole has violations
 reserves-fill : (run : ℕ) (l : Left) (s : Tree) (r : Right) → forestViolations (fill l s r) ≡ violations s → allReserves run (fill l s r) ≡ reserves run s

@@ -1,20 +1,20 @@
 -- The calls of formatting: "Formatting needs no earlier state and is stepped too: 0 in word 0, then every word from 1 to the last
 -- in rising order .., then 1 in word 0; so 8 + 24 × N + 1 stores, then "ready"." The card may hold any words before.
-use mathlib.Core.Path.{_≡_, refl, ap, sym, _∙_}
+use mathlib.Core.Path.{_≡_, refl, _∙_}
 use mathlib.Core.List.{List}
 use mathlib.Core.Bool.{Bool, false}
 use mathlib.Core.Option.{Option, none, some}
-use Prim.Native.Nat.{ℕ, zero, suc, _≤_}
+use Prim.Native.Nat.{ℕ, suc, _≤_}
 use native.Mathlib.Omega.{arith}
 use lib.ListN.{length, set}
 use borrow.Author.Tests.{ne-eqb, eq-eqb}
 use Rattle.card.specs.Header.{nodesOfLength, Sized}
 use Rattle.card.proofs.HeaderLaws.{sized-nodes}
 use Rattle.card.specs.Stores.{Store}
-use Rattle.theory_format.proofs.FormatCard.{placeOf, formatCard, format-untouched, format-next, format-length}
+use Rattle.theory_format.proofs.FormatCard.{placeOf, formatCard, format-next, format-length}
 use Rattle.theory_format.proofs.FormatStores.{some-store}
 use Rattle.card_free.specs.NodeSet.{allNodes}
-use Rattle.state.specs.Steps.{heldBy, Handed, noBeginning, Step, stepFinal, formatStore, formattingFrom, stepFormat}
+use Rattle.state.specs.Steps.{heldBy, noBeginning, stepFinal, formatStore, formattingFrom, stepFormat}
 use Rattle.call_start.specs.Starts.{formatOf}
 use Rattle.call_step.specs.Calls.{stepHeld, stepOf}
 use Rattle.state.specs.Memory.{Memory, resting, idled}
@@ -82,26 +82,3 @@ module _ (c : List ℕ) (n : ℕ) (sized : Sized (length c) n) where
       let made : ℕ = suc (length c) in
       step-formats (formatCard n c made) n made (freshNodes n) none (still-sized made) (same-store made ∙ format-end n (length c) made (omega arith))
       ∙ format-ends (formatCard n c made) n made (freshNodes n)
-
--- ALL STEPS
-abbrev pub stepAfter : Step → Step
-stepAfter s = stepOf (s .card) (s .memory)
-
--- what is left by the step before which so many others were made, each given what the one before it left
-abbrev pub stepAt : List ℕ → Memory → ℕ → Step
-stepAt card m zero = stepOf card m
-stepAt card m (suc k) = stepAfter (stepAt card m k)
-
-module _ (c : List ℕ) (n : ℕ) (sized : Sized (length c) n) where
-  begun-memory : formatOf c .memory ≡ formatMemory n 0
-  begun-memory = ap (λ (b : Handed). b .memory) (format-starts c n sized)
-
-  -- the first 8 + 24 × N + 1 steps make one store each
-  pub format-stored : (k : ℕ) → k ≤ length c → stepAt c (formatOf c .memory) k
-      ≡ record { answer = Stored (placeOf (formatStore n (length c) k)); card = formatCard n c (suc k); memory = formatMemory n (suc k) }
-  format-stored zero h = rw begun-memory (ap (λ (card : List ℕ). stepOf card (formatMemory n 0)) (sym (format-untouched n c)) ∙ format-step-stores c n sized 0 h)
-  format-stored (suc k) h = ap stepAfter (format-stored k (omega arith)) ∙ format-step-stores c n sized (suc k) h
-
-  -- the step after them answers "ready"
-  pub format-ready : stepAt c (formatOf c .memory) (suc (length c)) ≡ record { answer = Ready; card = formatCard n c (suc (length c)); memory = freshMemory n }
-  format-ready = ap stepAfter (format-stored (length c) (omega arith)) ∙ format-step-ready c n sized

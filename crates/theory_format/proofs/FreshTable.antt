@@ -25,7 +25,6 @@ use Rattle.theory_tree.specs.Pairs.{pairs}
 use Rattle.theory_tree.specs.Represent.{Holds}
 use Rattle.theory_tree.specs.Tree.{Tree, leaf}
 use Rattle.theory_tree.specs.Violations.{tableViolations}
-use Rattle.theory_tree.specs.WellFormed.{Balanced}
 
 abbrev pub freshTree : Tree
 freshTree = leaf 1 (replicate 11 0) (replicate 11 0)
@@ -112,19 +111,4 @@ format-fresh c n s =
       no-pairs = refl;
       exact = fresh-exact n (s .least) (s .most);
       room = fresh-room n (s .least) (s .most);
-    }
-
--- "Balanced means sound with none."
-pub fresh-balanced : (card : List ℕ) (n : ℕ) → FreshTable card n → Balanced card freshTree
-fresh-balanced card n t =
-    record {
-      well-formed = record {
-        holds = t .holds;
-        once = t .sound .once;
-        sound = t .sound .range;
-        widths = t .sound .widths;
-        level = t .sound .level;
-        few-violations = t .sound .few-violations;
-      };
-      none = t .no-violations;
     }

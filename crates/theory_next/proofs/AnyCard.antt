@@ -7,12 +7,12 @@ use lib.ListN.{length}
 use lib.Dec.{eqb}
 use Rattle.card.specs.Header.{cardRefusal, nodesOfLength}
 use Rattle.card.specs.Layout.{keyLimit, nodeAt, leafPairs}
-use Rattle.walk.specs.Descent.{way, leafOf}
+use Rattle.walk.specs.Descent.{way, leafOf, endBelowAll}
 use Rattle.walk.specs.declared.Reached.{Reached}
 use Rattle.walk.specs.declared.Reached.the-variants.{Refused as NotReached, Leaf as ReachedLeaf}
 use Rattle.laws.proofs.Cases.{bool-cases}
 use Rattle.walk_next.proofs.SuccessorLaws.{next-taken}
-use Rattle.walk_next.specs.Successor.{leastAbove, endBelowAll, found, nextInLeaf, inNextLeaf, orNextLeaf, nextIn, nextOf}
+use Rattle.walk_next.specs.Successor.{leastAbove, found, nextInLeaf, inNextLeaf, orNextLeaf, nextIn, nextOf}
 use Rattle.walk_next.specs.declared.Successor.{Successor}
 use Rattle.walk_next.specs.declared.Successor.the-variants.{Pair, Nothing, Refused}
 use Rattle.theory_next.proofs.IsNext.{IsNext}

@@ -8,11 +8,11 @@ use Prim.Native.Nat.{ℕ, zero, suc, _+_, _*_, _≤_, _<_}
 use native.Mathlib.Omega.{arith}
 use lib.ListN.{length, getD}
 use Rattle.card.specs.Layout.{place, nodeAt, leafPairs}
-use Rattle.walk.specs.Descent.{passed, Way, past, wayFrom, reachedAt, leafOf}
+use Rattle.walk.specs.Descent.{passed, Way, past, wayFrom, reachedAt, leafOf, endBelow, endBelowAll}
 use Rattle.walk.specs.declared.Position.{Position}
 use Rattle.theory_walk.proofs.Way.{position, way-child, way-at-leaf}
 use Rattle.theory_walk.proofs.Routing.{index-on-card}
-use Rattle.walk_next.specs.Successor.{leastAbove, endBelow, endBelowAll, found, nextInLeaf}
+use Rattle.walk_next.specs.Successor.{leastAbove, found, nextInLeaf}
 use Rattle.theory_next.proofs.ChildRange.{ChildRange, child-range, child-widths}
 use Rattle.theory_tree.specs.Pairs.{pairs, lookup}
 use Rattle.theory_tree.proofs.Pairs.{InRange, AllInRange, child, lookup-child, depth, child-represents, child-depth}

@@ -14,14 +14,14 @@ use borrow.Author.Tests.{ne-eqb, eq-eqb}
 use Rattle.card.specs.Header.{cardRefusal, nodesOfLength}
 use Rattle.card.proofs.HeaderLaws.{sized, card-sized}
 use Rattle.card.specs.Layout.{rootPlace, depthLimit, lowestKey, keyLimit}
-use Rattle.walk.specs.Descent.{rootPosition, Way, wayFrom, way}
+use Rattle.walk.specs.Descent.{rootPosition, Way, wayFrom, way, endBelowAll}
 use Rattle.walk.proofs.DescentLaws.{root-node}
 use Rattle.walk.specs.declared.Position.{Position}
 use Rattle.theory_walk.proofs.Way.{way-at-leaf}
 use Rattle.laws.proofs.Cases.{order}
 use Rattle.theory_check.proofs.Depth.{well-formed-depth}
 use Rattle.theory_check.proofs.Ranges.{well-formed-in-range}
-use Rattle.walk_next.specs.Successor.{leastAbove, endBelowAll, found, inNextLeaf, orNextLeaf, nextIn, nextOf}
+use Rattle.walk_next.specs.Successor.{leastAbove, found, inNextLeaf, orNextLeaf, nextIn, nextOf}
 use Rattle.walk_next.specs.declared.Successor.the-variants.{Pair}
 use Rattle.theory_next.proofs.ChildRange.{lower}
 use Rattle.theory_next.proofs.IsNext.{IsNext}

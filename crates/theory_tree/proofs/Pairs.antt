@@ -123,10 +123,6 @@ pub root-positive : (c : List ℕ) (t : Tree) → Represents c t → 0 < root t
 root-positive c (leaf m ks vs) r = r .0 .on .pos
 root-positive c (node m g f) r = r .0 .on .pos
 
-pub roots-positive : (c : List ℕ) (f : Forest) → RepresentsAll c f → 0 < getD (roots f) 0 0
-roots-positive c (one t) r = root-positive c t r
-roots-positive c (more t k f) r = root-positive c t (r .0)
-
 pub child-in : (k lo hi : ℕ) (f : Forest) → AllInRange lo hi f → lo ≤ k → k < hi → (l : ℕ) × (h : ℕ) × InRange l h (child k f) × (l ≤ k) × (k < h)
 child-in k lo hi (one t) i l h = (lo, hi, i, l, h)
 child-in k lo hi (more t x f) i l h = order k x (λ o. rw (lt-ltb k x o) (lo, x, i .0, l, o)) (λ o. rw (le-ltb k x o) (child-in k x hi f (i .3) o h))

@@ -1,5 +1,5 @@
 -- One link store puts a new part in the place of an old one; every store before it leaves the old tree.
-use mathlib.Core.Path.{_≡_, refl, ap, _∙_}
+use mathlib.Core.Path.{_≡_, refl, _∙_}
 use mathlib.Core.List.{List}
 use Prim.Native.Nat.{ℕ, _+_, _≤_, _<_}
 use native.Mathlib.Omega.{arith}
@@ -7,10 +7,9 @@ use lib.ListN.{set, getD, take}
 use lib.Seq.{getD-set-other}
 use Rattle.card.proofs.Stores.{play, length-play, Within, within-take, keeps-play, done, also}
 use Rattle.laws.specs.Totals.{indicator}
-use Rattle.laws.proofs.Totals.{indicator-other}
 use Rattle.theory_tree.specs.Represent.{Represents, Holds}
 use Rattle.theory_tree.proofs.Represent.{linkPlace, frame, replaced}
-use Rattle.theory_tree.specs.Tree.{Tree, Forest, root, nodeTotal, nodeTotals, leaf, node, one, more}
+use Rattle.theory_tree.specs.Tree.{Tree, root, nodeTotal}
 use Rattle.theory_tree.proofs.Tree.{Context, plug, contextTotal}
 
 pub play-head : {w : ℕ → ℕ} {ss : List (ℕ × ℕ)} → Within w ss → (c : List ℕ) (p : ℕ) → p < 8 → getD (play ss c) p 0 ≡ getD c p 0
@@ -26,12 +25,3 @@ module _ (c : List ℕ) (C : Context) (s s′ : Tree) (w : ℕ → ℕ) (P : Lis
 
   pub changed : ((i : ℕ) → contextTotal (indicator i) C + nodeTotal (indicator i) s′ ≤ 1) → Represents (play P c) s′ → Holds c (plug C s) → Holds (set (play P c) (linkPlace C) (root s′)) (plug C s′)
   changed d q r = replaced (play P c) C s s′ d (holds-frame inside c (plug C s) fresh r) q
-
-mutual
-  pub total-apart : (w : ℕ → ℕ) (i : ℕ) → 0 < w i → (t : Tree) → nodeTotal w t ≡ 0 → nodeTotal (indicator i) t ≡ 0
-  total-apart w i h (leaf m ks vs) z = indicator-other i m (λ e. omega (arith, ap w e))
-  total-apart w i h (node m g f) z = omega (arith, indicator-other i m (λ e. omega (arith, ap w e)), totals-apart w i h f (omega arith))
-
-  pub totals-apart : (w : ℕ → ℕ) (i : ℕ) → 0 < w i → (f : Forest) → nodeTotals w f ≡ 0 → nodeTotals (indicator i) f ≡ 0
-  totals-apart w i h (one t) z = total-apart w i h t z
-  totals-apart w i h (more t k f) z = omega (arith, total-apart w i h t (omega arith), totals-apart w i h f (omega arith))

@@ -1,6 +1,6 @@
 -- Pairs by rising key, and the leaves that hold them.
 use mathlib.Core.Path.{_≡_, refl, _∙_}
-use mathlib.Core.List.{List, [], _∷_, _++_}
+use mathlib.Core.List.{List, [], _∷_}
 use mathlib.Core.Logic.{by-cases}
 use Prim.Native.Nat.{ℕ, zero, suc, _≤_, _<_}
 use native.Mathlib.Omega.{arith}
@@ -10,7 +10,7 @@ use lib.Dec.{ltb}
 use borrow.Author.Tests.{ltb-true, ltb-false, lt-ltb, le-ltb}
 use Rattle.card.specs.Layout.{slotPairs}
 use Rattle.laws.proofs.Cases.{bool-cases, order}
-use Rattle.laws.specs.Sorting.{Pairs, insertPair, sort, pairKeys, pairValues, keyAt}
+use Rattle.laws.specs.Sorting.{Pairs, insertPair, sort, keyAt}
 use Rattle.laws.proofs.Sorting.{insert-pair-step, sort-nil, sort-cons, total-sort}
 use Rattle.laws.proofs.Totals.{indicator-same, indicator-other, indicator-zero, indicator-le, total-le}
 use Rattle.laws.specs.Totals.{total}
@@ -100,9 +100,3 @@ slot-pairs-zeros (suc n) m (v ∷ vs) = slot-pairs-zeros n m vs
 pub slot-pairs-cons : (k v : ℕ) (ks vs : List ℕ) → 0 < k → slotPairs (k ∷ ks) (v ∷ vs) ≡ (k, v) ∷ slotPairs ks vs
 slot-pairs-cons zero v ks vs h = absurd (omega arith)
 slot-pairs-cons (suc k) v ks vs h = refl
-
-pub slot-pairs-new : (n m lo hi : ℕ) (l : Pairs) → 0 < lo → Rising lo hi l → slotPairs (pairKeys l ++ replicate n 0) (pairValues l ++ replicate m 0) ≡ l
-slot-pairs-new n m lo hi [] h u = slot-pairs-zeros n m (replicate m 0)
-slot-pairs-new n m lo hi (p ∷ l) h u =
-    let h₀ : 0 < p .0 = omega (arith, u .0) in
-    rw (slot-pairs-cons (p .0) (p .1), slot-pairs-new n m (suc (p .0)) hi l (omega arith) (u .1))

@@ -4,7 +4,7 @@ pub mod Routing
 pub mod Find
 -- a key's way on the card is its way through the tree
 pub mod Way
--- A key and the ranges on its way: a key of a part's range leads to that part, and a key that leads to a part lies in its range
+-- a key and the ranges on its way: a key that a tree holds lies in its range, and so does one that leads to a part of it
 pub mod Ranges
 -- the search for a violation on the card is the way of the key through the tree: it comes to the violation that lies on the key's path
 pub mod Seek

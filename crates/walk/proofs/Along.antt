@@ -9,14 +9,15 @@ use native.Mathlib.Decide.{ℕ-discrete}
 use lib.ListN.{length}
 use lib.Dec.{eqb}
 use Rattle.card.specs.Layout.{nodeAt, children, runBelow}
-use Rattle.walk.specs.Descent.{lookAt, childPosition, Way, nowhere, past, wayFrom, runOver, isFault, firstFault, ended, toList, endOf, reachedAt, leafOf}
-use Rattle.walk.proofs.DescentLaws.{Inside, leaf-inside, way-nowhere, way-leaf, way-childless, way-too-deep, way-down}
+use Rattle.walk.specs.Descent.{lookAt, childPosition, Way, nowhere, past, wayFrom, runOver, isFault, firstFault, ended, toList, endOf, reachedAt, leafOf, rangedBy}
+use Rattle.walk.proofs.DescentLaws.{Inside, leaf-inside, way-nowhere, way-leaf, way-childless, way-too-deep, way-down, ranged-leaf}
 use Rattle.laws.specs.Cases.{pick}
 use Rattle.laws.proofs.Cases.{bool-cases, and-true, impossible}
 use Rattle.walk.specs.declared.Position.{Position}
 use Rattle.walk.specs.declared.Look.{Look}
 use Rattle.walk.specs.declared.Look.the-variants.{Nowhere, Leaf as IsLeaf, Inner as IsInner}
 use Rattle.walk.specs.declared.Reached.the-variants.{Leaf as ReachedLeaf}
+use Rattle.walk.specs.declared.Ranged.the-variants.{Leaf as RangedLeaf}
 use Rattle.walk.specs.declared.End.{End}
 use Rattle.walk.specs.declared.End.the-variants.{Leaf as EndLeaf, Fault as EndFault}
 
@@ -62,7 +63,7 @@ module _ (card : List ℕ) (n : ℕ) (P : Position → Type 0) where
         go : (x : Look) → lookAt card n (p .node) ≡ x → Along zero (wayFrom card n key zero p)
         go Nowhere e = subst (Along zero) (sym (way-nowhere card n key p zero e)) (along-nowhere zero)
         go IsLeaf e = subst (Along zero) (sym (way-leaf card n key p zero e)) (along-leaf zero p h e)
-        go IsInner e = subst (Along zero) (sym (way-too-deep card n key p zero e refl)) (along-stop zero p h e)
+        go IsInner e = subst (Along zero) (sym (way-too-deep card n key p e)) (along-stop zero p h e)
     along (suc levels) p h = go (λ q k. along levels q k) (lookAt card n (p .node)) refl
       where
         inner : ((q : Position) → P q → Along levels (wayFrom card n key levels q)) → lookAt card n (p .node) ≡ IsInner
@@ -135,3 +136,6 @@ reached-inside card n key levels p m depth e = go (wayFrom card n key levels p .
     go : (l : Option Position) → ((q : Position) → l ≡ some q → Inside n (q .node)) → reachedAt (length (wayFrom card n key levels p .inner)) l ≡ ReachedLeaf m depth → Inside n m
     go none h z = impossible (cc)
     go (some q) h z = let w : q .node ≡ m = cc in rw w at (h q refl)
+
+pub ranged-inside : (card : List ℕ) (n key end levels : ℕ) (p : Position) (m e : ℕ) → rangedBy card key end (wayFrom card n key levels p) ≡ RangedLeaf m e → Inside n m
+ranged-inside card n key end levels p m e q = reached-inside card n key levels p m _ (ranged-leaf card key end _ m e q .0)

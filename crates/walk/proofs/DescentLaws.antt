@@ -1,6 +1,6 @@
 -- Laws of the way down, one for each branch of the code: what is left of a search after each word read, and what each
 -- node makes of a key.
-use mathlib.Core.Path.{_≡_, refl, ap, sym, _∙_}
+use mathlib.Core.Path.{_≡_, refl, ap, ap₂, sym, _∙_, subst}
 use mathlib.Core.List.{List, [], _∷_, _++_}
 use mathlib.Core.Option.{Option, none, some}
 use mathlib.Core.Bool.{Bool, true, false, _&&_}
@@ -9,24 +9,29 @@ use Prim.Native.Nat.{ℕ, zero, suc, _+_, _-_, _*_, _≤_, _<_}
 use native.Mathlib.Omega.{arith}
 use native.Mathlib.Numerals.{add-one}
 use native.Mathlib.Decide.{ℕ-discrete}
-use lib.ListN.{length, getD, drop, drop-of-length-le}
+use lib.ListN.{length, getD, drop, drop-of-length-le, List·getD-eq-default}
 use lib.Seq.{drop-cons, getD-take}
 use lib.Dec.{ltb, eqb}
 use borrow.Author.Tests.{lt-ltb, le-ltb, ne-eqb, eq-eqb}
-use Rattle.card.specs.Layout.{nodeAt, kindOf, keyWords, valueWords, children, routingKeys, leafPairs, depthLimit}
-use Rattle.card.proofs.NodeLaws.{length-keyWords, get-keyWord, get-valueWord, children-le, length-routing}
-use Rattle.walk.specs.Descent.{passed, childIndex, childFor, firstEqual, slotOf, lookAt, rootPosition, childPosition, Way, nowhere}
-use Rattle.walk.specs.Descent.{past, byLook, wayFrom, reachedAt, leafOf, countOf, isFault, firstFault, ended, toList, endOf, searchOf}
-use Rattle.walk.specs.Descent.{seek}
+use Rattle.card.specs.Layout.{nodeAt, kindOf, keyWords, valueWords, children, routingKeys, leafPairs, runBelow, depthLimit}
+use Rattle.card.proofs.NodeLaws.{length-node, length-keyWords, get-keyWord, get-valueWord, children-le, length-routing, run-none}
+use Rattle.walk.specs.Descent.{passed, childIndex, childFor, firstEqual, slotOf, outside, lookIn, lookAt, downBy, downIn, rootPosition, childAt, childPosition, Way, nowhere}
+use Rattle.walk.specs.Descent.{past, byLook, wayFrom, reachedAt, leafOf, runOver, endBelow, endBelowAll, countOf, isFault, firstFault, ended, toList, endOf, searchOf}
+use Rattle.walk.specs.Descent.{seek, rangedAt, rangedBy}
 use Rattle.laws.specs.Cases.{pick}
-use Rattle.laws.proofs.Cases.{order, impossible}
+use Rattle.laws.proofs.Cases.{order, bool-cases, impossible}
 use Rattle.laws.specs.Lists.{beforeZero}
+use Rattle.laws.proofs.Lists.{getD-any-default}
 use Rattle.walk.specs.declared.Slot.{Slot}
 use Rattle.walk.specs.declared.Slot.the-variants.{At, Absent}
 use Rattle.walk.specs.declared.Position.{Position}
+use Rattle.walk.specs.declared.Down.{Down}
+use Rattle.walk.specs.declared.Down.the-variants.{Nowhere as DownNowhere, Leaf as DownLeaf, Childless, Inner as DownInner}
+use Rattle.walk.specs.declared.Look.{Look}
 use Rattle.walk.specs.declared.Look.the-variants.{Nowhere, Leaf as IsLeaf, Inner as IsInner}
 use Rattle.walk.specs.declared.Reached.{Reached}
 use Rattle.walk.specs.declared.Reached.the-variants.{Refused as NotReached, Leaf as ReachedLeaf}
+use Rattle.walk.specs.declared.Ranged.the-variants.{Refused as NoRange, Leaf as RangedLeaf}
 use Rattle.walk.specs.declared.End.{End}
 use Rattle.walk.specs.declared.End.the-variants.{Refused as EndRefused, Leaf as EndLeaf, Fault as EndFault}
 use Rattle.walk.specs.declared.Search.the-variants.{Violation as SearchViolation}
@@ -157,39 +162,61 @@ index-le node key len = omega (arith, passed-le (routingKeys node) key, length-r
 abbrev pub Internal : List ℕ → Type 0
 Internal node = (kindOf node ≡ 2) ⊎ (kindOf node ≡ 3)
 
-module _ (card : List ℕ) (n m : ℕ) where
-  pub look-zero : m ≡ 0 → lookAt card n m ≡ Nowhere
-  unfolding lookAt
-  look-zero e = simp (eq-eqb m 0 e)
+module _ (node : List ℕ) where
+  pub kind-leaf : kindOf node ≡ 1 → lookIn node ≡ IsLeaf
+  unfolding lookIn
+  kind-leaf e = simp (eq-eqb _ _ e)
 
-  pub look-beyond : n < m → lookAt card n m ≡ Nowhere
-  unfolding lookAt
-  look-beyond l = simp (ne-eqb m 0 (λ e. omega arith), lt-ltb n m l)
+  pub kind-inner : Internal node → lookIn node ≡ IsInner
+  unfolding lookIn
+  kind-inner (inl e) = simp (ne-eqb (kindOf node) 1 (λ q. omega arith), eq-eqb _ _ e)
+  kind-inner (inr e) = simp (ne-eqb (kindOf node) 1 (λ q. omega arith), ne-eqb (kindOf node) 2 (λ q. omega arith), eq-eqb _ _ e)
 
-  module _ (on : m ≡ 0 → ⊥) (to : m ≤ n) where
-    pub look-leaf : kindOf (nodeAt card m) ≡ 1 → lookAt card n m ≡ IsLeaf
-    unfolding lookAt
-    look-leaf e = simp (ne-eqb m 0 on, le-ltb n m to, eq-eqb _ _ e)
-
-    pub look-inner : Internal (nodeAt card m) → lookAt card n m ≡ IsInner
-    unfolding lookAt
-    look-inner (inl e) = simp (ne-eqb m 0 on, le-ltb n m to, ne-eqb (kindOf (nodeAt card m)) 1 (λ q. omega arith), eq-eqb _ _ e)
-    look-inner (inr e) =
-        simp (ne-eqb m 0 on, le-ltb n m to, ne-eqb (kindOf (nodeAt card m)) 1 (λ q. omega arith), ne-eqb (kindOf (nodeAt card m)) 2 (λ q. omega arith), eq-eqb _ _ e)
-
-    pub look-unknown : (kindOf (nodeAt card m) ≡ 1 → ⊥) → (kindOf (nodeAt card m) ≡ 2 → ⊥) → (kindOf (nodeAt card m) ≡ 3 → ⊥) → lookAt card n m ≡ Nowhere
-    unfolding lookAt
-    look-unknown p q r = simp (ne-eqb m 0 on, le-ltb n m to, ne-eqb _ _ p, ne-eqb _ _ q, ne-eqb _ _ r)
+  pub kind-unknown : (kindOf node ≡ 1 → ⊥) → (kindOf node ≡ 2 → ⊥) → (kindOf node ≡ 3 → ⊥) → lookIn node ≡ Nowhere
+  unfolding lookIn
+  kind-unknown p q r = simp (ne-eqb _ _ p, ne-eqb _ _ q, ne-eqb _ _ r)
 
 -- where something stands is a node of the card
 pub record Inside (n m : ℕ) : Type 0 where
   pub one : 1 ≤ m
   pub most : m ≤ n
 
+module _ (n m : ℕ) where
+  pub outside-zero : m ≡ 0 → outside n m ≡ true
+  unfolding outside
+  outside-zero e = simp (eq-eqb m 0 e)
+
+  pub outside-above : (m ≡ 0 → ⊥) → outside n m ≡ ltb n m
+  unfolding outside
+  outside-above p = simp (ne-eqb m 0 p)
+
+  pub inside : outside n m ≡ false → Inside n m
+  inside out =
+      order m 1 (λ o. let e = sym out ∙ outside-zero (omega arith) in impossible (cc))
+      (λ from. order n m (λ o. let e = sym out ∙ outside-above (λ z. omega arith) ∙ lt-ltb n m o in impossible (cc)) (λ to. record { one = from; most = to }))
+
+module _ (card : List ℕ) (n m : ℕ) where
+  pub look-outside : outside n m ≡ true → lookAt card n m ≡ Nowhere
+  unfolding lookAt
+  look-outside e = rw e
+
+  pub look-there : outside n m ≡ false → lookAt card n m ≡ lookIn (nodeAt card m)
+  unfolding lookAt
+  look-there e = rw e
+
+  -- its 24 words
+  pub node-words : length card ≡ 8 + 24 * n → outside n m ≡ false → (node : List ℕ) → node ≡ nodeAt card m → length node ≡ 24
+  node-words len out node same = let k = inside n m out in ap length same ∙ length-node card m (k .one) (omega (arith, k .most))
+
+  module _ (on : m ≡ 0 → ⊥) (to : m ≤ n) where
+    pub look-leaf : kindOf (nodeAt card m) ≡ 1 → lookAt card n m ≡ IsLeaf
+    look-leaf e = look-there (outside-above n m on ∙ le-ltb n m to) ∙ kind-leaf (nodeAt card m) e
+
+    pub look-inner : Internal (nodeAt card m) → lookAt card n m ≡ IsInner
+    look-inner e = look-there (outside-above n m on ∙ le-ltb n m to) ∙ kind-inner (nodeAt card m) e
+
 pub look-inside : (card : List ℕ) (n m : ℕ) → (lookAt card n m ≡ Nowhere → ⊥) → Inside n m
-look-inside card n m there =
-    order m 1 (λ o. absurd (there (look-zero card n m (omega arith))))
-    (λ from. order n m (λ o. absurd (there (look-beyond card n m o))) (λ to. record { one = from; most = to }))
+look-inside card n m there = bool-cases (outside n m) (λ out. absurd (there (look-outside card n m out))) (λ out. inside n m out)
 
 pub leaf-inside : (card : List ℕ) (n m : ℕ) → lookAt card n m ≡ IsLeaf → Inside n m
 leaf-inside card n m e = look-inside card n m (λ z. let q = sym z ∙ e in impossible (cc))
@@ -199,75 +226,123 @@ inner-inside card n m e = look-inside card n m (λ z. let q = sym z ∙ e in imp
 
 -- ---- the way, by what stands at a position
 
+-- on from a child, where at most so many internal nodes were left before its parent
+abbrev pub onward : List ℕ → ℕ → ℕ → ℕ → Position → Way
+onward card n key zero = λ q. nowhere
+onward card n key (suc levels) = wayFrom card n key levels
+
 pick-same : {A : Type 0} (b : Bool) (x : A) → pick b x x ≡ x
 pick-same true x = refl
 pick-same false x = refl
 
 module _ (card : List ℕ) (n key : ℕ) (p : Position) where
+  way-by-look : (levels : ℕ) → wayFrom card n key levels p ≡ byLook (nodeAt card (p .node)) key p (onward card n key levels) (lookAt card n (p .node))
+  unfolding wayFrom
+  way-by-look zero = refl
+  way-by-look (suc levels) = refl
+
   pub way-nowhere : (levels : ℕ) → lookAt card n (p .node) ≡ Nowhere → wayFrom card n key levels p ≡ nowhere
-  unfolding wayFrom byLook
-  way-nowhere zero e = ap (byLook (nodeAt card (p .node)) key p (λ q. nowhere)) e
-  way-nowhere (suc levels) e = ap (byLook (nodeAt card (p .node)) key p (wayFrom card n key levels)) e
+  unfolding byLook
+  way-nowhere levels e = way-by-look levels ∙ ap (byLook (nodeAt card (p .node)) key p (onward card n key levels)) e
 
   pub way-leaf : (levels : ℕ) → lookAt card n (p .node) ≡ IsLeaf → wayFrom card n key levels p ≡ record { inner = []; leaf = some p }
-  unfolding wayFrom byLook
-  way-leaf zero e = ap (byLook (nodeAt card (p .node)) key p (λ q. nowhere)) e
-  way-leaf (suc levels) e = ap (byLook (nodeAt card (p .node)) key p (wayFrom card n key levels)) e
+  unfolding byLook
+  way-leaf levels e = way-by-look levels ∙ ap (byLook (nodeAt card (p .node)) key p (onward card n key levels)) e
+
+  pub way-inner : (levels : ℕ) → lookAt card n (p .node) ≡ IsInner → wayFrom card n key levels p
+      ≡ past p (pick (eqb (length (children (nodeAt card (p .node)))) 0) nowhere (onward card n key levels (childPosition (nodeAt card (p .node)) key p)))
+  unfolding byLook
+  way-inner levels e = way-by-look levels ∙ ap (byLook (nodeAt card (p .node)) key p (onward card n key levels)) e
 
   pub way-childless : (levels : ℕ) → lookAt card n (p .node) ≡ IsInner → length (children (nodeAt card (p .node))) ≡ 0 → wayFrom card n key levels p ≡ past p nowhere
-  unfolding wayFrom byLook
-  way-childless zero e z = ap (byLook (nodeAt card (p .node)) key p (λ q. nowhere)) e ∙ simp (eq-eqb (length (children (nodeAt card (p .node)))) 0 z)
-  way-childless (suc levels) e z = ap (byLook (nodeAt card (p .node)) key p (wayFrom card n key levels)) e ∙ simp (eq-eqb (length (children (nodeAt card (p .node)))) 0 z)
+  way-childless levels e z = way-inner levels e ∙ simp (eq-eqb (length (children (nodeAt card (p .node)))) 0 z)
 
-  pub way-too-deep : (levels : ℕ) → lookAt card n (p .node) ≡ IsInner → levels ≡ 0 → wayFrom card n key levels p ≡ past p nowhere
-  unfolding wayFrom byLook
-  way-too-deep zero e z = ap (byLook (nodeAt card (p .node)) key p (λ q. nowhere)) e ∙ ap (past p) (pick-same (eqb (length (children (nodeAt card (p .node)))) 0) nowhere)
-  way-too-deep (suc levels) e z = absurd (omega arith)
+  pub way-too-deep : lookAt card n (p .node) ≡ IsInner → wayFrom card n key 0 p ≡ past p nowhere
+  way-too-deep e = way-inner 0 e ∙ ap (past p) (pick-same (eqb (length (children (nodeAt card (p .node)))) 0) nowhere)
 
   pub way-down : (levels : ℕ) → lookAt card n (p .node) ≡ IsInner → 0 < length (children (nodeAt card (p .node)))
       → wayFrom card n key (suc levels) p ≡ past p (wayFrom card n key levels (childPosition (nodeAt card (p .node)) key p))
-  unfolding wayFrom byLook
-  way-down levels e h = ap (byLook (nodeAt card (p .node)) key p (wayFrom card n key levels)) e ∙ simp (ne-eqb (length (children (nodeAt card (p .node)))) 0 (λ z. omega arith))
-
-  -- the same as the code counts levels
-  pub way-on : (levels : ℕ) → lookAt card n (p .node) ≡ IsInner → (levels ≡ 0 → ⊥) → 0 < length (children (nodeAt card (p .node)))
-      → wayFrom card n key levels p ≡ past p (wayFrom card n key (levels - 1) (childPosition (nodeAt card (p .node)) key p))
-  way-on zero e l h = absurd (l refl)
-  way-on (suc levels) e l h =
-      way-down levels e h ∙ ap (λ (x : ℕ). past p (wayFrom card n key x (childPosition (nodeAt card (p .node)) key p))) (let z : levels ≡ suc levels - 1 = omega arith in z)
+  way-down levels e h = way-inner (suc levels) e ∙ simp (ne-eqb (length (children (nodeAt card (p .node)))) 0 (λ z. omega arith))
 
 -- the child's number, by the number of the child
 pub child-word : (node : List ℕ) (key i : ℕ) → i ≡ childIndex node key → getD node (12 + i) 0 ≡ childFor node key
 unfolding childFor
 child-word node key i e = ap (λ (x : ℕ). getD node (12 + x) 0) e
 
--- the child's position, as the code makes it
-pub child-position : (node : List ℕ) (key : ℕ) (p : Position) (i : ℕ) → i ≡ childIndex node key
-    → record { node = getD node (12 + i) 0; link = 8 + 24 * (p .node - 1) + 12 + i; parent = p .node; index = i; above = p .link } ≡ childPosition node key p
-unfolding childPosition childFor
-child-position node key p i e =
-    rw e
-    (ap (λ (a : ℕ). record { node = getD node (12 + childIndex node key) 0; link = a; parent = p .node; index = childIndex node key; above = p .link }) (omega arith))
-
 pub root-node : (root : ℕ) → rootPosition root .node ≡ root
 unfolding rootPosition
 root-node root = refl
 
--- ---- a node on the way, as the code holds it: by its number and its words
+-- ---- the way, as the code goes it: by the number and the words of the node in hand
 
-module _ (card : List ℕ) (key : ℕ) (p : Position) (m : ℕ) (node : List ℕ) (at : p .node ≡ m) (same : node ≡ nodeAt card m) where
-  pub held : nodeAt card (p .node) ≡ node
-  held = ap (nodeAt card) at ∙ sym same
+-- the words of an internal node, as the code reads them
+module _ (node : List ℕ) (key : ℕ) (e : lookIn node ≡ IsInner) where
+  pub down-childless : getD node 12 0 ≡ 0 → downIn node key ≡ Childless
+  unfolding downIn downBy
+  down-childless z = ap (downBy node key) e ∙ simp (eq-eqb (length (children node)) 0 (omega (arith, children-stop node 0 (omega arith) z)))
 
-  pub no-child : getD node 12 0 ≡ 0 → length (children (nodeAt card (p .node))) ≡ 0
-  no-child e = rw held (omega (arith, children-stop node 0 (omega arith) e))
+  down-taken : (getD node 12 0 ≡ 0 → ⊥) → downIn node key ≡ DownInner (childIndex node key) (childFor node key)
+  unfolding downIn downBy
+  down-taken z = ap (downBy node key) e ∙ simp (ne-eqb (length (children node)) 0 (λ q. omega (arith, children-more node 0 (omega arith) (omega arith) z)))
 
-  pub some-child : (getD node 12 0 ≡ 0 → ⊥) → 0 < length (children (nodeAt card (p .node)))
-  some-child e = rw held (children-more node 0 (omega arith) (omega arith) e)
+  pub down-inner : (getD node 12 0 ≡ 0 → ⊥) → (i : ℕ) → i ≡ childIndex node key → downIn node key ≡ DownInner i (getD node (12 + i) 0)
+  down-inner z i at = down-taken z ∙ ap₂ (λ (j x : ℕ). DownInner j x) (sym at) (sym (child-word node key i at))
 
-  pub next-node : (i : ℕ) → i ≡ childIndex node key → childPosition (nodeAt card (p .node)) key p .node ≡ getD node (12 + i) 0
-  unfolding childPosition
-  next-node i e = ap (λ (x : List ℕ). childFor x key) held ∙ sym (child-word node key i e)
+-- what is known of a node by what it is to a key
+abbrev pub Told : List ℕ → ℕ → Down → Type 0
+Told node key DownNowhere = Unit {0}
+Told node key DownLeaf = Unit {0}
+Told node key Childless = length (children node) ≡ 0
+Told node key (DownInner i c) = (i ≡ childIndex node key) × (0 < length (children node))
+
+told-by : (node : List ℕ) (key : ℕ) (x : Look) → Told node key (downBy node key x)
+unfolding downBy
+told-by node key Nowhere = tt
+told-by node key IsLeaf = tt
+told-by node key IsInner = by-cases (ℕ-discrete (length (children node)) 0) (λ z. rw (eq-eqb (length (children node)) 0 z) z) (λ z. rw (ne-eqb (length (children node)) 0 z) (refl, omega arith))
+
+pub told : (node : List ℕ) (key : ℕ) (d : Down) → downIn node key ≡ d → Told node key d
+unfolding downIn
+told node key d e = subst (Told node key) e (told-by node key (lookIn node))
+
+pub taken-le : (node : List ℕ) (key i c : ℕ) → length node ≡ 24 → downIn node key ≡ DownInner i c → i ≤ 10
+taken-le node key i c len e = omega (arith, told node key (DownInner i c) e .0, index-le node key len)
+
+pub taken-below : (node : List ℕ) (key i c : ℕ) → length node ≡ 24 → downIn node key ≡ DownInner i c → i < length (children node)
+unfolding childIndex
+taken-below node key i c len e =
+    let h = told node key (DownInner i c) e in omega (arith, h .0, h .1, passed-le (routingKeys node) key, length-routing node len)
+
+-- the way from a position, by what the node there is to the key
+abbrev pub byDown : Position → (Position → Way) → Down → Way
+byDown p next DownNowhere = nowhere
+byDown p next DownLeaf = record { inner = []; leaf = some p }
+byDown p next Childless = past p nowhere
+byDown p next (DownInner i c) = past p (next (childAt p i c))
+
+by-down : (node : List ℕ) (key : ℕ) (p : Position) (next : Position → Way) (x : Look) → byLook node key p next x ≡ byDown p next (downBy node key x)
+unfolding byLook downBy childPosition
+by-down node key p next Nowhere = refl
+by-down node key p next IsLeaf = refl
+by-down node key p next IsInner = bool-cases (eqb (length (children node)) 0) (λ b. rw b) (λ b. rw b)
+
+module _ (card : List ℕ) (n key levels : ℕ) where
+  pub onward-none : (q : Position) → levels ≡ 0 → onward card n key levels q ≡ nowhere
+  onward-none q z = rw z
+
+  pub onward-on : (q : Position) → (levels ≡ 0 → ⊥) → onward card n key levels q ≡ wayFrom card n key (levels - 1) q
+  onward-on q h = let z : suc (levels - 1) ≡ levels = omega arith in ap (λ (x : ℕ). onward card n key x q) (sym z)
+
+  module _ (p : Position) (m : ℕ) (at : p .node ≡ m) where
+    pub way-outside : outside n m ≡ true → wayFrom card n key levels p ≡ nowhere
+    way-outside out = way-nowhere card n key p levels (ap (lookAt card n) at ∙ look-outside card n m out)
+
+    pub way-at : outside n m ≡ false → (node : List ℕ) → node ≡ nodeAt card m → (d : Down) → downIn node key ≡ d → wayFrom card n key levels p ≡ byDown p (onward card n key levels) d
+    unfolding downIn
+    way-at out node same d e =
+        way-by-look card n key p levels ∙ by-down _ key p _ _
+        ∙ ap (byDown p (onward card n key levels)) (ap (λ (x : ℕ). downBy (nodeAt card x) key (lookAt card n x)) at
+        ∙ ap (downBy (nodeAt card m) key) (look-there card n m out) ∙ ap (λ (x : List ℕ). downIn x key) (sym same) ∙ e)
 
 -- ---- the leaf, read off the way
 
@@ -281,7 +356,7 @@ unfolding deeper
 deeper-none NotReached = refl
 deeper-none (ReachedLeaf m depth) = ap (ReachedLeaf m) (omega arith)
 
-pub leaf-past : (p : Position) (w : Way) → leafOf (past p w) ≡ deeper 1 (leafOf w)
+leaf-past : (p : Position) (w : Way) → leafOf (past p w) ≡ deeper 1 (leafOf w)
 unfolding leafOf past reachedAt deeper
 leaf-past p w = go (length (w .inner)) (w .leaf)
   where
@@ -290,14 +365,84 @@ leaf-past p w = go (length (w .inner)) (w .leaf)
     go d (some q) = ap (ReachedLeaf (q .node)) (omega arith)
 
 -- a level more, as the code counts them
-pub deeper-on : (way : ℕ → Reached) (depth : ℕ) → depth ≤ depthLimit → (depth ≡ depthLimit → ⊥)
-    → deeper depth (deeper 1 (way (depthLimit - depth - 1))) ≡ deeper (depth + 1) (way (depthLimit - (depth + 1)))
+pub leaf-on : (card : List ℕ) (n key : ℕ) (p q : Position) (depth : ℕ) → depth ≤ depthLimit → (depth ≡ depthLimit → ⊥)
+    → deeper depth (leafOf (past p (onward card n key (depthLimit - depth) q))) ≡ deeper (depth + 1) (leafOf (wayFrom card n key (depthLimit - (depth + 1)) q))
 unfolding deeper
-deeper-on way depth l h = deeper-twice (way (depthLimit - depth - 1)) ∙ ap (λ (x : ℕ). deeper (depth + 1) (way x)) (omega arith)
+leaf-on card n key p q depth l h =
+    ap (λ (w : Way). deeper depth (leafOf (past p w))) (onward-on card n key (depthLimit - depth) q (λ z. h (omega arith)))
+    ∙ ap (deeper depth) (leaf-past p (wayFrom card n key (depthLimit - depth - 1) q)) ∙ deeper-twice (leafOf (wayFrom card n key (depthLimit - depth - 1) q))
+    ∙ ap (λ (x : ℕ). deeper (depth + 1) (leafOf (wayFrom card n key x q))) (omega arith)
   where
     deeper-twice : (r : Reached) → deeper depth (deeper 1 r) ≡ deeper (depth + 1) r
     deeper-twice NotReached = refl
     deeper-twice (ReachedLeaf m d) = ap (ReachedLeaf m) (omega arith)
+
+-- ---- the run above the leaf, read off the way
+
+-- past a node in hand
+module _ (card : List ℕ) (p : Position) (m : ℕ) (node : List ℕ) (at : p .node ≡ m) (same : node ≡ nodeAt card m) (run : ℕ) where
+  pub run-past : (w : Way) (count : ℕ) → count ≡ length (children node) → runOver card run (past p w .inner) ≡ runOver card (runBelow count run) (w .inner)
+  unfolding runOver past
+  run-past w count e =
+      ap (λ (k : ℕ). runOver card (runBelow k run) (w .inner)) (ap (λ (x : List ℕ). length (children x)) (ap (nodeAt card) at ∙ sym same) ∙ sym e)
+
+  pub run-childless : length (children node) ≡ 0 → runOver card run (past p nowhere .inner) ≡ 0
+  unfolding runOver
+  run-childless e = run-past nowhere 0 (sym e) ∙ run-none 0 run (λ z. omega arith)
+
+-- ---- the leaf with the end of its range, read off the way
+
+-- where the range of a child ends: of the last one where its parent's does
+module _ (node : List ℕ) (i end : ℕ) (l : length node ≡ 24) where
+  pub end-last : length (children node) ≤ i + 1 → getD (routingKeys node) i end ≡ end
+  end-last h = List·getD-eq-default (routingKeys node) end {n = i} (omega (arith, length-routing node l))
+
+  pub end-key : i + 1 < length (children node) → getD (routingKeys node) i end ≡ getD node (1 + i) 0
+  unfolding routingKeys
+  end-key h =
+      getD-take (length (children node) - 1) (keyWords node) i end (omega arith)
+      ∙ getD-any-default (keyWords node) i end 0 (omega (arith, length-keyWords node l, children-le node))
+      ∙ get-keyWord node i (omega (arith, children-le node))
+
+module _ (card : List ℕ) (key end : ℕ) where
+  pub ranged-nowhere : rangedBy card key end nowhere ≡ NoRange
+  unfolding rangedBy rangedAt
+  ranged-nowhere = refl
+
+  pub ranged-stop : (p : Position) → rangedBy card key end (past p nowhere) ≡ NoRange
+  unfolding rangedBy rangedAt past
+  ranged-stop p = refl
+
+  pub ranged-end : (p : Position) → rangedBy card key end (record { inner = []; leaf = some p }) ≡ RangedLeaf (p .node) end
+  unfolding rangedBy rangedAt endBelowAll
+  ranged-end p = refl
+
+  -- past a node in hand
+  pub ranged-past : (p : Position) (m : ℕ) (node : List ℕ) → p .node ≡ m → node ≡ nodeAt card m → (i e : ℕ) → i ≡ childIndex node key
+      → e ≡ getD (routingKeys node) i end → (w : Way) → rangedBy card key end (past p w) ≡ rangedBy card key e w
+  unfolding rangedBy endBelowAll endBelow past
+  ranged-past p m node at same i e taken ends w =
+      ap (λ (x : ℕ). rangedAt (endBelowAll card key x (w .inner)) (w .leaf))
+      (ap (λ (x : List ℕ). endBelow x key end) (ap (nodeAt card) at ∙ sym same) ∙ ap (λ (j : ℕ). getD (routingKeys node) j end) (sym taken) ∙ sym ends)
+
+  -- what it says of the way
+  pub ranged-refused : (w : Way) → rangedBy card key end w ≡ NoRange → leafOf w ≡ NotReached
+  unfolding rangedBy rangedAt leafOf reachedAt
+  ranged-refused w e = go (w .leaf) e
+    where
+      go : (o : Option Position) → rangedAt (endBelowAll card key end (w .inner)) o ≡ NoRange → reachedAt (length (w .inner)) o ≡ NotReached
+      go none q = refl
+      go (some p) q = impossible (cc)
+
+  pub ranged-leaf : (w : Way) (m e : ℕ) → rangedBy card key end w ≡ RangedLeaf m e
+      → (leafOf w ≡ ReachedLeaf m (length (w .inner))) × (endBelowAll card key end (w .inner) ≡ e)
+  unfolding rangedBy rangedAt leafOf reachedAt
+  ranged-leaf w m e q = go (w .leaf) q
+    where
+      go : (o : Option Position) → rangedAt (endBelowAll card key end (w .inner)) o ≡ RangedLeaf m e
+          → (reachedAt (length (w .inner)) o ≡ ReachedLeaf m (length (w .inner))) × (endBelowAll card key end (w .inner) ≡ e)
+      go none r = impossible (cc)
+      go (some p) r = (cc, cc)
 
 -- ---- faults
 
@@ -337,6 +482,10 @@ module _ (card : List ℕ) (seeks : Bool) where
   abbrev pub stops : Position → Bool
   stops p = seeks && isFault (nodeAt card (p .node)) (p .parent)
 
+  -- the same by the words in hand
+  pub stopped : (p : Position) (node : List ℕ) (b : Bool) → node ≡ nodeAt card (p .node) → b ≡ (seeks && isFault node (p .parent)) → stops p ≡ b
+  stopped p node b same e = ap (λ (x : List ℕ). seeks && isFault x (p .parent)) (sym same) ∙ sym e
+
   pub end-nowhere : endOf card seeks nowhere ≡ EndRefused
   unfolding endOf firstFault ended toList
   end-nowhere = refl
@@ -371,11 +520,7 @@ search-fault card n key levels p q e = go (endOf card true (wayFrom card n key l
 -- an internal node where a search stops
 pub fault-at : (card : List ℕ) (n key : ℕ) (seeks : Bool) (levels : ℕ) (p : Position)
     → lookAt card n (p .node) ≡ IsInner → stops card seeks p ≡ true → endOf card seeks (wayFrom card n key levels p) ≡ EndFault p
-fault-at card n key seeks zero p e f = ap (endOf card seeks) (way-too-deep card n key p zero e refl) ∙ end-fault card seeks p nowhere f
-fault-at card n key seeks (suc levels) p e f =
-    by-cases (ℕ-discrete (length (children (nodeAt card (p .node)))) 0)
-    (λ z. ap (endOf card seeks) (way-childless card n key p (suc levels) e z) ∙ end-fault card seeks p nowhere f)
-    (λ z. ap (endOf card seeks) (way-down card n key p levels e (omega arith)) ∙ end-fault card seeks p _ f)
+fault-at card n key seeks levels p e f = ap (endOf card seeks) (way-inner card n key p levels e) ∙ end-fault card seeks p _ f
 
 -- where no fault is sought the way ends at its leaf
 unsought : (card : List ℕ) (end : End) (ps : List Position) → firstFault card false end ps ≡ end

@@ -2,18 +2,22 @@
 use mathlib.Core.Bool.{Bool, true, _&&_, _||_, not}
 use mathlib.Core.List.{List, [], _∷_, _++_}
 use mathlib.Core.Option.{Option, none, some}
-use Prim.Native.Nat.{ℕ, zero, suc, _+_}
+use Prim.Native.Nat.{ℕ, zero, suc, _+_, _≤_}
 use lib.ListN.{length, getD}
 use lib.Dec.{eqb, ltb}
 use Rattle.laws.specs.Cases.{pick}
-use Rattle.card.specs.Layout.{rootPlace, depthLimit, place, nodeAt, kindOf, keyWords, children, routingKeys, leafPairs, runBelow}
+use Rattle.card.specs.Layout.{rootPlace, depthLimit, place, nodeAt, kindOf, keyWords, children, routingKeys, leafPairs, runBelow, keyLimit}
 use Rattle.walk.specs.declared.Slot.{Slot}
 use Rattle.walk.specs.declared.Slot.the-variants.{At, Absent}
 use Rattle.walk.specs.declared.Position.{Position}
 use Rattle.walk.specs.declared.Look.{Look}
 use Rattle.walk.specs.declared.Look.the-variants.{Nowhere, Leaf as IsLeaf, Inner as IsInner}
+use Rattle.walk.specs.declared.Down.{Down}
+use Rattle.walk.specs.declared.Down.the-variants.{Nowhere as DownNowhere, Leaf as DownLeaf, Childless, Inner as DownInner}
 use Rattle.walk.specs.declared.Reached.{Reached}
 use Rattle.walk.specs.declared.Reached.the-variants.{Refused as NotReached, Leaf as ReachedLeaf}
+use Rattle.walk.specs.declared.Ranged.{Ranged}
+use Rattle.walk.specs.declared.Ranged.the-variants.{Refused as NoRange, Leaf as RangedLeaf}
 use Rattle.walk.specs.declared.Landing.{Landing}
 use Rattle.walk.specs.declared.Landing.the-variants.{Refused as NoLanding, Leaf as LandingAt}
 use Rattle.walk.specs.declared.End.{End}
@@ -44,20 +48,38 @@ slotOf node key = firstEqual (keyWords node) key 0
 
 -- ---- the way down
 
--- What stands where a node number leads: "9: node number 0 or above N, kind not 1 to 3".
+-- "9: node number 0 or above N"
+unfoldable pub outside : ℕ → ℕ → Bool
+outside n m = eqb m 0 || ltb n m
+
+-- what a node is, by its words: "kind not 1 to 3"
+unfoldable pub lookIn : List ℕ → Look
+lookIn node = pick (eqb (kindOf node) 1) IsLeaf (pick (eqb (kindOf node) 2 || eqb (kindOf node) 3) IsInner Nowhere)
+
+-- what stands where a node number leads
 unfoldable pub lookAt : List ℕ → ℕ → ℕ → Look
-lookAt card n m =
-    pick (eqb m 0 || ltb n m) Nowhere
-    (pick (eqb (kindOf (nodeAt card m)) 1) IsLeaf (pick (eqb (kindOf (nodeAt card m)) 2 || eqb (kindOf (nodeAt card m)) 3) IsInner Nowhere))
+lookAt card n m = pick (outside n m) Nowhere (lookIn (nodeAt card m))
+
+-- the same with, of an internal node with children, which of them a key takes and its number
+unfoldable pub downBy : List ℕ → ℕ → Look → Down
+downBy node key Nowhere = DownNowhere
+downBy node key IsLeaf = DownLeaf
+downBy node key IsInner = pick (eqb (length (children node)) 0) Childless (DownInner (childIndex node key) (childFor node key))
+
+unfoldable pub downIn : List ℕ → ℕ → Down
+downIn node key = downBy node key (lookIn node)
 
 -- the root: no parent
 unfoldable pub rootPosition : ℕ → Position
 rootPosition root = record { node = root; link = rootPlace; parent = 0; index = 0; above = 0 }
 
+-- child number i of the node at a position, which is node c
+abbrev pub childAt : Position → ℕ → ℕ → Position
+childAt p i c = record { node = c; link = place (p .node) (12 + i); parent = p .node; index = i; above = p .link }
+
 -- the child that a key takes from the words of the node at a position
 unfoldable pub childPosition : List ℕ → ℕ → Position → Position
-childPosition node key p =
-    record { node = childFor node key; link = place (p .node) (12 + childIndex node key); parent = p .node; index = childIndex node key; above = p .link }
+childPosition node key p = childAt p (childIndex node key) (childFor node key)
 
 -- A key's way down: the internal nodes that it passes, the first one first, and the leaf that it ends at; none where 9 is due:
 -- "node number 0 or above N, kind not 1 to 3, no children, or more than 10 internal nodes".
@@ -101,6 +123,29 @@ leafOf w = reachedAt (length (w .inner)) (w .leaf)
 unfoldable pub runOver : List ℕ → ℕ → List Position → ℕ
 runOver card run [] = run
 runOver card run (p ∷ ps) = runOver card (runBelow (length (children (nodeAt card (p .node)))) run) ps
+
+-- "a child's range runs from the routing key before it, included, to the one after it, excluded": the last child's ends where
+-- its parent's does
+unfoldable pub endBelow : List ℕ → ℕ → ℕ → ℕ
+endBelow node key end = getD (routingKeys node) (childIndex node key) end
+
+-- the end of the range below the internal nodes of a way, where the range of the first of them ends at `end`
+unfoldable pub endBelowAll : List ℕ → ℕ → ℕ → List Position → ℕ
+endBelowAll card key end [] = end
+endBelowAll card key end (p ∷ ps) = endBelowAll card key (endBelow (nodeAt card (p .node)) key end) ps
+
+-- the leaf that a way ends at, with the end of its range
+unfoldable pub rangedAt : ℕ → Option Position → Ranged
+rangedAt end none = NoRange
+rangedAt end (some p) = RangedLeaf (p .node) end
+
+unfoldable pub rangedBy : List ℕ → ℕ → ℕ → Way → Ranged
+rangedBy card key end w = rangedAt (endBelowAll card key end (w .inner)) (w .leaf)
+
+-- a range ends at a key, or after the last one
+abbrev pub InKeys : Ranged → Type 0
+InKeys NoRange = Unit
+InKeys (RangedLeaf m end) = end ≤ keyLimit
 
 -- where an update's key leads: the leaf, the word that links to it, and j
 unfoldable pub landedAt : ℕ → Option Position → Landing

@@ -1,10 +1,11 @@
 // The way down (document 01, "The card"): routing, the look-up in a leaf, and the walk to a leaf or to the first fault.
 ghost use mathlib.Core.Path.{_≡_};
 ghost use mathlib.Core.Bool.{_&&_};
-ghost use Prim.Native.Nat.{_+_, _*_, _≤_};
+ghost use Prim.Native.Nat.{_+_, _*_, _≤_, _<_};
 ghost use lib.ListN.{length, getD};
-ghost use Rattle.card.specs.Layout.{greatestNodes, depthLimit, children, runBelow};
-ghost use Rattle.walk.specs.Descent.{childIndex, childPosition, slotOf, lookAt, isFault, rootPosition, wayFrom, leafOf, runOver, landingOf, endOf, seek};
+ghost use Rattle.card.specs.Layout.{greatestNodes, depthLimit, keyLimit, children, routingKeys, runBelow};
+ghost use Rattle.walk.specs.Descent.{childIndex, slotOf, outside, lookIn, downIn, childAt, isFault, rootPosition, wayFrom, leafOf, runOver, InKeys, rangedBy};
+ghost use Rattle.walk.specs.Descent.{landingOf, endOf, seek};
 
 // The slot of a key in a leaf.
 pub enum Slot {
@@ -30,7 +31,7 @@ pub fn find_slot(node: &[u32], key: u32) -> Slot
 }
 
 // Which child of an internal node with children a key takes: one pass over routing keys and children.
-pub fn child_index(node: &[u32], key: u32) -> usize
+fn child_index(node: &[u32], key: u32) -> usize
     requires { ⌜ (length (now node) ≡ 24) × (getD (now node) 12 0 ≡ 0 → ⊥) ⌝ }
     ensures { λ r. ⌜ r ≡ childIndex (now (node .entry)) key ⌝ }
 {
@@ -40,7 +41,7 @@ pub fn child_index(node: &[u32], key: u32) -> usize
         if key < node[card::KEYS + i] {
             return i;
         }
-        if node[13 + i] == 0 {
+        if node[card::SECOND_CHILD + i] == 0 {
             return i;
         }
         i += 1;
@@ -48,25 +49,29 @@ pub fn child_index(node: &[u32], key: u32) -> usize
     i
 }
 
-// What stands where a node number leads.
+// "9: node number 0 or above N"
+fn is_outside(n: usize, m: usize) -> bool
+    ensures { λ r. ⌜ r ≡ outside n m ⌝ }
+{
+    if m == 0 {
+        return true;
+    }
+    n < m
+}
+
+// What a node is.
 pub enum Look {
     Nowhere,
     Leaf,
     Inner,
 }
 
-// "9: node number 0 or above N, kind not 1 to 3".
-pub fn look_at(card: &[u32], n: usize, m: usize) -> Look
-    requires { ⌜ (length (now card) ≡ 8 + 24 * n) × (n ≤ greatestNodes) ⌝ }
-    ensures { λ r. ⌜ r ≡ lookAt (now (card .entry)) n m ⌝ }
+// "kind not 1 to 3"
+fn look_in(node: &[u32]) -> Look
+    requires { ⌜ length (now node) ≡ 24 ⌝ }
+    ensures { λ r. ⌜ r ≡ lookIn (now (node .entry)) ⌝ }
 {
-    if m == 0 {
-        return Look::Nowhere;
-    }
-    if n < m {
-        return Look::Nowhere;
-    }
-    let kind = card::node_at(card, m)[0];
+    let kind = node[0];
     if kind == card::LEAF {
         return Look::Leaf;
     }
@@ -76,6 +81,137 @@ pub fn look_at(card: &[u32], n: usize, m: usize) -> Look
         }
     }
     Look::Inner
+}
+
+// One node of a way: what it is and, of an internal node with children, which of them the key takes and its number.
+pub enum Down {
+    Nowhere,
+    Leaf,
+    Childless,
+    Inner { index: usize, child: usize },
+}
+
+// Every loop down the card goes by this. It takes the words of the node, and not the card and a number: it is then compiled into each
+// loop, and its own pass over the routing keys unrolled there. Where it makes the part itself, it is unrolled first, and so long that it
+// is called.
+fn go_down(node: &[u32], key: u32) -> Down
+    requires { ⌜ length (now node) ≡ 24 ⌝ }
+    ensures { λ r. ⌜ r ≡ downIn (now (node .entry)) key ⌝ }
+{
+    match look_in(node) {
+        Look::Nowhere => Down::Nowhere,
+        Look::Leaf => Down::Leaf,
+        Look::Inner => {
+            if node[card::VALUES] == 0 {
+                return Down::Childless;
+            }
+            let index = child_index(node, key);
+            Down::Inner {
+                index,
+                child: node[card::VALUES + index] as usize,
+            }
+        }
+    }
+}
+
+// The leaf that a key leads to, and how many internal nodes stand above it; or refusal 9.
+pub enum Reached {
+    Refused,
+    Leaf { node: usize, depth: usize },
+}
+
+// A find needs the leaf alone, and so keeps no position.
+pub fn find_leaf(card: &[u32], n: usize, key: u32, root: usize) -> Reached
+    requires { ⌜ (length (now card) ≡ 8 + 24 * n) × (n ≤ greatestNodes) ⌝ }
+    ensures { λ r. ⌜ r ≡ leafOf (wayFrom (now (card .entry)) n key depthLimit (rootPosition root)) ⌝ }
+{
+    let mut m = root;
+    let mut depth: usize = 0;
+    loop {
+        if is_outside(n, m) {
+            return Reached::Refused;
+        }
+        let node = card::node_at(card, m);
+        match go_down(node, key) {
+            Down::Nowhere => {
+                return Reached::Refused;
+            }
+            Down::Leaf => {
+                return Reached::Leaf { node: m, depth };
+            }
+            Down::Childless => {
+                return Reached::Refused;
+            }
+            Down::Inner { index: _, child } => {
+                if depth == card::DEPTH_LIMIT {
+                    return Reached::Refused;
+                }
+                depth += 1;
+                m = child;
+            }
+        }
+    }
+}
+
+// A word as one end of a range.
+fn wide(word: u32) -> u64
+    ensures { λ r. ⌜ (r ≡ word) × (r < keyLimit) ⌝ }
+{
+    word as u64
+}
+
+// Where the range of a child ends: at the routing key after it, or, of the last child, where its parent's does.
+fn end_below(node: &[u32], index: usize, end: u64) -> u64
+    requires { ⌜ (length (now node) ≡ 24) × (index < length (children (now node))) × (end ≤ keyLimit) ⌝ }
+    ensures { λ r. ⌜ (r ≡ getD (routingKeys (now (node .entry))) index end) × (r ≤ keyLimit) ⌝ }
+{
+    if card::SLOTS <= index + 1 {
+        return end;
+    }
+    if node[card::SECOND_CHILD + index] == 0 {
+        return end;
+    }
+    wide(node[card::KEYS + index])
+}
+
+// The leaf that a key leads to, and where its range ends; or refusal 9.
+pub enum Ranged {
+    Refused,
+    Leaf { node: usize, end: u64 },
+}
+
+pub fn find_range(card: &[u32], n: usize, key: u32, root: usize) -> Ranged
+    requires { ⌜ (length (now card) ≡ 8 + 24 * n) × (n ≤ greatestNodes) ⌝ }
+    ensures { λ r. ⌜ (r ≡ rangedBy (now (card .entry)) key keyLimit (wayFrom (now (card .entry)) n key depthLimit (rootPosition root))) × InKeys r ⌝ }
+{
+    let mut m = root;
+    let mut end: u64 = card::KEY_LIMIT;
+    let mut left: usize = card::DEPTH_LIMIT;
+    loop {
+        if is_outside(n, m) {
+            return Ranged::Refused;
+        }
+        let node = card::node_at(card, m);
+        match go_down(node, key) {
+            Down::Nowhere => {
+                return Ranged::Refused;
+            }
+            Down::Leaf => {
+                return Ranged::Leaf { node: m, end };
+            }
+            Down::Childless => {
+                return Ranged::Refused;
+            }
+            Down::Inner { index, child } => {
+                if left == 0 {
+                    return Ranged::Refused;
+                }
+                end = end_below(node, index, end);
+                left -= 1;
+                m = child;
+            }
+        }
+    }
 }
 
 // A node on a key's way: its number, the word that links to it, its parent (0 for the root), which child of its parent
@@ -88,17 +224,16 @@ pub struct Position {
     pub above: usize,
 }
 
-// The child that a key takes from the node at a position.
-fn child_of(node: &[u32], key: u32, p: Position) -> Position
-    requires { ⌜ (length (now node) ≡ 24) × (getD (now node) 12 0 ≡ 0 → ⊥) × (1 ≤ p .node) × (p .node ≤ greatestNodes) ⌝ }
-    ensures { λ r. ⌜ r ≡ childPosition (now (node .entry)) key p ⌝ }
+// The position of a child of the node at a position.
+fn child_of(p: Position, index: usize, child: usize) -> Position
+    requires { ⌜ (1 ≤ p .node) × (p .node ≤ greatestNodes) × (index ≤ 10) ⌝ }
+    ensures { λ r. ⌜ r ≡ childAt p index child ⌝ }
 {
-    let i = child_index(node, key);
     Position {
-        node: node[card::VALUES + i] as usize,
-        link: card::HEADER_WORDS + card::NODE_WORDS * (p.node - 1) + card::VALUES + i,
+        node: child,
+        link: card::HEADER_WORDS + card::NODE_WORDS * (p.node - 1) + (card::VALUES + index),
         parent: p.node,
-        index: i,
+        index,
         above: p.link,
     }
 }
@@ -121,7 +256,7 @@ fn is_fault(node: &[u32], parent: usize) -> bool
     if node[card::VALUES] == 0 {
         return true;
     }
-    node[13] == 0
+    node[card::SECOND_CHILD] == 0
 }
 
 // Whether a walk that seeks faults stops here.
@@ -142,7 +277,7 @@ pub enum End {
     Fault(Position),
 }
 
-// A key's way down from the root, to its end; faults are passed by where none is sought.
+// A key's way down from the root, to its end; faults are passed by where none is sought. A fault is told before what refuses the way.
 pub fn descend(card: &[u32], n: usize, key: u32, root: usize, seeks: bool) -> End
     requires { ⌜ (length (now card) ≡ 8 + 24 * n) × (n ≤ greatestNodes) ⌝ }
     ensures { λ r. ⌜ r ≡ endOf (now (card .entry)) seeks (wayFrom (now (card .entry)) n key depthLimit (rootPosition root)) ⌝ }
@@ -156,29 +291,35 @@ pub fn descend(card: &[u32], n: usize, key: u32, root: usize, seeks: bool) -> En
     };
     let mut left: usize = card::DEPTH_LIMIT;
     loop {
-        match look_at(card, n, p.node) {
-            Look::Nowhere => {
+        if is_outside(n, p.node) {
+            return End::Refused;
+        }
+        let node = card::node_at(card, p.node);
+        match go_down(node, key) {
+            Down::Nowhere => {
                 return End::Refused;
             }
-            Look::Leaf => {
-                if stops(card::node_at(card, p.node), p.parent, seeks) {
+            Down::Leaf => {
+                if stops(node, p.parent, seeks) {
                     return End::Fault(p);
                 }
                 return End::Leaf(p);
             }
-            Look::Inner => {
-                let node = card::node_at(card, p.node);
+            Down::Childless => {
+                if stops(node, p.parent, seeks) {
+                    return End::Fault(p);
+                }
+                return End::Refused;
+            }
+            Down::Inner { index, child } => {
                 if stops(node, p.parent, seeks) {
                     return End::Fault(p);
                 }
                 if left == 0 {
                     return End::Refused;
                 }
-                if node[card::VALUES] == 0 {
-                    return End::Refused;
-                }
                 left -= 1;
-                p = child_of(node, key, p);
+                p = child_of(p, index, child);
             }
         }
     }
@@ -202,19 +343,16 @@ pub fn find_violation(card: &[u32], n: usize, key: u32, root: usize) -> Search
     }
 }
 
-// How many 11-child nodes stand without a break straight above the children of a node.
-fn run_below(node: &[u32], run: usize) -> usize
-    requires { ⌜ (length (now node) ≡ 24) × (run ≤ depthLimit) ⌝ }
-    ensures { λ r. ⌜ r ≡ runBelow (length (children (now (node .entry)))) run ⌝ }
+// The run above the children of a node with so many.
+fn run_below(count: usize, run: usize) -> usize
+    requires { ⌜ run ≤ depthLimit ⌝ }
+    ensures { λ r. ⌜ r ≡ runBelow count run ⌝ }
 {
-    if card::child_count(node) == card::SLOTS {
-        run + 1
-    } else {
-        0
-    }
+    if count == card::SLOTS { run + 1 } else { 0 }
 }
 
-// The same of the leaf that a key leads to. It is asked only where a leaf may be split, so that no other way counts children.
+// How many 11-child nodes stand without a break straight above the leaf that a key leads to. It is asked only where a leaf may be
+// split, so that no other way counts children.
 pub fn run_above(card: &[u32], n: usize, key: u32, root: usize) -> usize
     requires { ⌜ (length (now card) ≡ 8 + 24 * n) × (n ≤ greatestNodes) ⌝ }
     ensures { λ r. ⌜ r ≡ runOver (now (card .entry)) 0 (wayFrom (now (card .entry)) n key depthLimit (rootPosition root) .inner) ⌝ }
@@ -223,24 +361,27 @@ pub fn run_above(card: &[u32], n: usize, key: u32, root: usize) -> usize
     let mut run: usize = 0;
     let mut left: usize = card::DEPTH_LIMIT;
     loop {
-        match look_at(card, n, m) {
-            Look::Nowhere => {
+        if is_outside(n, m) {
+            return run;
+        }
+        let node = card::node_at(card, m);
+        match go_down(node, key) {
+            Down::Nowhere => {
                 return run;
             }
-            Look::Leaf => {
+            Down::Leaf => {
                 return run;
             }
-            Look::Inner => {
-                let node = card::node_at(card, m);
-                run = run_below(node, run);
-                if node[card::VALUES] == 0 {
-                    return run;
-                }
+            Down::Childless => {
+                return 0;
+            }
+            Down::Inner { index: _, child } => {
+                run = run_below(card::child_count(node), run);
                 if left == 0 {
                     return run;
                 }
                 left -= 1;
-                m = node[card::VALUES + child_index(node, key)] as usize;
+                m = child;
             }
         }
     }
@@ -269,42 +410,5 @@ pub fn find_landing(card: &[u32], n: usize, key: u32, root: usize) -> Landing
             link: p.link,
             run: run_above(card, n, key, root),
         },
-    }
-}
-
-// The leaf that a key leads to, and how many internal nodes stand above it; or refusal 9.
-pub enum Reached {
-    Refused,
-    Leaf { node: usize, depth: usize },
-}
-
-// A find needs the leaf alone. Its loop is its own: through `descend`, which keeps a position, a find took 243 instructions in the
-// place of 167.
-pub fn find_leaf(card: &[u32], n: usize, key: u32, root: usize) -> Reached
-    requires { ⌜ (length (now card) ≡ 8 + 24 * n) × (n ≤ greatestNodes) ⌝ }
-    ensures { λ r. ⌜ r ≡ leafOf (wayFrom (now (card .entry)) n key depthLimit (rootPosition root)) ⌝ }
-{
-    let mut m = root;
-    let mut depth: usize = 0;
-    loop {
-        match look_at(card, n, m) {
-            Look::Nowhere => {
-                return Reached::Refused;
-            }
-            Look::Leaf => {
-                return Reached::Leaf { node: m, depth };
-            }
-            Look::Inner => {
-                let node = card::node_at(card, m);
-                if depth == card::DEPTH_LIMIT {
-                    return Reached::Refused;
-                }
-                if node[card::VALUES] == 0 {
-                    return Reached::Refused;
-                }
-                depth += 1;
-                m = node[card::VALUES + child_index(node, key)] as usize;
-            }
-        }
     }
 }

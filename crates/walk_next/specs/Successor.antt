@@ -3,14 +3,13 @@
 use mathlib.Core.List.{List, [], _∷_}
 use mathlib.Core.Option.{Option, none, some}
 use Prim.Native.Nat.{ℕ, zero, suc}
-use lib.ListN.{length, getD}
+use lib.ListN.{length}
 use lib.Dec.{eqb, ltb}
 use Rattle.laws.specs.Cases.{pick}
 use Rattle.card.specs.Header.{cardRefusal, nodesOfLength}
-use Rattle.card.specs.Layout.{keyLimit, nodeAt, routingKeys, leafPairs}
+use Rattle.card.specs.Layout.{keyLimit, nodeAt, leafPairs}
 use Rattle.card.specs.Replies.{Reply, refusal, nothing, next}
-use Rattle.walk.specs.Descent.{childIndex, way, leafOf}
-use Rattle.walk.specs.declared.Position.{Position}
+use Rattle.walk.specs.Descent.{way, leafOf, endBelowAll}
 use Rattle.walk.specs.declared.Reached.{Reached}
 use Rattle.walk.specs.declared.Reached.the-variants.{Refused as NotReached, Leaf as ReachedLeaf}
 use Rattle.walk_next.specs.declared.Least.{Least}
@@ -38,18 +37,6 @@ leastAbove after (p ∷ ps) = nearerAbove after p (leastAbove after ps)
 unfoldable pub leastOf : Least → Option (ℕ × ℕ)
 leastOf NoLeast = none
 leastOf (LeastPair key value) = some (key, value)
-
--- ---- where the leaf's range ends
-
--- "a child's range runs from the routing key before it, included, to the one after it, excluded": the last child's ends where
--- its parent's does
-unfoldable pub endBelow : List ℕ → ℕ → ℕ → ℕ
-endBelow node key end = getD (routingKeys node) (childIndex node key) end
-
--- the end of the range below the internal nodes of a way, where the range of the first of them ends at `end`
-unfoldable pub endBelowAll : List ℕ → ℕ → ℕ → List Position → ℕ
-endBelowAll card key end [] = end
-endBelowAll card key end (p ∷ ps) = endBelowAll card key (endBelow (nodeAt card (p .node)) key end) ps
 
 -- ---- the call
 

@@ -1,9 +1,9 @@
 -- `change_layout::lay_places` meets its contract.
 use mathlib.Core.List.{List, [], _∷_, _++_}
 use mathlib.Core.Path.{_≡_, ap, ap₂, sym, subst, _∙_}
-use Prim.Native.Nat.{ℕ}
+use Prim.Native.Nat.{ℕ, _^_, _≤_, _<_}
 use native.Mathlib.Omega.{arith}
-use lib.ListN.{drop}
+use lib.ListN.{length, drop}
 use Rattle.change_decide.specs.Places.{Fits}
 use Rattle.change_decide.specs.declared.Decision.{Decision}
 use Rattle.change_rows.specs.Nodes.{Numbered}
@@ -17,8 +17,10 @@ use Rattle.change_layout.proofs.lay_places.Tie as tie
 turned : (nodes row : List ℕ) {d e : Decision} → d ≡ e → placesBy e nodes ++ drop (storeCount e) row ≡ placesBy d nodes ++ drop (storeCount d) row
 turned nodes row e = ap (λ (d : Decision). placesBy d nodes ++ drop (storeCount d) row) (sym e)
 
-numbers : (nodes : List ℕ) {d e : Decision} → d ≡ e → Numbered (needed d) nodes → Numbered (needed e) nodes
-numbers nodes e h = subst (λ (d : Decision). Numbered (needed d) nodes) e h
+-- what a change over new nodes is laid by: as many numbers as the arm's decision needs, and the link that fits it
+module _ (nodes row : List ℕ) {d e : Decision} (is : d ≡ e) (pre : FitsSome d × Numbered (needed d) nodes × (length row ≡ 73)) where
+  laid-by : (link : ℕ) → needed e ≤ 3 → (FitsSome e → link < 2 ^ 32) → (length row ≡ 73) × (needed e ≤ 3) × Numbered (needed e) nodes × (link < 2 ^ 32)
+  laid-by link few fits = (pre .2, few, subst (λ (d : Decision). Numbered (needed d) nodes) is (pre .1), fits (subst FitsSome is (pre .0)))
 
 enum-told : tie.Need-enum-told
 enum-told c = search needs
@@ -74,12 +76,7 @@ enum-known-decision-3 c = search needs
 lay-places-requires : tie.Need-lay-places-requires
 unfolding Fits needed
 lay-places-requires c κs =
-    let s = c .before .before .before .before .before in (
-      s .pre .2,
-      omega arith,
-      numbers (s .args .nodes) (c .before .before .decision3 .given .1) (s .pre .1),
-      subst FitsSome (c .before .before .decision3 .given .1) (s .pre .0) .1 .1,
-    )
+    let s = c .before .before .before .before .before in laid-by (s .args .nodes) (s .args .places .now) (c .before .before .decision3 .given .1) (s .pre) _ (omega arith) (λ f. f .1 .1)
 
 enum-known-decision-4 : tie.Need-enum-known-decision-4
 enum-known-decision-4 c = search needs
@@ -87,12 +84,7 @@ enum-known-decision-4 c = search needs
 lay-places-requires-2 : tie.Need-lay-places-requires-2
 unfolding Fits needed
 lay-places-requires-2 c κs =
-    let s = c .before .before .before .before .before in (
-      s .pre .2,
-      omega arith,
-      numbers (s .args .nodes) (c .before .before .decision4 .given .1) (s .pre .1),
-      subst FitsSome (c .before .before .decision4 .given .1) (s .pre .0) .1 .0 .within .link,
-    )
+    let s = c .before .before .before .before .before in laid-by (s .args .nodes) (s .args .places .now) (c .before .before .decision4 .given .1) (s .pre) _ (omega arith) (λ f. f .1 .0 .within .link)
 
 enum-known-decision-5 : tie.Need-enum-known-decision-5
 enum-known-decision-5 c = search needs
@@ -100,12 +92,7 @@ enum-known-decision-5 c = search needs
 lay-places-requires-3 : tie.Need-lay-places-requires-3
 unfolding Fits needed
 lay-places-requires-3 c κs =
-    let s = c .before .before .before .before .before in (
-      s .pre .2,
-      omega arith,
-      numbers (s .args .nodes) (c .before .before .decision5 .given .1) (s .pre .1),
-      subst FitsSome (c .before .before .decision5 .given .1) (s .pre .0) .1 .0 .within .link,
-    )
+    let s = c .before .before .before .before .before in laid-by (s .args .nodes) (s .args .places .now) (c .before .before .decision5 .given .1) (s .pre) _ (omega arith) (λ f. f .1 .0 .within .link)
 
 enum-known-decision-6 : tie.Need-enum-known-decision-6
 enum-known-decision-6 c = search needs
@@ -113,12 +100,7 @@ enum-known-decision-6 c = search needs
 lay-places-requires-4 : tie.Need-lay-places-requires-4
 unfolding Fits needed
 lay-places-requires-4 c κs =
-    let s = c .before .before .before .before .before in (
-      s .pre .2,
-      omega arith,
-      numbers (s .args .nodes) (c .before .before .decision6 .given .1) (s .pre .1),
-      subst FitsSome (c .before .before .decision6 .given .1) (s .pre .0) .1 .0 .within .link,
-    )
+    let s = c .before .before .before .before .before in laid-by (s .args .nodes) (s .args .places .now) (c .before .before .decision6 .given .1) (s .pre) _ (omega arith) (λ f. f .1 .0 .within .link)
 
 enum-known-decision-7 : tie.Need-enum-known-decision-7
 enum-known-decision-7 c = search needs
@@ -126,12 +108,7 @@ enum-known-decision-7 c = search needs
 lay-places-requires-5 : tie.Need-lay-places-requires-5
 unfolding Fits needed
 lay-places-requires-5 c κs =
-    let s = c .before .before .before .before .before in (
-      s .pre .2,
-      omega arith,
-      numbers (s .args .nodes) (c .before .before .decision7 .given .1) (s .pre .1),
-      subst FitsSome (c .before .before .decision7 .given .1) (s .pre .0) .1 .0 .within .link,
-    )
+    let s = c .before .before .before .before .before in laid-by (s .args .nodes) (s .args .places .now) (c .before .before .decision7 .given .1) (s .pre) _ (omega arith) (λ f. f .1 .0 .within .link)
 
 enum-known-decision-8 : tie.Need-enum-known-decision-8
 enum-known-decision-8 c = search needs
@@ -139,12 +116,7 @@ enum-known-decision-8 c = search needs
 lay-places-requires-6 : tie.Need-lay-places-requires-6
 unfolding Fits needed
 lay-places-requires-6 c κs =
-    let s = c .before .before .before .before .before in (
-      s .pre .2,
-      omega arith,
-      numbers (s .args .nodes) (c .before .before .decision8 .given .1) (s .pre .1),
-      subst FitsSome (c .before .before .decision8 .given .1) (s .pre .0) .1 .0 .within .link,
-    )
+    let s = c .before .before .before .before .before in laid-by (s .args .nodes) (s .args .places .now) (c .before .before .decision8 .given .1) (s .pre) _ (omega arith) (λ f. f .1 .0 .within .link)
 
 returns : tie.Need-returns
 unfolding placesBy storeCount

@@ -1,20 +1,15 @@
 -- `change_siblings::lay_halves` meets its contract.
 use mathlib.Core.List.{_++_}
 use mathlib.Core.Path.{ap, _∙_}
-use Prim.Native.Nat.{_≤_}
 use native.Mathlib.Omega.{arith}
 use lib.ListN.{drop}
 use Rattle.change_rows.specs.Halves.{halvesWords}
 use Rattle.change_plan.specs.Change.{Together, keyBetween}
 use Rattle.change_siblings.specs.Siblings.{togetherAt}
-use Rattle.change_siblings.proofs.SiblingLaws.{few-keys, held-whole, held-both, together-count}
+use Rattle.change_siblings.proofs.SiblingLaws.{keys-within, held-whole, held-both, together-count}
 use borrow.Author.Needs.{needs}
 use Rattle.change_siblings.proofs.lay_halves.Statement.{statement}
 use Rattle.change_siblings.proofs.lay_halves.Tie as tie
-
--- the keys are within their row
-within : (c : tie.After-gather-siblings) → c .gather-siblings .result .keys ≤ 12
-within c = let g = c .gather-siblings in omega (arith, g .ensures .few, few-keys (g .result) (g .last .1 .1 .0) (g .last .1 .1 .1 .0) _ (g .ensures))
 
 slice-aggregate-gather-siblings : tie.Need-slice-aggregate-gather-siblings
 slice-aggregate-gather-siblings c = search needs
@@ -32,7 +27,7 @@ part-write-halves-start : tie.Need-part-write-halves-start
 part-write-halves-start c = search needs
 
 part-write-halves-end : tie.Need-part-write-halves-end
-part-write-halves-end c = let h = within (c .before .before .before .before) in search needs
+part-write-halves-end c = let h = keys-within _ _ _ _ (c .before .before .before .before .gather-siblings .ensures) in search needs
 
 sub-write-halves-2 : tie.Need-sub-write-halves-2
 sub-write-halves-2 c = search needs
@@ -48,7 +43,7 @@ write-halves-requires c κs =
     let s = c .before .before .before .before .before .before .before .before .before .before .before .before in
     let g = c .before .before .before .before .before .before .before .gather-siblings in (
       s .pre .2,
-      held-whole (g .result) (g .last .1 .1 .0) (g .last .1 .1 .1 .0) _ (g .ensures) (g .kept .1 .1 .0) (g .kept .1 .1 .1 .0)
+      held-whole _ _ _ _ (g .ensures) (g .kept .1 .1 .0) (g .kept .1 .1 .1 .0)
           (omega (arith, s .pre .1, together-count (s .args .card .now) (s .args .p))),
     )
 
@@ -59,7 +54,7 @@ part-key-between-start : tie.Need-part-key-between-start
 part-key-between-start c = search needs
 
 part-key-between-end : tie.Need-part-key-between-end
-part-key-between-end c = let h = within (c .before .before .before .before .before .before .before .before .before .before .before) in search needs
+part-key-between-end c = let h = keys-within _ _ _ _ (c .before .before .before .before .before .before .before .before .before .before .before .gather-siblings .ensures) in search needs
 
 sub-key-between-2 : tie.Need-sub-key-between-2
 sub-key-between-2 c = search needs
@@ -74,7 +69,7 @@ key-between-requires : tie.Need-key-between-requires
 key-between-requires c κs =
     let s = c .before .before .before .before .before .before .before .before .before .before .before .before .before .before .before .before .before .before .before in
     let g = c .before .before .before .before .before .before .before .before .before .before .before .before .before .before .gather-siblings in
-    held-whole (g .result) (g .last .1 .1 .0) (g .last .1 .1 .1 .0) _ (g .ensures) (g .kept .1 .1 .0) (g .kept .1 .1 .1 .0)
+    held-whole _ _ _ _ (g .ensures) (g .kept .1 .1 .0) (g .kept .1 .1 .1 .0)
     (omega (arith, s .pre .1, together-count (s .args .card .now) (s .args .p)))
 
 same-length : tie.Need-same-length
@@ -84,7 +79,7 @@ returns : tie.Need-returns
 returns c =
     let s = c .before .before .before .before .before .before .before .before .before .before .before .before .before .before .before .before .before .before .before .before in
     let g = c .before .before .before .before .before .before .before .before .before .before .before .before .before .before .before .gather-siblings in
-    let same = held-both (g .result) (g .last .1 .1 .0) (g .last .1 .1 .1 .0) (togetherAt (s .args .card .now) (s .args .p)) (g .ensures) in (
+    let same = held-both _ _ _ (togetherAt (s .args .card .now) (s .args .p)) (g .ensures) in (
       c .before .before .before .before .before .before .before .write-halves .ensures
           ∙ ap (λ (both : Together). halvesWords both ++ drop 48 (s .args .values .now)) same,
       c .key-between .ensures ∙ ap keyBetween same,

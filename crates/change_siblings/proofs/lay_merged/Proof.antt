@@ -1,18 +1,13 @@
 -- `change_siblings::lay_merged` meets its contract.
 use mathlib.Core.Path.{ap, _∙_}
-use Prim.Native.Nat.{_≤_}
 use native.Mathlib.Omega.{arith}
 use Rattle.card.specs.Layout.{nodeImage}
 use Rattle.change_plan.specs.Change.{Together}
 use Rattle.change_siblings.specs.Siblings.{togetherAt}
-use Rattle.change_siblings.proofs.SiblingLaws.{few-keys, held-few, held-both, together-count}
+use Rattle.change_siblings.proofs.SiblingLaws.{keys-within, held-few, held-both, together-count}
 use borrow.Author.Needs.{needs}
 use Rattle.change_siblings.proofs.lay_merged.Statement.{statement}
 use Rattle.change_siblings.proofs.lay_merged.Tie as tie
-
--- the keys are within their row
-within : (c : tie.After-gather-siblings) → c .gather-siblings .result .keys ≤ 12
-within c = let g = c .gather-siblings in omega (arith, g .ensures .few, few-keys (g .result) (g .last .1 .1 .0) (g .last .1 .1 .1 .0) _ (g .ensures))
 
 slice-aggregate-gather-siblings : tie.Need-slice-aggregate-gather-siblings
 slice-aggregate-gather-siblings c = search needs
@@ -30,7 +25,7 @@ part-write-node-start : tie.Need-part-write-node-start
 part-write-node-start c = search needs
 
 part-write-node-end : tie.Need-part-write-node-end
-part-write-node-end c = let h = within (c .before .before .before .before) in search needs
+part-write-node-end c = let h = keys-within _ _ _ _ (c .before .before .before .before .gather-siblings .ensures) in search needs
 
 sub-write-node-2 : tie.Need-sub-write-node-2
 sub-write-node-2 c = search needs
@@ -45,7 +40,7 @@ write-node-requires : tie.Need-write-node-requires
 write-node-requires c κs =
     let s = c .before .before .before .before .before .before .before .before .before .before .before .before in
     let g = c .before .before .before .before .before .before .before .gather-siblings in
-    let few = held-few (g .result) (g .last .1 .1 .0) (g .last .1 .1 .1 .0) _ (g .ensures) (g .kept .1 .1 .0) (g .kept .1 .1 .1 .0)
+    let few = held-few _ _ _ _ (g .ensures) (g .kept .1 .1 .0) (g .kept .1 .1 .1 .0)
     (omega (arith, s .pre .1, together-count (s .args .card .now) (s .args .p))) in
     (s .pre .2, few .0, few .1)
 
@@ -58,7 +53,7 @@ returns c =
     let g = c .before .before .before .before .before .before .before .before .before .before .gather-siblings in
     c .before .before .write-node .ensures
     ∙ ap (λ (both : Together). nodeImage (both .kind) (both .keys) (both .values))
-    (held-both (g .result) (g .last .1 .1 .0) (g .last .1 .1 .1 .0) (togetherAt (s .args .card .now) (s .args .p)) (g .ensures))
+    (held-both _ _ _ (togetherAt (s .args .card .now) (s .args .p)) (g .ensures))
 
 pub lay-merged-spec : {M : Type 1} → statement M
 lay-merged-spec =

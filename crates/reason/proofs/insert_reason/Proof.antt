@@ -2,7 +2,7 @@
 use mathlib.Core.Path.{ap, sym, _∙_}
 use Rattle.call_repair.specs.Repairing.{Repaired, leftBy}
 use Rattle.reason.specs.InsertReason.{reasonOn}
-use Rattle.reason.proofs.InsertReasonLaws.{of-refused, of-idle, of-started}
+use Rattle.reason.proofs.InsertReasonLaws.{of-refused, of-opened, is-unrefused}
 use borrow.Author.Needs.{needs}
 use Rattle.reason.proofs.insert_reason.Statement.{statement}
 use Rattle.reason.proofs.insert_reason.Tie as tie
@@ -16,23 +16,11 @@ open-repaired-requires c κs = search needs
 enum-known-refusal : tie.Need-enum-known-refusal
 enum-known-refusal c = search needs
 
-enum-told : tie.Need-enum-told
-enum-told c = search needs
-
 slice-aggregate-reason-with : tie.Need-slice-aggregate-reason-with
 slice-aggregate-reason-with c = search needs
 
 reason-with-requires : tie.Need-reason-with-requires
 reason-with-requires c κs = search needs
-
-enum-told-2 : tie.Need-enum-told-2
-enum-told-2 c = search needs
-
-slice-aggregate-reason-with-2 : tie.Need-slice-aggregate-reason-with-2
-slice-aggregate-reason-with-2 c = search needs
-
-reason-with-requires-2 : tie.Need-reason-with-requires-2
-reason-with-requires-2 c κs = search needs
 
 same-length : tie.Need-same-length
 same-length c = search needs
@@ -52,26 +40,11 @@ same-length-2 c = search needs
 returns-2 : tie.Need-returns-2
 unfolding leftBy
 returns-2 c =
-    let s = c .before .before .before .before .before .before .before .before .before .before .before .before in
-    let e = sym (c .before .before .before .before .before .before .before .before .open-repaired .ensures .0) ∙ c .before .before .before .enum-told .given .1 in (
-      c .reason-with .ensures ∙ ap (λ (x : Repaired). reasonOn (x .card) (x .memory .free) (s .args .key))
-          (c .before .before .before .before .before .before .before .before .open-repaired .ensures .1)
-          ∙ sym (of-idle (s .args .card .now) (s .args .key) e),
-      ap (λ (x : Repaired). x .card) (c .before .before .before .before .before .before .before .before .open-repaired .ensures .1),
-    )
-
-same-length-3 : tie.Need-same-length-3
-same-length-3 c = search needs
-
-returns-3 : tie.Need-returns-3
-unfolding leftBy
-returns-3 c =
-    let s = c .before .before .before .before .before .before .before .before .before .before .before .before in
-    let e = sym (c .before .before .before .before .before .before .before .before .open-repaired .ensures .0) ∙ c .before .before .before .enum-told2 .given .1 in (
-      c .reason-with2 .ensures ∙ ap (λ (x : Repaired). reasonOn (x .card) (x .memory .free) (s .args .key))
-          (c .before .before .before .before .before .before .before .before .open-repaired .ensures .1)
-          ∙ sym (of-started (s .args .card .now) (s .args .key) e),
-      ap (λ (x : Repaired). x .card) (c .before .before .before .before .before .before .before .before .open-repaired .ensures .1),
+    let s = c .before .before .before .before .before .before .before .before .before .before .before in
+    let opened = c .before .before .before .before .before .before .before .open-repaired in (
+      c .reason-with .ensures ∙ ap (λ (x : Repaired). reasonOn (x .card) (x .memory .free) (s .args .key)) (opened .ensures .1)
+          ∙ sym (of-opened (s .args .card .now) (s .args .key) (λ r e. is-unrefused (opened .result) (c .before .before .before .match .keys2) r (opened .ensures .0 ∙ e))),
+      ap (λ (x : Repaired). x .card) (opened .ensures .1),
     )
 
 pub insert-reason-spec : {M : Type 1} → statement M
@@ -81,15 +54,9 @@ insert-reason-spec =
     slice-aggregate-open-repaired
     open-repaired-requires
     enum-known-refusal
-    enum-told
-    slice-aggregate-reason-with
-    reason-with-requires
-    enum-told-2
-    slice-aggregate-reason-with-2
-    reason-with-requires-2
     same-length
     returns
+    slice-aggregate-reason-with
+    reason-with-requires
     same-length-2
-    returns-2
-    same-length-3
-    returns-3)
+    returns-2)

@@ -1,16 +1,13 @@
 -- `walk::find_leaf` meets its contract.
 use borrow.Author.Needs.{needs}
 use native.Mathlib.Omega.{arith}
-use mathlib.Core.Path.{_≡_, sym, _∙_, ap, ap₂}
-use Prim.Native.Nat.{ℕ, _+_, _-_, _≤_}
-use lib.ListN.{length}
-use Rattle.card.specs.Layout.{depthLimit, nodeAt}
-use Rattle.card.proofs.NodeLaws.{length-node}
-use Rattle.walk.specs.Descent.{lookAt, childPosition, rootPosition, Way, past, wayFrom, reachedAt, leafOf}
-use Rattle.walk.proofs.DescentLaws.{Inside, inner-inside, index-le, way-nowhere, way-leaf, way-childless, way-too-deep, way-on}
-use Rattle.walk.proofs.DescentLaws.{no-child, some-child, next-node, deeper, deeper-none, leaf-past, deeper-on, root-node}
+use mathlib.Core.Path.{_≡_, refl, sym, _∙_, ap, ap₂}
+use Prim.Native.Nat.{ℕ, _-_, _≤_}
+use Rattle.card.specs.Layout.{depthLimit}
+use Rattle.walk.specs.Descent.{childAt, rootPosition, Way, past, wayFrom, reachedAt, leafOf}
+use Rattle.walk.proofs.DescentLaws.{inside, node-words, onward, onward-none, byDown, way-outside, way-at, root-node, deeper, deeper-none, leaf-on}
+use Rattle.walk.specs.declared.Down.{Down}
 use Rattle.walk.specs.declared.Position.{Position}
-use Rattle.walk.specs.declared.Look.the-variants.{Inner as IsInner}
 use Rattle.walk.specs.declared.Reached.the-variants.{Leaf as ReachedLeaf}
 use Rattle.walk.proofs.find_leaf.Statement.{statement}
 use Rattle.walk.proofs.find_leaf.Tie as tie
@@ -23,138 +20,83 @@ Inv-loop card n key root m₀ depth₀ m depth =
 abbrev μ-loop : tie.MeasureT-loop
 μ-loop card n key root m₀ depth₀ m depth = depthLimit - depth
 
--- what stands at the node
-inner : (c : tie.After-node-at Inv-loop μ-loop) → lookAt (c .before .before .before .before .before .before .args .card .now)
-    (c .before .before .before .before .before .before .args .n) (c .before .before .before .before .loop .inv .1 .node) ≡ IsInner
-inner c =
-    ap (lookAt (c .before .before .before .before .before .before .args .card .now) (c .before .before .before .before .before .before .args .n))
-    (c .before .before .before .before .loop .inv .2) ∙ sym (c .before .before .before .look-at .ensures) ∙ c .before .enum-told3 .given .1
-
-on-card : (c : tie.After-enum-told3 Inv-loop μ-loop) → Inside (c .before .before .before .before .before .args .n) (c .before .before .before .loop .m)
-on-card c =
-    inner-inside (c .before .before .before .before .before .args .card .now) (c .before .before .before .before .before .args .n)
-    (c .before .before .before .loop .m) (sym (c .before .before .look-at .ensures) ∙ c .enum-told3 .given .1)
-
--- the part that `node_at` handed back has 24 words
-words : (c : tie.After-node-at Inv-loop μ-loop) → length (c .node-at .result .now) ≡ 24
-words c =
-    let k = on-card (c .before) in
-    ap length (c .node-at .ensures) ∙ length-node (c .before .before .before .before .before .before .args .card .now)
-    (c .before .before .before .before .loop .m) (k .one) (omega (arith, k .most))
-
-less : (c : tie.After-child-index Inv-loop μ-loop) → c .child-index .result ≤ 10
-less c =
-    omega (
-      arith,
-      c .child-index .ensures,
-      index-le (c .before .before .before .before .node-at .result .now)
-          (c .before .before .before .before .before .before .before .before .before .before .args .key) (words (c .before .before .before .before)),
-    )
+-- the rest of the way, by what the node is to the key
+rest : (c : tie.After-go-down Inv-loop μ-loop) (d : Down) → c .go-down .result ≡ d
+    → let s = c .before .before .before .before .before .before in
+    let l = c .before .before .before .before .loop in
+    leafOf (wayFrom (s .args .card .now) (s .args .n) (s .args .key) depthLimit (rootPosition (s .args .root)))
+    ≡ deeper (l .depth) (leafOf (byDown (l .inv .1) (onward (s .args .card .now) (s .args .n) (s .args .key) (depthLimit - l .depth)) d))
+rest c d g =
+    let l = c .before .before .before .before .loop in
+    l .inv .3 ∙ ap (λ (w : Way). deeper (l .depth) (leafOf w)) (way-at _ _ _ _ _ _ (l .inv .2)
+    (sym (c .before .before .before .is-outside .ensures) ∙ c .before .before .if1 .left) _ (c .before .node-at .ensures) d (sym (c .go-down .ensures) ∙ g))
 
 loop-holds : tie.Need-loop-holds Inv-loop μ-loop
 loop-holds c = (search needs, rootPosition _, root-node _, deeper-none _)
 
-look-at-requires : tie.Need-look-at-requires Inv-loop μ-loop
-look-at-requires c κs = search needs
-
-enum-told : tie.Need-enum-told Inv-loop μ-loop
-enum-told c = search needs
+is-outside-requires : tie.Need-is-outside-requires Inv-loop μ-loop
+is-outside-requires c κs = search needs
 
 returns : tie.Need-returns Inv-loop μ-loop
 unfolding leafOf reachedAt deeper past
 returns c =
-    sym (c .before .before .before .loop .inv .3 ∙ ap (λ (w : Way). deeper (c .before .before .before .loop .depth) (leafOf w)) (way-nowhere _
-    _ _ _ _ (ap (lookAt (c .before .before .before .before .before .args .card .now) (c .before .before .before .before .before .args .n))
-    (c .before .before .before .loop .inv .2) ∙ sym (c .before .before .look-at .ensures) ∙ c .enum-told .given .1)))
+    sym (c .before .before .loop .inv .3
+    ∙ ap (λ (w : Way). deeper (c .before .before .loop .depth) (leafOf w)) (way-outside _ _ _ _ _ _ (c .before .before .loop .inv .2) (sym (c .before .is-outside .ensures) ∙ c .if1 .taken)))
+
+node-at-requires : tie.Need-node-at-requires Inv-loop μ-loop
+node-at-requires c κs = let k = inside _ _ (sym (c .before .is-outside .ensures) ∙ c .if1 .left) in (k .one, omega (arith, k .most), omega (arith, k .most))
+
+go-down-requires : tie.Need-go-down-requires Inv-loop μ-loop
+go-down-requires c κs =
+    let s = c .before .before .before .before .before in
+    node-words (s .args .card .now) _ _ (s .pre .0)
+    (sym (c .before .before .is-outside .ensures) ∙ c .before .if1 .left) _ (c .node-at .ensures)
+
+enum-told : tie.Need-enum-told Inv-loop μ-loop
+enum-told c = search needs
+
+returns-2 : tie.Need-returns-2 Inv-loop μ-loop
+unfolding leafOf reachedAt deeper past
+returns-2 c = sym (rest (c .before .before) _ (c .enum-told .given .1))
 
 enum-told-2 : tie.Need-enum-told-2 Inv-loop μ-loop
 enum-told-2 c = search needs
 
-returns-2 : tie.Need-returns-2 Inv-loop μ-loop
+returns-3 : tie.Need-returns-3 Inv-loop μ-loop
 unfolding leafOf reachedAt deeper past
-returns-2 c =
-    sym (c .before .before .before .loop .inv .3 ∙ ap (λ (w : Way). deeper (c .before .before .before .loop .depth) (leafOf w)) (way-leaf _
-    _ _ _ _ (ap (lookAt (c .before .before .before .before .before .args .card .now) (c .before .before .before .before .before .args .n))
-    (c .before .before .before .loop .inv .2) ∙ sym (c .before .before .look-at .ensures) ∙ c .enum-told2 .given .1))
-    ∙ ap₂ (λ (x d : ℕ). ReachedLeaf x d) (c .before .before .before .loop .inv .2) (omega arith))
+returns-3 c = sym (rest (c .before .before) _ (c .enum-told2 .given .1) ∙ ap₂ (λ (x d : ℕ). ReachedLeaf x d) (c .before .before .before .before .before .before .loop .inv .2) (omega arith))
 
 enum-told-3 : tie.Need-enum-told-3 Inv-loop μ-loop
 enum-told-3 c = search needs
 
-node-at-requires : tie.Need-node-at-requires Inv-loop μ-loop
-node-at-requires c κs = let k = on-card c in (k .one, omega (arith, k .most), omega (arith, k .most))
-
-shared-slice-read-if2 : tie.Need-shared-slice-read-if2 Inv-loop μ-loop
-shared-slice-read-if2 c = omega (arith, words (c .before .before))
-
-returns-3 : tie.Need-returns-3 Inv-loop μ-loop
-unfolding leafOf reachedAt deeper past
-returns-3 c =
-    sym (c .before .before .before .before .before .loop .inv .3
-    ∙ ap (λ (w : Way). deeper (c .before .before .before .before .before .loop .depth) (leafOf w))
-    (way-too-deep _ _ _ _ _ (inner (c .before)) (let e = c .if1 .taken in omega arith)))
-
 returns-4 : tie.Need-returns-4 Inv-loop μ-loop
 unfolding leafOf reachedAt deeper past
-returns-4 c =
-    sym (c .before .before .before .before .before .before .before .loop .inv .3
-    ∙ ap (λ (w : Way). deeper (c .before .before .before .before .before .before .before .loop .depth) (leafOf w)) (way-childless _ _ _ _ _
-    (inner (c .before .before .before)) (no-child _ (c .before .before .before .before .before .before .before .before .before .args .key)
-    (c .before .before .before .before .before .before .before .loop .inv .1) _ _
-    (c .before .before .before .before .before .before .before .loop .inv .2) (c .before .before .before .node-at .ensures) (c .if2 .taken))))
+returns-4 c = sym (rest (c .before .before) _ (c .enum-told3 .given .1))
+
+enum-known-child : tie.Need-enum-known-child Inv-loop μ-loop
+enum-known-child c = search needs
+
+returns-5 : tie.Need-returns-5 Inv-loop μ-loop
+unfolding leafOf reachedAt deeper past
+returns-5 c =
+    let l = c .before .before .before .before .before .before .before .before .loop in
+    sym (rest (c .before .before .before .before) _ (c .before .before .child .given .1)
+    ∙ ap (λ (w : Way). deeper (l .depth) (leafOf (past (l .inv .1) w))) (onward-none _ _ _ (depthLimit - l .depth) _ (let e = c .if2 .taken in omega arith)))
 
 add-depth : tie.Need-add-depth Inv-loop μ-loop
 add-depth c = search needs
-
-child-index-requires : tie.Need-child-index-requires Inv-loop μ-loop
-child-index-requires c κs = (words (c .before .before .before), c .if2 .left)
-
-add-m : tie.Need-add-m Inv-loop μ-loop
-add-m c = omega (arith, less c)
-
-mul-m : tie.Need-mul-m Inv-loop μ-loop
-mul-m c = omega (arith, less c)
-
-shared-slice-read-m : tie.Need-shared-slice-read-m Inv-loop μ-loop
-shared-slice-read-m c = omega (arith, less (c .before), words (c .before .before .before .before .before))
-
-cast-m : tie.Need-cast-m Inv-loop μ-loop
-cast-m c = omega (arith, c .shared-slice-known3 .given (12 + c .before .child-index .result))
 
 loop-less : tie.Need-loop-less Inv-loop μ-loop
 loop-less c = search needs
 
 loop-again : tie.Need-loop-again Inv-loop μ-loop
-loop-again c = (
-  omega arith,
-  childPosition (nodeAt (c .before .before .before .before .before .before .before .before .before .before .before .args .card .now)
-      (c .before .before .before .before .before .before .before .before .before .loop .inv .1 .node))
-      (c .before .before .before .before .before .before .before .before .before .before .before .args .key)
-      (c .before .before .before .before .before .before .before .before .before .loop .inv .1),
-  next-node _ _ (c .before .before .before .before .before .before .before .before .before .loop .inv .1) _ _
-      (c .before .before .before .before .before .before .before .before .before .loop .inv .2)
-      (c .before .before .before .before .before .node-at .ensures) _ (c .before .child-index .ensures),
-  c .before .before .before .before .before .before .before .before .before .loop .inv .3
-      ∙ ap (λ (w : Way). deeper (c .before .before .before .before .before .before .before .before .before .loop .depth) (leafOf w))
-      (way-on _ _ _ _ _ (inner (c .before .before .before .before .before)) (λ z. c .before .before .before .before .if1 .left (omega (
-        arith,
-        c .before .before .before .before .before .before .before .before .before .loop .inv .0,
-      ))) (some-child _ (c .before .before .before .before .before .before .before .before .before .before .before .args .key)
-      (c .before .before .before .before .before .before .before .before .before .loop .inv .1) _ _
-      (c .before .before .before .before .before .before .before .before .before .loop .inv .2)
-      (c .before .before .before .before .before .node-at .ensures) (c .before .before .if2 .left)))
-      ∙ ap (deeper (c .before .before .before .before .before .before .before .before .before .loop .depth)) (leaf-past _ _)
-      ∙ deeper-on
-      (λ (x : ℕ). leafOf (wayFrom (c .before .before .before .before .before .before .before .before .before .before .before .args .card .now)
-      (c .before .before .before .before .before .before .before .before .before .before .before .args .n)
-      (c .before .before .before .before .before .before .before .before .before .before .before .args .key) x
-      (childPosition (nodeAt (c .before .before .before .before .before .before .before .before .before .before .before .args .card .now)
-      (c .before .before .before .before .before .before .before .before .before .loop .inv .1 .node))
-      (c .before .before .before .before .before .before .before .before .before .before .before .args .key)
-      (c .before .before .before .before .before .before .before .before .before .loop .inv .1))))
-      (c .before .before .before .before .before .before .before .before .before .loop .depth)
-      (c .before .before .before .before .before .before .before .before .before .loop .inv .0) (c .before .before .before .before .if1 .left),
-)
+loop-again c =
+    let l = c .before .before .before .before .before .before .before .before .loop in (
+      omega arith,
+      childAt (l .inv .1) (c .before .before .child .given .0 .0) (c .before .before .child .given .0 .1 .0),
+      refl,
+      rest (c .before .before .before .before) _ (c .before .before .child .given .1) ∙ leaf-on _ _ _ _ _ (l .depth) (l .inv .0) (c .if2 .left),
+    )
 
 pub find-leaf-spec : {M : Type 1} → statement M
 find-leaf-spec =
@@ -163,21 +105,18 @@ find-leaf-spec =
     Inv-loop
     μ-loop
     loop-holds
-    look-at-requires
-    enum-told
+    is-outside-requires
     returns
-    enum-told-2
-    returns-2
-    enum-told-3
     node-at-requires
+    go-down-requires
+    enum-told
+    returns-2
+    enum-told-2
     returns-3
-    shared-slice-read-if2
+    enum-told-3
     returns-4
+    enum-known-child
+    returns-5
     add-depth
-    child-index-requires
-    add-m
-    mul-m
-    shared-slice-read-m
-    cast-m
     loop-less
     loop-again)

@@ -2,163 +2,131 @@
 use borrow.Author.Needs.{needs}
 use native.Mathlib.Omega.{arith}
 use mathlib.Core.Path.{_≡_, refl, sym, _∙_, ap}
-use mathlib.Core.List.{List}
-use Prim.Native.Nat.{ℕ, _+_, _-_, _≤_}
+use Prim.Native.Nat.{ℕ, _+_, _≤_}
 use lib.ListN.{length}
-use Rattle.card.specs.Layout.{depthLimit, nodeAt, children, runBelow}
-use Rattle.card.proofs.NodeLaws.{length-node, run-below-le}
-use Rattle.walk.specs.Descent.{lookAt, childPosition, rootPosition, Way, past, wayFrom, runOver}
-use Rattle.walk.proofs.DescentLaws.{Inside, inner-inside, index-le, way-nowhere, way-leaf, way-childless, way-too-deep, way-on, root-node, held, no-child, some-child, next-node}
+use Rattle.card.specs.Layout.{depthLimit}
+use Rattle.card.proofs.NodeLaws.{run-below-le}
+use Rattle.walk.specs.Descent.{childAt, rootPosition, Way, past, wayFrom, runOver}
+use Rattle.walk.proofs.DescentLaws.{inside, node-words, told, onward, onward-none, onward-on, byDown, way-outside, way-at, root-node, run-past, run-childless}
+use Rattle.walk.specs.declared.Down.{Down}
 use Rattle.walk.specs.declared.Position.{Position}
-use Rattle.walk.specs.declared.Look.the-variants.{Inner as IsInner}
 use Rattle.walk.proofs.run_above.Statement.{statement}
 use Rattle.walk.proofs.run_above.Tie as tie
 
 -- the node stands at some position, and the rest of the way goes on from there; the run is no longer than the way so far
 abbrev Inv-loop : tie.InvT-loop
 Inv-loop card n key root m₀ run₀ left₀ m run left =
-    (run + left ≤ depthLimit) × (p : Position) × (p .node ≡ m) × (runOver card 0 (wayFrom card n key depthLimit (rootPosition root) .inner) ≡ runOver card run (wayFrom card n key left p .inner))
+    (run + left ≤ depthLimit) × (p : Position) × (p .node ≡ m)
+    × (runOver card 0 (wayFrom card n key depthLimit (rootPosition root) .inner) ≡ runOver card run (wayFrom card n key left p .inner))
 
 abbrev μ-loop : tie.MeasureT-loop
 μ-loop card n key root m₀ run₀ left₀ m run left = left
 
--- what stands at the node
-inner : (c : tie.After-node-at Inv-loop μ-loop) → lookAt (c .before .before .before .before .before .before .args .card .now)
-    (c .before .before .before .before .before .before .args .n) (c .before .before .before .before .loop .inv .1 .node) ≡ IsInner
-inner c =
-    ap (lookAt (c .before .before .before .before .before .before .args .card .now) (c .before .before .before .before .before .before .args .n))
-    (c .before .before .before .before .loop .inv .2) ∙ sym (c .before .before .before .look-at .ensures) ∙ c .before .enum-told3 .given .1
-
-on-card : (c : tie.After-enum-told3 Inv-loop μ-loop) → Inside (c .before .before .before .before .before .args .n) (c .before .before .before .loop .m)
-on-card c =
-    inner-inside (c .before .before .before .before .before .args .card .now) (c .before .before .before .before .before .args .n)
-    (c .before .before .before .loop .m) (sym (c .before .before .look-at .ensures) ∙ c .enum-told3 .given .1)
-
--- the part that `node_at` handed back has 24 words
-words : (c : tie.After-node-at Inv-loop μ-loop) → length (c .node-at .result .now) ≡ 24
-words c =
-    let k = on-card (c .before) in
-    ap length (c .node-at .ensures) ∙ length-node (c .before .before .before .before .before .before .args .card .now)
-    (c .before .before .before .before .loop .m) (k .one) (omega (arith, k .most))
-
-less : (c : tie.After-child-index Inv-loop μ-loop) → c .child-index .result ≤ 10
-less c =
-    omega (
-      arith,
-      c .child-index .ensures,
-      index-le (c .before .before .before .before .before .node-at .result .now)
-          (c .before .before .before .before .before .before .before .before .before .before .before .args .key)
-          (words (c .before .before .before .before .before)),
-    )
-
--- the run as it is below the node
-further : (c : tie.After-run-below Inv-loop μ-loop)
-    → runBelow (length (children (nodeAt (c .before .before .before .before .before .before .before .args .card .now)
-    (c .before .before .before .before .before .loop .inv .1 .node)))) (c .before .before .before .before .before .loop .run)
-    ≡ c .run-below .result
-further c =
-    let l = c .before .before .before .before .before .loop in
-    ap (λ (x : List ℕ). runBelow (length (children x)) (l .run))
-    (held (c .before .before .before .before .before .before .before .args .card .now)
-    (c .before .before .before .before .before .before .before .args .key) (l .inv .1) _ _ (l .inv .2) (c .before .node-at .ensures))
-    ∙ sym (c .run-below .ensures)
+-- the rest of the way, by what the node is to the key
+rest : (c : tie.After-go-down Inv-loop μ-loop) (d : Down) → c .go-down .result ≡ d
+    → runOver (c .before .before .before .before .before .before .args .card .now) 0
+    (wayFrom (c .before .before .before .before .before .before .args .card .now)
+    (c .before .before .before .before .before .before .args .n) (c .before .before .before .before .before .before .args .key) depthLimit
+    (rootPosition (c .before .before .before .before .before .before .args .root)) .inner)
+    ≡ runOver (c .before .before .before .before .before .before .args .card .now) (c .before .before .before .before .loop .run)
+    (byDown (c .before .before .before .before .loop .inv .1)
+    (onward (c .before .before .before .before .before .before .args .card .now) (c .before .before .before .before .before .before .args .n)
+    (c .before .before .before .before .before .before .args .key) (c .before .before .before .before .loop .left)) d .inner)
+rest c d g =
+    let l = c .before .before .before .before .loop in
+    l .inv .3 ∙ ap (λ (w : Way). runOver (c .before .before .before .before .before .before .args .card .now) (l .run) (w .inner)) (way-at _ _ _ _ _ _ (l .inv .2)
+    (sym (c .before .before .before .is-outside .ensures) ∙ c .before .before .if1 .left) _ (c .before .node-at .ensures) d (sym (c .go-down .ensures) ∙ g))
 
 loop-holds : tie.Need-loop-holds Inv-loop μ-loop
-loop-holds c = (search needs, rootPosition _, root-node _, refl)
+loop-holds c = (omega arith, rootPosition _, root-node _, refl)
 
-look-at-requires : tie.Need-look-at-requires Inv-loop μ-loop
-look-at-requires c κs = search needs
+is-outside-requires : tie.Need-is-outside-requires Inv-loop μ-loop
+is-outside-requires c κs = search needs
+
+returns : tie.Need-returns Inv-loop μ-loop
+unfolding runOver
+returns c =
+    sym (c .before .before .loop .inv .3 ∙ ap (λ (w : Way). runOver (c .before .before .before .before .args .card .now) (c .before .before .loop .run) (w .inner))
+    (way-outside _ _ _ _ _ _ (c .before .before .loop .inv .2) (sym (c .before .is-outside .ensures) ∙ c .if1 .taken)))
+
+node-at-requires : tie.Need-node-at-requires Inv-loop μ-loop
+node-at-requires c κs = let k = inside _ _ (sym (c .before .is-outside .ensures) ∙ c .if1 .left) in (k .one, omega (arith, k .most), omega (arith, k .most))
+
+words : (c : tie.After-node-at Inv-loop μ-loop) → length (c .node-at .result .now) ≡ 24
+words c =
+    node-words (c .before .before .before .before .before .args .card .now) _ _ (c .before .before .before .before .before .pre .0)
+    (sym (c .before .before .is-outside .ensures) ∙ c .before .if1 .left) _ (c .node-at .ensures)
+
+go-down-requires : tie.Need-go-down-requires Inv-loop μ-loop
+go-down-requires c κs = words (c)
 
 enum-told : tie.Need-enum-told Inv-loop μ-loop
 enum-told c = search needs
 
-returns : tie.Need-returns Inv-loop μ-loop
-unfolding runOver past
-returns c =
-    let s = c .before .before .before .before .before in
-    let l = c .before .before .before .loop in
-    sym (l .inv .3 ∙ ap (λ (w : Way). runOver (s .args .card .now) (l .run) (w .inner)) (way-nowhere _ _ _ _ _
-    (ap (lookAt (s .args .card .now) (s .args .n)) (l .inv .2) ∙ sym (c .before .before .look-at .ensures) ∙ c .enum-told .given .1)))
+returns-2 : tie.Need-returns-2 Inv-loop μ-loop
+unfolding runOver
+returns-2 c = sym (rest (c .before .before) _ (c .enum-told .given .1))
 
 enum-told-2 : tie.Need-enum-told-2 Inv-loop μ-loop
 enum-told-2 c = search needs
 
-returns-2 : tie.Need-returns-2 Inv-loop μ-loop
-unfolding runOver past
-returns-2 c =
-    let s = c .before .before .before .before .before in
-    let l = c .before .before .before .loop in
-    sym (l .inv .3 ∙ ap (λ (w : Way). runOver (s .args .card .now) (l .run) (w .inner)) (way-leaf _ _ _ _ _
-    (ap (lookAt (s .args .card .now) (s .args .n)) (l .inv .2) ∙ sym (c .before .before .look-at .ensures) ∙ c .enum-told2 .given .1)))
+returns-3 : tie.Need-returns-3 Inv-loop μ-loop
+unfolding runOver
+returns-3 c = sym (rest (c .before .before) _ (c .enum-told2 .given .1))
 
 enum-told-3 : tie.Need-enum-told-3 Inv-loop μ-loop
 enum-told-3 c = search needs
 
-node-at-requires : tie.Need-node-at-requires Inv-loop μ-loop
-node-at-requires c κs = let k = on-card c in (k .one, omega (arith, k .most), omega (arith, k .most))
+returns-4 : tie.Need-returns-4 Inv-loop μ-loop
+returns-4 c =
+    sym (rest (c .before .before) _ (c .enum-told3 .given .1)
+    ∙ run-childless _ _ _ _ (c .before .before .before .before .before .before .loop .inv .2)
+    (c .before .before .before .node-at .ensures) _ (told _ _ _ (sym (c .before .before .go-down .ensures) ∙ c .enum-told3 .given .1)))
+
+enum-known-child : tie.Need-enum-known-child Inv-loop μ-loop
+enum-known-child c = search needs
+
+child-count-requires : tie.Need-child-count-requires Inv-loop μ-loop
+child-count-requires c κs = words (c .before .before .before .before)
 
 run-below-requires : tie.Need-run-below-requires Inv-loop μ-loop
-run-below-requires c κs = (words c, omega arith)
+run-below-requires c κs = omega (arith, c .before .before .before .before .before .before .before .before .loop .inv .0)
 
-shared-slice-read-if1 : tie.Need-shared-slice-read-if1 Inv-loop μ-loop
-shared-slice-read-if1 c = omega (arith, words (c .before .before))
+-- past the node
+further : (c : tie.After-run-below Inv-loop μ-loop) (w : Way)
+    → runOver (c .before .before .before .before .before .before .before .before .before .before .before .args .card .now)
+    (c .before .before .before .before .before .before .before .before .before .loop .run)
+    (past (c .before .before .before .before .before .before .before .before .before .loop .inv .1) w .inner)
+    ≡ runOver (c .before .before .before .before .before .before .before .before .before .before .before .args .card .now)
+    (c .run-below .result) (w .inner)
+further c w =
+    run-past _ _ _ _ (c .before .before .before .before .before .before .before .before .before .loop .inv .2)
+    (c .before .before .before .before .before .before .node-at .ensures) _ w _ (c .before .child-count .ensures)
+    ∙ ap (λ (r : ℕ). runOver (c .before .before .before .before .before .before .before .before .before .before .before .args .card .now) r (w .inner)) (sym (c .run-below .ensures))
 
-returns-3 : tie.Need-returns-3 Inv-loop μ-loop
-unfolding runOver past
-returns-3 c =
-    let l = c .before .before .before .before .before .before .before .loop in
-    sym (l .inv .3
-    ∙ ap (λ (w : Way). runOver (c .before .before .before .before .before .before .before .before .before .args .card .now) (l .run) (w .inner))
-    (way-childless _ _ _ _ _ (inner (c .before .before .before))
-    (no-child _ (c .before .before .before .before .before .before .before .before .before .args .key) (l .inv .1) _ _ (l .inv .2)
-    (c .before .before .before .node-at .ensures) (c .if1 .taken))) ∙ further (c .before .before))
-
-returns-4 : tie.Need-returns-4 Inv-loop μ-loop
-unfolding runOver past
-returns-4 c =
-    sym (c .before .before .before .before .before .before .before .before .loop .inv .3
-    ∙ ap (λ (w : Way). runOver (c .before .before .before .before .before .before .before .before .before .before .args .card .now)
-    (c .before .before .before .before .before .before .before .before .loop .run) (w .inner))
-    (way-too-deep _ _ _ _ _ (inner (c .before .before .before .before)) (c .if2 .taken)) ∙ further (c .before .before .before))
+returns-5 : tie.Need-returns-5 Inv-loop μ-loop
+unfolding runOver
+returns-5 c =
+    sym (rest (c .before .before .before .before .before .before) _ (c .before .before .before .before .child .given .1) ∙ further (c .before) _
+    ∙ ap (λ (w : Way). runOver (c .before .before .before .before .before .before .before .before .before .before .before .before .args .card .now)
+    (c .before .run-below .result) (w .inner)) (onward-none _ _ _ _ _ (c .if2 .taken)))
 
 sub-left : tie.Need-sub-left Inv-loop μ-loop
 sub-left c = search needs
-
-child-index-requires : tie.Need-child-index-requires Inv-loop μ-loop
-child-index-requires c κs = (words (c .before .before .before .before), c .before .if1 .left)
-
-add-m : tie.Need-add-m Inv-loop μ-loop
-add-m c = omega (arith, less c)
-
-mul-m : tie.Need-mul-m Inv-loop μ-loop
-mul-m c = omega (arith, less c)
-
-shared-slice-read-m : tie.Need-shared-slice-read-m Inv-loop μ-loop
-shared-slice-read-m c = omega (arith, less (c .before), words (c .before .before .before .before .before .before))
-
-cast-m : tie.Need-cast-m Inv-loop μ-loop
-cast-m c = omega (arith, c .shared-slice-known3 .given (12 + c .before .child-index .result))
 
 loop-less : tie.Need-loop-less Inv-loop μ-loop
 loop-less c = search needs
 
 loop-again : tie.Need-loop-again Inv-loop μ-loop
-unfolding runOver past
-loop-again c =
-    let s = c .before .before .before .before .before .before .before .before .before .before .before .before in
-    let l = c .before .before .before .before .before .before .before .before .before .before .loop in (
-      omega (arith, c .before .before .before .before .before .run-below .ensures, run-below-le (length (children (c .before .before .before .before .before .before .node-at .result .now))) (l .run)),
-      childPosition (nodeAt (s .args .card .now) (l .inv .1 .node)) (s .args .key) (l .inv .1),
-      next-node _ _ (l .inv .1) _ _ (l .inv .2) (c .before .before .before .before .before .before .node-at .ensures) _ (c .before .child-index .ensures),
-      l .inv .3
-          ∙ ap (λ (w : Way). runOver (s .args .card .now) (l .run) (w .inner))
-          (way-on _ _ _ _ _ (inner (c .before .before .before .before .before .before)) (c .before .before .if2 .left)
-          (some-child _ (s .args .key) (l .inv .1) _ _ (l .inv .2)
-          (c .before .before .before .before .before .before .node-at .ensures) (c .before .before .before .if1 .left)))
-          ∙ ap (λ (k : ℕ). runOver (s .args .card .now) k (wayFrom (s .args .card .now) (s .args .n) (s .args .key) (l .left - 1)
-          (childPosition (nodeAt (s .args .card .now) (l .inv .1 .node)) (s .args .key) (l .inv .1)) .inner))
-          (further (c .before .before .before .before .before)),
-    )
+loop-again c = (
+  omega (arith, c .before .run-below .ensures, run-below-le (c .before .before .child-count .result) (c .before .before .before .before .before .before .before .before .before .before .loop .run)),
+  childAt (c .before .before .before .before .before .before .before .before .before .before .loop .inv .1)
+      (c .before .before .before .before .child .given .0 .0) (c .before .before .before .before .child .given .0 .1 .0),
+  refl,
+  rest (c .before .before .before .before .before .before) _ (c .before .before .before .before .child .given .1) ∙ further (c .before) _
+      ∙ ap (λ (w : Way). runOver (c .before .before .before .before .before .before .before .before .before .before .before .before .args .card .now)
+      (c .before .run-below .result) (w .inner)) (onward-on _ _ _ _ _ (c .if2 .left)),
+)
 
 pub run-above-spec : {M : Type 1} → statement M
 run-above-spec =
@@ -167,22 +135,20 @@ run-above-spec =
     Inv-loop
     μ-loop
     loop-holds
-    look-at-requires
-    enum-told
+    is-outside-requires
     returns
-    enum-told-2
-    returns-2
-    enum-told-3
     node-at-requires
-    run-below-requires
-    shared-slice-read-if1
+    go-down-requires
+    enum-told
+    returns-2
+    enum-told-2
     returns-3
+    enum-told-3
     returns-4
+    enum-known-child
+    child-count-requires
+    run-below-requires
+    returns-5
     sub-left
-    child-index-requires
-    add-m
-    mul-m
-    shared-slice-read-m
-    cast-m
     loop-less
     loop-again)

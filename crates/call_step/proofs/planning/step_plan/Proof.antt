@@ -6,7 +6,7 @@ use Rattle.state.specs.declared.State.{State}
 use Rattle.call_step.specs.Calls.{stepHeld}
 use Rattle.call_step.specs.Contracts.{StepMade}
 use Rattle.call_step.proofs.ContractLaws.{made-refused}
-use Rattle.call_step.proofs.StepLaws.{idle-refused, task-plans, not-formatting, none-left}
+use Rattle.call_step.proofs.StepLaws.{idle-refused, task-plans, holds-nothing, none-left}
 use borrow.Author.Needs.{needs}
 use Rattle.call_step.proofs.planning.step_plan.Statement.{statement}
 use Rattle.call_step.proofs.planning.step_plan.Tie as tie
@@ -23,12 +23,6 @@ head-in-requires c κs = search needs
 
 held-by-requires : tie.Need-held-by-requires
 held-by-requires c κs = search needs
-
-enum-told : tie.Need-enum-told
-enum-told c = search needs
-
-enum-known-made : tie.Need-enum-known-made
-enum-known-made c = search needs
 
 enum-known-task : tie.Need-enum-known-task
 enum-known-task c = search needs
@@ -49,29 +43,21 @@ same-length c = search needs
 returns : tie.Need-returns
 unfolding memoryIn
 returns c =
-    let s = c .before .before .before .before .before .before .before in
-    made-refused (s .args .card .now) (s .args .state .now) 10
-    (ap (stepHeld (s .args .card .now) (memoryIn (s .args .state .now))) (is-held (c .before .before) ∙ c .enum-told .given .1)
-    ∙ idle-refused (s .args .card .now) (memoryIn (s .args .state .now)) (s .pre .2))
+    let s = c .before .before .before .before .before .before in
+    let b = s .args .state .now in
+    made-refused (s .args .card .now) b 10
+    (ap (stepHeld (s .args .card .now) (memoryIn b)) (is-held (c .before) ∙ holds-nothing b (s .pre .3) _ (is-held (c .before)) (c .match .keys2))
+    ∙ idle-refused (s .args .card .now) (memoryIn b) (s .pre .2))
 
 same-length-2 : tie.Need-same-length-2
 same-length-2 c = search needs
 
-returns-2 : tie.Need-returns-2
-returns-2 c =
-    let s = c .before .before .before .before .before .before .before .before in
-    let at-is-held = c .before .before .before in
-    absurd (not-formatting (s .args .state .now) (s .pre .3) _ (is-held at-is-held ∙ c .before .made .given .1))
-
 same-length-3 : tie.Need-same-length-3
 same-length-3 c = search needs
 
-same-length-4 : tie.Need-same-length-4
-same-length-4 c = search needs
-
-returns-3 : tie.Need-returns-3
+returns-2 : tie.Need-returns-2
 unfolding memoryIn
-returns-3 c =
+returns-2 c =
     let s = c .before .before .before .before .before .before .before .before .before .before .before .before .before .before .before in
     let card = s .args .card .now in
     let b = s .args .state .now in
@@ -89,14 +75,10 @@ step-plan-spec =
     (tie.spec
     head-in-requires
     held-by-requires
-    enum-told
-    enum-known-made
     enum-known-task
-    step-task-requires
     same-length
     returns
+    step-task-requires
     same-length-2
-    returns-2
     same-length-3
-    same-length-4
-    returns-3)
+    returns-2)
