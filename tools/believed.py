@@ -27,10 +27,12 @@ STATEMENTS = [
 ]
 # the definitions that the calls are proved to meet: the demands are proved of them, so that their text need not be read
 MET = {("call_find", "Find", "findOf"), ("call_open", "Opening", "openOf"), ("call_start", "Starts", "formatOf"),
-       ("call_start", "Starts", "insertOf"), ("call_start", "Starts", "deleteOf"), ("call_step", "Calls", "stepOf")}
+       ("call_start", "Starts", "insertOf"), ("call_start", "Starts", "deleteOf"), ("call_step", "Calls", "stepOf"),
+       ("walk_next", "Successor", "nextOf")}
 # the calls, as the crates offer them, and the table that is made of what they meet
 TABLE = "demands/RationTable/rationTable"
-CALLS = {"call_find": ["find"], "call_open": ["open"], "call_start": ["start_format", "start_insert", "start_delete"], "call_step": ["step"]}
+CALLS = {"call_find": ["find"], "walk_next": ["next_pair"], "call_open": ["open"], "call_start": ["start_format", "start_insert", "start_delete"],
+         "call_step": ["step"]}
 
 
 def uses_of(line):
@@ -157,7 +159,7 @@ def table(with_modules):
     calls = [TABLE] + [cited for crate, functions in CALLS.items() for cited in contract_names(crate, functions)]
     rows.append(("the contracts of the calls, as a table", calls))
     rows.append(("all three demands with the contracts of the calls", STATEMENTS[3][1] + calls))
-    last = "the same, with the text of the six definitions that the calls are proved to meet, which need not be read"
+    last = "the same, with the text of the seven definitions that the calls are proved to meet, which need not be read"
     rows.append((last, STATEMENTS[3][1] + calls))
     print("| what is stated | lines of definition | modules | made from the code's types |\n|---|---|---|---|")
     for title, goals in rows:

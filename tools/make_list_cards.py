@@ -1,7 +1,7 @@
 #!/usr/bin/env python3
 """make_list_cards.py CRATE: makes CRATE/stdin, dumps of cards one after the other: one for each kind of repair and one for each
 refusal of `list`; and CRATE/stdout, what `list` prints for each. The repairs are worked out here on lists, from document 01's "The
-changes" and from nothing else; node numbers and stores play no part."""
+changes" and from nothing else; node numbers and stores play no part. The pairs are listed by rising key (document 02, W-201)."""
 import struct, sys
 
 # A leaf is ('leaf', [(key, value), ..]) with its slots in their order, (0, x) an empty one; an internal node is
@@ -68,7 +68,7 @@ def text(t, n):
     while way:
         t = mended(t, way)
         way = fault(t)
-    ps = pairs(t)
+    ps = sorted(pairs(t))
     return 'nodes %d free %d levels %d pairs %d\n' % (n, n - nodes(t), levels(t), len(ps)) + ''.join('%d %d\n' % p for p in ps)
 
 def dump(t, n):

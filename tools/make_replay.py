@@ -3,6 +3,8 @@
 the hash of the results that traces.txt gives: a line for each trace. Every line of the traces is taken, and no number hashed
 is worked out here but the CRC of what a refused read or write leaves alone and the length and CRC of the text of `list`.
 
+A line `features`, which says the requests that the results are right for, asks nothing.
+
 The stream: each number in groups of 7 bits, the low ones first, 128 added to each byte but the last. Operations:
     1 N          a new card          2 P Z C W..   from place P: Z zeros, then C words        3 P W   poke
     4            cut, state0         5             crc                                        6       end, the hash is printed
@@ -159,7 +161,7 @@ class Replay:
 def main():
     replay = Replay()
     for at, text in enumerate(open(sys.argv[1]), 1):
-        if text.startswith('#'): continue
+        if text.startswith(('#', 'features ')): continue
         try:
             replay.line(text)
         except Line as e:

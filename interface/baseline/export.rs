@@ -64,6 +64,14 @@ pub unsafe extern "C" fn ration_find(card: *const u32, words: usize, key: u32) -
 }
 
 #[no_mangle]
+pub unsafe extern "C" fn ration_next(card: *const u32, words: usize, after: u32) -> Answer {
+    answer(table::next(from_raw_parts(card, words), after), |pair| match pair {
+        Some((key, value)) => Answer { code: 72, value, key, depth: 0 },
+        None => code(73),
+    })
+}
+
+#[no_mangle]
 pub unsafe extern "C" fn ration_start_insert(
     card: *const u32,
     words: usize,

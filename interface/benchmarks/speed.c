@@ -45,6 +45,55 @@ static void measure_finds(const workload *w, which_key *which, const char *name)
     end_row(w, name);
 }
 
+// The leaf that a number leads to.
+static uint32_t leaf_of(uint32_t number)
+{
+    uint32_t m = card[4];
+    for (;;) {
+        const uint32_t *node = card + 8 + 24 * (m - 1);
+        if (node[0] == 1)
+            return m;
+        uint32_t i = 0;
+        while (i < 10 && node[13 + i] != 0 && node[1 + i] <= number)
+            i++;
+        m = node[12 + i];
+    }
+}
+
+static void measure_next(const workload *w, const uint32_t *numbers, uint32_t count, const char *name)
+{
+    uint32_t rounds = count == 0 ? 0 : MOST_KEYS / count;
+    batch_begin();
+    for (uint32_t round = 0; round < rounds; round++)
+        for (uint32_t i = 0; i < count; i++)
+            CALL(ration_next(CARD, numbers[i]));
+    batch_end();
+    end_row(w, name);
+}
+
+// The pair after each key that is held, where it is in the key's own leaf and where it is in the next one; and a walk from 0 to "none".
+static void measure_nexts(const workload *w)
+{
+    static uint32_t own[MOST_KEYS], other[MOST_KEYS], walk[MOST_KEYS];
+    uint32_t own_count = 0, other_count = 0, walk_count = 0;
+    for (uint32_t i = 0; i < w->pairs; i++) {
+        uint32_t key = held_key(w, i);
+        ration_answer next = ration_next(CARD, key);
+        if (next.code == RATION_NEXT && leaf_of(next.key) == leaf_of(key))
+            own[own_count++] = key;
+        else if (next.code == RATION_NEXT)
+            other[other_count++] = key;
+    }
+    for (ration_answer a = {.code = RATION_NEXT}; a.code == RATION_NEXT && walk_count < MOST_KEYS;) {
+        walk[walk_count++] = a.key;
+        a = ration_next(CARD, a.key);
+    }
+    expect(walk_count >= w->pairs);
+    measure_next(w, own, own_count, "next, in the number's own leaf");
+    measure_next(w, other, other_count, "next, in the leaf after it");
+    measure_next(w, walk, walk_count, "next, each of a walk");
+}
+
 static void measure_updates(const workload *w, which_key *which, uint32_t count, void update(uint32_t),
                             const char *name)
 {
@@ -179,7 +228,7 @@ static void measure(void)
         measure_finds(w, held_key, "find, key held");
         if (random)
             measure_finds(w, absent_key, "find, key absent");
-        // The next pair in order has its rows here once there is a call for it.
+        measure_nexts(w);
         measure_updates(w, absent_key, w->inserts, insert, "insert, whole");
         measure_updates(w, held_key, w->pairs, delete, "delete, whole");
         if (!random)

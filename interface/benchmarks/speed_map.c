@@ -7,6 +7,7 @@ map *map_new(void);
 map *map_copy(const map *m);
 void map_free(map *m);
 uint32_t map_find(const map *m, uint32_t key);
+uint32_t map_next(const map *m, uint32_t after);
 uint32_t map_insert(map *m, uint32_t key, uint32_t value);
 uint32_t map_delete(map *m, uint32_t key);
 
@@ -30,6 +31,14 @@ static void measure_one(const workload *w)
         CALL(map_find(base, absent[i]));
     batch_end();
     row_end(w->nodes, "find, key absent");
+    static uint32_t walk[MOST_KEYS];
+    for (uint32_t i = 0; i + 1 < w->pairs; i++)
+        walk[i + 1] = map_next(base, walk[i]);
+    batch_begin();
+    for (uint32_t i = 0; i < w->pairs; i++)
+        CALL(map_next(base, walk[i]));
+    batch_end();
+    row_end(w->nodes, "next, each of a walk");
     for (uint32_t round = 0; round < w->rounds; round++) {
         map *m = map_copy(base);
         batch_begin();

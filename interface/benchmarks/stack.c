@@ -12,7 +12,7 @@
 #include "random.h"
 #include "ration_table.h"
 
-enum { NOTHING, START_FORMAT, OPEN, FIND, START_INSERT, START_DELETE, STEP, READ_DUMP, WRITE_DUMP, KINDS };
+enum { NOTHING, START_FORMAT, OPEN, FIND, NEXT, START_INSERT, START_DELETE, STEP, READ_DUMP, WRITE_DUMP, KINDS };
 enum { STACK_BYTES = 1 << 18, PAINT = 0xa5 };
 
 static ucontext_t back, contexts[KINDS];
@@ -32,6 +32,7 @@ static void make_call(void)
     case START_FORMAT: answer = ration_start_format(card, words, state, RATION_STATE_WORDS); break;
     case OPEN: answer = ration_open(card, words, state, RATION_STATE_WORDS); break;
     case FIND: answer = ration_find(card, words, key); break;
+    case NEXT: answer = ration_next(card, words, key); break;
     case START_INSERT: answer = ration_start_insert(card, words, state, RATION_STATE_WORDS, key, 1); break;
     case START_DELETE: answer = ration_start_delete(card, words, state, RATION_STATE_WORDS, key); break;
     case STEP: answer = ration_step(card, words, state, RATION_STATE_WORDS); break;
@@ -77,6 +78,7 @@ static void work(random_stream *random, uint32_t updates, uint32_t keys)
     for (uint32_t i = 0; i < updates; i++) {
         key = random_below(random, keys);
         call(FIND);
+        call(NEXT);
         call(random_percent(random, 50) ? START_INSERT : START_DELETE);
         step_to_the_end(800);
     }
@@ -139,7 +141,7 @@ int main(void)
     run_all();
 
     static const char *const names[KINDS] = {
-        "", "start_format", "open", "find", "start_insert", "start_delete", "step", "read_dump", "write_dump"};
+        "", "start_format", "open", "find", "next", "start_insert", "start_delete", "step", "read_dump", "write_dump"};
     for (int i = NOTHING + 1; i < KINDS; i++)
         printf("%s\t%zu\n", names[i], deepest(i) - deepest(NOTHING));
     return 0;

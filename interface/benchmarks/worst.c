@@ -34,7 +34,10 @@ static void say(const char *kind)
         CALLGRIND_TOGGLE_COLLECT;                                                                                      \
     } while (0)
 
-static void agree(ration_answer a, ration_answer b) { expect(a.code == b.code && a.value == b.value); }
+static void agree(ration_answer a, ration_answer b)
+{
+    expect(a.code == b.code && a.value == b.value && a.key == b.key);
+}
 
 static const char *kind_of_plan(bool is_first)
 {
@@ -43,7 +46,9 @@ static const char *kind_of_plan(bool is_first)
     case 2: return "step that plans a pair (2 stores)";
     case 25: return "step that plans a repair, one new node (25 stores)";
     case 49: return "step that plans a repair, two new nodes (49 stores)";
-    default: return is_first ? "step that plans a split (73 stores)" : "step that plans a repair, three new nodes (73 stores)";
+    default:
+        return is_first ? "step that plans a split (73 stores)"
+                        : "step that plans a repair, three new nodes (73 stores)";
     }
 }
 
@@ -60,7 +65,8 @@ static ration_answer step_to_the_end(bool formatting)
         else if (a.code != RATION_STORED)
             say("step that gives the final answer");
         else if (in_hand)
-            say(last && frees ? "step that makes the last store of a plan and frees" : "step that makes a store of a plan in hand");
+            say(last && frees ? "step that makes the last store of a plan and frees"
+                              : "step that makes a store of a plan in hand");
         else
             say(kind_of_plan(is_first));
         if (a.code != RATION_STORED)
@@ -94,6 +100,14 @@ static void find_counted(uint32_t key)
     say("find");
 }
 
+static void next_counted(uint32_t after)
+{
+    ration_answer a, b = hand_written_next(KNOWN_CARD, after);
+    COUNTED(a = ration_next(CARD, after));
+    agree(a, b);
+    say("next");
+}
+
 // More inserts than deletes until one is refused for want of nodes, then more deletes until few pairs are left, and so on.
 static void update_counted(uint32_t keys, uint32_t pairs, uint32_t few, uint32_t updates)
 {
@@ -104,6 +118,7 @@ static void update_counted(uint32_t keys, uint32_t pairs, uint32_t few, uint32_t
         if (random_percent(&random, 50))
             key = key / 10 * 10 + 10; // the keys of built cards
         find_counted(key);
+        next_counted(key);
         if (random_percent(&random, filling ? 80 : 20)) {
             uint32_t code = insert_counted(key).code;
             pairs += code == RATION_ABSENT;
@@ -132,7 +147,8 @@ static void run_built(uint32_t levels, uint32_t least, uint32_t most, uint32_t k
     words = RATION_MOST_CARD_WORDS;
     expect(build_card(known_card, RATION_MOST_NODES, levels, least, most, &random) != 0);
     memcpy(card, known_card, sizeof card);
-    expect(ration_open(CARD, STATE).code == RATION_IDLE && hand_written_open(KNOWN_CARD, KNOWN_STATE).code == RATION_IDLE);
+    expect(ration_open(CARD, STATE).code == RATION_IDLE &&
+           hand_written_open(KNOWN_CARD, KNOWN_STATE).code == RATION_IDLE);
     update_counted(keys, 0, 0, 500);
 }
 

@@ -19,7 +19,7 @@
  *   2. Update: ration_start_insert or ration_start_delete, then ration_step until the final answer,
  *      RATION_VALUE or RATION_ABSENT. Each step stores one word, RATION_STORED, or gives the answer. An
  *      update takes at most 657 stores.
- *   3. ration_find at any time, also between steps and before opening.
+ *   3. ration_find and ration_next at any time, also between steps and before opening.
  *   4. Power was cut, or the block was lost: back to ration_open.
  *   5. To abandon an update, call ration_open again, with power on: to the card it is a cut. Go on as in
  *      1; the update is wholly in, where the store that decides it was made, or wholly out.
@@ -102,8 +102,8 @@ extern "C" {
 #define RATION_MOST_DUMP_BYTES 57856 /* a dump of 600 nodes */
 
 /*
- * The answer of every call. value counts with RATION_VALUE, RATION_STORED and RATION_LENGTH; with any other code
- * it is 0. key and depth are for calls to come and always 0.
+ * The answer of every call. value counts with RATION_VALUE, RATION_STORED, RATION_LENGTH and RATION_NEXT, key with
+ * RATION_NEXT alone; with any other code they are 0. depth is for calls to come and always 0.
  */
 typedef struct ration_answer {
     uint32_t code;
@@ -120,6 +120,8 @@ typedef struct ration_answer {
 #define RATION_IDLE 68    /* open: nothing is in progress */
 #define RATION_STARTED 69 /* the formatting, the update, or (open) a repair is in progress; now step */
 #define RATION_LENGTH 70  /* read_dump, write_dump: value is the length of the result, in words or bytes */
+#define RATION_NEXT 72    /* next: the pair with the smallest key above the number, its key and its value */
+#define RATION_NONE 73    /* next: no key above the number is held */
 
 /*
  * Refusals: 1 to 12 as document 01 numbers them, and RATION_NO_STATE. Where several are due, the order of
@@ -142,7 +144,7 @@ typedef struct ration_answer {
 #define RATION_NOT_SOUND 4
 
 /* Opening: the tree is sound but has too few free nodes for its repair. These calls never leave a card so.
-   ration_find still answers; move the pairs to a larger card. */
+   ration_find and ration_next still answer; move the pairs to a larger card. */
 #define RATION_FEW_FREE 5
 
 /* The key is 0, which is no key. */
@@ -185,6 +187,8 @@ static inline const char *ration_text(uint32_t code)
     case RATION_IDLE: return "idle";
     case RATION_STARTED: return "started";
     case RATION_LENGTH: return "the length of the result";
+    case RATION_NEXT: return "the next pair";
+    case RATION_NONE: return "no key above the number";
     case RATION_WRONG_LENGTH: return "the length is no card's, or the state is another card's";
     case RATION_NOT_FORMATTED: return "the card is not formatted";
     case RATION_WRONG_HEADER: return "the card's header is wrong";
@@ -223,6 +227,23 @@ ration_answer ration_open(const uint32_t *card, size_t card_words, uint32_t *sta
  * Answers RATION_VALUE or RATION_ABSENT. Refusals, in this order: 1, 2, 3, 6, 9.
  */
 ration_answer ration_find(const uint32_t *card, size_t card_words, uint32_t key);
+
+/*
+ * The pair with the smallest key above a number, on the card as it is at this moment. The number is any from 0 up and
+ * need not be a key. Needs no block; may come between steps, as ration_find may: the update in progress is then
+ * wholly in or wholly out.
+ * Answers RATION_NEXT, with that key and its value, or RATION_NONE exactly where no key above the number is held. So
+ * it is on a card that ration_open refuses with 5, too; on one that ration_open refuses with 4 it answers some pair
+ * above the number, RATION_NONE or 9. Refusals, in this order: 1, 2, 3, 9; never 6: 0 asks for the first pair.
+ *
+ * A walk from 0 gives each pair of a card that stays as it is once, with keys rising (examples/walk_card.c):
+ *
+ *     for (a = ration_next(card, words, 0); a.code == RATION_NEXT; a = ration_next(card, words, a.key))
+ *
+ * It ends on every card, since the keys rise; a.code is then RATION_NONE or a refusal. Where an update is made
+ * meanwhile it still gives each pair that is held all the time, once.
+ */
+ration_answer ration_next(const uint32_t *card, size_t card_words, uint32_t after);
 
 /*
  * Starts to insert a pair: nothing is stored yet. A key that is held keeps its value, which the first step

@@ -1,5 +1,6 @@
 // The table under test and the hand-written one are given the same calls: every answer and every word of the card agree
-// after each. So on random lists, too, the word that each step stores and the place it tells are compared, as in the traces.
+// after each. So on random lists, too, the word that each step stores and the place it tells are compared, as in the traces. The
+// next pair is asked of both at every moment, and of the table written for speed (baseline/expert.c).
 #include <stdbool.h>
 #include <string.h>
 
@@ -35,6 +36,37 @@ static void step(void)
     agree(desk_step(both.desk), hand_written_step(both.card, both.desk->words, both.state, RATION_STATE_WORDS));
 }
 
+// A key that stands on the card or one beside it, an end of all numbers, or any.
+static uint32_t some_number(void)
+{
+    uint32_t there = both.card[random_below(&stream, (uint32_t)both.desk->words)];
+    switch (random_below(&stream, 8)) {
+    case 0: return 0;
+    case 1: return UINT32_MAX;
+    case 2: return there - 1;
+    case 3: return there + 1;
+    default: return there;
+    }
+}
+
+// The next pair by each of the three tables.
+static ration_answer next(uint32_t after)
+{
+    ration_answer tested = ration_next(both.desk->card, both.desk->words, after);
+    ration_answer plain = hand_written_next(both.card, both.desk->words, after);
+    ration_answer expert = expert_next(both.card, both.desk->words, after);
+    CHECK(memcmp(&tested, &plain, sizeof tested) == 0 && memcmp(&tested, &expert, sizeof tested) == 0,
+          "next %u: %u %u %u, %u %u %u and %u %u %u", after, tested.code, tested.key, tested.value, plain.code,
+          plain.key, plain.value, expert.code, expert.key, expert.value);
+    return tested;
+}
+
+static void walk(void)
+{
+    for (ration_answer a = next(0); a.code == RATION_NEXT; a = next(a.key))
+        ;
+}
+
 static void cut(void)
 {
     desk_cut(both.desk);
@@ -66,8 +98,10 @@ static void work(uint32_t updates, uint32_t keys)
                 cut();
             else
                 step();
+            next(some_number());
         }
     }
+    walk();
 }
 
 static void begin(uint32_t nodes)

@@ -25,6 +25,16 @@ bool book_holds(const book *b, uint32_t key, uint32_t *value)
     return true;
 }
 
+bool book_next(const book *b, uint32_t after, uint32_t *key, uint32_t *value)
+{
+    uint32_t i = after == UINT32_MAX ? b->pairs : below(b, after + 1);
+    if (i == b->pairs)
+        return false;
+    *key = b->keys[i];
+    *value = b->values[i];
+    return true;
+}
+
 // "an insert adds its pair unless the key is there"
 static void add(book *b, uint32_t key, uint32_t value)
 {

@@ -32,6 +32,9 @@ void book_begin_with(book *b, const table_reading *t);
 
 bool book_holds(const book *b, uint32_t key, uint32_t *value);
 
+// Whether a key above this number is held; the smallest of them with its value.
+bool book_next(const book *b, uint32_t after, uint32_t *key, uint32_t *value);
+
 // Whether the pairs read off a card are exactly the book's.
 bool book_agrees(const book *b, const table_reading *t);
 

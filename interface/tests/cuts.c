@@ -14,6 +14,7 @@ static void recover(worked *copy, const worked *w)
     worked_copy_cut(copy, w);
     cuts++;
     while (copy->in_progress != NOTHING) {
+        worked_next(copy, worked_number(copy, &stream));
         if (random_below(&stream, 60) == 0) {
             worked_cut(copy);
             cuts++;
@@ -22,6 +23,7 @@ static void recover(worked *copy, const worked *w)
         }
     }
     worked_check(copy);
+    worked_walk(copy);
 }
 
 // The repair is cut after each of its steps in turn, begun again and run to its end.
@@ -95,6 +97,8 @@ static void cut_formatting(void)
         CHECK(due_start(d, true, 10, &decided) == due && desk_start_insert(d, 10, 1).code == due,
               "insert while formatting");
         CHECK(desk_find(d, 10).code == due_find(d, 10).code, "find while formatting");
+        due_next_read(d);
+        CHECK(desk_next(d, 0).code == due_next(d, 0).code, "next while formatting");
         if (stores == 0)
             CHECK(desk_find(d, 10).code == RATION_VALUE, "the card was changed");
         desk_cut(d);

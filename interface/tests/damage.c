@@ -36,10 +36,46 @@ static void check_step(desk *d, bool *ended)
     *ended = a.code != RATION_STORED;
 }
 
+// How many answers of the next pair were compared on cards that opening refuses with 5, and how many on cards not sound.
+static uint64_t next_on_few_free, next_on_unsound;
+
+// Whether a leaf of the card has this pair in a slot.
+static bool stands_on_card(const desk *d, uint32_t key, uint32_t value)
+{
+    for (size_t node = 8; node < d->words; node += 24)
+        for (size_t slot = node + 1; slot <= node + 11; slot++)
+            if (d->card[node] == 1 && d->card[slot] == key && d->card[slot + 11] == value)
+                return true;
+    return false;
+}
+
+// The next pair after some numbers: the one due on a sound card, which may be one that opening refuses with 5. "On a card
+// opening would refuse with 4, it is held only to a pair above the number, none or 9."
+static void check_next(desk *d)
+{
+    bool decided = due_next_read(d), few_free = due_open(d) == RATION_FEW_FREE;
+    for (uint32_t i = 0; i < 4; i++) {
+        uint32_t after = i == 0 ? random_below(&stream, 2) - 1 : likely_word(d);
+        ration_answer a = desk_next(d, after);
+        if (decided) {
+            ration_answer due = due_next(d, after);
+            CHECK(a.code == due.code && a.key == due.key && a.value == due.value, "next %u: %u %u %u, due %u %u %u",
+                  after, a.code, a.key, a.value, due.code, due.key, due.value);
+            next_on_few_free += few_free;
+        } else {
+            CHECK(a.code == RATION_NONE || a.code == RATION_BROKEN_WAY ||
+                      (a.code == RATION_NEXT && a.key > after && stands_on_card(d, a.key, a.value)),
+                  "next %u: %u %u %u", after, a.code, a.key, a.value);
+            next_on_unsound++;
+        }
+    }
+}
+
 // Every call on the card and block as they are.
 static void try_calls(desk *d, uint32_t steps)
 {
     bool ended = false, decided;
+    check_next(d);
     for (uint32_t i = 0; i < 3; i++) {
         uint32_t key = random_percent(&stream, 80) ? likely_word(d) : random_word(&stream);
         ration_answer found = desk_find(d, key), due = due_find(d, key);
@@ -215,4 +251,7 @@ void test_damage(scale s)
     garbage(600, 2 * s.percent);
     mixed(20, 100 * s.percent);
     mixed(60, 50 * s.percent);
+    CHECK(next_on_few_free > 0 && next_on_unsound > 0, "no such card");
+    printf("  next pairs: %llu on cards refused with 5, %llu on cards not sound\n",
+           (unsigned long long)next_on_few_free, (unsigned long long)next_on_unsound);
 }

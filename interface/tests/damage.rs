@@ -1,6 +1,8 @@
 //! Damaged cards, garbage cards and garbage blocks over the single calls: what document 01 decides is compared with the
 //! answer due; a step makes one store inside the card, answers, or refuses.
 
+use std::ops::Bound;
+
 use ration_table::calls::{Opening, Step};
 use ration_table::{Refusal, StateBlock};
 
@@ -52,11 +54,33 @@ impl Damage {
         }
     }
 
+    /// The next pair: the one due on a card whose header is wrong or that is sound; else any pair above, nothing or 9.
+    fn check_next(&mut self, desk: &mut Desk) {
+        let due = reader::header(desk.card()).map(|_| reader::table(desk.card()));
+        for _ in 0..3 {
+            let number = self.likely(desk);
+            let next = desk.next_after(number);
+            match &due {
+                Err(refusal) => assert_eq!(next, Err(*refusal), "next after {number}"),
+                Ok(Some(reading)) => {
+                    let above = reading.map.range((Bound::Excluded(number), Bound::Unbounded)).next();
+                    assert_eq!(next, Ok(above.map(|(&key, &value)| (key, value))), "next after {number}");
+                }
+                Ok(None) => assert!(
+                    matches!(next, Ok(None) | Err(Refusal::BrokenWay))
+                        || matches!(next, Ok(Some((key, _))) if key > number),
+                    "next after {number}: {next:?}"
+                ),
+            }
+        }
+    }
+
     fn try_calls(&mut self, desk: &mut Desk) {
         for _ in 0..3 {
             let key = self.likely(desk);
             assert_eq!(desk.find(key), reader::find(desk.card(), key), "find {key}");
         }
+        self.check_next(desk);
         self.steps(desk);
         let key = self.likely(desk);
         let due = Self::due_start(desk, key);
@@ -139,6 +163,7 @@ impl Damage {
             let mut desk = Desk::new(words);
             let due = reader::nodes(words).map(|_| ()).ok_or(Refusal::WrongLength);
             assert_eq!(desk.find(7), due.and(Err(Refusal::NotFormatted)));
+            assert_eq!(desk.next_after(7), due.and(Err(Refusal::NotFormatted)));
             assert_eq!(desk.open(), due.and(Err(Refusal::NotFormatted)));
             assert_eq!(desk.step(), Err(Refusal::WrongLength));
             assert_eq!(desk.start_insert(7, 70), Err(Refusal::WrongLength));

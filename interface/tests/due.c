@@ -18,6 +18,30 @@ ration_answer due_find(const desk *d, uint32_t key)
     return l.held ? (ration_answer){.code = RATION_VALUE, .value = l.value} : only(RATION_ABSENT);
 }
 
+static table_reading next_reading;
+
+bool due_next_read(const desk *d)
+{
+    if (read_header(d->card, d->words) != 0)
+        return true;
+    read_table(d->card, d->words, &next_reading);
+    return next_reading.sound;
+}
+
+ration_answer due_next(const desk *d, uint32_t after)
+{
+    uint32_t refusal = read_header(d->card, d->words);
+    if (refusal != 0)
+        return only(refusal);
+    ration_answer nearest = only(RATION_NONE);
+    for (uint32_t i = 0; i < next_reading.pairs; i++) {
+        uint32_t key = next_reading.keys[i];
+        if (key > after && (nearest.code == RATION_NONE || key < nearest.key))
+            nearest = (ration_answer){.code = RATION_NEXT, .value = next_reading.values[i], .key = key};
+    }
+    return nearest;
+}
+
 uint32_t due_open(const desk *d)
 {
     static table_reading reading;

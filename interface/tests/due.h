@@ -9,6 +9,11 @@
 // Find: code and value.
 ration_answer due_find(const desk *d, uint32_t key);
 
+// The next pair: due_next_read reads the card, and tells whether it is one whose answers are decided: refused with 1, 2 or 3,
+// or sound. due_next then gives the answer due to a number.
+bool due_next_read(const desk *d);
+ration_answer due_next(const desk *d, uint32_t after);
+
 // Opening.
 uint32_t due_open(const desk *d);
 

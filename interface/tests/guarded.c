@@ -85,22 +85,28 @@ void desk_cut(desk *d)
         d->state[i] = d->state_copy[i] = 0xa5c3a5c3 + (uint32_t)i;
 }
 
-// Counts the answer. It is one of the call's codes or a refusal; value is 0 but with the codes that carry one.
+// Counts the answer. It is one of the call's codes or a refusal; value and key are 0 but with the codes that carry one.
 static void check_answer(int call, ration_answer a)
 {
     static const uint32_t codes[CALLS][5] = {
-        [START_FORMAT] = {RATION_STARTED},      [OPEN] = {RATION_IDLE, RATION_STARTED},
-        [FIND] = {RATION_VALUE, RATION_ABSENT}, [START_INSERT] = {RATION_STARTED},
-        [START_DELETE] = {RATION_STARTED},      [STEP] = {RATION_STORED, RATION_READY, RATION_VALUE, RATION_ABSENT},
-        [READ_DUMP] = {RATION_LENGTH},          [WRITE_DUMP] = {RATION_LENGTH},
+        [START_FORMAT] = {RATION_STARTED},
+        [OPEN] = {RATION_IDLE, RATION_STARTED},
+        [FIND] = {RATION_VALUE, RATION_ABSENT},
+        [NEXT] = {RATION_NEXT, RATION_NONE},
+        [START_INSERT] = {RATION_STARTED},
+        [START_DELETE] = {RATION_STARTED},
+        [STEP] = {RATION_STORED, RATION_READY, RATION_VALUE, RATION_ABSENT},
+        [READ_DUMP] = {RATION_LENGTH},
+        [WRITE_DUMP] = {RATION_LENGTH},
     };
     bool known = a.code >= 1 && RATION_IS_REFUSAL(a.code);
     for (const uint32_t *code = codes[call]; *code != 0; code++)
         known = known || a.code == *code;
     CHECK(known, "code %u", a.code);
-    bool has_value = a.code == RATION_VALUE || a.code == RATION_STORED || a.code == RATION_LENGTH;
+    bool is_pair = a.code == RATION_NEXT;
+    bool has_value = a.code == RATION_VALUE || a.code == RATION_STORED || a.code == RATION_LENGTH || is_pair;
     CHECK(a.value == 0 || has_value, "code %u with value %u", a.code, a.value);
-    CHECK(a.key == 0 && a.depth == 0, "code %u with key %u and depth %u", a.code, a.key, a.depth);
+    CHECK((a.key != 0) == is_pair && a.depth == 0, "code %u with key %u and depth %u", a.code, a.key, a.depth);
     events++;
     answered[call][a.code]++;
 }
@@ -162,6 +168,33 @@ ration_answer desk_find(desk *d, uint32_t key)
     check_card_unchanged(d);
     check_state_unchanged(d);
     return a;
+}
+
+ration_answer desk_next(desk *d, uint32_t after)
+{
+    ration_answer a = ration_next(d->card, d->words, after);
+    check_answer(NEXT, a);
+    check_card_unchanged(d);
+    check_state_unchanged(d);
+    return a;
+}
+
+size_t desk_walk(desk *d, const walked_pair **pairs)
+{
+    static walked_pair walked[MOST_WALKED];
+    size_t count = 0;
+    for (uint32_t after = 0;; after = walked[count++].key) {
+        ration_answer a = ration_next(d->card, d->words, after);
+        check_answer(NEXT, a);
+        if (a.code == RATION_NONE)
+            break;
+        CHECK(a.code == RATION_NEXT && count < MOST_WALKED, "after %zu pairs, after %u: %u", count, after, a.code);
+        walked[count] = (walked_pair){a.key, a.value};
+    }
+    check_card_unchanged(d);
+    check_state_unchanged(d);
+    *pairs = walked;
+    return count;
 }
 
 static ration_answer check_start(desk *d, int call, ration_answer a)

@@ -21,8 +21,8 @@ typedef struct {
 extern size_t guard_words;
 
 // All calls made so far, and how often each code was answered.
-enum { START_FORMAT, OPEN, FIND, START_INSERT, START_DELETE, STEP, READ_DUMP, WRITE_DUMP, CALLS };
-enum { CODES = 72 };
+enum { START_FORMAT, OPEN, FIND, NEXT, START_INSERT, START_DELETE, STEP, READ_DUMP, WRITE_DUMP, CALLS };
+enum { CODES = RATION_NONE + 1 };
 extern uint64_t events;
 extern uint64_t answered[CALLS][CODES];
 
@@ -41,9 +41,17 @@ void desk_cut(desk *d);
 ration_answer desk_start_format(desk *d);
 ration_answer desk_open(desk *d);
 ration_answer desk_find(desk *d, uint32_t key);
+ration_answer desk_next(desk *d, uint32_t after);
 ration_answer desk_start_insert(desk *d, uint32_t key, uint32_t value);
 ration_answer desk_start_delete(desk *d, uint32_t key);
 ration_answer desk_step(desk *d);
+
+// Walks a card from 0 to RATION_NONE; gives the number of its pairs, at most MOST_WALKED. They stand at *pairs until the next walk.
+enum { MOST_WALKED = 600 * 11 };
+typedef struct {
+    uint32_t key, value;
+} walked_pair;
+size_t desk_walk(desk *d, const walked_pair **pairs);
 
 // Reads a dump over words that are each 7 before, or writes one over bytes that are each 7 before. The result
 // stands at *result, of the length lent, until the next of these two calls.

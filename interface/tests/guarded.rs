@@ -124,6 +124,13 @@ impl Desk {
         self.unchanged(&block, result)
     }
 
+    pub fn next_after(&mut self, number: u32) -> Result<Option<(u32, u32)>, Refusal> {
+        let block = self.state.block.clone();
+        let result = calls::next_after(self.card.lend(), number);
+        assert!(block == self.state.block, "the block was changed");
+        self.unchanged(&block, result).map(|pair| pair.map(|(key, value)| (key.get(), value)))
+    }
+
     pub fn start_insert(&mut self, key: u32, value: u32) -> Result<(), Refusal> {
         let block = self.state.block.clone();
         let result = calls::start_insert(self.card.lend(), &mut self.state.block, key, value);

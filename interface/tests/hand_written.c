@@ -3,6 +3,7 @@
 #define ration_start_format hand_written_start_format
 #define ration_open hand_written_open
 #define ration_find hand_written_find
+#define ration_next hand_written_next
 #define ration_start_insert hand_written_start_insert
 #define ration_start_delete hand_written_start_delete
 #define ration_step hand_written_step

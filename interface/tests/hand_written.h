@@ -1,4 +1,5 @@
-// The hand-written table (baseline/table.c) under other names, so that it can stand beside the one under test.
+// The hand-written table (baseline/table.c) under other names, so that it can stand beside the one under test; and one call of the
+// table written for speed (baseline/expert.c).
 #ifndef HAND_WRITTEN_H
 #define HAND_WRITTEN_H
 
@@ -7,6 +8,8 @@
 ration_answer hand_written_start_format(const uint32_t *card, size_t card_words, uint32_t *state, size_t state_words);
 ration_answer hand_written_open(const uint32_t *card, size_t card_words, uint32_t *state, size_t state_words);
 ration_answer hand_written_find(const uint32_t *card, size_t card_words, uint32_t key);
+ration_answer hand_written_next(const uint32_t *card, size_t card_words, uint32_t after);
+ration_answer expert_next(const uint32_t *card, size_t card_words, uint32_t after);
 ration_answer hand_written_start_insert(const uint32_t *card, size_t card_words, uint32_t *state, size_t state_words,
                                         uint32_t key, uint32_t value);
 ration_answer hand_written_start_delete(const uint32_t *card, size_t card_words, uint32_t *state, size_t state_words,

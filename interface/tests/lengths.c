@@ -24,6 +24,10 @@ static void try_lengths(size_t words, size_t state_words, size_t wrong_place)
     bool decided;
     uint32_t due = due_find(d, 7).code;
     CHECK(desk_find(d, 7).code == due, "find on %zu words", words);
+    CHECK(desk_next(d, 0).code == (due <= 3           ? due
+                                   : due_next_read(d) ? RATION_NONE
+                                                      : RATION_BROKEN_WAY),
+          "next on %zu words", words);
     const uint8_t *bytes;
     ration_answer a = desk_write_dump(d, RATION_MOST_DUMP_BYTES, &bytes);
     CHECK(a.code == (due <= 3 ? due : RATION_LENGTH), "dump of %zu words", words);

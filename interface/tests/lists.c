@@ -47,8 +47,10 @@ static void one_event(worked *w, const list_shape *l, uint32_t insert_percent, r
         worked_start_insert(w, key, value);
     else if (dice < steady)
         worked_start_delete(w, key);
-    else if (dice < 960)
+    else if (dice < 960 && random_percent(r, 50))
         worked_find(w, key);
+    else if (dice < 960)
+        worked_next(w, random_percent(r, 50) ? key : worked_number(w, r));
     else if (dice < 970)
         worked_start_insert(w, key, value);
     else if (dice < 980)
@@ -72,9 +74,12 @@ static void work_list(worked *w, const list_shape *l, random_stream *r)
         one_event(w, l, insert_percent, r);
         if (i % l->check_every == 0)
             worked_check(w);
+        if (i % (10 * l->check_every) == 0)
+            worked_walk(w);
     }
     worked_finish(w);
     worked_check(w);
+    worked_walk(w);
 }
 
 void test_lists(scale s)

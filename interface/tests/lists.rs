@@ -2,8 +2,9 @@
 //! lists, after every store.
 
 use std::num::NonZeroU32;
+use std::ops::Bound;
 
-use ration_table::{card_words, dump_bytes, Formatting, Opened, Progress, Refusal, Repair, Table, Update};
+use ration_table::{card_words, dump_bytes, Formatting, Opened, Pairs, Progress, Refusal, Repair, Table, Update};
 
 use crate::book::{self, Book};
 use crate::guarded::{take_store_over, Guarded, GuardedState};
@@ -32,6 +33,32 @@ impl Now<'_> {
             Now::Updating(update, _) => update.find(key),
             Now::Repairing(repair) => repair.find(key),
         }
+    }
+
+    fn pairs(&self) -> Pairs<'_> {
+        match self {
+            Now::Idle(table) => table.pairs(),
+            Now::Updating(update, _) => update.pairs(),
+            Now::Repairing(repair) => repair.pairs(),
+        }
+    }
+
+    fn check_next(&self, number: u32, book: &Book) {
+        let next = match self {
+            Now::Idle(table) => table.next_after(number),
+            Now::Updating(update, _) => update.next_after(number),
+            Now::Repairing(repair) => repair.next_after(number),
+        };
+        let above = (Bound::Excluded(number), Bound::Unbounded);
+        let due = book.pairs.range(above).next().map(|(&key, &value)| (key, value));
+        let pair = next.map(|next| next.map(|(key, value)| (key.get(), value)));
+        assert_eq!(pair, Ok(due), "next after {number}");
+    }
+
+    /// A walk gives the book's pairs in their order.
+    fn check_walk(&self, book: &Book) {
+        let walked = self.pairs().map(|pair| pair.map(|(key, value)| (key.get(), value)));
+        assert!(walked.eq(book.pairs.iter().map(|(&key, &value)| Ok((key, value)))), "another walk");
     }
 
     /// The dump is the card's words, low byte first, and zero bytes.
@@ -154,6 +181,7 @@ impl Lists {
             self.events += 1;
             let mut now = open(&mut card, &mut state);
             check(now.card(), book, false);
+            now.check_walk(book);
             while let Now::Repairing(repair) = now {
                 if self.random.below(60) == 0 {
                     now = Now::Repairing(repair);
@@ -193,8 +221,16 @@ impl Lists {
                 if self.random.percent(20) {
                     let key = self.key(list);
                     assert_eq!(now.find(key), Ok(book.pairs.get(&key.get()).copied()), "find {key}");
-                    assert!(now.card() == copy, "a find stored");
-                    self.events += 1;
+                    let number = match self.random.below(8) {
+                        0 => 0,
+                        1 => u32::MAX,
+                        2 => key.get() - 1,
+                        3 => key.get().wrapping_add(1),
+                        _ => key.get(),
+                    };
+                    now.check_next(number, &book);
+                    assert!(now.card() == copy, "a find or a next stored");
+                    self.events += 2;
                 }
                 let place;
                 (now, place) = self.step(now, &mut book, list, insert_percent);
@@ -209,6 +245,7 @@ impl Lists {
                 }
                 if self.random.below(8 * list.nodes as u32) == 0 {
                     check(now.card(), &book, matches!(now, Now::Idle(_)));
+                    now.check_walk(&book);
                     now.check_dump();
                 }
             }

@@ -1,5 +1,5 @@
-// Tests a table behind ration_table.h: test_table TRACES [PERCENT [GUARD_WORDS]]. PERCENT below 100 makes fewer random
-// events; GUARD_WORDS 0 leaves the watch over memory to a memory checker.
+// Tests a table behind ration_table.h: test_table TRACES NEXT_TRACES [PERCENT [GUARD_WORDS]]. PERCENT below 100 makes fewer
+// random events; GUARD_WORDS 0 leaves the watch over memory to a memory checker.
 #include <stdbool.h>
 #include <stdlib.h>
 #include <string.h>
@@ -8,11 +8,14 @@
 #include "guarded.h"
 #include "parts.h"
 
+enum { TRACES = 93, NEXT_TRACES = 72 };
+
 static void print_answers(void)
 {
-    static const char *const calls[CALLS] = {"start_format", "open", "find",      "start_insert",
+    static const char *const calls[CALLS] = {"start_format", "open", "find",      "next",      "start_insert",
                                              "start_delete", "step", "read_dump", "write_dump"};
-    static const char *const worked[] = {"value", "absent", "stored", "ready", "idle", "started", "length", "no state"};
+    static const char *const worked[] = {"value",   "absent", "stored",   "ready", "idle",
+                                         "started", "length", "no state", "next",  "none"};
     for (int call = 0; call < CALLS; call++) {
         printf("  %-12s", calls[call]);
         for (int code = 1; code < CODES; code++)
@@ -24,13 +27,14 @@ static void print_answers(void)
     }
 }
 
-// Every answer that document 01 gives a call a reason for was seen, so that no check above was about nothing.
+// Every answer that documents 01 and 02 give a call a reason for was seen, so that no check above was about nothing.
 static void check_all_answers_seen(void)
 {
     static const uint8_t seen[CALLS][13] = {
         [START_FORMAT] = {1, 69, 71},
         [OPEN] = {1, 2, 3, 4, 5, 68, 69, 71},
         [FIND] = {1, 2, 3, 6, 9, 64, 65},
+        [NEXT] = {1, 2, 3, 9, 72, 73},
         [START_INSERT] = {1, 2, 3, 6, 7, 8, 9, 69, 71},
         [START_DELETE] = {1, 2, 3, 6, 7, 9, 69, 71},
         [STEP] = {1, 2, 3, 9, 10, 64, 65, 66, 67, 71},
@@ -53,7 +57,7 @@ static void check_all_answers_seen(void)
 static void check_texts(void)
 {
     for (uint32_t code = 0; code <= 80; code++) {
-        bool is_code = (code >= 1 && code <= 12) || (code >= RATION_VALUE && code <= RATION_NO_STATE);
+        bool is_code = (code >= 1 && code <= 12) || (code >= RATION_VALUE && code <= RATION_NONE);
         bool has_text = strcmp(ration_text(code), ration_text(UINT32_MAX)) != 0;
         CHECK(has_text == is_code, "code %u: %s", code, ration_text(code));
         for (uint32_t other = 1; is_code && other < code; other++)
@@ -63,12 +67,13 @@ static void check_texts(void)
 
 int main(int count, char **arguments)
 {
-    CHECK(count >= 2, "usage: test_table TRACES [PERCENT [GUARD_WORDS]]");
-    scale s = {count > 2 ? (uint32_t)atoi(arguments[2]) : 100};
-    if (count > 3)
-        guard_words = (size_t)atoi(arguments[3]);
+    CHECK(count >= 3, "usage: test_table TRACES NEXT_TRACES [PERCENT [GUARD_WORDS]]");
+    scale s = {count > 3 ? (uint32_t)atoi(arguments[3]) : 100};
+    if (count > 4)
+        guard_words = (size_t)atoi(arguments[4]);
     check_texts();
-    test_traces(arguments[1]);
+    test_traces(arguments[1], TRACES);
+    test_traces(arguments[2], NEXT_TRACES);
     test_lengths();
     test_lists(s);
     test_cuts(s);
@@ -78,6 +83,6 @@ int main(int count, char **arguments)
     test_agreement(s);
     check_all_answers_seen();
     print_answers();
-    printf("C: all right, 93 traces, %llu events\n", (unsigned long long)events);
+    printf("C: all right, %d traces, %llu events\n", TRACES + NEXT_TRACES, (unsigned long long)events);
     return 0;
 }

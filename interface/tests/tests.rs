@@ -1,4 +1,4 @@
-//! Tests the Rust wrapper and the table behind it: tests TRACES.
+//! Tests the Rust wrapper and the table behind it: tests TRACES NEXT_TRACES.
 
 mod book;
 mod damage;
@@ -9,12 +9,17 @@ mod reader;
 mod traces;
 mod wrapper;
 
+const TRACES: u32 = 93;
+const NEXT_TRACES: u32 = 72;
+
 fn main() {
-    let path = std::env::args().nth(1).expect("usage: tests TRACES");
-    let text = std::fs::read_to_string(path).expect("cannot read the traces");
+    let read = |argument| {
+        let path = std::env::args().nth(argument).expect("usage: tests TRACES NEXT_TRACES");
+        std::fs::read_to_string(path).expect("cannot read the traces")
+    };
     wrapper::test();
-    let mut events = traces::test(&text);
+    let mut events = traces::test(&read(1), TRACES) + traces::test(&read(2), NEXT_TRACES);
     let (list_events, cuts) = lists::test();
     events += list_events + damage::test();
-    println!("Rust: all right, 93 traces, {events} events, {cuts} cuts");
+    println!("Rust: all right, {} traces, {events} events, {cuts} cuts", TRACES + NEXT_TRACES);
 }

@@ -1,4 +1,6 @@
-// Replays the traces (vectors/FORMAT.md) word for word. The `list` lines do not concern this interface.
+// Replays traces word for word: the calls of a list, one a line, with the answers and stores that are due. The program's `list`
+// lines do not concern this interface, but in the traces of the next pair (with a first line `features`): there they give the
+// pairs in rising order, and a walk over the card gives them too.
 #include <inttypes.h>
 #include <stdbool.h>
 #include <string.h>
@@ -15,6 +17,7 @@ typedef struct {
     uint64_t stores;
     const uint8_t *dump;
     size_t dump_bytes;
+    bool lists_rise;
     uint32_t traces;
     uint32_t line;
 } replay;
@@ -74,7 +77,7 @@ static uint32_t count_free_bits(const desk *d)
 // the step, with that store, is the card after it.
 static void check_result(replay *r, desk *d, ration_answer a, char *at, uint32_t *card_before)
 {
-    uint32_t code = 0, value = 0;
+    uint32_t code = 0, value = 0, key = 0;
     if (next_is(&at, "refused"))
         code = next_number(&at, 10);
     else if (next_is(&at, "started"))
@@ -87,7 +90,13 @@ static void check_result(replay *r, desk *d, ration_answer a, char *at, uint32_t
         code = RATION_ABSENT;
     else if (next_is(&at, "ready"))
         code = RATION_READY;
-    else if (next_is(&at, "found") || next_is(&at, "answer")) {
+    else if (next_is(&at, "none"))
+        code = RATION_NONE;
+    else if (next_is(&at, "next")) {
+        code = RATION_NEXT;
+        key = next_number(&at, 10);
+        value = next_number(&at, 10);
+    } else if (next_is(&at, "found") || next_is(&at, "answer")) {
         code = RATION_VALUE;
         value = next_number(&at, 10);
     } else if (next_is(&at, "store")) {
@@ -97,14 +106,28 @@ static void check_result(replay *r, desk *d, ration_answer a, char *at, uint32_t
         CHECK(memcmp(card_before, d->card, 4 * d->words) == 0, "line %u: another store", r->line);
         r->stores++;
     }
-    CHECK(a.code == code && a.value == value, "line %u: code %u value %u, due %u %u", r->line, a.code, a.value, code,
-          value);
+    CHECK(a.code == code && a.value == value && a.key == key, "line %u: code %u value %u key %u, due %u %u %u", r->line,
+          a.code, a.value, a.key, code, value, key);
     if (*at != 0)
         CHECK(count_free_bits(d) == next_number(&at, 10), "line %u: free nodes", r->line);
 }
 
+// The next pair on a card that is not sound: "any pair above X, none or refused 9 will do".
+static void replay_loose(replay *r, desk *d, char *at)
+{
+    CHECK(next_is(&at, "next"), "line %u", r->line);
+    uint32_t after = next_number(&at, 10);
+    ration_answer a = desk_next(d, after);
+    CHECK(a.code == RATION_NONE || a.code == RATION_BROKEN_WAY || (a.code == RATION_NEXT && a.key > after),
+          "line %u: code %u key %u", r->line, a.code, a.key);
+}
+
 static void replay_call(replay *r, desk *d, char *at, char *result)
 {
+    if (strcmp(result, "loose") == 0) {
+        replay_loose(r, d, at);
+        return;
+    }
     uint32_t *card_before = malloc(4 * d->words + 1);
     CHECK(card_before != NULL, "no memory");
     memcpy(card_before, d->card, 4 * d->words);
@@ -115,6 +138,8 @@ static void replay_call(replay *r, desk *d, char *at, char *result)
         a = desk_open(d);
     else if (next_is(&at, "find"))
         a = desk_find(d, next_number(&at, 10));
+    else if (next_is(&at, "next"))
+        a = desk_next(d, next_number(&at, 10));
     else if (next_is(&at, "insert")) {
         uint32_t key = next_number(&at, 10);
         a = desk_start_insert(d, key, next_number(&at, 10));
@@ -126,6 +151,50 @@ static void replay_call(replay *r, desk *d, char *at, char *result)
         CHECK(false, "line %u: %.40s", r->line, at);
     check_result(r, d, a, result, card_before);
     free(card_before);
+}
+
+// So many steps, each of which stores; the CRC is of the places and words stored.
+static void replay_run(replay *r, char *at)
+{
+    uint32_t steps = next_number(&at, 10);
+    uint32_t *stored = malloc(8 * (size_t)steps);
+    CHECK(stored != NULL, "no memory");
+    for (uint32_t i = 0; i < steps; i++) {
+        ration_answer a = desk_step(r->desk);
+        CHECK(a.code == RATION_STORED, "line %u: code %u", r->line, a.code);
+        stored[2 * i] = a.value;
+        stored[2 * i + 1] = r->desk->card[a.value];
+    }
+    CHECK(crc_of_words(stored, 2 * (size_t)steps) == next_number(&at, 16), "line %u: other stores", r->line);
+    r->stores += steps;
+    free(stored);
+}
+
+// What `list` prints for the dump in hand, line feeds written /: a line of counts and one for each pair, or a refusal.
+static void walk_list(replay *r, char *at)
+{
+    const uint32_t *words;
+    ration_answer a = guarded_read_dump(r->dump, r->dump_bytes, RATION_MOST_CARD_WORDS, &words);
+    CHECK(a.code == RATION_LENGTH, "line %u: no dump", r->line);
+    desk *d = desk_new(a.value, RATION_STATE_WORDS);
+    desk_set_card(d, words);
+    char *end = strchr(at, '/');
+    *end = 0;
+    if (next_is(&at, "refused")) {
+        CHECK(desk_open(d).code == next_number(&at, 10), "line %u: opened", r->line);
+    } else {
+        uint32_t after = 0;
+        for (char *line = end + 1; *line != 0; line = end + 1) {
+            end = strchr(line, '/');
+            *end = 0;
+            a = desk_next(d, after);
+            after = next_number(&line, 10);
+            CHECK(a.code == RATION_NEXT && a.key == after && a.value == next_number(&line, 10),
+                  "line %u: code %u key %u value %u", r->line, a.code, a.key, a.value);
+        }
+        CHECK(desk_next(d, after).code == RATION_NONE, "line %u: the walk goes on", r->line);
+    }
+    desk_free(d);
 }
 
 // "the first L words, or the card followed by 0s; the card in hand is not changed, the state handed back counts"
@@ -185,9 +254,14 @@ static void replay_line(replay *r, char *line)
     if (arrow != NULL)
         *arrow = 0;
 
-    if (*at == 0 || *at == '#' || next_is(&at, "list"))
+    if (*at == 0 || *at == '#')
         return;
-    if (next_is(&at, "trace")) {
+    if (next_is(&at, "features")) {
+        r->lists_rise = true;
+    } else if (next_is(&at, "list")) {
+        if (r->lists_rise)
+            walk_list(r, result);
+    } else if (next_is(&at, "trace")) {
         at = strchr(at, ' ') + 1;
         if (r->desk != NULL)
             desk_free(r->desk);
@@ -207,6 +281,8 @@ static void replay_line(replay *r, char *line)
         desk_set_state(r->desk, zeros);
     } else if (next_is(&at, "crc")) {
         CHECK(crc_of_words(r->desk->card, r->desk->words) == next_number(&at, 16), "line %u: crc", r->line);
+    } else if (next_is(&at, "run")) {
+        replay_run(r, at);
     } else if (next_is(&at, "on")) {
         replay_on(r, at, result);
     } else if (next_is(&at, "dump")) {
@@ -229,7 +305,7 @@ static void replay_line(replay *r, char *line)
     }
 }
 
-void test_traces(const char *path)
+void test_traces(const char *path, uint32_t traces)
 {
     FILE *file = fopen(path, "rb");
     CHECK(file != NULL, "cannot read %s", path);
@@ -250,7 +326,7 @@ void test_traces(const char *path)
         replay_line(&r, line);
         line = end == NULL ? line + strlen(line) : end + 1;
     }
-    CHECK(r.traces == 93, "%u traces", r.traces);
+    CHECK(r.traces == traces, "%u traces", r.traces);
     desk_free(r.desk);
     free(text);
 }

@@ -157,6 +157,38 @@ void worked_find(worked *w, uint32_t key)
     CHECK(a.code == code && a.value == value, "find %u: %u %u, due %u %u", key, a.code, a.value, code, value);
 }
 
+void worked_next(worked *w, uint32_t after)
+{
+    uint32_t key = 0, value = 0;
+    uint32_t code = book_next(&w->book, after, &key, &value) ? RATION_NEXT : RATION_NONE;
+    ration_answer a = desk_next(w->desk, after);
+    CHECK(a.code == code && a.key == key && a.value == value, "next after %u: %u %u %u, due %u %u %u", after, a.code,
+          a.key, a.value, code, key, value);
+}
+
+uint32_t worked_number(const worked *w, random_stream *random)
+{
+    uint32_t held = w->book.pairs == 0 ? 1 : w->book.keys[random_below(random, w->book.pairs)];
+    switch (random_below(random, 8)) {
+    case 0: return 0;
+    case 1: return UINT32_MAX;
+    case 2: return held - 1;
+    case 3: return held + 1;
+    case 4: return random_word(random);
+    default: return held;
+    }
+}
+
+void worked_walk(worked *w)
+{
+    const walked_pair *pairs;
+    size_t count = desk_walk(w->desk, &pairs);
+    CHECK(count == w->book.pairs, "%zu pairs walked, %u due", count, w->book.pairs);
+    for (size_t i = 0; i < count; i++)
+        CHECK(pairs[i].key == w->book.keys[i] && pairs[i].value == w->book.values[i], "pair %zu of the walk: %u %u", i,
+              pairs[i].key, pairs[i].value);
+}
+
 void worked_step(worked *w)
 {
     ration_answer a = desk_step(w->desk);

@@ -30,6 +30,7 @@ void worked_free(worked *w);
 bool worked_start_insert(worked *w, uint32_t key, uint32_t value);
 bool worked_start_delete(worked *w, uint32_t key);
 void worked_find(worked *w, uint32_t key);
+void worked_next(worked *w, uint32_t after);
 void worked_step(worked *w);
 
 // Steps until nothing is in progress.
@@ -37,6 +38,12 @@ void worked_finish(worked *w);
 
 // Power goes and the card is opened.
 void worked_cut(worked *w);
+
+// A number to ask the next pair of: an end of all numbers, a key that is held or one beside it, or any.
+uint32_t worked_number(const worked *w, random_stream *random);
+
+// A walk gives the book's pairs, all of them and in their order.
+void worked_walk(worked *w);
 
 // "At most one fault", the map is the book's, and where the state is idle the table is balanced and the free bits are
 // those of the nodes not reached.

@@ -4,7 +4,7 @@ use std::error::Error;
 use std::num::NonZeroU32;
 
 use ration_table::{
-    card_words, FinalAnswer, InProgress, Opened, Progress, Refusal, Refused, StateBlock, Table, Unfinished,
+    card_words, FinalAnswer, InProgress, Opened, Pairs, Progress, Refusal, Refused, StateBlock, Table, Unfinished,
 };
 
 const NODES: usize = 4;
@@ -121,6 +121,40 @@ fn behind_a_bus() {
     }
 }
 
+/// The iterator over a card: rising, the same between the steps of an update until its deciding one, and ended by a refusal.
+fn walked() {
+    let all = |pairs: Pairs| pairs.collect::<Result<Vec<_>, _>>();
+    let (mut card, mut state) = ([0; card_words(NODES)], StateBlock::new());
+    let formatting = Table::format(&mut card, &mut state).unwrap();
+    let Progress::Stored { more: formatting, .. } = formatting.step().unwrap() else { panic!("formatted") };
+    let mut pairs = formatting.pairs();
+    assert_eq!((pairs.next(), pairs.next()), (Some(Err(Refusal::NotFormatted)), None));
+    assert_eq!(formatting.next_after(0), Err(Refusal::NotFormatted));
+    let (mut table, (), _) = finish(formatting).unwrap();
+    assert_eq!((table.pairs().next(), table.next_after(0)), (None, Ok(None)));
+    for pair in [7, u32::MAX, 1] {
+        (table, _) = table.insert(key(pair), pair / 2).unwrap().finish().unwrap();
+    }
+    let three = vec![(key(1), 0), (key(7), 3), (key(u32::MAX), u32::MAX / 2)];
+    assert_eq!(all(table.pairs()), Ok(three.clone()));
+    assert_eq!(table.next_after(u32::MAX), Ok(None));
+
+    let update = table.delete(key(7)).unwrap();
+    let mut pairs = update.pairs();
+    assert_eq!(pairs.next(), Some(Ok(three[0])));
+    assert_eq!(format!("{pairs:?}"), "Pairs { card_words: 104, after: Some(1), .. }");
+    assert_eq!(all(pairs.clone()), Ok(three[1..].to_vec()));
+    assert_eq!(pairs.by_ref().count(), 2);
+    assert_eq!(pairs.next(), None);
+    let Progress::Stored { more: update, .. } = update.step().unwrap() else { panic!("no store") };
+    assert_eq!(all(update.pairs()), Ok(vec![three[0], three[2]]));
+    drop(update);
+
+    card[4] = 9; // the root is no node of the card
+    assert_eq!(Pairs::on(&card).collect::<Vec<_>>(), [Err(Refusal::BrokenWay)]);
+    assert_eq!(Pairs::on(&card[1..]).collect::<Vec<_>>(), [Err(Refusal::WrongLength)]);
+}
+
 /// The manual's text for each refusal is the one that is printed here.
 fn texts() {
     let manual = include_str!("../include/ration_table.h");
@@ -150,5 +184,6 @@ pub fn test() {
     refusals();
     abandoned();
     behind_a_bus();
+    walked();
     texts();
 }

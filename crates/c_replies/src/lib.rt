@@ -2,11 +2,13 @@
 use call_find::Found;
 use state::Answer;
 use state::Begun;
+use walk_next::Successor;
 ghost use mathlib.Core.Path.{_≡_};
-ghost use Rattle.card.specs.Replies.{plain, valued};
+ghost use Rattle.card.specs.Replies.{plain, valued, next};
 ghost use Rattle.call_find.specs.Answers.{foundReply};
 ghost use Rattle.state.specs.Answers.{stepReply, startReply};
 ghost use Rattle.card_dump.specs.Answers.{dumpReply};
+ghost use Rattle.walk_next.specs.Successor.{nextReply};
 ghost use Rattle.c_replies.specs.ReplyWords.{replyOf, ShortDump};
 
 #[repr(C)]
@@ -18,7 +20,7 @@ pub struct Reply {
 }
 
 // The answers that have no number in document 01: the value held under a key, "absent", one word stored in a place, "ready", an
-// idle state opened, a call or repair in progress, and the length of a dump's result.
+// idle state opened, a call or repair in progress, and the length of a dump's result; of document 02, W-201, a pair and "none".
 const VALUE: u32 = 64;
 
 const ABSENT: u32 = 65;
@@ -32,6 +34,10 @@ const IDLE: u32 = 68;
 const STARTED: u32 = 69;
 
 const LENGTH: u32 = 70;
+
+const NEXT: u32 = 72;
+
+const NONE: u32 = 73;
 
 // An answer with a value beside it.
 fn valued(code: u32, value: u32) -> Reply
@@ -50,6 +56,18 @@ fn plain(code: u32) -> Reply
     ensures { λ r. ⌜ replyOf r ≡ plain code ⌝ }
 {
     valued(code, 0)
+}
+
+// A pair.
+fn next(key: u32, value: u32) -> Reply
+    ensures { λ r. ⌜ replyOf r ≡ next key value ⌝ }
+{
+    Reply {
+        code: NEXT,
+        value,
+        key,
+        depth: 0,
+    }
 }
 
 pub fn found_reply(found: Found) -> Reply
@@ -92,5 +110,16 @@ pub fn dump_reply(answer: card_dump::Answer) -> Reply
     match answer {
         card_dump::Answer::Length(length) => valued(LENGTH, length as u32),
         card_dump::Answer::Refused(refusal) => plain(refusal),
+    }
+}
+
+// "the pair with the smallest key greater than it, or none"
+pub fn next_reply(successor: Successor) -> Reply
+    ensures { λ r. ⌜ replyOf r ≡ nextReply successor ⌝ }
+{
+    match successor {
+        Successor::Pair { key, value } => next(key, value),
+        Successor::Nothing => plain(NONE),
+        Successor::Refused(refusal) => plain(refusal),
     }
 }

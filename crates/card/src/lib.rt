@@ -75,8 +75,6 @@ pub const ROOT_PLACE: usize = 4;
 // "Keys are 1 to 4,294,967,295": where the range of all keys begins and ends.
 pub const LOWEST_KEY: u32 = 1;
 
-pub const GREATEST_KEY: u32 = 4294967295;
-
 pub const KEY_LIMIT: u64 = 4294967296;
 
 // How many nodes a card of so many words has; 0 where no card has that length.

@@ -9,7 +9,7 @@ use Prim.Native.Nat.{ℕ, zero, suc, _-_, _≤_, _<_}
 use native.Mathlib.Omega.{arith}
 use lib.ListN.{length, getD, set, drop, length-append}
 use Rattle.card.specs.Stores.{Store}
-use Rattle.demands.specs.Events.{Event, World, replyTo, happens, run, LeftUncut, stepsIn, find, insert, delete, step, cut}
+use Rattle.demands.specs.Events.{Event, World, replyTo, happens, run, LeftUncut, stepsIn, ask, insert, delete, step, cut}
 use Rattle.demands.specs.Demand2.{StoresNow, Makes, Between, Repairs, Updates, done, mends as mends-by, no-change, changes}
 use Rattle.demands.specs.Rules.{Given, marked}
 use Rattle.demands.specs.RationTable.{rationTable}
@@ -47,7 +47,7 @@ use Rattle.demands.proofs.Reopen.{table-well-formed}
 use Rattle.demands.proofs.Starting.{nodes-same}
 use Rattle.demands.proofs.PowerCuts.{Covered}
 use Rattle.demands.proofs.Stepping.{Right, right-final, kept-step, mends, rests}
-use Rattle.demands.proofs.PowerLoss.{loosen, loosen-due, find-same, insert-same, delete-same}
+use Rattle.demands.proofs.PowerLoss.{loosen, loosen-due, ask-same, insert-same, delete-same}
 use Rattle.demands.proofs.Finished.{work-not-refused}
 use Rattle.demands.proofs.Steps.{memory, job-settled, step-repairs, prepared-ready, prepared-first, step-puts, step-removes}
 use Rattle.theory_tree.proofs.Path.{depthOf}
@@ -61,7 +61,7 @@ first-step : (w : World rationTable) (qs : List Event) → LeftUncut rationTable
     ⊎ ((rest : List Event) × LeftUncut rationTable rest (happens rationTable step w) × (stepsIn qs ≡ suc (stepsIn rest)) × (run rationTable qs w ≡ run rationTable rest (happens rationTable step w)))
 unfolding LeftUncut run
 first-step w [] u = inl (refl, refl)
-first-step w (find key ∷ qs) u = rw (find-same key w) (first-step w qs (rw (find-same key w) at (u .1)))
+first-step w (ask question ∷ qs) u = rw (ask-same question w) (first-step w qs (rw (ask-same question w) at (u .1)))
 first-step w (insert key value ∷ qs) u = let e = insert-same key value w (u .0) in rw e (first-step w qs (rw e at (u .1)))
 first-step w (delete key ∷ qs) u = let e = delete-same key w (u .0) in rw e (first-step w qs (rw e at (u .1)))
 first-step w (step ∷ qs) u = inr (qs, u .1, refl, refl)

@@ -28,7 +28,6 @@ use Rattle.list_pairs.specs.Listing.{listCard}
 use Rattle.list_text.specs.Text.{dumpText}
 use Rattle.reason_text.specs.ReasonText.{checkText}
 use Rattle.call_record.specs.Records.{recordOf, fetchOf, fetchReply}
-use Rattle.walk_next.specs.Successor.{nextOf, nextReply}
 
 pub demand-1 : Demand1 rationTable
 demand-1 = rows-kept
@@ -46,7 +45,7 @@ dumps = dumps-kept
 pub list-program : ListProgram rationTable listCard dumpText
 list-program = list-kept
 
-pub w-201 : W201 rationTable (λ c number. nextReply (nextOf c number))
+pub w-201 : W201 rationTable
 w-201 = next-kept
 
 pub w-202 : W202 eightAt (λ dump lent. dumpReply (readAnswer dump lent))

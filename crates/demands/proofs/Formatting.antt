@@ -12,10 +12,10 @@ use Rattle.card.specs.Header.{Sized}
 use Rattle.card.specs.Replies.{Reply, refusal, started}
 use Rattle.card.specs.Stores.{Store}
 use Rattle.demands.specs.Demand2.{StoresNow, freshWord, formatStore, Formats}
-use Rattle.demands.specs.Events.{Event, World, replyTo, happens, run, LeftUncut, stepsIn, formatBegun, find, insert, delete, step, cut}
+use Rattle.demands.specs.Events.{Event, World, replyTo, happens, run, LeftUncut, stepsIn, formatBegun, ask, insert, delete, step, cut}
 use Rattle.demands.specs.Way.{nodesOn}
 use Rattle.demands.specs.RationTable.{rationTable}
-use Rattle.demands.proofs.PowerLoss.{find-same, insert-same, delete-same}
+use Rattle.demands.proofs.PowerLoss.{ask-same, insert-same, delete-same}
 use Rattle.demands.proofs.FirstRows.{sized?, no-nodes}
 use Rattle.theory_format.proofs.FormatSteps.{formatMemory, format-starts, format-refused, format-step-stores, format-step-ready}
 use Rattle.theory_format.proofs.FormatCard.{formatCard, format-next}
@@ -56,7 +56,7 @@ module _ (c : List ℕ) (s : Sized (length c) (nodesOn c)) where
   run-after : (qs : List Event) (made : ℕ) → LeftUncut rationTable qs (after made) → made + stepsIn qs ≤ suc (length c) → run rationTable qs (after made) ≡ after (made + stepsIn qs)
   unfolding LeftUncut run
   run-after [] made u h = ap after (omega arith)
-  run-after (find key ∷ qs) made u h = rw (find-same key (after made)) (run-after qs made (rw (find-same key (after made)) at (u .1)) h)
+  run-after (ask question ∷ qs) made u h = rw (ask-same question (after made)) (run-after qs made (rw (ask-same question (after made)) at (u .1)) h)
   run-after (insert key value ∷ qs) made u h = let e = insert-same key value (after made) (u .0) in rw e (run-after qs made (rw e at (u .1)) h)
   run-after (delete key ∷ qs) made u h = let e = delete-same key (after made) (u .0) in rw e (run-after qs made (rw e at (u .1)) h)
   run-after (step ∷ qs) made u h = let e = one-more made (omega arith) in rw e (run-after qs (suc made) (rw e at (u .1)) (omega arith) ∙ ap after (omega arith))

@@ -53,8 +53,6 @@ pub mod OpenRefusals
 pub mod RepairedCard
 -- the dump of a card that opening accepts is read whole
 pub mod ReadDump
--- the pairs that are read off a card which represents a tree are the tree's, in its order
-pub mod ListedPairs
 -- how much room the pairs take: a slice with two words for each of them holds them all
 pub mod ListRoom
 -- WHAT THE PROGRAM `list` LISTS: the map of the card, from the balanced table that its repair leaves
@@ -101,7 +99,7 @@ pub mod RowLaws
 pub mod DumpsRight
 -- the program `list`
 pub mod ListRight
--- W-201, of the call `walk_next::next_pair`
+-- W-201: the table's call `next`, which `walk_next::next_pair` is
 pub mod NextNumber
 -- W-202, of the test that `card_dump` makes
 pub mod PaddingTest

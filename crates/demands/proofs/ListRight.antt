@@ -63,8 +63,9 @@ module _ (c : List ℕ) where
         free = omega (arith, x .free);
         levels = x .level;
         all-pairs = x .all-pairs;
-        alike = λ s v key. rw (x .all-pairs, one-held c s t (v .holds) (w .holds)) (x .map .alike key);
-        as-many = λ s v. rw (x .all-pairs, one-held c s t (v .holds) (w .holds)) (x .map .as-many);
+        rising = x .rising;
+        alike = λ s v key. rw (one-held c s t (v .holds) (w .holds)) (x .alike key);
+        as-many = λ s v. rw (one-held c s t (v .holds) (w .holds)) (x .as-many);
       }
 
   of-card : ByRows (openRows c) (λ r. (rationTable .openCard c .reply ≡ refusal r) × (listCard c ≡ refused r)) ((l : Listing) × (listCard c ≡ listed l) × ListsRight rationTable c l)

@@ -8,7 +8,6 @@ use lib.Seq.{set-append-seam}
 use borrow.Author.Tests.{lt-ltb}
 use Rattle.card.proofs.NodeLaws.{slot-pairs-le}
 use Rattle.list_pairs.specs.Listing.{Laid, laid, layPair, layPairs}
-use Rattle.list_pairs.proofs.ListingLaws.{lay-none}
 use Rattle.theory_tree.specs.Pairs.{pairs, forestPairs}
 use Rattle.theory_tree.specs.Represent.{Represents, RepresentsAll}
 use Rattle.theory_tree.specs.Tree.{Tree, Forest, nodeTotal, nodeTotals, leaf, node, one, more}
@@ -39,6 +38,10 @@ one-laid p done x y rest =
     (ap₂ laid (omega (arith, length-append done (p .0 ∷ p .1 ∷ [])))
     (ap (λ (l : List ℕ). set l (length done + 1) (p .1)) (set-append-seam done x (y ∷ rest) (p .0)) ∙ set-next done (p .0) y (p .1) rest ∙ sym (append-assoc done (p .0 ∷ p .1 ∷ []) rest)))
 
+lay-none : (l : Laid) → layPairs [] l ≡ l
+unfolding layPairs
+lay-none l = refl
+
 lay-more : (p : ℕ × ℕ) (ps : List (ℕ × ℕ)) (l : Laid) → layPairs (p ∷ ps) l ≡ layPairs ps (layPair p l)
 unfolding layPairs
 lay-more p ps l = refl
@@ -46,7 +49,7 @@ lay-more p ps l = refl
 -- stored from the end of `done` on, over as many words
 pub all-laid : (ps : List (ℕ × ℕ)) (done rest : List ℕ) → 2 * length ps ≤ length rest → layPairs ps (laid (length done) (done ++ rest))
     ≡ laid (length done + 2 * length ps) (done ++ (pairWords ps ++ drop (2 * length ps) rest))
-all-laid [] done rest h = sym (lay-none (laid (length done) (done ++ rest))) ∙ ap (λ (a : ℕ). laid a (done ++ rest)) (omega arith)
+all-laid [] done rest h = lay-none (laid (length done) (done ++ rest)) ∙ ap (λ (a : ℕ). laid a (done ++ rest)) (omega arith)
 all-laid (p ∷ ps) done [] h = absurd (omega arith)
 all-laid (p ∷ ps) done (x ∷ []) h = absurd (omega arith)
 all-laid (p ∷ ps) done (x ∷ y ∷ rest) h =

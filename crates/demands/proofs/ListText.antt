@@ -12,12 +12,11 @@ use lib.Seq.{take-at}
 use borrow.Author.Tests.{ne-eqb, eq-eqb}
 use Rattle.laws.proofs.Cases.{bool-cases}
 use Rattle.card.specs.Header.{nodesOfLength, cardRefusal}
-use Rattle.card.specs.Layout.{greatestNodes}
 use Rattle.card_dump.specs.Dump.{dumpWords, wordsFor, dumpNodes, damaged, fittingLength, readAnswer}
 use Rattle.card_dump.specs.declared.Answer.{Answer}
 use Rattle.card_dump.specs.declared.Answer.the-variants.{Length, Refused as ReadRefused}
 use Rattle.card_free.specs.NodeSet.{countTrue}
-use Rattle.list_pairs.specs.Listing.{Listed, refused, listed, listCard, listDump, laid, layPairs, layListed}
+use Rattle.list_pairs.specs.Listing.{mostPairs, Listed, refused, listed, listCard, listDump, laid, layPairs, layListed}
 use Rattle.list_pairs.specs.Summaries.{summarized, summaryOf}
 use Rattle.list_pairs.proofs.SummaryLaws.{card-refused, dump-refused, dump-read}
 use Rattle.demands.proofs.ListedMap.{listing-right}
@@ -33,10 +32,10 @@ use Rattle.call_open.specs.Opening.{openSound, openChecked, openOf}
 
 -- ---- a listing that the rows have room for is told whole
 
--- a refusal has a number, and there are no more pairs than 600 leaves hold
+-- a refusal has a number, and there are no more pairs than a card holds
 abbrev Fits : Listed → Type 0
 Fits (refused number) = number ≡ 0 → ⊥
-Fits (listed l) = length (l .pairs) ≤ 11 * greatestNodes
+Fits (listed l) = length (l .pairs) ≤ mostPairs
 
 words-pairs : (ps : List (ℕ × ℕ)) → pairsOfWords (pairWords ps) ≡ ps
 unfolding pairsOfWords
@@ -47,7 +46,7 @@ length-words : (ps : List (ℕ × ℕ)) → length (pairWords ps) ≡ 2 * length
 length-words [] = refl
 length-words (p ∷ ps) = omega (arith, length-words ps)
 
-told-whole : (l : Listed) (words : List ℕ) → 22 * greatestNodes ≤ length words → Fits l → listingTold (summaryOf l words) (layListed l words .words) ≡ l
+told-whole : (l : Listed) (words : List ℕ) → 2 * mostPairs ≤ length words → Fits l → listingTold (summaryOf l words) (layListed l words .words) ≡ l
 unfolding listingTold summaryOf summarized layListed
 told-whole (refused number) words h f = rw (ne-eqb number 0 f)
 told-whole (listed l) words h f =

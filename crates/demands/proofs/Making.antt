@@ -6,7 +6,7 @@ use Prim.Native.Nat.{ℕ, zero, suc, _+_, _≤_, _<_}
 use native.Mathlib.Omega.{arith}
 use lib.ListN.{length, getD, set, drop}
 use Rattle.card.specs.Stores.{Store}
-use Rattle.demands.specs.Events.{Event, World, replyTo, happens, run, LeftUncut, stepsIn, find, insert, delete, step, cut}
+use Rattle.demands.specs.Events.{Event, World, replyTo, happens, run, LeftUncut, stepsIn, ask, insert, delete, step, cut}
 use Rattle.demands.specs.Book.{Hand, Book, feed, told}
 use Rattle.demands.specs.Demand2.{StoresNow}
 use Rattle.demands.specs.RationTable.{rationTable}
@@ -15,7 +15,7 @@ use Rattle.demands.proofs.StepRows.{advanced-rest}
 use Rattle.demands.proofs.Invariant.{Stage, Table, stage-idle, stage-put, stage-remove, stage-first, stage-between, stage-within}
 use Rattle.demands.proofs.BookLaws.{IsStored}
 use Rattle.demands.proofs.Kept.{first-storable}
-use Rattle.demands.proofs.PowerLoss.{loosen, loosen-due, at-rest, find-same, insert-same, delete-same}
+use Rattle.demands.proofs.PowerLoss.{loosen, loosen-due, at-rest, ask-same, insert-same, delete-same}
 use Rattle.demands.proofs.Stepping.{kept-step}
 use Rattle.demands.proofs.Steps.{job-busy, step-stores, idle-refused}
 use Rattle.state.specs.Answers.{stepReply}
@@ -128,7 +128,7 @@ module _ (final : Answer) (m : Memory) where
       → stepsIn qs ≤ length ss → (few : ℕ) × (few + stepsIn qs ≡ most) × Left few (drop (stepsIn qs) ss) (run rationTable qs w)
   unfolding LeftUncut run
   run-left most ss w x [] u h = (most, omega arith, x)
-  run-left most ss w x (find key ∷ qs) u h = rw (find-same key w) (run-left most ss w x qs (rw (find-same key w) at (u .1)) h)
+  run-left most ss w x (ask question ∷ qs) u h = rw (ask-same question w) (run-left most ss w x qs (rw (ask-same question w) at (u .1)) h)
   run-left most ss w x (insert key value ∷ qs) u h = let e = insert-same key value w (u .0) in rw e (run-left most ss w x qs (rw e at (u .1)) h)
   run-left most ss w x (delete key ∷ qs) u h = let e = delete-same key w (u .0) in rw e (run-left most ss w x qs (rw e at (u .1)) h)
   run-left most [] w x (step ∷ qs) u h = absurd (omega arith)

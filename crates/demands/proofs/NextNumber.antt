@@ -1,4 +1,4 @@
--- Document 02, W-201, of the call `walk_next::next_pair`.
+-- Document 02, W-201: the table's call `next`, which `walk_next::next_pair` is.
 use mathlib.Core.Path.{_≡_, refl, ap, sym, _∙_}
 use mathlib.Core.List.{List, [], _∷_}
 use mathlib.Core.Logic.{inl, inr}
@@ -9,7 +9,7 @@ use Rattle.demands.specs.Book.{Book}
 use Rattle.demands.specs.Events.{World}
 use Rattle.demands.specs.Way.{nodesOn}
 use Rattle.demands.specs.Refusals.{ByRows, cardRows, end}
-use Rattle.demands.specs.W201.{NextCall, AnswersNext, HeldTo, Rises, Walks, Walked, OnAnyCard, W201, ends, goes-on}
+use Rattle.demands.specs.W201.{AnswersNext, HeldTo, Rises, Walks, Walked, OnAnyCard, W201, ends, goes-on}
 use Rattle.demands.specs.RationTable.{rationTable}
 use Rattle.demands.proofs.PowerCuts.{Covered, always}
 use Rattle.demands.proofs.FirstRows.{by-card, card-one}
@@ -33,9 +33,6 @@ use Rattle.theory_tree.specs.Pairs.{pairs, lookup}
 use Rattle.theory_tree.specs.Tree.{Tree}
 use Rattle.theory_tree.specs.WellFormed.{WellFormed}
 
-abbrev call : NextCall
-call c number = nextReply (nextOf c number)
-
 -- ---- the answer's numbers
 
 answered : (l ps : List (ℕ × ℕ)) → ((key : ℕ) → lookup key ps ≡ lookup key l) → (number : ℕ) (s : Successor) → IsNext ps number s → AnswersNext l number (nextReply s)
@@ -53,24 +50,24 @@ held number (Refused r) a = inr (inr (ap (λ (x : ℕ). refusal x) a))
 
 -- ---- the walk
 
-rises : (number hi : ℕ) (l : List (ℕ × ℕ)) → Rising (suc number) hi l → Rises number l
+pub rises : (number hi : ℕ) (l : List (ℕ × ℕ)) → Rising (suc number) hi l → Rises number l
 rises number hi [] r = tt
 rises number hi (p ∷ l) r = (omega (arith, r .0), rises (p .0) hi l (r .1))
 
 module _ (c : List ℕ) (t : Tree) (w : WellFormed c t) (e : cardRefusal c ≡ 0) where
   -- a walk that ends before it may not go further has come to "none"
-  walked-out : (most number : ℕ) → number < keyLimit → length (walkFrom most c number) < most → Walks call c number (walkFrom most c number)
+  walked-out : (most number : ℕ) → number < keyLimit → length (walkFrom most c number) < most → Walks rationTable c number (walkFrom most c number)
   unfolding walkFrom onNext nextReply
   walked-out zero number h l = absurd (omega arith)
   walked-out (suc most) number h l = go (nextOf c number) refl (next-right c t number w e h) l (walked-out most)
     where
       go : (s : Successor) → nextOf c number ≡ s → IsNext (pairs t) number s → length (onNext (walkFrom most c) s) < suc most
-          → ((k : ℕ) → k < keyLimit → length (walkFrom most c k) < most → Walks call c k (walkFrom most c k)) → Walks call c number (onNext (walkFrom most c) s)
+          → ((k : ℕ) → k < keyLimit → length (walkFrom most c k) < most → Walks rationTable c k (walkFrom most c k)) → Walks rationTable c number (onNext (walkFrom most c) s)
       go (Pair k v) q i l further = goes-on k v (ap nextReply q) (further k (found-in-range lowestKey keyLimit k v t (well-formed-in-range w) (i .1) .1) (omega arith))
       go Nothing q i l further = ends (ap nextReply q)
       go (Refused r) q i l further = absurd i
 
-  walked : (l : List (ℕ × ℕ)) → ((key : ℕ) → lookup key (pairs t) ≡ lookup key l) → length (pairs t) ≡ length l → Walked call c l
+  walked : (l : List (ℕ × ℕ)) → ((key : ℕ) → lookup key (pairs t) ≡ lookup key l) → length (pairs t) ≡ length l → Walked rationTable c l
   walked l same as-many =
       let most = suc (length (pairs t)) in
       record {
@@ -83,7 +80,7 @@ module _ (c : List ℕ) (t : Tree) (w : WellFormed c t) (e : cardRefusal c ≡ 0
 
 -- ---- every card
 
-on-any-card : (c : List ℕ) → cardRefusal c ≡ 0 → OnAnyCard call c
+on-any-card : (c : List ℕ) → cardRefusal c ≡ 0 → OnAnyCard rationTable c
 on-any-card c e =
     record {
       held-to = λ number. held number (nextOf c number) (next-above c number e);
@@ -91,14 +88,14 @@ on-any-card c e =
       walks = λ t w. walked c t w e (pairs t) (λ key. refl) refl;
     }
 
-refused : (c : List ℕ) (r : ℕ) → cardRefusal c ≡ r → (r ≡ 0 → ⊥) → (number : ℕ) → call c number ≡ refusal r
+refused : (c : List ℕ) (r : ℕ) → cardRefusal c ≡ r → (r ≡ 0 → ⊥) → (number : ℕ) → rationTable .next c number ≡ refusal r
 unfolding nextReply
 refused c r e d number = rw (next-refused c number (λ z. d (sym e ∙ z)), e)
 
-cards : (c : List ℕ) → ByRows (cardRows c (nodesOn c) end) (λ r. (number : ℕ) → call c number ≡ refusal r) (OnAnyCard call c)
+cards : (c : List ℕ) → ByRows (cardRows c (nodesOn c) end) (λ r. (number : ℕ) → rationTable .next c number ≡ refusal r) (OnAnyCard rationTable c)
 unfolding ByRows
 cards c =
-    by-card end (λ r. (number : ℕ) → call c number ≡ refusal r) (OnAnyCard call c) c (nodesOn c)
+    by-card end (λ r. (number : ℕ) → rationTable .next c number ≡ refusal r) (OnAnyCard rationTable c) c (nodesOn c)
     (λ p. refused c 1 (card-one c p) (λ z. omega (arith, z)))
     (λ r s e d. refused c r (length-accepted c (nodesOn c) s ∙ e) d)
     (λ s f. on-any-card c (card-accepted s f .0))
@@ -115,18 +112,18 @@ module _ (w : World rationTable) (b : Book) (v : Covered w b) where
   accepted : cardRefusal (w .card) ≡ 0
   accepted = card-accepted (v .inv .table .sized) (v .inv .table .header) .0
 
-  moment : (number : ℕ) → number < keyLimit → AnswersNext (b .held) number (call (w .card) number)
+  moment : (number : ℕ) → number < keyLimit → AnswersNext (b .held) number (rationTable .next (w .card) number)
   moment number h =
       answered (b .held) (pairs (v .inv .tree)) same-pairs number (nextOf (w .card) number)
       (next-right (w .card) (v .inv .tree) number (table-well-formed (v .inv .table)) accepted h)
 
-  walk-now : Walked call (w .card) (b .held)
+  walk-now : Walked rationTable (w .card) (b .held)
   walk-now = walked (w .card) (v .inv .tree) (table-well-formed (v .inv .table)) accepted (b .held) same-pairs as-many-pairs
 
-pub w-201 : W201 rationTable (λ c number. nextReply (nextOf c number))
+pub w-201 : W201 rationTable
 w-201 =
     record {
-      moments = always (λ w b. (number : ℕ) → number < keyLimit → AnswersNext (b .held) number (call (w .card) number)) moment;
-      walks = always (λ w b. Walked call (w .card) (b .held)) walk-now;
+      moments = always (λ w b. (number : ℕ) → number < keyLimit → AnswersNext (b .held) number (rationTable .next (w .card) number)) moment;
+      walks = always (λ w b. Walked rationTable (w .card) (b .held)) walk-now;
       cards = cards;
     }

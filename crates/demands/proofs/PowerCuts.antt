@@ -9,7 +9,7 @@ use native.Mathlib.Omega.{arith}
 use Rattle.demands.proofs.BookLaws.{dictionaryAnswer}
 use Rattle.demands.proofs.Invariant.{Inv}
 use Rattle.demands.proofs.WayDown.{sized-on}
-use Rattle.demands.specs.Events.{Event, World, opened, replyTo, happens, run, LeftUncut, stepsIn, SaysReady, Opens, find, insert, delete, step, cut}
+use Rattle.demands.specs.Events.{Event, World, opened, replyTo, happens, run, LeftUncut, stepsIn, SaysReady, Opens, ask, insert, delete, step, cut}
 use Rattle.demands.specs.Book.{Book, book, feed, outcome, told, kept, empty}
 use Rattle.demands.specs.RationTable.{rationTable}
 use Rattle.card.specs.Replies.{ready, idle}
@@ -18,7 +18,7 @@ use Rattle.demands.specs.Demand3.{mostRepairSteps, Ended, Survives, Dema
 use Rattle.demands.specs.Way.{nodesOn}
 use Rattle.demands.proofs.Finished.{inv-rests}
 use Rattle.demands.proofs.Finishing.{Rests}
-use Rattle.demands.proofs.PowerLoss.{loosen, reopened-inv, reopened-due, kept-from, repair-ends, empty-fed, find-same, insert-same, delete-same, idle-not-busy}
+use Rattle.demands.proofs.PowerLoss.{loosen, reopened-inv, reopened-due, kept-from, repair-ends, empty-fed, ask-same, insert-same, delete-same, idle-not-busy}
 use Rattle.demands.proofs.Reopen.{reopened}
 use Rattle.demands.proofs.ReplyLaws.{code-of}
 use Rattle.demands.proofs.Starting.{nodes-same, same-lookup}
@@ -73,7 +73,7 @@ module _ (n k : ℕ) (l : List (ℕ × ℕ)) where
   run-held : (qs : List Event) (w : World rationTable) → LeftUncut rationTable qs w → Held w → Held (run rationTable qs w)
   unfolding LeftUncut run
   run-held [] w u i = i
-  run-held (find key ∷ qs) w u i = run-held qs (happens rationTable (find key) w) (u .1) (rw (find-same key w) i)
+  run-held (ask question ∷ qs) w u i = run-held qs (happens rationTable (ask question) w) (u .1) (rw (ask-same question w) i)
   run-held (insert key value ∷ qs) w u i = run-held qs (happens rationTable (insert key value) w) (u .1) (rw (insert-same key value w (u .0)) i)
   run-held (delete key ∷ qs) w u i = run-held qs (happens rationTable (delete key) w) (u .1) (rw (delete-same key w (u .0)) i)
   run-held (step ∷ qs) w u i = run-held qs (happens rationTable step w) (u .1) (step-held w i .0)
@@ -106,7 +106,7 @@ module _ (n k : ℕ) (l : List (ℕ × ℕ)) where
   rest-idle (step ∷ qs) w u i (inl e) = let q = step-held w i in rest-idle qs (happens rationTable step w) (u .1) (q .0) (inl (step-idle w (q .1) (inl e)))
   rest-idle (step ∷ qs) w u i (inr (inl r)) = let q = step-held w i in rest-idle qs (happens rationTable step w) (u .1) (q .0) (inl (step-idle w (q .1) (inr (r .1))))
   rest-idle (step ∷ qs) w u i (inr (inr r)) = rest-idle qs (happens rationTable step w) (u .1) (step-held w i .0) (inr r)
-  rest-idle (find key ∷ qs) w u i r = let e = find-same key w in rest-idle qs (happens rationTable (find key) w) (u .1) (rw e i) (⊎-map (λ z. rw e z) (no-step (λ z. impossible (cc))) r)
+  rest-idle (ask question ∷ qs) w u i r = let e = ask-same question w in rest-idle qs (happens rationTable (ask question) w) (u .1) (rw e i) (⊎-map (λ z. rw e z) (no-step (λ z. impossible (cc))) r)
   rest-idle (insert key value ∷ qs) w u i r =
       let e = insert-same key value w (u .0) in
       rest-idle qs (happens rationTable (insert key value) w) (u .1) (rw e i) (⊎-map (λ z. rw e z) (no-step (λ z. impossible (cc))) r)

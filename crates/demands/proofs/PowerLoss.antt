@@ -36,8 +36,8 @@ use Rattle.demands.proofs.ReplyLaws.{code-of, is-refused}
 use Rattle.demands.proofs.Invariant.{Table, UpdateSteps, Stage, Inv, stage-idle, stage-put, stage-remove, stage-first, stage-between, stage-within}
 use Rattle.demands.specs.Book.{Outcome, Hand, Book, book, fedStep, feed, told, outcome, kept, empty}
 use Rattle.demands.proofs.BookLaws.{Same, same-refl}
-use Rattle.demands.specs.Events.{Event, World, opened, replyTo, happens, run, Words, LeftUncut, stepsIn, SaysReady, formatBegun}
-use Rattle.demands.specs.Events.{Opens, Begins, find, insert, delete, step, cut, from-format, from-open}
+use Rattle.demands.specs.Events.{Question, Event, World, opened, replyTo, happens, run, Words, LeftUncut, stepsIn, SaysReady, formatBegun}
+use Rattle.demands.specs.Events.{Opens, Begins, ask, insert, delete, step, cut, from-format, from-open}
 use Rattle.demands.specs.RationTable.{rationTable}
 use Rattle.demands.specs.Table.{Refused}
 use Rattle.demands.proofs.Finishing.{MapIs}
@@ -92,9 +92,9 @@ delete-same key w h =
     let r = is-refused (deleteOf (w .card) (w .state) key .begun) h in
     same-world w _ (start-unchanged (w .card) (w .state) key (Deleting key NotBegun 0) (λ l. true) (r .0) (r .1))
 
-pub find-same : (key : ℕ) (w : World rationTable) → happens rationTable (find key) w ≡ w
+pub ask-same : (question : Question) (w : World rationTable) → happens rationTable (ask question) w ≡ w
 unfolding happens
-find-same key w = refl
+ask-same question w = refl
 
 -- ---- more steps than needed are enough; a cut; any events
 
@@ -134,9 +134,9 @@ module _ (n : ℕ) (c : List ℕ) (t : Tree) (l : List (ℕ × ℕ)) (b : Table 
   unfolding reopened-inv loosen
   reopened-due = refl
 
-find-keeps : (n steps : ℕ) (w : World rationTable) (b : Book) (key : ℕ) → Inv n steps w b → Inv n steps (happens rationTable (find key) w) (feed (told rationTable (find key) w) b)
+ask-keeps : (n steps : ℕ) (w : World rationTable) (b : Book) (question : Question) → Inv n steps w b → Inv n steps (happens rationTable (ask question) w) (feed (told rationTable (ask question) w) b)
 unfolding happens feed told
-find-keeps n steps w b key i = i
+ask-keeps n steps w b question i = i
 
 cut-keeps : (n steps : ℕ) (w : World rationTable) (b : Book) → Inv n steps w b → Inv n repairSteps (happens rationTable cut w) (feed (told rationTable cut w) b)
 unfolding happens feed told
@@ -145,7 +145,7 @@ cut-keeps n steps w b i = reopened-inv n (w .card) (i .tree) (b .held) (i .table
 pub inv-kept : (n : ℕ) (es : List Event) (steps : ℕ) (w : World rationTable) (b : Book) → Words es → Inv n steps w b → (k : ℕ) × Inv n k (run rationTable es w) (kept rationTable es w b)
 unfolding run kept
 inv-kept n [] steps w b u i = (steps, i)
-inv-kept n (find key ∷ es) steps w b u i = inv-kept n es steps _ _ u (find-keeps n steps w b key i)
+inv-kept n (ask question ∷ es) steps w b u i = inv-kept n es steps _ _ u (ask-keeps n steps w b question i)
 inv-kept n (insert key value ∷ es) steps w b u i = let q = kept-insert n steps w b i key value (u .0) in inv-kept n es (q .0) _ _ (u .1) (q .1)
 inv-kept n (delete key ∷ es) steps w b u i = let q = kept-delete n steps w b i key (u .0) in inv-kept n es (q .0) _ _ (u .1) (q .1)
 inv-kept n (step ∷ es) steps w b u i = inv-kept n es steps _ _ u (kept-step n steps w b (loosen n steps (suc steps) w b (omega arith) i) .0 .0)
@@ -183,7 +183,7 @@ ready-once c n f [] w e u q =
     let z : stepReply (stepOf (w .card) (w .state) .answer) ≡ refusal 10 = rw (e, step-idle c n (f .sized) (f .formatted) (freshNodes n) 0) in
     omega (arith, code-of (sym z ∙ q))
 ready-once c n f (step ∷ qs) w e u q = ready-once c n f qs (happens rationTable step w) (rw (e, step-idle c n (f .sized) (f .formatted) (freshNodes n) 0)) (u .1) q
-ready-once c n f (find key ∷ qs) w e u q = ready-once c n f qs w e (u .1) q
+ready-once c n f (ask question ∷ qs) w e u q = ready-once c n f qs w e (u .1) q
 ready-once c n f (insert key value ∷ qs) w e u q = ready-once c n f qs (happens rationTable (insert key value) w) (insert-same key value w (u .0) ∙ e) (u .1) q
 ready-once c n f (delete key ∷ qs) w e u q = ready-once c n f qs (happens rationTable (delete key) w) (delete-same key w (u .0) ∙ e) (u .1) q
 ready-once c n f (cut ∷ qs) w e u q = absurd (u .0)
@@ -211,7 +211,7 @@ format-ready-inv c n made s (step ∷ qs) w e h u q =
 
     ended : made ≡ suc (length c) → happens rationTable step w ≡ record { card = formatCard n c (suc (length c)); state = freshMemory n }
     ended m = rw (e, m, format-step-ready c n s)
-format-ready-inv c n made s (find key ∷ qs) w e h u q = format-ready-inv c n made s qs w e h (u .1) q
+format-ready-inv c n made s (ask question ∷ qs) w e h u q = format-ready-inv c n made s qs w e h (u .1) q
 format-ready-inv c n made s (insert key value ∷ qs) w e h u q = format-ready-inv c n made s qs (happens rationTable (insert key value) w) (insert-same key value w (u .0) ∙ e) h (u .1) q
 format-ready-inv c n made s (delete key ∷ qs) w e h u q = format-ready-inv c n made s qs (happens rationTable (delete key) w) (delete-same key w (u .0) ∙ e) h (u .1) q
 format-ready-inv c n made s (cut ∷ qs) w e h u q = absurd (u .0)
@@ -323,9 +323,9 @@ pub repair-ends : (n : ℕ) (l : List (ℕ × ℕ)) (qs : List Event) (steps : �
     → Inv n 0 (run rationTable qs w) (book l empty) × ((w .state .doing ≡ Idle) ⊎ SaysReady rationTable qs w)
 unfolding run LeftUncut SaysReady
 repair-ends n l [] steps w u h r = (loosen n steps 0 w (book l empty) (omega arith) (r .0), inl (at-rest n steps w (book l empty) (omega arith) (r .0) .0))
-repair-ends n l (find key ∷ qs) steps w u h r =
-    let e = find-same key w in
-    let q = repair-ends n l qs steps (happens rationTable (find key) w) (u .1) h (rw e r) in
+repair-ends n l (ask question ∷ qs) steps w u h r =
+    let e = ask-same question w in
+    let q = repair-ends n l qs steps (happens rationTable (ask question) w) (u .1) h (rw e r) in
     (q .0, ⊎-map (λ z. rw e at z) (λ z. inr z) (q .1))
 repair-ends n l (insert key value ∷ qs) steps w u h r =
     let e = insert-same key value w (u .0) in

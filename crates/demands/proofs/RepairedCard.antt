@@ -6,7 +6,7 @@ use Prim.Native.Nat.{ℕ, zero, suc}
 use native.Mathlib.Omega.{arith}
 use lib.ListN.{length, replicate}
 use Rattle.laws.proofs.Cases.{bool-cases, impossible}
-use Rattle.card.specs.Header.{nodesOfLength, Sized}
+use Rattle.card.specs.Header.{nodesOfLength, cardRefusal, Sized}
 use Rattle.call_repair.specs.Repairing.{Repaired, repairedCard, openedCard}
 use Rattle.demands.specs.Book.{book, empty}
 use Rattle.demands.specs.Events.{Event, World, opened, happens, run, Words, LeftUncut, stepsIn, Opens, step}
@@ -14,7 +14,7 @@ use Rattle.demands.specs.RationTable.{rationTable}
 use Rattle.demands.proofs.Finishing.{MapIs}
 use Rattle.demands.proofs.Invariant.{Inv}
 use Rattle.demands.proofs.PowerLoss.{opened-inv, at-rest, repair-ends, map-is}
-use Rattle.demands.proofs.Reopen.{table-well-formed}
+use Rattle.demands.proofs.Reopen.{card-accepted, table-well-formed}
 use Rattle.demands.proofs.Steps.{idle-world}
 use Rattle.state.specs.Steps.{isIdle}
 use Rattle.call_open.specs.Opening.{openOf}
@@ -79,6 +79,7 @@ count-steps (suc k) = ap suc (count-steps k)
 pub record After (c : List ℕ) (t : Tree) : Type 0 where
   pub table : Tree
   pub sized : Sized (length (openedCard c .card)) (nodesOfLength (length c))
+  pub accepted : cardRefusal (openedCard c .card) ≡ 0
   pub balanced : Balanced (openedCard c .card) table
   pub map : MapIs table (pairs t)
   pub idle : openedCard c .memory .doing ≡ Idle
@@ -97,6 +98,7 @@ module _ (c : List ℕ) (t : Tree) (a : Opens rationTable c) (w : WellFormed c t
       record {
         table = ended .tree;
         sized = rw r (ended .table .sized);
+        accepted = rw r (card-accepted (ended .table .sized) (ended .table .header) .0);
         balanced = rw r (record { well-formed = table-well-formed (ended .table); none = rest .1 });
         map = map-is ended;
         idle = ap (λ (x : World rationTable). x .state .doing) (opened-run c) ∙ rest .0;

@@ -69,9 +69,16 @@ pub slot-is : (words : List ℕ) (x : ℕ) (s : Slot) → slotOf words x ≡ s �
 unfolding slotOf
 slot-is words x s e = ap slotFound (sym e) ∙ slot-among (keyWords words) x 0
 
+full-at : (c : List ℕ) (run : ℕ) (l : Option Position) → Option·elim l false (λ p. not (among 0 (keyWords (nodeAt c (p .node)))))
+    ≡ Option·elim {A = ℕ × ℕ} (Option·map (λ p. (p .node, run)) l) false (λ x. not (among 0 (keyWords (nodeAt c (x .0)))))
+unfolding Option·elim
+full-at c run none = refl
+full-at c run (some p) = refl
+
 -- the leaf is full exactly where no slot of it is empty
 pub full-is : (c : List ℕ) (n key m link run : ℕ) (s : Slot) → Sized (length c) n → landing c n key ≡ LandingAt m link run → slotOf (nodeAt c m) 0 ≡ s → leafFull c key ≡ not (slotFound s)
 unfolding Option·elim landed
 full-is c n key m link run s z e f =
-    ap (λ (o : Option (ℕ × ℕ)). Option·elim o false (λ l. not (among 0 (keyWords (nodeAt c (l .0))))))
+    full-at c (runOver c 0 (way c (nodesOn c) key .inner)) (way c (nodesOn c) key .leaf)
+    ∙ ap (λ (o : Option (ℕ × ℕ)). Option·elim o false (λ l. not (among 0 (keyWords (nodeAt c (l .0))))))
     (sym (leads-is c n key (sized-on c n z)) ∙ ap landed e) ∙ ap not (sym (slot-is (nodeAt c m) 0 s f))

@@ -1,5 +1,5 @@
 -- Document 01, "Dumps and the list program": "The program `list` reads a dump from standard input, opens and repairs it in memory,
--- and prints."
+-- and prints." Document 02, W-201: "lists each pair once, rising, as `list` now does, 3 before 7 in its sample."
 use mathlib.Core.Path.{_≡_}
 use mathlib.Core.Bool.{Bool}
 use mathlib.Core.List.{List}
@@ -9,6 +9,7 @@ use Rattle.card.specs.Header.{Sized, Formatted}
 use Rattle.card.specs.Replies.{refusal}
 use Rattle.card_dump.specs.Dump.{dumpOf, dumpWords, wordsFor, dumpNodes}
 use Rattle.card_free.specs.NodeSet.{countTrue}
+use Rattle.laws.specs.Sorting.{sort}
 use Rattle.list_pairs.specs.Listing.{Listing, Listed, refused, listed}
 use Rattle.list_text.specs.Text.{listText}
 use Rattle.theory_tree.specs.FreeNodes.{Exact}
@@ -21,13 +22,14 @@ use Rattle.demands.specs.Demand3.{mostRepairSteps}
 use Rattle.demands.specs.Dumps.{Damaged}
 use Rattle.demands.specs.Events.{World, opened, run, step}
 use Rattle.demands.specs.Way.{nodesOn}
+use Rattle.demands.specs.W201.{Rises}
 use Rattle.demands.specs.Refusals.{ByRows, openRows, end, row}
 
 -- "opens and repairs it in memory": so many steps that the repair has ended (demand 3); those after its end store nothing
 unfoldable pub repairedWorld : (T : Table) → List ℕ → World T
 repairedWorld T c = run T (replicate mostRepairSteps step) (opened T c)
 
--- "First line: N, free nodes, internal levels, pairs. Then key and value, leaves left to right, slots rising."
+-- "First line: N, free nodes, internal levels, pairs. Then key and value": "each pair once, rising"
 pub record ListsRight (T : Table) (c : List ℕ) (l : Listing) : Type 0 where
   -- of the table on the repaired card
   pub table : Tree
@@ -38,7 +40,9 @@ pub record ListsRight (T : Table) (c : List ℕ) (l : Listing) : Type 0 where
   pub exact : Exact (nodesOn c) unreached table
   pub free : l .free ≡ countTrue unreached
   pub levels : Height (l .levels) table
-  pub all-pairs : l .pairs ≡ pairs table
+  -- its pairs, each once, in the order of their keys: each is greater than the one before it
+  pub all-pairs : l .pairs ≡ sort (pairs table)
+  pub rising : Rises 0 (l .pairs)
   -- and they are the map of the card: every key has the same value in both or is in neither, and there are as many pairs
   pub alike : (t : Tree) → WellFormed c t → (key : ℕ) → lookup key (l .pairs) ≡ lookup key (pairs t)
   pub as-many : (t : Tree) → WellFormed c t → length (l .pairs) ≡ length (pairs t)

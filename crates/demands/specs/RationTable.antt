@@ -14,6 +14,7 @@ use Rattle.state.specs.declared.Doing.the-variants.{Idle, Formatting, Inserting
 use Rattle.state.specs.declared.Phase.{Phase}
 use Rattle.state.specs.declared.Phase.the-variants.{NotBegun, InHand, Decided}
 use Rattle.call_step.specs.Calls.{stepOf}
+use Rattle.walk_next.specs.Successor.{nextOf, nextReply}
 
 -- whether the first change of an insert or a delete has begun
 unfoldable pub hasBegun : Phase → Bool
@@ -45,6 +46,7 @@ rationTable =
       work = λ m. workOf (m .doing);
       toCome = λ m. m .rest;
       find = λ c key. foundReply (findOf c key);
+      next = λ c number. nextReply (nextOf c number);
       format = λ c. handed (formatOf c);
       openCard = λ c. handed (openOf c);
       insert = λ c m key value. handed (insertOf c m key value);

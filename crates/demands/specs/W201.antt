@@ -16,10 +16,6 @@ use Rattle.demands.specs.Worked.{Always}
 use Rattle.demands.specs.Way.{nodesOn}
 use Rattle.demands.specs.Refusals.{ByRows, cardRows, end}
 
--- The call: of a card and a number the reply, which tells the key and the value of the pair. "It reads the card only": no card comes back.
-abbrev pub NextCall : Type 0
-NextCall = List ℕ → ℕ → Reply
-
 -- "the pair with the smallest key greater than it", of these pairs
 pub record Nearest (l : List (ℕ × ℕ)) (number key value : ℕ) : Type 0 where
   pub greater : number < key
@@ -40,11 +36,11 @@ abbrev pub Rises : ℕ → List (ℕ × ℕ) → Type 0
 Rises number [] = Unit
 Rises number (p ∷ l) = (number < p .0) × Rises (p .0) l
 
-module _ (call : NextCall) (c : List ℕ) where
+module _ (T : Table) (c : List ℕ) where
   -- "Walking an unchanged card": the call is asked for the next pair after the number, then after that pair's key, until "none"
   pub data Walks : ℕ → List (ℕ × ℕ) → Type 0 where
-    ends : {number : ℕ} → call c number ≡ nothing → Walks number []
-    goes-on : {number : ℕ} {l : List (ℕ × ℕ)} (key value : ℕ) → call c number ≡ next key value → Walks key l → Walks number ((key, value) ∷ l)
+    ends : {number : ℕ} → T .next c number ≡ nothing → Walks number []
+    goes-on : {number : ℕ} {l : List (ℕ × ℕ)} (key value : ℕ) → T .next c number ≡ next key value → Walks key l → Walks number ((key, value) ∷ l)
 
   -- "Walking an unchanged card from 0 lists each pair once, rising": every key has the same value in both or is in neither, and
   -- there are as many pairs
@@ -57,14 +53,16 @@ module _ (call : NextCall) (c : List ℕ) where
 
   -- a card that is not refused with 1, 2 or 3
   pub record OnAnyCard : Type 0 where
-    pub held-to : (number : ℕ) → HeldTo number (call c number)
+    pub held-to : (number : ℕ) → HeldTo number (T .next c number)
     -- a sound table is answered exactly, also where opening would refuse it with 5; a number is a word
-    pub exact : (t : Tree) → WellFormed c t → (number : ℕ) → number < keyLimit → AnswersNext (pairs t) number (call c number)
+    pub exact : (t : Tree) → WellFormed c t → (number : ℕ) → number < keyLimit → AnswersNext (pairs t) number (T .next c number)
     pub walks : (t : Tree) → WellFormed c t → Walked (pairs t)
 
-pub record W201 (T : Table) (call : NextCall) : Type 0 where
-  -- "like a find, and may come between steps": on a table as in demand 2, at every moment, by the book's pairs
-  pub moments : Always T (λ w b. (number : ℕ) → number < keyLimit → AnswersNext (b .held) number (call (w .card) number))
-  pub walks : Always T (λ w b. Walked call (w .card) (b .held))
-  -- every card, whatever its words: 1, 2, 3, and past them never 6
-  pub cards : (c : List ℕ) → ByRows (cardRows c (nodesOn c) end) (λ r. (number : ℕ) → call c number ≡ refusal r) (OnAnyCard call c)
+pub record W201 (T : Table) : Type 0 where
+  -- "like a find, and may come between steps": on a table as in demand 2, at every moment, by the book's pairs. The lists hold such
+  -- calls themselves, and cuts too: so also between the steps of a repair, and of one begun again after a cut.
+  pub moments : Always T (λ w b. (number : ℕ) → number < keyLimit → AnswersNext (b .held) number (T .next (w .card) number))
+  pub walks : Always T (λ w b. Walked T (w .card) (b .held))
+  -- every card, whatever its words: 1, 2, 3, and past them never 6; so also while formatting runs, with 2 from its first store to the
+  -- last, which is the mark
+  pub cards : (c : List ℕ) → ByRows (cardRows c (nodesOn c) end) (λ r. (number : ℕ) → T .next c number ≡ refusal r) (OnAnyCard T c)

@@ -25,4 +25,4 @@ among x (y ∷ ys) = pick (eqb y x) true (among x ys)
 
 -- "A key word of 0 is an empty slot": no slot of the leaf that the key leads to is empty
 abbrev pub leafFull : List ℕ → ℕ → Bool
-leafFull c key = Option·elim (leadsTo c key) false (λ l. not (among 0 (keyWords (nodeAt c (l .0)))))
+leafFull c key = Option·elim (way c (nodesOn c) key .leaf) false (λ p. not (among 0 (keyWords (nodeAt c (p .node)))))

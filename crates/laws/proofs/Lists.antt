@@ -71,9 +71,3 @@ drop-past [] y ys zero e = refl
 drop-past [] y ys (suc n) e = absurd (omega arith)
 drop-past (x ∷ xs) y ys zero e = absurd (omega arith)
 drop-past (x ∷ xs) y ys (suc n) e = drop-past xs y ys n (omega arith)
-
--- the default does not matter inside a list
-pub getD-any-default : {A : Type 0} (l : List A) (i : ℕ) (d e : A) → i < length l → getD l i d ≡ getD l i e
-getD-any-default [] i d e h = absurd (omega arith)
-getD-any-default (x ∷ l) zero d e h = refl
-getD-any-default (x ∷ l) (suc i) d e h = getD-any-default l i d e (omega arith)

@@ -11,12 +11,15 @@ use Rattle.call_open.specs.Opening.{openSound, openChecked, openOf}
 use Rattle.state.specs.Steps.{isIdle}
 use Rattle.state.specs.Memory.{resting}
 use Rattle.call_repair.specs.Repairing.{repairedCard, openedCard}
-use Rattle.list_pairs.specs.Listing.{nodePairs, onCard, pairsFrom, listChecked, listTable, listBegun, listCard, listRead, listDump, listed}
+use Rattle.walk.specs.Descent.{outside, lookIn, lookAt, rootPosition, byLook, wayFrom, way, reachedAt, leafOf, besideAll}
+use Rattle.walk_next.specs.Successor.{nearer, nearerAbove, leastAbove, found, nextInLeaf, inNextLeaf, orNextLeaf, nextIn, nextOf, onNext, walkFrom}
+use Rattle.list_pairs.specs.Listing.{listChecked, listTable, listBegun, listCard, listRead, listDump, listed}
 
--- "nodes 4 free 3 levels 0 pairs 2", then "7 70" and "3 31"
-example-listed : listDump (dumpOf example) 104 ≡ listed (record { nodes = 4; free = 3; levels = 0; pairs = (7, 70) ∷ (3, 31) ∷ [] })
+-- "nodes 4 free 3 levels 0 pairs 2", then "3 31" and "7 70": "3 before 7 in its sample"
+example-listed : listDump (dumpOf example) 104 ≡ listed (record { nodes = 4; free = 3; levels = 0; pairs = (3, 31) ∷ (7, 70) ∷ [] })
 unfolding example nodeImage readAnswer damaged faults fittingLength dumpOf cardBytes wordBytes wordAt paddedLength dumpWords listDump
     listRead listCard listBegun listTable listChecked openedCard repairedCard isIdle openOf openChecked openSound resting cardRefusal
     headerRefusal nodesOfLength tableCheck nodeCheck onLook enterNode enterKind enterLeaf leafSound slotSound member allNodes countTrue
-    nodeAt keyWords valueWords leafPairs pairsFrom onCard nodePairs
+    nodeAt keyWords valueWords leafPairs outside lookIn lookAt rootPosition byLook wayFrom way reachedAt leafOf nearer nearerAbove leastAbove besideAll
+    found nextInLeaf inNextLeaf orNextLeaf nextIn nextOf onNext walkFrom
 example-listed = refl

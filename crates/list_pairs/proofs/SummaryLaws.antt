@@ -3,18 +3,19 @@ use mathlib.Core.Path.{_≡_, refl}
 use mathlib.Core.List.{List}
 use mathlib.Core.Option.{none, some}
 use Prim.Native.Nat.{ℕ}
-use lib.ListN.{length, getD}
+use lib.ListN.{length}
 use borrow.Author.Tests.{ne-eqb, eq-eqb}
 use Rattle.card.specs.Header.{nodesOfLength}
-use Rattle.card.specs.Layout.{depthLimit, rootPlace}
 use Rattle.card_dump.specs.Dump.{dumpWords, readAnswer}
 use Rattle.card_dump.specs.declared.Answer.the-variants.{Length, Refused as ReadRefused}
 use Rattle.card_free.specs.NodeSet.{countTrue}
 use Rattle.card_check.specs.Check.{Findings, tableCheck}
 use Rattle.call_open.specs.Opening.{openOf}
+use Rattle.state.specs.declared.Begun.{Begun}
 use Rattle.state.specs.declared.Begun.the-variants.{Idle, Started, Refused}
 use Rattle.call_repair.specs.Repairing.{openedCard}
-use Rattle.list_pairs.specs.Listing.{Listing, Listed, refused, listed, pairsFrom, listChecked, listTable, listBegun, listCard, listRead, listDump, laid, layPairs, layListed}
+use Rattle.walk_next.specs.Successor.{walkFrom}
+use Rattle.list_pairs.specs.Listing.{mostPairs, Listing, Listed, refused, listed, listChecked, listTable, listBegun, listCard, listRead, listDump, laid, layPairs, layListed}
 use Rattle.list_pairs.specs.Summaries.{summarized, summaryOf}
 
 -- ---- a table
@@ -34,7 +35,7 @@ module _ (card : List ℕ) (n : ℕ) where
   table-unsound d e = rw (ne-eqb n 0 d, e)
 
   pub table-sound : (h : ℕ) (f : Findings) → (n ≡ 0 → ⊥) → tableCheck card n ≡ some (h, f)
-      → listTable card n ≡ listed (record { nodes = n; free = countTrue (f .free); levels = h; pairs = pairsFrom depthLimit card n (getD card rootPlace 0) })
+      → listTable card n ≡ listed (record { nodes = n; free = countTrue (f .free); levels = h; pairs = walkFrom mostPairs card 0 })
   unfolding listTable listChecked
   table-sound h f d e = rw (ne-eqb n 0 d, e)
 
@@ -50,13 +51,15 @@ module _ (card : List ℕ) where
   unfolding listCard listBegun
   card-refused r e = rw e
 
-  pub card-idle : openOf card .begun ≡ Idle → listCard card ≡ listTable (openedCard card .card) (nodesOfLength (length card))
+  -- where opening does not refuse
+  pub card-listed : ((r : ℕ) → openOf card .begun ≡ Refused r → ⊥) → listCard card ≡ listTable (openedCard card .card) (nodesOfLength (length card))
   unfolding listCard listBegun
-  card-idle e = rw e
-
-  pub card-started : openOf card .begun ≡ Started → listCard card ≡ listTable (openedCard card .card) (nodesOfLength (length card))
-  unfolding listCard listBegun
-  card-started e = rw e
+  card-listed opens = go (openOf card .begun) opens
+    where
+      go : (b : Begun) → ((r : ℕ) → b ≡ Refused r → ⊥) → listBegun card b ≡ listTable (openedCard card .card) (nodesOfLength (length card))
+      go Idle f = refl
+      go Started f = refl
+      go (Refused r) f = absurd (f r refl)
 
 -- ---- a dump
 

@@ -1,12 +1,13 @@
 -- Document 01, "Dumps and the list program": "opens and repairs it in memory, and prints .. N, free nodes, internal levels,
--- pairs. Then key and value, leaves left to right, slots rising."
-use mathlib.Core.List.{List, [], _∷_, _++_}
+-- pairs. Then key and value". Document 02, W-201: "Walking an unchanged card from 0 lists each pair once, rising, as `list` now
+-- does, 3 before 7 in its sample."
+use mathlib.Core.List.{List, [], _∷_}
 use mathlib.Core.Option.{Option, none, some}
-use Prim.Native.Nat.{ℕ, zero, suc, _+_}
-use lib.ListN.{length, getD, set}
+use Prim.Native.Nat.{ℕ, _+_, _*_}
+use lib.ListN.{length, set}
 use lib.Dec.{eqb, ltb}
 use Rattle.laws.specs.Cases.{pick}
-use Rattle.card.specs.Layout.{rootPlace, depthLimit, nodeAt, kindOf, children, leafPairs}
+use Rattle.card.specs.Layout.{greatestNodes}
 use Rattle.card.specs.Header.{nodesOfLength}
 use Rattle.card_free.specs.NodeSet.{countTrue}
 use Rattle.card_check.specs.Check.{Findings, tableCheck}
@@ -14,29 +15,14 @@ use Rattle.call_open.specs.Opening.{openOf}
 use Rattle.call_repair.specs.Repairing.{openedCard}
 use Rattle.state.specs.declared.Begun.{Begun}
 use Rattle.state.specs.declared.Begun.the-variants.{Idle, Started, Refused}
+use Rattle.walk_next.specs.Successor.{walkFrom}
 use Rattle.card_dump.specs.Dump.{dumpWords, readAnswer}
 use Rattle.card_dump.specs.declared.Answer.{Answer}
 use Rattle.card_dump.specs.declared.Answer.the-variants.{Length, Refused as ReadRefused}
 
--- ---- the pairs of a card
-
--- the pairs below each child, "leaves left to right"
-unfoldable pub childPairs : (ℕ → List (ℕ × ℕ)) → List ℕ → List (ℕ × ℕ)
-childPairs below [] = []
-childPairs below (m ∷ ms) = below m ++ childPairs below ms
-
--- the pairs of a leaf, "slots rising", or those below the children of another node
-unfoldable pub nodePairs : List ℕ → List (ℕ × ℕ) → List (ℕ × ℕ)
-nodePairs node inner = pick (eqb (kindOf node) 1) (leafPairs node) inner
-
--- nothing stands at a number that is no node's
-unfoldable pub onCard : ℕ → ℕ → List (ℕ × ℕ) → List (ℕ × ℕ)
-onCard n m found = pick (eqb m 0) [] (pick (ltb n m) [] found)
-
--- the pairs below node m of a card with n nodes, past at most so many internal nodes
-unfoldable pub pairsFrom : ℕ → List ℕ → ℕ → ℕ → List (ℕ × ℕ)
-pairsFrom zero card n m = onCard n m (nodePairs (nodeAt card m) [])
-pairsFrom (suc levels) card n m = onCard n m (nodePairs (nodeAt card m) (childPairs (pairsFrom levels card n) (children (nodeAt card m))))
+-- no card has more pairs than 11 for each of its nodes
+abbrev pub mostPairs : ℕ
+mostPairs = 11 * greatestNodes
 
 -- ---- what is listed
 
@@ -55,7 +41,7 @@ pub data Listed : Type 0 where
 -- a table that was checked; "4: table not sound"
 unfoldable pub listChecked : List ℕ → ℕ → Option (ℕ × Findings) → Listed
 listChecked card n none = refused 4
-listChecked card n (some r) = listed (record { nodes = n; free = countTrue (r .1 .free); levels = r .0; pairs = pairsFrom depthLimit card n (getD card rootPlace 0) })
+listChecked card n (some r) = listed (record { nodes = n; free = countTrue (r .1 .free); levels = r .0; pairs = walkFrom mostPairs card 0 })
 
 unfoldable pub listTable : List ℕ → ℕ → Listed
 listTable card n = pick (eqb n 0) (refused 1) (listChecked card n (tableCheck card n))
@@ -99,10 +85,3 @@ layPairs (p ∷ ps) l = layPairs ps (layPair p l)
 unfoldable pub layListed : Listed → List ℕ → Laid
 layListed (refused r) words = laid 0 words
 layListed (listed l) words = layPairs (l .pairs) (laid 0 words)
-
--- ---- one slot
-
--- "A key word of 0 is an empty slot"
-unfoldable pub laySlot : ℕ → ℕ → Laid → Laid
-laySlot zero value l = l
-laySlot (suc key) value l = layPair (suc key, value) l

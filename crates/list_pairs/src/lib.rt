@@ -3,7 +3,7 @@ mod pairs;
 
 use call_repair::open_repaired;
 use card_check::Checked;
-use pairs::collect;
+use pairs::put_pairs;
 use table::Begun;
 use table::STATE_WORDS;
 ghost use mathlib.Core.Path.{_≡_};
@@ -51,8 +51,7 @@ fn list_table(card: &[u32], out: &mut [u32]) -> Summary
         return refusing(4);
     };
     let free = card_free::count(&unreached);
-    let root = card[card::ROOT_PLACE] as usize;
-    let words = collect(card, n, root, card::DEPTH_LIMIT, out, 0);
+    let words = put_pairs(card, out);
     Summary {
         refusal: 0,
         nodes: n,
@@ -71,8 +70,7 @@ pub fn list_card(card: &mut [u32], out: &mut [u32]) -> Summary
     let mut state: [u32; STATE_WORDS] = [0; STATE_WORDS];
     match open_repaired(card, &mut state) {
         Begun::Refused(refusal) => refusing(refusal),
-        Begun::Idle => list_table(card, out),
-        Begun::Started => list_table(card, out),
+        Begun::Idle | Begun::Started => list_table(card, out),
     }
 }
 

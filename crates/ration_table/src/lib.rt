@@ -2,6 +2,7 @@
 pub use c_replies::Reply;
 use c_replies::dump_reply;
 use c_replies::found_reply;
+use c_replies::next_reply;
 use c_replies::start_reply;
 use c_replies::step_reply;
 ghost use mathlib.Core.Path.{_≡_};
@@ -11,6 +12,7 @@ ghost use Rattle.card_dump.specs.Dump.{readAnswer, readOver, writeAnswer, write
 ghost use Rattle.card_dump.specs.Answers.{dumpReply};
 ghost use Rattle.call_find.specs.Answers.{foundReply};
 ghost use Rattle.call_find.specs.Find.{findOf};
+ghost use Rattle.walk_next.specs.Successor.{nextOf, nextReply};
 ghost use Rattle.call_open.specs.Opening.{openOf};
 ghost use Rattle.call_start.specs.Starts.{formatOf, insertOf, deleteOf};
 ghost use Rattle.state.specs.Answers.{startReply, stepReply};
@@ -28,6 +30,14 @@ pub extern "C" fn ration_find(card: &[u32], key: u32) -> Reply
     ensures { λ r. ⌜ replyOf r ≡ foundReply (findOf (now (card .entry)) key) ⌝ }
 {
     found_reply(table::find(card, key))
+}
+
+// "It reads the card only, like a find, and may come between steps."
+#[no_mangle]
+pub extern "C" fn ration_next(card: &[u32], after: u32) -> Reply
+    ensures { λ r. ⌜ replyOf r ≡ nextReply (nextOf (now (card .entry)) after) ⌝ }
+{
+    next_reply(table::next_pair(card, after))
 }
 
 // "Formatting needs no earlier state".

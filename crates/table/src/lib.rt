@@ -11,3 +11,5 @@ pub use state::Answer;
 pub use state::Begun;
 pub use state::block::STATE_WORDS;
 pub use state::block::is_idle;
+pub use walk_next::Successor;
+pub use walk_next::next_pair;

@@ -6,8 +6,8 @@ use Prim.Native.Nat.{ℕ, _<_}
 use lib.ListN.{length}
 use lib.Dec.{eqb}
 use Rattle.card.specs.Header.{cardRefusal, nodesOfLength}
-use Rattle.card.specs.Layout.{keyLimit, nodeAt, leafPairs}
-use Rattle.walk.specs.Descent.{way, leafOf, endBelowAll}
+use Rattle.card.specs.Layout.{depthLimit, nodeAt, leafPairs}
+use Rattle.walk.specs.Descent.{rootPosition, wayFrom, way, leafOf, besideAll}
 use Rattle.walk.specs.declared.Reached.{Reached}
 use Rattle.walk.specs.declared.Reached.the-variants.{Refused as NotReached, Leaf as ReachedLeaf}
 use Rattle.laws.proofs.Cases.{bool-cases}
@@ -37,14 +37,14 @@ module _ (card : List ℕ) (after : ℕ) where
       let ps = leafPairs (nodeAt card m) in
       next-is-above ps after (found (leastAbove after ps)) (least-next after ps)
 
-  in-next-leaf-above : (n end : ℕ) → AboveOrNine after (inNextLeaf card n after end)
+  in-next-leaf-above : (n beside : ℕ) → AboveOrNine after (inNextLeaf card n after beside)
   unfolding inNextLeaf
-  in-next-leaf-above n end = bool-cases (eqb end keyLimit) (λ e. rw e tt) (λ e. rw e (in-leaf-above (leafOf (way card n end))))
+  in-next-leaf-above n beside = bool-cases (eqb beside 0) (λ e. rw e tt) (λ e. rw e (in-leaf-above (leafOf (wayFrom card n 0 depthLimit (rootPosition beside)))))
 
   or-next-leaf-above : (n : ℕ) (s : Successor) → AboveOrNine after s → AboveOrNine after (orNextLeaf card n after s)
   unfolding orNextLeaf
   or-next-leaf-above n (Pair key value) a = a
-  or-next-leaf-above n Nothing a = in-next-leaf-above n (endBelowAll card after keyLimit (way card n after .inner))
+  or-next-leaf-above n Nothing a = in-next-leaf-above n (besideAll card after 0 (way card n after .inner))
   or-next-leaf-above n (Refused r) a = a
 
   -- where 1, 2 and 3 are not due

@@ -8,7 +8,7 @@ pub mod LeastAbove
 pub mod AnyCard
 -- ranges in a tree ("a child's range runs from the routing key before it, included, to the one after it, excluded")
 pub mod ChildRange
--- the leaf that a number leads to, with its range: on the card, every number of the range leads to it, `rangeEnd` finds where the range ends
+-- the leaf that a number leads to, with its range: on the card, every number of the range leads to it, `besideAll` finds the part that stands right after
 pub mod LeafOf
 -- "the call answers the pair with the smallest key greater than it, or "none" exactly when the table holds no such key"
 pub mod Next

@@ -1,6 +1,6 @@
 -- Document 02, W-201, on a sound table: "the call answers the pair with the smallest key greater than it, or "none" exactly when
 -- the table holds no such key". The leaf that the number leads to holds the next pair or none up to the end of its range; the
--- leaf whose range begins there holds a pair above the number, since every leaf but a root holds one.
+-- first leaf of the part that stands right after holds a pair above the number, since every leaf but a root holds one.
 use mathlib.Core.Path.{_≡_, refl, ap, sym, _∙_}
 use mathlib.Core.List.{List}
 use mathlib.Core.Bool.{true, false}
@@ -14,7 +14,7 @@ use borrow.Author.Tests.{ne-eqb, eq-eqb}
 use Rattle.card.specs.Header.{cardRefusal, nodesOfLength}
 use Rattle.card.proofs.HeaderLaws.{sized, card-sized}
 use Rattle.card.specs.Layout.{rootPlace, depthLimit, lowestKey, keyLimit}
-use Rattle.walk.specs.Descent.{rootPosition, Way, wayFrom, way, endBelowAll}
+use Rattle.walk.specs.Descent.{rootPosition, Way, wayFrom, way, besideAll}
 use Rattle.walk.proofs.DescentLaws.{root-node}
 use Rattle.walk.specs.declared.Position.{Position}
 use Rattle.theory_walk.proofs.Way.{way-at-leaf}
@@ -25,11 +25,11 @@ use Rattle.walk_next.specs.Successor.{leastAbove, found, inNextLeaf, orNextLeaf
 use Rattle.walk_next.specs.declared.Successor.the-variants.{Pair}
 use Rattle.theory_next.proofs.ChildRange.{lower}
 use Rattle.theory_next.proofs.IsNext.{IsNext}
-use Rattle.theory_next.proofs.LeafOf.{LeafOf, leaf-of}
+use Rattle.theory_next.proofs.LeafOf.{Neighbour, LeafOf, leaf-of}
 use Rattle.theory_next.proofs.LeastAbove.{least-next}
 use Rattle.theory_next.proofs.Lookups.{some-pair, found-in-range}
 use Rattle.theory_tree.specs.Pairs.{pairs, lookup}
-use Rattle.theory_tree.proofs.Pairs.{lookup-none, InRange, absent, depth}
+use Rattle.theory_tree.proofs.Pairs.{lookup-none, InRange, absent, depth, root-positive}
 use Rattle.theory_tree.specs.Represent.{Represents}
 use Rattle.theory_tree.specs.Tree.{Tree, root, leaf, node}
 use Rattle.theory_tree.specs.Violations.{Widths, RootOk}
@@ -37,34 +37,31 @@ use Rattle.theory_tree.specs.WellFormed.{WellFormed}
 
 -- ---- the leaf of the number, and the next one
 
--- a table with a range that ends before all keys do is no single leaf, so that no leaf of it is empty
+-- a table with a part that stands after a way is no single leaf, so that no leaf of it is empty
 not-one-leaf : (c : List ℕ) (n after : ℕ) → length c ≡ 8 + 24 * n → (t : Tree) → Represents c t → RootOk t → (p : Position) → p .node ≡ root t
-    → endBelowAll c after keyLimit (wayFrom c n after depthLimit p .inner) < keyLimit → Widths t
-unfolding endBelowAll
-not-one-leaf c n after len (leaf m ks vs) r ok p e h = absurd (omega (arith, ap (λ (w : Way). endBelowAll c after keyLimit (w .inner)) (way-at-leaf c n after len depthLimit m ks vs r p e)))
+    → (besideAll c after 0 (wayFrom c n after depthLimit p .inner) ≡ 0 → ⊥) → Widths t
+unfolding besideAll
+not-one-leaf c n after len (leaf m ks vs) r ok p e h = absurd (h (ap (λ (w : Way). besideAll c after 0 (w .inner)) (way-at-leaf c n after len depthLimit m ks vs r p e)))
 not-one-leaf c n after len (node m true f) r ok p e h = absurd ok
 not-one-leaf c n after len (node m false f) r ok p e h = ((omega (arith, ok .0), ok .1), ok .2)
 
--- the next pair of a leaf is that of the table, where the table has no pair above the number that is before the leaf's range
-leaf-next : {c : List ℕ} {n key levels lo hi : ℕ} {t : Tree} (there : LeafOf c n key levels lo hi t) (after k v : ℕ)
-    → ((x : ℕ) → after < x → x < there .low → lookup x (pairs t) ≡ none)
-    → IsNext (pairs (there .reached)) after (Pair k v) → IsNext (pairs t) after (Pair k v)
-leaf-next there after k v before i =
-    let within = found-in-range (there .low) (there .high) k v (there .reached) (there .range) (i .1) in (
+-- the next pair of a part is that of the tree, where the tree has no pair above the number that is before the part's range
+part-next : (t part : Tree) (low high after k v : ℕ) → InRange low high part
+    → ((x : ℕ) → low ≤ x → x < high → lookup x (pairs t) ≡ lookup x (pairs part))
+    → ((x : ℕ) → after < x → x < low → lookup x (pairs t) ≡ none)
+    → IsNext (pairs part) after (Pair k v) → IsNext (pairs t) after (Pair k v)
+part-next t part low high after k v range answers before i =
+    let within = found-in-range low high k v part range (i .1) in (
       i .0,
-      there .answers k (within .0) (within .1) ∙ i .1,
-      λ x a b. order x (there .low) (λ o. before x a o) (λ o. there .answers x o (omega (arith, within .1)) ∙ i .2 x a b),
+      answers k (within .0) (within .1) ∙ i .1,
+      λ x a b. order x low (λ o. before x a o) (λ o. answers x o (omega (arith, within .1)) ∙ i .2 x a b),
     )
 
 module _ (c : List ℕ) (n : ℕ) (t : Tree) (len : length c ≡ 8 + 24 * n) (at-root : getD c rootPlace 0 ≡ root t) (r : Represents c t)
     (i : InRange 0 keyLimit t) (deep : depth t ≤ depthLimit) (ok : RootOk t) (after : ℕ) (here : LeafOf c n after depthLimit 0 keyLimit t) where
-  -- where every way begins
+  -- where the number's way begins
   start : rootPosition (getD c rootPlace 0) .node ≡ root t
   start = root-node (getD c rootPlace 0) ∙ at-root
-
-  here-ends : endBelowAll c after keyLimit (way c n after .inner) ≡ here .high
-  unfolding way
-  here-ends = here .ends after (rootPosition (getD c rootPlace 0)) start (here .from) (here .until)
 
   -- the leaf of the number has no pair above it
   module _ (none-here : (x : ℕ) → after < x → lookup x (pairs (here .reached)) ≡ none) where
@@ -74,31 +71,39 @@ module _ (c : List ℕ) (n : ℕ) (t : Tree) (len : length c ≡ 8 + 24 * n) (at
     none-at-all : here .high ≡ keyLimit → (x : ℕ) → after < x → lookup x (pairs t) ≡ none
     none-at-all e x a = order x keyLimit (λ o. none-before x a (omega arith)) (λ o. lookup-none x (pairs t) (absent 0 keyLimit x (inr o) t i))
 
-    -- the leaf that the end of the range leads to: if none of its pairs were above the number, the number would lead there too
-    next-there : (there : LeafOf c n (here .high) depthLimit 0 keyLimit t) → here .high < keyLimit → (least : Option (ℕ × ℕ))
-        → IsNext (pairs (there .reached)) after (found least) → IsNext (pairs t) after (found least)
-    unfolding found way
-    next-there there h none j =
-        let q = some-pair (pairs (there .reached)) (there .filled (not-one-leaf c n after len t r ok (rootPosition (getD c rootPlace 0)) start (omega (arith, here-ends)))) in
+    -- the first leaf of what stands right after: it holds a pair, and all its pairs are above the number
+    in-neighbour : (k : Neighbour c n depthLimit (here .low) (here .high) keyLimit t) → Widths (k .part) → (there : LeafOf c n 0 depthLimit 0 (k .end) (k .part))
+        → (least : Option (ℕ × ℕ)) → IsNext (pairs (there .reached)) after (found least) → IsNext (pairs t) after (found least)
+    unfolding found
+    in-neighbour k w there none j =
+        let q = some-pair (pairs (there .reached)) (there .filled w) in
         let within = found-in-range (there .low) (there .high) (q .0 .0) (q .0 .1) (there .reached) (there .range) (q .1) in
-        order after (q .0 .0) (λ o. absurd (Option·none-ne-some (q .0 .1) (sym (j (q .0 .0) o) ∙ q .1)))
-        (λ o. absurd (omega (arith, here-ends, there .ends after (rootPosition (getD c rootPlace 0)) start (omega (arith, within .0)) (omega (arith, here .until, there .until)), there .until)))
-    next-there there h (some p) j = leaf-next there after (p .0) (p .1) (λ x a b. none-before x a (omega (arith, there .from))) j
+        let above = found-in-range (here .high) (k .end) (q .0 .0) (q .0 .1) (k .part) (k .range) (there .answers (q .0 .0) (within .0) (within .1) ∙ q .1) in
+        absurd (Option·none-ne-some (q .0 .1) (sym (j (q .0 .0) (omega (arith, here .until, above .0))) ∙ q .1))
+    in-neighbour k w there (some p) j =
+        part-next t (k .part) (here .high) (k .end) after (p .0) (p .1) (k .range) (k .answers) none-before
+        (part-next (k .part) (there .reached) (there .low) (there .high) after (p .0) (p .1) (there .range) (there .answers) (λ x a b. absurd (omega (arith, there .from))) j)
 
-    in-next-leaf : IsNext (pairs t) after (inNextLeaf c n after (here .high))
+    in-next-leaf : IsNext (pairs t) after (inNextLeaf c n after (besideAll c after 0 (way c n after .inner)))
     unfolding inNextLeaf way
     in-next-leaf =
-        by-cases (ℕ-discrete (here .high) keyLimit) (λ e. rw (eq-eqb (here .high) keyLimit e) (none-at-all e))
-        (λ e. let h : here .high < keyLimit = omega (arith, here .most) in
-        let there = leaf-of c n (here .high) len depthLimit 0 keyLimit t r i (omega arith) h deep in
+        by-cases (ℕ-discrete (here .high) keyLimit)
+        (λ e. rw (here .last e after 0 (rootPosition (getD c rootPlace 0)) start (here .from) (here .until)) (none-at-all e))
+        (λ e. let k = here .neighbour (omega (arith, here .most)) in
+        let stands = k .stands after 0 (rootPosition (getD c rootPlace 0)) start (here .from) (here .until) in
+        let is-there : root (k .part) ≡ 0 → ⊥ = λ z. omega (arith, root-positive c (k .part) (k .represents)) in
+        let w = k .widths (not-one-leaf c n after len t r ok (rootPosition (getD c rootPlace 0)) start (λ z. is-there (sym stands ∙ z))) in
+        let there = leaf-of c n 0 len depthLimit 0 (k .end) (k .part) (k .represents) (lower 0 (here .high) (k .end) (omega arith) (k .part) (k .range))
+        (omega arith) (omega (arith, k .above)) (omega (arith, k .shallow)) in
         let ps = pairs (there .reached) in
-        rw (ne-eqb (here .high) keyLimit e, there .reads (here .high) after (rootPosition (getD c rootPlace 0)) start (there .from) (there .until))
-        (next-there there h (leastAbove after ps) (least-next after ps)))
+        rw (stands, ne-eqb (root (k .part)) 0 is-there, there .reads 0 after (rootPosition (root (k .part))) (root-node (root (k .part))) (there .from) (there .until))
+        (in-neighbour k w there (leastAbove after ps) (least-next after ps)))
 
   next-here : (least : Option (ℕ × ℕ)) → IsNext (pairs (here .reached)) after (found least) → IsNext (pairs t) after (orNextLeaf c n after (found least))
   unfolding orNextLeaf found
-  next-here none j = rw here-ends (in-next-leaf j)
-  next-here (some p) j = leaf-next here after (p .0) (p .1) (λ x a b. absurd (omega (arith, here .from))) j
+  next-here none j = in-next-leaf j
+  next-here (some p) j =
+      part-next t (here .reached) (here .low) (here .high) after (p .0) (p .1) (here .range) (here .answers) (λ x a b. absurd (omega (arith, here .from))) j
 
   in-table : IsNext (pairs t) after (nextIn c n after)
   unfolding nextIn way

@@ -9,15 +9,15 @@ use native.Mathlib.Decide.{ℕ-discrete}
 use lib.ListN.{length}
 use lib.Dec.{eqb}
 use Rattle.card.specs.Layout.{nodeAt, children, runBelow}
-use Rattle.walk.specs.Descent.{lookAt, childPosition, Way, nowhere, past, wayFrom, runOver, isFault, firstFault, ended, toList, endOf, reachedAt, leafOf, rangedBy}
-use Rattle.walk.proofs.DescentLaws.{Inside, leaf-inside, way-nowhere, way-leaf, way-childless, way-too-deep, way-down, ranged-leaf}
+use Rattle.walk.specs.Descent.{lookAt, childPosition, Way, nowhere, past, wayFrom, runOver, isFault, firstFault, ended, toList, endOf, reachedAt, leafOf, besideBy}
+use Rattle.walk.proofs.DescentLaws.{Inside, leaf-inside, way-nowhere, way-leaf, way-childless, way-too-deep, way-down, beside-told}
 use Rattle.laws.specs.Cases.{pick}
 use Rattle.laws.proofs.Cases.{bool-cases, and-true, impossible}
 use Rattle.walk.specs.declared.Position.{Position}
 use Rattle.walk.specs.declared.Look.{Look}
 use Rattle.walk.specs.declared.Look.the-variants.{Nowhere, Leaf as IsLeaf, Inner as IsInner}
 use Rattle.walk.specs.declared.Reached.the-variants.{Leaf as ReachedLeaf}
-use Rattle.walk.specs.declared.Ranged.the-variants.{Leaf as RangedLeaf}
+use Rattle.walk.specs.declared.Beside.the-variants.{Leaf as LeafBeside}
 use Rattle.walk.specs.declared.End.{End}
 use Rattle.walk.specs.declared.End.the-variants.{Leaf as EndLeaf, Fault as EndFault}
 
@@ -137,5 +137,5 @@ reached-inside card n key levels p m depth e = go (wayFrom card n key levels p .
     go none h z = impossible (cc)
     go (some q) h z = let w : q .node ≡ m = cc in rw w at (h q refl)
 
-pub ranged-inside : (card : List ℕ) (n key end levels : ℕ) (p : Position) (m e : ℕ) → rangedBy card key end (wayFrom card n key levels p) ≡ RangedLeaf m e → Inside n m
-ranged-inside card n key end levels p m e q = reached-inside card n key levels p m _ (ranged-leaf card key end _ m e q .0)
+pub beside-inside : (card : List ℕ) (n key beside levels : ℕ) (p : Position) (m b : ℕ) → besideBy card key beside (wayFrom card n key levels p) ≡ LeafBeside m b → Inside n m
+beside-inside card n key beside levels p m b q = reached-inside card n key levels p m _ (beside-told card key beside _ m b q .0)

@@ -9,19 +9,18 @@ use Prim.Native.Nat.{ℕ, zero, suc, _+_, _-_, _*_, _≤_, _<_}
 use native.Mathlib.Omega.{arith}
 use native.Mathlib.Numerals.{add-one}
 use native.Mathlib.Decide.{ℕ-discrete}
-use lib.ListN.{length, getD, drop, drop-of-length-le, List·getD-eq-default}
+use lib.ListN.{length, getD, drop, drop-of-length-le}
 use lib.Seq.{drop-cons, getD-take}
 use lib.Dec.{ltb, eqb}
 use borrow.Author.Tests.{lt-ltb, le-ltb, ne-eqb, eq-eqb}
 use Rattle.card.specs.Layout.{nodeAt, kindOf, keyWords, valueWords, children, routingKeys, leafPairs, runBelow, depthLimit}
 use Rattle.card.proofs.NodeLaws.{length-node, length-keyWords, get-keyWord, get-valueWord, children-le, length-routing, run-none}
 use Rattle.walk.specs.Descent.{passed, childIndex, childFor, firstEqual, slotOf, outside, lookIn, lookAt, downBy, downIn, rootPosition, childAt, childPosition, Way, nowhere}
-use Rattle.walk.specs.Descent.{past, byLook, wayFrom, reachedAt, leafOf, runOver, endBelow, endBelowAll, countOf, isFault, firstFault, ended, toList, endOf, searchOf}
-use Rattle.walk.specs.Descent.{seek, rangedAt, rangedBy}
+use Rattle.walk.specs.Descent.{past, byLook, wayFrom, reachedAt, leafOf, runOver, besideAfter, besideAll, countOf, isFault, firstFault, ended, toList, endOf, searchOf}
+use Rattle.walk.specs.Descent.{seek, besideAt, besideBy}
 use Rattle.laws.specs.Cases.{pick}
 use Rattle.laws.proofs.Cases.{order, bool-cases, impossible}
 use Rattle.laws.specs.Lists.{beforeZero}
-use Rattle.laws.proofs.Lists.{getD-any-default}
 use Rattle.walk.specs.declared.Slot.{Slot}
 use Rattle.walk.specs.declared.Slot.the-variants.{At, Absent}
 use Rattle.walk.specs.declared.Position.{Position}
@@ -31,7 +30,7 @@ use Rattle.walk.specs.declared.Look.{Look}
 use Rattle.walk.specs.declared.Look.the-variants.{Nowhere, Leaf as IsLeaf, Inner as IsInner}
 use Rattle.walk.specs.declared.Reached.{Reached}
 use Rattle.walk.specs.declared.Reached.the-variants.{Refused as NotReached, Leaf as ReachedLeaf}
-use Rattle.walk.specs.declared.Ranged.the-variants.{Refused as NoRange, Leaf as RangedLeaf}
+use Rattle.walk.specs.declared.Beside.the-variants.{Refused as NoLeaf, Leaf as LeafBeside}
 use Rattle.walk.specs.declared.End.{End}
 use Rattle.walk.specs.declared.End.the-variants.{Refused as EndRefused, Leaf as EndLeaf, Fault as EndFault}
 use Rattle.walk.specs.declared.Search.the-variants.{Violation as SearchViolation}
@@ -293,25 +292,20 @@ abbrev pub Told : List ℕ → ℕ → Down → Type 0
 Told node key DownNowhere = Unit {0}
 Told node key DownLeaf = Unit {0}
 Told node key Childless = length (children node) ≡ 0
-Told node key (DownInner i c) = (i ≡ childIndex node key) × (0 < length (children node))
+Told node key (DownInner i c) = i ≡ childIndex node key
 
 told-by : (node : List ℕ) (key : ℕ) (x : Look) → Told node key (downBy node key x)
 unfolding downBy
 told-by node key Nowhere = tt
 told-by node key IsLeaf = tt
-told-by node key IsInner = by-cases (ℕ-discrete (length (children node)) 0) (λ z. rw (eq-eqb (length (children node)) 0 z) z) (λ z. rw (ne-eqb (length (children node)) 0 z) (refl, omega arith))
+told-by node key IsInner = by-cases (ℕ-discrete (length (children node)) 0) (λ z. rw (eq-eqb (length (children node)) 0 z) z) (λ z. rw (ne-eqb (length (children node)) 0 z) refl)
 
 pub told : (node : List ℕ) (key : ℕ) (d : Down) → downIn node key ≡ d → Told node key d
 unfolding downIn
 told node key d e = subst (Told node key) e (told-by node key (lookIn node))
 
 pub taken-le : (node : List ℕ) (key i c : ℕ) → length node ≡ 24 → downIn node key ≡ DownInner i c → i ≤ 10
-taken-le node key i c len e = omega (arith, told node key (DownInner i c) e .0, index-le node key len)
-
-pub taken-below : (node : List ℕ) (key i c : ℕ) → length node ≡ 24 → downIn node key ≡ DownInner i c → i < length (children node)
-unfolding childIndex
-taken-below node key i c len e =
-    let h = told node key (DownInner i c) e in omega (arith, h .0, h .1, passed-le (routingKeys node) key, length-routing node len)
+taken-le node key i c len e = omega (arith, told node key (DownInner i c) e, index-le node key len)
 
 -- the way from a position, by what the node there is to the key
 abbrev pub byDown : Position → (Position → Way) → Down → Way
@@ -390,57 +384,55 @@ module _ (card : List ℕ) (p : Position) (m : ℕ) (node : List ℕ) (at : p .n
   unfolding runOver
   run-childless e = run-past nowhere 0 (sym e) ∙ run-none 0 run (λ z. omega arith)
 
--- ---- the leaf with the end of its range, read off the way
+-- ---- the leaf with what stands right after it, read off the way
 
--- where the range of a child ends: of the last one where its parent's does
-module _ (node : List ℕ) (i end : ℕ) (l : length node ≡ 24) where
-  pub end-last : length (children node) ≤ i + 1 → getD (routingKeys node) i end ≡ end
-  end-last h = List·getD-eq-default (routingKeys node) end {n = i} (omega (arith, length-routing node l))
+-- right after a child
+module _ (node : List ℕ) (i beside : ℕ) where
+  pub after-none : getD node (13 + i) 0 ≡ 0 → besideAfter node i beside ≡ beside
+  unfolding besideAfter
+  after-none e = simp (eq-eqb (getD node (13 + i) 0) 0 e)
 
-  pub end-key : i + 1 < length (children node) → getD (routingKeys node) i end ≡ getD node (1 + i) 0
-  unfolding routingKeys
-  end-key h =
-      getD-take (length (children node) - 1) (keyWords node) i end (omega arith)
-      ∙ getD-any-default (keyWords node) i end 0 (omega (arith, length-keyWords node l, children-le node))
-      ∙ get-keyWord node i (omega (arith, children-le node))
+  pub after-child : (getD node (13 + i) 0 ≡ 0 → ⊥) → besideAfter node i beside ≡ getD node (13 + i) 0
+  unfolding besideAfter
+  after-child h = simp (ne-eqb (getD node (13 + i) 0) 0 h)
 
-module _ (card : List ℕ) (key end : ℕ) where
-  pub ranged-nowhere : rangedBy card key end nowhere ≡ NoRange
-  unfolding rangedBy rangedAt
-  ranged-nowhere = refl
+module _ (card : List ℕ) (key beside : ℕ) where
+  pub beside-nowhere : besideBy card key beside nowhere ≡ NoLeaf
+  unfolding besideBy besideAt
+  beside-nowhere = refl
 
-  pub ranged-stop : (p : Position) → rangedBy card key end (past p nowhere) ≡ NoRange
-  unfolding rangedBy rangedAt past
-  ranged-stop p = refl
+  pub beside-stop : (p : Position) → besideBy card key beside (past p nowhere) ≡ NoLeaf
+  unfolding besideBy besideAt past
+  beside-stop p = refl
 
-  pub ranged-end : (p : Position) → rangedBy card key end (record { inner = []; leaf = some p }) ≡ RangedLeaf (p .node) end
-  unfolding rangedBy rangedAt endBelowAll
-  ranged-end p = refl
+  pub beside-leaf : (p : Position) → besideBy card key beside (record { inner = []; leaf = some p }) ≡ LeafBeside (p .node) beside
+  unfolding besideBy besideAt besideAll
+  beside-leaf p = refl
 
   -- past a node in hand
-  pub ranged-past : (p : Position) (m : ℕ) (node : List ℕ) → p .node ≡ m → node ≡ nodeAt card m → (i e : ℕ) → i ≡ childIndex node key
-      → e ≡ getD (routingKeys node) i end → (w : Way) → rangedBy card key end (past p w) ≡ rangedBy card key e w
-  unfolding rangedBy endBelowAll endBelow past
-  ranged-past p m node at same i e taken ends w =
-      ap (λ (x : ℕ). rangedAt (endBelowAll card key x (w .inner)) (w .leaf))
-      (ap (λ (x : List ℕ). endBelow x key end) (ap (nodeAt card) at ∙ sym same) ∙ ap (λ (j : ℕ). getD (routingKeys node) j end) (sym taken) ∙ sym ends)
+  pub beside-past : (p : Position) (m : ℕ) (node : List ℕ) → p .node ≡ m → node ≡ nodeAt card m → (i e : ℕ) → i ≡ childIndex node key
+      → e ≡ besideAfter node i beside → (w : Way) → besideBy card key beside (past p w) ≡ besideBy card key e w
+  unfolding besideBy besideAll past
+  beside-past p m node at same i e taken after w =
+      ap (λ (x : ℕ). besideAt (besideAll card key x (w .inner)) (w .leaf))
+      (ap (λ (x : List ℕ). besideAfter x (childIndex x key) beside) (ap (nodeAt card) at ∙ sym same) ∙ ap (λ (j : ℕ). besideAfter node j beside) (sym taken) ∙ sym after)
 
   -- what it says of the way
-  pub ranged-refused : (w : Way) → rangedBy card key end w ≡ NoRange → leafOf w ≡ NotReached
-  unfolding rangedBy rangedAt leafOf reachedAt
-  ranged-refused w e = go (w .leaf) e
+  pub beside-refused : (w : Way) → besideBy card key beside w ≡ NoLeaf → leafOf w ≡ NotReached
+  unfolding besideBy besideAt leafOf reachedAt
+  beside-refused w e = go (w .leaf) e
     where
-      go : (o : Option Position) → rangedAt (endBelowAll card key end (w .inner)) o ≡ NoRange → reachedAt (length (w .inner)) o ≡ NotReached
+      go : (o : Option Position) → besideAt (besideAll card key beside (w .inner)) o ≡ NoLeaf → reachedAt (length (w .inner)) o ≡ NotReached
       go none q = refl
       go (some p) q = impossible (cc)
 
-  pub ranged-leaf : (w : Way) (m e : ℕ) → rangedBy card key end w ≡ RangedLeaf m e
-      → (leafOf w ≡ ReachedLeaf m (length (w .inner))) × (endBelowAll card key end (w .inner) ≡ e)
-  unfolding rangedBy rangedAt leafOf reachedAt
-  ranged-leaf w m e q = go (w .leaf) q
+  pub beside-told : (w : Way) (m e : ℕ) → besideBy card key beside w ≡ LeafBeside m e
+      → (leafOf w ≡ ReachedLeaf m (length (w .inner))) × (besideAll card key beside (w .inner) ≡ e)
+  unfolding besideBy besideAt leafOf reachedAt
+  beside-told w m e q = go (w .leaf) q
     where
-      go : (o : Option Position) → rangedAt (endBelowAll card key end (w .inner)) o ≡ RangedLeaf m e
-          → (reachedAt (length (w .inner)) o ≡ ReachedLeaf m (length (w .inner))) × (endBelowAll card key end (w .inner) ≡ e)
+      go : (o : Option Position) → besideAt (besideAll card key beside (w .inner)) o ≡ LeafBeside m e
+          → (reachedAt (length (w .inner)) o ≡ ReachedLeaf m (length (w .inner))) × (besideAll card key beside (w .inner) ≡ e)
       go none r = impossible (cc)
       go (some p) r = (cc, cc)
 

@@ -2,11 +2,11 @@
 use mathlib.Core.Bool.{Bool, true, _&&_, _||_, not}
 use mathlib.Core.List.{List, [], _∷_, _++_}
 use mathlib.Core.Option.{Option, none, some}
-use Prim.Native.Nat.{ℕ, zero, suc, _+_, _≤_}
+use Prim.Native.Nat.{ℕ, zero, suc, _+_}
 use lib.ListN.{length, getD}
 use lib.Dec.{eqb, ltb}
 use Rattle.laws.specs.Cases.{pick}
-use Rattle.card.specs.Layout.{rootPlace, depthLimit, place, nodeAt, kindOf, keyWords, children, routingKeys, leafPairs, runBelow, keyLimit}
+use Rattle.card.specs.Layout.{rootPlace, depthLimit, place, nodeAt, kindOf, keyWords, children, routingKeys, leafPairs, runBelow}
 use Rattle.walk.specs.declared.Slot.{Slot}
 use Rattle.walk.specs.declared.Slot.the-variants.{At, Absent}
 use Rattle.walk.specs.declared.Position.{Position}
@@ -16,8 +16,8 @@ use Rattle.walk.specs.declared.Down.{Down}
 use Rattle.walk.specs.declared.Down.the-variants.{Nowhere as DownNowhere, Leaf as DownLeaf, Childless, Inner as DownInner}
 use Rattle.walk.specs.declared.Reached.{Reached}
 use Rattle.walk.specs.declared.Reached.the-variants.{Refused as NotReached, Leaf as ReachedLeaf}
-use Rattle.walk.specs.declared.Ranged.{Ranged}
-use Rattle.walk.specs.declared.Ranged.the-variants.{Refused as NoRange, Leaf as RangedLeaf}
+use Rattle.walk.specs.declared.Beside.{Beside}
+use Rattle.walk.specs.declared.Beside.the-variants.{Refused as NoLeaf, Leaf as LeafBeside}
 use Rattle.walk.specs.declared.Landing.{Landing}
 use Rattle.walk.specs.declared.Landing.the-variants.{Refused as NoLanding, Leaf as LandingAt}
 use Rattle.walk.specs.declared.End.{End}
@@ -124,28 +124,23 @@ unfoldable pub runOver : List ℕ → ℕ → List Position → ℕ
 runOver card run [] = run
 runOver card run (p ∷ ps) = runOver card (runBelow (length (children (nodeAt card (p .node)))) run) ps
 
--- "a child's range runs from the routing key before it, included, to the one after it, excluded": the last child's ends where
--- its parent's does
-unfoldable pub endBelow : List ℕ → ℕ → ℕ → ℕ
-endBelow node key end = getD (routingKeys node) (childIndex node key) end
+-- the number of the node that stands right after child number i: the child after it, else what stands beside its parent; a node's last
+-- word, which follows the eleventh child, is 0
+unfoldable pub besideAfter : List ℕ → ℕ → ℕ → ℕ
+besideAfter node i beside = pick (eqb (getD node (13 + i) 0) 0) beside (getD node (13 + i) 0)
 
--- the end of the range below the internal nodes of a way, where the range of the first of them ends at `end`
-unfoldable pub endBelowAll : List ℕ → ℕ → ℕ → List Position → ℕ
-endBelowAll card key end [] = end
-endBelowAll card key end (p ∷ ps) = endBelowAll card key (endBelow (nodeAt card (p .node)) key end) ps
+-- the same below the internal nodes of a way, where `beside` stands right after the first of them, and 0 is none
+unfoldable pub besideAll : List ℕ → ℕ → ℕ → List Position → ℕ
+besideAll card key beside [] = beside
+besideAll card key beside (p ∷ ps) = besideAll card key (besideAfter (nodeAt card (p .node)) (childIndex (nodeAt card (p .node)) key) beside) ps
 
--- the leaf that a way ends at, with the end of its range
-unfoldable pub rangedAt : ℕ → Option Position → Ranged
-rangedAt end none = NoRange
-rangedAt end (some p) = RangedLeaf (p .node) end
+-- the leaf that a way ends at, with what stands right after it
+unfoldable pub besideAt : ℕ → Option Position → Beside
+besideAt beside none = NoLeaf
+besideAt beside (some p) = LeafBeside (p .node) beside
 
-unfoldable pub rangedBy : List ℕ → ℕ → ℕ → Way → Ranged
-rangedBy card key end w = rangedAt (endBelowAll card key end (w .inner)) (w .leaf)
-
--- a range ends at a key, or after the last one
-abbrev pub InKeys : Ranged → Type 0
-InKeys NoRange = Unit
-InKeys (RangedLeaf m end) = end ≤ keyLimit
+unfoldable pub besideBy : List ℕ → ℕ → ℕ → Way → Beside
+besideBy card key beside w = besideAt (besideAll card key beside (w .inner)) (w .leaf)
 
 -- where an update's key leads: the leaf, the word that links to it, and j
 unfoldable pub landedAt : ℕ → Option Position → Landing

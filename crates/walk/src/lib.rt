@@ -3,8 +3,8 @@ ghost use mathlib.Core.Path.{_≡_};
 ghost use mathlib.Core.Bool.{_&&_};
 ghost use Prim.Native.Nat.{_+_, _*_, _≤_, _<_};
 ghost use lib.ListN.{length, getD};
-ghost use Rattle.card.specs.Layout.{greatestNodes, depthLimit, keyLimit, children, routingKeys, runBelow};
-ghost use Rattle.walk.specs.Descent.{childIndex, slotOf, outside, lookIn, downIn, childAt, isFault, rootPosition, wayFrom, leafOf, runOver, InKeys, rangedBy};
+ghost use Rattle.card.specs.Layout.{greatestNodes, depthLimit, runBelow};
+ghost use Rattle.walk.specs.Descent.{childIndex, slotOf, outside, lookIn, downIn, childAt, isFault, rootPosition, wayFrom, leafOf, runOver, besideAfter, besideBy};
 ghost use Rattle.walk.specs.Descent.{landingOf, endOf, seek};
 
 // The slot of a key in a leaf.
@@ -153,60 +153,53 @@ pub fn find_leaf(card: &[u32], n: usize, key: u32, root: usize) -> Reached
     }
 }
 
-// A word as one end of a range.
-fn wide(word: u32) -> u64
-    ensures { λ r. ⌜ (r ≡ word) × (r < keyLimit) ⌝ }
+// What stands right after a child: the child after it, or, where there is none, what stands beside its parent. The word after the last
+// of eleven children is the node's last one, which is 0.
+fn beside_after(node: &[u32], index: usize, beside: usize) -> usize
+    requires { ⌜ (length (now node) ≡ 24) × (index ≤ 10) ⌝ }
+    ensures { λ r. ⌜ r ≡ besideAfter (now (node .entry)) index beside ⌝ }
 {
-    word as u64
+    let next = node[card::SECOND_CHILD + index] as usize;
+    if next == 0 {
+        return beside;
+    }
+    next
 }
 
-// Where the range of a child ends: at the routing key after it, or, of the last child, where its parent's does.
-fn end_below(node: &[u32], index: usize, end: u64) -> u64
-    requires { ⌜ (length (now node) ≡ 24) × (index < length (children (now node))) × (end ≤ keyLimit) ⌝ }
-    ensures { λ r. ⌜ (r ≡ getD (routingKeys (now (node .entry))) index end) × (r ≤ keyLimit) ⌝ }
-{
-    if card::SLOTS <= index + 1 {
-        return end;
-    }
-    if node[card::SECOND_CHILD + index] == 0 {
-        return end;
-    }
-    wide(node[card::KEYS + index])
-}
-
-// The leaf that a key leads to, and where its range ends; or refusal 9.
-pub enum Ranged {
+// The leaf that a key leads to, and the number of the deepest node that stands right after the way there, 0 where there is none; or
+// refusal 9.
+pub enum Beside {
     Refused,
-    Leaf { node: usize, end: u64 },
+    Leaf { node: usize, beside: usize },
 }
 
-pub fn find_range(card: &[u32], n: usize, key: u32, root: usize) -> Ranged
+pub fn find_beside(card: &[u32], n: usize, key: u32, root: usize) -> Beside
     requires { ⌜ (length (now card) ≡ 8 + 24 * n) × (n ≤ greatestNodes) ⌝ }
-    ensures { λ r. ⌜ (r ≡ rangedBy (now (card .entry)) key keyLimit (wayFrom (now (card .entry)) n key depthLimit (rootPosition root))) × InKeys r ⌝ }
+    ensures { λ r. ⌜ r ≡ besideBy (now (card .entry)) key 0 (wayFrom (now (card .entry)) n key depthLimit (rootPosition root)) ⌝ }
 {
     let mut m = root;
-    let mut end: u64 = card::KEY_LIMIT;
+    let mut beside: usize = 0;
     let mut left: usize = card::DEPTH_LIMIT;
     loop {
         if is_outside(n, m) {
-            return Ranged::Refused;
+            return Beside::Refused;
         }
         let node = card::node_at(card, m);
         match go_down(node, key) {
             Down::Nowhere => {
-                return Ranged::Refused;
+                return Beside::Refused;
             }
             Down::Leaf => {
-                return Ranged::Leaf { node: m, end };
+                return Beside::Leaf { node: m, beside };
             }
             Down::Childless => {
-                return Ranged::Refused;
+                return Beside::Refused;
             }
             Down::Inner { index, child } => {
                 if left == 0 {
-                    return Ranged::Refused;
+                    return Beside::Refused;
                 }
-                end = end_below(node, index, end);
+                beside = beside_after(node, index, beside);
                 left -= 1;
                 m = child;
             }

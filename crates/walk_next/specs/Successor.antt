@@ -1,19 +1,19 @@
 -- Document 02, W-201: "Given any number from 0 up, the call answers the pair with the smallest key greater than it, or "none"
 -- exactly when the table holds no such key."
+use mathlib.Core.Path.{_≡_}
 use mathlib.Core.List.{List, [], _∷_}
 use mathlib.Core.Option.{Option, none, some}
-use Prim.Native.Nat.{ℕ, zero, suc}
+use Prim.Native.Nat.{ℕ, zero, suc, _<_}
 use lib.ListN.{length}
 use lib.Dec.{eqb, ltb}
 use Rattle.laws.specs.Cases.{pick}
 use Rattle.card.specs.Header.{cardRefusal, nodesOfLength}
-use Rattle.card.specs.Layout.{keyLimit, nodeAt, leafPairs}
+use Rattle.card.specs.Layout.{depthLimit, keyLimit, nodeAt, leafPairs}
 use Rattle.card.specs.Replies.{Reply, refusal, nothing, next}
-use Rattle.walk.specs.Descent.{way, leafOf, endBelowAll}
+use Rattle.walk.specs.Descent.{rootPosition, wayFrom, way, leafOf, besideAll}
 use Rattle.walk.specs.declared.Reached.{Reached}
 use Rattle.walk.specs.declared.Reached.the-variants.{Refused as NotReached, Leaf as ReachedLeaf}
 use Rattle.walk_next.specs.declared.Least.{Least}
-use Rattle.walk_next.specs.declared.Least.the-variants.{Pair as LeastPair, Nothing as NoLeast}
 use Rattle.walk_next.specs.declared.Successor.{Successor}
 use Rattle.walk_next.specs.declared.Successor.the-variants.{Pair, Nothing, Refused}
 
@@ -33,10 +33,18 @@ unfoldable pub leastAbove : ℕ → List (ℕ × ℕ) → Option (ℕ × ℕ)
 leastAbove after [] = none
 leastAbove after (p ∷ ps) = nearerAbove after p (leastAbove after ps)
 
--- the same as the code holds it
+-- its key, and 2^32, above every key, where there is none
+abbrev pub IsKey : Option (ℕ × ℕ) → ℕ → Type 0
+IsKey none key = key ≡ keyLimit
+IsKey (some p) key = (key ≡ p .0) × (key < keyLimit)
+
+-- a slot more: of two keys the smaller one, where it is greater than the number
+unfoldable pub nearerKey : ℕ → ℕ → ℕ → ℕ
+nearerKey after key least = pick (ltb after key) (pick (ltb least key) least key) least
+
+-- the pair as the code holds it: a key of 2^32 is none
 unfoldable pub leastOf : Least → Option (ℕ × ℕ)
-leastOf NoLeast = none
-leastOf (LeastPair key value) = some (key, value)
+leastOf l = pick (eqb (l .key) keyLimit) none (some (l .key, l .value))
 
 -- ---- the call
 
@@ -49,13 +57,14 @@ unfoldable pub nextInLeaf : List ℕ → ℕ → Reached → Successor
 nextInLeaf card after NotReached = Refused 9
 nextInLeaf card after (ReachedLeaf m depth) = found (leastAbove after (leafPairs (nodeAt card m)))
 
--- in the leaf whose range begins where another's ends; "the root's is all keys", and beyond them there is none
+-- in the first leaf of the node that stands right after another's way, where there is one: key 0, which is below all routing keys,
+-- takes first children
 unfoldable pub inNextLeaf : List ℕ → ℕ → ℕ → ℕ → Successor
-inNextLeaf card n after end = pick (eqb end keyLimit) Nothing (nextInLeaf card after (leafOf (way card n end)))
+inNextLeaf card n after beside = pick (eqb beside 0) Nothing (nextInLeaf card after (leafOf (wayFrom card n 0 depthLimit (rootPosition beside))))
 
 -- in the leaf that the number leads to, else in the next one
 unfoldable pub orNextLeaf : List ℕ → ℕ → ℕ → Successor → Successor
-orNextLeaf card n after Nothing = inNextLeaf card n after (endBelowAll card after keyLimit (way card n after .inner))
+orNextLeaf card n after Nothing = inNextLeaf card n after (besideAll card after 0 (way card n after .inner))
 orNextLeaf card n after (Pair key value) = Pair key value
 orNextLeaf card n after (Refused r) = Refused r
 

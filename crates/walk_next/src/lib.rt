@@ -1,11 +1,12 @@
 // The next ration number (document 02, W-201): the pair with the smallest key above a number.
-use walk::Ranged;
+use walk::Beside;
+use walk::Slot;
 ghost use mathlib.Core.Path.{_≡_};
 ghost use Prim.Native.Nat.{_≤_};
 ghost use lib.ListN.{length};
-ghost use Rattle.card.specs.Layout.{keyLimit, nodeAt, leafPairs};
+ghost use Rattle.card.specs.Layout.{keyLimit, leafPairs};
 ghost use Rattle.card.specs.Header.{Sized};
-ghost use Rattle.walk_next.specs.Successor.{leastAbove, leastOf, inNextLeaf, nextIn, nextOf};
+ghost use Rattle.walk_next.specs.Successor.{IsKey, nearerKey, leastAbove, leastOf, nextIn, nextOf};
 
 // What the call answers.
 pub enum Successor {
@@ -14,76 +15,93 @@ pub enum Successor {
     Refused(u32),
 }
 
-// The pair with the smallest key above a number, of the slots looked at so far.
-pub enum Least {
-    Pair { key: u32, value: u32 },
-    Nothing,
+// The smallest key above a number, of the slots looked at so far; 2^32, above every key, where there is none. One slot more: an empty
+// one has key word 0, which is above no number.
+fn nearer(least: u64, key: u32, after: u32) -> u64
+    ensures { λ r. ⌜ r ≡ nearerKey after key least ⌝ }
+{
+    if key <= after {
+        return least;
+    }
+    if least < key as u64 {
+        return least;
+    }
+    key as u64
 }
 
-// The pair of a leaf with the smallest key above a number: its slots are not sorted, so all eleven are looked at, the last first. An
-// empty slot has key word 0, which is above no number.
-fn least_above(node: &[u32], after: u32) -> Least
+// The smallest key above a number of a leaf: its slots are not sorted, so all eleven are looked at, the last first.
+fn least_key(node: &[u32], after: u32) -> u64
     requires { ⌜ length (now node) ≡ 24 ⌝ }
-    ensures { λ r. ⌜ leastOf r ≡ leastAbove after (leafPairs (now (node .entry))) ⌝ }
+    ensures { λ r. ⌜ IsKey (leastAbove after (leafPairs (now (node .entry)))) r ⌝ }
 {
-    let mut slot: usize = card::SLOTS;
-    let mut least: u32 = card::GREATEST_KEY;
+    let mut least = card::KEY_LIMIT;
     let mut i: usize = card::SLOTS;
     while 0 < i {
         i -= 1;
-        let key = node[card::KEYS + i];
-        if after < key {
-            if key <= least {
-                least = key;
-                slot = i;
-            }
+        least = nearer(least, node[card::KEYS + i], after);
+    }
+    least
+}
+
+// The pair with that key, and its value: of the first slot that has it, looked for only now, since a value carried along took 100
+// instructions more.
+pub struct Least {
+    pub key: u64,
+    pub value: u32,
+}
+
+fn least_above(node: &[u32], after: u32) -> Least
+    requires { ⌜ length (now node) ≡ 24 ⌝ }
+    ensures { λ r. ⌜ (leastOf r ≡ leastAbove after (leafPairs (now (node .entry)))) × (r .key ≤ keyLimit) ⌝ }
+{
+    let key = least_key(node, after);
+    if key != card::KEY_LIMIT {
+        if let Slot::At(i) = walk::find_slot(node, key as u32) {
+            return Least {
+                key,
+                value: node[card::VALUES + i],
+            };
         }
     }
-    if card::SLOTS <= slot {
-        return Least::Nothing;
-    }
-    Least::Pair {
-        key: least,
-        value: node[card::VALUES + slot],
+    Least {
+        key: card::KEY_LIMIT,
+        value: 0,
     }
 }
 
-// The same of node m, a leaf.
-fn least_in(card: &[u32], n: usize, m: usize, after: u32) -> Least
-    requires { ⌜ Sized (length (now card)) n × (1 ≤ m) × (m ≤ n) ⌝ }
-    ensures { λ r. ⌜ leastOf r ≡ leastAbove after (leafPairs (nodeAt (now (card .entry)) m)) ⌝ }
-{
-    least_above(card::node_at(card, m), after)
-}
-
-// In the leaf whose range begins where that of the number's leaf ends: a second way down.
-fn in_next_leaf(card: &[u32], n: usize, end: u64, after: u32) -> Successor
-    requires { ⌜ Sized (length (now card)) n × (end ≤ keyLimit) ⌝ }
-    ensures { λ r. ⌜ r ≡ inNextLeaf (now (card .entry)) n after end ⌝ }
-{
-    if end == card::KEY_LIMIT {
-        return Successor::Nothing;
-    }
-    match walk::find_range(card, n, end as u32, card[card::ROOT_PLACE] as usize) {
-        Ranged::Refused => Successor::Refused(9),
-        Ranged::Leaf { node, end: _ } => match least_in(card, n, node, after) {
-            Least::Pair { key, value } => Successor::Pair { key, value },
-            Least::Nothing => Successor::Nothing,
-        },
-    }
-}
-
-// In the leaf that the number leads to, else in the next one. The same way down gives both the leaf and the end of its range.
+// In the leaf that the number leads to, else in the first leaf of the node that stands right after the way there, to which a second way
+// leads, by first children. The two ways are rounds of one loop: as two calls they took a third more instructions.
 fn next_in(card: &[u32], n: usize, after: u32) -> Successor
     requires { ⌜ Sized (length (now card)) n ⌝ }
     ensures { λ r. ⌜ r ≡ nextIn (now (card .entry)) n after ⌝ }
 {
-    match walk::find_range(card, n, after, card[card::ROOT_PLACE] as usize) {
-        Ranged::Refused => Successor::Refused(9),
-        Ranged::Leaf { node, end } => match least_in(card, n, node, after) {
-            Least::Pair { key, value } => Successor::Pair { key, value },
-            Least::Nothing => in_next_leaf(card, n, end, after),
-        },
+    let mut from = card[card::ROOT_PLACE] as usize;
+    let mut key = after;
+    let mut is_own = true;
+    loop {
+        match walk::find_beside(card, n, key, from) {
+            Beside::Refused => {
+                return Successor::Refused(9);
+            }
+            Beside::Leaf { node, beside } => {
+                let least = least_above(card::node_at(card, node), after);
+                if least.key != card::KEY_LIMIT {
+                    return Successor::Pair {
+                        key: least.key as u32,
+                        value: least.value,
+                    };
+                }
+                if !is_own {
+                    return Successor::Nothing;
+                }
+                if beside == 0 {
+                    return Successor::Nothing;
+                }
+                from = beside;
+                key = 0;
+                is_own = false;
+            }
+        }
     }
 }
 

@@ -1,6 +1,8 @@
 //! The calls of `include/ration_table.h` one by one. Each may be made at any time on any card and block and answers or
 //! refuses; [`crate::Table`] puts them in order.
 
+use core::num::NonZeroU32;
+
 use crate::Refusal;
 
 const STATE_WORDS: usize = 177;
@@ -35,8 +37,8 @@ impl Default for StateBlock {
 struct Answer {
     code: u32,
     value: u32,
+    key: u32,
     // for calls to come, and always 0
-    _key: u32,
     _depth: u32,
 }
 
@@ -47,12 +49,15 @@ const READY: u32 = 67;
 const IDLE: u32 = 68;
 const STARTED: u32 = 69;
 const LENGTH: u32 = 70;
+const NEXT: u32 = 72;
+const NONE: u32 = 73;
 
 #[link(name = "ration_table", kind = "static")]
 extern "C" {
     fn ration_start_format(card: *const u32, card_words: usize, state: *mut u32, state_words: usize) -> Answer;
     fn ration_open(card: *const u32, card_words: usize, state: *mut u32, state_words: usize) -> Answer;
     fn ration_find(card: *const u32, card_words: usize, key: u32) -> Answer;
+    fn ration_next(card: *const u32, card_words: usize, after: u32) -> Answer;
     fn ration_start_insert(
         card: *const u32,
         card_words: usize,
@@ -115,6 +120,18 @@ pub fn find(card: &[u32], key: u32) -> Result<Option<u32>, Refusal> {
         VALUE => Ok(Some(answer.value)),
         ABSENT => Ok(None),
         number => Err(Refusal::from_number(number)),
+    }
+}
+
+/// The pair, key and value, with the smallest key above a number, which may be 0; nothing where no such key is held. On a card
+/// that [`open`] refuses with [`Refusal::NotSound`] it is any pair above the number, nothing or [`Refusal::BrokenWay`].
+pub fn next_after(card: &[u32], number: u32) -> Result<Option<(NonZeroU32, u32)>, Refusal> {
+    let answer = unsafe { ration_next(card.as_ptr(), card.len(), number) };
+    match (answer.code, NonZeroU32::new(answer.key)) {
+        (NEXT, Some(key)) => Ok(Some((key, answer.value))),
+        (NEXT, None) => unreachable!("0 is above no number"),
+        (NONE, _) => Ok(None),
+        (number, _) => Err(Refusal::from_number(number)),
     }
 }
 

@@ -5,7 +5,7 @@
 //!   So no second update can be started before the final answer of the first.
 //! - [`Update`], [`Repair`] and [`Formatting`] are in progress and have to be stepped. One that is dropped is a power cut:
 //!   open the card again.
-//! - `find` and `write_dump` work on all of them.
+//! - `find`, `next_after`, `pairs` and `write_dump` work on all of them.
 //! - [`calls`] are the same calls one by one, without that order.
 //!
 //! A card is formatted, a ration put in, power cut and the card opened again:
@@ -39,6 +39,23 @@
 //!
 //! An insert does not overwrite. A delete and then an insert are two updates and not one change: **where power goes between
 //! them the key is absent**. [`Table::insert`] says more.
+//!
+//! # To walk a card
+//!
+//! [`Table::pairs`] is an iterator over all pairs, in rising order of their keys; [`Table::next_after`] one step of it, from any
+//! number on:
+//!
+//! ```
+//! use ration_table::{Refusal, Table};
+//!
+//! fn print(table: &Table) -> Result<(), Refusal> {
+//!     for pair in table.pairs() {
+//!         let (ration, record) = pair?;
+//!         println!("ration {ration}: dose record {record}");
+//!     }
+//!     Ok(())
+//! }
+//! ```
 //!
 //! # To keep an update across calls
 //!
@@ -100,10 +117,12 @@
 #![no_std]
 
 pub mod calls;
+mod pairs;
 mod refusal;
 mod table;
 
 pub use calls::StateBlock;
+pub use pairs::Pairs;
 pub use refusal::Refusal;
 pub use table::{FinalAnswer, Formatting, InProgress, Opened, Progress, Refused, Repair, Table, Unfinished, Update};
 

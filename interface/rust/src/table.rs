@@ -5,7 +5,7 @@ use core::marker::PhantomData;
 use core::num::NonZeroU32;
 
 use crate::calls::{self, Opening, StateBlock, Step};
-use crate::Refusal;
+use crate::{Pairs, Refusal};
 
 /// A card that is open and idle. While it lives nothing else can write the card or the block, and an update takes it away
 /// until the final answer:
@@ -185,6 +185,16 @@ impl<'a> Table<'a> {
         calls::find(self.card, key.get())
     }
 
+    /// The pair with the smallest key above a number, which may be 0; nothing where no such key is held.
+    pub fn next_after(&self, number: u32) -> Result<Option<(NonZeroU32, u32)>, Refusal> {
+        calls::next_after(self.card, number)
+    }
+
+    /// All pairs, in rising order of their keys.
+    pub fn pairs(&self) -> Pairs<'_> {
+        Pairs::on(self.card)
+    }
+
     pub fn write_dump(&self, bytes: &mut [u8]) -> Result<usize, Refusal> {
         calls::write_dump(self.card, bytes)
     }
@@ -274,6 +284,16 @@ impl<'a, A: FinalAnswer> InProgress<'a, A> {
     /// Looks a key up as the card is at this moment.
     pub fn find(&self, key: NonZeroU32) -> Result<Option<u32>, Refusal> {
         self.table.find(key)
+    }
+
+    /// The pair with the smallest key above a number, which may be 0, as the card is at this moment.
+    pub fn next_after(&self, number: u32) -> Result<Option<(NonZeroU32, u32)>, Refusal> {
+        self.table.next_after(number)
+    }
+
+    /// All pairs as the card is at this moment, in rising order of their keys: the next step waits for the end of the walk.
+    pub fn pairs(&self) -> Pairs<'_> {
+        self.table.pairs()
     }
 
     pub fn write_dump(&self, bytes: &mut [u8]) -> Result<usize, Refusal> {

@@ -1,10 +1,15 @@
 -- `list_pairs::list_card` meets its contract.
-use mathlib.Core.Path.{ap, ap₂, sym, _∙_}
+use mathlib.Core.Path.{_≡_, ap, ap₂, sym, _∙_}
+use mathlib.Core.Logic.{⊎-elim}
+use Prim.Native.Nat.{ℕ}
+use native.Mathlib.Omega.{arith}
 use Rattle.card.specs.Header.{nodesOfLength}
+use Rattle.call_open.specs.Opening.{openOf}
+use Rattle.state.specs.declared.Begun.the-variants.{Refused}
 use Rattle.call_repair.specs.Repairing.{Repaired, leftBy}
 use Rattle.list_pairs.specs.Listing.{Listed, listTable, listCard, layListed}
 use Rattle.list_pairs.specs.Summaries.{summaryOf}
-use Rattle.list_pairs.proofs.SummaryLaws.{summary-refused, card-refused, card-idle, card-started}
+use Rattle.list_pairs.proofs.SummaryLaws.{summary-refused, card-refused, card-listed}
 use borrow.Author.Needs.{needs}
 use Rattle.list_pairs.proofs.list_card.Statement.{statement}
 use Rattle.list_pairs.proofs.list_card.Tie as tie
@@ -21,17 +26,8 @@ enum-known-refusal c = search needs
 refusing-requires : tie.Need-refusing-requires
 refusing-requires c κs = search needs
 
-enum-told : tie.Need-enum-told
-enum-told c = search needs
-
 list-table-requires : tie.Need-list-table-requires
 list-table-requires c κs = search needs
-
-enum-told-2 : tie.Need-enum-told-2
-enum-told-2 c = search needs
-
-list-table-requires-2 : tie.Need-list-table-requires-2
-list-table-requires-2 c κs = search needs
 
 same-length : tie.Need-same-length
 same-length c = search needs
@@ -54,29 +50,13 @@ same-length-3 c = search needs
 returns-2 : tie.Need-returns-2
 unfolding leftBy
 returns-2 c =
-    let s = c .before .before .before .before .before .before .before .before .before .before .before .before .before .before .before in
-    let r = c .before .before .before .before .before .before .before .before .before .before .open-repaired in
+    let s = c .before .before .before .before .before .before .before .before .before .before .before .before .before .before in
+    let r = c .before .before .before .before .before .before .before .before .before .open-repaired in
     let k = c .before .before .list-table in
     let left = ap (λ (x : Repaired). x .card) (r .ensures .1) in
-    let e = sym (r .ensures .0) ∙ c .before .before .before .before .before .enum-told .given .1 in
-    let is = ap₂ listTable left (ap nodesOfLength (r .kept .0)) ∙ sym (card-idle (s .args .card .now) e) in
-    (k .ensures .0 ∙ ap (λ (l : Listed). summaryOf l (s .args .out .now)) is, (k .ensures .1 ∙ ap (λ (l : Listed). layListed l (s .args .out .now) .words) is, left))
-
-same-length-4 : tie.Need-same-length-4
-same-length-4 c = search needs
-
-same-length-5 : tie.Need-same-length-5
-same-length-5 c = search needs
-
-returns-3 : tie.Need-returns-3
-unfolding leftBy
-returns-3 c =
-    let s = c .before .before .before .before .before .before .before .before .before .before .before .before .before .before .before in
-    let r = c .before .before .before .before .before .before .before .before .before .before .open-repaired in
-    let k = c .before .before .list-table2 in
-    let left = ap (λ (x : Repaired). x .card) (r .ensures .1) in
-    let e = sym (r .ensures .0) ∙ c .before .before .before .before .before .enum-told2 .given .1 in
-    let is = ap₂ listTable left (ap nodesOfLength (r .kept .0)) ∙ sym (card-started (s .args .card .now) e) in
+    let opens : (number : ℕ) → openOf (s .args .card .now) .begun ≡ Refused number → ⊥ =
+    λ number e. let told = c .before .before .before .before .before .match .keys2 in ⊎-elim (λ z. omega (arith, z)) (λ z. omega (arith, z)) (rw (r .ensures .0 ∙ e) at told) in
+    let is = ap₂ listTable left (ap nodesOfLength (r .kept .0)) ∙ sym (card-listed (s .args .card .now) opens) in
     (k .ensures .0 ∙ ap (λ (l : Listed). summaryOf l (s .args .out .now)) is, (k .ensures .1 ∙ ap (λ (l : Listed). layListed l (s .args .out .now) .words) is, left))
 
 pub list-card-spec : {M : Type 1} → statement M
@@ -87,15 +67,9 @@ list-card-spec =
     open-repaired-requires
     enum-known-refusal
     refusing-requires
-    enum-told
     list-table-requires
-    enum-told-2
-    list-table-requires-2
     same-length
     returns
     same-length-2
     same-length-3
-    returns-2
-    same-length-4
-    same-length-5
-    returns-3)
+    returns-2)

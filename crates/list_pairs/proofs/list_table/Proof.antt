@@ -1,14 +1,13 @@
 -- `list_pairs::list_table` meets its contract.
 use mathlib.Core.Path.{_≡_, ap, sym, _∙_}
-use native.Mathlib.Omega.{arith}
-use lib.ListN.{length, getD}
+use lib.ListN.{length}
 use Rattle.card.specs.Header.{nodesOfLength, Sized}
 use Rattle.card.proofs.HeaderLaws.{nodes-sized}
-use Rattle.card.specs.Layout.{depthLimit, rootPlace}
+use Rattle.walk_next.specs.Successor.{walkFrom}
 use Rattle.card_free.specs.NodeSet.{nodesOf}
 use Rattle.card_check.specs.Check.{findingsOf, checkedOf}
 use Rattle.card_check.specs.declared.Checked.{Checked}
-use Rattle.list_pairs.specs.Listing.{Listing, listed, listTable, pairsFrom}
+use Rattle.list_pairs.specs.Listing.{mostPairs, Listing, listed, listTable}
 use Rattle.list_pairs.proofs.SummaryLaws.{summary-refused, table-none, table-unsound, table-sound, summary-listed}
 use borrow.Author.Needs.{needs}
 use Rattle.list_pairs.proofs.list_table.Statement.{statement}
@@ -70,14 +69,8 @@ slice-aggregate-count c = search needs
 count-requires : tie.Need-count-requires
 count-requires c κs = search needs
 
-shared-slice-read-root : tie.Need-shared-slice-read-root
-shared-slice-read-root c = omega (arith, sized (c .before .before .before .before .before .before .before .before .before .before .before) .words)
-
-cast-root : tie.Need-cast-root
-cast-root c = omega (arith, c .shared-slice-known2 .given 4)
-
-collect-requires : tie.Need-collect-requires
-collect-requires c κs = let z = sized (c .before .before .before .before .before .before .before .before .before .before .before .before) in (z .words, z .most, omega arith)
+put-pairs-requires : tie.Need-put-pairs-requires
+put-pairs-requires c κs = search needs
 
 same-length : tie.Need-same-length
 same-length c = search needs
@@ -85,31 +78,20 @@ same-length c = search needs
 returns-3 : tie.Need-returns-3
 unfolding findingsOf checkedOf
 returns-3 c =
-    let s = c .before .before .before .before .before .before .before .before .before .before .before .before .before .before .before .before .before .before .before in
-    let n = c .before .before .before .before .before .before .before .before .before .before .before .before .before .before .before .before .nodes-of in
-    let levels = c .before .before .before .before .before .before .before .before .levels .given .0 .0 in
-    let found = sym (c .before .before .before .before .before .before .before .before .before .before .before .before .check-table .ensures)
-    ∙ ap (λ (r : Checked). checkedOf r
-    (findingsOf (nodesOf (c .before .before .before .before .before .before .before .before .before .before .before .before .check-table .last .1 .1 .0))
-    (c .before .before .before .before .before .before .before .before .before .before .before .before .check-table .last .1 .1 .1 .0)))
-    (c .before .before .before .before .before .before .before .before .levels .given .1) in
+    let s = c .before .before .before .before .before .before .before .before .before .before .before .before .before .before .before .before .before .before in
+    let n = c .before .before .before .before .before .before .before .before .before .before .before .before .before .before .before .nodes-of in
+    let k = c .before .before .before .before .before .before .before .before .before .before .before .check-table in
+    let g = c .before .before .before .before .before .before .before .levels .given in
+    let m = c .before .before .before .before .count in
+    let q = c .before .before .put-pairs in
+    let some-node = c .before .before .before .before .before .before .before .before .before .before .before .before .before .before .if1 .left in
+    let f = findingsOf (nodesOf (k .last .1 .1 .0)) (k .last .1 .1 .1 .0) in
     let card = s .args .card .now in
-    let x : Listing = record {
-      nodes = c .before .before .before .before .before .before .before .before .before .before .before .before .before .before .before
-          .before .nodes-of .result;
-      free = c .before .before .before .before .before .count .result;
-      levels = c .before .before .before .before .before .before .before .before .levels .given .0 .0;
-      pairs = pairsFrom depthLimit (s .args .card .now) (c .before .before .before .before .before .before .before .before .before .before
-          .before .before .before .before .before .before .nodes-of .result) (getD (s .args .card .now) rootPlace 0);
-    } in
-    let is : listTable (s .args .card .now) (nodesOfLength (length (s .args .card .now))) ≡ listed x =
-    ap (listTable card) (sym (n .ensures)) ∙ table-sound card (n .result) levels
-    (findingsOf (nodesOf (c .before .before .before .before .before .before .before .before .before .before .before .before .check-table .last .1 .1 .0))
-    (c .before .before .before .before .before .before .before .before .before .before .before .before .check-table .last .1 .1 .1 .0))
-    (c .before .before .before .before .before .before .before .before .before .before .before .before .before .before .before .if1 .left) found
-    ∙ rw (c .before .before .before .before .before .count .ensures) in
-    summary-listed x (listTable card (nodesOfLength (length card))) (s .args .out .now) (c .before .before .collect .result)
-    (c .before .before .collect .last .1 .1 .1 .1 .0) is (c .before .before .collect .ensures .0)
+    let found = sym (k .ensures) ∙ ap (λ (r : Checked). checkedOf r f) (g .1) in
+    let x : Listing = record { nodes = n .result; free = m .result; levels = g .0 .0; pairs = walkFrom mostPairs card 0 } in
+    let is : listTable card (nodesOfLength (length card)) ≡ listed x =
+    ap (listTable card) (sym (n .ensures)) ∙ table-sound card (n .result) (g .0 .0) f some-node found ∙ rw (m .ensures) in
+    summary-listed x (listTable card (nodesOfLength (length card))) (s .args .out .now) (q .result) (q .last .1 .0) is (q .ensures)
 
 pub list-table-spec : {M : Type 1} → statement M
 list-table-spec =
@@ -127,8 +109,6 @@ list-table-spec =
     returns-2
     slice-aggregate-count
     count-requires
-    shared-slice-read-root
-    cast-root
-    collect-requires
+    put-pairs-requires
     same-length
     returns-3)

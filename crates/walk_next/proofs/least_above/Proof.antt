@@ -1,125 +1,85 @@
 -- `walk_next::least_above` meets its contract.
-use mathlib.Core.Path.{_≡_, refl, ap, sym, _∙_, subst}
-use Prim.Native.Nat.{_+_, _-_, _≤_}
+use mathlib.Core.Path.{_≡_, refl, ap, sym, _∙_}
+use mathlib.Core.Option.{some}
+use Prim.Native.Nat.{ℕ, _<_}
 use native.Mathlib.Omega.{arith}
 use lib.ListN.{length}
-use Rattle.walk_next.specs.Successor.{leastOf, leastAbove}
-use Rattle.walk_next.proofs.SuccessorLaws.{HeldIn, least-end, held-below, held-other, held-now, held-none, held-some, held-slot}
-use Rattle.card.proofs.NodeLaws.{leafFrom, leaf-start}
+use Rattle.card.specs.Layout.{leafPairs}
+use Rattle.walk.proofs.DescentLaws.{slot-below}
+use Rattle.walk_next.specs.Successor.{leastAbove}
+use Rattle.walk_next.proofs.SuccessorLaws.{least-none, least-some, key-le, key-none, key-some, least-at, least-found}
 use borrow.Author.Needs.{needs}
 use Rattle.walk_next.proofs.least_above.Statement.{statement}
 use Rattle.walk_next.proofs.least_above.Tie as tie
 
--- the nearest pair of the slots from slot i on
-abbrev Inv-loop : tie.InvT-loop
-Inv-loop node after slot₀ least₀ i₀ slot least i = (i ≤ 11) × HeldIn node slot least (leastAbove after (leafFrom node i))
+-- the pair that has the key
+pair : (c : tie.After-least-key) → (c .least-key .result ≡ 4294967296 → ⊥) → (v : ℕ)
+    × (leastAbove (c .before .before .args .after) (leafPairs (c .before .before .args .node .now)) ≡ some (c .least-key .result, v))
+pair c p = key-some _ _ (c .least-key .ensures) p
 
-abbrev μ-loop : tie.MeasureT-loop
-μ-loop node after slot₀ least₀ i₀ slot least i = i
+-- its slot is one of the eleven
+slot : (c : tie.After-i) → c .i .given .0 .0 < 11
+slot c =
+    let len : length (c .before .before .before .before .before .before .args .node .now) ≡ 24 = search needs in
+    slot-below (c .before .before .before .before .before .before .args .node .now) (c .before .before .before .before .least-key .result)
+    (c .i .given .0 .0) len (sym (c .before .before .find-slot .ensures) ∙ c .i .given .1)
 
-loop-holds : tie.Need-loop-holds Inv-loop μ-loop
-loop-holds c =
-    let len : length (c .args .node .now) ≡ 24 = search needs in
-    (omega arith, subst (HeldIn (c .args .node .now) 11 4294967295) (sym (least-end (c .args .after) (c .args .node .now) len 11 refl)) (refl, refl))
+least-key-requires : tie.Need-least-key-requires
+least-key-requires c κs = search needs
 
-sub-i : tie.Need-sub-i Inv-loop μ-loop
-sub-i c = search needs
+cast-find-slot : tie.Need-cast-find-slot
+cast-find-slot c = omega (arith, key-le (leastAbove (c .before .before .before .args .after) (leafPairs (c .before .before .before .args .node .now))) _ (c .before .least-key .ensures), c .if1 .taken)
 
-add-key : tie.Need-add-key Inv-loop μ-loop
-add-key c = search needs
+find-slot-requires : tie.Need-find-slot-requires
+find-slot-requires c κs = search needs
 
-mul-key : tie.Need-mul-key Inv-loop μ-loop
-mul-key c = search needs
+enum-known-i : tie.Need-enum-known-i
+enum-known-i c = search needs
 
-shared-slice-read-key : tie.Need-shared-slice-read-key Inv-loop μ-loop
-shared-slice-read-key c = search needs
+add-t8 : tie.Need-add-t8
+add-t8 c = omega (arith, slot (c .before))
 
-loop-less : tie.Need-loop-less Inv-loop μ-loop
-loop-less c = search needs
+mul-t9 : tie.Need-mul-t9
+mul-t9 c = omega (arith, slot (c .before))
 
-loop-again : tie.Need-loop-again Inv-loop μ-loop
-loop-again c =
-    let s = c .before .before .before .before .before in
-    let l = c .before .before .before .before .loop in
-    let len : length (s .args .node .now) ≡ 24 = search needs in (
-      omega arith,
-      held-slot (s .args .node .now) (s .args .after) _ _ (l .i) len (omega arith) (omega arith)
-          (held-now (s .args .node .now) (l .slot) (l .least) (s .args .after) (l .i - 1) _ _ (l .inv .1) (omega arith) (c .before .if1 .taken) (c .if2 .taken)),
-    )
+shared-slice-read-t11 : tie.Need-shared-slice-read-t11
+shared-slice-read-t11 c = let len : length (c .before .before .before .before .before .before .before .before .args .node .now) ≡ 24 = search needs in omega (arith, len, slot (c .before .before))
 
-loop-less-2 : tie.Need-loop-less-2 Inv-loop μ-loop
-loop-less-2 c = search needs
-
-loop-again-2 : tie.Need-loop-again-2 Inv-loop μ-loop
-loop-again-2 c =
-    let s = c .before .before .before .before .before in
-    let l = c .before .before .before .before .loop in
-    let len : length (s .args .node .now) ≡ 24 = search needs in (
-      omega arith,
-      held-slot (s .args .node .now) (s .args .after) _ _ (l .i) len (omega arith) (omega arith)
-          (held-other (s .args .node .now) (l .slot) (l .least) (s .args .after) _ _ (l .inv .1) (c .before .if1 .taken)
-          (omega (arith, c .before .before .shared-slice-known .given (1 + (l .i - 1)))) (omega (arith, c .if2 .left))),
-    )
-
-loop-less-3 : tie.Need-loop-less-3 Inv-loop μ-loop
-loop-less-3 c = search needs
-
-loop-again-3 : tie.Need-loop-again-3 Inv-loop μ-loop
-loop-again-3 c =
-    let s = c .before .before .before .before in
-    let l = c .before .before .before .loop in
-    let len : length (s .args .node .now) ≡ 24 = search needs in (
-      omega arith,
-      held-slot (s .args .node .now) (s .args .after) _ _ (l .i) len (omega arith) (omega arith)
-          (held-below (s .args .node .now) (l .slot) (l .least) (s .args .after) _ _ (l .inv .1) (omega (arith, c .if1 .left))),
-    )
-
-returns : tie.Need-returns Inv-loop μ-loop
-unfolding leastOf
+returns : tie.Need-returns
 returns c =
-    let s = c .before .before .before in
-    let l = c .before .before .loop in
-    let e : l .i ≡ 0 = omega arith in
-    sym (held-none (s .args .node .now) (l .slot) (l .least) (s .args .after) _ (l .inv .1) (c .if3 .taken))
-    ∙ ap (leastAbove (s .args .after)) (ap (leafFrom (s .args .node .now)) e ∙ leaf-start (s .args .node .now))
+    let s = c .before .before .before .before .before .before .before .before in
+    let len : length (s .args .node .now) ≡ 24 = search needs in
+    let q = pair (c .before .before .before .before .before .before) (c .before .before .before .before .before .if1 .taken) in (
+      least-some _ (c .before .before .before .before .before .if1 .taken) ∙ sym (q .1 ∙ ap (λ (x : ℕ). some (c .before .before .before .before .before .before .least-key .result, x))
+          (least-at (s .args .node .now) len (s .args .after) _ _ _ (q .1) (sym (c .before .before .before .before .find-slot .ensures) ∙ c .before .before .i .given .1))),
+      key-le (leastAbove (s .args .after) (leafPairs (s .args .node .now))) _ (c .before .before .before .before .before .before .least-key .ensures),
+    )
 
-add-t14 : tie.Need-add-t14 Inv-loop μ-loop
-add-t14 c = search needs
+enum-told : tie.Need-enum-told
+enum-told c = search needs
 
-mul-t15 : tie.Need-mul-t15 Inv-loop μ-loop
-mul-t15 c = search needs
-
-shared-slice-read-t17 : tie.Need-shared-slice-read-t17 Inv-loop μ-loop
-shared-slice-read-t17 c = search needs
-
-returns-2 : tie.Need-returns-2 Inv-loop μ-loop
-unfolding leastOf
+returns-2 : tie.Need-returns-2
 returns-2 c =
-    let s = c .before .before .before .before in
-    let l = c .before .before .before .loop in
-    let e : l .i ≡ 0 = omega arith in
-    sym (held-some (s .args .node .now) (l .slot) (l .least) (s .args .after) _ (l .inv .1) (omega (arith, c .before .if3 .left)))
-    ∙ ap (leastAbove (s .args .after)) (ap (leafFrom (s .args .node .now)) e ∙ leaf-start (s .args .node .now))
+    let s = c .before .before .before .before .before .before in
+    let len : length (s .args .node .now) ≡ 24 = search needs in
+    let q = pair (c .before .before .before .before) (c .before .before .before .if1 .taken) in
+    absurd (least-found (s .args .node .now) len (s .args .after) _ _ (q .1) (sym (c .before .before .find-slot .ensures) ∙ c .enum-told .given .1))
+
+returns-3 : tie.Need-returns-3
+returns-3 c = (least-none _ refl ∙ sym (key-none _ _ (c .before .least-key .ensures) (c .if1 .left)), omega arith)
 
 pub least-above-spec : {M : Type 1} → statement M
 least-above-spec =
     tie.close
     (tie.spec
-    Inv-loop
-    μ-loop
-    loop-holds
-    sub-i
-    add-key
-    mul-key
-    shared-slice-read-key
-    loop-less
-    loop-again
-    loop-less-2
-    loop-again-2
-    loop-less-3
-    loop-again-3
+    least-key-requires
+    cast-find-slot
+    find-slot-requires
+    enum-known-i
+    add-t8
+    mul-t9
+    shared-slice-read-t11
     returns
-    add-t14
-    mul-t15
-    shared-slice-read-t17
-    returns-2)
+    enum-told
+    returns-2
+    returns-3)

@@ -1,88 +1,169 @@
 -- `walk_next::next_in` meets its contract.
-use mathlib.Core.Path.{_≡_, ap, sym, _∙_, subst}
+use mathlib.Core.Path.{_≡_, refl, ap, ap₂, sym, _∙_, subst}
+use mathlib.Core.Bool.{Bool, true}
+use mathlib.Core.List.{List}
+use mathlib.Core.Option.{Option}
+use Prim.Native.Nat.{ℕ, _<_}
 use native.Mathlib.Omega.{arith}
-use Rattle.card.specs.Layout.{keyLimit}
-use Rattle.walk.specs.Descent.{way, rangedBy, InKeys}
-use Rattle.walk.specs.declared.Ranged.the-variants.{Leaf as RangedLeaf}
-use Rattle.walk.proofs.Along.{ranged-inside}
-use Rattle.walk.proofs.DescentLaws.{ranged-refused, ranged-leaf}
-use Rattle.walk_next.specs.Successor.{leastOf, found, inNextLeaf, orNextLeaf, nextIn}
-use Rattle.walk_next.proofs.SuccessorLaws.{in-no-leaf, in-leaf}
+use lib.ListN.{length, getD}
+use Rattle.laws.specs.Bits.{bit}
+use Rattle.laws.proofs.Cases.{impossible}
+use Rattle.card.specs.Header.{Sized}
+use Rattle.card.specs.Layout.{depthLimit, rootPlace, leafPairs}
+use Rattle.card.proofs.NodeLaws.{length-node}
+use Rattle.walk.specs.Descent.{rootPosition, wayFrom, way, leafOf, besideAll, besideBy}
+use Rattle.walk.specs.declared.Beside.{Beside}
+use Rattle.walk.proofs.Along.{beside-inside}
+use Rattle.walk.proofs.DescentLaws.{Inside, beside-refused, beside-told}
+use Rattle.walk_next.specs.Successor.{leastOf, leastAbove, found, nextInLeaf, inNextLeaf, nextIn}
+use Rattle.walk_next.specs.declared.Successor.the-variants.{Nothing}
+use Rattle.walk_next.proofs.SuccessorLaws.{least-none, least-some, next-none, next-there, in-no-leaf, in-leaf, inRound, round-first}
+use Rattle.walk_next.proofs.SuccessorLaws.{round-refused, round-pair, round-last, round-on, first-round, second-round}
 use borrow.Author.Needs.{needs}
 use Rattle.walk_next.proofs.next_in.Statement.{statement}
 use Rattle.walk_next.proofs.next_in.Tie as tie
 
--- the number's own leaf, and where its range ends
-ranged : (c : tie.After-node)
-    → rangedBy (c .before .before .before .before .before .args .card .now) (c .before .before .before .before .before .args .after) keyLimit
-    (way (c .before .before .before .before .before .args .card .now) (c .before .before .before .before .before .args .n)
-    (c .before .before .before .before .before .args .after)) ≡ RangedLeaf (c .node .given .0 .0) (c .node .given .0 .1 .0)
+-- the way of this round, in the first one the number's own
+abbrev Inv-loop : tie.InvT-loop
+Inv-loop card n after from₀ key₀ is-own₀ from key is-own =
+    (is-own ≡ true → (from ≡ getD card rootPlace 0) × (key ≡ after))
+    × (nextIn card n after ≡ inRound is-own card n after (nextInLeaf card after (leafOf (wayFrom card n key depthLimit (rootPosition from)))))
+
+abbrev μ-loop : tie.MeasureT-loop
+μ-loop card n after from₀ key₀ is-own₀ from key is-own = bit is-own
+
+-- what `find_beside` told of this round's way
+told : (c : tie.After-find-beside Inv-loop μ-loop) (r : Beside) → c .find-beside .result ≡ r
+    → let s = c .before .before .before .before in
+    let l = c .before .loop in
+    besideBy (s .args .card .now) (l .key) 0 (wayFrom (s .args .card .now) (s .args .n) (l .key) depthLimit (rootPosition (l .from))) ≡ r
+told c r g = sym (c .find-beside .ensures) ∙ g
+
+leaf : (c : tie.After-node Inv-loop μ-loop) → Inside (c .before .before .before .before .before .before .args .n) (c .node .given .0 .0)
+leaf c = beside-inside _ (c .before .before .before .before .before .before .args .n) _ _ _ _ _ _ (told (c .before .before) _ (c .node .given .1))
+
+-- the leaf's own answer, by the pair that it has
+answered : (c : tie.After-least-above Inv-loop μ-loop) (o : Option (ℕ × ℕ)) → leastOf (c .least-above .result) ≡ o
+    → nextIn (c .before .before .before .before .before .before .before .before .before .args .card .now)
+    (c .before .before .before .before .before .before .before .before .before .args .n)
+    (c .before .before .before .before .before .before .before .before .before .args .after)
+    ≡ inRound (c .before .before .before .before .before .before .loop .is-own)
+    (c .before .before .before .before .before .before .before .before .before .args .card .now)
+    (c .before .before .before .before .before .before .before .before .before .args .n)
+    (c .before .before .before .before .before .before .before .before .before .args .after) (found o)
+answered c o e =
+    let s = c .before .before .before .before .before .before .before .before .before in
+    let l = c .before .before .before .before .before .before .loop in
+    l .inv .1
+    ∙ ap (inRound (l .is-own) (s .args .card .now) (s .args .n) (s .args .after)) (in-leaf (s .args .card .now) (s .args .after) _ _ _
+    (beside-told _ _ _ _ _ _ (told (c .before .before .before .before .before) _ (c .before .before .before .node .given .1)) .0) o
+    (ap (λ (x : List ℕ). leastAbove (s .args .after) (leafPairs x)) (sym (c .before .node-at .ensures)) ∙ sym (c .least-above .ensures .0) ∙ e))
+
+-- what stands right after the own leaf's way
+own-beside : (c : tie.After-node Inv-loop μ-loop) → c .before .before .before .loop .is-own ≡ true
+    → inRound (c .before .before .before .loop .is-own) (c .before .before .before .before .before .before .args .card .now)
+    (c .before .before .before .before .before .before .args .n) (c .before .before .before .before .before .before .args .after) Nothing
+    ≡ inNextLeaf (c .before .before .before .before .before .before .args .card .now) (c .before .before .before .before .before .before .args .n)
+    (c .before .before .before .before .before .before .args .after) (c .node .given .0 .1 .0)
 unfolding way
-ranged c = sym (c .before .before .find-range .ensures .0) ∙ c .node .given .1
+own-beside c own =
+    let s = c .before .before .before .before .before .before in
+    let l = c .before .before .before .loop in
+    round-on (s .args .card .now) (s .args .n) (s .args .after) (l .is-own) own
+    ∙ ap (inNextLeaf (s .args .card .now) (s .args .n) (s .args .after))
+    (ap₂ (λ (k m : ℕ). besideAll (s .args .card .now) k 0 (wayFrom (s .args .card .now) (s .args .n) k depthLimit (rootPosition m) .inner))
+    (sym (l .inv .0 own .1)) (sym (l .inv .0 own .0))
+    ∙ beside-told _ _ _ _ _ _ (told (c .before .before) _ (c .node .given .1)) .1)
 
-shared-slice-read-find-range : tie.Need-shared-slice-read-find-range
-shared-slice-read-find-range c = search needs
+shared-slice-read-from : tie.Need-shared-slice-read-from Inv-loop μ-loop
+shared-slice-read-from c = search needs
 
-cast-find-range : tie.Need-cast-find-range
-cast-find-range c = omega (arith, c .shared-slice-known2 .given 4)
+cast-from : tie.Need-cast-from Inv-loop μ-loop
+cast-from c = omega (arith, c .shared-slice-known2 .given 4)
 
-find-range-requires : tie.Need-find-range-requires
-find-range-requires c κs = search needs
+loop-holds : tie.Need-loop-holds Inv-loop μ-loop
+unfolding way
+loop-holds c = (λ e. (refl, refl), round-first _ _ _)
 
-enum-told : tie.Need-enum-told
+find-beside-requires : tie.Need-find-beside-requires Inv-loop μ-loop
+find-beside-requires c κs = search needs
+
+enum-told : tie.Need-enum-told Inv-loop μ-loop
 enum-told c = search needs
 
-enum-known-node : tie.Need-enum-known-node
+returns : tie.Need-returns Inv-loop μ-loop
+returns c =
+    let s = c .before .before .before .before .before .before in
+    let l = c .before .before .before .loop in
+    sym (l .inv .1
+    ∙ ap (inRound (l .is-own) (s .args .card .now) (s .args .n) (s .args .after)) (in-no-leaf (s .args .card .now) (s .args .after) _
+    (beside-refused _ _ _ _ (told (c .before .before) _ (c .enum-told .given .1)))) ∙ round-refused _ _ _ _ 9)
+
+enum-known-node : tie.Need-enum-known-node Inv-loop μ-loop
 enum-known-node c = search needs
 
-least-in-requires : tie.Need-least-in-requires
-unfolding way
-least-in-requires c κs = let k = ranged-inside _ (c .before .before .before .before .before .before .args .n) _ _ _ _ _ _ (ranged (c .before)) in (search needs, k .one, k .most)
+node-at-requires : tie.Need-node-at-requires Inv-loop μ-loop
+node-at-requires c κs =
+    let k = leaf (c .before) in
+    let s : Sized (length (c .before .before .before .before .before .before .before .args .card .now))
+    (c .before .before .before .before .before .before .before .args .n) = search needs in
+    (k .one, omega (arith, k .most, s .most), omega (arith, k .most, s .words))
 
-enum-known-key : tie.Need-enum-known-key
-enum-known-key c = search needs
+least-above-requires : tie.Need-least-above-requires Inv-loop μ-loop
+least-above-requires c κs =
+    let k = leaf (c .before .before) in
+    let s : Sized (length (c .before .before .before .before .before .before .before .before .args .card .now))
+    (c .before .before .before .before .before .before .before .before .args .n) = search needs in
+    ap length (c .node-at .ensures) ∙ length-node (c .before .before .before .before .before .before .before .before .args .card .now)
+    (c .before .before .node .given .0 .0) (k .one) (omega (arith, k .most, s .words))
 
-enum-told-2 : tie.Need-enum-told-2
-enum-told-2 c = search needs
+cast-t15 : tie.Need-cast-t15 Inv-loop μ-loop
+cast-t15 c = omega (arith, c .before .before .before .least-above .ensures .1, c .before .if1 .taken)
 
-in-next-leaf-requires : tie.Need-in-next-leaf-requires
-in-next-leaf-requires c κs = (search needs, subst InKeys (c .before .before .before .before .node .given .1) (c .before .before .before .before .before .before .find-range .ensures .1))
+returns-2 : tie.Need-returns-2 Inv-loop μ-loop
+unfolding found
+returns-2 c = sym (answered (c .before .before .before) _ (least-some _ (c .before .if1 .taken)) ∙ round-pair _ _ _ _ _ _)
 
-returns : tie.Need-returns
-unfolding nextIn orNextLeaf way
-returns c =
-    let s = c .before .before .before .before .before in
-    sym (ap (orNextLeaf (s .args .card .now) (s .args .n) (s .args .after)) (in-no-leaf (s .args .card .now) (s .args .n) (s .args .after) (s .args .after)
-    (ranged-refused _ _ _ _ (sym (c .before .before .find-range .ensures .0) ∙ c .enum-told .given .1))))
+returns-3 : tie.Need-returns-3 Inv-loop μ-loop
+unfolding found
+returns-3 c = sym (answered (c .before .before .before) _ (least-none _ (c .before .if1 .left)) ∙ round-last _ _ _ _ (second-round _ (c .if2 .taken)))
 
-returns-2 : tie.Need-returns-2
-unfolding nextIn orNextLeaf found leastOf
-returns-2 c =
-    let s = c .before .before .before .before .before .before .before .before .before .before in
-    sym (ap (orNextLeaf (s .args .card .now) (s .args .n) (s .args .after)) (in-leaf (s .args .card .now) (s .args .n) (s .args .after) (s .args .after) _ _
-    (ranged-leaf _ _ _ _ _ _ (ranged (c .before .before .before .before .before)) .0) _ (sym (c .before .before .before .least-in .ensures) ∙ ap leastOf (c .before .key .given .1))))
+returns-4 : tie.Need-returns-4 Inv-loop μ-loop
+unfolding found
+returns-4 c =
+    sym (answered (c .before .before .before .before) _ (least-none _ (c .before .before .if1 .left))
+    ∙ own-beside (c .before .before .before .before .before .before .before) (first-round _ (c .before .if2 .left)) ∙ next-none _ _ _ _ (c .if3 .taken))
 
-returns-3 : tie.Need-returns-3
-unfolding nextIn orNextLeaf found leastOf
-returns-3 c =
-    let s = c .before .before .before .before .before .before .before .before .before .before in
-    c .in-next-leaf .ensures ∙ ap (inNextLeaf (s .args .card .now) (s .args .n) (s .args .after)) (sym (ranged-leaf _ _ _ _ _ _ (ranged (c .before .before .before .before .before)) .1))
-    ∙ sym (ap (orNextLeaf (s .args .card .now) (s .args .n) (s .args .after)) (in-leaf (s .args .card .now) (s .args .n) (s .args .after) (s .args .after) _ _
-    (ranged-leaf _ _ _ _ _ _ (ranged (c .before .before .before .before .before)) .0) _ (sym (c .before .before .before .least-in .ensures) ∙ ap leastOf (c .before .enum-told2 .given .1))))
+loop-less : tie.Need-loop-less Inv-loop μ-loop
+loop-less c = subst (λ (b : Bool). 0 < bit b) (sym (first-round (c .before .before .before .before .before .before .before .before .before .before .loop .is-own) (c .before .if2 .left))) (omega arith)
+
+loop-again : tie.Need-loop-again Inv-loop μ-loop
+unfolding found inRound
+loop-again c = (
+  λ e. impossible (cc),
+  answered (c .before .before .before .before) _ (least-none _ (c .before .before .if1 .left))
+      ∙ own-beside (c .before .before .before .before .before .before .before) (first-round _ (c .before .if2 .left))
+      ∙ next-there _ _ _ _ (c .if3 .left),
+)
 
 pub next-in-spec : {M : Type 1} → statement M
 next-in-spec =
     tie.close
     (tie.spec
-    shared-slice-read-find-range
-    cast-find-range
-    find-range-requires
+    Inv-loop
+    μ-loop
+    shared-slice-read-from
+    cast-from
+    loop-holds
+    find-beside-requires
     enum-told
-    enum-known-node
-    least-in-requires
-    enum-known-key
-    enum-told-2
-    in-next-leaf-requires
     returns
+    enum-known-node
+    node-at-requires
+    least-above-requires
+    cast-t15
     returns-2
-    returns-3)
+    returns-3
+    returns-4
+    loop-less
+    loop-again)
