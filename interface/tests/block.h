@@ -4,6 +4,7 @@
 
 enum {
     BLOCK_NODES = 0,
+    BLOCK_LAST = 1, // the node given last
     BLOCK_DOING = 2, // 1 formatting, 2 inserting, 3 deleting, 4 repairing; anything else is idle
     BLOCK_MADE = 6,
     BLOCK_PLANNED = 7,

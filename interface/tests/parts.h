@@ -9,7 +9,8 @@ typedef struct {
     uint32_t percent; // of the random events
 } scale;
 
-void test_traces(const char *path, uint32_t traces);
+// Gives the number of traces.
+uint32_t test_traces(const char *path);
 void test_lists(scale s);
 void test_cuts(scale s);
 void test_hook(scale s);

@@ -1,5 +1,5 @@
-// Tests a table behind ration_table.h: test_table TRACES NEXT_TRACES [PERCENT [GUARD_WORDS]]. PERCENT below 100 makes fewer
-// random events; GUARD_WORDS 0 leaves the watch over memory to a memory checker.
+// Tests a table behind ration_table.h: test_table PERCENT GUARD_WORDS TRACES.. PERCENT below 100 makes fewer random events;
+// GUARD_WORDS 0 leaves the watch over memory to a memory checker.
 #include <stdbool.h>
 #include <stdlib.h>
 #include <string.h>
@@ -7,8 +7,6 @@
 #include "check.h"
 #include "guarded.h"
 #include "parts.h"
-
-enum { TRACES = 93, NEXT_TRACES = 72 };
 
 static void print_answers(void)
 {
@@ -67,13 +65,13 @@ static void check_texts(void)
 
 int main(int count, char **arguments)
 {
-    CHECK(count >= 3, "usage: test_table TRACES NEXT_TRACES [PERCENT [GUARD_WORDS]]");
-    scale s = {count > 3 ? (uint32_t)atoi(arguments[3]) : 100};
-    if (count > 4)
-        guard_words = (size_t)atoi(arguments[4]);
+    CHECK(count > 3, "usage: test_table PERCENT GUARD_WORDS TRACES..");
+    scale s = {(uint32_t)atoi(arguments[1])};
+    guard_words = (size_t)atoi(arguments[2]);
     check_texts();
-    test_traces(arguments[1], TRACES);
-    test_traces(arguments[2], NEXT_TRACES);
+    uint32_t traces = 0;
+    for (int i = 3; i < count; i++)
+        traces += test_traces(arguments[i]);
     test_lengths();
     test_lists(s);
     test_cuts(s);
@@ -83,6 +81,6 @@ int main(int count, char **arguments)
     test_agreement(s);
     check_all_answers_seen();
     print_answers();
-    printf("C: all right, %d traces, %llu events\n", TRACES + NEXT_TRACES, (unsigned long long)events);
+    printf("C: all right, %u traces, %llu events\n", traces, (unsigned long long)events);
     return 0;
 }

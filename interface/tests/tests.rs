@@ -1,4 +1,4 @@
-//! Tests the Rust wrapper and the table behind it: tests TRACES NEXT_TRACES.
+//! Tests the Rust wrapper and the table behind it: tests TRACES..
 
 mod book;
 mod damage;
@@ -9,17 +9,17 @@ mod reader;
 mod traces;
 mod wrapper;
 
-const TRACES: u32 = 93;
-const NEXT_TRACES: u32 = 72;
-
 fn main() {
-    let read = |argument| {
-        let path = std::env::args().nth(argument).expect("usage: tests TRACES NEXT_TRACES");
-        std::fs::read_to_string(path).expect("cannot read the traces")
-    };
     wrapper::test();
-    let mut events = traces::test(&read(1), TRACES) + traces::test(&read(2), NEXT_TRACES);
+    let (mut traces, mut events) = (0, 0);
+    for path in std::env::args().skip(1) {
+        let text = std::fs::read_to_string(&path).unwrap_or_else(|_| panic!("cannot read {path}"));
+        let (file_traces, file_events) = traces::test(&text);
+        traces += file_traces;
+        events += file_events;
+    }
+    assert!(traces > 0, "usage: tests TRACES..");
     let (list_events, cuts) = lists::test();
     events += list_events + damage::test();
-    println!("Rust: all right, {} traces, {events} events, {cuts} cuts", TRACES + NEXT_TRACES);
+    println!("Rust: all right, {traces} traces, {events} events, {cuts} cuts");
 }

@@ -1,6 +1,6 @@
-// Replays traces word for word: the calls of a list, one a line, with the answers and stores that are due. The program's `list`
-// lines do not concern this interface, but in the traces of the next pair (with a first line `features`): there they give the
-// pairs in rising order, and a walk over the card gives them too.
+// Replays traces word for word: the calls of a list, one a line, with the answers and stores that are due. The first line,
+// `features`, names the requests of document 02 that the traces are right for. Of the program's `list` lines the pairs are compared
+// with a walk over the card, which gives them in rising order too.
 #include <inttypes.h>
 #include <stdbool.h>
 #include <string.h>
@@ -17,7 +17,7 @@ typedef struct {
     uint64_t stores;
     const uint8_t *dump;
     size_t dump_bytes;
-    bool lists_rise;
+    bool from_node_1; // W-205 had not landed: after an opening the search for free nodes begins at node 1
     uint32_t traces;
     uint32_t line;
 } replay;
@@ -122,6 +122,15 @@ static void replay_loose(replay *r, desk *d, char *at)
           "line %u: code %u key %u", r->line, a.code, a.key);
 }
 
+// The search begins at node 1 again: 0 is taken for the node given last. Any words in a block are some state.
+static void search_from_node_1(desk *d)
+{
+    uint32_t words[RATION_STATE_WORDS];
+    memcpy(words, d->state, sizeof words);
+    words[BLOCK_LAST] = 0;
+    desk_set_state(d, words);
+}
+
 static void replay_call(replay *r, desk *d, char *at, char *result)
 {
     if (strcmp(result, "loose") == 0) {
@@ -134,9 +143,11 @@ static void replay_call(replay *r, desk *d, char *at, char *result)
     ration_answer a = {0};
     if (next_is(&at, "format"))
         a = desk_start_format(d);
-    else if (next_is(&at, "open"))
+    else if (next_is(&at, "open")) {
         a = desk_open(d);
-    else if (next_is(&at, "find"))
+        if (r->from_node_1)
+            search_from_node_1(d);
+    } else if (next_is(&at, "find"))
         a = desk_find(d, next_number(&at, 10));
     else if (next_is(&at, "next"))
         a = desk_next(d, next_number(&at, 10));
@@ -175,11 +186,14 @@ static void walk_list(replay *r, char *at)
 {
     const uint32_t *words;
     ration_answer a = guarded_read_dump(r->dump, r->dump_bytes, RATION_MOST_CARD_WORDS, &words);
-    CHECK(a.code == RATION_LENGTH, "line %u: no dump", r->line);
-    desk *d = desk_new(a.value, RATION_STATE_WORDS);
-    desk_set_card(d, words);
     char *end = strchr(at, '/');
     *end = 0;
+    if (a.code != RATION_LENGTH) {
+        CHECK(next_is(&at, "refused") && a.code == next_number(&at, 10), "line %u: code %u", r->line, a.code);
+        return;
+    }
+    desk *d = desk_new(a.value, RATION_STATE_WORDS);
+    desk_set_card(d, words);
     if (next_is(&at, "refused")) {
         CHECK(desk_open(d).code == next_number(&at, 10), "line %u: opened", r->line);
     } else {
@@ -257,10 +271,9 @@ static void replay_line(replay *r, char *line)
     if (*at == 0 || *at == '#')
         return;
     if (next_is(&at, "features")) {
-        r->lists_rise = true;
+        r->from_node_1 = strstr(at, "W-205") == NULL;
     } else if (next_is(&at, "list")) {
-        if (r->lists_rise)
-            walk_list(r, result);
+        walk_list(r, result);
     } else if (next_is(&at, "trace")) {
         at = strchr(at, ' ') + 1;
         if (r->desk != NULL)
@@ -305,7 +318,7 @@ static void replay_line(replay *r, char *line)
     }
 }
 
-void test_traces(const char *path, uint32_t traces)
+uint32_t test_traces(const char *path)
 {
     FILE *file = fopen(path, "rb");
     CHECK(file != NULL, "cannot read %s", path);
@@ -326,7 +339,8 @@ void test_traces(const char *path, uint32_t traces)
         replay_line(&r, line);
         line = end == NULL ? line + strlen(line) : end + 1;
     }
-    CHECK(r.traces == traces, "%u traces", r.traces);
+    CHECK(r.traces > 0, "no traces in %s", path);
     desk_free(r.desk);
     free(text);
+    return r.traces;
 }

@@ -1,5 +1,5 @@
-//! Replays traces word for word over the single calls. A first line `features` marks those of the next pair, in which the
-//! program's `list` lines give the pairs in rising order, as a walk over the card does.
+//! Replays traces word for word over the single calls. The first line, `features`, names the requests of document 02 that the
+//! traces are right for. Of the program's `list` lines the pairs are compared with a walk over the card.
 
 use ration_table::calls::{self, Opening, Step};
 use ration_table::{Pairs, Refusal, StateBlock};
@@ -19,6 +19,13 @@ fn crc_of_words(words: &[u32]) -> u32 {
 
 fn number(text: &str) -> u32 {
     text.parse().unwrap_or_else(|_| panic!("no number: {text}"))
+}
+
+/// After an opening as it was before W-205: the search for free nodes begins at node 1 again, with 0 for the node given last.
+fn search_from_node_1(desk: &mut Desk) {
+    let mut words = *desk.block().words();
+    words[1] = 0;
+    desk.set_block(StateBlock::from_words(words));
 }
 
 fn free_bits(block: &StateBlock) -> u32 {
@@ -109,8 +116,10 @@ fn dump(text: &str) -> Vec<u8> {
 /// What `list` prints for a dump, line feeds written /: a line of counts and one for each pair, or a refusal.
 fn list(dump: &[u8]) -> String {
     let mut card = vec![0; 14_408];
-    let words = calls::read_dump(dump, &mut card).expect("no dump");
-    card.truncate(words);
+    match calls::read_dump(dump, &mut card) {
+        Err(refusal) => return format!("refused {}", refusal.number()),
+        Ok(words) => card.truncate(words),
+    }
     match calls::open(&card, &mut StateBlock::new()) {
         Err(refusal) => format!("refused {}", refusal.number()),
         Ok(_) => {
@@ -130,9 +139,10 @@ fn pairs_listed(text: &str) -> &str {
     }
 }
 
-pub fn test(text: &str, due_traces: u32) -> u64 {
+/// Gives the number of traces and of events.
+pub fn test(text: &str) -> (u32, u64) {
     let (mut traces, mut stores, mut events) = (0, 0, 0);
-    let lists_rise = text.starts_with("features ");
+    let mut from_node_1 = false;
     let mut desk = Desk::new(0);
     let mut bytes = Vec::new();
     for (line_number, line) in text.lines().enumerate() {
@@ -175,6 +185,9 @@ pub fn test(text: &str, due_traces: u32) -> u64 {
             }
             ["on", words, ref rest @ ..] => {
                 answer = Some(call_on(&mut desk, number(words) as usize, rest, result));
+                if from_node_1 && rest == ["open"] {
+                    search_from_node_1(&mut desk);
+                }
             }
             ["run", steps, due] => {
                 let mut stored = Vec::new();
@@ -185,10 +198,14 @@ pub fn test(text: &str, due_traces: u32) -> u64 {
                 assert_eq!(format!("{:08x}", crc_of_words(&stored)), due, "line {}", line_number + 1);
                 stores += number(steps);
             }
-            ["list"] if lists_rise => assert_eq!(list(&bytes), pairs_listed(result), "line {}", line_number + 1),
-            ["list"] | ["features" | "#", ..] => {}
+            ["list"] => assert_eq!(list(&bytes), pairs_listed(result), "line {}", line_number + 1),
+            ["features", ..] => from_node_1 = !fields.contains(&"W-205"),
+            ["#", ..] => {}
             _ => {
                 let given = call(&mut desk, &fields, result);
+                if from_node_1 && fields == ["open"] {
+                    search_from_node_1(&mut desk);
+                }
                 stores += u32::from(given.starts_with("store "));
                 answer = Some(given);
             }
@@ -198,6 +215,6 @@ pub fn test(text: &str, due_traces: u32) -> u64 {
             assert!(answer == result || loose, "line {}: {answer}, due {result}", line_number + 1);
         }
     }
-    assert_eq!(traces, due_traces);
-    events + desk.events
+    assert!(traces > 0);
+    (traces, events + desk.events)
 }

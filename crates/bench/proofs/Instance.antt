@@ -11,7 +11,7 @@ use lib.ListN.{replicate}
 use Rattle.laws.specs.Cases.{pick}
 use Rattle.laws.proofs.Cases.{bool-cases}
 use Rattle.card.specs.Header.{nodesOfLength, headerRefusal, cardRefusal}
-use Rattle.card.specs.Layout.{runBelow, nodeAt, keyWords, valueWords, children, routingKeys, leafPairs, nodeImage}
+use Rattle.card.specs.Layout.{formattedRoot, runBelow, nodeAt, keyWords, valueWords, children, routingKeys, leafPairs, nodeImage}
 use Rattle.change_plan.specs.Change.{changeStores, kindAbove, splitLeaf, joinedKeys, joinedChildren, absorb, splitParent, leavesTogether}
 use Rattle.change_plan.specs.Change.{innersTogether, half, leftKeys, keyBetween, share, merge, mergeRoot, halves, copied}
 use Rattle.change_plan.specs.Planning.{numbersFrom, takeNumbers, withoutAll, lastOf, overNumbers, giving, withAll}
@@ -110,7 +110,7 @@ cutAfter k = putNow 1 ++ putNow 2 ++ putNow 3 ++ putNow 4 ++ putNow 5 ++ putNow 
 
 -- formatted: "root node 1, an empty leaf, all else 0"
 abbrev pub formatted : World rationTable
-formatted = record { card = 1 ∷ 6 ∷ 8 ∷ 24 ∷ 1 ∷ 0 ∷ 0 ∷ 0 ∷ 1 ∷ replicate 143 0; state = resting 6 (withoutAll (1 ∷ []) (allNodes 6)) Idle }
+formatted = record { card = 1 ∷ 6 ∷ 8 ∷ 24 ∷ 1 ∷ 0 ∷ 0 ∷ 0 ∷ 1 ∷ replicate 143 0; state = resting 6 (withoutAll (1 ∷ []) (allNodes 6)) formattedRoot Idle }
 
 -- the pairs of S, the last put in first
 abbrev pub pairsTo11 : List (ℕ × ℕ)

@@ -6,6 +6,7 @@ use Prim.Native.Nat.{ℕ, _+_, _≤_, _<_}
 use lib.ListN.{length}
 use borrow.Author.Tests.{lt-ltb, le-ltb, ne-eqb, eq-eqb}
 use Rattle.card.specs.Header.{nodesOfLength, cardRefusal}
+use Rattle.card.specs.Layout.{searchStart}
 use Rattle.card_free.specs.NodeSet.{countTrue}
 use Rattle.card_check.specs.Check.{Findings, tableCheck}
 use Rattle.call_open.specs.Opening.{openSound, openChecked, openOf}
@@ -18,19 +19,19 @@ pub open-refused : (card : List ℕ) → (cardRefusal card ≡ 0 → ⊥) → op
 unfolding openOf
 open-refused card p = simp (ne-eqb (cardRefusal card) 0 p)
 
-module _ (n : ℕ) (f : Findings) where
-  pub open-scarce : countTrue (f .free) < 3 + f .run → openSound n f ≡ noBeginning 5
+module _ (n last : ℕ) (f : Findings) where
+  pub open-scarce : countTrue (f .free) < 3 + f .run → openSound n last f ≡ noBeginning 5
   unfolding openSound
   open-scarce h = simp (lt-ltb (countTrue (f .free)) (3 + f .run) h)
 
-  pub open-repair : 3 + f .run ≤ countTrue (f .free) → f .violated ≡ true → openSound n f ≡ record { begun = Started; memory = resting n (f .free) (Repairing (f .key)) }
+  pub open-repair : 3 + f .run ≤ countTrue (f .free) → f .violated ≡ true → openSound n last f ≡ record { begun = Started; memory = resting n (f .free) last (Repairing (f .key)) }
   unfolding openSound
   open-repair h v = simp (le-ltb (countTrue (f .free)) (3 + f .run) h, v)
 
-  pub open-idle : 3 + f .run ≤ countTrue (f .free) → f .violated ≡ false → openSound n f ≡ record { begun = OpenedIdle; memory = resting n (f .free) Idle }
+  pub open-idle : 3 + f .run ≤ countTrue (f .free) → f .violated ≡ false → openSound n last f ≡ record { begun = OpenedIdle; memory = resting n (f .free) last Idle }
   unfolding openSound
   open-idle h v = simp (le-ltb (countTrue (f .free)) (3 + f .run) h, v)
 
-pub open-unrefused : (card : List ℕ) → cardRefusal card ≡ 0 → openOf card ≡ openChecked (nodesOfLength (length card)) (tableCheck card (nodesOfLength (length card)))
+pub open-unrefused : (card : List ℕ) → cardRefusal card ≡ 0 → openOf card ≡ openChecked (nodesOfLength (length card)) (searchStart card) (tableCheck card (nodesOfLength (length card)))
 unfolding openOf
 open-unrefused card r = simp (eq-eqb (cardRefusal card) 0 r)

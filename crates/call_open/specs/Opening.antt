@@ -6,6 +6,7 @@ use lib.ListN.{length}
 use lib.Dec.{eqb, ltb}
 use Rattle.laws.specs.Cases.{pick}
 use Rattle.card.specs.Header.{nodesOfLength, cardRefusal}
+use Rattle.card.specs.Layout.{searchStart}
 use Rattle.card_free.specs.NodeSet.{countTrue}
 use Rattle.card_check.specs.Check.{Findings, tableCheck}
 use Rattle.state.specs.Memory.{resting}
@@ -14,20 +15,20 @@ use Rattle.state.specs.declared.Doing.the-variants.{Idle, Repairing}
 use Rattle.state.specs.declared.Begun.the-variants.{Idle as OpenedIdle, Started}
 
 -- "5: free nodes fewer than 3 plus the 11-child nodes without a break straight above a tagged node"; "an idle state, or one
--- with the repair in progress"
-unfoldable pub openSound : ℕ → Findings → Handed
-openSound n f =
+-- with the repair in progress"; `last` is taken for the node given last
+unfoldable pub openSound : ℕ → ℕ → Findings → Handed
+openSound n last f =
     pick (ltb (countTrue (f .free)) (3 + f .run)) (noBeginning 5)
     (pick (f .violated)
-    (record { begun = Started; memory = resting n (f .free) (Repairing (f .key)) })
-    (record { begun = OpenedIdle; memory = resting n (f .free) Idle }))
+    (record { begun = Started; memory = resting n (f .free) last (Repairing (f .key)) })
+    (record { begun = OpenedIdle; memory = resting n (f .free) last Idle }))
 
 -- "4: table not sound"
-unfoldable pub openChecked : ℕ → Option (ℕ × Findings) → Handed
-openChecked n none = noBeginning 4
-openChecked n (some r) = openSound n (r .1)
+unfoldable pub openChecked : ℕ → ℕ → Option (ℕ × Findings) → Handed
+openChecked n last none = noBeginning 4
+openChecked n last (some r) = openSound n last (r .1)
 
--- 1, 2, 3
+-- 1, 2, 3; "after opening, [the search] begins at the node following the root's" (document 02, W-205)
 unfoldable pub openOf : List ℕ → Handed
 openOf card =
-    pick (eqb (cardRefusal card) 0) (openChecked (nodesOfLength (length card)) (tableCheck card (nodesOfLength (length card)))) (noBeginning (cardRefusal card))
+    pick (eqb (cardRefusal card) 0) (openChecked (nodesOfLength (length card)) (searchStart card) (tableCheck card (nodesOfLength (length card)))) (noBeginning (cardRefusal card))

@@ -14,7 +14,7 @@ use state::block::store_resting;
 ghost use mathlib.Core.Path.{_≡_};
 ghost use Prim.Native.Nat.{_+_, _*_, _≤_};
 ghost use lib.ListN.{length};
-ghost use Rattle.card.specs.Layout.{greatestNodes};
+ghost use Rattle.card.specs.Layout.{greatestNodes, searchStart};
 ghost use Rattle.card_free.specs.NodeSet.{nodesOf};
 ghost use Rattle.card_check.specs.Check.{findingsOf, tableCheck};
 ghost use Rattle.state.specs.Block.{stateWords, part};
@@ -23,9 +23,9 @@ ghost use Rattle.call_open.specs.Opening.{openSound, openChecked, openOf
 
 // A sound table is opened, whose free nodes are in the block. The run may be any number here, so 3 is taken from the free nodes and
 // not added to it.
-fn open_sound(state: &mut [u32], n: usize, found: [u32; 3]) -> Begun
+fn open_sound(state: &mut [u32], n: usize, last: u32, found: [u32; 3]) -> Begun
     requires { ⌜ (length (now state) ≡ stateWords) × (n ≤ greatestNodes) ⌝ }
-    ensures { λ r. ⌜ Opened (now (state .exit)) r (openSound n (findingsOf (nodesOf (part (now (state .entry)) 11 20)) found)) ⌝ }
+    ensures { λ r. ⌜ Opened (now (state .exit)) r (openSound n last (findingsOf (nodesOf (part (now (state .entry)) 11 20)) found)) ⌝ }
 {
     let count = card_free::count(&state[FREE..PLACES]);
     if count < 3 {
@@ -36,22 +36,23 @@ fn open_sound(state: &mut [u32], n: usize, found: [u32; 3]) -> Begun
         return refuse_beginning(state, 5);
     }
     if found[VIOLATED] != 0 {
-        store_resting(state, n, Doing::Repairing { key: found[KEY] });
+        store_resting(state, n, last, Doing::Repairing { key: found[KEY] });
         return Begun::Started;
     }
-    store_resting(state, n, Doing::Idle);
+    store_resting(state, n, last, Doing::Idle);
     Begun::Idle
 }
 
-// A card whose length and header are right is opened. The check works out the free nodes in the block's own words.
+// A card whose length and header are right is opened. The check works out the free nodes in the block's own words; the search for one
+// begins after the root (document 02, W-205).
 fn open_checked(card: &[u32], n: usize, state: &mut [u32]) -> Begun
     requires { ⌜ (length (now card) ≡ 8 + 24 * n) × (n ≤ greatestNodes) × (length (now state) ≡ stateWords) ⌝ }
-    ensures { λ r. ⌜ Opened (now (state .exit)) r (openChecked n (tableCheck (now (card .entry)) n)) ⌝ }
+    ensures { λ r. ⌜ Opened (now (state .exit)) r (openChecked n (searchStart (now (card .entry))) (tableCheck (now (card .entry)) n)) ⌝ }
 {
     let mut found: [u32; 3] = [0; 3];
     match card_check::check_table(card, n, &mut state[FREE..PLACES], &mut found) {
         Checked::Unsound => refuse_beginning(state, 4),
-        Checked::Sound(_) => open_sound(state, n, found),
+        Checked::Sound(_) => open_sound(state, n, card[card::ROOT_PLACE], found),
     }
 }
 

@@ -15,6 +15,7 @@ use Rattle.card_check.specs.Check.{Findings, tableCheck}
 use Rattle.state.specs.Memory.{Memory, resting, noMemory}
 use Rattle.state.specs.Steps.{isIdle, noBeginning}
 use Rattle.state.specs.declared.Begun.the-variants.{Refused}
+use Rattle.card.specs.Layout.{searchStart}
 use Rattle.call_open.specs.Opening.{openSound, openChecked, openOf}
 use Rattle.call_step.specs.Calls.{stepOf, repairSteps}
 use Rattle.card_dump.specs.Dump.{dumpWords, readAnswer, readOver}
@@ -38,21 +39,21 @@ repair-on zero card m d e = absurd (d refl)
 repair-on (suc k) card m d e = let z : suc k - 1 ≡ k = omega arith in rw (e, z)
 
 -- "Opening .., refused, hands back an idle state for N = 0"
-sound-idle : (n : ℕ) (f : Findings) (r : ℕ) → openSound n f .begun ≡ Refused r → isIdle (openSound n f .memory .doing) ≡ true
+sound-idle : (n last : ℕ) (f : Findings) (r : ℕ) → openSound n last f .begun ≡ Refused r → isIdle (openSound n last f .memory .doing) ≡ true
 unfolding openSound noBeginning noMemory resting isIdle
-sound-idle n f r =
+sound-idle n last f r =
     bool-cases (ltb (countTrue (f .free)) (3 + f .run)) (λ s. rw s (λ e. refl))
     (λ s. rw s (bool-cases (f .violated) (λ v. rw v (λ e. impossible (cc))) (λ v. rw v (λ e. refl))))
 
-checked-idle : (n : ℕ) (x : Option (ℕ × Findings)) (r : ℕ) → openChecked n x .begun ≡ Refused r → isIdle (openChecked n x .memory .doing) ≡ true
+checked-idle : (n last : ℕ) (x : Option (ℕ × Findings)) (r : ℕ) → openChecked n last x .begun ≡ Refused r → isIdle (openChecked n last x .memory .doing) ≡ true
 unfolding openChecked noBeginning noMemory resting isIdle
-checked-idle n none r e = refl
-checked-idle n (some x) r e = sound-idle n (x .1) r e
+checked-idle n last none r e = refl
+checked-idle n last (some x) r e = sound-idle n last (x .1) r e
 
 pub refused-idle : (card : List ℕ) (r : ℕ) → openOf card .begun ≡ Refused r → isIdle (openOf card .memory .doing) ≡ true
 unfolding openOf noBeginning noMemory resting isIdle
 refused-idle card r =
-    bool-cases (eqb (cardRefusal card) 0) (λ s. rw s (λ e. checked-idle (nodesOfLength (length card)) (tableCheck card (nodesOfLength (length card))) r e))
+    bool-cases (eqb (cardRefusal card) 0) (λ s. rw s (λ e. checked-idle (nodesOfLength (length card)) (searchStart card) (tableCheck card (nodesOfLength (length card))) r e))
     (λ s. rw s (λ e. refl))
 
 -- "A refusal .. stores nothing"

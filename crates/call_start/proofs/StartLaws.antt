@@ -10,6 +10,7 @@ use lib.ListN.{length, set}
 use lib.Dec.{ltb, leb, eqb}
 use borrow.Author.Tests.{lt-ltb, le-ltb, le-leb, lt-leb, eqb-true, eqb-false, ne-eqb, eq-eqb}
 use Rattle.card.specs.Header.{nodesOfLength, headerRefusal, Sized}
+use Rattle.card.specs.Layout.{formattedRoot}
 use Rattle.card.proofs.HeaderLaws.{nodes-sized}
 use Rattle.walk.specs.Descent.{slotOf}
 use Rattle.card_free.specs.NodeSet.{allNodes, countTrue}
@@ -226,6 +227,6 @@ module _ (card : List ℕ) (n : ℕ) (e : n ≡ nodesOfLength (length card)) whe
   unfolding formatOf
   format-no-length z = simp (eq-eqb (nodesOfLength (length card)) 0 (sym e ∙ z))
 
-  pub format-length : (n ≡ 0 → ⊥) → formatOf card ≡ record { begun = Started; memory = resting n (set (allNodes n) 1 false) (Formatting 0) }
+  pub format-length : (n ≡ 0 → ⊥) → formatOf card ≡ record { begun = Started; memory = resting n (set (allNodes n) formattedRoot false) formattedRoot (Formatting 0) }
   unfolding formatOf
   format-length p = simp (ne-eqb (nodesOfLength (length card)) 0 (λ z. p (e ∙ z)), ← e)

@@ -6,6 +6,7 @@ use lib.ListN.{length, set}
 use lib.Dec.{eqb}
 use Rattle.laws.specs.Cases.{pick}
 use Rattle.card.specs.Header.{nodesOfLength, headerRefusal}
+use Rattle.card.specs.Layout.{formattedRoot}
 use Rattle.walk.specs.declared.Landing.{Landing}
 use Rattle.walk.specs.declared.Landing.the-variants.{Refused as NoLanding, Leaf as LandingAt}
 use Rattle.card_free.specs.NodeSet.{allNodes}
@@ -17,11 +18,12 @@ use Rattle.state.specs.declared.Phase.the-variants.{NotBegun}
 use Rattle.state.specs.declared.Begun.the-variants.{Started, Refused as BegunRefused}
 use Rattle.state.specs.Steps.{isIdle, Handed, noBeginning}
 
--- STARTING TO FORMAT. "Formatting needs no earlier state"; while it goes on the free nodes are those of the table it makes, whose root is node 1
+-- STARTING TO FORMAT. "Formatting needs no earlier state"; while it goes on the free nodes are those of the table it makes, and the
+-- root of that table is taken for the node given last (document 02, W-205)
 unfoldable pub formatOf : List ℕ → Handed
 formatOf card =
     pick (eqb (nodesOfLength (length card)) 0) (noBeginning 1)
-    (record { begun = Started; memory = resting (nodesOfLength (length card)) (set (allNodes (nodesOfLength (length card))) 1 false) (Formatting 0) })
+    (record { begun = Started; memory = resting (nodesOfLength (length card)) (set (allNodes (nodesOfLength (length card))) formattedRoot false) formattedRoot (Formatting 0) })
 
 -- STARTING AN UPDATE. "Starting an update stores nothing." Refusals 1, 2, 3, 7, 6, 9, and 8 for an insert.
 unfoldable pub startRefused : ℕ → Memory → Handed

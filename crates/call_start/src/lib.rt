@@ -20,7 +20,7 @@ ghost use mathlib.Core.Bool.{true, false};
 ghost use Prim.Native.Nat.{_≤_, _<_};
 ghost use lib.ListN.{length, set};
 ghost use Rattle.card.specs.Header.{Sized};
-ghost use Rattle.card.specs.Layout.{nodeAt};
+ghost use Rattle.card.specs.Layout.{nodeAt, formattedRoot};
 ghost use Rattle.card_free.specs.NodeSet.{wordCount, capacity, nodesOf, allNodes};
 ghost use Rattle.walk.specs.Descent.{slotOf, way, runOver};
 ghost use Rattle.laws.specs.Cases.{pick};
@@ -152,16 +152,20 @@ fn begin(state: &mut [u32], doing: Doing, refusal: u32) -> Begun
     Begun::Started
 }
 
-// All nodes but node 1 are free.
+// The root that formatting makes, as a number of a node.
+const ROOT: usize = card::FORMATTED_ROOT as usize;
+
+// All other nodes are free.
 fn free_but_root(free: &mut [u32], n: usize)
     requires { ⌜ (length (now free) ≡ wordCount) × (n < capacity) ⌝ }
-    ensures { λ _. ⌜ nodesOf (now (free .exit)) ≡ set (allNodes n) 1 false ⌝ }
+    ensures { λ _. ⌜ nodesOf (now (free .exit)) ≡ set (allNodes n) formattedRoot false ⌝ }
 {
     card_free::fill(free, n);
-    card_free::take_out(free, 1);
+    card_free::take_out(free, ROOT);
 }
 
-// "Formatting needs no earlier state". While it goes on the free nodes are those of the table it makes, whose root is node 1.
+// "Formatting needs no earlier state". While it goes on the free nodes are those of the table it makes, and the search for one begins
+// after the root of that table (document 02, W-205).
 pub fn start_format(card: &[u32], state: &mut [u32]) -> Begun
     ensures { λ r. ⌜ OpenCall (now (state .entry)) (now (state .exit)) r (formatOf (now (card .entry))) ⌝ }
 {
@@ -173,7 +177,12 @@ pub fn start_format(card: &[u32], state: &mut [u32]) -> Begun
         return refuse_beginning(state, 1);
     }
     free_but_root(&mut state[FREE..PLACES], n);
-    store_resting(state, n, Doing::Formatting { made: 0 });
+    store_resting(
+        state,
+        n,
+        card::FORMATTED_ROOT,
+        Doing::Formatting { made: 0 },
+    );
     Begun::Started
 }
 

@@ -14,12 +14,10 @@ ghost use Rattle.state.specs.Steps.{formattedWord, formatStore, stepFormat};
 ghost use Rattle.state.specs.declared.Answer.the-variants.{Stored};
 ghost use Rattle.call_step.specs.Contracts.{StepMade};
 
-// What words 2, 3 and 4 of a formatted card are.
+// What words 2 and 3 of a formatted card are.
 const HEADER: u32 = card::HEADER_WORDS as u32;
 
 const NODE: u32 = card::NODE_WORDS as u32;
-
-const ROOT: u32 = 1;
 
 // Word i of a formatted card with n nodes, but the mark: "root node 1, an empty leaf, all else 0".
 fn formatted_word(n: usize, i: usize) -> u32
@@ -30,7 +28,7 @@ fn formatted_word(n: usize, i: usize) -> u32
         1 => n as u32,
         2 => HEADER,
         3 => NODE,
-        card::ROOT_PLACE => ROOT,
+        card::ROOT_PLACE => card::FORMATTED_ROOT,
         card::HEADER_WORDS => card::LEAF,
         _ => 0,
     }

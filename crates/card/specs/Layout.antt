@@ -25,6 +25,15 @@ depthLimit = 10
 abbrev pub rootPlace : ℕ
 rootPlace = 4
 
+-- "root node 1": the root that formatting makes
+abbrev pub formattedRoot : ℕ
+formattedRoot = 1
+
+-- Document 02, W-205: "after formatting and after opening, it begins at the node following the root's". The search for a free node
+-- goes on after the node given last, and this is the one taken for given last then.
+abbrev pub searchStart : List ℕ → ℕ
+searchStart card = getD card rootPlace 0
+
 -- "Keys are 1 to 4,294,967,295": "the root's [range] is all keys", from its low end, included, to its high end, excluded
 abbrev pub lowestKey : ℕ
 lowestKey = 1

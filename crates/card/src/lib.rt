@@ -63,14 +63,14 @@ pub const PROGRAM_WORDS: usize = HEADER_WORDS + NODE_WORDS * PROGRAM_NODES;
 // "The free nodes are one bit each": how many words of 32 bits there are for them, enough for the greatest N.
 pub const FREE_WORDS: usize = 20;
 
-// "after formatting or opening the search starts at node 1": the node taken for given last then.
-pub const SEARCH_START: u32 = 0;
-
 // "more than 10 internal nodes": the only place in code where the depth limit stands.
 pub const DEPTH_LIMIT: usize = 10;
 
 // "4: number of the root node"
 pub const ROOT_PLACE: usize = 4;
+
+// "root node 1": the root that formatting makes.
+pub const FORMATTED_ROOT: u32 = 1;
 
 // "Keys are 1 to 4,294,967,295": where the range of all keys begins and ends.
 pub const LOWEST_KEY: u32 = 1;

@@ -8,7 +8,7 @@ use Prim.Native.Nat.{ℕ, _+_, _≤_, _<_}
 use native.Mathlib.Omega.{arith}
 use native.Mathlib.Decide.{ℕ-discrete}
 use lib.ListN.{length}
-use borrow.Author.Tests.{ne-eqb, eq-eqb}
+use borrow.Author.Tests.{ne-eqb, eq-eqb, le-ltb}
 use Rattle.walk.specs.declared.Reached.{Reached}
 use Rattle.demands.proofs.BookLaws.{dictionaryAnswer}
 use Rattle.call_find.specs.Answers.{foundReply}
@@ -16,10 +16,11 @@ use Rattle.state.specs.Answers.{stepReply, startReply}
 use Rattle.call_find.specs.Find.{foundIn, foundAt, findOf}
 use Rattle.call_open.specs.Opening.{openSound, openChecked, openOf}
 use Rattle.call_open.proofs.OpeningLaws.{open-unrefused, open-scarce}
-use Rattle.state.specs.Steps.{noBeginning}
+use Rattle.state.specs.Memory.{resting}
+use Rattle.state.specs.Steps.{Handed, noBeginning}
 use Rattle.card.specs.Header.{nodesOfLength, cardRefusal, Sized, Formatted}
 use Rattle.card.proofs.HeaderLaws.{nodes-sized, header-formatted}
-use Rattle.card.specs.Layout.{lowestKey, keyLimit, nodeAt}
+use Rattle.card.specs.Layout.{lowestKey, keyLimit, nodeAt, searchStart}
 use Rattle.theory_change.proofs.Plays.{Openable}
 use Rattle.theory_change.proofs.Repaired.{settled, violated}
 use Rattle.walk.specs.Descent.{slotOf, way, leafOf}
@@ -81,9 +82,9 @@ accepted-card c a = go (ℕ-discrete (cardRefusal c) 0) (ℕ-discrete (nodesOfLe
     go (yes e) (yes z) = let k : _≡_ {A = ℕ} 1 0 = rw (eq-eqb (nodesOfLength (length c)) 0 z) at e in absurd (omega arith)
     go (yes e) (no d) = (e, nodes-sized (length c) d, header-formatted c (nodesOfLength (length c)) (rw (ne-eqb (nodesOfLength (length c)) 0 d) at e))
 
-open-some : (n h : ℕ) (f : Findings) → openChecked n (some (h, f)) ≡ openSound n f
+open-some : (n last h : ℕ) (f : Findings) → openChecked n last (some (h, f)) ≡ openSound n last f
 unfolding openChecked
-open-some n h f = refl
+open-some n last h f = refl
 
 pub accepted-table : (c : List ℕ) → Opens rationTable c → (t : Tree) × WellFormed c t
 unfolding openChecked
@@ -95,6 +96,26 @@ accepted-table c a = go (tableCheck c (nodesOfLength (length c))) refl
     go : (x : Option (ℕ × Findings)) → tableCheck c (nodesOfLength (length c)) ≡ x → (t : Tree) × WellFormed c t
     go none e = absurd (refuses c 4 (open-unrefused c (k .0) ∙ rw e) a)
     go (some r) e = let s = accepts-sound c (nodesOfLength (length c)) (k .1 .words) (k .1 .most) (r .0) (r .1) e in (s .0, s .1)
+
+-- the root is then taken for the node given last
+resting-last : (n last : ℕ) (f : Findings) → 3 + f .run ≤ countTrue (f .free) → openSound n last f .memory .last ≡ last
+unfolding openSound resting
+resting-last n last f room = bool-cases (f .violated) (λ q. rw (le-ltb (countTrue (f .free)) (3 + f .run) room, q)) (λ q. rw (le-ltb (countTrue (f .free)) (3 + f .run) room, q))
+
+pub accepted-start : (c : List ℕ) → Opens rationTable c → openOf c .memory .last ≡ searchStart c
+unfolding openChecked
+accepted-start c a = go (tableCheck c (nodesOfLength (length c))) refl
+  where
+    k : (cardRefusal c ≡ 0) × Sized (length c) (nodesOfLength (length c)) × Formatted c (nodesOfLength (length c))
+    k = accepted-card c a
+
+    go : (x : Option (ℕ × Findings)) → tableCheck c (nodesOfLength (length c)) ≡ x → openOf c .memory .last ≡ searchStart c
+    go none e = absurd (refuses c 4 (open-unrefused c (k .0) ∙ rw e) a)
+    go (some (h, f)) e =
+        let is : openOf c ≡ openSound (nodesOfLength (length c)) (searchStart c) f = open-unrefused c (k .0) ∙ rw e in
+        order (countTrue (f .free)) (3 + f .run)
+        (λ o. absurd (refuses c 5 (is ∙ open-scarce (nodesOfLength (length c)) (searchStart c) f o) a))
+        (λ o. ap (λ (x : Handed). x .memory .last) is ∙ resting-last (nodesOfLength (length c)) (searchStart c) f o)
 
 -- the table of a card that opens can be opened again
 pub accepted-openable : (c : List ℕ) (t : Tree) → Opens rationTable c → WellFormed c t → Openable (nodesOfLength (length c)) t
@@ -109,8 +130,8 @@ accepted-openable c t a w = go (sound-accepted c (nodesOfLength (length c)) (k .
         room : 3 + f .run ≤ countTrue (f .free)
         room =
             order (countTrue (f .free)) (3 + f .run)
-            (λ o. absurd (refuses c 5 (open-unrefused c (k .0) ∙ ap (openChecked (nodesOfLength (length c))) e
-            ∙ open-some (nodesOfLength (length c)) h f ∙ open-scarce (nodesOfLength (length c)) f o) a)) (λ o. o)
+            (λ o. absurd (refuses c 5 (open-unrefused c (k .0) ∙ ap (openChecked (nodesOfLength (length c)) (searchStart c)) e
+            ∙ open-some (nodesOfLength (length c)) (searchStart c) h f ∙ open-scarce (nodesOfLength (length c)) (searchStart c) f o) a)) (λ o. o)
 
         broken : f .violated ≡ true → Openable (nodesOfLength (length c)) t
         broken q =

@@ -18,7 +18,7 @@ use Rattle.walk.specs.declared.Reached.the-variants.{Refused as NotReached, Lea
 use Rattle.call_find.specs.Find.{foundIn, foundAt, findOf}
 use Rattle.call_find.specs.declared.Found.{Found}
 use Rattle.call_find.specs.declared.Found.the-variants.{Value as FoundValue, Absent as FoundAbsent, Refused as FoundRefused}
-use Rattle.card.specs.Layout.{nodeAt}
+use Rattle.card.specs.Layout.{nodeAt, searchStart}
 use Rattle.laws.proofs.Cases.{bool-cases}
 use Rattle.call_open.specs.Opening.{openSound, openChecked, openOf}
 use Rattle.card_check.specs.Check.{Findings, tableCheck}
@@ -49,18 +49,18 @@ pub card-small : (c : List ℕ) → cardRefusal c < 64
 unfolding cardRefusal
 card-small c = bool-cases (eqb (nodesOfLength (length c)) 0) (λ q. rw q (omega arith)) (λ q. rw q (header-small c (nodesOfLength (length c))))
 
-sound-small : (n : ℕ) (f : Findings) → SmallBegun (openSound n f .begun)
+sound-small : (n last : ℕ) (f : Findings) → SmallBegun (openSound n last f .begun)
 unfolding openSound noBeginning
-sound-small n f = bool-cases (ltb (countTrue (f .free)) (3 + f .run)) (λ a. rw a (omega arith)) (λ a. bool-cases (f .violated) (λ v. rw (a, v) tt) (λ v. rw (a, v) tt))
+sound-small n last f = bool-cases (ltb (countTrue (f .free)) (3 + f .run)) (λ a. rw a (omega arith)) (λ a. bool-cases (f .violated) (λ v. rw (a, v) tt) (λ v. rw (a, v) tt))
 
-checked-small : (n : ℕ) (x : Option (ℕ × Findings)) → SmallBegun (openChecked n x .begun)
+checked-small : (n last : ℕ) (x : Option (ℕ × Findings)) → SmallBegun (openChecked n last x .begun)
 unfolding openChecked noBeginning
-checked-small n none = omega arith
-checked-small n (some r) = sound-small n (r .1)
+checked-small n last none = omega arith
+checked-small n last (some r) = sound-small n last (r .1)
 
 pub open-small : (c : List ℕ) → SmallBegun (openOf c .begun)
 unfolding openOf noBeginning
-open-small c = bool-cases (eqb (cardRefusal c) 0) (λ q. rw q (checked-small (nodesOfLength (length c)) (tableCheck c (nodesOfLength (length c))))) (λ q. rw q (card-small c))
+open-small c = bool-cases (eqb (cardRefusal c) 0) (λ q. rw q (checked-small (nodesOfLength (length c)) (searchStart c) (tableCheck c (nodesOfLength (length c))))) (λ q. rw q (card-small c))
 
 landed-small : (m : Memory) (doing : Doing) (room : Bool) (l : Landing) → SmallBegun (startLanded m doing room l .begun)
 unfolding startLanded startRefused startAccepted

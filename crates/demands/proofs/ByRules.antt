@@ -33,7 +33,7 @@ use Rattle.call_change.specs.Results.{Storing}
 use Rattle.state.specs.Results.{moreToStore}
 use Rattle.state.specs.declared.Task.the-variants.{PutIn, TakeOut}
 use Rattle.demands.proofs.Work.{true-false}
-use Rattle.demands.proofs.StepRows.{Final}
+use Rattle.demands.proofs.StepRows.{advanced-last, Final}
 use Rattle.laws.proofs.Cases.{order, impossible}
 use borrow.Author.Tests.{lt-ltb, le-ltb}
 use Rattle.change_layout.specs.Mending.{nextRepair}
@@ -71,11 +71,6 @@ advanced-free : (m : Memory) (ss : List Store) → 0 < length ss → advanced m 
 unfolding advanced
 advanced-free m [] h = absurd (omega arith)
 advanced-free m (s ∷ ss) h = refl
-
-advanced-last : (m : Memory) (ss : List Store) → advanced m ss .last ≡ m .last
-unfolding advanced
-advanced-last m [] = refl
-advanced-last m (s ∷ ss) = refl
 
 advanced-all : (m : Memory) → advanced m [] .free ≡ withAll (m .cut) (m .free)
 unfolding advanced

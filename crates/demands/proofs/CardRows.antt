@@ -11,7 +11,7 @@ use lib.ListN.{length, getD, drop, length-take}
 use lib.Dec.{eqb}
 use borrow.Author.Tests.{ne-eqb, lt-ltb}
 use Rattle.card.specs.Header.{nodesOfLength, cardRefusal, Sized, Formatted}
-use Rattle.card.specs.Layout.{nodeAt, keyWords, valueWords}
+use Rattle.card.specs.Layout.{nodeAt, keyWords, valueWords, searchStart}
 use Rattle.card.proofs.NodeLaws.{get-valueWord}
 use Rattle.card.specs.Replies.{Reply, refusal, holds, absent}
 use Rattle.demands.specs.Demand1.{besideFirst, ReadsLeaf, HandsNone, StartsFormat, OpensTo}
@@ -146,9 +146,9 @@ open-due : (c : List ℕ) (r : ℕ) → cardRefusal c ≡ r → (r ≡ 0 → ⊥
 unfolding openOf
 open-due c r e d = rw (e, ne-eqb r 0 d)
 
-sound-five : (n : ℕ) (f : Findings) → countTrue (f .free) < 3 + f .run → openSound n f ≡ noBeginning 5
+sound-five : (n last : ℕ) (f : Findings) → countTrue (f .free) < 3 + f .run → openSound n last f ≡ noBeginning 5
 unfolding openSound
-sound-five n f o = rw (lt-ltb (countTrue (f .free)) (3 + f .run) o)
+sound-five n last f o = rw (lt-ltb (countTrue (f .free)) (3 + f .run) o)
 
 reply-five : (c : List ℕ) (r : ℕ) → openOf c ≡ noBeginning r → startReply (openOf c .begun) ≡ refusal r
 unfolding noBeginning startReply
@@ -180,7 +180,7 @@ opens c =
 
             few : countTrue (f .free) < 3 + f .run → (Scarce c × HandsNone rationTable (handed (openOf c)) 5) ⊎ ((Scarce c → ⊥) × OpensTo rationTable c (handed (openOf c)))
             few o =
-                let is : openOf c ≡ noBeginning 5 = open-sound c (nodesOn c) h f s k e ∙ sound-five (nodesOn c) f o in
+                let is : openOf c ≡ noBeginning 5 = open-sound c (nodesOn c) h f s k e ∙ sound-five (nodesOn c) (searchStart c) f o in
                 inl (refuses-few c (nodesOn c) s k .0 (reply-five c 5 is), rw is (none-handed 5))
 
             enough : 3 + f .run ≤ countTrue (f .free) → (Scarce c × HandsNone rationTable (handed (openOf c)) 5) ⊎ ((Scarce c → ⊥) × OpensTo rationTable c (handed (openOf c)))

@@ -8,12 +8,14 @@ use Rattle.demands.specs.List.{ListProgram}
 use Rattle.demands.specs.RationTable.{rationTable}
 use Rattle.demands.specs.W201.{W201}
 use Rattle.demands.specs.W202.{W202}
+use Rattle.demands.specs.W205.{W205}
 use Rattle.demands.specs.W209.{W209}
 use Rattle.demands.specs.W213.{W213}
 use Rattle.demands.specs.W214.{W214}
 use Rattle.demands.proofs.Depths.{w-214 as depths-kept}
 use Rattle.demands.proofs.Fetching.{w-213 as fetching-kept}
 use Rattle.demands.proofs.InsertChecks.{w-209 as reasons-kept}
+use Rattle.demands.proofs.SearchStart.{w-205 as search-kept}
 use Rattle.demands.proofs.FirstSteps.{demand-1 as rows-kept}
 use Rattle.demands.proofs.Dictionary.{demand-2 as dictionary-kept}
 use Rattle.demands.proofs.PowerCuts.{demand-3 as book-kept}
@@ -50,6 +52,9 @@ w-201 = next-kept
 
 pub w-202 : W202 eightAt (λ dump lent. dumpReply (readAnswer dump lent))
 w-202 = padding-kept
+
+pub w-205 : W205 rationTable
+w-205 = search-kept
 
 pub w-209 : W209 rationTable checkText
 w-209 = reasons-kept

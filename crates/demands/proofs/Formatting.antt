@@ -1,5 +1,5 @@
 -- DEMAND 2, of formatting: its stores, its "ready", and what opening says of it cut.
-use mathlib.Core.Path.{_≡_, ap, subst, _∙_}
+use mathlib.Core.Path.{_≡_, ap, sym, subst, _∙_}
 use mathlib.Core.Bool.{true}
 use mathlib.Core.List.{List, [], _∷_}
 use mathlib.Core.Option.{none, some}
@@ -21,6 +21,7 @@ use Rattle.theory_format.proofs.FormatSteps.{formatMemory, format-starts, forma
 use Rattle.theory_format.proofs.FormatCard.{formatCard, format-next}
 use Rattle.theory_format.proofs.FormatCut.{cut-refused}
 use Rattle.theory_format.proofs.FormatStores.{some-store}
+use Rattle.theory_format.proofs.FreshTable.{format-fresh}
 use Rattle.laws.proofs.Cases.{bool-cases, impossible}
 use Rattle.state.specs.Answers.{stepReply, startReply}
 use Rattle.state.specs.Memory.{resting}
@@ -81,7 +82,7 @@ module _ (c : List ℕ) (s : Sized (length c) (nodesOn c)) where
       record {
         each = λ qs u h. rw (runs-to qs u (omega arith)) (stores-now (stepsIn qs) h);
         then-ready = λ qs u h. rw (runs-to qs u (omega arith), h, format-step-ready c (nodesOn c) s);
-        search-first = λ qs u h. rw (runs-to qs u (omega arith), h, format-step-ready c (nodesOn c) s);
+        search-first = λ qs u h. rw (runs-to qs u (omega arith), h, format-step-ready c (nodesOn c) s) (sym (format-fresh c (nodesOn c) s .holds .0));
         cut-refused = λ qs u low h. rw (runs-to qs u (omega arith), cut-refused c (nodesOn c) (stepsIn qs) s low h);
       }
 

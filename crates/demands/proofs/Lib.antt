@@ -103,6 +103,8 @@ pub mod ListRight
 pub mod NextNumber
 -- W-202, of the test that `card_dump` makes
 pub mod PaddingTest
+-- W-205, of the ration table
+pub mod SearchStart
 -- W-209, of the program `insert_check`
 pub mod InsertChecks
 -- W-213, of the questions that `call_record` answers

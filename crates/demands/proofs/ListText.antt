@@ -28,6 +28,7 @@ use Rattle.card_check.specs.Check.{Findings, tableCheck}
 use Rattle.state.specs.Steps.{noBeginning}
 use Rattle.state.specs.declared.Begun.{Begun}
 use Rattle.state.specs.declared.Begun.the-variants.{Idle, Started, Refused}
+use Rattle.card.specs.Layout.{searchStart}
 use Rattle.call_open.specs.Opening.{openSound, openChecked, openOf}
 
 -- ---- a listing that the rows have room for is told whole
@@ -65,8 +66,8 @@ read-number dump lent number e z =
     (λ s. let k : ReadRefused 12 ≡ ReadRefused number = rw (q, s) at e in let w : _≡_ {A = ℕ} 12 0 = cc in omega arith)
     (λ s. let k : Length (wordsFor (dumpNodes dump)) ≡ ReadRefused number = rw (q, s) at e in let w : _≡_ {A = ℕ} 0 1 = cc in omega arith))
 
-module _ (number n : ℕ) (z : number ≡ 0) where
-  sound-number : (f : Findings) → openSound n f .begun ≡ Refused number → ⊥
+module _ (number n last : ℕ) (z : number ≡ 0) where
+  sound-number : (f : Findings) → openSound n last f .begun ≡ Refused number → ⊥
   unfolding openSound noBeginning
   sound-number f e =
       bool-cases (ltb (countTrue (f .free)) (3 + f .run)) (λ q. let k : Refused 5 ≡ Refused number = rw q at e in let w : _≡_ {A = ℕ} 5 0 = cc in omega arith)
@@ -74,7 +75,7 @@ module _ (number n : ℕ) (z : number ≡ 0) where
       (λ v. let k : Started ≡ Refused number = rw (q, v) at e in let w : _≡_ {A = ℕ} 0 1 = cc in omega arith)
       (λ v. let k : Idle ≡ Refused number = rw (q, v) at e in let w : _≡_ {A = ℕ} 0 1 = cc in omega arith))
 
-  checked-number : (found : Option (ℕ × Findings)) → openChecked n found .begun ≡ Refused number → ⊥
+  checked-number : (found : Option (ℕ × Findings)) → openChecked n last found .begun ≡ Refused number → ⊥
   unfolding openChecked noBeginning
   checked-number none e = let w : _≡_ {A = ℕ} 4 0 = cc in omega arith
   checked-number (some r) e = sound-number (r .1) e
@@ -84,7 +85,7 @@ unfolding openOf noBeginning
 open-number c number e z = go (ℕ-discrete (cardRefusal c) 0)
   where
     go : Dec (cardRefusal c ≡ 0) → ⊥
-    go (yes q) = checked-number number (nodesOfLength (length c)) z (tableCheck c (nodesOfLength (length c))) (rw (eq-eqb (cardRefusal c) 0 q) at e)
+    go (yes q) = checked-number number (nodesOfLength (length c)) (searchStart c) z (tableCheck c (nodesOfLength (length c))) (rw (eq-eqb (cardRefusal c) 0 q) at e)
     go (no d) = d (let k : Refused (cardRefusal c) ≡ Refused number = rw (ne-eqb (cardRefusal c) 0 d) at e in cc)
 
 card-fits : (c : List ℕ) → Fits (listCard c)

@@ -49,7 +49,7 @@ use Rattle.theory_tree.proofs.InPlace.{length-total}
 use Rattle.theory_tree.specs.Pairs.{pairs}
 use Rattle.theory_tree.specs.Tree.{Tree}
 use Rattle.theory_shapes.proofs.Bare.{bare}
-use Rattle.card.specs.Layout.{depthLimit}
+use Rattle.card.specs.Layout.{depthLimit, formattedRoot}
 use Rattle.theory_shapes.proofs.Whole.{settledBy}
 use Rattle.theory_tree.specs.WellFormed.{WellFormed}
 use Rattle.theory_tree.specs.Violations.{few, tableViolations}
@@ -180,9 +180,9 @@ ready-once : (c : List ℕ) (n : ℕ) → FreshTable c n → (qs : List Event) (
     → replyTo rationTable step (run rationTable qs w) ≡ ready → ⊥
 unfolding happens replyTo stepReply stepRefused resting LeftUncut run
 ready-once c n f [] w e u q =
-    let z : stepReply (stepOf (w .card) (w .state) .answer) ≡ refusal 10 = rw (e, step-idle c n (f .sized) (f .formatted) (freshNodes n) 0) in
+    let z : stepReply (stepOf (w .card) (w .state) .answer) ≡ refusal 10 = rw (e, step-idle c n (f .sized) (f .formatted) (freshNodes n) formattedRoot) in
     omega (arith, code-of (sym z ∙ q))
-ready-once c n f (step ∷ qs) w e u q = ready-once c n f qs (happens rationTable step w) (rw (e, step-idle c n (f .sized) (f .formatted) (freshNodes n) 0)) (u .1) q
+ready-once c n f (step ∷ qs) w e u q = ready-once c n f qs (happens rationTable step w) (rw (e, step-idle c n (f .sized) (f .formatted) (freshNodes n) formattedRoot)) (u .1) q
 ready-once c n f (ask question ∷ qs) w e u q = ready-once c n f qs w e (u .1) q
 ready-once c n f (insert key value ∷ qs) w e u q = ready-once c n f qs (happens rationTable (insert key value) w) (insert-same key value w (u .0) ∙ e) (u .1) q
 ready-once c n f (delete key ∷ qs) w e u q = ready-once c n f qs (happens rationTable (delete key) w) (delete-same key w (u .0) ∙ e) (u .1) q
@@ -216,23 +216,30 @@ format-ready-inv c n made s (insert key value ∷ qs) w e h u q = format-ready-i
 format-ready-inv c n made s (delete key ∷ qs) w e h u q = format-ready-inv c n made s qs (happens rationTable (delete key) w) (delete-same key w (u .0) ∙ e) h (u .1) q
 format-ready-inv c n made s (cut ∷ qs) w e h u q = absurd (u .0)
 
+-- the card and the state at "ready", whatever the card held before
+pub fresh-world : (c : List ℕ) (qs : List Event) → rationTable .format c .reply ≡ startedReply → LeftUncut rationTable qs (formatBegun rationTable c)
+    → replyTo rationTable step (run rationTable qs (formatBegun rationTable c)) ≡ ready
+    → Sized (length c) (nodesOfLength (length c))
+    × (happens rationTable step (run rationTable qs (formatBegun rationTable c))
+    ≡ record { card = formatCard (nodesOfLength (length c)) c (suc (length c)); state = freshMemory (nodesOfLength (length c)) })
+fresh-world c qs e u r = go (ℕ-discrete (nodesOfLength (length c)) 0)
+  where
+    go : Dec (nodesOfLength (length c) ≡ 0) → Sized (length c) (nodesOfLength (length c))
+        × (happens rationTable step (run rationTable qs (formatBegun rationTable c))
+        ≡ record { card = formatCard (nodesOfLength (length c)) c (suc (length c)); state = freshMemory (nodesOfLength (length c)) })
+    go (yes z) = absurd (format-starts-sized c e z)
+    go (no d) =
+        let s = nodes-sized (length c) d in
+        (s, format-ready-inv c (nodesOfLength (length c)) 0 s qs (formatBegun rationTable c) (begun-world c (nodesOfLength (length c)) s) (omega arith) u r)
+
 pub begins-inv : (w : World rationTable) (l : List (ℕ × ℕ)) → Begins rationTable w l → (n : ℕ) × Inv n repairSteps w (book l empty)
 begins-inv w l (from-open c t a k) =
     let q = accepted-card c a in
     let b : Table c (nodesOfLength (length c)) t = well-formed-table (q .1) (q .2) k in
     (nodesOfLength (length c), reopened-inv (nodesOfLength (length c)) c t (pairs t) b (accepted-openable c t a k) (same-refl (pairs t)))
-begins-inv w l (from-format c qs e u r) = go (ℕ-discrete (nodesOfLength (length c)) 0)
-  where
-    go : Dec (nodesOfLength (length c) ≡ 0) → (n : ℕ) × Inv n repairSteps (happens rationTable step (run rationTable qs (formatBegun rationTable c))) (book [] empty)
-    go (yes z) = absurd (format-starts-sized c e z)
-    go (no d) =
-        let s = nodes-sized (length c) d in
-        let n = nodesOfLength (length c) in
-        let is : happens rationTable step (run rationTable qs (formatBegun rationTable c))
-        ≡ record { card = formatCard (nodesOfLength (length c)) c (suc (length c)); state = freshMemory (nodesOfLength (length c)) } =
-        format-ready-inv c (nodesOfLength (length c)) 0 s qs (formatBegun rationTable c) (begun-world c (nodesOfLength (length c)) s) (omega arith) u r in
-        let f = format-fresh c (nodesOfLength (length c)) s in
-        (nodesOfLength (length c), rw is (fresh-inv (nodesOfLength (length c)) (formatCard (nodesOfLength (length c)) c (suc (length c))) f))
+begins-inv w l (from-format c qs e u r) =
+    let f = fresh-world c qs e u r in
+    (nodesOfLength (length c), rw (f .1) (fresh-inv (nodesOfLength (length c)) (formatCard (nodesOfLength (length c)) c (suc (length c))) (format-fresh c (nodesOfLength (length c)) (f .0))))
 
 -- a card just opened: the repair in hand, if there is one, comes to what the tree without numbers says
 pub opened-inv : (c : List ℕ) (t : Tree) → Opens rationTable c → WellFormed c t

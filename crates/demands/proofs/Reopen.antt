@@ -10,7 +10,7 @@ use lib.ListN.{length}
 use borrow.Author.Tests.{le-ltb, ne-eqb}
 use Rattle.card.specs.Header.{nodesOfLength, headerRefusal, cardRefusal, Sized, Formatted}
 use Rattle.card.proofs.HeaderLaws.{sized-nodes, formatted-header}
-use Rattle.card.specs.Layout.{lowestKey, keyLimit, depthLimit}
+use Rattle.card.specs.Layout.{lowestKey, keyLimit, depthLimit, searchStart}
 use Rattle.theory_tree.specs.FreeNodes.{Exact}
 use Rattle.theory_change.proofs.Exact.{exact-same}
 use Rattle.theory_change.proofs.Plays.{Openable}
@@ -77,16 +77,16 @@ card-accepted {c} {n} s f = (length-accepted c n s ∙ formatted-header c n f, s
 
 -- opening, by what the check finds
 module _ (c : List ℕ) (n h : ℕ) (f : Findings) (s : Sized (length c) n) (k : Formatted c n) (e : tableCheck c n ≡ some (h, f)) where
-  pub open-sound : openOf c ≡ openSound n f
+  pub open-sound : openOf c ≡ openSound n (searchStart c) f
   unfolding openOf openChecked
   open-sound = let a = card-accepted s k in rw (a .0, a .1, e)
 
 module _ (c : List ℕ) (n h : ℕ) (f : Findings) (s : Sized (length c) n) (k : Formatted c n) (e : tableCheck c n ≡ some (h, f)) (room : 3 + f .run ≤ countTrue (f .free)) where
-  pub open-repair : f .violated ≡ true → openOf c ≡ record { begun = Started; memory = resting n (f .free) (Repairing (f .key)) }
+  pub open-repair : f .violated ≡ true → openOf c ≡ record { begun = Started; memory = resting n (f .free) (searchStart c) (Repairing (f .key)) }
   unfolding openSound
   open-repair v = open-sound c n h f s k e ∙ rw (le-ltb (countTrue (f .free)) (3 + f .run) room, v)
 
-  pub open-idle : f .violated ≡ false → openOf c ≡ record { begun = OpenedIdle; memory = resting n (f .free) Idle }
+  pub open-idle : f .violated ≡ false → openOf c ≡ record { begun = OpenedIdle; memory = resting n (f .free) (searchStart c) Idle }
   unfolding openSound
   open-idle v = open-sound c n h f s k e ∙ rw (le-ltb (countTrue (f .free)) (3 + f .run) room, v)
 
@@ -102,9 +102,9 @@ pub record Reopened (c : List ℕ) (n : ℕ) (t : Tree) : Type 0 where
   pub stage : Stage c n t goal steps (openOf c .memory) empty Ready
   pub hands : ((openOf c .begun ≡ OpenedIdle) × (openOf c .memory .doing ≡ Idle)) ⊎ ((openOf c .begun ≡ Started) × (isIdle (openOf c .memory .doing) ≡ false))
 
-repair-busy : (n : ℕ) (free : List Bool) (key : ℕ) → isIdle (resting n free (Repairing key) .doing) ≡ false
+repair-busy : (n last : ℕ) (free : List Bool) (key : ℕ) → isIdle (resting n free last (Repairing key) .doing) ≡ false
 unfolding resting isIdle
-repair-busy n free key = refl
+repair-busy n last free key = refl
 
 -- the violation lies above the depth limit
 violation-deep : (t : Tree) (key : ℕ) (v : Violation t key) → depthOf (v .context) ≤ depth t
@@ -148,7 +148,7 @@ reopened c n t b o = go (sound-accepted c n (b .sized .words) (b .sized .most) t
                   (record { repairs = depthLimit; enough = omega (arith, violation-deep t (f .key) (v .0), x .deep); reaches = refl }));
               goal = settledBy depthLimit (bare t);
               goal-is = refl;
-              hands = inr (ap (λ (x : Handed). x .begun) is, ap (λ (x : Handed). isIdle (x .memory .doing)) is ∙ repair-busy n (f .free) (f .key));
+              hands = inr (ap (λ (x : Handed). x .begun) is, ap (λ (x : Handed). isIdle (x .memory .doing)) is ∙ repair-busy n (searchStart c) (f .free) (f .key));
             }
 
         whole : f .violated ≡ false → Reopened c n t

@@ -84,6 +84,11 @@ unfolding advanced
 advanced-rest m [] = refl
 advanced-rest m (s ∷ rest) = refl
 
+pub advanced-last : (m : Memory) (rest : List Store) → advanced m rest .last ≡ m .last
+unfolding advanced
+advanced-last m [] = refl
+advanced-last m (s ∷ rest) = refl
+
 pub store-inside : (c : List ℕ) (m : Memory) (s : Store) (next : Memory) → next .nodes ≡ m .nodes
     → workOf (next .doing) ≡ begun (workOf (m .doing)) → s .0 < length c → Stores rationTable c m (asStepped (stepStore c m s next))
 unfolding stepStore stepReply

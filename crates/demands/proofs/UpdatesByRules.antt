@@ -9,7 +9,7 @@ use native.Mathlib.Omega.{arith}
 use lib.Dec.{eqb, ltb}
 use lib.ListN.{length, getD}
 use Rattle.card.specs.Header.{nodesOfLength, cardRefusal}
-use Rattle.card.specs.Layout.{keyLimit, nodeAt}
+use Rattle.card.specs.Layout.{keyLimit, nodeAt, searchStart}
 use Rattle.card.specs.Replies.{Reply, ready, started}
 use Rattle.card.specs.Stores.{Store}
 use Rattle.demands.specs.Book.{Book, book, feed, told, put, remove, empty}
@@ -64,21 +64,21 @@ none-doing : (r : ℕ) → r < 64 → OpenDoing (noBeginning r)
 unfolding noBeginning noMemory startReply
 none-doing r h = (refl, inl (λ e. omega (arith, h, ap (λ (x : Reply). x .code) e)))
 
-sound-doing : (n : ℕ) (f : Findings) → OpenDoing (openSound n f)
+sound-doing : (n last : ℕ) (f : Findings) → OpenDoing (openSound n last f)
 unfolding openSound resting startReply
-sound-doing n f =
+sound-doing n last f =
     bool-cases (ltb (countTrue (f .free)) (3 + f .run)) (λ q. rw q (none-doing 5 (omega arith)))
     (λ q. bool-cases (f .violated) (λ a. rw (q, a) (refl, inr (_, refl))) (λ a. rw (q, a) (refl, inl (λ e. omega (arith, ap (λ (x : Reply). x .code) e)))))
 
-checked-doing : (n : ℕ) (found : Option (ℕ × Findings)) → OpenDoing (openChecked n found)
+checked-doing : (n last : ℕ) (found : Option (ℕ × Findings)) → OpenDoing (openChecked n last found)
 unfolding openChecked
-checked-doing n none = none-doing 4 (omega arith)
-checked-doing n (some r) = sound-doing n (r .1)
+checked-doing n last none = none-doing 4 (omega arith)
+checked-doing n last (some r) = sound-doing n last (r .1)
 
 open-doing : (c : List ℕ) → OpenDoing (openOf c)
 unfolding openOf
 open-doing c =
-    bool-cases (eqb (cardRefusal c) 0) (λ q. rw q (checked-doing (nodesOfLength (length c)) (tableCheck c (nodesOfLength (length c)))))
+    bool-cases (eqb (cardRefusal c) 0) (λ q. rw q (checked-doing (nodesOfLength (length c)) (searchStart c) (tableCheck c (nodesOfLength (length c)))))
     (λ q. rw q (none-doing (cardRefusal c) (card-small c)))
 
 -- a change that is given nodes is not nothing

@@ -26,6 +26,8 @@ pub mod List
 pub mod W201
 -- the padding of a dump, tested eight bytes at a time
 pub mod W202
+-- where the search for free nodes begins
+pub mod W205
 -- what stands in the way of a new number
 pub mod W209
 -- the record of a ration, as a part of a lent block

@@ -30,10 +30,6 @@ pub data Given : List Bool → ℕ → List ℕ → Type 0 where
   none-given : {free : List Bool} {last : ℕ} → Given free last []
   then-given : {free : List Bool} {last m : ℕ} {ms : List ℕ} → NextFree free last m → Given (set free m false) m ms → Given free last (m ∷ ms)
 
--- "after formatting or opening the search starts at node 1": the node taken for given last then
-abbrev pub searchStart : ℕ
-searchStart = 0
-
 -- the bits of these nodes set or cleared: nodes given are not free, "Nodes cut out of the tree are free after the store that cuts
 -- them out"
 abbrev pub marked : Bool → List ℕ → List Bool → List Bool

@@ -246,21 +246,21 @@ module _ (block row : List ℕ) (l : length block ≡ stateWords) where
 
 -- ---- a state with no change planned
 
-module _ (n : ℕ) (free : List ℕ) (long : length free ≡ 20) where
-  resting-four : (p q r s : ℕ) → memoryIn (n ∷ 0 ∷ p ∷ q ∷ r ∷ s ∷ 0 ∷ 0 ∷ 0 ∷ 0 ∷ 0 ∷ free ++ replicate 146 0) ≡ resting n (nodesOf free) (doingIn p q r s)
+module _ (n : ℕ) (free : List ℕ) (last : ℕ) (long : length free ≡ 20) where
+  resting-four : (p q r s : ℕ) → memoryIn (n ∷ last ∷ p ∷ q ∷ r ∷ s ∷ 0 ∷ 0 ∷ 0 ∷ 0 ∷ 0 ∷ free ++ replicate 146 0) ≡ resting n (nodesOf free) last (doingIn p q r s)
   unfolding memoryIn resting storesOf zip
   resting-four p q r s =
-      ap (λ (l : List ℕ). record { nodes = n; free = nodesOf l; last = 0; doing = doingIn p q r s; rest = []; cut = [] }) (take-at free (replicate 146 0) 20 long)
+      ap (λ (l : List ℕ). record { nodes = n; free = nodesOf l; last = last; doing = doingIn p q r s; rest = []; cut = [] }) (take-at free (replicate 146 0) 20 long)
 
-  pub memory-resting : (doing : Doing) → memoryIn (restingWords n free doing) ≡ resting n (nodesOf free) doing
+  pub memory-resting : (doing : Doing) → memoryIn (restingWords n free last doing) ≡ resting n (nodesOf free) last doing
   unfolding restingWords
   memory-resting doing =
-      ap (λ (words : List ℕ). memoryIn (n ∷ 0 ∷ words ++ (0 ∷ 0 ∷ 0 ∷ 0 ∷ 0 ∷ free ++ replicate 146 0))) (sym (words-each doing)) ∙ resting-four _ _ _ _
-      ∙ ap (resting n (nodesOf free)) (doing-read doing)
+      ap (λ (words : List ℕ). memoryIn (n ∷ last ∷ words ++ (0 ∷ 0 ∷ 0 ∷ 0 ∷ 0 ∷ free ++ replicate 146 0))) (sym (words-each doing)) ∙ resting-four _ _ _ _
+      ∙ ap (resting n (nodesOf free) last) (doing-read doing)
 
-  pub resting-block : (doing : Doing) → ((i : ℕ) → getD free i 0 < 2 ^ 32) → restingWords n free doing ≡ restingBlock (resting n (nodesOf free) doing)
+  pub resting-block : (doing : Doing) → ((i : ℕ) → getD free i 0 < 2 ^ 32) → restingWords n free last doing ≡ restingBlock (resting n (nodesOf free) last doing)
   unfolding restingBlock resting
-  resting-block doing h = ap (λ (l : List ℕ). restingWords n l doing) (sym (ap (λ (k : ℕ). wordsOf k (nodesOf free)) (sym long) ∙ words-nodes free h))
+  resting-block doing h = ap (λ (l : List ℕ). restingWords n l last doing) (sym (ap (λ (k : ℕ). wordsOf k (nodesOf free)) (sym long) ∙ words-nodes free h))
 
 -- "Opening or starting to format, refused, hands back an idle state for N = 0": a block of zeros
 pub none-block : replicate 177 0 ≡ restingBlock noMemory
@@ -272,28 +272,28 @@ unfolding memoryIn noMemory doingIn nodesOf digitsOf allNodes storesOf zip
 memory-none = refl
 
 -- the stores that make it: words 0 and 1 and 6 to 10, what is being done, and the rows
-abbrev pub numbered : List ℕ → ℕ → List ℕ
-numbered block n = set (set (set (set (set (set (set block 0 n) 1 0) 6 0) 7 0) 8 0) 9 0) 10 0
+abbrev pub numbered : List ℕ → ℕ → ℕ → List ℕ
+numbered block n last = set (set (set (set (set (set (set block 0 n) 1 last) 6 0) 7 0) 8 0) 9 0) 10 0
 
-pub numbered-length : (block : List ℕ) (n : ℕ) → length (numbered block n) ≡ length block
-numbered-length block n = simp length-set
+pub numbered-length : (block : List ℕ) (n last : ℕ) → length (numbered block n last) ≡ length block
+numbered-length block n last = simp length-set
 
-rest-four : (block zeros : List ℕ) (n p q r s : ℕ) → length block ≡ stateWords → zeros ≡ replicate 146 0
-    → placed 31 146 (over (numbered block n) 2 (p ∷ q ∷ r ∷ s ∷ [])) zeros ≡ n ∷ 0 ∷ p ∷ q ∷ r ∷ s ∷ 0 ∷ 0 ∷ 0 ∷ 0 ∷ 0 ∷ part block 11 20 ++ replicate 146 0
-rest-four block zeros n p q r s len z =
+rest-four : (block zeros : List ℕ) (n last p q r s : ℕ) → length block ≡ stateWords → zeros ≡ replicate 146 0
+    → placed 31 146 (over (numbered block n last) 2 (p ∷ q ∷ r ∷ s ∷ [])) zeros ≡ n ∷ last ∷ p ∷ q ∷ r ∷ s ∷ 0 ∷ 0 ∷ 0 ∷ 0 ∷ 0 ∷ part block 11 20 ++ replicate 146 0
+rest-four block zeros n last p q r s len z =
     by-head
-    (λ (x : List ℕ). length x ≡ stateWords → placed 31 146 (over (numbered x n) 2 (p ∷ q ∷ r ∷ s ∷ [])) zeros ≡ n ∷ 0 ∷ p ∷ q ∷ r ∷ s ∷ 0 ∷ 0 ∷ 0 ∷ 0 ∷ 0 ∷ part x 11 20 ++ replicate 146 0)
+    (λ (x : List ℕ). length x ≡ stateWords → placed 31 146 (over (numbered x n last) 2 (p ∷ q ∷ r ∷ s ∷ [])) zeros ≡ n ∷ last ∷ p ∷ q ∷ r ∷ s ∷ 0 ∷ 0 ∷ 0 ∷ 0 ∷ 0 ∷ part x 11 20 ++ replicate 146 0)
     block (omega (arith, len))
     (λ a b c d e f g i j k l rest h.
     let few : length (drop 20 rest) ≤ 146 = omega (arith, length-drop 20 rest) in
     let none : drop 146 (drop 20 rest) ≡ [] = drop-of-length-le (drop 20 rest) {i = 146} few in
-    ap (λ (t : List ℕ). n ∷ 0 ∷ p ∷ q ∷ r ∷ s ∷ 0 ∷ 0 ∷ 0 ∷ 0 ∷ 0 ∷ take 20 rest ++ t) (ap₂ (λ (x y : List ℕ). x ++ y) z none ∙ append-nil (replicate 146 0)))
+    ap (λ (t : List ℕ). n ∷ last ∷ p ∷ q ∷ r ∷ s ∷ 0 ∷ 0 ∷ 0 ∷ 0 ∷ 0 ∷ take 20 rest ++ t) (ap₂ (λ (x y : List ℕ). x ++ y) z none ∙ append-nil (replicate 146 0)))
     len
 
-pub rest-stored : (block zeros : List ℕ) (n : ℕ) (doing : Doing) → length block ≡ stateWords → zeros ≡ replicate 146 0
-    → placed 31 146 (begunBlock (numbered block n) doing) zeros ≡ restingWords n (part block 11 20) doing
+pub rest-stored : (block zeros : List ℕ) (n last : ℕ) (doing : Doing) → length block ≡ stateWords → zeros ≡ replicate 146 0
+    → placed 31 146 (begunBlock (numbered block n last) doing) zeros ≡ restingWords n (part block 11 20) last doing
 unfolding begunBlock restingWords
-rest-stored block zeros n doing len z =
-    ap (λ (words : List ℕ). placed 31 146 (over (numbered block n) 2 words) zeros) (sym (words-each doing))
-    ∙ rest-four block zeros n _ _ _ _ len z
-    ∙ ap (λ (words : List ℕ). n ∷ 0 ∷ words ++ (0 ∷ 0 ∷ 0 ∷ 0 ∷ 0 ∷ part block 11 20 ++ replicate 146 0)) (words-each doing)
+rest-stored block zeros n last doing len z =
+    ap (λ (words : List ℕ). placed 31 146 (over (numbered block n last) 2 words) zeros) (sym (words-each doing))
+    ∙ rest-four block zeros n last _ _ _ _ len z
+    ∙ ap (λ (words : List ℕ). n ∷ last ∷ words ++ (0 ∷ 0 ∷ 0 ∷ 0 ∷ 0 ∷ part block 11 20 ++ replicate 146 0)) (words-each doing)

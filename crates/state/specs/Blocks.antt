@@ -25,14 +25,14 @@ unfoldable pub wordsOf : ℕ → List Bool → List ℕ
 wordsOf zero bits = []
 wordsOf (suc k) bits = numberOf (take 32 bits) ∷ wordsOf k (drop 32 bits)
 
--- all words of a state with no change planned, which has these words of free nodes: N, no node given last, what is being done, no
+-- all words of a state with no change planned, which has these words of free nodes: N, the node given last, what is being done, no
 -- store made or planned, no node cut out, and rows of zeros
-unfoldable pub restingWords : ℕ → List ℕ → Doing → List ℕ
-restingWords n free doing = n ∷ 0 ∷ doingWords doing ++ (0 ∷ 0 ∷ 0 ∷ 0 ∷ 0 ∷ free ++ replicate 146 0)
+unfoldable pub restingWords : ℕ → List ℕ → ℕ → Doing → List ℕ
+restingWords n free last doing = n ∷ last ∷ doingWords doing ++ (0 ∷ 0 ∷ 0 ∷ 0 ∷ 0 ∷ free ++ replicate 146 0)
 
 -- after opening and starting to format, whatever was in the block
 unfoldable pub restingBlock : Memory → List ℕ
-restingBlock m = restingWords (m .nodes) (wordsOf wordCount (m .free)) (m .doing)
+restingBlock m = restingWords (m .nodes) (wordsOf wordCount (m .free)) (m .last) (m .doing)
 
 -- something else is being done: words 2 to 5
 unfoldable pub begunBlock : List ℕ → Doing → List ℕ

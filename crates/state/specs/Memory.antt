@@ -20,17 +20,13 @@ pub record Memory : Type 0 where
   pub rest : List Store
   pub cut : List ℕ
 
--- "after formatting or opening the search starts at node 1": the node taken for given last then
-abbrev pub searchStart : ℕ
-searchStart = 0
-
 -- "Opening or starting to format, refused, hands back an idle state for N = 0"
 unfoldable pub noMemory : Memory
-noMemory = record { nodes = 0; free = allNodes 0; last = searchStart; doing = Idle; rest = []; cut = [] }
+noMemory = record { nodes = 0; free = allNodes 0; last = 0; doing = Idle; rest = []; cut = [] }
 
 -- nothing in hand, or a call or repair with no change planned yet
-unfoldable pub resting : ℕ → List Bool → Doing → Memory
-resting n free doing = record { nodes = n; free = free; last = searchStart; doing = doing; rest = []; cut = [] }
+unfoldable pub resting : ℕ → List Bool → ℕ → Doing → Memory
+resting n free last doing = record { nodes = n; free = free; last = last; doing = doing; rest = []; cut = [] }
 
 -- the same, idle
 unfoldable pub idled : Memory → Memory

@@ -6,6 +6,7 @@ use Prim.Native.Nat.{ℕ, suc}
 use lib.ListN.{length, set}
 use lib.Dec.{eqb, ltb}
 use Rattle.laws.specs.Cases.{pick}
+use Rattle.card.specs.Layout.{rootPlace, formattedRoot}
 use Rattle.card.specs.Stores.{Store}
 use Rattle.state.specs.Memory.{Memory, noMemory, idled}
 use Rattle.state.specs.declared.Doing.{Doing}
@@ -64,7 +65,7 @@ stepFinal a card m = record { answer = a; card = card; memory = idled m }
 -- word i of a formatted card with n nodes, but the mark: "root node 1, an empty leaf, all else 0"
 unfoldable pub formattedWord : ℕ → ℕ → ℕ
 formattedWord n i =
-    pick (eqb i 1) n (pick (eqb i 2) 8 (pick (eqb i 3) 24 (pick (eqb i 4) 1 (pick (eqb i 8) 1 0))))
+    pick (eqb i 1) n (pick (eqb i 2) 8 (pick (eqb i 3) 24 (pick (eqb i rootPlace) formattedRoot (pick (eqb i 8) 1 0))))
 
 -- "0 in word 0, then every word from 1 to the last in rising order .., then 1 in word 0": the store after so many
 unfoldable pub formatStore : ℕ → ℕ → ℕ → Option Store

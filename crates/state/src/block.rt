@@ -199,15 +199,15 @@ fn clear_words(words: &mut [u32])
     }
 }
 
-// Nothing is planned in a block for N nodes, whose words of the free nodes are right already. "after formatting or opening the search
-// starts at node 1": 0 is the node taken for given last.
-pub fn store_resting(block: &mut [u32], n: usize, doing: Doing)
+// Nothing is planned in a block for N nodes, whose words of the free nodes are right already. The search for a free node begins after
+// `last`, the node taken for given last.
+pub fn store_resting(block: &mut [u32], n: usize, last: u32, doing: Doing)
     requires { ⌜ (length (now block) ≡ stateWords) × (n ≤ greatestNodes) ⌝ }
-    ensures { λ _. ⌜ now (block .exit) ≡ restingBlock (resting n (nodesOf (part (now (block .entry)) 11 20)) doing) ⌝ }
-    ensures { λ _. ⌜ memoryIn (now (block .exit)) ≡ resting n (nodesOf (part (now (block .entry)) 11 20)) doing ⌝ }
+    ensures { λ _. ⌜ now (block .exit) ≡ restingBlock (resting n (nodesOf (part (now (block .entry)) 11 20)) last doing) ⌝ }
+    ensures { λ _. ⌜ memoryIn (now (block .exit)) ≡ resting n (nodesOf (part (now (block .entry)) 11 20)) last doing ⌝ }
 {
     block[NODES] = n as u32;
-    block[LAST] = card::SEARCH_START;
+    block[LAST] = last;
     block[MADE] = 0;
     block[COUNT] = 0;
     block[CUT] = 0;

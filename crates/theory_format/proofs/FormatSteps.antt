@@ -9,6 +9,7 @@ use native.Mathlib.Omega.{arith}
 use lib.ListN.{length, set}
 use borrow.Author.Tests.{ne-eqb, eq-eqb}
 use Rattle.card.specs.Header.{nodesOfLength, Sized}
+use Rattle.card.specs.Layout.{formattedRoot}
 use Rattle.card.proofs.HeaderLaws.{sized-nodes}
 use Rattle.card.specs.Stores.{Store}
 use Rattle.theory_format.proofs.FormatCard.{placeOf, formatCard, format-next, format-length}
@@ -25,15 +26,15 @@ use Rattle.state.proofs.StepLaws.{format-end}
 
 -- "those not reached from the root", which is node 1
 abbrev pub freshNodes : ℕ → List Bool
-freshNodes n = set (allNodes n) 1 false
+freshNodes n = set (allNodes n) formattedRoot false
 
 -- the state after so many stores of formatting
 abbrev pub formatMemory : ℕ → ℕ → Memory
-formatMemory n made = resting n (freshNodes n) (Formatting made)
+formatMemory n made = resting n (freshNodes n) formattedRoot (Formatting made)
 
 -- the state after "ready"
 abbrev pub freshMemory : ℕ → Memory
-freshMemory n = resting n (freshNodes n) Idle
+freshMemory n = resting n (freshNodes n) formattedRoot Idle
 
 -- STARTING
 pub format-starts : (c : List ℕ) (n : ℕ) → Sized (length c) n → formatOf c ≡ record { begun = Started; memory = formatMemory n 0 }
@@ -46,19 +47,20 @@ unfolding formatOf
 format-refused c e = rw e
 
 -- ONE STEP: "Formatting steps check only 1."
-step-formats : (card : List ℕ) (n made : ℕ) (free : List Bool) (o : Option Store) → Sized (length card) n → formatStore n (length card) made ≡ o
-    → stepOf card (resting n free (Formatting made)) ≡ stepFormat card (resting n free (Formatting made)) made o
+step-formats : (card : List ℕ) (n made : ℕ) (free : List Bool) (last : ℕ) (o : Option Store) → Sized (length card) n → formatStore n (length card) made ≡ o
+    → stepOf card (resting n free last (Formatting made)) ≡ stepFormat card (resting n free last (Formatting made)) made o
 unfolding stepOf heldBy stepHeld resting
-step-formats card n made free o s e = rw (sized-nodes (length card) n s, ne-eqb n 0 (omega (arith, s .least)), eq-eqb n n refl, e)
+step-formats card n made free last o s e = rw (sized-nodes (length card) n s, ne-eqb n 0 (omega (arith, s .least)), eq-eqb n n refl, e)
 
-format-stores : (card : List ℕ) (n made : ℕ) (free : List Bool) (s : Store)
-    → stepFormat card (resting n free (Formatting made)) made (some s) ≡ record { answer = Stored (s .0); card = set card (s .0) (s .1); memory = resting n free (Formatting (suc made)) }
+format-stores : (card : List ℕ) (n made : ℕ) (free : List Bool) (last : ℕ) (s : Store)
+    → stepFormat card (resting n free last (Formatting made)) made (some s) ≡ record { answer = Stored (s .0); card = set card (s .0) (s .1); memory = resting n free last (Formatting (suc made)) }
 unfolding stepFormat formattingFrom resting
-format-stores card n made free s = refl
+format-stores card n made free last s = refl
 
-format-ends : (card : List ℕ) (n made : ℕ) (free : List Bool) → stepFormat card (resting n free (Formatting made)) made none ≡ record { answer = Ready; card = card; memory = resting n free Idle }
+format-ends : (card : List ℕ) (n made : ℕ) (free : List Bool) (last : ℕ) → stepFormat card (resting n free last (Formatting made)) made none
+    ≡ record { answer = Ready; card = card; memory = resting n free last Idle }
 unfolding stepFormat stepFinal idled resting
-format-ends card n made free = refl
+format-ends card n made free last = refl
 
 module _ (c : List ℕ) (n : ℕ) (sized : Sized (length c) n) where
   still-sized : (made : ℕ) → Sized (length (formatCard n c made)) n
@@ -73,12 +75,12 @@ module _ (c : List ℕ) (n : ℕ) (sized : Sized (length c) n) where
   format-step-stores made h =
       let f = some-store n (length c) made (omega (arith, sized .words)) h in
       rw (format-next n c made (f .0) (f .1), f .1)
-      (step-formats (formatCard n c made) n made (freshNodes n) (some (f .0)) (still-sized made) (same-store made ∙ f .1)
-      ∙ format-stores (formatCard n c made) n made (freshNodes n) (f .0))
+      (step-formats (formatCard n c made) n made (freshNodes n) formattedRoot (some (f .0)) (still-sized made) (same-store made ∙ f .1)
+      ∙ format-stores (formatCard n c made) n made (freshNodes n) formattedRoot (f .0))
 
   -- after the last store a step answers "ready" and makes the state idle
   pub format-step-ready : stepOf (formatCard n c (suc (length c))) (formatMemory n (suc (length c))) ≡ record { answer = Ready; card = formatCard n c (suc (length c)); memory = freshMemory n }
   format-step-ready =
       let made : ℕ = suc (length c) in
-      step-formats (formatCard n c made) n made (freshNodes n) none (still-sized made) (same-store made ∙ format-end n (length c) made (omega arith))
-      ∙ format-ends (formatCard n c made) n made (freshNodes n)
+      step-formats (formatCard n c made) n made (freshNodes n) formattedRoot none (still-sized made) (same-store made ∙ format-end n (length c) made (omega arith))
+      ∙ format-ends (formatCard n c made) n made (freshNodes n) formattedRoot

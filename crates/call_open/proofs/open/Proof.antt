@@ -3,6 +3,7 @@ use mathlib.Core.Path.{ap, sym, subst, _∙_}
 use Prim.Native.Nat.{ℕ}
 use lib.ListN.{length}
 use Rattle.card.specs.Header.{Sized}
+use Rattle.card.specs.Layout.{searchStart}
 use Rattle.card.proofs.HeaderLaws.{sized, card-sized}
 use Rattle.card_check.specs.Check.{tableCheck}
 use Rattle.state.specs.Steps.{Handed, noBeginning}
@@ -55,7 +56,7 @@ returns-3 c =
     let s = c .before .before .before .before .before .before .before .before .before .before in
     opened-call (s .args .state .now) (c .before .before .open-checked .last .1 .1 .0) _ _ (c .before .before .before .before .before .before .before .if1 .left)
     (subst (λ (due : Handed). Opened (c .before .before .open-checked .last .1 .1 .0) (c .before .before .open-checked .result) due)
-    (ap (λ (n : ℕ). openChecked n (tableCheck (s .args .card .now) n)) (c .before .before .before .before .nodes-of .ensures)
+    (ap (λ (n : ℕ). openChecked n (searchStart (s .args .card .now)) (tableCheck (s .args .card .now) n)) (c .before .before .before .before .nodes-of .ensures)
     ∙ sym (open-unrefused _
     (sym (c .before .before .before .before .before .before .card-refusal .ensures) ∙ c .before .before .before .before .before .if2 .left)))
     (c .before .before .open-checked .ensures))

@@ -3,6 +3,7 @@ use mathlib.Core.Path.{_≡_, ap, sym, subst, _∙_}
 use mathlib.Core.List.{List}
 use Prim.Native.Nat.{ℕ}
 use lib.ListN.{length}
+use Rattle.card.specs.Layout.{searchStart}
 use Rattle.card_free.specs.NodeSet.{nodesOf}
 use Rattle.card_check.specs.Check.{findingsOf, checkedOf}
 use Rattle.card_check.specs.declared.Checked.{Checked}
@@ -43,8 +44,13 @@ refuse-beginning-requires c κs = long (c .before .before .before .before .befor
 enum-told-2 : tie.Need-enum-told-2
 enum-told-2 c = search needs
 
+shared-slice-read-open-sound : tie.Need-shared-slice-read-open-sound
+shared-slice-read-open-sound c = search needs
+
 open-sound-requires : tie.Need-open-sound-requires
-open-sound-requires c κs = let s = c .before .before .before .before .before .before .before .before .before .before .before in (long (c .before .before .before .before .before .before), s .pre .1)
+open-sound-requires c κs =
+    let s = c .before .before .before .before .before .before .before .before .before .before .before .before in
+    (long (c .before .before .before .before .before .before .before), s .pre .1)
 
 same-length : tie.Need-same-length
 same-length c =
@@ -57,7 +63,7 @@ unfolding openChecked checkedOf
 returns c =
     let s = c .before .before .before .before .before .before .before .before .before .before .before .before .before .before in
     subst (λ (due : Handed). Opened (c .before .before .refuse-beginning .last .0) (c .before .before .refuse-beginning .result) due)
-    (ap (openChecked (s .args .n)) (sym (ap (λ (r : Checked). checkedOf r
+    (ap (openChecked (s .args .n) (searchStart (s .args .card .now))) (sym (ap (λ (r : Checked). checkedOf r
     (findingsOf (nodesOf (c .before .before .before .before .before .before .before .before .before .check-table .last .1 .1 .0))
     (c .before .before .before .before .before .before .before .before .before .check-table .last .1 .1 .1 .0)))
     (c .before .before .before .before .enum-told .given .1))
@@ -66,24 +72,24 @@ returns c =
 
 same-length-2 : tie.Need-same-length-2
 same-length-2 c =
-    let s = c .before .before .before .before .before .before .before .before .before .before .before .before .before .before in
+    let s = c .before .before .before .before .before .before .before .before .before .before .before .before .before .before .before in
     c .before .before .open-sound .kept .0
-    ∙ long (c .before .before .before .before .before .before .before .before .before) ∙ sym (s .pre .2)
+    ∙ long (c .before .before .before .before .before .before .before .before .before .before) ∙ sym (s .pre .2)
 
 returns-2 : tie.Need-returns-2
 unfolding openChecked checkedOf
 returns-2 c =
-    let s = c .before .before .before .before .before .before .before .before .before .before .before .before .before .before in
+    let s = c .before .before .before .before .before .before .before .before .before .before .before .before .before .before .before in
     subst (λ (due : Handed). Opened (c .before .before .open-sound .last .0) (c .before .before .open-sound .result) due)
-    (ap (λ (row : List ℕ). openSound (s .args .n)
-    (findingsOf (nodesOf row) (c .before .before .before .before .before .before .before .before .before .check-table .last .1 .1 .1 .0)))
-    (freed-part (s .args .state .now) (c .before .before .before .before .before .before .before .before .before .check-table .last .1 .1 .0)
-    (s .pre .2) (c .before .before .before .before .before .before .before .before .before .check-table .kept .1 .1 .0))
-    ∙ ap (openChecked (s .args .n)) (sym (ap (λ (r : Checked). checkedOf r
-    (findingsOf (nodesOf (c .before .before .before .before .before .before .before .before .before .check-table .last .1 .1 .0))
-    (c .before .before .before .before .before .before .before .before .before .check-table .last .1 .1 .1 .0)))
-    (c .before .before .before .before .enum-told2 .given .1))
-    ∙ c .before .before .before .before .before .before .before .before .before .check-table .ensures))
+    (ap (λ (row : List ℕ). openSound (s .args .n) (searchStart (s .args .card .now))
+    (findingsOf (nodesOf row) (c .before .before .before .before .before .before .before .before .before .before .check-table .last .1 .1 .1 .0)))
+    (freed-part (s .args .state .now) (c .before .before .before .before .before .before .before .before .before .before .check-table .last .1 .1 .0)
+    (s .pre .2) (c .before .before .before .before .before .before .before .before .before .before .check-table .kept .1 .1 .0))
+    ∙ ap (openChecked (s .args .n) (searchStart (s .args .card .now))) (sym (ap (λ (r : Checked). checkedOf r
+    (findingsOf (nodesOf (c .before .before .before .before .before .before .before .before .before .before .check-table .last .1 .1 .0))
+    (c .before .before .before .before .before .before .before .before .before .before .check-table .last .1 .1 .1 .0)))
+    (c .before .before .before .before .before .enum-told2 .given .1))
+    ∙ c .before .before .before .before .before .before .before .before .before .before .check-table .ensures))
     (c .before .before .open-sound .ensures)
 
 pub open-checked-spec : {M : Type 1} → statement M
@@ -98,6 +104,7 @@ open-checked-spec =
     enum-told
     refuse-beginning-requires
     enum-told-2
+    shared-slice-read-open-sound
     open-sound-requires
     same-length
     returns

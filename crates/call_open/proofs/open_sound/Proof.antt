@@ -37,7 +37,7 @@ returns : tie.Need-returns
 unfolding findingsOf
 returns c =
     subst (λ (due : Handed). Opened (c .before .before .refuse-beginning .last .0) (c .before .before .refuse-beginning .result) due)
-    (sym (open-scarce _ _ (omega (arith, c .before .before .before .before .before .count .ensures, c .before .before .before .before .if1 .taken))))
+    (sym (open-scarce _ _ _ (omega (arith, c .before .before .before .before .before .count .ensures, c .before .before .before .before .if1 .taken))))
     (c .before .before .refuse-beginning .ensures)
 
 array-read-run : tie.Need-array-read-run
@@ -56,7 +56,7 @@ returns-2 : tie.Need-returns-2
 unfolding findingsOf
 returns-2 c =
     subst (λ (due : Handed). Opened (c .before .before .refuse-beginning2 .last .0) (c .before .before .refuse-beginning2 .result) due)
-    (sym (open-scarce _ _ (omega (
+    (sym (open-scarce _ _ _ (omega (
       arith,
       c .before .before .before .before .before .before .count .ensures,
       c .before .before .before .before .before .if1 .left,
@@ -66,8 +66,8 @@ returns-2 c =
 array-read-if3 : tie.Need-array-read-if3
 array-read-if3 c = search needs
 
-array-read-t26 : tie.Need-array-read-t26
-array-read-t26 c = search needs
+array-read-t27 : tie.Need-array-read-t27
+array-read-t27 c = search needs
 
 store-resting-requires : tie.Need-store-resting-requires
 store-resting-requires c κs = let s = c .before .before .before .before .before .before .before .before in (s .pre .0, s .pre .1)
@@ -80,12 +80,12 @@ unfolding findingsOf
 returns-3 c =
     let s = c .before .before .before .before .before .before .before .before .before .before .before in
     subst (λ (due : Handed). Opened (c .before .before .store-resting .last .0) Started due)
-    (sym (open-repair _ (findingsOf (nodesOf (part (s .args .state .now) 11 20)) (s .args .t3)) (omega (
+    (sym (open-repair _ _ (findingsOf (nodesOf (part (s .args .state .now) 11 20)) (s .args .t4)) (omega (
       arith,
       c .before .before .before .before .before .before .before .count .ensures,
       c .before .before .before .before .before .before .if1 .left,
       c .before .before .before .before .before .if2 .left,
-    )) (ap not (ne-eqb (getD (s .args .t3) 0 0) 0 (c .before .before .before .before .if3 .taken)))))
+    )) (ap not (ne-eqb (getD (s .args .t4) 0 0) 0 (c .before .before .before .before .if3 .taken)))))
     (record { answered = refl; handed = c .before .before .store-resting .ensures .1; words = c .before .before .store-resting .ensures .0 })
 
 store-resting-requires-2 : tie.Need-store-resting-requires-2
@@ -99,12 +99,12 @@ unfolding findingsOf
 returns-4 c =
     let s = c .before .before .before .before .before .before .before .before .before .before .before in
     subst (λ (due : Handed). Opened (c .before .before .store-resting2 .last .0) OpenedIdle due)
-    (sym (open-idle _ (findingsOf (nodesOf (part (s .args .state .now) 11 20)) (s .args .t3)) (omega (
+    (sym (open-idle _ _ (findingsOf (nodesOf (part (s .args .state .now) 11 20)) (s .args .t4)) (omega (
       arith,
       c .before .before .before .before .before .before .before .count .ensures,
       c .before .before .before .before .before .before .if1 .left,
       c .before .before .before .before .before .if2 .left,
-    )) (ap not (eq-eqb (getD (s .args .t3) 0 0) 0 (c .before .before .before .before .if3 .left)))))
+    )) (ap not (eq-eqb (getD (s .args .t4) 0 0) 0 (c .before .before .before .before .if3 .left)))))
     (record { answered = refl; handed = c .before .before .store-resting2 .ensures .1; words = c .before .before .store-resting2 .ensures .0 })
 
 pub open-sound-spec : {M : Type 1} → statement M
@@ -124,7 +124,7 @@ open-sound-spec =
     same-length-2
     returns-2
     array-read-if3
-    array-read-t26
+    array-read-t27
     store-resting-requires
     same-length-3
     returns-3

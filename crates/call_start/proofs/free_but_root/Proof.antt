@@ -3,6 +3,7 @@ use mathlib.Core.Path.{ap, _∙_}
 use mathlib.Core.Bool.{Bool, false}
 use mathlib.Core.List.{List}
 use lib.ListN.{set}
+use Rattle.card.specs.Layout.{formattedRoot}
 use borrow.Author.Needs.{needs}
 use Rattle.call_start.proofs.free_but_root.Statement.{statement}
 use Rattle.call_start.proofs.free_but_root.Tie as tie
@@ -17,7 +18,7 @@ same-length : tie.Need-same-length
 same-length c = search needs
 
 returns : tie.Need-returns
-returns c = c .before .before .take-out .ensures ∙ ap (λ (x : List Bool). set x 1 false) (c .before .before .before .before .before .before .fill .ensures)
+returns c = c .before .before .take-out .ensures ∙ ap (λ (x : List Bool). set x formattedRoot false) (c .before .before .before .before .before .before .fill .ensures)
 
 pub free-but-root-spec : {M : Type 1} → statement M
 free-but-root-spec =

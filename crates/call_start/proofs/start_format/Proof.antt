@@ -4,6 +4,7 @@ use mathlib.Core.List.{List}
 use mathlib.Core.Bool.{Bool}
 use native.Mathlib.Omega.{arith}
 use lib.ListN.{length}
+use Rattle.card.specs.Layout.{formattedRoot}
 use Rattle.card.proofs.HeaderLaws.{sized}
 use Rattle.card_free.specs.NodeSet.{nodesOf}
 use Rattle.state.specs.Memory.{resting}
@@ -84,7 +85,7 @@ returns-3 c =
     (subst (λ (due : Handed). Opened (c .before .before .store-resting .last .0) Started due)
     (ap (λ (x : List Bool). record {
       begun = Started;
-      memory = resting (c .before .before .before .before .before .before .before .before .before .nodes-of .result) x (Formatting 0);
+      memory = resting (c .before .before .before .before .before .before .before .before .before .nodes-of .result) x formattedRoot (Formatting 0);
     }) free ∙ sym (format-length _ _ (c .before .before .before .before .before .before .before .before .before .nodes-of .ensures)
     (c .before .before .before .before .before .before .before .before .if2 .left)))
     (record { answered = refl; handed = c .before .before .store-resting .ensures .1; words = c .before .before .store-resting .ensures .0 }))

@@ -15,7 +15,7 @@ use Rattle.state.proofs.block.store_resting.Tie as tie
 
 -- the block before its rows are cleared
 long : (c : tie.After-store-doing) → length (c .store-doing .last .0) ≡ 177
-long c = let s = c .before .before .before in c .store-doing .kept .0 ∙ numbered-length (s .args .block .now) (s .args .n) ∙ s .pre .0
+long c = let s = c .before .before .before in c .store-doing .kept .0 ∙ numbered-length (s .args .block .now) (s .args .n) (s .args .last) ∙ s .pre .0
 
 -- the rows
 span : (c : tie.After-store-doing) → length (take 146 (drop 31 (c .store-doing .last .0))) ≡ 146
@@ -58,7 +58,7 @@ slice-write-block-7 : tie.Need-slice-write-block-7
 slice-write-block-7 c = search needs depth 12
 
 store-doing-requires : tie.Need-store-doing-requires
-store-doing-requires c κs = let s = c .before .before in numbered-length (s .args .block .now) (s .args .n) ∙ s .pre .0
+store-doing-requires c κs = let s = c .before .before in numbered-length (s .args .block .now) (s .args .n) (s .args .last) ∙ s .pre .0
 
 sub-clear-words : tie.Need-sub-clear-words
 sub-clear-words c = search needs
@@ -78,7 +78,7 @@ same-length c =
     placed-length (c .before .before .before .before .before .before .store-doing .last .0) (c .before .before .clear-words .last .0) 31 146
     (c .before .before .clear-words .kept .0 ∙ span (c .before .before .before .before .before .before))
     (omega (arith, long (c .before .before .before .before .before .before)))
-    ∙ c .before .before .before .before .before .before .store-doing .kept .0 ∙ numbered-length (s .args .block .now) (s .args .n)
+    ∙ c .before .before .before .before .before .before .store-doing .kept .0 ∙ numbered-length (s .args .block .now) (s .args .n) (s .args .last)
 
 returns : tie.Need-returns
 returns c =
@@ -87,7 +87,7 @@ returns c =
     let row = part block 11 20 in
     let whole = ap (λ (b : List ℕ). placed 31 146 b (c .before .before .clear-words .last .0))
     (c .before .before .before .before .before .before .store-doing .ensures)
-    ∙ rest-stored block (c .before .before .clear-words .last .0) (s .args .n) (s .args .doing) (s .pre .0)
+    ∙ rest-stored block (c .before .before .clear-words .last .0) (s .args .n) (s .args .last) (s .args .doing) (s .pre .0)
     (c .before .before .clear-words .ensures ∙ ap (λ (k : ℕ). replicate k 0) (span (c .before .before .before .before .before .before))) in
     let twenty : length row ≡ 20 = omega (arith, length-take 20 (drop 11 block), length-drop 11 block, s .pre .0) in
     let words : (i : ℕ) → getD row i 0 < 2 ^ 32 =
@@ -95,8 +95,8 @@ returns c =
       arith,
       c .before .before .before .before .before .before .before .before .slice-known .given (11 + i),
     ))) (λ h. rw (List·getD-eq-default row 0 {n = i} (omega (arith, twenty))) (omega arith)) in (
-      whole ∙ resting-block (s .args .n) row twenty (s .args .doing) words,
-      ap memoryIn whole ∙ memory-resting (s .args .n) row twenty (s .args .doing),
+      whole ∙ resting-block (s .args .n) row (s .args .last) twenty (s .args .doing) words,
+      ap memoryIn whole ∙ memory-resting (s .args .n) row (s .args .last) twenty (s .args .doing),
     )
 
 pub store-resting-spec : {M : Type 1} → statement M
