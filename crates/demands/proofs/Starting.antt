@@ -82,9 +82,9 @@ landing-is c n key e = e
 -- a state is idle, or some work is in progress
 pub idle-or-busy : {c : List ℕ} {n : ℕ} {t goal : Tree} {steps : ℕ} {m : Memory} {h : Hand} {due : Answer} → Stage c n t goal steps m h due
     → (m .nodes ≡ n) × ((isIdle (m .doing) ≡ false) ⊎ ((free : List Bool) × (last : ℕ)
-    × (m ≡ memory n free last Idle [] []) × (tableViolations t ≡ 0) × (3 ≤ countTrue free) × Exact n free t × (bare t ≡ goal)))
+    × (m ≡ memory n free last (m .depth) Idle [] []) × (tableViolations t ≡ 0) × (3 ≤ countTrue free) × Exact n free t × (bare t ≡ goal)))
 unfolding isIdle
-idle-or-busy (stage-idle {free} {last} z r x g) = (refl, inr (free, last, refl, z, r, x, g))
+idle-or-busy (stage-idle {free} {last} {depth} z r x g) = (refl, inr (free, last, refl, z, r, x, g))
 idle-or-busy (stage-put z r x low high room few g) = (refl, inl refl)
 idle-or-busy (stage-remove z r x low high few g) = (refl, inl refl)
 idle-or-busy (stage-first j p en count few g) = (refl, inl (job-busy j .not-idle))
@@ -145,7 +145,7 @@ module _ {n steps : ℕ} {w : World rationTable} {b : Book} (i : Inv n steps w b
 
 -- started: the update is in hand, and its answer by the map is due
 put-started : {n steps : ℕ} (w : World rationTable) (b : Book) (i : Inv n steps w b) (free : List Bool) (last key value : ℕ)
-    → w .state ≡ memory n free last Idle [] [] → tableViolations (i .tree) ≡ 0 → 3 ≤ countTrue free → Exact n free (i .tree)
+    → w .state ≡ memory n free last (w .state .depth) Idle [] [] → tableViolations (i .tree) ≡ 0 → 3 ≤ countTrue free → Exact n free (i .tree)
     → bare (i .tree) ≡ i .goal → lowestKey ≤ key → key < keyLimit
     → startRoom (w .card) key (w .state .free) (landing (w .card) (w .state .nodes) key) ≡ true → Goal i (put key value) (startAccepted (w .state) (Inserting key value NotBegun))
 unfolding startAccepted startReply outcome feed fedStart isIdle
@@ -171,7 +171,7 @@ put-started {n} w b i free last key value em z r x eg low high q =
     )
 
 remove-started : {n steps : ℕ} (w : World rationTable) (b : Book) (i : Inv n steps w b) (free : List Bool) (last key : ℕ)
-    → w .state ≡ memory n free last Idle [] [] → tableViolations (i .tree) ≡ 0 → 3 ≤ countTrue free → Exact n free (i .tree)
+    → w .state ≡ memory n free last (w .state .depth) Idle [] [] → tableViolations (i .tree) ≡ 0 → 3 ≤ countTrue free → Exact n free (i .tree)
     → bare (i .tree) ≡ i .goal → lowestKey ≤ key → key < keyLimit
     → Goal i (remove key) (startAccepted (w .state) (Deleting key NotBegun 0))
 unfolding startAccepted startReply outcome feed fedStart isIdle
@@ -211,7 +211,7 @@ module _ (n steps : ℕ) (w : World rationTable) (b : Book) (i : Inv n steps w b
       passed key doing room ∙ start-landed (w .card) (w .state) key doing room (g .0) (g .1) (g .2) (is-idle idle) (omega arith) (g .3)
 
   start-with : (key : ℕ) (doing : Doing) (room : Landing → Bool) (u : Update) → key < keyLimit
-      → ((free : List Bool) (last : ℕ) → w .state ≡ memory n free last Idle [] []
+      → ((free : List Bool) (last : ℕ) → w .state ≡ memory n free last (w .state .depth) Idle [] []
       → tableViolations (i .tree) ≡ 0 → 3 ≤ countTrue free → Exact n free (i .tree) → bare (i .tree) ≡ i .goal → lowestKey ≤ key
       → room (landing (w .card) (w .state .nodes) key) ≡ true → Goal i u (startAccepted (w .state) doing))
       → Goal i u (startOf (w .card) (w .state) key doing room)
@@ -220,7 +220,7 @@ module _ (n steps : ℕ) (w : World rationTable) (b : Book) (i : Inv n steps w b
       refused-with : (r : ℕ) → r < 64 → startOf (w .card) (w .state) key doing room ≡ startRefused r (w .state) → Goal i u (startOf (w .card) (w .state) key doing room)
       refused-with r h e = subst (Goal i u) (sym e) (refused-goal w b i u r h)
 
-      go : (isIdle (w .state .doing) ≡ false) ⊎ ((free : List Bool) × (last : ℕ) × (w .state ≡ memory n free last Idle [] [])
+      go : (isIdle (w .state .doing) ≡ false) ⊎ ((free : List Bool) × (last : ℕ) × (w .state ≡ memory n free last (w .state .depth) Idle [] [])
           × (tableViolations (i .tree) ≡ 0) × (3 ≤ countTrue free) × Exact n free (i .tree) × (bare (i .tree) ≡ i .goal))
           → Goal i u (startOf (w .card) (w .state) key doing room)
       go (inl q) = refused-with 7 (omega arith) (passed key doing room ∙ start-busy (w .card) (w .state) key doing room q)

@@ -7,6 +7,7 @@ use mathlib.Core.List.{List}
 use Prim.Native.Nat.{ℕ}
 use lib.ListN.{length}
 use Rattle.card.specs.Replies.{noState}
+use Rattle.state.specs.Memory.{Memory}
 use Rattle.state.specs.Steps.{Handed}
 use Rattle.state.specs.declared.Doing.{Doing}
 use Rattle.state.specs.declared.Begun.{Begun}
@@ -28,5 +29,5 @@ pub record OpenCall (before after : List ℕ) (begun : Begun) (due : Handed) : T
 pub record StartCall (before after : List ℕ) (begun : Begun) (doing : Doing) (due : Handed) : Type 0 where
   pub answered : length before ≡ stateWords → begun ≡ due .begun
   pub handed : length before ≡ stateWords → memoryIn after ≡ due .memory
-  pub words : length before ≡ stateWords → after ≡ startedBlock (due .begun) before doing
+  pub words : length before ≡ stateWords → after ≡ startedBlock (due .begun) before doing (due .memory .depth)
   pub no-state : (length before ≡ stateWords → ⊥) → (begun ≡ BegunRefused (noState .code)) × (after ≡ before)

@@ -147,7 +147,7 @@ module _ (n steps : ℕ) (w : World rationTable) (b : Book) (i : Inv n steps w b
   pub resting-goal : (bare (i .tree) ≡ i .goal) × (countTrue (w .state .free) + nodeTotal (λ m. 1) (bare (i .tree)) ≡ n)
   resting-goal = at (idle-or-busy (i .stage) .1)
     where
-      at : (isIdle (w .state .doing) ≡ false) ⊎ ((free : List Bool) × (last : ℕ) × (w .state ≡ memory n free last Idle [] [])
+      at : (isIdle (w .state .doing) ≡ false) ⊎ ((free : List Bool) × (last : ℕ) × (w .state ≡ memory n free last (w .state .depth) Idle [] [])
           × (tableViolations (i .tree) ≡ 0) × (3 ≤ countTrue free) × Exact n free (i .tree) × (bare (i .tree) ≡ i .goal))
           → (bare (i .tree) ≡ i .goal) × (countTrue (w .state .free) + nodeTotal (λ m. 1) (bare (i .tree)) ≡ n)
       at (inl q) = absurd (idle-not-busy (w .state .doing) idle q)
