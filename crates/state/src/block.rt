@@ -123,6 +123,17 @@ pub fn is_idle(state: &[u32]) -> bool
     REPAIRING < doing
 }
 
+// The internal nodes on the key's way of the update begun last, as it was then (document 02, W-203). A block that is no state has none.
+pub fn depth_kept(state: &[u32]) -> u32
+    ensures { λ r. ⌜ (length (now (state .entry)) ≡ stateWords → r ≡ memoryIn (now (state .entry)) .depth) ⌝ }
+    ensures { λ r. ⌜ ((length (now (state .entry)) ≡ stateWords → ⊥) → r ≡ 0) ⌝ }
+{
+    if state.len() != STATE_WORDS {
+        return 0;
+    }
+    state[DEPTH]
+}
+
 // Words 0 to 10: the state but its free nodes and rows, whatever the words are.
 pub fn head_in(block: &[u32]) -> State
     requires { ⌜ length (now block) ≡ stateWords ⌝ }

@@ -1,4 +1,4 @@
--- `call_start::start_refusal` meets its contract.
+-- `call_start::start_due` meets its contract.
 use mathlib.Core.Path.{_≡_, ap, sym, _∙_}
 use mathlib.Core.Bool.{Bool}
 use Prim.Native.Nat.{_<_}
@@ -16,8 +16,8 @@ use Rattle.call_start.proofs.StartLaws.{start-sized, due-early, due-lan
 use Rattle.call_change.proofs.UpdateLaws.{Landed, landed, land-refused, land-leaf}
 use Rattle.call_change.specs.Updates.{landing, startRoom}
 use borrow.Author.Needs.{needs}
-use Rattle.call_start.proofs.start_refusal.Statement.{statement}
-use Rattle.call_start.proofs.start_refusal.Tie as tie
+use Rattle.call_start.proofs.start_due.Statement.{statement}
+use Rattle.call_start.proofs.start_due.Tie as tie
 
 whole : (c : tie.Else1) → Sized (length (c .before .before .before .before .args .card .now)) (c .before .before .before .before .args .nodes)
 whole c =
@@ -25,19 +25,19 @@ whole c =
     start-sized (s .args .card .now) (s .args .nodes) (s .args .idle) (s .args .key) (sym (c .before .early-refusal .ensures) ∙ c .if1 .left)
 
 -- the walk ended at the leaf where the update lands
-lands : (c : tie.After-p) → landing (c .before .before .before .before .before .before .before .before .args .card .now)
+lands : (c : tie.After-position) → landing (c .before .before .before .before .before .before .before .before .args .card .now)
     (c .before .before .before .before .before .before .before .before .args .nodes)
-    (c .before .before .before .before .before .before .before .before .args .key) ≡ LandingAt (c .p .given .0 .0 .node)
-    (c .p .given .0 .0 .link) (runOver (c .before .before .before .before .before .before .before .before .args .card .now) 0
+    (c .before .before .before .before .before .before .before .before .args .key) ≡ LandingAt (c .position .given .0 .0 .node)
+    (c .position .given .0 .0 .link) (runOver (c .before .before .before .before .before .before .before .before .args .card .now) 0
     (way (c .before .before .before .before .before .before .before .before .args .card .now)
     (c .before .before .before .before .before .before .before .before .args .nodes)
     (c .before .before .before .before .before .before .before .before .args .key) .inner))
 unfolding way
 lands c =
     let s = c .before .before .before .before .before .before .before .before in
-    land-leaf (s .args .card .now) (s .args .nodes) (s .args .key) (c .p .given .0 .0) (sym (c .before .before .descend .ensures) ∙ c .p .given .1)
+    land-leaf (s .args .card .now) (s .args .nodes) (s .args .key) (c .position .given .0 .0) (c .position .given .0 .1 .0) (sym (c .before .before .descend .ensures) ∙ c .position .given .1)
 
-leaf : (c : tie.After-p) → Landed (c .before .before .before .before .before .before .before .before .args .nodes) (c .p .given .0 .0 .node) (c .p .given .0 .0 .link)
+leaf : (c : tie.After-position) → Landed (c .before .before .before .before .before .before .before .before .args .nodes) (c .position .given .0 .0 .node) (c .position .given .0 .0 .link)
 leaf c =
     let s = c .before .before .before .before .before .before .before .before in
     landed (s .args .card .now) (s .args .nodes) (s .args .key) _ _ _ (whole (c .before .before .before .before)) (lands c)
@@ -67,8 +67,8 @@ enum-told c = search needs
 enum-told-2 : tie.Need-enum-told-2
 enum-told-2 c = search needs
 
-enum-known-p : tie.Need-enum-known-p
-enum-known-p c = search needs
+enum-known-position : tie.Need-enum-known-position
+enum-known-position c = search needs
 
 has-room-where-requires : tie.Need-has-room-where-requires
 has-room-where-requires c κs =
@@ -109,8 +109,8 @@ returns-4 c =
     ∙ c .before .before .before .before .before .before .before .if1 .left)
     ∙ ap (λ (l : Landing). landingRefusal (room l) l) (lands (c .before .before .before)))
 
-pub start-refusal-spec : {M : Type 1} → statement M
-start-refusal-spec =
+pub start-due-spec : {M : Type 1} → statement M
+start-due-spec =
     tie.close
     (tie.spec
     early-refusal-requires
@@ -120,7 +120,7 @@ start-refusal-spec =
     descend-requires
     enum-told
     enum-told-2
-    enum-known-p
+    enum-known-position
     has-room-where-requires
     room-refusal-requires
     returns-2
