@@ -3,6 +3,7 @@ use mathlib.Core.Path.{_≡_, refl, ap, ap₂, sym, subst, _∙_}
 use mathlib.Core.List.{List}
 use mathlib.Core.Bool.{Bool, true, false, not}
 use mathlib.Core.Logic.{by-cases}
+use mathlib.Core.Option.{none}
 use Prim.Native.Nat.{ℕ, _-_, _≤_, _<_}
 use native.Mathlib.Omega.{arith}
 use native.Mathlib.Decide.{ℕ-discrete}
@@ -10,9 +11,10 @@ use lib.ListN.{length, set}
 use lib.Dec.{ltb, leb, eqb}
 use borrow.Author.Tests.{lt-ltb, le-ltb, le-leb, lt-leb, eqb-true, eqb-false, ne-eqb, eq-eqb}
 use Rattle.card.specs.Header.{nodesOfLength, headerRefusal, Sized}
-use Rattle.card.specs.Layout.{formattedRoot}
+use Rattle.card.specs.Layout.{depthLimit, formattedRoot}
 use Rattle.card.proofs.HeaderLaws.{nodes-sized}
-use Rattle.walk.specs.Descent.{slotOf, way, leafOf, depthOf}
+use Rattle.walk.specs.Descent.{slotOf, Way, way, reachedAt, leafOf, depthOf}
+use Rattle.walk.proofs.Along.{way-depth-le}
 use Rattle.card_free.specs.NodeSet.{allNodes, countTrue}
 use Rattle.laws.proofs.Cases.{bool-cases, order, impossible}
 use Rattle.laws.specs.Cases.{pick}
@@ -117,15 +119,26 @@ chain-taken false true true false e h m x p q = absurd (omega arith)
 chain-taken false true true true true h m x p q = absurd (omega arith)
 chain-taken false true true true false h m x p q = refl
 
-module _ (card : List ℕ) (nodes : ℕ) (idle : Bool) (key : ℕ) (room : Landing → Bool) where
-  pub due-early : (startRefusal card nodes idle key ≡ 0 → ⊥) → dueRefusal card nodes idle key room ≡ startRefusal card nodes idle key
-  due-early p = rw (ne-eqb (startRefusal card nodes idle key) 0 p) refl
-
+module _ (card : List ℕ) (nodes : ℕ) (idle : Bool) (key : ℕ) where
   pub depth-early : (startRefusal card nodes idle key ≡ 0 → ⊥) → dueDepth card nodes idle key ≡ 0
   depth-early p = rw (ne-eqb (startRefusal card nodes idle key) 0 p) refl
 
   pub depth-landing : startRefusal card nodes idle key ≡ 0 → dueDepth card nodes idle key ≡ depthOf (leafOf (way card nodes key))
   depth-landing z = rw (eq-eqb (startRefusal card nodes idle key) 0 z) refl
+
+-- "more than 10 internal nodes" are refused
+pub depth-bound : (card : List ℕ) (nodes : ℕ) (idle : Bool) (key : ℕ) → dueDepth card nodes idle key ≤ depthLimit
+depth-bound card nodes idle key =
+    bool-cases (eqb (startRefusal card nodes idle key) 0) (λ q. rw q (way-depth-le card nodes key)) (λ q. rw q (omega arith))
+
+-- a way that is refused tells none
+pub no-depth : (w : Way) → w .leaf ≡ none → depthOf (leafOf w) ≡ 0
+unfolding depthOf leafOf reachedAt
+no-depth w e = rw e refl
+
+module _ (card : List ℕ) (nodes : ℕ) (idle : Bool) (key : ℕ) (room : Landing → Bool) where
+  pub due-early : (startRefusal card nodes idle key ≡ 0 → ⊥) → dueRefusal card nodes idle key room ≡ startRefusal card nodes idle key
+  due-early p = rw (ne-eqb (startRefusal card nodes idle key) 0 p) refl
 
   pub due-landing : startRefusal card nodes idle key ≡ 0 → dueRefusal card nodes idle key room ≡ landingRefusal (room (landing card nodes key)) (landing card nodes key)
   due-landing z = rw (eq-eqb (startRefusal card nodes idle key) 0 z) refl
@@ -158,7 +171,7 @@ module _ (card : List ℕ) (m : Memory) (key : ℕ) (doing : Doing) (room : Land
       by-cases (ℕ-discrete (startRefusal card (m .nodes) (isIdle (m .doing)) key) 0)
       (λ z. start-taken z ∙ landed-due m doing _ (room (landing card (m .nodes) key)) (landing card (m .nodes) key)
       ∙ sym (ap₂ (λ (r depth : ℕ). begunBy r depth m doing)
-      (due-landing card (m .nodes) (isIdle (m .doing)) key room z) (depth-landing card (m .nodes) (isIdle (m .doing)) key room z)))
+      (due-landing card (m .nodes) (isIdle (m .doing)) key room z) (depth-landing card (m .nodes) (isIdle (m .doing)) key z)))
       (λ p. start-refused p ∙ sym (ap (λ (r : ℕ). begunBy r (dueDepth card (m .nodes) (isIdle (m .doing)) key) m doing)
       (due-early card (m .nodes) (isIdle (m .doing)) key room p)
       ∙ ap (λ (b : Bool). pick b (startAccepted m doing (dueDepth card (m .nodes) (isIdle (m .doing)) key))
