@@ -32,7 +32,8 @@ pub extern "C" fn ration_find(card: &[u32], key: u32) -> Reply
     ensures { λ r. ⌜ replyOf r ≡ withDepth (findDepth (now (card .entry)) key) (foundReply (findOf (now (card .entry)) key)) ⌝ }
 {
     let lookup = table::find_with_depth(card, key);
-    with_depth(found_reply(lookup.found), lookup.depth as u32)
+    let found = lookup.found;
+    with_depth(found_reply(found), lookup.depth as u32)
 }
 
 // "It reads the card only, like a find, and may come between steps."
@@ -41,7 +42,8 @@ pub extern "C" fn ration_next(card: &[u32], after: u32) -> Reply
     ensures { λ r. ⌜ replyOf r ≡ withDepth (nextDepth (now (card .entry)) after) (nextReply (nextOf (now (card .entry)) after)) ⌝ }
 {
     let next = table::next_with_depth(card, after);
-    with_depth(next_reply(next.successor), next.depth as u32)
+    let successor = next.successor;
+    with_depth(next_reply(successor), next.depth as u32)
 }
 
 // "Formatting needs no earlier state".
