@@ -28,7 +28,7 @@ fn found_in(node: &[u32], key: u32) -> Found
     }
 }
 
-// What a find answers, and beside it how many internal nodes its way passed; 0 where it is refused.
+// What a find answers, and beside it how many internal nodes its way passed; 0 where it is refused (document 02, W-203).
 pub struct Lookup {
     pub found: Found,
     pub depth: usize,
@@ -59,8 +59,8 @@ fn found_at(card: &[u32], n: usize, key: u32) -> Lookup
     }
 }
 
-// "A find is one call on the card alone; it may come between steps and answers by the map at that moment." "The walk down shall tell
-// that count, and find .. shall hand it on beside [its] answer."
+// "A find is one call on the card alone; it may come between steps and answers by the map at that moment." It hands on how
+// many internal nodes it passed.
 pub fn find_with_depth(card: &[u32], key: u32) -> Lookup
     ensures { λ r. ⌜ (r .found ≡ findOf (now (card .entry)) key) × (r .depth ≡ findDepth (now (card .entry)) key) × (r .depth ≤ depthLimit) ⌝ }
 {

@@ -118,7 +118,8 @@ reachedAt depth (some p) = ReachedLeaf (p .node) depth
 unfoldable pub leafOf : Way → Reached
 leafOf w = reachedAt (length (w .inner)) (w .leaf)
 
--- "The walk down shall tell that count": how many internal nodes the way passes, "tagged ones counted". "A refusal carries none": 0.
+-- Document 02, W-203: "The walk down shall tell that count": how many internal nodes the way passes, "tagged ones counted". "A refusal
+-- carries none": 0.
 unfoldable pub depthOf : Reached → ℕ
 depthOf NotReached = 0
 depthOf (ReachedLeaf m depth) = depth

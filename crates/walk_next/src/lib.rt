@@ -73,7 +73,7 @@ fn least_above(node: &[u32], after: u32) -> Least
 }
 
 // What the call answers, and beside it how many internal nodes the given number's own way passed, also where the answer is in the next
-// leaf; 0 where it is refused.
+// leaf; 0 where it is refused (document 02, W-203).
 pub struct NextPair {
     pub successor: Successor,
     pub depth: usize,
@@ -150,8 +150,7 @@ fn next_in(card: &[u32], n: usize, after: u32) -> NextPair
 }
 
 // "the call answers the pair with the smallest key greater than it, or none exactly when the table holds no such key. It reads the
-// card only, like a find, and may come between steps." "the next-number call shall hand it on beside [its] answer": how many internal
-// nodes the number's way passed.
+// card only, like a find, and may come between steps." It hands on how many internal nodes the number's own way passed.
 pub fn next_with_depth(card: &[u32], after: u32) -> NextPair
     ensures { λ r. ⌜ (r .successor ≡ nextOf (now (card .entry)) after) × (r .depth ≡ nextDepth (now (card .entry)) after) × (r .depth ≤ depthLimit) ⌝ }
 {
