@@ -114,9 +114,9 @@ static void check_result(replay *r, desk *d, ration_answer a, char *at, uint32_t
     }
     CHECK(a.code == code && a.value == value && a.key == key, "line %u: code %u value %u key %u, due %u %u %u", r->line,
           a.code, a.value, a.key, code, value, key);
-    if (r->depths && has_depth) {
-        CHECK(next_is(&at, "depth"), "line %u: no depth", r->line);
-        uint32_t depth = next_number(&at, 10);
+    if (r->depths) {
+        CHECK(!has_depth || next_is(&at, "depth"), "line %u: no depth", r->line);
+        uint32_t depth = has_depth ? next_number(&at, 10) : 0;
         CHECK(a.depth == depth, "line %u: depth %u, due %u", r->line, a.depth, depth);
     }
     if (*at != 0)
