@@ -35,6 +35,10 @@ unfoldable pub startAccepted : Memory → Doing → ℕ → Handed
 startAccepted m doing depth =
     record { begun = Started; memory = record { nodes = m .nodes; free = m .free; last = m .last; doing = doing; rest = m .rest; cut = m .cut; depth = depth } }
 
+-- those on the way of a key, for a state of so many nodes
+abbrev pub startDepth : List ℕ → Memory → ℕ → ℕ
+startDepth card m key = depthOf (leafOf (way card (m .nodes) key))
+
 -- "9: node number 0 or above N, kind not 1 to 3, no children, or more than 10 internal nodes"
 unfoldable pub startLanded : Memory → Doing → ℕ → Bool → Landing → Handed
 startLanded m doing depth room NoLanding = startRefused 9 m
@@ -45,7 +49,7 @@ unfoldable pub startChecked : List ℕ → Memory → ℕ → Doing → (Landing
 startChecked card m key doing room =
     pick (isIdle (m .doing))
     (pick (eqb key 0) (startRefused 6 m)
-    (startLanded m doing (depthOf (leafOf (way card (m .nodes) key))) (room (landing card (m .nodes) key)) (landing card (m .nodes) key)))
+    (startLanded m doing (startDepth card m key) (room (landing card (m .nodes) key)) (landing card (m .nodes) key)))
     (startRefused 7 m)
 
 unfoldable pub startOf : List ℕ → Memory → ℕ → Doing → (Landing → Bool) → Handed

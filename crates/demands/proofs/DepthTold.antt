@@ -1,21 +1,21 @@
 -- W-203, of the ration table: what is told beside the answers is the number of internal nodes on the number's way when the call began.
 use mathlib.Core.Path.{_≡_, refl, ap, sym, _∙_}
-use mathlib.Core.Bool.{Bool}
+use mathlib.Core.Bool.{Bool, true}
 use mathlib.Core.List.{List, [], _∷_}
 use mathlib.Core.Option.{Option, none, some}
 use Prim.Native.Nat.{ℕ, _<_}
 use native.Mathlib.Omega.{arith}
 use native.Mathlib.Decide.{ℕ-discrete}
-use lib.ListN.{length, drop}
+use lib.ListN.{length, getD, drop}
 use lib.Dec.{eqb, ltb}
 use Rattle.laws.proofs.Cases.{bool-cases}
 use Rattle.card.specs.Header.{nodesOfLength, cardRefusal, headerRefusal, Sized}
-use Rattle.card.specs.Layout.{rootPlace, depthLimit, keyLimit}
+use Rattle.card.specs.Layout.{rootPlace, depthLimit, keyLimit, nodeAt}
 use Rattle.card.specs.Replies.{Reply, started}
 use Rattle.card.specs.Stores.{Store}
 use Rattle.card.proofs.HeaderLaws.{sized-nodes}
 use Rattle.change_plan.specs.Planning.{Preparation, refused, balanced, prepared}
-use Rattle.walk.specs.Descent.{way, rootPosition, leafOf, depthOf}
+use Rattle.walk.specs.Descent.{way, rootPosition, leafOf, depthOf, slotOf}
 use Rattle.walk.specs.declared.Landing.{Landing}
 use Rattle.walk.specs.declared.Landing.the-variants.{Refused as NoLanding, Leaf as LandingAt}
 use Rattle.walk.specs.declared.Reached.{Reached}
@@ -34,11 +34,13 @@ use Rattle.state.specs.Steps.{heldBy, Step, Handed, isIdle, stepRefused, stepFi
 use Rattle.state.specs.declared.Answer.{Answer}
 use Rattle.state.specs.declared.Answer.the-variants.{Stored, Ready, Absent, Value, Refused}
 use Rattle.state.specs.declared.Doing.{Doing}
+use Rattle.state.specs.declared.Doing.the-variants.{Inserting, Deleting}
+use Rattle.state.specs.declared.Phase.the-variants.{NotBegun}
 use Rattle.state.specs.declared.Held.{Held}
 use Rattle.state.specs.declared.Held.the-variants.{Nothing, Formatting, Task as HeldTask}
 use Rattle.state.specs.declared.Task.{Task}
-use Rattle.call_change.specs.Updates.{landing}
-use Rattle.call_start.specs.Starts.{startRefused, startAccepted, startLanded, startChecked, startOf, insertOf, deleteOf}
+use Rattle.call_change.specs.Updates.{startRoom}
+use Rattle.call_start.specs.Starts.{startAccepted, startDepth, startOf, insertOf, deleteOf}
 use Rattle.call_step.specs.Calls.{planning, stepPrepared, stepBegin, stepTask, stepChecked, stepHeld, stepOf}
 use Rattle.call_step.proofs.StepLaws.{step-sized, step-unsized}
 use Rattle.theory_tree.specs.Passed.{passedIn}
@@ -61,7 +63,10 @@ use Rattle.demands.proofs.Invariant.{Table}
 use Rattle.demands.proofs.PowerCuts.{Covered, always}
 use Rattle.demands.proofs.PowerLoss.{insert-same, delete-same}
 use Rattle.demands.proofs.Reopen.{table-depth-limited, card-accepted, well-formed-table}
-use Rattle.demands.proofs.ReplyLaws.{code-of}
+use Rattle.demands.proofs.AnswerNumbers.{start-small, SmallAnswer, step-small}
+use Rattle.demands.proofs.ReplyLaws.{code-of, begun-started}
+use Rattle.demands.proofs.Starting.{nodes-same}
+use Rattle.demands.proofs.StartRows.{started-is}
 
 -- what the step on this card and state tells
 abbrev pub stepDepth : List ℕ → Memory → ℕ
@@ -162,20 +167,97 @@ run-keeps (delete key ∷ qs) w u = run-keeps qs (happens rationTable (delete ke
 run-keeps (step ∷ qs) w u = run-keeps qs (happens rationTable step w) (u .1) ∙ step-keeps (w .card) (w .state)
 run-keeps (cut ∷ qs) w u = absurd (u .0)
 
--- ---- a start that works keeps the depth of its key's way
+-- ---- the final answer tells it
 
-code-not : (r s : Reply) → r ≡ s → (r .code ≡ s .code → ⊥) → ⊥
-code-not r s e n = n (ap (λ (x : Reply). x .code) e)
+told-final : (depth : ℕ) (a : Answer) (held : Option ℕ) → SmallAnswer a → stepReply a ≡ dictionary held → toldDepth depth a ≡ depth
+unfolding stepReply toldDepth dictionary
+told-final depth (Stored place) none s e = absurd (omega (arith, code-of e))
+told-final depth (Stored place) (some v) s e = absurd (omega (arith, code-of e))
+told-final depth Ready none s e = absurd (omega (arith, code-of e))
+told-final depth Ready (some v) s e = absurd (omega (arith, code-of e))
+told-final depth Absent held s e = refl
+told-final depth (Value v) held s e = refl
+told-final depth (Refused r) none s e = absurd (omega (arith, s, code-of e))
+told-final depth (Refused r) (some v) s e = absurd (omega (arith, s, code-of e))
 
--- a refusal is not "started"
-Starts : Handed → ℕ → Type 0
-Starts h depth = startReply (h .begun) ≡ started → h .memory .depth ≡ depth
+-- and no other answer does
+told-others : (depth : ℕ) (a : Answer) → ((held : Option ℕ) → stepReply a ≡ dictionary held → ⊥) → toldDepth depth a ≡ 0
+unfolding stepReply toldDepth dictionary
+told-others depth (Stored place) n = refl
+told-others depth Ready n = refl
+told-others depth Absent n = absurd (n none refl)
+told-others depth (Value v) n = absurd (n (some v) refl)
+told-others depth (Refused r) n = refl
 
-module _ (c : List ℕ) (m : Memory) (key : ℕ) (doing : Doing) where
-  abbrev here : ℕ
-  here = depthOf (leafOf (way c (m .nodes) key))
+-- ---- an update tells the depth that its start kept
 
-  landed-tells : (room : Bool) (l : Landing) → ((r : ℕ) → r < 64 → Starts (startRefused r m) here) → Starts (startLanded m doing here room l) here
-  unfolding startLanded startAccepted
-  landed-tells room NoLanding no = no 9 (omega arith)
-  landed-tells room (LandingAt node link run) no = bool-cases room (λ q. rw q (λ e. refl)) (λ q. rw q (no 8 (omega arith)))
+module _ (w : World rationTable) (b : Book) (v : Covered w b) where
+  -- the depth of the key's way on the card as it is now
+  now-passed : (t : Tree) → WellFormed (w .card) t → (key : ℕ) → startDepth (w .card) (w .state) key ≡ passedIn key t
+  now-passed t k key =
+      ap (λ (n : ℕ). depthOf (leafOf (way (w .card) n key))) (nodes-same (v .size) (v .steps) w b (v .inv)) ∙ passes (w .card) (v .size) t (standing w b v t k) key
+
+  -- after a start that works, whatever calls come before the final answer
+  begun-tells : (key : ℕ) (doing : Doing) (room : Landing → Bool) (t : Tree) → WellFormed (w .card) t
+      → startReply (startOf (w .card) (w .state) key doing room .begun) ≡ started
+      → (u : World rationTable) → u ≡ record { card = w .card; state = startOf (w .card) (w .state) key doing room .memory }
+      → (qs : List Event) → LeftUncut rationTable qs u → (held : Option ℕ) → replyTo rationTable step (run rationTable qs u) ≡ dictionary held
+      → stepDepth (run rationTable qs u .card) (run rationTable qs u .state) ≡ passedIn key t
+  unfolding startAccepted replyTo
+  begun-tells key doing room t k e u is qs left held r =
+      let is-started = begun-started (startOf (w .card) (w .state) key doing room .begun) (start-small (w .card) (w .state) key doing room) e in
+      let kept : u .state .depth ≡ startDepth (w .card) (w .state) key = ap (λ (x : World rationTable). x .state .depth) is
+      ∙ ap (λ (h : Handed). h .memory .depth) (started-is (w .card) (w .state) doing room key is-started) in
+      told-final _ _ held (step-small (run rationTable qs u .card) (run rationTable qs u .state)) r
+      ∙ run-keeps qs u left ∙ kept ∙ now-passed t k key
+
+-- ---- "A refusal carries none"
+
+found-not : (node : List ℕ) (s : Slot) → IsRefused (foundReply (foundIn node s)) → ⊥
+unfolding foundReply foundIn
+found-not node (At i) h = omega arith
+found-not node NoSlot h = omega arith
+
+refused-depth : (c : List ℕ) (key : ℕ) (x : Reached) → IsRefused (foundReply (foundAt c key x)) → depthOf x ≡ 0
+unfolding foundAt depthOf
+refused-depth c key NotReached h = refl
+refused-depth c key (ReachedLeaf m depth) h = absurd (found-not (nodeAt c m) (slotOf (nodeAt c m) key) h)
+
+carried-none : (depth : ℕ) (s : Successor) → IsRefused (nextReply s) → carried depth s ≡ 0
+unfolding carried nextReply
+carried-none depth (Pair key value) h = absurd (omega arith)
+carried-none depth NoNext h = absurd (omega arith)
+carried-none depth (NextRefused r) h = refl
+
+find-refused : (c : List ℕ) (key : ℕ) → IsRefused (foundReply (findOf c key)) → findDepth c key ≡ 0
+unfolding findOf findDepth
+find-refused c key =
+    bool-cases (eqb (cardRefusal c) 0)
+    (λ q. bool-cases (eqb key 0) (λ z. rw (q, z) (λ h. refl)) (λ z. rw (q, z) (at (leafOf (way c (nodesOfLength (length c)) key)))))
+    (λ q. rw q (λ h. refl))
+  where
+    at : (x : Reached) → IsRefused (foundReply (foundAt c key x)) → depthOf x ≡ 0
+    at x h = refused-depth c key x h
+
+next-refused : (c : List ℕ) (number : ℕ) → IsRefused (nextReply (nextOf c number)) → nextDepth c number ≡ 0
+unfolding nextDepth
+next-refused c number = at (nextOf c number)
+  where
+    at : (s : Successor) → IsRefused (nextReply s) → carried (depthOf (leafOf (way c (nodesOfLength (length c)) number))) s ≡ 0
+    at s h = carried-none _ s h
+
+pub w-203 : W203 rationTable findDepth nextDepth stepDepth
+unfolding happens insertOf deleteOf replyTo
+w-203 =
+    record {
+      finds = always (λ w b. (t : Tree) → WellFormed (w .card) t → (key : ℕ) → 0 < key → key < keyLimit → findDepth (w .card) key ≡ passedIn key t) find-tells;
+      nexts = always (λ w b. (t : Tree) → WellFormed (w .card) t → (number : ℕ) → number < keyLimit → nextDepth (w .card) number ≡ passedIn number t) next-tells;
+      inserts = always (λ w b. (key value : ℕ) → key < keyLimit → TellsStart rationTable stepDepth (insert key value) key w)
+          (λ w b v key value high t k e qs left held r. begun-tells w b v key (Inserting key value NotBegun) (startRoom (w .card) key (w .state .free)) t k e _ refl qs left held r);
+      deletes = always (λ w b. (key : ℕ) → key < keyLimit → TellsStart rationTable stepDepth (delete key) key w)
+          (λ w b v key high t k e qs left held r. begun-tells w b v key (Deleting key NotBegun 0) (λ l. true) t k e _ refl qs left held r);
+      find-refused = find-refused;
+      next-refused = next-refused;
+      others = λ c m n. told-others (m .depth) (stepOf c m .answer) n;
+      rests = always (λ w b. Idle rationTable (w .state) → (l : Line (w .card) (b .held)) → (key : ℕ) → 0 < key → key < keyLimit → findDepth (w .card) key ≡ l .depth) rest-tells;
+    }

@@ -178,17 +178,17 @@ module _ (c : List ℕ) (m : Memory) where
 
   -- ---- a start, refused or not, keeps the node given last
 
-  landed-last : (doing : Doing) (room : Bool) (l : Landing) → startLanded m doing room l .memory .last ≡ m .last
+  landed-last : (doing : Doing) (depth : ℕ) (room : Bool) (l : Landing) → startLanded m doing depth room l .memory .last ≡ m .last
   unfolding startLanded startRefused startAccepted
-  landed-last doing room NoLanding = refl
-  landed-last doing room (LandingAt node link run) = bool-cases room (λ q. rw q) (λ q. rw q)
+  landed-last doing depth room NoLanding = refl
+  landed-last doing depth room (LandingAt node link run) = bool-cases room (λ q. rw q) (λ q. rw q)
 
   start-last : (key : ℕ) (doing : Doing) (room : Landing → Bool) → startOf c m key doing room .memory .last ≡ m .last
   unfolding startOf startChecked startRefused
   start-last key doing room =
       bool-cases (eqb (nodesOfLength (length c)) 0) (λ q. rw q) (λ q. bool-cases (eqb (nodesOfLength (length c)) (m .nodes))
       (λ q₁. bool-cases (eqb (headerRefusal c (m .nodes)) 0)
-      (λ q₂. bool-cases (isIdle (m .doing)) (λ q₃. bool-cases (eqb key 0) (λ q₄. rw (q, q₁, q₂, q₃, q₄)) (λ q₄. rw (q, q₁, q₂, q₃, q₄) (landed-last doing _ _))) (λ q₃. rw (q, q₁, q₂, q₃)))
+      (λ q₂. bool-cases (isIdle (m .doing)) (λ q₃. bool-cases (eqb key 0) (λ q₄. rw (q, q₁, q₂, q₃, q₄)) (λ q₄. rw (q, q₁, q₂, q₃, q₄) (landed-last doing _ _ _))) (λ q₃. rw (q, q₁, q₂, q₃)))
       (λ q₂. rw (q, q₁, q₂)))
       (λ q₁. rw (q, q₁)))
 

@@ -145,7 +145,7 @@ module _ (n steps : ℕ) (c : List ℕ) (t : Tree) (b : Table c n t) (o : Openab
       → Job Decided doing key due u → Entered u h → tableViolations t ≡ 0 → 3 ≤ countTrue free → Exact n free t → bare t ≡ goal
       → Goal (memory n free last depth doing [] []) h due
   unfolding idled outcome stepReply fedStep
-  ended {doing} {key} {due} {u} {h} free last j en z r x eg =
+  ended {doing} {key} {due} {u} {h} free last depth j en z r x eg =
       final-goal (memory n free last depth doing [] []) (memory n free last depth Idle [] []) due h due
       (step-repairs c n (b .sized) (b .header) free last depth j
       ∙ prepared-ready c (memory n free last depth doing [] []) doing due (nextRepair c n key free last) (rests c n key t free last b z)) refl
@@ -175,7 +175,7 @@ module _ (n steps : ℕ) (c : List ℕ) (t : Tree) (b : Table c n t) (o : Openab
       doing key due u → Entered u h → Mendable key free t deep → Exact n free t → 73 * deep + 1 ≤ suc steps → Heads deep (bare t) goal
       → Goal (memory n free last depth doing [] []) h due
   repaired free last depth deep j en (settled z r) x few hd = ended free last depth j en z r x (heads-done hd (bare-table-violations t ∙ z))
-  repaired {doing} {key} {due} {u} {h} free last deep j en (violated v w r) x few hd = apply (mends c n key t free last b x v w r)
+  repaired {doing} {key} {due} {u} {h} free last depth deep j en (violated v w r) x few hd = apply (mends c n key t free last b x v w r)
     where
       apply : Repaired c n key t free last (depthOf (v .context)) → Goal (memory n free last depth doing [] []) h due
       apply q = split (q .stores) refl
@@ -191,7 +191,7 @@ module _ (n steps : ℕ) (c : List ℕ) (t : Tree) (b : Table c n t) (o : Openab
               (step-repairs c n (b .sized) (b .header) free last depth j ∙ prepared-first c (memory n free last depth doing [] []) doing due
               (nextRepair c n key free last) s rest (q .free-then) (q .last-then) (q .cut) k (first-storable (p .0 .plays) .inside))
               (busy-after n (q .free-then) (q .last-then) depth [] (q .cut) (job-busy j) rest)
-              (rw (g .1) (repair-stored (q .last-then) steps [] l b same j (g .2) (p .0) (record { totals = p .1 }) (omega (arith, p .2))
+              (rw (g .1) (repair-stored (q .last-then) depth steps [] l b same j (g .2) (p .0) (record { totals = p .1 }) (omega (arith, p .2))
               (heads-on (p .0 .level) (bare (p .0 .next)) hd (bare-table-violations t ∙ w) (p .2) (p .3))))
 
   -- the first store of an update's first change
