@@ -244,13 +244,13 @@ module _ (block : List ℕ) (l : length block ≡ stateWords) (doing : Doing) (r
   unfolding startAccepted startedBlock withDoing withDepth
   started-in after z e =
       rw (eq-eqb refusal 0 z) (
-        record {
-          answered = λ k. refl;
-          handed = λ k. ap memoryIn e ∙ memory-deep (begunBlock block doing) depth (begun-length block doing l)
-              ∙ ap (λ (m : Memory). withDepth m depth) (memory-begun block doing (omega arith));
-          words = λ k. e;
-          no-state = λ n. absurd (n l);
-        }
+      record {
+        answered = λ k. refl;
+        handed = λ k. ap memoryIn e ∙ memory-deep (begunBlock block doing) depth (begun-length block doing l)
+            ∙ ap (λ (m : Memory). withDepth m depth) (memory-begun block doing (omega arith));
+        words = λ k. e;
+        no-state = λ n. absurd (n l);
+      }
       )
 
 -- ---- starting to format

@@ -114,14 +114,7 @@ pub struct Due {
 
 // The early refusals, then "9: node number 0 or above N, kind not 1 to 3, no children, or more than 10 internal nodes", then 8. `splits`
 // says whether the update may split its leaf.
-fn start_due(
-    card: &[u32],
-    nodes: usize,
-    idle: bool,
-    free: &[u32],
-    key: u32,
-    splits: bool,
-) -> Due
+fn start_due(card: &[u32], nodes: usize, idle: bool, free: &[u32], key: u32, splits: bool) -> Due
     requires { ⌜ length (now free) ≡ wordCount ⌝ }
     ensures { λ r. ⌜ r .refusal ≡ dueRefusal (now (card .entry)) nodes idle key (roomWhere splits (now (card .entry)) key (nodesOf (now (free .entry)))) ⌝ }
     ensures { λ r. ⌜ r .depth ≡ dueDepth (now (card .entry)) nodes idle key ⌝ }

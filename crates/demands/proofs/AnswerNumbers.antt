@@ -86,7 +86,8 @@ start-small c m key doing room =
     bool-cases (eqb (nodesOfLength (length c)) (m .nodes)) (λ q₁.
     bool-cases (eqb (headerRefusal c (m .nodes)) 0) (λ q₂.
     bool-cases (isIdle (m .doing)) (λ q₃.
-    bool-cases (eqb key 0) (λ q₄. rw (q, q₁, q₂, q₃, q₄) (omega arith)) (λ q₄. rw (q, q₁, q₂, q₃, q₄) (landed-small m doing (startDepth c m key) (room (landing c (m .nodes) key)) (landing c (m .nodes) key))))
+    bool-cases (eqb key 0) (λ q₄. rw (q, q₁, q₂, q₃, q₄) (omega arith))
+    (λ q₄. rw (q, q₁, q₂, q₃, q₄) (landed-small m doing (startDepth c m key) (room (landing c (m .nodes) key)) (landing c (m .nodes) key))))
     (λ q₃. rw (q, q₁, q₂, q₃) (omega arith))) (λ q₂. rw (q, q₁, q₂) (header-small c (m .nodes)))) (λ q₁. rw (q, q₁) (omega arith)))
 
 abbrev pub SmallFound : Found → Type 0

@@ -1,23 +1,21 @@
 -- W-203, of the ration table: what is told beside the answers is the number of internal nodes on the number's way when the call began.
-use mathlib.Core.Path.{_≡_, refl, ap, sym, _∙_}
+use mathlib.Core.Path.{_≡_, refl, ap, _∙_}
 use mathlib.Core.Bool.{Bool, true}
 use mathlib.Core.List.{List, [], _∷_}
 use mathlib.Core.Option.{Option, none, some}
 use Prim.Native.Nat.{ℕ, _<_}
 use native.Mathlib.Omega.{arith}
-use native.Mathlib.Decide.{ℕ-discrete}
 use lib.ListN.{length, getD, drop}
 use lib.Dec.{eqb, ltb}
 use Rattle.laws.proofs.Cases.{bool-cases}
 use Rattle.card.specs.Header.{nodesOfLength, cardRefusal, headerRefusal, Sized}
 use Rattle.card.specs.Layout.{rootPlace, depthLimit, keyLimit, nodeAt}
-use Rattle.card.specs.Replies.{Reply, started}
+use Rattle.card.specs.Replies.{started}
 use Rattle.card.specs.Stores.{Store}
 use Rattle.card.proofs.HeaderLaws.{sized-nodes}
 use Rattle.change_plan.specs.Planning.{Preparation, refused, balanced, prepared}
 use Rattle.walk.specs.Descent.{way, rootPosition, leafOf, depthOf, slotOf}
 use Rattle.walk.specs.declared.Landing.{Landing}
-use Rattle.walk.specs.declared.Landing.the-variants.{Refused as NoLanding, Leaf as LandingAt}
 use Rattle.walk.specs.declared.Reached.{Reached}
 use Rattle.walk.specs.declared.Reached.the-variants.{Refused as NotReached, Leaf as ReachedLeaf}
 use Rattle.walk.specs.declared.Slot.{Slot}
@@ -30,7 +28,7 @@ use Rattle.walk_next.specs.declared.Successor.{Successor}
 use Rattle.walk_next.specs.declared.Successor.the-variants.{Pair, Nothing as NoNext, Refused as NextRefused}
 use Rattle.state.specs.Answers.{stepReply, toldDepth, startReply}
 use Rattle.state.specs.Memory.{Memory, idled, advanced}
-use Rattle.state.specs.Steps.{heldBy, Step, Handed, isIdle, stepRefused, stepFinal, stepFormat, stepStore, formattingFrom}
+use Rattle.state.specs.Steps.{heldBy, Step, Handed, stepRefused, stepFinal, stepFormat, stepStore, formattingFrom}
 use Rattle.state.specs.declared.Answer.{Answer}
 use Rattle.state.specs.declared.Answer.the-variants.{Stored, Ready, Absent, Value, Refused}
 use Rattle.state.specs.declared.Doing.{Doing}

@@ -206,7 +206,8 @@ module _ (n steps : ℕ) (w : World rationTable) (b : Book) (i : Inv n steps w b
 
   -- on an idle state nothing but the room decides
   pub room-decides : (key : ℕ) (doing : Doing) (room : Landing → Bool) → w .state .doing ≡ Idle → lowestKey ≤ key → key < keyLimit
-      → startOf (w .card) (w .state) key doing room ≡ pick (room (landing (w .card) (w .state .nodes) key)) (startAccepted (w .state) doing (startDepth (w .card) (w .state) key)) (startRefused 8 (w .state))
+      → startOf (w .card) (w .state) key doing room ≡ pick (room (landing (w .card) (w .state .nodes) key))
+      (startAccepted (w .state) doing (startDepth (w .card) (w .state) key)) (startRefused 8 (w .state))
   room-decides key doing room idle low high =
       let g = lands key low high in
       passed key doing room ∙ start-landed (w .card) (w .state) key doing room (g .0) (g .1) (g .2) (is-idle idle) (omega arith) (g .3)
@@ -248,4 +249,6 @@ module _ (n steps : ℕ) (w : World rationTable) (b : Book) (i : Inv n steps w b
       → (k : ℕ) × (j : Inv n k (happens rationTable (delete key) w) (feed (told rationTable (delete key) w) b))
       × Fresh (remove key) (deleteOf (w .card) (w .state) key) i j
   unfolding happens told replyTo deleteOf
-  kept-delete key high = start-with key (Deleting key NotBegun 0) (λ l. true) (remove key) high (λ free last em z r x eg low q. remove-started w b i free last key em z r x eg low high (startDepth (w .card) (w .state) key))
+  kept-delete key high =
+      start-with key (Deleting key NotBegun 0) (λ l. true) (remove key) high
+      (λ free last em z r x eg low q. remove-started w b i free last key em z r x eg low high (startDepth (w .card) (w .state) key))

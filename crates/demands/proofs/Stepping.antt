@@ -360,7 +360,8 @@ module _ (n steps : ℕ) (c : List ℕ) (t : Tree) (b : Table c n t) (o : Openab
   remove-answers free last depth key z r x g e eg =
       let m = memory n free last depth (Deleting key NotBegun 0) [] [] in
       let none-there : lookup key (pairs t) ≡ none = sym (g .answers) ∙ ap (slotAnswer (nodeAt c (g .number))) e in
-      final-goal (memory n free last depth (Deleting key NotBegun 0) [] []) (memory n free last depth Idle [] []) Absent (takenUp (toldOf (remove key) c goesOn)) (dictionaryAnswer (lookup key (pairs t)))
+      final-goal (memory n free last depth (Deleting key NotBegun 0) [] []) (memory n free last depth Idle [] []) Absent
+      (takenUp (toldOf (remove key) c goesOn)) (dictionaryAnswer (lookup key (pairs t)))
       (step-removes c n (b .sized) (b .header) free last depth key ∙ remove-absent c n key (g .number) (linkPlace (g .context))
       (fullRun (g .context)) (landed key g) 0 free last m e ∙ prepared-ready c m (Deleting key InHand 0) Absent balanced refl)
       refl tt
@@ -434,7 +435,8 @@ module _ (n steps : ℕ) (c : List ℕ) (t : Tree) (b : Table c n t) (o : Openab
           split (s ∷ rest) q =
               let l₁ : suc (length rest) ≡ 73 = sym (ap length q) ∙ count in
               let p₁ : First c n key t (s ∷ rest) (withoutAll ms free) (g .number ∷ []) (put key value) (depthOf (g .context)) = rw (g .is-tree, q) at p in
-              first-made _ (memory n free last depth (Inserting key value NotBegun) [] []) _ s rest (withoutAll ms free) (lastOf last ms) (g .number ∷ []) (depthOf (g .context)) refl (job-insert in-hand)
+              first-made _ (memory n free last depth (Inserting key value NotBegun) [] []) _ s rest
+              (withoutAll ms free) (lastOf last ms) (g .number ∷ []) (depthOf (g .context)) refl (job-insert in-hand)
               (step-puts c n (b .sized) (b .header) free last depth key value
               ∙ put-full c n key (g .number) (linkPlace (g .context)) (fullRun (g .context)) (landed key g) value free last (memory n free last depth (Inserting key value NotBegun) [] []) e e₀)
               (planned-as ms e₁ ∙ ap (λ (q : List Store). prepared q (withoutAll ms free) (lastOf last ms) (g .number ∷ [])) q) p₁ l₁ (omega arith) (way-limited key g) reach

@@ -7,7 +7,6 @@ use mathlib.Core.List.{List}
 use Prim.Native.Nat.{ℕ}
 use lib.ListN.{length}
 use Rattle.card.specs.Replies.{noState}
-use Rattle.state.specs.Memory.{Memory}
 use Rattle.state.specs.Steps.{Handed}
 use Rattle.state.specs.declared.Doing.{Doing}
 use Rattle.state.specs.declared.Begun.{Begun}

@@ -68,13 +68,7 @@ fn feed_store(card: &Words, old: &mut Words, row: &mut [u64; 8], place: usize) {
     set_word(old, place, word(card, place));
 }
 
-fn feed_answer(
-    card: &Words,
-    old: &mut Words,
-    row: &mut [u64; 8],
-    answer: Answer,
-    depth: u32,
-) {
+fn feed_answer(card: &Words, old: &mut Words, row: &mut [u64; 8], answer: Answer, depth: u32) {
     match answer {
         Answer::Stored(place) => feed_store(card, old, row, place as usize),
         Answer::Ready => feed(row, 9),

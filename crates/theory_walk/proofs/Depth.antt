@@ -11,15 +11,14 @@ use lib.Dec.{ltb}
 use Rattle.laws.proofs.Cases.{bool-cases, impossible}
 use Rattle.walk.specs.Descent.{Way, past, wayFrom, reachedAt, leafOf}
 use Rattle.walk.specs.declared.Position.{Position}
-use Rattle.walk.specs.declared.Reached.{Reached}
-use Rattle.walk.specs.declared.Reached.the-variants.{Refused as NotReached, Leaf as ReachedLeaf}
+use Rattle.walk.specs.declared.Reached.the-variants.{Leaf as ReachedLeaf}
 use Rattle.theory_walk.proofs.Way.{way-at-leaf, way-child}
 use Rattle.theory_tree.proofs.Pairs.{child, depth, child-depth, child-represents}
 use Rattle.theory_tree.specs.Height.{Height, AllHeight}
 use Rattle.theory_tree.specs.Passed.{passedIn, passedAmong}
 use Rattle.theory_tree.specs.Represent.{Represents}
 use Rattle.theory_tree.specs.Tree.{Tree, Forest, root, leaf, node, one, more}
-use Rattle.theory_tree.specs.Violations.{few, violations, forestViolations, RootOk, tableViolations}
+use Rattle.theory_tree.specs.Violations.{violations, forestViolations, RootOk, tableViolations}
 
 -- through the child that the number takes
 passed-child : (key : ℕ) (f : Forest) → passedAmong key f ≡ passedIn key (child key f)
@@ -43,11 +42,10 @@ module _ (c : List ℕ) (n key : ℕ) (len : length c ≡ 8 + 24 * n) where
   way-depth zero (node m g f) r deep p e = absurd (omega arith)
   way-depth (suc levels) (leaf m ks vs) r deep p e = (p .node, ap leafOf (way-at-leaf c n key len (suc levels) m ks vs r p e))
   way-depth (suc levels) (node m g f) r deep p e =
-      let below = way-depth levels (child key f) (child-represents c key f (r .1)) (omega (arith, child-depth key f)) _ refl in
-      (
+      let below = way-depth levels (child key f) (child-represents c key f (r .1)) (omega (arith, child-depth key f)) _ refl in (
         below .0,
         ap leafOf (way-child c n key len levels m g f r p e) ∙ past-reached p _ (below .0) (passedIn key (child key f)) (below .1)
-        ∙ ap (λ (d : ℕ). ReachedLeaf (below .0) (suc d)) (sym (passed-child key f)),
+            ∙ ap (λ (d : ℕ). ReachedLeaf (below .0) (suc d)) (sym (passed-child key f)),
       )
 
 -- ---- a tree without tagged nodes: the way passes a node of each level

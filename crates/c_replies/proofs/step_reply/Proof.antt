@@ -58,11 +58,15 @@ returns-2 c = c .plain .ensures ∙ ap (said (c .before .before .before .args .d
 
 returns-3 : tie.Need-returns-3
 unfolding stepReply toldDepth
-returns-3 c = c .with-depth .ensures ∙ ap (withDepth (c .before .before .before .before .args .depth)) (c .before .plain2 .ensures) ∙ ap (said (c .before .before .before .before .args .depth)) (sym (c .before .before .enum-told2 .given .1))
+returns-3 c =
+    c .with-depth .ensures ∙ ap (withDepth (c .before .before .before .before .args .depth)) (c .before .plain2 .ensures)
+    ∙ ap (said (c .before .before .before .before .args .depth)) (sym (c .before .before .enum-told2 .given .1))
 
 returns-4 : tie.Need-returns-4
 unfolding stepReply toldDepth
-returns-4 c = c .with-depth2 .ensures ∙ ap (withDepth (c .before .before .before .before .before .args .depth)) (c .before .valued2 .ensures) ∙ ap (said (c .before .before .before .before .before .args .depth)) (sym (c .before .before .before .answer2 .given .1))
+returns-4 c =
+    c .with-depth2 .ensures ∙ ap (withDepth (c .before .before .before .before .before .args .depth)) (c .before .valued2 .ensures)
+    ∙ ap (said (c .before .before .before .before .before .args .depth)) (sym (c .before .before .before .answer2 .given .1))
 
 returns-5 : tie.Need-returns-5
 unfolding stepReply toldDepth

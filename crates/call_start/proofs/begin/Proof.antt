@@ -1,10 +1,9 @@
 -- `call_start::begin` meets its contract.
-use mathlib.Core.Path.{ap, _∙_}
+use mathlib.Core.Path.{ap}
 use mathlib.Core.List.{List}
 use native.Mathlib.Omega.{arith}
 use Prim.Native.Nat.{ℕ}
 use lib.ListN.{set}
-use Rattle.state.proofs.Blocks.{begun-length}
 use Rattle.call_start.proofs.StartLaws.{start-refused-in, started-in}
 use borrow.Author.Needs.{needs}
 use Rattle.call_start.proofs.begin.Statement.{statement}

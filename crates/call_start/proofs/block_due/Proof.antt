@@ -34,13 +34,12 @@ returns : tie.Need-returns
 unfolding memoryIn
 returns c =
     let s = c .before .before .before .before .before .before .before in
-    let idle = c .before .before .is-idle .ensures .0 (s .pre) in
-    (
+    let idle = c .before .before .is-idle .ensures .0 (s .pre) in (
       c .start-due .ensures .0 ∙ ap₂ (λ (n : ℕ) (idle : Bool). dueRefusal (s .args .card .now) n idle (s .args .key)
-      (roomWhere (s .args .splits) (s .args .card .now) (s .args .key) (nodesOf (part (s .args .state .now) 11 20))))
-      (c .before .before .before .wide .ensures) idle,
+          (roomWhere (s .args .splits) (s .args .card .now) (s .args .key) (nodesOf (part (s .args .state .now) 11 20))))
+          (c .before .before .before .wide .ensures) idle,
       c .start-due .ensures .1 ∙ ap₂ (λ (n : ℕ) (idle : Bool). dueDepth (s .args .card .now) n idle (s .args .key))
-      (c .before .before .before .wide .ensures) idle,
+          (c .before .before .before .wide .ensures) idle,
     )
 
 pub block-due-spec : {M : Type 1} → statement M

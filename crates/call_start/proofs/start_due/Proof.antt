@@ -48,10 +48,9 @@ early-refusal-requires c κs = search needs
 returns : tie.Need-returns
 returns c =
     let s = c .before .before .before .before in
-    let room = roomWhere (s .args .splits) (s .args .card .now) (s .args .key) (nodesOf (s .args .free .now)) in
-    (
+    let room = roomWhere (s .args .splits) (s .args .card .now) (s .args .key) (nodesOf (s .args .free .now)) in (
       c .before .early-refusal .ensures
-      ∙ sym (due-early (s .args .card .now) (s .args .nodes) (s .args .idle) (s .args .key) room (λ z. c .if1 .taken (c .before .early-refusal .ensures ∙ z))),
+          ∙ sym (due-early (s .args .card .now) (s .args .nodes) (s .args .idle) (s .args .key) room (λ z. c .if1 .taken (c .before .early-refusal .ensures ∙ z))),
       sym (depth-early (s .args .card .now) (s .args .nodes) (s .args .idle) (s .args .key) (λ z. c .if1 .taken (c .before .early-refusal .ensures ∙ z))),
     )
 
@@ -91,11 +90,10 @@ returns-2 c =
     let s = c .before .before .before .before .before .before .before .before in
     let room = roomWhere (s .args .splits) (s .args .card .now) (s .args .key) (nodesOf (s .args .free .now)) in
     let none = sym (c .before .before .before .before .before .early-refusal .ensures) ∙ c .before .before .before .before .if1 .left in
-    let ends = sym (c .before .before .descend .ensures) ∙ c .enum-told .given .1 in
-    (
+    let ends = sym (c .before .before .descend .ensures) ∙ c .enum-told .given .1 in (
       sym
-      (due-landing (s .args .card .now) (s .args .nodes) (s .args .idle) (s .args .key) room none
-      ∙ ap (λ (l : Landing). landingRefusal (room l) l) (land-refused (s .args .card .now) (s .args .nodes) (s .args .key) ends)),
+          (due-landing (s .args .card .now) (s .args .nodes) (s .args .idle) (s .args .key) room none
+          ∙ ap (λ (l : Landing). landingRefusal (room l) l) (land-refused (s .args .card .now) (s .args .nodes) (s .args .key) ends)),
       sym (depth-landing (s .args .card .now) (s .args .nodes) (s .args .idle) (s .args .key) none ∙ no-depth _ (unsought-refused _ _ ends)),
     )
 
@@ -109,16 +107,16 @@ returns-4 c =
     let s = c .before .before .before .before .before .before .before .before .before .before .before in
     let room = roomWhere (s .args .splits) (s .args .card .now) (s .args .key) (nodesOf (s .args .free .now)) in
     let none = sym (c .before .before .before .before .before .before .before .before .early-refusal .ensures)
-    ∙ c .before .before .before .before .before .before .before .if1 .left in
-    (
+    ∙ c .before .before .before .before .before .before .before .if1 .left in (
       c .room-refusal .ensures
-      ∙ ap (λ (b : Bool). pick b 0 8) (c .before .has-room-where .ensures)
-      ∙ sym
-      (due-landing (s .args .card .now) (s .args .nodes) (s .args .idle) (s .args .key) room none
-      ∙ ap (λ (l : Landing). landingRefusal (room l) l) (lands (c .before .before .before))),
+          ∙ ap (λ (b : Bool). pick b 0 8) (c .before .has-room-where .ensures)
+          ∙ sym
+          (due-landing (s .args .card .now) (s .args .nodes) (s .args .idle) (s .args .key) room none
+          ∙ ap (λ (l : Landing). landingRefusal (room l) l) (lands (c .before .before .before))),
       sym
-      (depth-landing (s .args .card .now) (s .args .nodes) (s .args .idle) (s .args .key) none
-      ∙ ap depthOf (unsought-reached (s .args .card .now) _ (c .before .before .before .position .given .0 .0) _ (sym (c .before .before .before .before .before .descend .ensures) ∙ c .before .before .before .position .given .1))),
+          (depth-landing (s .args .card .now) (s .args .nodes) (s .args .idle) (s .args .key) none
+          ∙ ap depthOf (unsought-reached (s .args .card .now) _ (c .before .before .before .position .given .0 .0) _
+          (sym (c .before .before .before .before .before .descend .ensures) ∙ c .before .before .before .position .given .1))),
     )
 
 pub start-due-spec : {M : Type 1} → statement M

@@ -1,12 +1,12 @@
 -- `ration_table::ration_step` meets its contract.
-use mathlib.Core.Path.{_≡_, ap, sym, _∙_}
+use mathlib.Core.Path.{_≡_, ap, _∙_}
 use mathlib.Core.List.{List}
 use mathlib.Core.Logic.{by-cases}
 use native.Mathlib.Decide.{ℕ-discrete}
 use Prim.Native.Nat.{ℕ}
 use lib.ListN.{length}
 use borrow.Author.Needs.{needs}
-use Rattle.card.specs.Replies.{Reply, noState, withDepth}
+use Rattle.card.specs.Replies.{noState, withDepth}
 use Rattle.state.specs.Answers.{stepReply, toldDepth}
 use Rattle.state.specs.Block.{stateWords, memoryIn}
 use Rattle.state.specs.declared.Answer.{Answer}
@@ -40,11 +40,13 @@ same-length-2 c = search needs
 
 returns : tie.Need-returns
 returns c =
-    let s = c .before .before .before .before .before .before .before .before .before .before .before .before .args in
-    (
+    let s = c .before .before .before .before .before .before .before .before .before .before .before .before .args in (
       c .before .before .before .before .before .step .result,
       c .step-reply .ensures
-      ∙ same-depth (s .state .now) (c .before .before .before .before .before .before .before .before .depth-kept .result) (c .before .before .before .before .before .step .result) (c .before .before .before .before .before .before .before .before .depth-kept .ensures .0) (λ n. c .before .before .before .before .before .step .ensures .no-state n .0),
+          ∙ same-depth (s .state .now) (c .before .before .before .before .before .before .before .before .depth-kept .result)
+          (c .before .before .before .before .before .step .result)
+          (c .before .before .before .before .before .before .before .before .depth-kept .ensures .0)
+          (λ n. c .before .before .before .before .before .step .ensures .no-state n .0),
       c .before .before .before .before .before .step .ensures,
     )
 
