@@ -59,7 +59,7 @@ w-201 = next-kept
 pub w-202 : W202 eightAt (λ dump lent. dumpReply (readAnswer dump lent))
 w-202 = padding-kept
 
-pub w-203 : W203 rationTable findDepth nextDepth (λ c m. toldDepth (m .depth) (stepOf c m .answer))
+pub w-203 : W203 rationTable findDepth nextDepth (λ c m. toldDepth (stepOf c m .memory .depth) (stepOf c m .answer))
 w-203 = depth-kept
 
 pub w-205 : W205 rationTable

@@ -68,7 +68,7 @@ use Rattle.demands.proofs.StartRows.{started-is}
 
 -- what the step on this card and state tells
 abbrev pub stepDepth : List ℕ → Memory → ℕ
-stepDepth c m = toldDepth (m .depth) (stepOf c m .answer)
+stepDepth c m = toldDepth (stepOf c m .memory .depth) (stepOf c m .answer)
 
 -- ---- the way on the card and through the tree
 
@@ -207,7 +207,7 @@ module _ (w : World rationTable) (b : Book) (v : Covered w b) where
       let kept : u .state .depth ≡ startDepth (w .card) (w .state) key = ap (λ (x : World rationTable). x .state .depth) is
       ∙ ap (λ (h : Handed). h .memory .depth) (started-is (w .card) (w .state) doing room key is-started) in
       told-final _ _ held (step-small (run rationTable qs u .card) (run rationTable qs u .state)) r
-      ∙ run-keeps qs u left ∙ kept ∙ now-passed t k key
+      ∙ step-keeps (run rationTable qs u .card) (run rationTable qs u .state) ∙ run-keeps qs u left ∙ kept ∙ now-passed t k key
 
 -- ---- "A refusal carries none"
 
@@ -256,6 +256,6 @@ w-203 =
           (λ w b v key high t k e qs left held r. begun-tells w b v key (Deleting key NotBegun 0) (λ l. true) t k e _ refl qs left held r);
       find-refused = find-refused;
       next-refused = next-refused;
-      others = λ c m n. told-others (m .depth) (stepOf c m .answer) n;
+      others = λ c m n. told-others (stepOf c m .memory .depth) (stepOf c m .answer) n;
       rests = always (λ w b. Idle rationTable (w .state) → (l : Line (w .card) (b .held)) → (key : ℕ) → 0 < key → key < keyLimit → findDepth (w .card) key ≡ l .depth) rest-tells;
     }

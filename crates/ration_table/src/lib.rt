@@ -86,14 +86,14 @@ pub extern "C" fn ration_start_delete(card: &[u32], state: &mut [u32], key: u32)
 }
 
 // "Each step then either stores one word or gives the final answer and makes the state idle." The final answer of an insert or a delete
-// tells the depth that was kept at its start.
+// tells the depth that was kept at its start, which no step changes.
 #[no_mangle]
 pub extern "C" fn ration_step(card: &mut [u32], state: &mut [u32]) -> Reply
-    ensures { λ r. ⌜ Replies (λ answer. withDepth (toldDepth (memoryIn (now (state .entry)) .depth) answer) (stepReply answer)) (replyOf r)
+    ensures { λ r. ⌜ Replies (λ answer. withDepth (toldDepth (memoryIn (now (state .exit)) .depth) answer) (stepReply answer)) (replyOf r)
         (λ answer. StepCall (now (card .entry)) (now (state .entry)) (now (card .exit)) (now (state .exit)) answer) ⌝ }
 {
-    let depth = table::depth_kept(state);
-    step_reply(table::step(card, state), depth)
+    let answer = table::step(card, state);
+    step_reply(answer, state)
 }
 
 // "Reading a dump checks 11, 12".
