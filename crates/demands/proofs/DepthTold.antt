@@ -54,7 +54,7 @@ use Rattle.demands.specs.RationTable.{rationTable}
 use Rattle.demands.specs.Refusals.{Idle}
 use Rattle.demands.specs.Table.{Refused as IsRefused}
 use Rattle.demands.specs.Worked.{dictionary}
-use Rattle.demands.specs.W203.{TellsStart, W203}
+use Rattle.demands.specs.W203.{TellsStart, Rested, W203}
 use Rattle.demands.specs.W214.{Line}
 use Rattle.demands.proofs.FirstRows.{sized?}
 use Rattle.demands.proofs.Invariant.{Table}
@@ -104,10 +104,15 @@ module _ (w : World rationTable) (b : Book) (v : Covered w b) where
       go NoNext i = refl
       go (NextRefused r) i = absurd i
 
-  rest-tells : Idle rationTable (w .state) → (l : Line (w .card) (b .held)) → (key : ℕ) → 0 < key → key < keyLimit → findDepth (w .card) key ≡ l .depth
-  rest-tells idle l key low high =
+  rest-tells : Idle rationTable (w .state) → (l : Line (w .card) (b .held)) → (number : ℕ) → number < keyLimit → Rested findDepth nextDepth (w .card) l number
+  rest-tells idle l number high =
       let k = l .right .balanced .well-formed in
-      find-tells (l .right .table) k key low high ∙ passed-levels key (l .depth) (l .right .table) (k .widths) (l .right .balanced .none) (l .level)
+      let levels = passed-levels number (l .depth) (l .right .table) (k .widths) (l .right .balanced .none) (l .level) in
+      record {
+        found = λ low. find-tells (l .right .table) k number low high ∙ levels;
+        next = next-tells (l .right .table) k number high ∙ levels;
+        updated = levels;
+      }
 
 -- ---- a step, on any card and state, leaves the depth as it was
 
@@ -257,5 +262,6 @@ w-203 =
       find-refused = find-refused;
       next-refused = next-refused;
       others = λ c m n. told-others (stepOf c m .memory .depth) (stepOf c m .answer) n;
-      rests = always (λ w b. Idle rationTable (w .state) → (l : Line (w .card) (b .held)) → (key : ℕ) → 0 < key → key < keyLimit → findDepth (w .card) key ≡ l .depth) rest-tells;
+      rests = always (λ w b. Idle rationTable (w .state) → (l : Line (w .card) (b .held)) → (number : ℕ) → number < keyLimit → Rested findDepth nextDepth (w .card) l number)
+          rest-tells;
     }

@@ -28,6 +28,12 @@ module _ (T : Table) (stepDepth : List ℕ → T .State → ℕ) where
       → (held : Option ℕ) → replyTo T step (run T qs (happens T e w)) ≡ dictionary held
       → stepDepth (run T qs (happens T e w) .card) (run T qs (happens T e w) .state) ≡ passedIn key t
 
+-- what a find and a call for the next number tell then, and an update that is started then (`TellsStart`, of the line's tree)
+pub record Rested (findDepth nextDepth : List ℕ → ℕ → ℕ) (c : List ℕ) {l : List (ℕ × ℕ)} (line : Line c l) (number : ℕ) : Type 0 where
+  pub found : 0 < number → findDepth c number ≡ line .depth
+  pub next : nextDepth c number ≡ line .depth
+  pub updated : passedIn number (line .right .table) ≡ line .depth
+
 pub record W203 (T : Table) (findDepth nextDepth : List ℕ → ℕ → ℕ) (stepDepth : List ℕ → T .State → ℕ) : Type 0 where
   -- "the given number's way when the call began": a find and a call for the next number begin and end at one moment, and so at every
   -- moment, also between the steps of updates and repairs
@@ -39,5 +45,5 @@ pub record W203 (T : Table) (findDepth nextDepth : List ℕ → ℕ → ℕ) (st
   pub find-refused : (c : List ℕ) (key : ℕ) → Refused (T .find c key) → findDepth c key ≡ 0
   pub next-refused : (c : List ℕ) (number : ℕ) → Refused (T .next c number) → nextDepth c number ≡ 0
   pub others : (c : List ℕ) (s : T .State) → ((held : Option ℕ) → T .step c s .reply ≡ dictionary held → ⊥) → stepDepth c s ≡ 0
-  -- on an idle table it is the line's depth, which W-214 bounds by the pairs
-  pub rests : Always T (λ w b. Idle T (w .state) → (l : Line (w .card) (b .held)) → (key : ℕ) → 0 < key → key < keyLimit → findDepth (w .card) key ≡ l .depth)
+  -- on an idle table it is the line's depth, which W-214 bounds by the pairs, whatever the number
+  pub rests : Always T (λ w b. Idle T (w .state) → (l : Line (w .card) (b .held)) → (number : ℕ) → number < keyLimit → Rested findDepth nextDepth (w .card) l number)
