@@ -80,15 +80,6 @@ module _ (block row : List ℕ) (from count : ℕ) (l : length row ≡ count) (f
   pub placed-before : (j : ℕ) → j < from → getD (placed from count block row) j 0 ≡ getD block j 0
   placed-before j h = List·getD-append (take from block) (row ++ rest) 0 j (omega (arith, length-take from block)) ∙ getD-take from block j 0 h
 
-  -- and those after it
-  pub placed-after : (j : ℕ) → from + count ≤ j → getD (placed from count block row) j 0 ≡ getD block j 0
-  placed-after j h =
-      let i : ℕ = j - (from + count) in
-      append-after (take from block) (row ++ rest) (count + i) j (omega (arith, length-take from block))
-      ∙ append-after row rest i (count + i) (omega arith)
-      ∙ getD-drop count (drop from block) i 0 ∙ getD-drop from block (count + i) 0
-      ∙ ap (λ (k : ℕ). getD block k 0) (let e : from + (count + i) ≡ j = omega arith in e)
-
   pub placed-part : part (placed from count block row) from count ≡ row
   placed-part = ap (take count) (drop-at (take from block) (row ++ rest) from (omega (arith, length-take from block))) ∙ take-at row rest count l
 
