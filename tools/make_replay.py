@@ -11,7 +11,8 @@ The stream: each number in groups of 7 bits, the low ones first, 128 added to ea
     7 L CALL     on L                8 format      9 open     10 K find     11 K V insert     12 K delete     13 C   C steps
     14 L         a dump of L zeros   15 P C B..    from place P of the dump: C bytes          16 L read     17 L write     18 list
     0            the end
-Hashed of a result: refused 1 R; started 2; idle 3 F; repairing 4 F; found 5 V; absent 6; answer V 7 V; answer absent 8; ready 9;
+Hashed of a result: refused 1 R; started 2; idle 3 F; repairing 4 F; found 5 V D; absent 6 D; answer V 7 V D; answer absent 8 D (D the
+depth); ready 9;
 a store 10, place, word; after the result of a step 0, or 1 where the card changed but for that store; read 11, words; write 12,
 bytes; after the result of a read or write, refused or not, the CRC of the whole lent slice; list 13, length and CRC of the text;
 crc the CRC of the card; end the CRC of the card and the number of stores.
@@ -70,10 +71,10 @@ class Replay:
         if f[0] == 'started': return (2,)
         if f[0] == 'idle': return (3, int(f[1]))
         if f[0] == 'repairing': return (4, int(f[1]))
-        if f[0] == 'found': return (5, int(f[1]))
-        if f[0] == 'absent': return (6,)
-        if f == ['answer', 'absent']: return (8,)
-        if f[0] == 'answer': return (7, int(f[1]))
+        if f[0] == 'found' and f[2] == 'depth': return (5, int(f[1]), int(f[3]))
+        if f[0] == 'absent' and f[1] == 'depth': return (6, int(f[2]))
+        if f[:3] == ['answer', 'absent', 'depth']: return (8, int(f[3]))
+        if f[0] == 'answer' and f[2] == 'depth': return (7, int(f[1]), int(f[3]))
         if f[0] == 'ready': return (9,)
         if f[0] == 'store': return (10, int(f[1]), int(f[2]))
         raise Line(f)

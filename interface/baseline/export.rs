@@ -5,9 +5,9 @@ mod table;
 
 use std::slice::{from_raw_parts, from_raw_parts_mut};
 
-use table::{Opening, Refusal, State, Step};
+use table::{Opening, Refusal, State, Step, WithDepth};
 
-const STATE_WORDS: usize = 177;
+const STATE_WORDS: usize = 178;
 const _: () = assert!(size_of::<State>() == 4 * STATE_WORDS);
 
 #[repr(C)]
@@ -26,8 +26,15 @@ fn valued(code: u32, value: u32) -> Answer {
     Answer { code, value, key: 0, depth: 0 }
 }
 
-fn value(value: Option<u32>) -> Answer {
-    value.map_or(code(65), |value| valued(64, value))
+fn value(value: WithDepth<Option<u32>>) -> Answer {
+    Answer { depth: value.depth, ..value.answer.map_or(code(65), |value| valued(64, value)) }
+}
+
+fn pair(pair: WithDepth<Option<(u32, u32)>>) -> Answer {
+    match pair.answer {
+        Some((key, value)) => Answer { code: 72, value, key, depth: pair.depth },
+        None => Answer { depth: pair.depth, ..code(73) },
+    }
 }
 
 fn answer<T>(result: Result<T, Refusal>, of: impl Fn(T) -> Answer) -> Answer {
@@ -65,10 +72,7 @@ pub unsafe extern "C" fn ration_find(card: *const u32, words: usize, key: u32) -
 
 #[no_mangle]
 pub unsafe extern "C" fn ration_next(card: *const u32, words: usize, after: u32) -> Answer {
-    answer(table::next(from_raw_parts(card, words), after), |pair| match pair {
-        Some((key, value)) => Answer { code: 72, value, key, depth: 0 },
-        None => code(73),
-    })
+    answer(table::next(from_raw_parts(card, words), after), pair)
 }
 
 #[no_mangle]

@@ -36,7 +36,7 @@ static void say(const char *kind)
 
 static void agree(ration_answer a, ration_answer b)
 {
-    expect(a.code == b.code && a.value == b.value && a.key == b.key);
+    expect(a.code == b.code && a.value == b.value && a.key == b.key && a.depth == b.depth);
 }
 
 static const char *kind_of_plan(bool is_first)

@@ -93,7 +93,7 @@ extern "C" {
 #endif
 
 /* Sizes. */
-#define RATION_STATE_WORDS 177 /* the state block, in words */
+#define RATION_STATE_WORDS 178 /* the state block, in words */
 #define RATION_LEAST_NODES 4
 #define RATION_MOST_NODES 600
 #define RATION_CARD_WORDS(nodes) (8 + 24 * (nodes)) /* a card, in words */
@@ -103,7 +103,17 @@ extern "C" {
 
 /*
  * The answer of every call. value counts with RATION_VALUE, RATION_STORED, RATION_LENGTH and RATION_NEXT, key with
- * RATION_NEXT alone; with any other code they are 0. depth is for calls to come and always 0.
+ * RATION_NEXT alone, depth with RATION_VALUE, RATION_ABSENT, RATION_NEXT and RATION_NONE; with any other code they
+ * are 0, so that a refusal carries none of them.
+ *
+ * depth is how many internal nodes stood on the given number's way down to its leaf when the call began, tagged ones
+ * counted: 0 where the root is that leaf, and at most 10, since a longer way is refused with 9.
+ *   find: on the way of the key, held or absent.
+ *   next: on the way of the number given, also where the pair is in another leaf, and where there is none; 0 leads to
+ *     the first leaf.
+ *   step, with the final answer of an update: on the way of its key when it was started, held or absent. So an insert
+ *     that splits the root and a delete that takes a level away tell the depth of before. The block keeps it from the
+ *     start on: where something else wrote the block, it may be any number.
  */
 typedef struct ration_answer {
     uint32_t code;
@@ -224,7 +234,7 @@ ration_answer ration_open(const uint32_t *card, size_t card_words, uint32_t *sta
 
 /*
  * Looks a key up on the card as it is at this moment. Needs no block.
- * Answers RATION_VALUE or RATION_ABSENT. Refusals, in this order: 1, 2, 3, 6, 9.
+ * Answers RATION_VALUE or RATION_ABSENT, with the depth. Refusals, in this order: 1, 2, 3, 6, 9.
  */
 ration_answer ration_find(const uint32_t *card, size_t card_words, uint32_t key);
 
@@ -232,9 +242,10 @@ ration_answer ration_find(const uint32_t *card, size_t card_words, uint32_t key)
  * The pair with the smallest key above a number, on the card as it is at this moment. The number is any from 0 up and
  * need not be a key. Needs no block; may come between steps, as ration_find may: the update in progress is then
  * wholly in or wholly out.
- * Answers RATION_NEXT, with that key and its value, or RATION_NONE exactly where no key above the number is held. So
- * it is on a card that ration_open refuses with 5, too; on one that ration_open refuses with 4 it answers some pair
- * above the number, RATION_NONE or 9. Refusals, in this order: 1, 2, 3, 9; never 6: 0 asks for the first pair.
+ * Answers RATION_NEXT, with that key and its value, or RATION_NONE exactly where no key above the number is held; both
+ * with the depth of the number's own way. So it is on a card that ration_open refuses with 5, too; on one that
+ * ration_open refuses with 4 it answers some pair above the number, RATION_NONE or 9. Refusals, in this order: 1, 2, 3,
+ * 9; never 6: 0 asks for the first pair.
  *
  * A walk from 0 gives each pair of a card that stays as it is once, with keys rising (examples/walk_card.c):
  *
@@ -265,7 +276,8 @@ ration_answer ration_start_delete(const uint32_t *card, size_t card_words, uint3
 
 /*
  * One step of what is in progress: stores one word, RATION_STORED with its place, or gives the final answer and
- * makes the state idle: RATION_READY of a formatting or a repair, RATION_VALUE or RATION_ABSENT of an update.
+ * makes the state idle: RATION_READY of a formatting or a repair, RATION_VALUE or RATION_ABSENT of an update, with the
+ * depth of its key's way when it was started.
  * Refusals, in this order: RATION_NO_STATE, 1, 2, 3, 10, 9; of a formatting's steps only RATION_NO_STATE
  * and 1.
  */

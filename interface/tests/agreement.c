@@ -22,8 +22,8 @@ static random_stream stream;
 
 static void agree(ration_answer tested, ration_answer hand_written)
 {
-    CHECK(memcmp(&tested, &hand_written, sizeof tested) == 0, "%u %u and %u %u", tested.code, tested.value,
-          hand_written.code, hand_written.value);
+    CHECK(memcmp(&tested, &hand_written, sizeof tested) == 0, "%u %u depth %u and %u %u depth %u", tested.code,
+          tested.value, tested.depth, hand_written.code, hand_written.value, hand_written.depth);
     CHECK(memcmp(both.card, both.desk->card, 4 * both.desk->words) == 0, "the cards differ");
     if (tested.code == RATION_STARTED)
         both.in_progress = true;
@@ -56,8 +56,9 @@ static ration_answer next(uint32_t after)
     ration_answer plain = hand_written_next(both.card, both.desk->words, after);
     ration_answer expert = expert_next(both.card, both.desk->words, after);
     CHECK(memcmp(&tested, &plain, sizeof tested) == 0 && memcmp(&tested, &expert, sizeof tested) == 0,
-          "next %u: %u %u %u, %u %u %u and %u %u %u", after, tested.code, tested.key, tested.value, plain.code,
-          plain.key, plain.value, expert.code, expert.key, expert.value);
+          "next %u: %u %u %u depth %u, %u %u %u depth %u and %u %u %u depth %u", after, tested.code, tested.key,
+          tested.value, tested.depth, plain.code, plain.key, plain.value, plain.depth, expert.code, expert.key,
+          expert.value, expert.depth);
     return tested;
 }
 

@@ -4,13 +4,14 @@
 
 enum {
     BLOCK_NODES = 0,
-    BLOCK_LAST = 1, // the node given last
+    BLOCK_LAST = 1,  // the node given last
     BLOCK_DOING = 2, // 1 formatting, 2 inserting, 3 deleting, 4 repairing; anything else is idle
     BLOCK_MADE = 6,
     BLOCK_PLANNED = 7,
     BLOCK_FREE = 11, // node m is bit m % 32 of word 11 + m / 32
     BLOCK_FREE_WORDS = 20,
     BLOCK_PLACES = 31,
+    BLOCK_DEPTH = 177, // the last: of the way of the update begun last, when it began
     BLOCK_DOINGS = 5
 };
 

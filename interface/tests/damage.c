@@ -1,5 +1,7 @@
 // Cards and blocks that no call left so: damaged, garbage, or not belonging together. What document 01 decides is
 // compared with the code due; a step makes one store inside the card, answers, or refuses.
+#include <string.h>
+
 #include "block.h"
 #include "builder.h"
 #include "check.h"
@@ -214,7 +216,16 @@ static void odd_cards(uint32_t levels, uint32_t tries)
     }
 }
 
-// "more than 10 internal nodes": ten pass, an eleventh is refused.
+// An update that stores nothing, on a card whose only key is 7: a start, and the final answer with the first step.
+static void check_update(desk *d, bool insert, uint32_t key, bool passes, uint32_t final)
+{
+    ration_answer a = insert ? desk_start_insert(d, key, 1) : desk_start_delete(d, key);
+    CHECK(a.code == (passes ? RATION_STARTED : RATION_BROKEN_WAY), "key %u: %u", key, a.code);
+    if (passes)
+        CHECK(desk_step(d).code == final, "key %u: not %u", key, final);
+}
+
+// "more than 10 internal nodes": ten pass, an eleventh is refused. So every depth is told by every call.
 static void chains(void)
 {
     for (uint32_t internal_nodes = 0; internal_nodes < 15; internal_nodes++) {
@@ -222,8 +233,12 @@ static void chains(void)
         uint32_t card[8 + 24 * 20];
         build_chain(card, 20, internal_nodes, 7, &stream);
         desk_set_card(d, card);
-        CHECK(desk_find(d, 7).code == (internal_nodes <= 10 ? RATION_VALUE : RATION_BROKEN_WAY), "%u nodes",
-              internal_nodes);
+        d->state[BLOCK_NODES] = d->state_copy[BLOCK_NODES] = 20;
+        bool passes = internal_nodes <= 10;
+        CHECK(desk_find(d, 7).code == (passes ? RATION_VALUE : RATION_BROKEN_WAY), "%u nodes", internal_nodes);
+        CHECK(desk_next(d, 0).code == (passes ? RATION_NEXT : RATION_BROKEN_WAY), "%u nodes", internal_nodes);
+        check_update(d, true, 7, passes, RATION_VALUE);
+        check_update(d, false, 8, passes, RATION_ABSENT);
         set_garbage_state(d, true);
         d->state[BLOCK_DOING] = d->state_copy[BLOCK_DOING] = 0;
         try_calls(d, 10);
@@ -231,9 +246,37 @@ static void chains(void)
     }
 }
 
+// Another depth is written into the block within an update: the final answer tells it, whatever it is.
+static void any_depth(uint32_t tries)
+{
+    static uint32_t card[RATION_CARD_WORDS(20)];
+    uint32_t state[RATION_STATE_WORDS];
+    CHECK(build_card(card, 20, 1, 3, 9, &stream) != 0, "no card");
+    desk *d = desk_new(RATION_CARD_WORDS(20), RATION_STATE_WORDS);
+    for (uint32_t i = 0; i < tries; i++) {
+        uint32_t key = 1 + random_below(&stream, 500);
+        desk_set_card(d, card);
+        CHECK(desk_open(d).code == RATION_IDLE, "not opened");
+        ration_answer a = random_percent(&stream, 50) ? desk_start_insert(d, key, i) : desk_start_delete(d, key);
+        CHECK(a.code == RATION_STARTED, "key %u: %u", key, a.code);
+        if (random_percent(&stream, 50) && desk_step(d).code != RATION_STORED)
+            continue;
+        memcpy(state, d->state, sizeof state);
+        state[BLOCK_DEPTH] = random_percent(&stream, 50) ? random_word(&stream) : random_below(&stream, 20);
+        desk_set_state(d, state);
+        do
+            a = desk_step(d);
+        while (a.code == RATION_STORED);
+        CHECK(a.code == RATION_VALUE || a.code == RATION_ABSENT, "key %u: %u", key, a.code);
+        CHECK(a.depth == state[BLOCK_DEPTH], "depth %u, due %u", a.depth, state[BLOCK_DEPTH]);
+    }
+    desk_free(d);
+}
+
 void test_damage(scale s)
 {
     stream.state = 12;
+    any_depth(20 * s.percent);
     odd_cards(1, 100 * s.percent);
     odd_cards(2, 50 * s.percent);
     odd_cards(3, 20 * s.percent);

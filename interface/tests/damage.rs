@@ -3,7 +3,7 @@
 
 use std::ops::Bound;
 
-use ration_table::calls::{Opening, Step};
+use ration_table::calls::{Opening, Step, STATE_WORDS};
 use ration_table::{Refusal, StateBlock};
 
 use crate::guarded::Desk;
@@ -59,7 +59,7 @@ impl Damage {
         let due = reader::header(desk.card()).map(|_| reader::table(desk.card()));
         for _ in 0..3 {
             let number = self.likely(desk);
-            let next = desk.next_after(number);
+            let next = desk.next_after(number).map(|next| next.answer);
             match &due {
                 Err(refusal) => assert_eq!(next, Err(*refusal), "next after {number}"),
                 Ok(Some(reading)) => {
@@ -143,7 +143,7 @@ impl Damage {
                     desk.set(8 + 24 * node, kind);
                 }
             }
-            let mut words = [0; 177];
+            let mut words = [0; STATE_WORDS];
             words.fill_with(|| self.random.word());
             if self.random.percent(80) {
                 words[0] = nodes;

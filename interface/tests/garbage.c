@@ -29,7 +29,7 @@ void make_garbage_state(uint32_t *state, uint32_t nodes, bool likely, random_str
     for (uint32_t i = 1; i < BLOCK_FREE; i++)
         if (i != BLOCK_DOING && random_percent(random, 70))
             state[i] = random_below(random, random_percent(random, 50) ? 5 : 80);
-    for (uint32_t i = BLOCK_PLACES; i < RATION_STATE_WORDS; i++)
+    for (uint32_t i = BLOCK_PLACES; i < BLOCK_DEPTH; i++)
         if (random_percent(random, 70))
             state[i] = random_below(random, RATION_CARD_WORDS(nodes) + 1);
     if (random_percent(random, 50))

@@ -6,10 +6,14 @@
 
 #include "block.h"
 #include "check.h"
+#include "reader.h"
+
+_Static_assert(BLOCK_DEPTH == RATION_STATE_WORDS - 1, "the depth is the block's last word");
 
 size_t guard_words = 16;
 uint64_t events;
 uint64_t answered[CALLS][CODES];
+uint64_t told[CALLS][DEPTHS];
 
 static const uint32_t guard = 0x5afe5afe;
 
@@ -77,16 +81,34 @@ void desk_set_state(desk *d, const uint32_t *words)
 {
     memcpy(d->state, words, 4 * d->state_words);
     memcpy(d->state_copy, words, 4 * d->state_words);
+    if (d->state_words == RATION_STATE_WORDS)
+        d->depth = words[BLOCK_DEPTH];
 }
 
 void desk_cut(desk *d)
 {
     for (size_t i = 0; i < d->state_words; i++)
         d->state[i] = d->state_copy[i] = 0xa5c3a5c3 + (uint32_t)i;
+    d->depth = 0xa5c3a5c3 + BLOCK_DEPTH;
 }
 
-// Counts the answer. It is one of the call's codes or a refusal; value and key are 0 but with the codes that carry one.
-static void check_answer(int call, ration_answer a)
+// The depth of a number's way on the card as it is; one that no card has where the way is refused.
+static uint32_t depth_of_way(const desk *d, uint32_t number)
+{
+    if (read_header(d->card, d->words) != 0)
+        return UINT32_MAX;
+    landing l = read_landing(d->card, d->words, number);
+    return l.refused ? UINT32_MAX : l.depth;
+}
+
+static bool has_depth(uint32_t code)
+{
+    return code == RATION_VALUE || code == RATION_ABSENT || code == RATION_NEXT || code == RATION_NONE;
+}
+
+// Counts the answer. It is one of the call's codes or a refusal; value, key and depth are 0 but with the codes that carry one, and
+// the depth is then the one due.
+static void check_answer(int call, ration_answer a, uint32_t depth)
 {
     static const uint32_t codes[CALLS][5] = {
         [START_FORMAT] = {RATION_STARTED},
@@ -106,9 +128,13 @@ static void check_answer(int call, ration_answer a)
     bool is_pair = a.code == RATION_NEXT;
     bool has_value = a.code == RATION_VALUE || a.code == RATION_STORED || a.code == RATION_LENGTH || is_pair;
     CHECK(a.value == 0 || has_value, "code %u with value %u", a.code, a.value);
-    CHECK((a.key != 0) == is_pair && a.depth == 0, "code %u with key %u and depth %u", a.code, a.key, a.depth);
+    CHECK((a.key != 0) == is_pair, "code %u with key %u", a.code, a.key);
+    uint32_t due = has_depth(a.code) ? depth : 0;
+    CHECK(a.depth == due, "call %d: code %u with depth %u, due %u", call, a.code, a.depth, due);
     events++;
     answered[call][a.code]++;
+    if (has_depth(a.code) && a.depth < DEPTHS)
+        told[call][a.depth]++;
 }
 
 static void check_card_unchanged(const desk *d)
@@ -123,15 +149,18 @@ static void check_state_unchanged(const desk *d)
     CHECK(memcmp(d->state, d->state_copy, 4 * d->state_words) == 0, "the block was changed");
 }
 
+// The block may have changed, where the call was not refused; the depth in it is that of the update begun last.
 static void check_state(desk *d, ration_answer a)
 {
     if (RATION_IS_REFUSAL(a.code))
         check_state_unchanged(d);
+    else
+        CHECK(d->state[BLOCK_DEPTH] == d->depth, "depth %u in the block, due %u", d->state[BLOCK_DEPTH], d->depth);
     check_guards(d->state, 4 * d->state_words);
     memcpy(d->state_copy, d->state, 4 * d->state_words);
 }
 
-// "Opening or starting to format, refused, hands back an idle state for N = 0".
+// "Opening or starting to format, refused, hands back an idle state for N = 0": all words are 0. No update was begun since.
 static void check_beginning(desk *d, ration_answer a)
 {
     check_card_unchanged(d);
@@ -140,15 +169,17 @@ static void check_beginning(desk *d, ration_answer a)
         return;
     }
     check_guards(d->state, 4 * d->state_words);
-    if (RATION_IS_REFUSAL(a.code))
-        CHECK(d->state[BLOCK_NODES] == 0 && d->state[BLOCK_DOING] == 0, "not the idle state for 0 nodes");
+    for (size_t i = 0; RATION_IS_REFUSAL(a.code) && i < d->state_words; i++)
+        CHECK(d->state[i] == 0, "word %zu of the block is %u: not the idle state for 0 nodes", i, d->state[i]);
+    CHECK(d->state[BLOCK_DEPTH] == 0, "depth %u in the block", d->state[BLOCK_DEPTH]);
+    d->depth = 0;
     memcpy(d->state_copy, d->state, 4 * d->state_words);
 }
 
 ration_answer desk_start_format(desk *d)
 {
     ration_answer a = ration_start_format(d->card, d->words, d->state, d->state_words);
-    check_answer(START_FORMAT, a);
+    check_answer(START_FORMAT, a, 0);
     check_beginning(d, a);
     return a;
 }
@@ -156,15 +187,16 @@ ration_answer desk_start_format(desk *d)
 ration_answer desk_open(desk *d)
 {
     ration_answer a = ration_open(d->card, d->words, d->state, d->state_words);
-    check_answer(OPEN, a);
+    check_answer(OPEN, a, 0);
     check_beginning(d, a);
     return a;
 }
 
 ration_answer desk_find(desk *d, uint32_t key)
 {
+    uint32_t depth = depth_of_way(d, key);
     ration_answer a = ration_find(d->card, d->words, key);
-    check_answer(FIND, a);
+    check_answer(FIND, a, depth);
     check_card_unchanged(d);
     check_state_unchanged(d);
     return a;
@@ -172,8 +204,9 @@ ration_answer desk_find(desk *d, uint32_t key)
 
 ration_answer desk_next(desk *d, uint32_t after)
 {
+    uint32_t depth = depth_of_way(d, after);
     ration_answer a = ration_next(d->card, d->words, after);
-    check_answer(NEXT, a);
+    check_answer(NEXT, a, depth);
     check_card_unchanged(d);
     check_state_unchanged(d);
     return a;
@@ -184,8 +217,9 @@ size_t desk_walk(desk *d, const walked_pair **pairs)
     static walked_pair walked[MOST_WALKED];
     size_t count = 0;
     for (uint32_t after = 0;; after = walked[count++].key) {
+        uint32_t depth = depth_of_way(d, after);
         ration_answer a = ration_next(d->card, d->words, after);
-        check_answer(NEXT, a);
+        check_answer(NEXT, a, depth);
         if (a.code == RATION_NONE)
             break;
         CHECK(a.code == RATION_NEXT && count < MOST_WALKED, "after %zu pairs, after %u: %u", count, after, a.code);
@@ -197,22 +231,29 @@ size_t desk_walk(desk *d, const walked_pair **pairs)
     return count;
 }
 
-static ration_answer check_start(desk *d, int call, ration_answer a)
+// The depth is that of the key's way before the call.
+static ration_answer check_start(desk *d, int call, ration_answer a, uint32_t depth)
 {
-    check_answer(call, a);
+    check_answer(call, a, 0);
     check_card_unchanged(d);
+    if (a.code == RATION_STARTED)
+        d->depth = depth;
     check_state(d, a);
     return a;
 }
 
 ration_answer desk_start_insert(desk *d, uint32_t key, uint32_t value)
 {
-    return check_start(d, START_INSERT, ration_start_insert(d->card, d->words, d->state, d->state_words, key, value));
+    uint32_t depth = depth_of_way(d, key);
+    ration_answer a = ration_start_insert(d->card, d->words, d->state, d->state_words, key, value);
+    return check_start(d, START_INSERT, a, depth);
 }
 
 ration_answer desk_start_delete(desk *d, uint32_t key)
 {
-    return check_start(d, START_DELETE, ration_start_delete(d->card, d->words, d->state, d->state_words, key));
+    uint32_t depth = depth_of_way(d, key);
+    ration_answer a = ration_start_delete(d->card, d->words, d->state, d->state_words, key);
+    return check_start(d, START_DELETE, a, depth);
 }
 
 // The word at the place told may differ from the copy, and no other; the copy takes it over.
@@ -226,7 +267,7 @@ static void take_store_over(desk *d, uint32_t place)
 ration_answer desk_step(desk *d)
 {
     ration_answer a = ration_step(d->card, d->words, d->state, d->state_words);
-    check_answer(STEP, a);
+    check_answer(STEP, a, d->depth);
     if (a.code == RATION_STORED)
         take_store_over(d, a.value);
     else
@@ -253,7 +294,7 @@ ration_answer guarded_read_dump(const uint8_t *dump, size_t dump_bytes, size_t w
     uint8_t *exact = get_memory(dump_bytes);
     memcpy(exact, dump, dump_bytes);
     ration_answer a = ration_read_dump(exact, dump_bytes, words, words_lent);
-    check_answer(READ_DUMP, a);
+    check_answer(READ_DUMP, a, 0);
     check_guards(words, 4 * words_lent);
     CHECK(memcmp(exact, dump, dump_bytes) == 0, "the dump was changed");
     size_t written = RATION_IS_REFUSAL(a.code) ? 0 : a.value;
@@ -269,7 +310,7 @@ ration_answer desk_write_dump(desk *d, size_t bytes_lent, const uint8_t **result
     uint8_t *bytes = result_memory(bytes_lent);
     memset(bytes, 7, bytes_lent);
     ration_answer a = ration_write_dump(d->card, d->words, bytes, bytes_lent);
-    check_answer(WRITE_DUMP, a);
+    check_answer(WRITE_DUMP, a, 0);
     check_guards(bytes, bytes_lent);
     check_card_unchanged(d);
     check_state_unchanged(d);

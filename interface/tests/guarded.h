@@ -1,6 +1,7 @@
 // Every call is made on guarded memory and looked at afterwards: the words around what was lent are as they were,
 // the code is one of that call's, a refusal changed nothing, and only a step that says so stored a word, exactly
-// one, inside the card and in the place that it told.
+// one, inside the card and in the place that it told. The depth is the one that reader.c counts on the number's way
+// on the card as it was when the call began, an update when it was started; 0 where an answer carries none.
 #ifndef GUARDED_H
 #define GUARDED_H
 
@@ -14,6 +15,7 @@ typedef struct {
     size_t words, state_words;
     uint32_t *card, *state;
     uint32_t *card_copy, *state_copy;
+    uint32_t depth; // of the way of the update begun last; else what was written into the block from outside
 } desk;
 
 // How many words stand on guard on each side. With 0 the memory lent is a heap block of exactly its size, so that a
@@ -25,6 +27,10 @@ enum { START_FORMAT, OPEN, FIND, NEXT, START_INSERT, START_DELETE, STEP, READ_DU
 enum { CODES = RATION_NONE + 1 };
 extern uint64_t events;
 extern uint64_t answered[CALLS][CODES];
+
+// How often each call told each depth that a card can have.
+enum { DEPTHS = 11 };
+extern uint64_t told[CALLS][DEPTHS];
 
 // A card of 0s with a block of 0s, the idle state for N = 0.
 desk *desk_new(size_t words, size_t state_words);

@@ -1,10 +1,16 @@
-//! Memory lent with guard words around it, and what a call may have done to it.
+//! Memory lent with guard words around it, and what a call may have done to it. Every depth told is the one that reader.rs counts on
+//! the number's way on the card as it was when the call began, an update when it was started.
 
-use ration_table::calls::{self, Step};
-use ration_table::{Refusal, StateBlock};
+use ration_table::calls::{self, Step, STATE_WORDS};
+use ration_table::{Refusal, StateBlock, WithDepth};
+
+use crate::reader;
 
 const GUARDS: usize = 16;
 const GUARD: u32 = 0x5afe_5afe;
+
+/// The word of the block with the depth of the way of the update begun last.
+const DEPTH: usize = STATE_WORDS - 1;
 
 /// Words with guards on both sides.
 pub struct Guarded(Vec<u32>);
@@ -62,17 +68,23 @@ pub fn take_store_over(card: &[u32], copy: &mut [u32], place: usize) {
     assert!(card == copy, "a word in another place was stored");
 }
 
+/// What a call answers that tells a depth.
+pub type Answer<T> = Result<WithDepth<T>, Refusal>;
+
 /// A card and block with copies, worked by single calls; a refusal changes neither.
 pub struct Desk {
     card: Guarded,
     state: GuardedState,
     copy: Vec<u32>,
+    /// Of the way of the update begun last; else what was written into the block from outside.
+    depth: u32,
     pub events: u64,
 }
 
 impl Desk {
     pub fn new(words: usize) -> Self {
-        Self { card: Guarded::new(&vec![0; words]), state: GuardedState::new(), copy: vec![0; words], events: 0 }
+        let copy = vec![0; words];
+        Self { card: Guarded::new(&copy), state: GuardedState::new(), copy, depth: 0, events: 0 }
     }
 
     pub fn card(&self) -> &[u32] {
@@ -89,6 +101,7 @@ impl Desk {
     }
 
     pub fn set_block(&mut self, block: StateBlock) {
+        self.depth = block.words()[DEPTH];
         self.state.block = block;
     }
 
@@ -96,15 +109,43 @@ impl Desk {
         self.events += 1;
         assert!(self.card.lend() == self.copy, "the card was changed");
         assert!(result.is_ok() || self.state.block == *block, "a refusal changed the block");
+        assert_eq!(self.state.block.words()[DEPTH], self.depth, "another depth in the block");
         result
     }
 
+    /// Refused it leaves an idle state for 0 nodes, which is all 0; else no update was begun since.
     fn beginning<T>(&mut self, result: Result<T, Refusal>) -> Result<T, Refusal> {
         self.events += 1;
         assert!(self.card.lend() == self.copy, "the card was changed");
-        let words = self.state.block.words();
-        assert!(result.is_ok() || (words[0] == 0 && words[2] == 0), "not the idle state for 0 nodes");
+        assert!(result.is_ok() || self.state.block == StateBlock::new(), "not the idle state for 0 nodes");
+        self.depth = 0;
+        assert_eq!(self.state.block.words()[DEPTH], self.depth, "a depth in the block");
         result
+    }
+
+    /// An answer that was asked of the card alone.
+    fn asked<T>(&mut self, number: u32, call: impl Fn(&[u32]) -> Answer<T>) -> Answer<T> {
+        let (block, depth) = (self.state.block.clone(), reader::depth(&self.copy, number));
+        let result = call(self.card.lend());
+        assert!(block == self.state.block, "the block was changed");
+        if let Ok(told) = &result {
+            assert_eq!(Some(told.depth), depth, "the depth of the way of {number}");
+        }
+        self.unchanged(&block, result)
+    }
+
+    /// Starts an update.
+    fn started(
+        &mut self,
+        key: u32,
+        call: impl Fn(&[u32], &mut StateBlock) -> Result<(), Refusal>,
+    ) -> Result<(), Refusal> {
+        let (block, depth) = (self.state.block.clone(), reader::depth(&self.copy, key));
+        let result = call(self.card.lend(), &mut self.state.block);
+        if result.is_ok() {
+            self.depth = depth.expect("no way down");
+        }
+        self.unchanged(&block, result)
     }
 
     pub fn start_format(&mut self) -> Result<(), Refusal> {
@@ -117,37 +158,30 @@ impl Desk {
         self.beginning(result)
     }
 
-    pub fn find(&mut self, key: u32) -> Result<Option<u32>, Refusal> {
-        let block = self.state.block.clone();
-        let result = calls::find(self.card.lend(), key);
-        assert!(block == self.state.block, "the block was changed");
-        self.unchanged(&block, result)
+    pub fn find(&mut self, key: u32) -> Answer<Option<u32>> {
+        self.asked(key, |card| calls::find(card, key))
     }
 
-    pub fn next_after(&mut self, number: u32) -> Result<Option<(u32, u32)>, Refusal> {
-        let block = self.state.block.clone();
-        let result = calls::next_after(self.card.lend(), number);
-        assert!(block == self.state.block, "the block was changed");
-        self.unchanged(&block, result).map(|pair| pair.map(|(key, value)| (key.get(), value)))
+    pub fn next_after(&mut self, number: u32) -> Answer<Option<(u32, u32)>> {
+        let next = self.asked(number, |card| calls::next_after(card, number))?;
+        Ok(WithDepth { answer: next.answer.map(|(key, value)| (key.get(), value)), depth: next.depth })
     }
 
     pub fn start_insert(&mut self, key: u32, value: u32) -> Result<(), Refusal> {
-        let block = self.state.block.clone();
-        let result = calls::start_insert(self.card.lend(), &mut self.state.block, key, value);
-        self.unchanged(&block, result)
+        self.started(key, |card, state| calls::start_insert(card, state, key, value))
     }
 
     pub fn start_delete(&mut self, key: u32) -> Result<(), Refusal> {
-        let block = self.state.block.clone();
-        let result = calls::start_delete(self.card.lend(), &mut self.state.block, key);
-        self.unchanged(&block, result)
+        self.started(key, |card, state| calls::start_delete(card, state, key))
     }
 
     pub fn step(&mut self) -> Result<Step, Refusal> {
         let block = self.state.block.clone();
         let result = calls::step(self.card.lend(), &mut self.state.block);
-        if let Ok(Step::Stored { place }) = result {
-            take_store_over(self.card.words(), &mut self.copy, place);
+        match result {
+            Ok(Step::Stored { place }) => take_store_over(self.card.words(), &mut self.copy, place),
+            Ok(Step::Held { depth, .. } | Step::Absent { depth }) => assert_eq!(depth, self.depth, "final answer"),
+            Ok(Step::Ready) | Err(_) => {}
         }
         self.unchanged(&block, result)
     }

@@ -93,7 +93,7 @@ static void try_dumps(uint32_t nodes)
 void test_lengths(void)
 {
     static const size_t words[] = {0, 1, 7, 8, 32, 80, 103, 104, 105, 128, 14384, 14407, 14408, 14409, 14432};
-    static const size_t state_words[] = {0, 1, 176, 177, 178};
+    static const size_t state_words[] = {0, 1, 177, 178, 179};
     for (size_t i = 0; i < sizeof words / sizeof words[0]; i++)
         for (size_t j = 0; j < sizeof state_words / sizeof state_words[0]; j++)
             try_lengths(words[i], state_words[j], NO_PLACE);

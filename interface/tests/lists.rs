@@ -1,20 +1,23 @@
 //! Random lists over the types `Table`, `Update` and `Repair`, beside the book, with cuts at random places and, in chosen
 //! lists, after every store.
 
+use std::fmt::Debug;
 use std::num::NonZeroU32;
 use std::ops::Bound;
 
-use ration_table::{card_words, dump_bytes, Formatting, Opened, Pairs, Progress, Refusal, Repair, Table, Update};
+use ration_table::{
+    card_words, dump_bytes, Formatting, Opened, Pairs, Progress, Refusal, Repair, Table, Update, WithDepth,
+};
 
 use crate::book::{self, Book};
-use crate::guarded::{take_store_over, Guarded, GuardedState};
+use crate::guarded::{take_store_over, Answer, Guarded, GuardedState};
 use crate::random::Random;
 use crate::reader;
 
-/// What is being done with an opened card.
+/// What is being done with an opened card; of an update also the final answer that is due.
 enum Now<'a> {
     Idle(Table<'a>),
-    Updating(Update<'a>, Option<u32>),
+    Updating(Update<'a>, WithDepth<Option<u32>>),
     Repairing(Repair<'a>),
 }
 
@@ -27,12 +30,19 @@ impl Now<'_> {
         }
     }
 
-    fn find(&self, key: NonZeroU32) -> Result<Option<u32>, Refusal> {
-        match self {
+    fn check_find(&self, key: NonZeroU32, book: &Book) {
+        let found = match self {
             Now::Idle(table) => table.find(key),
             Now::Updating(update, _) => update.find(key),
             Now::Repairing(repair) => repair.find(key),
-        }
+        };
+        self.check_answer(key.get(), found, book.pairs.get(&key.get()).copied());
+    }
+
+    /// A sound card's answer to a number, and the depth of the number's way.
+    fn check_answer<T: Copy + PartialEq + Debug>(&self, number: u32, answer: Answer<T>, due: T) {
+        let depth = reader::depth(self.card(), number).expect("no way down");
+        assert_eq!(answer, Ok(WithDepth { answer: due, depth }), "asked for {number}");
     }
 
     fn pairs(&self) -> Pairs<'_> {
@@ -50,9 +60,8 @@ impl Now<'_> {
             Now::Repairing(repair) => repair.next_after(number),
         };
         let above = (Bound::Excluded(number), Bound::Unbounded);
-        let due = book.pairs.range(above).next().map(|(&key, &value)| (key, value));
-        let pair = next.map(|next| next.map(|(key, value)| (key.get(), value)));
-        assert_eq!(pair, Ok(due), "next after {number}");
+        let due = book.pairs.range(above).next();
+        self.check_answer(number, next, due.map(|(&key, &value)| (NonZeroU32::new(key).expect("no key"), value)));
     }
 
     /// A walk gives the book's pairs in their order.
@@ -118,21 +127,23 @@ impl Lists {
     fn start<'a>(&mut self, table: Table<'a>, book: &mut Book, list: &List, insert_percent: u32) -> Now<'a> {
         let key = self.key(list);
         let held = book.pairs.get(&key.get()).copied();
-        let (leaf, run) = reader::landing(table.card(), key.get()).expect("no way down");
-        let full = reader::is_full(leaf);
+        let landing = reader::landing(table.card(), key.get()).expect("no way down");
+        let full = reader::is_full(landing.leaf);
+        let due = WithDepth { answer: held, depth: landing.depth };
+        let needed = landing.run + 5;
         if !self.random.percent(insert_percent) {
             let Ok(update) = table.delete(key) else { panic!("delete refused") };
             book.started(book::Update::Delete(key.get()), full);
-            return Now::Updating(update, held);
+            return Now::Updating(update, due);
         }
         let free = || reader::table(table.card()).expect("not sound").free(table.card());
-        let room = held.is_some() || !full || free() >= run + 5;
+        let room = held.is_some() || !full || free() >= needed;
         let value = self.random.word();
         match table.insert(key, value) {
             Ok(update) => {
                 assert!(room, "insert not refused");
                 book.started(book::Update::Insert(key.get(), value), full);
-                Now::Updating(update, held)
+                Now::Updating(update, due)
             }
             Err(refused) => {
                 assert!(!room && refused.refusal == Refusal::NoRoom, "insert refused: {}", refused.refusal);
@@ -220,7 +231,7 @@ impl Lists {
                 }
                 if self.random.percent(20) {
                     let key = self.key(list);
-                    assert_eq!(now.find(key), Ok(book.pairs.get(&key.get()).copied()), "find {key}");
+                    now.check_find(key, &book);
                     let number = match self.random.below(8) {
                         0 => 0,
                         1 => u32::MAX,

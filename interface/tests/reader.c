@@ -39,11 +39,10 @@ landing read_landing(const uint32_t *card, size_t words, uint32_t key)
     landing l = {.refused = true};
     uint32_t n = read_nodes(words);
     uint32_t m = card[4];
-    int internal = 0;
     while (m >= 1 && m <= n && (node_of(card, m)[0] == 2 || node_of(card, m)[0] == 3)) {
         const uint32_t *node = node_of(card, m);
         int c = children_of(node);
-        if (c == 0 || ++internal > 10)
+        if (c == 0 || ++l.depth > 10)
             return l;
         int i = 0;
         for (int k = 1; k <= c - 1 && node[k] <= key; k++)

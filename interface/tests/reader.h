@@ -20,8 +20,9 @@ typedef struct {
     bool refused; // 9 is due
     bool held;
     uint32_t value;
-    bool full;    // no empty slot in the leaf
-    uint32_t run; // 11-child nodes without a break straight above the leaf
+    bool full;      // no empty slot in the leaf
+    uint32_t run;   // 11-child nodes without a break straight above the leaf
+    uint32_t depth; // internal nodes passed, tagged ones too
 } landing;
 
 landing read_landing(const uint32_t *card, size_t words, uint32_t key);

@@ -3,7 +3,7 @@
 use std::collections::BTreeMap;
 
 use ration_table::calls::Opening;
-use ration_table::Refusal;
+use ration_table::{Refusal, WithDepth};
 
 pub fn nodes(words: usize) -> Option<usize> {
     (4..=600).find(|n| words == 8 + 24 * n)
@@ -30,23 +30,34 @@ fn children(node: &[u32]) -> &[u32] {
     &all[..all.iter().position(|&m| m == 0).unwrap_or(11)]
 }
 
-/// The leaf that a key leads to, with the number of 11-child nodes without a break straight above it.
-pub fn landing(card: &[u32], key: u32) -> Option<(&[u32], usize)> {
+/// The leaf that a key leads to, the number of 11-child nodes without a break straight above it, and that of all internal nodes
+/// passed, tagged ones too.
+pub struct Landing<'a> {
+    pub leaf: &'a [u32],
+    pub run: usize,
+    pub depth: u32,
+}
+
+pub fn landing(card: &[u32], key: u32) -> Option<Landing<'_>> {
     let mut at = node(card, card[4])?;
-    let mut run = 0;
-    for _ in 0..=10 {
+    let mut passed = Vec::new();
+    while matches!(at[0], 2 | 3) {
         let below = children(at);
-        match at[0] {
-            1 => return Some((at, run)),
-            2 | 3 if !below.is_empty() => {
-                let passed = at[1..below.len()].iter().take_while(|&&routing| routing <= key).count();
-                run = if below.len() == 11 { run + 1 } else { 0 };
-                at = node(card, below[passed])?;
-            }
-            _ => return None,
+        passed.push(below.len());
+        if below.is_empty() || passed.len() > 10 {
+            return None;
         }
+        let index = at[1..below.len()].iter().take_while(|&&routing| routing <= key).count();
+        at = node(card, below[index])?;
     }
-    (at[0] == 1).then_some((at, run))
+    let run = passed.iter().rev().take_while(|&&count| count == 11).count();
+    (at[0] == 1).then_some(Landing { leaf: at, run, depth: passed.len() as u32 })
+}
+
+/// The depth of a number's way on a card; nothing where the way is refused.
+pub fn depth(card: &[u32], number: u32) -> Option<u32> {
+    header(card).ok()?;
+    landing(card, number).map(|landing| landing.depth)
 }
 
 pub fn value_in(leaf: &[u32], key: u32) -> Option<u32> {
@@ -57,13 +68,13 @@ pub fn is_full(leaf: &[u32]) -> bool {
     leaf[1..12].iter().all(|&key| key != 0)
 }
 
-pub fn find(card: &[u32], key: u32) -> Result<Option<u32>, Refusal> {
+pub fn find(card: &[u32], key: u32) -> Result<WithDepth<Option<u32>>, Refusal> {
     header(card)?;
     if key == 0 {
         return Err(Refusal::KeyZero);
     }
-    let (leaf, _) = landing(card, key).ok_or(Refusal::BrokenWay)?;
-    Ok(value_in(leaf, key))
+    let Landing { leaf, depth, .. } = landing(card, key).ok_or(Refusal::BrokenWay)?;
+    Ok(WithDepth { answer: value_in(leaf, key), depth })
 }
 
 /// A sound table.

@@ -7,6 +7,7 @@
 #include "check.h"
 #include "guarded.h"
 #include "parts.h"
+#include "worked.h"
 
 static void print_answers(void)
 {
@@ -51,6 +52,18 @@ static void check_all_answers_seen(void)
     }
 }
 
+// Every depth was told by each call that tells one, and after an update that changed it.
+static void check_all_depths_seen(void)
+{
+    static const int calls[] = {FIND, NEXT, STEP};
+    for (size_t i = 0; i < sizeof calls / sizeof calls[0]; i++)
+        for (int depth = 0; depth < DEPTHS; depth++)
+            CHECK(told[calls[i]][depth] > 0, "call %d never told depth %d", calls[i], depth);
+    CHECK(told_before_growth > 0 && told_before_shrinking > 0, "no update changed a depth");
+    printf("  depths told of before: %llu updates made their way longer, %llu shorter\n",
+           (unsigned long long)told_before_growth, (unsigned long long)told_before_shrinking);
+}
+
 // Each code has a text of its own, and nothing else has one.
 static void check_texts(void)
 {
@@ -81,6 +94,7 @@ int main(int count, char **arguments)
     test_agreement(s);
     check_all_answers_seen();
     print_answers();
+    check_all_depths_seen();
     printf("C: all right, %u traces, %llu events\n", traces, (unsigned long long)events);
     return 0;
 }

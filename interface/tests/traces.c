@@ -18,6 +18,7 @@ typedef struct {
     const uint8_t *dump;
     size_t dump_bytes;
     bool from_node_1; // W-205 had not landed: after an opening the search for free nodes begins at node 1
+    bool depths;      // W-203 had landed: every answer that carries a depth stands there with it
     uint32_t traces;
     uint32_t line;
 } replay;
@@ -74,10 +75,11 @@ static uint32_t count_free_bits(const desk *d)
 }
 
 // Compares an answer with a trace's result. A store is compared with its place and word; the copy of the card before
-// the step, with that store, is the card after it.
+// the step, with that store, is the card after it. Where the trace has no depths, guarded.c alone looks at them.
 static void check_result(replay *r, desk *d, ration_answer a, char *at, uint32_t *card_before)
 {
     uint32_t code = 0, value = 0, key = 0;
+    bool has_depth = false;
     if (next_is(&at, "refused"))
         code = next_number(&at, 10);
     else if (next_is(&at, "started"))
@@ -86,19 +88,23 @@ static void check_result(replay *r, desk *d, ration_answer a, char *at, uint32_t
         code = RATION_IDLE;
     else if (next_is(&at, "repairing"))
         code = RATION_STARTED;
-    else if (next_is(&at, "absent") || next_is(&at, "answer absent"))
-        code = RATION_ABSENT;
     else if (next_is(&at, "ready"))
         code = RATION_READY;
-    else if (next_is(&at, "none"))
+    else if (next_is(&at, "absent") || next_is(&at, "answer absent")) {
+        code = RATION_ABSENT;
+        has_depth = true;
+    } else if (next_is(&at, "none")) {
         code = RATION_NONE;
-    else if (next_is(&at, "next")) {
+        has_depth = true;
+    } else if (next_is(&at, "next")) {
         code = RATION_NEXT;
         key = next_number(&at, 10);
         value = next_number(&at, 10);
+        has_depth = true;
     } else if (next_is(&at, "found") || next_is(&at, "answer")) {
         code = RATION_VALUE;
         value = next_number(&at, 10);
+        has_depth = true;
     } else if (next_is(&at, "store")) {
         code = RATION_STORED;
         value = next_number(&at, 10);
@@ -108,6 +114,11 @@ static void check_result(replay *r, desk *d, ration_answer a, char *at, uint32_t
     }
     CHECK(a.code == code && a.value == value && a.key == key, "line %u: code %u value %u key %u, due %u %u %u", r->line,
           a.code, a.value, a.key, code, value, key);
+    if (r->depths) {
+        CHECK(!has_depth || next_is(&at, "depth"), "line %u: no depth", r->line);
+        uint32_t depth = has_depth ? next_number(&at, 10) : 0;
+        CHECK(a.depth == depth, "line %u: depth %u, due %u", r->line, a.depth, depth);
+    }
     if (*at != 0)
         CHECK(count_free_bits(d) == next_number(&at, 10), "line %u: free nodes", r->line);
 }
@@ -272,6 +283,7 @@ static void replay_line(replay *r, char *line)
         return;
     if (next_is(&at, "features")) {
         r->from_node_1 = strstr(at, "W-205") == NULL;
+        r->depths = strstr(at, "W-203") != NULL;
     } else if (next_is(&at, "list")) {
         walk_list(r, result);
     } else if (next_is(&at, "trace")) {

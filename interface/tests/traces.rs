@@ -1,10 +1,29 @@
 //! Replays traces word for word over the single calls. The first line, `features`, names the requests of document 02 that the
 //! traces are right for. Of the program's `list` lines the pairs are compared with a walk over the card.
 
-use ration_table::calls::{self, Opening, Step};
+use ration_table::calls::{self, Opening, Step, STATE_WORDS};
 use ration_table::{Pairs, Refusal, StateBlock};
 
 use crate::guarded::{Desk, Guarded};
+
+/// What hangs on the requests that a file is right for.
+#[derive(Clone, Copy, Default)]
+struct Features {
+    /// W-205 had not landed: after an opening the search for free nodes begins at node 1.
+    from_node_1: bool,
+    /// W-203 had landed: every answer that carries a depth stands there with it. Where they do not, guarded.rs alone looks at them.
+    depths: bool,
+}
+
+impl Features {
+    fn with_depth(self, answer: String, depth: u32) -> String {
+        if self.depths {
+            format!("{answer} depth {depth}")
+        } else {
+            answer
+        }
+    }
+}
 
 fn crc(bytes: &[u8]) -> u32 {
     !bytes.iter().fold(u32::MAX, |crc, &byte| {
@@ -37,25 +56,28 @@ fn refused_or(answer: Result<String, Refusal>) -> String {
     answer.unwrap_or_else(|refusal| format!("refused {}", refusal.number()))
 }
 
-fn call(desk: &mut Desk, fields: &[&str], result: &str) -> String {
+fn call(desk: &mut Desk, fields: &[&str], result: &str, features: Features) -> String {
     let started = |answer: Result<(), Refusal>| refused_or(answer.map(|()| "started".into()));
     match *fields {
         ["format"] => started(desk.start_format()),
         ["insert", key, value] => started(desk.start_insert(number(key), number(value))),
         ["delete", key] => started(desk.start_delete(number(key))),
-        ["find", key] => refused_or(desk.find(number(key)).map(|found| match found {
-            Some(value) => format!("found {value}"),
-            None => "absent".into(),
+        ["find", key] => refused_or(desk.find(number(key)).map(|found| match found.answer {
+            Some(value) => features.with_depth(format!("found {value}"), found.depth),
+            None => features.with_depth("absent".into(), found.depth),
         })),
-        ["next", after] => refused_or(desk.next_after(number(after)).map(|next| match next {
+        ["next", after] => refused_or(desk.next_after(number(after)).map(|next| match next.answer {
             // on a card that is not sound "any pair above X, none or refused 9 will do"
             Some((key, _)) if result == "loose" && key > number(after) => "loose".into(),
             None if result == "loose" => "loose".into(),
-            Some((key, value)) => format!("next {key} {value}"),
-            None => "none".into(),
+            Some((key, value)) => features.with_depth(format!("next {key} {value}"), next.depth),
+            None => features.with_depth("none".into(), next.depth),
         })),
         ["open"] => {
             let answer = desk.open();
+            if features.from_node_1 {
+                search_from_node_1(desk);
+            }
             let free = free_bits(desk.block());
             refused_or(answer.map(|opening| match opening {
                 Opening::Idle => format!("idle {free}"),
@@ -66,8 +88,8 @@ fn call(desk: &mut Desk, fields: &[&str], result: &str) -> String {
             let mut before = desk.card().to_vec();
             refused_or(desk.step().map(|step| match step {
                 Step::Ready => "ready".into(),
-                Step::Held(value) => format!("answer {value}"),
-                Step::Absent => "answer absent".into(),
+                Step::Held { value, depth } => features.with_depth(format!("answer {value}"), depth),
+                Step::Absent { depth } => features.with_depth("answer absent".into(), depth),
                 Step::Stored { place } => {
                     // The card before, with the store that is due, is the card after.
                     let due: Vec<&str> = result.split(' ').collect();
@@ -84,13 +106,13 @@ fn call(desk: &mut Desk, fields: &[&str], result: &str) -> String {
 }
 
 /// "the first L words, or the card followed by 0s; the card in hand is not changed, the state handed back counts"
-fn call_on(desk: &mut Desk, words: usize, fields: &[&str], result: &str) -> String {
+fn call_on(desk: &mut Desk, words: usize, fields: &[&str], result: &str, features: Features) -> String {
     let mut other = Desk::new(words);
     for (place, &word) in desk.card().iter().take(words).enumerate() {
         other.set(place, word);
     }
     other.set_block(desk.block().clone());
-    let answer = call(&mut other, fields, result);
+    let answer = call(&mut other, fields, result, features);
     desk.set_block(other.block().clone());
     desk.events += other.events;
     answer
@@ -142,7 +164,7 @@ fn pairs_listed(text: &str) -> &str {
 /// Gives the number of traces and of events.
 pub fn test(text: &str) -> (u32, u64) {
     let (mut traces, mut stores, mut events) = (0, 0, 0);
-    let mut from_node_1 = false;
+    let mut features = Features::default();
     let mut desk = Desk::new(0);
     let mut bytes = Vec::new();
     for (line_number, line) in text.lines().enumerate() {
@@ -162,7 +184,7 @@ pub fn test(text: &str) -> (u32, u64) {
                 }
             }
             ["poke", place, word] => desk.set(number(place) as usize, number(word)),
-            ["cut"] => desk.set_block(StateBlock::from_words([0xa5c3_a5c3; 177])),
+            ["cut"] => desk.set_block(StateBlock::from_words([0xa5c3_a5c3; STATE_WORDS])),
             ["state0"] => desk.set_block(StateBlock::new()),
             ["crc", due] => assert_eq!(format!("{:08x}", crc_of_words(desk.card())), due, "line {}", line_number + 1),
             ["end", due, due_stores] => {
@@ -184,10 +206,7 @@ pub fn test(text: &str) -> (u32, u64) {
                 desk.events += 1;
             }
             ["on", words, ref rest @ ..] => {
-                answer = Some(call_on(&mut desk, number(words) as usize, rest, result));
-                if from_node_1 && rest == ["open"] {
-                    search_from_node_1(&mut desk);
-                }
+                answer = Some(call_on(&mut desk, number(words) as usize, rest, result, features));
             }
             ["run", steps, due] => {
                 let mut stored = Vec::new();
@@ -199,13 +218,12 @@ pub fn test(text: &str) -> (u32, u64) {
                 stores += number(steps);
             }
             ["list"] => assert_eq!(list(&bytes), pairs_listed(result), "line {}", line_number + 1),
-            ["features", ..] => from_node_1 = !fields.contains(&"W-205"),
+            ["features", ..] => {
+                features = Features { from_node_1: !fields.contains(&"W-205"), depths: fields.contains(&"W-203") };
+            }
             ["#", ..] => {}
             _ => {
-                let given = call(&mut desk, &fields, result);
-                if from_node_1 && fields == ["open"] {
-                    search_from_node_1(&mut desk);
-                }
+                let given = call(&mut desk, &fields, result, features);
                 stores += u32::from(given.starts_with("store "));
                 answer = Some(given);
             }

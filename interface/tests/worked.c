@@ -9,6 +9,8 @@
 // "an update stores at most 73 x 9 = 657 words"; a repair begins where an update was cut.
 enum { MOST_STORES = 657 };
 
+uint64_t told_before_growth, told_before_shrinking;
+
 static table_reading reading;
 
 static worked *worked_new(uint32_t nodes)
@@ -189,6 +191,16 @@ void worked_walk(worked *w)
               pairs[i].key, pairs[i].value);
 }
 
+// The way of an update's key at its end may be another than the one whose depth it tells.
+static void count_changed_depth(const worked *w, ration_answer final)
+{
+    if (w->in_progress != UPDATE)
+        return;
+    uint32_t depth = read_landing(w->desk->card, w->desk->words, w->book.key).depth;
+    told_before_growth += depth > final.depth;
+    told_before_shrinking += depth < final.depth;
+}
+
 void worked_step(worked *w)
 {
     ration_answer a = desk_step(w->desk);
@@ -206,6 +218,7 @@ void worked_step(worked *w)
     }
     CHECK(a.code == w->due.code && a.value == w->due.value, "final answer %u %u, due %u %u", a.code, a.value,
           w->due.code, w->due.value);
+    count_changed_depth(w, a);
     book_stepped(&w->book, true);
     w->in_progress = NOTHING;
 }

@@ -15,6 +15,9 @@ typedef struct {
     uint32_t most_stores;
 } worked;
 
+// How many updates told a depth that their key's way no longer had at the end: one less, and one more.
+extern uint64_t told_before_growth, told_before_shrinking;
+
 // A card of other words, formatted to "ready".
 worked *worked_format(uint32_t nodes, random_stream *random);
 

@@ -5,6 +5,7 @@ use std::num::NonZeroU32;
 
 use ration_table::{
     card_words, FinalAnswer, InProgress, Opened, Pairs, Progress, Refusal, Refused, StateBlock, Table, Unfinished,
+    WithDepth,
 };
 
 const NODES: usize = 4;
@@ -28,7 +29,7 @@ fn finish<A: FinalAnswer>(mut work: InProgress<A>) -> Result<(Table, A, usize), 
 /// A `?` on what a call refuses, as a number alone.
 fn put_in(table: Table, pair: u32) -> Result<Table, Refusal> {
     let (table, held, _) = finish(table.insert(key(pair), 10 * pair)?)?;
-    assert_eq!(held, None);
+    assert_eq!(held.answer, None);
     Ok(table)
 }
 
@@ -79,7 +80,7 @@ fn abandoned() {
         assert_eq!(format!("{update:?}"), "InProgress { table: Table { card_words: 104, .. }, .. }");
         let (card, state) = update.into_parts();
         let Opened::Idle(opened) = Table::open(card, state).unwrap() else { panic!("a repair") };
-        assert_eq!(opened.find(key(7)), Ok(found));
+        assert_eq!(opened.find(key(7)), Ok(WithDepth { answer: found, depth: 0 }));
         table = opened;
     }
     let (_, state) = table.into_parts();
@@ -116,7 +117,7 @@ fn behind_a_bus() {
         let (copy, state) = ahead.into_parts();
         copy.copy_from_slice(&bus);
         let Opened::Idle(opened) = Table::open(copy, state).unwrap() else { panic!("a repair") };
-        assert_eq!(opened.find(key(7)), Ok(found));
+        assert_eq!(opened.find(key(7)), Ok(WithDepth { answer: found, depth: 0 }));
         table = opened;
     }
 }
@@ -131,13 +132,13 @@ fn walked() {
     assert_eq!((pairs.next(), pairs.next()), (Some(Err(Refusal::NotFormatted)), None));
     assert_eq!(formatting.next_after(0), Err(Refusal::NotFormatted));
     let (mut table, (), _) = finish(formatting).unwrap();
-    assert_eq!((table.pairs().next(), table.next_after(0)), (None, Ok(None)));
+    assert_eq!((table.pairs().next(), table.next_after(0)), (None, Ok(WithDepth { answer: None, depth: 0 })));
     for pair in [7, u32::MAX, 1] {
         (table, _) = table.insert(key(pair), pair / 2).unwrap().finish().unwrap();
     }
     let three = vec![(key(1), 0), (key(7), 3), (key(u32::MAX), u32::MAX / 2)];
     assert_eq!(all(table.pairs()), Ok(three.clone()));
-    assert_eq!(table.next_after(u32::MAX), Ok(None));
+    assert_eq!(table.next_after(u32::MAX), Ok(WithDepth { answer: None, depth: 0 }));
 
     let update = table.delete(key(7)).unwrap();
     let mut pairs = update.pairs();
@@ -153,6 +154,33 @@ fn walked() {
     card[4] = 9; // the root is no node of the card
     assert_eq!(Pairs::on(&card).collect::<Vec<_>>(), [Err(Refusal::BrokenWay)]);
     assert_eq!(Pairs::on(&card[1..]).collect::<Vec<_>>(), [Err(Refusal::WrongLength)]);
+}
+
+/// The depth beside each answer: an update tells that of its start, which is another after a root was split or merged.
+fn depths() {
+    let (mut card, mut state) = ([0; card_words(6)], StateBlock::new());
+    let (mut table, (), _) = finish(Table::format(&mut card, &mut state).unwrap()).unwrap();
+    for pair in 1..=11 {
+        table = put_in(table, pair).unwrap();
+    }
+    assert_eq!(table.find(key(7)), Ok(WithDepth { answer: Some(70), depth: 0 }));
+    let (table, inserted) = table.insert(key(12), 120).unwrap().finish().unwrap();
+    assert_eq!(inserted, WithDepth { answer: None, depth: 0 });
+    assert_eq!(table.find(key(7)), Ok(WithDepth { answer: Some(70), depth: 1 }));
+    assert_eq!(table.find(key(13)), Ok(WithDepth { answer: None, depth: 1 }));
+    assert_eq!(table.next_after(6), Ok(WithDepth { answer: Some((key(7), 70)), depth: 1 }));
+    assert_eq!(table.next_after(12), Ok(WithDepth { answer: None, depth: 1 }));
+    let (table, inserted) = table.insert(key(12), 121).unwrap().finish().unwrap();
+    assert_eq!(inserted, WithDepth { answer: Some(120), depth: 1 });
+    let (mut table, mut deleted) = table.delete(key(13)).unwrap().finish().unwrap();
+    assert_eq!(deleted, WithDepth { answer: None, depth: 1 });
+    let mut depth = 1;
+    for pair in 1..=9 {
+        (table, deleted) = table.delete(key(pair)).unwrap().finish().unwrap();
+        assert_eq!(deleted, WithDepth { answer: Some(10 * pair), depth });
+        depth = table.find(key(12)).unwrap().depth;
+    }
+    assert_eq!(depth, 0);
 }
 
 /// The manual's text for each refusal is the one that is printed here.
@@ -185,5 +213,6 @@ pub fn test() {
     abandoned();
     behind_a_bus();
     walked();
+    depths();
     texts();
 }

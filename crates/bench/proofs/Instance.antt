@@ -20,8 +20,8 @@ use Rattle.change_decide.specs.Decide.{decidedRepair}
 use Rattle.change_layout.specs.LayOut.{layOut}
 use Rattle.change_layout.specs.Mending.{nextRepair}
 use Rattle.change_siblings.specs.Siblings.{togetherAt}
-use Rattle.walk.specs.Descent.{passed, childIndex, childFor, firstEqual, slotOf, outside, lookIn, lookAt, rootPosition, childPosition, past, byLook, wayFrom}
-use Rattle.walk.specs.Descent.{way, reachedAt, leafOf, runOver, landedAt, landingOf, countOf, isFault, firstFault, ended, toList, endOf}
+use Rattle.walk.specs.Descent.{passed, childIndex, childFor, firstEqual, slotOf, outside, lookIn, lookAt, rootPosition, childPosition, past, byLook, wayFrom, leafOf, reachedAt, depthOf}
+use Rattle.walk.specs.Descent.{way, runOver, landedAt, landingOf, countOf, isFault, firstFault, ended, toList, endOf}
 use Rattle.walk.specs.Descent.{searchOf, seek}
 use Rattle.card_free.specs.NodeSet.{allNodes, countTrue, firstTrue, firstFrom, orElse, nextFree}
 use Rattle.laws.specs.Sorting.{insertPair, insertAll, sort}
@@ -128,7 +128,7 @@ unfolding readyIn isStored isReady after kept feed told outcome replyTo fedStart
     startChecked startRoom roomFor startLanded startAccepted stepRefused startRefused withAll giving overNumbers takeNumbers numbersFrom
     nextFree firstFrom firstTrue orElse withoutAll lastOf splitLeaf changeStores sort insertAll insertPair kindAbove nodeImage countTrue
     childPosition childFor childIndex passed routingKeys runBelow deleteOf deleteChange isNode share merge mergeRoot leavesTogether
-    innersTogether half leftKeys keyBetween absorb splitParent joinedKeys joinedChildren findOf cardRefusal foundAt leafOf reachedAt foundIn
+    innersTogether half leftKeys keyBetween absorb splitParent joinedKeys joinedChildren findOf cardRefusal foundAt leafOf reachedAt depthOf foundIn
     noBeginning noMemory openOf openChecked openSound tableCheck nodeCheck onLook enterNode enterKind enterLeaf enterInner innerSound noted
     lookOf leafSound member unusedZero childrenCheck raised halves copied rangeEnd slotSound heldBy stepChecked stepTask inLeaf noWay layOut
     decidedRepair decideAt decideTagged decideUnderfull decideSiblings decideTogether togetherAt

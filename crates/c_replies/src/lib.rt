@@ -2,14 +2,15 @@
 use call_find::Found;
 use state::Answer;
 use state::Begun;
+use state::block::depth_kept;
 use walk_next::Successor;
 ghost use mathlib.Core.Path.{_≡_};
-ghost use Rattle.card.specs.Replies.{plain, valued, next};
+ghost use Rattle.card.specs.Replies.{plain, valued, next, withDepth};
 ghost use Rattle.call_find.specs.Answers.{foundReply};
-ghost use Rattle.state.specs.Answers.{stepReply, startReply};
+ghost use Rattle.state.specs.Answers.{stepReply, toldDepth, startReply};
 ghost use Rattle.card_dump.specs.Answers.{dumpReply};
 ghost use Rattle.walk_next.specs.Successor.{nextReply};
-ghost use Rattle.c_replies.specs.ReplyWords.{replyOf, ShortDump};
+ghost use Rattle.c_replies.specs.ReplyWords.{replyOf, keptDepth, ShortDump};
 
 #[repr(C)]
 pub struct Reply {
@@ -70,6 +71,18 @@ fn next(key: u32, value: u32) -> Reply
     }
 }
 
+// The same answer with the depth beside it: how many internal nodes the look-up passed (document 02, W-203).
+pub fn with_depth(reply: Reply, depth: u32) -> Reply
+    ensures { λ r. ⌜ replyOf r ≡ withDepth depth (replyOf reply) ⌝ }
+{
+    Reply {
+        code: reply.code,
+        value: reply.value,
+        key: reply.key,
+        depth,
+    }
+}
+
 pub fn found_reply(found: Found) -> Reply
     ensures { λ r. ⌜ replyOf r ≡ foundReply found ⌝ }
 {
@@ -80,14 +93,16 @@ pub fn found_reply(found: Found) -> Reply
     }
 }
 
-pub fn step_reply(answer: Answer) -> Reply
-    ensures { λ r. ⌜ replyOf r ≡ stepReply answer ⌝ }
+// The final answers of an insert or a delete have the depth beside them that the state handed back keeps. It is read for these alone: read
+// before each step it took five instructions of every store.
+pub fn step_reply(answer: Answer, state: &[u32]) -> Reply
+    ensures { λ r. ⌜ replyOf r ≡ withDepth (toldDepth (keptDepth (now (state .entry))) answer) (stepReply answer) ⌝ }
 {
     match answer {
         Answer::Stored(place) => valued(STORED, place),
         Answer::Ready => plain(READY),
-        Answer::Absent => plain(ABSENT),
-        Answer::Value(value) => valued(VALUE, value),
+        Answer::Absent => with_depth(plain(ABSENT), depth_kept(state)),
+        Answer::Value(value) => with_depth(valued(VALUE, value), depth_kept(state)),
         Answer::Refused(refusal) => plain(refusal),
     }
 }

@@ -71,9 +71,9 @@ module _ (card : List ℕ) (n key : ℕ) where
   unfolding landing landingOf landedAt
   land-refused e = ap (landedAt _) (unsought-refused card (way card n key) e)
 
-  pub land-leaf : (p : Position) → endOf card false (way card n key) ≡ EndLeaf p → landing card n key ≡ LandingAt (p .node) (p .link) (runOver card 0 (way card n key .inner))
+  pub land-leaf : (p : Position) (depth : ℕ) → endOf card false (way card n key) ≡ EndLeaf p depth → landing card n key ≡ LandingAt (p .node) (p .link) (runOver card 0 (way card n key .inner))
   unfolding landing landingOf landedAt
-  land-leaf p e = ap (landedAt _) (unsought-leaf card (way card n key) p e)
+  land-leaf p depth e = ap (landedAt _) (unsought-leaf card (way card n key) p depth e)
 
 module _ (card : List ℕ) (n key m link run : ℕ) (fits : Sized (length card) n) where
   child-linked : (q : Position) → q .link < 2 ^ 32 → lookAt card n (q .node) ≡ IsInner → 0 < length (children (nodeAt card (q .node))) → childPosition (nodeAt card (q .node)) key q .link < 2 ^ 32

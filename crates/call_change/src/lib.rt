@@ -117,9 +117,9 @@ fn arrive(card: &[u32], n: usize, key: u32) -> Arrival
     match walk::descend(card, n, key, card[card::ROOT_PLACE] as usize, false) {
         End::Refused => Arrival::Refused,
         End::Fault(_) => Arrival::Refused,
-        End::Leaf(p) => Arrival::Leaf {
-            node: p.node,
-            link: p.link,
+        End::Leaf { position, depth: _ } => Arrival::Leaf {
+            node: position.node,
+            link: position.link,
         },
     }
 }

@@ -6,7 +6,7 @@ use lib.Dec.{eqb}
 use Rattle.laws.specs.Cases.{pick}
 use Rattle.card.specs.Layout.{nodeAt}
 use Rattle.card.specs.Header.{nodesOfLength, cardRefusal}
-use Rattle.walk.specs.Descent.{slotOf, way, leafOf}
+use Rattle.walk.specs.Descent.{slotOf, way, leafOf, depthOf}
 use Rattle.walk.specs.declared.Slot.{Slot}
 use Rattle.walk.specs.declared.Slot.the-variants.{At, Absent as NoSlot}
 use Rattle.walk.specs.declared.Reached.{Reached}
@@ -30,3 +30,8 @@ findOf card key =
     pick (eqb (cardRefusal card) 0)
     (pick (eqb key 0) (FoundRefused 6) (foundAt card key (leafOf (way card (nodesOfLength (length card)) key))))
     (FoundRefused (cardRefusal card))
+
+-- Document 02, W-203: "the number of internal nodes on the given number's way when the call began, tagged ones counted. A refusal carries
+-- none": 0 for every refusal of `findOf`
+unfoldable pub findDepth : List ℕ → ℕ → ℕ
+findDepth card key = pick (eqb (cardRefusal card) 0) (pick (eqb key 0) 0 (depthOf (leafOf (way card (nodesOfLength (length card)) key)))) 0

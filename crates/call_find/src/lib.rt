@@ -5,9 +5,10 @@ ghost use mathlib.Core.Path.{_≡_};
 ghost use Prim.Native.Nat.{_+_, _*_, _≤_};
 ghost use lib.ListN.{length};
 ghost use Rattle.card.specs.Header.{cardRefusal};
-ghost use Rattle.card.specs.Layout.{greatestNodes};
-ghost use Rattle.walk.specs.Descent.{slotOf, way, leafOf};
-ghost use Rattle.call_find.specs.Find.{foundIn, foundAt, findOf};
+ghost use Rattle.card.specs.Layout.{greatestNodes, depthLimit};
+ghost use Rattle.walk.specs.Descent.{slotOf, way, leafOf, depthOf};
+ghost use Rattle.call_find.specs.Find.{foundIn, foundAt, findOf, findDepth};
+ghost use Rattle.call_find.specs.declared.Found.the-variants.{Refused as FoundRefused};
 
 // What a find answers.
 pub enum Found {
@@ -27,27 +28,55 @@ fn found_in(node: &[u32], key: u32) -> Found
     }
 }
 
-// The value of a key that is not 0, on a card of n nodes.
-fn found_at(card: &[u32], n: usize, key: u32) -> Found
-    requires { ⌜ (length (now card) ≡ 8 + 24 * n) × (n ≤ greatestNodes) ⌝ }
-    ensures { λ r. ⌜ r ≡ foundAt (now (card .entry)) key (leafOf (way (now (card .entry)) n key)) ⌝ }
+// What a find answers, and beside it how many internal nodes its way passed; 0 where it is refused (document 02, W-203).
+pub struct Lookup {
+    pub found: Found,
+    pub depth: usize,
+}
+
+// "A refusal carries none."
+fn refused(refusal: u32) -> Lookup
+    ensures { λ r. ⌜ (r .found ≡ FoundRefused refusal) × (r .depth ≡ 0) ⌝ }
 {
-    match walk::find_leaf(card, n, key, card[card::ROOT_PLACE] as usize) {
-        Reached::Refused => Found::Refused(9),
-        Reached::Leaf { node, depth: _ } => found_in(card::node_at(card, node), key),
+    Lookup {
+        found: Found::Refused(refusal),
+        depth: 0,
     }
 }
 
-// "A find is one call on the card alone; it may come between steps and answers by the map at that moment."
-pub fn find(card: &[u32], key: u32) -> Found
-    ensures { λ r. ⌜ r ≡ findOf (now (card .entry)) key ⌝ }
+// The value of a key that is not 0, on a card of n nodes.
+fn found_at(card: &[u32], n: usize, key: u32) -> Lookup
+    requires { ⌜ (length (now card) ≡ 8 + 24 * n) × (n ≤ greatestNodes) ⌝ }
+    ensures { λ r. ⌜ (r .found ≡ foundAt (now (card .entry)) key (leafOf (way (now (card .entry)) n key)))
+        × (r .depth ≡ depthOf (leafOf (way (now (card .entry)) n key))) ⌝ }
+{
+    match walk::find_leaf(card, n, key, card[card::ROOT_PLACE] as usize) {
+        Reached::Refused => refused(9),
+        Reached::Leaf { node, depth } => Lookup {
+            found: found_in(card::node_at(card, node), key),
+            depth,
+        },
+    }
+}
+
+// "A find is one call on the card alone; it may come between steps and answers by the map at that moment." It hands on how
+// many internal nodes it passed.
+pub fn find_with_depth(card: &[u32], key: u32) -> Lookup
+    ensures { λ r. ⌜ (r .found ≡ findOf (now (card .entry)) key) × (r .depth ≡ findDepth (now (card .entry)) key) × (r .depth ≤ depthLimit) ⌝ }
 {
     let refusal = card::card_refusal(card);
     if refusal != 0 {
-        return Found::Refused(refusal);
+        return refused(refusal);
     }
     if key == 0 {
-        return Found::Refused(6);
+        return refused(6);
     }
     found_at(card, card::nodes_of(card.len()), key)
+}
+
+// The same without the depth.
+pub fn find(card: &[u32], key: u32) -> Found
+    ensures { λ r. ⌜ r ≡ findOf (now (card .entry)) key ⌝ }
+{
+    find_with_depth(card, key).found
 }

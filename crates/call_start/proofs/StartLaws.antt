@@ -1,8 +1,9 @@
 -- Laws of the starts: one for each branch of the code.
-use mathlib.Core.Path.{_≡_, refl, ap, sym, subst, _∙_}
+use mathlib.Core.Path.{_≡_, refl, ap, ap₂, sym, subst, _∙_}
 use mathlib.Core.List.{List}
 use mathlib.Core.Bool.{Bool, true, false, not}
 use mathlib.Core.Logic.{by-cases}
+use mathlib.Core.Option.{none}
 use Prim.Native.Nat.{ℕ, _-_, _≤_, _<_}
 use native.Mathlib.Omega.{arith}
 use native.Mathlib.Decide.{ℕ-discrete}
@@ -10,16 +11,17 @@ use lib.ListN.{length, set}
 use lib.Dec.{ltb, leb, eqb}
 use borrow.Author.Tests.{lt-ltb, le-ltb, le-leb, lt-leb, eqb-true, eqb-false, ne-eqb, eq-eqb}
 use Rattle.card.specs.Header.{nodesOfLength, headerRefusal, Sized}
-use Rattle.card.specs.Layout.{formattedRoot}
+use Rattle.card.specs.Layout.{depthLimit, formattedRoot}
 use Rattle.card.proofs.HeaderLaws.{nodes-sized}
-use Rattle.walk.specs.Descent.{slotOf}
+use Rattle.walk.specs.Descent.{slotOf, Way, way, reachedAt, leafOf, depthOf}
+use Rattle.walk.proofs.Along.{way-depth-le}
 use Rattle.card_free.specs.NodeSet.{allNodes, countTrue}
 use Rattle.laws.proofs.Cases.{bool-cases, order, impossible}
 use Rattle.laws.specs.Cases.{pick}
 use Rattle.state.specs.Steps.{Handed, isIdle, noBeginning}
 use Rattle.call_start.specs.Starts.{formatOf, startRefused, startAccepted, startLanded, startChecked, startOf}
 use Rattle.state.specs.Memory.{Memory, resting}
-use Rattle.call_start.specs.Refusals.{isSlot, startRefusal, landingRefusal, dueRefusal, begunBy}
+use Rattle.call_start.specs.Refusals.{isSlot, startRefusal, landingRefusal, dueRefusal, dueDepth, begunBy}
 use Rattle.call_change.specs.Updates.{landing, emptyReason, reasonIn, insertReason, splitNeed, roomFor}
 use Rattle.walk.specs.declared.Slot.{Slot}
 use Rattle.walk.specs.declared.Slot.the-variants.{At, Absent as NoSlot}
@@ -28,7 +30,7 @@ use Rattle.walk.specs.declared.Landing.the-variants.{Refused as NoLanding, Leaf
 use Rattle.state.specs.Block.{stateWords, memoryIn}
 use Rattle.state.specs.Blocks.{begunBlock, startedBlock}
 use Rattle.state.specs.Contracts.{StartCall}
-use Rattle.state.proofs.Blocks.{withDoing, memory-begun}
+use Rattle.state.proofs.Blocks.{withDoing, memory-begun, withDepth, memory-deep, begun-length}
 use Rattle.state.specs.declared.Doing.{Doing}
 use Rattle.state.specs.declared.Doing.the-variants.{Formatting}
 use Rattle.state.specs.declared.Begun.{Begun}
@@ -117,6 +119,23 @@ chain-taken false true true false e h m x p q = absurd (omega arith)
 chain-taken false true true true true h m x p q = absurd (omega arith)
 chain-taken false true true true false h m x p q = refl
 
+module _ (card : List ℕ) (nodes : ℕ) (idle : Bool) (key : ℕ) where
+  pub depth-early : (startRefusal card nodes idle key ≡ 0 → ⊥) → dueDepth card nodes idle key ≡ 0
+  depth-early p = rw (ne-eqb (startRefusal card nodes idle key) 0 p) refl
+
+  pub depth-landing : startRefusal card nodes idle key ≡ 0 → dueDepth card nodes idle key ≡ depthOf (leafOf (way card nodes key))
+  depth-landing z = rw (eq-eqb (startRefusal card nodes idle key) 0 z) refl
+
+-- "more than 10 internal nodes" are refused
+pub depth-bound : (card : List ℕ) (nodes : ℕ) (idle : Bool) (key : ℕ) → dueDepth card nodes idle key ≤ depthLimit
+depth-bound card nodes idle key =
+    bool-cases (eqb (startRefusal card nodes idle key) 0) (λ q. rw q (way-depth-le card nodes key)) (λ q. rw q (omega arith))
+
+-- a way that is refused tells none
+pub no-depth : (w : Way) → w .leaf ≡ none → depthOf (leafOf w) ≡ 0
+unfolding depthOf leafOf reachedAt
+no-depth w e = rw e refl
+
 module _ (card : List ℕ) (nodes : ℕ) (idle : Bool) (key : ℕ) (room : Landing → Bool) where
   pub due-early : (startRefusal card nodes idle key ≡ 0 → ⊥) → dueRefusal card nodes idle key room ≡ startRefusal card nodes idle key
   due-early p = rw (ne-eqb (startRefusal card nodes idle key) 0 p) refl
@@ -124,11 +143,11 @@ module _ (card : List ℕ) (nodes : ℕ) (idle : Bool) (key : ℕ) (room : Landi
   pub due-landing : startRefusal card nodes idle key ≡ 0 → dueRefusal card nodes idle key room ≡ landingRefusal (room (landing card nodes key)) (landing card nodes key)
   due-landing z = rw (eq-eqb (startRefusal card nodes idle key) 0 z) refl
 
-landed-due : (m : Memory) (doing : Doing) (room : Bool) (l : Landing) → startLanded m doing room l ≡ begunBy (landingRefusal room l) m doing
+landed-due : (m : Memory) (doing : Doing) (depth : ℕ) (room : Bool) (l : Landing) → startLanded m doing depth room l ≡ begunBy (landingRefusal room l) depth m doing
 unfolding startLanded landingRefusal
-landed-due m doing room NoLanding = refl
-landed-due m doing true (LandingAt node link run) = refl
-landed-due m doing false (LandingAt node link run) = refl
+landed-due m doing depth room NoLanding = refl
+landed-due m doing depth true (LandingAt node link run) = refl
+landed-due m doing depth false (LandingAt node link run) = refl
 
 module _ (card : List ℕ) (m : Memory) (key : ℕ) (doing : Doing) (room : Landing → Bool) where
   start-refused : (startRefusal card (m .nodes) (isIdle (m .doing)) key ≡ 0 → ⊥) → startOf card m key doing room ≡ startRefused (startRefusal card (m .nodes) (isIdle (m .doing)) key) m
@@ -137,7 +156,8 @@ module _ (card : List ℕ) (m : Memory) (key : ℕ) (doing : Doing) (room : Land
       chain-refused (eqb (nodesOfLength (length card)) 0) (eqb (nodesOfLength (length card)) (m .nodes))
       (eqb (headerRefusal card (m .nodes)) 0) (isIdle (m .doing)) (eqb key 0) (headerRefusal card (m .nodes)) m _ p
 
-  start-taken : startRefusal card (m .nodes) (isIdle (m .doing)) key ≡ 0 → startOf card m key doing room ≡ startLanded m doing (room (landing card (m .nodes) key)) (landing card (m .nodes) key)
+  start-taken : startRefusal card (m .nodes) (isIdle (m .doing)) key ≡ 0
+      → startOf card m key doing room ≡ startLanded m doing (depthOf (leafOf (way card (m .nodes) key))) (room (landing card (m .nodes) key)) (landing card (m .nodes) key)
   unfolding startRefusal startOf startChecked
   start-taken q =
       chain-taken (eqb (nodesOfLength (length card)) 0) (eqb (nodesOfLength (length card)) (m .nodes))
@@ -145,13 +165,17 @@ module _ (card : List ℕ) (m : Memory) (key : ℕ) (doing : Doing) (room : Land
       (λ c z. eqb-false (headerRefusal card (m .nodes)) 0 c z) q
 
   -- the refusal due decides what is handed back
-  pub start-due : startOf card m key doing room ≡ begunBy (dueRefusal card (m .nodes) (isIdle (m .doing)) key room) m doing
+  pub start-due : startOf card m key doing room
+      ≡ begunBy (dueRefusal card (m .nodes) (isIdle (m .doing)) key room) (dueDepth card (m .nodes) (isIdle (m .doing)) key) m doing
   start-due =
       by-cases (ℕ-discrete (startRefusal card (m .nodes) (isIdle (m .doing)) key) 0)
-      (λ z. start-taken z ∙ landed-due m doing (room (landing card (m .nodes) key)) (landing card (m .nodes) key)
-      ∙ sym (ap (λ (r : ℕ). begunBy r m doing) (due-landing card (m .nodes) (isIdle (m .doing)) key room z)))
-      (λ p. start-refused p ∙ sym (ap (λ (r : ℕ). begunBy r m doing) (due-early card (m .nodes) (isIdle (m .doing)) key room p)
-      ∙ ap (λ (b : Bool). pick b (startAccepted m doing) (startRefused (startRefusal card (m .nodes) (isIdle (m .doing)) key) m))
+      (λ z. start-taken z ∙ landed-due m doing _ (room (landing card (m .nodes) key)) (landing card (m .nodes) key)
+      ∙ sym (ap₂ (λ (r depth : ℕ). begunBy r depth m doing)
+      (due-landing card (m .nodes) (isIdle (m .doing)) key room z) (depth-landing card (m .nodes) (isIdle (m .doing)) key z)))
+      (λ p. start-refused p ∙ sym (ap (λ (r : ℕ). begunBy r (dueDepth card (m .nodes) (isIdle (m .doing)) key) m doing)
+      (due-early card (m .nodes) (isIdle (m .doing)) key room p)
+      ∙ ap (λ (b : Bool). pick b (startAccepted m doing (dueDepth card (m .nodes) (isIdle (m .doing)) key))
+      (startRefused (startRefusal card (m .nodes) (isIdle (m .doing)) key) m))
       (ne-eqb (startRefusal card (m .nodes) (isIdle (m .doing)) key) 0 p)))
 
 pub start-sized : (card : List ℕ) (nodes : ℕ) (idle : Bool) (key : ℕ) → startRefusal card nodes idle key ≡ 0 → Sized (length card) nodes
@@ -209,16 +233,25 @@ started-no-refusal n e = impossible (cc)
 
 -- ---- what a start on the block leaves, by the refusal that it is due
 
-module _ (block : List ℕ) (l : length block ≡ stateWords) (doing : Doing) (refusal : ℕ) where
-  pub start-refused-in : (refusal ≡ 0 → ⊥) → StartCall block block (BegunRefused refusal) doing (begunBy refusal (memoryIn block) doing)
+module _ (block : List ℕ) (l : length block ≡ stateWords) (doing : Doing) (refusal depth : ℕ) where
+  pub start-refused-in : (refusal ≡ 0 → ⊥) → StartCall block block (BegunRefused refusal) doing (begunBy refusal depth (memoryIn block) doing)
   unfolding startRefused startedBlock
   start-refused-in p =
       rw (ne-eqb refusal 0 p) (record { answered = λ k. refl; handed = λ k. refl; words = λ k. refl; no-state = λ n. absurd (n l) })
 
-  pub started-in : (after : List ℕ) → refusal ≡ 0 → after ≡ begunBlock block doing → StartCall block after Started doing (begunBy refusal (memoryIn block) doing)
-  unfolding startAccepted startedBlock withDoing
+  pub started-in : (after : List ℕ) → refusal ≡ 0 → after ≡ set (begunBlock block doing) 177 depth
+      → StartCall block after Started doing (begunBy refusal depth (memoryIn block) doing)
+  unfolding startAccepted startedBlock withDoing withDepth
   started-in after z e =
-      rw (eq-eqb refusal 0 z) (record { answered = λ k. refl; handed = λ k. ap memoryIn e ∙ memory-begun block doing (omega arith); words = λ k. e; no-state = λ n. absurd (n l) })
+      rw (eq-eqb refusal 0 z) (
+      record {
+        answered = λ k. refl;
+        handed = λ k. ap memoryIn e ∙ memory-deep (begunBlock block doing) depth (begun-length block doing l)
+            ∙ ap (λ (m : Memory). withDepth m depth) (memory-begun block doing (omega arith));
+        words = λ k. e;
+        no-state = λ n. absurd (n l);
+      }
+      )
 
 -- ---- starting to format
 

@@ -10,6 +10,7 @@ use Rattle.state.specs.Steps.{Handed}
 use Rattle.state.specs.Memory.{Memory}
 use Rattle.call_change.specs.Updates.{landing, startRoom}
 use Rattle.call_start.specs.Starts.{startRefused, startAccepted}
+use Rattle.walk.specs.Descent.{way, leafOf, depthOf}
 use Rattle.walk.specs.declared.Landing.{Landing}
 use Rattle.walk.specs.declared.Landing.the-variants.{Refused as NoLanding, Leaf as LandingAt}
 use Rattle.walk.specs.declared.Slot.{Slot}
@@ -43,6 +44,10 @@ abbrev pub dueRefusal : List ℕ → ℕ → Bool → ℕ → (Landing → Bool)
 dueRefusal card nodes idle key room =
     pick (eqb (startRefusal card nodes idle key) 0) (landingRefusal (room (landing card nodes key)) (landing card nodes key)) (startRefusal card nodes idle key)
 
--- what starting an update hands back, by the refusal that is due
-abbrev pub begunBy : ℕ → Memory → Doing → Handed
-begunBy refusal m doing = pick (eqb refusal 0) (startAccepted m doing) (startRefused refusal m)
+-- the internal nodes on the key's way; none where an early refusal is due, or 9
+abbrev pub dueDepth : List ℕ → ℕ → Bool → ℕ → ℕ
+dueDepth card nodes idle key = pick (eqb (startRefusal card nodes idle key) 0) (depthOf (leafOf (way card nodes key))) 0
+
+-- what starting an update hands back, by the refusal that is due and that number
+abbrev pub begunBy : ℕ → ℕ → Memory → Doing → Handed
+begunBy refusal depth m doing = pick (eqb refusal 0) (startAccepted m doing depth) (startRefused refusal m)

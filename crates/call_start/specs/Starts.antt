@@ -7,6 +7,7 @@ use lib.Dec.{eqb}
 use Rattle.laws.specs.Cases.{pick}
 use Rattle.card.specs.Header.{nodesOfLength, headerRefusal}
 use Rattle.card.specs.Layout.{formattedRoot}
+use Rattle.walk.specs.Descent.{way, leafOf, depthOf}
 use Rattle.walk.specs.declared.Landing.{Landing}
 use Rattle.walk.specs.declared.Landing.the-variants.{Refused as NoLanding, Leaf as LandingAt}
 use Rattle.card_free.specs.NodeSet.{allNodes}
@@ -29,18 +30,27 @@ formatOf card =
 unfoldable pub startRefused : ℕ → Memory → Handed
 startRefused r m = record { begun = BegunRefused r; memory = m }
 
-unfoldable pub startAccepted : Memory → Doing → Handed
-startAccepted m doing = record { begun = Started; memory = record { nodes = m .nodes; free = m .free; last = m .last; doing = doing; rest = m .rest; cut = m .cut } }
+-- the internal nodes on the key's way are kept for the final answer: "when the call began" (document 02, W-203)
+unfoldable pub startAccepted : Memory → Doing → ℕ → Handed
+startAccepted m doing depth =
+    record { begun = Started; memory = record { nodes = m .nodes; free = m .free; last = m .last; doing = doing; rest = m .rest; cut = m .cut; depth = depth } }
+
+-- those on the way of a key, for a state of so many nodes
+abbrev pub startDepth : List ℕ → Memory → ℕ → ℕ
+startDepth card m key = depthOf (leafOf (way card (m .nodes) key))
 
 -- "9: node number 0 or above N, kind not 1 to 3, no children, or more than 10 internal nodes"
-unfoldable pub startLanded : Memory → Doing → Bool → Landing → Handed
-startLanded m doing room NoLanding = startRefused 9 m
-startLanded m doing room (LandingAt node link run) = pick room (startAccepted m doing) (startRefused 8 m)
+unfoldable pub startLanded : Memory → Doing → ℕ → Bool → Landing → Handed
+startLanded m doing depth room NoLanding = startRefused 9 m
+startLanded m doing depth room (LandingAt node link run) = pick room (startAccepted m doing depth) (startRefused 8 m)
 
 -- "8: key absent, leaf full, free nodes fewer than j + 5"; an update that is no insert always has room
 unfoldable pub startChecked : List ℕ → Memory → ℕ → Doing → (Landing → Bool) → Handed
 startChecked card m key doing room =
-    pick (isIdle (m .doing)) (pick (eqb key 0) (startRefused 6 m) (startLanded m doing (room (landing card (m .nodes) key)) (landing card (m .nodes) key))) (startRefused 7 m)
+    pick (isIdle (m .doing))
+    (pick (eqb key 0) (startRefused 6 m)
+    (startLanded m doing (startDepth card m key) (room (landing card (m .nodes) key)) (landing card (m .nodes) key)))
+    (startRefused 7 m)
 
 unfoldable pub startOf : List ℕ → Memory → ℕ → Doing → (Landing → Bool) → Handed
 startOf card m key doing room =

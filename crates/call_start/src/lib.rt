@@ -3,6 +3,7 @@
 use state::Begun;
 use state::Doing;
 use state::Phase;
+use state::block::DEPTH;
 use state::block::FREE;
 use state::block::NO_STATE;
 use state::block::NODES;
@@ -20,7 +21,7 @@ ghost use mathlib.Core.Bool.{true, false};
 ghost use Prim.Native.Nat.{_≤_, _<_};
 ghost use lib.ListN.{length, set};
 ghost use Rattle.card.specs.Header.{Sized};
-ghost use Rattle.card.specs.Layout.{nodeAt, formattedRoot};
+ghost use Rattle.card.specs.Layout.{depthLimit, nodeAt, formattedRoot};
 ghost use Rattle.card_free.specs.NodeSet.{wordCount, capacity, nodesOf, allNodes};
 ghost use Rattle.walk.specs.Descent.{slotOf, way, runOver};
 ghost use Rattle.laws.specs.Cases.{pick};
@@ -31,7 +32,7 @@ ghost use Rattle.state.specs.Block.{stateWords, memoryIn};
 ghost use Rattle.state.specs.Contracts.{OpenCall, StartCall};
 ghost use Rattle.call_change.specs.Updates.{insertReason, roomFor};
 ghost use Rattle.call_start.specs.Starts.{formatOf, insertOf, deleteOf};
-ghost use Rattle.call_start.specs.Refusals.{startRefusal, isSlot, roomWhere, dueRefusal, begunBy};
+ghost use Rattle.call_start.specs.Refusals.{startRefusal, isSlot, roomWhere, dueRefusal, dueDepth, begunBy};
 
 // The refusals 1, 2, 3, 7 and 6 of starting an update, in this order; 0 where none is due.
 fn early_refusal(card: &[u32], nodes: usize, idle: bool, key: u32) -> u32
@@ -104,51 +105,67 @@ fn room_refusal(room: bool) -> u32
     if room { 0 } else { 8 }
 }
 
-// The refusal that starting an update is due, or 0: the early ones, then "9: node number 0 or above N, kind not 1 to 3, no
-// children, or more than 10 internal nodes", then 8. `splits` says whether the update may split its leaf.
-fn start_refusal(
-    card: &[u32],
-    nodes: usize,
-    idle: bool,
-    free: &[u32],
-    key: u32,
-    splits: bool,
-) -> u32
+// What starting an update is due: a refusal, or 0 and the internal nodes on its key's way ("It is the number .. when the call began":
+// document 02, W-203).
+pub struct Due {
+    pub refusal: u32,
+    pub depth: usize,
+}
+
+// The early refusals, then "9: node number 0 or above N, kind not 1 to 3, no children, or more than 10 internal nodes", then 8. `splits`
+// says whether the update may split its leaf.
+fn start_due(card: &[u32], nodes: usize, idle: bool, free: &[u32], key: u32, splits: bool) -> Due
     requires { ⌜ length (now free) ≡ wordCount ⌝ }
-    ensures { λ r. ⌜ r ≡ dueRefusal (now (card .entry)) nodes idle key (roomWhere splits (now (card .entry)) key (nodesOf (now (free .entry)))) ⌝ }
+    ensures { λ r. ⌜ r .refusal ≡ dueRefusal (now (card .entry)) nodes idle key (roomWhere splits (now (card .entry)) key (nodesOf (now (free .entry)))) ⌝ }
+    ensures { λ r. ⌜ r .depth ≡ dueDepth (now (card .entry)) nodes idle key ⌝ }
 {
     let early = early_refusal(card, nodes, idle, key);
     if early != 0 {
-        return early;
+        return Due {
+            refusal: early,
+            depth: 0,
+        };
     }
     match walk::descend(card, nodes, key, card[card::ROOT_PLACE] as usize, false) {
-        End::Refused => 9,
-        End::Fault(_) => 9,
-        End::Leaf(p) => room_refusal(has_room_where(splits, card, nodes, p.node, key, free)),
+        End::Refused => Due {
+            refusal: 9,
+            depth: 0,
+        },
+        End::Fault(_) => Due {
+            refusal: 9,
+            depth: 0,
+        },
+        End::Leaf { position, depth } => Due {
+            refusal: room_refusal(has_room_where(splits, card, nodes, position.node, key, free)),
+            depth,
+        },
     }
 }
 
 // The same by the words of a block.
-fn block_refusal(card: &[u32], state: &[u32], key: u32, splits: bool) -> u32
+fn block_due(card: &[u32], state: &[u32], key: u32, splits: bool) -> Due
     requires { ⌜ length (now state) ≡ stateWords ⌝ }
-    ensures { λ r. ⌜ r
+    ensures { λ r. ⌜ r .refusal
         ≡ dueRefusal (now (card .entry)) (memoryIn (now (state .entry)) .nodes) (isIdle (memoryIn (now (state .entry)) .doing)) key
         (roomWhere splits (now (card .entry)) key (memoryIn (now (state .entry)) .free)) ⌝ }
+    ensures { λ r. ⌜ r .depth
+        ≡ dueDepth (now (card .entry)) (memoryIn (now (state .entry)) .nodes) (isIdle (memoryIn (now (state .entry)) .doing)) key ⌝ }
 {
     let nodes = wide(state[NODES]);
     let idle = is_idle(state);
-    start_refusal(card, nodes, idle, &state[FREE..PLACES], key, splits)
+    start_due(card, nodes, idle, &state[FREE..PLACES], key, splits)
 }
 
 // "Starting an update stores nothing": the block with the update in hand, or as it was where a refusal is due.
-fn begin(state: &mut [u32], doing: Doing, refusal: u32) -> Begun
-    requires { ⌜ length (now state) ≡ stateWords ⌝ }
-    ensures { λ r. ⌜ StartCall (now (state .entry)) (now (state .exit)) r doing (begunBy refusal (memoryIn (now (state .entry))) doing) ⌝ }
+fn begin(state: &mut [u32], doing: Doing, refusal: u32, depth: usize) -> Begun
+    requires { ⌜ (length (now state) ≡ stateWords) × (depth ≤ depthLimit) ⌝ }
+    ensures { λ r. ⌜ StartCall (now (state .entry)) (now (state .exit)) r doing (begunBy refusal depth (memoryIn (now (state .entry))) doing) ⌝ }
 {
     if refusal != 0 {
         return Begun::Refused(refusal);
     }
     store_doing(state, doing);
+    state[DEPTH] = depth as u32;
     Begun::Started
 }
 
@@ -198,8 +215,8 @@ pub fn start_insert(card: &[u32], state: &mut [u32], key: u32, value: u32) -> Be
         value,
         phase: Phase::NotBegun,
     };
-    let refusal = block_refusal(card, state, key, true);
-    begin(state, doing, refusal)
+    let due = block_due(card, state, key, true);
+    begin(state, doing, due.refusal, due.depth)
 }
 
 // "Refusing a delete on a full card" would spoil a bin: a delete needs no free nodes to start.
@@ -214,6 +231,6 @@ pub fn start_delete(card: &[u32], state: &mut [u32], key: u32) -> Begun
         phase: Phase::NotBegun,
         value: 0,
     };
-    let refusal = block_refusal(card, state, key, false);
-    begin(state, doing, refusal)
+    let due = block_due(card, state, key, false);
+    begin(state, doing, due.refusal, due.depth)
 }

@@ -88,9 +88,9 @@ zip-first (a ∷ x) (b ∷ y) e = refl
 
 -- ---- the words of the block
 
-words-same : (doing : Doing) {n m l k i j : ℕ} {c d u v p q r s : List ℕ} → n ≡ m → l ≡ k → i ≡ j → c ≡ d → u ≡ v → p ≡ q → r ≡ s
-    → n ∷ l ∷ doingWords doing ++ (0 ∷ i ∷ c ++ (u ++ (p ++ r))) ≡ m ∷ k ∷ doingWords doing ++ (0 ∷ j ∷ d ++ (v ++ (q ++ s)))
-words-same doing e f g h o t w = rw (e, f, g, h, o, t, w)
+words-same : (doing : Doing) (end : List ℕ) {n m l k i j : ℕ} {c d u v p q r s : List ℕ} → n ≡ m → l ≡ k → i ≡ j → c ≡ d → u ≡ v → p ≡ q → r ≡ s
+    → n ∷ l ∷ doingWords doing ++ (0 ∷ i ∷ c ++ (u ++ (p ++ (r ++ end)))) ≡ m ∷ k ∷ doingWords doing ++ (0 ∷ j ∷ d ++ (v ++ (q ++ (s ++ end))))
+words-same doing end e f g h o t w = rw (e, f, g, h, o, t, w)
 
 module _ (card b : List ℕ) (doing : Doing) (d : Decision) (ms : List ℕ) (three : length ms ≡ 3)
     (count : length (wordsBy card d ms) ≡ storeCount d) where
@@ -112,11 +112,11 @@ module _ (card b : List ℕ) (doing : Doing) (d : Decision) (ms : List ℕ) (thr
       ∙ ap (λ (k : ℕ). wordsBy card d ms ++ drop k row) count
 
   pub plan-stored : (head : State) (x y z after : List ℕ) → head .nodes ≡ blockWord b 0 → head .last ≡ lastOf (blockWord b 1) (take (needed d) ms)
-      → head .doing ≡ doing → head .made ≡ 0 → head .count ≡ storeCount d → head .cut ≡ pad 3 (cutBy card d) → after ≡ z ++ (x ++ y)
+      → head .doing ≡ doing → head .made ≡ 0 → head .count ≡ storeCount d → head .cut ≡ pad 3 (cutBy card d) → after ≡ z ++ (x ++ (y ++ drop 177 b))
       → x ≡ placesBy d ms ++ drop (storeCount d) (part b 31 73) → y ≡ wordsBy card d ms ++ drop (storeCount d) (part b 104 73)
       → z ≡ wordsOf wordCount (withoutAll (take (needed d) ms) (nodesOf (part b 11 20))) → headWords head ++ after ≡ plannedOver card b doing d ms
   unfolding headWords plannedOver plannedBlock
   plan-stored head x y z after en el ed em ec ecut ea ex ey ez =
       rw (ed, em, ea)
-      (ap (λ (l : List ℕ). head .nodes ∷ head .last ∷ l) (append-assoc (doingWords doing) (0 ∷ head .count ∷ head .cut) (z ++ (x ++ y)))
-      ∙ words-same doing en el (ec ∙ sym stores-count) ecut ez (ex ∙ sym (places-front (part b 31 73))) (ey ∙ sym (values-front (part b 104 73))))
+      (ap (λ (l : List ℕ). head .nodes ∷ head .last ∷ l) (append-assoc (doingWords doing) (0 ∷ head .count ∷ head .cut) (z ++ (x ++ (y ++ drop 177 b))))
+      ∙ words-same doing (drop 177 b) en el (ec ∙ sym stores-count) ecut ez (ex ∙ sym (places-front (part b 31 73))) (ey ∙ sym (values-front (part b 104 73))))

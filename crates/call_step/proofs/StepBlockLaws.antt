@@ -2,10 +2,10 @@
 use mathlib.Core.Path.{_≡_, refl, sym, ap, ap₂, subst, _∙_}
 use mathlib.Core.Bool.{Bool, true}
 use mathlib.Core.List.{List, [], _∷_, _++_, zip, zipWith, map}
-use Prim.Native.Nat.{ℕ, _-_, _≤_}
+use Prim.Native.Nat.{ℕ, _-_, _≤_, _+_}
 use native.Mathlib.Omega.{arith}
 use lib.ListN.{length, getD, set, take, drop, replicate, length-append, length-map, length-take, length-drop, length-set, length-replicate}
-use lib.Seq.{take-at, drop-at, drop-drop, take-all}
+use lib.Seq.{take-at, drop-at, drop-drop, take-all, getD-drop}
 use lib.Dec.{eqb}
 use borrow.Author.Tests.{eqb-true}
 use Rattle.laws.proofs.Cases.{bool-cases}
@@ -22,7 +22,7 @@ use Rattle.state.specs.Blocks.{over, wordsOf}
 use Rattle.state.specs.declared.Doing.{Doing}
 use Rattle.state.specs.declared.Doing.the-variants.{Inserting, Deleting}
 use Rattle.state.specs.declared.Phase.{Phase}
-use Rattle.state.proofs.Rows.{three, placed}
+use Rattle.state.proofs.Rows.{append-after, three, placed}
 use Rattle.state.proofs.Blocks.{by-head, words-each, doing-read, nodes-words, length-words, over-placed}
 use Rattle.state.proofs.StepLaws.{advance-same}
 use Rattle.call_step.specs.Calls.{planning}
@@ -50,6 +50,7 @@ memory-formatting b v l =
       doing = doingIn w v e f;
       rest = drop g (storesOf (take 73 (drop 20 rest)) (take 73 (drop 93 rest)) i);
       cut = beforeZero (j ∷ k ∷ m ∷ []);
+      depth = getD rest 166 0;
     }) h)
 
 -- ---- a store of the plan
@@ -68,6 +69,9 @@ module _ (words rest : List ℕ) (l : length words ≡ 20) where
   freed-values : drop 93 freed ≡ drop 93 rest
   freed-values = sym (drop-drop 73 20 freed) ∙ ap (drop 73) freed-rows ∙ drop-drop 73 20 rest
 
+  freed-depth : getD freed 166 0 ≡ getD rest 166 0
+  freed-depth = append-after words (drop 20 rest) 146 166 (omega arith) ∙ getD-drop 20 rest 146 0
+
 -- the last one: how far the update is, the free nodes and the nodes cut out are others
 abbrev lastPlayed : List ℕ → List ℕ → ℕ → ℕ → Memory
 lastPlayed b words made phase =
@@ -78,6 +82,7 @@ lastPlayed b words made phase =
       doing = doingIn (blockWord b 2) (blockWord b 3) (blockWord b 4) phase;
       rest = drop made (storesOf (part b 31 73) (part b 104 73) (blockWord b 7));
       cut = [];
+      depth = memoryIn b .depth;
     }
 
 last-played : (b words : List ℕ) (made phase : ℕ) → length b ≡ stateWords → length words ≡ 20
@@ -89,16 +94,18 @@ last-played b words made phase l w =
     ∙ by-head (λ (x : List ℕ). memoryIn (placed 8 23 (set (set x 6 made) 5 phase) (0 ∷ 0 ∷ 0 ∷ words)) ≡ lastPlayed x words made phase)
     b (omega arith)
     (λ n last c d e f g i j k m rest.
-    let with : List ℕ → List ℕ → List ℕ → Memory = λ x y z. record {
+    let with : List ℕ → List ℕ → List ℕ → ℕ → Memory = λ x y z depth. record {
       nodes = n;
       free = nodesOf x;
       last = last;
       doing = doingIn c d e phase;
       rest = drop made (storesOf (take 73 y) (take 73 z) i);
       cut = [];
+      depth = depth;
     } in
-    ap (λ (x : List ℕ). with x (drop 20 (freed words rest w)) (drop 93 (freed words rest w))) (freed-words words rest w)
-    ∙ ap₂ (λ (y z : List ℕ). with words y z) (freed-rows words rest w) (freed-values words rest w))
+    let freed-list = freed words rest w in
+    ap₂ (λ (x : List ℕ) (depth : ℕ). with x (drop 20 freed-list) (drop 93 freed-list) depth) (freed-words words rest w) (freed-depth words rest w)
+    ∙ ap₂ (λ (y z : List ℕ). with words y z (getD rest 166 0)) (freed-rows words rest w) (freed-values words rest w))
 
 -- one more is made
 on-played : (b : List ℕ) (made : ℕ) → length b ≡ stateWords
@@ -110,6 +117,7 @@ on-played : (b : List ℕ) (made : ℕ) → length b ≡ stateWords
       doing = memoryIn b .doing;
       rest = drop made (storesOf (part b 31 73) (part b 104 73) (blockWord b 7));
       cut = memoryIn b .cut;
+      depth = memoryIn b .depth;
     }
 unfolding memoryIn
 on-played b made l =
@@ -122,6 +130,7 @@ on-played b made l =
       doing = memoryIn x .doing;
       rest = drop made (storesOf (part x 31 73) (part x 104 73) (blockWord x 7));
       cut = memoryIn x .cut;
+      depth = memoryIn x .depth;
     })
     b (omega arith) (λ n last c d e f g i j k m rest. refl)
 
@@ -160,6 +169,7 @@ memory-played b made (s ∷ rest) l e =
       doing = memoryIn b .doing;
       rest = r;
       cut = memoryIn b .cut;
+      depth = memoryIn b .depth;
     }) (sym e)
 memory-played b made [] l e =
     let bits : List Bool = withAll (beforeZero (part b 8 3)) (nodesOf (part b 11 20)) in
@@ -175,6 +185,7 @@ memory-played b made [] l e =
       doing = doingIn (blockWord b 2) (blockWord b 3) (blockWord b 4) (settledWord (blockWord b 5));
       rest = r;
       cut = [];
+      depth = memoryIn b .depth;
     }) (nodes-words wordCount bits full) (sym e)
     ∙ ap
     (λ (doing : Doing). record {
@@ -184,6 +195,7 @@ memory-played b made [] l e =
       doing = doing;
       rest = [];
       cut = [];
+      depth = memoryIn b .depth;
     }) (settled-read (blockWord b 2) (blockWord b 3) (blockWord b 4) (blockWord b 5))
 
 -- ---- a change planned
@@ -201,29 +213,34 @@ zip-parts [] = refl
 zip-parts (s ∷ ss) = ap (λ (r : List Store). s ∷ r) (zip-parts ss)
 
 -- a block of these words
-abbrev written : ℕ → ℕ → List ℕ → ℕ → List ℕ → List ℕ → List ℕ → List ℕ → List ℕ
-written n last doing count cut free places values = n ∷ last ∷ doing ++ (0 ∷ count ∷ cut ++ (free ++ (places ++ values)))
+abbrev written : ℕ → ℕ → List ℕ → ℕ → List ℕ → List ℕ → List ℕ → List ℕ → List ℕ → List ℕ
+written n last doing count cut free places values end = n ∷ last ∷ doing ++ (0 ∷ count ∷ cut ++ (free ++ (places ++ (values ++ end))))
 
--- its free nodes and rows
-module _ (free places values : List ℕ) (lf : length free ≡ 20) (lp : length places ≡ 73) (lv : length values ≡ 73) where
+-- its free nodes and rows, and the word after them
+module _ (free places values end : List ℕ) (lf : length free ≡ 20) (lp : length places ≡ 73) (lv : length values ≡ 73) where
   abbrev tail : List ℕ
-  tail = free ++ (places ++ values)
+  tail = free ++ (places ++ (values ++ end))
 
   tail-free : take 20 tail ≡ free
-  tail-free = take-at free (places ++ values) 20 lf
+  tail-free = take-at free (places ++ (values ++ end)) 20 lf
 
-  tail-rows : drop 20 tail ≡ places ++ values
-  tail-rows = drop-at free (places ++ values) 20 lf
+  tail-rows : drop 20 tail ≡ places ++ (values ++ end)
+  tail-rows = drop-at free (places ++ (values ++ end)) 20 lf
 
   tail-places : take 73 (drop 20 tail) ≡ places
-  tail-places = ap (take 73) tail-rows ∙ take-at places values 73 lp
+  tail-places = ap (take 73) tail-rows ∙ take-at places (values ++ end) 73 lp
 
   tail-values : take 73 (drop 93 tail) ≡ values
   tail-values =
-      ap (take 73) (sym (drop-drop 73 20 tail) ∙ ap (drop 73) tail-rows ∙ drop-at places values 73 lp) ∙ take-all 73 values (omega arith)
+      ap (take 73) (sym (drop-drop 73 20 tail) ∙ ap (drop 73) tail-rows ∙ drop-at places (values ++ end) 73 lp) ∙ take-at values end 73 lv
 
-  tail-length : length tail ≡ 166
-  tail-length = omega (arith, length-append free (places ++ values), length-append places values)
+  tail-end : getD tail 166 0 ≡ getD end 0 0
+  tail-end =
+      append-after free (places ++ (values ++ end)) 146 166 (omega arith) ∙ append-after places (values ++ end) 73 146 (omega arith)
+      ∙ append-after values end 0 73 (omega arith)
+
+  tail-length : length tail ≡ 166 + length end
+  tail-length = omega (arith, length-append free (places ++ (values ++ end)), length-append places (values ++ end), length-append values end)
 
 length-front : (words row : List ℕ) → length words ≤ 73 → length row ≡ 73 → length (atFront words row) ≡ 73
 length-front words row h l = omega (arith, length-append words (drop (length words) row), length-drop (length words) row)
@@ -275,17 +292,21 @@ module _ (b : List ℕ) (doing : Doing) (stores : List Store) (free : List Bool)
   abbrev inWords : List ℕ
   inWords =
       written (blockWord b 0) last (doingWord 0 ∷ doingWord 1 ∷ doingWord 2 ∷ doingWord 3 ∷ []) (length stores)
-      (cutWord 0 ∷ cutWord 1 ∷ cutWord 2 ∷ []) (wordsOf wordCount free) placesRow valuesRow
+      (cutWord 0 ∷ cutWord 1 ∷ cutWord 2 ∷ []) (wordsOf wordCount free) placesRow valuesRow (drop 177 b)
 
   in-words : inWords ≡ planned
   unfolding plannedBlock
   in-words =
-      ap₂ (λ (d c : List ℕ). written (blockWord b 0) last d (length stores) c (wordsOf wordCount free) placesRow valuesRow) (words-each doing) cut-each
+      ap₂ (λ (d c : List ℕ). written (blockWord b 0) last d (length stores) c (wordsOf wordCount free) placesRow valuesRow (drop 177 b)) (words-each doing) cut-each
 
   pub planned-length : length planned ≡ stateWords
   planned-length =
       let long : length inWords ≡ stateWords =
-      omega (arith, tail-length (wordsOf wordCount free) placesRow valuesRow (length-words wordCount free) places-row values-row) in
+      omega (
+        arith,
+        tail-length (wordsOf wordCount free) placesRow valuesRow (drop 177 b) (length-words wordCount free) places-row values-row,
+        length-drop 177 b,
+      ) in
       ap length (sym in-words) ∙ long
 
   rows-read : storesOf placesRow valuesRow (length stores) ≡ stores
@@ -299,14 +320,19 @@ module _ (b : List ℕ) (doing : Doing) (stores : List Store) (free : List Bool)
   stores-in : storesOf (part inWords 31 73) (part inWords 104 73) (blockWord inWords 7) ≡ stores
   stores-in =
       ap₂ (λ (x y : List ℕ). storesOf x y (length stores))
-      (tail-places (wordsOf wordCount free) placesRow valuesRow (length-words wordCount free) places-row values-row)
-      (tail-values (wordsOf wordCount free) placesRow valuesRow (length-words wordCount free) places-row values-row)
+      (tail-places (wordsOf wordCount free) placesRow valuesRow (drop 177 b) (length-words wordCount free) places-row values-row)
+      (tail-values (wordsOf wordCount free) placesRow valuesRow (drop 177 b) (length-words wordCount free) places-row values-row)
       ∙ rows-read
 
   pub planned-stores : storesOf (part planned 31 73) (part planned 104 73) (blockWord planned 7) ≡ stores
   planned-stores = ap (λ (x : List ℕ). storesOf (part x 31 73) (part x 104 73) (blockWord x 7)) (sym in-words) ∙ stores-in
 
-  pub memory-planned : memoryIn planned ≡ record { nodes = memoryIn b .nodes; free = free; last = last; doing = doing; rest = stores; cut = cut }
+  depth-in : blockWord inWords 177 ≡ blockWord b 177
+  depth-in =
+      tail-end (wordsOf wordCount free) placesRow valuesRow (drop 177 b) (length-words wordCount free) places-row values-row ∙ getD-drop 177 b 0 0
+
+  pub memory-planned : memoryIn planned
+      ≡ record { nodes = memoryIn b .nodes; free = free; last = last; doing = doing; rest = stores; cut = cut; depth = memoryIn b .depth }
   unfolding memoryIn
   memory-planned =
       ap memoryIn (sym in-words)
@@ -318,8 +344,9 @@ module _ (b : List ℕ) (doing : Doing) (stores : List Store) (free : List Bool)
         doing = doingIn (doingWord 0) (doingWord 1) (doingWord 2) (doingWord 3);
         rest = ss;
         cut = beforeZero (cutWord 0 ∷ cutWord 1 ∷ cutWord 2 ∷ []);
+        depth = blockWord inWords 177;
       })
-      (tail-free (wordsOf wordCount free) placesRow valuesRow (length-words wordCount free) places-row values-row) stores-in
+      (tail-free (wordsOf wordCount free) placesRow valuesRow (drop 177 b) (length-words wordCount free) places-row values-row) stores-in
       ∙ ap₂ (λ (f : List Bool) (d : Doing). record {
         nodes = blockWord b 0;
         free = f;
@@ -327,9 +354,10 @@ module _ (b : List ℕ) (doing : Doing) (stores : List Store) (free : List Bool)
         doing = d;
         rest = stores;
         cut = beforeZero (cutWord 0 ∷ cutWord 1 ∷ cutWord 2 ∷ []);
+        depth = blockWord inWords 177;
       }) (nodes-words wordCount free (h .full)) (doing-read doing)
-      ∙ ap (λ (c : List ℕ). record { nodes = blockWord b 0; free = free; last = last; doing = doing; rest = stores; cut = c })
-      (ap beforeZero cut-each ∙ h .readable)
+      ∙ ap₂ (λ (c : List ℕ) (depth : ℕ). record { nodes = blockWord b 0; free = free; last = last; doing = doing; rest = stores; cut = c; depth = depth })
+      (ap beforeZero cut-each ∙ h .readable) depth-in
 
   -- and its first store made
   pub memory-first-stored : memoryIn (playedBlock planned 1 (drop 1 stores)) ≡ advanced (planning (memoryIn b) doing free last cut) (drop 1 stores)

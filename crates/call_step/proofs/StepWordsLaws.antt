@@ -160,5 +160,5 @@ module _ (b : List ℕ) (doing : Doing) (free : List Bool) (last : ℕ) (cut : L
       → playedBlock (plannedBlock b doing stores free last cut) 1 (drop 1 stores) ≡ firstWords b (getD stores 0 (0, 0) ∷ left stores .rest) (left stores)
   unfolding playedBlock plannedBlock firstWords advanced planning
   first-words [] some h = absurd (none some)
-  first-words (s ∷ []) some h = only-store (atFront (s .0 ∷ []) (part b 31 73) ++ atFront (s .1 ∷ []) (part b 104 73)) (h .few) (h .readable) (h .full)
+  first-words (s ∷ []) some h = only-store (atFront (s .0 ∷ []) (part b 31 73) ++ (atFront (s .1 ∷ []) (part b 104 73) ++ drop 177 b)) (h .few) (h .readable) (h .full)
   first-words (s ∷ t ∷ rest) some h = made-one (blockWord b 0) last _ doing

@@ -42,13 +42,13 @@ abbrev pub atFront : List ℕ → List ℕ → List ℕ
 atFront words row = words ++ drop (length words) row
 
 -- a change is planned: the node given last, what is being done, no store made, how many there are, what they cut out, the nodes free
--- then, and the places and values of the stores
+-- then, the places and values of the stores, and the depth that was there
 unfoldable pub plannedBlock : List ℕ → Doing → List Store → List Bool → ℕ → List ℕ → List ℕ
 plannedBlock b doing stores free last cut =
     blockWord b 0 ∷ last ∷ doingWords doing
     ++ (0 ∷ length stores ∷ pad 3 cut
     ++ (wordsOf wordCount free
-    ++ (atFront (map (λ s. s .0) stores) (part b 31 73) ++ atFront (map (λ s. s .1) stores) (part b 104 73))))
+    ++ (atFront (map (λ s. s .0) stores) (part b 31 73) ++ (atFront (map (λ s. s .1) stores) (part b 104 73) ++ drop 177 b))))
 
 -- a change that is decided, planned over the nodes given
 unfoldable pub plannedOver : List ℕ → List ℕ → Doing → Decision → List ℕ → List ℕ

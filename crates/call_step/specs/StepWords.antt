@@ -1,7 +1,7 @@
 -- Every word of the state block after a step, by the words before it and by what the step is due to leave. These are definitions.
 use mathlib.Core.List.{List, [], _∷_, _++_, map}
 use Prim.Native.Nat.{ℕ, suc}
-use lib.ListN.{length, getD, set}
+use lib.ListN.{length, getD, set, drop}
 use lib.Dec.{eqb}
 use Rattle.laws.specs.Cases.{pick}
 use Rattle.laws.specs.Lists.{pad}
@@ -22,13 +22,14 @@ handWords b m (s ∷ rest) = set b 6 (suc (blockWord b 6))
 handWords b m [] =
     over (set (set b 6 (suc (blockWord b 6))) 5 (settledWord (blockWord b 5))) 8 (0 ∷ 0 ∷ 0 ∷ wordsOf wordCount (m .free))
 
--- the first of these stores, which leaves this state: its words 1 to 30, and the stores at the front of the two rows
+-- the first of these stores, which leaves this state: its words 1 to 30, the stores at the front of the two rows, and the depth
+-- that was there
 unfoldable pub firstWords : List ℕ → List Store → Memory → List ℕ
 firstWords b stores m =
     blockWord b 0 ∷ m .last ∷ doingWords (m .doing)
     ++ (1 ∷ length stores ∷ pad 3 (m .cut)
     ++ (wordsOf wordCount (m .free)
-    ++ (atFront (map (λ s. s .0) stores) (part b 31 73) ++ atFront (map (λ s. s .1) stores) (part b 104 73))))
+    ++ (atFront (map (λ s. s .0) stores) (part b 31 73) ++ (atFront (map (λ s. s .1) stores) (part b 104 73) ++ drop 177 b))))
 
 -- a store that leaves this state, where these were to come: none, so that it is the first of a change planned just now
 unfoldable pub storedWords : List ℕ → Store → Memory → List Store → List ℕ

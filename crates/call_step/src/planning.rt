@@ -19,11 +19,11 @@ use state::Doing;
 use state::Held;
 use state::State;
 use state::Task;
+use state::block::DEPTH;
 use state::block::FREE;
 use state::block::LAST;
 use state::block::NODES;
 use state::block::PLACES;
-use state::block::STATE_WORDS;
 use state::block::VALUES;
 use state::block::head_in;
 use state::block::store_head;
@@ -63,7 +63,7 @@ fn plan(
         × (length (wordsBy (now (card .entry)) decision nodes) ≡ storeCount decision) ⌝ }
 {
     lay_places(decision, nodes, &mut state[PLACES..VALUES]);
-    lay_values(card, decision, nodes, &mut state[VALUES..STATE_WORDS]);
+    lay_values(card, decision, nodes, &mut state[VALUES..DEPTH]);
     take(&mut state[FREE..PLACES], nodes, size.nodes);
     let head = State {
         nodes: state[NODES],

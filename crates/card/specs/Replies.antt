@@ -17,6 +17,10 @@ plain code = record { code = code; value = 0; key = 0; depth = 0 }
 abbrev pub valued : ℕ → ℕ → Reply
 valued code value = record { code = code; value = value; key = 0; depth = 0 }
 
+-- the same answer with a depth beside it (document 02, W-203): how many internal nodes the look-up passed
+abbrev pub withDepth : ℕ → Reply → Reply
+withDepth depth r = record { code = r .code; value = r .value; key = r .key; depth = depth }
+
 -- "or gives its number"
 abbrev pub refusal : ℕ → Reply
 refusal number = plain number

@@ -1,6 +1,7 @@
 -- Refusals have numbers below 64, so that the number of an answer tells which answer it is.
 use mathlib.Core.Bool.{Bool, true, false}
-use mathlib.Core.List.{List}
+use mathlib.Core.List.{List, [], _∷_}
+use mathlib.Core.Path.{_≡_, refl}
 use mathlib.Core.Option.{Option, none, some}
 use Prim.Native.Nat.{ℕ, _+_, _<_}
 use native.Mathlib.Omega.{arith}
@@ -22,13 +23,23 @@ use Rattle.card.specs.Layout.{nodeAt, searchStart}
 use Rattle.laws.proofs.Cases.{bool-cases}
 use Rattle.call_open.specs.Opening.{openSound, openChecked, openOf}
 use Rattle.card_check.specs.Check.{Findings, tableCheck}
-use Rattle.call_start.specs.Starts.{startRefused, startAccepted, startLanded, startChecked, startOf}
-use Rattle.state.specs.Memory.{Memory}
-use Rattle.state.specs.Steps.{isIdle, noBeginning}
+use Rattle.call_start.specs.Starts.{startRefused, startAccepted, startDepth, startLanded, startChecked, startOf}
+use Rattle.state.specs.Memory.{Memory, advanced}
+use Rattle.state.specs.Steps.{heldBy, Step, isIdle, noBeginning, stepRefused, stepFinal, stepFormat, stepStore}
 use Rattle.state.specs.declared.Begun.{Begun}
 use Rattle.state.specs.declared.Begun.the-variants.{Idle as OpenedIdle, Started, Refused as BegunRefused}
 use Rattle.state.specs.declared.Doing.{Doing}
 use Rattle.call_change.specs.Updates.{landing}
+use Rattle.call_step.specs.Calls.{stepPrepared, stepBegin, stepTask, stepChecked, stepHeld, stepOf}
+use Rattle.call_step.proofs.StepMemory.{Ends, next-ends}
+use Rattle.change_plan.specs.Planning.{Preparation, refused, balanced, prepared}
+use Rattle.card.specs.Stores.{Store}
+use Rattle.state.proofs.Tasks.{task-of}
+use Rattle.state.specs.declared.Answer.{Answer}
+use Rattle.state.specs.declared.Answer.the-variants.{Stored, Ready, Absent, Value, Refused}
+use Rattle.state.specs.declared.Held.{Held}
+use Rattle.state.specs.declared.Held.the-variants.{Nothing, Formatting, Task as HeldTask}
+use Rattle.state.specs.declared.Task.{Task}
 
 abbrev pub SmallBegun : Begun → Type 0
 SmallBegun OpenedIdle = Unit
@@ -62,11 +73,11 @@ pub open-small : (c : List ℕ) → SmallBegun (openOf c .begun)
 unfolding openOf noBeginning
 open-small c = bool-cases (eqb (cardRefusal c) 0) (λ q. rw q (checked-small (nodesOfLength (length c)) (searchStart c) (tableCheck c (nodesOfLength (length c))))) (λ q. rw q (card-small c))
 
-landed-small : (m : Memory) (doing : Doing) (room : Bool) (l : Landing) → SmallBegun (startLanded m doing room l .begun)
+landed-small : (m : Memory) (doing : Doing) (depth : ℕ) (room : Bool) (l : Landing) → SmallBegun (startLanded m doing depth room l .begun)
 unfolding startLanded startRefused startAccepted
-landed-small m doing room NoLanding = omega arith
-landed-small m doing true (LandingAt node link run) = tt
-landed-small m doing false (LandingAt node link run) = omega arith
+landed-small m doing depth room NoLanding = omega arith
+landed-small m doing depth true (LandingAt node link run) = tt
+landed-small m doing depth false (LandingAt node link run) = omega arith
 
 pub start-small : (c : List ℕ) (m : Memory) (key : ℕ) (doing : Doing) (room : Landing → Bool) → SmallBegun (startOf c m key doing room .begun)
 unfolding startOf startChecked startRefused
@@ -75,7 +86,8 @@ start-small c m key doing room =
     bool-cases (eqb (nodesOfLength (length c)) (m .nodes)) (λ q₁.
     bool-cases (eqb (headerRefusal c (m .nodes)) 0) (λ q₂.
     bool-cases (isIdle (m .doing)) (λ q₃.
-    bool-cases (eqb key 0) (λ q₄. rw (q, q₁, q₂, q₃, q₄) (omega arith)) (λ q₄. rw (q, q₁, q₂, q₃, q₄) (landed-small m doing (room (landing c (m .nodes) key)) (landing c (m .nodes) key))))
+    bool-cases (eqb key 0) (λ q₄. rw (q, q₁, q₂, q₃, q₄) (omega arith))
+    (λ q₄. rw (q, q₁, q₂, q₃, q₄) (landed-small m doing (startDepth c m key) (room (landing c (m .nodes) key)) (landing c (m .nodes) key))))
     (λ q₃. rw (q, q₁, q₂, q₃) (omega arith))) (λ q₂. rw (q, q₁, q₂) (header-small c (m .nodes)))) (λ q₁. rw (q, q₁) (omega arith)))
 
 abbrev pub SmallFound : Found → Type 0
@@ -99,3 +111,57 @@ find-small c key =
     bool-cases (eqb (cardRefusal c) 0)
     (λ q. bool-cases (eqb key 0) (λ z. rw (q, z) (omega arith)) (λ z. rw (q, z) (at-small c key (leafOf (way c (nodesOfLength (length c)) key)))))
     (λ q. rw q (card-small c))
+
+-- ---- a step's
+
+abbrev pub SmallAnswer : Answer → Type 0
+SmallAnswer (Stored place) = Unit
+SmallAnswer Ready = Unit
+SmallAnswer Absent = Unit
+SmallAnswer (Value v) = Unit
+SmallAnswer (Refused r) = r < 64
+
+ends-small : (a : Answer) → Ends a → SmallAnswer a
+unfolding Ends
+ends-small (Stored place) e = tt
+ends-small Ready e = tt
+ends-small Absent e = tt
+ends-small (Value v) e = tt
+ends-small (Refused r) e = absurd e
+
+module _ (c : List ℕ) (m : Memory) where
+  store-small : (s : Store) (next : Memory) → SmallAnswer (stepStore c m s next .answer)
+  unfolding stepStore stepRefused
+  store-small s next = bool-cases (ltb (s .0) (length c)) (λ q. rw q tt) (λ q. rw q (omega arith))
+
+  prepared-small : (doing : Doing) (final : Answer) (p : Preparation) → SmallAnswer final → SmallAnswer (stepPrepared c m doing final p .answer)
+  unfolding stepPrepared stepRefused stepFinal
+  prepared-small doing final refused h = omega arith
+  prepared-small doing final balanced h = h
+  prepared-small doing final (prepared ss free last out) h = store-small _ _
+
+  task-small : (task : Task) (rest : List Store) → heldBy (m .doing) ≡ HeldTask task → SmallAnswer (stepTask c m task rest .answer)
+  unfolding stepTask stepBegin
+  task-small task [] e = prepared-small _ _ _ (ends-small _ (next-ends c (m .nodes) (m .free) (m .last) (m .doing) task (task-of (m .doing) task e)))
+  task-small task (s ∷ rest) e = store-small s (advanced m rest)
+
+  checked-step-small : (due : Step) → SmallAnswer (due .answer) → SmallAnswer (stepChecked c m due .answer)
+  unfolding stepChecked stepRefused
+  checked-step-small due h = bool-cases (eqb (headerRefusal c (m .nodes)) 0) (λ q. rw q h) (λ q. rw q (header-small c (m .nodes)))
+
+  format-small : (made : ℕ) (o : Option Store) → SmallAnswer (stepFormat c m made o .answer)
+  unfolding stepFormat stepFinal
+  format-small made none = tt
+  format-small made (some s) = tt
+
+  held-small : (held : Held) → heldBy (m .doing) ≡ held → SmallAnswer (stepHeld c m held .answer)
+  unfolding stepHeld stepRefused
+  held-small Nothing e = checked-step-small _ (omega arith)
+  held-small (Formatting made) e = format-small made _
+  held-small (HeldTask task) e = checked-step-small _ (task-small task (m .rest) e)
+
+  pub step-small : SmallAnswer (stepOf c m .answer)
+  unfolding stepOf stepRefused
+  step-small =
+      bool-cases (eqb (nodesOfLength (length c)) 0) (λ q. rw q (omega arith))
+      (λ q. bool-cases (eqb (nodesOfLength (length c)) (m .nodes)) (λ q₁. rw (q, q₁) (held-small (heldBy (m .doing)) refl)) (λ q₁. rw (q, q₁) (omega arith)))

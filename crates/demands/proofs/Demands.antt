@@ -8,6 +8,7 @@ use Rattle.demands.specs.List.{ListProgram}
 use Rattle.demands.specs.RationTable.{rationTable}
 use Rattle.demands.specs.W201.{W201}
 use Rattle.demands.specs.W202.{W202}
+use Rattle.demands.specs.W203.{W203}
 use Rattle.demands.specs.W205.{W205}
 use Rattle.demands.specs.W209.{W209}
 use Rattle.demands.specs.W213.{W213}
@@ -15,6 +16,7 @@ use Rattle.demands.specs.W214.{W214}
 use Rattle.demands.proofs.Depths.{w-214 as depths-kept}
 use Rattle.demands.proofs.Fetching.{w-213 as fetching-kept}
 use Rattle.demands.proofs.InsertChecks.{w-209 as reasons-kept}
+use Rattle.demands.proofs.DepthTold.{w-203 as depth-kept}
 use Rattle.demands.proofs.SearchStart.{w-205 as search-kept}
 use Rattle.demands.proofs.FirstSteps.{demand-1 as rows-kept}
 use Rattle.demands.proofs.Dictionary.{demand-2 as dictionary-kept}
@@ -23,6 +25,10 @@ use Rattle.demands.proofs.DumpsRight.{dumps-right as dumps-kept}
 use Rattle.demands.proofs.ListRight.{list-program as list-kept}
 use Rattle.demands.proofs.NextNumber.{w-201 as next-kept}
 use Rattle.demands.proofs.PaddingTest.{w-202 as padding-kept}
+use Rattle.call_find.specs.Find.{findDepth}
+use Rattle.walk_next.specs.Successor.{nextDepth}
+use Rattle.call_step.specs.Calls.{stepOf}
+use Rattle.state.specs.Answers.{toldDepth}
 use Rattle.card_dump.specs.Answers.{dumpReply}
 use Rattle.card_dump.specs.Dump.{readAnswer, readOver, writeAnswer, writeOver}
 use Rattle.card_dump.specs.Padding.{eightAt}
@@ -52,6 +58,9 @@ w-201 = next-kept
 
 pub w-202 : W202 eightAt (λ dump lent. dumpReply (readAnswer dump lent))
 w-202 = padding-kept
+
+pub w-203 : W203 rationTable findDepth nextDepth (λ c m. toldDepth (stepOf c m .memory .depth) (stepOf c m .answer))
+w-203 = depth-kept
 
 pub w-205 : W205 rationTable
 w-205 = search-kept

@@ -90,7 +90,7 @@ pub inv-rests : (n steps : ℕ) (w : World rationTable) (b : Book) → Inv n ste
 inv-rests n steps w b i idle = go (idle-or-busy (i .stage))
   where
     go : (w .state .nodes ≡ n)
-        × ((isIdle (w .state .doing) ≡ false) ⊎ ((free : List Bool) × (last : ℕ) × (w .state ≡ memory n free last Idle [] [])
+        × ((isIdle (w .state .doing) ≡ false) ⊎ ((free : List Bool) × (last : ℕ) × (w .state ≡ memory n free last (w .state .depth) Idle [] [])
         × (tableViolations (i .tree) ≡ 0) × (3 ≤ countTrue free) × Exact n free (i .tree) × (bare (i .tree) ≡ i .goal))) → Rests w (b .held)
     go (e, inl busy) = absurd (idle-not-busy (w .state .doing) idle busy)
     go (e, inr (free, last, em, z, r, x, eg)) =

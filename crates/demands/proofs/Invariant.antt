@@ -74,32 +74,32 @@ pub record UpdateSteps (t : Tree) (steps : ℕ) : Type 0 where
 -- What is being done, by the state and the book's hand, and the final answer due to it.
 pub data Stage (c : List ℕ) (n : ℕ) (t goal : Tree) (steps : ℕ) : Memory → Hand → Answer → Type 0 where
   -- nothing is being done, and no answer is due: any will do
-  stage-idle : {free : List Bool} {last : ℕ} {due : Answer} → tableViolations t ≡ 0 → 3 ≤ countTrue free → Exact n free t → bare t ≡ goal
-      → Stage c n t goal steps (record { nodes = n; free = free; last = last; doing = Idle; rest = []; cut = [] }) empty due
+  stage-idle : {free : List Bool} {last depth : ℕ} {due : Answer} → tableViolations t ≡ 0 → 3 ≤ countTrue free → Exact n free t → bare t ≡ goal
+      → Stage c n t goal steps (record { nodes = n; free = free; last = last; doing = Idle; rest = []; cut = []; depth = depth }) empty due
   -- started: nothing is planned yet
-  stage-put : {free : List Bool} {last key value : ℕ} → tableViolations t ≡ 0 → 3 ≤ countTrue free → Exact n free t → lowestKey ≤ key
+  stage-put : {free : List Bool} {last depth key value : ℕ} → tableViolations t ≡ 0 → 3 ≤ countTrue free → Exact n free t → lowestKey ≤ key
       → key < keyLimit → startRoom c key free (landing c n key) ≡ true → UpdateSteps t steps → afterShape (put key value) (bare t) ≡ goal
-      → Stage c n t goal steps (record { nodes = n; free = free; last = last; doing = Inserting key value NotBegun; rest = []; cut = [] })
+      → Stage c n t goal steps (record { nodes = n; free = free; last = last; doing = Inserting key value NotBegun; rest = []; cut = []; depth = depth })
       (takenUp (toldOf (put key value) c goesOn)) (dictionaryAnswer (lookup key (pairs t)))
-  stage-remove : {free : List Bool} {last key : ℕ} → tableViolations t ≡ 0 → 3 ≤ countTrue free → Exact n free t
+  stage-remove : {free : List Bool} {last depth key : ℕ} → tableViolations t ≡ 0 → 3 ≤ countTrue free → Exact n free t
       → lowestKey ≤ key → key < keyLimit → UpdateSteps t steps → afterShape (remove key) (bare t) ≡ goal
-      → Stage c n t goal steps (record { nodes = n; free = free; last = last; doing = Deleting key NotBegun 0; rest = []; cut = [] })
+      → Stage c n t goal steps (record { nodes = n; free = free; last = last; doing = Deleting key NotBegun 0; rest = []; cut = []; depth = depth })
       (takenUp (toldOf (remove key) c goesOn)) (dictionaryAnswer (lookup key (pairs t)))
   -- the first change of an update, whose last store enters it
-  stage-first : {free : List Bool} {last key : ℕ} {doing : Doing} {due : Answer} {u : Update}
+  stage-first : {free : List Bool} {last depth key : ℕ} {doing : Doing} {due : Answer} {u : Update}
       {deciding count : ℕ} {cut : List ℕ} {s : Store} {rest : List Store} → Job InHand doing key due (some u)
       → (p : Changing c n key t (s ∷ rest) free cut) → Enters u (pairs t) (pairs (p .next))
       → count + suc (length rest) ≡ deciding → suc (length rest) + (73 * p .level + 1) ≤ steps → Heads (p .level) (bare (p .next)) goal
-      → Stage c n t goal steps (record { nodes = n; free = free; last = last; doing = doing; rest = s ∷ rest; cut = cut }) (holding u deciding count) due
+      → Stage c n t goal steps (record { nodes = n; free = free; last = last; doing = doing; rest = s ∷ rest; cut = cut; depth = depth }) (holding u deciding count) due
   -- between two changes of a repair
-  stage-between : {free : List Bool} {last key : ℕ} {doing : Doing} {due : Answer} {u : Option Update} {h : Hand} → Job Decided doing key
+  stage-between : {free : List Bool} {last depth key : ℕ} {doing : Doing} {due : Answer} {u : Option Update} {h : Hand} → Job Decided doing key
       due u → Entered u h → (deep : ℕ) → Mendable key free t deep → Exact n free t → 73 * deep + 1 ≤ steps → Heads deep (bare t) goal
-      → Stage c n t goal steps (record { nodes = n; free = free; last = last; doing = doing; rest = []; cut = [] }) h due
+      → Stage c n t goal steps (record { nodes = n; free = free; last = last; doing = doing; rest = []; cut = []; depth = depth }) h due
   -- within a change of a repair, which keeps the pairs
-  stage-within : {free : List Bool} {last key : ℕ} {doing : Doing} {due : Answer} {u : Option Update} {h : Hand} {cut : List ℕ} {s : Store}
+  stage-within : {free : List Bool} {last depth key : ℕ} {doing : Doing} {due : Answer} {u : Option Update} {h : Hand} {cut : List ℕ} {s : Store}
       {rest : List Store} → Job Decided doing key due u → Entered u h → (p : Changing c n key t (s ∷ rest) free cut)
       → Same (pairs (p .next)) (pairs t) → suc (length rest) + (73 * p .level + 1) ≤ steps → Heads (p .level) (bare (p .next)) goal
-      → Stage c n t goal steps (record { nodes = n; free = free; last = last; doing = doing; rest = s ∷ rest; cut = cut }) h due
+      → Stage c n t goal steps (record { nodes = n; free = free; last = last; doing = doing; rest = s ∷ rest; cut = cut; depth = depth }) h due
 
 pub record Inv (n steps : ℕ) (w : World rationTable) (b : Book) : Type 0 where
   pub tree : Tree

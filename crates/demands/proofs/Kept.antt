@@ -74,16 +74,16 @@ one-store {c} {n} {key} {t} {free = free} {cut = cut} b p = at (p .plays)
 
 -- a store of a repair's change
 pub repair-stored : {c : List ℕ} {n key : ℕ} {t : Tree} {s : Store} {rest : List Store} {free : List Bool} {cut : List ℕ} {doing : Doing}
-    {due : Answer} {u : Option Update} {h : Hand} {goal : Tree} (last steps : ℕ) (z : List Store) (l : List (ℕ × ℕ)) → Table c n t
+    {due : Answer} {u : Option Update} {h : Hand} {goal : Tree} (last depth steps : ℕ) (z : List Store) (l : List (ℕ × ℕ)) → Table c n t
     → Same (pairs t) l
     → Job Decided doing key due u → Entered u h → (p : Changing c n key t (s ∷ rest) free cut) → Same (pairs (p .next)) (pairs t)
     → length rest + (73 * p .level + 1) ≤ steps → Heads (p .level) (bare (p .next)) goal
-    → Toward goal due n steps (record { card = set c (s .0) (s .1); state = advanced (memory n free last doing z cut) rest }) (book l h)
+    → Toward goal due n steps (record { card = set c (s .0) (s .1); state = advanced (memory n free last depth doing z cut) rest }) (book l h)
 unfolding advanced
-repair-stored {c} {n} {key} {t} {s} {rest} {free} {cut} {doing} {due} {h = h} {goal = goal} last steps z l b same j en p e few hd = at rest (one-store b p) few
+repair-stored {c} {n} {key} {t} {s} {rest} {free} {cut} {doing} {due} {h = h} {goal = goal} last depth steps z l b same j en p e few hd = at rest (one-store b p) few
   where
     at : (rest : List Store) → Left n key c t free cut (p .next) (p .level) s rest → length rest + (73 * p .level + 1) ≤ steps
-        → Toward goal due n steps (record { card = set c (s .0) (s .1); state = advanced (memory n free last doing z cut) rest }) (book l h)
+        → Toward goal due n steps (record { card = set c (s .0) (s .1); state = advanced (memory n free last depth doing z cut) rest }) (book l h)
     at rest (all-made b′) few = (
       record {
         tree = p .next;
@@ -113,15 +113,15 @@ repair-stored {c} {n} {key} {t} {s} {rest} {free} {cut} {doing} {due} {h = h} {g
 
 -- a store of an update's first change: the last one enters it
 pub update-stored : {c : List ℕ} {n key : ℕ} {t : Tree} {s : Store} {rest : List Store} {free : List Bool} {cut : List ℕ} {doing : Doing}
-    {due : Answer} {u : Update} {goal : Tree} (deciding k last steps : ℕ) (z : List Store) (l : List (ℕ × ℕ)) → Table c n t → Same (pairs t) l
+    {due : Answer} {u : Update} {goal : Tree} (deciding k last depth steps : ℕ) (z : List Store) (l : List (ℕ × ℕ)) → Table c n t → Same (pairs t) l
     → Job InHand doing key due (some u) → (p : Changing c n key t (s ∷ rest) free cut) → Enters u (pairs t) (pairs (p .next))
     → k + suc (length rest) ≡ deciding → length rest + (73 * p .level + 1) ≤ steps → Heads (p .level) (bare (p .next)) goal
-    → Toward goal due n steps (record { card = set c (s .0) (s .1); state = advanced (memory n free last doing z cut) rest }) (fedStep goesOn l (holding u deciding k))
+    → Toward goal due n steps (record { card = set c (s .0) (s .1); state = advanced (memory n free last depth doing z cut) rest }) (fedStep goesOn l (holding u deciding k))
 unfolding advanced fedStep
-update-stored {c} {n} {key} {t} {s} {rest} {free} {cut} {doing} {due} {u} {goal} deciding k last steps z l b same j p e count few hd = at rest (one-store b p) count few
+update-stored {c} {n} {key} {t} {s} {rest} {free} {cut} {doing} {due} {u} {goal} deciding k last depth steps z l b same j p e count few hd = at rest (one-store b p) count few
   where
     at : (rest : List Store) → Left n key c t free cut (p .next) (p .level) s rest → k + suc (length rest) ≡ deciding → length rest + (73 * p .level + 1) ≤ steps
-        → Toward goal due n steps (record { card = set c (s .0) (s .1); state = advanced (memory n free last doing z cut) rest }) (fedStep goesOn l (holding u deciding k))
+        → Toward goal due n steps (record { card = set c (s .0) (s .1); state = advanced (memory n free last depth doing z cut) rest }) (fedStep goesOn l (holding u deciding k))
     at rest (all-made b′) count few =
         rw (eq-eqb (suc k) deciding (omega arith)) (
           record {

@@ -103,6 +103,8 @@ pub mod ListRight
 pub mod NextNumber
 -- W-202, of the test that `card_dump` makes
 pub mod PaddingTest
+-- W-203, of the ration table
+pub mod DepthTold
 -- W-205, of the ration table
 pub mod SearchStart
 -- W-209, of the program `insert_check`

@@ -76,11 +76,11 @@ stage-storing : {c : List ℕ} {n : ℕ} {t goal : Tree} {steps : ℕ} {m : Memo
 stage-storing b (stage-idle z r x g) = inl refl
 stage-storing b (stage-put z r x low high room q g) = inl refl
 stage-storing b (stage-remove z r x low high q g) = inl refl
-stage-storing {c} {n} b (stage-first {free} {last} {doing = doing} {cut = out} {s = s} {rest = rest} j p en count few hd) =
-    inr (s, rest, refl, step-stores c n (b .sized) (b .header) free last doing (job-busy j) out s rest (first-storable (p .plays) .inside))
+stage-storing {c} {n} b (stage-first {free} {last} {depth} {doing = doing} {cut = out} {s = s} {rest = rest} j p en count few hd) =
+    inr (s, rest, refl, step-stores c n (b .sized) (b .header) free last depth doing (job-busy j) out s rest (first-storable (p .plays) .inside))
 stage-storing b (stage-between j en deep k x few hd) = inl refl
-stage-storing {c} {n} b (stage-within {free} {last} {doing = doing} {cut = out} {s = s} {rest = rest} j en p e few hd) =
-    inr (s, rest, refl, step-stores c n (b .sized) (b .header) free last doing (job-busy j) out s rest (first-storable (p .plays) .inside))
+stage-storing {c} {n} b (stage-within {free} {last} {depth} {doing = doing} {cut = out} {s = s} {rest = rest} j en p e few hd) =
+    inr (s, rest, refl, step-stores c n (b .sized) (b .header) free last depth doing (job-busy j) out s rest (first-storable (p .plays) .inside))
 
 advanced-twice : (m : Memory) (s : Store) (rest more : List Store) → advanced (advanced m (s ∷ rest)) more ≡ advanced m more
 unfolding advanced

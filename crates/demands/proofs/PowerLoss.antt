@@ -11,7 +11,7 @@ use lib.Dec.{eqb}
 use Rattle.card.specs.Replies.{refusal, ready, stored, started as startedReply}
 use Rattle.state.specs.Answers.{stepReply, startReply}
 use Rattle.state.specs.Steps.{noBeginning, isIdle, stepRefused, formatStore}
-use Rattle.call_start.specs.Starts.{formatOf, startRefused, startAccepted, startLanded, startChecked, startOf, insertOf, deleteOf}
+use Rattle.call_start.specs.Starts.{startDepth, formatOf, startRefused, startAccepted, startLanded, startChecked, startOf, insertOf, deleteOf}
 use Rattle.call_step.specs.Calls.{stepOf, repairSteps}
 use Rattle.state.specs.Memory.{Memory, resting}
 use Rattle.call_change.specs.Updates.{landing, startRoom}
@@ -58,11 +58,12 @@ use Rattle.walk.specs.declared.Landing.the-variants.{Refused as NoLanding, Leaf
 
 -- ---- a refused start changes nothing
 
-start-landed-unchanged : (m : Memory) (doing : Doing) (room : Bool) (x : Landing) (r : ℕ) → startLanded m doing room x .begun ≡ BegunRefused r → startLanded m doing room x .memory ≡ m
+start-landed-unchanged : (m : Memory) (doing : Doing) (depth : ℕ) (room : Bool) (x : Landing) (r : ℕ) → startLanded m doing depth room x .begun ≡ BegunRefused r
+    → startLanded m doing depth room x .memory ≡ m
 unfolding startLanded startRefused startAccepted
-start-landed-unchanged m doing room NoLanding r e = refl
-start-landed-unchanged m doing true (LandingAt number link run) r e = impossible (cc)
-start-landed-unchanged m doing false (LandingAt number link run) r e = refl
+start-landed-unchanged m doing depth room NoLanding r e = refl
+start-landed-unchanged m doing depth true (LandingAt number link run) r e = impossible (cc)
+start-landed-unchanged m doing depth false (LandingAt number link run) r e = refl
 
 start-unchanged : (c : List ℕ) (m : Memory) (key : ℕ) (doing : Doing) (room : Landing → Bool) (r : ℕ) → startOf c m key doing room .begun ≡ BegunRefused r → startOf c m key doing room .memory ≡ m
 unfolding startOf startChecked startRefused startAccepted
@@ -74,8 +75,9 @@ start-unchanged c m key doing room r e =
     bool-cases (eqb key 0) (λ q₄. rw (q, q₁, q₂, q₃, q₄)) (λ q₄. rw (q, q₁, q₂, q₃, q₄) (landed-unchanged (landing c (m .nodes) key) (rw (q, q₁, q₂, q₃, q₄) at e))))
     (λ q₃. rw (q, q₁, q₂, q₃))) (λ q₂. rw (q, q₁, q₂))) (λ q₁. rw (q, q₁)))
   where
-    landed-unchanged : (x : Landing) → startLanded m doing (room (landing c (m .nodes) key)) x .begun ≡ BegunRefused r → startLanded m doing (room (landing c (m .nodes) key)) x .memory ≡ m
-    landed-unchanged x e = start-landed-unchanged m doing (room (landing c (m .nodes) key)) x r e
+    landed-unchanged : (x : Landing) → startLanded m doing (startDepth c m key) (room (landing c (m .nodes) key)) x .begun ≡ BegunRefused r
+        → startLanded m doing (startDepth c m key) (room (landing c (m .nodes) key)) x .memory ≡ m
+    landed-unchanged x e = start-landed-unchanged m doing (startDepth c m key) (room (landing c (m .nodes) key)) x r e
 
 same-world : (w : World rationTable) (m : Memory) → m ≡ w .state → _≡_ {A = World rationTable} (record { card = w .card; state = m }) w
 same-world w m e = ap (λ (x : Memory). record { card = w .card; state = x }) e

@@ -3,7 +3,7 @@ use mathlib.Core.Path.{_≡_, ap, _∙_}
 use mathlib.Core.Bool.{Bool, true, false}
 use Prim.Native.Nat.{ℕ, _≤_, _<_}
 use Rattle.state.specs.Steps.{Handed}
-use Rattle.call_start.specs.Starts.{startRefused, startAccepted, insertOf}
+use Rattle.call_start.specs.Starts.{startDepth, startRefused, startAccepted, insertOf}
 use Rattle.call_change.specs.Updates.{full, landing, insertReason, splitNeed, startRoom}
 use Rattle.state.specs.declared.Doing.the-variants.{Idle, Inserting}
 use Rattle.state.specs.declared.Phase.the-variants.{NotBegun}
@@ -31,12 +31,12 @@ module _ {n steps : ℕ} {w : World rationTable} {b : Book} (i : Inv n steps w b
   module _ (idle : w .state .doing ≡ Idle) (value : ℕ) where
     -- an insert's start, by its room
     insert-decided : (r : Bool) → startRoom (w .card) key (w .state .free) (landing (w .card) (w .state .nodes) key) ≡ r
-        → insertOf (w .card) (w .state) key value ≡ pick r (startAccepted (w .state) (Inserting key value NotBegun)) (startRefused 8 (w .state))
+        → insertOf (w .card) (w .state) key value ≡ pick r (startAccepted (w .state) (Inserting key value NotBegun) (startDepth (w .card) (w .state) key)) (startRefused 8 (w .state))
     unfolding insertOf
     insert-decided r e = room-decides n steps w b i key (Inserting key value NotBegun) (startRoom (w .card) key (w .state .free)) idle low high ∙ rw e
 
     insert-starts : startRoom (w .card) key (w .state .free) (landing (w .card) (w .state .nodes) key) ≡ true → insertOf (w .card) (w .state) key value .begun ≡ Started
-    insert-starts e = ap (λ (x : Handed). x .begun) (insert-decided true e) ∙ begun-started _ (Inserting key value NotBegun)
+    insert-starts e = ap (λ (x : Handed). x .begun) (insert-decided true e) ∙ begun-started _ (Inserting key value NotBegun) _
 
     module _ (leaf j : ℕ) (leads : LeadsTo w key leaf j) where
       -- "A splitting insert needs j + 5 free nodes", and with them it is started

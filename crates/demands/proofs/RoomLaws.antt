@@ -32,6 +32,6 @@ room-other free j (held v) e = refl
 room-other free j (slot i) e = refl
 room-other free j full e = absurd (e refl)
 
-pub begun-started : (m : Memory) (doing : Doing) → startAccepted m doing .begun ≡ Started
+pub begun-started : (m : Memory) (doing : Doing) (depth : ℕ) → startAccepted m doing depth .begun ≡ Started
 unfolding startAccepted
-begun-started m doing = refl
+begun-started m doing depth = refl

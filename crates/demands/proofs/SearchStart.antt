@@ -11,22 +11,20 @@ use lib.ListN.{length, getD, set, take, drop, length-append}
 use lib.Seq.{getD-set-other}
 use lib.Dec.{eqb, ltb}
 use Rattle.laws.proofs.Cases.{bool-cases, impossible}
-use Rattle.laws.specs.Cases.{pick}
 use Rattle.laws.specs.Sorting.{keyAt}
 use Rattle.card.specs.Header.{nodesOfLength, headerRefusal, Sized}
 use Rattle.card.specs.Layout.{rootPlace, searchStart, nodeAt, nodeImage}
 use Rattle.card.specs.Stores.{Store, NewNode, newNode, nodeStores}
 use Rattle.change_plan.specs.Planning.{Preparation, refused, balanced, prepared, lastOf}
-use Rattle.change_layout.specs.Mending.{nextRepair}
 use Rattle.state.specs.Memory.{Memory, resting, idled, advanced}
-use Rattle.state.specs.Steps.{heldBy, Step, stepRefused, stepFinal, stepFormat, stepStore, formatStore, formattingFrom, isIdle}
+use Rattle.state.specs.Steps.{heldBy, Step, stepRefused, stepFinal, stepFormat, stepStore, formattingFrom, isIdle}
 use Rattle.state.specs.declared.Doing.{Doing}
 use Rattle.state.specs.declared.Task.{Task}
 use Rattle.state.specs.declared.Task.the-variants.{PutIn, TakeOut, Repair}
 use Rattle.state.specs.declared.Held.{Held}
 use Rattle.state.specs.declared.Held.the-variants.{Nothing, Formatting, Task as HeldTask}
 use Rattle.state.specs.declared.Answer.{Answer}
-use Rattle.call_change.specs.Updates.{nextChange, landing, startRoom}
+use Rattle.call_change.specs.Updates.{nextChange}
 use Rattle.call_start.specs.Starts.{startRefused, startAccepted, startLanded, startChecked, startOf, insertOf, deleteOf}
 use Rattle.call_step.specs.Calls.{planning, stepPrepared, stepBegin, stepTask, stepChecked, stepHeld, stepOf}
 use Rattle.call_step.proofs.StepLaws.{step-sized, step-unsized}
@@ -35,11 +33,11 @@ use Rattle.walk.specs.declared.Landing.{Landing}
 use Rattle.walk.specs.declared.Landing.the-variants.{Refused as NoLanding, Leaf as LandingAt}
 use Rattle.demands.specs.Events.{Event, World, happens, run, Begins, ask, insert, delete, step, cut, from-format, from-open}
 use Rattle.demands.specs.RationTable.{rationTable}
-use Rattle.demands.specs.Rules.{NextFree, Given, none-given, then-given, marked, written, InsertRule, DeleteRule, RepairRule}
+use Rattle.demands.specs.Rules.{Given, none-given, then-given, marked, written, InsertRule, DeleteRule, RepairRule}
 use Rattle.demands.specs.Rules.{leafHolding, kindUnder, keysWith, childrenWith, keysLeft, routes, kids}
 use Rattle.demands.specs.Rules.{in-slot, leaf-split, key-cleared, taken-in, parent-split, shared, merged, merged-root}
 use Rattle.demands.specs.Way.{nodesOn}
-use Rattle.demands.specs.W205.{SameFree, NodesUntaken, BeginsAfterRoot, W205}
+use Rattle.demands.specs.W205.{NodesUntaken, W205}
 use Rattle.demands.proofs.Accepting.{accepted-start}
 use Rattle.demands.proofs.FirstRows.{sized?}
 use Rattle.demands.proofs.WayDown.{sized-on}
@@ -178,17 +176,17 @@ module _ (c : List ℕ) (m : Memory) where
 
   -- ---- a start, refused or not, keeps the node given last
 
-  landed-last : (doing : Doing) (room : Bool) (l : Landing) → startLanded m doing room l .memory .last ≡ m .last
+  landed-last : (doing : Doing) (depth : ℕ) (room : Bool) (l : Landing) → startLanded m doing depth room l .memory .last ≡ m .last
   unfolding startLanded startRefused startAccepted
-  landed-last doing room NoLanding = refl
-  landed-last doing room (LandingAt node link run) = bool-cases room (λ q. rw q) (λ q. rw q)
+  landed-last doing depth room NoLanding = refl
+  landed-last doing depth room (LandingAt node link run) = bool-cases room (λ q. rw q) (λ q. rw q)
 
   start-last : (key : ℕ) (doing : Doing) (room : Landing → Bool) → startOf c m key doing room .memory .last ≡ m .last
   unfolding startOf startChecked startRefused
   start-last key doing room =
       bool-cases (eqb (nodesOfLength (length c)) 0) (λ q. rw q) (λ q. bool-cases (eqb (nodesOfLength (length c)) (m .nodes))
       (λ q₁. bool-cases (eqb (headerRefusal c (m .nodes)) 0)
-      (λ q₂. bool-cases (isIdle (m .doing)) (λ q₃. bool-cases (eqb key 0) (λ q₄. rw (q, q₁, q₂, q₃, q₄)) (λ q₄. rw (q, q₁, q₂, q₃, q₄) (landed-last doing _ _))) (λ q₃. rw (q, q₁, q₂, q₃)))
+      (λ q₂. bool-cases (isIdle (m .doing)) (λ q₃. bool-cases (eqb key 0) (λ q₄. rw (q, q₁, q₂, q₃, q₄)) (λ q₄. rw (q, q₁, q₂, q₃, q₄) (landed-last doing _ _ _))) (λ q₃. rw (q, q₁, q₂, q₃)))
       (λ q₂. rw (q, q₁, q₂)))
       (λ q₁. rw (q, q₁)))
 

@@ -31,8 +31,9 @@ use Rattle.walk.specs.declared.Slot.the-variants.{At, Absent as NoSlot}
 use Rattle.card_free.specs.NodeSet.{countTrue}
 use Rattle.laws.proofs.Cases.{bool-cases, order, impossible}
 use Rattle.laws.specs.Cases.{pick}
-use Rattle.call_start.specs.Starts.{startRefused, startAccepted, startLanded, startChecked, startOf, insertOf, deleteOf}
+use Rattle.call_start.specs.Starts.{startDepth, startRefused, startAccepted, startLanded, startChecked, startOf, insertOf, deleteOf}
 use Rattle.state.specs.Answers.{startReply}
+use Rattle.state.specs.Steps.{Handed}
 use Rattle.state.specs.Memory.{Memory}
 use Rattle.state.specs.declared.Begun.{Begun}
 use Rattle.state.specs.declared.Begun.the-variants.{Started, Refused as BegunRefused}
@@ -67,14 +68,14 @@ module _ (c : List ℕ) (m : Memory) (key : ℕ) (doing : Doing) (room : Landing
   unfolding startRefused startReply
   refused-back r = record { number-given = refl; unchanged = refl }
 
-  start-begun : Starts rationTable m (handed (startAccepted m doing)) (workOf doing)
+  start-begun : Starts rationTable m (handed (startAccepted m doing (startDepth c m key))) (workOf doing)
   unfolding startAccepted startReply
   start-begun = record { reply-given = refl; in-progress = refl; all-kept = record { nodes-kept = refl; free-kept = refl; last-kept = refl } }
 
   -- the rows of a start, to where the key has led to its leaf
   by-start : (rows : Rows) (works : Type 0)
       → ((leaf link j : ℕ) → leadsTo c key ≡ some (leaf, j)
-      → startOf c m key doing room ≡ pick (room (LandingAt leaf link j)) (startAccepted m doing) (startRefused 8 m)
+      → startOf c m key doing room ≡ pick (room (LandingAt leaf link j)) (startAccepted m doing (startDepth c m key)) (startRefused 8 m)
       → ByRows rows (HandsBack rationTable m (handed (startOf c m key doing room))) works)
       → ByRows (startRows rationTable c m key rows) (HandsBack rationTable m (handed (startOf c m key doing room))) works
   unfolding ByRows startChecked startLanded landed
@@ -105,10 +106,11 @@ module _ (c : List ℕ) (m : Memory) (key : ℕ) (doing : Doing) (room : Landing
           keyed q (yes z) = inl (z, rw (start-passed s f, q, eq-eqb key 0 z) (refused-back 6))
           keyed q (no d) = inr (d, at q d (landing c (m .nodes) key) refl)
 
--- what a started update is doing
-pub started-doing : (c : List ℕ) (m : Memory) (doing : Doing) (room : Landing → Bool) (key : ℕ) → startOf c m key doing room .begun ≡ Started → startOf c m key doing room .memory .doing ≡ doing
+-- what a start that works hands back
+pub started-is : (c : List ℕ) (m : Memory) (doing : Doing) (room : Landing → Bool) (key : ℕ) → startOf c m key doing room .begun ≡ Started
+    → startOf c m key doing room ≡ startAccepted m doing (startDepth c m key)
 unfolding startOf startChecked startLanded startRefused startAccepted
-started-doing c m doing room key e =
+started-is c m doing room key e =
     bool-cases (eqb (nodesOfLength (length c)) 0) (λ q. absurd (never 1 (rw q at e))) (λ q.
     bool-cases (eqb (nodesOfLength (length c)) (m .nodes)) (λ q₁.
     bool-cases (eqb (headerRefusal c (m .nodes)) 0) (λ q₂.
@@ -121,9 +123,14 @@ started-doing c m doing room key e =
     never : (r : ℕ) → _≡_ {A = Begun} (BegunRefused r) Started → ⊥
     never r y = impossible (cc)
 
-    at : (l : Landing) → startLanded m doing (room l) l .begun ≡ Started → startLanded m doing (room l) l .memory .doing ≡ doing
+    at : (l : Landing) → startLanded m doing (startDepth c m key) (room l) l .begun ≡ Started → startLanded m doing (startDepth c m key) (room l) l ≡ startAccepted m doing (startDepth c m key)
     at NoLanding y = absurd (never 9 y)
     at (LandingAt node link run) y = bool-cases (room (LandingAt node link run)) (λ k. rw k) (λ k. absurd (never 8 (rw k at y)))
+
+-- so what is being done then
+pub started-doing : (c : List ℕ) (m : Memory) (doing : Doing) (room : Landing → Bool) (key : ℕ) → startOf c m key doing room .begun ≡ Started → startOf c m key doing room .memory .doing ≡ doing
+unfolding startAccepted
+started-doing c m doing room key e = ap (λ (h : Handed). h .memory .doing) (started-is c m doing room key e)
 
 -- an update's first change leaves it begun
 
@@ -178,7 +185,7 @@ inserts c m key value =
     (λ leaf link j to e. at leaf link j e (room-row c (m .free) key leaf link j to))
   where
     at : (leaf link j : ℕ) → startOf c m key (Inserting key value NotBegun) (startRoom c key (m .free))
-        ≡ pick (startRoom c key (m .free) (LandingAt leaf link j)) (startAccepted m (Inserting key value NotBegun)) (startRefused 8 m)
+        ≡ pick (startRoom c key (m .free) (LandingAt leaf link j)) (startAccepted m (Inserting key value NotBegun) (startDepth c m key)) (startRefused 8 m)
         → (NoRoom c (m .free) key × (startRoom c key (m .free) (LandingAt leaf link j) ≡ false)) ⊎ ((NoRoom c (m .free) key → ⊥) × (startRoom c key (m .free) (LandingAt leaf link j) ≡ true))
         → (NoRoom c (m .free) key × HandsBack rationTable m (handed (insertOf c m key value)) 8)
         ⊎ ((NoRoom c (m .free) key → ⊥) × Starts rationTable m (handed (insertOf c m key value)) (inserting key value false))

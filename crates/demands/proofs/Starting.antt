@@ -27,7 +27,7 @@ use Rattle.demands.proofs.Reopen.{table-well-formed, table-depth-limite
 use Rattle.demands.proofs.Steps.{memory, job-busy}
 use Rattle.theory_check.proofs.Level.{same-height}
 use Rattle.state.specs.Steps.{Handed, isIdle}
-use Rattle.call_start.specs.Starts.{startRefused, startAccepted, startLanded, startChecked, startOf, insertOf, deleteOf}
+use Rattle.call_start.specs.Starts.{startDepth, startRefused, startAccepted, startLanded, startChecked, startOf, insertOf, deleteOf}
 use Rattle.state.specs.Memory.{Memory}
 use Rattle.call_change.specs.Updates.{landing, startRoom}
 use Rattle.state.specs.declared.Doing.{Doing}
@@ -67,9 +67,9 @@ start-zero c m key doing room e z = rw (e, eq-eqb key 0 z)
 
 start-landed : (c : List ℕ) (m : Memory) (key : ℕ) (doing : Doing) (room : Landing → Bool) (number link run : ℕ)
     → isIdle (m .doing) ≡ true → (key ≡ 0 → ⊥) → landing c (m .nodes) key ≡ LandingAt number link run
-    → startChecked c m key doing room ≡ pick (room (landing c (m .nodes) key)) (startAccepted m doing) (startRefused 8 m)
+    → startChecked c m key doing room ≡ pick (room (landing c (m .nodes) key)) (startAccepted m doing (startDepth c m key)) (startRefused 8 m)
 unfolding startChecked startLanded
-start-landed c m key doing room number link run e z l = rw (e, ne-eqb key 0 z) (ap (startLanded m doing (room (landing c (m .nodes) key))) l)
+start-landed c m key doing room number link run e z l = rw (e, ne-eqb key 0 z) (ap (startLanded m doing (startDepth c m key) (room (landing c (m .nodes) key))) l)
 
 is-idle : {doing : Doing} → doing ≡ Idle → isIdle doing ≡ true
 unfolding isIdle
@@ -82,9 +82,9 @@ landing-is c n key e = e
 -- a state is idle, or some work is in progress
 pub idle-or-busy : {c : List ℕ} {n : ℕ} {t goal : Tree} {steps : ℕ} {m : Memory} {h : Hand} {due : Answer} → Stage c n t goal steps m h due
     → (m .nodes ≡ n) × ((isIdle (m .doing) ≡ false) ⊎ ((free : List Bool) × (last : ℕ)
-    × (m ≡ memory n free last Idle [] []) × (tableViolations t ≡ 0) × (3 ≤ countTrue free) × Exact n free t × (bare t ≡ goal)))
+    × (m ≡ memory n free last (m .depth) Idle [] []) × (tableViolations t ≡ 0) × (3 ≤ countTrue free) × Exact n free t × (bare t ≡ goal)))
 unfolding isIdle
-idle-or-busy (stage-idle {free} {last} z r x g) = (refl, inr (free, last, refl, z, r, x, g))
+idle-or-busy (stage-idle {free} {last} {depth} z r x g) = (refl, inr (free, last, refl, z, r, x, g))
 idle-or-busy (stage-put z r x low high room few g) = (refl, inl refl)
 idle-or-busy (stage-remove z r x low high few g) = (refl, inl refl)
 idle-or-busy (stage-first j p en count few g) = (refl, inl (job-busy j .not-idle))
@@ -145,11 +145,12 @@ module _ {n steps : ℕ} {w : World rationTable} {b : Book} (i : Inv n steps w b
 
 -- started: the update is in hand, and its answer by the map is due
 put-started : {n steps : ℕ} (w : World rationTable) (b : Book) (i : Inv n steps w b) (free : List Bool) (last key value : ℕ)
-    → w .state ≡ memory n free last Idle [] [] → tableViolations (i .tree) ≡ 0 → 3 ≤ countTrue free → Exact n free (i .tree)
+    → w .state ≡ memory n free last (w .state .depth) Idle [] [] → tableViolations (i .tree) ≡ 0 → 3 ≤ countTrue free → Exact n free (i .tree)
     → bare (i .tree) ≡ i .goal → lowestKey ≤ key → key < keyLimit
-    → startRoom (w .card) key (w .state .free) (landing (w .card) (w .state .nodes) key) ≡ true → Goal i (put key value) (startAccepted (w .state) (Inserting key value NotBegun))
+    → startRoom (w .card) key (w .state .free) (landing (w .card) (w .state .nodes) key) ≡ true → (depth : ℕ)
+    → Goal i (put key value) (startAccepted (w .state) (Inserting key value NotBegun) depth)
 unfolding startAccepted startReply outcome feed fedStart isIdle
-put-started {n} w b i free last key value em z r x eg low high q =
+put-started {n} w b i free last key value em z r x eg low high q depth =
     let q′ : startRoom (w .card) key free (landing (w .card) n key) ≡ true = rw em at q in (
       mostSteps i,
       record {
@@ -171,11 +172,11 @@ put-started {n} w b i free last key value em z r x eg low high q =
     )
 
 remove-started : {n steps : ℕ} (w : World rationTable) (b : Book) (i : Inv n steps w b) (free : List Bool) (last key : ℕ)
-    → w .state ≡ memory n free last Idle [] [] → tableViolations (i .tree) ≡ 0 → 3 ≤ countTrue free → Exact n free (i .tree)
+    → w .state ≡ memory n free last (w .state .depth) Idle [] [] → tableViolations (i .tree) ≡ 0 → 3 ≤ countTrue free → Exact n free (i .tree)
     → bare (i .tree) ≡ i .goal → lowestKey ≤ key → key < keyLimit
-    → Goal i (remove key) (startAccepted (w .state) (Deleting key NotBegun 0))
+    → (depth : ℕ) → Goal i (remove key) (startAccepted (w .state) (Deleting key NotBegun 0) depth)
 unfolding startAccepted startReply outcome feed fedStart isIdle
-remove-started w b i free last key em z r x eg low high = (
+remove-started w b i free last key em z r x eg low high depth = (
   mostSteps i,
   record {
     tree = i .tree;
@@ -205,22 +206,23 @@ module _ (n steps : ℕ) (w : World rationTable) (b : Book) (i : Inv n steps w b
 
   -- on an idle state nothing but the room decides
   pub room-decides : (key : ℕ) (doing : Doing) (room : Landing → Bool) → w .state .doing ≡ Idle → lowestKey ≤ key → key < keyLimit
-      → startOf (w .card) (w .state) key doing room ≡ pick (room (landing (w .card) (w .state .nodes) key)) (startAccepted (w .state) doing) (startRefused 8 (w .state))
+      → startOf (w .card) (w .state) key doing room ≡ pick (room (landing (w .card) (w .state .nodes) key))
+      (startAccepted (w .state) doing (startDepth (w .card) (w .state) key)) (startRefused 8 (w .state))
   room-decides key doing room idle low high =
       let g = lands key low high in
       passed key doing room ∙ start-landed (w .card) (w .state) key doing room (g .0) (g .1) (g .2) (is-idle idle) (omega arith) (g .3)
 
   start-with : (key : ℕ) (doing : Doing) (room : Landing → Bool) (u : Update) → key < keyLimit
-      → ((free : List Bool) (last : ℕ) → w .state ≡ memory n free last Idle [] []
+      → ((free : List Bool) (last : ℕ) → w .state ≡ memory n free last (w .state .depth) Idle [] []
       → tableViolations (i .tree) ≡ 0 → 3 ≤ countTrue free → Exact n free (i .tree) → bare (i .tree) ≡ i .goal → lowestKey ≤ key
-      → room (landing (w .card) (w .state .nodes) key) ≡ true → Goal i u (startAccepted (w .state) doing))
+      → room (landing (w .card) (w .state .nodes) key) ≡ true → Goal i u (startAccepted (w .state) doing (startDepth (w .card) (w .state) key)))
       → Goal i u (startOf (w .card) (w .state) key doing room)
   start-with key doing room u high begin = go (idle-or-busy (i .stage) .1)
     where
       refused-with : (r : ℕ) → r < 64 → startOf (w .card) (w .state) key doing room ≡ startRefused r (w .state) → Goal i u (startOf (w .card) (w .state) key doing room)
       refused-with r h e = subst (Goal i u) (sym e) (refused-goal w b i u r h)
 
-      go : (isIdle (w .state .doing) ≡ false) ⊎ ((free : List Bool) × (last : ℕ) × (w .state ≡ memory n free last Idle [] [])
+      go : (isIdle (w .state .doing) ≡ false) ⊎ ((free : List Bool) × (last : ℕ) × (w .state ≡ memory n free last (w .state .depth) Idle [] [])
           × (tableViolations (i .tree) ≡ 0) × (3 ≤ countTrue free) × Exact n free (i .tree) × (bare (i .tree) ≡ i .goal))
           → Goal i u (startOf (w .card) (w .state) key doing room)
       go (inl q) = refused-with 7 (omega arith) (passed key doing room ∙ start-busy (w .card) (w .state) key doing room q)
@@ -241,10 +243,12 @@ module _ (n steps : ℕ) (w : World rationTable) (b : Book) (i : Inv n steps w b
   unfolding happens told replyTo insertOf
   kept-insert key value high =
       start-with key (Inserting key value NotBegun) (startRoom (w .card) key (w .state .free)) (put key value) high
-      (λ free last em z r x eg low q. put-started w b i free last key value em z r x eg low high q)
+      (λ free last em z r x eg low q. put-started w b i free last key value em z r x eg low high q (startDepth (w .card) (w .state) key))
 
   pub kept-delete : (key : ℕ) → key < keyLimit
       → (k : ℕ) × (j : Inv n k (happens rationTable (delete key) w) (feed (told rationTable (delete key) w) b))
       × Fresh (remove key) (deleteOf (w .card) (w .state) key) i j
   unfolding happens told replyTo deleteOf
-  kept-delete key high = start-with key (Deleting key NotBegun 0) (λ l. true) (remove key) high (λ free last em z r x eg low q. remove-started w b i free last key em z r x eg low high)
+  kept-delete key high =
+      start-with key (Deleting key NotBegun 0) (λ l. true) (remove key) high
+      (λ free last em z r x eg low q. remove-started w b i free last key em z r x eg low high (startDepth (w .card) (w .state) key))

@@ -99,11 +99,11 @@ pub data Moves (c : List ℕ) (m : Memory) (s : Step) : Type 0 where
   goes-further : IsStored (s .answer) → isIdle (s .memory .doing) ≡ false → Moves c m s
 
 -- a store leaves the work in hand
-busy-after : {doing : Doing} (n : ℕ) (free : List Bool) (last : ℕ) (z : List Store) (cut : List ℕ) → Busy doing → (rest : List Store)
-    → isIdle (advanced (memory n free last doing z cut) rest .doing) ≡ false
+busy-after : {doing : Doing} (n : ℕ) (free : List Bool) (last depth : ℕ) (z : List Store) (cut : List ℕ) → Busy doing → (rest : List Store)
+    → isIdle (advanced (memory n free last depth doing z cut) rest .doing) ≡ false
 unfolding advanced
-busy-after {doing} n free last z cut b [] = settled-idle doing ∙ b .not-idle
-busy-after n free last z cut b (s ∷ rest) = b .not-idle
+busy-after {doing} n free last depth z cut b [] = settled-idle doing ∙ b .not-idle
+busy-after n free last depth z cut b (s ∷ rest) = b .not-idle
 
 -- the answer is the one due, or none: a store, or the refusal of an idle state
 pub data Right : Answer → Answer → Type 0 where
@@ -135,20 +135,20 @@ module _ (n steps : ℕ) (c : List ℕ) (t : Tree) (b : Table c n t) (o : Openab
   final-goal m m′ a h due e idle f i r = rw (e, final-told a f) (i, r, ends-now f refl idle)
 
   -- the state idle again
-  idle-inv : (due : Answer) (free : List Bool) (last : ℕ) (l′ : List (ℕ × ℕ)) → Same (pairs t) l′
+  idle-inv : (due : Answer) (free : List Bool) (last depth : ℕ) (l′ : List (ℕ × ℕ)) → Same (pairs t) l′
       → tableViolations t ≡ 0 → 3 ≤ countTrue free → Exact n free t → bare t ≡ goal
-      → Toward goal due n steps (record { card = c; state = memory n free last Idle [] [] }) (book l′ empty)
-  idle-inv due free last l′ s z r x eg = (record { tree = t; goal = goal; due = due; table = b; openable = o; same = s; stage = stage-idle z r x eg }, refl, refl)
+      → Toward goal due n steps (record { card = c; state = memory n free last depth Idle [] [] }) (book l′ empty)
+  idle-inv due free last depth l′ s z r x eg = (record { tree = t; goal = goal; due = due; table = b; openable = o; same = s; stage = stage-idle z r x eg }, refl, refl)
 
   -- a repair that has nothing left to do gives its final answer
-  ended : {doing : Doing} {key : ℕ} {due : Answer} {u : Option Update} {h : Hand} (free : List Bool) (last : ℕ)
+  ended : {doing : Doing} {key : ℕ} {due : Answer} {u : Option Update} {h : Hand} (free : List Bool) (last depth : ℕ)
       → Job Decided doing key due u → Entered u h → tableViolations t ≡ 0 → 3 ≤ countTrue free → Exact n free t → bare t ≡ goal
-      → Goal (memory n free last doing [] []) h due
+      → Goal (memory n free last depth doing [] []) h due
   unfolding idled outcome stepReply fedStep
-  ended {doing} {key} {due} {u} {h} free last j en z r x eg =
-      final-goal (memory n free last doing [] []) (memory n free last Idle [] []) due h due
-      (step-repairs c n (b .sized) (b .header) free last j
-      ∙ prepared-ready c (memory n free last doing [] []) doing due (nextRepair c n key free last) (rests c n key t free last b z)) refl
+  ended {doing} {key} {due} {u} {h} free last depth j en z r x eg =
+      final-goal (memory n free last depth doing [] []) (memory n free last depth Idle [] []) due h due
+      (step-repairs c n (b .sized) (b .header) free last depth j
+      ∙ prepared-ready c (memory n free last depth doing [] []) doing due (nextRepair c n key free last) (rests c n key t free last b z)) refl
       (is-final j) (entered-inv en) final-answer
     where
       is-final : {doing : Doing} {key : ℕ} {due : Answer} {u : Option Update} → Job Decided doing key due u → IsFinal due
@@ -156,9 +156,9 @@ module _ (n steps : ℕ) (c : List ℕ) (t : Tree) (b : Table c n t) (o : Openab
       is-final (job-insert p) = tt
       is-final (job-delete p) = tt
 
-      entered-inv : {u : Option Update} {h : Hand} → Entered u h → Toward goal due n steps (record { card = c; state = memory n free last Idle [] [] }) (fedStep final l h)
-      entered-inv no-update = idle-inv due free last l same z r x eg
-      entered-inv (updated {deciding = deciding} {count = count} e) = rw (le-ltb count deciding e) (idle-inv due free last l same z r x eg)
+      entered-inv : {u : Option Update} {h : Hand} → Entered u h → Toward goal due n steps (record { card = c; state = memory n free last depth Idle [] [] }) (fedStep final l h)
+      entered-inv no-update = idle-inv due free last depth l same z r x eg
+      entered-inv (updated {deciding = deciding} {count = count} e) = rw (le-ltb count deciding e) (idle-inv due free last depth l same z r x eg)
 
   -- an entered update, or opening's repair, leaves the pairs as they are
   entered-on : {u : Option Update} {h : Hand} → Entered u h → (h′ : Hand) × (fedStep goesOn l h ≡ book l h′) × Entered u h′
@@ -171,37 +171,37 @@ module _ (n steps : ℕ) (c : List ℕ) (t : Tree) (b : Table c n t) (o : Openab
   )
 
   -- a repair that goes on
-  repaired : {doing : Doing} {key : ℕ} {due : Answer} {u : Option Update} {h : Hand} (free : List Bool) (last deep : ℕ) → Job Decided
+  repaired : {doing : Doing} {key : ℕ} {due : Answer} {u : Option Update} {h : Hand} (free : List Bool) (last depth deep : ℕ) → Job Decided
       doing key due u → Entered u h → Mendable key free t deep → Exact n free t → 73 * deep + 1 ≤ suc steps → Heads deep (bare t) goal
-      → Goal (memory n free last doing [] []) h due
-  repaired free last deep j en (settled z r) x few hd = ended free last j en z r x (heads-done hd (bare-table-violations t ∙ z))
-  repaired {doing} {key} {due} {u} {h} free last deep j en (violated v w r) x few hd = apply (mends c n key t free last b x v w r)
+      → Goal (memory n free last depth doing [] []) h due
+  repaired free last depth deep j en (settled z r) x few hd = ended free last depth j en z r x (heads-done hd (bare-table-violations t ∙ z))
+  repaired {doing} {key} {due} {u} {h} free last depth deep j en (violated v w r) x few hd = apply (mends c n key t free last b x v w r)
     where
-      apply : Repaired c n key t free last (depthOf (v .context)) → Goal (memory n free last doing [] []) h due
+      apply : Repaired c n key t free last (depthOf (v .context)) → Goal (memory n free last depth doing [] []) h due
       apply q = split (q .stores) refl
         where
-          split : (s : List Store) → q .stores ≡ s → Goal (memory n free last doing [] []) h due
+          split : (s : List Store) → q .stores ≡ s → Goal (memory n free last depth doing [] []) h due
           split [] e = let z = ap length (sym e ∙ q .pending .is-rest) in absurd (omega (arith, simp length-append at z))
           split (s ∷ rest) e =
               let k : nextRepair c n key free last ≡ prepared (s ∷ rest) (q .free-then) (q .last-then) (q .cut) = rw e at (q .planned) in
               let short : suc (length rest) ≤ 73 = rw e at (q .short) in
               let p = pending-changing (b .holds) (b .sound) o (rw e at (q .pending)) in
               let g = entered-on en in
-              stored-goal (memory n free last doing [] []) _ (set c (s .0) (s .1)) h due
-              (step-repairs c n (b .sized) (b .header) free last j ∙ prepared-first c (memory n free last doing [] []) doing due
+              stored-goal (memory n free last depth doing [] []) _ (set c (s .0) (s .1)) h due
+              (step-repairs c n (b .sized) (b .header) free last depth j ∙ prepared-first c (memory n free last depth doing [] []) doing due
               (nextRepair c n key free last) s rest (q .free-then) (q .last-then) (q .cut) k (first-storable (p .0 .plays) .inside))
-              (busy-after n (q .free-then) (q .last-then) [] (q .cut) (job-busy j) rest)
-              (rw (g .1) (repair-stored (q .last-then) steps [] l b same j (g .2) (p .0) (record { totals = p .1 }) (omega (arith, p .2))
+              (busy-after n (q .free-then) (q .last-then) depth [] (q .cut) (job-busy j) rest)
+              (rw (g .1) (repair-stored (q .last-then) depth steps [] l b same j (g .2) (p .0) (record { totals = p .1 }) (omega (arith, p .2))
               (heads-on (p .0 .level) (bare (p .0 .next)) hd (bare-table-violations t ∙ w) (p .2) (p .3))))
 
   -- the first store of an update's first change
   begins : {doing : Doing} {key : ℕ} {due : Answer} {u : Update} (d : ℕ) (m : Memory) (s : Store) (rest : List Store) (free : List Bool) (last : ℕ) (cut : List ℕ) → Job InHand doing key due (some u)
-      → stepOf c m ≡ record { answer = Stored (s .0); card = set c (s .0) (s .1); memory = advanced (memory n free last doing [] cut) rest }
+      → stepOf c m ≡ record { answer = Stored (s .0); card = set c (s .0) (s .1); memory = advanced (memory n free last (m .depth) doing [] cut) rest }
       → (p : Changing c n key t (s ∷ rest) free cut) → Enters u (pairs t) (pairs (p .next)) → suc (length rest) ≡ d
       → length rest + (73 * p .level + 1) ≤ steps → Heads (p .level) (bare (p .next)) goal → Goal m (holding u d 0) due
   begins {due = due} {u = u} d m s rest free last cut j e p en count few hd =
       let q : 0 + suc (length rest) ≡ d = omega arith in
-      stored-goal m _ (set c (s .0) (s .1)) (holding u d 0) due e (busy-after n free last [] cut (job-busy j) rest) (update-stored d 0 last steps [] l b same j p en q few hd)
+      stored-goal m _ (set c (s .0) (s .1)) (holding u d 0) due e (busy-after n free last (m .depth) [] cut (job-busy j) rest) (update-stored d 0 last (m .depth) steps [] l b same j p en q few hd)
 
   -- the leaf that a key leads to
   lands : (key : ℕ) → lowestKey ≤ key → key < keyLimit → LandedAt c n key t
@@ -246,20 +246,20 @@ module _ (n steps : ℕ) (c : List ℕ) (t : Tree) (b : Table c n t) (o : Openab
   entered-at-end key value false = refl
 
   -- "Insert, key held: answers the held value, no store."
-  put-answers : (free : List Bool) (last key value i : ℕ) → tableViolations t ≡ 0 → 3 ≤ countTrue free → Exact n free t
+  put-answers : (free : List Bool) (last depth key value i : ℕ) → tableViolations t ≡ 0 → 3 ≤ countTrue free → Exact n free t
       → (g : LandedAt c n key t) → slotOf (nodeAt c (g .number)) key ≡ At i → (full : Bool) → afterShape (put key value) (bare t) ≡ goal
-      → Goal (memory n free last (Inserting key value NotBegun) [] []) (takenUp (anInsert key value goesOn full)) (dictionaryAnswer (lookup key (pairs t)))
+      → Goal (memory n free last depth (Inserting key value NotBegun) [] []) (takenUp (anInsert key value goesOn full)) (dictionaryAnswer (lookup key (pairs t)))
   unfolding idled outcome stepReply fedStep slotAnswer dictionaryAnswer
-  put-answers free last key value i z r x g e full eg =
-      let m = memory n free last (Inserting key value NotBegun) [] [] in
+  put-answers free last depth key value i z r x g e full eg =
+      let m = memory n free last depth (Inserting key value NotBegun) [] [] in
       let v = getD (nodeAt c (g .number)) (12 + i) 0 in
       let found : lookup key (pairs t) ≡ some (getD (nodeAt c (g .number)) (12 + i) 0) = sym (g .answers) ∙ ap (slotAnswer (nodeAt c (g .number))) e in
-      final-goal (memory n free last (Inserting key value NotBegun) [] []) (memory n free last Idle [] []) (Value v)
+      final-goal (memory n free last depth (Inserting key value NotBegun) [] []) (memory n free last depth Idle [] []) (Value v)
       (takenUp (anInsert key value goesOn full)) (dictionaryAnswer (lookup key (pairs t)))
-      (step-puts c n (b .sized) (b .header) free last key value ∙ put-held c n key (g .number) (linkPlace (g .context))
+      (step-puts c n (b .sized) (b .header) free last depth key value ∙ put-held c n key (g .number) (linkPlace (g .context))
       (fullRun (g .context)) (landed key g) value free last m i e ∙ prepared-ready c m (Inserting key value InHand) (Value v) balanced refl)
       refl tt
-      (rw (entered-at-end key value full) (idle-inv _ free last (entered (put key value) l)
+      (rw (entered-at-end key value full) (idle-inv _ free last depth (entered (put key value) l)
       (enters-held key value (pairs t) (held-positive key (getD (nodeAt c (g .number)) (12 + i) 0) (pairs t) found) .to l same) z r x
       (goal-held key value (getD (nodeAt c (g .number)) (12 + i) 0) found eg)))
       (rw found final-answer)
@@ -280,13 +280,13 @@ module _ (n steps : ℕ) (c : List ℕ) (t : Tree) (b : Table c n t) (o : Openab
       (record { repairs = depthLimit; enough = omega arith; reaches = ap (settledBy depthLimit) (p .shaped) ∙ eg })
 
   -- "With an empty slot: value first, then key, in the lowest empty slot."
-  put-into-slot : (free : List Bool) (last key value i : ℕ) → tableViolations t ≡ 0
+  put-into-slot : (free : List Bool) (last depth key value i : ℕ) → tableViolations t ≡ 0
       → 3 ≤ countTrue free → Exact n free t → lowestKey ≤ key → key < keyLimit → UpdateSteps t (suc steps) → (g : LandedAt c n key t)
       → slotOf (nodeAt c (g .number)) key ≡ NoSlot → slotOf (nodeAt c (g .number)) 0 ≡ At i → afterShape (put key value) (bare t) ≡ goal
-      → Goal (memory n free last (Inserting key value NotBegun) [] []) (takenUp (toldOf (put key value) c goesOn)) (dictionaryAnswer (lookup key (pairs t)))
+      → Goal (memory n free last depth (Inserting key value NotBegun) [] []) (takenUp (toldOf (put key value) c goesOn)) (dictionaryAnswer (lookup key (pairs t)))
   unfolding slotAnswer dictionaryAnswer feed fedStart
-  put-into-slot free last key value i z r x low high few g e e₀ eg =
-      let m = memory n free last (Inserting key value NotBegun) [] [] in
+  put-into-slot free last depth key value i z r x low high few g e e₀ eg =
+      let m = memory n free last depth (Inserting key value NotBegun) [] [] in
       let none-there : lookup key (pairs t) ≡ none = sym (g .answers) ∙ ap (slotAnswer (nodeAt c (g .number))) e in
       let words = read-length c (g .number) 1 (g .keys) (g .values) (g .on-card .0) in
       let s = slot-holds (nodeAt c (g .number)) 0 i words e₀ in
@@ -301,7 +301,7 @@ module _ (n steps : ℕ) (c : List ℕ) (t : Tree) (b : Table c n t) (o : Openab
       (rw is (b .sound)) (rw is z) (rw is x) r (g .leads) low high value (s .0) empty-slot (rw is none-held) (row-slot key 0 g ∙ e₀) in
       rw (none-there, flag)
       (first-made _ m _ (place (g .number) (12 + i), value) ((place (g .number) (1 + i), key) ∷ []) free last [] (depthOf (g .context)) refl (job-insert in-hand)
-      (step-puts c n (b .sized) (b .header) free last key value
+      (step-puts c n (b .sized) (b .header) free last depth key value
       ∙ put-slot c n key (g .number) (linkPlace (g .context)) (fullRun (g .context)) (landed key g) value free last m i e e₀) refl
       (rw is at p) refl (omega arith) (way-limited key g) (goal-put key value none-there eg))
     where
@@ -319,13 +319,13 @@ module _ (n steps : ℕ) (c : List ℕ) (t : Tree) (b : Table c n t) (o : Openab
           }
 
   -- "Delete: key word to 0, answers the value"
-  remove-from-slot : (free : List Bool) (last key i : ℕ) → tableViolations t ≡ 0
+  remove-from-slot : (free : List Bool) (last depth key i : ℕ) → tableViolations t ≡ 0
       → 3 ≤ countTrue free → Exact n free t → lowestKey ≤ key → key < keyLimit → UpdateSteps t (suc steps) → (g : LandedAt c n key t)
       → slotOf (nodeAt c (g .number)) key ≡ At i → afterShape (remove key) (bare t) ≡ goal
-      → Goal (memory n free last (Deleting key NotBegun 0) [] []) (takenUp (toldOf (remove key) c goesOn)) (dictionaryAnswer (lookup key (pairs t)))
+      → Goal (memory n free last depth (Deleting key NotBegun 0) [] []) (takenUp (toldOf (remove key) c goesOn)) (dictionaryAnswer (lookup key (pairs t)))
   unfolding slotAnswer dictionaryAnswer feed fedStart
-  remove-from-slot free last key i z r x low high few g e eg =
-      let m = memory n free last (Deleting key NotBegun 0) [] [] in
+  remove-from-slot free last depth key i z r x low high few g e eg =
+      let m = memory n free last depth (Deleting key NotBegun 0) [] [] in
       let found : lookup key (pairs t) ≡ some (getD (nodeAt c (g .number)) (12 + i) 0) = sym (g .answers) ∙ ap (slotAnswer (nodeAt c (g .number))) e in
       let words = read-length c (g .number) 1 (g .keys) (g .values) (g .on-card .0) in
       let s = slot-holds (nodeAt c (g .number)) key i words e in
@@ -336,7 +336,7 @@ module _ (n steps : ℕ) (c : List ℕ) (t : Tree) (b : Table c n t) (o : Openab
       at-slot (g .context) (g .number) (g .keys) (g .values) (rw is (b .holds)) (rw is (b .sound)) (rw is z) (rw is x) r (g .leads) low high (s .0) held-slot (row-slot key key g ∙ e) in
       rw found
       (first-made _ m _ (place (g .number) (1 + i), 0) [] free last [] (depthOf (g .context)) refl (job-delete in-hand)
-      (step-removes c n (b .sized) (b .header) free last key
+      (step-removes c n (b .sized) (b .header) free last depth key
       ∙ remove-held c n key (g .number) (linkPlace (g .context)) (fullRun (g .context)) (landed key g) 0 free last m i e) refl
       (rw is at p) refl (omega arith) (way-limited key g) (goal-remove key (getD (nodeAt c (g .number)) (12 + i) 0) found eg))
     where
@@ -353,27 +353,28 @@ module _ (n steps : ℕ) (c : List ℕ) (t : Tree) (b : Table c n t) (o : Openab
           }
 
   -- "absent and no store if not held"
-  remove-answers : (free : List Bool) (last key : ℕ) → tableViolations t ≡ 0 → 3 ≤ countTrue free → Exact n free t
+  remove-answers : (free : List Bool) (last depth key : ℕ) → tableViolations t ≡ 0 → 3 ≤ countTrue free → Exact n free t
       → (g : LandedAt c n key t) → slotOf (nodeAt c (g .number)) key ≡ NoSlot → afterShape (remove key) (bare t) ≡ goal
-      → Goal (memory n free last (Deleting key NotBegun 0) [] []) (takenUp (toldOf (remove key) c goesOn)) (dictionaryAnswer (lookup key (pairs t)))
+      → Goal (memory n free last depth (Deleting key NotBegun 0) [] []) (takenUp (toldOf (remove key) c goesOn)) (dictionaryAnswer (lookup key (pairs t)))
   unfolding idled outcome stepReply fedStep slotAnswer dictionaryAnswer feed fedStart
-  remove-answers free last key z r x g e eg =
-      let m = memory n free last (Deleting key NotBegun 0) [] [] in
+  remove-answers free last depth key z r x g e eg =
+      let m = memory n free last depth (Deleting key NotBegun 0) [] [] in
       let none-there : lookup key (pairs t) ≡ none = sym (g .answers) ∙ ap (slotAnswer (nodeAt c (g .number))) e in
-      final-goal (memory n free last (Deleting key NotBegun 0) [] []) (memory n free last Idle [] []) Absent (takenUp (toldOf (remove key) c goesOn)) (dictionaryAnswer (lookup key (pairs t)))
-      (step-removes c n (b .sized) (b .header) free last key ∙ remove-absent c n key (g .number) (linkPlace (g .context))
+      final-goal (memory n free last depth (Deleting key NotBegun 0) [] []) (memory n free last depth Idle [] []) Absent
+      (takenUp (toldOf (remove key) c goesOn)) (dictionaryAnswer (lookup key (pairs t)))
+      (step-removes c n (b .sized) (b .header) free last depth key ∙ remove-absent c n key (g .number) (linkPlace (g .context))
       (fullRun (g .context)) (landed key g) 0 free last m e ∙ prepared-ready c m (Deleting key InHand 0) Absent balanced refl)
       refl tt
-      (idle-inv _ free last (entered (remove key) l) (enters-gone key (pairs t) (absent-counted key (pairs t) none-there) .to l same) z r x (goal-absent key none-there eg))
+      (idle-inv _ free last depth (entered (remove key) l) (enters-gone key (pairs t) (absent-counted key (pairs t) none-there) .to l same) z r x (goal-absent key none-there eg))
       (rw none-there final-answer)
 
   -- "Leaf full: the 12 pairs go 6 and 6 into two leaves under a tagged node"
-  put-by-split : (free : List Bool) (last key value : ℕ) → tableViolations t ≡ 0 → 3 ≤ countTrue free → Exact n free t → lowestKey ≤ key
+  put-by-split : (free : List Bool) (last depth key value : ℕ) → tableViolations t ≡ 0 → 3 ≤ countTrue free → Exact n free t → lowestKey ≤ key
       → key < keyLimit → UpdateSteps t (suc steps) → startRoom c key free (landing c n key) ≡ true → (g : LandedAt c n key t)
       → slotOf (nodeAt c (g .number)) key ≡ NoSlot → slotOf (nodeAt c (g .number)) 0 ≡ NoSlot → afterShape (put key value) (bare t) ≡ goal
-      → Goal (memory n free last (Inserting key value NotBegun) [] []) (takenUp (toldOf (put key value) c goesOn)) (dictionaryAnswer (lookup key (pairs t)))
+      → Goal (memory n free last depth (Inserting key value NotBegun) [] []) (takenUp (toldOf (put key value) c goesOn)) (dictionaryAnswer (lookup key (pairs t)))
   unfolding slotAnswer dictionaryAnswer feed fedStart
-  put-by-split free last key value z r x low high few room g e e₀ eg =
+  put-by-split free last depth key value z r x low high few room g e e₀ eg =
       let none-there : lookup key (pairs t) ≡ none = sym (g .answers) ∙ ap (slotAnswer (nodeAt c (g .number))) e in
       let flag = flag-full c n key (g .number) (linkPlace (g .context)) (fullRun (g .context)) (landed key g) (b .sized) e₀ in
       let eleven = slots-full (nodeAt c (g .number)) (g .keys) (g .values) (leaf-keys c (g .number) (g .keys) (g .values) (g .on-card)) (g .on-card .1) (g .on-card .2) e₀ in
@@ -400,7 +401,7 @@ module _ (n steps : ℕ) (c : List ℕ) (t : Tree) (b : Table c n t) (o : Openab
       go : ((ms : List ℕ) × (takeNumbers 3 free last ≡ some ms) × (length ms ≡ 3) × Given free ms) → 73 + 73 * depthOf (g .context) ≤ steps
           → length (slotPairs (g .keys) (g .values)) ≡ 11 → splitNeed (fullRun (g .context)) ≤ countTrue free
           → total (hasKey key) (pairs t) ≡ 0 → settledBy depthLimit (firstShape (put key value) (bare t)) ≡ goal
-          → Goal (memory n free last (Inserting key value NotBegun) [] []) (takenUp (anInsert key value goesOn true)) Absent
+          → Goal (memory n free last depth (Inserting key value NotBegun) [] []) (takenUp (anInsert key value goesOn true)) Absent
       go (ms, e₁, three, gv) way eleven spare none-held reach = split (stores ms) refl
         where
           p : First c n key (plug (g .context) (leaf (g .number) (g .keys) (g .values))) (stores ms) (withoutAll ms free) (g .number ∷ []) (put key value) (depthOf (g .context))
@@ -429,65 +430,66 @@ module _ (n steps : ℕ) (c : List ℕ) (t : Tree) (b : Table c n t) (o : Openab
               (rw (g .is-tree) (b .sound)) (rw (g .is-tree) z) (rw (g .is-tree) x) r (g .leads) low high value ms three gv (b .sized .words)
               (omega (arith, b .sized .most)) eleven (rw (g .is-tree) none-held) spare
 
-          split : (q : List Store) → stores ms ≡ q → Goal (memory n free last (Inserting key value NotBegun) [] []) (takenUp (anInsert key value goesOn true)) Absent
+          split : (q : List Store) → stores ms ≡ q → Goal (memory n free last depth (Inserting key value NotBegun) [] []) (takenUp (anInsert key value goesOn true)) Absent
           split [] q = absurd (omega (arith, count, ap length q))
           split (s ∷ rest) q =
               let l₁ : suc (length rest) ≡ 73 = sym (ap length q) ∙ count in
               let p₁ : First c n key t (s ∷ rest) (withoutAll ms free) (g .number ∷ []) (put key value) (depthOf (g .context)) = rw (g .is-tree, q) at p in
-              first-made _ (memory n free last (Inserting key value NotBegun) [] []) _ s rest (withoutAll ms free) (lastOf last ms) (g .number ∷ []) (depthOf (g .context)) refl (job-insert in-hand)
-              (step-puts c n (b .sized) (b .header) free last key value
-              ∙ put-full c n key (g .number) (linkPlace (g .context)) (fullRun (g .context)) (landed key g) value free last (memory n free last (Inserting key value NotBegun) [] []) e e₀)
+              first-made _ (memory n free last depth (Inserting key value NotBegun) [] []) _ s rest
+              (withoutAll ms free) (lastOf last ms) (g .number ∷ []) (depthOf (g .context)) refl (job-insert in-hand)
+              (step-puts c n (b .sized) (b .header) free last depth key value
+              ∙ put-full c n key (g .number) (linkPlace (g .context)) (fullRun (g .context)) (landed key g) value free last (memory n free last depth (Inserting key value NotBegun) [] []) e e₀)
               (planned-as ms e₁ ∙ ap (λ (q : List Store). prepared q (withoutAll ms free) (lastOf last ms) (g .number ∷ [])) q) p₁ l₁ (omega arith) (way-limited key g) reach
 
   -- by what its leaf holds
-  put-begins : (free : List Bool) (last key value : ℕ) → tableViolations t ≡ 0 → 3 ≤ countTrue free → Exact n free t → lowestKey ≤ key → key
+  put-begins : (free : List Bool) (last depth key value : ℕ) → tableViolations t ≡ 0 → 3 ≤ countTrue free → Exact n free t → lowestKey ≤ key → key
       < keyLimit → UpdateSteps t (suc steps) → startRoom c key free (landing c n key) ≡ true → afterShape (put key value) (bare t) ≡ goal
-      → Goal (memory n free last (Inserting key value NotBegun) [] []) (takenUp (toldOf (put key value) c goesOn)) (dictionaryAnswer (lookup key (pairs t)))
-  put-begins free last key value z r x low high few room eg = go (lands key low high)
+      → Goal (memory n free last depth (Inserting key value NotBegun) [] []) (takenUp (toldOf (put key value) c goesOn)) (dictionaryAnswer (lookup key (pairs t)))
+  put-begins free last depth key value z r x low high few room eg = go (lands key low high)
     where
-      go : (g : LandedAt c n key t) → Goal (memory n free last (Inserting key value NotBegun) [] []) (takenUp (toldOf (put key value) c goesOn)) (dictionaryAnswer (lookup key (pairs t)))
+      go : (g : LandedAt c n key t) → Goal (memory n free last depth (Inserting key value NotBegun) [] []) (takenUp (toldOf (put key value) c goesOn)) (dictionaryAnswer (lookup key (pairs t)))
       go g = at (slotOf (nodeAt c (g .number)) key) refl
         where
           empty-at : (s : Slot) → slotOf (nodeAt c (g .number)) 0 ≡ s → slotOf (nodeAt c (g .number)) key ≡ NoSlot
-              → Goal (memory n free last (Inserting key value NotBegun) [] [])
+              → Goal (memory n free last depth (Inserting key value NotBegun) [] [])
               (takenUp (toldOf (put key value) c goesOn)) (dictionaryAnswer (lookup key (pairs t)))
-          empty-at (At i) e₀ e = put-into-slot free last key value i z r x low high few g e e₀ eg
-          empty-at NoSlot e₀ e = put-by-split free last key value z r x low high few room g e e₀ eg
+          empty-at (At i) e₀ e = put-into-slot free last depth key value i z r x low high few g e e₀ eg
+          empty-at NoSlot e₀ e = put-by-split free last depth key value z r x low high few room g e e₀ eg
 
-          at : (s : Slot) → slotOf (nodeAt c (g .number)) key ≡ s → Goal (memory n free last (Inserting key value NotBegun) [] [])
+          at : (s : Slot) → slotOf (nodeAt c (g .number)) key ≡ s → Goal (memory n free last depth (Inserting key value NotBegun) [] [])
               (takenUp (toldOf (put key value) c goesOn)) (dictionaryAnswer (lookup key (pairs t)))
-          at (At i) e = put-answers free last key value i z r x g e (leafFull c key) eg
+          at (At i) e = put-answers free last depth key value i z r x g e (leafFull c key) eg
           at NoSlot e = empty-at (slotOf (nodeAt c (g .number)) 0) refl e
 
-  remove-begins : (free : List Bool) (last key : ℕ) → tableViolations t ≡ 0 → 3 ≤ countTrue free → Exact n free t
+  remove-begins : (free : List Bool) (last depth key : ℕ) → tableViolations t ≡ 0 → 3 ≤ countTrue free → Exact n free t
       → lowestKey ≤ key → key < keyLimit → UpdateSteps t (suc steps) → afterShape (remove key) (bare t) ≡ goal
-      → Goal (memory n free last (Deleting key NotBegun 0) [] []) (takenUp (toldOf (remove key) c goesOn)) (dictionaryAnswer (lookup key (pairs t)))
-  remove-begins free last key z r x low high few eg = go (lands key low high)
+      → Goal (memory n free last depth (Deleting key NotBegun 0) [] []) (takenUp (toldOf (remove key) c goesOn)) (dictionaryAnswer (lookup key (pairs t)))
+  remove-begins free last depth key z r x low high few eg = go (lands key low high)
     where
-      go : (g : LandedAt c n key t) → Goal (memory n free last (Deleting key NotBegun 0) [] []) (takenUp (toldOf (remove key) c goesOn)) (dictionaryAnswer (lookup key (pairs t)))
+      go : (g : LandedAt c n key t) → Goal (memory n free last depth (Deleting key NotBegun 0) [] []) (takenUp (toldOf (remove key) c goesOn)) (dictionaryAnswer (lookup key (pairs t)))
       go g = at (slotOf (nodeAt c (g .number)) key) refl
         where
-          at : (s : Slot) → slotOf (nodeAt c (g .number)) key ≡ s → Goal (memory n free last (Deleting key NotBegun 0) [] [])
+          at : (s : Slot) → slotOf (nodeAt c (g .number)) key ≡ s → Goal (memory n free last depth (Deleting key NotBegun 0) [] [])
               (takenUp (toldOf (remove key) c goesOn)) (dictionaryAnswer (lookup key (pairs t)))
-          at (At i) e = remove-from-slot free last key i z r x low high few g e eg
-          at NoSlot e = remove-answers free last key z r x g e eg
+          at (At i) e = remove-from-slot free last depth key i z r x low high few g e eg
+          at NoSlot e = remove-answers free last depth key z r x g e eg
 
   -- a step at any stage
   pub stage-steps : (m : Memory) (h : Hand) (due : Answer) → Stage c n t goal (suc steps) m h due → Goal m h due
   unfolding stepRefused outcome stepReply fedStep
-  stage-steps m h due (stage-idle {free} {last} z r x eg) = rw (step-idle c n (b .sized) (b .header) free last) (idle-inv due free last l same z r x eg, no-call, was-idle refl)
-  stage-steps m h due (stage-put {free} {last} {key} {value} z r x low high room few eg) = put-begins free last key value z r x low high few room eg
-  stage-steps m h due (stage-remove {free} {last} {key} z r x low high few eg) = remove-begins free last key z r x low high few eg
-  stage-steps m h due (stage-first {free} {last} {key} {doing} {u = u} {deciding = deciding} {count = k} {cut = cut} {s = s} {rest = rest} j p en count few hd) =
-      stored-goal (memory n free last doing (s ∷ rest) cut) _ (set c (s .0) (s .1)) (holding u deciding k) due
-      (step-stores c n (b .sized) (b .header) free last doing (job-busy j) cut s rest (first-storable (p .plays) .inside))
-      (busy-after n free last (s ∷ rest) cut (job-busy j) rest) (update-stored deciding k last steps (s ∷ rest) l b same j p en count (omega arith) hd)
-  stage-steps m h due (stage-between {free} {last} j en deep r x few hd) = repaired free last deep j en r x few hd
-  stage-steps m h due (stage-within {free} {last} {key} {doing} {cut = cut} {s = s} {rest = rest} j en p e few hd) =
+  stage-steps m h due (stage-idle {free} {last} {depth} z r x eg) = rw (step-idle c n (b .sized) (b .header) free last depth) (idle-inv due free last depth l same z r x eg, no-call, was-idle refl)
+  stage-steps m h due (stage-put {free} {last} {depth} {key} {value} z r x low high room few eg) = put-begins free last depth key value z r x low high few room eg
+  stage-steps m h due (stage-remove {free} {last} {depth} {key} z r x low high few eg) = remove-begins free last depth key z r x low high few eg
+  stage-steps m h due (stage-first {free} {last} {depth} {key} {doing} {u = u} {deciding = deciding} {count = k} {cut = cut} {s = s} {rest = rest} j p en count few hd) =
+      stored-goal (memory n free last depth doing (s ∷ rest) cut) _ (set c (s .0) (s .1)) (holding u deciding k) due
+      (step-stores c n (b .sized) (b .header) free last depth doing (job-busy j) cut s rest (first-storable (p .plays) .inside))
+      (busy-after n free last depth (s ∷ rest) cut (job-busy j) rest) (update-stored deciding k last depth steps (s ∷ rest) l b same j p en count (omega arith) hd)
+  stage-steps m h due (stage-between {free} {last} {depth} j en deep r x few hd) = repaired free last depth deep j en r x few hd
+  stage-steps m h due (stage-within {free} {last} {depth} {key} {doing} {cut = cut} {s = s} {rest = rest} j en p e few hd) =
       let g = entered-on en in
-      stored-goal (memory n free last doing (s ∷ rest) cut) _ (set c (s .0) (s .1)) h due
-      (step-stores c n (b .sized) (b .header) free last doing (job-busy j) cut s rest (first-storable (p .plays) .inside))
-      (busy-after n free last (s ∷ rest) cut (job-busy j) rest) (rw (g .1) (repair-stored last steps (s ∷ rest) l b same j (g .2) p e (omega arith) hd))
+      stored-goal (memory n free last depth doing (s ∷ rest) cut) _ (set c (s .0) (s .1)) h due
+      (step-stores c n (b .sized) (b .header) free last depth doing (job-busy j) cut s rest (first-storable (p .plays) .inside))
+      (busy-after n free last depth (s ∷ rest) cut (job-busy j) rest) (rw (g .1) (repair-stored last depth steps (s ∷ rest) l b same j (g .2) p e (omega arith) hd))
 
 -- THE STEP: the invariant is kept, and an answer given is the one due
 pub kept-step : (n steps : ℕ) (w : World rationTable) (b : Book) (i : Inv n (suc steps) w b)

@@ -35,8 +35,8 @@ use Rattle.state.specs.declared.Held.the-variants.{Task as HeldTask}
 use Rattle.theory_tree.proofs.Cut.{cut}
 
 -- the state, field by field
-abbrev pub memory : ℕ → List Bool → ℕ → Doing → List Store → List ℕ → Memory
-memory n free last doing rest cut = record { nodes = n; free = free; last = last; doing = doing; rest = rest; cut = cut }
+abbrev pub memory : ℕ → List Bool → ℕ → ℕ → Doing → List Store → List ℕ → Memory
+memory n free last depth doing rest cut = record { nodes = n; free = free; last = last; doing = doing; rest = rest; cut = cut; depth = depth }
 
 -- work in progress: a task is held
 pub record Busy (doing : Doing) : Type 0 where
@@ -86,25 +86,25 @@ module _ (c : List ℕ) (n : ℕ) (sized : Sized (length c) n) (header : Formatt
   headed : (m : Memory) → m .nodes ≡ n → headerRefusal c (m .nodes) ≡ 0
   headed m e = rw e (formatted-header c n header)
 
-  module _ (free : List Bool) (last : ℕ) where
-    pub step-idle : stepOf c (memory n free last Idle [] []) ≡ stepRefused 10 c (memory n free last Idle [] [])
+  module _ (free : List Bool) (last depth : ℕ) where
+    pub step-idle : stepOf c (memory n free last depth Idle [] []) ≡ stepRefused 10 c (memory n free last depth Idle [] [])
     unfolding heldBy
-    step-idle = checks-passed (memory n free last Idle [] []) refl ∙ table-idle c (memory n free last Idle [] []) (headed (memory n free last Idle [] []) refl)
+    step-idle = checks-passed (memory n free last depth Idle [] []) refl ∙ table-idle c (memory n free last depth Idle [] []) (headed (memory n free last depth Idle [] []) refl)
 
     module _ (doing : Doing) (busy : Busy doing) (cut : List ℕ) where
-      work : (rest : List Store) → stepOf c (memory n free last doing rest cut) ≡ stepTask c (memory n free last doing rest cut) (busy .task) rest
+      work : (rest : List Store) → stepOf c (memory n free last depth doing rest cut) ≡ stepTask c (memory n free last depth doing rest cut) (busy .task) rest
       work rest =
-          let m = memory n free last doing rest cut in
+          let m = memory n free last depth doing rest cut in
           checks-passed m refl ∙ ap (stepHeld c m) (busy .held) ∙ task-due c m (headed m refl) (busy .task)
 
       -- a store of the change in hand
-      pub step-stores : (s : Store) (rest : List Store) → s .0 < length c → stepOf c (memory n free last doing (s ∷ rest) cut)
-          ≡ record { answer = Stored (s .0); card = set c (s .0) (s .1); memory = advanced (memory n free last doing (s ∷ rest) cut) rest }
+      pub step-stores : (s : Store) (rest : List Store) → s .0 < length c → stepOf c (memory n free last depth doing (s ∷ rest) cut)
+          ≡ record { answer = Stored (s .0); card = set c (s .0) (s .1); memory = advanced (memory n free last depth doing (s ∷ rest) cut) rest }
       unfolding stepTask stepStore
       step-stores s rest h = work (s ∷ rest) ∙ rw (lt-ltb (s .0) (length c) h)
 
       -- no change in hand
-      step-plans : stepOf c (memory n free last doing [] cut) ≡ stepTask c (memory n free last doing [] cut) (busy .task) []
+      step-plans : stepOf c (memory n free last depth doing [] cut) ≡ stepTask c (memory n free last depth doing [] cut) (busy .task) []
       step-plans = work []
 
 -- what a preparation makes of a step
@@ -115,28 +115,28 @@ prepared-ready c m doing final p e = ap (stepPrepared c m doing final) e
 
 pub prepared-first : (c : List ℕ) (m : Memory) (doing : Doing) (final : Answer) (p : Preparation) (s : Store)
     (rest : List Store) (free : List Bool) (last : ℕ) (cut : List ℕ) → p ≡ prepared (s ∷ rest) free last cut → s .0 < length c
-    → stepPrepared c m doing final p ≡ record { answer = Stored (s .0); card = set c (s .0) (s .1); memory = advanced (memory (m .nodes) free last doing [] cut) rest }
+    → stepPrepared c m doing final p ≡ record { answer = Stored (s .0); card = set c (s .0) (s .1); memory = advanced (memory (m .nodes) free last (m .depth) doing [] cut) rest }
 unfolding stepPrepared stepStore planning
 prepared-first c m doing final p s rest free last cut e h = ap (stepPrepared c m doing final) e ∙ rw (lt-ltb (s .0) (length c) h)
 
 -- the next change of a repair
-pub step-repairs : (c : List ℕ) (n : ℕ) → Sized (length c) n → Formatted c n → (free : List Bool) (last : ℕ) {phase : Phase}
+pub step-repairs : (c : List ℕ) (n : ℕ) → Sized (length c) n → Formatted c n → (free : List Bool) (last depth : ℕ) {phase : Phase}
     {doing : Doing} {key : ℕ} {final : Answer} {u : Option Update} (j : Job phase doing key final u)
-    → stepOf c (memory n free last doing [] []) ≡ stepPrepared c (memory n free last doing [] []) doing final (nextRepair c n key free last)
-step-repairs c n s f free last {doing = doing} j = step-plans c n s f free last doing (job-busy j) [] ∙ job-plan j c (memory n free last doing [] []) refl
+    → stepOf c (memory n free last depth doing [] []) ≡ stepPrepared c (memory n free last depth doing [] []) doing final (nextRepair c n key free last)
+step-repairs c n s f free last depth {doing = doing} j = step-plans c n s f free last depth doing (job-busy j) [] ∙ job-plan j c (memory n free last depth doing [] []) refl
 
 -- the first change of an update
-pub step-puts : (c : List ℕ) (n : ℕ) → Sized (length c) n → Formatted c n → (free : List Bool) (last key value : ℕ)
-    → stepOf c (memory n free last (Inserting key value NotBegun) [] []) ≡ stepBegin c
-    (memory n free last (Inserting key value NotBegun) [] []) (nextChange c n free last (Inserting key value NotBegun) (PutIn key value))
+pub step-puts : (c : List ℕ) (n : ℕ) → Sized (length c) n → Formatted c n → (free : List Bool) (last depth key value : ℕ)
+    → stepOf c (memory n free last depth (Inserting key value NotBegun) [] []) ≡ stepBegin c
+    (memory n free last depth (Inserting key value NotBegun) [] []) (nextChange c n free last (Inserting key value NotBegun) (PutIn key value))
 unfolding put-busy stepTask
-step-puts c n s f free last key value = step-plans c n s f free last (Inserting key value NotBegun) (put-busy key value) []
+step-puts c n s f free last depth key value = step-plans c n s f free last depth (Inserting key value NotBegun) (put-busy key value) []
 
-pub step-removes : (c : List ℕ) (n : ℕ) → Sized (length c) n → Formatted c n → (free : List Bool) (last key : ℕ)
-    → stepOf c (memory n free last (Deleting key NotBegun 0) [] [])
-    ≡ stepBegin c (memory n free last (Deleting key NotBegun 0) [] []) (nextChange c n free last (Deleting key NotBegun 0) (TakeOut key))
+pub step-removes : (c : List ℕ) (n : ℕ) → Sized (length c) n → Formatted c n → (free : List Bool) (last depth key : ℕ)
+    → stepOf c (memory n free last depth (Deleting key NotBegun 0) [] [])
+    ≡ stepBegin c (memory n free last depth (Deleting key NotBegun 0) [] []) (nextChange c n free last (Deleting key NotBegun 0) (TakeOut key))
 unfolding remove-busy stepTask
-step-removes c n s f free last key = step-plans c n s f free last (Deleting key NotBegun 0) (remove-busy key 0) []
+step-removes c n s f free last depth key = step-plans c n s f free last depth (Deleting key NotBegun 0) (remove-busy key 0) []
 
 -- a step of an idle state is refused and changes nothing, whatever the card
 pub idle-refused : (c : List ℕ) (m : Memory) → m .doing ≡ Idle → (r : ℕ) × (stepOf c m ≡ stepRefused r c m)

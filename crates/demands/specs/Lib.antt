@@ -26,6 +26,8 @@ pub mod List
 pub mod W201
 -- the padding of a dump, tested eight bytes at a time
 pub mod W202
+-- how many internal nodes a look-up passed
+pub mod W203
 -- where the search for free nodes begins
 pub mod W205
 -- what stands in the way of a new number

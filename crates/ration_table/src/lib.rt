@@ -5,17 +5,19 @@ use c_replies::found_reply;
 use c_replies::next_reply;
 use c_replies::start_reply;
 use c_replies::step_reply;
+use c_replies::with_depth;
 ghost use mathlib.Core.Path.{_≡_};
 ghost use mathlib.Core.Bool.{false};
 ghost use lib.ListN.{length};
 ghost use Rattle.card_dump.specs.Dump.{readAnswer, readOver, writeAnswer, writeOver};
 ghost use Rattle.card_dump.specs.Answers.{dumpReply};
 ghost use Rattle.call_find.specs.Answers.{foundReply};
-ghost use Rattle.call_find.specs.Find.{findOf};
-ghost use Rattle.walk_next.specs.Successor.{nextOf, nextReply};
+ghost use Rattle.card.specs.Replies.{withDepth};
+ghost use Rattle.call_find.specs.Find.{findOf, findDepth};
+ghost use Rattle.walk_next.specs.Successor.{nextOf, nextDepth, nextReply};
 ghost use Rattle.call_open.specs.Opening.{openOf};
 ghost use Rattle.call_start.specs.Starts.{formatOf, insertOf, deleteOf};
-ghost use Rattle.state.specs.Answers.{startReply, stepReply};
+ghost use Rattle.state.specs.Answers.{startReply, stepReply, toldDepth};
 ghost use Rattle.state.specs.declared.Doing.the-variants.{Inserting, Deleting};
 ghost use Rattle.state.specs.declared.Phase.the-variants.{NotBegun};
 ghost use Rattle.state.specs.Contracts.{OpenCall, StartCall};
@@ -27,17 +29,21 @@ ghost use Rattle.c_replies.specs.ReplyWords.{replyOf};
 // "A find is one call on the card alone".
 #[no_mangle]
 pub extern "C" fn ration_find(card: &[u32], key: u32) -> Reply
-    ensures { λ r. ⌜ replyOf r ≡ foundReply (findOf (now (card .entry)) key) ⌝ }
+    ensures { λ r. ⌜ replyOf r ≡ withDepth (findDepth (now (card .entry)) key) (foundReply (findOf (now (card .entry)) key)) ⌝ }
 {
-    found_reply(table::find(card, key))
+    let lookup = table::find_with_depth(card, key);
+    let found = lookup.found;
+    with_depth(found_reply(found), lookup.depth as u32)
 }
 
 // "It reads the card only, like a find, and may come between steps."
 #[no_mangle]
 pub extern "C" fn ration_next(card: &[u32], after: u32) -> Reply
-    ensures { λ r. ⌜ replyOf r ≡ nextReply (nextOf (now (card .entry)) after) ⌝ }
+    ensures { λ r. ⌜ replyOf r ≡ withDepth (nextDepth (now (card .entry)) after) (nextReply (nextOf (now (card .entry)) after)) ⌝ }
 {
-    next_reply(table::next_pair(card, after))
+    let next = table::next_with_depth(card, after);
+    let successor = next.successor;
+    with_depth(next_reply(successor), next.depth as u32)
 }
 
 // "Formatting needs no earlier state".
@@ -79,12 +85,15 @@ pub extern "C" fn ration_start_delete(card: &[u32], state: &mut [u32], key: u32)
     start_reply(table::start_delete(card, state, key))
 }
 
-// "Each step then either stores one word or gives the final answer and makes the state idle."
+// "Each step then either stores one word or gives the final answer and makes the state idle." The final answer of an insert or a delete
+// tells the depth that was kept at its start, which no step changes.
 #[no_mangle]
 pub extern "C" fn ration_step(card: &mut [u32], state: &mut [u32]) -> Reply
-    ensures { λ r. ⌜ Replies stepReply (replyOf r) (λ answer. StepCall (now (card .entry)) (now (state .entry)) (now (card .exit)) (now (state .exit)) answer) ⌝ }
+    ensures { λ r. ⌜ Replies (λ answer. withDepth (toldDepth (memoryIn (now (state .exit)) .depth) answer) (stepReply answer)) (replyOf r)
+        (λ answer. StepCall (now (card .entry)) (now (state .entry)) (now (card .exit)) (now (state .exit)) answer) ⌝ }
 {
-    step_reply(table::step(card, state))
+    let answer = table::step(card, state);
+    step_reply(answer, state)
 }
 
 // "Reading a dump checks 11, 12".

@@ -6,10 +6,11 @@ use Prim.Native.Nat.{ℕ, zero, suc, _+_, _*_, _/_, _%_, _≤_, _<_, _^_}
 use native.Mathlib.Omega.{arith}
 use native.Mathlib.Nat.{pow-suc}
 use lib.ListN.{length, getD, set, take, drop, replicate, length-set, length-take, length-drop, drop-of-length-le, take-append-drop}
-use lib.Seq.{take-at, drop-at, drop-drop, take-all}
+use lib.Seq.{take-at, drop-at, drop-drop, take-all, getD-set-same, getD-set-other}
 use lib.Dec.{ltb, eqb}
 use borrow.Author.Tests.{lt-ltb, eq-eqb, ne-eqb}
 use Rattle.laws.specs.Bits.{bit}
+use Rattle.laws.specs.Lists.{beforeZero}
 use Rattle.laws.specs.Digits.{digitsOf}
 use Rattle.laws.proofs.Digits.{length-digits}
 use Rattle.card_free.specs.NodeSet.{nodesOf, allNodes}
@@ -23,7 +24,7 @@ use Rattle.state.specs.declared.Phase.{Phase}
 use Rattle.state.specs.declared.Phase.the-variants.{NotBegun, InHand, Decided}
 use Rattle.state.specs.Block.{stateWords, blockWord, part, phaseIn, doingIn, phaseWord, headIn, memoryIn, doingWords, headWords}
 use Rattle.state.specs.Blocks.{over, begunBlock, numberOf, wordsOf, restingWords, restingBlock}
-use Rattle.state.proofs.Rows.{three, placed, placed-length, placed-part}
+use Rattle.state.proofs.Rows.{three, append-after, same-part, placed, placed-length, placed-part}
 
 -- every word of a block has 32 bits
 abbrev pub Words : List ℕ → Type 0
@@ -102,7 +103,7 @@ doing-read (Repairing key) = refl
 
 -- a state with something else being done
 unfoldable pub withDoing : Memory → Doing → Memory
-withDoing m doing = record { nodes = m .nodes; free = m .free; last = m .last; doing = doing; rest = m .rest; cut = m .cut }
+withDoing m doing = record { nodes = m .nodes; free = m .free; last = m .last; doing = doing; rest = m .rest; cut = m .cut; depth = m .depth }
 
 memory-four : (block : List ℕ) (p q r s : ℕ) → 11 ≤ length block → memoryIn (over block 2 (p ∷ q ∷ r ∷ s ∷ [])) ≡ withDoing (memoryIn block) (doingIn p q r s)
 unfolding memoryIn withDoing
@@ -114,6 +115,41 @@ unfolding begunBlock
 memory-begun block doing h =
     ap (λ (words : List ℕ). memoryIn (over block 2 words)) (sym (words-each doing)) ∙ memory-four block _ _ _ _ h
     ∙ ap (withDoing (memoryIn block)) (doing-read doing)
+
+pub begun-length : (block : List ℕ) (doing : Doing) → length block ≡ stateWords → length (begunBlock block doing) ≡ stateWords
+unfolding begunBlock
+begun-length block doing l =
+    ap (λ (words : List ℕ). length (over block 2 words)) (sym (words-each doing))
+    ∙ by-head (λ (b : List ℕ). length (over b 2 (getD (doingWords doing) 0 0 ∷ getD (doingWords doing) 1 0 ∷ getD (doingWords doing) 2 0 ∷ getD (doingWords doing) 3 0 ∷ [])) ≡ length b)
+    block (omega arith) (λ a b c d e f g i j k m rest. refl) ∙ l
+
+-- a state with another depth
+unfoldable pub withDepth : Memory → ℕ → Memory
+withDepth m depth = record { nodes = m .nodes; free = m .free; last = m .last; doing = m .doing; rest = m .rest; cut = m .cut; depth = depth }
+
+pub memory-deep : (block : List ℕ) (depth : ℕ) → length block ≡ stateWords → memoryIn (set block 177 depth) ≡ withDepth (memoryIn block) depth
+unfolding memoryIn withDepth
+memory-deep block depth l =
+    by-head (λ (b : List ℕ). length b ≡ stateWords → memoryIn (set b 177 depth) ≡ withDepth (memoryIn b) depth) block (omega arith)
+    (λ n last w d e f g i j k m rest h.
+    let with : List ℕ → List ℕ → List ℕ → ℕ → Memory = λ x y z deep. record {
+      nodes = n;
+      free = nodesOf x;
+      last = last;
+      doing = doingIn w d e f;
+      rest = drop g (storesOf y z i);
+      cut = beforeZero (j ∷ k ∷ m ∷ []);
+      depth = deep;
+    } in
+    ap₂ (λ (x y : List ℕ). with x y (part (set rest 166 depth) 93 73) (getD (set rest 166 depth) 166 0))
+    (stays rest 0 20 (omega arith)) (stays rest 20 73 (omega arith))
+    ∙ ap₂ (λ (z : List ℕ) (deep : ℕ). with (part rest 0 20) (part rest 20 73) z deep)
+    (stays rest 93 73 (omega arith)) (getD-set-same rest 166 depth 0 (omega arith)))
+    l
+  where
+    stays : (rest : List ℕ) (from count : ℕ) → from + count ≤ 166 → part (set rest 166 depth) from count ≡ part rest from count
+    stays rest from count h =
+        same-part (set rest 166 depth) rest from count (length-set rest 166 depth) (λ i a b. getD-set-other rest 166 i depth 0 (λ z. omega arith))
 
 -- words 0 to 10, read one by one
 pub head-read : (block : List ℕ) (doing : Doing) → 11 ≤ length block → doing ≡ doingIn (blockWord block 2) (blockWord block 3) (blockWord block 4) (blockWord block 5)
@@ -247,15 +283,17 @@ module _ (block row : List ℕ) (l : length block ≡ stateWords) where
 -- ---- a state with no change planned
 
 module _ (n : ℕ) (free : List ℕ) (last : ℕ) (long : length free ≡ 20) where
-  resting-four : (p q r s : ℕ) → memoryIn (n ∷ last ∷ p ∷ q ∷ r ∷ s ∷ 0 ∷ 0 ∷ 0 ∷ 0 ∷ 0 ∷ free ++ replicate 146 0) ≡ resting n (nodesOf free) last (doingIn p q r s)
+  resting-four : (p q r s : ℕ) → memoryIn (n ∷ last ∷ p ∷ q ∷ r ∷ s ∷ 0 ∷ 0 ∷ 0 ∷ 0 ∷ 0 ∷ free ++ replicate 147 0) ≡ resting n (nodesOf free) last (doingIn p q r s)
   unfolding memoryIn resting storesOf zip
   resting-four p q r s =
-      ap (λ (l : List ℕ). record { nodes = n; free = nodesOf l; last = last; doing = doingIn p q r s; rest = []; cut = [] }) (take-at free (replicate 146 0) 20 long)
+      ap₂ (λ (l : List ℕ) (d : ℕ). record { nodes = n; free = nodesOf l; last = last; doing = doingIn p q r s; rest = []; cut = []; depth = d })
+      (take-at free (replicate 147 0) 20 long)
+      (append-after free (replicate 147 0) 146 166 (omega arith))
 
   pub memory-resting : (doing : Doing) → memoryIn (restingWords n free last doing) ≡ resting n (nodesOf free) last doing
   unfolding restingWords
   memory-resting doing =
-      ap (λ (words : List ℕ). memoryIn (n ∷ last ∷ words ++ (0 ∷ 0 ∷ 0 ∷ 0 ∷ 0 ∷ free ++ replicate 146 0))) (sym (words-each doing)) ∙ resting-four _ _ _ _
+      ap (λ (words : List ℕ). memoryIn (n ∷ last ∷ words ++ (0 ∷ 0 ∷ 0 ∷ 0 ∷ 0 ∷ free ++ replicate 147 0))) (sym (words-each doing)) ∙ resting-four _ _ _ _
       ∙ ap (resting n (nodesOf free) last) (doing-read doing)
 
   pub resting-block : (doing : Doing) → ((i : ℕ) → getD free i 0 < 2 ^ 32) → restingWords n free last doing ≡ restingBlock (resting n (nodesOf free) last doing)
@@ -263,11 +301,11 @@ module _ (n : ℕ) (free : List ℕ) (last : ℕ) (long : length free ≡ 20) wh
   resting-block doing h = ap (λ (l : List ℕ). restingWords n l last doing) (sym (ap (λ (k : ℕ). wordsOf k (nodesOf free)) (sym long) ∙ words-nodes free h))
 
 -- "Opening or starting to format, refused, hands back an idle state for N = 0": a block of zeros
-pub none-block : replicate 177 0 ≡ restingBlock noMemory
+pub none-block : replicate 178 0 ≡ restingBlock noMemory
 unfolding restingBlock restingWords noMemory doingWords wordsOf numberOf allNodes
 none-block = refl
 
-pub memory-none : memoryIn (replicate 177 0) ≡ noMemory
+pub memory-none : memoryIn (replicate 178 0) ≡ noMemory
 unfolding memoryIn noMemory doingIn nodesOf digitsOf allNodes storesOf zip
 memory-none = refl
 
@@ -278,22 +316,22 @@ numbered block n last = set (set (set (set (set (set (set block 0 n) 1 last) 6 0
 pub numbered-length : (block : List ℕ) (n last : ℕ) → length (numbered block n last) ≡ length block
 numbered-length block n last = simp length-set
 
-rest-four : (block zeros : List ℕ) (n last p q r s : ℕ) → length block ≡ stateWords → zeros ≡ replicate 146 0
-    → placed 31 146 (over (numbered block n last) 2 (p ∷ q ∷ r ∷ s ∷ [])) zeros ≡ n ∷ last ∷ p ∷ q ∷ r ∷ s ∷ 0 ∷ 0 ∷ 0 ∷ 0 ∷ 0 ∷ part block 11 20 ++ replicate 146 0
+rest-four : (block zeros : List ℕ) (n last p q r s : ℕ) → length block ≡ stateWords → zeros ≡ replicate 147 0
+    → placed 31 147 (over (numbered block n last) 2 (p ∷ q ∷ r ∷ s ∷ [])) zeros ≡ n ∷ last ∷ p ∷ q ∷ r ∷ s ∷ 0 ∷ 0 ∷ 0 ∷ 0 ∷ 0 ∷ part block 11 20 ++ replicate 147 0
 rest-four block zeros n last p q r s len z =
     by-head
-    (λ (x : List ℕ). length x ≡ stateWords → placed 31 146 (over (numbered x n last) 2 (p ∷ q ∷ r ∷ s ∷ [])) zeros ≡ n ∷ last ∷ p ∷ q ∷ r ∷ s ∷ 0 ∷ 0 ∷ 0 ∷ 0 ∷ 0 ∷ part x 11 20 ++ replicate 146 0)
+    (λ (x : List ℕ). length x ≡ stateWords → placed 31 147 (over (numbered x n last) 2 (p ∷ q ∷ r ∷ s ∷ [])) zeros ≡ n ∷ last ∷ p ∷ q ∷ r ∷ s ∷ 0 ∷ 0 ∷ 0 ∷ 0 ∷ 0 ∷ part x 11 20 ++ replicate 147 0)
     block (omega (arith, len))
     (λ a b c d e f g i j k l rest h.
-    let few : length (drop 20 rest) ≤ 146 = omega (arith, length-drop 20 rest) in
-    let none : drop 146 (drop 20 rest) ≡ [] = drop-of-length-le (drop 20 rest) {i = 146} few in
-    ap (λ (t : List ℕ). n ∷ last ∷ p ∷ q ∷ r ∷ s ∷ 0 ∷ 0 ∷ 0 ∷ 0 ∷ 0 ∷ take 20 rest ++ t) (ap₂ (λ (x y : List ℕ). x ++ y) z none ∙ append-nil (replicate 146 0)))
+    let few : length (drop 20 rest) ≤ 147 = omega (arith, length-drop 20 rest) in
+    let none : drop 147 (drop 20 rest) ≡ [] = drop-of-length-le (drop 20 rest) {i = 147} few in
+    ap (λ (t : List ℕ). n ∷ last ∷ p ∷ q ∷ r ∷ s ∷ 0 ∷ 0 ∷ 0 ∷ 0 ∷ 0 ∷ take 20 rest ++ t) (ap₂ (λ (x y : List ℕ). x ++ y) z none ∙ append-nil (replicate 147 0)))
     len
 
-pub rest-stored : (block zeros : List ℕ) (n last : ℕ) (doing : Doing) → length block ≡ stateWords → zeros ≡ replicate 146 0
-    → placed 31 146 (begunBlock (numbered block n last) doing) zeros ≡ restingWords n (part block 11 20) last doing
+pub rest-stored : (block zeros : List ℕ) (n last : ℕ) (doing : Doing) → length block ≡ stateWords → zeros ≡ replicate 147 0
+    → placed 31 147 (begunBlock (numbered block n last) doing) zeros ≡ restingWords n (part block 11 20) last doing
 unfolding begunBlock restingWords
 rest-stored block zeros n last doing len z =
-    ap (λ (words : List ℕ). placed 31 146 (over (numbered block n last) 2 words) zeros) (sym (words-each doing))
+    ap (λ (words : List ℕ). placed 31 147 (over (numbered block n last) 2 words) zeros) (sym (words-each doing))
     ∙ rest-four block zeros n last _ _ _ _ len z
-    ∙ ap (λ (words : List ℕ). n ∷ last ∷ words ++ (0 ∷ 0 ∷ 0 ∷ 0 ∷ 0 ∷ part block 11 20 ++ replicate 146 0)) (words-each doing)
+    ∙ ap (λ (words : List ℕ). n ∷ last ∷ words ++ (0 ∷ 0 ∷ 0 ∷ 0 ∷ 0 ∷ part block 11 20 ++ replicate 147 0)) (words-each doing)

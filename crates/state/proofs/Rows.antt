@@ -1,10 +1,10 @@
 -- Laws of a row filled word by word, and of parts of a block stored anew.
-use mathlib.Core.Path.{_≡_, sym, ap, ap₂, _∙_}
-use mathlib.Core.List.{List, [], _∷_, _++_, append-assoc, append-nil}
+use mathlib.Core.Path.{_≡_, refl, sym, ap, ap₂, _∙_}
+use mathlib.Core.List.{List, [], _∷_, _++_, append-assoc}
 use Prim.Native.Nat.{ℕ, suc, _+_, _-_, _≤_, _<_, min}
 use native.Mathlib.Omega.{arith}
 use native.Mathlib.Numerals.{add-one}
-use lib.ListN.{length, getD, take, drop, set, length-append, length-take, length-drop, drop-of-length-le, List·getD-append}
+use lib.ListN.{length, getD, take, drop, set, length-append, length-take, length-drop, List·getD-append}
 use lib.Seq.{take-at, drop-at, drop-drop, drop-cons, take-suc, take-suc-set, take-all, getD-take, getD-drop, ext-getD}
 use Rattle.state.specs.Block.{part}
 
@@ -25,6 +25,11 @@ three block i h =
     (sym (ap (take 3) (drop-cons block i 0 (omega arith)) ∙ ap (λ (l : List ℕ). getD block i 0 ∷ take 2 l) (drop-cons block (suc i) 0 (omega arith))
     ∙ ap (λ (l : List ℕ). getD block i 0 ∷ getD block (suc i) 0 ∷ take 1 l) (drop-cons block (suc (suc i)) 0 (omega arith))))
 
+-- a word past the first of two lists
+pub append-after : (xs ys : List ℕ) (i j : ℕ) → j ≡ length xs + i → getD (xs ++ ys) j 0 ≡ getD ys i 0
+append-after xs ys i j e =
+    ap (λ (k : ℕ). getD (xs ++ ys) k 0) e ∙ sym (getD-drop (length xs) (xs ++ ys) i 0) ∙ ap (λ (l : List ℕ). getD l i 0) (drop-at xs ys (length xs) refl)
+
 -- ---- parts of a block stored one after the other
 
 -- the list with other words in the place of `count` words from word `from` on
@@ -34,25 +39,25 @@ placed from count xs ys = take from xs ++ (ys ++ drop count (drop from xs))
 placed-next : (xs rest ys : List ℕ) (a n : ℕ) → length xs ≡ a → placed a n (xs ++ rest) ys ≡ (xs ++ ys) ++ drop n rest
 placed-next xs rest ys a n e = ap₂ (λ (x y : List ℕ). x ++ (ys ++ drop n y)) (take-at xs rest a e) (drop-at xs rest a e) ∙ sym (append-assoc xs ys (drop n rest))
 
--- the free nodes, the places and the values, stored in one order or the other
-pub rows-placed : (block free places values : List ℕ) → length block ≡ 177 → length free ≡ 20 → length places ≡ 73 → length values ≡ 73
-    → drop 11 (placed 11 20 (placed 104 73 (placed 31 73 block places) values) free) ≡ free ++ (places ++ values)
+-- the free nodes, the places and the values, stored in one order or the other; the words after them stay
+pub rows-placed : (block free places values : List ℕ) → length block ≡ 178 → length free ≡ 20 → length places ≡ 73 → length values ≡ 73
+    → drop 11 (placed 11 20 (placed 104 73 (placed 31 73 block places) values) free) ≡ free ++ (places ++ (values ++ drop 177 block))
 rows-placed block free places values lb lf lp lv =
     let head : List ℕ = take 31 block in
     let rest : List ℕ = drop 73 (drop 31 block) in
+    let later : List ℕ = places ++ (values ++ drop 73 rest) in
     let lh : length head ≡ 31 = omega (arith, length-take 31 block) in
     let lhp : length (head ++ places) ≡ 104 = omega (arith, length-append head places) in
-    let few : length (drop 31 block) ≡ 146 = omega (arith, length-drop 31 block) in
-    let less : length rest ≤ 73 = omega (arith, length-drop 73 (drop 31 block)) in
-    let none : drop 73 rest ≡ [] = drop-of-length-le rest {i = 73} less in
-    let both : placed 104 73 (placed 31 73 block places) values ≡ head ++ (places ++ values) =
+    let end : drop 73 rest ≡ drop 177 block = drop-drop 73 73 (drop 31 block) ∙ drop-drop 146 31 block in
+    let both : placed 104 73 (placed 31 73 block places) values ≡ head ++ (places ++ (values ++ drop 73 rest)) =
     ap (λ (l : List ℕ). placed 104 73 l values) (sym (append-assoc head places rest))
     ∙ placed-next (head ++ places) rest values 104 73 lhp
-    ∙ rw (none, append-nil) (append-assoc head places values) in
-    let front : length (take 11 (head ++ (places ++ values))) ≡ 11 = omega (arith, length-take 11 (head ++ (places ++ values)), length-append head (places ++ values)) in
+    ∙ append-assoc (head ++ places) values (drop 73 rest) ∙ append-assoc head places (values ++ drop 73 rest) in
+    let front : length (take 11 (head ++ later)) ≡ 11 = omega (arith, length-take 11 (head ++ later), length-append head later) in
     ap (λ (l : List ℕ). drop 11 (placed 11 20 l free)) both
-    ∙ drop-at (take 11 (head ++ (places ++ values))) (free ++ drop 20 (drop 11 (head ++ (places ++ values)))) 11 front
-    ∙ ap (λ (l : List ℕ). free ++ l) (drop-drop 20 11 (head ++ (places ++ values)) ∙ drop-at head (places ++ values) 31 lh)
+    ∙ drop-at (take 11 (head ++ later)) (free ++ drop 20 (drop 11 (head ++ later))) 11 front
+    ∙ ap (λ (l : List ℕ). free ++ l) (drop-drop 20 11 (head ++ later) ∙ drop-at head later 31 lh)
+    ∙ ap (λ (l : List ℕ). free ++ (places ++ (values ++ l))) end
 
 -- ---- a part of a block stored anew
 

@@ -110,7 +110,9 @@ module _ (card : List ℕ) (m : Memory) (s : Store) (next : Memory) where
   store-inside h = simp (lt-ltb (s .0) (length card) h)
 
 -- the stores to come that a state tells of do not bear on the next state
-pub advance-same : (m : Memory) (r ss : List Store) → advanced (record { nodes = m .nodes; free = m .free; last = m .last; doing = m .doing; rest = r; cut = m .cut }) ss ≡ advanced m ss
+pub advance-same : (m : Memory) (r ss : List Store)
+    → advanced (record { nodes = m .nodes; free = m .free; last = m .last; doing = m .doing; rest = r; cut = m .cut; depth = m .depth }) ss
+    ≡ advanced m ss
 unfolding advanced
 advance-same m r [] = refl
 advance-same m r (s ∷ rest) = refl

@@ -1,4 +1,5 @@
 -- Document 01, "When an answer is an enum, a definition states this paper's number and values for each enum case."
+use Prim.Native.Nat.{ℕ}
 use Rattle.card.specs.Replies.{Reply, refusal, holds, absent, stored, ready, idle, started}
 use Rattle.state.specs.declared.Answer.{Answer}
 use Rattle.state.specs.declared.Answer.the-variants.{Stored, Ready, Absent, Value, Refused}
@@ -12,6 +13,15 @@ stepReply Ready = ready
 stepReply Absent = absent
 stepReply (Value v) = holds v
 stepReply (Refused r) = refusal r
+
+-- document 02, W-203: the depth told beside a step's answer, where so many internal nodes were passed when the call began. The final
+-- answers of an insert or a delete tell it; "A refusal carries none", and a store and "ready" neither.
+unfoldable pub toldDepth : ℕ → Answer → ℕ
+toldDepth depth (Stored place) = 0
+toldDepth depth Ready = 0
+toldDepth depth Absent = depth
+toldDepth depth (Value v) = depth
+toldDepth depth (Refused r) = 0
 
 -- what opening and starting answer
 unfoldable pub startReply : Begun → Reply

@@ -1,4 +1,4 @@
--- The state of document 01, "State, steps and free nodes", as 177 words that the caller lends. Any words in the state block are
+-- The state of document 01, "State, steps and free nodes", as 178 words that the caller lends. Any words in the state block are
 -- some state: `memoryIn` reads one off every list of words, so that no call has to trust what it is lent.
 use mathlib.Core.List.{List, [], _∷_, _++_}
 use Prim.Native.Nat.{ℕ}
@@ -17,7 +17,7 @@ use Rattle.state.specs.declared.Phase.the-variants.{NotBegun, InHand, De
 
 -- how many words a state block has
 abbrev pub stateWords : ℕ
-stateWords = 177
+stateWords = 178
 
 -- word i of a block, and `count` words from word `from` on
 abbrev pub blockWord : List ℕ → ℕ → ℕ
@@ -48,7 +48,7 @@ headIn block =
     }
 
 -- what a block holds, as the calls see it: its head; "The free nodes are one bit each", words 11 to 30; the stores of the plan that are
--- still to come, their places in words 31 to 103 and their values in words 104 to 176
+-- still to come, their places in words 31 to 103 and their values in words 104 to 176; the depth, word 177
 unfoldable pub memoryIn : List ℕ → Memory
 memoryIn block =
     record {
@@ -58,6 +58,7 @@ memoryIn block =
       doing = doingIn (blockWord block 2) (blockWord block 3) (blockWord block 4) (blockWord block 5);
       rest = drop (blockWord block 6) (storesOf (part block 31 73) (part block 104 73) (blockWord block 7));
       cut = beforeZero (part block 8 3);
+      depth = blockWord block 177;
     }
 
 -- WRITING. The word for how far an insert or a delete is

@@ -2,7 +2,7 @@
 use mathlib.Core.Bool.{Bool}
 use mathlib.Core.List.{List, [], _∷_, _++_}
 use Prim.Native.Nat.{ℕ, zero, suc, _+_, _*_}
-use lib.ListN.{length, take, drop, replicate}
+use lib.ListN.{length, set, take, drop, replicate}
 use Rattle.laws.specs.Bits.{bit}
 use Rattle.card_free.specs.NodeSet.{wordCount}
 use Rattle.state.specs.Memory.{Memory}
@@ -26,9 +26,9 @@ wordsOf zero bits = []
 wordsOf (suc k) bits = numberOf (take 32 bits) ∷ wordsOf k (drop 32 bits)
 
 -- all words of a state with no change planned, which has these words of free nodes: N, the node given last, what is being done, no
--- store made or planned, no node cut out, and rows of zeros
+-- store made or planned, no node cut out, rows of zeros, and no depth
 unfoldable pub restingWords : ℕ → List ℕ → ℕ → Doing → List ℕ
-restingWords n free last doing = n ∷ last ∷ doingWords doing ++ (0 ∷ 0 ∷ 0 ∷ 0 ∷ 0 ∷ free ++ replicate 146 0)
+restingWords n free last doing = n ∷ last ∷ doingWords doing ++ (0 ∷ 0 ∷ 0 ∷ 0 ∷ 0 ∷ free ++ replicate 147 0)
 
 -- after opening and starting to format, whatever was in the block
 unfoldable pub restingBlock : Memory → List ℕ
@@ -38,8 +38,8 @@ restingBlock m = restingWords (m .nodes) (wordsOf wordCount (m .free)) (m .last)
 unfoldable pub begunBlock : List ℕ → Doing → List ℕ
 begunBlock block doing = over block 2 (doingWords doing)
 
--- after starting an update: "A refusal .. hands the state back unchanged", every word of it
-unfoldable pub startedBlock : Begun → List ℕ → Doing → List ℕ
-startedBlock OpenedIdle block doing = begunBlock block doing
-startedBlock Started block doing = begunBlock block doing
-startedBlock (Refused r) block doing = block
+-- after starting an update, which passed so many internal nodes: "A refusal .. hands the state back unchanged", every word of it
+unfoldable pub startedBlock : Begun → List ℕ → Doing → ℕ → List ℕ
+startedBlock OpenedIdle block doing depth = set (begunBlock block doing) 177 depth
+startedBlock Started block doing depth = set (begunBlock block doing) 177 depth
+startedBlock (Refused r) block doing depth = block

@@ -28,5 +28,5 @@ pub record OpenCall (before after : List ℕ) (begun : Begun) (due : Handed) : T
 pub record StartCall (before after : List ℕ) (begun : Begun) (doing : Doing) (due : Handed) : Type 0 where
   pub answered : length before ≡ stateWords → begun ≡ due .begun
   pub handed : length before ≡ stateWords → memoryIn after ≡ due .memory
-  pub words : length before ≡ stateWords → after ≡ startedBlock (due .begun) before doing
+  pub words : length before ≡ stateWords → after ≡ startedBlock (due .begun) before doing (due .memory .depth)
   pub no-state : (length before ≡ stateWords → ⊥) → (begun ≡ BegunRefused (noState .code)) × (after ≡ before)

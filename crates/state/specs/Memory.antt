@@ -10,8 +10,9 @@ use Rattle.state.specs.declared.Doing.the-variants.{Idle, Formatting, In
 use Rattle.state.specs.declared.Phase.{Phase}
 use Rattle.state.specs.declared.Phase.the-variants.{NotBegun, InHand, Decided}
 
--- N, the free nodes, the node given last, what is being done, the stores of the change in hand that are still to come, and
--- the nodes that the last of them cuts out. Two states that agree in these are one state to every call.
+-- N, the free nodes, the node given last, what is being done, the stores of the change in hand that are still to come, the nodes
+-- that the last of them cuts out, and, of the update begun last, the internal nodes on its key's way then (document 02, W-203). Two
+-- states that agree in these are one state to every call.
 pub record Memory : Type 0 where
   pub nodes : ℕ
   pub free : List Bool
@@ -19,18 +20,19 @@ pub record Memory : Type 0 where
   pub doing : Doing
   pub rest : List Store
   pub cut : List ℕ
+  pub depth : ℕ
 
 -- "Opening or starting to format, refused, hands back an idle state for N = 0"
 unfoldable pub noMemory : Memory
-noMemory = record { nodes = 0; free = allNodes 0; last = 0; doing = Idle; rest = []; cut = [] }
+noMemory = record { nodes = 0; free = allNodes 0; last = 0; doing = Idle; rest = []; cut = []; depth = 0 }
 
 -- nothing in hand, or a call or repair with no change planned yet
 unfoldable pub resting : ℕ → List Bool → ℕ → Doing → Memory
-resting n free last doing = record { nodes = n; free = free; last = last; doing = doing; rest = []; cut = [] }
+resting n free last doing = record { nodes = n; free = free; last = last; doing = doing; rest = []; cut = []; depth = 0 }
 
--- the same, idle
+-- the same, idle; the depth stays that of the update begun last
 unfoldable pub idled : Memory → Memory
-idled m = record { nodes = m .nodes; free = m .free; last = m .last; doing = Idle; rest = []; cut = [] }
+idled m = record { nodes = m .nodes; free = m .free; last = m .last; doing = Idle; rest = []; cut = []; depth = m .depth }
 
 -- after the last store of a change: a first change that was in hand is made, which decides the call
 unfoldable pub settledPhase : Phase → Phase
@@ -47,5 +49,5 @@ settled (Repairing key) = Repairing key
 
 -- one store made, with those of `rest` still to come; "Nodes cut out of the tree are free after the store that cuts them out"
 unfoldable pub advanced : Memory → List Store → Memory
-advanced m [] = record { nodes = m .nodes; free = withAll (m .cut) (m .free); last = m .last; doing = settled (m .doing); rest = []; cut = [] }
-advanced m (s ∷ rest) = record { nodes = m .nodes; free = m .free; last = m .last; doing = m .doing; rest = s ∷ rest; cut = m .cut }
+advanced m [] = record { nodes = m .nodes; free = withAll (m .cut) (m .free); last = m .last; doing = settled (m .doing); rest = []; cut = []; depth = m .depth }
+advanced m (s ∷ rest) = record { nodes = m .nodes; free = m .free; last = m .last; doing = m .doing; rest = s ∷ rest; cut = m .cut; depth = m .depth }

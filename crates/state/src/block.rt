@@ -1,4 +1,4 @@
-// The state as the 177 words that a caller lends; every call works on these.
+// The state as the 178 words that a caller lends; every call works on these.
 use crate::Begun;
 use crate::Doing;
 use crate::Phase;
@@ -17,7 +17,8 @@ ghost use Rattle.state.specs.Blocks.{begunBlock, restingBlock};
 ghost use Rattle.state.specs.Contracts.{Opened};
 
 // The words of a block: N and the node given last; what is being done by its number, and its three numbers; the stores of the
-// plan made and planned; the nodes that the last store cuts out; the free nodes; the plan's places and values.
+// plan made and planned; the nodes that the last store cuts out; the free nodes; the plan's places and values; of the update begun
+// last the internal nodes on its key's way then (document 02, W-203).
 pub const NODES: usize = 0;
 
 pub const LAST: usize = 1;
@@ -42,8 +43,10 @@ pub const PLACES: usize = FREE + card::FREE_WORDS;
 
 pub const VALUES: usize = PLACES + card::PLAN_SIZE;
 
+pub const DEPTH: usize = VALUES + card::PLAN_SIZE;
+
 // How many words that makes.
-pub const STATE_WORDS: usize = VALUES + card::PLAN_SIZE;
+pub const STATE_WORDS: usize = DEPTH + 1;
 
 // What a call answers where a block of another length is lent, which is no state. Document 01 has no number for it.
 pub const NO_STATE: u32 = 71;
@@ -118,6 +121,17 @@ pub fn is_idle(state: &[u32]) -> bool
         return true;
     }
     REPAIRING < doing
+}
+
+// The internal nodes on the key's way of the update begun last, as it was then (document 02, W-203). A block that is no state has none.
+pub fn depth_kept(state: &[u32]) -> u32
+    ensures { λ r. ⌜ (length (now (state .entry)) ≡ stateWords → r ≡ memoryIn (now (state .entry)) .depth) ⌝ }
+    ensures { λ r. ⌜ ((length (now (state .entry)) ≡ stateWords → ⊥) → r ≡ 0) ⌝ }
+{
+    if state.len() != STATE_WORDS {
+        return 0;
+    }
+    state[DEPTH]
 }
 
 // Words 0 to 10: the state but its free nodes and rows, whatever the words are.

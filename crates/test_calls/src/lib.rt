@@ -77,6 +77,16 @@ pub fn find(words: &Words, n: usize, key: u32) -> Found {
     table::find(&all[0..n], key)
 }
 
+// How many internal nodes a find passes.
+pub fn find_depth(words: &Words, n: usize, key: u32) -> usize {
+    let all: &[u32] = words;
+    if all.len() < n {
+        return 0;
+    }
+    let lookup = table::find_with_depth(&all[0..n], key);
+    lookup.depth
+}
+
 pub fn open(words: &Words, n: usize, state: &mut Block) -> Begun {
     let all: &[u32] = words;
     if all.len() < n {

@@ -46,10 +46,16 @@ fn feed_opening(row: &mut [u64; 8], begun: Begun, free: usize) {
     }
 }
 
-fn feed_found(row: &mut [u64; 8], found: Found) {
+// A value and the depth beside it.
+fn feed_value(row: &mut [u64; 8], tag: u64, value: u32, depth: u64) {
+    feed_two(row, tag, wide(value));
+    feed(row, depth);
+}
+
+fn feed_found(row: &mut [u64; 8], found: Found, depth: u64) {
     match found {
-        Found::Value(v) => feed_two(row, 5, wide(v)),
-        Found::Absent => feed(row, 6),
+        Found::Value(v) => feed_value(row, 5, v, depth),
+        Found::Absent => feed_two(row, 6, depth),
         Found::Refused(r) => feed_two(row, 1, wide(r)),
     }
 }
@@ -62,12 +68,12 @@ fn feed_store(card: &Words, old: &mut Words, row: &mut [u64; 8], place: usize) {
     set_word(old, place, word(card, place));
 }
 
-fn feed_answer(card: &Words, old: &mut Words, row: &mut [u64; 8], answer: Answer) {
+fn feed_answer(card: &Words, old: &mut Words, row: &mut [u64; 8], answer: Answer, depth: u32) {
     match answer {
         Answer::Stored(place) => feed_store(card, old, row, place as usize),
         Answer::Ready => feed(row, 9),
-        Answer::Absent => feed(row, 8),
-        Answer::Value(v) => feed_two(row, 7, wide(v)),
+        Answer::Absent => feed_two(row, 8, wide(depth)),
+        Answer::Value(v) => feed_value(row, 7, v, wide(depth)),
         Answer::Refused(r) => feed_two(row, 1, wide(r)),
     }
 }
@@ -83,8 +89,9 @@ fn feed_difference(card: &Words, n: usize, old: &Words, row: &mut [u64; 8]) {
 }
 
 fn one_step(card: &mut Words, n: usize, old: &mut Words, row: &mut [u64; 8], state: &mut Block) {
+    let depth = table::depth_kept(state);
     let answer = test_calls::step(card, n, state);
-    feed_answer(card, old, row, answer);
+    feed_answer(card, old, row, answer, depth);
     feed_difference(card, n, old, row);
 }
 
@@ -141,7 +148,7 @@ fn delete(card: &Words, n: usize, row: &mut [u64; 8], state: &mut Block, key: u3
 
 fn find(card: &Words, n: usize, row: &mut [u64; 8], key: u32) {
     let found = test_calls::find(card, n, key);
-    feed_found(row, found);
+    feed_found(row, found, test_calls::find_depth(card, n, key) as u64);
 }
 
 // A start of formatting, or opening.

@@ -36,7 +36,7 @@ use Rattle.demands.proofs.Stepping.{right-final, Moves, kept-step, was-idle, en
 use Rattle.demands.proofs.Steps.{memory}
 use Rattle.theory_shapes.proofs.Bare.{bare, bare-pairs, bare-size}
 use Rattle.theory_shapes.proofs.Need.{leafNeed, needOf, need-leaf}
-use Rattle.call_start.specs.Starts.{insertOf, deleteOf, startAccepted, startRefused}
+use Rattle.call_start.specs.Starts.{insertOf, deleteOf, startAccepted, startDepth, startRefused}
 use Rattle.call_start.proofs.StartLaws.{started-no-refusal}
 use Rattle.state.specs.Steps.{Handed, isIdle}
 use Rattle.state.specs.declared.Answer.{Answer}
@@ -147,7 +147,7 @@ module _ (n steps : ℕ) (w : World rationTable) (b : Book) (i : Inv n steps w b
   pub resting-goal : (bare (i .tree) ≡ i .goal) × (countTrue (w .state .free) + nodeTotal (λ m. 1) (bare (i .tree)) ≡ n)
   resting-goal = at (idle-or-busy (i .stage) .1)
     where
-      at : (isIdle (w .state .doing) ≡ false) ⊎ ((free : List Bool) × (last : ℕ) × (w .state ≡ memory n free last Idle [] [])
+      at : (isIdle (w .state .doing) ≡ false) ⊎ ((free : List Bool) × (last : ℕ) × (w .state ≡ memory n free last (w .state .depth) Idle [] [])
           × (tableViolations (i .tree) ≡ 0) × (3 ≤ countTrue free) × Exact n free (i .tree) × (bare (i .tree) ≡ i .goal))
           → (bare (i .tree) ≡ i .goal) × (countTrue (w .state .free) + nodeTotal (λ m. 1) (bare (i .tree)) ≡ n)
       at (inl q) = absurd (idle-not-busy (w .state .doing) idle q)
@@ -208,9 +208,10 @@ module _ (n steps : ℕ) (w : World rationTable) (b : Book) (i : Inv n steps w b
   start-decided (put key value) low high r e =
       let d = room-decides n steps w b i key (Inserting key value NotBegun) (startRoom (w .card) key (w .state .free)) idle low high in
       let q : startRoom (w .card) key (w .state .free) (landing (w .card) (w .state .nodes) key) ≡ not r = room-by-tree key value low high ∙ ap not e in
-      ap (λ (x : Handed). x .begun) (d ∙ ap (λ (x : Bool). pick x (startAccepted (w .state) (Inserting key value NotBegun)) (startRefused 8 (w .state))) q) ∙ at r
+      ap (λ (x : Handed). x .begun) (d ∙ ap (λ (x : Bool). pick x (startAccepted (w .state) (Inserting key value NotBegun) (startDepth (w .card) (w .state) key)) (startRefused 8 (w .state))) q) ∙ at r
     where
-      at : (r : Bool) → pick (not r) (startAccepted (w .state) (Inserting key value NotBegun)) (startRefused 8 (w .state)) .begun ≡ pick r (BegunRefused 8) Started
+      at : (r : Bool) → pick (not r) (startAccepted (w .state) (Inserting key value NotBegun) (startDepth (w .card) (w .state) key))
+          (startRefused 8 (w .state)) .begun ≡ pick r (BegunRefused 8) Started
       at true = refl
       at false = refl
   start-decided (remove key) low high true e = impossible (cc)

@@ -6,6 +6,8 @@ pub mod Represent
 pub mod Pairs
 -- how high a tree is
 pub mod Height
+-- the internal nodes on a number's way
+pub mod Passed
 -- violations (document 01: faults) and widths, as one additive count
 pub mod Violations
 -- a sound table is here a well-formed one, a fault a violation

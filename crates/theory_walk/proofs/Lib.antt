@@ -10,3 +10,5 @@ pub mod Ranges
 pub mod Seek
 -- where a key leads: the leaf, the link to it, how many internal nodes stand above it, and the 11-child nodes without a break straight above it
 pub mod Landing
+-- how many internal nodes a way passes
+pub mod Depth

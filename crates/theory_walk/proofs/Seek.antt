@@ -11,7 +11,7 @@ use native.Mathlib.Decide.{ℕ-discrete}
 use borrow.Author.Tests.{lt-ltb, le-ltb}
 use Rattle.card.specs.Layout.{place, slotPairs, nodeAt, children, leafPairs}
 use Rattle.walk.specs.Descent.{passed, rootPosition, Way, past, wayFrom, isFault, endOf, searchOf, seek}
-use Rattle.walk.proofs.DescentLaws.{fault-root, fault-tagged, fault-leaf, fault-inner, end-leaf, end-leaf-fault, end-past, fault-at}
+use Rattle.walk.proofs.DescentLaws.{fault-root, fault-tagged, fault-leaf, fault-inner, end-start, end-leaf, end-leaf-fault, search-past, fault-at}
 use Rattle.theory_walk.proofs.Routing.{Untagged, path-leads, children-on-card}
 use Rattle.theory_walk.proofs.Way.{position, positionOf, positionsAbove, position-node, pastAll, pastAll-past, depth-plug, look-at-node, way-child, way-at-leaf, way-path}
 use Rattle.laws.proofs.Cases.{order, impossible}
@@ -94,23 +94,23 @@ module _ (c : List ℕ) (n key : ℕ) (len : length c ≡ 8 + 24 * n) where
       → seek c n key (suc levels) p ≡ seek c n key levels (position (root (child key f)) (place m (12 + passed (routing f) key)) m (passed (routing f) key) (p .link))
   unfolding seek
   search-child levels m f r p e wide =
-      ap searchOf
-      (ap (endOf c true) (way-child c n key len levels m false f r p e)
-      ∙ end-past c true p _ (rw e (sound-node c m f r (p .parent) wide)))
+      ap (λ (w : Way). searchOf (endOf c true w)) (way-child c n key len levels m false f r p e)
+      ∙ search-past c true p _ (rw e (sound-node c m f r (p .parent) wide))
 
   -- ---- the way to a part
 
   -- none of the nodes above a part is a fault
-  no-fault-above : (C : Context) (s : Tree) (w : Way) → Holds c (plug C s) → Untagged C → WideAbove C → endOf c true (pastAll (positionsAbove C s) w) ≡ endOf c true w
+  no-fault-above : (C : Context) (s : Tree) (w : Way) → Holds c (plug C s) → Untagged C → WideAbove C
+      → searchOf (endOf c true (pastAll (positionsAbove C s) w)) ≡ searchOf (endOf c true w)
   unfolding positionsAbove pastAll
   no-fault-above top s w h u wide = refl
   no-fault-above (down C m true l r) s w h u wide = let e = u .0 in impossible (cc)
   no-fault-above (down C m false l r) s w h u wide =
       let p = positionOf C (node m false (fill l s r)) in
       let on = unplugged c C (node m false (fill l s r)) h in
-      ap (endOf c true) (sym (pastAll-past (positionsAbove C (node m false (fill l s r))) p w))
+      ap (λ (x : Way). searchOf (endOf c true x)) (sym (pastAll-past (positionsAbove C (node m false (fill l s r))) p w))
       ∙ no-fault-above C (node m false (fill l s r)) (past p w) h (u .1) (wide .1)
-      ∙ end-past c true p w (rw (position-node C (node m false (fill l s r)))
+      ∙ search-past c true p w (rw (position-node C (node m false (fill l s r)))
       (sound-node c m (fill l s r) (on .1) (p .parent) (λ z. omega (arith, wide .0 (under C (node m false (fill l s r)) z), width-fill l s r))))
 
   -- ---- the violation is found
@@ -127,7 +127,7 @@ module _ (c : List ℕ) (n key : ℕ) (len : length c ≡ 8 + 24 * n) where
 
   -- a search that comes to it stops there
   stops-at : (levels : ℕ) (s : Tree) → Represents c s → (p : Position) → p .node ≡ root s → isFault (nodeAt c (p .node)) (p .parent) ≡ true → endOf c true (wayFrom c n key levels p) ≡ EndFault p
-  stops-at levels (leaf m ks vs) r p e f = ap (endOf c true) (way-at-leaf c n key len levels m ks vs r p e) ∙ end-leaf-fault c true p f
+  stops-at levels (leaf m ks vs) r p e f = ap (endOf c true) (way-at-leaf c n key len levels m ks vs r p e) ∙ end-start c true _ ∙ end-leaf-fault c true 0 p f
   stops-at levels (node m g f) r p e q = fault-at c n key true levels p (rw e (look-at-node c n key len m g f r)) q
 
   -- the search by a key finds the violation on the key's path, where no node above it is one
@@ -137,11 +137,10 @@ module _ (c : List ℕ) (n key : ℕ) (len : length c ≡ 8 + 24 * n) where
   seek-violation levels C s w b p wide own d =
       let u = unplugged c C s w in
       let left : ℕ = levels - depthOf C in
-      ap searchOf
-      (ap (λ (x : ℕ). endOf c true (wayFrom c n key x (rootPosition (getD c 4 0)))) (let z : levels ≡ depthOf C + (levels - depthOf C) = omega arith in z)
-      ∙ ap (endOf c true) (way-path c n key len left C s w (path-leads key C p))
+      ap (λ (x : ℕ). searchOf (endOf c true (wayFrom c n key x (rootPosition (getD c 4 0))))) (let z : levels ≡ depthOf C + (levels - depthOf C) = omega arith in z)
+      ∙ ap (λ (x : Way). searchOf (endOf c true x)) (way-path c n key len left C s w (path-leads key C p))
       ∙ no-fault-above C s (wayFrom c n key left (positionOf C s)) w (path-untagged key C p) wide
-      ∙ stops-at left s (u .1) (positionOf C s) (position-node C s) (rw (position-node C s) (fault-part s (u .1) own (positionOf C s .parent) (parent-there c C s (u .0) b))))
+      ∙ ap searchOf (stops-at left s (u .1) (positionOf C s) (position-node C s) (rw (position-node C s) (fault-part s (u .1) own (positionOf C s .parent) (parent-there c C s (u .0) b))))
 
   -- the violation of a table that has one is found by every key that leads to it
   pub violation-found : (levels : ℕ) (t : Tree) → Holds c t → RootOk t → tableViolations t ≡ 1 → depth t ≤ levels → (v : Violation t key)
@@ -156,7 +155,7 @@ module _ (c : List ℕ) (n key : ℕ) (len : length c ≡ 8 + 24 * n) where
 
   balanced-leaf : (levels m : ℕ) (ks vs : List ℕ) → Represents c (leaf m ks vs) → (p : Position) → p .node ≡ m → isFault (nodeAt c m) (p .parent) ≡ false → seek c n key levels p ≡ SearchBalanced
   unfolding seek searchOf
-  balanced-leaf levels m ks vs r p e f = ap searchOf (ap (endOf c true) (way-at-leaf c n key len levels m ks vs r p e) ∙ end-leaf c true p (rw e f))
+  balanced-leaf levels m ks vs r p e f = ap searchOf (ap (endOf c true) (way-at-leaf c n key len levels m ks vs r p e) ∙ end-start c true _ ∙ end-leaf c true 0 p (rw e f))
 
   sound-leaf : (m : ℕ) (ks vs : List ℕ) → Represents c (leaf m ks vs) → violations (leaf m ks vs) ≡ 0 → (parent : ℕ) → (parent ≡ 0 → ⊥) → isFault (nodeAt c m) parent ≡ false
   sound-leaf m ks vs r sound parent q =

@@ -6,10 +6,11 @@ use mathlib.Core.Option.{Option, none, some}
 use Prim.Native.Nat.{ℕ, zero, suc, _+_, _≤_, _<_}
 use native.Mathlib.Omega.{arith}
 use native.Mathlib.Decide.{ℕ-discrete}
-use lib.ListN.{length}
+use lib.ListN.{length, getD}
 use lib.Dec.{eqb}
-use Rattle.card.specs.Layout.{nodeAt, children, runBelow}
-use Rattle.walk.specs.Descent.{lookAt, childPosition, Way, nowhere, past, wayFrom, runOver, isFault, firstFault, ended, toList, endOf, reachedAt, leafOf, besideBy}
+use Rattle.card.specs.Layout.{depthLimit, rootPlace, nodeAt, children, runBelow}
+use Rattle.walk.specs.Descent.{lookAt, rootPosition, childPosition, Way, nowhere, past, wayFrom, way, runOver, isFault, firstFault, ended, toList, endOf, reachedAt}
+use Rattle.walk.specs.Descent.{leafOf, depthOf, besideBy}
 use Rattle.walk.proofs.DescentLaws.{Inside, leaf-inside, way-nowhere, way-leaf, way-childless, way-too-deep, way-down, beside-told}
 use Rattle.laws.specs.Cases.{pick}
 use Rattle.laws.proofs.Cases.{bool-cases, and-true, impossible}
@@ -93,13 +94,13 @@ module _ (card : List ℕ) (n : ℕ) (P : Position → Type 0) where
       subst FaultOn z (record { holds = h; there = there; fault = and-true seeks (isFault (nodeAt card (p .node)) (p .parent)) yes .1 }))
       (λ no. later (rw no at e))
 
-  fault-last : (seeks : Bool) (l : Option Position) (q : Position) → ((x : Position) → l ≡ some x → P x × (lookAt card n (x .node) ≡ IsLeaf))
-      → firstFault card seeks (ended l) (toList l) ≡ EndFault q → FaultOn q
+  fault-last : (seeks : Bool) (depth : ℕ) (l : Option Position) (q : Position) → ((x : Position) → l ≡ some x → P x × (lookAt card n (x .node) ≡ IsLeaf))
+      → firstFault card seeks (ended depth l) (toList l) ≡ EndFault q → FaultOn q
   unfolding firstFault ended toList
-  fault-last seeks none q a e = impossible (cc)
-  fault-last seeks (some p) q a e =
+  fault-last seeks depth none q a e = impossible (cc)
+  fault-last seeks depth (some p) q a e =
       let at = a p refl in
-      found-first seeks p q (EndLeaf p) (at .0) (λ z. let y = sym z ∙ at .1 in impossible (cc)) (λ z. impossible (cc)) e
+      found-first seeks p q (EndLeaf p depth) (at .0) (λ z. let y = sym z ∙ at .1 in impossible (cc)) (λ z. impossible (cc)) e
 
   fault-among : (seeks : Bool) (end : End) (ps rest : List Position) (q : Position)
       → All (λ x. P x × (lookAt card n (x .node) ≡ IsInner)) ps → (firstFault card seeks end rest ≡ EndFault q → FaultOn q)
@@ -112,7 +113,8 @@ module _ (card : List ℕ) (n : ℕ) (P : Position → Type 0) where
   pub fault-along : (levels : ℕ) (w : Way) (seeks : Bool) (q : Position) → Along levels w → endOf card seeks w ≡ EndFault q → FaultOn q
   unfolding endOf
   fault-along levels w seeks q a e =
-      fault-among seeks (ended (w .leaf)) (w .inner) (toList (w .leaf)) q (a .inner) (λ z. fault-last seeks (w .leaf) q (a .leaf) z) e
+      fault-among seeks (ended (length (w .inner)) (w .leaf)) (w .inner) (toList (w .leaf)) q (a .inner)
+      (λ z. fault-last seeks (length (w .inner)) (w .leaf) q (a .leaf) z) e
 
 -- each level passed adds at most one to the run of 11-child nodes above
 run-short : (width above : ℕ) → runBelow width above ≤ suc above
@@ -137,5 +139,19 @@ reached-inside card n key levels p m depth e = go (wayFrom card n key levels p .
     go none h z = impossible (cc)
     go (some q) h z = let w : q .node ≡ m = cc in rw w at (h q refl)
 
-pub beside-inside : (card : List ℕ) (n key beside levels : ℕ) (p : Position) (m b : ℕ) → besideBy card key beside (wayFrom card n key levels p) ≡ LeafBeside m b → Inside n m
-beside-inside card n key beside levels p m b q = reached-inside card n key levels p m _ (beside-told card key beside _ m b q .0)
+-- "more than 10 internal nodes" do not stand above it
+pub depth-le : (card : List ℕ) (n key levels : ℕ) (p : Position) → depthOf (leafOf (wayFrom card n key levels p)) ≤ levels
+unfolding depthOf leafOf reachedAt
+depth-le card n key levels p = go (wayFrom card n key levels p .leaf) (along card n (λ x. Unit {0}) key (λ x h l s. tt) levels p tt .short)
+  where
+    go : (l : Option Position) → ((q : Position) → l ≡ some q → length (wayFrom card n key levels p .inner) ≤ levels)
+        → depthOf (reachedAt (length (wayFrom card n key levels p .inner)) l) ≤ levels
+    go none h = omega arith
+    go (some q) h = h q refl
+
+pub way-depth-le : (card : List ℕ) (n key : ℕ) → depthOf (leafOf (way card n key)) ≤ depthLimit
+unfolding way
+way-depth-le card n key = depth-le card n key depthLimit (rootPosition (getD card rootPlace 0))
+
+pub beside-inside : (card : List ℕ) (n key beside levels : ℕ) (p : Position) (m b depth : ℕ) → besideBy card key beside (wayFrom card n key levels p) ≡ LeafBeside m b depth → Inside n m
+beside-inside card n key beside levels p m b depth q = reached-inside card n key levels p m depth (beside-told card key beside _ m b depth q .0)

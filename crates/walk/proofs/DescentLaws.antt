@@ -30,6 +30,7 @@ use Rattle.walk.specs.declared.Look.{Look}
 use Rattle.walk.specs.declared.Look.the-variants.{Nowhere, Leaf as IsLeaf, Inner as IsInner}
 use Rattle.walk.specs.declared.Reached.{Reached}
 use Rattle.walk.specs.declared.Reached.the-variants.{Refused as NotReached, Leaf as ReachedLeaf}
+use Rattle.walk.specs.declared.Beside.{Beside}
 use Rattle.walk.specs.declared.Beside.the-variants.{Refused as NoLeaf, Leaf as LeafBeside}
 use Rattle.walk.specs.declared.End.{End}
 use Rattle.walk.specs.declared.End.the-variants.{Refused as EndRefused, Leaf as EndLeaf, Fault as EndFault}
@@ -338,6 +339,12 @@ module _ (card : List ℕ) (n key levels : ℕ) where
         ∙ ap (byDown p (onward card n key levels)) (ap (λ (x : ℕ). downBy (nodeAt card x) key (lookAt card n x)) at
         ∙ ap (downBy (nodeAt card m) key) (look-there card n m out) ∙ ap (λ (x : List ℕ). downIn x key) (sym same) ∙ e)
 
+-- a level more, as the code counts them
+pub onward-deeper : (card : List ℕ) (n key depth : ℕ) (q : Position) → depth ≤ depthLimit → (depth ≡ depthLimit → ⊥)
+    → onward card n key (depthLimit - depth) q ≡ wayFrom card n key (depthLimit - (depth + 1)) q
+onward-deeper card n key depth q l h =
+    onward-on card n key (depthLimit - depth) q (λ z. h (omega arith)) ∙ ap (λ (x : ℕ). wayFrom card n key x q) (omega arith)
+
 -- ---- the leaf, read off the way
 
 -- below so many internal nodes more
@@ -358,14 +365,13 @@ leaf-past p w = go (length (w .inner)) (w .leaf)
     go d none = refl
     go d (some q) = ap (ReachedLeaf (q .node)) (omega arith)
 
--- a level more, as the code counts them
+-- past a node
 pub leaf-on : (card : List ℕ) (n key : ℕ) (p q : Position) (depth : ℕ) → depth ≤ depthLimit → (depth ≡ depthLimit → ⊥)
     → deeper depth (leafOf (past p (onward card n key (depthLimit - depth) q))) ≡ deeper (depth + 1) (leafOf (wayFrom card n key (depthLimit - (depth + 1)) q))
 unfolding deeper
 leaf-on card n key p q depth l h =
-    ap (λ (w : Way). deeper depth (leafOf (past p w))) (onward-on card n key (depthLimit - depth) q (λ z. h (omega arith)))
-    ∙ ap (deeper depth) (leaf-past p (wayFrom card n key (depthLimit - depth - 1) q)) ∙ deeper-twice (leafOf (wayFrom card n key (depthLimit - depth - 1) q))
-    ∙ ap (λ (x : ℕ). deeper (depth + 1) (leafOf (wayFrom card n key x q))) (omega arith)
+    ap (λ (w : Way). deeper depth (leafOf (past p w))) (onward-deeper card n key depth q l h)
+    ∙ ap (deeper depth) (leaf-past p (wayFrom card n key (depthLimit - (depth + 1)) q)) ∙ deeper-twice (leafOf (wayFrom card n key (depthLimit - (depth + 1)) q))
   where
     deeper-twice : (r : Reached) → deeper depth (deeper 1 r) ≡ deeper (depth + 1) r
     deeper-twice NotReached = refl
@@ -396,43 +402,53 @@ module _ (node : List ℕ) (i beside : ℕ) where
   unfolding besideAfter
   after-child h = simp (ne-eqb (getD node (13 + i) 0) 0 h)
 
+-- below so many internal nodes more
+unfoldable pub besideBelow : ℕ → List ℕ → ℕ → ℕ → Way → Beside
+besideBelow depth card key beside w = besideAt (besideAll card key beside (w .inner)) (depth + length (w .inner)) (w .leaf)
+
 module _ (card : List ℕ) (key beside : ℕ) where
-  pub beside-nowhere : besideBy card key beside nowhere ≡ NoLeaf
-  unfolding besideBy besideAt
-  beside-nowhere = refl
+  pub beside-start : (w : Way) → besideBy card key beside w ≡ besideBelow 0 card key beside w
+  unfolding besideBy besideBelow
+  beside-start w = ap (λ (d : ℕ). besideAt (besideAll card key beside (w .inner)) d (w .leaf)) (omega arith)
 
-  pub beside-stop : (p : Position) → besideBy card key beside (past p nowhere) ≡ NoLeaf
-  unfolding besideBy besideAt past
-  beside-stop p = refl
+  module _ (depth : ℕ) where
+    pub beside-nowhere : besideBelow depth card key beside nowhere ≡ NoLeaf
+    unfolding besideBelow besideAt
+    beside-nowhere = refl
 
-  pub beside-leaf : (p : Position) → besideBy card key beside (record { inner = []; leaf = some p }) ≡ LeafBeside (p .node) beside
-  unfolding besideBy besideAt besideAll
-  beside-leaf p = refl
+    pub beside-stop : (p : Position) → besideBelow depth card key beside (past p nowhere) ≡ NoLeaf
+    unfolding besideBelow besideAt past
+    beside-stop p = refl
 
-  -- past a node in hand
-  pub beside-past : (p : Position) (m : ℕ) (node : List ℕ) → p .node ≡ m → node ≡ nodeAt card m → (i e : ℕ) → i ≡ childIndex node key
-      → e ≡ besideAfter node i beside → (w : Way) → besideBy card key beside (past p w) ≡ besideBy card key e w
-  unfolding besideBy besideAll past
-  beside-past p m node at same i e taken after w =
-      ap (λ (x : ℕ). besideAt (besideAll card key x (w .inner)) (w .leaf))
-      (ap (λ (x : List ℕ). besideAfter x (childIndex x key) beside) (ap (nodeAt card) at ∙ sym same) ∙ ap (λ (j : ℕ). besideAfter node j beside) (sym taken) ∙ sym after)
+    pub beside-leaf : (p : Position) → besideBelow depth card key beside (record { inner = []; leaf = some p }) ≡ LeafBeside (p .node) beside depth
+    unfolding besideBelow besideAt besideAll
+    beside-leaf p = ap (LeafBeside (p .node) beside) (omega arith)
+
+    -- past a node in hand
+    pub beside-past : (p : Position) (m : ℕ) (node : List ℕ) → p .node ≡ m → node ≡ nodeAt card m → (i e : ℕ) → i ≡ childIndex node key
+        → e ≡ besideAfter node i beside → (w : Way) → besideBelow depth card key beside (past p w) ≡ besideBelow (depth + 1) card key e w
+    unfolding besideBelow besideAll past
+    beside-past p m node at same i e taken after w =
+        ap₂ (λ (x d : ℕ). besideAt (besideAll card key x (w .inner)) d (w .leaf))
+        (ap (λ (x : List ℕ). besideAfter x (childIndex x key) beside) (ap (nodeAt card) at ∙ sym same) ∙ ap (λ (j : ℕ). besideAfter node j beside) (sym taken) ∙ sym after)
+        (omega arith)
 
   -- what it says of the way
   pub beside-refused : (w : Way) → besideBy card key beside w ≡ NoLeaf → leafOf w ≡ NotReached
   unfolding besideBy besideAt leafOf reachedAt
   beside-refused w e = go (w .leaf) e
     where
-      go : (o : Option Position) → besideAt (besideAll card key beside (w .inner)) o ≡ NoLeaf → reachedAt (length (w .inner)) o ≡ NotReached
+      go : (o : Option Position) → besideAt (besideAll card key beside (w .inner)) (length (w .inner)) o ≡ NoLeaf → reachedAt (length (w .inner)) o ≡ NotReached
       go none q = refl
       go (some p) q = impossible (cc)
 
-  pub beside-told : (w : Way) (m e : ℕ) → besideBy card key beside w ≡ LeafBeside m e
-      → (leafOf w ≡ ReachedLeaf m (length (w .inner))) × (besideAll card key beside (w .inner) ≡ e)
+  pub beside-told : (w : Way) (m e depth : ℕ) → besideBy card key beside w ≡ LeafBeside m e depth
+      → (leafOf w ≡ ReachedLeaf m depth) × (besideAll card key beside (w .inner) ≡ e)
   unfolding besideBy besideAt leafOf reachedAt
-  beside-told w m e q = go (w .leaf) q
+  beside-told w m e depth q = go (w .leaf) q
     where
-      go : (o : Option Position) → besideAt (besideAll card key beside (w .inner)) o ≡ LeafBeside m e
-          → (reachedAt (length (w .inner)) o ≡ ReachedLeaf m (length (w .inner))) × (besideAll card key beside (w .inner) ≡ e)
+      go : (o : Option Position) → besideAt (besideAll card key beside (w .inner)) (length (w .inner)) o ≡ LeafBeside m e depth
+          → (reachedAt (length (w .inner)) o ≡ ReachedLeaf m depth) × (besideAll card key beside (w .inner) ≡ e)
       go none r = impossible (cc)
       go (some p) r = (cc, cc)
 
@@ -469,6 +485,10 @@ second-child node first =
 
 -- ---- where a way ends
 
+-- below so many internal nodes more
+unfoldable pub endBelow : ℕ → List ℕ → Bool → Way → End
+endBelow depth card seeks w = firstFault card seeks (ended (depth + length (w .inner)) (w .leaf)) (w .inner ++ toList (w .leaf))
+
 module _ (card : List ℕ) (seeks : Bool) where
   -- whether a search stops at a position
   abbrev pub stops : Position → Bool
@@ -478,26 +498,44 @@ module _ (card : List ℕ) (seeks : Bool) where
   pub stopped : (p : Position) (node : List ℕ) (b : Bool) → node ≡ nodeAt card (p .node) → b ≡ (seeks && isFault node (p .parent)) → stops p ≡ b
   stopped p node b same e = ap (λ (x : List ℕ). seeks && isFault x (p .parent)) (sym same) ∙ sym e
 
-  pub end-nowhere : endOf card seeks nowhere ≡ EndRefused
-  unfolding endOf firstFault ended toList
-  end-nowhere = refl
+  pub end-start : (w : Way) → endOf card seeks w ≡ endBelow 0 card seeks w
+  unfolding endOf endBelow
+  end-start w = ap (λ (d : ℕ). firstFault card seeks (ended d (w .leaf)) (w .inner ++ toList (w .leaf))) (omega arith)
 
-  module _ (p : Position) where
-    pub end-leaf : stops p ≡ false → endOf card seeks (record { inner = []; leaf = some p }) ≡ EndLeaf p
-    unfolding endOf firstFault ended toList
-    end-leaf e = rw e
+  module _ (depth : ℕ) where
+    pub end-nowhere : endBelow depth card seeks nowhere ≡ EndRefused
+    unfolding endBelow firstFault ended toList
+    end-nowhere = refl
 
-    pub end-leaf-fault : stops p ≡ true → endOf card seeks (record { inner = []; leaf = some p }) ≡ EndFault p
-    unfolding endOf firstFault ended toList
-    end-leaf-fault e = rw e
+    module _ (p : Position) where
+      pub end-leaf : stops p ≡ false → endBelow depth card seeks (record { inner = []; leaf = some p }) ≡ EndLeaf p depth
+      unfolding endBelow firstFault ended toList
+      end-leaf e = rw e (ap (EndLeaf p) (omega arith))
 
-    pub end-past : (w : Way) → stops p ≡ false → endOf card seeks (past p w) ≡ endOf card seeks w
-    unfolding endOf firstFault past
-    end-past w e = rw e
+      pub end-leaf-fault : stops p ≡ true → endBelow depth card seeks (record { inner = []; leaf = some p }) ≡ EndFault p
+      unfolding endBelow firstFault ended toList
+      end-leaf-fault e = rw e
 
-    pub end-fault : (w : Way) → stops p ≡ true → endOf card seeks (past p w) ≡ EndFault p
-    unfolding endOf firstFault past
-    end-fault w e = rw e
+      pub end-past : (w : Way) → stops p ≡ false → endBelow depth card seeks (past p w) ≡ endBelow (depth + 1) card seeks w
+      unfolding endBelow firstFault past
+      end-past w e = rw e (ap (λ (d : ℕ). firstFault card seeks (ended d (w .leaf)) (w .inner ++ toList (w .leaf))) (omega arith))
+
+      pub end-fault : (w : Way) → stops p ≡ true → endBelow depth card seeks (past p w) ≡ EndFault p
+      unfolding endBelow firstFault past
+      end-fault w e = rw e
+
+  -- a search tells no depth
+  search-any : (depth other : ℕ) (l : Option Position) (ps : List Position) → searchOf (firstFault card seeks (ended depth l) ps) ≡ searchOf (firstFault card seeks (ended other l) ps)
+  unfolding searchOf firstFault ended
+  search-any depth other none [] = refl
+  search-any depth other (some q) [] = refl
+  search-any depth other l (p ∷ ps) =
+      bool-cases (seeks && isFault (nodeAt card (p .node)) (p .parent)) (λ yes. rw yes) (λ no. rw no (search-any depth other l ps))
+
+  pub search-past : (p : Position) (w : Way) → stops p ≡ false → searchOf (endOf card seeks (past p w)) ≡ searchOf (endOf card seeks w)
+  unfolding endOf endBelow
+  search-past p w e =
+      ap searchOf (end-start (past p w) ∙ end-past 0 p w e) ∙ search-any (0 + 1 + length (w .inner)) (length (w .inner)) (w .leaf) (w .inner ++ toList (w .leaf))
 
 -- what a search finds is a fault of the way
 pub search-fault : (card : List ℕ) (n key levels : ℕ) (p q : Position) → seek card n key levels p ≡ SearchViolation q → endOf card true (wayFrom card n key levels p) ≡ EndFault q
@@ -506,13 +544,13 @@ search-fault card n key levels p q e = go (endOf card true (wayFrom card n key l
   where
     go : (x : End) → searchOf x ≡ SearchViolation q → x ≡ EndFault q
     go EndRefused z = impossible (cc)
-    go (EndLeaf r) z = impossible (cc)
+    go (EndLeaf r depth) z = impossible (cc)
     go (EndFault r) z = let w : r ≡ q = cc in ap EndFault w
 
 -- an internal node where a search stops
 pub fault-at : (card : List ℕ) (n key : ℕ) (seeks : Bool) (levels : ℕ) (p : Position)
     → lookAt card n (p .node) ≡ IsInner → stops card seeks p ≡ true → endOf card seeks (wayFrom card n key levels p) ≡ EndFault p
-fault-at card n key seeks levels p e f = ap (endOf card seeks) (way-inner card n key p levels e) ∙ end-fault card seeks p _ f
+fault-at card n key seeks levels p e f = ap (endOf card seeks) (way-inner card n key p levels e) ∙ end-start card seeks _ ∙ end-fault card seeks 0 p _ f
 
 -- where no fault is sought the way ends at its leaf
 unsought : (card : List ℕ) (end : End) (ps : List Position) → firstFault card false end ps ≡ end
@@ -520,31 +558,40 @@ unfolding firstFault
 unsought card end [] = refl
 unsought card end (p ∷ ps) = unsought card end ps
 
-pub end-unsought : (card : List ℕ) (w : Way) → endOf card false w ≡ ended (w .leaf)
+pub end-unsought : (card : List ℕ) (w : Way) → endOf card false w ≡ ended (length (w .inner)) (w .leaf)
 unfolding endOf
-end-unsought card w = unsought card (ended (w .leaf)) (w .inner ++ toList (w .leaf))
+end-unsought card w = unsought card (ended (length (w .inner)) (w .leaf)) (w .inner ++ toList (w .leaf))
 
 module _ (card : List ℕ) (w : Way) where
   pub unsought-refused : endOf card false w ≡ EndRefused → w .leaf ≡ none
   unfolding ended
   unsought-refused e = go (w .leaf) (sym (end-unsought card w) ∙ e)
     where
-      go : (l : Option Position) → ended l ≡ EndRefused → l ≡ none
+      go : (l : Option Position) → ended (length (w .inner)) l ≡ EndRefused → l ≡ none
       go none f = refl
       go (some p) f = impossible (cc)
 
-  pub unsought-leaf : (p : Position) → endOf card false w ≡ EndLeaf p → w .leaf ≡ some p
+  pub unsought-leaf : (p : Position) (depth : ℕ) → endOf card false w ≡ EndLeaf p depth → w .leaf ≡ some p
   unfolding ended
-  unsought-leaf p e = go (w .leaf) (sym (end-unsought card w) ∙ e)
+  unsought-leaf p depth e = go (w .leaf) (sym (end-unsought card w) ∙ e)
     where
-      go : (l : Option Position) → ended l ≡ EndLeaf p → l ≡ some p
+      go : (l : Option Position) → ended (length (w .inner)) l ≡ EndLeaf p depth → l ≡ some p
       go none f = impossible (cc)
       go (some q) f = let z : q ≡ p = cc in ap some z
+
+  -- and its depth is the leaf's
+  pub unsought-reached : (p : Position) (depth : ℕ) → endOf card false w ≡ EndLeaf p depth → leafOf w ≡ ReachedLeaf (p .node) depth
+  unfolding ended leafOf reachedAt
+  unsought-reached p depth e = go (w .leaf) (sym (end-unsought card w) ∙ e)
+    where
+      go : (l : Option Position) → ended (length (w .inner)) l ≡ EndLeaf p depth → reachedAt (length (w .inner)) l ≡ ReachedLeaf (p .node) depth
+      go none f = impossible (cc)
+      go (some q) f = let z : q ≡ p = cc in ap₂ (λ (x : Position) (d : ℕ). ReachedLeaf (x .node) d) z (cc)
 
   pub unsought-fault : (p : Position) → endOf card false w ≡ EndFault p → ⊥
   unfolding ended
   unsought-fault p e = go (w .leaf) (sym (end-unsought card w) ∙ e)
     where
-      go : (l : Option Position) → ended l ≡ EndFault p → ⊥
+      go : (l : Option Position) → ended (length (w .inner)) l ≡ EndFault p → ⊥
       go none f = impossible (cc)
       go (some q) f = impossible (cc)

@@ -118,6 +118,12 @@ reachedAt depth (some p) = ReachedLeaf (p .node) depth
 unfoldable pub leafOf : Way → Reached
 leafOf w = reachedAt (length (w .inner)) (w .leaf)
 
+-- Document 02, W-203: "The walk down shall tell that count": how many internal nodes the way passes, "tagged ones counted". "A refusal
+-- carries none": 0.
+unfoldable pub depthOf : Reached → ℕ
+depthOf NotReached = 0
+depthOf (ReachedLeaf m depth) = depth
+
 -- "Let j be the number of 11-child nodes without a break straight above a full leaf": over the internal nodes of a way, where so
 -- many stand above the first of them
 unfoldable pub runOver : List ℕ → ℕ → List Position → ℕ
@@ -134,13 +140,13 @@ unfoldable pub besideAll : List ℕ → ℕ → ℕ → List Position → ℕ
 besideAll card key beside [] = beside
 besideAll card key beside (p ∷ ps) = besideAll card key (besideAfter (nodeAt card (p .node)) (childIndex (nodeAt card (p .node)) key) beside) ps
 
--- the leaf that a way ends at, with what stands right after it
-unfoldable pub besideAt : ℕ → Option Position → Beside
-besideAt beside none = NoLeaf
-besideAt beside (some p) = LeafBeside (p .node) beside
+-- the leaf that a way ends at, with what stands right after it and how many internal nodes stand above it
+unfoldable pub besideAt : ℕ → ℕ → Option Position → Beside
+besideAt beside depth none = NoLeaf
+besideAt beside depth (some p) = LeafBeside (p .node) beside depth
 
 unfoldable pub besideBy : List ℕ → ℕ → ℕ → Way → Beside
-besideBy card key beside w = besideAt (besideAll card key beside (w .inner)) (w .leaf)
+besideBy card key beside w = besideAt (besideAll card key beside (w .inner)) (length (w .inner)) (w .leaf)
 
 -- where an update's key leads: the leaf, the word that links to it, and j
 unfoldable pub landedAt : ℕ → Option Position → Landing
@@ -164,21 +170,22 @@ unfoldable pub firstFault : List ℕ → Bool → End → List Position → End
 firstFault card seeks end [] = end
 firstFault card seeks end (p ∷ ps) = pick (seeks && isFault (nodeAt card (p .node)) (p .parent)) (EndFault p) (firstFault card seeks end ps)
 
-unfoldable pub ended : Option Position → End
-ended none = EndRefused
-ended (some p) = EndLeaf p
+-- at the leaf, below so many internal nodes
+unfoldable pub ended : ℕ → Option Position → End
+ended depth none = EndRefused
+ended depth (some p) = EndLeaf p depth
 
 unfoldable pub toList : Option Position → List Position
 toList none = []
 toList (some p) = p ∷ []
 
 unfoldable pub endOf : List ℕ → Bool → Way → End
-endOf card seeks w = firstFault card seeks (ended (w .leaf)) (w .inner ++ toList (w .leaf))
+endOf card seeks w = firstFault card seeks (ended (length (w .inner)) (w .leaf)) (w .inner ++ toList (w .leaf))
 
 -- what a search for the first violation on a way answers
 unfoldable pub searchOf : End → Search
 searchOf EndRefused = NoSearch
-searchOf (EndLeaf p) = SearchBalanced
+searchOf (EndLeaf p depth) = SearchBalanced
 searchOf (EndFault p) = SearchViolation p
 
 -- the first violation on a key's way from a position, past at most so many internal nodes

@@ -1,6 +1,6 @@
 // The way down (document 01, "The card"): routing, the look-up in a leaf, and the walk to a leaf or to the first fault.
 ghost use mathlib.Core.Path.{_≡_};
-ghost use mathlib.Core.Bool.{_&&_};
+ghost use mathlib.Core.Bool.{true, false, _&&_};
 ghost use Prim.Native.Nat.{_+_, _*_, _≤_, _<_};
 ghost use lib.ListN.{length, getD};
 ghost use Rattle.card.specs.Layout.{greatestNodes, depthLimit, runBelow};
@@ -114,6 +114,13 @@ fn go_down(node: &[u32], key: u32) -> Down
     }
 }
 
+// "9: .. more than 10 internal nodes": whether so many are passed that one more is too many.
+fn is_too_deep(depth: usize) -> bool
+    ensures { λ r. ⌜ (r ≡ true → depth ≡ depthLimit) × (r ≡ false → depth ≡ depthLimit → ⊥) ⌝ }
+{
+    depth == card::DEPTH_LIMIT
+}
+
 // The leaf that a key leads to, and how many internal nodes stand above it; or refusal 9.
 pub enum Reached {
     Refused,
@@ -143,7 +150,7 @@ pub fn find_leaf(card: &[u32], n: usize, key: u32, root: usize) -> Reached
                 return Reached::Refused;
             }
             Down::Inner { index: _, child } => {
-                if depth == card::DEPTH_LIMIT {
+                if is_too_deep(depth) {
                     return Reached::Refused;
                 }
                 depth += 1;
@@ -166,11 +173,15 @@ fn beside_after(node: &[u32], index: usize, beside: usize) -> usize
     next
 }
 
-// The leaf that a key leads to, and the number of the deepest node that stands right after the way there, 0 where there is none; or
-// refusal 9.
+// The leaf that a key leads to, the number of the deepest node that stands right after the way there, 0 where there is none, and how many
+// internal nodes stand above the leaf; or refusal 9.
 pub enum Beside {
     Refused,
-    Leaf { node: usize, beside: usize },
+    Leaf {
+        node: usize,
+        beside: usize,
+        depth: usize,
+    },
 }
 
 pub fn find_beside(card: &[u32], n: usize, key: u32, root: usize) -> Beside
@@ -179,7 +190,7 @@ pub fn find_beside(card: &[u32], n: usize, key: u32, root: usize) -> Beside
 {
     let mut m = root;
     let mut beside: usize = 0;
-    let mut left: usize = card::DEPTH_LIMIT;
+    let mut depth: usize = 0;
     loop {
         if is_outside(n, m) {
             return Beside::Refused;
@@ -190,17 +201,21 @@ pub fn find_beside(card: &[u32], n: usize, key: u32, root: usize) -> Beside
                 return Beside::Refused;
             }
             Down::Leaf => {
-                return Beside::Leaf { node: m, beside };
+                return Beside::Leaf {
+                    node: m,
+                    beside,
+                    depth,
+                };
             }
             Down::Childless => {
                 return Beside::Refused;
             }
             Down::Inner { index, child } => {
-                if left == 0 {
+                if is_too_deep(depth) {
                     return Beside::Refused;
                 }
                 beside = beside_after(node, index, beside);
-                left -= 1;
+                depth += 1;
                 m = child;
             }
         }
@@ -263,10 +278,10 @@ fn stops(node: &[u32], parent: usize, seeks: bool) -> bool
     false
 }
 
-// Where a way ends: at refusal 9, at its leaf, or at the first fault.
+// Where a way ends: at refusal 9, at its leaf, below so many internal nodes, or at the first fault.
 pub enum End {
     Refused,
-    Leaf(Position),
+    Leaf { position: Position, depth: usize },
     Fault(Position),
 }
 
@@ -282,7 +297,7 @@ pub fn descend(card: &[u32], n: usize, key: u32, root: usize, seeks: bool) -> En
         index: 0,
         above: 0,
     };
-    let mut left: usize = card::DEPTH_LIMIT;
+    let mut depth: usize = 0;
     loop {
         if is_outside(n, p.node) {
             return End::Refused;
@@ -296,7 +311,7 @@ pub fn descend(card: &[u32], n: usize, key: u32, root: usize, seeks: bool) -> En
                 if stops(node, p.parent, seeks) {
                     return End::Fault(p);
                 }
-                return End::Leaf(p);
+                return End::Leaf { position: p, depth };
             }
             Down::Childless => {
                 if stops(node, p.parent, seeks) {
@@ -308,10 +323,10 @@ pub fn descend(card: &[u32], n: usize, key: u32, root: usize, seeks: bool) -> En
                 if stops(node, p.parent, seeks) {
                     return End::Fault(p);
                 }
-                if left == 0 {
+                if is_too_deep(depth) {
                     return End::Refused;
                 }
-                left -= 1;
+                depth += 1;
                 p = child_of(p, index, child);
             }
         }
@@ -331,7 +346,10 @@ pub fn find_violation(card: &[u32], n: usize, key: u32, root: usize) -> Search
 {
     match descend(card, n, key, root, true) {
         End::Refused => Search::Refused,
-        End::Leaf(_) => Search::Balanced,
+        End::Leaf {
+            position: _,
+            depth: _,
+        } => Search::Balanced,
         End::Fault(p) => Search::Violation(p),
     }
 }
@@ -398,9 +416,9 @@ pub fn find_landing(card: &[u32], n: usize, key: u32, root: usize) -> Landing
     match descend(card, n, key, root, false) {
         End::Refused => Landing::Refused,
         End::Fault(_) => Landing::Refused,
-        End::Leaf(p) => Landing::Leaf {
-            node: p.node,
-            link: p.link,
+        End::Leaf { position, depth: _ } => Landing::Leaf {
+            node: position.node,
+            link: position.link,
             run: run_above(card, n, key, root),
         },
     }

@@ -1,5 +1,5 @@
 -- Laws of the next pair: one for each branch of the code.
-use mathlib.Core.Path.{_≡_, refl, sym, _∙_, ap, subst}
+use mathlib.Core.Path.{_≡_, refl, sym, _∙_, ap, ap₂, subst}
 use mathlib.Core.Bool.{Bool, true, false, not}
 use mathlib.Core.List.{List, _∷_, [], _++_}
 use mathlib.Core.Option.{Option, none, some}
@@ -8,14 +8,17 @@ use native.Mathlib.Omega.{arith}
 use lib.ListN.{length, getD}
 use borrow.Author.Tests.{lt-ltb, le-ltb, eq-eqb, ne-eqb}
 use Rattle.card.specs.Header.{cardRefusal, nodesOfLength}
-use Rattle.card.specs.Layout.{depthLimit, keyLimit, nodeAt, slotPairs, leafPairs}
+use Rattle.card.specs.Layout.{depthLimit, keyLimit, rootPlace, nodeAt, slotPairs, leafPairs}
 use Rattle.card.proofs.NodeLaws.{leafFrom, leaf-start, leaf-next, leaf-end}
+use Rattle.laws.specs.Cases.{pick}
 use Rattle.laws.proofs.Cases.{order, impossible}
-use Rattle.walk.specs.Descent.{slotOf, rootPosition, Way, wayFrom, way, leafOf, besideAll}
+use Rattle.walk.specs.Descent.{slotOf, rootPosition, Way, wayFrom, way, leafOf, depthOf, besideAll}
 use Rattle.walk.specs.declared.Slot.the-variants.{At, Absent as NoSlot}
+use Rattle.walk.proofs.Along.{way-depth-le}
 use Rattle.walk.proofs.DescentLaws.{slotFrom, slot-start, slot-here, slot-next}
 use Rattle.walk.specs.declared.Reached.the-variants.{Refused as NotReached, Leaf as ReachedLeaf}
 use Rattle.walk_next.specs.Successor.{IsKey, nearerKey, nearer, nearerAbove, leastAbove, leastOf, found, nextInLeaf, inNextLeaf, orNextLeaf, nextIn, nextOf}
+use Rattle.walk_next.specs.Successor.{carried, nextDepth}
 use Rattle.walk_next.specs.declared.Least.{Least}
 use Rattle.walk_next.specs.declared.Successor.{Successor}
 use Rattle.walk_next.specs.declared.Successor.the-variants.{Pair, Nothing, Refused}
@@ -221,3 +224,24 @@ module _ (card : List ℕ) (after : ℕ) where
   pub next-taken : cardRefusal card ≡ 0 → nextOf card after ≡ nextIn card (nodesOfLength (length card)) after
   unfolding nextOf
   next-taken e = rw (eq-eqb (cardRefusal card) 0 e)
+
+-- ---- how many internal nodes the number's own way passes
+
+carried-le : (depth most : ℕ) (s : Successor) → depth ≤ most → carried depth s ≤ most
+unfolding carried
+carried-le depth most (Pair key value) h = h
+carried-le depth most Nothing h = h
+carried-le depth most (Refused r) h = omega arith
+
+pub next-depth-le : (card : List ℕ) (after : ℕ) → nextDepth card after ≤ depthLimit
+unfolding nextDepth
+next-depth-le card after = carried-le _ depthLimit (nextOf card after) (way-depth-le card (nodesOfLength (length card)) after)
+
+-- what is told of it in the first round and kept in the second
+pub own-depth : (card : List ℕ) (n after key from depth first : ℕ) (own : Bool)
+    → (own ≡ true → (from ≡ getD card rootPlace 0) × (key ≡ after)) → (own ≡ false → first ≡ depthOf (leafOf (way card n after)))
+    → (m : ℕ) → leafOf (wayFrom card n key depthLimit (rootPosition from)) ≡ ReachedLeaf m depth → pick own depth first ≡ depthOf (leafOf (way card n after))
+unfolding way depthOf
+own-depth card n after key from depth first true at kept m e =
+    ap depthOf (sym e) ∙ ap₂ (λ (k r : ℕ). depthOf (leafOf (wayFrom card n k depthLimit (rootPosition r)))) (at refl .1) (at refl .0)
+own-depth card n after key from depth first false at kept m e = kept refl

@@ -10,7 +10,7 @@ use Rattle.laws.specs.Cases.{pick}
 use Rattle.card.specs.Header.{cardRefusal, nodesOfLength}
 use Rattle.card.specs.Layout.{depthLimit, keyLimit, nodeAt, leafPairs}
 use Rattle.card.specs.Replies.{Reply, refusal, nothing, next}
-use Rattle.walk.specs.Descent.{rootPosition, wayFrom, way, leafOf, besideAll}
+use Rattle.walk.specs.Descent.{rootPosition, wayFrom, way, leafOf, depthOf, besideAll}
 use Rattle.walk.specs.declared.Reached.{Reached}
 use Rattle.walk.specs.declared.Reached.the-variants.{Refused as NotReached, Leaf as ReachedLeaf}
 use Rattle.walk_next.specs.declared.Least.{Least}
@@ -74,6 +74,18 @@ nextIn card n after = orNextLeaf card n after (nextInLeaf card after (leafOf (wa
 -- "It reads the card only, like a find": 1, 2, 3 and 9; "6 is not given"
 unfoldable pub nextOf : List ℕ → ℕ → Successor
 nextOf card after = pick (eqb (cardRefusal card) 0) (nextIn card (nodesOfLength (length card)) after) (Refused (cardRefusal card))
+
+-- ---- document 02, W-203: "the number of internal nodes on the given number's way when the call began, tagged ones counted"
+
+-- "A refusal carries none."
+unfoldable pub carried : ℕ → Successor → ℕ
+carried depth (Pair key value) = depth
+carried depth Nothing = depth
+carried depth (Refused r) = 0
+
+-- the number's own way, also where the answer is in the next leaf
+unfoldable pub nextDepth : List ℕ → ℕ → ℕ
+nextDepth card after = carried (depthOf (leafOf (way card (nodesOfLength (length card)) after))) (nextOf card after)
 
 -- ---- "Walking an unchanged card from 0 lists each pair once, rising": at most so many pairs, from those above a number on
 

@@ -4,9 +4,12 @@ use walk::Slot;
 ghost use mathlib.Core.Path.{_≡_};
 ghost use Prim.Native.Nat.{_≤_};
 ghost use lib.ListN.{length};
-ghost use Rattle.card.specs.Layout.{keyLimit, leafPairs};
+ghost use Rattle.laws.specs.Cases.{pick};
+ghost use Rattle.card.specs.Layout.{depthLimit, keyLimit, leafPairs};
 ghost use Rattle.card.specs.Header.{Sized};
-ghost use Rattle.walk_next.specs.Successor.{IsKey, nearerKey, leastAbove, leastOf, nextIn, nextOf};
+ghost use Rattle.walk.specs.Descent.{way, leafOf, depthOf};
+ghost use Rattle.walk_next.specs.Successor.{IsKey, nearerKey, leastAbove, leastOf, nextIn, nextOf, carried, nextDepth};
+ghost use Rattle.walk_next.specs.declared.Successor.the-variants.{Refused};
 
 // What the call answers.
 pub enum Successor {
@@ -69,50 +72,98 @@ fn least_above(node: &[u32], after: u32) -> Least
     }
 }
 
+// What the call answers, and beside it how many internal nodes the given number's own way passed, also where the answer is in the next
+// leaf; 0 where it is refused (document 02, W-203).
+pub struct NextPair {
+    pub successor: Successor,
+    pub depth: usize,
+}
+
+// "A refusal carries none."
+fn refused(refusal: u32) -> NextPair
+    ensures { λ r. ⌜ (r .successor ≡ Refused refusal) × (r .depth ≡ 0) ⌝ }
+{
+    NextPair {
+        successor: Successor::Refused(refusal),
+        depth: 0,
+    }
+}
+
+// The depth of the number's own leaf: that of the first way, and not of the second.
+fn own_depth(own: bool, depth: usize, first: usize) -> usize
+    ensures { λ r. ⌜ r ≡ pick own depth first ⌝ }
+{
+    if own { depth } else { first }
+}
+
 // In the leaf that the number leads to, else in the first leaf of the node that stands right after the way there, to which a second way
 // leads, by first children. The two ways are rounds of one loop: as two calls they took a third more instructions.
-fn next_in(card: &[u32], n: usize, after: u32) -> Successor
+fn next_in(card: &[u32], n: usize, after: u32) -> NextPair
     requires { ⌜ Sized (length (now card)) n ⌝ }
-    ensures { λ r. ⌜ r ≡ nextIn (now (card .entry)) n after ⌝ }
+    ensures { λ r. ⌜ (r .successor ≡ nextIn (now (card .entry)) n after)
+        × (r .depth ≡ carried (depthOf (leafOf (way (now (card .entry)) n after))) (r .successor)) ⌝ }
 {
     let mut from = card[card::ROOT_PLACE] as usize;
     let mut key = after;
     let mut is_own = true;
+    let mut first: usize = 0;
     loop {
         match walk::find_beside(card, n, key, from) {
             Beside::Refused => {
-                return Successor::Refused(9);
+                return refused(9);
             }
-            Beside::Leaf { node, beside } => {
+            Beside::Leaf {
+                node,
+                beside,
+                depth,
+            } => {
+                let told = own_depth(is_own, depth, first);
                 let least = least_above(card::node_at(card, node), after);
                 if least.key != card::KEY_LIMIT {
-                    return Successor::Pair {
-                        key: least.key as u32,
-                        value: least.value,
+                    return NextPair {
+                        successor: Successor::Pair {
+                            key: least.key as u32,
+                            value: least.value,
+                        },
+                        depth: told,
                     };
                 }
                 if !is_own {
-                    return Successor::Nothing;
+                    return NextPair {
+                        successor: Successor::Nothing,
+                        depth: told,
+                    };
                 }
                 if beside == 0 {
-                    return Successor::Nothing;
+                    return NextPair {
+                        successor: Successor::Nothing,
+                        depth: told,
+                    };
                 }
                 from = beside;
                 key = 0;
                 is_own = false;
+                first = told;
             }
         }
     }
 }
 
 // "the call answers the pair with the smallest key greater than it, or none exactly when the table holds no such key. It reads the
-// card only, like a find, and may come between steps."
-pub fn next_pair(card: &[u32], after: u32) -> Successor
-    ensures { λ r. ⌜ r ≡ nextOf (now (card .entry)) after ⌝ }
+// card only, like a find, and may come between steps." It hands on how many internal nodes the number's own way passed.
+pub fn next_with_depth(card: &[u32], after: u32) -> NextPair
+    ensures { λ r. ⌜ (r .successor ≡ nextOf (now (card .entry)) after) × (r .depth ≡ nextDepth (now (card .entry)) after) × (r .depth ≤ depthLimit) ⌝ }
 {
     let refusal = card::card_refusal(card);
     if refusal != 0 {
-        return Successor::Refused(refusal);
+        return refused(refusal);
     }
     next_in(card, card::nodes_of(card.len()), after)
+}
+
+// The same without the depth.
+pub fn next_pair(card: &[u32], after: u32) -> Successor
+    ensures { λ r. ⌜ r ≡ nextOf (now (card .entry)) after ⌝ }
+{
+    next_with_depth(card, after).successor
 }

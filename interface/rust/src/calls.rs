@@ -5,7 +5,8 @@ use core::num::NonZeroU32;
 
 use crate::Refusal;
 
-const STATE_WORDS: usize = 177;
+/// The words of a state block.
+pub const STATE_WORDS: usize = 178;
 
 /// The state block. Its words are the table's own.
 #[derive(Clone, Debug, PartialEq, Eq)]
@@ -17,7 +18,7 @@ impl StateBlock {
         Self([0; STATE_WORDS])
     }
 
-    /// Any words: the calls stay total.
+    /// Any words: the calls stay total. An update that is in progress by these words may tell any depth.
     pub const fn from_words(words: [u32; STATE_WORDS]) -> Self {
         Self(words)
     }
@@ -33,13 +34,42 @@ impl Default for StateBlock {
     }
 }
 
+/// An answer, and how deep the call went for it: how many internal nodes stood on the given number's way down to its leaf when the
+/// call began, an update when it was started; tagged ones are counted. It is 0 where the root is that leaf, and at most 10. A refusal
+/// carries none.
+///
+/// ```
+/// # use core::num::NonZeroU32;
+/// # use ration_table::{card_words, Refusal, StateBlock, Table, WithDepth};
+/// # fn main() -> Result<(), Refusal> {
+/// # let mut card = [0; card_words(12)];
+/// # let mut state = StateBlock::new();
+/// # let (mut table, ()) = Table::format(&mut card, &mut state)?.finish()?;
+/// # let key = |key| NonZeroU32::new(key).unwrap();
+/// for ration in 1..=11 {
+///     (table, _) = table.insert(key(ration), 10 * ration)?.finish()?;
+/// }
+/// assert_eq!(table.find(key(7))?, WithDepth { answer: Some(70), depth: 0 });
+///
+/// // The root is full: the twelfth pair splits it, and the insert tells the depth of before.
+/// let (table, inserted) = table.insert(key(12), 120)?.finish()?;
+/// assert_eq!(inserted, WithDepth { answer: None, depth: 0 });
+/// assert_eq!(table.find(key(7))?, WithDepth { answer: Some(70), depth: 1 });
+/// # Ok(())
+/// # }
+/// ```
+#[derive(Clone, Copy, Debug, PartialEq, Eq)]
+pub struct WithDepth<T> {
+    pub answer: T,
+    pub depth: u32,
+}
+
 #[repr(C)]
 struct Answer {
     code: u32,
     value: u32,
     key: u32,
-    // for calls to come, and always 0
-    _depth: u32,
+    depth: u32,
 }
 
 const VALUE: u32 = 64;
@@ -95,10 +125,11 @@ pub enum Step {
     Stored { place: usize },
     /// The formatting or the repair is done.
     Ready,
-    /// The update is done; its key was held before, with this value.
-    Held(u32),
+    /// The update is done; its key was held before, with this value. The depth is that of the key's way when the update was
+    /// started.
+    Held { value: u32, depth: u32 },
     /// The update is done; its key was not held before.
-    Absent,
+    Absent { depth: u32 },
 }
 
 pub fn start_format(card: &[u32], state: &mut StateBlock) -> Result<(), Refusal> {
@@ -114,25 +145,28 @@ pub fn open(card: &[u32], state: &mut StateBlock) -> Result<Opening, Refusal> {
     }
 }
 
-pub fn find(card: &[u32], key: u32) -> Result<Option<u32>, Refusal> {
+pub fn find(card: &[u32], key: u32) -> Result<WithDepth<Option<u32>>, Refusal> {
     let answer = unsafe { ration_find(card.as_ptr(), card.len(), key) };
-    match answer.code {
-        VALUE => Ok(Some(answer.value)),
-        ABSENT => Ok(None),
-        number => Err(Refusal::from_number(number)),
-    }
+    let found = match answer.code {
+        VALUE => Some(answer.value),
+        ABSENT => None,
+        number => return Err(Refusal::from_number(number)),
+    };
+    Ok(WithDepth { answer: found, depth: answer.depth })
 }
 
-/// The pair, key and value, with the smallest key above a number, which may be 0; nothing where no such key is held. On a card
-/// that [`open`] refuses with [`Refusal::NotSound`] it is any pair above the number, nothing or [`Refusal::BrokenWay`].
-pub fn next_after(card: &[u32], number: u32) -> Result<Option<(NonZeroU32, u32)>, Refusal> {
+/// The pair, key and value, with the smallest key above a number, which may be 0; nothing where no such key is held. The depth is
+/// that of the number's own way, also where the pair is in another leaf. On a card that [`open`] refuses with
+/// [`Refusal::NotSound`] it is any pair above the number, nothing or [`Refusal::BrokenWay`].
+pub fn next_after(card: &[u32], number: u32) -> Result<WithDepth<Option<(NonZeroU32, u32)>>, Refusal> {
     let answer = unsafe { ration_next(card.as_ptr(), card.len(), number) };
-    match (answer.code, NonZeroU32::new(answer.key)) {
-        (NEXT, Some(key)) => Ok(Some((key, answer.value))),
+    let pair = match (answer.code, NonZeroU32::new(answer.key)) {
+        (NEXT, Some(key)) => Some((key, answer.value)),
         (NEXT, None) => unreachable!("0 is above no number"),
-        (NONE, _) => Ok(None),
-        (number, _) => Err(Refusal::from_number(number)),
-    }
+        (NONE, _) => None,
+        (number, _) => return Err(Refusal::from_number(number)),
+    };
+    Ok(WithDepth { answer: pair, depth: answer.depth })
 }
 
 /// A key that is held keeps its value. To delete it first is an update of its own: see [`crate::Table::insert`].
@@ -149,8 +183,8 @@ pub fn step(card: &mut [u32], state: &mut StateBlock) -> Result<Step, Refusal> {
     match answer.code {
         STORED => Ok(Step::Stored { place: answer.value as usize }),
         READY => Ok(Step::Ready),
-        VALUE => Ok(Step::Held(answer.value)),
-        ABSENT => Ok(Step::Absent),
+        VALUE => Ok(Step::Held { value: answer.value, depth: answer.depth }),
+        ABSENT => Ok(Step::Absent { depth: answer.depth }),
         number => Err(Refusal::from_number(number)),
     }
 }

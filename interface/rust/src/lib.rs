@@ -30,7 +30,7 @@
 //!         Opened::Idle(table) => table,
 //!         Opened::Repairing(repair) => repair.finish()?.0,
 //!     };
-//!     assert_eq!(table.find(key), Ok(Some(70)));
+//!     assert_eq!(table.find(key)?.answer, Some(70));
 //!     Ok(())
 //! }
 //! ```
@@ -56,6 +56,11 @@
 //!     Ok(())
 //! }
 //! ```
+//!
+//! # How deep
+//!
+//! What `find`, `next_after` and a finished update answer comes [`WithDepth`]: how many internal nodes stood on the way down when
+//! the call began, tagged ones counted.
 //!
 //! # To keep an update across calls
 //!
@@ -121,7 +126,7 @@ mod pairs;
 mod refusal;
 mod table;
 
-pub use calls::StateBlock;
+pub use calls::{StateBlock, WithDepth};
 pub use pairs::Pairs;
 pub use refusal::Refusal;
 pub use table::{FinalAnswer, Formatting, InProgress, Opened, Progress, Refused, Repair, Table, Unfinished, Update};

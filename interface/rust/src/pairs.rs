@@ -46,7 +46,7 @@ impl Iterator for Pairs<'_> {
     type Item = Result<(NonZeroU32, u32), Refusal>;
 
     fn next(&mut self) -> Option<Self::Item> {
-        let next = calls::next_after(self.card, self.after?).transpose();
+        let next = calls::next_after(self.card, self.after?).map(|next| next.answer).transpose();
         self.after = match next {
             Some(Ok((key, _))) => Some(key.get()),
             _ => None,

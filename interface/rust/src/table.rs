@@ -4,7 +4,7 @@ use core::fmt;
 use core::marker::PhantomData;
 use core::num::NonZeroU32;
 
-use crate::calls::{self, Opening, StateBlock, Step};
+use crate::calls::{self, Opening, StateBlock, Step, WithDepth};
 use crate::{Pairs, Refusal};
 
 /// A card that is open and idle. While it lives nothing else can write the card or the block, and an update takes it away
@@ -40,8 +40,8 @@ pub struct InProgress<'a, A> {
     answer: PhantomData<A>,
 }
 
-/// An insert or a delete. Its answer is the value that its key had before.
-pub type Update<'a> = InProgress<'a, Option<u32>>;
+/// An insert or a delete. Its answer is the value that its key had before, with the depth of the key's way when it was started.
+pub type Update<'a> = InProgress<'a, WithDepth<Option<u32>>>;
 
 /// A repair that opening found due. It changes no pair; `find` works as ever.
 pub type Repair<'a> = InProgress<'a, ()>;
@@ -131,11 +131,11 @@ impl FinalAnswer for () {
     }
 }
 
-impl FinalAnswer for Option<u32> {
+impl FinalAnswer for WithDepth<Option<u32>> {
     fn of(step: Step) -> Self {
         match step {
-            Step::Held(value) => Some(value),
-            Step::Absent => None,
+            Step::Held { value, depth } => Self { answer: Some(value), depth },
+            Step::Absent { depth } => Self { answer: None, depth },
             _ => unreachable!("an update ends in a value or absent"),
         }
     }
@@ -144,7 +144,7 @@ impl FinalAnswer for Option<u32> {
 mod sealed {
     pub trait Sealed {}
     impl Sealed for () {}
-    impl Sealed for Option<u32> {}
+    impl Sealed for crate::WithDepth<Option<u32>> {}
 }
 
 impl<'a> Table<'a> {
@@ -181,12 +181,13 @@ impl<'a> Table<'a> {
         }
     }
 
-    pub fn find(&self, key: NonZeroU32) -> Result<Option<u32>, Refusal> {
+    pub fn find(&self, key: NonZeroU32) -> Result<WithDepth<Option<u32>>, Refusal> {
         calls::find(self.card, key.get())
     }
 
-    /// The pair with the smallest key above a number, which may be 0; nothing where no such key is held.
-    pub fn next_after(&self, number: u32) -> Result<Option<(NonZeroU32, u32)>, Refusal> {
+    /// The pair with the smallest key above a number, which may be 0; nothing where no such key is held. The depth is that of the
+    /// number's own way, also where the pair is in another leaf.
+    pub fn next_after(&self, number: u32) -> Result<WithDepth<Option<(NonZeroU32, u32)>>, Refusal> {
         calls::next_after(self.card, number)
     }
 
@@ -282,12 +283,12 @@ impl<'a, A: FinalAnswer> InProgress<'a, A> {
     }
 
     /// Looks a key up as the card is at this moment.
-    pub fn find(&self, key: NonZeroU32) -> Result<Option<u32>, Refusal> {
+    pub fn find(&self, key: NonZeroU32) -> Result<WithDepth<Option<u32>>, Refusal> {
         self.table.find(key)
     }
 
     /// The pair with the smallest key above a number, which may be 0, as the card is at this moment.
-    pub fn next_after(&self, number: u32) -> Result<Option<(NonZeroU32, u32)>, Refusal> {
+    pub fn next_after(&self, number: u32) -> Result<WithDepth<Option<(NonZeroU32, u32)>>, Refusal> {
         self.table.next_after(number)
     }
 

@@ -24,8 +24,8 @@ enum-told c = search needs
 enum-told-2 : tie.Need-enum-told-2
 enum-told-2 c = search needs
 
-enum-known-p : tie.Need-enum-known-p
-enum-known-p c = search needs
+enum-known-position : tie.Need-enum-known-position
+enum-known-position c = search needs
 
 returns : tie.Need-returns
 unfolding Arrives way
@@ -37,7 +37,7 @@ returns-2 c = absurd (unsought-fault _ _ _ (sym (c .before .before .descend .ens
 
 returns-3 : tie.Need-returns-3
 unfolding Arrives way
-returns-3 c = (_, land-leaf _ _ _ (c .before .p .given .0 .0) (sym (c .before .before .before .descend .ensures) ∙ c .before .p .given .1))
+returns-3 c = (_, land-leaf _ _ _ (c .before .position .given .0 .0) _ (sym (c .before .before .before .descend .ensures) ∙ c .before .position .given .1))
 
 pub arrive-spec : {M : Type 1} → statement M
 arrive-spec =
@@ -48,7 +48,7 @@ arrive-spec =
     descend-requires
     enum-told
     enum-told-2
-    enum-known-p
+    enum-known-position
     returns
     returns-2
     returns-3)

@@ -6,7 +6,7 @@ use native.Mathlib.Omega.{arith}
 use lib.ListN.{length, getD}
 use Rattle.card.specs.Layout.{depthLimit, rootPlace}
 use Rattle.card.proofs.NodeLaws.{length-node}
-use Rattle.walk.specs.Descent.{slotOf, rootPosition, way}
+use Rattle.walk.specs.Descent.{slotOf, rootPosition, way, depthOf}
 use Rattle.walk.proofs.Along.{reached-inside}
 use Rattle.walk.proofs.DescentLaws.{Inside}
 use Rattle.call_find.specs.Find.{foundIn, foundAt}
@@ -44,18 +44,27 @@ found-in-requires c κs =
     ap length (c .node-at .ensures) ∙ length-node (c .before .before .before .before .before .before .before .args .card .now)
     (c .before .before .node .given .0 .0) (k .one) (omega (arith, k .most))
 
+refused-requires : tie.Need-refused-requires
+refused-requires c κs = search needs
+
 returns : tie.Need-returns
-unfolding foundAt way
+unfolding foundAt depthOf way
 returns c =
-    ap (foundAt (c .before .before .before .before .before .args .card .now) (c .before .before .before .before .before .args .key))
-    (sym (sym (c .before .before .find-leaf .ensures) ∙ c .enum-told .given .1))
+    let s = c .before .before .before .before .before .before in
+    let e = sym (c .before .before .before .find-leaf .ensures) ∙ c .before .enum-told .given .1 in (
+      c .refused .ensures .0 ∙ ap (foundAt (s .args .card .now) (s .args .key)) (sym e),
+      c .refused .ensures .1 ∙ ap depthOf (sym e),
+    )
 
 returns-2 : tie.Need-returns-2
-unfolding foundAt way
+unfolding foundAt depthOf way
 returns-2 c =
     let s = c .before .before .before .before .before .before .before .before in
-    c .found-in .ensures ∙ ap (λ (x : List ℕ). foundIn x (slotOf x (s .args .key))) (c .before .node-at .ensures)
-    ∙ ap (foundAt (s .args .card .now) (s .args .key)) (sym (sym (c .before .before .before .before .before .find-leaf .ensures) ∙ c .before .before .before .node .given .1))
+    let e = sym (c .before .before .before .before .before .find-leaf .ensures) ∙ c .before .before .before .node .given .1 in (
+      c .found-in .ensures ∙ ap (λ (x : List ℕ). foundIn x (slotOf x (s .args .key))) (c .before .node-at .ensures)
+          ∙ ap (foundAt (s .args .card .now) (s .args .key)) (sym e),
+      ap depthOf (sym e),
+    )
 
 pub found-at-spec : {M : Type 1} → statement M
 found-at-spec =
@@ -65,6 +74,7 @@ found-at-spec =
     cast-find-leaf
     find-leaf-requires
     enum-told
+    refused-requires
     enum-known-node
     node-at-requires
     found-in-requires

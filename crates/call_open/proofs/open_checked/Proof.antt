@@ -17,7 +17,7 @@ use Rattle.call_open.proofs.open_checked.Statement.{statement}
 use Rattle.call_open.proofs.open_checked.Tie as tie
 
 -- the block with the free nodes that the check left
-long : (c : tie.After-check-table) → length (placed 11 20 (c .before .before .before .before .before .args .state .now) (c .check-table .last .1 .1 .0)) ≡ 177
+long : (c : tie.After-check-table) → length (placed 11 20 (c .before .before .before .before .before .args .state .now) (c .check-table .last .1 .1 .0)) ≡ 178
 long c = let s = c .before .before .before .before .before in freed-length (s .args .state .now) (c .check-table .last .1 .1 .0) (s .pre .2) (c .check-table .kept .1 .1 .0)
 
 sub-check-table : tie.Need-sub-check-table

@@ -22,7 +22,7 @@ use Rattle.call_start.proofs.start_format.Statement.{statement}
 use Rattle.call_start.proofs.start_format.Tie as tie
 
 -- the block with its free nodes
-long : (c : tie.After-free-but-root) → length (placed 11 20 (c .before .before .before .before .before .before .before .args .state .now) (c .free-but-root .last .0)) ≡ 177
+long : (c : tie.After-free-but-root) → length (placed 11 20 (c .before .before .before .before .before .before .before .args .state .now) (c .free-but-root .last .0)) ≡ 178
 long c =
     let s = c .before .before .before .before .before .before .before in
     freed-length (s .args .state .now) (c .free-but-root .last .0) (c .before .before .before .before .if1 .left) (c .free-but-root .kept .0)

@@ -1,5 +1,5 @@
 -- `call_start::start_insert` meets its contract.
-use mathlib.Core.Path.{ap, sym, subst, _∙_}
+use mathlib.Core.Path.{ap₂, sym, subst, _∙_}
 use Prim.Native.Nat.{ℕ}
 use Rattle.state.specs.Steps.{Handed}
 use Rattle.state.specs.declared.Doing.the-variants.{Inserting}
@@ -9,7 +9,7 @@ use Rattle.state.specs.Contracts.{StartCall}
 use Rattle.state.proofs.ContractLaws.{start-no-state}
 use Rattle.call_start.specs.Refusals.{begunBy}
 use Rattle.call_start.specs.Starts.{insertOf}
-use Rattle.call_start.proofs.StartLaws.{start-due}
+use Rattle.call_start.proofs.StartLaws.{start-due, depth-bound}
 use borrow.Author.Needs.{needs}
 use Rattle.call_start.proofs.start_insert.Statement.{statement}
 use Rattle.call_start.proofs.start_insert.Tie as tie
@@ -20,11 +20,11 @@ returns c =
     start-no-state (s .args .state .now) (c .if1 .taken) (Inserting (s .args .key) (s .args .value) NotBegun)
     (insertOf (s .args .card .now) (memoryIn (s .args .state .now)) (s .args .key) (s .args .value))
 
-block-refusal-requires : tie.Need-block-refusal-requires
-block-refusal-requires c κs = search needs
+block-due-requires : tie.Need-block-due-requires
+block-due-requires c κs = search needs
 
 begin-requires : tie.Need-begin-requires
-begin-requires c κs = c .before .before .before .if1 .left
+begin-requires c κs = (c .before .before .before .if1 .left, rw (c .before .block-due .ensures .1) (depth-bound _ _ _ _))
 
 same-length : tie.Need-same-length
 same-length c = search needs
@@ -35,7 +35,7 @@ returns-2 c =
     let s = c .before .before .before .before .before .before .before .before .before in
     let doing = Inserting (s .args .key) (s .args .value) NotBegun in
     subst (λ (due : Handed). StartCall (s .args .state .now) (c .before .before .begin .last .0) (c .before .before .begin .result) doing due)
-    (ap (λ (r : ℕ). begunBy r (memoryIn (s .args .state .now)) doing) (c .before .before .before .before .block-refusal .ensures)
+    (ap₂ (λ (r depth : ℕ). begunBy r depth (memoryIn (s .args .state .now)) doing) (c .before .before .before .before .block-due .ensures .0) (c .before .before .before .before .block-due .ensures .1)
     ∙ sym (start-due (s .args .card .now) (memoryIn (s .args .state .now)) (s .args .key) doing _))
     (c .before .before .begin .ensures)
 
@@ -44,7 +44,7 @@ start-insert-spec =
     tie.close
     (tie.spec
     returns
-    block-refusal-requires
+    block-due-requires
     begin-requires
     same-length
     returns-2)

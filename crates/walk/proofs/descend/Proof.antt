@@ -2,48 +2,51 @@
 use borrow.Author.Needs.{needs}
 use native.Mathlib.Omega.{arith}
 use mathlib.Core.Path.{_≡_, refl, sym, _∙_, ap}
-use Prim.Native.Nat.{_-_, _≤_}
+use Prim.Native.Nat.{_+_, _-_, _≤_}
 use lib.ListN.{length}
 use Rattle.card.specs.Layout.{depthLimit}
 use Rattle.walk.specs.Descent.{rootPosition, wayFrom, endOf}
-use Rattle.walk.proofs.DescentLaws.{inside, node-words, taken-le, onward, onward-none, onward-on, byDown, way-outside, way-at}
-use Rattle.walk.proofs.DescentLaws.{stopped, end-nowhere, end-leaf, end-leaf-fault, end-past, end-fault}
+use Rattle.walk.proofs.DescentLaws.{inside, node-words, taken-le, onward, onward-none, onward-deeper, byDown, way-outside, way-at}
+use Rattle.walk.proofs.DescentLaws.{stopped, endBelow, end-start, end-nowhere, end-leaf, end-leaf-fault, end-past, end-fault}
 use Rattle.walk.specs.declared.Down.{Down}
-use Rattle.walk.specs.declared.Position.{Position}
 use Rattle.walk.proofs.descend.Statement.{statement}
 use Rattle.walk.proofs.descend.Tie as tie
 
 -- the rest of the way ends as the whole does
 abbrev Inv-loop : tie.InvT-loop
-Inv-loop card n key root seeks p₀ left₀ p left =
-    (left ≤ depthLimit) × (endOf card seeks (wayFrom card n key depthLimit (rootPosition root)) ≡ endOf card seeks (wayFrom card n key left p))
+Inv-loop card n key root seeks p₀ depth₀ p depth =
+    (depth ≤ depthLimit)
+    × (endOf card seeks (wayFrom card n key depthLimit (rootPosition root)) ≡ endBelow depth card seeks (wayFrom card n key (depthLimit - depth) p))
 
 abbrev μ-loop : tie.MeasureT-loop
-μ-loop card n key root seeks p₀ left₀ p left = left
+μ-loop card n key root seeks p₀ depth₀ p depth = depthLimit - depth
 
 -- where it ends, by what the node is to the key
 rest : (c : tie.After-go-down Inv-loop μ-loop) (d : Down) → c .go-down .result ≡ d
     → let s = c .before .before .before .before .before .before in
     let l = c .before .before .before .before .loop in
     endOf (s .args .card .now) (s .args .seeks) (wayFrom (s .args .card .now) (s .args .n) (s .args .key) depthLimit (rootPosition (s .args .root)))
-    ≡ endOf (s .args .card .now) (s .args .seeks) (byDown (l .p) (onward (s .args .card .now) (s .args .n) (s .args .key) (l .left)) d)
+    ≡ endBelow (l .depth) (s .args .card .now) (s .args .seeks)
+    (byDown (l .p) (onward (s .args .card .now) (s .args .n) (s .args .key) (depthLimit - l .depth)) d)
 rest c d g =
     let s = c .before .before .before .before .before .before in
-    c .before .before .before .before .loop .inv .1 ∙ ap (endOf (s .args .card .now) (s .args .seeks)) (way-at _ _ _ _ _ _ refl
+    let l = c .before .before .before .before .loop in
+    l .inv .1 ∙ ap (endBelow (l .depth) (s .args .card .now) (s .args .seeks)) (way-at _ _ _ _ _ _ refl
     (sym (c .before .before .before .is-outside .ensures) ∙ c .before .before .if1 .left) _ (c .before .node-at .ensures) d (sym (c .go-down .ensures) ∙ g))
 
 loop-holds : tie.Need-loop-holds Inv-loop μ-loop
 unfolding rootPosition
-loop-holds c = (search needs, refl)
+loop-holds c = (search needs, end-start _ _ _)
 
 is-outside-requires : tie.Need-is-outside-requires Inv-loop μ-loop
 is-outside-requires c κs = search needs
 
 returns : tie.Need-returns Inv-loop μ-loop
 returns c =
-    sym (c .before .before .loop .inv .1
-    ∙ ap (endOf (c .before .before .before .before .args .card .now) (c .before .before .before .before .args .seeks))
-    (way-outside _ _ _ _ _ _ refl (sym (c .before .is-outside .ensures) ∙ c .if1 .taken)) ∙ end-nowhere _ _)
+    let s = c .before .before .before .before in
+    let l = c .before .before .loop in
+    sym (l .inv .1 ∙ ap (endBelow (l .depth) (s .args .card .now) (s .args .seeks))
+    (way-outside _ _ _ _ _ _ refl (sym (c .before .is-outside .ensures) ∙ c .if1 .taken)) ∙ end-nowhere _ _ _)
 
 node-at-requires : tie.Need-node-at-requires Inv-loop μ-loop
 node-at-requires c κs = let k = inside _ _ (sym (c .before .is-outside .ensures) ∙ c .if1 .left) in (k .one, omega (arith, k .most), omega (arith, k .most))
@@ -60,7 +63,7 @@ enum-told : tie.Need-enum-told Inv-loop μ-loop
 enum-told c = search needs
 
 returns-2 : tie.Need-returns-2 Inv-loop μ-loop
-returns-2 c = sym (rest (c .before .before) _ (c .enum-told .given .1) ∙ end-nowhere _ _)
+returns-2 c = sym (rest (c .before .before) _ (c .enum-told .given .1) ∙ end-nowhere _ _ _)
 
 enum-told-2 : tie.Need-enum-told-2 Inv-loop μ-loop
 enum-told-2 c = search needs
@@ -70,16 +73,16 @@ stops-requires c κs = words (c .before .before .before)
 
 returns-3 : tie.Need-returns-3 Inv-loop μ-loop
 returns-3 c =
+    let s = c .before .before .before .before .before .before .before .before .before .before in
     sym (rest (c .before .before .before .before) _ (c .before .before .enum-told2 .given .1)
-    ∙ end-leaf-fault _ _ _ (stopped _ (c .before .before .before .before .before .before .before .before .before .before .args .seeks)
-    (c .before .before .before .before .before .before .before .before .loop .p) _ _
+    ∙ end-leaf-fault _ _ _ _ (stopped _ (s .args .seeks) (c .before .before .before .before .before .before .before .before .loop .p) _ _
     (c .before .before .before .before .before .node-at .ensures) (c .before .stops .ensures) ∙ c .if2 .taken))
 
 returns-4 : tie.Need-returns-4 Inv-loop μ-loop
 returns-4 c =
+    let s = c .before .before .before .before .before .before .before .before .before .before in
     sym (rest (c .before .before .before .before) _ (c .before .before .enum-told2 .given .1)
-    ∙ end-leaf _ _ _ (stopped _ (c .before .before .before .before .before .before .before .before .before .before .args .seeks)
-    (c .before .before .before .before .before .before .before .before .loop .p) _ _
+    ∙ end-leaf _ _ _ _ (stopped _ (s .args .seeks) (c .before .before .before .before .before .before .before .before .loop .p) _ _
     (c .before .before .before .before .before .node-at .ensures) (c .before .stops .ensures) ∙ c .if2 .left))
 
 enum-told-3 : tie.Need-enum-told-3 Inv-loop μ-loop
@@ -90,17 +93,17 @@ stops-requires-2 c κs = words (c .before .before .before)
 
 returns-5 : tie.Need-returns-5 Inv-loop μ-loop
 returns-5 c =
+    let s = c .before .before .before .before .before .before .before .before .before .before in
     sym (rest (c .before .before .before .before) _ (c .before .before .enum-told3 .given .1)
-    ∙ end-fault _ _ _ _ (stopped _ (c .before .before .before .before .before .before .before .before .before .before .args .seeks)
-    (c .before .before .before .before .before .before .before .before .loop .p) _ _
+    ∙ end-fault _ _ _ _ _ (stopped _ (s .args .seeks) (c .before .before .before .before .before .before .before .before .loop .p) _ _
     (c .before .before .before .before .before .node-at .ensures) (c .before .stops2 .ensures) ∙ c .if3 .taken))
 
 returns-6 : tie.Need-returns-6 Inv-loop μ-loop
 returns-6 c =
+    let s = c .before .before .before .before .before .before .before .before .before .before in
     sym (rest (c .before .before .before .before) _ (c .before .before .enum-told3 .given .1)
-    ∙ end-past _ _ _ _ (stopped _ (c .before .before .before .before .before .before .before .before .before .before .args .seeks)
-    (c .before .before .before .before .before .before .before .before .loop .p) _ _
-    (c .before .before .before .before .before .node-at .ensures) (c .before .stops2 .ensures) ∙ c .if3 .left) ∙ end-nowhere _ _)
+    ∙ end-past _ _ _ _ _ (stopped _ (s .args .seeks) (c .before .before .before .before .before .before .before .before .loop .p) _ _
+    (c .before .before .before .before .before .node-at .ensures) (c .before .stops2 .ensures) ∙ c .if3 .left) ∙ end-nowhere _ _ _)
 
 enum-known-index : tie.Need-enum-known-index Inv-loop μ-loop
 enum-known-index c = search needs
@@ -110,49 +113,60 @@ stops-requires-3 c κs = words (c .before .before .before .before)
 
 returns-7 : tie.Need-returns-7 Inv-loop μ-loop
 returns-7 c =
+    let s = c .before .before .before .before .before .before .before .before .before .before .before in
     sym (rest (c .before .before .before .before .before) _ (c .before .before .before .index .given .1)
-    ∙ end-fault _ _ _ _ (stopped _ (c .before .before .before .before .before .before .before .before .before .before .before .args .seeks)
-    (c .before .before .before .before .before .before .before .before .before .loop .p) _ _
-    (c .before .before .before .before .before .before .node-at .ensures) (c .before .stops3 .ensures) ∙ c .if4 .taken))
+    ∙ end-fault _ _ _ _ _ (stopped _ (s .args .seeks) (c .before .before .before .before .before .before .before .before .before .loop .p) _
+    _ (c .before .before .before .before .before .before .node-at .ensures) (c .before .stops3 .ensures) ∙ c .if4 .taken))
+
+is-too-deep-requires : tie.Need-is-too-deep-requires Inv-loop μ-loop
+is-too-deep-requires c κs = search needs
 
 returns-8 : tie.Need-returns-8 Inv-loop μ-loop
 returns-8 c =
-    let s = c .before .before .before .before .before .before .before .before .before .before .before .before in
-    sym (rest (c .before .before .before .before .before .before) _ (c .before .before .before .before .index .given .1)
-    ∙ end-past _ _ _ _
-    (stopped _ (s .args .seeks) (c .before .before .before .before .before .before .before .before .before .before .loop .p) _ _
-    (c .before .before .before .before .before .before .before .node-at .ensures) (c .before .before .stops3 .ensures) ∙ c .before .if4 .left)
-    ∙ ap (endOf (s .args .card .now) (s .args .seeks)) (onward-none _ _ _ _ _ (c .if5 .taken)) ∙ end-nowhere _ _)
+    let s = c .before .before .before .before .before .before .before .before .before .before .before .before .before in
+    let l = c .before .before .before .before .before .before .before .before .before .before .before .loop in
+    sym (rest (c .before .before .before .before .before .before .before) _ (c .before .before .before .before .before .index .given .1)
+    ∙ end-past _ _ _ _ _
+    (stopped _ (s .args .seeks) (l .p) _ _ (c .before .before .before .before .before .before .before .before .node-at .ensures)
+    (c .before .before .before .stops3 .ensures) ∙ c .before .before .if4 .left)
+    ∙ ap (endBelow (l .depth + 1) (s .args .card .now) (s .args .seeks))
+    (onward-none _ _ _ (depthLimit - l .depth) _ (omega (arith, c .before .is-too-deep .ensures .0 (c .if5 .taken))))
+    ∙ end-nowhere _ _ _)
 
-sub-left : tie.Need-sub-left Inv-loop μ-loop
-sub-left c = search needs
+add-depth : tie.Need-add-depth Inv-loop μ-loop
+add-depth c = search needs
 
 child-of-requires : tie.Need-child-of-requires Inv-loop μ-loop
 child-of-requires c κs =
-    let k = inside _ _ (sym (c .before .before .before .before .before .before .before .before .before .is-outside .ensures)
-    ∙ c .before .before .before .before .before .before .before .before .if1 .left) in (
+    let k = inside _ _ (sym (c .before .before .before .before .before .before .before .before .before .before .is-outside .ensures)
+    ∙ c .before .before .before .before .before .before .before .before .before .if1 .left) in (
       k .one,
       omega (arith, k .most),
-      taken-le _ _ _ _ (words (c .before .before .before .before .before .before .before))
-          (sym (c .before .before .before .before .before .before .go-down .ensures) ∙ c .before .before .before .before .index .given .1),
+      taken-le _ _ _ _ (words (c .before .before .before .before .before .before .before .before))
+          (sym (c .before .before .before .before .before .before .before .go-down .ensures) ∙ c .before .before .before .before .before .index .given .1),
     )
 
 loop-less : tie.Need-loop-less Inv-loop μ-loop
-loop-less c = search needs
+loop-less c =
+    omega (
+      arith,
+      c .before .before .before .before .before .before .before .before .before .before .before .before .loop .inv .0,
+      c .before .before .is-too-deep .ensures .1 (c .before .if5 .left),
+    )
 
 loop-again : tie.Need-loop-again Inv-loop μ-loop
 loop-again c =
-    let s = c .before .before .before .before .before .before .before .before .before .before .before .before .before in (
-      omega arith,
-      rest (c .before .before .before .before .before .before .before) _ (c .before .before .before .before .before .index .given .1)
-          ∙ end-past _ _ _ _
-          (stopped _ (s .args .seeks) (c .before .before .before .before .before .before .before .before .before .before .before .loop .p) _ _
-          (c .before .before .before .before .before .before .before .before .node-at .ensures) (c .before .before .before .stops3 .ensures)
-          ∙ c .before .before .if4 .left)
-          ∙ ap (endOf (s .args .card .now) (s .args .seeks)) (onward-on _ _ _ _ _ (c .before .if5 .left))
-          ∙ ap (λ (x : Position). endOf (s .args .card .now) (s .args .seeks) (wayFrom (s .args .card .now) (s .args .n) (s .args .key)
-          (c .before .before .before .before .before .before .before .before .before .before .before .loop .left - 1) x))
-          (sym (c .child-of .ensures)),
+    let s = c .before .before .before .before .before .before .before .before .before .before .before .before .before .before in
+    let l = c .before .before .before .before .before .before .before .before .before .before .before .before .loop in
+    let more = c .before .before .is-too-deep .ensures .1 (c .before .if5 .left) in (
+      omega (arith, l .inv .0, more),
+      rest (c .before .before .before .before .before .before .before .before) _ (c .before .before .before .before .before .before .index .given .1)
+          ∙ end-past _ _ _ _ _
+          (stopped _ (s .args .seeks) (l .p) _ _ (c .before .before .before .before .before .before .before .before .before .node-at .ensures)
+          (c .before .before .before .before .stops3 .ensures) ∙ c .before .before .before .if4 .left)
+          ∙ ap (endBelow (l .depth + 1) (s .args .card .now) (s .args .seeks))
+          (onward-deeper _ _ _ (l .depth) _ (l .inv .0) more
+          ∙ ap (wayFrom (s .args .card .now) (s .args .n) (s .args .key) (depthLimit - (l .depth + 1))) (sym (c .child-of .ensures))),
     )
 
 pub descend-spec : {M : Type 1} → statement M
@@ -179,8 +193,9 @@ descend-spec =
     enum-known-index
     stops-requires-3
     returns-7
+    is-too-deep-requires
     returns-8
-    sub-left
+    add-depth
     child-of-requires
     loop-less
     loop-again)

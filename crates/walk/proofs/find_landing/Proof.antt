@@ -23,8 +23,8 @@ enum-told-2 c = search needs
 returns-2 : tie.Need-returns-2
 returns-2 c = absurd (unsought-fault _ _ _ (sym (c .before .before .descend .ensures) ∙ c .enum-told2 .given .1))
 
-enum-known-p : tie.Need-enum-known-p
-enum-known-p c = search needs
+enum-known-position : tie.Need-enum-known-position
+enum-known-position c = search needs
 
 run-above-requires : tie.Need-run-above-requires
 run-above-requires c κs = search needs
@@ -32,8 +32,8 @@ run-above-requires c κs = search needs
 returns-3 : tie.Need-returns-3
 unfolding landingOf landedAt
 returns-3 c =
-    ap (LandingAt (c .before .before .p .given .0 .0 .node) (c .before .before .p .given .0 .0 .link)) (c .run-above .ensures)
-    ∙ sym (ap (landedAt _) (unsought-leaf _ _ _ (sym (c .before .before .before .before .descend .ensures) ∙ c .before .before .p .given .1)))
+    ap (LandingAt (c .before .before .position .given .0 .0 .node) (c .before .before .position .given .0 .0 .link)) (c .run-above .ensures)
+    ∙ sym (ap (landedAt _) (unsought-leaf _ _ _ _ (sym (c .before .before .before .before .descend .ensures) ∙ c .before .before .position .given .1)))
 
 pub find-landing-spec : {M : Type 1} → statement M
 find-landing-spec =
@@ -42,7 +42,7 @@ find-landing-spec =
     descend-requires
     enum-told
     enum-told-2
-    enum-known-p
+    enum-known-position
     run-above-requires
     returns
     returns-2

@@ -76,26 +76,30 @@ returns-4 c = sym (rest (c .before .before) _ (c .enum-told3 .given .1))
 enum-known-child : tie.Need-enum-known-child Inv-loop μ-loop
 enum-known-child c = search needs
 
+is-too-deep-requires : tie.Need-is-too-deep-requires Inv-loop μ-loop
+is-too-deep-requires c κs = search needs
+
 returns-5 : tie.Need-returns-5 Inv-loop μ-loop
 unfolding leafOf reachedAt deeper past
 returns-5 c =
-    let l = c .before .before .before .before .before .before .before .before .loop in
-    sym (rest (c .before .before .before .before) _ (c .before .before .child .given .1)
-    ∙ ap (λ (w : Way). deeper (l .depth) (leafOf (past (l .inv .1) w))) (onward-none _ _ _ (depthLimit - l .depth) _ (let e = c .if2 .taken in omega arith)))
+    let l = c .before .before .before .before .before .before .before .before .before .loop in
+    sym (rest (c .before .before .before .before .before) _ (c .before .before .before .child .given .1)
+    ∙ ap (λ (w : Way). deeper (l .depth) (leafOf (past (l .inv .1) w))) (onward-none _ _ _ (depthLimit - l .depth) _ (omega (arith, c .before .is-too-deep .ensures .0 (c .if2 .taken)))))
 
 add-depth : tie.Need-add-depth Inv-loop μ-loop
 add-depth c = search needs
 
 loop-less : tie.Need-loop-less Inv-loop μ-loop
-loop-less c = search needs
+loop-less c = omega (arith, c .before .before .before .before .before .before .before .before .before .loop .inv .0, c .before .is-too-deep .ensures .1 (c .if2 .left))
 
 loop-again : tie.Need-loop-again Inv-loop μ-loop
 loop-again c =
-    let l = c .before .before .before .before .before .before .before .before .loop in (
-      omega arith,
-      childAt (l .inv .1) (c .before .before .child .given .0 .0) (c .before .before .child .given .0 .1 .0),
+    let l = c .before .before .before .before .before .before .before .before .before .loop in
+    let more = c .before .is-too-deep .ensures .1 (c .if2 .left) in (
+      omega (arith, more),
+      childAt (l .inv .1) (c .before .before .before .child .given .0 .0) (c .before .before .before .child .given .0 .1 .0),
       refl,
-      rest (c .before .before .before .before) _ (c .before .before .child .given .1) ∙ leaf-on _ _ _ _ _ (l .depth) (l .inv .0) (c .if2 .left),
+      rest (c .before .before .before .before .before) _ (c .before .before .before .child .given .1) ∙ leaf-on _ _ _ _ _ (l .depth) (l .inv .0) more,
     )
 
 pub find-leaf-spec : {M : Type 1} → statement M
@@ -116,6 +120,7 @@ find-leaf-spec =
     enum-told-3
     returns-4
     enum-known-child
+    is-too-deep-requires
     returns-5
     add-depth
     loop-less

@@ -5,7 +5,9 @@
 use std::error::Error;
 use std::num::NonZeroU32;
 
-use ration_table::{card_words, FinalAnswer, InProgress, Opened, Progress, Refusal, StateBlock, Table, Update};
+use ration_table::{
+    card_words, FinalAnswer, InProgress, Opened, Progress, Refusal, StateBlock, Table, Update, WithDepth,
+};
 
 /// What is being done between two ticks.
 enum Work<'a> {
@@ -17,8 +19,8 @@ enum Work<'a> {
 enum Tick {
     Nothing,
     Stored,
-    /// The update is done; the value that its key had before.
-    Done(Option<u32>),
+    /// The update is done; the value that its key had before, and how many internal nodes its way down passed.
+    Done(WithDepth<Option<u32>>),
 }
 
 struct Controller<'a> {
@@ -61,7 +63,7 @@ impl<'a> Controller<'a> {
     }
 
     /// By what is on the card at this moment, within an update too.
-    fn find(&self, key: NonZeroU32) -> Result<Option<u32>, Refusal> {
+    fn find(&self, key: NonZeroU32) -> Result<WithDepth<Option<u32>>, Refusal> {
         match self.work.as_ref().expect("none only within a call") {
             Work::Idle(table) => table.find(key),
             Work::Updating(update) => update.find(key),
@@ -108,7 +110,8 @@ fn main() -> Result<(), Box<dyn Error>> {
         while let Tick::Stored = controller.tick()? {
             stores += 1;
         }
-        println!("ration {ration} put in with {stores} stores: {:?}", controller.find(key)?);
+        let WithDepth { answer, depth } = controller.find(key)?;
+        println!("ration {ration} put in with {stores} stores: {answer:?}, depth {depth}");
     }
 
     let key = NonZeroU32::new(13).ok_or(Refusal::KeyZero)?;
@@ -118,11 +121,11 @@ fn main() -> Result<(), Box<dyn Error>> {
             controller.tick()?;
         }
         controller = controller.abandon()?;
-        println!("ration 13, abandoned with {stores} of its 2 stores made: {:?}", controller.find(key)?);
+        println!("ration 13, abandoned with {stores} of its 2 stores made: {:?}", controller.find(key)?.answer);
     }
     controller.start_insert(key, 131)?;
     if let Tick::Done(held) = controller.tick()? {
-        println!("ration 13 put in once more, which changes nothing: {held:?}");
+        println!("ration 13 put in once more, which changes nothing: {:?}, depth {}", held.answer, held.depth);
     }
     if let Err(refusal) = controller.start_insert(key, 132).and_then(|()| controller.start_insert(key, 133)) {
         println!("a second update before the first is done: {refusal}");

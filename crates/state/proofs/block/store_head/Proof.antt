@@ -11,7 +11,7 @@ use Rattle.state.proofs.block.store_head.Statement.{statement}
 use Rattle.state.proofs.block.store_head.Tie as tie
 
 -- the block after what is being done was stored
-long : (c : tie.After-store-doing) → length (c .store-doing .last .0) ≡ 177
+long : (c : tie.After-store-doing) → length (c .store-doing .last .0) ≡ 178
 long c =
     let s = c .before .before .before .before in
     c .store-doing .kept .0

@@ -14,12 +14,12 @@ use Rattle.state.proofs.block.store_resting.Statement.{statement}
 use Rattle.state.proofs.block.store_resting.Tie as tie
 
 -- the block before its rows are cleared
-long : (c : tie.After-store-doing) → length (c .store-doing .last .0) ≡ 177
+long : (c : tie.After-store-doing) → length (c .store-doing .last .0) ≡ 178
 long c = let s = c .before .before .before in c .store-doing .kept .0 ∙ numbered-length (s .args .block .now) (s .args .n) (s .args .last) ∙ s .pre .0
 
 -- the rows
-span : (c : tie.After-store-doing) → length (take 146 (drop 31 (c .store-doing .last .0))) ≡ 146
-span c = omega (arith, long c, length-take 146 (drop 31 (c .store-doing .last .0)), length-drop 31 (c .store-doing .last .0))
+span : (c : tie.After-store-doing) → length (take 147 (drop 31 (c .store-doing .last .0))) ≡ 147
+span c = omega (arith, long c, length-take 147 (drop 31 (c .store-doing .last .0)), length-drop 31 (c .store-doing .last .0))
 
 cast-block : tie.Need-cast-block
 cast-block c = search needs
@@ -75,7 +75,7 @@ clear-words-requires c κs = search needs
 same-length : tie.Need-same-length
 same-length c =
     let s = c .before .before .before .before .before .before .before .before .before in
-    placed-length (c .before .before .before .before .before .before .store-doing .last .0) (c .before .before .clear-words .last .0) 31 146
+    placed-length (c .before .before .before .before .before .before .store-doing .last .0) (c .before .before .clear-words .last .0) 31 147
     (c .before .before .clear-words .kept .0 ∙ span (c .before .before .before .before .before .before))
     (omega (arith, long (c .before .before .before .before .before .before)))
     ∙ c .before .before .before .before .before .before .store-doing .kept .0 ∙ numbered-length (s .args .block .now) (s .args .n) (s .args .last)
@@ -85,7 +85,7 @@ returns c =
     let s = c .before .before .before .before .before .before .before .before .before in
     let block = s .args .block .now in
     let row = part block 11 20 in
-    let whole = ap (λ (b : List ℕ). placed 31 146 b (c .before .before .clear-words .last .0))
+    let whole = ap (λ (b : List ℕ). placed 31 147 b (c .before .before .clear-words .last .0))
     (c .before .before .before .before .before .before .store-doing .ensures)
     ∙ rest-stored block (c .before .before .clear-words .last .0) (s .args .n) (s .args .last) (s .args .doing) (s .pre .0)
     (c .before .before .clear-words .ensures ∙ ap (λ (k : ℕ). replicate k 0) (span (c .before .before .before .before .before .before))) in

@@ -1,4 +1,4 @@
--- `call_start::start_refusal` meets its contract.
+-- `call_start::start_due` meets its contract.
 use mathlib.Core.Path.{_≡_, ap, sym, _∙_}
 use mathlib.Core.Bool.{Bool}
 use Prim.Native.Nat.{_<_}
@@ -6,18 +6,18 @@ use native.Mathlib.Omega.{arith}
 use lib.ListN.{length}
 use Rattle.laws.specs.Cases.{pick}
 use Rattle.card.specs.Header.{Sized}
-use Rattle.walk.specs.Descent.{way, runOver}
+use Rattle.walk.specs.Descent.{way, runOver, depthOf}
 use Rattle.walk.specs.declared.Landing.{Landing}
 use Rattle.walk.specs.declared.Landing.the-variants.{Leaf as LandingAt}
-use Rattle.walk.proofs.DescentLaws.{unsought-fault}
+use Rattle.walk.proofs.DescentLaws.{unsought-refused, unsought-reached, unsought-fault}
 use Rattle.card_free.specs.NodeSet.{nodesOf}
 use Rattle.call_start.specs.Refusals.{roomWhere, landingRefusal}
-use Rattle.call_start.proofs.StartLaws.{start-sized, due-early, due-landing}
+use Rattle.call_start.proofs.StartLaws.{start-sized, due-early, due-landing, depth-early, depth-landing, no-depth}
 use Rattle.call_change.proofs.UpdateLaws.{Landed, landed, land-refused, land-leaf}
 use Rattle.call_change.specs.Updates.{landing, startRoom}
 use borrow.Author.Needs.{needs}
-use Rattle.call_start.proofs.start_refusal.Statement.{statement}
-use Rattle.call_start.proofs.start_refusal.Tie as tie
+use Rattle.call_start.proofs.start_due.Statement.{statement}
+use Rattle.call_start.proofs.start_due.Tie as tie
 
 whole : (c : tie.Else1) → Sized (length (c .before .before .before .before .args .card .now)) (c .before .before .before .before .args .nodes)
 whole c =
@@ -25,19 +25,19 @@ whole c =
     start-sized (s .args .card .now) (s .args .nodes) (s .args .idle) (s .args .key) (sym (c .before .early-refusal .ensures) ∙ c .if1 .left)
 
 -- the walk ended at the leaf where the update lands
-lands : (c : tie.After-p) → landing (c .before .before .before .before .before .before .before .before .args .card .now)
+lands : (c : tie.After-position) → landing (c .before .before .before .before .before .before .before .before .args .card .now)
     (c .before .before .before .before .before .before .before .before .args .nodes)
-    (c .before .before .before .before .before .before .before .before .args .key) ≡ LandingAt (c .p .given .0 .0 .node)
-    (c .p .given .0 .0 .link) (runOver (c .before .before .before .before .before .before .before .before .args .card .now) 0
+    (c .before .before .before .before .before .before .before .before .args .key) ≡ LandingAt (c .position .given .0 .0 .node)
+    (c .position .given .0 .0 .link) (runOver (c .before .before .before .before .before .before .before .before .args .card .now) 0
     (way (c .before .before .before .before .before .before .before .before .args .card .now)
     (c .before .before .before .before .before .before .before .before .args .nodes)
     (c .before .before .before .before .before .before .before .before .args .key) .inner))
 unfolding way
 lands c =
     let s = c .before .before .before .before .before .before .before .before in
-    land-leaf (s .args .card .now) (s .args .nodes) (s .args .key) (c .p .given .0 .0) (sym (c .before .before .descend .ensures) ∙ c .p .given .1)
+    land-leaf (s .args .card .now) (s .args .nodes) (s .args .key) (c .position .given .0 .0) _ (sym (c .before .before .descend .ensures) ∙ c .position .given .1)
 
-leaf : (c : tie.After-p) → Landed (c .before .before .before .before .before .before .before .before .args .nodes) (c .p .given .0 .0 .node) (c .p .given .0 .0 .link)
+leaf : (c : tie.After-position) → Landed (c .before .before .before .before .before .before .before .before .args .nodes) (c .position .given .0 .0 .node) (c .position .given .0 .0 .link)
 leaf c =
     let s = c .before .before .before .before .before .before .before .before in
     landed (s .args .card .now) (s .args .nodes) (s .args .key) _ _ _ (whole (c .before .before .before .before)) (lands c)
@@ -48,9 +48,11 @@ early-refusal-requires c κs = search needs
 returns : tie.Need-returns
 returns c =
     let s = c .before .before .before .before in
-    c .before .early-refusal .ensures
-    ∙ sym (due-early (s .args .card .now) (s .args .nodes) (s .args .idle) (s .args .key) (roomWhere (s .args .splits)
-    (s .args .card .now) (s .args .key) (nodesOf (s .args .free .now))) (λ z. c .if1 .taken (c .before .early-refusal .ensures ∙ z)))
+    let room = roomWhere (s .args .splits) (s .args .card .now) (s .args .key) (nodesOf (s .args .free .now)) in (
+      c .before .early-refusal .ensures
+          ∙ sym (due-early (s .args .card .now) (s .args .nodes) (s .args .idle) (s .args .key) room (λ z. c .if1 .taken (c .before .early-refusal .ensures ∙ z))),
+      sym (depth-early (s .args .card .now) (s .args .nodes) (s .args .idle) (s .args .key) (λ z. c .if1 .taken (c .before .early-refusal .ensures ∙ z))),
+    )
 
 shared-slice-read-descend : tie.Need-shared-slice-read-descend
 shared-slice-read-descend c = let h = whole (c .before) in let l : 4 < length (c .before .before .before .before .before .args .card .now) = omega (arith, h .words) in l
@@ -67,8 +69,8 @@ enum-told c = search needs
 enum-told-2 : tie.Need-enum-told-2
 enum-told-2 c = search needs
 
-enum-known-p : tie.Need-enum-known-p
-enum-known-p c = search needs
+enum-known-position : tie.Need-enum-known-position
+enum-known-position c = search needs
 
 has-room-where-requires : tie.Need-has-room-where-requires
 has-room-where-requires c κs =
@@ -87,30 +89,38 @@ unfolding way landingRefusal
 returns-2 c =
     let s = c .before .before .before .before .before .before .before .before in
     let room = roomWhere (s .args .splits) (s .args .card .now) (s .args .key) (nodesOf (s .args .free .now)) in
-    sym
-    (due-landing (s .args .card .now) (s .args .nodes) (s .args .idle) (s .args .key) room
-    (sym (c .before .before .before .before .before .early-refusal .ensures) ∙ c .before .before .before .before .if1 .left)
-    ∙ ap (λ (l : Landing). landingRefusal (room l) l) (land-refused (s .args .card .now) (s .args .nodes) (s .args .key) (sym (c .before .before .descend .ensures) ∙ c .enum-told .given .1)))
+    let none = sym (c .before .before .before .before .before .early-refusal .ensures) ∙ c .before .before .before .before .if1 .left in
+    let ends = sym (c .before .before .descend .ensures) ∙ c .enum-told .given .1 in (
+      sym
+          (due-landing (s .args .card .now) (s .args .nodes) (s .args .idle) (s .args .key) room none
+          ∙ ap (λ (l : Landing). landingRefusal (room l) l) (land-refused (s .args .card .now) (s .args .nodes) (s .args .key) ends)),
+      sym (depth-landing (s .args .card .now) (s .args .nodes) (s .args .idle) (s .args .key) none ∙ no-depth _ (unsought-refused _ _ ends)),
+    )
 
 returns-3 : tie.Need-returns-3
 unfolding way
 returns-3 c = absurd (unsought-fault _ _ _ (sym (c .before .before .descend .ensures) ∙ c .enum-told2 .given .1))
 
 returns-4 : tie.Need-returns-4
-unfolding landingRefusal startRoom
+unfolding landingRefusal startRoom way depthOf
 returns-4 c =
     let s = c .before .before .before .before .before .before .before .before .before .before .before in
     let room = roomWhere (s .args .splits) (s .args .card .now) (s .args .key) (nodesOf (s .args .free .now)) in
-    c .room-refusal .ensures
-    ∙ ap (λ (b : Bool). pick b 0 8) (c .before .has-room-where .ensures)
-    ∙ sym
-    (due-landing (s .args .card .now) (s .args .nodes) (s .args .idle) (s .args .key) room
-    (sym (c .before .before .before .before .before .before .before .before .early-refusal .ensures)
-    ∙ c .before .before .before .before .before .before .before .if1 .left)
-    ∙ ap (λ (l : Landing). landingRefusal (room l) l) (lands (c .before .before .before)))
+    let none = sym (c .before .before .before .before .before .before .before .before .early-refusal .ensures)
+    ∙ c .before .before .before .before .before .before .before .if1 .left in (
+      c .room-refusal .ensures
+          ∙ ap (λ (b : Bool). pick b 0 8) (c .before .has-room-where .ensures)
+          ∙ sym
+          (due-landing (s .args .card .now) (s .args .nodes) (s .args .idle) (s .args .key) room none
+          ∙ ap (λ (l : Landing). landingRefusal (room l) l) (lands (c .before .before .before))),
+      sym
+          (depth-landing (s .args .card .now) (s .args .nodes) (s .args .idle) (s .args .key) none
+          ∙ ap depthOf (unsought-reached (s .args .card .now) _ (c .before .before .before .position .given .0 .0) _
+          (sym (c .before .before .before .before .before .descend .ensures) ∙ c .before .before .before .position .given .1))),
+    )
 
-pub start-refusal-spec : {M : Type 1} → statement M
-start-refusal-spec =
+pub start-due-spec : {M : Type 1} → statement M
+start-due-spec =
     tie.close
     (tie.spec
     early-refusal-requires
@@ -120,7 +130,7 @@ start-refusal-spec =
     descend-requires
     enum-told
     enum-told-2
-    enum-known-p
+    enum-known-position
     has-room-where-requires
     room-refusal-requires
     returns-2
