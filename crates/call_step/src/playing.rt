@@ -32,15 +32,23 @@ ghost use Rattle.state.specs.Blocks.{over, wordsOf};
 ghost use Rattle.call_step.specs.StepBlocks.{idledBlock, settledWord, playedBlock};
 ghost use Rattle.call_step.specs.Contracts.{StepMade, HoldsTask};
 
-// "or gives the final answer and makes the state idle": the rows are left as they are.
-pub fn finish(state: &mut [u32])
+// Nothing is being done. The depth stays as it was kept at the start, since a final answer tells that one (document 02, W-203).
+fn clear_task(state: &mut [u32])
     requires { ⌜ length (now state) ≡ stateWords ⌝ }
-    ensures { λ _. ⌜ now (state .exit) ≡ idledBlock (now (state .entry)) ⌝ }
+    ensures { λ _. ⌜ now (state .exit) ≡ set (set (set (set (now (state .entry)) 2 0) 3 0) 4 0) 5 0 ⌝ }
 {
     state[DOING] = IDLE;
     state[FIRST] = 0;
     state[SECOND] = 0;
     state[THIRD] = 0;
+}
+
+// "or gives the final answer and makes the state idle": the rows are left as they are.
+pub fn finish(state: &mut [u32])
+    requires { ⌜ length (now state) ≡ stateWords ⌝ }
+    ensures { λ _. ⌜ now (state .exit) ≡ idledBlock (now (state .entry)) ⌝ }
+{
+    clear_task(state);
     state[MADE] = 0;
     state[COUNT] = 0;
     clear_cut(state);

@@ -15,7 +15,7 @@ use lib.Dec.{ltb, eqb}
 use borrow.Author.Tests.{lt-ltb, le-ltb, ne-eqb, eq-eqb}
 use Rattle.card.specs.Layout.{nodeAt, kindOf, keyWords, valueWords, children, routingKeys, leafPairs, runBelow, depthLimit}
 use Rattle.card.proofs.NodeLaws.{length-node, length-keyWords, get-keyWord, get-valueWord, children-le, length-routing, run-none}
-use Rattle.walk.specs.Descent.{passed, childIndex, childFor, firstEqual, slotOf, outside, lookIn, lookAt, downBy, downIn, rootPosition, childAt, childPosition, Way, nowhere}
+use Rattle.walk.specs.Descent.{passed, childIndex, childFor, firstEqual, slotOf, outside, lookIn, lookAt, downBy, downIn, passedWith, rootPosition, childAt, childPosition, Way, nowhere}
 use Rattle.walk.specs.Descent.{past, byLook, wayFrom, reachedAt, leafOf, runOver, besideAfter, besideAll, countOf, isFault, firstFault, ended, toList, endOf, searchOf}
 use Rattle.walk.specs.Descent.{seek, besideAt, besideBy}
 use Rattle.laws.specs.Cases.{pick}
@@ -307,6 +307,14 @@ told node key d e = subst (Told node key) e (told-by node key (lookIn node))
 
 pub taken-le : (node : List ℕ) (key i c : ℕ) → length node ≡ 24 → downIn node key ≡ DownInner i c → i ≤ 10
 taken-le node key i c len e = omega (arith, told node key (DownInner i c) e, index-le node key len)
+
+-- an internal node that the way goes on below is counted, tagged or not
+pub passed-inner : (node : List ℕ) (key i c depth : ℕ) → downIn node key ≡ DownInner i c → passedWith node depth ≡ depth + 1
+unfolding passedWith downIn lookIn downBy
+passed-inner node key i c depth e =
+    by-cases (ℕ-discrete (kindOf node) 1)
+    (λ k. let leaf : downIn node key ≡ DownLeaf = simp (eq-eqb (kindOf node) 1 k) in impossible (cc))
+    (λ k. rw (ne-eqb (kindOf node) 1 k) refl)
 
 -- the way from a position, by what the node there is to the key
 abbrev pub byDown : Position → (Position → Way) → Down → Way

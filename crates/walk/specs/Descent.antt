@@ -69,6 +69,11 @@ downBy node key IsInner = pick (eqb (length (children node)) 0) Childless (DownI
 unfoldable pub downIn : List ℕ → ℕ → Down
 downIn node key = downBy node key (lookIn node)
 
+-- how many internal nodes are passed when the way goes on below a node, where so many stand above it: document 02, W-203, "tagged ones
+-- counted"; a leaf is none
+unfoldable pub passedWith : List ℕ → ℕ → ℕ
+passedWith node depth = pick (eqb (kindOf node) 1) depth (depth + 1)
+
 -- the root: no parent
 unfoldable pub rootPosition : ℕ → Position
 rootPosition root = record { node = root; link = rootPlace; parent = 0; index = 0; above = 0 }

@@ -4,7 +4,7 @@ ghost use mathlib.Core.Bool.{true, false, _&&_};
 ghost use Prim.Native.Nat.{_+_, _*_, _≤_, _<_};
 ghost use lib.ListN.{length, getD};
 ghost use Rattle.card.specs.Layout.{greatestNodes, depthLimit, runBelow};
-ghost use Rattle.walk.specs.Descent.{childIndex, slotOf, outside, lookIn, downIn, childAt, isFault, rootPosition, wayFrom, leafOf, runOver, besideAfter, besideBy};
+ghost use Rattle.walk.specs.Descent.{childIndex, slotOf, outside, lookIn, downIn, childAt, isFault, passedWith, rootPosition, wayFrom, leafOf, runOver, besideAfter, besideBy};
 ghost use Rattle.walk.specs.Descent.{landingOf, endOf, seek};
 
 // The slot of a key in a leaf.
@@ -121,6 +121,18 @@ fn is_too_deep(depth: usize) -> bool
     depth == card::DEPTH_LIMIT
 }
 
+// How many internal nodes are passed when the way goes on below this node, "tagged ones counted" (document 02, W-203): all but a leaf.
+fn passed_with(node: &[u32], depth: usize) -> usize
+    requires { ⌜ (length (now node) ≡ 24) × (depth ≤ depthLimit) ⌝ }
+    ensures { λ r. ⌜ r ≡ passedWith (now (node .entry)) depth ⌝ }
+{
+    if node[0] == card::LEAF {
+        depth
+    } else {
+        depth + 1
+    }
+}
+
 // The leaf that a key leads to, and how many internal nodes stand above it; or refusal 9.
 pub enum Reached {
     Refused,
@@ -153,7 +165,7 @@ pub fn find_leaf(card: &[u32], n: usize, key: u32, root: usize) -> Reached
                 if is_too_deep(depth) {
                     return Reached::Refused;
                 }
-                depth += 1;
+                depth = passed_with(node, depth);
                 m = child;
             }
         }
@@ -215,7 +227,7 @@ pub fn find_beside(card: &[u32], n: usize, key: u32, root: usize) -> Beside
                     return Beside::Refused;
                 }
                 beside = beside_after(node, index, beside);
-                depth += 1;
+                depth = passed_with(node, depth);
                 m = child;
             }
         }
@@ -326,7 +338,7 @@ pub fn descend(card: &[u32], n: usize, key: u32, root: usize, seeks: bool) -> En
                 if is_too_deep(depth) {
                     return End::Refused;
                 }
-                depth += 1;
+                depth = passed_with(node, depth);
                 p = child_of(p, index, child);
             }
         }

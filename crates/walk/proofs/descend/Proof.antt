@@ -6,7 +6,7 @@ use Prim.Native.Nat.{_+_, _-_, _≤_}
 use lib.ListN.{length}
 use Rattle.card.specs.Layout.{depthLimit}
 use Rattle.walk.specs.Descent.{rootPosition, wayFrom, endOf}
-use Rattle.walk.proofs.DescentLaws.{inside, node-words, taken-le, onward, onward-none, onward-deeper, byDown, way-outside, way-at}
+use Rattle.walk.proofs.DescentLaws.{inside, node-words, taken-le, onward, onward-none, onward-deeper, byDown, passed-inner, way-outside, way-at}
 use Rattle.walk.proofs.DescentLaws.{stopped, endBelow, end-start, end-nowhere, end-leaf, end-leaf-fault, end-past, end-fault}
 use Rattle.walk.specs.declared.Down.{Down}
 use Rattle.walk.proofs.descend.Statement.{statement}
@@ -133,37 +133,37 @@ returns-8 c =
     (onward-none _ _ _ (depthLimit - l .depth) _ (omega (arith, c .before .is-too-deep .ensures .0 (c .if5 .taken))))
     ∙ end-nowhere _ _ _)
 
-add-depth : tie.Need-add-depth Inv-loop μ-loop
-add-depth c = search needs
+passed-with-requires : tie.Need-passed-with-requires Inv-loop μ-loop
+passed-with-requires c κs = (words (c .before .before .before .before .before .before .before .before), c .before .before .before .before .before .before .before .before .before .before .before .loop .inv .0)
+
+-- the node passed is counted
+passed : (c : tie.After-passed-with Inv-loop μ-loop) → c .passed-with .result ≡ c .before .before .before .before .before .before .before .before .before .before .before .before .loop .depth + 1
+passed c = c .passed-with .ensures ∙ passed-inner _ _ _ _ _ (sym (c .before .before .before .before .before .before .before .before .go-down .ensures) ∙ c .before .before .before .before .before .before .index .given .1)
 
 child-of-requires : tie.Need-child-of-requires Inv-loop μ-loop
 child-of-requires c κs =
-    let k = inside _ _ (sym (c .before .before .before .before .before .before .before .before .before .before .is-outside .ensures)
-    ∙ c .before .before .before .before .before .before .before .before .before .if1 .left) in (
+    let k = inside _ _ (sym (c .before .before .before .before .before .before .before .before .before .before .before .is-outside .ensures)
+    ∙ c .before .before .before .before .before .before .before .before .before .before .if1 .left) in (
       k .one,
       omega (arith, k .most),
-      taken-le _ _ _ _ (words (c .before .before .before .before .before .before .before .before))
-          (sym (c .before .before .before .before .before .before .before .go-down .ensures) ∙ c .before .before .before .before .before .index .given .1),
+      taken-le _ _ _ _ (words (c .before .before .before .before .before .before .before .before .before))
+          (sym (c .before .before .before .before .before .before .before .before .go-down .ensures) ∙ c .before .before .before .before .before .before .index .given .1),
     )
 
 loop-less : tie.Need-loop-less Inv-loop μ-loop
-loop-less c =
-    omega (
-      arith,
-      c .before .before .before .before .before .before .before .before .before .before .before .before .loop .inv .0,
-      c .before .before .is-too-deep .ensures .1 (c .before .if5 .left),
-    )
+loop-less c = omega (arith, passed (c .before), c .before .before .before .before .before .before .before .before .before .before .before .before .before .loop .inv .0, c .before .before .before .is-too-deep .ensures .1 (c .before .before .if5 .left))
 
 loop-again : tie.Need-loop-again Inv-loop μ-loop
 loop-again c =
-    let s = c .before .before .before .before .before .before .before .before .before .before .before .before .before .before in
-    let l = c .before .before .before .before .before .before .before .before .before .before .before .before .loop in
-    let more = c .before .before .is-too-deep .ensures .1 (c .before .if5 .left) in (
+    let s = c .before .before .before .before .before .before .before .before .before .before .before .before .before .before .before in
+    let l = c .before .before .before .before .before .before .before .before .before .before .before .before .before .loop in
+    let more = c .before .before .before .is-too-deep .ensures .1 (c .before .before .if5 .left) in
+    rw (passed (c .before)) (
       omega (arith, l .inv .0, more),
-      rest (c .before .before .before .before .before .before .before .before) _ (c .before .before .before .before .before .before .index .given .1)
+      rest (c .before .before .before .before .before .before .before .before .before) _ (c .before .before .before .before .before .before .before .index .given .1)
           ∙ end-past _ _ _ _ _
-          (stopped _ (s .args .seeks) (l .p) _ _ (c .before .before .before .before .before .before .before .before .before .node-at .ensures)
-          (c .before .before .before .before .stops3 .ensures) ∙ c .before .before .before .if4 .left)
+          (stopped _ (s .args .seeks) (l .p) _ _ (c .before .before .before .before .before .before .before .before .before .before .node-at .ensures)
+          (c .before .before .before .before .before .stops3 .ensures) ∙ c .before .before .before .before .if4 .left)
           ∙ ap (endBelow (l .depth + 1) (s .args .card .now) (s .args .seeks))
           (onward-deeper _ _ _ (l .depth) _ (l .inv .0) more
           ∙ ap (wayFrom (s .args .card .now) (s .args .n) (s .args .key) (depthLimit - (l .depth + 1))) (sym (c .child-of .ensures))),
@@ -195,7 +195,7 @@ descend-spec =
     returns-7
     is-too-deep-requires
     returns-8
-    add-depth
+    passed-with-requires
     child-of-requires
     loop-less
     loop-again)

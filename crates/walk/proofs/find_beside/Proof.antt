@@ -6,7 +6,7 @@ use Prim.Native.Nat.{ℕ, _+_, _-_, _≤_}
 use lib.ListN.{length}
 use Rattle.card.specs.Layout.{depthLimit}
 use Rattle.walk.specs.Descent.{childAt, rootPosition, Way, past, wayFrom, besideBy}
-use Rattle.walk.proofs.DescentLaws.{inside, node-words, told, taken-le, onward, onward-none, onward-deeper, byDown, way-outside, way-at, root-node}
+use Rattle.walk.proofs.DescentLaws.{inside, node-words, told, taken-le, onward, onward-none, onward-deeper, byDown, passed-inner, way-outside, way-at, root-node}
 use Rattle.walk.proofs.DescentLaws.{besideBelow, beside-start, beside-nowhere, beside-stop, beside-leaf, beside-past}
 use Rattle.walk.specs.declared.Down.{Down}
 use Rattle.walk.specs.declared.Position.{Position}
@@ -101,26 +101,31 @@ beside-after-requires c κs = (
   taken-le _ _ _ _ (words (c .before .before .before .before .before .before)) (sym (c .before .before .before .before .before .go-down .ensures) ∙ c .before .before .before .index .given .1),
 )
 
-add-depth : tie.Need-add-depth Inv-loop μ-loop
-add-depth c = search needs
+passed-with-requires : tie.Need-passed-with-requires Inv-loop μ-loop
+passed-with-requires c κs = (words (c .before .before .before .before .before .before .before), c .before .before .before .before .before .before .before .before .before .before .loop .inv .0)
+
+-- the node passed is counted
+passed : (c : tie.After-passed-with Inv-loop μ-loop) → c .passed-with .result ≡ c .before .before .before .before .before .before .before .before .before .before .before .loop .depth + 1
+passed c = c .passed-with .ensures ∙ passed-inner _ _ _ _ _ (sym (c .before .before .before .before .before .before .before .go-down .ensures) ∙ c .before .before .before .before .before .index .given .1)
 
 loop-less : tie.Need-loop-less Inv-loop μ-loop
-loop-less c = omega (arith, c .before .before .before .before .before .before .before .before .before .before .loop .inv .0, c .before .before .is-too-deep .ensures .1 (c .before .if2 .left))
+loop-less c = omega (arith, passed c, c .before .before .before .before .before .before .before .before .before .before .before .loop .inv .0, c .before .before .before .is-too-deep .ensures .1 (c .before .before .if2 .left))
 
 loop-again : tie.Need-loop-again Inv-loop μ-loop
 loop-again c =
-    let s = c .before .before .before .before .before .before .before .before .before .before .before .before in
-    let l = c .before .before .before .before .before .before .before .before .before .before .loop in
-    let more = c .before .before .is-too-deep .ensures .1 (c .before .if2 .left) in (
+    let s = c .before .before .before .before .before .before .before .before .before .before .before .before .before in
+    let l = c .before .before .before .before .before .before .before .before .before .before .before .loop in
+    let more = c .before .before .before .is-too-deep .ensures .1 (c .before .before .if2 .left) in
+    rw (passed c) (
       omega (arith, l .inv .0, more),
-      childAt (l .inv .1) (c .before .before .before .before .index .given .0 .0) (c .before .before .before .before .index .given .0 .1 .0),
+      childAt (l .inv .1) (c .before .before .before .before .before .index .given .0 .0) (c .before .before .before .before .before .index .given .0 .1 .0),
       refl,
-      rest (c .before .before .before .before .before .before) _ (c .before .before .before .before .index .given .1)
-          ∙ beside-past _ _ _ _ _ _ _ (l .inv .2) (c .before .before .before .before .before .before .before .node-at .ensures) _ _
+      rest (c .before .before .before .before .before .before .before) _ (c .before .before .before .before .before .index .given .1)
+          ∙ beside-past _ _ _ _ _ _ _ (l .inv .2) (c .before .before .before .before .before .before .before .before .node-at .ensures) _ _
           (told _ _ _
-          (sym (c .before .before .before .before .before .before .go-down .ensures) ∙ c .before .before .before .before .index .given .1))
-          (c .beside-after .ensures) _
-          ∙ ap (besideBelow (l .depth + 1) (s .args .card .now) (s .args .key) (c .beside-after .result))
+          (sym (c .before .before .before .before .before .before .before .go-down .ensures) ∙ c .before .before .before .before .before .index .given .1))
+          (c .before .beside-after .ensures) _
+          ∙ ap (besideBelow (l .depth + 1) (s .args .card .now) (s .args .key) (c .before .beside-after .result))
           (onward-deeper _ _ _ (l .depth) _ (l .inv .0) more),
     )
 
@@ -145,6 +150,6 @@ find-beside-spec =
     is-too-deep-requires
     returns-5
     beside-after-requires
-    add-depth
+    passed-with-requires
     loop-less
     loop-again)

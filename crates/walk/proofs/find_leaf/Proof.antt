@@ -2,10 +2,11 @@
 use borrow.Author.Needs.{needs}
 use native.Mathlib.Omega.{arith}
 use mathlib.Core.Path.{_≡_, refl, sym, _∙_, ap, ap₂}
-use Prim.Native.Nat.{ℕ, _-_, _≤_}
+use Prim.Native.Nat.{ℕ, _+_, _-_, _≤_}
+use lib.ListN.{length}
 use Rattle.card.specs.Layout.{depthLimit}
 use Rattle.walk.specs.Descent.{childAt, rootPosition, Way, past, wayFrom, reachedAt, leafOf}
-use Rattle.walk.proofs.DescentLaws.{inside, node-words, onward, onward-none, byDown, way-outside, way-at, root-node, deeper, deeper-none, leaf-on}
+use Rattle.walk.proofs.DescentLaws.{inside, node-words, onward, onward-none, byDown, passed-inner, way-outside, way-at, root-node, deeper, deeper-none, leaf-on}
 use Rattle.walk.specs.declared.Down.{Down}
 use Rattle.walk.specs.declared.Position.{Position}
 use Rattle.walk.specs.declared.Reached.the-variants.{Leaf as ReachedLeaf}
@@ -46,11 +47,15 @@ returns c =
 node-at-requires : tie.Need-node-at-requires Inv-loop μ-loop
 node-at-requires c κs = let k = inside _ _ (sym (c .before .is-outside .ensures) ∙ c .if1 .left) in (k .one, omega (arith, k .most), omega (arith, k .most))
 
-go-down-requires : tie.Need-go-down-requires Inv-loop μ-loop
-go-down-requires c κs =
+-- a node inside the card has all its words
+words : (c : tie.After-node-at Inv-loop μ-loop) → length (c .node-at .result .now) ≡ 24
+words c =
     let s = c .before .before .before .before .before in
     node-words (s .args .card .now) _ _ (s .pre .0)
     (sym (c .before .before .is-outside .ensures) ∙ c .before .if1 .left) _ (c .node-at .ensures)
+
+go-down-requires : tie.Need-go-down-requires Inv-loop μ-loop
+go-down-requires c κs = words (c)
 
 enum-told : tie.Need-enum-told Inv-loop μ-loop
 enum-told c = search needs
@@ -86,20 +91,34 @@ returns-5 c =
     sym (rest (c .before .before .before .before .before) _ (c .before .before .before .child .given .1)
     ∙ ap (λ (w : Way). deeper (l .depth) (leafOf (past (l .inv .1) w))) (onward-none _ _ _ (depthLimit - l .depth) _ (omega (arith, c .before .is-too-deep .ensures .0 (c .if2 .taken)))))
 
-add-depth : tie.Need-add-depth Inv-loop μ-loop
-add-depth c = search needs
+passed-with-requires : tie.Need-passed-with-requires Inv-loop μ-loop
+passed-with-requires c κs = (words (c .before .before .before .before .before .before), c .before .before .before .before .before .before .before .before .before .loop .inv .0)
+
+-- the node passed is counted
+passed : (c : tie.After-passed-with Inv-loop μ-loop) → c .passed-with .result ≡ c .before .before .before .before .before .before .before .before .before .before .loop .depth + 1
+passed c =
+    c .passed-with .ensures
+    ∙ passed-inner _ _ _ _ _ (sym (c .before .before .before .before .before .before .go-down .ensures) ∙ c .before .before .before .before .child .given .1)
 
 loop-less : tie.Need-loop-less Inv-loop μ-loop
-loop-less c = omega (arith, c .before .before .before .before .before .before .before .before .before .loop .inv .0, c .before .is-too-deep .ensures .1 (c .if2 .left))
+loop-less c =
+    omega (
+      arith,
+      passed c,
+      c .before .before .before .before .before .before .before .before .before .before .loop .inv .0,
+      c .before .before .is-too-deep .ensures .1 (c .before .if2 .left),
+    )
 
 loop-again : tie.Need-loop-again Inv-loop μ-loop
 loop-again c =
-    let l = c .before .before .before .before .before .before .before .before .before .loop in
-    let more = c .before .is-too-deep .ensures .1 (c .if2 .left) in (
-      omega (arith, more),
-      childAt (l .inv .1) (c .before .before .before .child .given .0 .0) (c .before .before .before .child .given .0 .1 .0),
+    let l = c .before .before .before .before .before .before .before .before .before .before .loop in
+    let more = c .before .before .is-too-deep .ensures .1 (c .before .if2 .left) in
+    rw (passed c) (
+      omega (arith, l .inv .0, more),
+      childAt (l .inv .1) (c .before .before .before .before .child .given .0 .0) (c .before .before .before .before .child .given .0 .1 .0),
       refl,
-      rest (c .before .before .before .before .before) _ (c .before .before .before .child .given .1) ∙ leaf-on _ _ _ _ _ (l .depth) (l .inv .0) more,
+      rest (c .before .before .before .before .before .before) _ (c .before .before .before .before .child .given .1)
+          ∙ leaf-on _ _ _ _ _ (l .depth) (l .inv .0) more,
     )
 
 pub find-leaf-spec : {M : Type 1} → statement M
@@ -122,6 +141,6 @@ find-leaf-spec =
     enum-known-child
     is-too-deep-requires
     returns-5
-    add-depth
+    passed-with-requires
     loop-less
     loop-again)
