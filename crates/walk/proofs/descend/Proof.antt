@@ -134,11 +134,17 @@ returns-8 c =
     ∙ end-nowhere _ _ _)
 
 passed-with-requires : tie.Need-passed-with-requires Inv-loop μ-loop
-passed-with-requires c κs = (words (c .before .before .before .before .before .before .before .before), c .before .before .before .before .before .before .before .before .before .before .before .loop .inv .0)
+passed-with-requires c κs = (
+  words (c .before .before .before .before .before .before .before .before),
+  c .before .before .before .before .before .before .before .before .before .before .before .loop .inv .0,
+)
 
 -- the node passed is counted
 passed : (c : tie.After-passed-with Inv-loop μ-loop) → c .passed-with .result ≡ c .before .before .before .before .before .before .before .before .before .before .before .before .loop .depth + 1
-passed c = c .passed-with .ensures ∙ passed-inner _ _ _ _ _ (sym (c .before .before .before .before .before .before .before .before .go-down .ensures) ∙ c .before .before .before .before .before .before .index .given .1)
+passed c =
+    c .passed-with .ensures
+    ∙ passed-inner _ _ _ _ _ (sym (c .before .before .before .before .before .before .before .before .go-down .ensures)
+    ∙ c .before .before .before .before .before .before .index .given .1)
 
 child-of-requires : tie.Need-child-of-requires Inv-loop μ-loop
 child-of-requires c κs =
@@ -151,7 +157,13 @@ child-of-requires c κs =
     )
 
 loop-less : tie.Need-loop-less Inv-loop μ-loop
-loop-less c = omega (arith, passed (c .before), c .before .before .before .before .before .before .before .before .before .before .before .before .before .loop .inv .0, c .before .before .before .is-too-deep .ensures .1 (c .before .before .if5 .left))
+loop-less c =
+    omega (
+      arith,
+      passed (c .before),
+      c .before .before .before .before .before .before .before .before .before .before .before .before .before .loop .inv .0,
+      c .before .before .before .is-too-deep .ensures .1 (c .before .before .if5 .left),
+    )
 
 loop-again : tie.Need-loop-again Inv-loop μ-loop
 loop-again c =

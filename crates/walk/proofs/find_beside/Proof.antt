@@ -106,10 +106,18 @@ passed-with-requires c κs = (words (c .before .before .before .before .before .
 
 -- the node passed is counted
 passed : (c : tie.After-passed-with Inv-loop μ-loop) → c .passed-with .result ≡ c .before .before .before .before .before .before .before .before .before .before .before .loop .depth + 1
-passed c = c .passed-with .ensures ∙ passed-inner _ _ _ _ _ (sym (c .before .before .before .before .before .before .before .go-down .ensures) ∙ c .before .before .before .before .before .index .given .1)
+passed c =
+    c .passed-with .ensures ∙ passed-inner _ _ _ _ _ (sym (c .before .before .before .before .before .before .before .go-down .ensures)
+    ∙ c .before .before .before .before .before .index .given .1)
 
 loop-less : tie.Need-loop-less Inv-loop μ-loop
-loop-less c = omega (arith, passed c, c .before .before .before .before .before .before .before .before .before .before .before .loop .inv .0, c .before .before .before .is-too-deep .ensures .1 (c .before .before .if2 .left))
+loop-less c =
+    omega (
+      arith,
+      passed c,
+      c .before .before .before .before .before .before .before .before .before .before .before .loop .inv .0,
+      c .before .before .before .is-too-deep .ensures .1 (c .before .before .if2 .left),
+    )
 
 loop-again : tie.Need-loop-again Inv-loop μ-loop
 loop-again c =
