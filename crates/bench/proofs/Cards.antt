@@ -1,5 +1,6 @@
 -- The starred bench cards, computed: each card once as literal words, worked from the one before, and the rows read off.
 use mathlib.Core.Path.{_≡_, refl, ap, _∙_}
+use Rattle.card.specs.Layout.{greatestNodes}
 use mathlib.Core.List.{List, [], _∷_, _++_}
 use Prim.Native.Nat.{ℕ}
 use lib.ListN.{getD}
@@ -162,7 +163,7 @@ pub rowB-is : rowB ≡ (70 ∷ 0 ∷ 70 ∷ 7 ∷ 2 ∷ said absent)
 unfolding rowB computing
 rowB-is = refl
 
-cutB-absent : foundReply (findOf cutB 7) ≡ absent
+cutB-absent : foundReply (findOf greatestNodes cutB 7) ≡ absent
 unfolding computing
 cutB-absent = refl
 
@@ -274,29 +275,29 @@ pub rowL2leaf-is : rowL2leaf ≡ (6 ∷ 11 ∷ 12 ∷ [])
 unfolding rowL2leaf
 rowL2leaf-is = ap (λ b. pairKeys (leafPairs (nodeAt (b .card) 2))) worked-L2 ∙ rowL2leaf-held
 
-pub rowCutOpened-held : said (startReply (openOf (cutI heldS) .begun)) ≡ said idle
+pub rowCutOpened-held : said (startReply (openOf greatestNodes (cutI heldS) .begun)) ≡ said idle
 unfolding computing
 rowCutOpened-held = refl
 
 pub rowCutOpened-is : rowCutOpened ≡ said idle
 unfolding rowCutOpened
-rowCutOpened-is = ap (λ b. said (startReply (openOf (cutI b) .begun))) worked-S ∙ rowCutOpened-held
+rowCutOpened-is = ap (λ b. said (startReply (openOf greatestNodes (cutI b) .begun))) worked-S ∙ rowCutOpened-held
 
-pub rowCutAbsent-held : said (foundReply (findOf (cutI heldS) 12)) ≡ said absent
+pub rowCutAbsent-held : said (foundReply (findOf greatestNodes (cutI heldS) 12)) ≡ said absent
 unfolding computing
 rowCutAbsent-held = refl
 
 pub rowCutAbsent-is : rowCutAbsent ≡ said absent
 unfolding rowCutAbsent
-rowCutAbsent-is = ap (λ b. said (foundReply (findOf (cutI b) 12))) worked-S ∙ rowCutAbsent-held
+rowCutAbsent-is = ap (λ b. said (foundReply (findOf greatestNodes (cutI b) 12))) worked-S ∙ rowCutAbsent-held
 
-pub rowCutHeld-held : said (foundReply (findOf (splitI heldS) 12)) ≡ said (holds 120)
+pub rowCutHeld-held : said (foundReply (findOf greatestNodes (splitI heldS) 12)) ≡ said (holds 120)
 unfolding computing
 rowCutHeld-held = refl
 
 pub rowCutHeld-is : rowCutHeld ≡ said (holds 120)
 unfolding rowCutHeld
-rowCutHeld-is = ap (λ b. said (foundReply (findOf (splitI b) 12))) worked-S ∙ rowCutHeld-held
+rowCutHeld-is = ap (λ b. said (foundReply (findOf greatestNodes (splitI b) 12))) worked-S ∙ rowCutHeld-held
 
 -- two rows that are right, one under the other
 beside : {x y : List ℕ} → {xs ys : List (List ℕ)} → x ≡ y → xs ≡ ys → x ∷ xs ≡ y ∷ ys

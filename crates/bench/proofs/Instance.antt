@@ -2,6 +2,7 @@
 -- goes in the middle of its split. "an insert's 73rd where its leaf was full at the start": with 40 of its 73 stores made the pair
 -- is out, with all 73 it is in.
 use mathlib.Core.Path.{_≡_, refl, ap, subst, _∙_}
+use Rattle.card.specs.Layout.{greatestNodes}
 use mathlib.Core.Bool.{Bool, true, false}
 use mathlib.Core.List.{List, [], _∷_, _++_}
 use Prim.Native.Nat.{ℕ, zero, suc, _*_}
@@ -63,13 +64,13 @@ isReady (Value v) = false
 isReady (Refused r) = false
 
 -- so many steps store a word each, and the next one answers "ready"
-unfoldable pub readyIn : ℕ → World rationTable → Bool
-readyIn zero w = isReady (stepOf (w .card) (w .state) .answer)
-readyIn (suc k) w = pick (isStored (stepOf (w .card) (w .state) .answer)) (readyIn k (happens rationTable step w)) false
+unfoldable pub readyIn : ℕ → World (rationTable greatestNodes) → Bool
+readyIn zero w = isReady (stepOf greatestNodes (w .card) (w .state) .answer)
+readyIn (suc k) w = pick (isStored (stepOf greatestNodes (w .card) (w .state) .answer)) (readyIn k (happens (rationTable greatestNodes) step w)) false
 
-unfoldable pub after : ℕ → World rationTable → World rationTable
-after zero w = happens rationTable step w
-after (suc k) w = after k (happens rationTable step w)
+unfoldable pub after : ℕ → World (rationTable greatestNodes) → World (rationTable greatestNodes)
+after zero w = happens (rationTable greatestNodes) step w
+after (suc k) w = after k (happens (rationTable greatestNodes) step w)
 
 not-true : _≡_ {A = Bool} false true → ⊥
 not-true z = let k : _≡_ {A = ℕ} 0 1 = cc in omega arith
@@ -83,22 +84,22 @@ ready-is (Value v) e = absurd (not-true e)
 ready-is (Refused r) e = absurd (not-true e)
 
 -- as the demands have it: steps left uncut, and the one that replies "ready"
-pub to-ready : (k : ℕ) (w : World rationTable) → readyIn k w ≡ true
-    → LeftUncut rationTable (replicate k step) w × (replyTo rationTable step (run rationTable (replicate k step) w) ≡ ready)
-    × (happens rationTable step (run rationTable (replicate k step) w) ≡ after k w)
+pub to-ready : (k : ℕ) (w : World (rationTable greatestNodes)) → readyIn k w ≡ true
+    → LeftUncut (rationTable greatestNodes) (replicate k step) w × (replyTo (rationTable greatestNodes) step (run (rationTable greatestNodes) (replicate k step) w) ≡ ready)
+    × (happens (rationTable greatestNodes) step (run (rationTable greatestNodes) (replicate k step) w) ≡ after k w)
 unfolding readyIn after replyTo stepReply LeftUncut run
 to-ready zero w e = (tt, ap stepReply (ready-is _ e), refl)
 to-ready (suc k) w e =
-    bool-cases (isStored (stepOf (w .card) (w .state) .answer))
-    (λ q. let r = to-ready k (happens rationTable step w) (rw q at e) in ((tt, r .0), r .1, r .2))
+    bool-cases (isStored (stepOf greatestNodes (w .card) (w .state) .answer))
+    (λ q. let r = to-ready k (happens (rationTable greatestNodes) step w) (rw q at e) in ((tt, r .0), r .1, r .2))
     (λ q. absurd (not-true (rw q at e)))
 
 -- 152 words of anything, being formatted, and the card 153 steps on
 abbrev pub anyWords : List ℕ
 anyWords = replicate 152 9
 
-abbrev pub beingFormatted : World rationTable
-beingFormatted = record { card = anyWords; state = formatOf anyWords .memory }
+abbrev pub beingFormatted : World (rationTable greatestNodes)
+beingFormatted = record { card = anyWords; state = formatOf greatestNodes anyWords .memory }
 
 -- an insert that finds an empty slot: its start, its two stores and its final answer
 abbrev pub putNow : ℕ → List Event
@@ -109,7 +110,7 @@ abbrev pub cutAfter : ℕ → List Event
 cutAfter k = putNow 1 ++ putNow 2 ++ putNow 3 ++ putNow 4 ++ putNow 5 ++ putNow 6 ++ putNow 7 ++ putNow 8 ++ putNow 9 ++ putNow 10 ++ putNow 11 ++ insert 12 120 ∷ (replicate k step ++ cut ∷ [])
 
 -- formatted: "root node 1, an empty leaf, all else 0"
-abbrev pub formatted : World rationTable
+abbrev pub formatted : World (rationTable greatestNodes)
 formatted = record { card = 1 ∷ 6 ∷ 8 ∷ 24 ∷ 1 ∷ 0 ∷ 0 ∷ 0 ∷ 1 ∷ replicate 143 0; state = resting 6 (withoutAll (1 ∷ []) (allNodes 6)) formattedRoot Idle }
 
 -- the pairs of S, the last put in first
@@ -118,8 +119,8 @@ pairsTo11 = (11, 110) ∷ (10, 100) ∷ (9, 90) ∷ (8, 80) ∷ (7, 70) ∷ (6, 
 
 -- computed: 153 stores and "ready"; what formatting leaves; the book with the cut after 40 and after 73 of the stores
 pub computed : (readyIn 153 beingFormatted ≡ true) × (after 153 beingFormatted ≡ formatted)
-    × (kept rationTable (cutAfter 40) formatted (book [] empty) ≡ book pairsTo11 empty)
-    × (kept rationTable (cutAfter 73) formatted (book [] empty) ≡ book ((12, 120) ∷ pairsTo11) empty)
+    × (kept (rationTable greatestNodes) (cutAfter 40) formatted (book [] empty) ≡ book pairsTo11 empty)
+    × (kept (rationTable greatestNodes) (cutAfter 73) formatted (book [] empty) ≡ book ((12, 120) ∷ pairsTo11) empty)
 unfolding readyIn isStored isReady after kept feed told outcome replyTo fedStart fedStep entered added Option·elim among stepReply
     startReply happens stepOf stepFormat formatStore formattedWord formatOf stepFinal nodesOfLength formattingFrom resting idled allNodes
     headerRefusal stepHeld isIdle stepBegin stepPrepared landing landingOf landedAt way wayFrom byLook past outside lookIn lookAt runOver nodeAt children
@@ -134,19 +135,19 @@ unfolding readyIn isStored isReady after kept feed told outcome replyTo fedStart
     decidedRepair decideAt decideTagged decideUnderfull decideSiblings decideTogether togetherAt
 computed = (refl, refl, refl, refl)
 
-begins : Begins rationTable formatted []
+begins : Begins (rationTable greatestNodes) formatted []
 unfolding formatOf nodesOfLength startReply
 begins =
     let r = to-ready 153 beingFormatted (computed .0) in
-    subst (λ w. Begins rationTable w []) (r .2 ∙ computed .1) (from-format anyWords (replicate 153 step) refl (r .0) (r .1))
+    subst (λ w. Begins (rationTable greatestNodes) w []) (r .2 ∙ computed .1) (from-format anyWords (replicate 153 step) refl (r .0) (r .1))
 
 -- the demand at these two lists
 abbrev pub Survived : ℕ → Type 0
-Survived k = Survives rationTable (run rationTable (cutAfter k) formatted .card) (kept rationTable (cutAfter k) formatted (book [] empty) .held)
+Survived k = Survives (rationTable greatestNodes) (run (rationTable greatestNodes) (cutAfter k) formatted .card) (kept (rationTable greatestNodes) (cutAfter k) formatted (book [] empty) .held)
 
 pub survives-at-40 : Survived 40
 survives-at-40 =
-    demand-3 formatted [] begins (cutAfter 40) (
+    demand-3 greatestNodes formatted [] begins (cutAfter 40) (
       omega arith,
       (
         omega arith,
@@ -159,7 +160,7 @@ survives-at-40 =
 
 pub survives-at-73 : Survived 73
 survives-at-73 =
-    demand-3 formatted [] begins (cutAfter 73) (
+    demand-3 greatestNodes formatted [] begins (cutAfter 73) (
       omega arith,
       (
         omega arith,
@@ -171,10 +172,10 @@ survives-at-73 =
     )
 
 -- what it says of key 12 then: with no step of the repair made, out or in
-pub out-at-40 : rationTable .find (run rationTable (cutAfter 40) formatted .card) 12 ≡ absent
+pub out-at-40 : rationTable greatestNodes .find (run (rationTable greatestNodes) (cutAfter 40) formatted .card) 12 ≡ absent
 unfolding dictionary LeftUncut run
 out-at-40 = survives-at-40 .finds [] tt 12 (omega arith) (omega arith) ∙ ap (λ b. dictionary (lookup 12 (b .held))) (computed .2)
 
-pub in-at-73 : rationTable .find (run rationTable (cutAfter 73) formatted .card) 12 ≡ holds 120
+pub in-at-73 : rationTable greatestNodes .find (run (rationTable greatestNodes) (cutAfter 73) formatted .card) 12 ≡ holds 120
 unfolding dictionary LeftUncut run
 in-at-73 = survives-at-73 .finds [] tt 12 (omega arith) (omega arith) ∙ ap (λ b. dictionary (lookup 12 (b .held))) (computed .3)

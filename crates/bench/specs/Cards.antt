@@ -1,6 +1,7 @@
 -- Document 01, "Bench cards": the starred cards as one table, computed through the definitions that the calls are proved to meet.
 -- "Keys k carry value 10 × k. L is N = 4 fresh; S is N = 6 fresh with keys 1 to 11 inserted."
 use mathlib.Core.Path.{_≡_}
+use Rattle.card.specs.Layout.{greatestNodes}
 use mathlib.Core.List.{List, [], _∷_, _++_}
 use Prim.Native.Nat.{ℕ, zero, suc, _+_, _*_}
 use lib.ListN.{getD, replicate}
@@ -39,25 +40,25 @@ onAnswer next s n (Refused r) = bench s n (Refused r)
 -- steps until a final answer or a refusal, at most so many
 unfoldable pub drive : ℕ → Bench → Bench
 drive zero b = b
-drive (suc k) b = onAnswer (drive k) (stepOf (b .card) (b .memory)) (b .stores) (stepOf (b .card) (b .memory) .answer)
+drive (suc k) b = onAnswer (drive k) (stepOf greatestNodes (b .card) (b .memory)) (b .stores) (stepOf greatestNodes (b .card) (b .memory) .answer)
 
 abbrev pub begin : List ℕ → Handed → Bench
 begin card b = record { card = card; memory = b .memory; stores = 0; answer = Stored 0 }
 
 -- a card of n nodes, formatted
 unfoldable pub fresh : ℕ → Bench
-fresh n = drive 20000 (begin (replicate (8 + 24 * n) 9) (formatOf (replicate (8 + 24 * n) 9)))
+fresh n = drive 20000 (begin (replicate (8 + 24 * n) 9) (formatOf greatestNodes (replicate (8 + 24 * n) 9)))
 
 unfoldable pub insertWhole : ℕ → ℕ → Bench → Bench
-insertWhole k v b = drive 700 (begin (b .card) (insertOf (b .card) (b .memory) k v))
+insertWhole k v b = drive 700 (begin (b .card) (insertOf greatestNodes (b .card) (b .memory) k v))
 
 unfoldable pub deleteWhole : ℕ → Bench → Bench
-deleteWhole k b = drive 700 (begin (b .card) (deleteOf (b .card) (b .memory) k))
+deleteWhole k b = drive 700 (begin (b .card) (deleteOf greatestNodes (b .card) (b .memory) k))
 
 -- so many steps of an insert, and then power goes: the card as it is
 unfoldable pub steps : ℕ → Bench → Bench
 steps zero b = b
-steps (suc k) b = steps k (bench (stepOf (b .card) (b .memory)) (b .stores) (Stored 0))
+steps (suc k) b = steps k (bench (stepOf greatestNodes (b .card) (b .memory)) (b .stores) (Stored 0))
 
 unfoldable pub upto : ℕ → Bench → Bench
 upto zero b = b
@@ -87,23 +88,23 @@ cardL2 = deleteWhole 9 (deleteWhole 10 (deleteWhole 8 (deleteWhole 7 cardK)))
 
 -- one store of card B's insert, then power goes
 abbrev pub cutB : List ℕ
-cutB = steps 1 (begin (cardL .card) (insertOf (cardL .card) (cardL .memory) 7 70)) .card
+cutB = steps 1 (begin (cardL .card) (insertOf greatestNodes (cardL .card) (cardL .memory) 7 70)) .card
 
 -- B again, whole, on the card opened after that cut
 abbrev pub againB : Bench
-againB = insertWhole 7 70 (begin cutB (openOf cutB))
+againB = insertWhole 7 70 (begin cutB (openOf greatestNodes cutB))
 
 -- the card in the middle of card I's split: 40 of its 73 stores, then power goes
 abbrev pub cutI : Bench → List ℕ
-cutI b = steps 40 (begin (b .card) (insertOf (b .card) (b .memory) 12 120)) .card
+cutI b = steps 40 (begin (b .card) (insertOf greatestNodes (b .card) (b .memory) 12 120)) .card
 
 -- the same after all 73
 abbrev pub splitI : Bench → List ℕ
-splitI b = steps 73 (begin (b .card) (insertOf (b .card) (b .memory) 12 120)) .card
+splitI b = steps 73 (begin (b .card) (insertOf greatestNodes (b .card) (b .memory) 12 120)) .card
 
 -- A: L, find 7: absent
 unfoldable pub rowA : List ℕ
-rowA = said (foundReply (findOf (cardL .card) 7))
+rowA = said (foundReply (findOf greatestNodes (cardL .card) 7))
 
 -- B: L, insert 7: word 20 gets 70, then word 9 gets 7; two stores, absent
 unfoldable pub rowB : List ℕ
@@ -111,7 +112,7 @@ rowB = getD cutB 20 0 ∷ getD cutB 9 0 ∷ getD (cardB .card) 20 0 ∷ getD (ca
 
 -- C: B cut after one store: find 7 absent
 unfoldable pub rowC : List ℕ
-rowC = said (foundReply (findOf cutB 7))
+rowC = said (foundReply (findOf greatestNodes cutB 7))
 
 -- D: then B whole, insert 7 with 71: answers 70, no store
 unfoldable pub rowD : List ℕ
@@ -127,32 +128,32 @@ rowF = deleteWhole 7 cardL .stores ∷ said (stepReply (deleteWhole 7 cardL .ans
 
 -- G: 104 words may be formatted; 80, 103, 105 are refused 1. 14,408 may; 14,432 not
 unfoldable pub rowG104 : List ℕ
-rowG104 = said (startReply (formatOf (replicate 104 0) .begun))
+rowG104 = said (startReply (formatOf greatestNodes (replicate 104 0) .begun))
 
 unfoldable pub rowG80 : List ℕ
-rowG80 = said (startReply (formatOf (replicate 80 0) .begun))
+rowG80 = said (startReply (formatOf greatestNodes (replicate 80 0) .begun))
 
 unfoldable pub rowG103 : List ℕ
-rowG103 = said (startReply (formatOf (replicate 103 0) .begun))
+rowG103 = said (startReply (formatOf greatestNodes (replicate 103 0) .begun))
 
 unfoldable pub rowG105 : List ℕ
-rowG105 = said (startReply (formatOf (replicate 105 0) .begun))
+rowG105 = said (startReply (formatOf greatestNodes (replicate 105 0) .begun))
 
 unfoldable pub rowG14408 : List ℕ
-rowG14408 = said (startReply (formatOf (replicate 14408 0) .begun))
+rowG14408 = said (startReply (formatOf greatestNodes (replicate 14408 0) .begun))
 
 unfoldable pub rowG14432 : List ℕ
-rowG14432 = said (startReply (formatOf (replicate 14432 0) .begun))
+rowG14432 = said (startReply (formatOf greatestNodes (replicate 14432 0) .begun))
 
 -- H: key 0 refused 6; 4,294,967,295 accepted
 unfoldable pub rowHinsert : List ℕ
-rowHinsert = said (startReply (insertOf (cardL .card) (cardL .memory) 0 1 .begun))
+rowHinsert = said (startReply (insertOf greatestNodes (cardL .card) (cardL .memory) 0 1 .begun))
 
 unfoldable pub rowHfind : List ℕ
-rowHfind = said (foundReply (findOf (cardL .card) 0))
+rowHfind = said (foundReply (findOf greatestNodes (cardL .card) 0))
 
 unfoldable pub rowHgreatest : List ℕ
-rowHgreatest = said (startReply (insertOf (cardL .card) (cardL .memory) 4294967295 1 .begun))
+rowHgreatest = said (startReply (insertOf greatestNodes (cardL .card) (cardL .memory) 4294967295 1 .begun))
 
 -- I: S, insert 12: 73 stores, leaves 2 and 3, root 4, routing key 7
 unfoldable pub rowI : List ℕ
@@ -160,7 +161,7 @@ rowI = cardI .stores ∷ getD (cardI .card) 4 0 ∷ (children (nodeAt (cardI .ca
 
 -- J: with N = 5, refused 8
 unfoldable pub rowJ : List ℕ
-rowJ = said (startReply (insertOf (upto 11 (fresh 5) .card) (upto 11 (fresh 5) .memory) 12 120 .begun))
+rowJ = said (startReply (insertOf greatestNodes (upto 11 (fresh 5) .card) (upto 11 (fresh 5) .memory) 12 120 .begun))
 
 -- K: after I, delete 1 to 5: the last takes 74 stores, leaves 5 (6 to 9) and 6 (10 to 12), root 1, routing key 10
 unfoldable pub rowK : List ℕ
@@ -181,13 +182,13 @@ rowL2leaf = pairKeys (leafPairs (nodeAt (cardL2 .card) 2))
 
 -- power gone in the middle of I's split: opened idle, 12 absent; after its 73rd store: held
 unfoldable pub rowCutOpened : List ℕ
-rowCutOpened = said (startReply (openOf (cutI cardS) .begun))
+rowCutOpened = said (startReply (openOf greatestNodes (cutI cardS) .begun))
 
 unfoldable pub rowCutAbsent : List ℕ
-rowCutAbsent = said (foundReply (findOf (cutI cardS) 12))
+rowCutAbsent = said (foundReply (findOf greatestNodes (cutI cardS) 12))
 
 unfoldable pub rowCutHeld : List ℕ
-rowCutHeld = said (foundReply (findOf (splitI cardS) 12))
+rowCutHeld = said (foundReply (findOf greatestNodes (splitI cardS) 12))
 
 -- the starred cards, as one table: what each row says
 abbrev pub StarredCards : Type 0

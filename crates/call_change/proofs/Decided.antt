@@ -79,17 +79,17 @@ module _ (card : List ℕ) (m : ℕ) (at : LeafAt card m) where
   cleared-fits key (At i) e = (at, slot-below (nodeAt card m) key i leaf-words e)
   cleared-fits key NoSlot e = tt
 
-module _ (card : List ℕ) (n : ℕ) (fits : Sized (length card) n) where
+module _ (greatest : ℕ) (card : List ℕ) (n : ℕ) (fits : Sized greatest (length card) n) where
   leaf-at : (key m link run : ℕ) → landing card n key ≡ LandingAt m link run → LeafAt card m
   leaf-at key m link run e =
-      let k = landed card n key m link run fits e in
+      let k = landed greatest card n key m link run fits e in
       record { on = record { pos = k .inside .one; fits = omega (arith, k .inside .most, fits .words) }; most = omega (arith, k .inside .most, fits .most) }
 
   insert-fits : (doing : Doing) (key value : ℕ) (l : Landing) → landing card n key ≡ l → Fits card (decidedIn card doing (insertAt key value) l .decision)
   unfolding decidedIn insertReason Fits
   insert-fits doing key value NoLanding e = tt
   insert-fits doing key value (LandingAt m link run) e =
-      placed-fits card m (leaf-at key m link run e) key value link (landed card n key m link run fits e .linked) (slotOf (nodeAt card m) key)
+      placed-fits card m (leaf-at key m link run e) key value link (landed greatest card n key m link run fits e .linked) (slotOf (nodeAt card m) key)
 
   delete-fits : (doing : Doing) (key : ℕ) (l : Landing) → landing card n key ≡ l → Fits card (decidedIn card doing (deleteAt key) l .decision)
   unfolding decidedIn Fits

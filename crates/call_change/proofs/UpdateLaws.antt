@@ -75,7 +75,7 @@ module _ (card : List ℕ) (n key : ℕ) where
   unfolding landing landingOf landedAt
   land-leaf p depth e = ap (landedAt _) (unsought-leaf card (way card n key) p depth e)
 
-module _ (card : List ℕ) (n key m link run : ℕ) (fits : Sized (length card) n) where
+module _ (greatest : ℕ) (card : List ℕ) (n key m link run : ℕ) (fits : Sized greatest (length card) n) where
   child-linked : (q : Position) → q .link < 2 ^ 32 → lookAt card n (q .node) ≡ IsInner → 0 < length (children (nodeAt card (q .node))) → childPosition (nodeAt card (q .node)) key q .link < 2 ^ 32
   unfolding childPosition
   child-linked q l e h =
@@ -113,7 +113,7 @@ answer-empty leaf key value m link = go (slotOf leaf 0)
     go NoSlot = refl
 
 -- where an update's key leads to, as the code finds it, and what is decided there
-module _ (card : List ℕ) (n key : ℕ) (a : Arrival) (arrives : Arrives a (landing card n key)) where
+module _ (greatest : ℕ) (card : List ℕ) (n key : ℕ) (a : Arrival) (arrives : Arrives a (landing card n key)) where
   pub decided-nowhere : (doing : Doing) (at : ℕ → ℕ → List ℕ → First) → a ≡ NoArrival
       → record { doing = doing; answer = Absent; decision = NoStep } ≡ decidedIn card doing at (landing card n key)
   unfolding Arrives decidedIn
@@ -129,10 +129,10 @@ module _ (card : List ℕ) (n key : ℕ) (a : Arrival) (arrives : Arrives a (lan
     decided-there doing at = sym (ap (decidedIn card doing at) (somewhere .1))
 
     -- the leaf is one of the card's nodes
-    pub leaf-there : Sized (length card) n → (1 ≤ m) × (m ≤ greatestNodes) × (8 + 24 * m ≤ length card)
+    pub leaf-there : Sized greatest (length card) n → (1 ≤ m) × (m ≤ greatestNodes) × (8 + 24 * m ≤ length card)
     leaf-there fits =
-        let on = landed card n key m link (somewhere .0) fits (somewhere .1) .inside in
+        let on = landed greatest card n key m link (somewhere .0) fits (somewhere .1) .inside in
         (on .one, omega (arith, on .most, fits .most), omega (arith, on .most, fits .words))
 
-    pub leaf-words : Sized (length card) n → length (nodeAt card m) ≡ 24
+    pub leaf-words : Sized greatest (length card) n → length (nodeAt card m) ≡ 24
     leaf-words fits = let on = leaf-there fits in length-node card m (on .0) (on .2)

@@ -11,6 +11,7 @@ use walk::Slot;
 ghost use mathlib.Core.Path.{_≡_};
 ghost use Prim.Native.Nat.{ℕ};
 ghost use lib.ListN.{length};
+ghost use Rattle.card.specs.Layout.{greatestNodes};
 ghost use Rattle.card.specs.Header.{Sized};
 ghost use Rattle.walk.specs.Descent.{slotOf};
 ghost use Rattle.state.specs.declared.Task.the-variants.{PutIn, TakeOut};
@@ -111,7 +112,7 @@ pub enum Arrival {
 
 // The leaf that an update's key leads to. The walk is asked for no violation, so it stops at none.
 fn arrive(card: &[u32], n: usize, key: u32) -> Arrival
-    requires { ⌜ Sized (length (now card)) n ⌝ }
+    requires { ⌜ Sized greatestNodes (length (now card)) n ⌝ }
     ensures { λ r. ⌜ Arrives r (landing (now (card .entry)) n key) ⌝ }
 {
     match walk::descend(card, n, key, card[card::ROOT_PLACE] as usize, false) {
@@ -126,7 +127,7 @@ fn arrive(card: &[u32], n: usize, key: u32) -> Arrival
 
 // The first change of an insert, in the leaf that its key leads to; "on the way down": refused, the step is refused too.
 fn put_in(card: &[u32], n: usize, doing: Doing, key: u32, value: u32) -> First
-    requires { ⌜ Sized (length (now card)) n ⌝ }
+    requires { ⌜ Sized greatestNodes (length (now card)) n ⌝ }
     ensures { λ r. ⌜ r ≡ decided (now (card .entry)) n doing (PutIn key value) ⌝ }
 {
     match arrive(card, n, key) {
@@ -143,7 +144,7 @@ fn put_in(card: &[u32], n: usize, doing: Doing, key: u32, value: u32) -> First
 
 // The first change of a delete, in the leaf that its key leads to.
 fn take_out(card: &[u32], n: usize, doing: Doing, key: u32) -> First
-    requires { ⌜ Sized (length (now card)) n ⌝ }
+    requires { ⌜ Sized greatestNodes (length (now card)) n ⌝ }
     ensures { λ r. ⌜ r ≡ decided (now (card .entry)) n doing (TakeOut key) ⌝ }
 {
     match arrive(card, n, key) {
@@ -158,7 +159,7 @@ fn take_out(card: &[u32], n: usize, doing: Doing, key: u32) -> First
 
 // What the next step of a task decides, for a state that is doing this. "Repairs go on until balanced", and then the answer is given.
 pub fn next_change(card: &[u32], n: usize, doing: Doing, task: Task) -> First
-    requires { ⌜ Sized (length (now card)) n ⌝ }
+    requires { ⌜ Sized greatestNodes (length (now card)) n ⌝ }
     ensures { λ r. ⌜ r ≡ decided (now (card .entry)) n doing task ⌝ }
 {
     match task {

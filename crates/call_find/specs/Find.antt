@@ -25,13 +25,13 @@ foundAt card key NotReached = FoundRefused 9
 foundAt card key (ReachedLeaf m depth) = foundIn (nodeAt card m) (slotOf (nodeAt card m) key)
 
 -- 1, 2, 3, then "6: key 0"
-unfoldable pub findOf : List ℕ → ℕ → Found
-findOf card key =
-    pick (eqb (cardRefusal card) 0)
-    (pick (eqb key 0) (FoundRefused 6) (foundAt card key (leafOf (way card (nodesOfLength (length card)) key))))
-    (FoundRefused (cardRefusal card))
+unfoldable pub findOf : ℕ → List ℕ → ℕ → Found
+findOf greatest card key =
+    pick (eqb (cardRefusal greatest card) 0)
+    (pick (eqb key 0) (FoundRefused 6) (foundAt card key (leafOf (way card (nodesOfLength greatest (length card)) key))))
+    (FoundRefused (cardRefusal greatest card))
 
 -- Document 02, W-203: "the number of internal nodes on the given number's way when the call began, tagged ones counted. A refusal carries
 -- none": 0 for every refusal of `findOf`
-unfoldable pub findDepth : List ℕ → ℕ → ℕ
-findDepth card key = pick (eqb (cardRefusal card) 0) (pick (eqb key 0) 0 (depthOf (leafOf (way card (nodesOfLength (length card)) key)))) 0
+unfoldable pub findDepth : ℕ → List ℕ → ℕ → ℕ
+findDepth greatest card key = pick (eqb (cardRefusal greatest card) 0) (pick (eqb key 0) 0 (depthOf (leafOf (way card (nodesOfLength greatest (length card)) key)))) 0

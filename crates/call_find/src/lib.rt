@@ -60,23 +60,23 @@ fn found_at(card: &[u32], n: usize, key: u32) -> Lookup
 }
 
 // "A find is one call on the card alone; it may come between steps and answers by the map at that moment." It hands on how
-// many internal nodes it passed.
-pub fn find_with_depth(card: &[u32], key: u32) -> Lookup
-    ensures { λ r. ⌜ (r .found ≡ findOf (now (card .entry)) key) × (r .depth ≡ findDepth (now (card .entry)) key) × (r .depth ≤ depthLimit) ⌝ }
+// many internal nodes it passed. `greatest` is the greatest N that the calls are made for.
+pub fn find_with_depth(card: &[u32], key: u32, greatest: usize) -> Lookup
+    ensures { λ r. ⌜ (r .found ≡ findOf greatest (now (card .entry)) key) × (r .depth ≡ findDepth greatest (now (card .entry)) key) × (r .depth ≤ depthLimit) ⌝ }
 {
-    let refusal = card::card_refusal(card);
+    let refusal = card::card_refusal(card, greatest);
     if refusal != 0 {
         return refused(refusal);
     }
     if key == 0 {
         return refused(6);
     }
-    found_at(card, card::nodes_of(card.len()), key)
+    found_at(card, card::nodes_of(card.len(), greatest), key)
 }
 
 // The same without the depth.
-pub fn find(card: &[u32], key: u32) -> Found
-    ensures { λ r. ⌜ r ≡ findOf (now (card .entry)) key ⌝ }
+pub fn find(card: &[u32], key: u32, greatest: usize) -> Found
+    ensures { λ r. ⌜ r ≡ findOf greatest (now (card .entry)) key ⌝ }
 {
-    find_with_depth(card, key).found
+    find_with_depth(card, key, greatest).found
 }

@@ -15,9 +15,9 @@ use Rattle.state.specs.Memory.{resting}
 use Rattle.state.specs.declared.Doing.the-variants.{Idle, Repairing}
 use Rattle.state.specs.declared.Begun.the-variants.{Idle as OpenedIdle, Started}
 
-pub open-refused : (card : List ℕ) → (cardRefusal card ≡ 0 → ⊥) → openOf card ≡ noBeginning (cardRefusal card)
+pub open-refused : (greatest : ℕ) (card : List ℕ) → (cardRefusal greatest card ≡ 0 → ⊥) → openOf greatest card ≡ noBeginning (cardRefusal greatest card)
 unfolding openOf
-open-refused card p = simp (ne-eqb (cardRefusal card) 0 p)
+open-refused greatest card p = simp (ne-eqb (cardRefusal greatest card) 0 p)
 
 module _ (n last : ℕ) (f : Findings) where
   pub open-scarce : countTrue (f .free) < 3 + f .run → openSound n last f ≡ noBeginning 5
@@ -32,6 +32,7 @@ module _ (n last : ℕ) (f : Findings) where
   unfolding openSound
   open-idle h v = simp (le-ltb (countTrue (f .free)) (3 + f .run) h, v)
 
-pub open-unrefused : (card : List ℕ) → cardRefusal card ≡ 0 → openOf card ≡ openChecked (nodesOfLength (length card)) (searchStart card) (tableCheck card (nodesOfLength (length card)))
+pub open-unrefused : (greatest : ℕ) (card : List ℕ) → cardRefusal greatest card ≡ 0 → openOf greatest card
+    ≡ openChecked (nodesOfLength greatest (length card)) (searchStart card) (tableCheck card (nodesOfLength greatest (length card)))
 unfolding openOf
-open-unrefused card r = simp (eq-eqb (cardRefusal card) 0 r)
+open-unrefused greatest card r = simp (eq-eqb (cardRefusal greatest card) 0 r)

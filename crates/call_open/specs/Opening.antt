@@ -29,6 +29,8 @@ openChecked n last none = noBeginning 4
 openChecked n last (some r) = openSound n last (r .1)
 
 -- 1, 2, 3; "after opening, [the search] begins at the node following the root's" (document 02, W-205)
-unfoldable pub openOf : List ℕ → Handed
-openOf card =
-    pick (eqb (cardRefusal card) 0) (openChecked (nodesOfLength (length card)) (searchStart card) (tableCheck card (nodesOfLength (length card)))) (noBeginning (cardRefusal card))
+unfoldable pub openOf : ℕ → List ℕ → Handed
+openOf greatest card =
+    pick (eqb (cardRefusal greatest card) 0)
+    (openChecked (nodesOfLength greatest (length card)) (searchStart card) (tableCheck card (nodesOfLength greatest (length card))))
+    (noBeginning (cardRefusal greatest card))

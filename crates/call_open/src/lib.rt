@@ -57,15 +57,15 @@ fn open_checked(card: &[u32], n: usize, state: &mut [u32]) -> Begun
 }
 
 // "Opening stores nothing, works out the free nodes, and hands back an idle state, or one with the repair in progress".
-pub fn open(card: &[u32], state: &mut [u32]) -> Begun
-    ensures { λ r. ⌜ OpenCall (now (state .entry)) (now (state .exit)) r (openOf (now (card .entry))) ⌝ }
+pub fn open(card: &[u32], state: &mut [u32], greatest: usize) -> Begun
+    ensures { λ r. ⌜ OpenCall (now (state .entry)) (now (state .exit)) r (openOf greatest (now (card .entry))) ⌝ }
 {
     if state.len() != STATE_WORDS {
         return Begun::Refused(NO_STATE);
     }
-    let refusal = card::card_refusal(card);
+    let refusal = card::card_refusal(card, greatest);
     if refusal != 0 {
         return refuse_beginning(state, refusal);
     }
-    open_checked(card, card::nodes_of(card.len()), state)
+    open_checked(card, card::nodes_of(card.len(), greatest), state)
 }

@@ -27,8 +27,8 @@ recordFor block (Value at) = pick (eqb (recordRefusal block at) 0) (recordAt blo
 recordFor block NotHeld = []
 recordFor block (NoLook r) = []
 
-unfoldable pub recordOf : List ℕ → ℕ → List ℕ → List ℕ
-recordOf card key block = recordFor block (findOf card key)
+unfoldable pub recordOf : ℕ → List ℕ → ℕ → List ℕ → List ℕ
+recordOf greatest card key block = recordFor block (findOf greatest card key)
 
 -- ---- "a second question over the same inputs tells "found", "absent" or the refusal"
 
@@ -41,8 +41,8 @@ fetchedFor block (Value at) = fetchedAt block at
 fetchedFor block NotHeld = Absent
 fetchedFor block (NoLook r) = Refused r
 
-unfoldable pub fetchOf : List ℕ → ℕ → List ℕ → Fetched
-fetchOf card key block = fetchedFor block (findOf card key)
+unfoldable pub fetchOf : ℕ → List ℕ → ℕ → List ℕ → Fetched
+fetchOf greatest card key block = fetchedFor block (findOf greatest card key)
 
 -- ---- its answer as numbers
 

@@ -1,5 +1,6 @@
 -- Laws of the repair: one for each branch of the code, and that a refused opening stores nothing.
 use mathlib.Core.Path.{_≡_, refl, ap, _∙_}
+use Rattle.card.specs.Layout.{greatestNodes}
 use mathlib.Core.List.{List, _++_}
 use mathlib.Core.Bool.{true, false}
 use mathlib.Core.Option.{Option, none, some}
@@ -33,7 +34,8 @@ pub repair-over : (k : ℕ) (card : List ℕ) (m : Memory) → k ≡ 0 → repai
 unfolding repairedCard
 repair-over k card m e = rw e
 
-pub repair-on : (k : ℕ) (card : List ℕ) (m : Memory) → (k ≡ 0 → ⊥) → isIdle (m .doing) ≡ false → repairedCard k card m ≡ repairedCard (k - 1) (stepOf card m .card) (stepOf card m .memory)
+pub repair-on : (k : ℕ) (card : List ℕ) (m : Memory) → (k ≡ 0 → ⊥) → isIdle (m .doing) ≡ false
+    → repairedCard k card m ≡ repairedCard (k - 1) (stepOf greatestNodes card m .card) (stepOf greatestNodes card m .memory)
 unfolding repairedCard
 repair-on zero card m d e = absurd (d refl)
 repair-on (suc k) card m d e = let z : suc k - 1 ≡ k = omega arith in rw (e, z)
@@ -50,33 +52,34 @@ unfolding openChecked noBeginning noMemory resting isIdle
 checked-idle n last none r e = refl
 checked-idle n last (some x) r e = sound-idle n last (x .1) r e
 
-pub refused-idle : (card : List ℕ) (r : ℕ) → openOf card .begun ≡ Refused r → isIdle (openOf card .memory .doing) ≡ true
+pub refused-idle : (card : List ℕ) (r : ℕ) → openOf greatestNodes card .begun ≡ Refused r → isIdle (openOf greatestNodes card .memory .doing) ≡ true
 unfolding openOf noBeginning noMemory resting isIdle
 refused-idle card r =
-    bool-cases (eqb (cardRefusal card) 0) (λ s. rw s (λ e. checked-idle (nodesOfLength (length card)) (searchStart card) (tableCheck card (nodesOfLength (length card))) r e))
+    bool-cases (eqb (cardRefusal greatestNodes card) 0) (λ s. rw s
+    (λ e. checked-idle (nodesOfLength greatestNodes (length card)) (searchStart card) (tableCheck card (nodesOfLength greatestNodes (length card))) r e))
     (λ s. rw s (λ e. refl))
 
 -- "A refusal .. stores nothing"
-pub refused-untouched : (card : List ℕ) (r : ℕ) → openOf card .begun ≡ Refused r → openedCard card .card ≡ card
+pub refused-untouched : (card : List ℕ) (r : ℕ) → openOf greatestNodes card .begun ≡ Refused r → openedCard card .card ≡ card
 unfolding openedCard
-refused-untouched card r e = ap (λ (x : Repaired). x .card) (repair-idle repairSteps card (openOf card .memory) (refused-idle card r e))
+refused-untouched card r e = ap (λ (x : Repaired). x .card) (repair-idle repairSteps card (openOf greatestNodes card .memory) (refused-idle card r e))
 
 -- ---- a dump
 
 -- the card that was read
-pub read-card : (dump words : List ℕ) (size : ℕ) → readAnswer dump (length words) ≡ Length size → take size (readOver dump words) ≡ dumpWords size dump
-read-card dump words size e = ap (take size) (read-words dump words size e) ∙ take-at (dumpWords size dump) (drop size words) size (length-dumpWords size dump)
+pub read-card : (greatest : ℕ) (dump words : List ℕ) (size : ℕ) → readAnswer greatest dump (length words) ≡ Length size → take size (readOver greatest dump words) ≡ dumpWords size dump
+read-card greatest dump words size e = ap (take size) (read-words greatest dump words size e) ∙ take-at (dumpWords size dump) (drop size words) size (length-dumpWords size dump)
 
 -- the words lent, by what reading answers
-module _ (dump words : List ℕ) where
-  pub over-refused : (r : ℕ) → readAnswer dump (length words) ≡ ReadRefused r → readOver dump words ≡ openedOver dump words
+module _ (greatest : ℕ) (dump words : List ℕ) where
+  pub over-refused : (r : ℕ) → readAnswer greatest dump (length words) ≡ ReadRefused r → readOver greatest dump words ≡ openedOver greatest dump words
   unfolding readOver openedOver openedRead
   over-refused r e = rw e
 
-  pub over-read : (size : ℕ) → readAnswer dump (length words) ≡ Length size → openedOver dump words ≡ openedCard (dumpWords size dump) .card ++ drop size words
+  pub over-read : (size : ℕ) → readAnswer greatest dump (length words) ≡ Length size → openedOver greatest dump words ≡ openedCard (dumpWords size dump) .card ++ drop size words
   unfolding openedOver openedRead
   over-read size e = rw e
 
 -- the words beyond the card that was read
-pub read-beyond : (dump words : List ℕ) (size : ℕ) → readAnswer dump (length words) ≡ Length size → drop size (readOver dump words) ≡ drop size words
-read-beyond dump words size e = ap (drop size) (read-words dump words size e) ∙ drop-at (dumpWords size dump) (drop size words) size (length-dumpWords size dump)
+pub read-beyond : (greatest : ℕ) (dump words : List ℕ) (size : ℕ) → readAnswer greatest dump (length words) ≡ Length size → drop size (readOver greatest dump words) ≡ drop size words
+read-beyond greatest dump words size e = ap (drop size) (read-words greatest dump words size e) ∙ drop-at (dumpWords size dump) (drop size words) size (length-dumpWords size dump)

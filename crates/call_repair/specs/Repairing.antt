@@ -8,7 +8,7 @@ use Rattle.state.specs.Steps.{isIdle}
 use Rattle.state.specs.Block.{memoryIn}
 use Rattle.call_open.specs.Opening.{openOf}
 use Rattle.call_step.specs.Calls.{stepOf, repairSteps}
-use Rattle.card.specs.Layout.{programNodes}
+use Rattle.card.specs.Layout.{greatestNodes, programNodes}
 use Rattle.card_dump.specs.Dump.{wordsFor, dumpWords, readAnswer}
 use Rattle.card_dump.specs.declared.Answer.{Answer}
 use Rattle.card_dump.specs.declared.Answer.the-variants.{Length, Refused as ReadRefused}
@@ -21,11 +21,11 @@ pub record Repaired : Type 0 where
 -- steps, at most so many, until the state is idle
 unfoldable pub repairedCard : ℕ → List ℕ → Memory → Repaired
 repairedCard zero card m = record { card = card; memory = m }
-repairedCard (suc k) card m = pick (isIdle (m .doing)) (record { card = card; memory = m }) (repairedCard k (stepOf card m .card) (stepOf card m .memory))
+repairedCard (suc k) card m = pick (isIdle (m .doing)) (record { card = card; memory = m }) (repairedCard k (stepOf greatestNodes card m .card) (stepOf greatestNodes card m .memory))
 
 -- a card that was opened, once its repair is done
 unfoldable pub openedCard : List ℕ → Repaired
-openedCard card = repairedCard repairSteps card (openOf card .memory)
+openedCard card = repairedCard repairSteps card (openOf greatestNodes card .memory)
 
 -- the card and the state block as they are in code
 unfoldable pub leftBy : List ℕ → List ℕ → Repaired
@@ -35,10 +35,10 @@ leftBy card block = record { card = card; memory = memoryIn block }
 abbrev pub cardRoom : ℕ
 cardRoom = wordsFor programNodes
 
--- the words that a dump was read into, once its card was opened and repaired: "those of the lent slice beyond it are untouched"
+-- the words that a dump of a card up to some greatest N was read into, once its card was opened and repaired: "those of the lent slice beyond it are untouched"
 unfoldable pub openedRead : List ℕ → List ℕ → Answer → List ℕ
 openedRead dump lent (ReadRefused r) = lent
 openedRead dump lent (Length size) = openedCard (dumpWords size dump) .card ++ drop size lent
 
-unfoldable pub openedOver : List ℕ → List ℕ → List ℕ
-openedOver dump lent = openedRead dump lent (readAnswer dump (length lent))
+unfoldable pub openedOver : ℕ → List ℕ → List ℕ → List ℕ
+openedOver greatest dump lent = openedRead dump lent (readAnswer greatest dump (length lent))

@@ -3,6 +3,7 @@ use table::Begun;
 use table::is_idle;
 use table::step;
 ghost use mathlib.Core.Path.{_≡_};
+ghost use Rattle.card.specs.Layout.{greatestNodes};
 ghost use lib.ListN.{length};
 ghost use Rattle.call_open.specs.Opening.{openOf};
 ghost use Rattle.call_step.specs.Calls.{repairSteps};
@@ -27,7 +28,7 @@ fn repair(card: &mut [u32], state: &mut [u32])
 // "opens and repairs it in memory". Refused, opening hands back an idle state, and nothing is stored.
 pub fn open_repaired(card: &mut [u32], state: &mut [u32]) -> Begun
     requires { ⌜ length (now state) ≡ stateWords ⌝ }
-    ensures { λ r. ⌜ r ≡ openOf (now (card .entry)) .begun ⌝ }
+    ensures { λ r. ⌜ r ≡ openOf greatestNodes (now (card .entry)) .begun ⌝ }
     ensures { λ r. ⌜ leftBy (now (card .exit)) (now (state .exit)) ≡ openedCard (now (card .entry)) ⌝ }
 {
     let begun = table::open(card, state);

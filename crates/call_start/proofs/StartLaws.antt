@@ -37,63 +37,63 @@ use Rattle.state.specs.declared.Begun.{Begun}
 use Rattle.state.specs.declared.Begun.the-variants.{Started, Refused as BegunRefused}
 
 -- "1: length not 8 + 24 × N, N 4 to 600; or N not the state's"
-pub start-unsized : (card : List ℕ) (nodes : ℕ) (idle : Bool) (key : ℕ) → (Sized (length card) nodes → ⊥) → startRefusal card nodes idle key ≡ 1
+pub start-unsized : (greatest : ℕ) (card : List ℕ) (nodes : ℕ) (idle : Bool) (key : ℕ) → (Sized greatest (length card) nodes → ⊥) → startRefusal greatest card nodes idle key ≡ 1
 unfolding startRefusal
-start-unsized card nodes idle key p =
-    bool-cases (eqb (nodesOfLength (length card)) 0) (λ y. rw y refl)
-    (λ n. bool-cases (eqb (nodesOfLength (length card)) nodes)
-    (λ y. absurd (p (subst (Sized (length card)) (eqb-true _ _ y) (nodes-sized (length card) (eqb-false _ _ n)))))
+start-unsized greatest card nodes idle key p =
+    bool-cases (eqb (nodesOfLength greatest (length card)) 0) (λ y. rw y refl)
+    (λ n. bool-cases (eqb (nodesOfLength greatest (length card)) nodes)
+    (λ y. absurd (p (subst (Sized greatest (length card)) (eqb-true _ _ y) (nodes-sized greatest (length card) (eqb-false _ _ n)))))
     (λ z. rw (n, z) refl))
 
 -- the refusals of starting an update
-module _ (card : List ℕ) (nodes : ℕ) (idle : Bool) (key n : ℕ) (e : n ≡ nodesOfLength (length card)) where
-  pub start-no-length : n ≡ 0 → startRefusal card nodes idle key ≡ 1
+module _ (greatest : ℕ) (card : List ℕ) (nodes : ℕ) (idle : Bool) (key n : ℕ) (e : n ≡ nodesOfLength greatest (length card)) where
+  pub start-no-length : n ≡ 0 → startRefusal greatest card nodes idle key ≡ 1
   unfolding startRefusal
-  start-no-length z = simp (eq-eqb (nodesOfLength (length card)) 0 (sym e ∙ z))
+  start-no-length z = simp (eq-eqb (nodesOfLength greatest (length card)) 0 (sym e ∙ z))
 
-  pub start-other : (n ≡ 0 → ⊥) → (n ≡ nodes → ⊥) → startRefusal card nodes idle key ≡ 1
+  pub start-other : (n ≡ 0 → ⊥) → (n ≡ nodes → ⊥) → startRefusal greatest card nodes idle key ≡ 1
   unfolding startRefusal
-  start-other p q = simp (ne-eqb (nodesOfLength (length card)) 0 (λ z. p (e ∙ z)), ne-eqb (nodesOfLength (length card)) nodes (λ z. q (e ∙ z)))
+  start-other p q = simp (ne-eqb (nodesOfLength greatest (length card)) 0 (λ z. p (e ∙ z)), ne-eqb (nodesOfLength greatest (length card)) nodes (λ z. q (e ∙ z)))
 
   module _ (p : n ≡ 0 → ⊥) (q : n ≡ nodes) where
-    pub start-header : (h : ℕ) → h ≡ headerRefusal card n → (h ≡ 0 → ⊥) → startRefusal card nodes idle key ≡ h
+    pub start-header : (h : ℕ) → h ≡ headerRefusal card n → (h ≡ 0 → ⊥) → startRefusal greatest card nodes idle key ≡ h
     unfolding startRefusal
     start-header h g w =
         simp (
-          ne-eqb (nodesOfLength (length card)) 0 (λ z. p (e ∙ z)),
-          eq-eqb (nodesOfLength (length card)) nodes (sym e ∙ q),
+          ne-eqb (nodesOfLength greatest (length card)) 0 (λ z. p (e ∙ z)),
+          eq-eqb (nodesOfLength greatest (length card)) nodes (sym e ∙ q),
           ne-eqb (headerRefusal card nodes) 0 (λ z. w (g ∙ ap (headerRefusal card) q ∙ z)),
         )
         (ap (headerRefusal card) (sym q) ∙ sym g)
 
     module _ (w : headerRefusal card n ≡ 0) where
-      pub start-busy : idle ≡ false → startRefusal card nodes idle key ≡ 7
+      pub start-busy : idle ≡ false → startRefusal greatest card nodes idle key ≡ 7
       unfolding startRefusal
       start-busy b =
           simp (
-            ne-eqb (nodesOfLength (length card)) 0 (λ z. p (e ∙ z)),
-            eq-eqb (nodesOfLength (length card)) nodes (sym e ∙ q),
+            ne-eqb (nodesOfLength greatest (length card)) 0 (λ z. p (e ∙ z)),
+            eq-eqb (nodesOfLength greatest (length card)) nodes (sym e ∙ q),
             eq-eqb (headerRefusal card nodes) 0 (ap (headerRefusal card) (sym q) ∙ w),
             b,
           )
 
-      pub start-no-key : idle ≡ true → key ≡ 0 → startRefusal card nodes idle key ≡ 6
+      pub start-no-key : idle ≡ true → key ≡ 0 → startRefusal greatest card nodes idle key ≡ 6
       unfolding startRefusal
       start-no-key b k =
           simp (
-            ne-eqb (nodesOfLength (length card)) 0 (λ z. p (e ∙ z)),
-            eq-eqb (nodesOfLength (length card)) nodes (sym e ∙ q),
+            ne-eqb (nodesOfLength greatest (length card)) 0 (λ z. p (e ∙ z)),
+            eq-eqb (nodesOfLength greatest (length card)) nodes (sym e ∙ q),
             eq-eqb (headerRefusal card nodes) 0 (ap (headerRefusal card) (sym q) ∙ w),
             b,
             eq-eqb key 0 k,
           )
 
-      pub start-none : idle ≡ true → (key ≡ 0 → ⊥) → startRefusal card nodes idle key ≡ 0
+      pub start-none : idle ≡ true → (key ≡ 0 → ⊥) → startRefusal greatest card nodes idle key ≡ 0
       unfolding startRefusal
       start-none b k =
           simp (
-            ne-eqb (nodesOfLength (length card)) 0 (λ z. p (e ∙ z)),
-            eq-eqb (nodesOfLength (length card)) nodes (sym e ∙ q),
+            ne-eqb (nodesOfLength greatest (length card)) 0 (λ z. p (e ∙ z)),
+            eq-eqb (nodesOfLength greatest (length card)) nodes (sym e ∙ q),
             eq-eqb (headerRefusal card nodes) 0 (ap (headerRefusal card) (sym q) ∙ w),
             b,
             ne-eqb key 0 k,
@@ -119,29 +119,29 @@ chain-taken false true true false e h m x p q = absurd (omega arith)
 chain-taken false true true true true h m x p q = absurd (omega arith)
 chain-taken false true true true false h m x p q = refl
 
-module _ (card : List ℕ) (nodes : ℕ) (idle : Bool) (key : ℕ) where
-  pub depth-early : (startRefusal card nodes idle key ≡ 0 → ⊥) → dueDepth card nodes idle key ≡ 0
-  depth-early p = rw (ne-eqb (startRefusal card nodes idle key) 0 p) refl
+module _ (greatest : ℕ) (card : List ℕ) (nodes : ℕ) (idle : Bool) (key : ℕ) where
+  pub depth-early : (startRefusal greatest card nodes idle key ≡ 0 → ⊥) → dueDepth greatest card nodes idle key ≡ 0
+  depth-early p = rw (ne-eqb (startRefusal greatest card nodes idle key) 0 p) refl
 
-  pub depth-landing : startRefusal card nodes idle key ≡ 0 → dueDepth card nodes idle key ≡ depthOf (leafOf (way card nodes key))
-  depth-landing z = rw (eq-eqb (startRefusal card nodes idle key) 0 z) refl
+  pub depth-landing : startRefusal greatest card nodes idle key ≡ 0 → dueDepth greatest card nodes idle key ≡ depthOf (leafOf (way card nodes key))
+  depth-landing z = rw (eq-eqb (startRefusal greatest card nodes idle key) 0 z) refl
 
 -- "more than 10 internal nodes" are refused
-pub depth-bound : (card : List ℕ) (nodes : ℕ) (idle : Bool) (key : ℕ) → dueDepth card nodes idle key ≤ depthLimit
-depth-bound card nodes idle key =
-    bool-cases (eqb (startRefusal card nodes idle key) 0) (λ q. rw q (way-depth-le card nodes key)) (λ q. rw q (omega arith))
+pub depth-bound : (greatest : ℕ) (card : List ℕ) (nodes : ℕ) (idle : Bool) (key : ℕ) → dueDepth greatest card nodes idle key ≤ depthLimit
+depth-bound greatest card nodes idle key =
+    bool-cases (eqb (startRefusal greatest card nodes idle key) 0) (λ q. rw q (way-depth-le card nodes key)) (λ q. rw q (omega arith))
 
 -- a way that is refused tells none
 pub no-depth : (w : Way) → w .leaf ≡ none → depthOf (leafOf w) ≡ 0
 unfolding depthOf leafOf reachedAt
 no-depth w e = rw e refl
 
-module _ (card : List ℕ) (nodes : ℕ) (idle : Bool) (key : ℕ) (room : Landing → Bool) where
-  pub due-early : (startRefusal card nodes idle key ≡ 0 → ⊥) → dueRefusal card nodes idle key room ≡ startRefusal card nodes idle key
-  due-early p = rw (ne-eqb (startRefusal card nodes idle key) 0 p) refl
+module _ (greatest : ℕ) (card : List ℕ) (nodes : ℕ) (idle : Bool) (key : ℕ) (room : Landing → Bool) where
+  pub due-early : (startRefusal greatest card nodes idle key ≡ 0 → ⊥) → dueRefusal greatest card nodes idle key room ≡ startRefusal greatest card nodes idle key
+  due-early p = rw (ne-eqb (startRefusal greatest card nodes idle key) 0 p) refl
 
-  pub due-landing : startRefusal card nodes idle key ≡ 0 → dueRefusal card nodes idle key room ≡ landingRefusal (room (landing card nodes key)) (landing card nodes key)
-  due-landing z = rw (eq-eqb (startRefusal card nodes idle key) 0 z) refl
+  pub due-landing : startRefusal greatest card nodes idle key ≡ 0 → dueRefusal greatest card nodes idle key room ≡ landingRefusal (room (landing card nodes key)) (landing card nodes key)
+  due-landing z = rw (eq-eqb (startRefusal greatest card nodes idle key) 0 z) refl
 
 landed-due : (m : Memory) (doing : Doing) (depth : ℕ) (room : Bool) (l : Landing) → startLanded m doing depth room l ≡ begunBy (landingRefusal room l) depth m doing
 unfolding startLanded landingRefusal
@@ -149,40 +149,42 @@ landed-due m doing depth room NoLanding = refl
 landed-due m doing depth true (LandingAt node link run) = refl
 landed-due m doing depth false (LandingAt node link run) = refl
 
-module _ (card : List ℕ) (m : Memory) (key : ℕ) (doing : Doing) (room : Landing → Bool) where
-  start-refused : (startRefusal card (m .nodes) (isIdle (m .doing)) key ≡ 0 → ⊥) → startOf card m key doing room ≡ startRefused (startRefusal card (m .nodes) (isIdle (m .doing)) key) m
+module _ (greatest : ℕ) (card : List ℕ) (m : Memory) (key : ℕ) (doing : Doing) (room : Landing → Bool) where
+  start-refused : (startRefusal greatest card (m .nodes) (isIdle (m .doing)) key ≡ 0 → ⊥)
+      → startOf greatest card m key doing room ≡ startRefused (startRefusal greatest card (m .nodes) (isIdle (m .doing)) key) m
   unfolding startRefusal startOf startChecked
   start-refused p =
-      chain-refused (eqb (nodesOfLength (length card)) 0) (eqb (nodesOfLength (length card)) (m .nodes))
+      chain-refused (eqb (nodesOfLength greatest (length card)) 0) (eqb (nodesOfLength greatest (length card)) (m .nodes))
       (eqb (headerRefusal card (m .nodes)) 0) (isIdle (m .doing)) (eqb key 0) (headerRefusal card (m .nodes)) m _ p
 
-  start-taken : startRefusal card (m .nodes) (isIdle (m .doing)) key ≡ 0
-      → startOf card m key doing room ≡ startLanded m doing (depthOf (leafOf (way card (m .nodes) key))) (room (landing card (m .nodes) key)) (landing card (m .nodes) key)
+  start-taken : startRefusal greatest card (m .nodes) (isIdle (m .doing)) key ≡ 0
+      → startOf greatest card m key doing room ≡ startLanded m doing (depthOf (leafOf (way card (m .nodes) key))) (room (landing card (m .nodes) key)) (landing card (m .nodes) key)
   unfolding startRefusal startOf startChecked
   start-taken q =
-      chain-taken (eqb (nodesOfLength (length card)) 0) (eqb (nodesOfLength (length card)) (m .nodes))
+      chain-taken (eqb (nodesOfLength greatest (length card)) 0) (eqb (nodesOfLength greatest (length card)) (m .nodes))
       (eqb (headerRefusal card (m .nodes)) 0) (isIdle (m .doing)) (eqb key 0) (headerRefusal card (m .nodes)) m _
       (λ c z. eqb-false (headerRefusal card (m .nodes)) 0 c z) q
 
   -- the refusal due decides what is handed back
-  pub start-due : startOf card m key doing room
-      ≡ begunBy (dueRefusal card (m .nodes) (isIdle (m .doing)) key room) (dueDepth card (m .nodes) (isIdle (m .doing)) key) m doing
+  pub start-due : startOf greatest card m key doing room
+      ≡ begunBy (dueRefusal greatest card (m .nodes) (isIdle (m .doing)) key room) (dueDepth greatest card (m .nodes) (isIdle (m .doing)) key) m doing
   start-due =
-      by-cases (ℕ-discrete (startRefusal card (m .nodes) (isIdle (m .doing)) key) 0)
+      by-cases (ℕ-discrete (startRefusal greatest card (m .nodes) (isIdle (m .doing)) key) 0)
       (λ z. start-taken z ∙ landed-due m doing _ (room (landing card (m .nodes) key)) (landing card (m .nodes) key)
       ∙ sym (ap₂ (λ (r depth : ℕ). begunBy r depth m doing)
-      (due-landing card (m .nodes) (isIdle (m .doing)) key room z) (depth-landing card (m .nodes) (isIdle (m .doing)) key z)))
-      (λ p. start-refused p ∙ sym (ap (λ (r : ℕ). begunBy r (dueDepth card (m .nodes) (isIdle (m .doing)) key) m doing)
-      (due-early card (m .nodes) (isIdle (m .doing)) key room p)
-      ∙ ap (λ (b : Bool). pick b (startAccepted m doing (dueDepth card (m .nodes) (isIdle (m .doing)) key))
-      (startRefused (startRefusal card (m .nodes) (isIdle (m .doing)) key) m))
-      (ne-eqb (startRefusal card (m .nodes) (isIdle (m .doing)) key) 0 p)))
+      (due-landing greatest card (m .nodes) (isIdle (m .doing)) key room z) (depth-landing greatest card (m .nodes) (isIdle (m .doing)) key z)))
+      (λ p. start-refused p ∙ sym (ap (λ (r : ℕ). begunBy r (dueDepth greatest card (m .nodes) (isIdle (m .doing)) key) m doing)
+      (due-early greatest card (m .nodes) (isIdle (m .doing)) key room p)
+      ∙ ap (λ (b : Bool). pick b (startAccepted m doing (dueDepth greatest card (m .nodes) (isIdle (m .doing)) key))
+      (startRefused (startRefusal greatest card (m .nodes) (isIdle (m .doing)) key) m))
+      (ne-eqb (startRefusal greatest card (m .nodes) (isIdle (m .doing)) key) 0 p)))
 
-pub start-sized : (card : List ℕ) (nodes : ℕ) (idle : Bool) (key : ℕ) → startRefusal card nodes idle key ≡ 0 → Sized (length card) nodes
-start-sized card nodes idle key r =
-    by-cases (ℕ-discrete (nodesOfLength (length card)) 0) (λ z. let w = sym (start-no-length card nodes idle key (nodesOfLength (length card)) refl z) ∙ r in absurd (omega arith))
-    (λ p. by-cases (ℕ-discrete (nodesOfLength (length card)) nodes) (λ q. rw q at (nodes-sized (length card) p))
-    (λ q. let w = sym (start-other card nodes idle key (nodesOfLength (length card)) refl p q) ∙ r in absurd (omega arith)))
+pub start-sized : (greatest : ℕ) (card : List ℕ) (nodes : ℕ) (idle : Bool) (key : ℕ) → startRefusal greatest card nodes idle key ≡ 0 → Sized greatest (length card) nodes
+start-sized greatest card nodes idle key r =
+    by-cases (ℕ-discrete (nodesOfLength greatest (length card)) 0)
+    (λ z. let w = sym (start-no-length greatest card nodes idle key (nodesOfLength greatest (length card)) refl z) ∙ r in absurd (omega arith))
+    (λ p. by-cases (ℕ-discrete (nodesOfLength greatest (length card)) nodes) (λ q. rw q at (nodes-sized greatest (length card) p))
+    (λ q. let w = sym (start-other greatest card nodes idle key (nodesOfLength greatest (length card)) refl p q) ∙ r in absurd (omega arith)))
 
 -- room for an insert
 held-slot : (leaf : List ℕ) (run : ℕ) (free : List Bool) (t : Slot) → isSlot t ≡ true → roomFor free run (reasonIn leaf t) ≡ true
@@ -255,11 +257,11 @@ module _ (block : List ℕ) (l : length block ≡ stateWords) (doing : Doing) (r
 
 -- ---- starting to format
 
-module _ (card : List ℕ) (n : ℕ) (e : n ≡ nodesOfLength (length card)) where
-  pub format-no-length : n ≡ 0 → formatOf card ≡ noBeginning 1
+module _ (greatest : ℕ) (card : List ℕ) (n : ℕ) (e : n ≡ nodesOfLength greatest (length card)) where
+  pub format-no-length : n ≡ 0 → formatOf greatest card ≡ noBeginning 1
   unfolding formatOf
-  format-no-length z = simp (eq-eqb (nodesOfLength (length card)) 0 (sym e ∙ z))
+  format-no-length z = simp (eq-eqb (nodesOfLength greatest (length card)) 0 (sym e ∙ z))
 
-  pub format-length : (n ≡ 0 → ⊥) → formatOf card ≡ record { begun = Started; memory = resting n (set (allNodes n) formattedRoot false) formattedRoot (Formatting 0) }
+  pub format-length : (n ≡ 0 → ⊥) → formatOf greatest card ≡ record { begun = Started; memory = resting n (set (allNodes n) formattedRoot false) formattedRoot (Formatting 0) }
   unfolding formatOf
-  format-length p = simp (ne-eqb (nodesOfLength (length card)) 0 (λ z. p (e ∙ z)), ← e)
+  format-length p = simp (ne-eqb (nodesOfLength greatest (length card)) 0 (λ z. p (e ∙ z)), ← e)

@@ -24,10 +24,10 @@ isSlot NoSlot = false
 
 -- the refusals 1, 2, 3, 7 and 6 of starting an update, in this order, for a state of so many nodes that is idle or not; 0 where none
 -- is due
-unfoldable pub startRefusal : List ℕ → ℕ → Bool → ℕ → ℕ
-startRefusal card nodes idle key =
-    pick (eqb (nodesOfLength (length card)) 0) 1
-    (pick (eqb (nodesOfLength (length card)) nodes)
+unfoldable pub startRefusal : ℕ → List ℕ → ℕ → Bool → ℕ → ℕ
+startRefusal greatest card nodes idle key =
+    pick (eqb (nodesOfLength greatest (length card)) 0) 1
+    (pick (eqb (nodesOfLength greatest (length card)) nodes)
     (pick (eqb (headerRefusal card nodes) 0) (pick idle (pick (eqb key 0) 6 0) 7) (headerRefusal card nodes)) 1)
 
 -- the room that an update needs which may split its leaf, or one which never does
@@ -40,13 +40,13 @@ landingRefusal room NoLanding = 9
 landingRefusal room (LandingAt node link run) = pick room 0 8
 
 -- all of them, in their order
-abbrev pub dueRefusal : List ℕ → ℕ → Bool → ℕ → (Landing → Bool) → ℕ
-dueRefusal card nodes idle key room =
-    pick (eqb (startRefusal card nodes idle key) 0) (landingRefusal (room (landing card nodes key)) (landing card nodes key)) (startRefusal card nodes idle key)
+abbrev pub dueRefusal : ℕ → List ℕ → ℕ → Bool → ℕ → (Landing → Bool) → ℕ
+dueRefusal greatest card nodes idle key room =
+    pick (eqb (startRefusal greatest card nodes idle key) 0) (landingRefusal (room (landing card nodes key)) (landing card nodes key)) (startRefusal greatest card nodes idle key)
 
 -- the internal nodes on the key's way; none where an early refusal is due, or 9
-abbrev pub dueDepth : List ℕ → ℕ → Bool → ℕ → ℕ
-dueDepth card nodes idle key = pick (eqb (startRefusal card nodes idle key) 0) (depthOf (leafOf (way card nodes key))) 0
+abbrev pub dueDepth : ℕ → List ℕ → ℕ → Bool → ℕ → ℕ
+dueDepth greatest card nodes idle key = pick (eqb (startRefusal greatest card nodes idle key) 0) (depthOf (leafOf (way card nodes key))) 0
 
 -- what starting an update hands back, by the refusal that is due and that number
 abbrev pub begunBy : ℕ → ℕ → Memory → Doing → Handed

@@ -21,10 +21,10 @@ use Rattle.state.specs.Steps.{isIdle, Handed, noBeginning}
 
 -- STARTING TO FORMAT. "Formatting needs no earlier state"; while it goes on the free nodes are those of the table it makes, and the
 -- root of that table is taken for the node given last (document 02, W-205)
-unfoldable pub formatOf : List ℕ → Handed
-formatOf card =
-    pick (eqb (nodesOfLength (length card)) 0) (noBeginning 1)
-    (record { begun = Started; memory = resting (nodesOfLength (length card)) (set (allNodes (nodesOfLength (length card))) formattedRoot false) formattedRoot (Formatting 0) })
+unfoldable pub formatOf : ℕ → List ℕ → Handed
+formatOf greatest card =
+    pick (eqb (nodesOfLength greatest (length card)) 0) (noBeginning 1)
+    (record { begun = Started; memory = resting (nodesOfLength greatest (length card)) (set (allNodes (nodesOfLength greatest (length card))) formattedRoot false) formattedRoot (Formatting 0) })
 
 -- STARTING AN UPDATE. "Starting an update stores nothing." Refusals 1, 2, 3, 7, 6, 9, and 8 for an insert.
 unfoldable pub startRefused : ℕ → Memory → Handed
@@ -52,15 +52,15 @@ startChecked card m key doing room =
     (startLanded m doing (startDepth card m key) (room (landing card (m .nodes) key)) (landing card (m .nodes) key)))
     (startRefused 7 m)
 
-unfoldable pub startOf : List ℕ → Memory → ℕ → Doing → (Landing → Bool) → Handed
-startOf card m key doing room =
-    pick (eqb (nodesOfLength (length card)) 0) (startRefused 1 m)
-    (pick (eqb (nodesOfLength (length card)) (m .nodes))
+unfoldable pub startOf : ℕ → List ℕ → Memory → ℕ → Doing → (Landing → Bool) → Handed
+startOf greatest card m key doing room =
+    pick (eqb (nodesOfLength greatest (length card)) 0) (startRefused 1 m)
+    (pick (eqb (nodesOfLength greatest (length card)) (m .nodes))
     (pick (eqb (headerRefusal card (m .nodes)) 0) (startChecked card m key doing room) (startRefused (headerRefusal card (m .nodes)) m))
     (startRefused 1 m))
 
-unfoldable pub insertOf : List ℕ → Memory → ℕ → ℕ → Handed
-insertOf card m key value = startOf card m key (Inserting key value NotBegun) (startRoom card key (m .free))
+unfoldable pub insertOf : ℕ → List ℕ → Memory → ℕ → ℕ → Handed
+insertOf greatest card m key value = startOf greatest card m key (Inserting key value NotBegun) (startRoom card key (m .free))
 
-unfoldable pub deleteOf : List ℕ → Memory → ℕ → Handed
-deleteOf card m key = startOf card m key (Deleting key NotBegun 0) (λ l. true)
+unfoldable pub deleteOf : ℕ → List ℕ → Memory → ℕ → Handed
+deleteOf greatest card m key = startOf greatest card m key (Deleting key NotBegun 0) (λ l. true)

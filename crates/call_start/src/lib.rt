@@ -21,24 +21,24 @@ ghost use mathlib.Core.Bool.{true, false};
 ghost use Prim.Native.Nat.{_≤_, _<_};
 ghost use lib.ListN.{length, set};
 ghost use Rattle.card.specs.Header.{Sized};
-ghost use Rattle.card.specs.Layout.{depthLimit, nodeAt, formattedRoot};
+ghost use Rattle.card.specs.Layout.{greatestNodes, depthLimit, nodeAt, formattedRoot};
 ghost use Rattle.card_free.specs.NodeSet.{wordCount, capacity, nodesOf, allNodes};
-ghost use Rattle.walk.specs.Descent.{slotOf, way, runOver};
+ghost use Rattle.walk.specs.Descent.{slotOf, way, leafOf, depthOf, runOver};
 ghost use Rattle.laws.specs.Cases.{pick};
 ghost use Rattle.state.specs.Steps.{isIdle};
 ghost use Rattle.state.specs.declared.Doing.the-variants.{Inserting, Deleting};
 ghost use Rattle.state.specs.declared.Phase.the-variants.{NotBegun};
 ghost use Rattle.state.specs.Block.{stateWords, memoryIn};
 ghost use Rattle.state.specs.Contracts.{OpenCall, StartCall};
-ghost use Rattle.call_change.specs.Updates.{insertReason, roomFor};
+ghost use Rattle.call_change.specs.Updates.{landing, insertReason, roomFor};
 ghost use Rattle.call_start.specs.Starts.{formatOf, insertOf, deleteOf};
-ghost use Rattle.call_start.specs.Refusals.{startRefusal, isSlot, roomWhere, dueRefusal, dueDepth, begunBy};
+ghost use Rattle.call_start.specs.Refusals.{startRefusal, isSlot, roomWhere, landingRefusal, dueRefusal, dueDepth, begunBy};
 
 // The refusals 1, 2, 3, 7 and 6 of starting an update, in this order; 0 where none is due.
-fn early_refusal(card: &[u32], nodes: usize, idle: bool, key: u32) -> u32
-    ensures { λ r. ⌜ r ≡ startRefusal (now (card .entry)) nodes idle key ⌝ }
+fn early_refusal(card: &[u32], nodes: usize, idle: bool, key: u32, greatest: usize) -> u32
+    ensures { λ r. ⌜ r ≡ startRefusal greatest (now (card .entry)) nodes idle key ⌝ }
 {
-    if !card::is_sized(card.len(), nodes) {
+    if !card::is_sized(card.len(), nodes, greatest) {
         return 1;
     }
     let header = card::header_refusal(card, nodes);
@@ -68,7 +68,7 @@ fn has_word(leaf: &[u32], word: u32) -> bool
 // "A splitting insert needs j + 5 free nodes." The 11-child nodes above leaf m are counted only where it is full; they may be any
 // number here, so the 5 are taken from the free nodes.
 fn has_room(card: &[u32], n: usize, m: usize, key: u32, free: &[u32]) -> bool
-    requires { ⌜ Sized (length (now card)) n × (1 ≤ m) × (m ≤ n) × (length (now free) ≡ wordCount) ⌝ }
+    requires { ⌜ Sized greatestNodes (length (now card)) n × (1 ≤ m) × (m ≤ n) × (length (now free) ≡ wordCount) ⌝ }
     ensures { λ r. ⌜ r ≡ roomFor (nodesOf (now (free .entry))) (runOver (now (card .entry)) 0 (way (now (card .entry)) n key .inner)) (insertReason (nodeAt (now (card .entry)) m) key) ⌝ }
 {
     let leaf = card::node_at(card, m);
@@ -88,7 +88,7 @@ fn has_room(card: &[u32], n: usize, m: usize, key: u32, free: &[u32]) -> bool
 
 // The same of an update that may split its leaf, or of one that never does and so needs no room.
 fn has_room_where(splits: bool, card: &[u32], n: usize, m: usize, key: u32, free: &[u32]) -> bool
-    requires { ⌜ Sized (length (now card)) n × (1 ≤ m) × (m ≤ n) × (length (now free) ≡ wordCount) ⌝ }
+    requires { ⌜ Sized greatestNodes (length (now card)) n × (1 ≤ m) × (m ≤ n) × (length (now free) ≡ wordCount) ⌝ }
     ensures { λ r. ⌜ r ≡ pick splits (roomFor (nodesOf (now (free .entry)))
         (runOver (now (card .entry)) 0 (way (now (card .entry)) n key .inner)) (insertReason (nodeAt (now (card .entry)) m) key)) true ⌝ }
 {
@@ -112,20 +112,14 @@ pub struct Due {
     pub depth: usize,
 }
 
-// The early refusals, then "9: node number 0 or above N, kind not 1 to 3, no children, or more than 10 internal nodes", then 8. `splits`
-// says whether the update may split its leaf.
-fn start_due(card: &[u32], nodes: usize, idle: bool, free: &[u32], key: u32, splits: bool) -> Due
-    requires { ⌜ length (now free) ≡ wordCount ⌝ }
-    ensures { λ r. ⌜ r .refusal ≡ dueRefusal (now (card .entry)) nodes idle key (roomWhere splits (now (card .entry)) key (nodesOf (now (free .entry)))) ⌝ }
-    ensures { λ r. ⌜ r .depth ≡ dueDepth (now (card .entry)) nodes idle key ⌝ }
+// "9: node number 0 or above N, kind not 1 to 3, no children, or more than 10 internal nodes", then 8. `splits` says whether the update
+// may split its leaf.
+fn way_due(card: &[u32], nodes: usize, free: &[u32], key: u32, splits: bool) -> Due
+    requires { ⌜ Sized greatestNodes (length (now card)) nodes × (length (now free) ≡ wordCount) ⌝ }
+    ensures { λ r. ⌜ r .refusal ≡ landingRefusal (roomWhere splits (now (card .entry)) key (nodesOf (now (free .entry)))
+        (landing (now (card .entry)) nodes key)) (landing (now (card .entry)) nodes key) ⌝ }
+    ensures { λ r. ⌜ r .depth ≡ depthOf (leafOf (way (now (card .entry)) nodes key)) ⌝ }
 {
-    let early = early_refusal(card, nodes, idle, key);
-    if early != 0 {
-        return Due {
-            refusal: early,
-            depth: 0,
-        };
-    }
     match walk::descend(card, nodes, key, card[card::ROOT_PLACE] as usize, false) {
         End::Refused => Due {
             refusal: 9,
@@ -142,18 +136,24 @@ fn start_due(card: &[u32], nodes: usize, idle: bool, free: &[u32], key: u32, spl
     }
 }
 
-// The same by the words of a block.
-fn block_due(card: &[u32], state: &[u32], key: u32, splits: bool) -> Due
+// The early refusals, by the words of a block, and then those of the way.
+fn block_due(card: &[u32], state: &[u32], key: u32, splits: bool, greatest: usize) -> Due
     requires { ⌜ length (now state) ≡ stateWords ⌝ }
     ensures { λ r. ⌜ r .refusal
-        ≡ dueRefusal (now (card .entry)) (memoryIn (now (state .entry)) .nodes) (isIdle (memoryIn (now (state .entry)) .doing)) key
+        ≡ dueRefusal greatest (now (card .entry)) (memoryIn (now (state .entry)) .nodes) (isIdle (memoryIn (now (state .entry)) .doing)) key
         (roomWhere splits (now (card .entry)) key (memoryIn (now (state .entry)) .free)) ⌝ }
     ensures { λ r. ⌜ r .depth
-        ≡ dueDepth (now (card .entry)) (memoryIn (now (state .entry)) .nodes) (isIdle (memoryIn (now (state .entry)) .doing)) key ⌝ }
+        ≡ dueDepth greatest (now (card .entry)) (memoryIn (now (state .entry)) .nodes) (isIdle (memoryIn (now (state .entry)) .doing)) key ⌝ }
 {
     let nodes = wide(state[NODES]);
-    let idle = is_idle(state);
-    start_due(card, nodes, idle, &state[FREE..PLACES], key, splits)
+    let early = early_refusal(card, nodes, is_idle(state), key, greatest);
+    if early != 0 {
+        return Due {
+            refusal: early,
+            depth: 0,
+        };
+    }
+    way_due(card, nodes, &state[FREE..PLACES], key, splits)
 }
 
 // "Starting an update stores nothing": the block with the update in hand, or as it was where a refusal is due.
@@ -183,13 +183,13 @@ fn free_but_root(free: &mut [u32], n: usize)
 
 // "Formatting needs no earlier state". While it goes on the free nodes are those of the table it makes, and the search for one begins
 // after the root of that table (document 02, W-205).
-pub fn start_format(card: &[u32], state: &mut [u32]) -> Begun
-    ensures { λ r. ⌜ OpenCall (now (state .entry)) (now (state .exit)) r (formatOf (now (card .entry))) ⌝ }
+pub fn start_format(card: &[u32], state: &mut [u32], greatest: usize) -> Begun
+    ensures { λ r. ⌜ OpenCall (now (state .entry)) (now (state .exit)) r (formatOf greatest (now (card .entry))) ⌝ }
 {
     if state.len() != STATE_WORDS {
         return Begun::Refused(NO_STATE);
     }
-    let n = card::nodes_of(card.len());
+    let n = card::nodes_of(card.len(), greatest);
     if n == 0 {
         return refuse_beginning(state, 1);
     }
@@ -204,8 +204,8 @@ pub fn start_format(card: &[u32], state: &mut [u32]) -> Begun
 }
 
 // "Starting an update stores nothing."
-pub fn start_insert(card: &[u32], state: &mut [u32], key: u32, value: u32) -> Begun
-    ensures { λ r. ⌜ StartCall (now (state .entry)) (now (state .exit)) r (Inserting key value NotBegun) (insertOf (now (card .entry)) (memoryIn (now (state .entry))) key value) ⌝ }
+pub fn start_insert(card: &[u32], state: &mut [u32], key: u32, value: u32, greatest: usize) -> Begun
+    ensures { λ r. ⌜ StartCall (now (state .entry)) (now (state .exit)) r (Inserting key value NotBegun) (insertOf greatest (now (card .entry)) (memoryIn (now (state .entry))) key value) ⌝ }
 {
     if state.len() != STATE_WORDS {
         return Begun::Refused(NO_STATE);
@@ -215,13 +215,13 @@ pub fn start_insert(card: &[u32], state: &mut [u32], key: u32, value: u32) -> Be
         value,
         phase: Phase::NotBegun,
     };
-    let due = block_due(card, state, key, true);
+    let due = block_due(card, state, key, true, greatest);
     begin(state, doing, due.refusal, due.depth)
 }
 
 // "Refusing a delete on a full card" would spoil a bin: a delete needs no free nodes to start.
-pub fn start_delete(card: &[u32], state: &mut [u32], key: u32) -> Begun
-    ensures { λ r. ⌜ StartCall (now (state .entry)) (now (state .exit)) r (Deleting key NotBegun 0) (deleteOf (now (card .entry)) (memoryIn (now (state .entry))) key) ⌝ }
+pub fn start_delete(card: &[u32], state: &mut [u32], key: u32, greatest: usize) -> Begun
+    ensures { λ r. ⌜ StartCall (now (state .entry)) (now (state .exit)) r (Deleting key NotBegun 0) (deleteOf greatest (now (card .entry)) (memoryIn (now (state .entry))) key) ⌝ }
 {
     if state.len() != STATE_WORDS {
         return Begun::Refused(NO_STATE);
@@ -231,6 +231,6 @@ pub fn start_delete(card: &[u32], state: &mut [u32], key: u32) -> Begun
         phase: Phase::NotBegun,
         value: 0,
     };
-    let due = block_due(card, state, key, false);
+    let due = block_due(card, state, key, false, greatest);
     begin(state, doing, due.refusal, due.depth)
 }

@@ -49,7 +49,7 @@ use Rattle.call_step.proofs.ContractLaws.{made-by, made-refused, made-f
 
 -- ---- a change
 
-module _ (card b : List ℕ) (long : length b ≡ stateWords) (doing : Doing) (d : Decision) (ch : Changes card b doing d) where
+module _ (greatest : ℕ) (card b : List ℕ) (long : length b ≡ stateWords) (doing : Doing) (d : Decision) (ch : Changes card b doing d) where
   abbrev m : Memory
   m = memoryIn b
 
@@ -70,7 +70,7 @@ module _ (card b : List ℕ) (long : length b ≡ stateWords) (doing : Doing) (d
   unfolding memoryIn stepPrepared
   change-none e final = made-refused card b 9 (ap (dueBy final) (sym (laid-none card d free last e)))
 
-  module _ (n : ℕ) (size : Sized (length card) n) (l r a : ℕ)
+  module _ (n : ℕ) (size : Sized greatest (length card) n) (l r a : ℕ)
       (taken : takeNumbers (needed d) free last ≡ some (take (needed d) (l ∷ r ∷ a ∷ []))) where
     -- "or its store is outside the card"
     pub change-outside : (needed d ≡ 0 → l ≡ 0) → n < l → (final : Answer) → StepMade card b card b (Refused 9) (dueFor final)
@@ -162,7 +162,7 @@ module _ (card b : List ℕ) (long : length b ≡ stateWords) (doing : Doing) (d
 
 -- ---- what is decided
 
-module _ (card b : List ℕ) (long : length b ≡ stateWords) (task : Task) (holds : heldBy (memoryIn b .doing) ≡ HeldTask task) (next : First)
+module _ (greatest : ℕ) (card b : List ℕ) (long : length b ≡ stateWords) (task : Task) (holds : heldBy (memoryIn b .doing) ≡ HeldTask task) (next : First)
     (is : next ≡ decided card (memoryIn b .nodes) (memoryIn b .doing) task) where
   abbrev state : Memory
   state = memoryIn b
@@ -199,10 +199,10 @@ module _ (card b : List ℕ) (long : length b ≡ stateWords) (task : Task) (hol
       (task-prepares ∙ ap (stepPrepared card state (next .doing) (next .answer)) (laid-balanced card (next .decision) (state .free) (state .last) o))
       (block-ends (next .answer)
       (subst Ends (ap (λ (f : FirstChange). f .final) next-is)
-      (next-ends card (state .nodes) (state .free) (state .last) (state .doing) task (task-of (state .doing) task holds))))
+      (next-ends greatest card (state .nodes) (state .free) (state .last) (state .doing) task (task-of (state .doing) task holds))))
       w
 
-  pub task-changes : Sized (length card) (state .nodes) → state .rest ≡ [] → outcomeOf (next .decision) ≡ Prepared
+  pub task-changes : Sized greatest (length card) (state .nodes) → state .rest ≡ [] → outcomeOf (next .decision) ≡ Prepared
       → Changes card b (next .doing) (next .decision)
   task-changes size no-rest o =
       record {
@@ -211,6 +211,6 @@ module _ (card b : List ℕ) (long : length b ≡ stateWords) (task : Task) (hol
         holds = holds;
         none = no-rest;
         next = next-is;
-        fits = subst (λ (f : First). Fits card (f .decision)) (sym is) (decided-fits card (state .nodes) size (state .doing) task);
+        fits = subst (λ (f : First). Fits card (f .decision)) (sym is) (decided-fits greatest card (state .nodes) size (state .doing) task);
         some = o;
       }

@@ -35,16 +35,16 @@ use Rattle.call_step.proofs.StepMemory.{held-formatting, formatting-wor
 
 -- ---- a call
 
-module _ (card b : List ℕ) where
+module _ (greatest : ℕ) (card b : List ℕ) where
   -- no state
-  pub call-no-state : (length b ≡ stateWords → ⊥) → StepCall card b card b (Refused 71)
+  pub call-no-state : (length b ≡ stateWords → ⊥) → StepCall greatest card b card b (Refused 71)
   call-no-state p = record { made = λ l. absurd (p l); no-state = λ n. (refl, refl, refl) }
 
-  pub call-made : {card-after after : List ℕ} {answer : Answer} (due : Step) → length b ≡ stateWords → stepOf card (memoryIn b) ≡ due
-      → StepMade card b card-after after answer due → StepCall card b card-after after answer
+  pub call-made : {card-after after : List ℕ} {answer : Answer} (due : Step) → length b ≡ stateWords → stepOf greatest card (memoryIn b) ≡ due
+      → StepMade card b card-after after answer due → StepCall greatest card b card-after after answer
   call-made {card-after} {after} {answer} due l e s =
-      let made : StepMade card b card-after after answer (stepOf card (memoryIn b)) = subst (StepMade card b card-after after answer) (sym e) s in
-      let right = step-right card b l in
+      let made : StepMade card b card-after after answer (stepOf greatest card (memoryIn b)) = subst (StepMade card b card-after after answer) (sym e) s in
+      let right = step-right greatest card b l in
       record {
         made = λ z. record {
           answered = made .answered;
@@ -57,21 +57,21 @@ module _ (card b : List ℕ) where
 
 -- ---- "1: length not 8 + 24 × N, N 4 to 600; or N not the state's"
 
-module _ (card : List ℕ) (m : Memory) where
-  pub step-sized : Sized (length card) (m .nodes) → stepOf card m ≡ stepHeld card m (heldBy (m .doing))
+module _ (greatest : ℕ) (card : List ℕ) (m : Memory) where
+  pub step-sized : Sized greatest (length card) (m .nodes) → stepOf greatest card m ≡ stepHeld card m (heldBy (m .doing))
   unfolding stepOf
   step-sized s =
-      let e : nodesOfLength (length card) ≡ m .nodes = sized-nodes (length card) (m .nodes) s in
-      simp (ne-eqb (nodesOfLength (length card)) 0 (λ z. omega (arith, s .least, e)), eq-eqb (nodesOfLength (length card)) (m .nodes) e)
+      let e : nodesOfLength greatest (length card) ≡ m .nodes = sized-nodes greatest (length card) (m .nodes) s in
+      simp (ne-eqb (nodesOfLength greatest (length card)) 0 (λ z. omega (arith, s .least, e)), eq-eqb (nodesOfLength greatest (length card)) (m .nodes) e)
 
-  pub step-unsized : (Sized (length card) (m .nodes) → ⊥) → stepOf card m ≡ stepRefused 1 card m
+  pub step-unsized : (Sized greatest (length card) (m .nodes) → ⊥) → stepOf greatest card m ≡ stepRefused 1 card m
   unfolding stepOf
   step-unsized p =
-      by-cases (ℕ-discrete (nodesOfLength (length card)) 0)
-      (λ z. simp (eq-eqb (nodesOfLength (length card)) 0 z))
-      (λ z. by-cases (ℕ-discrete (nodesOfLength (length card)) (m .nodes))
-      (λ e. absurd (p (subst (Sized (length card)) e (nodes-sized (length card) z))))
-      (λ e. simp (ne-eqb (nodesOfLength (length card)) 0 z, ne-eqb (nodesOfLength (length card)) (m .nodes) e)))
+      by-cases (ℕ-discrete (nodesOfLength greatest (length card)) 0)
+      (λ z. simp (eq-eqb (nodesOfLength greatest (length card)) 0 z))
+      (λ z. by-cases (ℕ-discrete (nodesOfLength greatest (length card)) (m .nodes))
+      (λ e. absurd (p (subst (Sized greatest (length card)) e (nodes-sized greatest (length card) z))))
+      (λ e. simp (ne-eqb (nodesOfLength greatest (length card)) 0 z, ne-eqb (nodesOfLength greatest (length card)) (m .nodes) e)))
 
 -- ---- by what the state holds
 

@@ -60,7 +60,7 @@ Ends Absent = Unit {0}
 Ends (Value v) = Unit {0}
 Ends (Refused r) = ⊥
 
-module _ (card : List ℕ) (n : ℕ) (free : List Bool) (last : ℕ) where
+module _ (greatest : ℕ) (card : List ℕ) (n : ℕ) (free : List Bool) (last : ℕ) where
   insert-ends : (key value m link : ℕ) (node : List ℕ) (reason : Reason) → Ends (insertChange key value free last m link node reason .final)
   unfolding insertChange Ends
   insert-ends key value m link node (held v) = tt
@@ -91,10 +91,10 @@ module _ (card : List ℕ) (n : ℕ) (free : List Bool) (last : ℕ) where
   next-ends _ _ opened = tt
 
   -- what is prepared is within the bounds of a plan
-  next-bounds : (doing : Doing) (task : Task) → Sized (length card) n → WithinBounds free (nextChange card n free last doing task .preparation)
+  next-bounds : (doing : Doing) (task : Task) → Sized greatest (length card) n → WithinBounds free (nextChange card n free last doing task .preparation)
   next-bounds doing task s =
       subst (WithinBounds free) (sym (ap (λ (f : FirstChange). f .preparation) (next-decided card free last n doing task)))
-      (laid-bounds card (decided card n doing task .decision) free last (decided-fits card n s doing task))
+      (laid-bounds card (decided card n doing task .decision) free last (decided-fits greatest card n s doing task))
 
 -- ---- what is being done
 
@@ -158,7 +158,7 @@ first-prepared b f e =
 drop-next : (k : ℕ) (ss : List Store) (s : Store) (rest : List Store) → drop k ss ≡ s ∷ rest → rest ≡ drop (suc k) ss
 drop-next k ss s rest e = sym (ap (drop 1) e) ∙ drop-drop 1 k ss ∙ ap (λ (i : ℕ). drop i ss) (add-one k)
 
-module _ (card b : List ℕ) (l : length b ≡ stateWords) where
+module _ (greatest : ℕ) (card b : List ℕ) (l : length b ≡ stateWords) where
   abbrev m : Memory
   m = memoryIn b
 
@@ -242,7 +242,7 @@ module _ (card b : List ℕ) (l : length b ≡ stateWords) where
     unfolding stepPrepared WithinBounds storedBlock storedWords
     prepared-right r refused f w = refused-right 9
     prepared-right r balanced f w =
-        final-right (next .final) (next-ends card (m .nodes) (m .free) (m .last) (m .doing) task (task-of (m .doing) task e))
+        final-right (next .final) (next-ends greatest card (m .nodes) (m .free) (m .last) (m .doing) task (task-of (m .doing) task e))
     prepared-right r (prepared stores free last cut) f w =
         let plan : Plannable stores free cut = record { short = w .short; full = w .same ∙ free-full; few = w .few; readable = w .readable } in
         let then : Memory = advanced (planning m (next .doing) free last cut) (drop 1 stores) in
@@ -256,21 +256,21 @@ module _ (card b : List ℕ) (l : length b ≡ stateWords) where
         ∙ ap (storedWords b (getD stores 0 (0, 0)) then) (sym r)
         ∙ sym (on-task (getD stores 0 (0, 0)) then (m .rest)))
 
-    task-right : Sized (length card) (m .nodes) → (rest : List Store) → m .rest ≡ rest → Right (stepTask card m task rest)
+    task-right : Sized greatest (length card) (m .nodes) → (rest : List Store) → m .rest ≡ rest → Right (stepTask card m task rest)
     unfolding stepTask stepBegin
-    task-right s [] r = prepared-right r (next .preparation) refl (next-bounds card (m .nodes) (m .free) (m .last) (m .doing) task s)
+    task-right s [] r = prepared-right r (next .preparation) refl (next-bounds greatest card (m .nodes) (m .free) (m .last) (m .doing) task s)
     task-right s (x ∷ rest) r = in-hand-right x rest r
 
-  held-right : Sized (length card) (m .nodes) → (h : Held) → heldBy (m .doing) ≡ h → Right (stepHeld card m h)
+  held-right : Sized greatest (length card) (m .nodes) → (h : Held) → heldBy (m .doing) ≡ h → Right (stepHeld card m h)
   unfolding stepHeld
   held-right s Nothing e = checked-right _ (refused-right 10)
   held-right s (HeldFormatting made) e = format-right made e (formatStore (m .nodes) (length card) made)
   held-right s (HeldTask task) e = checked-right _ (task-right task e s (m .rest) refl)
 
-  pub step-right : Right (stepOf card m)
+  pub step-right : Right (stepOf greatest card m)
   unfolding stepOf
   step-right =
-      pick-either Right (eqb (nodesOfLength (length card)) 0) _ _ (λ t. refused-right 1)
-      (λ t. pick-either Right (eqb (nodesOfLength (length card)) (m .nodes)) _ _
-      (λ u. held-right (subst (Sized (length card)) (eqb-true _ _ u) (nodes-sized (length card) (eqb-false _ _ t))) (heldBy (m .doing)) refl)
+      pick-either Right (eqb (nodesOfLength greatest (length card)) 0) _ _ (λ t. refused-right 1)
+      (λ t. pick-either Right (eqb (nodesOfLength greatest (length card)) (m .nodes)) _ _
+      (λ u. held-right (subst (Sized greatest (length card)) (eqb-true _ _ u) (nodes-sized greatest (length card) (eqb-false _ _ t))) (heldBy (m .doing)) refl)
       (λ u. refused-right 1))

@@ -50,10 +50,10 @@ stepHeld card m (Formatting made) = stepFormat card m made (formatStore (m .node
 stepHeld card m (HeldTask task) = stepChecked card m (stepTask card m task (m .rest))
 
 -- "1: length not 8 + 24 × N, N 4 to 600; or N not the state's"
-unfoldable pub stepOf : List ℕ → Memory → Step
-stepOf card m =
-    pick (eqb (nodesOfLength (length card)) 0) (stepRefused 1 card m)
-    (pick (eqb (nodesOfLength (length card)) (m .nodes)) (stepHeld card m (heldBy (m .doing))) (stepRefused 1 card m))
+unfoldable pub stepOf : ℕ → List ℕ → Memory → Step
+stepOf greatest card m =
+    pick (eqb (nodesOfLength greatest (length card)) 0) (stepRefused 1 card m)
+    (pick (eqb (nodesOfLength greatest (length card)) (m .nodes)) (stepHeld card m (heldBy (m .doing))) (stepRefused 1 card m))
 
 -- how many steps a repair takes at most: 73 stores for each level that a way can have, and the final answer
 abbrev pub repairSteps : ℕ

@@ -27,8 +27,8 @@ pub record StepLeaves (before card-after after : List ℕ) (answer : Answer) (du
   pub words : after ≡ stepWords before due (due .answer)
   pub handed : memoryIn after ≡ due .memory
 
-pub record StepCall (card before card-after after : List ℕ) (answer : Answer) : Type 0 where
-  pub made : length before ≡ stateWords → StepLeaves before card-after after answer (stepOf card (memoryIn before))
+pub record StepCall (greatest : ℕ) (card before card-after after : List ℕ) (answer : Answer) : Type 0 where
+  pub made : length before ≡ stateWords → StepLeaves before card-after after answer (stepOf greatest card (memoryIn before))
   pub no-state : (length before ≡ stateWords → ⊥) → (answer ≡ Refused (noState .code)) × (after ≡ before) × (card-after ≡ card)
 
 -- the same of a part of the step, with the words of the block as the code makes them

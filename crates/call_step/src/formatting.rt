@@ -48,7 +48,7 @@ fn store_format(card: &mut [u32], state: &mut [u32], place: u32, word: u32) -> A
 
 // The store after so many, or the end: "so 8 + 24 × N + 1 stores, then ready".
 pub fn step_format(card: &mut [u32], state: &mut [u32]) -> Answer
-    requires { ⌜ (length (now state) ≡ stateWords) × (blockWord (now state) 2 ≡ 1) × Sized (length (now card)) (blockWord (now state) 0) ⌝ }
+    requires { ⌜ (length (now state) ≡ stateWords) × (blockWord (now state) 2 ≡ 1) × Sized greatestNodes (length (now card)) (blockWord (now state) 0) ⌝ }
     ensures { λ r. ⌜ StepMade (now (card .entry)) (now (state .entry)) (now (card .exit)) (now (state .exit)) r
         (stepFormat (now (card .entry)) (memoryIn (now (state .entry))) (blockWord (now (state .entry)) 3)
         (formatStore (blockWord (now (state .entry)) 0) (length (now (card .entry))) (blockWord (now (state .entry)) 3))) ⌝ }

@@ -21,14 +21,14 @@ ghost use Rattle.card.specs.Header.{Sized};
 ghost use Rattle.call_step.specs.Contracts.{StepCall};
 
 // The refusals of a step are looked at in the order of "Refusal by place"; "Formatting steps check only 1."
-pub fn step(card: &mut [u32], state: &mut [u32]) -> Answer
-    ensures { λ r. ⌜ StepCall (now (card .entry)) (now (state .entry)) (now (card .exit)) (now (state .exit)) r ⌝ }
+pub fn step(card: &mut [u32], state: &mut [u32], greatest: usize) -> Answer
+    ensures { λ r. ⌜ StepCall greatest (now (card .entry)) (now (state .entry)) (now (card .exit)) (now (state .exit)) r ⌝ }
 {
     if state.len() != STATE_WORDS {
         return Answer::Refused(NO_STATE);
     }
     let n = wide(state[NODES]);
-    if !card::is_sized(card.len(), n) {
+    if !card::is_sized(card.len(), n, greatest) {
         return Answer::Refused(1);
     }
     if state[DOING] == FORMATTING {

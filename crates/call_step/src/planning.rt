@@ -34,6 +34,7 @@ ghost use mathlib.Core.Bool.{false, not, _&&_};
 ghost use mathlib.Core.List.{[]};
 ghost use mathlib.Core.Option.{some};
 ghost use lib.ListN.{length, take};
+ghost use Rattle.card.specs.Layout.{greatestNodes};
 ghost use Rattle.card.specs.Header.{headerRefusal, Sized};
 ghost use Rattle.card_free.specs.NodeSet.{nodesOf};
 ghost use Rattle.change_decide.specs.Places.{Fits};
@@ -86,7 +87,7 @@ fn step_change(
     decision: Decision,
     size: Size,
 ) -> Answer
-    requires { ⌜ (length (now state) ≡ stateWords) × Sized (length (now card)) (blockWord (now state) 0)
+    requires { ⌜ (length (now state) ≡ stateWords) × Sized greatestNodes (length (now card)) (blockWord (now state) 0)
         × Changes (now card) (now state) doing decision × (size ≡ sizeOf decision) ⌝ }
     ensures { λ r. ⌜ ((final : Answer) → StepMade (now (card .entry)) (now (state .entry)) (now (card .exit)) (now (state .exit)) r
         (stepPrepared (now (card .entry)) (memoryIn (now (state .entry))) doing final
@@ -110,7 +111,7 @@ fn step_change(
 
 // The next change of a task: by what is decided refused, the final answer, or a change.
 fn step_task(card: &mut [u32], state: &mut [u32], doing: Doing, task: Task) -> Answer
-    requires { ⌜ (length (now state) ≡ stateWords) × Sized (length (now card)) (blockWord (now state) 0)
+    requires { ⌜ (length (now state) ≡ stateWords) × Sized greatestNodes (length (now card)) (blockWord (now state) 0)
         × (doing ≡ memoryIn (now state) .doing) × (heldBy (memoryIn (now state) .doing) ≡ HeldTask task) × (memoryIn (now state) .rest ≡ []) ⌝ }
     ensures { λ r. ⌜ StepMade (now (card .entry)) (now (state .entry)) (now (card .exit)) (now (state .exit)) r
         (stepTask (now (card .entry)) (memoryIn (now (state .entry))) task []) ⌝ }
@@ -133,7 +134,7 @@ fn step_task(card: &mut [u32], state: &mut [u32], doing: Doing, task: Task) -> A
 
 // A step that has no store left to make, nor formats: "10: state idle", or the next change of the task.
 pub fn step_plan(card: &mut [u32], state: &mut [u32]) -> Answer
-    requires { ⌜ (length (now state) ≡ stateWords) × Sized (length (now card)) (blockWord (now state) 0)
+    requires { ⌜ (length (now state) ≡ stateWords) × Sized greatestNodes (length (now card)) (blockWord (now state) 0)
         × (headerRefusal (now card) (blockWord (now state) 0) ≡ 0) × (blockWord (now state) 2 ≡ 1 → ⊥)
         × (not (isIdle (memoryIn (now state) .doing)) && moreToStore (memoryIn (now state) .rest) ≡ false) ⌝ }
     ensures { λ r. ⌜ StepMade (now (card .entry)) (now (state .entry)) (now (card .exit)) (now (state .exit)) r

@@ -7,42 +7,62 @@ use native.Mathlib.Decide.{decLt, ℕ-discrete}
 use lib.ListN.{length, getD}
 use lib.Dec.{eqb}
 use borrow.Author.Tests.{lt-ltb, le-ltb, eq-eqb, ne-eqb, eqb-true}
-use Rattle.laws.proofs.Cases.{bool-cases}
-use Rattle.card.specs.Layout.{leastNodes, greatestNodes}
+use Rattle.laws.proofs.Cases.{bool-cases, order}
+use Rattle.card.specs.Layout.{leastNodes, greatestNodes, limited}
 use Rattle.card.specs.Header.{nodesOfLength, headerRefusal, must, cardRefusal, Sized, Formatted}
 
-pub nodes-short : (len : ℕ) → len < 8 + 24 * leastNodes → nodesOfLength len ≡ 0
-unfolding nodesOfLength
-nodes-short len h = simp (lt-ltb len (8 + 24 * leastNodes) h)
+-- ---- the greatest N
 
-pub nodes-long : (len : ℕ) → 8 + 24 * greatestNodes < len → nodesOfLength len ≡ 0
-unfolding nodesOfLength
-nodes-long len h = simp (le-ltb len (8 + 24 * leastNodes) (omega arith), lt-ltb (8 + 24 * greatestNodes) len h)
+pub limited-most : (greatest : ℕ) → limited greatest ≤ greatestNodes
+limited-most greatest = order greatest greatestNodes (λ h. rw (lt-ltb greatest greatestNodes h) (omega arith)) (λ h. rw (le-ltb greatest greatestNodes h) (omega arith))
 
-module _ (len : ℕ) (least : 8 + 24 * leastNodes ≤ len) (most : len ≤ 8 + 24 * greatestNodes) where
-  pub nodes-whole : (len - 8) % 24 ≡ 0 → nodesOfLength len ≡ (len - 8) / 24
+pub limited-within : (greatest : ℕ) → limited greatest ≤ greatest
+limited-within greatest = order greatest greatestNodes (λ h. rw (lt-ltb greatest greatestNodes h) (omega arith)) (λ h. rw (le-ltb greatest greatestNodes h) h)
+
+pub within-limited : (greatest n : ℕ) → n ≤ greatest → n ≤ greatestNodes → n ≤ limited greatest
+within-limited greatest n w m = order greatest greatestNodes (λ h. rw (lt-ltb greatest greatestNodes h) w) (λ h. rw (le-ltb greatest greatestNodes h) m)
+
+-- ---- lengths
+
+module _ (greatest : ℕ) where
+  pub nodes-short : (len : ℕ) → len < 8 + 24 * leastNodes → nodesOfLength greatest len ≡ 0
   unfolding nodesOfLength
-  nodes-whole e = simp (le-ltb len (8 + 24 * leastNodes) least, le-ltb (8 + 24 * greatestNodes) len most, eq-eqb ((len - 8) % 24) 0 e)
+  nodes-short len h = simp (lt-ltb len (8 + 24 * leastNodes) h)
 
-  pub nodes-odd : ((len - 8) % 24 ≡ 0 → ⊥) → nodesOfLength len ≡ 0
+  pub nodes-long : (len : ℕ) → 8 + 24 * leastNodes ≤ len → 8 + 24 * limited greatest < len → nodesOfLength greatest len ≡ 0
   unfolding nodesOfLength
-  nodes-odd e = simp (le-ltb len (8 + 24 * leastNodes) least, le-ltb (8 + 24 * greatestNodes) len most, ne-eqb ((len - 8) % 24) 0 e)
+  nodes-long len l h = simp (le-ltb len (8 + 24 * leastNodes) l, lt-ltb (8 + 24 * limited greatest) len h)
 
--- a length that is not refused is that of a card
-pub nodes-sized : (len : ℕ) → (nodesOfLength len ≡ 0 → ⊥) → Sized len (nodesOfLength len)
-nodes-sized len p = go (decLt len (8 + 24 * leastNodes)) (decLt (8 + 24 * greatestNodes) len) (ℕ-discrete ((len - 8) % 24) 0)
-  where
-    go : Dec (len < 8 + 24 * leastNodes) → Dec (8 + 24 * greatestNodes < len) → Dec ((len - 8) % 24 ≡ 0) → Sized len (nodesOfLength len)
-    go (yes a) b c = absurd (p (nodes-short len a))
-    go (no a) (yes b) c = absurd (p (nodes-long len b))
-    go (no a) (no b) (no c) = absurd (p (nodes-odd len (omega arith) (omega arith) c))
-    go (no a) (no b) (yes c) =
-        let e = nodes-whole len (omega arith) (omega arith) c in
-        record { words = omega arith; least = omega arith; most = omega arith }
+  module _ (len : ℕ) (least : 8 + 24 * leastNodes ≤ len) (most : len ≤ 8 + 24 * limited greatest) where
+    pub nodes-whole : (len - 8) % 24 ≡ 0 → nodesOfLength greatest len ≡ (len - 8) / 24
+    unfolding nodesOfLength
+    nodes-whole e = simp (le-ltb len (8 + 24 * leastNodes) least, le-ltb (8 + 24 * limited greatest) len most, eq-eqb ((len - 8) % 24) 0 e)
 
--- and the length of a card is not refused
-pub sized-nodes : (len n : ℕ) → Sized len n → nodesOfLength len ≡ n
-sized-nodes len n s = nodes-whole len (omega (arith, s .words, s .least)) (omega (arith, s .words, s .most)) (omega (arith, s .words)) ∙ omega (arith, s .words)
+    pub nodes-odd : ((len - 8) % 24 ≡ 0 → ⊥) → nodesOfLength greatest len ≡ 0
+    unfolding nodesOfLength
+    nodes-odd e = simp (le-ltb len (8 + 24 * leastNodes) least, le-ltb (8 + 24 * limited greatest) len most, ne-eqb ((len - 8) % 24) 0 e)
+
+  -- a length that is not refused is that of a card
+  pub nodes-sized : (len : ℕ) → (nodesOfLength greatest len ≡ 0 → ⊥) → Sized greatest len (nodesOfLength greatest len)
+  nodes-sized len p = go (decLt len (8 + 24 * leastNodes)) (decLt (8 + 24 * limited greatest) len) (ℕ-discrete ((len - 8) % 24) 0)
+    where
+      go : Dec (len < 8 + 24 * leastNodes) → Dec (8 + 24 * limited greatest < len) → Dec ((len - 8) % 24 ≡ 0) → Sized greatest len (nodesOfLength greatest len)
+      go (yes a) b c = absurd (p (nodes-short len a))
+      go (no a) (yes b) c = absurd (p (nodes-long len (omega arith) b))
+      go (no a) (no b) (no c) = absurd (p (nodes-odd len (omega arith) (omega arith) c))
+      go (no a) (no b) (yes c) =
+          let e = nodes-whole len (omega arith) (omega arith) c in
+          record { words = omega arith; least = omega arith; most = omega (arith, limited-most greatest); within = omega (arith, limited-within greatest) }
+
+  -- and the length of a card is not refused
+  pub sized-nodes : (len n : ℕ) → Sized greatest len n → nodesOfLength greatest len ≡ n
+  sized-nodes len n s =
+      nodes-whole len (omega (arith, s .words, s .least)) (omega (arith, s .words, within-limited greatest n (s .within) (s .most))) (omega (arith, s .words))
+      ∙ omega (arith, s .words)
+
+-- a card of any greatest N is one of the greatest that there is
+pub sized-any : {greatest len n : ℕ} → Sized greatest len n → Sized greatestNodes len n
+sized-any s = record { words = s .words; least = s .least; most = s .most; within = s .most }
 
 must-zero : (card : List ℕ) (i v r next : ℕ) → must card i v (suc r) next ≡ 0 → (getD card i 0 ≡ v) × (next ≡ 0)
 must-zero card i v r next e =
@@ -124,17 +144,17 @@ module _ (card : List ℕ) (n : ℕ) where
       )
 
 -- refusals 1, 2 and 3
-module _ (card : List ℕ) (n : ℕ) (e : n ≡ nodesOfLength (length card)) where
-  pub card-no-length : n ≡ 0 → cardRefusal card ≡ 1
+module _ (greatest : ℕ) (card : List ℕ) (n : ℕ) (e : n ≡ nodesOfLength greatest (length card)) where
+  pub card-no-length : n ≡ 0 → cardRefusal greatest card ≡ 1
   unfolding cardRefusal
-  card-no-length z = simp (eq-eqb (nodesOfLength (length card)) 0 (sym e ∙ z))
+  card-no-length z = simp (eq-eqb (nodesOfLength greatest (length card)) 0 (sym e ∙ z))
 
-  pub card-header : (n ≡ 0 → ⊥) → cardRefusal card ≡ headerRefusal card n
+  pub card-header : (n ≡ 0 → ⊥) → cardRefusal greatest card ≡ headerRefusal card n
   unfolding cardRefusal
-  card-header p = simp (ne-eqb (nodesOfLength (length card)) 0 (λ z. p (e ∙ z)), ← e)
+  card-header p = simp (ne-eqb (nodesOfLength greatest (length card)) 0 (λ z. p (e ∙ z)), ← e)
 
-  pub sized : (n ≡ 0 → ⊥) → Sized (length card) n
-  sized p = rw e (nodes-sized (length card) (λ z. p (e ∙ z)))
+  pub sized : (n ≡ 0 → ⊥) → Sized greatest (length card) n
+  sized p = rw e (nodes-sized greatest (length card) (λ z. p (e ∙ z)))
 
-pub card-sized : (card : List ℕ) → cardRefusal card ≡ 0 → nodesOfLength (length card) ≡ 0 → ⊥
-card-sized card r z = let w = sym (card-no-length card (nodesOfLength (length card)) refl z) ∙ r in omega arith
+pub card-sized : (greatest : ℕ) (card : List ℕ) → cardRefusal greatest card ≡ 0 → nodesOfLength greatest (length card) ≡ 0 → ⊥
+card-sized greatest card r z = let w = sym (card-no-length greatest card (nodesOfLength greatest (length card)) refl z) ∙ r in omega arith

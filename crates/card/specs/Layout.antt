@@ -2,7 +2,7 @@
 use mathlib.Core.List.{List, [], _∷_, _++_}
 use Prim.Native.Nat.{ℕ, zero, suc, _+_, _-_, _*_}
 use lib.ListN.{length, getD, take, drop}
-use lib.Dec.{eqb}
+use lib.Dec.{eqb, ltb}
 use Rattle.laws.specs.Cases.{pick}
 use Rattle.laws.specs.Lists.{beforeZero, pad}
 
@@ -12,6 +12,11 @@ leastNodes = 4
 
 abbrev pub greatestNodes : ℕ
 greatestNodes = 600
+
+-- The calls are made for cards up to some greatest N, which every definition of them takes as `greatest`. A state has bits for so many
+-- nodes, and a greatest N above that stands for it.
+abbrev pub limited : ℕ → ℕ
+limited greatest = pick (ltb greatest greatestNodes) greatest greatestNodes
 
 -- the cards that the programs are made for
 abbrev pub programNodes : ℕ

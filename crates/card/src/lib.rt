@@ -12,7 +12,7 @@ ghost use mathlib.Core.Path.{_≡_};
 ghost use mathlib.Core.Bool.{true, false};
 ghost use Prim.Native.Nat.{_+_, _*_, _≤_};
 ghost use lib.ListN.{length};
-ghost use Rattle.card.specs.Layout.{greatestNodes, nodeAt, children, isKey, leafPairs};
+ghost use Rattle.card.specs.Layout.{greatestNodes, limited, nodeAt, children, isKey, leafPairs};
 ghost use Rattle.card.specs.Header.{nodesOfLength, headerRefusal, cardRefusal, Sized};
 
 // The numbers of the drawing: the only places in code where they stand.
@@ -77,14 +77,25 @@ pub const LOWEST_KEY: u32 = 1;
 
 pub const KEY_LIMIT: u64 = 4294967296;
 
+// The calls are made for cards up to some greatest N; one that is too great stands for the greatest that there is.
+pub fn limit(greatest: usize) -> usize
+    ensures { λ r. ⌜ (r ≡ limited greatest) × (r ≤ greatestNodes) ⌝ }
+{
+    if greatest < GREATEST_NODES {
+        greatest
+    } else {
+        GREATEST_NODES
+    }
+}
+
 // How many nodes a card of so many words has; 0 where no card has that length.
-pub fn nodes_of(length: usize) -> usize
-    ensures { λ r. ⌜ r ≡ nodesOfLength length ⌝ }
+pub fn nodes_of(length: usize, greatest: usize) -> usize
+    ensures { λ r. ⌜ r ≡ nodesOfLength greatest length ⌝ }
 {
     if length < HEADER_WORDS + NODE_WORDS * LEAST_NODES {
         return 0;
     }
-    if HEADER_WORDS + NODE_WORDS * GREATEST_NODES < length {
+    if HEADER_WORDS + NODE_WORDS * limit(greatest) < length {
         return 0;
     }
     if (length - HEADER_WORDS) % NODE_WORDS == 0 {
@@ -95,13 +106,13 @@ pub fn nodes_of(length: usize) -> usize
 }
 
 // Whether a card of so many words has n nodes: "8 + 24 × N words, N 4 to 600". N is known, so nothing is divided.
-pub fn is_sized(length: usize, n: usize) -> bool
-    ensures { λ r. ⌜ (r ≡ true → Sized length n) × (r ≡ false → Sized length n → ⊥) ⌝ }
+pub fn is_sized(length: usize, n: usize, greatest: usize) -> bool
+    ensures { λ r. ⌜ (r ≡ true → Sized greatest length n) × (r ≡ false → Sized greatest length n → ⊥) ⌝ }
 {
     if n < LEAST_NODES {
         return false;
     }
-    if GREATEST_NODES < n {
+    if limit(greatest) < n {
         return false;
     }
     length == HEADER_WORDS + NODE_WORDS * n
@@ -137,10 +148,10 @@ pub fn header_refusal(card: &[u32], n: usize) -> u32
 }
 
 // The refusals 1, 2 and 3 of a call on a card, in this order; 0 where none is due.
-pub fn card_refusal(card: &[u32]) -> u32
-    ensures { λ r. ⌜ r ≡ cardRefusal (now (card .entry)) ⌝ }
+pub fn card_refusal(card: &[u32], greatest: usize) -> u32
+    ensures { λ r. ⌜ r ≡ cardRefusal greatest (now (card .entry)) ⌝ }
 {
-    let n = nodes_of(card.len());
+    let n = nodes_of(card.len(), greatest);
     if n == 0 {
         return 1;
     }

@@ -9,19 +9,14 @@ use lib.ListN.{length, getD, drop}
 use borrow.Author.Tests.{lt-ltb, le-ltb, ltb-false, eq-eqb, ne-eqb, eqb-true, not-false}
 use Rattle.laws.proofs.Cases.{bool-cases, impossible}
 use Rattle.laws.specs.Lists.{allZero}
-use Rattle.card.specs.Layout.{leastNodes, greatestNodes}
+use Rattle.card.specs.Layout.{leastNodes, greatestNodes, limited}
 use Rattle.card.specs.Header.{nodesOfLength, cardRefusal, Sized, Formatted}
-use Rattle.card.proofs.HeaderLaws.{nodes-sized, header-formatted, card-no-length, card-header}
+use Rattle.card.proofs.HeaderLaws.{limited-most, limited-within, within-limited, nodes-sized, header-formatted, card-no-length, card-header}
 use Rattle.card_dump.specs.Dump.{paddedLength, dumpOf, dumpWords, wordsFor, greatestDump, dumpNodes, faults, any, damaged, fittingLength, lentAfter, readAnswer, readOver, writeAnswer, writeOver}
 use Rattle.card_dump.specs.declared.Answer.{Answer}
 use Rattle.card_dump.specs.declared.Answer.the-variants.{Length, Refused}
 
 -- ---- the padded length
-
--- "or above 57,856"
-pub greatest-dump : greatestDump ≡ 57856
-unfolding paddedLength
-greatest-dump = refl
 
 pub padded-covers : (words : ℕ) → 4 * words ≤ paddedLength words
 unfolding paddedLength
@@ -31,9 +26,14 @@ pub padded-whole : (words : ℕ) → paddedLength words % 512 ≡ 0
 unfolding paddedLength
 padded-whole words = omega arith
 
-pub padded-most : (words : ℕ) → words ≤ wordsFor greatestNodes → paddedLength words ≤ greatestDump
+pub padded-most : (greatest : ℕ) (words : ℕ) → words ≤ wordsFor (limited greatest) → paddedLength words ≤ greatestDump greatest
 unfolding paddedLength
-padded-most words h = omega arith
+padded-most greatest words h = omega arith
+
+-- "or above 57,856": no dump is longer than that of the greatest card that there is
+pub greatest-dump : (greatest : ℕ) → greatestDump greatest ≤ greatestDump greatestNodes
+unfolding paddedLength
+greatest-dump greatest = omega (arith, limited-most greatest)
 
 -- ---- refusal 11
 
@@ -50,67 +50,70 @@ any-none (false ∷ ts) zero e = refl
 any-none (false ∷ ts) (suc k) e = any-none ts k e
 
 -- any one of the faults is enough
-module _ (dump : List ℕ) where
-  pub damaged-empty : length dump ≡ 0 → damaged dump ≡ true
+module _ (greatest : ℕ) (dump : List ℕ) where
+  pub damaged-empty : length dump ≡ 0 → damaged greatest dump ≡ true
   unfolding damaged faults
-  damaged-empty h = any-one (faults dump) 0 (eq-eqb _ _ h)
+  damaged-empty h = any-one (faults greatest dump) 0 (eq-eqb _ _ h)
 
-  pub damaged-odd : (length dump % 512 ≡ 0 → ⊥) → damaged dump ≡ true
+  pub damaged-odd : (length dump % 512 ≡ 0 → ⊥) → damaged greatest dump ≡ true
   unfolding damaged faults
-  damaged-odd h = any-one (faults dump) 1 (ap not (ne-eqb _ _ h))
+  damaged-odd h = any-one (faults greatest dump) 1 (ap not (ne-eqb _ _ h))
 
-  pub damaged-long : greatestDump < length dump → damaged dump ≡ true
+  pub damaged-long : greatestDump greatest < length dump → damaged greatest dump ≡ true
   unfolding damaged faults
-  damaged-long h = any-one (faults dump) 2 (lt-ltb _ _ h)
+  damaged-long h = any-one (faults greatest dump) 2 (lt-ltb _ _ h)
 
-  pub damaged-few : dumpNodes dump < leastNodes → damaged dump ≡ true
+  pub damaged-few : dumpNodes dump < leastNodes → damaged greatest dump ≡ true
   unfolding damaged faults
-  damaged-few h = any-one (faults dump) 3 (lt-ltb _ _ h)
+  damaged-few h = any-one (faults greatest dump) 3 (lt-ltb _ _ h)
 
-  pub damaged-many : greatestNodes < dumpNodes dump → damaged dump ≡ true
+  pub damaged-many : limited greatest < dumpNodes dump → damaged greatest dump ≡ true
   unfolding damaged faults
-  damaged-many h = any-one (faults dump) 4 (lt-ltb _ _ h)
+  damaged-many h = any-one (faults greatest dump) 4 (lt-ltb _ _ h)
 
-  pub damaged-length : (paddedLength (wordsFor (dumpNodes dump)) ≡ length dump → ⊥) → damaged dump ≡ true
+  pub damaged-length : (paddedLength (wordsFor (dumpNodes dump)) ≡ length dump → ⊥) → damaged greatest dump ≡ true
   unfolding damaged faults
-  damaged-length h = any-one (faults dump) 5 (ap not (ne-eqb _ _ h))
+  damaged-length h = any-one (faults greatest dump) 5 (ap not (ne-eqb _ _ h))
 
-  pub damaged-padding : allZero (drop (4 * wordsFor (dumpNodes dump)) dump) ≡ false → damaged dump ≡ true
+  pub damaged-padding : allZero (drop (4 * wordsFor (dumpNodes dump)) dump) ≡ false → damaged greatest dump ≡ true
   unfolding damaged faults
-  damaged-padding h = any-one (faults dump) 6 (ap not h)
+  damaged-padding h = any-one (faults greatest dump) 6 (ap not h)
 
 -- a dump that is not refused with 11
-pub record Whole (dump : List ℕ) : Type 0 where
+pub record Whole (greatest : ℕ) (dump : List ℕ) : Type 0 where
   pub least : leastNodes ≤ dumpNodes dump
   pub most : dumpNodes dump ≤ greatestNodes
+  pub within : dumpNodes dump ≤ greatest
   pub padded : paddedLength (wordsFor (dumpNodes dump)) ≡ length dump
   pub zeros : allZero (drop (4 * wordsFor (dumpNodes dump)) dump) ≡ true
 
-pub undamaged-whole : (dump : List ℕ) → damaged dump ≡ false → Whole dump
+pub undamaged-whole : (greatest : ℕ) (dump : List ℕ) → damaged greatest dump ≡ false → Whole greatest dump
 unfolding damaged faults
-undamaged-whole dump e = record {
-  least = ltb-false _ _ (any-none (faults dump) 3 e);
-  most = ltb-false _ _ (any-none (faults dump) 4 e);
-  padded = eqb-true _ _ (not-false _ (any-none (faults dump) 5 e));
-  zeros = not-false _ (any-none (faults dump) 6 e);
-}
+undamaged-whole greatest dump e =
+    let few : dumpNodes dump ≤ limited greatest = ltb-false _ _ (any-none (faults greatest dump) 4 e) in record {
+      least = ltb-false _ _ (any-none (faults greatest dump) 3 e);
+      most = omega (arith, few, limited-most greatest);
+      within = omega (arith, few, limited-within greatest);
+      padded = eqb-true _ _ (not-false _ (any-none (faults greatest dump) 5 e));
+      zeros = not-false _ (any-none (faults greatest dump) 6 e);
+    }
 
-pub whole-covers : {dump : List ℕ} → Whole dump → 4 * wordsFor (dumpNodes dump) ≤ length dump
-whole-covers {dump} w = omega (arith, padded-covers (wordsFor (dumpNodes dump)), w .padded)
+pub whole-covers : {greatest : ℕ} {dump : List ℕ} → Whole greatest dump → 4 * wordsFor (dumpNodes dump) ≤ length dump
+whole-covers {dump = dump} w = omega (arith, padded-covers (wordsFor (dumpNodes dump)), w .padded)
 
 -- the first three tests follow from the others
-pub whole-undamaged : (dump : List ℕ) → Whole dump → damaged dump ≡ false
+pub whole-undamaged : (greatest : ℕ) (dump : List ℕ) → Whole greatest dump → damaged greatest dump ≡ false
 unfolding damaged faults
-whole-undamaged dump w =
+whole-undamaged greatest dump w =
     let covers = whole-covers w in
     let whole = padded-whole (wordsFor (dumpNodes dump)) in
-    let most = padded-most (wordsFor (dumpNodes dump)) (omega (arith, w .most)) in
+    let most = padded-most greatest (wordsFor (dumpNodes dump)) (omega (arith, within-limited greatest _ (w .within) (w .most))) in
     simp (
       ne-eqb (length dump) 0 (λ e. omega (arith, w .padded)),
       eq-eqb (length dump % 512) 0 (ap (λ (k : ℕ). k % 512) (sym (w .padded)) ∙ whole),
-      le-ltb greatestDump (length dump) (omega (arith, w .padded)),
+      le-ltb (greatestDump greatest) (length dump) (omega (arith, w .padded)),
       le-ltb (dumpNodes dump) leastNodes (w .least),
-      le-ltb greatestNodes (dumpNodes dump) (w .most),
+      le-ltb (limited greatest) (dumpNodes dump) (within-limited greatest _ (w .within) (w .most)),
       eq-eqb (paddedLength (wordsFor (dumpNodes dump))) (length dump) (w .padded),
       w .zeros,
     )
@@ -118,16 +121,16 @@ whole-undamaged dump w =
 -- ---- refusals 1, 2, 3 and 12
 
 -- a card that is not refused
-pub record Good (card : List ℕ) : Type 0 where
-  pub sized : Sized (length card) (nodesOfLength (length card))
-  pub header : Formatted card (nodesOfLength (length card))
+pub record Good (greatest : ℕ) (card : List ℕ) : Type 0 where
+  pub sized : Sized greatest (length card) (nodesOfLength greatest (length card))
+  pub header : Formatted card (nodesOfLength greatest (length card))
 
-pub good-card : (card : List ℕ) → cardRefusal card ≡ 0 → Good card
-good-card card e = go (ℕ-discrete (nodesOfLength (length card)) 0)
+pub good-card : (greatest : ℕ) (card : List ℕ) → cardRefusal greatest card ≡ 0 → Good greatest card
+good-card greatest card e = go (ℕ-discrete (nodesOfLength greatest (length card)) 0)
   where
-    go : Dec (nodesOfLength (length card) ≡ 0) → Good card
-    go (yes z) = absurd (omega (arith, card-no-length card _ refl z))
-    go (no z) = record { sized = nodes-sized (length card) z; header = header-formatted card _ (sym (card-header card _ refl z) ∙ e) }
+    go : Dec (nodesOfLength greatest (length card) ≡ 0) → Good greatest card
+    go (yes z) = absurd (omega (arith, card-no-length greatest card _ refl z))
+    go (no z) = record { sized = nodes-sized greatest (length card) z; header = header-formatted card _ (sym (card-header greatest card _ refl z) ∙ e) }
 
 pub room-short : (size lent : ℕ) → lent < size → fittingLength size lent ≡ Refused 12
 unfolding fittingLength
@@ -149,80 +152,81 @@ room-length size lent n e = go (decLt lent size)
 
 -- ---- reading
 
-module _ (dump : List ℕ) (lent : ℕ) where
-  pub read-damaged : damaged dump ≡ true → readAnswer dump lent ≡ Refused 11
+module _ (greatest : ℕ) (dump : List ℕ) (lent : ℕ) where
+  pub read-damaged : damaged greatest dump ≡ true → readAnswer greatest dump lent ≡ Refused 11
   unfolding readAnswer
   read-damaged h = rw h
 
-  pub read-whole : damaged dump ≡ false → readAnswer dump lent ≡ fittingLength (wordsFor (dumpNodes dump)) lent
+  pub read-whole : damaged greatest dump ≡ false → readAnswer greatest dump lent ≡ fittingLength (wordsFor (dumpNodes dump)) lent
   unfolding readAnswer
   read-whole h = rw h
 
 -- what the lent words become, from the answer
-read-stores : (dump words : List ℕ) (a : Answer) → readAnswer dump (length words) ≡ a → readOver dump words ≡ lentAfter a (dumpWords (wordsFor (dumpNodes dump)) dump) words
+read-stores : (greatest : ℕ) (dump words : List ℕ) (a : Answer) → readAnswer greatest dump (length words) ≡ a
+    → readOver greatest dump words ≡ lentAfter a (dumpWords (wordsFor (dumpNodes dump)) dump) words
 unfolding readOver
-read-stores dump words a e = ap (λ (x : Answer). lentAfter x (dumpWords (wordsFor (dumpNodes dump)) dump) words) e
+read-stores greatest dump words a e = ap (λ (x : Answer). lentAfter x (dumpWords (wordsFor (dumpNodes dump)) dump) words) e
 
 -- a dump that is read is whole, and its result is a card's length and fits
-pub record Read (dump : List ℕ) (lent n : ℕ) : Type 0 where
-  pub whole : Whole dump
-  pub sized : Sized n (dumpNodes dump)
+pub record Read (greatest : ℕ) (dump : List ℕ) (lent n : ℕ) : Type 0 where
+  pub whole : Whole greatest dump
+  pub sized : Sized greatest n (dumpNodes dump)
   pub room : n ≤ lent
 
-pub read-sized : (dump : List ℕ) (lent n : ℕ) → readAnswer dump lent ≡ Length n → Read dump lent n
-read-sized dump lent n e =
-    bool-cases (damaged dump)
-    (λ h. let w = read-damaged dump lent h in impossible (cc))
+pub read-sized : (greatest : ℕ) (dump : List ℕ) (lent n : ℕ) → readAnswer greatest dump lent ≡ Length n → Read greatest dump lent n
+read-sized greatest dump lent n e =
+    bool-cases (damaged greatest dump)
+    (λ h. let w = read-damaged greatest dump lent h in impossible (cc))
     (λ h.
-    let w = undamaged-whole dump h in
-    let r = room-length _ lent n (sym (read-whole dump lent h) ∙ e) in
-    record { whole = w; sized = record { words = r .0; least = w .least; most = w .most }; room = r .1 })
+    let w = undamaged-whole greatest dump h in
+    let r = room-length _ lent n (sym (read-whole greatest dump lent h) ∙ e) in
+    record { whole = w; sized = record { words = r .0; least = w .least; most = w .most; within = w .within }; room = r .1 })
 
 -- the lent words then begin with those of the dump; refused, they are as they were
-module _ (dump words : List ℕ) where
-  pub read-words : (n : ℕ) → readAnswer dump (length words) ≡ Length n → readOver dump words ≡ dumpWords n dump ++ drop n words
+module _ (greatest : ℕ) (dump words : List ℕ) where
+  pub read-words : (n : ℕ) → readAnswer greatest dump (length words) ≡ Length n → readOver greatest dump words ≡ dumpWords n dump ++ drop n words
   read-words n e =
-      read-stores dump words (Length n) e
-      ∙ ap (λ (k : ℕ). dumpWords k dump ++ drop n words) (sym (read-sized dump (length words) n e .sized .words))
+      read-stores greatest dump words (Length n) e
+      ∙ ap (λ (k : ℕ). dumpWords k dump ++ drop n words) (sym (read-sized greatest dump (length words) n e .sized .words))
 
-  pub read-refused : (r : ℕ) → readAnswer dump (length words) ≡ Refused r → readOver dump words ≡ words
-  read-refused r e = read-stores dump words (Refused r) e
+  pub read-refused : (r : ℕ) → readAnswer greatest dump (length words) ≡ Refused r → readOver greatest dump words ≡ words
+  read-refused r e = read-stores greatest dump words (Refused r) e
 
 -- ---- writing
 
-module _ (card : List ℕ) (lent : ℕ) where
-  pub write-refuses : (r : ℕ) → cardRefusal card ≡ r → (r ≡ 0 → ⊥) → writeAnswer card lent ≡ Refused r
+module _ (greatest : ℕ) (card : List ℕ) (lent : ℕ) where
+  pub write-refuses : (r : ℕ) → cardRefusal greatest card ≡ r → (r ≡ 0 → ⊥) → writeAnswer greatest card lent ≡ Refused r
   unfolding writeAnswer
-  write-refuses r e h = rw (ne-eqb (cardRefusal card) 0 (λ z. h (sym e ∙ z))) (ap Refused e)
+  write-refuses r e h = rw (ne-eqb (cardRefusal greatest card) 0 (λ z. h (sym e ∙ z))) (ap Refused e)
 
-  pub write-good : cardRefusal card ≡ 0 → writeAnswer card lent ≡ fittingLength (paddedLength (length card)) lent
+  pub write-good : cardRefusal greatest card ≡ 0 → writeAnswer greatest card lent ≡ fittingLength (paddedLength (length card)) lent
   unfolding writeAnswer
-  write-good e = simp (eq-eqb (cardRefusal card) 0 e)
+  write-good e = simp (eq-eqb (cardRefusal greatest card) 0 e)
 
 -- what the lent bytes become, from the answer
-write-stores : (card bytes : List ℕ) (a : Answer) → writeAnswer card (length bytes) ≡ a → writeOver card bytes ≡ lentAfter a (dumpOf card) bytes
+write-stores : (greatest : ℕ) (card bytes : List ℕ) (a : Answer) → writeAnswer greatest card (length bytes) ≡ a → writeOver greatest card bytes ≡ lentAfter a (dumpOf card) bytes
 unfolding writeOver
-write-stores card bytes a e = ap (λ (x : Answer). lentAfter x (dumpOf card) bytes) e
+write-stores greatest card bytes a e = ap (λ (x : Answer). lentAfter x (dumpOf card) bytes) e
 
 -- a card that is written is a formatted one, and its dump fits
-pub record Written (card : List ℕ) (lent n : ℕ) : Type 0 where
-  pub good : Good card
+pub record Written (greatest : ℕ) (card : List ℕ) (lent n : ℕ) : Type 0 where
+  pub good : Good greatest card
   pub size : n ≡ paddedLength (length card)
   pub room : n ≤ lent
 
-pub write-sized : (card : List ℕ) (lent n : ℕ) → writeAnswer card lent ≡ Length n → Written card lent n
-write-sized card lent n e = go (ℕ-discrete (cardRefusal card) 0)
+pub write-sized : (greatest : ℕ) (card : List ℕ) (lent n : ℕ) → writeAnswer greatest card lent ≡ Length n → Written greatest card lent n
+write-sized greatest card lent n e = go (ℕ-discrete (cardRefusal greatest card) 0)
   where
-    go : Dec (cardRefusal card ≡ 0) → Written card lent n
-    go (no h) = let w = write-refuses card lent (cardRefusal card) refl h in impossible (cc)
+    go : Dec (cardRefusal greatest card ≡ 0) → Written greatest card lent n
+    go (no h) = let w = write-refuses greatest card lent (cardRefusal greatest card) refl h in impossible (cc)
     go (yes h) =
-        let r = room-length _ lent n (sym (write-good card lent h) ∙ e) in
-        record { good = good-card card h; size = r .0; room = r .1 }
+        let r = room-length _ lent n (sym (write-good greatest card lent h) ∙ e) in
+        record { good = good-card greatest card h; size = r .0; room = r .1 }
 
 -- the lent bytes then begin with the dump; refused, they are as they were
-module _ (card bytes : List ℕ) where
-  pub write-bytes : (n : ℕ) → writeAnswer card (length bytes) ≡ Length n → writeOver card bytes ≡ dumpOf card ++ drop n bytes
-  write-bytes n e = write-stores card bytes (Length n) e
+module _ (greatest : ℕ) (card bytes : List ℕ) where
+  pub write-bytes : (n : ℕ) → writeAnswer greatest card (length bytes) ≡ Length n → writeOver greatest card bytes ≡ dumpOf card ++ drop n bytes
+  write-bytes n e = write-stores greatest card bytes (Length n) e
 
-  pub write-refused : (r : ℕ) → writeAnswer card (length bytes) ≡ Refused r → writeOver card bytes ≡ bytes
-  write-refused r e = write-stores card bytes (Refused r) e
+  pub write-refused : (r : ℕ) → writeAnswer greatest card (length bytes) ≡ Refused r → writeOver greatest card bytes ≡ bytes
+  write-refused r e = write-stores greatest card bytes (Refused r) e

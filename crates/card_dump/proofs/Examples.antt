@@ -4,7 +4,7 @@ use mathlib.Core.List.{List, [], _∷_, _++_}
 use Prim.Native.Nat.{ℕ}
 use lib.ListN.{set}
 use Rattle.laws.specs.Lists.{pad}
-use Rattle.card.specs.Layout.{nodeImage}
+use Rattle.card.specs.Layout.{greatestNodes, nodeImage}
 use Rattle.card.specs.Header.{nodesOfLength, headerRefusal, cardRefusal}
 use Rattle.card_dump.specs.Dump.{wordBytes, cardBytes, paddedLength, dumpOf, wordAt, dumpWords, faults, damaged, fittingLength, readAnswer, writeAnswer}
 use Rattle.card_dump.specs.declared.Answer.the-variants.{Length, Refused}
@@ -14,15 +14,15 @@ unfoldable pub example : List ℕ
 example = pad 104 ((1 ∷ 4 ∷ 8 ∷ 24 ∷ 1 ∷ 0 ∷ 0 ∷ 0 ∷ []) ++ nodeImage 1 (7 ∷ 3 ∷ []) (70 ∷ 31 ∷ []))
 
 -- "padded to 512 bytes"
-example-write : writeAnswer example 512 ≡ Length 512
+example-write : writeAnswer greatestNodes example 512 ≡ Length 512
 unfolding example nodeImage writeAnswer cardRefusal headerRefusal nodesOfLength fittingLength paddedLength
 example-write = refl
 
-example-no-room : writeAnswer example 511 ≡ Refused 12
+example-no-room : writeAnswer greatestNodes example 511 ≡ Refused 12
 unfolding example nodeImage writeAnswer cardRefusal headerRefusal nodesOfLength fittingLength paddedLength
 example-no-room = refl
 
-example-read : readAnswer (dumpOf example) 104 ≡ Length 104
+example-read : readAnswer greatestNodes (dumpOf example) 104 ≡ Length 104
 unfolding example nodeImage readAnswer damaged faults fittingLength dumpOf cardBytes wordBytes wordAt paddedLength
 example-read = refl
 
@@ -31,10 +31,10 @@ unfolding example nodeImage dumpWords dumpOf cardBytes wordBytes wordAt paddedLe
 example-words = refl
 
 -- a dump is read whatever its mark is, and not with a padding byte that is not 0
-example-mark : readAnswer (set (dumpOf example) 0 0) 104 ≡ Length 104
+example-mark : readAnswer greatestNodes (set (dumpOf example) 0 0) 104 ≡ Length 104
 unfolding example nodeImage readAnswer damaged faults fittingLength dumpOf cardBytes wordBytes wordAt paddedLength
 example-mark = refl
 
-example-padding : readAnswer (set (dumpOf example) 416 1) 104 ≡ Refused 11
+example-padding : readAnswer greatestNodes (set (dumpOf example) 416 1) 104 ≡ Refused 11
 unfolding example nodeImage readAnswer damaged faults fittingLength dumpOf cardBytes wordBytes wordAt paddedLength
 example-padding = refl

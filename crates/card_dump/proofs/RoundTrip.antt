@@ -35,7 +35,7 @@ words-back [] rest fits = refl
 words-back (w ∷ card) rest fits = ap₂ (λ (x : ℕ) (l : List ℕ). x ∷ l) (word-back w (fits 0)) (words-back card rest (λ i. fits (suc i)))
 
 -- a card's words, as those of any lent slice, are below 2 ^ 32
-module _ (card : List ℕ) (fits : (i : ℕ) → getD card i 0 < 2 ^ 32) where
+module _ (greatest : ℕ) (card : List ℕ) (fits : (i : ℕ) → getD card i 0 < 2 ^ 32) where
   pub dump-words : dumpWords (length card) (dumpOf card) ≡ card
   unfolding dumpOf
   dump-words = words-back card _ fits
@@ -44,8 +44,8 @@ module _ (card : List ℕ) (fits : (i : ℕ) → getD card i 0 < 2 ^ 32) where
   dump-word i h = sym (get-dumpWords (length card) (dumpOf card) i h) ∙ ap (λ (l : List ℕ). getD l i 0) dump-words
 
   -- the dump of a formatted card says the card's N
-  module _ (good : Good card) where
-    pub dump-nodes : dumpNodes (dumpOf card) ≡ nodesOfLength (length card)
+  module _ (good : Good greatest card) where
+    pub dump-nodes : dumpNodes (dumpOf card) ≡ nodesOfLength greatest (length card)
     dump-nodes = dump-word 1 (omega (arith, good .sized .words)) ∙ good .header .nodes
 
     words-same : wordsFor (dumpNodes (dumpOf card)) ≡ length card
@@ -55,25 +55,26 @@ module _ (card : List ℕ) (fits : (i : ℕ) → getD card i 0 < 2 ^ 32) where
     unfolding dumpOf
     zeros-after = drop-at (cardBytes card) _ (4 * length card) (length-cardBytes card)
 
-    pub dump-whole : Whole (dumpOf card)
+    pub dump-whole : Whole greatest (dumpOf card)
     dump-whole =
         record {
           least = omega (arith, dump-nodes, good .sized .least);
           most = omega (arith, dump-nodes, good .sized .most);
+          within = omega (arith, dump-nodes, good .sized .within);
           padded = ap paddedLength words-same ∙ sym (length-dump card);
           zeros = rw (words-same, zeros-after) (all-zero-replicate (paddedLength (length card) - length (cardBytes card)));
         }
 
 -- For a card that a write accepts, the written bytes are read as the card's words, over any slice that is long enough.
-pub round-trip : (card bytes words : List ℕ) (size : ℕ) → ((i : ℕ) → getD card i 0 < 2 ^ 32) → writeAnswer card (length bytes) ≡ Length size → length card ≤ length words
-    → (length card ≡ 8 + 24 * nodesOfLength (length card))
-    × (readAnswer (take size (writeOver card bytes)) (length words) ≡ Length (length card))
-    × (readOver (take size (writeOver card bytes)) words ≡ card ++ drop (length card) words)
-round-trip card bytes words size fits e room =
-    let w = write-sized card (length bytes) size e in
-    let same : take size (writeOver card bytes) ≡ dumpOf card =
-    ap (take size) (write-bytes card bytes size e) ∙ take-at (dumpOf card) _ size (length-dump card ∙ sym (w .size)) in
-    let answered : readAnswer (dumpOf card) (length words) ≡ Length (length card) =
-    read-whole _ _ (whole-undamaged (dumpOf card) (dump-whole card fits (w .good)))
-    ∙ ap (λ (k : ℕ). fittingLength k (length words)) (words-same card fits (w .good)) ∙ room-long _ _ room in
-    rw same (w .good .sized .words, answered, read-words (dumpOf card) words (length card) answered ∙ ap (λ (l : List ℕ). l ++ drop (length card) words) (dump-words card fits))
+pub round-trip : (greatest : ℕ) (card bytes words : List ℕ) (size : ℕ) → ((i : ℕ) → getD card i 0 < 2 ^ 32) → writeAnswer greatest card (length bytes) ≡ Length size → length card ≤ length words
+    → (length card ≡ 8 + 24 * nodesOfLength greatest (length card))
+    × (readAnswer greatest (take size (writeOver greatest card bytes)) (length words) ≡ Length (length card))
+    × (readOver greatest (take size (writeOver greatest card bytes)) words ≡ card ++ drop (length card) words)
+round-trip greatest card bytes words size fits e room =
+    let w = write-sized greatest card (length bytes) size e in
+    let same : take size (writeOver greatest card bytes) ≡ dumpOf card =
+    ap (take size) (write-bytes greatest card bytes size e) ∙ take-at (dumpOf card) _ size (length-dump card ∙ sym (w .size)) in
+    let answered : readAnswer greatest (dumpOf card) (length words) ≡ Length (length card) =
+    read-whole greatest _ _ (whole-undamaged greatest (dumpOf card) (dump-whole greatest card fits (w .good)))
+    ∙ ap (λ (k : ℕ). fittingLength k (length words)) (words-same greatest card fits (w .good)) ∙ room-long _ _ room in
+    rw same (w .good .sized .words, answered, read-words greatest (dumpOf card) words (length card) answered ∙ ap (λ (l : List ℕ). l ++ drop (length card) words) (dump-words greatest card fits))

@@ -7,7 +7,7 @@ use lib.ListN.{length, getD, drop}
 use lib.Dec.{eqb, ltb}
 use Rattle.laws.specs.Cases.{pick}
 use Rattle.laws.specs.Lists.{pad, allZero}
-use Rattle.card.specs.Layout.{leastNodes, greatestNodes}
+use Rattle.card.specs.Layout.{leastNodes, limited}
 use Rattle.card.specs.Header.{cardRefusal}
 use Rattle.card_dump.specs.declared.Answer.{Answer}
 use Rattle.card_dump.specs.declared.Answer.the-variants.{Length, Refused}
@@ -47,8 +47,8 @@ abbrev pub wordsFor : ℕ → ℕ
 wordsFor n = 8 + 24 * n
 
 -- "57,856": the dump's length for the greatest N
-abbrev pub greatestDump : ℕ
-greatestDump = paddedLength (wordsFor greatestNodes)
+abbrev pub greatestDump : ℕ → ℕ
+greatestDump greatest = paddedLength (wordsFor (limited greatest))
 
 -- N as a dump says it: "word 1"
 abbrev pub dumpNodes : List ℕ → ℕ
@@ -56,13 +56,13 @@ dumpNodes dump = wordAt dump 1
 
 -- "Refusal 11: length 0, not a multiple of 512, or above 57,856; word 1 not 4 to 600; padded length for that N not the
 -- dump's; a padding byte not 0."
-unfoldable pub faults : List ℕ → List Bool
-faults dump =
+unfoldable pub faults : ℕ → List ℕ → List Bool
+faults greatest dump =
     eqb (length dump) 0
     ∷ not (eqb (length dump % 512) 0)
-    ∷ ltb greatestDump (length dump)
+    ∷ ltb (greatestDump greatest) (length dump)
     ∷ ltb (dumpNodes dump) leastNodes
-    ∷ ltb greatestNodes (dumpNodes dump)
+    ∷ ltb (limited greatest) (dumpNodes dump)
     ∷ not (eqb (paddedLength (wordsFor (dumpNodes dump))) (length dump))
     ∷ not (allZero (drop (4 * wordsFor (dumpNodes dump)) dump))
     ∷ []
@@ -73,8 +73,8 @@ any [] = false
 any (t ∷ ts) = t || any ts
 
 -- refusal 11 is due
-unfoldable pub damaged : List ℕ → Bool
-damaged dump = any (faults dump)
+unfoldable pub damaged : ℕ → List ℕ → Bool
+damaged greatest dump = any (faults greatest dump)
 
 -- "The answer is the result's length in words or bytes"; "12: lent slice shorter than the result"
 unfoldable pub fittingLength : ℕ → ℕ → Answer
@@ -88,19 +88,19 @@ lentAfter (Refused r) result lent = lent
 -- ---- "Reading a dump checks 11, 12"
 
 -- the answer, where so many words are lent
-unfoldable pub readAnswer : List ℕ → ℕ → Answer
-readAnswer dump lent = pick (damaged dump) (Refused 11) (fittingLength (wordsFor (dumpNodes dump)) lent)
+unfoldable pub readAnswer : ℕ → List ℕ → ℕ → Answer
+readAnswer greatest dump lent = pick (damaged greatest dump) (Refused 11) (fittingLength (wordsFor (dumpNodes dump)) lent)
 
 -- the lent words afterwards
-unfoldable pub readOver : List ℕ → List ℕ → List ℕ
-readOver dump words = lentAfter (readAnswer dump (length words)) (dumpWords (wordsFor (dumpNodes dump)) dump) words
+unfoldable pub readOver : ℕ → List ℕ → List ℕ → List ℕ
+readOver greatest dump words = lentAfter (readAnswer greatest dump (length words)) (dumpWords (wordsFor (dumpNodes dump)) dump) words
 
 -- ---- "writing one checks 1, 2, 3, 12"
 
 -- the answer, where so many bytes are lent
-unfoldable pub writeAnswer : List ℕ → ℕ → Answer
-writeAnswer card lent = pick (eqb (cardRefusal card) 0) (fittingLength (paddedLength (length card)) lent) (Refused (cardRefusal card))
+unfoldable pub writeAnswer : ℕ → List ℕ → ℕ → Answer
+writeAnswer greatest card lent = pick (eqb (cardRefusal greatest card) 0) (fittingLength (paddedLength (length card)) lent) (Refused (cardRefusal greatest card))
 
 -- the lent bytes afterwards
-unfoldable pub writeOver : List ℕ → List ℕ → List ℕ
-writeOver card bytes = lentAfter (writeAnswer card (length bytes)) (dumpOf card) bytes
+unfoldable pub writeOver : ℕ → List ℕ → List ℕ → List ℕ
+writeOver greatest card bytes = lentAfter (writeAnswer greatest card (length bytes)) (dumpOf card) bytes

@@ -1,5 +1,4 @@
 // Dumps of a card, read and written (document 01, "Dumps and the list program").
-use card::GREATEST_NODES;
 use card::LEAST_NODES;
 ghost use mathlib.Core.Path.{_≡_};
 ghost use mathlib.Core.List.{_++_};
@@ -17,11 +16,11 @@ pub enum Answer {
 }
 
 // Stores the words of a dump: "Reading a dump checks 11, 12".
-pub fn read_dump(dump: &[u8], words: &mut [u32]) -> Answer
-    ensures { λ r. ⌜ r ≡ readAnswer (now (dump .entry)) (length (now (words .entry))) ⌝ }
-    ensures { λ r. ⌜ now (words .exit) ≡ readOver (now (dump .entry)) (now (words .entry)) ⌝ }
+pub fn read_dump(dump: &[u8], words: &mut [u32], greatest: usize) -> Answer
+    ensures { λ r. ⌜ r ≡ readAnswer greatest (now (dump .entry)) (length (now (words .entry))) ⌝ }
+    ensures { λ r. ⌜ now (words .exit) ≡ readOver greatest (now (dump .entry)) (now (words .entry)) ⌝ }
 {
-    if is_damaged(dump) {
+    if is_damaged(dump, greatest) {
         return Answer::Refused(11);
     }
     let size = card::HEADER_WORDS + card::NODE_WORDS * word_at(dump, 1) as usize;
@@ -33,11 +32,11 @@ pub fn read_dump(dump: &[u8], words: &mut [u32]) -> Answer
 }
 
 // Stores the dump of a card: "writing one checks 1, 2, 3, 12".
-pub fn write_dump(card: &[u32], bytes: &mut [u8]) -> Answer
-    ensures { λ r. ⌜ r ≡ writeAnswer (now (card .entry)) (length (now (bytes .entry))) ⌝ }
-    ensures { λ r. ⌜ now (bytes .exit) ≡ writeOver (now (card .entry)) (now (bytes .entry)) ⌝ }
+pub fn write_dump(card: &[u32], bytes: &mut [u8], greatest: usize) -> Answer
+    ensures { λ r. ⌜ r ≡ writeAnswer greatest (now (card .entry)) (length (now (bytes .entry))) ⌝ }
+    ensures { λ r. ⌜ now (bytes .exit) ≡ writeOver greatest (now (card .entry)) (now (bytes .entry)) ⌝ }
 {
-    let refusal = card::card_refusal(card);
+    let refusal = card::card_refusal(card, greatest);
     if refusal != 0 {
         return Answer::Refused(refusal);
     }
@@ -58,8 +57,8 @@ fn padded_length(words: usize) -> usize
 }
 
 // Whether refusal 11 is due. The tests are in the paper's order, so that word 1 is read only where there is one.
-fn is_damaged(dump: &[u8]) -> bool
-    ensures { λ r. ⌜ r ≡ damaged (now (dump .entry)) ⌝ }
+fn is_damaged(dump: &[u8], greatest: usize) -> bool
+    ensures { λ r. ⌜ r ≡ damaged greatest (now (dump .entry)) ⌝ }
 {
     if dump.len() == 0 {
         return true;
@@ -68,14 +67,15 @@ fn is_damaged(dump: &[u8]) -> bool
         return true;
     }
     // "above 57,856": the padded length for the greatest number of nodes
-    if padded_length(card::HEADER_WORDS + card::NODE_WORDS * GREATEST_NODES) < dump.len() {
+    let most = card::limit(greatest);
+    if padded_length(card::HEADER_WORDS + card::NODE_WORDS * most) < dump.len() {
         return true;
     }
     let n = word_at(dump, 1) as usize;
     if n < LEAST_NODES {
         return true;
     }
-    if GREATEST_NODES < n {
+    if most < n {
         return true;
     }
     let words = card::HEADER_WORDS + card::NODE_WORDS * n;

@@ -52,88 +52,91 @@ small-refused : (b : Begun) (r : ℕ) → SmallBegun b → b ≡ BegunRefused r 
 unfolding startReply
 small-refused b r s e = let z : r < 64 = subst (λ x. SmallBegun x) e s in rw e z
 
-pub not-refused : (c : List ℕ) → Opens rationTable c → (r : ℕ) → openOf c .begun ≡ BegunRefused r → ⊥
+pub not-refused : (greatest : ℕ) (c : List ℕ) → Opens (rationTable greatest) c → (r : ℕ) → openOf greatest c .begun ≡ BegunRefused r → ⊥
 unfolding startReply
-not-refused c o r e = at (small-refused (openOf c .begun) r (open-small c) e) o
+not-refused greatest c o r e = at (small-refused (openOf greatest c .begun) r (open-small greatest c) e) o
   where
-    at : startReply (openOf c .begun) .code < 64 → Opens rationTable c → ⊥
+    at : startReply (openOf greatest c .begun) .code < 64 → Opens (rationTable greatest) c → ⊥
     at h (inl z) = omega (arith, h, code-of z)
     at h (inr z) = omega (arith, h, code-of z)
 
-pub opens-unrefused : (c : List ℕ) → ((r : ℕ) → openOf c .begun ≡ BegunRefused r → ⊥) → Opens rationTable c
+pub opens-unrefused : (greatest : ℕ) (c : List ℕ) → ((r : ℕ) → openOf greatest c .begun ≡ BegunRefused r → ⊥) → Opens (rationTable greatest) c
 unfolding startReply
-opens-unrefused c f = at (openOf c .begun) refl
+opens-unrefused greatest c f = at (openOf greatest c .begun) refl
   where
-    at : (b : Begun) → openOf c .begun ≡ b → Opens rationTable c
+    at : (b : Begun) → openOf greatest c .begun ≡ b → Opens (rationTable greatest) c
     at OpenedIdle e = inl (ap startReply e)
     at Started e = inr (ap startReply e)
     at (BegunRefused r) e = absurd (f r e)
 
-refuses : (c : List ℕ) (r : ℕ) → openOf c ≡ noBeginning r → Opens rationTable c → ⊥
+refuses : (greatest : ℕ) (c : List ℕ) (r : ℕ) → openOf greatest c ≡ noBeginning r → Opens (rationTable greatest) c → ⊥
 unfolding noBeginning
-refuses c r e a = not-refused c a r (rw e)
+refuses greatest c r e a = not-refused greatest c a r (rw e)
 
-pub accepted-card : (c : List ℕ) → Opens rationTable c → (cardRefusal c ≡ 0) × Sized (length c) (nodesOfLength (length c)) × Formatted c (nodesOfLength (length c))
+pub accepted-card : (greatest : ℕ) (c : List ℕ) → Opens (rationTable greatest) c → (cardRefusal greatest c ≡ 0)
+    × Sized greatest (length c) (nodesOfLength greatest (length c)) × Formatted c (nodesOfLength greatest (length c))
 unfolding openOf cardRefusal
-accepted-card c a = go (ℕ-discrete (cardRefusal c) 0) (ℕ-discrete (nodesOfLength (length c)) 0)
+accepted-card greatest c a = go (ℕ-discrete (cardRefusal greatest c) 0) (ℕ-discrete (nodesOfLength greatest (length c)) 0)
   where
-    go : Dec (cardRefusal c ≡ 0) → Dec (nodesOfLength (length c) ≡ 0) → (cardRefusal c ≡ 0) × Sized (length c) (nodesOfLength (length c)) × Formatted c (nodesOfLength (length c))
-    go (no d) q = absurd (refuses c (cardRefusal c) (rw (ne-eqb (cardRefusal c) 0 d)) a)
-    go (yes e) (yes z) = let k : _≡_ {A = ℕ} 1 0 = rw (eq-eqb (nodesOfLength (length c)) 0 z) at e in absurd (omega arith)
-    go (yes e) (no d) = (e, nodes-sized (length c) d, header-formatted c (nodesOfLength (length c)) (rw (ne-eqb (nodesOfLength (length c)) 0 d) at e))
+    go : Dec (cardRefusal greatest c ≡ 0) → Dec (nodesOfLength greatest (length c) ≡ 0) → (cardRefusal greatest c ≡ 0)
+        × Sized greatest (length c) (nodesOfLength greatest (length c)) × Formatted c (nodesOfLength greatest (length c))
+    go (no d) q = absurd (refuses greatest c (cardRefusal greatest c) (rw (ne-eqb (cardRefusal greatest c) 0 d)) a)
+    go (yes e) (yes z) = let k : _≡_ {A = ℕ} 1 0 = rw (eq-eqb (nodesOfLength greatest (length c)) 0 z) at e in absurd (omega arith)
+    go (yes e) (no d) = (e, nodes-sized greatest (length c) d, header-formatted c (nodesOfLength greatest (length c)) (rw (ne-eqb (nodesOfLength greatest (length c)) 0 d) at e))
 
 open-some : (n last h : ℕ) (f : Findings) → openChecked n last (some (h, f)) ≡ openSound n last f
 unfolding openChecked
 open-some n last h f = refl
 
-pub accepted-table : (c : List ℕ) → Opens rationTable c → (t : Tree) × WellFormed c t
+pub accepted-table : (greatest : ℕ) (c : List ℕ) → Opens (rationTable greatest) c → (t : Tree) × WellFormed c t
 unfolding openChecked
-accepted-table c a = go (tableCheck c (nodesOfLength (length c))) refl
+accepted-table greatest c a = go (tableCheck c (nodesOfLength greatest (length c))) refl
   where
-    k : (cardRefusal c ≡ 0) × Sized (length c) (nodesOfLength (length c)) × Formatted c (nodesOfLength (length c))
-    k = accepted-card c a
+    k : (cardRefusal greatest c ≡ 0) × Sized greatest (length c) (nodesOfLength greatest (length c)) × Formatted c (nodesOfLength greatest (length c))
+    k = accepted-card greatest c a
 
-    go : (x : Option (ℕ × Findings)) → tableCheck c (nodesOfLength (length c)) ≡ x → (t : Tree) × WellFormed c t
-    go none e = absurd (refuses c 4 (open-unrefused c (k .0) ∙ rw e) a)
-    go (some r) e = let s = accepts-sound c (nodesOfLength (length c)) (k .1 .words) (k .1 .most) (r .0) (r .1) e in (s .0, s .1)
+    go : (x : Option (ℕ × Findings)) → tableCheck c (nodesOfLength greatest (length c)) ≡ x → (t : Tree) × WellFormed c t
+    go none e = absurd (refuses greatest c 4 (open-unrefused greatest c (k .0) ∙ rw e) a)
+    go (some r) e = let s = accepts-sound c (nodesOfLength greatest (length c)) (k .1 .words) (k .1 .most) (r .0) (r .1) e in (s .0, s .1)
 
 -- the root is then taken for the node given last
 resting-last : (n last : ℕ) (f : Findings) → 3 + f .run ≤ countTrue (f .free) → openSound n last f .memory .last ≡ last
 unfolding openSound resting
 resting-last n last f room = bool-cases (f .violated) (λ q. rw (le-ltb (countTrue (f .free)) (3 + f .run) room, q)) (λ q. rw (le-ltb (countTrue (f .free)) (3 + f .run) room, q))
 
-pub accepted-start : (c : List ℕ) → Opens rationTable c → openOf c .memory .last ≡ searchStart c
+pub accepted-start : (greatest : ℕ) (c : List ℕ) → Opens (rationTable greatest) c → openOf greatest c .memory .last ≡ searchStart c
 unfolding openChecked
-accepted-start c a = go (tableCheck c (nodesOfLength (length c))) refl
+accepted-start greatest c a = go (tableCheck c (nodesOfLength greatest (length c))) refl
   where
-    k : (cardRefusal c ≡ 0) × Sized (length c) (nodesOfLength (length c)) × Formatted c (nodesOfLength (length c))
-    k = accepted-card c a
+    k : (cardRefusal greatest c ≡ 0) × Sized greatest (length c) (nodesOfLength greatest (length c)) × Formatted c (nodesOfLength greatest (length c))
+    k = accepted-card greatest c a
 
-    go : (x : Option (ℕ × Findings)) → tableCheck c (nodesOfLength (length c)) ≡ x → openOf c .memory .last ≡ searchStart c
-    go none e = absurd (refuses c 4 (open-unrefused c (k .0) ∙ rw e) a)
+    go : (x : Option (ℕ × Findings)) → tableCheck c (nodesOfLength greatest (length c)) ≡ x → openOf greatest c .memory .last ≡ searchStart c
+    go none e = absurd (refuses greatest c 4 (open-unrefused greatest c (k .0) ∙ rw e) a)
     go (some (h, f)) e =
-        let is : openOf c ≡ openSound (nodesOfLength (length c)) (searchStart c) f = open-unrefused c (k .0) ∙ rw e in
+        let is : openOf greatest c ≡ openSound (nodesOfLength greatest (length c)) (searchStart c) f = open-unrefused greatest c (k .0) ∙ rw e in
         order (countTrue (f .free)) (3 + f .run)
-        (λ o. absurd (refuses c 5 (is ∙ open-scarce (nodesOfLength (length c)) (searchStart c) f o) a))
-        (λ o. ap (λ (x : Handed). x .memory .last) is ∙ resting-last (nodesOfLength (length c)) (searchStart c) f o)
+        (λ o. absurd (refuses greatest c 5 (is ∙ open-scarce (nodesOfLength greatest (length c)) (searchStart c) f o) a))
+        (λ o. ap (λ (x : Handed). x .memory .last) is ∙ resting-last (nodesOfLength greatest (length c)) (searchStart c) f o)
 
 -- the table of a card that opens can be opened again
-pub accepted-openable : (c : List ℕ) (t : Tree) → Opens rationTable c → WellFormed c t → Openable (nodesOfLength (length c)) t
-accepted-openable c t a w = go (sound-accepted c (nodesOfLength (length c)) (k .1 .words) (k .1 .most) t w)
+pub accepted-openable : (greatest : ℕ) (c : List ℕ) (t : Tree) → Opens (rationTable greatest) c → WellFormed c t → Openable (nodesOfLength greatest (length c)) t
+accepted-openable greatest c t a w = go (sound-accepted c (nodesOfLength greatest (length c)) (k .1 .words) (k .1 .most) t w)
   where
-    k : (cardRefusal c ≡ 0) × Sized (length c) (nodesOfLength (length c)) × Formatted c (nodesOfLength (length c))
-    k = accepted-card c a
+    k : (cardRefusal greatest c ≡ 0) × Sized greatest (length c) (nodesOfLength greatest (length c)) × Formatted c (nodesOfLength greatest (length c))
+    k = accepted-card greatest c a
 
-    go : ((h : ℕ) × (f : Findings) × (tableCheck c (nodesOfLength (length c)) ≡ some (h, f)) × Facts c (nodesOfLength (length c)) t h f) → Openable (nodesOfLength (length c)) t
+    go : ((h : ℕ) × (f : Findings) × (tableCheck c (nodesOfLength greatest (length c)) ≡ some (h, f))
+        × Facts c (nodesOfLength greatest (length c)) t h f) → Openable (nodesOfLength greatest (length c)) t
     go (h, f, e, x) = bool-cases (f .violated) broken whole
       where
         room : 3 + f .run ≤ countTrue (f .free)
         room =
             order (countTrue (f .free)) (3 + f .run)
-            (λ o. absurd (refuses c 5 (open-unrefused c (k .0) ∙ ap (openChecked (nodesOfLength (length c)) (searchStart c)) e
-            ∙ open-some (nodesOfLength (length c)) (searchStart c) h f ∙ open-scarce (nodesOfLength (length c)) (searchStart c) f o) a)) (λ o. o)
+            (λ o. absurd (refuses greatest c 5 (open-unrefused greatest c (k .0) ∙ ap (openChecked (nodesOfLength greatest (length c)) (searchStart c)) e
+            ∙ open-some (nodesOfLength greatest (length c)) (searchStart c) h f ∙ open-scarce (nodesOfLength greatest (length c)) (searchStart c) f o) a)) (λ o. o)
 
-        broken : f .violated ≡ true → Openable (nodesOfLength (length c)) t
+        broken : f .violated ≡ true → Openable (nodesOfLength greatest (length c)) t
         broken q =
             let v = x .violation q in
             record {
@@ -144,26 +147,27 @@ accepted-openable c t a w = go (sound-accepted c (nodesOfLength (length c)) (k .
               ready = violated (v .0) (omega (arith, x .violated, bit-true (f .violated) q)) (omega (arith, room, v .1));
             }
 
-        whole : f .violated ≡ false → Openable (nodesOfLength (length c)) t
+        whole : f .violated ≡ false → Openable (nodesOfLength greatest (length c)) t
         whole q = record { free = f .free; exact = facts-exact x; key = f .key; deep = 0; ready = settled (omega (arith, x .violated, bit-false (f .violated) q)) (omega (arith, room)) }
 
 -- ---- finds
 
-find-is : (c : List ℕ) (n key : ℕ) → cardRefusal c ≡ 0 → nodesOfLength (length c) ≡ n → 0 < key → findOf c key ≡ foundAt c key (leafOf (way c n key))
+find-is : (greatest : ℕ) (c : List ℕ) (n key : ℕ) → cardRefusal greatest c ≡ 0 → nodesOfLength greatest (length c) ≡ n → 0 < key → findOf greatest c key ≡ foundAt c key (leafOf (way c n key))
 unfolding findOf
-find-is c n key e en h = rw (e, en, ne-eqb key 0 (omega arith))
+find-is greatest c n key e en h = rw (e, en, ne-eqb key 0 (omega arith))
 
 found-is : (words : List ℕ) (s : Slot) → foundReply (foundIn words s) ≡ stepReply (dictionaryAnswer (slotAnswer words s))
 unfolding foundIn slotAnswer foundReply stepReply dictionaryAnswer
 found-is words (At i) = refl
 found-is words NoSlot = refl
 
-pub find-answers : (c : List ℕ) (n : ℕ) (t : Tree) (key : ℕ) → Table c n t → 0 < key → key < keyLimit → foundReply (findOf c key) ≡ stepReply (dictionaryAnswer (lookup key (pairs t)))
+pub find-answers : (greatest : ℕ) (c : List ℕ) (n : ℕ) (t : Tree) (key : ℕ) → Table greatest c n t → 0 < key → key < keyLimit
+    → foundReply (findOf greatest c key) ≡ stepReply (dictionaryAnswer (lookup key (pairs t)))
 unfolding foundAt
-find-answers c n t key b h l =
-    let a = card-accepted (b .sized) (b .header) in
-    let f = landing-found c n key (b .sized .words) lowestKey keyLimit t (b .holds) (b .sound .range) (omega arith) l h (table-depth-limited b) in
-    ap foundReply (find-is c n key (a .0) (a .1) h)
+find-answers greatest c n t key b h l =
+    let a = card-accepted greatest (b .sized) (b .header) in
+    let f = landing-found c n key (b .sized .words) lowestKey keyLimit t (b .holds) (b .sound .range) (omega arith) l h (table-depth-limited greatest b) in
+    ap foundReply (find-is greatest c n key (a .0) (a .1) h)
     ∙ ap (λ (x : Reached). foundReply (foundAt c key x)) (f .reached)
     ∙ found-is (nodeAt c (f .number)) (slotOf (nodeAt c (f .number)) key)
     ∙ ap (λ (x : Option ℕ). stepReply (dictionaryAnswer x)) (f .answers)

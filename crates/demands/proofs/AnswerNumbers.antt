@@ -56,9 +56,9 @@ header-small c n =
     (must-small c 1 n 3 _ (omega arith) (must-small c 2 8 3 _ (omega arith) (must-small c 3 24 3 _ (omega arith)
     (must-small c 5 0 3 _ (omega arith) (must-small c 6 0 3 _ (omega arith) (must-small c 7 0 3 0 (omega arith) (omega arith)))))))
 
-pub card-small : (c : List ℕ) → cardRefusal c < 64
+pub card-small : (greatest : ℕ) (c : List ℕ) → cardRefusal greatest c < 64
 unfolding cardRefusal
-card-small c = bool-cases (eqb (nodesOfLength (length c)) 0) (λ q. rw q (omega arith)) (λ q. rw q (header-small c (nodesOfLength (length c))))
+card-small greatest c = bool-cases (eqb (nodesOfLength greatest (length c)) 0) (λ q. rw q (omega arith)) (λ q. rw q (header-small c (nodesOfLength greatest (length c))))
 
 sound-small : (n last : ℕ) (f : Findings) → SmallBegun (openSound n last f .begun)
 unfolding openSound noBeginning
@@ -69,9 +69,12 @@ unfolding openChecked noBeginning
 checked-small n last none = omega arith
 checked-small n last (some r) = sound-small n last (r .1)
 
-pub open-small : (c : List ℕ) → SmallBegun (openOf c .begun)
+pub open-small : (greatest : ℕ) (c : List ℕ) → SmallBegun (openOf greatest c .begun)
 unfolding openOf noBeginning
-open-small c = bool-cases (eqb (cardRefusal c) 0) (λ q. rw q (checked-small (nodesOfLength (length c)) (searchStart c) (tableCheck c (nodesOfLength (length c))))) (λ q. rw q (card-small c))
+open-small greatest c =
+    bool-cases (eqb (cardRefusal greatest c) 0)
+    (λ q. rw q (checked-small (nodesOfLength greatest (length c)) (searchStart c) (tableCheck c (nodesOfLength greatest (length c)))))
+    (λ q. rw q (card-small greatest c))
 
 landed-small : (m : Memory) (doing : Doing) (depth : ℕ) (room : Bool) (l : Landing) → SmallBegun (startLanded m doing depth room l .begun)
 unfolding startLanded startRefused startAccepted
@@ -79,11 +82,11 @@ landed-small m doing depth room NoLanding = omega arith
 landed-small m doing depth true (LandingAt node link run) = tt
 landed-small m doing depth false (LandingAt node link run) = omega arith
 
-pub start-small : (c : List ℕ) (m : Memory) (key : ℕ) (doing : Doing) (room : Landing → Bool) → SmallBegun (startOf c m key doing room .begun)
+pub start-small : (greatest : ℕ) (c : List ℕ) (m : Memory) (key : ℕ) (doing : Doing) (room : Landing → Bool) → SmallBegun (startOf greatest c m key doing room .begun)
 unfolding startOf startChecked startRefused
-start-small c m key doing room =
-    bool-cases (eqb (nodesOfLength (length c)) 0) (λ q. rw q (omega arith)) (λ q.
-    bool-cases (eqb (nodesOfLength (length c)) (m .nodes)) (λ q₁.
+start-small greatest c m key doing room =
+    bool-cases (eqb (nodesOfLength greatest (length c)) 0) (λ q. rw q (omega arith)) (λ q.
+    bool-cases (eqb (nodesOfLength greatest (length c)) (m .nodes)) (λ q₁.
     bool-cases (eqb (headerRefusal c (m .nodes)) 0) (λ q₂.
     bool-cases (isIdle (m .doing)) (λ q₃.
     bool-cases (eqb key 0) (λ q₄. rw (q, q₁, q₂, q₃, q₄) (omega arith))
@@ -105,12 +108,12 @@ unfolding foundAt
 at-small c key NotReached = omega arith
 at-small c key (ReachedLeaf m depth) = in-small (nodeAt c m) (slotOf (nodeAt c m) key)
 
-pub find-small : (c : List ℕ) (key : ℕ) → SmallFound (findOf c key)
+pub find-small : (greatest : ℕ) (c : List ℕ) (key : ℕ) → SmallFound (findOf greatest c key)
 unfolding findOf
-find-small c key =
-    bool-cases (eqb (cardRefusal c) 0)
-    (λ q. bool-cases (eqb key 0) (λ z. rw (q, z) (omega arith)) (λ z. rw (q, z) (at-small c key (leafOf (way c (nodesOfLength (length c)) key)))))
-    (λ q. rw q (card-small c))
+find-small greatest c key =
+    bool-cases (eqb (cardRefusal greatest c) 0)
+    (λ q. bool-cases (eqb key 0) (λ z. rw (q, z) (omega arith)) (λ z. rw (q, z) (at-small c key (leafOf (way c (nodesOfLength greatest (length c)) key)))))
+    (λ q. rw q (card-small greatest c))
 
 -- ---- a step's
 
@@ -129,7 +132,7 @@ ends-small Absent e = tt
 ends-small (Value v) e = tt
 ends-small (Refused r) e = absurd e
 
-module _ (c : List ℕ) (m : Memory) where
+module _ (greatest : ℕ) (c : List ℕ) (m : Memory) where
   store-small : (s : Store) (next : Memory) → SmallAnswer (stepStore c m s next .answer)
   unfolding stepStore stepRefused
   store-small s next = bool-cases (ltb (s .0) (length c)) (λ q. rw q tt) (λ q. rw q (omega arith))
@@ -142,7 +145,7 @@ module _ (c : List ℕ) (m : Memory) where
 
   task-small : (task : Task) (rest : List Store) → heldBy (m .doing) ≡ HeldTask task → SmallAnswer (stepTask c m task rest .answer)
   unfolding stepTask stepBegin
-  task-small task [] e = prepared-small _ _ _ (ends-small _ (next-ends c (m .nodes) (m .free) (m .last) (m .doing) task (task-of (m .doing) task e)))
+  task-small task [] e = prepared-small _ _ _ (ends-small _ (next-ends greatest c (m .nodes) (m .free) (m .last) (m .doing) task (task-of (m .doing) task e)))
   task-small task (s ∷ rest) e = store-small s (advanced m rest)
 
   checked-step-small : (due : Step) → SmallAnswer (due .answer) → SmallAnswer (stepChecked c m due .answer)
@@ -160,8 +163,8 @@ module _ (c : List ℕ) (m : Memory) where
   held-small (Formatting made) e = format-small made _
   held-small (HeldTask task) e = checked-step-small _ (task-small task (m .rest) e)
 
-  pub step-small : SmallAnswer (stepOf c m .answer)
+  pub step-small : SmallAnswer (stepOf greatest c m .answer)
   unfolding stepOf stepRefused
   step-small =
-      bool-cases (eqb (nodesOfLength (length c)) 0) (λ q. rw q (omega arith))
-      (λ q. bool-cases (eqb (nodesOfLength (length c)) (m .nodes)) (λ q₁. rw (q, q₁) (held-small (heldBy (m .doing)) refl)) (λ q₁. rw (q, q₁) (omega arith)))
+      bool-cases (eqb (nodesOfLength greatest (length c)) 0) (λ q. rw q (omega arith))
+      (λ q. bool-cases (eqb (nodesOfLength greatest (length c)) (m .nodes)) (λ q₁. rw (q, q₁) (held-small (heldBy (m .doing)) refl)) (λ q₁. rw (q, q₁) (omega arith)))

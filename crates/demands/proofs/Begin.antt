@@ -26,7 +26,7 @@ use Rattle.state.specs.declared.Answer.the-variants.{Absent, Value}
 use Rattle.walk.specs.declared.Slot.the-variants.{At, Absent as NoSlot}
 use Rattle.walk.specs.declared.Landing.the-variants.{Leaf as LandingAt}
 
-module _ (c : List ℕ) (n key : ℕ) (m link run : ℕ) (land : landing c n key ≡ LandingAt m link run) where
+module _ (greatest : ℕ) (c : List ℕ) (n key : ℕ) (m link run : ℕ) (land : landing c n key ≡ LandingAt m link run) where
   module _ (value : ℕ) (free : List Bool) (last : ℕ) (mem : Memory) where
     pub put-held : (i : ℕ) → slotOf (nodeAt c m) key ≡ At i
         → stepBegin c mem (nextChange c n free last (Inserting key value NotBegun) (PutIn key value))
@@ -68,10 +68,10 @@ module _ (c : List ℕ) (n key : ℕ) (m link run : ℕ) (land : landing c n key
       never : countTrue free < splitNeed run → not (ltb (countTrue free) (splitNeed run)) ≡ true → ⊥
       never o q = let k : _≡_ {A = Bool} false true = rw (lt-ltb (countTrue free) (splitNeed run) o) at q in impossible (cc)
 
-  pub flag-slot : Sized (length c) n → (i : ℕ) → slotOf (nodeAt c m) 0 ≡ At i → leafFull c key ≡ false
+  pub flag-slot : Sized greatest (length c) n → (i : ℕ) → slotOf (nodeAt c m) 0 ≡ At i → leafFull c key ≡ false
   unfolding slotFound
-  flag-slot s i e = full-is c n key m link run (At i) s land e
+  flag-slot s i e = full-is greatest c n key m link run (At i) s land e
 
-  pub flag-full : Sized (length c) n → slotOf (nodeAt c m) 0 ≡ NoSlot → leafFull c key ≡ true
+  pub flag-full : Sized greatest (length c) n → slotOf (nodeAt c m) 0 ≡ NoSlot → leafFull c key ≡ true
   unfolding slotFound
-  flag-full s e = full-is c n key m link run NoSlot s land e
+  flag-full s e = full-is greatest c n key m link run NoSlot s land e

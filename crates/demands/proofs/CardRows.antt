@@ -47,9 +47,9 @@ use Rattle.theory_tree.specs.WellFormed.{WellFormed}
 -- ---- finds
 
 -- the card's refusal is not 0, whichever it is
-find-due : (c : List ℕ) (key r : ℕ) → cardRefusal c ≡ r → (r ≡ 0 → ⊥) → foundReply (findOf c key) ≡ refusal r
+find-due : (greatest : ℕ) (c : List ℕ) (key r : ℕ) → cardRefusal greatest c ≡ r → (r ≡ 0 → ⊥) → foundReply (findOf greatest c key) ≡ refusal r
 unfolding foundReply
-find-due c key r e d = rw (find-refused c key (λ z. d (sym e ∙ z)), e)
+find-due greatest c key r e d = rw (find-refused greatest c key (λ z. d (sym e ∙ z)), e)
 
 pub none-some : {A P : Type 0} (x : A) → _≡_ {A = Option A} none (some x) → P
 none-some x e = impossible (cc)
@@ -86,55 +86,59 @@ reads-finds key [] values i = inr refl
 reads-finds key (k ∷ keys) values i =
     bool-cases (eqb k key) (λ y. rw y (inl (getD values i 0, refl))) (λ n. rw n (reads-finds key keys values (suc i)))
 
-pub finds : (c : List ℕ) (key : ℕ) → ByRows (findRows c key) (λ r. rationTable .find c key ≡ refusal r) (ReadsLeaf c key (rationTable .find c key))
+pub finds : (greatest : ℕ) (c : List ℕ) (key : ℕ) → ByRows (findRows greatest c key) (λ r. rationTable greatest .find c key ≡ refusal r) (ReadsLeaf c key (rationTable greatest .find c key))
 unfolding ByRows foundAt foundReply arrived reachedLeaf
-finds c key =
-    by-card (row 6 (key ≡ 0) (row 9 (leadsTo c key ≡ none) end)) (λ r. foundReply (findOf c key) ≡ refusal r) (ReadsLeaf c key (foundReply (findOf c key))) c (nodesOn c)
-    (λ p. find-due c key 1 (card-one c p) (λ z. omega (arith, z)))
-    (λ r s e d. find-due c key r (length-accepted c (nodesOn c) s ∙ e) d)
+finds greatest c key =
+    by-card greatest (row 6 (key ≡ 0) (row 9 (leadsTo c key ≡ none) end)) (λ r. foundReply (findOf greatest c key) ≡ refusal r) (ReadsLeaf c key (foundReply (findOf greatest c key))) c (nodesOn c)
+    (λ p. find-due greatest c key 1 (card-one greatest c p) (λ z. omega (arith, z)))
+    (λ r s e d. find-due greatest c key r (length-accepted greatest c (nodesOn c) s ∙ e) d)
     past
   where
-    past : Sized (length c) (nodesOn c) → Formatted c (nodesOn c) → ByRows (row 6 (key ≡ 0) (row 9 (leadsTo c key ≡ none) end))
-        (λ r. foundReply (findOf c key) ≡ refusal r) (ReadsLeaf c key (foundReply (findOf c key)))
+    past : Sized greatest (length c) (nodesOn c) → Formatted c (nodesOn c) → ByRows (row 6 (key ≡ 0) (row 9 (leadsTo c key ≡ none) end))
+        (λ r. foundReply (findOf greatest c key) ≡ refusal r) (ReadsLeaf c key (foundReply (findOf greatest c key)))
     past s f = keyed (ℕ-discrete key 0)
       where
-        a : (cardRefusal c ≡ 0) × (nodesOfLength (length c) ≡ nodesOn c)
-        a = card-accepted s f
+        a : (cardRefusal greatest c ≡ 0) × (nodesOfLength greatest (length c) ≡ nodesOn c)
+        a = card-accepted greatest s f
 
         at : (key ≡ 0 → ⊥) → (x : Reached) → leafOf (way c (nodesOn c) key) ≡ x
-            → ((leadsTo c key ≡ none) × (foundReply (findOf c key) ≡ refusal 9))
-            ⊎ ((leadsTo c key ≡ none → ⊥) × ReadsLeaf c key (foundReply (findOf c key)))
-        at d NotReached e = inl (leaf-none (leadsTo c key) (sym (leaf-way c key) ∙ ap arrived e), rw (find-key c key (a .0) d, a .1, e))
+            → ((leadsTo c key ≡ none) × (foundReply (findOf greatest c key) ≡ refusal 9))
+            ⊎ ((leadsTo c key ≡ none → ⊥) × ReadsLeaf c key (foundReply (findOf greatest c key)))
+        at d NotReached e = inl (leaf-none (leadsTo c key) (sym (leaf-way c key) ∙ ap arrived e), rw (find-key greatest c key (a .0) d, a .1, e))
         at d (ReachedLeaf m deep) e =
             let l = leaf-some (leadsTo c key) m (sym (leaf-way c key) ∙ ap arrived e) in
             inr (
               λ z. none-some (m, l .0) (sym z ∙ l .1),
-              (m, l .0, l .1, rw (find-key c key (a .0) d, a .1, e) (found-works (nodeAt c m) key)),
+              (m, l .0, l .1, rw (find-key greatest c key (a .0) d, a .1, e) (found-works (nodeAt c m) key)),
             )
 
-        keyed : Dec (key ≡ 0) → ((key ≡ 0) × (foundReply (findOf c key) ≡ refusal 6))
-            ⊎ ((key ≡ 0 → ⊥) × (((leadsTo c key ≡ none) × (foundReply (findOf c key) ≡ refusal 9))
-            ⊎ ((leadsTo c key ≡ none → ⊥) × ReadsLeaf c key (foundReply (findOf c key)))))
-        keyed (yes z) = inl (z, rw (find-no-key c key (a .0) z))
+        keyed : Dec (key ≡ 0) → ((key ≡ 0) × (foundReply (findOf greatest c key) ≡ refusal 6))
+            ⊎ ((key ≡ 0 → ⊥) × (((leadsTo c key ≡ none) × (foundReply (findOf greatest c key) ≡ refusal 9))
+            ⊎ ((leadsTo c key ≡ none → ⊥) × ReadsLeaf c key (foundReply (findOf greatest c key)))))
+        keyed (yes z) = inl (z, rw (find-no-key greatest c key (a .0) z))
         keyed (no d) = inr (d, at d (leafOf (way c (nodesOn c) key)) refl)
 
 -- ---- formatting
 
-none-handed : (r : ℕ) → HandsNone rationTable (handed (noBeginning r)) r
+none-handed : (greatest : ℕ) (r : ℕ) → HandsNone (rationTable greatest) (handed (noBeginning r)) r
 unfolding noBeginning noMemory workOf startReply
-none-handed r = record { number-given = refl; idle-state = refl; no-nodes = refl }
+none-handed greatest r = record { number-given = refl; idle-state = refl; no-nodes = refl }
 
-format-begun : (c : List ℕ) → StartsFormat rationTable c (handed (record { begun = Started; memory = formatMemory (nodesOn c) 0 }))
+format-begun : (greatest : ℕ) (c : List ℕ) → StartsFormat (rationTable greatest) c (handed (record { begun = Started; memory = formatMemory (nodesOn c) 0 }))
 unfolding resting workOf startReply
-format-begun c = record { reply-given = refl; in-progress = refl; nodes-noted = refl }
+format-begun greatest c = record { reply-given = refl; in-progress = refl; nodes-noted = refl }
 
-pub formats : (c : List ℕ) → ByRows (formatRows c (nodesOn c)) (HandsNone rationTable (rationTable .format c)) (StartsFormat rationTable c (rationTable .format c))
+pub formats : (greatest : ℕ) (c : List ℕ)
+    → ByRows (formatRows greatest c (nodesOn c)) (HandsNone (rationTable greatest) (rationTable greatest .format c))
+    (StartsFormat (rationTable greatest) c (rationTable greatest .format c))
 unfolding ByRows
-formats c = go (sized? (length c) (nodesOn c))
+formats greatest c = go (sized? greatest (length c) (nodesOn c))
   where
-    go : Dec (Sized (length c) (nodesOn c)) → (NoCard c (nodesOn c) × HandsNone rationTable (handed (formatOf c)) 1) ⊎ ((NoCard c (nodesOn c) → ⊥) × StartsFormat rationTable c (handed (formatOf c)))
-    go (no p) = inl (p, rw (format-refused c (no-nodes c p)) (none-handed 1))
-    go (yes s) = inr (λ p. p s, rw (format-starts c (nodesOn c) s) (format-begun c))
+    go : Dec (Sized greatest (length c) (nodesOn c))
+        → (NoCard greatest c (nodesOn c) × HandsNone (rationTable greatest) (handed (formatOf greatest c)) 1)
+        ⊎ ((NoCard greatest c (nodesOn c) → ⊥) × StartsFormat (rationTable greatest) c (handed (formatOf greatest c)))
+    go (no p) = inl (p, rw (format-refused greatest c (no-nodes greatest c p)) (none-handed greatest 1))
+    go (yes s) = inr (λ p. p s, rw (format-starts greatest c (nodesOn c) s) (format-begun greatest c))
 
 -- ---- opening
 
@@ -142,56 +146,61 @@ formats c = go (sized? (length c) (nodesOn c))
 abbrev Unsound : List ℕ → Type 0
 Unsound c = ((t : Tree) × WellFormed c t) → ⊥
 
-open-due : (c : List ℕ) (r : ℕ) → cardRefusal c ≡ r → (r ≡ 0 → ⊥) → openOf c ≡ noBeginning r
+open-due : (greatest : ℕ) (c : List ℕ) (r : ℕ) → cardRefusal greatest c ≡ r → (r ≡ 0 → ⊥) → openOf greatest c ≡ noBeginning r
 unfolding openOf
-open-due c r e d = rw (e, ne-eqb r 0 d)
+open-due greatest c r e d = rw (e, ne-eqb r 0 d)
 
 sound-five : (n last : ℕ) (f : Findings) → countTrue (f .free) < 3 + f .run → openSound n last f ≡ noBeginning 5
 unfolding openSound
 sound-five n last f o = rw (lt-ltb (countTrue (f .free)) (3 + f .run) o)
 
-reply-five : (c : List ℕ) (r : ℕ) → openOf c ≡ noBeginning r → startReply (openOf c .begun) ≡ refusal r
+reply-five : (greatest : ℕ) (c : List ℕ) (r : ℕ) → openOf greatest c ≡ noBeginning r → startReply (openOf greatest c .begun) ≡ refusal r
 unfolding noBeginning startReply
-reply-five c r e = rw e
+reply-five greatest c r e = rw e
 
-pub opens : (c : List ℕ) → ByRows (openRows c) (HandsNone rationTable (rationTable .openCard c)) (OpensTo rationTable c (rationTable .openCard c))
+pub opens : (greatest : ℕ) (c : List ℕ) → ByRows (openRows greatest c) (HandsNone (rationTable greatest) (rationTable greatest .openCard c))
+    (OpensTo (rationTable greatest) c (rationTable greatest .openCard c))
 unfolding ByRows openOf openChecked noBeginning startReply resting workOf
-opens c =
-    by-card (row 4 (Unsound c) (row 5 (Scarce c) end)) (HandsNone rationTable (handed (openOf c))) (OpensTo rationTable c (handed (openOf c))) c (nodesOn c)
-    (λ p. rw (open-due c 1 (card-one c p) (λ z. omega (arith, z))) (none-handed 1))
-    (λ r s e d. rw (open-due c r (length-accepted c (nodesOn c) s ∙ e) d) (none-handed r))
+opens greatest c =
+    by-card greatest (row 4 (Unsound c) (row 5 (Scarce c) end)) (HandsNone (rationTable greatest) (handed (openOf greatest c)))
+    (OpensTo (rationTable greatest) c (handed (openOf greatest c))) c (nodesOn c)
+    (λ p. rw (open-due greatest c 1 (card-one greatest c p) (λ z. omega (arith, z))) (none-handed greatest 1))
+    (λ r s e d. rw (open-due greatest c r (length-accepted greatest c (nodesOn c) s ∙ e) d) (none-handed greatest r))
     past
   where
-    past : Sized (length c) (nodesOn c) → Formatted c (nodesOn c) → ByRows (row 4 (Unsound c) (row 5 (Scarce c) end))
-        (HandsNone rationTable (handed (openOf c))) (OpensTo rationTable c (handed (openOf c)))
+    past : Sized greatest (length c) (nodesOn c) → Formatted c (nodesOn c) → ByRows (row 4 (Unsound c) (row 5 (Scarce c) end))
+        (HandsNone (rationTable greatest) (handed (openOf greatest c))) (OpensTo (rationTable greatest) c (handed (openOf greatest c)))
     past s k = checked (tableCheck c (nodesOn c)) refl
       where
         checked : (x : Option (ℕ × Findings)) → tableCheck c (nodesOn c) ≡ x
-            → (Unsound c × HandsNone rationTable (handed (openOf c)) 4) ⊎ ((Unsound c → ⊥)
-            × ((Scarce c × HandsNone rationTable (handed (openOf c)) 5) ⊎ ((Scarce c → ⊥) × OpensTo rationTable c (handed (openOf c)))))
+            → (Unsound c × HandsNone (rationTable greatest) (handed (openOf greatest c)) 4) ⊎ ((Unsound c → ⊥)
+            × ((Scarce c × HandsNone (rationTable greatest) (handed (openOf greatest c)) 5) ⊎ ((Scarce c → ⊥) × OpensTo (rationTable greatest) c (handed (openOf greatest c)))))
         checked none e =
-            let a = card-accepted s k in
-            let is : openOf c ≡ noBeginning 4 = rw (a .0, a .1, e) in
-            inl (refuses-unsound c (nodesOn c) s k .0 (reply-five c 4 is), rw is (none-handed 4))
+            let a = card-accepted greatest s k in
+            let is : openOf greatest c ≡ noBeginning 4 = rw (a .0, a .1, e) in
+            inl (refuses-unsound greatest c (nodesOn c) s k .0 (reply-five greatest c 4 is), rw is (none-handed greatest 4))
         checked (some (h, f)) e = inr (λ p. p (t .0, t .1), order (countTrue (f .free)) (3 + f .run) few enough)
           where
             t : (t : Tree) × WellFormed c t × Facts c (nodesOn c) t h f
             t = accepts-sound c (nodesOn c) (s .words) (s .most) h f e
 
-            few : countTrue (f .free) < 3 + f .run → (Scarce c × HandsNone rationTable (handed (openOf c)) 5) ⊎ ((Scarce c → ⊥) × OpensTo rationTable c (handed (openOf c)))
+            few : countTrue (f .free) < 3 + f .run → (Scarce c × HandsNone (rationTable greatest) (handed (openOf greatest c)) 5)
+                ⊎ ((Scarce c → ⊥) × OpensTo (rationTable greatest) c (handed (openOf greatest c)))
             few o =
-                let is : openOf c ≡ noBeginning 5 = open-sound c (nodesOn c) h f s k e ∙ sound-five (nodesOn c) (searchStart c) f o in
-                inl (refuses-few c (nodesOn c) s k .0 (reply-five c 5 is), rw is (none-handed 5))
+                let is : openOf greatest c ≡ noBeginning 5 = open-sound greatest c (nodesOn c) h f s k e ∙ sound-five (nodesOn c) (searchStart c) f o in
+                inl (refuses-few greatest c (nodesOn c) s k .0 (reply-five greatest c 5 is), rw is (none-handed greatest 5))
 
-            enough : 3 + f .run ≤ countTrue (f .free) → (Scarce c × HandsNone rationTable (handed (openOf c)) 5) ⊎ ((Scarce c → ⊥) × OpensTo rationTable c (handed (openOf c)))
+            enough : 3 + f .run ≤ countTrue (f .free) → (Scarce c × HandsNone (rationTable greatest) (handed (openOf greatest c)) 5)
+                ⊎ ((Scarce c → ⊥) × OpensTo (rationTable greatest) c (handed (openOf greatest c)))
             enough o = bool-cases (f .violated) broken whole
               where
-                broken : f .violated ≡ true → (Scarce c × HandsNone rationTable (handed (openOf c)) 5) ⊎ ((Scarce c → ⊥) × OpensTo rationTable c (handed (openOf c)))
+                broken : f .violated ≡ true → (Scarce c × HandsNone (rationTable greatest) (handed (openOf greatest c)) 5)
+                    ⊎ ((Scarce c → ⊥) × OpensTo (rationTable greatest) c (handed (openOf greatest c)))
                 broken q =
-                    let is = open-repair c (nodesOn c) h f s k e o q in
-                    let code : startReply (openOf c .begun) .code ≡ 69 = rw is in
+                    let is = open-repair greatest c (nodesOn c) h f s k e o q in
+                    let code : startReply (openOf greatest c .begun) .code ≡ 69 = rw is in
                     inr (
-                      λ p. omega (arith, code, ap (λ (x : Reply). x .code) (refuses-few c (nodesOn c) s k .1 p)),
+                      λ p. omega (arith, code, ap (λ (x : Reply). x .code) (refuses-few greatest c (nodesOn c) s k .1 p)),
                       record {
                         table = t .0;
                         sound = t .1;
@@ -202,12 +211,13 @@ opens c =
                       },
                     )
 
-                whole : f .violated ≡ false → (Scarce c × HandsNone rationTable (handed (openOf c)) 5) ⊎ ((Scarce c → ⊥) × OpensTo rationTable c (handed (openOf c)))
+                whole : f .violated ≡ false → (Scarce c × HandsNone (rationTable greatest) (handed (openOf greatest c)) 5)
+                    ⊎ ((Scarce c → ⊥) × OpensTo (rationTable greatest) c (handed (openOf greatest c)))
                 whole q =
-                    let is = open-idle c (nodesOn c) h f s k e o q in
-                    let code : startReply (openOf c .begun) .code ≡ 68 = rw is in
+                    let is = open-idle greatest c (nodesOn c) h f s k e o q in
+                    let code : startReply (openOf greatest c .begun) .code ≡ 68 = rw is in
                     inr (
-                      λ p. omega (arith, code, ap (λ (x : Reply). x .code) (refuses-few c (nodesOn c) s k .1 p)),
+                      λ p. omega (arith, code, ap (λ (x : Reply). x .code) (refuses-few greatest c (nodesOn c) s k .1 p)),
                       record {
                         table = t .0;
                         sound = t .1;

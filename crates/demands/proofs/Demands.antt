@@ -1,5 +1,7 @@
 -- THE PROMISES OF THIS TABLE, one plain line each: the statements stand under specs/, and what they rest on is all that is to be believed.
 use lib.ListN.{length}
+use Prim.Native.Nat.{ℕ}
+use Rattle.card.specs.Layout.{greatestNodes}
 use Rattle.demands.specs.Demand1.{Demand1}
 use Rattle.demands.specs.Demand2.{Demand2}
 use Rattle.demands.specs.Demand3.{Demand3}
@@ -37,39 +39,39 @@ use Rattle.list_text.specs.Text.{dumpText}
 use Rattle.reason_text.specs.ReasonText.{checkText}
 use Rattle.call_record.specs.Records.{recordOf, fetchOf, fetchReply}
 
-pub demand-1 : Demand1 rationTable
-demand-1 = rows-kept
+pub demand-1 : (greatest : ℕ) → Demand1 greatest (rationTable greatest)
+demand-1 greatest = rows-kept greatest
 
-pub demand-2 : Demand2 rationTable
-demand-2 = dictionary-kept
+pub demand-2 : (greatest : ℕ) → Demand2 greatest (rationTable greatest)
+demand-2 greatest = dictionary-kept greatest
 
-pub demand-3 : Demand3 rationTable
-demand-3 = book-kept
+pub demand-3 : (greatest : ℕ) → Demand3 (rationTable greatest)
+demand-3 greatest = book-kept greatest
 
-pub dumps : Dumps (λ dump lent. (dumpReply (readAnswer dump (length lent)), readOver dump lent))
-    (λ card lent. (dumpReply (writeAnswer card (length lent)), writeOver card lent))
-dumps = dumps-kept
+pub dumps : (greatest : ℕ) → Dumps greatest (λ dump lent. (dumpReply (readAnswer greatest dump (length lent)), readOver greatest dump lent))
+    (λ card lent. (dumpReply (writeAnswer greatest card (length lent)), writeOver greatest card lent))
+dumps greatest = dumps-kept greatest
 
-pub list-program : ListProgram rationTable listCard dumpText
+pub list-program : ListProgram (rationTable greatestNodes) listCard dumpText
 list-program = list-kept
 
-pub w-201 : W201 rationTable
-w-201 = next-kept
+pub w-201 : (greatest : ℕ) → W201 greatest (rationTable greatest)
+w-201 greatest = next-kept greatest
 
-pub w-202 : W202 eightAt (λ dump lent. dumpReply (readAnswer dump lent))
-w-202 = padding-kept
+pub w-202 : (greatest : ℕ) → W202 greatest eightAt (λ dump lent. dumpReply (readAnswer greatest dump lent))
+w-202 greatest = padding-kept greatest
 
-pub w-203 : W203 rationTable findDepth nextDepth (λ c m. toldDepth (stepOf c m .memory .depth) (stepOf c m .answer))
-w-203 = depth-kept
+pub w-203 : (greatest : ℕ) → W203 (rationTable greatest) (findDepth greatest) (nextDepth greatest) (λ c m. toldDepth (stepOf greatest c m .memory .depth) (stepOf greatest c m .answer))
+w-203 greatest = depth-kept greatest
 
-pub w-205 : W205 rationTable
-w-205 = search-kept
+pub w-205 : (greatest : ℕ) → W205 (rationTable greatest)
+w-205 greatest = search-kept greatest
 
-pub w-209 : W209 rationTable checkText
+pub w-209 : W209 (rationTable greatestNodes) checkText
 w-209 = reasons-kept
 
-pub w-213 : W213 rationTable recordOf (λ c key block. fetchReply (fetchOf c key block))
-w-213 = fetching-kept
+pub w-213 : (greatest : ℕ) → W213 greatest (rationTable greatest) (recordOf greatest) (λ c key block. fetchReply (fetchOf greatest c key block))
+w-213 greatest = fetching-kept greatest
 
-pub w-214 : W214 rationTable
-w-214 = depths-kept
+pub w-214 : (greatest : ℕ) → W214 (rationTable greatest)
+w-214 greatest = depths-kept greatest

@@ -67,44 +67,44 @@ use Rattle.demands.proofs.Starting.{nodes-same}
 use Rattle.demands.proofs.StartRows.{started-is}
 
 -- what the step on this card and state tells
-abbrev pub stepDepth : List ℕ → Memory → ℕ
-stepDepth c m = toldDepth (stepOf c m .memory .depth) (stepOf c m .answer)
+abbrev pub stepDepth : ℕ → List ℕ → Memory → ℕ
+stepDepth greatest c m = toldDepth (stepOf greatest c m .memory .depth) (stepOf greatest c m .answer)
 
 -- ---- the way on the card and through the tree
 
-passes : (c : List ℕ) (n : ℕ) (t : Tree) → Table c n t → (key : ℕ) → depthOf (leafOf (way c n key)) ≡ passedIn key t
+passes : (greatest : ℕ) (c : List ℕ) (n : ℕ) (t : Tree) → Table greatest c n t → (key : ℕ) → depthOf (leafOf (way c n key)) ≡ passedIn key t
 unfolding way depthOf rootPosition
-passes c n t b key =
-    ap depthOf (way-depth c n key (b .sized .words) depthLimit t (b .holds .2) (table-depth-limited b) (rootPosition (getD c rootPlace 0)) (b .holds .0) .1)
+passes greatest c n t b key =
+    ap depthOf (way-depth c n key (b .sized .words) depthLimit t (b .holds .2) (table-depth-limited greatest b) (rootPosition (getD c rootPlace 0)) (b .holds .0) .1)
 
-module _ (w : World rationTable) (b : Book) (v : Covered w b) where
+module _ (greatest : ℕ) (w : World (rationTable greatest)) (b : Book) (v : Covered greatest w b) where
   -- every tree that the card's words hold soundly
-  standing : (t : Tree) → WellFormed (w .card) t → Table (w .card) (v .size) t
-  standing t k = well-formed-table (v .inv .table .sized) (v .inv .table .header) k
+  standing : (t : Tree) → WellFormed (w .card) t → Table greatest (w .card) (v .size) t
+  standing t k = well-formed-table greatest (v .inv .table .sized) (v .inv .table .header) k
 
-  accepted : cardRefusal (w .card) ≡ 0
-  accepted = card-accepted (v .inv .table .sized) (v .inv .table .header) .0
+  accepted : cardRefusal greatest (w .card) ≡ 0
+  accepted = card-accepted greatest (v .inv .table .sized) (v .inv .table .header) .0
 
-  on-card : nodesOfLength (length (w .card)) ≡ v .size
-  on-card = sized-nodes (length (w .card)) (v .size) (v .inv .table .sized)
+  on-card : nodesOfLength greatest (length (w .card)) ≡ v .size
+  on-card = sized-nodes greatest (length (w .card)) (v .size) (v .inv .table .sized)
 
-  find-tells : (t : Tree) → WellFormed (w .card) t → (key : ℕ) → 0 < key → key < keyLimit → findDepth (w .card) key ≡ passedIn key t
+  find-tells : (t : Tree) → WellFormed (w .card) t → (key : ℕ) → 0 < key → key < keyLimit → findDepth greatest (w .card) key ≡ passedIn key t
   find-tells t k key low high =
-      depth-key (w .card) key accepted (λ z. omega arith) ∙ ap (λ (n : ℕ). depthOf (leafOf (way (w .card) n key))) on-card ∙ passes (w .card) (v .size) t (standing t k) key
+      depth-key greatest (w .card) key accepted (λ z. omega arith) ∙ ap (λ (n : ℕ). depthOf (leafOf (way (w .card) n key))) on-card ∙ passes greatest (w .card) (v .size) t (standing t k) key
 
-  next-tells : (t : Tree) → WellFormed (w .card) t → (number : ℕ) → number < keyLimit → nextDepth (w .card) number ≡ passedIn number t
+  next-tells : (t : Tree) → WellFormed (w .card) t → (number : ℕ) → number < keyLimit → nextDepth greatest (w .card) number ≡ passedIn number t
   unfolding nextDepth carried
   next-tells t k number high =
-      go (nextOf (w .card) number) (next-right (w .card) t number k accepted high)
-      ∙ ap (λ (n : ℕ). depthOf (leafOf (way (w .card) n number))) on-card ∙ passes (w .card) (v .size) t (standing t k) number
+      go (nextOf greatest (w .card) number) (next-right greatest (w .card) t number k accepted high)
+      ∙ ap (λ (n : ℕ). depthOf (leafOf (way (w .card) n number))) on-card ∙ passes greatest (w .card) (v .size) t (standing t k) number
     where
-      go : (s : Successor) → IsNext (pairs t) number s → carried (depthOf (leafOf (way (w .card) (nodesOfLength (length (w .card))) number))) s
-          ≡ depthOf (leafOf (way (w .card) (nodesOfLength (length (w .card))) number))
+      go : (s : Successor) → IsNext (pairs t) number s → carried (depthOf (leafOf (way (w .card) (nodesOfLength greatest (length (w .card))) number))) s
+          ≡ depthOf (leafOf (way (w .card) (nodesOfLength greatest (length (w .card))) number))
       go (Pair key value) i = refl
       go NoNext i = refl
       go (NextRefused r) i = absurd i
 
-  rest-tells : Idle rationTable (w .state) → (l : Line (w .card) (b .held)) → (number : ℕ) → number < keyLimit → Rested findDepth nextDepth (w .card) l number
+  rest-tells : Idle (rationTable greatest) (w .state) → (l : Line (w .card) (b .held)) → (number : ℕ) → number < keyLimit → Rested (findDepth greatest) (nextDepth greatest) (w .card) l number
   rest-tells idle l number high =
       let k = l .right .balanced .well-formed in
       let levels = passed-levels number (l .depth) (l .right .table) (k .widths) (l .right .balanced .none) (l .level) in
@@ -116,7 +116,7 @@ module _ (w : World rationTable) (b : Book) (v : Covered w b) where
 
 -- ---- a step, on any card and state, leaves the depth as it was
 
-module _ (c : List ℕ) (m : Memory) where
+module _ (greatest : ℕ) (c : List ℕ) (m : Memory) where
   advanced-depth : (x : Memory) (rest : List Store) → advanced x rest .depth ≡ x .depth
   unfolding advanced
   advanced-depth x [] = refl
@@ -152,23 +152,25 @@ module _ (c : List ℕ) (m : Memory) where
   held-depth (Formatting made) = format-depth made _
   held-depth (HeldTask task) = checked-depth _ (task-depth task (m .rest))
 
-  step-keeps : stepOf c m .memory .depth ≡ m .depth
+  step-keeps : stepOf greatest c m .memory .depth ≡ m .depth
   unfolding stepRefused
-  step-keeps = go (sized? (length c) (m .nodes))
+  step-keeps = go (sized? greatest (length c) (m .nodes))
     where
-      go : Dec (Sized (length c) (m .nodes)) → stepOf c m .memory .depth ≡ m .depth
-      go (yes s) = ap (λ (x : Step). x .memory .depth) (step-sized c m s) ∙ held-depth (heldBy (m .doing))
-      go (no p) = ap (λ (x : Step). x .memory .depth) (step-unsized c m p)
+      go : Dec (Sized greatest (length c) (m .nodes)) → stepOf greatest c m .memory .depth ≡ m .depth
+      go (yes s) = ap (λ (x : Step). x .memory .depth) (step-sized greatest c m s) ∙ held-depth (heldBy (m .doing))
+      go (no p) = ap (λ (x : Step). x .memory .depth) (step-unsized greatest c m p)
 
-run-keeps : (qs : List Event) (w : World rationTable) → LeftUncut rationTable qs w → run rationTable qs w .state .depth ≡ w .state .depth
+run-keeps : (greatest : ℕ) (qs : List Event) (w : World (rationTable greatest)) → LeftUncut (rationTable greatest) qs w → run (rationTable greatest) qs w .state .depth ≡ w .state .depth
 unfolding LeftUncut run happens
-run-keeps [] w u = refl
-run-keeps (ask q ∷ qs) w u = run-keeps qs w (u .1)
-run-keeps (insert key value ∷ qs) w u =
-    run-keeps qs (happens rationTable (insert key value) w) (u .1) ∙ ap (λ (x : World rationTable). x .state .depth) (insert-same key value w (u .0))
-run-keeps (delete key ∷ qs) w u = run-keeps qs (happens rationTable (delete key) w) (u .1) ∙ ap (λ (x : World rationTable). x .state .depth) (delete-same key w (u .0))
-run-keeps (step ∷ qs) w u = run-keeps qs (happens rationTable step w) (u .1) ∙ step-keeps (w .card) (w .state)
-run-keeps (cut ∷ qs) w u = absurd (u .0)
+run-keeps greatest [] w u = refl
+run-keeps greatest (ask q ∷ qs) w u = run-keeps greatest qs w (u .1)
+run-keeps greatest (insert key value ∷ qs) w u =
+    run-keeps greatest qs (happens (rationTable greatest) (insert key value) w) (u .1) ∙ ap (λ (x : World (rationTable greatest)). x .state .depth) (insert-same greatest key value w (u .0))
+run-keeps greatest (delete key ∷ qs) w u =
+    run-keeps greatest qs (happens (rationTable greatest) (delete key) w) (u .1)
+    ∙ ap (λ (x : World (rationTable greatest)). x .state .depth) (delete-same greatest key w (u .0))
+run-keeps greatest (step ∷ qs) w u = run-keeps greatest qs (happens (rationTable greatest) step w) (u .1) ∙ step-keeps greatest (w .card) (w .state)
+run-keeps greatest (cut ∷ qs) w u = absurd (u .0)
 
 -- ---- the final answer tells it
 
@@ -194,25 +196,25 @@ told-others depth (Refused r) n = refl
 
 -- ---- an update tells the depth that its start kept
 
-module _ (w : World rationTable) (b : Book) (v : Covered w b) where
+module _ (greatest : ℕ) (w : World (rationTable greatest)) (b : Book) (v : Covered greatest w b) where
   -- the depth of the key's way on the card as it is now
   now-passed : (t : Tree) → WellFormed (w .card) t → (key : ℕ) → startDepth (w .card) (w .state) key ≡ passedIn key t
   now-passed t k key =
-      ap (λ (n : ℕ). depthOf (leafOf (way (w .card) n key))) (nodes-same (v .size) (v .steps) w b (v .inv)) ∙ passes (w .card) (v .size) t (standing w b v t k) key
+      ap (λ (n : ℕ). depthOf (leafOf (way (w .card) n key))) (nodes-same greatest (v .size) (v .steps) w b (v .inv)) ∙ passes greatest (w .card) (v .size) t (standing greatest w b v t k) key
 
   -- after a start that works, whatever calls come before the final answer
   begun-tells : (key : ℕ) (doing : Doing) (room : Landing → Bool) (t : Tree) → WellFormed (w .card) t
-      → startReply (startOf (w .card) (w .state) key doing room .begun) ≡ started
-      → (u : World rationTable) → u ≡ record { card = w .card; state = startOf (w .card) (w .state) key doing room .memory }
-      → (qs : List Event) → LeftUncut rationTable qs u → (held : Option ℕ) → replyTo rationTable step (run rationTable qs u) ≡ dictionary held
-      → stepDepth (run rationTable qs u .card) (run rationTable qs u .state) ≡ passedIn key t
+      → startReply (startOf greatest (w .card) (w .state) key doing room .begun) ≡ started
+      → (u : World (rationTable greatest)) → u ≡ record { card = w .card; state = startOf greatest (w .card) (w .state) key doing room .memory }
+      → (qs : List Event) → LeftUncut (rationTable greatest) qs u → (held : Option ℕ) → replyTo (rationTable greatest) step (run (rationTable greatest) qs u) ≡ dictionary held
+      → stepDepth greatest (run (rationTable greatest) qs u .card) (run (rationTable greatest) qs u .state) ≡ passedIn key t
   unfolding startAccepted replyTo
   begun-tells key doing room t k e u is qs left held r =
-      let is-started = begun-started (startOf (w .card) (w .state) key doing room .begun) (start-small (w .card) (w .state) key doing room) e in
-      let kept : u .state .depth ≡ startDepth (w .card) (w .state) key = ap (λ (x : World rationTable). x .state .depth) is
-      ∙ ap (λ (h : Handed). h .memory .depth) (started-is (w .card) (w .state) doing room key is-started) in
-      told-final _ _ held (step-small (run rationTable qs u .card) (run rationTable qs u .state)) r
-      ∙ step-keeps (run rationTable qs u .card) (run rationTable qs u .state) ∙ run-keeps qs u left ∙ kept ∙ now-passed t k key
+      let is-started = begun-started (startOf greatest (w .card) (w .state) key doing room .begun) (start-small greatest (w .card) (w .state) key doing room) e in
+      let kept : u .state .depth ≡ startDepth (w .card) (w .state) key = ap (λ (x : World (rationTable greatest)). x .state .depth) is
+      ∙ ap (λ (h : Handed). h .memory .depth) (started-is greatest (w .card) (w .state) doing room key is-started) in
+      told-final _ _ held (step-small greatest (run (rationTable greatest) qs u .card) (run (rationTable greatest) qs u .state)) r
+      ∙ step-keeps greatest (run (rationTable greatest) qs u .card) (run (rationTable greatest) qs u .state) ∙ run-keeps greatest qs u left ∙ kept ∙ now-passed t k key
 
 -- ---- "A refusal carries none"
 
@@ -232,36 +234,37 @@ carried-none depth (Pair key value) h = absurd (omega arith)
 carried-none depth NoNext h = absurd (omega arith)
 carried-none depth (NextRefused r) h = refl
 
-find-refused : (c : List ℕ) (key : ℕ) → IsRefused (foundReply (findOf c key)) → findDepth c key ≡ 0
+find-refused : (greatest : ℕ) (c : List ℕ) (key : ℕ) → IsRefused (foundReply (findOf greatest c key)) → findDepth greatest c key ≡ 0
 unfolding findOf findDepth
-find-refused c key =
-    bool-cases (eqb (cardRefusal c) 0)
-    (λ q. bool-cases (eqb key 0) (λ z. rw (q, z) (λ h. refl)) (λ z. rw (q, z) (at (leafOf (way c (nodesOfLength (length c)) key)))))
+find-refused greatest c key =
+    bool-cases (eqb (cardRefusal greatest c) 0)
+    (λ q. bool-cases (eqb key 0) (λ z. rw (q, z) (λ h. refl)) (λ z. rw (q, z) (at (leafOf (way c (nodesOfLength greatest (length c)) key)))))
     (λ q. rw q (λ h. refl))
   where
     at : (x : Reached) → IsRefused (foundReply (foundAt c key x)) → depthOf x ≡ 0
     at x h = refused-depth c key x h
 
-next-refused : (c : List ℕ) (number : ℕ) → IsRefused (nextReply (nextOf c number)) → nextDepth c number ≡ 0
+next-refused : (greatest : ℕ) (c : List ℕ) (number : ℕ) → IsRefused (nextReply (nextOf greatest c number)) → nextDepth greatest c number ≡ 0
 unfolding nextDepth
-next-refused c number = at (nextOf c number)
+next-refused greatest c number = at (nextOf greatest c number)
   where
-    at : (s : Successor) → IsRefused (nextReply s) → carried (depthOf (leafOf (way c (nodesOfLength (length c)) number))) s ≡ 0
+    at : (s : Successor) → IsRefused (nextReply s) → carried (depthOf (leafOf (way c (nodesOfLength greatest (length c)) number))) s ≡ 0
     at s h = carried-none _ s h
 
-pub w-203 : W203 rationTable findDepth nextDepth stepDepth
+pub w-203 : (greatest : ℕ) → W203 (rationTable greatest) (findDepth greatest) (nextDepth greatest) (stepDepth greatest)
 unfolding happens insertOf deleteOf replyTo
-w-203 =
+w-203 greatest =
     record {
-      finds = always (λ w b. (t : Tree) → WellFormed (w .card) t → (key : ℕ) → 0 < key → key < keyLimit → findDepth (w .card) key ≡ passedIn key t) find-tells;
-      nexts = always (λ w b. (t : Tree) → WellFormed (w .card) t → (number : ℕ) → number < keyLimit → nextDepth (w .card) number ≡ passedIn number t) next-tells;
-      inserts = always (λ w b. (key value : ℕ) → key < keyLimit → TellsStart rationTable stepDepth (insert key value) key w)
-          (λ w b v key value high t k e qs left held r. begun-tells w b v key (Inserting key value NotBegun) (startRoom (w .card) key (w .state .free)) t k e _ refl qs left held r);
-      deletes = always (λ w b. (key : ℕ) → key < keyLimit → TellsStart rationTable stepDepth (delete key) key w)
-          (λ w b v key high t k e qs left held r. begun-tells w b v key (Deleting key NotBegun 0) (λ l. true) t k e _ refl qs left held r);
-      find-refused = find-refused;
-      next-refused = next-refused;
-      others = λ c m n. told-others (stepOf c m .memory .depth) (stepOf c m .answer) n;
-      rests = always (λ w b. Idle rationTable (w .state) → (l : Line (w .card) (b .held)) → (number : ℕ) → number < keyLimit → Rested findDepth nextDepth (w .card) l number)
-          rest-tells;
+      finds = always greatest (λ w b. (t : Tree) → WellFormed (w .card) t → (key : ℕ) → 0 < key → key < keyLimit → findDepth greatest (w .card) key ≡ passedIn key t) (find-tells greatest);
+      nexts = always greatest (λ w b. (t : Tree) → WellFormed (w .card) t → (number : ℕ) → number < keyLimit → nextDepth greatest (w .card) number ≡ passedIn number t) (next-tells greatest);
+      inserts = always greatest (λ w b. (key value : ℕ) → key < keyLimit → TellsStart (rationTable greatest) (stepDepth greatest) (insert key value) key w)
+          (λ w b v key value high t k e qs left held r. begun-tells greatest w b v key (Inserting key value NotBegun) (startRoom (w .card) key (w .state .free)) t k e _ refl qs left held r);
+      deletes = always greatest (λ w b. (key : ℕ) → key < keyLimit → TellsStart (rationTable greatest) (stepDepth greatest) (delete key) key w)
+          (λ w b v key high t k e qs left held r. begun-tells greatest w b v key (Deleting key NotBegun 0) (λ l. true) t k e _ refl qs left held r);
+      find-refused = find-refused greatest;
+      next-refused = next-refused greatest;
+      others = λ c m n. told-others (stepOf greatest c m .memory .depth) (stepOf greatest c m .answer) n;
+      rests = always greatest (λ w b. Idle (rationTable greatest) (w .state) → (l : Line (w .card) (b .held)) → (number : ℕ)
+          → number < keyLimit → Rested (findDepth greatest) (nextDepth greatest) (w .card) l number)
+          (rest-tells greatest);
     }

@@ -38,10 +38,10 @@ tree-levels c t b h level =
       few = λ n. let flat = few-pairs-flat h t level ok (b .none) n in (flat, flat-leaf t (subst (λ x. Height x t) flat level) ok);
     }
 
-module _ (w : World rationTable) (b : Book) (v : Covered w b) where
-  line : Idle rationTable (w .state) → Line (w .card) (b .held)
+module _ (greatest : ℕ) (w : World (rationTable greatest)) (b : Book) (v : Covered greatest w b) where
+  line : Idle (rationTable greatest) (w .state) → Line (w .card) (b .held)
   line idle =
-      let r = is-dictionary w b v .rests idle .right in
+      let r = is-dictionary greatest w b v .rests idle .right in
       let level = r .balanced .well-formed .level in
       let s = v .inv .table .sized in
       record {
@@ -54,28 +54,28 @@ module _ (w : World rationTable) (b : Book) (v : Covered w b) where
 
 -- ---- the bound by depth
 
-module _ (w : World rationTable) (b : Book) (v : Covered w b) (key : ℕ) (high : key < keyLimit) where
-  insert-ends : (value : ℕ) → EndsByDepth rationTable (insert key value) key w (b .held)
+module _ (greatest : ℕ) (w : World (rationTable greatest)) (b : Book) (v : Covered greatest w b) (key : ℕ) (high : key < keyLimit) where
+  insert-ends : (value : ℕ) → EndsByDepth (rationTable greatest) (insert key value) key w (b .held)
   unfolding replyTo insertOf
   insert-ends value t sound h level s =
       let e =
-      begun-started (insertOf (w .card) (w .state) key value .begun)
-      (start-small (w .card) (w .state) key (Inserting key value NotBegun) (startRoom (w .card) key (w .state .free))) s in
-      finishes-by (lookup key (b .held)) (storesAt h) (happens rationTable (insert key value) w) (insert-stores-by-depth (v .inv) key high value e t sound h level)
+      begun-started (insertOf greatest (w .card) (w .state) key value .begun)
+      (start-small greatest (w .card) (w .state) key (Inserting key value NotBegun) (startRoom (w .card) key (w .state .free))) s in
+      finishes-by greatest (lookup key (b .held)) (storesAt h) (happens (rationTable greatest) (insert key value) w) (insert-stores-by-depth greatest (v .inv) key high value e t sound h level)
 
-  delete-ends : EndsByDepth rationTable (delete key) key w (b .held)
+  delete-ends : EndsByDepth (rationTable greatest) (delete key) key w (b .held)
   unfolding replyTo deleteOf
   delete-ends t sound h level s =
-      let e = begun-started (deleteOf (w .card) (w .state) key .begun) (start-small (w .card) (w .state) key (Deleting key NotBegun 0) (λ l. true)) s in
-      finishes-by (lookup key (b .held)) (storesAt h) (happens rationTable (delete key) w) (delete-stores-by-depth (v .inv) key high e t sound h level)
+      let e = begun-started (deleteOf greatest (w .card) (w .state) key .begun) (start-small greatest (w .card) (w .state) key (Deleting key NotBegun 0) (λ l. true)) s in
+      finishes-by greatest (lookup key (b .held)) (storesAt h) (happens (rationTable greatest) (delete key) w) (delete-stores-by-depth greatest (v .inv) key high e t sound h level)
 
-pub w-214 : W214 rationTable
-w-214 =
+pub w-214 : (greatest : ℕ) → W214 (rationTable greatest)
+w-214 greatest =
     record {
       trees = tree-levels;
-      lines = always (λ w b. Idle rationTable (w .state) → Line (w .card) (b .held)) line;
+      lines = always greatest (λ w b. Idle (rationTable greatest) (w .state) → Line (w .card) (b .held)) (line greatest);
       inserts =
-          always (λ w b. (key value : ℕ) → key < keyLimit → EndsByDepth rationTable (insert key value) key w (b .held))
-          (λ w b v key value high. insert-ends w b v key high value);
-      deletes = always (λ w b. (key : ℕ) → key < keyLimit → EndsByDepth rationTable (delete key) key w (b .held)) delete-ends;
+          always greatest (λ w b. (key value : ℕ) → key < keyLimit → EndsByDepth (rationTable greatest) (insert key value) key w (b .held))
+          (λ w b v key value high. insert-ends greatest w b v key high value);
+      deletes = always greatest (λ w b. (key : ℕ) → key < keyLimit → EndsByDepth (rationTable greatest) (delete key) key w (b .held)) (delete-ends greatest);
     }

@@ -69,69 +69,70 @@ module _ (block : List ℕ) (at : ℕ) where
 
 -- ---- for every card, key and block
 
-abbrev part : List ℕ → ℕ → List ℕ → List ℕ
-part c key block = recordOf c key block
+abbrev part : ℕ → List ℕ → ℕ → List ℕ → List ℕ
+part greatest c key block = recordOf greatest c key block
 
-abbrev reply : List ℕ → ℕ → List ℕ → Reply
-reply c key block = fetchReply (fetchOf c key block)
+abbrev reply : ℕ → List ℕ → ℕ → List ℕ → Reply
+reply greatest c key block = fetchReply (fetchOf greatest c key block)
 
-module _ (c : List ℕ) (key : ℕ) (block : List ℕ) where
-  no-look : (r : ℕ) → findOf c key ≡ NoLook r → NoRecord (part c key block) (reply c key block) (refusal r)
+module _ (greatest : ℕ) (c : List ℕ) (key : ℕ) (block : List ℕ) where
+  no-look : (r : ℕ) → findOf greatest c key ≡ NoLook r → NoRecord (part greatest c key block) (reply greatest c key block) (refusal r)
   unfolding recordOf recordFor fetchOf fetchedFor fetchReply
   no-look r e = record { told = rw e; empty = rw e }
 
-  not-held : findOf c key ≡ NotHeld → NoRecord (part c key block) (reply c key block) absent
+  not-held : findOf greatest c key ≡ NotHeld → NoRecord (part greatest c key block) (reply greatest c key block) absent
   unfolding recordOf recordFor fetchOf fetchedFor fetchReply
   not-held e = record { told = rw e; empty = rw e }
 
-  held-at : (at : ℕ) → findOf c key ≡ Value at → AtOffset (part c key block) (reply c key block) block at
+  held-at : (at : ℕ) → findOf greatest c key ≡ Value at → AtOffset (part greatest c key block) (reply greatest c key block) block at
   unfolding recordOf fetchOf
   held-at at e = rw e (at-offset block at)
 
   abbrev Works : Type 0
-  Works = ByFind (part c key block) (reply c key block) block (rationTable .find c key)
+  Works = ByFind (part greatest c key block) (reply greatest c key block) block (rationTable greatest .find c key)
 
-  answered : Finds (rationTable .find c key) → Works
-  answered (inl (at, e)) = inr (at, e, held-at at (found-value (findOf c key) at (find-small c key) e))
-  answered (inr e) = inl (e, not-held (found-absent (findOf c key) (find-small c key) e))
+  answered : Finds (rationTable greatest .find c key) → Works
+  answered (inl (at, e)) = inr (at, e, held-at at (found-value (findOf greatest c key) at (find-small greatest c key) e))
+  answered (inr e) = inl (e, not-held (found-absent (findOf greatest c key) (find-small greatest c key) e))
 
-  looked : ReadsLeaf c key (rationTable .find c key) → Works
+  looked : ReadsLeaf c key (rationTable greatest .find c key) → Works
   looked r = answered (subst Finds (sym (r .3)) (reads-finds key _ _ 0))
 
-  find-numbers : Numbers (findRows c key)
+  find-numbers : Numbers (findRows greatest c key)
   find-numbers = (omega arith, (omega arith, (omega arith, (omega arith, (omega arith, tt)))))
 
-  all-answers : ByRows (findRows c key) (λ r. (rationTable .find c key ≡ refusal r) × NoRecord (part c key block) (reply c key block) (refusal r)) Works
-  all-answers = rows-map (findRows c key) find-numbers (λ r h e. (e, no-look r (found-refused (findOf c key) r h e))) looked (finds c key)
+  all-answers : ByRows (findRows greatest c key) (λ r. (rationTable greatest .find c key ≡ refusal r) × NoRecord (part greatest c key block) (reply greatest c key block) (refusal r)) Works
+  all-answers = rows-map (findRows greatest c key) find-numbers (λ r h e. (e, no-look r (found-refused (findOf greatest c key) r h e))) looked (finds greatest c key)
 
   -- the two questions agree, by what they answer alone
-  none-found : (why : Reply) → NoRecord (part c key block) (reply c key block) why → (why .code ≡ 74 → ⊥) → (reply c key block ≡ fetched) ↔ (1 ≤ length (part c key block))
+  none-found : (why : Reply) → NoRecord (part greatest c key block) (reply greatest c key block) why → (why .code ≡ 74 → ⊥)
+      → (reply greatest c key block ≡ fetched) ↔ (1 ≤ length (part greatest c key block))
   none-found why n d = (λ e. absurd (d (code-of (sym (n .told) ∙ e))), λ l. absurd (omega (arith, ap length (n .empty))))
 
-  found-is : (reply c key block ≡ fetched) ↔ (1 ≤ length (part c key block))
-  found-is = rows-elim (findRows c key) find-numbers (λ r h n. none-found (refusal r) (n .1) (λ z. omega (arith, z))) works all-answers
+  found-is : (reply greatest c key block ≡ fetched) ↔ (1 ≤ length (part greatest c key block))
+  found-is = rows-elim (findRows greatest c key) find-numbers (λ r h n. none-found (refusal r) (n .1) (λ z. omega (arith, z))) works all-answers
     where
-      works : Works → (reply c key block ≡ fetched) ↔ (1 ≤ length (part c key block))
+      works : Works → (reply greatest c key block ≡ fetched) ↔ (1 ≤ length (part greatest c key block))
       works (inl (e, n)) = none-found absent n (λ z. omega (arith, z))
       works (inr (at, e, q)) =
           rows-elim (recordRows block at) (omega arith, (omega arith, tt)) (λ r h n. none-found (refusal r) n (λ z. omega (arith, z)))
           (λ i. (λ z. i .least, λ z. i .told)) q
 
-  absent-is : (reply c key block ≡ absent) ↔ (rationTable .find c key ≡ absent)
+  absent-is : (reply greatest c key block ≡ absent) ↔ (rationTable greatest .find c key ≡ absent)
   absent-is =
-      rows-elim (findRows c key) find-numbers
+      rows-elim (findRows greatest c key) find-numbers
       (λ r h n. neither (refusal r) (refusal r) (n .1 .told) (n .0) (λ z. omega (arith, z)) (λ z. omega (arith, z)))
       works all-answers
     where
-      neither : (a b : Reply) → reply c key block ≡ a → rationTable .find c key ≡ b → (a .code ≡ 65 → ⊥) → (b .code ≡ 65 → ⊥)
-          → (reply c key block ≡ absent) ↔ (rationTable .find c key ≡ absent)
+      neither : (a b : Reply) → reply greatest c key block ≡ a → rationTable greatest .find c key ≡ b → (a .code ≡ 65 → ⊥) → (b .code ≡ 65 → ⊥)
+          → (reply greatest c key block ≡ absent) ↔ (rationTable greatest .find c key ≡ absent)
       neither a b e f d g = (λ z. absurd (d (code-of (sym e ∙ z))), λ z. absurd (g (code-of (sym f ∙ z))))
 
-      works : Works → (reply c key block ≡ absent) ↔ (rationTable .find c key ≡ absent)
+      works : Works → (reply greatest c key block ≡ absent) ↔ (rationTable greatest .find c key ≡ absent)
       works (inl (e, n)) = (λ z. e, λ z. n .told)
       works (inr (at, e, q)) =
           rows-elim (recordRows block at) (omega arith, (omega arith, tt)) (λ r h n. neither (refusal r) (holds at) (n .told) e (λ z. omega (arith, z)) (λ z. omega (arith, z)))
           (λ i. neither fetched (holds at) (i .told) e (λ z. omega (arith, z)) (λ z. omega (arith, z))) q
 
-pub w-213 : W213 rationTable recordOf (λ c key block. fetchReply (fetchOf c key block))
-w-213 = record { answers = all-answers; found-exactly = found-is; absent-exactly = absent-is }
+pub w-213 : (greatest : ℕ) → W213 greatest (rationTable greatest) (recordOf greatest) (λ c key block. fetchReply (fetchOf greatest c key block))
+w-213 greatest = record { answers = all-answers greatest; found-exactly = found-is greatest; absent-exactly = absent-is greatest }

@@ -26,82 +26,88 @@ use Rattle.demands.proofs.Reopen.{table-well-formed}
 use Rattle.demands.proofs.Starting.{idle-or-busy}
 use Rattle.demands.proofs.Stepping.{Right, right-final, Moves, kept-step, was-idle, ends-now, goes-further}
 use Rattle.demands.proofs.Steps.{memory}
+use Rattle.card.specs.Layout.{limited}
+use Rattle.card.proofs.HeaderLaws.{limited-most, within-limited}
 use Rattle.theory_check.proofs.Depth.{balanced-levels, nodes-within}
 use Rattle.theory_shapes.proofs.Bare.{bare}
 use Rattle.theory_tree.specs.Violations.{tableViolations}
 use Rattle.laws.proofs.Cases.{impossible}
 
 -- so many steps that each store a word, and then one that gives the final answer
-pub data Counted (final : Reply) : ℕ → World rationTable → Type 0 where
-  answers-now : {w : World rationTable} → replyTo rationTable step w ≡ final → Counted final 0 w
-  stores-first : {k : ℕ} {w : World rationTable} → (place : ℕ) × (replyTo rationTable step w ≡ stored place) → Counted final k (happens rationTable step w) → Counted final (suc k) w
+pub data Counted (greatest : ℕ) (final : Reply) : ℕ → World (rationTable greatest) → Type 0 where
+  answers-now : {w : World (rationTable greatest)} → replyTo (rationTable greatest) step w ≡ final → Counted greatest final 0 w
+  stores-first : {k : ℕ} {w : World (rationTable greatest)} → (place : ℕ) × (replyTo (rationTable greatest) step w ≡ stored place)
+      → Counted greatest final k (happens (rationTable greatest) step w) → Counted greatest final (suc k) w
 
 -- the work in hand takes fewer stores than it has steps left, and gives the answer due
-pub counted : (n steps : ℕ) (w : World rationTable) (b : Book) (i : Inv n steps w b) → isIdle (w .state .doing) ≡ false → (k : ℕ) × (k < steps) × Counted (stepReply (i .due)) k w
+pub counted : (greatest : ℕ) (n steps : ℕ) (w : World (rationTable greatest)) (b : Book) (i : Inv greatest n steps w b)
+    → isIdle (w .state .doing) ≡ false → (k : ℕ) × (k < steps) × Counted greatest (stepReply (i .due)) k w
 unfolding replyTo stepReply
-counted n zero w b i busy = absurd (idle-not-busy (w .state .doing) (at-rest n 0 w b refl i .0) busy)
-counted n (suc steps) w b i busy =
-    let q = kept-step n steps w b i in
-    go (q .2) (q .1) (λ e. subst (λ (a : Answer). (k : ℕ) × (k < steps) × Counted (stepReply a) k (happens rationTable step w)) (q .0 .2)
-    (counted n steps (happens rationTable step w) _ (q .0 .0) (after-step w e)))
+counted greatest n zero w b i busy = absurd (idle-not-busy (w .state .doing) (at-rest greatest n 0 w b refl i .0) busy)
+counted greatest n (suc steps) w b i busy =
+    let q = kept-step greatest n steps w b i in
+    go (q .2) (q .1) (λ e. subst (λ (a : Answer). (k : ℕ) × (k < steps) × Counted greatest (stepReply a) k (happens (rationTable greatest) step w)) (q .0 .2)
+    (counted greatest n steps (happens (rationTable greatest) step w) _ (q .0 .0) (after-step greatest w e)))
   where
-    go : Moves (w .card) (w .state) (stepOf (w .card) (w .state)) → Right (stepOf (w .card) (w .state) .answer) (i .due)
-        → (isIdle (stepOf (w .card) (w .state) .memory .doing) ≡ false → (k : ℕ) × (k < steps)
-        × Counted (stepReply (i .due)) k (happens rationTable step w)) → (k : ℕ) × (k < suc steps) × Counted (stepReply (i .due)) k w
+    go : Moves (w .card) (w .state) (stepOf greatest (w .card) (w .state)) → Right (stepOf greatest (w .card) (w .state) .answer) (i .due)
+        → (isIdle (stepOf greatest (w .card) (w .state) .memory .doing) ≡ false → (k : ℕ) × (k < steps)
+        × Counted greatest (stepReply (i .due)) k (happens (rationTable greatest) step w)) → (k : ℕ) × (k < suc steps) × Counted greatest (stepReply (i .due)) k w
     go (was-idle e) r later = absurd (idle-not-busy (w .state .doing) e busy)
     go (ends-now f same idle) r later = (0, omega arith, answers-now (ap stepReply (right-final r f)))
     go (goes-further s e) r later = let q = later e in (suc (q .0), omega (arith, q .1), stores-first (s .0, ap stepReply (s .1)) (q .2))
 
 -- what the count says of a run without a cut, by its steps
-module _ {final : Reply} where
-  pub each-stores : {k : ℕ} {w : World rationTable} → Counted final k w → (qs : List Event) → LeftUncut rationTable qs w → stepsIn qs < k
-      → (place : ℕ) × (replyTo rationTable step (run rationTable qs w) ≡ stored place)
+module _ (greatest : ℕ) {final : Reply} where
+  pub each-stores : {k : ℕ} {w : World (rationTable greatest)} → Counted greatest final k w → (qs : List Event) → LeftUncut (rationTable greatest) qs w → stepsIn qs < k
+      → (place : ℕ) × (replyTo (rationTable greatest) step (run (rationTable greatest) qs w) ≡ stored place)
   unfolding run LeftUncut
   each-stores (answers-now a) [] u h = absurd (omega arith)
   each-stores (stores-first s c) [] u h = s
-  each-stores {w = w} c (ask question ∷ qs) u h = let e = ask-same question w in rw e (each-stores c qs (rw e at (u .1)) h)
-  each-stores {w = w} c (insert key value ∷ qs) u h = let e = insert-same key value w (u .0) in rw e (each-stores c qs (rw e at (u .1)) h)
-  each-stores {w = w} c (delete key ∷ qs) u h = let e = delete-same key w (u .0) in rw e (each-stores c qs (rw e at (u .1)) h)
+  each-stores {w = w} c (ask question ∷ qs) u h = let e = ask-same greatest question w in rw e (each-stores c qs (rw e at (u .1)) h)
+  each-stores {w = w} c (insert key value ∷ qs) u h = let e = insert-same greatest key value w (u .0) in rw e (each-stores c qs (rw e at (u .1)) h)
+  each-stores {w = w} c (delete key ∷ qs) u h = let e = delete-same greatest key w (u .0) in rw e (each-stores c qs (rw e at (u .1)) h)
   each-stores (answers-now a) (step ∷ qs) u h = absurd (omega arith)
   each-stores (stores-first s c) (step ∷ qs) u h = each-stores c qs (u .1) (omega arith)
   each-stores c (cut ∷ qs) u h = absurd (u .0)
 
-  pub then-answers : {k : ℕ} {w : World rationTable} → Counted final k w → (qs : List Event) → LeftUncut rationTable qs w → stepsIn qs ≡ k → replyTo rationTable step (run rationTable qs w) ≡ final
+  pub then-answers : {k : ℕ} {w : World (rationTable greatest)} → Counted greatest final k w → (qs : List Event)
+      → LeftUncut (rationTable greatest) qs w → stepsIn qs ≡ k → replyTo (rationTable greatest) step (run (rationTable greatest) qs w) ≡ final
   unfolding run LeftUncut
   then-answers (answers-now a) [] u h = a
   then-answers (stores-first s c) [] u h = absurd (omega arith)
-  then-answers {w = w} c (ask question ∷ qs) u h = let e = ask-same question w in rw e (then-answers c qs (rw e at (u .1)) h)
-  then-answers {w = w} c (insert key value ∷ qs) u h = let e = insert-same key value w (u .0) in rw e (then-answers c qs (rw e at (u .1)) h)
-  then-answers {w = w} c (delete key ∷ qs) u h = let e = delete-same key w (u .0) in rw e (then-answers c qs (rw e at (u .1)) h)
+  then-answers {w = w} c (ask question ∷ qs) u h = let e = ask-same greatest question w in rw e (then-answers c qs (rw e at (u .1)) h)
+  then-answers {w = w} c (insert key value ∷ qs) u h = let e = insert-same greatest key value w (u .0) in rw e (then-answers c qs (rw e at (u .1)) h)
+  then-answers {w = w} c (delete key ∷ qs) u h = let e = delete-same greatest key w (u .0) in rw e (then-answers c qs (rw e at (u .1)) h)
   then-answers (answers-now a) (step ∷ qs) u h = absurd (omega arith)
   then-answers (stores-first s c) (step ∷ qs) u h = then-answers c qs (u .1) (omega arith)
   then-answers c (cut ∷ qs) u h = absurd (u .0)
 
-pub work-not-refused : (n steps : ℕ) (w : World rationTable) (b : Book) → Inv n steps w b → isIdle (w .state .doing) ≡ false → (r : ℕ) → stepOf (w .card) (w .state) .answer ≡ Refused r → ⊥
-work-not-refused n steps w b i busy r e = at (kept-step n steps w b (loosen n steps (suc steps) w b (omega arith) i) .2)
+pub work-not-refused : (greatest : ℕ) (n steps : ℕ) (w : World (rationTable greatest)) (b : Book) → Inv greatest n steps w b
+    → isIdle (w .state .doing) ≡ false → (r : ℕ) → stepOf greatest (w .card) (w .state) .answer ≡ Refused r → ⊥
+work-not-refused greatest n steps w b i busy r e = at (kept-step greatest n steps w b (loosen greatest n steps (suc steps) w b (omega arith) i) .2)
   where
-    at : Moves (w .card) (w .state) (stepOf (w .card) (w .state)) → ⊥
+    at : Moves (w .card) (w .state) (stepOf greatest (w .card) (w .state)) → ⊥
     at (was-idle f) = idle-not-busy (w .state .doing) f busy
     at (ends-now f same idle) = subst IsFinal e f
     at (goes-further s f) = let z : _≡_ {A = Answer} (Refused r) (Stored (s .0)) = sym e ∙ s .1 in impossible (cc)
 
 -- an idle state's table
-pub inv-rests : (n steps : ℕ) (w : World rationTable) (b : Book) → Inv n steps w b → w .state .doing ≡ Idle → Rests w (b .held)
-inv-rests n steps w b i idle = go (idle-or-busy (i .stage))
+pub inv-rests : (greatest : ℕ) (n steps : ℕ) (w : World (rationTable greatest)) (b : Book) → Inv greatest n steps w b → w .state .doing ≡ Idle → Rests greatest w (b .held)
+inv-rests greatest n steps w b i idle = go (idle-or-busy (i .stage))
   where
     go : (w .state .nodes ≡ n)
         × ((isIdle (w .state .doing) ≡ false) ⊎ ((free : List Bool) × (last : ℕ) × (w .state ≡ memory n free last (w .state .depth) Idle [] [])
-        × (tableViolations (i .tree) ≡ 0) × (3 ≤ countTrue free) × Exact n free (i .tree) × (bare (i .tree) ≡ i .goal))) → Rests w (b .held)
+        × (tableViolations (i .tree) ≡ 0) × (3 ≤ countTrue free) × Exact n free (i .tree) × (bare (i .tree) ≡ i .goal))) → Rests greatest w (b .held)
     go (e, inl busy) = absurd (idle-not-busy (w .state .doing) idle busy)
     go (e, inr (free, last, em, z, r, x, eg)) =
         record {
           table = i .tree;
-          balanced = record { well-formed = table-well-formed (i .table); none = z };
-          map = map-is i;
-          levels = λ h g. balanced-levels h (i .tree) g (i .table .sound .widths) z (omega (
+          balanced = record { well-formed = table-well-formed greatest (i .table); none = z };
+          map = map-is greatest i;
+          levels = λ h g. balanced-levels h (limited greatest) (i .tree) (limited-most greatest) g (i .table .sound .widths) z (omega (
             arith,
             nodes-within (w .card) n (i .table .sized .words) (i .tree) (i .table .holds .2) (i .table .sound .once),
-            i .table .sized .most,
+            within-limited greatest n (i .table .sized .within) (i .table .sized .most),
           ));
           free-exact = rw em x;
           three-kept = rw em r;

@@ -4,17 +4,14 @@ use mathlib.Core.List.{List}
 use Prim.Native.Nat.{ℕ, _+_, _*_, _≤_}
 use lib.ListN.{length}
 use Rattle.theory_tree.specs.FreeNodes.{Exact}
+use Rattle.card.specs.Layout.{limited}
 use Rattle.card_free.specs.NodeSet.{countTrue}
 use Rattle.demands.specs.Events.{World}
 use Rattle.demands.specs.RationTable.{rationTable}
-use Rattle.theory_tree.specs.Height.{Height}
+use Rattle.theory_tree.specs.Height.{Height, mostLevels}
 use Rattle.theory_tree.specs.Pairs.{pairs, lookup}
 use Rattle.theory_tree.specs.Tree.{Tree}
 use Rattle.theory_tree.specs.WellFormed.{Balanced}
-
--- "an update stores at most 73 × 9 = 657 words"
-abbrev pub updateStores : ℕ
-updateStores = 73 * 9
 
 -- document 02, W-214: "the update bound then reads 73 × (h + 1) stores, h being the depth when the call began"
 abbrev pub updateStoresAt : ℕ → ℕ
@@ -26,13 +23,13 @@ pub record MapIs (t : Tree) (l : List (ℕ × ℕ)) : Type 0 where
   pub as-many : length (pairs t) ≡ length l
 
 -- What an idle state has: a table whose map is these pairs.
-pub record Rests (w : World rationTable) (l : List (ℕ × ℕ)) : Type 0 where
+pub record Rests (greatest : ℕ) (w : World (rationTable greatest)) (l : List (ℕ × ℕ)) : Type 0 where
   pub table : Tree
   -- "Repairs go on until balanced."
   pub balanced : Balanced (w .card) table
   pub map : MapIs table l
   -- "With 600 nodes a balanced tree has at most 8 internal levels"
-  pub levels : (h : ℕ) → Height h table → h ≤ 8
+  pub levels : (h : ℕ) → Height h table → h ≤ mostLevels (limited greatest)
   -- "The free nodes are one bit each: those not reached from the root"
   pub free-exact : Exact (w .state .nodes) (w .state .free) table
   -- "three nodes are always kept"

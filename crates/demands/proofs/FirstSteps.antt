@@ -68,19 +68,19 @@ unfolding slotOf slotFound
 missing node x e = sym (slot-among (keyWords node) x 0) ∙ ap slotFound e
 
 -- its slots are on the card
-module _ (c : List ℕ) (n key m link run : ℕ) (sized : Sized (length c) n) (lands : landing c n key ≡ LandingAt m link run) where
+module _ (greatest : ℕ) (c : List ℕ) (n key m link run : ℕ) (sized : Sized greatest (length c) n) (lands : landing c n key ≡ LandingAt m link run) where
   leaf-words : length (nodeAt c m) ≡ 24
-  leaf-words = let k = leaf-landed c n key m link run sized lands in length-node c m (k .inside .one) (omega (arith, k .inside .most, sized .words))
+  leaf-words = let k = leaf-landed greatest c n key m link run sized lands in length-node c m (k .inside .one) (omega (arith, k .inside .most, sized .words))
 
   on-card : (x i j : ℕ) → slotOf (nodeAt c m) x ≡ At i → j ≤ 12 + i → place m j < length c
   on-card x i j e h =
-      let k = leaf-landed c n key m link run sized lands in
+      let k = leaf-landed greatest c n key m link run sized lands in
       omega (arith, k .inside .one, k .inside .most, sized .words, slot-below (nodeAt c m) x i leaf-words e)
 
-module _ (c : List ℕ) (m : Memory) where
+module _ (greatest : ℕ) (c : List ℕ) (m : Memory) where
   -- refused 9 exactly when this is due
   abbrev Nine : Type 0 → Step → Type 0
-  Nine due x = (due × Refuses rationTable c m (asStepped x) 9) ⊎ ((due → ⊥) × Works c m x)
+  Nine due x = (due × Refuses (rationTable greatest) c m (asStepped x) 9) ⊎ ((due → ⊥) × Works greatest c m x)
 
   same-nine : (P Q : Type 0) (x : Step) → (P → Q) → (Q → P) → Nine P x → Nine Q x
   same-nine P Q x f g (inl (p, r)) = inl (f p, r)
@@ -88,25 +88,25 @@ module _ (c : List ℕ) (m : Memory) where
 
   -- what a preparation makes of the step
   module _ (doing : Doing) (a : Answer) where
-    answers : Final a → Works c m (stepPrepared c m doing a balanced)
+    answers : Final a → Works greatest c m (stepPrepared c m doing a balanced)
     unfolding stepPrepared
-    answers f = inr (final-idle a c m f)
+    answers f = inr (final-idle greatest a c m f)
 
-    refuses-none : Refuses rationTable c m (asStepped (stepPrepared c m doing a refused)) 9
+    refuses-none : Refuses (rationTable greatest) c m (asStepped (stepPrepared c m doing a refused)) 9
     unfolding stepPrepared
-    refuses-none = refused-same 9 c m
+    refuses-none = refused-same greatest 9 c m
 
     module _ (ss : List Store) (free : List Bool) (last : ℕ) (cut : List ℕ) where
       stores-first : workOf doing ≡ begun (workOf (m .doing)) → getD ss 0 (0, 0) .0 < length c
-          → Works c m (stepPrepared c m doing a (prepared ss free last cut))
+          → Works greatest c m (stepPrepared c m doing a (prepared ss free last cut))
       unfolding stepPrepared planning
       stores-first w o =
           let then = planning m doing free last cut in
-          inl (store-inside c m (getD ss 0 (0, 0)) (advanced then (drop 1 ss)) (advanced-nodes then (drop 1 ss)) (advanced-work then (drop 1 ss) ∙ w) o)
+          inl (store-inside greatest c m (getD ss 0 (0, 0)) (advanced then (drop 1 ss)) (advanced-nodes then (drop 1 ss)) (advanced-work then (drop 1 ss) ∙ w) o)
 
-      refuses-first : length c ≤ getD ss 0 (0, 0) .0 → Refuses rationTable c m (asStepped (stepPrepared c m doing a (prepared ss free last cut))) 9
+      refuses-first : length c ≤ getD ss 0 (0, 0) .0 → Refuses (rationTable greatest) c m (asStepped (stepPrepared c m doing a (prepared ss free last cut))) 9
       unfolding stepPrepared
-      refuses-first o = store-outside c m (getD ss 0 (0, 0)) (advanced (planning m doing free last cut) (drop 1 ss)) o
+      refuses-first o = store-outside greatest c m (getD ss 0 (0, 0)) (advanced (planning m doing free last cut) (drop 1 ss)) o
 
   -- a change over so many new nodes, whose first store is the first word of the first of them
   module _ (doing : Doing) (a : Answer) (w : workOf doing ≡ begun (workOf (m .doing))) where
@@ -134,7 +134,7 @@ module _ (c : List ℕ) (m : Memory) where
 
 -- ---- an insert
 
-module _ (c : List ℕ) (m : Memory) (key value : ℕ) (d : m .doing ≡ Inserting key value NotBegun) where
+module _ (greatest : ℕ) (c : List ℕ) (m : Memory) (key value : ℕ) (d : m .doing ≡ Inserting key value NotBegun) where
   -- its leaf is full, and no three nodes are given to split it into
   abbrev NoNodes : Type 0
   NoNodes = (leaf : ℕ) × (j : ℕ) × FullLeaf c key leaf j × NoneGiven c (m .free) (m .last) 3
@@ -153,10 +153,10 @@ module _ (c : List ℕ) (m : Memory) (key value : ℕ) (d : m .doing ≡ Inserti
   unfolding stepBegin nextChange inLeaf noWay stepPrepared
   insert-no-way e = rw e
 
-  module _ (s : Sized (length c) (m .nodes)) (leaf link run : ℕ) (lands : landing c (m .nodes) key ≡ LandingAt leaf link run) where
+  module _ (s : Sized greatest (length c) (m .nodes)) (leaf link run : ℕ) (lands : landing c (m .nodes) key ≡ LandingAt leaf link run) where
     leads : leadsTo c key ≡ some (leaf, run)
     unfolding landed
-    leads = sym (leads-is c (m .nodes) key (sized-on c (m .nodes) s)) ∙ ap landed lands
+    leads = sym (leads-is c (m .nodes) key (sized-on greatest c (m .nodes) s)) ∙ ap landed lands
 
     not-due : (NoNodes → ⊥) → InsertDue → ⊥
     not-due x (inl z) = none-some (leaf, run) (sym z ∙ leads)
@@ -172,37 +172,37 @@ module _ (c : List ℕ) (m : Memory) (key value : ℕ) (d : m .doing ≡ Inserti
     given-there (inl z) = absurd (none-some (leaf, run) (sym z ∙ leads))
     given-there (inr r) = r .3
 
-    insert-slot : (k : Slot) → slotOf (nodeAt c leaf) key ≡ k → (z : Slot) → slotOf (nodeAt c leaf) 0 ≡ z → Nine c m InsertDue inserted
+    insert-slot : (k : Slot) → slotOf (nodeAt c leaf) key ≡ k → (z : Slot) → slotOf (nodeAt c leaf) 0 ≡ z → Nine greatest c m InsertDue inserted
     unfolding changeStores splitLeaf nodeImage
     insert-slot (At i) e z f =
-        subst (Nine c m InsertDue) (sym (put-held c (m .nodes) key leaf link run lands value (m .free) (m .last) m i e))
+        subst (Nine greatest c m InsertDue) (sym (put-held greatest c (m .nodes) key leaf link run lands value (m .free) (m .last) m i e))
         (inr (
           not-due (λ r. in-leaf r key (r .2 .absent) (found (nodeAt c leaf) key i e)),
-          answers c m (Inserting key value InHand) (Value (getD (nodeAt c leaf) (12 + i) 0)) (inr (inl (getD (nodeAt c leaf) (12 + i) 0, refl))),
+          answers greatest c m (Inserting key value InHand) (Value (getD (nodeAt c leaf) (12 + i) 0)) (inr (inl (getD (nodeAt c leaf) (12 + i) 0, refl))),
         ))
     insert-slot NoSlot e (At i) f =
-        subst (Nine c m InsertDue) (sym (put-slot c (m .nodes) key leaf link run lands value (m .free) (m .last) m i e f))
+        subst (Nine greatest c m InsertDue) (sym (put-slot greatest c (m .nodes) key leaf link run lands value (m .free) (m .last) m i e f))
         (inr (
           not-due (λ r. in-leaf r 0 (r .2 .full) (found (nodeAt c leaf) 0 i f)),
-          stores-first c m (Inserting key value InHand) Absent ((place leaf (12 + i), value) ∷ (place leaf (1 + i), key) ∷ []) (m .free)
-              (m .last) [] insert-work (on-card c (m .nodes) key leaf link run s lands 0 i (12 + i) f (omega arith)),
+          stores-first greatest c m (Inserting key value InHand) Absent ((place leaf (12 + i), value) ∷ (place leaf (1 + i), key) ∷ []) (m .free)
+              (m .last) [] insert-work (on-card greatest c (m .nodes) key leaf link run s lands 0 i (12 + i) f (omega arith)),
         ))
     insert-slot NoSlot e NoSlot f =
-        subst (Nine c m InsertDue) (sym (put-full c (m .nodes) key leaf link run lands value (m .free) (m .last) m e f))
-        (same-nine c m (NoneGiven c (m .free) (m .last) 3) InsertDue _
+        subst (Nine greatest c m InsertDue) (sym (put-full greatest c (m .nodes) key leaf link run lands value (m .free) (m .last) m e f))
+        (same-nine greatest c m (NoneGiven c (m .free) (m .last) 3) InsertDue _
         (λ h. inr (leaf, run, record { leads = leads; absent = missing (nodeAt c leaf) key e; full = missing (nodeAt c leaf) 0 f }, h))
         given-there
-        (over-given c m (Inserting key value InHand) Absent insert-work 3
+        (over-given greatest c m (Inserting key value InHand) Absent insert-work 3
         (λ ms. splitLeaf leaf link (sort ((key, value) ∷ leafPairs (nodeAt c leaf))) (first ms) (second ms) (third ms)) (λ ms. refl)))
 
-  insert-at : Sized (length c) (m .nodes) → (l : Landing) → landing c (m .nodes) key ≡ l → Nine c m InsertDue inserted
+  insert-at : Sized greatest (length c) (m .nodes) → (l : Landing) → landing c (m .nodes) key ≡ l → Nine greatest c m InsertDue inserted
   unfolding landed
-  insert-at s NoLanding e = inl (inl (sym (leads-is c (m .nodes) key (sized-on c (m .nodes) s)) ∙ ap landed e), rw (insert-no-way e) (refused-same 9 c m))
+  insert-at s NoLanding e = inl (inl (sym (leads-is c (m .nodes) key (sized-on greatest c (m .nodes) s)) ∙ ap landed e), rw (insert-no-way e) (refused-same greatest 9 c m))
   insert-at s (LandingAt leaf link run) e = insert-slot s leaf link run e (slotOf (nodeAt c leaf) key) refl (slotOf (nodeAt c leaf) 0) refl
 
 -- ---- a delete
 
-module _ (c : List ℕ) (m : Memory) (key before : ℕ) (d : m .doing ≡ Deleting key NotBegun before) where
+module _ (greatest : ℕ) (c : List ℕ) (m : Memory) (key before : ℕ) (d : m .doing ≡ Deleting key NotBegun before) where
   abbrev deleted : Step
   deleted = stepBegin c m (nextChange c (m .nodes) (m .free) (m .last) (Deleting key NotBegun before) (TakeOut key))
 
@@ -214,95 +214,98 @@ module _ (c : List ℕ) (m : Memory) (key before : ℕ) (d : m .doing ≡ Deleti
   unfolding stepBegin nextChange inLeaf noWay stepPrepared
   delete-no-way e = rw e
 
-  delete-slot : Sized (length c) (m .nodes) → (leaf link run : ℕ) → landing c (m .nodes) key ≡ LandingAt leaf link run → (k : Slot) → slotOf (nodeAt c leaf) key ≡ k → Works c m deleted
+  delete-slot : Sized greatest (length c) (m .nodes) → (leaf link run : ℕ)
+      → landing c (m .nodes) key ≡ LandingAt leaf link run → (k : Slot) → slotOf (nodeAt c leaf) key ≡ k → Works greatest c m deleted
   delete-slot s leaf link run lands (At i) e =
-      subst (Works c m) (sym (remove-held c (m .nodes) key leaf link run lands before (m .free) (m .last) m i e))
-      (stores-first c m (Deleting key InHand (getD (nodeAt c leaf) (12 + i) 0)) (Value (getD (nodeAt c leaf) (12 + i) 0))
+      subst (Works greatest c m) (sym (remove-held greatest c (m .nodes) key leaf link run lands before (m .free) (m .last) m i e))
+      (stores-first greatest c m (Deleting key InHand (getD (nodeAt c leaf) (12 + i) 0)) (Value (getD (nodeAt c leaf) (12 + i) 0))
       ((place leaf (1 + i), 0) ∷ []) (m .free) (m .last) [] (delete-work (getD (nodeAt c leaf) (12 + i) 0))
-      (on-card c (m .nodes) key leaf link run s lands key i (1 + i) e (omega arith)))
+      (on-card greatest c (m .nodes) key leaf link run s lands key i (1 + i) e (omega arith)))
   delete-slot s leaf link run lands NoSlot e =
-      subst (Works c m) (sym (remove-absent c (m .nodes) key leaf link run lands before (m .free) (m .last) m e)) (answers c m (Deleting key InHand 0) Absent (inr (inr refl)))
+      subst (Works greatest c m) (sym (remove-absent greatest c (m .nodes) key leaf link run lands before (m .free) (m .last) m e))
+      (answers greatest c m (Deleting key InHand 0) Absent (inr (inr refl)))
 
-  delete-at : Sized (length c) (m .nodes) → (l : Landing) → landing c (m .nodes) key ≡ l → Nine c m (leadsTo c key ≡ none) deleted
+  delete-at : Sized greatest (length c) (m .nodes) → (l : Landing) → landing c (m .nodes) key ≡ l → Nine greatest c m (leadsTo c key ≡ none) deleted
   unfolding landed
-  delete-at s NoLanding e = inl (sym (leads-is c (m .nodes) key (sized-on c (m .nodes) s)) ∙ ap landed e, rw (delete-no-way e) (refused-same 9 c m))
+  delete-at s NoLanding e = inl (sym (leads-is c (m .nodes) key (sized-on greatest c (m .nodes) s)) ∙ ap landed e, rw (delete-no-way e) (refused-same greatest 9 c m))
   delete-at s (LandingAt leaf link run) e =
-      inr (λ z. none-some (leaf, run) (sym z ∙ sym (leads-is c (m .nodes) key (sized-on c (m .nodes) s)) ∙ ap landed e), delete-slot s leaf link run e (slotOf (nodeAt c leaf) key) refl)
+      inr (λ z. none-some (leaf, run) (sym z ∙ sym (leads-is c (m .nodes) key (sized-on greatest c (m .nodes) s)) ∙ ap landed e), delete-slot s leaf link run e (slotOf (nodeAt c leaf) key) refl)
 
 -- ---- a repair
 
-module _ (c : List ℕ) (m : Memory) (key : ℕ) (a : Answer) (f : Final a) (w : workOf (m .doing) ≡ begun (workOf (m .doing))) where
+module _ (greatest : ℕ) (c : List ℕ) (m : Memory) (key : ℕ) (a : Answer) (f : Final a) (w : workOf (m .doing) ≡ begun (workOf (m .doing))) where
   -- a change without new nodes, by its first store
-  over-one : (s : Store) (rest : List Store) → Nine c m (length c ≤ s .0) (stepPrepared c m (m .doing) a (prepared (s ∷ rest) (m .free) (m .last) []))
+  over-one : (s : Store) (rest : List Store) → Nine greatest c m (length c ≤ s .0) (stepPrepared c m (m .doing) a (prepared (s ∷ rest) (m .free) (m .last) []))
   over-one s rest =
       order (s .0) (length c)
-      (λ o. inr (λ z. omega (arith, o, z), stores-first c m (m .doing) a (s ∷ rest) (m .free) (m .last) [] w o))
-      (λ o. inl (o, refuses-first c m (m .doing) a (s ∷ rest) (m .free) (m .last) [] o))
+      (λ o. inr (λ z. omega (arith, o, z), stores-first greatest c m (m .doing) a (s ∷ rest) (m .free) (m .last) [] w o))
+      (λ o. inl (o, refuses-first greatest c m (m .doing) a (s ∷ rest) (m .free) (m .last) [] o))
 
   -- by the change decided
-  repair-decided : (x : Decision) → Nine c m (Unmakeable c (m .free) (m .last) x) (stepPrepared c m (m .doing) a (layOut c x (m .free) (m .last)))
+  repair-decided : (x : Decision) → Nine greatest c m (Unmakeable c (m .free) (m .last) x) (stepPrepared c m (m .doing) a (layOut c x (m .free) (m .last)))
   unfolding Unmakeable layOut changeStores splitLeaf absorb splitParent share merge mergeRoot halves nodeImage
-  repair-decided Refused = inl (tt, refuses-none c m (m .doing) a)
-  repair-decided Balanced = inr (λ z. z, answers c m (m .doing) a f)
+  repair-decided Refused = inl (tt, refuses-none greatest c m (m .doing) a)
+  repair-decided Balanced = inr (λ z. z, answers greatest c m (m .doing) a f)
   repair-decided (PutPair x i k v) = over-one (place x (12 + i), v) ((place x (1 + i), k) ∷ [])
   repair-decided (ClearKey x i) = over-one (place x (1 + i), 0) []
-  repair-decided (SplitLeaf x link k v) = over-given c m (m .doing) a w 3 (splitLeafOf x link k v (nodeAt c x)) (λ ms. refl)
-  repair-decided (Absorb p) = over-given c m (m .doing) a w 1 (absorbAt c p) (λ ms. refl)
-  repair-decided (SplitParent p) = over-given c m (m .doing) a w 3 (splitParentAt c p) (λ ms. refl)
-  repair-decided (Share p) = over-given c m (m .doing) a w 3 (shareAt c p) (λ ms. refl)
-  repair-decided (Merge p) = over-given c m (m .doing) a w 2 (mergeAt c p) (λ ms. refl)
-  repair-decided (MergeRoot p) = over-given c m (m .doing) a w 1 (mergeRootAt c p) (λ ms. refl)
+  repair-decided (SplitLeaf x link k v) = over-given greatest c m (m .doing) a w 3 (splitLeafOf x link k v (nodeAt c x)) (λ ms. refl)
+  repair-decided (Absorb p) = over-given greatest c m (m .doing) a w 1 (absorbAt c p) (λ ms. refl)
+  repair-decided (SplitParent p) = over-given greatest c m (m .doing) a w 3 (splitParentAt c p) (λ ms. refl)
+  repair-decided (Share p) = over-given greatest c m (m .doing) a w 3 (shareAt c p) (λ ms. refl)
+  repair-decided (Merge p) = over-given greatest c m (m .doing) a w 2 (mergeAt c p) (λ ms. refl)
+  repair-decided (MergeRoot p) = over-given greatest c m (m .doing) a w 1 (mergeRootAt c p) (λ ms. refl)
 
-  repair-next : Sized (length c) (m .nodes) → Nine c m (Unmakeable c (m .free) (m .last) (decidedRepair c (nodesOn c) key))
+  repair-next : Sized greatest (length c) (m .nodes) → Nine greatest c m (Unmakeable c (m .free) (m .last) (decidedRepair c (nodesOn c) key))
       (stepBegin c m (nextChange c (m .nodes) (m .free) (m .last) (m .doing) (Repair key a)))
   unfolding stepBegin nextChange nextRepair
-  repair-next s = rw (sized-on c (m .nodes) s) (repair-decided (decidedRepair c (m .nodes) key))
+  repair-next s = rw (sized-on greatest c (m .nodes) s) (repair-decided (decidedRepair c (m .nodes) key))
 
 -- ---- any of them
 
-module _ (c : List ℕ) (m : Memory) (s : Sized (length c) (m .nodes)) where
+module _ (greatest : ℕ) (c : List ℕ) (m : Memory) (s : Sized greatest (length c) (m .nodes)) where
   abbrev Begins : Doing → Task → Type 0
-  Begins doing task = Nine c m (NoChange c (m .free) (m .last) (workOf doing)) (stepBegin c m (nextChange c (m .nodes) (m .free) (m .last) doing task))
+  Begins doing task = Nine greatest c m (NoChange c (m .free) (m .last) (workOf doing)) (stepBegin c m (nextChange c (m .nodes) (m .free) (m .last) doing task))
 
   repairs : (key : ℕ) (a : Answer) → Final a → (doing : Doing) → m .doing ≡ doing → workOf doing ≡ begun (workOf doing)
-      → Nine c m (Unmakeable c (m .free) (m .last) (decidedRepair c (nodesOn c) key)) (stepBegin c m (nextChange c (m .nodes) (m .free) (m .last) doing (Repair key a)))
+      → Nine greatest c m (Unmakeable c (m .free) (m .last) (decidedRepair c (nodesOn c) key)) (stepBegin c m (nextChange c (m .nodes) (m .free) (m .last) doing (Repair key a)))
   repairs key a f doing e w =
-      subst (λ (x : Doing). Nine c m (Unmakeable c (m .free) (m .last) (decidedRepair c (nodesOn c) key)) (stepBegin c m (nextChange c (m .nodes) (m .free) (m .last) x (Repair key a)))) e
-      (repair-next c m key a f (subst (λ (x : Doing). workOf x ≡ begun (workOf x)) (sym e) w) s)
+      subst (λ (x : Doing). Nine greatest c m (Unmakeable c (m .free) (m .last) (decidedRepair c (nodesOn c) key)) (stepBegin c m (nextChange c (m .nodes) (m .free) (m .last) x (Repair key a)))) e
+      (repair-next greatest c m key a f (subst (λ (x : Doing). workOf x ≡ begun (workOf x)) (sym e) w) s)
 
   begins : {doing : Doing} {task : Task} → TaskOf doing task → m .doing ≡ doing → Begins doing task
   unfolding NoChange workOf hasBegun begun
-  begins (putting {key} {value}) e = insert-at c m key value e s (landing c (m .nodes) key) refl
-  begins (taking {key} {value}) e = delete-at c m key value e s (landing c (m .nodes) key) refl
+  begins (putting {key} {value}) e = insert-at greatest c m key value e s (landing c (m .nodes) key) refl
+  begins (taking {key} {value}) e = delete-at greatest c m key value e s (landing c (m .nodes) key) refl
   begins (put {key} {value} in-hand) e = repairs key Absent (inr (inr refl)) (Inserting key value InHand) e refl
   begins (put {key} {value} decided) e = repairs key Absent (inr (inr refl)) (Inserting key value Decided) e refl
   begins (taken {key} {value} in-hand) e = repairs key (Value value) (inr (inl (value, refl))) (Deleting key InHand value) e refl
   begins (taken {key} {value} decided) e = repairs key (Value value) (inr (inl (value, refl))) (Deleting key Decided value) e refl
   begins (opened {key}) e = repairs key Ready (inl refl) (Repairing key) e refl
 
-change-rows : (c : List ℕ) (m : Memory) → m .rest ≡ [] → (workOf (m .doing) ≡ formatting → ⊥)
-    → ByRows (stepRows rationTable c m (NoChange c (m .free) (m .last) (workOf (m .doing))))
-    (Refuses rationTable c m (asStepped (stepOf c m))) (Works c m (stepOf c m))
+change-rows : (greatest : ℕ) (c : List ℕ) (m : Memory) → m .rest ≡ [] → (workOf (m .doing) ≡ formatting → ⊥)
+    → ByRows (stepRows greatest (rationTable greatest) c m (NoChange c (m .free) (m .last) (workOf (m .doing))))
+    (Refuses (rationTable greatest) c m (asStepped (stepOf greatest c m))) (Works greatest c m (stepOf greatest c m))
 unfolding ByRows stepTask
-change-rows c m r q = go (idle-or-task (m .doing) q)
+change-rows greatest c m r q = go (idle-or-task (m .doing) q)
   where
-    go : IdleOrTask (m .doing) → ByRows (stepRows rationTable c m (NoChange c (m .free) (m .last) (workOf (m .doing)))) (Refuses rationTable c m (asStepped (stepOf c m))) (Works c m (stepOf c m))
-    go (inl (e, w)) = idle-rows c m e w (row 9 (NoChange c (m .free) (m .last) (workOf (m .doing))) end) (Works c m (stepOf c m))
+    go : IdleOrTask (m .doing) → ByRows (stepRows greatest (rationTable greatest) c m (NoChange c (m .free) (m .last) (workOf (m .doing))))
+        (Refuses (rationTable greatest) c m (asStepped (stepOf greatest c m))) (Works greatest c m (stepOf greatest c m))
+    go (inl (e, w)) = idle-rows greatest c m e w (row 9 (NoChange c (m .free) (m .last) (workOf (m .doing))) end) (Works greatest c m (stepOf greatest c m))
     go (inr (task, e, w)) =
-        task-rows c m task e w (row 9 (NoChange c (m .free) (m .last) (workOf (m .doing))) end) (Works c m (stepOf c m))
-        (λ s due. subst (Nine c m (NoChange c (m .free) (m .last) (workOf (m .doing)))) (sym (due ∙ ap (stepTask c m task) r)) (begins c m s (task-of (m .doing) task e) refl))
+        task-rows greatest c m task e w (row 9 (NoChange c (m .free) (m .last) (workOf (m .doing))) end) (Works greatest c m (stepOf greatest c m))
+        (λ s due. subst (Nine greatest c m (NoChange c (m .free) (m .last) (workOf (m .doing)))) (sym (due ∙ ap (stepTask c m task) r)) (begins greatest c m s (task-of (m .doing) task e) refl))
 
 -- DEMAND 1 of the ration table
-pub demand-1 : Demand1 rationTable
-demand-1 =
+pub demand-1 : (greatest : ℕ) → Demand1 greatest (rationTable greatest)
+demand-1 greatest =
     record {
-      finds = finds;
-      formats = formats;
-      opens = opens;
-      inserts = inserts;
-      deletes = deletes;
-      format-steps = formatting-rows;
-      steps-in-hand = in-hand-rows;
-      steps = change-rows;
-      none-refused = none-refused;
+      finds = finds greatest;
+      formats = formats greatest;
+      opens = opens greatest;
+      inserts = inserts greatest;
+      deletes = deletes greatest;
+      format-steps = formatting-rows greatest;
+      steps-in-hand = in-hand-rows greatest;
+      steps = change-rows greatest;
+      none-refused = none-refused greatest;
     }

@@ -41,55 +41,57 @@ same-store n words i s e =
     same-not-less : (a b : ℕ) → ltb a b ≡ true → a ≡ b → ⊥
     same-not-less a b h y = omega (arith, ltb-true a b h)
 
-module _ (c : List ℕ) (s : Sized (length c) (nodesOn c)) where
+module _ (greatest : ℕ) (c : List ℕ) (s : Sized greatest (length c) (nodesOn c)) where
   -- the card and the state after so many stores
-  abbrev after : ℕ → World rationTable
+  abbrev after : ℕ → World (rationTable greatest)
   after made = record { card = formatCard (nodesOn c) c made; state = formatMemory (nodesOn c) made }
 
-  begun-after : formatBegun rationTable c ≡ after 0
+  begun-after : formatBegun (rationTable greatest) c ≡ after 0
   unfolding formatCard
-  begun-after = ap (λ (h : Handed). record { card = c; state = h .memory }) (format-starts c (nodesOn c) s)
+  begun-after = ap (λ (h : Handed). record { card = c; state = h .memory }) (format-starts greatest c (nodesOn c) s)
 
-  one-more : (made : ℕ) → made ≤ length c → happens rationTable step (after made) ≡ after (suc made)
+  one-more : (made : ℕ) → made ≤ length c → happens (rationTable greatest) step (after made) ≡ after (suc made)
   unfolding happens
-  one-more made h = rw (format-step-stores c (nodesOn c) s made h)
+  one-more made h = rw (format-step-stores greatest c (nodesOn c) s made h)
 
-  run-after : (qs : List Event) (made : ℕ) → LeftUncut rationTable qs (after made) → made + stepsIn qs ≤ suc (length c) → run rationTable qs (after made) ≡ after (made + stepsIn qs)
+  run-after : (qs : List Event) (made : ℕ) → LeftUncut (rationTable greatest) qs (after made) → made + stepsIn qs ≤ suc (length c)
+      → run (rationTable greatest) qs (after made) ≡ after (made + stepsIn qs)
   unfolding LeftUncut run
   run-after [] made u h = ap after (omega arith)
-  run-after (ask question ∷ qs) made u h = rw (ask-same question (after made)) (run-after qs made (rw (ask-same question (after made)) at (u .1)) h)
-  run-after (insert key value ∷ qs) made u h = let e = insert-same key value (after made) (u .0) in rw e (run-after qs made (rw e at (u .1)) h)
-  run-after (delete key ∷ qs) made u h = let e = delete-same key (after made) (u .0) in rw e (run-after qs made (rw e at (u .1)) h)
+  run-after (ask question ∷ qs) made u h = rw (ask-same greatest question (after made)) (run-after qs made (rw (ask-same greatest question (after made)) at (u .1)) h)
+  run-after (insert key value ∷ qs) made u h = let e = insert-same greatest key value (after made) (u .0) in rw e (run-after qs made (rw e at (u .1)) h)
+  run-after (delete key ∷ qs) made u h = let e = delete-same greatest key (after made) (u .0) in rw e (run-after qs made (rw e at (u .1)) h)
   run-after (step ∷ qs) made u h = let e = one-more made (omega arith) in rw e (run-after qs (suc made) (rw e at (u .1)) (omega arith) ∙ ap after (omega arith))
   run-after (cut ∷ qs) made u h = absurd (u .0)
 
-  runs-to : (qs : List Event) → LeftUncut rationTable qs (formatBegun rationTable c) → stepsIn qs ≤ suc (length c) → run rationTable qs (formatBegun rationTable c) ≡ after (stepsIn qs)
-  runs-to qs u h = ap (run rationTable qs) begun-after ∙ run-after qs 0 (subst (LeftUncut rationTable qs) begun-after u) (omega arith) ∙ ap after (omega arith)
+  runs-to : (qs : List Event) → LeftUncut (rationTable greatest) qs (formatBegun (rationTable greatest) c) → stepsIn qs ≤ suc (length c)
+      → run (rationTable greatest) qs (formatBegun (rationTable greatest) c) ≡ after (stepsIn qs)
+  runs-to qs u h = ap (run (rationTable greatest) qs) begun-after ∙ run-after qs 0 (subst (LeftUncut (rationTable greatest) qs) begun-after u) (omega arith) ∙ ap after (omega arith)
 
-  stores-now : (made : ℕ) → made ≤ length c → StoresNow rationTable (after made) (formatStore (nodesOn c) (length c) made)
+  stores-now : (made : ℕ) → made ≤ length c → StoresNow (rationTable greatest) (after made) (formatStore (nodesOn c) (length c) made)
   unfolding replyTo happens stepReply
   stores-now made h =
       let f = some-store (nodesOn c) (length c) made (omega (arith, s .words)) h in
       let e = same-store (nodesOn c) (length c) made (f .0) (f .1) in
       record {
-        reply-given = rw (format-step-stores c (nodesOn c) s made h, e, f .1);
-        one-store = rw (format-step-stores c (nodesOn c) s made h, e) (format-next (nodesOn c) c made (f .0) (f .1));
+        reply-given = rw (format-step-stores greatest c (nodesOn c) s made h, e, f .1);
+        one-store = rw (format-step-stores greatest c (nodesOn c) s made h, e) (format-next (nodesOn c) c made (f .0) (f .1));
       }
 
-  pub formats-sized : Formats rationTable c
+  pub formats-sized : Formats (rationTable greatest) c
   unfolding replyTo happens stepReply noBeginning startReply resting
   formats-sized =
       record {
         each = λ qs u h. rw (runs-to qs u (omega arith)) (stores-now (stepsIn qs) h);
-        then-ready = λ qs u h. rw (runs-to qs u (omega arith), h, format-step-ready c (nodesOn c) s);
-        search-first = λ qs u h. rw (runs-to qs u (omega arith), h, format-step-ready c (nodesOn c) s) (sym (format-fresh c (nodesOn c) s .holds .0));
-        cut-refused = λ qs u low h. rw (runs-to qs u (omega arith), cut-refused c (nodesOn c) (stepsIn qs) s low h);
+        then-ready = λ qs u h. rw (runs-to qs u (omega arith), h, format-step-ready greatest c (nodesOn c) s);
+        search-first = λ qs u h. rw (runs-to qs u (omega arith), h, format-step-ready greatest c (nodesOn c) s) (sym (format-fresh greatest c (nodesOn c) s .holds .0));
+        cut-refused = λ qs u low h. rw (runs-to qs u (omega arith), cut-refused greatest c (nodesOn c) (stepsIn qs) s low h);
       }
 
-pub formats-right : (c : List ℕ) → rationTable .format c .reply ≡ started → Formats rationTable c
+pub formats-right : (greatest : ℕ) (c : List ℕ) → rationTable greatest .format c .reply ≡ started → Formats (rationTable greatest) c
 unfolding noBeginning startReply
-formats-right c e = go (sized? (length c) (nodesOn c))
+formats-right greatest c e = go (sized? greatest (length c) (nodesOn c))
   where
-    go : Dec (Sized (length c) (nodesOn c)) → Formats rationTable c
-    go (yes s) = formats-sized c s
-    go (no p) = let z : refusal 1 ≡ started = rw (format-refused c (no-nodes c p)) at e in absurd (omega (arith, ap (λ (r : Reply). r .code) z))
+    go : Dec (Sized greatest (length c) (nodesOn c)) → Formats (rationTable greatest) c
+    go (yes s) = formats-sized greatest c s
+    go (no p) = let z : refusal 1 ≡ started = rw (format-refused greatest c (no-nodes greatest c p)) at e in absurd (omega (arith, ap (λ (r : Reply). r .code) z))

@@ -39,8 +39,8 @@ use Rattle.theory_tree.specs.Tree.{Tree}
 use Rattle.theory_tree.specs.Violations.{tableViolations}
 
 -- a card with n nodes that holds the tree
-pub record Table (c : List ℕ) (n : ℕ) (t : Tree) : Type 0 where
-  pub sized : Sized (length c) n
+pub record Table (greatest : ℕ) (c : List ℕ) (n : ℕ) (t : Tree) : Type 0 where
+  pub sized : Sized greatest (length c) n
   pub header : Formatted c n
   pub holds : Holds c t
   pub sound : Sound t
@@ -101,9 +101,9 @@ pub data Stage (c : List ℕ) (n : ℕ) (t goal : Tree) (steps : ℕ) : Memory �
       → Same (pairs (p .next)) (pairs t) → suc (length rest) + (73 * p .level + 1) ≤ steps → Heads (p .level) (bare (p .next)) goal
       → Stage c n t goal steps (record { nodes = n; free = free; last = last; doing = doing; rest = s ∷ rest; cut = cut; depth = depth }) h due
 
-pub record Inv (n steps : ℕ) (w : World rationTable) (b : Book) : Type 0 where
+pub record Inv (greatest : ℕ) (n steps : ℕ) (w : World (rationTable greatest)) (b : Book) : Type 0 where
   pub tree : Tree
-  pub table : Table (w .card) n tree
+  pub table : Table greatest (w .card) n tree
   pub openable : Openable n tree
   pub same : Same (pairs tree) (b .held)
   -- what the work in hand comes to, without numbers
@@ -113,5 +113,5 @@ pub record Inv (n steps : ℕ) (w : World rationTable) (b : Book) : Type 0 where
   pub stage : Stage (w .card) n tree goal steps (w .state) (b .inHand) due
 
 -- the invariant, with this goal and this answer due
-abbrev pub Toward : Tree → Answer → ℕ → ℕ → World rationTable → Book → Type 0
-Toward goal due n steps w b = (i : Inv n steps w b) × (i .goal ≡ goal) × (i .due ≡ due)
+abbrev pub Toward : (greatest : ℕ) → Tree → Answer → ℕ → ℕ → World (rationTable greatest) → Book → Type 0
+Toward greatest goal due n steps w b = (i : Inv greatest n steps w b) × (i .goal ≡ goal) × (i .due ≡ due)

@@ -48,8 +48,8 @@ formatted-set c n p v o f =
     keep i d e = getD-set-other c p i v 0 d ∙ e
 
 -- the table after a store that leads to the tree u
-table-set : {c : List ℕ} {n : ℕ} {t u : Tree} (p v : ℕ) → Storable c p → Table c n t → Holds (set c p v) u → Sound u → Table (set c p v) n u
-table-set {c} {n} p v s b h k = record { sized = rw (length-set c p v) (b .sized); header = formatted-set c n p v (s .apart) (b .header); holds = h; sound = k }
+table-set : (greatest : ℕ) {c : List ℕ} {n : ℕ} {t u : Tree} (p v : ℕ) → Storable c p → Table greatest c n t → Holds (set c p v) u → Sound u → Table greatest (set c p v) n u
+table-set greatest {c} {n} p v s b h k = record { sized = rw (length-set c p v) (b .sized); header = formatted-set c n p v (s .apart) (b .header); holds = h; sound = k }
 
 -- the first place to store to is on the card
 pub first-storable : {n : ℕ} {next : Tree} {c : List ℕ} {t : Tree} {s : Store} {rest : List Store} → Plays n next c t (s ∷ rest) → Storable c (s .0)
@@ -57,33 +57,33 @@ first-storable (last-store s h) = s
 first-storable (store-then u s h k o e p) = s
 
 -- what one store of a change leaves: the rest of it, on a table with the same pairs, or the next tree
-pub data Left (n key : ℕ) (c : List ℕ) (t : Tree) (free : List Bool) (cut : List ℕ) (next : Tree) (level : ℕ) (s : Store) : List Store → Type 0 where
-  all-made : Table (set c (s .0) (s .1)) n next → Left n key c t free cut next level s []
-  some-left : {x : Store} {rest : List Store} (u : Tree) → Table (set c (s .0) (s .1)) n u → Openable n u → Same (pairs u) (pairs t)
+pub data Left (greatest : ℕ) (n key : ℕ) (c : List ℕ) (t : Tree) (free : List Bool) (cut : List ℕ) (next : Tree) (level : ℕ) (s : Store) : List Store → Type 0 where
+  all-made : Table greatest (set c (s .0) (s .1)) n next → Left greatest n key c t free cut next level s []
+  some-left : {x : Store} {rest : List Store} (u : Tree) → Table greatest (set c (s .0) (s .1)) n u → Openable n u → Same (pairs u) (pairs t)
       → (p : Changing (set c (s .0) (s .1)) n key u (x ∷ rest) free cut) → p .next ≡ next → p .level ≡ level
-      → Left n key c t free cut next level s (x ∷ rest)
+      → Left greatest n key c t free cut next level s (x ∷ rest)
 
-one-store : {c : List ℕ} {n key : ℕ} {t : Tree} {s : Store} {rest : List Store} {free : List Bool} {cut : List ℕ} → Table c n t
-    → (p : Changing c n key t (s ∷ rest) free cut) → Left n key c t free cut (p .next) (p .level) s rest
-one-store {c} {n} {key} {t} {free = free} {cut = cut} b p = at (p .plays)
+one-store : (greatest : ℕ) {c : List ℕ} {n key : ℕ} {t : Tree} {s : Store} {rest : List Store} {free : List Bool} {cut : List ℕ} → Table greatest c n t
+    → (p : Changing c n key t (s ∷ rest) free cut) → Left greatest n key c t free cut (p .next) (p .level) s rest
+one-store greatest {c} {n} {key} {t} {free = free} {cut = cut} b p = at (p .plays)
   where
-    at : {s : Store} {rest : List Store} → Plays n (p .next) c t (s ∷ rest) → Left n key c t free cut (p .next) (p .level) s rest
-    at (last-store {p = a} {v = v} s h) = all-made (table-set a v s b h (p .sound))
+    at : {s : Store} {rest : List Store} → Plays n (p .next) c t (s ∷ rest) → Left greatest n key c t free cut (p .next) (p .level) s rest
+    at (last-store {p = a} {v = v} s h) = all-made (table-set greatest a v s b h (p .sound))
     at (store-then {p = a} {v = v} u s h k o e q) =
-        some-left u (table-set a v s b h k) o (record { totals = e }) (record { next = p .next; plays = q; sound = p .sound; exact = p .exact; level = p .level; ready = p .ready }) refl refl
+        some-left u (table-set greatest a v s b h k) o (record { totals = e }) (record { next = p .next; plays = q; sound = p .sound; exact = p .exact; level = p .level; ready = p .ready }) refl refl
 
 -- a store of a repair's change
-pub repair-stored : {c : List ℕ} {n key : ℕ} {t : Tree} {s : Store} {rest : List Store} {free : List Bool} {cut : List ℕ} {doing : Doing}
-    {due : Answer} {u : Option Update} {h : Hand} {goal : Tree} (last depth steps : ℕ) (z : List Store) (l : List (ℕ × ℕ)) → Table c n t
+pub repair-stored : (greatest : ℕ) {c : List ℕ} {n key : ℕ} {t : Tree} {s : Store} {rest : List Store} {free : List Bool} {cut : List ℕ} {doing : Doing}
+    {due : Answer} {u : Option Update} {h : Hand} {goal : Tree} (last depth steps : ℕ) (z : List Store) (l : List (ℕ × ℕ)) → Table greatest c n t
     → Same (pairs t) l
     → Job Decided doing key due u → Entered u h → (p : Changing c n key t (s ∷ rest) free cut) → Same (pairs (p .next)) (pairs t)
     → length rest + (73 * p .level + 1) ≤ steps → Heads (p .level) (bare (p .next)) goal
-    → Toward goal due n steps (record { card = set c (s .0) (s .1); state = advanced (memory n free last depth doing z cut) rest }) (book l h)
+    → Toward greatest goal due n steps (record { card = set c (s .0) (s .1); state = advanced (memory n free last depth doing z cut) rest }) (book l h)
 unfolding advanced
-repair-stored {c} {n} {key} {t} {s} {rest} {free} {cut} {doing} {due} {h = h} {goal = goal} last depth steps z l b same j en p e few hd = at rest (one-store b p) few
+repair-stored greatest {c} {n} {key} {t} {s} {rest} {free} {cut} {doing} {due} {h = h} {goal = goal} last depth steps z l b same j en p e few hd = at rest (one-store greatest b p) few
   where
-    at : (rest : List Store) → Left n key c t free cut (p .next) (p .level) s rest → length rest + (73 * p .level + 1) ≤ steps
-        → Toward goal due n steps (record { card = set c (s .0) (s .1); state = advanced (memory n free last depth doing z cut) rest }) (book l h)
+    at : (rest : List Store) → Left greatest n key c t free cut (p .next) (p .level) s rest → length rest + (73 * p .level + 1) ≤ steps
+        → Toward greatest goal due n steps (record { card = set c (s .0) (s .1); state = advanced (memory n free last depth doing z cut) rest }) (book l h)
     at rest (all-made b′) few = (
       record {
         tree = p .next;
@@ -112,16 +112,16 @@ repair-stored {c} {n} {key} {t} {s} {rest} {free} {cut} {doing} {due} {h = h} {g
     )
 
 -- a store of an update's first change: the last one enters it
-pub update-stored : {c : List ℕ} {n key : ℕ} {t : Tree} {s : Store} {rest : List Store} {free : List Bool} {cut : List ℕ} {doing : Doing}
-    {due : Answer} {u : Update} {goal : Tree} (deciding k last depth steps : ℕ) (z : List Store) (l : List (ℕ × ℕ)) → Table c n t → Same (pairs t) l
+pub update-stored : (greatest : ℕ) {c : List ℕ} {n key : ℕ} {t : Tree} {s : Store} {rest : List Store} {free : List Bool} {cut : List ℕ} {doing : Doing}
+    {due : Answer} {u : Update} {goal : Tree} (deciding k last depth steps : ℕ) (z : List Store) (l : List (ℕ × ℕ)) → Table greatest c n t → Same (pairs t) l
     → Job InHand doing key due (some u) → (p : Changing c n key t (s ∷ rest) free cut) → Enters u (pairs t) (pairs (p .next))
     → k + suc (length rest) ≡ deciding → length rest + (73 * p .level + 1) ≤ steps → Heads (p .level) (bare (p .next)) goal
-    → Toward goal due n steps (record { card = set c (s .0) (s .1); state = advanced (memory n free last depth doing z cut) rest }) (fedStep goesOn l (holding u deciding k))
+    → Toward greatest goal due n steps (record { card = set c (s .0) (s .1); state = advanced (memory n free last depth doing z cut) rest }) (fedStep goesOn l (holding u deciding k))
 unfolding advanced fedStep
-update-stored {c} {n} {key} {t} {s} {rest} {free} {cut} {doing} {due} {u} {goal} deciding k last depth steps z l b same j p e count few hd = at rest (one-store b p) count few
+update-stored greatest {c} {n} {key} {t} {s} {rest} {free} {cut} {doing} {due} {u} {goal} deciding k last depth steps z l b same j p e count few hd = at rest (one-store greatest b p) count few
   where
-    at : (rest : List Store) → Left n key c t free cut (p .next) (p .level) s rest → k + suc (length rest) ≡ deciding → length rest + (73 * p .level + 1) ≤ steps
-        → Toward goal due n steps (record { card = set c (s .0) (s .1); state = advanced (memory n free last depth doing z cut) rest }) (fedStep goesOn l (holding u deciding k))
+    at : (rest : List Store) → Left greatest n key c t free cut (p .next) (p .level) s rest → k + suc (length rest) ≡ deciding → length rest + (73 * p .level + 1) ≤ steps
+        → Toward greatest goal due n steps (record { card = set c (s .0) (s .1); state = advanced (memory n free last depth doing z cut) rest }) (fedStep goesOn l (holding u deciding k))
     at rest (all-made b′) count few =
         rw (eq-eqb (suc k) deciding (omega arith)) (
           record {

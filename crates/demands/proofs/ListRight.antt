@@ -1,5 +1,6 @@
 -- The program `list`, of the ration table.
 use mathlib.Core.Path.{_≡_, ap, sym, _∙_}
+use Rattle.card.specs.Layout.{greatestNodes, programNodes}
 use mathlib.Core.Bool.{false}
 use mathlib.Core.List.{List}
 use mathlib.Core.Logic.{⊎-map, inl, inr}
@@ -41,19 +42,19 @@ use Rattle.theory_tree.specs.WellFormed.{WellFormed}
 
 -- ---- the repaired card
 
-pub repaired-world : (c : List ℕ) → repairedWorld rationTable c ≡ worldFrom (openedCard c)
+pub repaired-world : (c : List ℕ) → repairedWorld (rationTable greatestNodes) c ≡ worldFrom (openedCard c)
 unfolding repairedWorld
 repaired-world c = sym (opened-run c)
 
-repaired-is : (c : List ℕ) → repairedWorld rationTable c .card ≡ openedCard c .card
-repaired-is c = ap (λ (x : World rationTable). x .card) (repaired-world c)
+repaired-is : (c : List ℕ) → repairedWorld (rationTable greatestNodes) c .card ≡ openedCard c .card
+repaired-is c = ap (λ (x : World (rationTable greatestNodes)). x .card) (repaired-world c)
 
 -- ---- cards
 
 module _ (c : List ℕ) where
-  lists-right : Opens rationTable c → (t : Tree) → WellFormed c t → (x : ListedRight c t) → ListsRight rationTable c (x .listing)
+  lists-right : Opens (rationTable greatestNodes) c → (t : Tree) → WellFormed c t → (x : ListedRight c t) → ListsRight (rationTable greatestNodes) c (x .listing)
   lists-right a t w x =
-      let n = sym (sized-on c (nodesOfLength (length c)) (accepted-card c a .1)) in
+      let n = sym (sized-on greatestNodes c (nodesOfLength greatestNodes (length c)) (accepted-card greatestNodes c a .1)) in
       record {
         table = x .table;
         balanced = rw (repaired-is c) (x .balanced);
@@ -68,36 +69,40 @@ module _ (c : List ℕ) where
         as-many = λ s v. rw (one-held c s t (v .holds) (w .holds)) (x .as-many);
       }
 
-  of-card : ByRows (openRows c) (λ r. (rationTable .openCard c .reply ≡ refusal r) × (listCard c ≡ refused r)) ((l : Listing) × (listCard c ≡ listed l) × ListsRight rationTable c l)
+  of-card : ByRows (openRows greatestNodes c) (λ r. (rationTable greatestNodes .openCard c .reply ≡ refusal r) × (listCard c ≡ refused r))
+      ((l : Listing) × (listCard c ≡ listed l) × ListsRight (rationTable greatestNodes) c l)
   of-card =
-      rows-map (openRows c) (omega arith, (omega arith, (omega arith, (omega arith, (omega arith, tt)))))
-      (λ r h z. (z .number-given, card-refused c r (begun-refused (openOf c .begun) r h (z .number-given))))
-      works (opens c)
+      rows-map (openRows greatestNodes c) (omega arith, (omega arith, (omega arith, (omega arith, (omega arith, tt)))))
+      (λ r h z. (z .number-given, card-refused c r (begun-refused (openOf greatestNodes c .begun) r h (z .number-given))))
+      works (opens greatestNodes c)
     where
-      works : OpensTo rationTable c (handed (openOf c)) → (l : Listing) × (listCard c ≡ listed l) × ListsRight rationTable c l
+      works : OpensTo (rationTable greatestNodes) c (handed (openOf greatestNodes c)) → (l : Listing) × (listCard c ≡ listed l) × ListsRight (rationTable greatestNodes) c l
       works o = let a = ⊎-map (λ z. z .1) (λ z. z .1) (o .hands) in let x = listing-right c (o .table) (o .sound) a in (x .listing, x .is-listed, lists-right a (o .table) (o .sound) x)
 
 -- ---- dumps
 
 module _ (dump : List ℕ) where
-  read-room : damaged dump ≡ false → listDump dump cardRoom ≡ listCard (dumpWords (wordsFor (dumpNodes dump)) dump)
+  read-room : damaged programNodes dump ≡ false → listDump programNodes dump cardRoom ≡ listCard (dumpWords (wordsFor (dumpNodes dump)) dump)
   read-room q =
       let size = wordsFor (dumpNodes dump) in
-      dump-read dump cardRoom size (read-whole dump cardRoom q ∙ room-long size cardRoom (omega (arith, undamaged-whole dump q .most)))
+      dump-read programNodes dump cardRoom size (read-whole programNodes dump cardRoom q ∙ room-long size cardRoom (omega (arith, undamaged-whole programNodes dump q .within)))
 
-  of-dump : ByRows (row 11 (Damaged dump) end) (λ r. dumpText dump ≡ listText (refused r)) (dumpText dump ≡ listText (listCard (dumpWords (wordsFor (dumpNodes dump)) dump)))
+  of-dump : ByRows (row 11 (Damaged programNodes dump) end) (λ r. dumpText dump ≡ listText (refused r)) (dumpText dump ≡ listText (listCard (dumpWords (wordsFor (dumpNodes dump)) dump)))
   unfolding ByRows
   of-dump =
-      bool-cases (damaged dump) (λ q. inl (damaged-exactly dump .1 q, text-right dump ∙ ap listText (dump-refused dump cardRoom 11 (read-damaged dump cardRoom q))))
-      (λ q. inr (λ z. true-false (sym (damaged-exactly dump .0 z) ∙ q), text-right dump ∙ ap listText (read-room q)))
+      bool-cases (damaged programNodes dump) (λ q. inl (
+        damaged-exactly programNodes dump .1 q,
+        text-right dump ∙ ap listText (dump-refused programNodes dump cardRoom 11 (read-damaged programNodes dump cardRoom q)),
+      ))
+      (λ q. inr (λ z. true-false (sym (damaged-exactly programNodes dump .0 z) ∙ q), text-right dump ∙ ap listText (read-room q)))
 
-own : (c : List ℕ) → ((i : ℕ) → getD c i 0 < 2 ^ 32) → Sized (length c) (nodesOn c) → Formatted c (nodesOn c) → dumpText (dumpOf c) ≡ listText (listCard c)
+own : (c : List ℕ) → ((i : ℕ) → getD c i 0 < 2 ^ 32) → Sized programNodes (length c) (nodesOn c) → Formatted c (nodesOn c) → dumpText (dumpOf c) ≡ listText (listCard c)
 own c fits s f =
-    let e = sized-nodes (length c) (nodesOn c) s in
-    let good : Good c = record { sized = rw e s; header = rw e f } in
-    let q = whole-undamaged (dumpOf c) (dump-whole c fits good) in
-    let size : wordsFor (dumpNodes (dumpOf c)) ≡ length c = ap wordsFor (dump-nodes c fits good) ∙ sym (good .sized .words) in
-    text-right (dumpOf c) ∙ ap listText (read-room (dumpOf c) q ∙ ap listCard (ap (λ (k : ℕ). dumpWords k (dumpOf c)) size ∙ dump-words c fits))
+    let e = sized-nodes programNodes (length c) (nodesOn c) s in
+    let good : Good programNodes c = record { sized = rw e s; header = rw e f } in
+    let q = whole-undamaged programNodes (dumpOf c) (dump-whole programNodes c fits good) in
+    let size : wordsFor (dumpNodes (dumpOf c)) ≡ length c = ap wordsFor (dump-nodes programNodes c fits good) ∙ sym (good .sized .words) in
+    text-right (dumpOf c) ∙ ap listText (read-room (dumpOf c) q ∙ ap listCard (ap (λ (k : ℕ). dumpWords k (dumpOf c)) size ∙ dump-words programNodes c fits))
 
-pub list-program : ListProgram rationTable listCard dumpText
+pub list-program : ListProgram (rationTable greatestNodes) listCard dumpText
 list-program = record { cards = of-card; dumps = of-dump; own-dump = own }

@@ -1,6 +1,7 @@
 -- WHAT THE PROGRAM `list` PRINTS: of every dump, the text of its whole listing. A listing comes only of a table that the check
 -- accepts, and that has at most 11 pairs for each of 600 nodes; so the rows lent have room for all, and no line is left out.
 use mathlib.Core.Path.{_≡_, refl, ap, _∙_}
+use Rattle.card.specs.Layout.{greatestNodes, programNodes}
 use mathlib.Core.List.{List, [], _∷_, _++_}
 use mathlib.Core.Option.{Option, none, some}
 use Prim.Native.Nat.{ℕ, _+_, _*_, _≤_}
@@ -58,10 +59,10 @@ told-whole (listed l) words h f =
 
 -- ---- every listing is one
 
-read-number : (dump : List ℕ) (lent number : ℕ) → readAnswer dump lent ≡ ReadRefused number → number ≡ 0 → ⊥
+read-number : (dump : List ℕ) (lent number : ℕ) → readAnswer programNodes dump lent ≡ ReadRefused number → number ≡ 0 → ⊥
 unfolding readAnswer fittingLength
 read-number dump lent number e z =
-    bool-cases (damaged dump) (λ q. let k : ReadRefused 11 ≡ ReadRefused number = rw q at e in let w : _≡_ {A = ℕ} 11 0 = cc in omega arith)
+    bool-cases (damaged programNodes dump) (λ q. let k : ReadRefused 11 ≡ ReadRefused number = rw q at e in let w : _≡_ {A = ℕ} 11 0 = cc in omega arith)
     (λ q. bool-cases (ltb lent (wordsFor (dumpNodes dump)))
     (λ s. let k : ReadRefused 12 ≡ ReadRefused number = rw (q, s) at e in let w : _≡_ {A = ℕ} 12 0 = cc in omega arith)
     (λ s. let k : Length (wordsFor (dumpNodes dump)) ≡ ReadRefused number = rw (q, s) at e in let w : _≡_ {A = ℕ} 0 1 = cc in omega arith))
@@ -80,44 +81,46 @@ module _ (number n last : ℕ) (z : number ≡ 0) where
   checked-number none e = let w : _≡_ {A = ℕ} 4 0 = cc in omega arith
   checked-number (some r) e = sound-number (r .1) e
 
-open-number : (c : List ℕ) (number : ℕ) → openOf c .begun ≡ Refused number → number ≡ 0 → ⊥
+open-number : (c : List ℕ) (number : ℕ) → openOf greatestNodes c .begun ≡ Refused number → number ≡ 0 → ⊥
 unfolding openOf noBeginning
-open-number c number e z = go (ℕ-discrete (cardRefusal c) 0)
+open-number c number e z = go (ℕ-discrete (cardRefusal greatestNodes c) 0)
   where
-    go : Dec (cardRefusal c ≡ 0) → ⊥
-    go (yes q) = checked-number number (nodesOfLength (length c)) (searchStart c) z (tableCheck c (nodesOfLength (length c))) (rw (eq-eqb (cardRefusal c) 0 q) at e)
-    go (no d) = d (let k : Refused (cardRefusal c) ≡ Refused number = rw (ne-eqb (cardRefusal c) 0 d) at e in cc)
+    go : Dec (cardRefusal greatestNodes c ≡ 0) → ⊥
+    go (yes q) =
+        checked-number number (nodesOfLength greatestNodes (length c)) (searchStart c) z
+        (tableCheck c (nodesOfLength greatestNodes (length c))) (rw (eq-eqb (cardRefusal greatestNodes c) 0 q) at e)
+    go (no d) = d (let k : Refused (cardRefusal greatestNodes c) ≡ Refused number = rw (ne-eqb (cardRefusal greatestNodes c) 0 d) at e in cc)
 
 card-fits : (c : List ℕ) → Fits (listCard c)
-card-fits c = go (openOf c .begun) refl
+card-fits c = go (openOf greatestNodes c .begun) refl
   where
-    opened : ((number : ℕ) → openOf c .begun ≡ Refused number → ⊥) → Fits (listCard c)
+    opened : ((number : ℕ) → openOf greatestNodes c .begun ≡ Refused number → ⊥) → Fits (listCard c)
     opened f =
-        let a = opens-unrefused c f in
-        let t = accepted-table c a in
+        let a = opens-unrefused greatestNodes c f in
+        let t = accepted-table greatestNodes c a in
         let k = listing-right c (t .0) (t .1) a in
         rw (k .is-listed) (k .few-pairs)
 
-    go : (b : Begun) → openOf c .begun ≡ b → Fits (listCard c)
+    go : (b : Begun) → openOf greatestNodes c .begun ≡ b → Fits (listCard c)
     go (Refused number) e = rw (card-refused c number e) (open-number c number e)
     go Idle e = opened (λ number q. let z : _≡_ {A = ℕ} 0 1 = cc in omega arith)
     go Started e = opened (λ number q. let z : _≡_ {A = ℕ} 0 1 = cc in omega arith)
 
-dump-fits : (dump : List ℕ) (lent : ℕ) → Fits (listDump dump lent)
-dump-fits dump lent = go (readAnswer dump lent) refl
+dump-fits : (dump : List ℕ) (lent : ℕ) → Fits (listDump programNodes dump lent)
+dump-fits dump lent = go (readAnswer programNodes dump lent) refl
   where
-    go : (a : Answer) → readAnswer dump lent ≡ a → Fits (listDump dump lent)
-    go (ReadRefused number) e = rw (dump-refused dump lent number e) (read-number dump lent number e)
-    go (Length size) e = rw (dump-read dump lent size e) (card-fits (dumpWords size dump))
+    go : (a : Answer) → readAnswer programNodes dump lent ≡ a → Fits (listDump programNodes dump lent)
+    go (ReadRefused number) e = rw (dump-refused programNodes dump lent number e) (read-number dump lent number e)
+    go (Length size) e = rw (dump-read programNodes dump lent size e) (card-fits (dumpWords size dump))
 
 -- ---- the text
 
 -- what is handed to the printing is the listing of the dump
-pub handed-whole : (dump : List ℕ) → listingHanded dump ≡ listDump dump cardRoom
+pub handed-whole : (dump : List ℕ) → listingHanded dump ≡ listDump programNodes dump cardRoom
 unfolding listingHanded
-handed-whole dump = told-whole (listDump dump cardRoom) (zeros pairRoom) (omega (arith, length-replicate {A = ℕ} pairRoom 0)) (dump-fits dump cardRoom)
+handed-whole dump = told-whole (listDump programNodes dump cardRoom) (zeros pairRoom) (omega (arith, length-replicate {A = ℕ} pairRoom 0)) (dump-fits dump cardRoom)
 
 -- the text that `list_text::list_text` is proved to make is that of the listing
-pub text-right : (dump : List ℕ) → dumpText dump ≡ listText (listDump dump cardRoom)
+pub text-right : (dump : List ℕ) → dumpText dump ≡ listText (listDump programNodes dump cardRoom)
 unfolding dumpText
 text-right dump = ap listText (handed-whole dump)

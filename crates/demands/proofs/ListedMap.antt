@@ -1,5 +1,6 @@
 -- WHAT THE PROGRAM `list` LISTS: the map of the card by rising key, from the balanced table that its repair leaves.
 use mathlib.Core.Path.{_≡_, refl, _∙_}
+use Rattle.card.specs.Layout.{greatestNodes}
 use mathlib.Core.List.{List}
 use mathlib.Core.Bool.{Bool}
 use mathlib.Core.Option.{some}
@@ -48,15 +49,15 @@ pub record ListedRight (c : List ℕ) (t : Tree) : Type 0 where
   pub alike : (key : ℕ) → lookup key (listing .pairs) ≡ lookup key (pairs t)
   pub as-many : length (listing .pairs) ≡ length (pairs t)
   pub level : Height (listing .levels) table
-  pub nodes : listing .nodes ≡ nodesOfLength (length c)
+  pub nodes : listing .nodes ≡ nodesOfLength greatestNodes (length c)
   -- the free nodes are exactly those that are not reached
   pub unreached : List Bool
-  pub exact : Exact (nodesOfLength (length c)) unreached table
+  pub exact : Exact (nodesOfLength greatestNodes (length c)) unreached table
   pub free : listing .free ≡ countTrue unreached
   pub few-pairs : length (listing .pairs) ≤ mostPairs
 
 module _ (c : List ℕ) (t : Tree) where
-  pub listing-right : WellFormed c t → Opens rationTable c → ListedRight c t
+  pub listing-right : WellFormed c t → Opens (rationTable greatestNodes) c → ListedRight c t
   listing-right w a = go (repaired c t a w)
     where
       go : After c t → ListedRight c t
@@ -66,7 +67,7 @@ module _ (c : List ℕ) (t : Tree) where
           after = openedCard c .card
 
           number : ℕ
-          number = nodesOfLength (length c)
+          number = nodesOfLength greatestNodes (length c)
 
           sound : WellFormed after (x .table)
           sound = x .balanced .well-formed
@@ -75,21 +76,21 @@ module _ (c : List ℕ) (t : Tree) where
           enough = omega (arith, pairs-le after (x .table) (sound .holds .2), well-formed-size after number (x .sized .words) (x .table) sound, x .sized .most)
 
           walked : List (ℕ × ℕ)
-          walked = walkFrom mostPairs after 0
+          walked = walkFrom greatestNodes mostPairs after 0
 
           counted : length walked ≡ length (pairs (x .table))
-          counted = walk-length after (x .table) sound (x .accepted) mostPairs enough
+          counted = walk-length greatestNodes after (x .table) sound (x .accepted) mostPairs enough
 
           shown : ((h : ℕ) × (f : Findings) × (tableCheck after number ≡ some (h, f)) × Facts after number (x .table) h f) → ListedRight c t
           shown (h, f, e, k) =
               record {
                 listing = record { nodes = number; free = countTrue (f .free); levels = h; pairs = walked };
-                is-listed = card-listed c (not-refused c a) ∙ table-sound after number h f (λ z. omega (arith, x .sized .least)) e;
+                is-listed = card-listed c (not-refused greatestNodes c a) ∙ table-sound after number h f (λ z. omega (arith, x .sized .least)) e;
                 table = x .table;
                 balanced = x .balanced;
-                all-pairs = walk-sorted after (x .table) sound (x .accepted) mostPairs enough;
-                rising = rises 0 keyLimit walked (walk-rises after (x .table) sound (x .accepted) mostPairs);
-                alike = λ key. walk-lookup after (x .table) sound (x .accepted) mostPairs enough key ∙ x .map .alike key;
+                all-pairs = walk-sorted greatestNodes after (x .table) sound (x .accepted) mostPairs enough;
+                rising = rises 0 keyLimit walked (walk-rises greatestNodes after (x .table) sound (x .accepted) mostPairs);
+                alike = λ key. walk-lookup greatestNodes after (x .table) sound (x .accepted) mostPairs enough key ∙ x .map .alike key;
                 as-many = counted ∙ x .map .as-many;
                 level = k .level;
                 nodes = refl;

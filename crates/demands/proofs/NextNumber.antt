@@ -54,76 +54,77 @@ pub rises : (number hi : ℕ) (l : List (ℕ × ℕ)) → Rising (suc number) hi
 rises number hi [] r = tt
 rises number hi (p ∷ l) r = (omega (arith, r .0), rises (p .0) hi l (r .1))
 
-module _ (c : List ℕ) (t : Tree) (w : WellFormed c t) (e : cardRefusal c ≡ 0) where
+module _ (greatest : ℕ) (c : List ℕ) (t : Tree) (w : WellFormed c t) (e : cardRefusal greatest c ≡ 0) where
   -- a walk that ends before it may not go further has come to "none"
-  walked-out : (most number : ℕ) → number < keyLimit → length (walkFrom most c number) < most → Walks rationTable c number (walkFrom most c number)
+  walked-out : (most number : ℕ) → number < keyLimit → length (walkFrom greatest most c number) < most → Walks (rationTable greatest) c number (walkFrom greatest most c number)
   unfolding walkFrom onNext nextReply
   walked-out zero number h l = absurd (omega arith)
-  walked-out (suc most) number h l = go (nextOf c number) refl (next-right c t number w e h) l (walked-out most)
+  walked-out (suc most) number h l = go (nextOf greatest c number) refl (next-right greatest c t number w e h) l (walked-out most)
     where
-      go : (s : Successor) → nextOf c number ≡ s → IsNext (pairs t) number s → length (onNext (walkFrom most c) s) < suc most
-          → ((k : ℕ) → k < keyLimit → length (walkFrom most c k) < most → Walks rationTable c k (walkFrom most c k)) → Walks rationTable c number (onNext (walkFrom most c) s)
+      go : (s : Successor) → nextOf greatest c number ≡ s → IsNext (pairs t) number s → length (onNext (walkFrom greatest most c) s) < suc most
+          → ((k : ℕ) → k < keyLimit → length (walkFrom greatest most c k) < most → Walks (rationTable greatest) c k (walkFrom greatest most c k))
+          → Walks (rationTable greatest) c number (onNext (walkFrom greatest most c) s)
       go (Pair k v) q i l further = goes-on k v (ap nextReply q) (further k (found-in-range lowestKey keyLimit k v t (well-formed-in-range w) (i .1) .1) (omega arith))
       go Nothing q i l further = ends (ap nextReply q)
       go (Refused r) q i l further = absurd i
 
-  walked : (l : List (ℕ × ℕ)) → ((key : ℕ) → lookup key (pairs t) ≡ lookup key l) → length (pairs t) ≡ length l → Walked rationTable c l
+  walked : (l : List (ℕ × ℕ)) → ((key : ℕ) → lookup key (pairs t) ≡ lookup key l) → length (pairs t) ≡ length l → Walked (rationTable greatest) c l
   walked l same as-many =
       let most = suc (length (pairs t)) in
       record {
-        listed = walkFrom most c 0;
-        walk = walked-out most 0 (omega arith) (omega (arith, walk-length c t w e most (omega arith)));
-        rising = rises 0 keyLimit (walkFrom most c 0) (walk-rises c t w e most);
-        alike = λ key. walk-lookup c t w e most (omega arith) key ∙ same key;
-        as-many = walk-length c t w e most (omega arith) ∙ as-many;
+        listed = walkFrom greatest most c 0;
+        walk = walked-out most 0 (omega arith) (omega (arith, walk-length greatest c t w e most (omega arith)));
+        rising = rises 0 keyLimit (walkFrom greatest most c 0) (walk-rises greatest c t w e most);
+        alike = λ key. walk-lookup greatest c t w e most (omega arith) key ∙ same key;
+        as-many = walk-length greatest c t w e most (omega arith) ∙ as-many;
       }
 
 -- ---- every card
 
-on-any-card : (c : List ℕ) → cardRefusal c ≡ 0 → OnAnyCard rationTable c
-on-any-card c e =
+on-any-card : (greatest : ℕ) (c : List ℕ) → cardRefusal greatest c ≡ 0 → OnAnyCard (rationTable greatest) c
+on-any-card greatest c e =
     record {
-      held-to = λ number. held number (nextOf c number) (next-above c number e);
-      exact = λ t w number h. answered (pairs t) (pairs t) (λ key. refl) number (nextOf c number) (next-right c t number w e h);
-      walks = λ t w. walked c t w e (pairs t) (λ key. refl) refl;
+      held-to = λ number. held number (nextOf greatest c number) (next-above greatest c number e);
+      exact = λ t w number h. answered (pairs t) (pairs t) (λ key. refl) number (nextOf greatest c number) (next-right greatest c t number w e h);
+      walks = λ t w. walked greatest c t w e (pairs t) (λ key. refl) refl;
     }
 
-refused : (c : List ℕ) (r : ℕ) → cardRefusal c ≡ r → (r ≡ 0 → ⊥) → (number : ℕ) → rationTable .next c number ≡ refusal r
+refused : (greatest : ℕ) (c : List ℕ) (r : ℕ) → cardRefusal greatest c ≡ r → (r ≡ 0 → ⊥) → (number : ℕ) → rationTable greatest .next c number ≡ refusal r
 unfolding nextReply
-refused c r e d number = rw (next-refused c number (λ z. d (sym e ∙ z)), e)
+refused greatest c r e d number = rw (next-refused greatest c number (λ z. d (sym e ∙ z)), e)
 
-cards : (c : List ℕ) → ByRows (cardRows c (nodesOn c) end) (λ r. (number : ℕ) → rationTable .next c number ≡ refusal r) (OnAnyCard rationTable c)
+cards : (greatest : ℕ) (c : List ℕ) → ByRows (cardRows greatest c (nodesOn c) end) (λ r. (number : ℕ) → rationTable greatest .next c number ≡ refusal r) (OnAnyCard (rationTable greatest) c)
 unfolding ByRows
-cards c =
-    by-card end (λ r. (number : ℕ) → rationTable .next c number ≡ refusal r) (OnAnyCard rationTable c) c (nodesOn c)
-    (λ p. refused c 1 (card-one c p) (λ z. omega (arith, z)))
-    (λ r s e d. refused c r (length-accepted c (nodesOn c) s ∙ e) d)
-    (λ s f. on-any-card c (card-accepted s f .0))
+cards greatest c =
+    by-card greatest end (λ r. (number : ℕ) → rationTable greatest .next c number ≡ refusal r) (OnAnyCard (rationTable greatest) c) c (nodesOn c)
+    (λ p. refused greatest c 1 (card-one greatest c p) (λ z. omega (arith, z)))
+    (λ r s e d. refused greatest c r (length-accepted greatest c (nodesOn c) s ∙ e) d)
+    (λ s f. on-any-card greatest c (card-accepted greatest s f .0))
 
 -- ---- every moment
 
-module _ (w : World rationTable) (b : Book) (v : Covered w b) where
+module _ (greatest : ℕ) (w : World (rationTable greatest)) (b : Book) (v : Covered greatest w b) where
   same-pairs : (key : ℕ) → lookup key (pairs (v .inv .tree)) ≡ lookup key (b .held)
-  same-pairs key = map-is (v .inv) .alike key
+  same-pairs key = map-is greatest (v .inv) .alike key
 
   as-many-pairs : length (pairs (v .inv .tree)) ≡ length (b .held)
-  as-many-pairs = map-is (v .inv) .as-many
+  as-many-pairs = map-is greatest (v .inv) .as-many
 
-  accepted : cardRefusal (w .card) ≡ 0
-  accepted = card-accepted (v .inv .table .sized) (v .inv .table .header) .0
+  accepted : cardRefusal greatest (w .card) ≡ 0
+  accepted = card-accepted greatest (v .inv .table .sized) (v .inv .table .header) .0
 
-  moment : (number : ℕ) → number < keyLimit → AnswersNext (b .held) number (rationTable .next (w .card) number)
+  moment : (number : ℕ) → number < keyLimit → AnswersNext (b .held) number (rationTable greatest .next (w .card) number)
   moment number h =
-      answered (b .held) (pairs (v .inv .tree)) same-pairs number (nextOf (w .card) number)
-      (next-right (w .card) (v .inv .tree) number (table-well-formed (v .inv .table)) accepted h)
+      answered (b .held) (pairs (v .inv .tree)) same-pairs number (nextOf greatest (w .card) number)
+      (next-right greatest (w .card) (v .inv .tree) number (table-well-formed greatest (v .inv .table)) accepted h)
 
-  walk-now : Walked rationTable (w .card) (b .held)
-  walk-now = walked (w .card) (v .inv .tree) (table-well-formed (v .inv .table)) accepted (b .held) same-pairs as-many-pairs
+  walk-now : Walked (rationTable greatest) (w .card) (b .held)
+  walk-now = walked greatest (w .card) (v .inv .tree) (table-well-formed greatest (v .inv .table)) accepted (b .held) same-pairs as-many-pairs
 
-pub w-201 : W201 rationTable
-w-201 =
+pub w-201 : (greatest : ℕ) → W201 greatest (rationTable greatest)
+w-201 greatest =
     record {
-      moments = always (λ w b. (number : ℕ) → number < keyLimit → AnswersNext (b .held) number (rationTable .next (w .card) number)) moment;
-      walks = always (λ w b. Walked rationTable (w .card) (b .held)) walk-now;
-      cards = cards;
+      moments = always greatest (λ w b. (number : ℕ) → number < keyLimit → AnswersNext (b .held) number (rationTable greatest .next (w .card) number)) (moment greatest);
+      walks = always greatest (λ w b. Walked (rationTable greatest) (w .card) (b .held)) (walk-now greatest);
+      cards = cards greatest;
     }

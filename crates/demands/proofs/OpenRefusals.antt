@@ -54,9 +54,9 @@ idle-not : {P : Type 0} (r : ℕ) → _≡_ {A = Begun} OpenedIdle (BegunRefused
 idle-not r e = impossible (cc)
 
 -- a table that the check does not accept
-open-unsound : (c : List ℕ) (n : ℕ) → Sized (length c) n → Formatted c n → tableCheck c n ≡ none → openOf c .begun ≡ BegunRefused 4
+open-unsound : (greatest : ℕ) (c : List ℕ) (n : ℕ) → Sized greatest (length c) n → Formatted c n → tableCheck c n ≡ none → openOf greatest c .begun ≡ BegunRefused 4
 unfolding openOf openChecked noBeginning
-open-unsound c n s k e = let a = card-accepted s k in rw (a .0, a .1, e)
+open-unsound greatest c n s k e = let a = card-accepted greatest s k in rw (a .0, a .1, e)
 
 -- a sound table is refused where the free nodes are too few, and only there
 sound-few : (n last : ℕ) (f : Findings) → countTrue (f .free) < 3 + f .run → openSound n last f .begun ≡ BegunRefused 5
@@ -93,35 +93,37 @@ facts-run {c} {n} {h} {t} {f} w x =
     (λ q. x .no-run q ∙ sym (balanced-reserves t w (omega (arith, x .violated, bit-false (f .violated) q))))
 
 -- past the header
-module _ (c : List ℕ) (n : ℕ) (s : Sized (length c) n) (h : Formatted c n) where
+module _ (greatest : ℕ) (c : List ℕ) (n : ℕ) (s : Sized greatest (length c) n) (h : Formatted c n) where
   -- a well-formed table is never refused as not sound
-  not-unsound : (t : Tree) → WellFormed c t → openOf c .begun ≡ BegunRefused 4 → ⊥
+  not-unsound : (t : Tree) → WellFormed c t → openOf greatest c .begun ≡ BegunRefused 4 → ⊥
   not-unsound t w e = go (sound-accepted c n (s .words) (s .most) t w)
     where
       go : ((l : ℕ) × (f : Findings) × (tableCheck c n ≡ some (l, f)) × Facts c n t l f) → ⊥
-      go (l, f, q, x) = let z = sound-refused n (searchStart c) f 4 (rw (open-sound c n l f s h q) at e) in absurd (omega (arith, z .0))
+      go (l, f, q, x) = let z = sound-refused n (searchStart c) f 4 (rw (open-sound greatest c n l f s h q) at e) in absurd (omega (arith, z .0))
 
   -- "4: table not sound"
-  pub refuses-unsound : (startReply (openOf c .begun) ≡ refusal 4) ↔ (((t : Tree) × WellFormed c t) → ⊥)
-  refuses-unsound = through (openOf c .begun) 4 (omega arith) (λ e p. not-unsound (p .0) (p .1) e, λ p. go p (tableCheck c n) refl)
+  pub refuses-unsound : (startReply (openOf greatest c .begun) ≡ refusal 4) ↔ (((t : Tree) × WellFormed c t) → ⊥)
+  refuses-unsound = through (openOf greatest c .begun) 4 (omega arith) (λ e p. not-unsound (p .0) (p .1) e, λ p. go p (tableCheck c n) refl)
     where
-      go : (((t : Tree) × WellFormed c t) → ⊥) → (x : Option (ℕ × Findings)) → tableCheck c n ≡ x → openOf c .begun ≡ BegunRefused 4
-      go p none q = open-unsound c n s h q
+      go : (((t : Tree) × WellFormed c t) → ⊥) → (x : Option (ℕ × Findings)) → tableCheck c n ≡ x → openOf greatest c .begun ≡ BegunRefused 4
+      go p none q = open-unsound greatest c n s h q
       go p (some (l, f)) q = let a = accepts-sound c n (s .words) (s .most) l f q in absurd (p (a .0, a .1))
 
   -- "5: free nodes fewer than 3 plus the 11-child nodes without a break straight above a tagged node"
-  pub refuses-few : (startReply (openOf c .begun) ≡ refusal 5) ↔ ((t : Tree) × WellFormed c t × (free : List Bool) × Exact n free t × (countTrue free < 3 + reserves 0 t))
-  refuses-few = through (openOf c .begun) 5 (omega arith) (λ e. found e (tableCheck c n) refl, λ p. few (p .0) (p .1) (p .2) (p .3) (p .4) (sound-accepted c n (s .words) (s .most) (p .0) (p .1)))
+  pub refuses-few : (startReply (openOf greatest c .begun) ≡ refusal 5) ↔ ((t : Tree) × WellFormed c t × (free : List Bool) × Exact n free t × (countTrue free < 3 + reserves 0 t))
+  refuses-few =
+      through (openOf greatest c .begun) 5 (omega arith)
+      (λ e. found e (tableCheck c n) refl, λ p. few (p .0) (p .1) (p .2) (p .3) (p .4) (sound-accepted c n (s .words) (s .most) (p .0) (p .1)))
     where
-      found : openOf c .begun ≡ BegunRefused 5 → (x : Option (ℕ × Findings)) → tableCheck c n ≡ x
+      found : openOf greatest c .begun ≡ BegunRefused 5 → (x : Option (ℕ × Findings)) → tableCheck c n ≡ x
           → (t : Tree) × WellFormed c t × (free : List Bool) × Exact n free t × (countTrue free < 3 + reserves 0 t)
-      found e none q = let z : _≡_ {A = ℕ} 4 5 = refused-same 4 5 (sym (open-unsound c n s h q) ∙ e) in absurd (omega arith)
+      found e none q = let z : _≡_ {A = ℕ} 4 5 = refused-same 4 5 (sym (open-unsound greatest c n s h q) ∙ e) in absurd (omega arith)
       found e (some (l, f)) q =
           let a = accepts-sound c n (s .words) (s .most) l f q in
-          let z = sound-refused n (searchStart c) f 5 (rw (open-sound c n l f s h q) at e) in
+          let z = sound-refused n (searchStart c) f 5 (rw (open-sound greatest c n l f s h q) at e) in
           (a .0, a .1, f .free, facts-exact (a .2), omega (arith, z .1, facts-run (a .1 .widths) (a .2)))
 
       few : (t : Tree) → WellFormed c t → (free : List Bool) → Exact n free t → countTrue free < 3 + reserves 0 t
-          → ((l : ℕ) × (f : Findings) × (tableCheck c n ≡ some (l, f)) × Facts c n t l f) → openOf c .begun ≡ BegunRefused 5
+          → ((l : ℕ) × (f : Findings) × (tableCheck c n ≡ some (l, f)) × Facts c n t l f) → openOf greatest c .begun ≡ BegunRefused 5
       few t w free x o (l, f, q, y) =
-          rw (open-sound c n l f s h q) (sound-few n (searchStart c) f (omega (arith, o, ap countTrue (exact-same n (f .free) free t (facts-exact y) x), facts-run (w .widths) y)))
+          rw (open-sound greatest c n l f s h q) (sound-few n (searchStart c) f (omega (arith, o, ap countTrue (exact-same n (f .free) free t (facts-exact y) x), facts-run (w .widths) y)))

@@ -43,132 +43,141 @@ dictionary-same none = refl
 dictionary-same (some v) = refl
 
 -- the invariant, whatever the number of nodes and of the steps left
-pub record Covered (w : World rationTable) (b : Book) : Type 0 where
+pub record Covered (greatest : ℕ) (w : World (rationTable greatest)) (b : Book) : Type 0 where
   pub size : ℕ
   pub steps : ℕ
-  pub inv : Inv size steps w b
+  pub inv : Inv greatest size steps w b
 
-pub covered-nodes : {w : World rationTable} {b : Book} (v : Covered w b) → nodesOn (w .card) ≡ w .state .nodes
-covered-nodes {w} {b} v = sized-on (w .card) (v .size) (v .inv .table .sized) ∙ sym (nodes-same (v .size) (v .steps) w b (v .inv))
+pub covered-nodes : (greatest : ℕ) {w : World (rationTable greatest)} {b : Book} (v : Covered greatest w b) → nodesOn (w .card) ≡ w .state .nodes
+covered-nodes greatest {w} {b} v = sized-on greatest (w .card) (v .size) (v .inv .table .sized) ∙ sym (nodes-same greatest (v .size) (v .steps) w b (v .inv))
 
 -- what holds of covered tables holds always
-pub always : (Claim : World rationTable → Book → Type 0) → ((w : World rationTable) (b : Book) → Covered w b → Claim w b) → Always rationTable Claim
-always Claim claim w l s es u =
-    let k = kept-from w l s es u in
-    claim (run rationTable es w) (kept rationTable es w (book l empty)) (record { size = k .0; steps = k .1; inv = k .2 })
+pub always : (greatest : ℕ) (Claim : World (rationTable greatest) → Book → Type 0)
+    → ((w : World (rationTable greatest)) (b : Book) → Covered greatest w b → Claim w b) → Always (rationTable greatest) Claim
+always greatest Claim claim w l s es u =
+    let k = kept-from greatest w l s es u in
+    claim (run (rationTable greatest) es w) (kept (rationTable greatest) es w (book l empty)) (record { size = k .0; steps = k .1; inv = k .2 })
 
 -- ---- opening's repair keeps the invariant, and is idle from its "ready" on
 
-module _ (n k : ℕ) (l : List (ℕ × ℕ)) where
-  abbrev Held : World rationTable → Type 0
-  Held w = Inv n k w (book l empty)
+module _ (greatest : ℕ) (n k : ℕ) (l : List (ℕ × ℕ)) where
+  abbrev Held : World (rationTable greatest) → Type 0
+  Held w = Inv greatest n k w (book l empty)
 
-  step-held : (w : World rationTable) → Held w → Held (happens rationTable step w) × Moves (w .card) (w .state) (stepOf (w .card) (w .state))
+  step-held : (w : World (rationTable greatest)) → Held w → Held (happens (rationTable greatest) step w) × Moves (w .card) (w .state) (stepOf greatest (w .card) (w .state))
   unfolding feed told
   step-held w i =
-      let q = kept-step n k w (book l empty) (loosen n k (suc k) w (book l empty) (omega arith) i) in
-      (rw (empty-fed (outcome (replyTo rationTable step w)) l) at (q .0 .0), q .2)
+      let q = kept-step greatest n k w (book l empty) (loosen greatest n k (suc k) w (book l empty) (omega arith) i) in
+      (rw (empty-fed (outcome (replyTo (rationTable greatest) step w)) l) at (q .0 .0), q .2)
 
   -- a run without a cut keeps it
-  run-held : (qs : List Event) (w : World rationTable) → LeftUncut rationTable qs w → Held w → Held (run rationTable qs w)
+  run-held : (qs : List Event) (w : World (rationTable greatest)) → LeftUncut (rationTable greatest) qs w → Held w → Held (run (rationTable greatest) qs w)
   unfolding LeftUncut run
   run-held [] w u i = i
-  run-held (ask question ∷ qs) w u i = run-held qs (happens rationTable (ask question) w) (u .1) (rw (ask-same question w) i)
-  run-held (insert key value ∷ qs) w u i = run-held qs (happens rationTable (insert key value) w) (u .1) (rw (insert-same key value w (u .0)) i)
-  run-held (delete key ∷ qs) w u i = run-held qs (happens rationTable (delete key) w) (u .1) (rw (delete-same key w (u .0)) i)
-  run-held (step ∷ qs) w u i = run-held qs (happens rationTable step w) (u .1) (step-held w i .0)
+  run-held (ask question ∷ qs) w u i = run-held qs (happens (rationTable greatest) (ask question) w) (u .1) (rw (ask-same greatest question w) i)
+  run-held (insert key value ∷ qs) w u i = run-held qs (happens (rationTable greatest) (insert key value) w) (u .1) (rw (insert-same greatest key value w (u .0)) i)
+  run-held (delete key ∷ qs) w u i = run-held qs (happens (rationTable greatest) (delete key) w) (u .1) (rw (delete-same greatest key w (u .0)) i)
+  run-held (step ∷ qs) w u i = run-held qs (happens (rationTable greatest) step w) (u .1) (step-held w i .0)
   run-held (cut ∷ qs) w u i = absurd (u .0)
 
-  held-finds : (w : World rationTable) → Held w → (key : ℕ) → 0 < key → key < keyLimit → foundReply (findOf (w .card) key) ≡ dictionary (lookup key l)
-  held-finds w i key low high = find-answers (w .card) n (i .tree) key (i .table) low high ∙ dictionary-same (lookup key (pairs (i .tree))) ∙ ap dictionary (same-lookup i key)
+  held-finds : (w : World (rationTable greatest)) → Held w → (key : ℕ) → 0 < key → key < keyLimit → foundReply (findOf greatest (w .card) key) ≡ dictionary (lookup key l)
+  held-finds w i key low high = find-answers greatest (w .card) n (i .tree) key (i .table) low high ∙ dictionary-same (lookup key (pairs (i .tree))) ∙ ap dictionary (same-lookup greatest i key)
 
-  ready-idle : (w : World rationTable) → Moves (w .card) (w .state) (stepOf (w .card) (w .state)) → replyTo rationTable step w ≡ ready → happens rationTable step w .state .doing ≡ Idle
+  ready-idle : (w : World (rationTable greatest)) → Moves (w .card) (w .state) (stepOf greatest (w .card) (w .state))
+      → replyTo (rationTable greatest) step w ≡ ready → happens (rationTable greatest) step w .state .doing ≡ Idle
   unfolding happens replyTo stepReply
-  ready-idle w (was-idle e) r = ap (λ (x : World rationTable). x .state .doing) (idle-world w e) ∙ e
+  ready-idle w (was-idle e) r = ap (λ (x : World (rationTable greatest)). x .state .doing) (idle-world greatest w e) ∙ e
   ready-idle w (ends-now f same e) r = e
   ready-idle w (goes-further s e) r = absurd (omega (arith, code-of (sym (ap stepReply (s .1)) ∙ r)))
 
   -- a step that says "ready" leaves an idle state, and an idle state stays so
-  step-idle : (w : World rationTable) → Moves (w .card) (w .state) (stepOf (w .card) (w .state))
-      → (w .state .doing ≡ Idle) ⊎ (replyTo rationTable step w ≡ ready) → happens rationTable step w .state .doing ≡ Idle
-  step-idle w m (inl e) = ap (λ (x : World rationTable). x .state .doing) (idle-world w e) ∙ e
+  step-idle : (w : World (rationTable greatest)) → Moves (w .card) (w .state) (stepOf greatest (w .card) (w .state))
+      → (w .state .doing ≡ Idle) ⊎ (replyTo (rationTable greatest) step w ≡ ready) → happens (rationTable greatest) step w .state .doing ≡ Idle
+  step-idle w m (inl e) = ap (λ (x : World (rationTable greatest)). x .state .doing) (idle-world greatest w e) ∙ e
   step-idle w m (inr r) = ready-idle w m r
 
   no-step : {e : Event} {A B : Type 0} → (e ≡ step → ⊥) → ((e ≡ step) × A) ⊎ B → B
   no-step d (inl z) = absurd (d (z .0))
   no-step d (inr z) = z
 
-  rest-idle : (qs : List Event) (w : World rationTable) → LeftUncut rationTable qs w → Held w
-      → (w .state .doing ≡ Idle) ⊎ SaysReady rationTable qs w → Held (run rationTable qs w) × (run rationTable qs w .state .doing ≡ Idle)
+  rest-idle : (qs : List Event) (w : World (rationTable greatest)) → LeftUncut (rationTable greatest) qs w → Held w
+      → (w .state .doing ≡ Idle) ⊎ SaysReady (rationTable greatest) qs w → Held (run (rationTable greatest) qs w) × (run (rationTable greatest) qs w .state .doing ≡ Idle)
   unfolding run LeftUncut SaysReady
   rest-idle [] w u i (inl e) = (i, e)
   rest-idle [] w u i (inr r) = absurd r
-  rest-idle (step ∷ qs) w u i (inl e) = let q = step-held w i in rest-idle qs (happens rationTable step w) (u .1) (q .0) (inl (step-idle w (q .1) (inl e)))
-  rest-idle (step ∷ qs) w u i (inr (inl r)) = let q = step-held w i in rest-idle qs (happens rationTable step w) (u .1) (q .0) (inl (step-idle w (q .1) (inr (r .1))))
-  rest-idle (step ∷ qs) w u i (inr (inr r)) = rest-idle qs (happens rationTable step w) (u .1) (step-held w i .0) (inr r)
-  rest-idle (ask question ∷ qs) w u i r = let e = ask-same question w in rest-idle qs (happens rationTable (ask question) w) (u .1) (rw e i) (⊎-map (λ z. rw e z) (no-step (λ z. impossible (cc))) r)
+  rest-idle (step ∷ qs) w u i (inl e) = let q = step-held w i in rest-idle qs (happens (rationTable greatest) step w) (u .1) (q .0) (inl (step-idle w (q .1) (inl e)))
+  rest-idle (step ∷ qs) w u i (inr (inl r)) = let q = step-held w i in rest-idle qs (happens (rationTable greatest) step w) (u .1) (q .0) (inl (step-idle w (q .1) (inr (r .1))))
+  rest-idle (step ∷ qs) w u i (inr (inr r)) = rest-idle qs (happens (rationTable greatest) step w) (u .1) (step-held w i .0) (inr r)
+  rest-idle (ask question ∷ qs) w u i r =
+      let e = ask-same greatest question w in
+      rest-idle qs (happens (rationTable greatest) (ask question) w) (u .1) (rw e i) (⊎-map (λ z. rw e z) (no-step (λ z. impossible (cc))) r)
   rest-idle (insert key value ∷ qs) w u i r =
-      let e = insert-same key value w (u .0) in
-      rest-idle qs (happens rationTable (insert key value) w) (u .1) (rw e i) (⊎-map (λ z. rw e z) (no-step (λ z. impossible (cc))) r)
-  rest-idle (delete key ∷ qs) w u i r = let e = delete-same key w (u .0) in rest-idle qs (happens rationTable (delete key) w) (u .1) (rw e i) (⊎-map (λ z. rw e z) (no-step (λ z. impossible (cc))) r)
+      let e = insert-same greatest key value w (u .0) in
+      rest-idle qs (happens (rationTable greatest) (insert key value) w) (u .1) (rw e i) (⊎-map (λ z. rw e z) (no-step (λ z. impossible (cc))) r)
+  rest-idle (delete key ∷ qs) w u i r =
+      let e = delete-same greatest key w (u .0) in
+      rest-idle qs (happens (rationTable greatest) (delete key) w) (u .1) (rw e i) (⊎-map (λ z. rw e z) (no-step (λ z. impossible (cc))) r)
   rest-idle (cut ∷ qs) w u i r = absurd (u .0)
 
 -- ---- the demand
 
-abbrev pub restsRight : {w : World rationTable} {l : List (ℕ × ℕ)} → Rests w l → BalancedWith (w .card) l
-restsRight r = record { table = r .table; balanced = r .balanced; alike = r .map .alike; as-many = r .map .as-many }
+abbrev pub restsRight : (greatest : ℕ) → {w : World (rationTable greatest)} {l : List (ℕ × ℕ)} → Rests greatest w l → BalancedWith (w .card) l
+restsRight greatest r = record { table = r .table; balanced = r .balanced; alike = r .map .alike; as-many = r .map .as-many }
 
-module _ (w : World rationTable) (b : Book) (v : Covered w b) where
+module _ (greatest : ℕ) (w : World (rationTable greatest)) (b : Book) (v : Covered greatest w b) where
   -- what opening hands back
   abbrev Hands : Type 0
-  Hands = ((openOf (w .card) .begun ≡ OpenedIdle) × (openOf (w .card) .memory .doing ≡ Idle)) ⊎ ((openOf (w .card) .begun ≡ Started) × (isIdle (openOf (w .card) .memory .doing) ≡ false))
+  Hands =
+      ((openOf greatest (w .card) .begun ≡ OpenedIdle) × (openOf greatest (w .card) .memory .doing ≡ Idle))
+      ⊎ ((openOf greatest (w .card) .begun ≡ Started) × (isIdle (openOf greatest (w .card) .memory .doing) ≡ false))
 
   hands : Hands
-  hands = reopened (w .card) (v .size) (v .inv .tree) (v .inv .table) (v .inv .openable) .hands
+  hands = reopened greatest (w .card) (v .size) (v .inv .tree) (v .inv .table) (v .inv .openable) .hands
 
-  opens-now : Opens rationTable (w .card)
+  opens-now : Opens (rationTable greatest) (w .card)
   unfolding startReply
   opens-now = ⊎-map (λ z. ap startReply (z .0)) (λ z. ap startReply (z .0)) hands
 
   -- an idle state was handed back exactly with the reply "idle"
-  idle-said : openOf (w .card) .memory .doing ≡ Idle → rationTable .openCard (w .card) .reply ≡ idle
+  idle-said : openOf greatest (w .card) .memory .doing ≡ Idle → rationTable greatest .openCard (w .card) .reply ≡ idle
   unfolding startReply
   idle-said e = at hands
     where
-      at : Hands → startReply (openOf (w .card) .begun) ≡ idle
+      at : Hands → startReply (openOf greatest (w .card) .begun) ≡ idle
       at (inl z) = ap startReply (z .0)
-      at (inr z) = absurd (idle-not-busy (openOf (w .card) .memory .doing) e (z .1))
+      at (inr z) = absurd (idle-not-busy (openOf greatest (w .card) .memory .doing) e (z .1))
 
-  said-idle : rationTable .openCard (w .card) .reply ≡ idle → openOf (w .card) .memory .doing ≡ Idle
+  said-idle : rationTable greatest .openCard (w .card) .reply ≡ idle → openOf greatest (w .card) .memory .doing ≡ Idle
   unfolding startReply
   said-idle e = at hands
     where
-      at : Hands → openOf (w .card) .memory .doing ≡ Idle
+      at : Hands → openOf greatest (w .card) .memory .doing ≡ Idle
       at (inl z) = z .1
       at (inr z) = absurd (omega (arith, code-of (sym (ap startReply (z .0)) ∙ e)))
 
   -- the repair that opening starts, at its beginning
-  abbrev begun : Inv (v .size) repairSteps (opened rationTable (w .card)) (book (b .held) empty)
-  begun = reopened-inv (v .size) (w .card) (v .inv .tree) (b .held) (v .inv .table) (v .inv .openable) (v .inv .same)
+  abbrev begun : Inv greatest (v .size) repairSteps (opened (rationTable greatest) (w .card)) (book (b .held) empty)
+  begun = reopened-inv greatest (v .size) (w .card) (v .inv .tree) (b .held) (v .inv .table) (v .inv .openable) (v .inv .same)
 
-  ends-in-time : (qs : List Event) → LeftUncut rationTable qs (opened rationTable (w .card)) → mostRepairSteps ≤ stepsIn qs → Ended rationTable (w .card) qs
+  ends-in-time : (qs : List Event) → LeftUncut (rationTable greatest) qs (opened (rationTable greatest) (w .card)) → mostRepairSteps ≤ stepsIn qs → Ended (rationTable greatest) (w .card) qs
   ends-in-time qs u h =
-      let due = reopened-due (v .size) (w .card) (v .inv .tree) (b .held) (v .inv .table) (v .inv .openable) (v .inv .same) in
-      ⊎-map idle-said (λ r. r) (repair-ends (v .size) (b .held) qs repairSteps (opened rationTable (w .card)) u h (begun, due) .1)
+      let due = reopened-due greatest (v .size) (w .card) (v .inv .tree) (b .held) (v .inv .table) (v .inv .openable) (v .inv .same) in
+      ⊎-map idle-said (λ r. r) (repair-ends greatest (v .size) (b .held) qs repairSteps (opened (rationTable greatest) (w .card)) u h (begun, due) .1)
 
-  ends-right : (qs : List Event) → LeftUncut rationTable qs (opened rationTable (w .card)) → Ended rationTable (w .card) qs
-      → BalancedWith (run rationTable qs (opened rationTable (w .card)) .card) (b .held)
+  ends-right : (qs : List Event) → LeftUncut (rationTable greatest) qs (opened (rationTable greatest) (w .card)) → Ended (rationTable greatest) (w .card) qs
+      → BalancedWith (run (rationTable greatest) qs (opened (rationTable greatest) (w .card)) .card) (b .held)
   ends-right qs u e =
-      let q = rest-idle (v .size) repairSteps (b .held) qs (opened rationTable (w .card)) u begun (⊎-map said-idle (λ r. r) e) in
-      restsRight (inv-rests (v .size) repairSteps (run rationTable qs (opened rationTable (w .card))) (book (b .held) empty) (q .0) (q .1))
+      let q = rest-idle greatest (v .size) repairSteps (b .held) qs (opened (rationTable greatest) (w .card)) u begun (⊎-map said-idle (λ r. r) e) in
+      restsRight greatest (inv-rests greatest (v .size) repairSteps (run (rationTable greatest) qs (opened (rationTable greatest) (w .card))) (book (b .held) empty) (q .0) (q .1))
 
-  finds-throughout : (qs : List Event) → LeftUncut rationTable qs (opened rationTable (w .card)) → (key : ℕ) → 0 < key → key < keyLimit
-      → rationTable .find (run rationTable qs (opened rationTable (w .card)) .card) key ≡ dictionary (lookup key (b .held))
+  finds-throughout : (qs : List Event) → LeftUncut (rationTable greatest) qs (opened (rationTable greatest) (w .card)) → (key : ℕ) → 0 < key → key < keyLimit
+      → rationTable greatest .find (run (rationTable greatest) qs (opened (rationTable greatest) (w .card)) .card) key ≡ dictionary (lookup key (b .held))
   finds-throughout qs u =
-      held-finds (v .size) repairSteps (b .held) (run rationTable qs (opened rationTable (w .card))) (run-held (v .size) repairSteps (b .held) qs (opened rationTable (w .card)) u begun)
+      held-finds greatest (v .size) repairSteps (b .held) (run (rationTable greatest) qs (opened (rationTable greatest) (w .card)))
+      (run-held greatest (v .size) repairSteps (b .held) qs (opened (rationTable greatest) (w .card)) u begun)
 
 -- DEMAND 3 of the ration table
-pub demand-3 : Demand3 rationTable
-demand-3 =
-    always (λ w b. Survives rationTable (w .card) (b .held))
-    (λ w b v. record { opens = opens-now w b v; ends = ends-in-time w b v; right = ends-right w b v; finds = finds-throughout w b v })
+pub demand-3 : (greatest : ℕ) → Demand3 (rationTable greatest)
+demand-3 greatest =
+    always greatest (λ w b. Survives (rationTable greatest) (w .card) (b .held))
+    (λ w b v. record { opens = opens-now greatest w b v; ends = ends-in-time greatest w b v; right = ends-right greatest w b v; finds = finds-throughout greatest w b v })

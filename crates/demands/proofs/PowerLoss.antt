@@ -65,11 +65,12 @@ start-landed-unchanged m doing depth room NoLanding r e = refl
 start-landed-unchanged m doing depth true (LandingAt number link run) r e = impossible (cc)
 start-landed-unchanged m doing depth false (LandingAt number link run) r e = refl
 
-start-unchanged : (c : List ℕ) (m : Memory) (key : ℕ) (doing : Doing) (room : Landing → Bool) (r : ℕ) → startOf c m key doing room .begun ≡ BegunRefused r → startOf c m key doing room .memory ≡ m
+start-unchanged : (greatest : ℕ) (c : List ℕ) (m : Memory) (key : ℕ) (doing : Doing) (room : Landing → Bool) (r : ℕ)
+    → startOf greatest c m key doing room .begun ≡ BegunRefused r → startOf greatest c m key doing room .memory ≡ m
 unfolding startOf startChecked startRefused startAccepted
-start-unchanged c m key doing room r e =
-    bool-cases (eqb (nodesOfLength (length c)) 0) (λ q. rw q) (λ q.
-    bool-cases (eqb (nodesOfLength (length c)) (m .nodes)) (λ q₁.
+start-unchanged greatest c m key doing room r e =
+    bool-cases (eqb (nodesOfLength greatest (length c)) 0) (λ q. rw q) (λ q.
+    bool-cases (eqb (nodesOfLength greatest (length c)) (m .nodes)) (λ q₁.
     bool-cases (eqb (headerRefusal c (m .nodes)) 0) (λ q₂.
     bool-cases (isIdle (m .doing)) (λ q₃.
     bool-cases (eqb key 0) (λ q₄. rw (q, q₁, q₂, q₃, q₄)) (λ q₄. rw (q, q₁, q₂, q₃, q₄) (landed-unchanged (landing c (m .nodes) key) (rw (q, q₁, q₂, q₃, q₄) at e))))
@@ -79,29 +80,30 @@ start-unchanged c m key doing room r e =
         → startLanded m doing (startDepth c m key) (room (landing c (m .nodes) key)) x .memory ≡ m
     landed-unchanged x e = start-landed-unchanged m doing (startDepth c m key) (room (landing c (m .nodes) key)) x r e
 
-same-world : (w : World rationTable) (m : Memory) → m ≡ w .state → _≡_ {A = World rationTable} (record { card = w .card; state = m }) w
-same-world w m e = ap (λ (x : Memory). record { card = w .card; state = x }) e
+same-world : (greatest : ℕ) (w : World (rationTable greatest)) (m : Memory) → m ≡ w .state → _≡_ {A = World (rationTable greatest)} (record { card = w .card; state = m }) w
+same-world greatest w m e = ap (λ (x : Memory). record { card = w .card; state = x }) e
 
-pub insert-same : (key value : ℕ) (w : World rationTable) → Refused (replyTo rationTable (insert key value) w) → happens rationTable (insert key value) w ≡ w
+pub insert-same : (greatest : ℕ) (key value : ℕ) (w : World (rationTable greatest))
+    → Refused (replyTo (rationTable greatest) (insert key value) w) → happens (rationTable greatest) (insert key value) w ≡ w
 unfolding happens replyTo insertOf
-insert-same key value w h =
-    let r = is-refused (insertOf (w .card) (w .state) key value .begun) h in
-    same-world w _ (start-unchanged (w .card) (w .state) key (Inserting key value NotBegun) (startRoom (w .card) key (w .state .free)) (r .0) (r .1))
+insert-same greatest key value w h =
+    let r = is-refused (insertOf greatest (w .card) (w .state) key value .begun) h in
+    same-world greatest w _ (start-unchanged greatest (w .card) (w .state) key (Inserting key value NotBegun) (startRoom (w .card) key (w .state .free)) (r .0) (r .1))
 
-pub delete-same : (key : ℕ) (w : World rationTable) → Refused (replyTo rationTable (delete key) w) → happens rationTable (delete key) w ≡ w
+pub delete-same : (greatest : ℕ) (key : ℕ) (w : World (rationTable greatest)) → Refused (replyTo (rationTable greatest) (delete key) w) → happens (rationTable greatest) (delete key) w ≡ w
 unfolding happens replyTo deleteOf
-delete-same key w h =
-    let r = is-refused (deleteOf (w .card) (w .state) key .begun) h in
-    same-world w _ (start-unchanged (w .card) (w .state) key (Deleting key NotBegun 0) (λ l. true) (r .0) (r .1))
+delete-same greatest key w h =
+    let r = is-refused (deleteOf greatest (w .card) (w .state) key .begun) h in
+    same-world greatest w _ (start-unchanged greatest (w .card) (w .state) key (Deleting key NotBegun 0) (λ l. true) (r .0) (r .1))
 
-pub ask-same : (question : Question) (w : World rationTable) → happens rationTable (ask question) w ≡ w
+pub ask-same : (greatest : ℕ) (question : Question) (w : World (rationTable greatest)) → happens (rationTable greatest) (ask question) w ≡ w
 unfolding happens
-ask-same question w = refl
+ask-same greatest question w = refl
 
 -- ---- more steps than needed are enough; a cut; any events
 
-pub loosen : (n few many : ℕ) (w : World rationTable) (b : Book) → few ≤ many → Inv n few w b → Inv n many w b
-loosen n few many w b h i = record { tree = i .tree; goal = i .goal; due = i .due; table = i .table; openable = i .openable; same = i .same; stage = at (i .stage) }
+pub loosen : (greatest : ℕ) (n few many : ℕ) (w : World (rationTable greatest)) (b : Book) → few ≤ many → Inv greatest n few w b → Inv greatest n many w b
+loosen greatest n few many w b h i = record { tree = i .tree; goal = i .goal; due = i .due; table = i .table; openable = i .openable; same = i .same; stage = at (i .stage) }
   where
     more : UpdateSteps (i .tree) few → UpdateSteps (i .tree) many
     more q = record { height = q .height; level = q .level; enough = omega (arith, q .enough) }
@@ -114,58 +116,64 @@ loosen n few many w b h i = record { tree = i .tree; goal = i .goal; due = i .du
     at (stage-between j en deep r x q g) = stage-between j en deep r x (omega arith) g
     at (stage-within j en p e q g) = stage-within j en p e (omega arith) g
 
-pub loosen-goal : (n few many : ℕ) (w : World rationTable) (b : Book) (h : few ≤ many) (i : Inv n few w b) → loosen n few many w b h i .goal ≡ i .goal
+pub loosen-goal : (greatest : ℕ) (n few many : ℕ) (w : World (rationTable greatest)) (b : Book) (h : few ≤ many) (i : Inv greatest n few w b) → loosen greatest n few many w b h i .goal ≡ i .goal
 unfolding loosen
-loosen-goal n few many w b h i = refl
+loosen-goal greatest n few many w b h i = refl
 
-pub loosen-due : (n few many : ℕ) (w : World rationTable) (b : Book) (h : few ≤ many) (i : Inv n few w b) → loosen n few many w b h i .due ≡ i .due
+pub loosen-due : (greatest : ℕ) (n few many : ℕ) (w : World (rationTable greatest)) (b : Book) (h : few ≤ many) (i : Inv greatest n few w b) → loosen greatest n few many w b h i .due ≡ i .due
 unfolding loosen
-loosen-due n few many w b h i = refl
+loosen-due greatest n few many w b h i = refl
 
-pub reopened-inv : (n : ℕ) (c : List ℕ) (t : Tree) (l : List (ℕ × ℕ)) → Table c n t → Openable n t → Same (pairs t) l → Inv n repairSteps (opened rationTable c) (book l empty)
-reopened-inv n c t l b o s =
-    let r = reopened c n t b o in
-    loosen n (r .steps) repairSteps (opened rationTable c) (book l empty) (r .few-steps) (record { tree = t; goal = r .goal; due = Ready; table = b; openable = o; same = s; stage = r .stage })
+pub reopened-inv : (greatest : ℕ) (n : ℕ) (c : List ℕ) (t : Tree) (l : List (ℕ × ℕ)) → Table greatest c n t → Openable n t → Same (pairs t) l
+    → Inv greatest n repairSteps (opened (rationTable greatest) c) (book l empty)
+reopened-inv greatest n c t l b o s =
+    let r = reopened greatest c n t b o in
+    loosen greatest n (r .steps) repairSteps (opened (rationTable greatest) c) (book l empty) (r .few-steps)
+    (record { tree = t; goal = r .goal; due = Ready; table = b; openable = o; same = s; stage = r .stage })
 
-module _ (n : ℕ) (c : List ℕ) (t : Tree) (l : List (ℕ × ℕ)) (b : Table c n t) (o : Openable n t) (s : Same (pairs t) l) where
-  pub reopened-goal : reopened-inv n c t l b o s .goal ≡ settledBy depthLimit (bare t)
+module _ (greatest : ℕ) (n : ℕ) (c : List ℕ) (t : Tree) (l : List (ℕ × ℕ)) (b : Table greatest c n t) (o : Openable n t) (s : Same (pairs t) l) where
+  pub reopened-goal : reopened-inv greatest n c t l b o s .goal ≡ settledBy depthLimit (bare t)
   unfolding reopened-inv loosen
-  reopened-goal = reopened c n t b o .goal-is
+  reopened-goal = reopened greatest c n t b o .goal-is
 
-  pub reopened-due : reopened-inv n c t l b o s .due ≡ Ready
+  pub reopened-due : reopened-inv greatest n c t l b o s .due ≡ Ready
   unfolding reopened-inv loosen
   reopened-due = refl
 
-ask-keeps : (n steps : ℕ) (w : World rationTable) (b : Book) (question : Question) → Inv n steps w b → Inv n steps (happens rationTable (ask question) w) (feed (told rationTable (ask question) w) b)
+ask-keeps : (greatest : ℕ) (n steps : ℕ) (w : World (rationTable greatest)) (b : Book) (question : Question) → Inv greatest n steps w b
+    → Inv greatest n steps (happens (rationTable greatest) (ask question) w) (feed (told (rationTable greatest) (ask question) w) b)
 unfolding happens feed told
-ask-keeps n steps w b question i = i
+ask-keeps greatest n steps w b question i = i
 
-cut-keeps : (n steps : ℕ) (w : World rationTable) (b : Book) → Inv n steps w b → Inv n repairSteps (happens rationTable cut w) (feed (told rationTable cut w) b)
+cut-keeps : (greatest : ℕ) (n steps : ℕ) (w : World (rationTable greatest)) (b : Book) → Inv greatest n steps w b
+    → Inv greatest n repairSteps (happens (rationTable greatest) cut w) (feed (told (rationTable greatest) cut w) b)
 unfolding happens feed told
-cut-keeps n steps w b i = reopened-inv n (w .card) (i .tree) (b .held) (i .table) (i .openable) (i .same)
+cut-keeps greatest n steps w b i = reopened-inv greatest n (w .card) (i .tree) (b .held) (i .table) (i .openable) (i .same)
 
-pub inv-kept : (n : ℕ) (es : List Event) (steps : ℕ) (w : World rationTable) (b : Book) → Words es → Inv n steps w b → (k : ℕ) × Inv n k (run rationTable es w) (kept rationTable es w b)
+pub inv-kept : (greatest : ℕ) (n : ℕ) (es : List Event) (steps : ℕ) (w : World (rationTable greatest)) (b : Book) → Words es
+    → Inv greatest n steps w b → (k : ℕ) × Inv greatest n k (run (rationTable greatest) es w) (kept (rationTable greatest) es w b)
 unfolding run kept
-inv-kept n [] steps w b u i = (steps, i)
-inv-kept n (ask question ∷ es) steps w b u i = inv-kept n es steps _ _ u (ask-keeps n steps w b question i)
-inv-kept n (insert key value ∷ es) steps w b u i = let q = kept-insert n steps w b i key value (u .0) in inv-kept n es (q .0) _ _ (u .1) (q .1)
-inv-kept n (delete key ∷ es) steps w b u i = let q = kept-delete n steps w b i key (u .0) in inv-kept n es (q .0) _ _ (u .1) (q .1)
-inv-kept n (step ∷ es) steps w b u i = inv-kept n es steps _ _ u (kept-step n steps w b (loosen n steps (suc steps) w b (omega arith) i) .0 .0)
-inv-kept n (cut ∷ es) steps w b u i = inv-kept n es repairSteps _ _ u (cut-keeps n steps w b i)
+inv-kept greatest n [] steps w b u i = (steps, i)
+inv-kept greatest n (ask question ∷ es) steps w b u i = inv-kept greatest n es steps _ _ u (ask-keeps greatest n steps w b question i)
+inv-kept greatest n (insert key value ∷ es) steps w b u i = let q = kept-insert greatest n steps w b i key value (u .0) in inv-kept greatest n es (q .0) _ _ (u .1) (q .1)
+inv-kept greatest n (delete key ∷ es) steps w b u i = let q = kept-delete greatest n steps w b i key (u .0) in inv-kept greatest n es (q .0) _ _ (u .1) (q .1)
+inv-kept greatest n (step ∷ es) steps w b u i = inv-kept greatest n es steps _ _ u (kept-step greatest n steps w b (loosen greatest n steps (suc steps) w b (omega arith) i) .0 .0)
+inv-kept greatest n (cut ∷ es) steps w b u i = inv-kept greatest n es repairSteps _ _ u (cut-keeps greatest n steps w b i)
 
 -- ---- where the list begins
 
-format-starts-sized : (c : List ℕ) → startReply (formatOf c .begun) ≡ startedReply → nodesOfLength (length c) ≡ 0 → ⊥
+format-starts-sized : (greatest : ℕ) (c : List ℕ) → startReply (formatOf greatest c .begun) ≡ startedReply → nodesOfLength greatest (length c) ≡ 0 → ⊥
 unfolding noBeginning startReply
-format-starts-sized c e z = omega (arith, code-of (rw (format-refused c z) at e))
+format-starts-sized greatest c e z = omega (arith, code-of (rw (format-refused greatest c z) at e))
 
-begun-world : (c : List ℕ) (n : ℕ) → Sized (length c) n → _≡_ {A = World rationTable} (record { card = c; state = formatOf c .memory }) (record { card = formatCard n c 0; state = formatMemory n 0 })
-begun-world c n s = rw (format-starts c n s, format-untouched n c)
+begun-world : (greatest : ℕ) (c : List ℕ) (n : ℕ) → Sized greatest (length c) n → _≡_ {A = World (rationTable greatest)}
+    (record { card = c; state = formatOf greatest c .memory }) (record { card = formatCard n c 0; state = formatMemory n 0 })
+begun-world greatest c n s = rw (format-starts greatest c n s, format-untouched n c)
 
 -- the fresh table is idle, with no pair
-fresh-inv : (n : ℕ) (c : List ℕ) → FreshTable c n → Inv n repairSteps (record { card = c; state = freshMemory n }) (book [] empty)
+fresh-inv : (greatest : ℕ) (n : ℕ) (c : List ℕ) → FreshTable greatest c n → Inv greatest n repairSteps (record { card = c; state = freshMemory n }) (book [] empty)
 unfolding resting
-fresh-inv n c f =
+fresh-inv greatest n c f =
     let room : 3 ≤ countTrue (freshNodes n) = omega (arith, f .room, f .sized .least) in
     record {
       tree = freshTree;
@@ -178,96 +186,109 @@ fresh-inv n c f =
     }
 
 -- and no step says "ready" again while nothing is started
-ready-once : (c : List ℕ) (n : ℕ) → FreshTable c n → (qs : List Event) (w : World rationTable) → w ≡ record { card = c; state = freshMemory n } → LeftUncut rationTable qs w
-    → replyTo rationTable step (run rationTable qs w) ≡ ready → ⊥
+ready-once : (greatest : ℕ) (c : List ℕ) (n : ℕ) → FreshTable greatest c n → (qs : List Event) (w : World (rationTable greatest))
+    → w ≡ record { card = c; state = freshMemory n } → LeftUncut (rationTable greatest) qs w
+    → replyTo (rationTable greatest) step (run (rationTable greatest) qs w) ≡ ready → ⊥
 unfolding happens replyTo stepReply stepRefused resting LeftUncut run
-ready-once c n f [] w e u q =
-    let z : stepReply (stepOf (w .card) (w .state) .answer) ≡ refusal 10 = rw (e, step-idle c n (f .sized) (f .formatted) (freshNodes n) formattedRoot) in
+ready-once greatest c n f [] w e u q =
+    let z : stepReply (stepOf greatest (w .card) (w .state) .answer) ≡ refusal 10 = rw (e, step-idle greatest c n (f .sized) (f .formatted) (freshNodes n) formattedRoot) in
     omega (arith, code-of (sym z ∙ q))
-ready-once c n f (step ∷ qs) w e u q = ready-once c n f qs (happens rationTable step w) (rw (e, step-idle c n (f .sized) (f .formatted) (freshNodes n) formattedRoot)) (u .1) q
-ready-once c n f (ask question ∷ qs) w e u q = ready-once c n f qs w e (u .1) q
-ready-once c n f (insert key value ∷ qs) w e u q = ready-once c n f qs (happens rationTable (insert key value) w) (insert-same key value w (u .0) ∙ e) (u .1) q
-ready-once c n f (delete key ∷ qs) w e u q = ready-once c n f qs (happens rationTable (delete key) w) (delete-same key w (u .0) ∙ e) (u .1) q
-ready-once c n f (cut ∷ qs) w e u q = absurd (u .0)
+ready-once greatest c n f (step ∷ qs) w e u q =
+    ready-once greatest c n f qs (happens (rationTable greatest) step w)
+    (rw (e, step-idle greatest c n (f .sized) (f .formatted) (freshNodes n) formattedRoot)) (u .1) q
+ready-once greatest c n f (ask question ∷ qs) w e u q = ready-once greatest c n f qs w e (u .1) q
+ready-once greatest c n f (insert key value ∷ qs) w e u q = ready-once greatest c n f qs (happens (rationTable greatest) (insert key value) w) (insert-same greatest key value w (u .0) ∙ e) (u .1) q
+ready-once greatest c n f (delete key ∷ qs) w e u q = ready-once greatest c n f qs (happens (rationTable greatest) (delete key) w) (delete-same greatest key w (u .0) ∙ e) (u .1) q
+ready-once greatest c n f (cut ∷ qs) w e u q = absurd (u .0)
 
 -- formatting stores word after word, and is ready after the last
-format-ready-inv : (c : List ℕ) (n made : ℕ) → Sized (length c) n → (qs : List Event) (w : World rationTable)
+format-ready-inv : (greatest : ℕ) (c : List ℕ) (n made : ℕ) → Sized greatest (length c) n → (qs : List Event) (w : World (rationTable greatest))
     → w ≡ record { card = formatCard n c made; state = formatMemory n made } → made ≤ suc (length c)
-    → LeftUncut rationTable qs w → replyTo rationTable step (run rationTable qs w) ≡ ready
-    → happens rationTable step (run rationTable qs w) ≡ record { card = formatCard n c (suc (length c)); state = freshMemory n }
+    → LeftUncut (rationTable greatest) qs w → replyTo (rationTable greatest) step (run (rationTable greatest) qs w) ≡ ready
+    → happens (rationTable greatest) step (run (rationTable greatest) qs w) ≡ record { card = formatCard n c (suc (length c)); state = freshMemory n }
 unfolding happens replyTo stepReply LeftUncut run
-format-ready-inv c n made s [] w e h u q =
+format-ready-inv greatest c n made s [] w e h u q =
     order (length c) made
-    (λ o. let m : made ≡ suc (length c) = omega arith in rw (e, m, format-step-ready c n s))
-    (λ o. let z : stepReply (stepOf (w .card) (w .state) .answer) ≡ stored (placeOf (formatStore n (length c) made)) = rw (
+    (λ o. let m : made ≡ suc (length c) = omega arith in rw (e, m, format-step-ready greatest c n s))
+    (λ o. let z : stepReply (stepOf greatest (w .card) (w .state) .answer) ≡ stored (placeOf (formatStore n (length c) made)) = rw (
       e,
-      format-step-stores c n s made o,
+      format-step-stores greatest c n s made o,
     ) in absurd (omega (arith, code-of (sym z ∙ q))))
-format-ready-inv c n made s (step ∷ qs) w e h u q =
+format-ready-inv greatest c n made s (step ∷ qs) w e h u q =
     order (length c) made
-    (λ o. let m : made ≡ suc (length c) = omega arith in absurd (ready-once (formatCard n c (suc (length c))) n (format-fresh c n s) qs (happens rationTable step w) (ended m) (u .1) q))
-    (λ o. format-ready-inv c n (suc made) s qs (happens rationTable step w) (next o) (omega arith) (u .1) q)
+    (λ o. let m : made ≡ suc (length c) = omega arith in absurd (ready-once greatest
+    (formatCard n c (suc (length c))) n (format-fresh greatest c n s) qs (happens (rationTable greatest) step w) (ended m) (u .1) q))
+    (λ o. format-ready-inv greatest c n (suc made) s qs (happens (rationTable greatest) step w) (next o) (omega arith) (u .1) q)
   where
-    next : made ≤ length c → happens rationTable step w ≡ record { card = formatCard n c (suc made); state = formatMemory n (suc made) }
-    next o = rw (e, format-step-stores c n s made o)
+    next : made ≤ length c → happens (rationTable greatest) step w ≡ record { card = formatCard n c (suc made); state = formatMemory n (suc made) }
+    next o = rw (e, format-step-stores greatest c n s made o)
 
-    ended : made ≡ suc (length c) → happens rationTable step w ≡ record { card = formatCard n c (suc (length c)); state = freshMemory n }
-    ended m = rw (e, m, format-step-ready c n s)
-format-ready-inv c n made s (ask question ∷ qs) w e h u q = format-ready-inv c n made s qs w e h (u .1) q
-format-ready-inv c n made s (insert key value ∷ qs) w e h u q = format-ready-inv c n made s qs (happens rationTable (insert key value) w) (insert-same key value w (u .0) ∙ e) h (u .1) q
-format-ready-inv c n made s (delete key ∷ qs) w e h u q = format-ready-inv c n made s qs (happens rationTable (delete key) w) (delete-same key w (u .0) ∙ e) h (u .1) q
-format-ready-inv c n made s (cut ∷ qs) w e h u q = absurd (u .0)
+    ended : made ≡ suc (length c) → happens (rationTable greatest) step w ≡ record { card = formatCard n c (suc (length c)); state = freshMemory n }
+    ended m = rw (e, m, format-step-ready greatest c n s)
+format-ready-inv greatest c n made s (ask question ∷ qs) w e h u q = format-ready-inv greatest c n made s qs w e h (u .1) q
+format-ready-inv greatest c n made s (insert key value ∷ qs) w e h u q =
+    format-ready-inv greatest c n made s qs
+    (happens (rationTable greatest) (insert key value) w) (insert-same greatest key value w (u .0) ∙ e) h (u .1) q
+format-ready-inv greatest c n made s (delete key ∷ qs) w e h u q =
+    format-ready-inv greatest c n made s qs (happens (rationTable greatest) (delete key) w) (delete-same greatest key w (u .0) ∙ e) h (u .1) q
+format-ready-inv greatest c n made s (cut ∷ qs) w e h u q = absurd (u .0)
 
 -- the card and the state at "ready", whatever the card held before
-pub fresh-world : (c : List ℕ) (qs : List Event) → rationTable .format c .reply ≡ startedReply → LeftUncut rationTable qs (formatBegun rationTable c)
-    → replyTo rationTable step (run rationTable qs (formatBegun rationTable c)) ≡ ready
-    → Sized (length c) (nodesOfLength (length c))
-    × (happens rationTable step (run rationTable qs (formatBegun rationTable c))
-    ≡ record { card = formatCard (nodesOfLength (length c)) c (suc (length c)); state = freshMemory (nodesOfLength (length c)) })
-fresh-world c qs e u r = go (ℕ-discrete (nodesOfLength (length c)) 0)
+pub fresh-world : (greatest : ℕ) (c : List ℕ) (qs : List Event) → rationTable greatest .format c .reply ≡ startedReply → LeftUncut (rationTable greatest) qs (formatBegun (rationTable greatest) c)
+    → replyTo (rationTable greatest) step (run (rationTable greatest) qs (formatBegun (rationTable greatest) c)) ≡ ready
+    → Sized greatest (length c) (nodesOfLength greatest (length c))
+    × (happens (rationTable greatest) step (run (rationTable greatest) qs (formatBegun (rationTable greatest) c))
+    ≡ record { card = formatCard (nodesOfLength greatest (length c)) c (suc (length c)); state = freshMemory (nodesOfLength greatest (length c)) })
+fresh-world greatest c qs e u r = go (ℕ-discrete (nodesOfLength greatest (length c)) 0)
   where
-    go : Dec (nodesOfLength (length c) ≡ 0) → Sized (length c) (nodesOfLength (length c))
-        × (happens rationTable step (run rationTable qs (formatBegun rationTable c))
-        ≡ record { card = formatCard (nodesOfLength (length c)) c (suc (length c)); state = freshMemory (nodesOfLength (length c)) })
-    go (yes z) = absurd (format-starts-sized c e z)
+    go : Dec (nodesOfLength greatest (length c) ≡ 0) → Sized greatest (length c) (nodesOfLength greatest (length c))
+        × (happens (rationTable greatest) step (run (rationTable greatest) qs (formatBegun (rationTable greatest) c))
+        ≡ record { card = formatCard (nodesOfLength greatest (length c)) c (suc (length c)); state = freshMemory (nodesOfLength greatest (length c)) })
+    go (yes z) = absurd (format-starts-sized greatest c e z)
     go (no d) =
-        let s = nodes-sized (length c) d in
-        (s, format-ready-inv c (nodesOfLength (length c)) 0 s qs (formatBegun rationTable c) (begun-world c (nodesOfLength (length c)) s) (omega arith) u r)
+        let s = nodes-sized greatest (length c) d in (
+          s,
+          format-ready-inv greatest c (nodesOfLength greatest (length c)) 0 s qs (formatBegun (rationTable greatest) c)
+              (begun-world greatest c (nodesOfLength greatest (length c)) s) (omega arith) u r,
+        )
 
-pub begins-inv : (w : World rationTable) (l : List (ℕ × ℕ)) → Begins rationTable w l → (n : ℕ) × Inv n repairSteps w (book l empty)
-begins-inv w l (from-open c t a k) =
-    let q = accepted-card c a in
-    let b : Table c (nodesOfLength (length c)) t = well-formed-table (q .1) (q .2) k in
-    (nodesOfLength (length c), reopened-inv (nodesOfLength (length c)) c t (pairs t) b (accepted-openable c t a k) (same-refl (pairs t)))
-begins-inv w l (from-format c qs e u r) =
-    let f = fresh-world c qs e u r in
-    (nodesOfLength (length c), rw (f .1) (fresh-inv (nodesOfLength (length c)) (formatCard (nodesOfLength (length c)) c (suc (length c))) (format-fresh c (nodesOfLength (length c)) (f .0))))
+pub begins-inv : (greatest : ℕ) (w : World (rationTable greatest)) (l : List (ℕ × ℕ)) → Begins (rationTable greatest) w l → (n : ℕ) × Inv greatest n repairSteps w (book l empty)
+begins-inv greatest w l (from-open c t a k) =
+    let q = accepted-card greatest c a in
+    let b : Table greatest c (nodesOfLength greatest (length c)) t = well-formed-table greatest (q .1) (q .2) k in
+    (nodesOfLength greatest (length c), reopened-inv greatest (nodesOfLength greatest (length c)) c t (pairs t) b (accepted-openable greatest c t a k) (same-refl (pairs t)))
+begins-inv greatest w l (from-format c qs e u r) =
+    let f = fresh-world greatest c qs e u r in (
+      nodesOfLength greatest (length c),
+      rw (f .1) (fresh-inv greatest (nodesOfLength greatest (length c)) (formatCard (nodesOfLength greatest (length c)) c (suc (length c)))
+          (format-fresh greatest c (nodesOfLength greatest (length c)) (f .0))),
+    )
 
 -- a card just opened: the repair in hand, if there is one, comes to what the tree without numbers says
-pub opened-inv : (c : List ℕ) (t : Tree) → Opens rationTable c → WellFormed c t
-    → (i : Inv (nodesOfLength (length c)) repairSteps (opened rationTable c) (book (pairs t) empty))
+pub opened-inv : (greatest : ℕ) (c : List ℕ) (t : Tree) → Opens (rationTable greatest) c → WellFormed c t
+    → (i : Inv greatest (nodesOfLength greatest (length c)) repairSteps (opened (rationTable greatest) c) (book (pairs t) empty))
     × (i .goal ≡ settledBy depthLimit (bare t)) × (i .due ≡ Ready)
-opened-inv c t a k =
-    let q = accepted-card c a in
-    let n = nodesOfLength (length c) in
-    let b : Table c (nodesOfLength (length c)) t = well-formed-table (q .1) (q .2) k in
-    let o = accepted-openable c t a k in
+opened-inv greatest c t a k =
+    let q = accepted-card greatest c a in
+    let n = nodesOfLength greatest (length c) in
+    let b : Table greatest c (nodesOfLength greatest (length c)) t = well-formed-table greatest (q .1) (q .2) k in
+    let o = accepted-openable greatest c t a k in
     let s = same-refl (pairs t) in
-    (reopened-inv n c t (pairs t) b o s, reopened-goal n c t (pairs t) b o s, reopened-due n c t (pairs t) b o s)
+    (reopened-inv greatest n c t (pairs t) b o s, reopened-goal greatest n c t (pairs t) b o s, reopened-due greatest n c t (pairs t) b o s)
 
 -- what holds after any list of events
-pub kept-from : (w : World rationTable) (l : List (ℕ × ℕ)) → Begins rationTable w l → (es : List Event) → Words es
-    → (n : ℕ) × (k : ℕ) × Inv n k (run rationTable es w) (kept rationTable es w (book l empty))
-kept-from w l s es u =
-    let b = begins-inv w l s in
-    let k = inv-kept (b .0) es repairSteps w (book l empty) u (b .1) in
+pub kept-from : (greatest : ℕ) (w : World (rationTable greatest)) (l : List (ℕ × ℕ)) → Begins (rationTable greatest) w l → (es : List Event) → Words es
+    → (n : ℕ) × (k : ℕ) × Inv greatest n k (run (rationTable greatest) es w) (kept (rationTable greatest) es w (book l empty))
+kept-from greatest w l s es u =
+    let b = begins-inv greatest w l s in
+    let k = inv-kept greatest (b .0) es repairSteps w (book l empty) u (b .1) in
     (b .0, k .0, k .1)
 
 -- ---- at rest
 
 -- no steps are left only where nothing is being done
-pub at-rest : (n steps : ℕ) (w : World rationTable) (b : Book) → steps ≡ 0 → (i : Inv n steps w b) → (w .state .doing ≡ Idle) × (tableViolations (i .tree) ≡ 0)
-at-rest n steps w b none-left i = at (i .stage)
+pub at-rest : (greatest : ℕ) (n steps : ℕ) (w : World (rationTable greatest)) (b : Book) → steps ≡ 0 → (i : Inv greatest n steps w b) → (w .state .doing ≡ Idle) × (tableViolations (i .tree) ≡ 0)
+at-rest greatest n steps w b none-left i = at (i .stage)
   where
     at : {m : Memory} {h : Hand} {d : Answer} → Stage (w .card) n (i .tree) (i .goal) steps m h d → (m .doing ≡ Idle) × (tableViolations (i .tree) ≡ 0)
     at (stage-idle z r x g) = (refl, z)
@@ -282,9 +303,10 @@ pub empty-fed : (o : Outcome) (l : List (ℕ × ℕ)) → fedStep o l empty ≡ 
 unfolding fedStep
 empty-fed o l = refl
 
-pub after-step : (w : World rationTable) → isIdle (stepOf (w .card) (w .state) .memory .doing) ≡ false → isIdle (happens rationTable step w .state .doing) ≡ false
+pub after-step : (greatest : ℕ) (w : World (rationTable greatest)) → isIdle (stepOf greatest (w .card) (w .state) .memory .doing) ≡ false
+    → isIdle (happens (rationTable greatest) step w .state .doing) ≡ false
 unfolding happens
-after-step w e = e
+after-step greatest w e = e
 
 pub idle-not-busy : (d : Doing) → d ≡ Idle → isIdle d ≡ false → ⊥
 unfolding isIdle
@@ -293,67 +315,71 @@ idle-not-busy d e q = let z : _≡_ {A = Bool} true false = rw e at q in impossi
 -- ---- opening's repair, in a run left uncut
 
 -- nothing but opening's repair is in hand, if anything is
-abbrev pub Repairs : ℕ → List (ℕ × ℕ) → ℕ → World rationTable → Type 0
-Repairs n l steps w = (i : Inv n steps w (book l empty)) × (i .due ≡ Ready)
+abbrev pub Repairs : (greatest : ℕ) → ℕ → List (ℕ × ℕ) → ℕ → World (rationTable greatest) → Type 0
+Repairs greatest n l steps w = (i : Inv greatest n steps w (book l empty)) × (i .due ≡ Ready)
 
-repair-loosened : (n : ℕ) (l : List (ℕ × ℕ)) (few many : ℕ) (w : World rationTable) → few ≤ many → Repairs n l few w → Repairs n l many w
-repair-loosened n l few many w h (i, d) = (loosen n few many w (book l empty) h i, loosen-due n few many w (book l empty) h i ∙ d)
+repair-loosened : (greatest : ℕ) (n : ℕ) (l : List (ℕ × ℕ)) (few many : ℕ) (w : World (rationTable greatest)) → few ≤ many → Repairs greatest n l few w → Repairs greatest n l many w
+repair-loosened greatest n l few many w h (i, d) = (loosen greatest n few many w (book l empty) h i, loosen-due greatest n few many w (book l empty) h i ∙ d)
 
 -- one step of it
-repair-step : (n : ℕ) (l : List (ℕ × ℕ)) (steps : ℕ) (w : World rationTable) → Repairs n l (suc steps) w
-    → Repairs n l steps (happens rationTable step w) × ((w .state .doing ≡ Idle) ⊎ ((stepOf (w .card) (w .state) .answer ≡ Ready) ⊎ (isIdle (happens rationTable step w .state .doing) ≡ false)))
+repair-step : (greatest : ℕ) (n : ℕ) (l : List (ℕ × ℕ)) (steps : ℕ) (w : World (rationTable greatest)) → Repairs greatest n l (suc steps) w
+    → Repairs greatest n l steps (happens (rationTable greatest) step w) × ((w .state .doing ≡ Idle)
+    ⊎ ((stepOf greatest (w .card) (w .state) .answer ≡ Ready) ⊎ (isIdle (happens (rationTable greatest) step w .state .doing) ≡ false)))
 unfolding feed told
-repair-step n l steps w (i, d) =
-    let k = kept-step n steps w (book l empty) i in
+repair-step greatest n l steps w (i, d) =
+    let k = kept-step greatest n steps w (book l empty) i in
     (at (k .0 .0) (k .0 .2 ∙ d), moves (k .2) (k .1))
   where
-    at : (j : Inv n steps (happens rationTable step w) (fedStep (outcome (replyTo rationTable step w)) l empty)) → j .due ≡ Ready → Repairs n l steps (happens rationTable step w)
+    at : (j : Inv greatest n steps (happens (rationTable greatest) step w) (fedStep (outcome (replyTo (rationTable greatest) step w)) l empty))
+        → j .due ≡ Ready → Repairs greatest n l steps (happens (rationTable greatest) step w)
     at =
-        subst (λ (b : Book). (j : Inv n steps (happens rationTable step w) b) → j .due ≡ Ready → Repairs n l steps (happens rationTable step w))
-        (sym (empty-fed (outcome (replyTo rationTable step w)) l)) (λ j e. (j, e))
+        subst (λ (b : Book). (j : Inv greatest n steps (happens (rationTable greatest) step w) b) → j .due ≡ Ready → Repairs greatest n l steps (happens (rationTable greatest) step w))
+        (sym (empty-fed (outcome (replyTo (rationTable greatest) step w)) l)) (λ j e. (j, e))
 
-    moves : Moves (w .card) (w .state) (stepOf (w .card) (w .state)) → Right (stepOf (w .card) (w .state) .answer) (i .due)
+    moves : Moves (w .card) (w .state) (stepOf greatest (w .card) (w .state)) → Right (stepOf greatest (w .card) (w .state) .answer) (i .due)
         → (w .state .doing ≡ Idle)
-        ⊎ ((stepOf (w .card) (w .state) .answer ≡ Ready) ⊎ (isIdle (happens rationTable step w .state .doing) ≡ false))
+        ⊎ ((stepOf greatest (w .card) (w .state) .answer ≡ Ready) ⊎ (isIdle (happens (rationTable greatest) step w .state .doing) ≡ false))
     moves (was-idle e) r = inl e
     moves (ends-now e same idle) r = inr (inl (right-final r e ∙ d))
-    moves (goes-further stored e) r = inr (inr (after-step w e))
+    moves (goes-further stored e) r = inr (inr (after-step greatest w e))
 
-still-ends : (w : World rationTable) (qs : List Event) → (happens rationTable step w .state .doing ≡ Idle) ⊎ SaysReady rationTable qs (happens rationTable step w)
-    → (w .state .doing ≡ Idle) ⊎ ((stepOf (w .card) (w .state) .answer ≡ Ready) ⊎ (isIdle (happens rationTable step w .state .doing) ≡ false))
-    → (w .state .doing ≡ Idle) ⊎ SaysReady rationTable (step ∷ qs) w
+still-ends : (greatest : ℕ) (w : World (rationTable greatest)) (qs : List Event)
+    → (happens (rationTable greatest) step w .state .doing ≡ Idle) ⊎ SaysReady (rationTable greatest) qs (happens (rationTable greatest) step w)
+    → (w .state .doing ≡ Idle) ⊎ ((stepOf greatest (w .card) (w .state) .answer ≡ Ready) ⊎ (isIdle (happens (rationTable greatest) step w .state .doing) ≡ false))
+    → (w .state .doing ≡ Idle) ⊎ SaysReady (rationTable greatest) (step ∷ qs) w
 unfolding SaysReady replyTo stepReply
-still-ends w qs q (inl e) = inl e
-still-ends w qs q (inr (inl e)) = inr (inl (refl, ap stepReply e))
-still-ends w qs q (inr (inr e)) = inr (inr (⊎-elim (λ z. absurd (idle-not-busy (happens rationTable step w .state .doing) z e)) (λ z. z) q))
+still-ends greatest w qs q (inl e) = inl e
+still-ends greatest w qs q (inr (inl e)) = inr (inl (refl, ap stepReply e))
+still-ends greatest w qs q (inr (inr e)) = inr (inr (⊎-elim (λ z. absurd (idle-not-busy (happens (rationTable greatest) step w .state .doing) z e)) (λ z. z) q))
 
 -- a run without a cut comes to rest
-pub repair-ends : (n : ℕ) (l : List (ℕ × ℕ)) (qs : List Event) (steps : ℕ) (w : World rationTable) → LeftUncut rationTable qs w → steps ≤ stepsIn qs → Repairs n l steps w
-    → Inv n 0 (run rationTable qs w) (book l empty) × ((w .state .doing ≡ Idle) ⊎ SaysReady rationTable qs w)
+pub repair-ends : (greatest : ℕ) (n : ℕ) (l : List (ℕ × ℕ)) (qs : List Event) (steps : ℕ) (w : World (rationTable greatest))
+    → LeftUncut (rationTable greatest) qs w → steps ≤ stepsIn qs → Repairs greatest n l steps w
+    → Inv greatest n 0 (run (rationTable greatest) qs w) (book l empty) × ((w .state .doing ≡ Idle) ⊎ SaysReady (rationTable greatest) qs w)
 unfolding run LeftUncut SaysReady
-repair-ends n l [] steps w u h r = (loosen n steps 0 w (book l empty) (omega arith) (r .0), inl (at-rest n steps w (book l empty) (omega arith) (r .0) .0))
-repair-ends n l (ask question ∷ qs) steps w u h r =
-    let e = ask-same question w in
-    let q = repair-ends n l qs steps (happens rationTable (ask question) w) (u .1) h (rw e r) in
+repair-ends greatest n l [] steps w u h r = (loosen greatest n steps 0 w (book l empty) (omega arith) (r .0), inl (at-rest greatest n steps w (book l empty) (omega arith) (r .0) .0))
+repair-ends greatest n l (ask question ∷ qs) steps w u h r =
+    let e = ask-same greatest question w in
+    let q = repair-ends greatest n l qs steps (happens (rationTable greatest) (ask question) w) (u .1) h (rw e r) in
     (q .0, ⊎-map (λ z. rw e at z) (λ z. inr z) (q .1))
-repair-ends n l (insert key value ∷ qs) steps w u h r =
-    let e = insert-same key value w (u .0) in
-    let q = repair-ends n l qs steps (happens rationTable (insert key value) w) (u .1) h (rw e r) in
+repair-ends greatest n l (insert key value ∷ qs) steps w u h r =
+    let e = insert-same greatest key value w (u .0) in
+    let q = repair-ends greatest n l qs steps (happens (rationTable greatest) (insert key value) w) (u .1) h (rw e r) in
     (q .0, ⊎-map (λ z. rw e at z) (λ z. inr z) (q .1))
-repair-ends n l (delete key ∷ qs) steps w u h r =
-    let e = delete-same key w (u .0) in
-    let q = repair-ends n l qs steps (happens rationTable (delete key) w) (u .1) h (rw e r) in
+repair-ends greatest n l (delete key ∷ qs) steps w u h r =
+    let e = delete-same greatest key w (u .0) in
+    let q = repair-ends greatest n l qs steps (happens (rationTable greatest) (delete key) w) (u .1) h (rw e r) in
     (q .0, ⊎-map (λ z. rw e at z) (λ z. inr z) (q .1))
-repair-ends n l (step ∷ qs) zero w u h r =
-    let k = repair-step n l 0 w (repair-loosened n l 0 1 w (omega arith) r) in
-    let q = repair-ends n l qs 0 (happens rationTable step w) (u .1) (omega arith) (k .0) in
-    (q .0, still-ends w qs (q .1) (k .1))
-repair-ends n l (step ∷ qs) (suc steps) w u h r =
-    let k = repair-step n l steps w r in
-    let q = repair-ends n l qs steps (happens rationTable step w) (u .1) (omega arith) (k .0) in
-    (q .0, still-ends w qs (q .1) (k .1))
-repair-ends n l (cut ∷ qs) steps w u h r = absurd (u .0)
+repair-ends greatest n l (step ∷ qs) zero w u h r =
+    let k = repair-step greatest n l 0 w (repair-loosened greatest n l 0 1 w (omega arith) r) in
+    let q = repair-ends greatest n l qs 0 (happens (rationTable greatest) step w) (u .1) (omega arith) (k .0) in
+    (q .0, still-ends greatest w qs (q .1) (k .1))
+repair-ends greatest n l (step ∷ qs) (suc steps) w u h r =
+    let k = repair-step greatest n l steps w r in
+    let q = repair-ends greatest n l qs steps (happens (rationTable greatest) step w) (u .1) (omega arith) (k .0) in
+    (q .0, still-ends greatest w qs (q .1) (k .1))
+repair-ends greatest n l (cut ∷ qs) steps w u h r = absurd (u .0)
 
 -- the tree's map is the book's pairs
-pub map-is : {n steps : ℕ} {w : World rationTable} {b : Book} (i : Inv n steps w b) → MapIs (i .tree) (b .held)
-map-is {b = b} i = record { alike = same-lookup i; as-many = length-total (pairs (i .tree)) ∙ i .same .totals (λ p. 1) ∙ sym (length-total (b .held)) }
+pub map-is : (greatest : ℕ) {n steps : ℕ} {w : World (rationTable greatest)} {b : Book} (i : Inv greatest n steps w b) → MapIs (i .tree) (b .held)
+map-is greatest {b = b} i = record { alike = same-lookup greatest i; as-many = length-total (pairs (i .tree)) ∙ i .same .totals (λ p. 1) ∙ sym (length-total (b .held)) }

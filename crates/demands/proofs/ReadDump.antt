@@ -11,9 +11,10 @@ use Rattle.demands.proofs.Accepting.{accepted-card}
 use Rattle.demands.specs.Events.{Opens}
 use Rattle.demands.specs.RationTable.{rationTable}
 
-pub dump-answered : (c : List ℕ) → Opens rationTable c → ((i : ℕ) → getD c i 0 < 2 ^ 32) → (lent : ℕ) → length c ≤ lent → readAnswer (dumpOf c) lent ≡ Length (length c)
-dump-answered c a fits lent room =
-    let k = accepted-card c a in
-    let good : Good c = record { sized = k .1; header = k .2 } in
-    read-whole (dumpOf c) lent (whole-undamaged (dumpOf c) (dump-whole c fits good))
-    ∙ ap (λ (size : ℕ). fittingLength size lent) (ap wordsFor (dump-nodes c fits good) ∙ sym (k .1 .words)) ∙ room-long (length c) lent room
+pub dump-answered : (greatest : ℕ) (c : List ℕ) → Opens (rationTable greatest) c
+    → ((i : ℕ) → getD c i 0 < 2 ^ 32) → (lent : ℕ) → length c ≤ lent → readAnswer greatest (dumpOf c) lent ≡ Length (length c)
+dump-answered greatest c a fits lent room =
+    let k = accepted-card greatest c a in
+    let good : Good greatest c = record { sized = k .1; header = k .2 } in
+    read-whole greatest (dumpOf c) lent (whole-undamaged greatest (dumpOf c) (dump-whole greatest c fits good))
+    ∙ ap (λ (size : ℕ). fittingLength size lent) (ap wordsFor (dump-nodes greatest c fits good) ∙ sym (k .1 .words)) ∙ room-long (length c) lent room

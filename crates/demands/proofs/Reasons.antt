@@ -1,6 +1,7 @@
 -- WHAT STANDS IN THE WAY OF A NEW NUMBER (document 02, W-209): "Proved: the reason handed over for printing is the one that holds, and
 -- an insert of that key would be refused 8 exactly when `split` is printed with F below M."
 use mathlib.Core.Path.{_≡_, refl, ap, sym, subst, _∙_}
+use Rattle.card.specs.Layout.{greatestNodes}
 use mathlib.Core.List.{List}
 use mathlib.Core.Option.{none, some}
 use mathlib.Core.Logic.{_↔_}
@@ -55,17 +56,19 @@ unfoldable pub ReasonHolds : List ℕ → Tree → ℕ → Reason → Type 0
 ReasonHolds c t key (Refused r) = ⊥
 ReasonHolds c t key NoKey = ⊥
 ReasonHolds c t key (Held v) = lookup key (pairs t) ≡ some v
-ReasonHolds c t key EmptySlot = (lookup key (pairs t) ≡ none) × ((leaf : ℕ) × (j : ℕ) × (i : ℕ) × LeadsTo (worldFrom (openedCard c)) key leaf j × (slotOf (nodeAt (openedCard c .card) leaf) 0 ≡ At i))
+ReasonHolds c t key EmptySlot =
+    (lookup key (pairs t) ≡ none) × ((leaf : ℕ) × (j : ℕ) × (i : ℕ)
+    × LeadsTo greatestNodes (worldFrom (openedCard c)) key leaf j × (slotOf (nodeAt (openedCard c .card) leaf) 0 ≡ At i))
 ReasonHolds c t key (Split j free need) =
     (lookup key (pairs t) ≡ none)
-    × ((leaf : ℕ) × LeadsTo (worldFrom (openedCard c)) key leaf j × (length (leafPairs (nodeAt (openedCard c .card) leaf)) ≡ 11))
+    × ((leaf : ℕ) × LeadsTo greatestNodes (worldFrom (openedCard c)) key leaf j × (length (leafPairs (nodeAt (openedCard c .card) leaf)) ≡ 11))
     × (countTrue (openedCard c .memory .free) ≡ free)
     × (need ≡ splitNeed j)
 
-module _ (c : List ℕ) (t : Tree) (accepted : Opens rationTable c) (well : WellFormed c t) where
+module _ (c : List ℕ) (t : Tree) (accepted : Opens (rationTable greatestNodes) c) (well : WellFormed c t) where
   -- the card and the state that the repair leaves, as a run of steps
-  abbrev after : World rationTable
-  after = run rationTable (steps repairSteps) (opened rationTable c)
+  abbrev after : World (rationTable greatestNodes)
+  after = run (rationTable greatestNodes) (steps repairSteps) (opened (rationTable greatestNodes) c)
 
   is-after : worldFrom (openedCard c) ≡ after
   is-after = opened-run c
@@ -74,30 +77,32 @@ module _ (c : List ℕ) (t : Tree) (accepted : Opens rationTable c) (well : Well
   left = repaired c t accepted well
 
   -- the invariant then
-  kept-after : (n : ℕ) × (k : ℕ) × Inv n k after (kept rationTable (steps repairSteps) (opened rationTable c) (book (pairs t) empty))
-  kept-after = kept-from (opened rationTable c) (pairs t) (from-open c t accepted well) (steps repairSteps) (all-words repairSteps)
+  kept-after : (n : ℕ) × (k : ℕ) × Inv greatestNodes n k after (kept (rationTable greatestNodes) (steps repairSteps) (opened (rationTable greatestNodes) c) (book (pairs t) empty))
+  kept-after = kept-from greatestNodes (opened (rationTable greatestNodes) c) (pairs t) (from-open c t accepted well) (steps repairSteps) (all-words repairSteps)
 
   -- the state's N is the card's
-  counted : openedCard c .memory .nodes ≡ nodesOfLength (length (openedCard c .card))
+  counted : openedCard c .memory .nodes ≡ nodesOfLength greatestNodes (length (openedCard c .card))
   counted =
       let k = kept-after in
-      let e = nodes-same (k .0) (k .1) after _ (k .2) in
-      ap (λ (w : World rationTable). w .state .nodes) is-after ∙ e ∙ sym (sized-nodes _ (k .0) (k .2 .table .sized)) ∙ ap (λ (w : World rationTable). nodesOfLength (length (w .card))) (sym is-after)
+      let e = nodes-same greatestNodes (k .0) (k .1) after _ (k .2) in
+      ap (λ (w : World (rationTable greatestNodes)). w .state .nodes) is-after ∙ e
+      ∙ sym (sized-nodes greatestNodes _ (k .0) (k .2 .table .sized))
+      ∙ ap (λ (w : World (rationTable greatestNodes)). nodesOfLength greatestNodes (length (w .card))) (sym is-after)
 
-  same-nodes : openedCard c .memory .nodes ≡ nodesOfLength (length c)
-  same-nodes = counted ∙ sized-nodes _ _ (left .sized)
+  same-nodes : openedCard c .memory .nodes ≡ nodesOfLength greatestNodes (length c)
+  same-nodes = counted ∙ sized-nodes greatestNodes _ _ (left .sized)
 
   some-nodes : openedCard c .memory .nodes ≡ 0 → ⊥
   some-nodes z = omega (arith, same-nodes, left .sized .least)
 
   -- "prints `no key`" where the file has none: on a card that opens, key 0 has no other reason
   pub no-key : reasonOf c 0 ≡ NoKey
-  no-key = of-opened c 0 (not-refused c accepted) ∙ on-no-key (openedCard c .card) (openedCard c .memory .free) 0 (openedCard c .memory .nodes) counted some-nodes refl
+  no-key = of-opened c 0 (not-refused greatestNodes c accepted) ∙ on-no-key (openedCard c .card) (openedCard c .memory .free) 0 (openedCard c .memory .nodes) counted some-nodes refl
 
   module _ (key : ℕ) (low : lowestKey ≤ key) (high : key < keyLimit) where
     -- the leaf that the key leads to
-    leads : (leaf : ℕ) × (j : ℕ) × LeadsTo (worldFrom (openedCard c)) key leaf j
-    leads = subst (λ (w : World rationTable). (leaf : ℕ) × (j : ℕ) × LeadsTo w key leaf j) (sym is-after) (key-leads (kept-after .2) key low high)
+    leads : (leaf : ℕ) × (j : ℕ) × LeadsTo greatestNodes (worldFrom (openedCard c)) key leaf j
+    leads = subst (λ (w : World (rationTable greatestNodes)). (leaf : ℕ) × (j : ℕ) × LeadsTo greatestNodes w key leaf j) (sym is-after) (key-leads greatestNodes (kept-after .2) key low high)
 
     abbrev leaf : ℕ
     leaf = leads .0
@@ -112,7 +117,7 @@ module _ (c : List ℕ) (t : Tree) (accepted : Opens rationTable c) (well : Well
     reason-is : reasonOf c key ≡ reasonFor leafReason runAbove (countTrue (openedCard c .memory .free))
     unfolding reasonLanded
     reason-is =
-        of-opened c key (not-refused c accepted)
+        of-opened c key (not-refused greatestNodes c accepted)
         ∙ on-key (openedCard c .card) (openedCard c .memory .free) key (openedCard c .memory .nodes) counted some-nodes (λ z. omega arith)
         ∙ ap (reasonLanded (openedCard c .card) (openedCard c .memory .free) key) (leads .2 .1)
 
@@ -124,12 +129,12 @@ module _ (c : List ℕ) (t : Tree) (accepted : Opens rationTable c) (well : Well
         well-after : WellFormed (openedCard c .card) (left .table)
         well-after = left .balanced .well-formed
 
-        found : LandedAt (openedCard c .card) (nodesOfLength (length c)) key (left .table)
+        found : LandedAt (openedCard c .card) (nodesOfLength greatestNodes (length c)) key (left .table)
         found =
             landing-found (openedCard c .card)
-            (nodesOfLength (length c)) key (left .sized .words) lowestKey keyLimit (left .table) (well-after .holds)
+            (nodesOfLength greatestNodes (length c)) key (left .sized .words) lowestKey keyLimit (left .table) (well-after .holds)
             (root-in-range lowestKey keyLimit (left .table) (well-after .sound) (well-after .widths)) low high (omega arith)
-            (well-formed-depth (openedCard c .card) (nodesOfLength (length c)) (left .sized .words) (left .table) (left .sized .most) well-after)
+            (well-formed-depth (openedCard c .card) (nodesOfLength greatestNodes (length c)) (left .sized .words) (left .table) (left .sized .most) well-after)
 
         same-leaf : found .number ≡ leaf
         same-leaf =
@@ -185,8 +190,8 @@ module _ (c : List ℕ) (t : Tree) (accepted : Opens rationTable c) (well : Well
 
     leaf-words : length (nodeAt (openedCard c .card) leaf) ≡ 24
     leaf-words =
-        let whole : Sized (length (openedCard c .card)) (openedCard c .memory .nodes) = subst (Sized (length (openedCard c .card))) (sym same-nodes) (left .sized) in
-        let k = landed (openedCard c .card) (openedCard c .memory .nodes) key leaf (leads .2 .0) runAbove whole (leads .2 .1) in
+        let whole : Sized greatestNodes (length (openedCard c .card)) (openedCard c .memory .nodes) = subst (Sized greatestNodes (length (openedCard c .card))) (sym same-nodes) (left .sized) in
+        let k = landed greatestNodes (openedCard c .card) (openedCard c .memory .nodes) key leaf (leads .2 .0) runAbove whole (leads .2 .1) in
         length-node (openedCard c .card) leaf (k .inside .one) (omega (arith, k .inside .most, whole .words))
 
     -- "the reason handed over for printing is the one that holds"
@@ -206,30 +211,30 @@ module _ (c : List ℕ) (t : Tree) (accepted : Opens rationTable c) (well : Well
 
     -- the insert of the key, with any value, after the repair
     abbrev insertCall : ℕ → Handed
-    insertCall value = insertOf (openedCard c .card) (openedCard c .memory) key value
+    insertCall value = insertOf greatestNodes (openedCard c .card) (openedCard c .memory) key value
 
-    leads-after : LeadsTo after key leaf runAbove
-    leads-after = subst (λ (w : World rationTable). LeadsTo w key leaf runAbove) is-after (leads .2)
+    leads-after : LeadsTo greatestNodes after key leaf runAbove
+    leads-after = subst (λ (w : World (rationTable greatestNodes)). LeadsTo greatestNodes w key leaf runAbove) is-after (leads .2)
 
     idle-after : after .state .doing ≡ Idle
-    idle-after = ap (λ (w : World rationTable). w .state .doing) (sym is-after) ∙ left .idle
+    idle-after = ap (λ (w : World (rationTable greatestNodes)). w .state .doing) (sym is-after) ∙ left .idle
 
     refused-eight : (value : ℕ) → leafReason ≡ full → countTrue (openedCard c .memory .free) < splitNeed runAbove → insertCall value ≡ startRefused 8 (openedCard c .memory)
     refused-eight value =
-        subst (λ (w : World rationTable). insertReason (nodeAt (w .card) leaf) key ≡ full → countTrue (w .state .free) < splitNeed runAbove
-        → insertOf (w .card) (w .state) key value ≡ startRefused 8 (w .state)) (sym is-after)
-        (splitting-insert-refused (kept-after .2) key low high idle-after value leaf runAbove leads-after)
+        subst (λ (w : World (rationTable greatestNodes)). insertReason (nodeAt (w .card) leaf) key ≡ full → countTrue (w .state .free) < splitNeed runAbove
+        → insertOf greatestNodes (w .card) (w .state) key value ≡ startRefused 8 (w .state)) (sym is-after)
+        (splitting-insert-refused greatestNodes (kept-after .2) key low high idle-after value leaf runAbove leads-after)
 
     started-room : (value : ℕ) → leafReason ≡ full → splitNeed runAbove ≤ countTrue (openedCard c .memory .free) → insertCall value .begun ≡ Started
     started-room value =
-        subst (λ (w : World rationTable). insertReason (nodeAt (w .card) leaf) key ≡ full → splitNeed runAbove ≤ countTrue (w .state .free)
-        → insertOf (w .card) (w .state) key value .begun ≡ Started) (sym is-after)
-        (splitting-insert-starts (kept-after .2) key low high idle-after value leaf runAbove leads-after)
+        subst (λ (w : World (rationTable greatestNodes)). insertReason (nodeAt (w .card) leaf) key ≡ full → splitNeed runAbove ≤ countTrue (w .state .free)
+        → insertOf greatestNodes (w .card) (w .state) key value .begun ≡ Started) (sym is-after)
+        (splitting-insert-starts greatestNodes (kept-after .2) key low high idle-after value leaf runAbove leads-after)
 
     started-other : (value : ℕ) → (leafReason ≡ full → ⊥) → insertCall value .begun ≡ Started
     started-other value =
-        subst (λ (w : World rationTable). (insertReason (nodeAt (w .card) leaf) key ≡ full → ⊥) → insertOf (w .card) (w .state) key value .begun ≡ Started) (sym is-after)
-        (other-insert-starts (kept-after .2) key low high idle-after value leaf runAbove leads-after)
+        subst (λ (w : World (rationTable greatestNodes)). (insertReason (nodeAt (w .card) leaf) key ≡ full → ⊥) → insertOf greatestNodes (w .card) (w .state) key value .begun ≡ Started) (sym is-after)
+        (other-insert-starts greatestNodes (kept-after .2) key low high idle-after value leaf runAbove leads-after)
 
     not-started : (value : ℕ) → insertCall value ≡ startRefused 8 (openedCard c .memory) → insertCall value .begun ≡ Started → ⊥
     unfolding startRefused
@@ -264,5 +269,8 @@ module _ (c : List ℕ) (t : Tree) (accepted : Opens rationTable c) (well : Well
             refused-eight value e (omega (arith, b, n))
 
 -- the dump of an accepted card gives the reason that the card gives
-pub dump-reason : (c : List ℕ) → Opens rationTable c → ((i : ℕ) → getD c i 0 < 2 ^ 32) → (lent : ℕ) → length c ≤ lent → (key : ℕ) → reasonInDump (dumpOf c) lent key ≡ reasonOf c key
-dump-reason c a fits lent room key = dump-read (dumpOf c) lent key (length c) (dump-answered c a fits lent room) ∙ ap (λ (l : List ℕ). reasonOf l key) (dump-words c fits)
+pub dump-reason : (c : List ℕ) → Opens (rationTable greatestNodes) c → ((i : ℕ) → getD c i 0 < 2 ^ 32) → (lent : ℕ)
+    → length c ≤ lent → (key : ℕ) → reasonInDump greatestNodes (dumpOf c) lent key ≡ reasonOf c key
+dump-reason c a fits lent room key =
+    dump-read greatestNodes (dumpOf c) lent key (length c) (dump-answered greatestNodes c a fits lent room)
+    ∙ ap (λ (l : List ℕ). reasonOf l key) (dump-words greatestNodes c fits)

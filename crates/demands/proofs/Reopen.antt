@@ -42,8 +42,8 @@ use Rattle.theory_tree.specs.Violations.{tableViolations}
 use Rattle.theory_tree.specs.WellFormed.{WellFormed}
 
 -- a sound tree on the card is a well-formed table, and the other way round
-pub table-well-formed : {c : List ℕ} {n : ℕ} {t : Tree} → Table c n t → WellFormed c t
-table-well-formed {c} {n} {t} b =
+pub table-well-formed : (greatest : ℕ) {c : List ℕ} {n : ℕ} {t : Tree} → Table greatest c n t → WellFormed c t
+table-well-formed greatest {c} {n} {t} b =
     record {
       holds = b .holds;
       once = b .sound .once;
@@ -53,8 +53,8 @@ table-well-formed {c} {n} {t} b =
       few-violations = b .sound .few-violations;
     }
 
-pub well-formed-table : {c : List ℕ} {n : ℕ} {t : Tree} → Sized (length c) n → Formatted c n → WellFormed c t → Table c n t
-well-formed-table s f w =
+pub well-formed-table : (greatest : ℕ) {c : List ℕ} {n : ℕ} {t : Tree} → Sized greatest (length c) n → Formatted c n → WellFormed c t → Table greatest c n t
+well-formed-table greatest s f w =
     record {
       sized = s;
       header = f;
@@ -63,44 +63,44 @@ well-formed-table s f w =
     }
 
 -- the way down is never too deep
-pub table-depth-limited : {c : List ℕ} {n : ℕ} {t : Tree} → Table c n t → depth t ≤ depthLimit
-table-depth-limited {c} {n} {t} b = well-formed-depth c n (b .sized .words) t (b .sized .most) (table-well-formed b)
+pub table-depth-limited : (greatest : ℕ) {c : List ℕ} {n : ℕ} {t : Tree} → Table greatest c n t → depth t ≤ depthLimit
+table-depth-limited greatest {c} {n} {t} b = well-formed-depth c n (b .sized .words) t (b .sized .most) (table-well-formed greatest b)
 
 -- no refusal 1: what is left is the header's
-pub length-accepted : (c : List ℕ) (n : ℕ) → Sized (length c) n → cardRefusal c ≡ headerRefusal c n
+pub length-accepted : (greatest : ℕ) (c : List ℕ) (n : ℕ) → Sized greatest (length c) n → cardRefusal greatest c ≡ headerRefusal c n
 unfolding cardRefusal
-length-accepted c n s = let e = sized-nodes (length c) n s in rw (e, ne-eqb n 0 (omega (arith, s .least)))
+length-accepted greatest c n s = let e = sized-nodes greatest (length c) n s in rw (e, ne-eqb n 0 (omega (arith, s .least)))
 
 -- no refusal 1, 2 or 3
-pub card-accepted : {c : List ℕ} {n : ℕ} → Sized (length c) n → Formatted c n → (cardRefusal c ≡ 0) × (nodesOfLength (length c) ≡ n)
-card-accepted {c} {n} s f = (length-accepted c n s ∙ formatted-header c n f, sized-nodes (length c) n s)
+pub card-accepted : (greatest : ℕ) {c : List ℕ} {n : ℕ} → Sized greatest (length c) n → Formatted c n → (cardRefusal greatest c ≡ 0) × (nodesOfLength greatest (length c) ≡ n)
+card-accepted greatest {c} {n} s f = (length-accepted greatest c n s ∙ formatted-header c n f, sized-nodes greatest (length c) n s)
 
 -- opening, by what the check finds
-module _ (c : List ℕ) (n h : ℕ) (f : Findings) (s : Sized (length c) n) (k : Formatted c n) (e : tableCheck c n ≡ some (h, f)) where
-  pub open-sound : openOf c ≡ openSound n (searchStart c) f
+module _ (greatest : ℕ) (c : List ℕ) (n h : ℕ) (f : Findings) (s : Sized greatest (length c) n) (k : Formatted c n) (e : tableCheck c n ≡ some (h, f)) where
+  pub open-sound : openOf greatest c ≡ openSound n (searchStart c) f
   unfolding openOf openChecked
-  open-sound = let a = card-accepted s k in rw (a .0, a .1, e)
+  open-sound = let a = card-accepted greatest s k in rw (a .0, a .1, e)
 
-module _ (c : List ℕ) (n h : ℕ) (f : Findings) (s : Sized (length c) n) (k : Formatted c n) (e : tableCheck c n ≡ some (h, f)) (room : 3 + f .run ≤ countTrue (f .free)) where
-  pub open-repair : f .violated ≡ true → openOf c ≡ record { begun = Started; memory = resting n (f .free) (searchStart c) (Repairing (f .key)) }
+module _ (greatest : ℕ) (c : List ℕ) (n h : ℕ) (f : Findings) (s : Sized greatest (length c) n) (k : Formatted c n) (e : tableCheck c n ≡ some (h, f)) (room : 3 + f .run ≤ countTrue (f .free)) where
+  pub open-repair : f .violated ≡ true → openOf greatest c ≡ record { begun = Started; memory = resting n (f .free) (searchStart c) (Repairing (f .key)) }
   unfolding openSound
-  open-repair v = open-sound c n h f s k e ∙ rw (le-ltb (countTrue (f .free)) (3 + f .run) room, v)
+  open-repair v = open-sound greatest c n h f s k e ∙ rw (le-ltb (countTrue (f .free)) (3 + f .run) room, v)
 
-  pub open-idle : f .violated ≡ false → openOf c ≡ record { begun = OpenedIdle; memory = resting n (f .free) (searchStart c) Idle }
+  pub open-idle : f .violated ≡ false → openOf greatest c ≡ record { begun = OpenedIdle; memory = resting n (f .free) (searchStart c) Idle }
   unfolding openSound
-  open-idle v = open-sound c n h f s k e ∙ rw (le-ltb (countTrue (f .free)) (3 + f .run) room, v)
+  open-idle v = open-sound greatest c n h f s k e ∙ rw (le-ltb (countTrue (f .free)) (3 + f .run) room, v)
 
 pub facts-exact : {c : List ℕ} {n h : ℕ} {t : Tree} {f : Findings} → Facts c n t h f → Exact n (f .free) t
 facts-exact x = record { size = x .free-length; within = x .free-in; outside-none = x .free-out }
 
 -- what opening hands back, and that it does not refuse
-pub record Reopened (c : List ℕ) (n : ℕ) (t : Tree) : Type 0 where
+pub record Reopened (greatest : ℕ) (c : List ℕ) (n : ℕ) (t : Tree) : Type 0 where
   pub steps : ℕ
   pub few-steps : steps ≤ 73 * depthLimit + 1
   pub goal : Tree
   pub goal-is : goal ≡ settledBy depthLimit (bare t)
-  pub stage : Stage c n t goal steps (openOf c .memory) empty Ready
-  pub hands : ((openOf c .begun ≡ OpenedIdle) × (openOf c .memory .doing ≡ Idle)) ⊎ ((openOf c .begun ≡ Started) × (isIdle (openOf c .memory .doing) ≡ false))
+  pub stage : Stage c n t goal steps (openOf greatest c .memory) empty Ready
+  pub hands : ((openOf greatest c .begun ≡ OpenedIdle) × (openOf greatest c .memory .doing ≡ Idle)) ⊎ ((openOf greatest c .begun ≡ Started) × (isIdle (openOf greatest c .memory .doing) ≡ false))
 
 repair-busy : (n last : ℕ) (free : List Bool) (key : ℕ) → isIdle (resting n free last (Repairing key) .doing) ≡ false
 unfolding resting isIdle
@@ -110,9 +110,9 @@ repair-busy n last free key = refl
 violation-deep : (t : Tree) (key : ℕ) (v : Violation t key) → depthOf (v .context) ≤ depth t
 violation-deep t key v = rw (v .is-tree) (omega (arith, depth-plug (v .context) (v .part)))
 
-pub reopened : (c : List ℕ) (n : ℕ) (t : Tree) → Table c n t → Openable n t → Reopened c n t
+pub reopened : (greatest : ℕ) (c : List ℕ) (n : ℕ) (t : Tree) → Table greatest c n t → Openable n t → Reopened greatest c n t
 unfolding resting
-reopened c n t b o = go (sound-accepted c n (b .sized .words) (b .sized .most) t (table-well-formed b))
+reopened greatest c n t b o = go (sound-accepted c n (b .sized .words) (b .sized .most) t (table-well-formed greatest b))
   where
     count-same : (f : Findings) (h : ℕ) → Facts c n t h f → countTrue (f .free) ≡ countTrue (o .free)
     count-same f h x = ap countTrue (exact-same n (f .free) (o .free) t (facts-exact x) (o .exact))
@@ -132,15 +132,15 @@ reopened c n t b o = go (sound-accepted c n (b .sized .words) (b .sized .most) t
         at d (settled z r) = r
         at d (violated v₀ w₀ r) = absurd (omega arith)
 
-    go : ((h : ℕ) × (f : Findings) × (tableCheck c n ≡ some (h, f)) × Facts c n t h f) → Reopened c n t
+    go : ((h : ℕ) × (f : Findings) × (tableCheck c n ≡ some (h, f)) × Facts c n t h f) → Reopened greatest c n t
     go (h, f, e, x) = bool-cases (f .violated) broken whole
       where
-        broken : f .violated ≡ true → Reopened c n t
+        broken : f .violated ≡ true → Reopened greatest c n t
         broken q =
             let w : tableViolations t ≡ 1 = omega (arith, x .violated, bit-true (f .violated) q) in
             let v = x .violation q in
             let room : 3 + reserve (v .0 .context) (v .0 .part) ≤ countTrue (f .free) = room-for (countTrue (f .free)) (sym (count-same f h x)) (f .key) (v .0) w in
-            let is = open-repair c n h f (b .sized) (b .header) e (omega (arith, v .1)) q in
+            let is = open-repair greatest c n h f (b .sized) (b .header) e (omega (arith, v .1)) q in
             record {
               steps = 73 * depthOf (v .0 .context) + 1;
               few-steps = omega (arith, violation-deep t (f .key) (v .0), x .deep);
@@ -151,11 +151,11 @@ reopened c n t b o = go (sound-accepted c n (b .sized .words) (b .sized .most) t
               hands = inr (ap (λ (x : Handed). x .begun) is, ap (λ (x : Handed). isIdle (x .memory .doing)) is ∙ repair-busy n (searchStart c) (f .free) (f .key));
             }
 
-        whole : f .violated ≡ false → Reopened c n t
+        whole : f .violated ≡ false → Reopened greatest c n t
         whole q =
             let z : tableViolations t ≡ 0 = omega (arith, x .violated, bit-false (f .violated) q) in
             let r : f .run ≡ 0 = x .no-run q in
-            let is = open-idle c n h f (b .sized) (b .header) e (omega (arith, room-idle z, count-same f h x)) q in
+            let is = open-idle greatest c n h f (b .sized) (b .header) e (omega (arith, room-idle z, count-same f h x)) q in
             record {
               steps = 0;
               few-steps = omega arith;

@@ -20,33 +20,34 @@ use Rattle.demands.specs.RationTable.{rationTable}
 use Rattle.walk.specs.declared.Landing.the-variants.{Leaf as LandingAt}
 
 -- the leaf that a key leads to, and j, "the number of 11-child nodes without a break straight above" it
-abbrev pub LeadsTo : World rationTable → ℕ → ℕ → ℕ → Type 0
-LeadsTo w key leaf j = (link : ℕ) × (landing (w .card) (w .state .nodes) key ≡ LandingAt leaf link j)
+abbrev pub LeadsTo : (greatest : ℕ) → World (rationTable greatest) → ℕ → ℕ → ℕ → Type 0
+LeadsTo greatest w key leaf j = (link : ℕ) × (landing (w .card) (w .state .nodes) key ≡ LandingAt leaf link j)
 
-module _ {n steps : ℕ} {w : World rationTable} {b : Book} (i : Inv n steps w b) (key : ℕ) (low : lowestKey ≤ key) (high : key < keyLimit) where
+module _ (greatest : ℕ) {n steps : ℕ} {w : World (rationTable greatest)} {b : Book} (i : Inv greatest n steps w b) (key : ℕ) (low : lowestKey ≤ key) (high : key < keyLimit) where
   -- the leaf that a key leads to, at any moment
-  pub key-leads : (leaf : ℕ) × (j : ℕ) × LeadsTo w key leaf j
-  key-leads = let g = lands n steps w b i key low high in (g .0, g .2, (g .1, g .3))
+  pub key-leads : (leaf : ℕ) × (j : ℕ) × LeadsTo greatest w key leaf j
+  key-leads = let g = lands greatest n steps w b i key low high in (g .0, g .2, (g .1, g .3))
 
   module _ (idle : w .state .doing ≡ Idle) (value : ℕ) where
     -- an insert's start, by its room
     insert-decided : (r : Bool) → startRoom (w .card) key (w .state .free) (landing (w .card) (w .state .nodes) key) ≡ r
-        → insertOf (w .card) (w .state) key value ≡ pick r (startAccepted (w .state) (Inserting key value NotBegun) (startDepth (w .card) (w .state) key)) (startRefused 8 (w .state))
+        → insertOf greatest (w .card) (w .state) key value ≡ pick r (startAccepted (w .state) (Inserting key value NotBegun) (startDepth (w .card) (w .state) key)) (startRefused 8 (w .state))
     unfolding insertOf
-    insert-decided r e = room-decides n steps w b i key (Inserting key value NotBegun) (startRoom (w .card) key (w .state .free)) idle low high ∙ rw e
+    insert-decided r e = room-decides greatest n steps w b i key (Inserting key value NotBegun) (startRoom (w .card) key (w .state .free)) idle low high ∙ rw e
 
-    insert-starts : startRoom (w .card) key (w .state .free) (landing (w .card) (w .state .nodes) key) ≡ true → insertOf (w .card) (w .state) key value .begun ≡ Started
+    insert-starts : startRoom (w .card) key (w .state .free) (landing (w .card) (w .state .nodes) key) ≡ true → insertOf greatest (w .card) (w .state) key value .begun ≡ Started
     insert-starts e = ap (λ (x : Handed). x .begun) (insert-decided true e) ∙ begun-started _ (Inserting key value NotBegun) _
 
-    module _ (leaf j : ℕ) (leads : LeadsTo w key leaf j) where
+    module _ (leaf j : ℕ) (leads : LeadsTo greatest w key leaf j) where
       -- "A splitting insert needs j + 5 free nodes", and with them it is started
-      pub splitting-insert-starts : insertReason (nodeAt (w .card) leaf) key ≡ full → splitNeed j ≤ countTrue (w .state .free) → insertOf (w .card) (w .state) key value .begun ≡ Started
+      pub splitting-insert-starts : insertReason (nodeAt (w .card) leaf) key ≡ full → splitNeed j ≤ countTrue (w .state .free) → insertOf greatest (w .card) (w .state) key value .begun ≡ Started
       splitting-insert-starts e h = insert-starts (room-at _ _ key _ leaf (leads .0) j (leads .1) ∙ room-enough _ j _ e h)
 
       -- "8: key absent, leaf full, free nodes fewer than j + 5"
-      pub splitting-insert-refused : insertReason (nodeAt (w .card) leaf) key ≡ full → countTrue (w .state .free) < splitNeed j → insertOf (w .card) (w .state) key value ≡ startRefused 8 (w .state)
+      pub splitting-insert-refused : insertReason (nodeAt (w .card) leaf) key ≡ full → countTrue (w .state .free) < splitNeed j
+          → insertOf greatest (w .card) (w .state) key value ≡ startRefused 8 (w .state)
       splitting-insert-refused e h = insert-decided false (room-at _ _ key _ leaf (leads .0) j (leads .1) ∙ room-short _ j _ e h)
 
       -- a key that is held, or a leaf with an empty slot, needs no room
-      pub other-insert-starts : (insertReason (nodeAt (w .card) leaf) key ≡ full → ⊥) → insertOf (w .card) (w .state) key value .begun ≡ Started
+      pub other-insert-starts : (insertReason (nodeAt (w .card) leaf) key ≡ full → ⊥) → insertOf greatest (w .card) (w .state) key value .begun ≡ Started
       other-insert-starts e = insert-starts (room-at _ _ key _ leaf (leads .0) j (leads .1) ∙ room-other _ j _ e)

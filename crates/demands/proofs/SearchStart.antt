@@ -110,7 +110,7 @@ repair-several (merged-root {kind = kind} {keys} {values} a x y u t f k) = writt
 
 -- ---- a step, on any card and state
 
-module _ (c : List ℕ) (m : Memory) where
+module _ (greatest : ℕ) (c : List ℕ) (m : Memory) where
   -- the node given last is as it was, if the free bits are
   abbrev Holds : Memory → Type 0
   Holds after = after .free ≡ m .free → after .last ≡ m .last
@@ -166,13 +166,13 @@ module _ (c : List ℕ) (m : Memory) where
   held-holds (Formatting made) on = format-holds made _
   held-holds (HeldTask task) on = checked-holds _ (task-holds task (m .rest) on)
 
-  step-holds : Holds (stepOf c m .memory)
+  step-holds : Holds (stepOf greatest c m .memory)
   unfolding stepRefused
-  step-holds = go (sized? (length c) (m .nodes))
+  step-holds = go (sized? greatest (length c) (m .nodes))
     where
-      go : Dec (Sized (length c) (m .nodes)) → Holds (stepOf c m .memory)
-      go (yes s) = rw (step-sized c m s) (held-holds (heldBy (m .doing)) (sized-on c (m .nodes) s))
-      go (no p) = rw (step-unsized c m p) (λ e. refl)
+      go : Dec (Sized greatest (length c) (m .nodes)) → Holds (stepOf greatest c m .memory)
+      go (yes s) = rw (step-sized greatest c m s) (held-holds (heldBy (m .doing)) (sized-on greatest c (m .nodes) s))
+      go (no p) = rw (step-unsized greatest c m p) (λ e. refl)
 
   -- ---- a start, refused or not, keeps the node given last
 
@@ -181,10 +181,10 @@ module _ (c : List ℕ) (m : Memory) where
   landed-last doing depth room NoLanding = refl
   landed-last doing depth room (LandingAt node link run) = bool-cases room (λ q. rw q) (λ q. rw q)
 
-  start-last : (key : ℕ) (doing : Doing) (room : Landing → Bool) → startOf c m key doing room .memory .last ≡ m .last
+  start-last : (key : ℕ) (doing : Doing) (room : Landing → Bool) → startOf greatest c m key doing room .memory .last ≡ m .last
   unfolding startOf startChecked startRefused
   start-last key doing room =
-      bool-cases (eqb (nodesOfLength (length c)) 0) (λ q. rw q) (λ q. bool-cases (eqb (nodesOfLength (length c)) (m .nodes))
+      bool-cases (eqb (nodesOfLength greatest (length c)) 0) (λ q. rw q) (λ q. bool-cases (eqb (nodesOfLength greatest (length c)) (m .nodes))
       (λ q₁. bool-cases (eqb (headerRefusal c (m .nodes)) 0)
       (λ q₂. bool-cases (isIdle (m .doing)) (λ q₃. bool-cases (eqb key 0) (λ q₄. rw (q, q₁, q₂, q₃, q₄)) (λ q₄. rw (q, q₁, q₂, q₃, q₄) (landed-last doing _ _ _))) (λ q₃. rw (q, q₁, q₂, q₃)))
       (λ q₂. rw (q, q₁, q₂)))
@@ -192,37 +192,37 @@ module _ (c : List ℕ) (m : Memory) where
 
 -- ---- over a list
 
-untaken-last : (es : List Event) (w : World rationTable) → NodesUntaken rationTable es w
-    → (run rationTable es w .state .last ≡ w .state .last) × (run rationTable es w .state .free ≡ w .state .free)
+untaken-last : (greatest : ℕ) (es : List Event) (w : World (rationTable greatest)) → NodesUntaken (rationTable greatest) es w
+    → (run (rationTable greatest) es w .state .last ≡ w .state .last) × (run (rationTable greatest) es w .state .free ≡ w .state .free)
 unfolding NodesUntaken run happens insertOf deleteOf
-untaken-last [] w u = (refl, refl)
-untaken-last (ask q ∷ es) w u = untaken-last es w u
-untaken-last (insert key value ∷ es) w u =
-    let rest = untaken-last es (happens rationTable (insert key value) w) (u .1) in
-    (rest .0 ∙ start-last (w .card) (w .state) key _ _, rest .1 ∙ u .0)
-untaken-last (delete key ∷ es) w u =
-    let rest = untaken-last es (happens rationTable (delete key) w) (u .1) in
-    (rest .0 ∙ start-last (w .card) (w .state) key _ _, rest .1 ∙ u .0)
-untaken-last (step ∷ es) w u =
-    let rest = untaken-last es (happens rationTable step w) (u .1) in
-    (rest .0 ∙ step-holds (w .card) (w .state) (u .0), rest .1 ∙ u .0)
-untaken-last (cut ∷ es) w u = absurd u
+untaken-last greatest [] w u = (refl, refl)
+untaken-last greatest (ask q ∷ es) w u = untaken-last greatest es w u
+untaken-last greatest (insert key value ∷ es) w u =
+    let rest = untaken-last greatest es (happens (rationTable greatest) (insert key value) w) (u .1) in
+    (rest .0 ∙ start-last greatest (w .card) (w .state) key _ _, rest .1 ∙ u .0)
+untaken-last greatest (delete key ∷ es) w u =
+    let rest = untaken-last greatest es (happens (rationTable greatest) (delete key) w) (u .1) in
+    (rest .0 ∙ start-last greatest (w .card) (w .state) key _ _, rest .1 ∙ u .0)
+untaken-last greatest (step ∷ es) w u =
+    let rest = untaken-last greatest es (happens (rationTable greatest) step w) (u .1) in
+    (rest .0 ∙ step-holds greatest (w .card) (w .state) (u .0), rest .1 ∙ u .0)
+untaken-last greatest (cut ∷ es) w u = absurd u
 
 -- where formatting and opening leave it
-begins-there : (w : World rationTable) (l : List (ℕ × ℕ)) → Begins rationTable w l → w .state .last ≡ searchStart (w .card)
+begins-there : (greatest : ℕ) (w : World (rationTable greatest)) (l : List (ℕ × ℕ)) → Begins (rationTable greatest) w l → w .state .last ≡ searchStart (w .card)
 unfolding resting
-begins-there w l (from-open c t a k) = accepted-start c a
-begins-there w l (from-format c qs e u r) =
-    let f = fresh-world c qs e u r in
-    rw (f .1) (sym (format-fresh c (nodesOfLength (length c)) (f .0) .holds .0))
+begins-there greatest w l (from-open c t a k) = accepted-start greatest c a
+begins-there greatest w l (from-format c qs e u r) =
+    let f = fresh-world greatest c qs e u r in
+    rw (f .1) (sym (format-fresh greatest c (nodesOfLength greatest (length c)) (f .0) .holds .0))
 
-pub w-205 : W205 rationTable
-w-205 w l b =
-    let there : (es : List Event) → NodesUntaken rationTable es w → run rationTable es w .state .last ≡ searchStart (w .card) =
-    λ es u. untaken-last es w u .0 ∙ begins-there w l b in
+pub w-205 : (greatest : ℕ) → W205 (rationTable greatest)
+w-205 greatest w l b =
+    let there : (es : List Event) → NodesUntaken (rationTable greatest) es w → run (rationTable greatest) es w .state .last ≡ searchStart (w .card) =
+    λ es u. untaken-last greatest es w u .0 ∙ begins-there greatest w l b in
     record {
       search-there = there;
       first-given = λ es u given out stores m.
           subst (λ (last : ℕ). Given (w .state .free) last given) (there es u)
-          (subst (λ (free : List Bool). Given free (run rationTable es w .state .last) given) (untaken-last es w u .1) (m .taken));
+          (subst (λ (free : List Bool). Given free (run (rationTable greatest) es w .state .last) given) (untaken-last greatest es w u .1) (m .taken));
     }

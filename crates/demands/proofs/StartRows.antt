@@ -44,75 +44,76 @@ use Rattle.state.specs.declared.Phase.the-variants.{NotBegun}
 use Rattle.call_change.specs.Updates.{landing, reasonIn, emptyReason, insertReason, splitNeed, roomFor, startRoom, full}
 
 -- a state whose N does not fit the card
-pub not-sized : (c : List ℕ) (n : ℕ) → NoCard c n → (nodesOfLength (length c) ≡ 0 → ⊥) → nodesOfLength (length c) ≡ n → ⊥
-not-sized c n p d e = p (subst (λ x. Sized (length c) x) e (nodes-sized (length c) d))
+pub not-sized : (greatest : ℕ) (c : List ℕ) (n : ℕ) → NoCard greatest c n → (nodesOfLength greatest (length c) ≡ 0 → ⊥) → nodesOfLength greatest (length c) ≡ n → ⊥
+not-sized greatest c n p d e = p (subst (λ x. Sized greatest (length c) x) e (nodes-sized greatest (length c) d))
 
-module _ (c : List ℕ) (m : Memory) (key : ℕ) (doing : Doing) (room : Landing → Bool) where
-  pub start-one : NoCard c (m .nodes) → startOf c m key doing room ≡ startRefused 1 m
+module _ (greatest : ℕ) (c : List ℕ) (m : Memory) (key : ℕ) (doing : Doing) (room : Landing → Bool) where
+  pub start-one : NoCard greatest c (m .nodes) → startOf greatest c m key doing room ≡ startRefused 1 m
   unfolding startOf
   start-one p =
-      bool-cases (eqb (nodesOfLength (length c)) 0) (λ q. rw q) (λ q.
-      bool-cases (eqb (nodesOfLength (length c)) (m .nodes))
-      (λ q₁. absurd (not-sized c (m .nodes) p (eqb-false (nodesOfLength (length c)) 0 q) (eqb-true (nodesOfLength (length c)) (m .nodes) q₁)))
+      bool-cases (eqb (nodesOfLength greatest (length c)) 0) (λ q. rw q) (λ q.
+      bool-cases (eqb (nodesOfLength greatest (length c)) (m .nodes))
+      (λ q₁. absurd (not-sized greatest c (m .nodes) p (eqb-false (nodesOfLength greatest (length c)) 0 q) (eqb-true (nodesOfLength greatest (length c)) (m .nodes) q₁)))
       (λ q₁. rw (q, q₁)))
 
-  start-header : (r : ℕ) → Sized (length c) (m .nodes) → headerRefusal c (m .nodes) ≡ r → (r ≡ 0 → ⊥) → startOf c m key doing room ≡ startRefused r m
+  start-header : (r : ℕ) → Sized greatest (length c) (m .nodes) → headerRefusal c (m .nodes) ≡ r → (r ≡ 0 → ⊥) → startOf greatest c m key doing room ≡ startRefused r m
   unfolding startOf
-  start-header r s e d = rw (sized-nodes (length c) (m .nodes) s, ne-eqb (m .nodes) 0 (λ z. omega (arith, z, s .least)), eq-eqb (m .nodes) (m .nodes) refl, e, ne-eqb r 0 d)
+  start-header r s e d = rw (sized-nodes greatest (length c) (m .nodes) s, ne-eqb (m .nodes) 0 (λ z. omega (arith, z, s .least)), eq-eqb (m .nodes) (m .nodes) refl, e, ne-eqb r 0 d)
 
-  start-passed : Sized (length c) (m .nodes) → Formatted c (m .nodes) → startOf c m key doing room ≡ startChecked c m key doing room
+  start-passed : Sized greatest (length c) (m .nodes) → Formatted c (m .nodes) → startOf greatest c m key doing room ≡ startChecked c m key doing room
   unfolding startOf
-  start-passed s f = rw (sized-nodes (length c) (m .nodes) s, ne-eqb (m .nodes) 0 (λ z. omega (arith, z, s .least)), eq-eqb (m .nodes) (m .nodes) refl, formatted-header c (m .nodes) f)
+  start-passed s f = rw (sized-nodes greatest (length c) (m .nodes) s, ne-eqb (m .nodes) 0 (λ z. omega (arith, z, s .least)), eq-eqb (m .nodes) (m .nodes) refl, formatted-header c (m .nodes) f)
 
-  pub refused-back : (r : ℕ) → HandsBack rationTable m (handed (startRefused r m)) r
+  pub refused-back : (r : ℕ) → HandsBack (rationTable greatest) m (handed (startRefused r m)) r
   unfolding startRefused startReply
   refused-back r = record { number-given = refl; unchanged = refl }
 
-  start-begun : Starts rationTable m (handed (startAccepted m doing (startDepth c m key))) (workOf doing)
+  start-begun : Starts (rationTable greatest) m (handed (startAccepted m doing (startDepth c m key))) (workOf doing)
   unfolding startAccepted startReply
   start-begun = record { reply-given = refl; in-progress = refl; all-kept = record { nodes-kept = refl; free-kept = refl; last-kept = refl } }
 
   -- the rows of a start, to where the key has led to its leaf
   by-start : (rows : Rows) (works : Type 0)
       → ((leaf link j : ℕ) → leadsTo c key ≡ some (leaf, j)
-      → startOf c m key doing room ≡ pick (room (LandingAt leaf link j)) (startAccepted m doing (startDepth c m key)) (startRefused 8 m)
-      → ByRows rows (HandsBack rationTable m (handed (startOf c m key doing room))) works)
-      → ByRows (startRows rationTable c m key rows) (HandsBack rationTable m (handed (startOf c m key doing room))) works
+      → startOf greatest c m key doing room ≡ pick (room (LandingAt leaf link j)) (startAccepted m doing (startDepth c m key)) (startRefused 8 m)
+      → ByRows rows (HandsBack (rationTable greatest) m (handed (startOf greatest c m key doing room))) works)
+      → ByRows (startRows greatest (rationTable greatest) c m key rows) (HandsBack (rationTable greatest) m (handed (startOf greatest c m key doing room))) works
   unfolding ByRows startChecked startLanded landed
   by-start rows works next =
-      by-card (row 7 (Idle rationTable m → ⊥) (row 6 (key ≡ 0) (row 9 (leadsTo c key ≡ none) rows))) (HandsBack rationTable m (handed (startOf c m key doing room))) works c (m .nodes)
+      by-card greatest (row 7 (Idle (rationTable greatest) m → ⊥) (row 6 (key ≡ 0) (row 9 (leadsTo c key ≡ none) rows)))
+      (HandsBack (rationTable greatest) m (handed (startOf greatest c m key doing room))) works c (m .nodes)
       (λ p. rw (start-one p) (refused-back 1)) (λ r s e d. rw (start-header r s e d) (refused-back r)) past
     where
-      past : Sized (length c) (m .nodes) → Formatted c (m .nodes)
-          → ByRows (row 7 (Idle rationTable m → ⊥) (row 6 (key ≡ 0) (row 9 (leadsTo c key ≡ none) rows)))
-          (HandsBack rationTable m (handed (startOf c m key doing room))) works
+      past : Sized greatest (length c) (m .nodes) → Formatted c (m .nodes)
+          → ByRows (row 7 (Idle (rationTable greatest) m → ⊥) (row 6 (key ≡ 0) (row 9 (leadsTo c key ≡ none) rows)))
+          (HandsBack (rationTable greatest) m (handed (startOf greatest c m key doing room))) works
       past s f =
           bool-cases (isIdle (m .doing)) (λ q. inr (λ b. b (idle-work (m .doing) q), keyed q (ℕ-discrete key 0))) (λ q. inl (busy-work (m .doing) q, rw (start-passed s f, q) (refused-back 7)))
         where
           lands : landed (landing c (m .nodes) key) ≡ leadsTo c key
-          lands = leads-is c (m .nodes) key (sized-on c (m .nodes) s)
+          lands = leads-is c (m .nodes) key (sized-on greatest c (m .nodes) s)
 
           at : isIdle (m .doing) ≡ true → (key ≡ 0 → ⊥) → (x : Landing) → landing c (m .nodes) key ≡ x
-              → ((leadsTo c key ≡ none) × HandsBack rationTable m (handed (startOf c m key doing room)) 9)
-              ⊎ ((leadsTo c key ≡ none → ⊥) × ByRows rows (HandsBack rationTable m (handed (startOf c m key doing room))) works)
+              → ((leadsTo c key ≡ none) × HandsBack (rationTable greatest) m (handed (startOf greatest c m key doing room)) 9)
+              ⊎ ((leadsTo c key ≡ none → ⊥) × ByRows rows (HandsBack (rationTable greatest) m (handed (startOf greatest c m key doing room))) works)
           at q d NoLanding e = inl (sym lands ∙ ap landed e, rw (start-passed s f, q, ne-eqb key 0 d, e) (refused-back 9))
           at q d (LandingAt leaf link j) e =
               let to : leadsTo c key ≡ some (leaf, j) = sym lands ∙ ap landed e in
               inr (λ z. none-some (leaf, j) (sym z ∙ to), next leaf link j to (start-passed s f ∙ rw (q, ne-eqb key 0 d, e)))
 
-          keyed : isIdle (m .doing) ≡ true → Dec (key ≡ 0) → ((key ≡ 0) × HandsBack rationTable m (handed (startOf c m key doing room)) 6)
-              ⊎ ((key ≡ 0 → ⊥) × (((leadsTo c key ≡ none) × HandsBack rationTable m (handed (startOf c m key doing room)) 9)
-              ⊎ ((leadsTo c key ≡ none → ⊥) × ByRows rows (HandsBack rationTable m (handed (startOf c m key doing room))) works)))
+          keyed : isIdle (m .doing) ≡ true → Dec (key ≡ 0) → ((key ≡ 0) × HandsBack (rationTable greatest) m (handed (startOf greatest c m key doing room)) 6)
+              ⊎ ((key ≡ 0 → ⊥) × (((leadsTo c key ≡ none) × HandsBack (rationTable greatest) m (handed (startOf greatest c m key doing room)) 9)
+              ⊎ ((leadsTo c key ≡ none → ⊥) × ByRows rows (HandsBack (rationTable greatest) m (handed (startOf greatest c m key doing room))) works)))
           keyed q (yes z) = inl (z, rw (start-passed s f, q, eq-eqb key 0 z) (refused-back 6))
           keyed q (no d) = inr (d, at q d (landing c (m .nodes) key) refl)
 
 -- what a start that works hands back
-pub started-is : (c : List ℕ) (m : Memory) (doing : Doing) (room : Landing → Bool) (key : ℕ) → startOf c m key doing room .begun ≡ Started
-    → startOf c m key doing room ≡ startAccepted m doing (startDepth c m key)
+pub started-is : (greatest : ℕ) (c : List ℕ) (m : Memory) (doing : Doing) (room : Landing → Bool) (key : ℕ) → startOf greatest c m key doing room .begun ≡ Started
+    → startOf greatest c m key doing room ≡ startAccepted m doing (startDepth c m key)
 unfolding startOf startChecked startLanded startRefused startAccepted
-started-is c m doing room key e =
-    bool-cases (eqb (nodesOfLength (length c)) 0) (λ q. absurd (never 1 (rw q at e))) (λ q.
-    bool-cases (eqb (nodesOfLength (length c)) (m .nodes)) (λ q₁.
+started-is greatest c m doing room key e =
+    bool-cases (eqb (nodesOfLength greatest (length c)) 0) (λ q. absurd (never 1 (rw q at e))) (λ q.
+    bool-cases (eqb (nodesOfLength greatest (length c)) (m .nodes)) (λ q₁.
     bool-cases (eqb (headerRefusal c (m .nodes)) 0) (λ q₂.
     bool-cases (isIdle (m .doing)) (λ q₃.
     bool-cases (eqb key 0) (λ q₄. absurd (never 6 (rw (q, q₁, q₂, q₃, q₄) at e))) (λ q₄. rw (q, q₁, q₂, q₃, q₄) (at (landing c (m .nodes) key) (rw (q, q₁, q₂, q₃, q₄) at e))))
@@ -128,18 +129,19 @@ started-is c m doing room key e =
     at (LandingAt node link run) y = bool-cases (room (LandingAt node link run)) (λ k. rw k) (λ k. absurd (never 8 (rw k at y)))
 
 -- so what is being done then
-pub started-doing : (c : List ℕ) (m : Memory) (doing : Doing) (room : Landing → Bool) (key : ℕ) → startOf c m key doing room .begun ≡ Started → startOf c m key doing room .memory .doing ≡ doing
+pub started-doing : (greatest : ℕ) (c : List ℕ) (m : Memory) (doing : Doing) (room : Landing → Bool) (key : ℕ)
+    → startOf greatest c m key doing room .begun ≡ Started → startOf greatest c m key doing room .memory .doing ≡ doing
 unfolding startAccepted
-started-doing c m doing room key e = ap (λ (h : Handed). h .memory .doing) (started-is c m doing room key e)
+started-doing greatest c m doing room key e = ap (λ (h : Handed). h .memory .doing) (started-is greatest c m doing room key e)
 
 -- an update's first change leaves it begun
 
-pub deletes : (c : List ℕ) (m : Memory) (key : ℕ) → ByRows (startRows rationTable c m key end)
-    (HandsBack rationTable m (rationTable .delete c m key)) (Starts rationTable m (rationTable .delete c m key) (deleting key false))
+pub deletes : (greatest : ℕ) (c : List ℕ) (m : Memory) (key : ℕ) → ByRows (startRows greatest (rationTable greatest) c m key end)
+    (HandsBack (rationTable greatest) m (rationTable greatest .delete c m key)) (Starts (rationTable greatest) m (rationTable greatest .delete c m key) (deleting key false))
 unfolding ByRows deleteOf workOf hasBegun
-deletes c m key =
-    by-start c m key (Deleting key NotBegun 0) (λ l. true) end (Starts rationTable m (handed (deleteOf c m key)) (deleting key false))
-    (λ leaf link j to e. rw e (start-begun c m key (Deleting key NotBegun 0) (λ l. true)))
+deletes greatest c m key =
+    by-start greatest c m key (Deleting key NotBegun 0) (λ l. true) end (Starts (rationTable greatest) m (handed (deleteOf greatest c m key)) (deleting key false))
+    (λ leaf link j to e. rw e (start-begun greatest c m key (Deleting key NotBegun 0) (λ l. true)))
 
 -- where a key leads is one place
 at-leaf : Option (ℕ × ℕ) → ℕ
@@ -175,19 +177,19 @@ room-row c free key leaf link j to = at (slotOf (nodeAt c leaf) key) refl (slotO
         ))
         (λ o. inr (λ r. omega (arith, r .3, same r .1), rw (e, f, le-ltb (countTrue free) (splitNeed j) o)))
 
-pub inserts : (c : List ℕ) (m : Memory) (key value : ℕ)
-    → ByRows (startRows rationTable c m key (row 8 (NoRoom c (m .free) key) end)) (HandsBack rationTable m (rationTable .insert c m key value))
-    (Starts rationTable m (rationTable .insert c m key value) (inserting key value false))
+pub inserts : (greatest : ℕ) (c : List ℕ) (m : Memory) (key value : ℕ)
+    → ByRows (startRows greatest (rationTable greatest) c m key (row 8 (NoRoom c (m .free) key) end)) (HandsBack (rationTable greatest) m (rationTable greatest .insert c m key value))
+    (Starts (rationTable greatest) m (rationTable greatest .insert c m key value) (inserting key value false))
 unfolding ByRows insertOf workOf hasBegun
-inserts c m key value =
-    by-start c m key (Inserting key value NotBegun) (startRoom c key (m .free)) (row 8 (NoRoom c (m .free) key) end)
-    (Starts rationTable m (handed (insertOf c m key value)) (inserting key value false))
+inserts greatest c m key value =
+    by-start greatest c m key (Inserting key value NotBegun) (startRoom c key (m .free)) (row 8 (NoRoom c (m .free) key) end)
+    (Starts (rationTable greatest) m (handed (insertOf greatest c m key value)) (inserting key value false))
     (λ leaf link j to e. at leaf link j e (room-row c (m .free) key leaf link j to))
   where
-    at : (leaf link j : ℕ) → startOf c m key (Inserting key value NotBegun) (startRoom c key (m .free))
+    at : (leaf link j : ℕ) → startOf greatest c m key (Inserting key value NotBegun) (startRoom c key (m .free))
         ≡ pick (startRoom c key (m .free) (LandingAt leaf link j)) (startAccepted m (Inserting key value NotBegun) (startDepth c m key)) (startRefused 8 m)
         → (NoRoom c (m .free) key × (startRoom c key (m .free) (LandingAt leaf link j) ≡ false)) ⊎ ((NoRoom c (m .free) key → ⊥) × (startRoom c key (m .free) (LandingAt leaf link j) ≡ true))
-        → (NoRoom c (m .free) key × HandsBack rationTable m (handed (insertOf c m key value)) 8)
-        ⊎ ((NoRoom c (m .free) key → ⊥) × Starts rationTable m (handed (insertOf c m key value)) (inserting key value false))
-    at leaf link j e (inl (r, q)) = inl (r, rw (e, q) (refused-back c m key (Inserting key value NotBegun) (startRoom c key (m .free)) 8))
-    at leaf link j e (inr (r, q)) = inr (r, rw (e, q) (start-begun c m key (Inserting key value NotBegun) (startRoom c key (m .free))))
+        → (NoRoom c (m .free) key × HandsBack (rationTable greatest) m (handed (insertOf greatest c m key value)) 8)
+        ⊎ ((NoRoom c (m .free) key → ⊥) × Starts (rationTable greatest) m (handed (insertOf greatest c m key value)) (inserting key value false))
+    at leaf link j e (inl (r, q)) = inl (r, rw (e, q) (refused-back greatest c m key (Inserting key value NotBegun) (startRoom c key (m .free)) 8))
+    at leaf link j e (inr (r, q)) = inr (r, rw (e, q) (start-begun greatest c m key (Inserting key value NotBegun) (startRoom c key (m .free))))

@@ -50,11 +50,11 @@ use Rattle.walk.specs.declared.Landing.{Landing}
 use Rattle.walk.specs.declared.Landing.the-variants.{Leaf as LandingAt}
 
 -- the checks 1, 2 and 3 are passed
-start-passed : (c : List ℕ) (n : ℕ) → Sized (length c) n → Formatted c n → (m : Memory) (key : ℕ) (doing : Doing) (room : Landing → Bool)
-    → m .nodes ≡ n → startOf c m key doing room ≡ startChecked c m key doing room
+start-passed : (greatest : ℕ) (c : List ℕ) (n : ℕ) → Sized greatest (length c) n → Formatted c n → (m : Memory) (key : ℕ) (doing : Doing) (room : Landing → Bool)
+    → m .nodes ≡ n → startOf greatest c m key doing room ≡ startChecked c m key doing room
 unfolding startOf
-start-passed c n s f m key doing room e =
-    let a : nodesOfLength (length c) ≡ n = sized-nodes (length c) n s in
+start-passed greatest c n s f m key doing room e =
+    let a : nodesOfLength greatest (length c) ≡ n = sized-nodes greatest (length c) n s in
     rw (a, e, ne-eqb n 0 (omega (arith, s .least)), eq-eqb n n refl, formatted-header c n f)
 
 start-busy : (c : List ℕ) (m : Memory) (key : ℕ) (doing : Doing) (room : Landing → Bool) → isIdle (m .doing) ≡ false → startChecked c m key doing room ≡ startRefused 7 m
@@ -93,7 +93,7 @@ idle-or-busy (stage-within j en p e few g) = (refl, inl (job-busy j .not-idle))
 
 -- a start that was not refused: the state was idle, and work is in hand, with so many steps left as the table's depth asks for, with the
 -- update's goal, and with the dictionary's answer due
-pub record Fresh {n steps k : ℕ} {w v : World rationTable} {b l : Book} (u : Update) (g : Handed) (i : Inv n steps w b) (j : Inv n k v l) : Type 0 where
+pub record Fresh (greatest : ℕ) {n steps k : ℕ} {w v : World (rationTable greatest)} {b l : Book} (u : Update) (g : Handed) (i : Inv greatest n steps w b) (j : Inv greatest n k v l) : Type 0 where
   pub idle-before : g .begun ≡ Started → w .state .doing ≡ Idle
   pub steps-left : g .begun ≡ Started → (t : Tree) → WellFormed (w .card) t → (h : ℕ) → Height h t → k ≤ updateStoresAt h + 1
   pub busy : g .begun ≡ Started → isIdle (g .memory .doing) ≡ false
@@ -101,8 +101,11 @@ pub record Fresh {n steps k : ℕ} {w v : World rationTable} {b l : Book} (u : U
   pub new-due : g .begun ≡ Started → j .due ≡ dictionaryAnswer (lookup (keyOf u) (b .held))
 
 -- what a start leaves, by the call's beginning
-abbrev Goal : {n steps : ℕ} {w : World rationTable} {b : Book} → Inv n steps w b → Update → Handed → Type 0
-Goal {n} {steps} {w} {b} i u g = (k : ℕ) × (j : Inv n k (record { card = w .card; state = g .memory }) (feed (toldOf u (w .card) (outcome (startReply (g .begun)))) b)) × Fresh u g i j
+abbrev Goal : (greatest : ℕ) → {n steps : ℕ} {w : World (rationTable greatest)} {b : Book} → Inv greatest n steps w b → Update → Handed → Type 0
+Goal greatest {n} {steps} {w} {b} i u g =
+    (k : ℕ)
+    × (j : Inv greatest n k (record { card = w .card; state = g .memory }) (feed (toldOf u (w .card) (outcome (startReply (g .begun)))) b))
+    × Fresh greatest u g i j
 
 -- a refused start leaves the book as it is
 refused-told : (u : Update) (c : List ℕ) (r : ℕ) (b : Book) → r < 64 → feed (toldOf u c (outcome (startReply (BegunRefused r)))) b ≡ b
@@ -110,25 +113,25 @@ unfolding startReply outcome feed fedStart
 refused-told (put key value) c r b h = rw (lt-ltb r 64 h)
 refused-told (remove key) c r b h = rw (lt-ltb r 64 h)
 
-refused-goal : {n steps : ℕ} (w : World rationTable) (b : Book) (i : Inv n steps w b) (u : Update) (r : ℕ) → r < 64 → Goal i u (startRefused r (w .state))
+refused-goal : (greatest : ℕ) {n steps : ℕ} (w : World (rationTable greatest)) (b : Book) (i : Inv greatest n steps w b) (u : Update) (r : ℕ) → r < 64 → Goal greatest i u (startRefused r (w .state))
 unfolding startRefused
-refused-goal {n} {steps} w b i u r h = at (feed (toldOf u (w .card) (outcome (startReply (BegunRefused r)))) b) (refused-told u (w .card) r b h)
+refused-goal greatest {n} {steps} w b i u r h = at (feed (toldOf u (w .card) (outcome (startReply (BegunRefused r)))) b) (refused-told u (w .card) r b h)
   where
     not-started : {P : Type 0} → _≡_ {A = Begun} (BegunRefused r) Started → P
     not-started e = impossible (cc)
 
-    at : (l : Book) → l ≡ b → (k : ℕ) × (j : Inv n k w l) × Fresh u (startRefused r (w .state)) i j
+    at : (l : Book) → l ≡ b → (k : ℕ) × (j : Inv greatest n k w l) × Fresh greatest u (startRefused r (w .state)) i j
     at l e =
         rw e
         (steps, i, record { idle-before = λ e. not-started e; steps-left = λ e. not-started e; busy = λ e. not-started e; new-goal = λ e. not-started e; new-due = λ e. not-started e })
 
 -- the answer due by the book's pairs is that by the tree's
-pub same-lookup : {n steps : ℕ} {w : World rationTable} {b : Book} (i : Inv n steps w b) (key : ℕ) → lookup key (pairs (i .tree)) ≡ lookup key (b .held)
-same-lookup {b = b} i key = lookup-same key (pairs (i .tree)) (b .held) (i .same .totals) (key-once lowestKey keyLimit key (i .tree) (i .table .sound .range))
+pub same-lookup : (greatest : ℕ) {n steps : ℕ} {w : World (rationTable greatest)} {b : Book} (i : Inv greatest n steps w b) (key : ℕ) → lookup key (pairs (i .tree)) ≡ lookup key (b .held)
+same-lookup greatest {b = b} i key = lookup-same key (pairs (i .tree)) (b .held) (i .same .totals) (key-once lowestKey keyLimit key (i .tree) (i .table .sound .range))
 
 -- how many steps an update of the table may take. "h being the depth when the call began" (document 02, W-214) is that of every
 -- tree that the card's words represent.
-module _ {n steps : ℕ} {w : World rationTable} {b : Book} (i : Inv n steps w b) where
+module _ (greatest : ℕ) {n steps : ℕ} {w : World (rationTable greatest)} {b : Book} (i : Inv greatest n steps w b) where
   abbrev mostSteps : ℕ
   mostSteps = updateStoresAt (i .table .sound .level .0) + 1
 
@@ -140,19 +143,19 @@ module _ {n steps : ℕ} {w : World rationTable} {b : Book} (i : Inv n steps w b
       omega (
         arith,
         same-height (w .card) n (i .table .sized .words) (i .table .sized .most) (i .tree) t
-            (table-well-formed (i .table)) v (i .table .sound .level .0) h (i .table .sound .level .1) j,
+            (table-well-formed greatest (i .table)) v (i .table .sound .level .0) h (i .table .sound .level .1) j,
       )
 
 -- started: the update is in hand, and its answer by the map is due
-put-started : {n steps : ℕ} (w : World rationTable) (b : Book) (i : Inv n steps w b) (free : List Bool) (last key value : ℕ)
+put-started : (greatest : ℕ) {n steps : ℕ} (w : World (rationTable greatest)) (b : Book) (i : Inv greatest n steps w b) (free : List Bool) (last key value : ℕ)
     → w .state ≡ memory n free last (w .state .depth) Idle [] [] → tableViolations (i .tree) ≡ 0 → 3 ≤ countTrue free → Exact n free (i .tree)
     → bare (i .tree) ≡ i .goal → lowestKey ≤ key → key < keyLimit
     → startRoom (w .card) key (w .state .free) (landing (w .card) (w .state .nodes) key) ≡ true → (depth : ℕ)
-    → Goal i (put key value) (startAccepted (w .state) (Inserting key value NotBegun) depth)
+    → Goal greatest i (put key value) (startAccepted (w .state) (Inserting key value NotBegun) depth)
 unfolding startAccepted startReply outcome feed fedStart isIdle
-put-started {n} w b i free last key value em z r x eg low high q depth =
+put-started greatest {n} w b i free last key value em z r x eg low high q depth =
     let q′ : startRoom (w .card) key free (landing (w .card) n key) ≡ true = rw em at q in (
-      mostSteps i,
+      mostSteps greatest i,
       record {
         tree = i .tree;
         goal = afterShape (put key value) (i .goal);
@@ -160,24 +163,24 @@ put-started {n} w b i free last key value em z r x eg low high q depth =
         table = i .table;
         openable = i .openable;
         same = i .same;
-        stage = rw em (stage-put {free = free} {last = last} z r x low high q′ (enough-steps i) (ap (afterShape (put key value)) eg));
+        stage = rw em (stage-put {free = free} {last = last} z r x low high q′ (enough-steps greatest i) (ap (afterShape (put key value)) eg));
       },
       record {
         idle-before = λ e. ap (λ (y : Memory). y .doing) em;
-        steps-left = λ e. steps-by-depth i;
+        steps-left = λ e. steps-by-depth greatest i;
         busy = λ e. refl;
         new-goal = λ e. refl;
-        new-due = λ e. ap dictionaryAnswer (same-lookup i key);
+        new-due = λ e. ap dictionaryAnswer (same-lookup greatest i key);
       },
     )
 
-remove-started : {n steps : ℕ} (w : World rationTable) (b : Book) (i : Inv n steps w b) (free : List Bool) (last key : ℕ)
+remove-started : (greatest : ℕ) {n steps : ℕ} (w : World (rationTable greatest)) (b : Book) (i : Inv greatest n steps w b) (free : List Bool) (last key : ℕ)
     → w .state ≡ memory n free last (w .state .depth) Idle [] [] → tableViolations (i .tree) ≡ 0 → 3 ≤ countTrue free → Exact n free (i .tree)
     → bare (i .tree) ≡ i .goal → lowestKey ≤ key → key < keyLimit
-    → (depth : ℕ) → Goal i (remove key) (startAccepted (w .state) (Deleting key NotBegun 0) depth)
+    → (depth : ℕ) → Goal greatest i (remove key) (startAccepted (w .state) (Deleting key NotBegun 0) depth)
 unfolding startAccepted startReply outcome feed fedStart isIdle
-remove-started w b i free last key em z r x eg low high depth = (
-  mostSteps i,
+remove-started greatest w b i free last key em z r x eg low high depth = (
+  mostSteps greatest i,
   record {
     tree = i .tree;
     goal = afterShape (remove key) (i .goal);
@@ -185,28 +188,35 @@ remove-started w b i free last key em z r x eg low high depth = (
     table = i .table;
     openable = i .openable;
     same = i .same;
-    stage = rw em (stage-remove {free = free} {last = last} z r x low high (enough-steps i) (ap (afterShape (remove key)) eg));
+    stage = rw em (stage-remove {free = free} {last = last} z r x low high (enough-steps greatest i) (ap (afterShape (remove key)) eg));
   },
-  record { idle-before = λ e. ap (λ (y : Memory). y .doing) em; steps-left = λ e. steps-by-depth i; busy = λ e. refl; new-goal = λ e. refl; new-due = λ e. ap dictionaryAnswer (same-lookup i key) },
+  record {
+    idle-before = λ e. ap (λ (y : Memory). y .doing) em;
+    steps-left = λ e. steps-by-depth greatest i;
+    busy = λ e. refl;
+    new-goal = λ e. refl;
+    new-due = λ e. ap dictionaryAnswer (same-lookup greatest i key);
+  },
 )
 
-module _ (n steps : ℕ) (w : World rationTable) (b : Book) (i : Inv n steps w b) where
+module _ (greatest : ℕ) (n steps : ℕ) (w : World (rationTable greatest)) (b : Book) (i : Inv greatest n steps w b) where
   pub nodes-same : w .state .nodes ≡ n
   nodes-same = idle-or-busy (i .stage) .0
 
   -- the leaf that a key leads to
   pub lands : (key : ℕ) → lowestKey ≤ key → key < keyLimit → (leaf : ℕ) × (link : ℕ) × (above : ℕ) × (landing (w .card) (w .state .nodes) key ≡ LandingAt leaf link above)
   lands key low high =
-      let g = landing-found (w .card) n key (i .table .sized .words) lowestKey keyLimit (i .tree) (i .table .holds) (i .table .sound .range) low high (omega arith) (table-depth-limited (i .table)) in
+      let g = landing-found (w .card) n key (i .table .sized .words) lowestKey keyLimit (i .tree) (i .table .holds)
+      (i .table .sound .range) low high (omega arith) (table-depth-limited greatest (i .table)) in
       (g .number, linkPlace (g .context), fullRun (g .context), rw nodes-same (landing-is (w .card) n key (g .landed)))
 
   -- the checks 1, 2 and 3 are passed
-  passed : (key : ℕ) (doing : Doing) (room : Landing → Bool) → startOf (w .card) (w .state) key doing room ≡ startChecked (w .card) (w .state) key doing room
-  passed key doing room = start-passed (w .card) n (i .table .sized) (i .table .header) (w .state) key doing room nodes-same
+  passed : (key : ℕ) (doing : Doing) (room : Landing → Bool) → startOf greatest (w .card) (w .state) key doing room ≡ startChecked (w .card) (w .state) key doing room
+  passed key doing room = start-passed greatest (w .card) n (i .table .sized) (i .table .header) (w .state) key doing room nodes-same
 
   -- on an idle state nothing but the room decides
   pub room-decides : (key : ℕ) (doing : Doing) (room : Landing → Bool) → w .state .doing ≡ Idle → lowestKey ≤ key → key < keyLimit
-      → startOf (w .card) (w .state) key doing room ≡ pick (room (landing (w .card) (w .state .nodes) key))
+      → startOf greatest (w .card) (w .state) key doing room ≡ pick (room (landing (w .card) (w .state .nodes) key))
       (startAccepted (w .state) doing (startDepth (w .card) (w .state) key)) (startRefused 8 (w .state))
   room-decides key doing room idle low high =
       let g = lands key low high in
@@ -215,22 +225,22 @@ module _ (n steps : ℕ) (w : World rationTable) (b : Book) (i : Inv n steps w b
   start-with : (key : ℕ) (doing : Doing) (room : Landing → Bool) (u : Update) → key < keyLimit
       → ((free : List Bool) (last : ℕ) → w .state ≡ memory n free last (w .state .depth) Idle [] []
       → tableViolations (i .tree) ≡ 0 → 3 ≤ countTrue free → Exact n free (i .tree) → bare (i .tree) ≡ i .goal → lowestKey ≤ key
-      → room (landing (w .card) (w .state .nodes) key) ≡ true → Goal i u (startAccepted (w .state) doing (startDepth (w .card) (w .state) key)))
-      → Goal i u (startOf (w .card) (w .state) key doing room)
+      → room (landing (w .card) (w .state .nodes) key) ≡ true → Goal greatest i u (startAccepted (w .state) doing (startDepth (w .card) (w .state) key)))
+      → Goal greatest i u (startOf greatest (w .card) (w .state) key doing room)
   start-with key doing room u high begin = go (idle-or-busy (i .stage) .1)
     where
-      refused-with : (r : ℕ) → r < 64 → startOf (w .card) (w .state) key doing room ≡ startRefused r (w .state) → Goal i u (startOf (w .card) (w .state) key doing room)
-      refused-with r h e = subst (Goal i u) (sym e) (refused-goal w b i u r h)
+      refused-with : (r : ℕ) → r < 64 → startOf greatest (w .card) (w .state) key doing room ≡ startRefused r (w .state) → Goal greatest i u (startOf greatest (w .card) (w .state) key doing room)
+      refused-with r h e = subst (Goal greatest i u) (sym e) (refused-goal greatest w b i u r h)
 
       go : (isIdle (w .state .doing) ≡ false) ⊎ ((free : List Bool) × (last : ℕ) × (w .state ≡ memory n free last (w .state .depth) Idle [] [])
           × (tableViolations (i .tree) ≡ 0) × (3 ≤ countTrue free) × Exact n free (i .tree) × (bare (i .tree) ≡ i .goal))
-          → Goal i u (startOf (w .card) (w .state) key doing room)
+          → Goal greatest i u (startOf greatest (w .card) (w .state) key doing room)
       go (inl q) = refused-with 7 (omega arith) (passed key doing room ∙ start-busy (w .card) (w .state) key doing room q)
       go (inr (free, last, em, z, r, x, eg)) =
           order key 1
           (λ o. refused-with 6 (omega arith) (passed key doing room ∙ start-zero (w .card) (w .state) key doing room (is-idle idle) (omega arith)))
           (λ o. bool-cases (room (landing (w .card) (w .state .nodes) key))
-          (λ q. subst (Goal i u) (sym (room-decides key doing room idle o high ∙ rw q)) (begin free last em z r x eg o q))
+          (λ q. subst (Goal greatest i u) (sym (room-decides key doing room idle o high ∙ rw q)) (begin free last em z r x eg o q))
           (λ q. refused-with 8 (omega arith) (room-decides key doing room idle o high ∙ rw q)))
         where
           idle : w .state .doing ≡ Idle
@@ -238,17 +248,17 @@ module _ (n steps : ℕ) (w : World rationTable) (b : Book) (i : Inv n steps w b
 
   -- "Starting an update stores nothing."
   pub kept-insert : (key value : ℕ) → key < keyLimit
-      → (k : ℕ) × (j : Inv n k (happens rationTable (insert key value) w) (feed (told rationTable (insert key value) w) b))
-      × Fresh (put key value) (insertOf (w .card) (w .state) key value) i j
+      → (k : ℕ) × (j : Inv greatest n k (happens (rationTable greatest) (insert key value) w) (feed (told (rationTable greatest) (insert key value) w) b))
+      × Fresh greatest (put key value) (insertOf greatest (w .card) (w .state) key value) i j
   unfolding happens told replyTo insertOf
   kept-insert key value high =
       start-with key (Inserting key value NotBegun) (startRoom (w .card) key (w .state .free)) (put key value) high
-      (λ free last em z r x eg low q. put-started w b i free last key value em z r x eg low high q (startDepth (w .card) (w .state) key))
+      (λ free last em z r x eg low q. put-started greatest w b i free last key value em z r x eg low high q (startDepth (w .card) (w .state) key))
 
   pub kept-delete : (key : ℕ) → key < keyLimit
-      → (k : ℕ) × (j : Inv n k (happens rationTable (delete key) w) (feed (told rationTable (delete key) w) b))
-      × Fresh (remove key) (deleteOf (w .card) (w .state) key) i j
+      → (k : ℕ) × (j : Inv greatest n k (happens (rationTable greatest) (delete key) w) (feed (told (rationTable greatest) (delete key) w) b))
+      × Fresh greatest (remove key) (deleteOf greatest (w .card) (w .state) key) i j
   unfolding happens told replyTo deleteOf
   kept-delete key high =
       start-with key (Deleting key NotBegun 0) (λ l. true) (remove key) high
-      (λ free last em z r x eg low q. remove-started w b i free last key em z r x eg low high (startDepth (w .card) (w .state) key))
+      (λ free last em z r x eg low q. remove-started greatest w b i free last key em z r x eg low high (startDepth (w .card) (w .state) key))

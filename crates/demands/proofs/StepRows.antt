@@ -50,23 +50,29 @@ ends-final Absent e = inr (inr refl)
 ends-final (Value v) e = inr (inl (v, refl))
 ends-final (Refused r) e = absurd e
 
-pub next-final : (c : List ℕ) (n : ℕ) (free : List Bool) (last : ℕ) {doing : Doing} {task : Task} → TaskOf doing task → Final (nextChange c n free last doing task .final)
-next-final c n free last t = ends-final _ (next-ends c n free last _ _ t)
+pub next-final : (greatest : ℕ) (c : List ℕ) (n : ℕ) (free : List Bool) (last : ℕ) {doing : Doing} {task : Task} → TaskOf doing task → Final (nextChange c n free last doing task .final)
+next-final greatest c n free last t = ends-final _ (next-ends greatest c n free last _ _ t)
 
 -- ---- the cases
 
-abbrev pub Works : List ℕ → Memory → Step → Type 0
-Works c m s = Stores rationTable c m (asStepped s) ⊎ Answers rationTable c m (asStepped s)
+abbrev pub Works : ℕ → List ℕ → Memory → Step → Type 0
+Works greatest c m s = Stores (rationTable greatest) c m (asStepped s) ⊎ Answers (rationTable greatest) c m (asStepped s)
 
-pub refused-same : (r : ℕ) (c : List ℕ) (m : Memory) → Refuses rationTable c m (asStepped (stepRefused r c m)) r
+pub refused-same : (greatest : ℕ) (r : ℕ) (c : List ℕ) (m : Memory) → Refuses (rationTable greatest) c m (asStepped (stepRefused r c m)) r
 unfolding stepRefused stepReply
-refused-same r c m = record { number-given = refl; same-card = refl; unchanged = refl }
+refused-same greatest r c m = record { number-given = refl; same-card = refl; unchanged = refl }
 
-pub final-idle : (a : Answer) (c : List ℕ) (m : Memory) → Final a → Answers rationTable c m (asStepped (stepFinal a c m))
+pub final-idle : (greatest : ℕ) (a : Answer) (c : List ℕ) (m : Memory) → Final a → Answers (rationTable greatest) c m (asStepped (stepFinal a c m))
 unfolding stepFinal idled workOf stepReply
-final-idle a c m (inl e) = record { final = inl (ap stepReply e); same-card = refl; idle-then = refl; all-kept = record { nodes-kept = refl; free-kept = refl; last-kept = refl } }
-final-idle a c m (inr (inl (v, e))) = record { final = inr (inl (v, ap stepReply e)); same-card = refl; idle-then = refl; all-kept = record { nodes-kept = refl; free-kept = refl; last-kept = refl } }
-final-idle a c m (inr (inr e)) = record { final = inr (inr (ap stepReply e)); same-card = refl; idle-then = refl; all-kept = record { nodes-kept = refl; free-kept = refl; last-kept = refl } }
+final-idle greatest a c m (inl e) = record { final = inl (ap stepReply e); same-card = refl; idle-then = refl; all-kept = record { nodes-kept = refl; free-kept = refl; last-kept = refl } }
+final-idle greatest a c m (inr (inl (v, e))) =
+    record {
+      final = inr (inl (v, ap stepReply e));
+      same-card = refl;
+      idle-then = refl;
+      all-kept = record { nodes-kept = refl; free-kept = refl; last-kept = refl };
+    }
+final-idle greatest a c m (inr (inr e)) = record { final = inr (inr (ap stepReply e)); same-card = refl; idle-then = refl; all-kept = record { nodes-kept = refl; free-kept = refl; last-kept = refl } }
 
 -- a store leaves N and the work in hand
 pub advanced-nodes : (m : Memory) (rest : List Store) → advanced m rest .nodes ≡ m .nodes
@@ -89,20 +95,20 @@ unfolding advanced
 advanced-last m [] = refl
 advanced-last m (s ∷ rest) = refl
 
-pub store-inside : (c : List ℕ) (m : Memory) (s : Store) (next : Memory) → next .nodes ≡ m .nodes
-    → workOf (next .doing) ≡ begun (workOf (m .doing)) → s .0 < length c → Stores rationTable c m (asStepped (stepStore c m s next))
+pub store-inside : (greatest : ℕ) (c : List ℕ) (m : Memory) (s : Store) (next : Memory) → next .nodes ≡ m .nodes
+    → workOf (next .doing) ≡ begun (workOf (m .doing)) → s .0 < length c → Stores (rationTable greatest) c m (asStepped (stepStore c m s next))
 unfolding stepStore stepReply
-store-inside c m s next en ew o =
+store-inside greatest c m s next en ew o =
     rw (lt-ltb (s .0) (length c) o) (s, o, record { reply-given = refl; one-store = refl; nodes-kept = en; work-then = ew })
 
-pub store-outside : (c : List ℕ) (m : Memory) (s : Store) (next : Memory) → length c ≤ s .0 → Refuses rationTable c m (asStepped (stepStore c m s next)) 9
+pub store-outside : (greatest : ℕ) (c : List ℕ) (m : Memory) (s : Store) (next : Memory) → length c ≤ s .0 → Refuses (rationTable greatest) c m (asStepped (stepStore c m s next)) 9
 unfolding stepStore
-store-outside c m s next o = rw (le-ltb (s .0) (length c) o) (refused-same 9 c m)
+store-outside greatest c m s next o = rw (le-ltb (s .0) (length c) o) (refused-same greatest 9 c m)
 
 -- formatting: its place is always on the card
-format-cases : (c : List ℕ) (m : Memory) (made : ℕ) → workOf (m .doing) ≡ formatting → 0 < length c → Works c m (stepFormat c m made (formatStore (m .nodes) (length c) made))
+format-cases : (greatest : ℕ) (c : List ℕ) (m : Memory) (made : ℕ) → workOf (m .doing) ≡ formatting → 0 < length c → Works greatest c m (stepFormat c m made (formatStore (m .nodes) (length c) made))
 unfolding stepFormat formatStore stepReply formattingThen workOf begun
-format-cases c m made ew pos =
+format-cases greatest c m made ew pos =
     bool-cases (eqb made 0) (λ q. inl (rw q ((0, 0), pos, record { reply-given = refl; one-store = refl; nodes-kept = refl; work-then = sym (ap begun ew) }))) (λ q.
     bool-cases (ltb made (length c)) (λ q₁. inl (rw (q, q₁) (
       (made, _),
@@ -110,46 +116,47 @@ format-cases c m made ew pos =
       record { reply-given = refl; one-store = refl; nodes-kept = refl; work-then = sym (ap begun ew) },
     ))) (λ q₁.
     bool-cases (eqb made (length c)) (λ q₂. inl (rw (q, q₁, q₂) ((0, 1), pos, record { reply-given = refl; one-store = refl; nodes-kept = refl; work-then = sym (ap begun ew) })))
-    (λ q₂. inr (rw (q, q₁, q₂) (final-idle Ready c m (inl refl))))))
+    (λ q₂. inr (rw (q, q₁, q₂) (final-idle greatest Ready c m (inl refl))))))
 
 -- ---- the rows
 
-module _ (c : List ℕ) (m : Memory) where
-  pub formatting-rows : workOf (m .doing) ≡ formatting → ByRows (row 1 (NoCard c (m .nodes)) end) (Refuses rationTable c m (asStepped (stepOf c m))) (Works c m (stepOf c m))
+module _ (greatest : ℕ) (c : List ℕ) (m : Memory) where
+  pub formatting-rows : workOf (m .doing) ≡ formatting → ByRows (row 1 (NoCard greatest c (m .nodes)) end)
+      (Refuses (rationTable greatest) c m (asStepped (stepOf greatest c m))) (Works greatest c m (stepOf greatest c m))
   unfolding ByRows heldBy stepHeld
-  formatting-rows q = go (sized? (length c) (m .nodes)) (work-formatting (m .doing) q)
+  formatting-rows q = go (sized? greatest (length c) (m .nodes)) (work-formatting (m .doing) q)
     where
-      go : Dec (Sized (length c) (m .nodes)) → ((made : ℕ) × (m .doing ≡ Formatting made))
-          → (NoCard c (m .nodes) × Refuses rationTable c m (asStepped (stepOf c m)) 1) ⊎ ((NoCard c (m .nodes) → ⊥) × Works c m (stepOf c m))
-      go (no p) d = inl (p, rw (step-unsized c m p) (refused-same 1 c m))
-      go (yes s) (made, e) = inr (λ p. p s, rw (step-sized c m s ∙ ap (λ (d : Doing). stepHeld c m (heldBy d)) e) (format-cases c m made q (omega (arith, s .words))))
+      go : Dec (Sized greatest (length c) (m .nodes)) → ((made : ℕ) × (m .doing ≡ Formatting made))
+          → (NoCard greatest c (m .nodes) × Refuses (rationTable greatest) c m (asStepped (stepOf greatest c m)) 1) ⊎ ((NoCard greatest c (m .nodes) → ⊥) × Works greatest c m (stepOf greatest c m))
+      go (no p) d = inl (p, rw (step-unsized greatest c m p) (refused-same greatest 1 c m))
+      go (yes s) (made, e) = inr (λ p. p s, rw (step-sized greatest c m s ∙ ap (λ (d : Doing). stepHeld c m (heldBy d)) e) (format-cases greatest c m made q (omega (arith, s .words))))
 
   -- 1, 2 and 3, and then 10 where nothing is held, whatever comes after it, or what comes after it where a task is
   pub idle-rows : heldBy (m .doing) ≡ NoneHeld → workOf (m .doing) ≡ noWork → (rows : Rows) (works : Type 0)
-      → ByRows (cardRows c (m .nodes) (row 10 (Idle rationTable m) rows)) (Refuses rationTable c m (asStepped (stepOf c m))) works
+      → ByRows (cardRows greatest c (m .nodes) (row 10 (Idle (rationTable greatest) m) rows)) (Refuses (rationTable greatest) c m (asStepped (stepOf greatest c m))) works
   unfolding ByRows
   idle-rows e w rows works =
-      by-card (row 10 (Idle rationTable m) rows) (Refuses rationTable c m (asStepped (stepOf c m))) works c (m .nodes)
-      (λ p. rw (step-unsized c m p) (refused-same 1 c m))
-      (λ r s k d. rw (step-sized c m s ∙ ap (stepHeld c m) e ∙ held-unchecked c m r (sym k) d NoneHeld (λ made z. impossible (cc))) (refused-same r c m))
-      (λ s f. inl (w, rw (step-sized c m s ∙ ap (stepHeld c m) e ∙ idle-refused c m (formatted-header c (m .nodes) f)) (refused-same 10 c m)))
+      by-card greatest (row 10 (Idle (rationTable greatest) m) rows) (Refuses (rationTable greatest) c m (asStepped (stepOf greatest c m))) works c (m .nodes)
+      (λ p. rw (step-unsized greatest c m p) (refused-same greatest 1 c m))
+      (λ r s k d. rw (step-sized greatest c m s ∙ ap (stepHeld c m) e ∙ held-unchecked c m r (sym k) d NoneHeld (λ made z. impossible (cc))) (refused-same greatest r c m))
+      (λ s f. inl (w, rw (step-sized greatest c m s ∙ ap (stepHeld c m) e ∙ idle-refused c m (formatted-header c (m .nodes) f)) (refused-same greatest 10 c m)))
 
   pub task-rows : (task : Task) → heldBy (m .doing) ≡ HeldTask task → (workOf (m .doing) ≡ noWork → ⊥) → (rows : Rows) (works : Type 0)
-      → (Sized (length c) (m .nodes) → stepOf c m ≡ stepTask c m task (m .rest) → ByRows rows (Refuses rationTable c m (asStepped (stepOf c m))) works)
-      → ByRows (cardRows c (m .nodes) (row 10 (Idle rationTable m) rows)) (Refuses rationTable c m (asStepped (stepOf c m))) works
+      → (Sized greatest (length c) (m .nodes) → stepOf greatest c m ≡ stepTask c m task (m .rest) → ByRows rows (Refuses (rationTable greatest) c m (asStepped (stepOf greatest c m))) works)
+      → ByRows (cardRows greatest c (m .nodes) (row 10 (Idle (rationTable greatest) m) rows)) (Refuses (rationTable greatest) c m (asStepped (stepOf greatest c m))) works
   unfolding ByRows
   task-rows task e w rows works next =
-      by-card (row 10 (Idle rationTable m) rows) (Refuses rationTable c m (asStepped (stepOf c m))) works c (m .nodes)
-      (λ p. rw (step-unsized c m p) (refused-same 1 c m))
-      (λ r s k d. rw (step-sized c m s ∙ ap (stepHeld c m) e ∙ held-unchecked c m r (sym k) d (HeldTask task) (λ made z. impossible (cc))) (refused-same r c m))
-      (λ s f. inr (w, next s (step-sized c m s ∙ ap (stepHeld c m) e ∙ task-due c m (formatted-header c (m .nodes) f) task)))
+      by-card greatest (row 10 (Idle (rationTable greatest) m) rows) (Refuses (rationTable greatest) c m (asStepped (stepOf greatest c m))) works c (m .nodes)
+      (λ p. rw (step-unsized greatest c m p) (refused-same greatest 1 c m))
+      (λ r s k d. rw (step-sized greatest c m s ∙ ap (stepHeld c m) e ∙ held-unchecked c m r (sym k) d (HeldTask task) (λ made z. impossible (cc))) (refused-same greatest r c m))
+      (λ s f. inr (w, next s (step-sized greatest c m s ∙ ap (stepHeld c m) e ∙ task-due c m (formatted-header c (m .nodes) f) task)))
 
 -- with a change in hand
-next-cases : (c : List ℕ) (m : Memory) (x : Store) (rest : List Store)
-    → ByRows (row 9 (length c ≤ x .0) end) (Refuses rationTable c m (asStepped (stepStore c m x (advanced m rest))))
-    (StoresNext rationTable c m (asStepped (stepStore c m x (advanced m rest))) x rest)
+next-cases : (greatest : ℕ) (c : List ℕ) (m : Memory) (x : Store) (rest : List Store)
+    → ByRows (row 9 (length c ≤ x .0) end) (Refuses (rationTable greatest) c m (asStepped (stepStore c m x (advanced m rest))))
+    (StoresNext (rationTable greatest) c m (asStepped (stepStore c m x (advanced m rest))) x rest)
 unfolding ByRows stepStore stepReply
-next-cases c m x rest =
+next-cases greatest c m x rest =
     order (x .0) (length c)
     (λ o. inr (
       λ z. omega (arith, o, z),
@@ -158,32 +165,34 @@ next-cases c m x rest =
         advanced-rest m rest,
       ),
     ))
-    (λ o. inl (o, rw (le-ltb (x .0) (length c) o) (refused-same 9 c m)))
+    (λ o. inl (o, rw (le-ltb (x .0) (length c) o) (refused-same greatest 9 c m)))
 
-pub in-hand-rows : (c : List ℕ) (m : Memory) (x : Store) (rest : List Store) → m .rest ≡ x ∷ rest → (workOf (m .doing) ≡ formatting → ⊥)
-    → ByRows (cardRows c (m .nodes) (row 10 (Idle rationTable m) (row 9 (length c ≤ x .0) end)))
-    (Refuses rationTable c m (asStepped (stepOf c m))) (StoresNext rationTable c m (asStepped (stepOf c m)) x rest)
+pub in-hand-rows : (greatest : ℕ) (c : List ℕ) (m : Memory) (x : Store) (rest : List Store) → m .rest ≡ x ∷ rest → (workOf (m .doing) ≡ formatting → ⊥)
+    → ByRows (cardRows greatest c (m .nodes) (row 10 (Idle (rationTable greatest) m) (row 9 (length c ≤ x .0) end)))
+    (Refuses (rationTable greatest) c m (asStepped (stepOf greatest c m))) (StoresNext (rationTable greatest) c m (asStepped (stepOf greatest c m)) x rest)
 unfolding stepTask
-in-hand-rows c m x rest r q = go (idle-or-task (m .doing) q)
+in-hand-rows greatest c m x rest r q = go (idle-or-task (m .doing) q)
   where
-    go : IdleOrTask (m .doing) → ByRows (cardRows c (m .nodes) (row 10 (Idle rationTable m) (row 9 (length c ≤ x .0) end)))
-        (Refuses rationTable c m (asStepped (stepOf c m))) (StoresNext rationTable c m (asStepped (stepOf c m)) x rest)
-    go (inl (e, w)) = idle-rows c m e w (row 9 (length c ≤ x .0) end) (StoresNext rationTable c m (asStepped (stepOf c m)) x rest)
+    go : IdleOrTask (m .doing) → ByRows (cardRows greatest c (m .nodes) (row 10 (Idle (rationTable greatest) m) (row 9 (length c ≤ x .0) end)))
+        (Refuses (rationTable greatest) c m (asStepped (stepOf greatest c m))) (StoresNext (rationTable greatest) c m (asStepped (stepOf greatest c m)) x rest)
+    go (inl (e, w)) = idle-rows greatest c m e w (row 9 (length c ≤ x .0) end) (StoresNext (rationTable greatest) c m (asStepped (stepOf greatest c m)) x rest)
     go (inr (task, e, w)) =
-        task-rows c m task e w (row 9 (length c ≤ x .0) end) (StoresNext rationTable c m (asStepped (stepOf c m)) x rest)
-        (λ s due. subst (λ (y : Step). ByRows (row 9 (length c ≤ x .0) end) (Refuses rationTable c m (asStepped y))
-        (StoresNext rationTable c m (asStepped y) x rest)) (sym (due ∙ ap (stepTask c m task) r)) (next-cases c m x rest))
+        task-rows greatest c m task e w (row 9 (length c ≤ x .0) end) (StoresNext (rationTable greatest) c m (asStepped (stepOf greatest c m)) x rest)
+        (λ s due. subst (λ (y : Step). ByRows (row 9 (length c ≤ x .0) end) (Refuses (rationTable greatest) c m (asStepped y))
+        (StoresNext (rationTable greatest) c m (asStepped y) x rest)) (sym (due ∙ ap (stepTask c m task) r)) (next-cases greatest c m x rest))
 
 -- no card has N = 0
-none-sized : (c : List ℕ) (n : ℕ) → n ≡ 0 → NoCard c n
-none-sized c n e s = omega (arith, e, s .least)
+none-sized : (greatest : ℕ) (c : List ℕ) (n : ℕ) → n ≡ 0 → NoCard greatest c n
+none-sized greatest c n e s = omega (arith, e, s .least)
 
-pub none-refused : (c : List ℕ) (m : Memory) → m .nodes ≡ 0 → (key value : ℕ)
-    → HandsBack rationTable m (rationTable .insert c m key value) 1 × HandsBack rationTable m (rationTable .delete c m key) 1 × Refuses rationTable c m (rationTable .step c m) 1
+pub none-refused : (greatest : ℕ) (c : List ℕ) (m : Memory) → m .nodes ≡ 0 → (key value : ℕ)
+    → HandsBack (rationTable greatest) m (rationTable greatest .insert c m key value) 1
+    × HandsBack (rationTable greatest) m (rationTable greatest .delete c m key) 1
+    × Refuses (rationTable greatest) c m (rationTable greatest .step c m) 1
 unfolding insertOf deleteOf
-none-refused c m e key value =
-    let p = none-sized c (m .nodes) e in (
-      rw (start-one c m key (Inserting key value NotBegun) (startRoom c key (m .free)) p) (refused-back c m key (Inserting key value NotBegun) (startRoom c key (m .free)) 1),
-      rw (start-one c m key (Deleting key NotBegun 0) (λ l. true) p) (refused-back c m key (Deleting key NotBegun 0) (λ l. true) 1),
-      rw (step-unsized c m p) (refused-same 1 c m),
+none-refused greatest c m e key value =
+    let p = none-sized greatest c (m .nodes) e in (
+      rw (start-one greatest c m key (Inserting key value NotBegun) (startRoom c key (m .free)) p) (refused-back greatest c m key (Inserting key value NotBegun) (startRoom c key (m .free)) 1),
+      rw (start-one greatest c m key (Deleting key NotBegun 0) (λ l. true) p) (refused-back greatest c m key (Deleting key NotBegun 0) (λ l. true) 1),
+      rw (step-unsized greatest c m p) (refused-same greatest 1 c m),
     )

@@ -82,14 +82,16 @@ use Rattle.walk.specs.declared.Slot.the-variants.{At, Absent as NoSlot}
 use Rattle.walk.specs.declared.Landing.the-variants.{Leaf as LandingAt}
 
 -- a table with a violation has its next change planned
-pub mends : (c : List ℕ) (n key : ℕ) (t : Tree) (free : List Bool) (last : ℕ) → Table c n t → Exact n free t → (v : Violation t key)
+pub mends : (greatest : ℕ) (c : List ℕ) (n key : ℕ) (t : Tree) (free : List Bool) (last : ℕ) → Table greatest c n t → Exact n free t → (v : Violation t key)
     → tableViolations t ≡ 1 → 3 + reserve (v .context) (v .part) ≤ countTrue free
     → Repaired c n key t free last (depthOf (v .context))
-mends c n key t free last b x v single room = mended c n key t free last (b .sized .words) (omega (arith, b .sized .most)) (b .holds) (b .sound) (table-depth-limited b) x v single room
+mends greatest c n key t free last b x v single room =
+    mended c n key t free last (b .sized .words) (omega (arith, b .sized .most)) (b .holds) (b .sound)
+    (table-depth-limited greatest b) x v single room
 
 -- a balanced table needs none
-pub rests : (c : List ℕ) (n key : ℕ) (t : Tree) (free : List Bool) (last : ℕ) → Table c n t → tableViolations t ≡ 0 → nextRepair c n key free last ≡ balanced
-rests c n key t free last b z = repair-balanced c n free last key (seek-balanced c n key (b .sized .words) depthLimit t (b .holds) (b .sound .widths) z (table-depth-limited b))
+pub rests : (greatest : ℕ) (c : List ℕ) (n key : ℕ) (t : Tree) (free : List Bool) (last : ℕ) → Table greatest c n t → tableViolations t ≡ 0 → nextRepair c n key free last ≡ balanced
+rests greatest c n key t free last b z = repair-balanced c n free last key (seek-balanced c n key (b .sized .words) depthLimit t (b .holds) (b .sound .widths) z (table-depth-limited greatest b))
 
 -- where a step leaves what was being done: it was idle; "Each step then either stores one word or gives the final answer and
 -- makes the state idle."
@@ -116,28 +118,28 @@ right-final no-answer e = absurd e
 right-final no-call e = absurd e
 right-final final-answer e = refl
 
-module _ (n steps : ℕ) (c : List ℕ) (t : Tree) (b : Table c n t) (o : Openable n t) (l : List (ℕ × ℕ)) (same : Same (pairs t) l) (goal : Tree) where
+module _ (greatest : ℕ) (n steps : ℕ) (c : List ℕ) (t : Tree) (b : Table greatest c n t) (o : Openable n t) (l : List (ℕ × ℕ)) (same : Same (pairs t) l) (goal : Tree) where
   -- what a step must leave
   abbrev Goal : Memory → Hand → Answer → Type 0
   Goal m h due =
-      Toward goal due n steps (record { card = stepOf c m .card; state = stepOf c m .memory })
-      (fedStep (outcome (stepReply (stepOf c m .answer))) l h) × Right (stepOf c m .answer) due × Moves c m (stepOf c m)
+      Toward greatest goal due n steps (record { card = stepOf greatest c m .card; state = stepOf greatest c m .memory })
+      (fedStep (outcome (stepReply (stepOf greatest c m .answer))) l h) × Right (stepOf greatest c m .answer) due × Moves c m (stepOf greatest c m)
 
   stored-goal : {place : ℕ} (m m′ : Memory) (c′ : List ℕ) (h : Hand) (due : Answer)
-      → stepOf c m ≡ record { answer = Stored place; card = c′; memory = m′ } → isIdle (m′ .doing) ≡ false
-      → Toward goal due n steps (record { card = c′; state = m′ }) (fedStep goesOn l h) → Goal m h due
+      → stepOf greatest c m ≡ record { answer = Stored place; card = c′; memory = m′ } → isIdle (m′ .doing) ≡ false
+      → Toward greatest goal due n steps (record { card = c′; state = m′ }) (fedStep goesOn l h) → Goal m h due
   unfolding outcome stepReply
   stored-goal m m′ c′ h due e busy i = rw e (i, no-answer, goes-further (_, refl) busy)
 
   final-goal : (m m′ : Memory) (a : Answer) (h : Hand) (due : Answer)
-      → stepOf c m ≡ record { answer = a; card = c; memory = m′ } → m′ .doing ≡ Idle → IsFinal a
-      → Toward goal due n steps (record { card = c; state = m′ }) (fedStep final l h) → Right a due → Goal m h due
+      → stepOf greatest c m ≡ record { answer = a; card = c; memory = m′ } → m′ .doing ≡ Idle → IsFinal a
+      → Toward greatest goal due n steps (record { card = c; state = m′ }) (fedStep final l h) → Right a due → Goal m h due
   final-goal m m′ a h due e idle f i r = rw (e, final-told a f) (i, r, ends-now f refl idle)
 
   -- the state idle again
   idle-inv : (due : Answer) (free : List Bool) (last depth : ℕ) (l′ : List (ℕ × ℕ)) → Same (pairs t) l′
       → tableViolations t ≡ 0 → 3 ≤ countTrue free → Exact n free t → bare t ≡ goal
-      → Toward goal due n steps (record { card = c; state = memory n free last depth Idle [] [] }) (book l′ empty)
+      → Toward greatest goal due n steps (record { card = c; state = memory n free last depth Idle [] [] }) (book l′ empty)
   idle-inv due free last depth l′ s z r x eg = (record { tree = t; goal = goal; due = due; table = b; openable = o; same = s; stage = stage-idle z r x eg }, refl, refl)
 
   -- a repair that has nothing left to do gives its final answer
@@ -147,8 +149,8 @@ module _ (n steps : ℕ) (c : List ℕ) (t : Tree) (b : Table c n t) (o : Openab
   unfolding idled outcome stepReply fedStep
   ended {doing} {key} {due} {u} {h} free last depth j en z r x eg =
       final-goal (memory n free last depth doing [] []) (memory n free last depth Idle [] []) due h due
-      (step-repairs c n (b .sized) (b .header) free last depth j
-      ∙ prepared-ready c (memory n free last depth doing [] []) doing due (nextRepair c n key free last) (rests c n key t free last b z)) refl
+      (step-repairs greatest c n (b .sized) (b .header) free last depth j
+      ∙ prepared-ready c (memory n free last depth doing [] []) doing due (nextRepair c n key free last) (rests greatest c n key t free last b z)) refl
       (is-final j) (entered-inv en) final-answer
     where
       is-final : {doing : Doing} {key : ℕ} {due : Answer} {u : Option Update} → Job Decided doing key due u → IsFinal due
@@ -156,7 +158,7 @@ module _ (n steps : ℕ) (c : List ℕ) (t : Tree) (b : Table c n t) (o : Openab
       is-final (job-insert p) = tt
       is-final (job-delete p) = tt
 
-      entered-inv : {u : Option Update} {h : Hand} → Entered u h → Toward goal due n steps (record { card = c; state = memory n free last depth Idle [] [] }) (fedStep final l h)
+      entered-inv : {u : Option Update} {h : Hand} → Entered u h → Toward greatest goal due n steps (record { card = c; state = memory n free last depth Idle [] [] }) (fedStep final l h)
       entered-inv no-update = idle-inv due free last depth l same z r x eg
       entered-inv (updated {deciding = deciding} {count = count} e) = rw (le-ltb count deciding e) (idle-inv due free last depth l same z r x eg)
 
@@ -175,7 +177,7 @@ module _ (n steps : ℕ) (c : List ℕ) (t : Tree) (b : Table c n t) (o : Openab
       doing key due u → Entered u h → Mendable key free t deep → Exact n free t → 73 * deep + 1 ≤ suc steps → Heads deep (bare t) goal
       → Goal (memory n free last depth doing [] []) h due
   repaired free last depth deep j en (settled z r) x few hd = ended free last depth j en z r x (heads-done hd (bare-table-violations t ∙ z))
-  repaired {doing} {key} {due} {u} {h} free last depth deep j en (violated v w r) x few hd = apply (mends c n key t free last b x v w r)
+  repaired {doing} {key} {due} {u} {h} free last depth deep j en (violated v w r) x few hd = apply (mends greatest c n key t free last b x v w r)
     where
       apply : Repaired c n key t free last (depthOf (v .context)) → Goal (memory n free last depth doing [] []) h due
       apply q = split (q .stores) refl
@@ -188,24 +190,25 @@ module _ (n steps : ℕ) (c : List ℕ) (t : Tree) (b : Table c n t) (o : Openab
               let p = pending-changing (b .holds) (b .sound) o (rw e at (q .pending)) in
               let g = entered-on en in
               stored-goal (memory n free last depth doing [] []) _ (set c (s .0) (s .1)) h due
-              (step-repairs c n (b .sized) (b .header) free last depth j ∙ prepared-first c (memory n free last depth doing [] []) doing due
+              (step-repairs greatest c n (b .sized) (b .header) free last depth j ∙ prepared-first c (memory n free last depth doing [] []) doing due
               (nextRepair c n key free last) s rest (q .free-then) (q .last-then) (q .cut) k (first-storable (p .0 .plays) .inside))
               (busy-after n (q .free-then) (q .last-then) depth [] (q .cut) (job-busy j) rest)
-              (rw (g .1) (repair-stored (q .last-then) depth steps [] l b same j (g .2) (p .0) (record { totals = p .1 }) (omega (arith, p .2))
+              (rw (g .1) (repair-stored greatest (q .last-then) depth steps [] l b same j (g .2) (p .0) (record { totals = p .1 }) (omega (arith, p .2))
               (heads-on (p .0 .level) (bare (p .0 .next)) hd (bare-table-violations t ∙ w) (p .2) (p .3))))
 
   -- the first store of an update's first change
   begins : {doing : Doing} {key : ℕ} {due : Answer} {u : Update} (d : ℕ) (m : Memory) (s : Store) (rest : List Store) (free : List Bool) (last : ℕ) (cut : List ℕ) → Job InHand doing key due (some u)
-      → stepOf c m ≡ record { answer = Stored (s .0); card = set c (s .0) (s .1); memory = advanced (memory n free last (m .depth) doing [] cut) rest }
+      → stepOf greatest c m ≡ record { answer = Stored (s .0); card = set c (s .0) (s .1); memory = advanced (memory n free last (m .depth) doing [] cut) rest }
       → (p : Changing c n key t (s ∷ rest) free cut) → Enters u (pairs t) (pairs (p .next)) → suc (length rest) ≡ d
       → length rest + (73 * p .level + 1) ≤ steps → Heads (p .level) (bare (p .next)) goal → Goal m (holding u d 0) due
   begins {due = due} {u = u} d m s rest free last cut j e p en count few hd =
       let q : 0 + suc (length rest) ≡ d = omega arith in
-      stored-goal m _ (set c (s .0) (s .1)) (holding u d 0) due e (busy-after n free last (m .depth) [] cut (job-busy j) rest) (update-stored d 0 last (m .depth) steps [] l b same j p en q few hd)
+      stored-goal m _ (set c (s .0) (s .1)) (holding u d 0) due e (busy-after n free last (m .depth) [] cut (job-busy j) rest)
+      (update-stored greatest d 0 last (m .depth) steps [] l b same j p en q few hd)
 
   -- the leaf that a key leads to
   lands : (key : ℕ) → lowestKey ≤ key → key < keyLimit → LandedAt c n key t
-  lands key low high = landing-found c n key (b .sized .words) lowestKey keyLimit t (b .holds) (b .sound .range) low high (omega arith) (table-depth-limited b)
+  lands key low high = landing-found c n key (b .sized .words) lowestKey keyLimit t (b .holds) (b .sound .range) low high (omega arith) (table-depth-limited greatest b)
 
   landed : (key : ℕ) (g : LandedAt c n key t) → landing c n key ≡ LandingAt (g .number) (linkPlace (g .context)) (fullRun (g .context))
   unfolding landing
@@ -219,7 +222,7 @@ module _ (n steps : ℕ) (c : List ℕ) (t : Tree) (b : Table c n t) (o : Openab
       omega (arith, depth-plug (g .context) (leaf (g .number) (g .keys) (g .values)), few .enough)
 
   way-limited : (key : ℕ) (g : LandedAt c n key t) → depthOf (g .context) ≤ depthLimit
-  way-limited key g = omega (arith, ap depth (g .is-tree), depth-plug (g .context) (leaf (g .number) (g .keys) (g .values)), table-depth-limited b)
+  way-limited key g = omega (arith, ap depth (g .is-tree), depth-plug (g .context) (leaf (g .number) (g .keys) (g .values)), table-depth-limited greatest b)
 
   -- the slot that the row of keys has
   row-slot : (key k : ℕ) (g : LandedAt c n key t) → firstEqual (g .keys) k 0 ≡ slotOf (nodeAt c (g .number)) k
@@ -256,7 +259,7 @@ module _ (n steps : ℕ) (c : List ℕ) (t : Tree) (b : Table c n t) (o : Openab
       let found : lookup key (pairs t) ≡ some (getD (nodeAt c (g .number)) (12 + i) 0) = sym (g .answers) ∙ ap (slotAnswer (nodeAt c (g .number))) e in
       final-goal (memory n free last depth (Inserting key value NotBegun) [] []) (memory n free last depth Idle [] []) (Value v)
       (takenUp (anInsert key value goesOn full)) (dictionaryAnswer (lookup key (pairs t)))
-      (step-puts c n (b .sized) (b .header) free last depth key value ∙ put-held c n key (g .number) (linkPlace (g .context))
+      (step-puts greatest c n (b .sized) (b .header) free last depth key value ∙ put-held greatest c n key (g .number) (linkPlace (g .context))
       (fullRun (g .context)) (landed key g) value free last m i e ∙ prepared-ready c m (Inserting key value InHand) (Value v) balanced refl)
       refl tt
       (rw (entered-at-end key value full) (idle-inv _ free last depth (entered (put key value) l)
@@ -270,7 +273,7 @@ module _ (n steps : ℕ) (c : List ℕ) (t : Tree) (b : Table c n t) (o : Openab
   -- the first change is planned, and its first store made
   first-made : {doing : Doing} {key : ℕ} {due : Answer} {u : Update} (d : ℕ) (m : Memory) (prep : Preparation) (s : Store)
       (rest : List Store) (free : List Bool) (last : ℕ) (cut : List ℕ) (deep : ℕ) → m .nodes ≡ n → Job InHand doing key due (some u)
-      → stepOf c m ≡ stepPrepared c m doing due prep → prep ≡ prepared (s ∷ rest) free last cut
+      → stepOf greatest c m ≡ stepPrepared c m doing due prep → prep ≡ prepared (s ∷ rest) free last cut
       → First c n key t (s ∷ rest) free cut u deep → suc (length rest) ≡ d → length rest + (73 * deep + 1) ≤ steps → deep ≤ depthLimit
       → settledBy depthLimit (firstShape u (bare t)) ≡ goal → Goal m (holding u d 0) due
   first-made {doing} {key} {due} {u} d m prep s rest free last cut deep en j e e₁ p count few lim eg =
@@ -291,7 +294,7 @@ module _ (n steps : ℕ) (c : List ℕ) (t : Tree) (b : Table c n t) (o : Openab
       let words = read-length c (g .number) 1 (g .keys) (g .values) (g .on-card .0) in
       let s = slot-holds (nodeAt c (g .number)) 0 i words e₀ in
       let empty-slot : getD (g .keys) i 0 ≡ 0 = ap (λ (q : List ℕ). getD q i 0) (sym (leaf-keys c (g .number) (g .keys) (g .values) (g .on-card))) ∙ s .1 in
-      let flag = flag-slot c n key (g .number) (linkPlace (g .context)) (fullRun (g .context)) (landed key g) (b .sized) i e₀ in
+      let flag = flag-slot greatest c n key (g .number) (linkPlace (g .context)) (fullRun (g .context)) (landed key g) (b .sized) i e₀ in
       let none-held = absent-counted key (pairs t) none-there in
       let is = g .is-tree in
       let way = way-short key g z few in
@@ -301,8 +304,8 @@ module _ (n steps : ℕ) (c : List ℕ) (t : Tree) (b : Table c n t) (o : Openab
       (rw is (b .sound)) (rw is z) (rw is x) r (g .leads) low high value (s .0) empty-slot (rw is none-held) (row-slot key 0 g ∙ e₀) in
       rw (none-there, flag)
       (first-made _ m _ (place (g .number) (12 + i), value) ((place (g .number) (1 + i), key) ∷ []) free last [] (depthOf (g .context)) refl (job-insert in-hand)
-      (step-puts c n (b .sized) (b .header) free last depth key value
-      ∙ put-slot c n key (g .number) (linkPlace (g .context)) (fullRun (g .context)) (landed key g) value free last m i e e₀) refl
+      (step-puts greatest c n (b .sized) (b .header) free last depth key value
+      ∙ put-slot greatest c n key (g .number) (linkPlace (g .context)) (fullRun (g .context)) (landed key g) value free last m i e e₀) refl
       (rw is at p) refl (omega arith) (way-limited key g) (goal-put key value none-there eg))
     where
       at-slot : (C : Context) (m : ℕ) (ks vs : List ℕ) (i : ℕ) → Holds c (plug C (leaf m ks vs)) → Sound (plug C (leaf m ks vs))
@@ -336,8 +339,8 @@ module _ (n steps : ℕ) (c : List ℕ) (t : Tree) (b : Table c n t) (o : Openab
       at-slot (g .context) (g .number) (g .keys) (g .values) (rw is (b .holds)) (rw is (b .sound)) (rw is z) (rw is x) r (g .leads) low high (s .0) held-slot (row-slot key key g ∙ e) in
       rw found
       (first-made _ m _ (place (g .number) (1 + i), 0) [] free last [] (depthOf (g .context)) refl (job-delete in-hand)
-      (step-removes c n (b .sized) (b .header) free last depth key
-      ∙ remove-held c n key (g .number) (linkPlace (g .context)) (fullRun (g .context)) (landed key g) 0 free last m i e) refl
+      (step-removes greatest c n (b .sized) (b .header) free last depth key
+      ∙ remove-held greatest c n key (g .number) (linkPlace (g .context)) (fullRun (g .context)) (landed key g) 0 free last m i e) refl
       (rw is at p) refl (omega arith) (way-limited key g) (goal-remove key (getD (nodeAt c (g .number)) (12 + i) 0) found eg))
     where
       at-slot : (C : Context) (m : ℕ) (ks vs : List ℕ) → Holds c (plug C (leaf m ks vs)) → Sound (plug C (leaf m ks vs))
@@ -362,7 +365,7 @@ module _ (n steps : ℕ) (c : List ℕ) (t : Tree) (b : Table c n t) (o : Openab
       let none-there : lookup key (pairs t) ≡ none = sym (g .answers) ∙ ap (slotAnswer (nodeAt c (g .number))) e in
       final-goal (memory n free last depth (Deleting key NotBegun 0) [] []) (memory n free last depth Idle [] []) Absent
       (takenUp (toldOf (remove key) c goesOn)) (dictionaryAnswer (lookup key (pairs t)))
-      (step-removes c n (b .sized) (b .header) free last depth key ∙ remove-absent c n key (g .number) (linkPlace (g .context))
+      (step-removes greatest c n (b .sized) (b .header) free last depth key ∙ remove-absent greatest c n key (g .number) (linkPlace (g .context))
       (fullRun (g .context)) (landed key g) 0 free last m e ∙ prepared-ready c m (Deleting key InHand 0) Absent balanced refl)
       refl tt
       (idle-inv _ free last depth (entered (remove key) l) (enters-gone key (pairs t) (absent-counted key (pairs t) none-there) .to l same) z r x (goal-absent key none-there eg))
@@ -376,9 +379,9 @@ module _ (n steps : ℕ) (c : List ℕ) (t : Tree) (b : Table c n t) (o : Openab
   unfolding slotAnswer dictionaryAnswer feed fedStart
   put-by-split free last depth key value z r x low high few room g e e₀ eg =
       let none-there : lookup key (pairs t) ≡ none = sym (g .answers) ∙ ap (slotAnswer (nodeAt c (g .number))) e in
-      let flag = flag-full c n key (g .number) (linkPlace (g .context)) (fullRun (g .context)) (landed key g) (b .sized) e₀ in
+      let flag = flag-full greatest c n key (g .number) (linkPlace (g .context)) (fullRun (g .context)) (landed key g) (b .sized) e₀ in
       let eleven = slots-full (nodeAt c (g .number)) (g .keys) (g .values) (leaf-keys c (g .number) (g .keys) (g .values) (g .on-card)) (g .on-card .1) (g .on-card .2) e₀ in
-      let spare = room-full c n key (g .number) (linkPlace (g .context)) (fullRun (g .context)) (landed key g) free e e₀ room in
+      let spare = room-full greatest c n key (g .number) (linkPlace (g .context)) (fullRun (g .context)) (landed key g) free e e₀ room in
       let none-held = absent-counted key (pairs t) none-there in
       let is = g .is-tree in
       rw (none-there, flag)
@@ -437,8 +440,9 @@ module _ (n steps : ℕ) (c : List ℕ) (t : Tree) (b : Table c n t) (o : Openab
               let p₁ : First c n key t (s ∷ rest) (withoutAll ms free) (g .number ∷ []) (put key value) (depthOf (g .context)) = rw (g .is-tree, q) at p in
               first-made _ (memory n free last depth (Inserting key value NotBegun) [] []) _ s rest
               (withoutAll ms free) (lastOf last ms) (g .number ∷ []) (depthOf (g .context)) refl (job-insert in-hand)
-              (step-puts c n (b .sized) (b .header) free last depth key value
-              ∙ put-full c n key (g .number) (linkPlace (g .context)) (fullRun (g .context)) (landed key g) value free last (memory n free last depth (Inserting key value NotBegun) [] []) e e₀)
+              (step-puts greatest c n (b .sized) (b .header) free last depth key value
+              ∙ put-full greatest c n key (g .number) (linkPlace (g .context)) (fullRun (g .context)) (landed key g) value free last
+              (memory n free last depth (Inserting key value NotBegun) [] []) e e₀)
               (planned-as ms e₁ ∙ ap (λ (q : List Store). prepared q (withoutAll ms free) (lastOf last ms) (g .number ∷ [])) q) p₁ l₁ (omega arith) (way-limited key g) reach
 
   -- by what its leaf holds
@@ -477,23 +481,24 @@ module _ (n steps : ℕ) (c : List ℕ) (t : Tree) (b : Table c n t) (o : Openab
   -- a step at any stage
   pub stage-steps : (m : Memory) (h : Hand) (due : Answer) → Stage c n t goal (suc steps) m h due → Goal m h due
   unfolding stepRefused outcome stepReply fedStep
-  stage-steps m h due (stage-idle {free} {last} {depth} z r x eg) = rw (step-idle c n (b .sized) (b .header) free last depth) (idle-inv due free last depth l same z r x eg, no-call, was-idle refl)
+  stage-steps m h due (stage-idle {free} {last} {depth} z r x eg) =
+      rw (step-idle greatest c n (b .sized) (b .header) free last depth) (idle-inv due free last depth l same z r x eg, no-call, was-idle refl)
   stage-steps m h due (stage-put {free} {last} {depth} {key} {value} z r x low high room few eg) = put-begins free last depth key value z r x low high few room eg
   stage-steps m h due (stage-remove {free} {last} {depth} {key} z r x low high few eg) = remove-begins free last depth key z r x low high few eg
   stage-steps m h due (stage-first {free} {last} {depth} {key} {doing} {u = u} {deciding = deciding} {count = k} {cut = cut} {s = s} {rest = rest} j p en count few hd) =
       stored-goal (memory n free last depth doing (s ∷ rest) cut) _ (set c (s .0) (s .1)) (holding u deciding k) due
-      (step-stores c n (b .sized) (b .header) free last depth doing (job-busy j) cut s rest (first-storable (p .plays) .inside))
-      (busy-after n free last depth (s ∷ rest) cut (job-busy j) rest) (update-stored deciding k last depth steps (s ∷ rest) l b same j p en count (omega arith) hd)
+      (step-stores greatest c n (b .sized) (b .header) free last depth doing (job-busy j) cut s rest (first-storable (p .plays) .inside))
+      (busy-after n free last depth (s ∷ rest) cut (job-busy j) rest) (update-stored greatest deciding k last depth steps (s ∷ rest) l b same j p en count (omega arith) hd)
   stage-steps m h due (stage-between {free} {last} {depth} j en deep r x few hd) = repaired free last depth deep j en r x few hd
   stage-steps m h due (stage-within {free} {last} {depth} {key} {doing} {cut = cut} {s = s} {rest = rest} j en p e few hd) =
       let g = entered-on en in
       stored-goal (memory n free last depth doing (s ∷ rest) cut) _ (set c (s .0) (s .1)) h due
-      (step-stores c n (b .sized) (b .header) free last depth doing (job-busy j) cut s rest (first-storable (p .plays) .inside))
-      (busy-after n free last depth (s ∷ rest) cut (job-busy j) rest) (rw (g .1) (repair-stored last depth steps (s ∷ rest) l b same j (g .2) p e (omega arith) hd))
+      (step-stores greatest c n (b .sized) (b .header) free last depth doing (job-busy j) cut s rest (first-storable (p .plays) .inside))
+      (busy-after n free last depth (s ∷ rest) cut (job-busy j) rest) (rw (g .1) (repair-stored greatest last depth steps (s ∷ rest) l b same j (g .2) p e (omega arith) hd))
 
 -- THE STEP: the invariant is kept, and an answer given is the one due
-pub kept-step : (n steps : ℕ) (w : World rationTable) (b : Book) (i : Inv n (suc steps) w b)
-    → Toward (i .goal) (i .due) n steps (happens rationTable step w) (feed (told rationTable step w) b)
-    × Right (stepOf (w .card) (w .state) .answer) (i .due) × Moves (w .card) (w .state) (stepOf (w .card) (w .state))
+pub kept-step : (greatest : ℕ) (n steps : ℕ) (w : World (rationTable greatest)) (b : Book) (i : Inv greatest n (suc steps) w b)
+    → Toward greatest (i .goal) (i .due) n steps (happens (rationTable greatest) step w) (feed (told (rationTable greatest) step w) b)
+    × Right (stepOf greatest (w .card) (w .state) .answer) (i .due) × Moves (w .card) (w .state) (stepOf greatest (w .card) (w .state))
 unfolding happens feed told replyTo
-kept-step n steps w b i = stage-steps n steps (w .card) (i .tree) (i .table) (i .openable) (b .held) (i .same) (i .goal) (w .state) (b .inHand) (i .due) (i .stage)
+kept-step greatest n steps w b i = stage-steps greatest n steps (w .card) (i .tree) (i .table) (i .openable) (b .held) (i .same) (i .goal) (w .state) (b .inHand) (i .due) (i .stage)

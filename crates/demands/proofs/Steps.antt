@@ -78,33 +78,33 @@ job-plan (job-insert decided) c m e = rw e
 job-plan (job-delete in-hand) c m e = rw e
 job-plan (job-delete decided) c m e = rw e
 
-module _ (c : List ℕ) (n : ℕ) (sized : Sized (length c) n) (header : Formatted c n) where
+module _ (greatest : ℕ) (c : List ℕ) (n : ℕ) (sized : Sized greatest (length c) n) (header : Formatted c n) where
   -- the checks that come first are passed
-  checks-passed : (m : Memory) → m .nodes ≡ n → stepOf c m ≡ stepHeld c m (heldBy (m .doing))
-  checks-passed m e = step-sized c m (rw e sized)
+  checks-passed : (m : Memory) → m .nodes ≡ n → stepOf greatest c m ≡ stepHeld c m (heldBy (m .doing))
+  checks-passed m e = step-sized greatest c m (rw e sized)
 
   headed : (m : Memory) → m .nodes ≡ n → headerRefusal c (m .nodes) ≡ 0
   headed m e = rw e (formatted-header c n header)
 
   module _ (free : List Bool) (last depth : ℕ) where
-    pub step-idle : stepOf c (memory n free last depth Idle [] []) ≡ stepRefused 10 c (memory n free last depth Idle [] [])
+    pub step-idle : stepOf greatest c (memory n free last depth Idle [] []) ≡ stepRefused 10 c (memory n free last depth Idle [] [])
     unfolding heldBy
     step-idle = checks-passed (memory n free last depth Idle [] []) refl ∙ table-idle c (memory n free last depth Idle [] []) (headed (memory n free last depth Idle [] []) refl)
 
     module _ (doing : Doing) (busy : Busy doing) (cut : List ℕ) where
-      work : (rest : List Store) → stepOf c (memory n free last depth doing rest cut) ≡ stepTask c (memory n free last depth doing rest cut) (busy .task) rest
+      work : (rest : List Store) → stepOf greatest c (memory n free last depth doing rest cut) ≡ stepTask c (memory n free last depth doing rest cut) (busy .task) rest
       work rest =
           let m = memory n free last depth doing rest cut in
           checks-passed m refl ∙ ap (stepHeld c m) (busy .held) ∙ task-due c m (headed m refl) (busy .task)
 
       -- a store of the change in hand
-      pub step-stores : (s : Store) (rest : List Store) → s .0 < length c → stepOf c (memory n free last depth doing (s ∷ rest) cut)
+      pub step-stores : (s : Store) (rest : List Store) → s .0 < length c → stepOf greatest c (memory n free last depth doing (s ∷ rest) cut)
           ≡ record { answer = Stored (s .0); card = set c (s .0) (s .1); memory = advanced (memory n free last depth doing (s ∷ rest) cut) rest }
       unfolding stepTask stepStore
       step-stores s rest h = work (s ∷ rest) ∙ rw (lt-ltb (s .0) (length c) h)
 
       -- no change in hand
-      step-plans : stepOf c (memory n free last depth doing [] cut) ≡ stepTask c (memory n free last depth doing [] cut) (busy .task) []
+      step-plans : stepOf greatest c (memory n free last depth doing [] cut) ≡ stepTask c (memory n free last depth doing [] cut) (busy .task) []
       step-plans = work []
 
 -- what a preparation makes of a step
@@ -120,33 +120,33 @@ unfolding stepPrepared stepStore planning
 prepared-first c m doing final p s rest free last cut e h = ap (stepPrepared c m doing final) e ∙ rw (lt-ltb (s .0) (length c) h)
 
 -- the next change of a repair
-pub step-repairs : (c : List ℕ) (n : ℕ) → Sized (length c) n → Formatted c n → (free : List Bool) (last depth : ℕ) {phase : Phase}
+pub step-repairs : (greatest : ℕ) (c : List ℕ) (n : ℕ) → Sized greatest (length c) n → Formatted c n → (free : List Bool) (last depth : ℕ) {phase : Phase}
     {doing : Doing} {key : ℕ} {final : Answer} {u : Option Update} (j : Job phase doing key final u)
-    → stepOf c (memory n free last depth doing [] []) ≡ stepPrepared c (memory n free last depth doing [] []) doing final (nextRepair c n key free last)
-step-repairs c n s f free last depth {doing = doing} j = step-plans c n s f free last depth doing (job-busy j) [] ∙ job-plan j c (memory n free last depth doing [] []) refl
+    → stepOf greatest c (memory n free last depth doing [] []) ≡ stepPrepared c (memory n free last depth doing [] []) doing final (nextRepair c n key free last)
+step-repairs greatest c n s f free last depth {doing = doing} j = step-plans greatest c n s f free last depth doing (job-busy j) [] ∙ job-plan j c (memory n free last depth doing [] []) refl
 
 -- the first change of an update
-pub step-puts : (c : List ℕ) (n : ℕ) → Sized (length c) n → Formatted c n → (free : List Bool) (last depth key value : ℕ)
-    → stepOf c (memory n free last depth (Inserting key value NotBegun) [] []) ≡ stepBegin c
+pub step-puts : (greatest : ℕ) (c : List ℕ) (n : ℕ) → Sized greatest (length c) n → Formatted c n → (free : List Bool) (last depth key value : ℕ)
+    → stepOf greatest c (memory n free last depth (Inserting key value NotBegun) [] []) ≡ stepBegin c
     (memory n free last depth (Inserting key value NotBegun) [] []) (nextChange c n free last (Inserting key value NotBegun) (PutIn key value))
 unfolding put-busy stepTask
-step-puts c n s f free last depth key value = step-plans c n s f free last depth (Inserting key value NotBegun) (put-busy key value) []
+step-puts greatest c n s f free last depth key value = step-plans greatest c n s f free last depth (Inserting key value NotBegun) (put-busy key value) []
 
-pub step-removes : (c : List ℕ) (n : ℕ) → Sized (length c) n → Formatted c n → (free : List Bool) (last depth key : ℕ)
-    → stepOf c (memory n free last depth (Deleting key NotBegun 0) [] [])
+pub step-removes : (greatest : ℕ) (c : List ℕ) (n : ℕ) → Sized greatest (length c) n → Formatted c n → (free : List Bool) (last depth key : ℕ)
+    → stepOf greatest c (memory n free last depth (Deleting key NotBegun 0) [] [])
     ≡ stepBegin c (memory n free last depth (Deleting key NotBegun 0) [] []) (nextChange c n free last (Deleting key NotBegun 0) (TakeOut key))
 unfolding remove-busy stepTask
-step-removes c n s f free last depth key = step-plans c n s f free last depth (Deleting key NotBegun 0) (remove-busy key 0) []
+step-removes greatest c n s f free last depth key = step-plans greatest c n s f free last depth (Deleting key NotBegun 0) (remove-busy key 0) []
 
 -- a step of an idle state is refused and changes nothing, whatever the card
-pub idle-refused : (c : List ℕ) (m : Memory) → m .doing ≡ Idle → (r : ℕ) × (stepOf c m ≡ stepRefused r c m)
+pub idle-refused : (greatest : ℕ) (c : List ℕ) (m : Memory) → m .doing ≡ Idle → (r : ℕ) × (stepOf greatest c m ≡ stepRefused r c m)
 unfolding stepOf heldBy stepHeld stepChecked
-idle-refused c m e =
-    bool-cases (eqb (nodesOfLength (length c)) 0) (λ q. rw q (1, refl)) (λ q.
-    bool-cases (eqb (nodesOfLength (length c)) (m .nodes)) (λ q₁.
+idle-refused greatest c m e =
+    bool-cases (eqb (nodesOfLength greatest (length c)) 0) (λ q. rw q (1, refl)) (λ q.
+    bool-cases (eqb (nodesOfLength greatest (length c)) (m .nodes)) (λ q₁.
     bool-cases (eqb (headerRefusal c (m .nodes)) 0) (λ q₂. rw (q, q₁, e, q₂) (10, refl)) (λ q₂. rw (q, q₁, e, q₂) (headerRefusal c (m .nodes), refl)))
     (λ q₁. rw (q, q₁) (1, refl)))
 
-pub idle-world : (w : World rationTable) → w .state .doing ≡ Idle → happens rationTable step w ≡ w
+pub idle-world : (greatest : ℕ) (w : World (rationTable greatest)) → w .state .doing ≡ Idle → happens (rationTable greatest) step w ≡ w
 unfolding happens stepRefused
-idle-world w e = rw (idle-refused (w .card) (w .state) e .1)
+idle-world greatest w e = rw (idle-refused greatest (w .card) (w .state) e .1)

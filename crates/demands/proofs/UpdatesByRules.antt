@@ -75,11 +75,11 @@ unfolding openChecked
 checked-doing n last none = none-doing 4 (omega arith)
 checked-doing n last (some r) = sound-doing n last (r .1)
 
-open-doing : (c : List ℕ) → OpenDoing (openOf c)
+open-doing : (greatest : ℕ) (c : List ℕ) → OpenDoing (openOf greatest c)
 unfolding openOf
-open-doing c =
-    bool-cases (eqb (cardRefusal c) 0) (λ q. rw q (checked-doing (nodesOfLength (length c)) (searchStart c) (tableCheck c (nodesOfLength (length c)))))
-    (λ q. rw q (none-doing (cardRefusal c) (card-small c)))
+open-doing greatest c =
+    bool-cases (eqb (cardRefusal greatest c) 0) (λ q. rw q (checked-doing (nodesOfLength greatest (length c)) (searchStart c) (tableCheck c (nodesOfLength greatest (length c)))))
+    (λ q. rw q (none-doing (cardRefusal greatest c) (card-small greatest c)))
 
 -- a change that is given nodes is not nothing
 giving-not-balanced : (k : ℕ) (free : List Bool) (last : ℕ) (change : List ℕ → Change) → giving k free last change ≡ balanced → ⊥
@@ -90,25 +90,27 @@ giving-not-balanced k free last change e = at (takeNumbers k free last) e
     at none q = impossible (cc)
     at (some ms) q = impossible (cc)
 
-module _ (w : World rationTable) (b : Book) (v : Covered w b) where
+module _ (greatest : ℕ) (w : World (rationTable greatest)) (b : Book) (v : Covered greatest w b) where
   -- a started update is near its end, and its answer is the dictionary's
-  insert-nears : (key value : ℕ) → key < keyLimit → insertOf (w .card) (w .state) key value .begun ≡ Started
-      → (most : ℕ) × Nears (dictionaryAnswer (lookup key (b .held))) most (happens rationTable (insert key value) w) × (isIdle (happens rationTable (insert key value) w .state .doing) ≡ false)
+  insert-nears : (key value : ℕ) → key < keyLimit → insertOf greatest (w .card) (w .state) key value .begun ≡ Started
+      → (most : ℕ) × Nears greatest (dictionaryAnswer (lookup key (b .held))) most (happens (rationTable greatest) (insert key value) w)
+      × (isIdle (happens (rationTable greatest) (insert key value) w .state .doing) ≡ false)
   unfolding happens
   insert-nears key value high e =
-      let q = kept-insert (v .size) (v .steps) w b (v .inv) key value high in (
+      let q = kept-insert greatest (v .size) (v .steps) w b (v .inv) key value high in (
         q .0,
-        record { book-now = feed (told rationTable (insert key value) w) b; covered = record { size = v .size; steps = q .0; inv = q .1 }; soon = omega arith; is-due = q .2 .new-due e },
+        record { book-now = feed (told (rationTable greatest) (insert key value) w) b; covered = record { size = v .size; steps = q .0; inv = q .1 }; soon = omega arith; is-due = q .2 .new-due e },
         q .2 .busy e,
       )
 
-  delete-nears : (key : ℕ) → key < keyLimit → deleteOf (w .card) (w .state) key .begun ≡ Started
-      → (most : ℕ) × Nears (dictionaryAnswer (lookup key (b .held))) most (happens rationTable (delete key) w) × (isIdle (happens rationTable (delete key) w .state .doing) ≡ false)
+  delete-nears : (key : ℕ) → key < keyLimit → deleteOf greatest (w .card) (w .state) key .begun ≡ Started
+      → (most : ℕ) × Nears greatest (dictionaryAnswer (lookup key (b .held))) most (happens (rationTable greatest) (delete key) w)
+      × (isIdle (happens (rationTable greatest) (delete key) w .state .doing) ≡ false)
   unfolding happens
   delete-nears key high e =
-      let q = kept-delete (v .size) (v .steps) w b (v .inv) key high in (
+      let q = kept-delete greatest (v .size) (v .steps) w b (v .inv) key high in (
         q .0,
-        record { book-now = feed (told rationTable (delete key) w) b; covered = record { size = v .size; steps = q .0; inv = q .1 }; soon = omega arith; is-due = q .2 .new-due e },
+        record { book-now = feed (told (rationTable greatest) (delete key) w) b; covered = record { size = v .size; steps = q .0; inv = q .1 }; soon = omega arith; is-due = q .2 .new-due e },
         q .2 .busy e,
       )
 
@@ -170,21 +172,21 @@ module _ (w : World rationTable) (b : Book) (v : Covered w b) where
       at NoSlot e q none k = k
       at NoSlot e q (some v) k = let y : _≡_ {A = Answer} Absent (Value v) = q ∙ ap dictionaryAnswer k in impossible (cc)
 
-  pub insert-by-rules : (key value : ℕ) → key < keyLimit → insertOf (w .card) (w .state) key value .begun ≡ Started
-      → Updates rationTable ((a : ℕ) × (lookup key (b .held) ≡ some a)) (InsertRule (w .card) key value)
-      (stepReply (dictionaryAnswer (lookup key (b .held)))) (happens rationTable (insert key value) w)
+  pub insert-by-rules : (key value : ℕ) → key < keyLimit → insertOf greatest (w .card) (w .state) key value .begun ≡ Started
+      → Updates (rationTable greatest) ((a : ℕ) × (lookup key (b .held) ≡ some a)) (InsertRule (w .card) key value)
+      (stepReply (dictionaryAnswer (lookup key (b .held)))) (happens (rationTable greatest) (insert key value) w)
   unfolding happens insertOf nextChange
   insert-by-rules key value high e =
       let q = insert-nears key value high e in
       let u = q .1 .covered in
-      let m = insertOf (w .card) (w .state) key value .memory in
-      let d : m .doing ≡ Inserting key value NotBegun = started-doing (w .card) (w .state) (Inserting key value NotBegun) (startRoom (w .card) key (w .state .free)) key e in
-      let n : nodesOn (w .card) ≡ u .size = covered-nodes u ∙ nodes-same (u .size) (u .steps) (happens rationTable (insert key value) w) (q .1 .book-now) (u .inv) in
-      first-by-rules (dictionaryAnswer (lookup key (b .held))) (q .0) (happens rationTable (insert key value) w) (q .1) (q .2)
+      let m = insertOf greatest (w .card) (w .state) key value .memory in
+      let d : m .doing ≡ Inserting key value NotBegun = started-doing greatest (w .card) (w .state) (Inserting key value NotBegun) (startRoom (w .card) key (w .state .free)) key e in
+      let n : nodesOn (w .card) ≡ u .size = covered-nodes greatest u ∙ nodes-same greatest (u .size) (u .steps) (happens (rationTable greatest) (insert key value) w) (q .1 .book-now) (u .inv) in
+      first-by-rules greatest (dictionaryAnswer (lookup key (b .held))) (q .0) (happens (rationTable greatest) (insert key value) w) (q .1) (q .2)
       ((a : ℕ) × (lookup key (b .held) ≡ some a)) (InsertRule (w .card) key value) (λ given out ss r. insert-short r)
       (nextChange (w .card) (u .size) (m .free) (m .last) (Inserting key value NotBegun) (PutIn key value))
-      (put-turns key value (u .inv .table) (u .inv .stage) d)
-      (next-final (w .card) (u .size) (m .free) (m .last) putting)
+      (put-turns greatest key value (u .inv .table) (u .inv .stage) d)
+      (next-final greatest (w .card) (u .size) (m .free) (m .last) putting)
       (next-stores (m .free) (m .last) (w .card) (u .size) (Inserting key value NotBegun) (PutIn key value))
       (insert-nothing (w .card) key value (m .free) (m .last) (landing (w .card) (u .size) key) (lookup key (b .held)))
       (λ ss fewer now out p. (
@@ -192,39 +194,39 @@ module _ (w : World rationTable) (b : Book) (v : Covered w b) where
         prepared-insert (w .card) key value (m .free) (m .last) (landing (w .card) (u .size) key) p,
       ))
 
-  pub delete-by-rules : (key : ℕ) → key < keyLimit → deleteOf (w .card) (w .state) key .begun ≡ Started
-      → Updates rationTable (lookup key (b .held) ≡ none) (DeleteRule (w .card) key) (stepReply (dictionaryAnswer (lookup key (b .held)))) (happens rationTable (delete key) w)
+  pub delete-by-rules : (key : ℕ) → key < keyLimit → deleteOf greatest (w .card) (w .state) key .begun ≡ Started
+      → Updates (rationTable greatest) (lookup key (b .held) ≡ none) (DeleteRule (w .card) key) (stepReply (dictionaryAnswer (lookup key (b .held)))) (happens (rationTable greatest) (delete key) w)
   unfolding happens deleteOf nextChange
   delete-by-rules key high e =
       let q = delete-nears key high e in
       let u = q .1 .covered in
-      let m = deleteOf (w .card) (w .state) key .memory in
-      let d : m .doing ≡ Deleting key NotBegun 0 = started-doing (w .card) (w .state) (Deleting key NotBegun 0) (λ l. true) key e in
-      let n : nodesOn (w .card) ≡ u .size = covered-nodes u ∙ nodes-same (u .size) (u .steps) (happens rationTable (delete key) w) (q .1 .book-now) (u .inv) in
-      first-by-rules (dictionaryAnswer (lookup key (b .held))) (q .0) (happens rationTable (delete key) w) (q .1) (q .2)
+      let m = deleteOf greatest (w .card) (w .state) key .memory in
+      let d : m .doing ≡ Deleting key NotBegun 0 = started-doing greatest (w .card) (w .state) (Deleting key NotBegun 0) (λ l. true) key e in
+      let n : nodesOn (w .card) ≡ u .size = covered-nodes greatest u ∙ nodes-same greatest (u .size) (u .steps) (happens (rationTable greatest) (delete key) w) (q .1 .book-now) (u .inv) in
+      first-by-rules greatest (dictionaryAnswer (lookup key (b .held))) (q .0) (happens (rationTable greatest) (delete key) w) (q .1) (q .2)
       (lookup key (b .held) ≡ none) (DeleteRule (w .card) key) (λ given out ss r. delete-short r)
       (nextChange (w .card) (u .size) (m .free) (m .last) (Deleting key NotBegun 0) (TakeOut key))
-      (remove-turns key (u .inv .table) (u .inv .stage) d)
-      (next-final (w .card) (u .size) (m .free) (m .last) taking)
+      (remove-turns greatest key (u .inv .table) (u .inv .stage) d)
+      (next-final greatest (w .card) (u .size) (m .free) (m .last) taking)
       (next-stores (m .free) (m .last) (w .card) (u .size) (Deleting key NotBegun 0) (TakeOut key))
       (delete-nothing (w .card) key (m .free) (m .last) (landing (w .card) (u .size) key) (lookup key (b .held)))
       (λ ss fewer now out p. (delete-by-rule (w .card) (u .size) key n (Deleting key NotBegun 0) p, prepared-delete (w .card) key (m .free) (m .last) (landing (w .card) (u .size) key) p))
 
   -- opening's repair
-  pub opening-by-rules : rationTable .openCard (w .card) .reply ≡ started → Repairs rationTable ready (opened rationTable (w .card))
+  pub opening-by-rules : rationTable greatest .openCard (w .card) .reply ≡ started → Repairs (rationTable greatest) ready (opened (rationTable greatest) (w .card))
   unfolding startReply stepReply
-  opening-by-rules e = at (open-doing (w .card))
+  opening-by-rules e = at (open-doing greatest (w .card))
     where
-      at : (openOf (w .card) .memory .rest ≡ [])
-          × ((startReply (openOf (w .card) .begun) ≡ started → ⊥) ⊎ ((key : ℕ) × (openOf (w .card) .memory .doing ≡ Repairing key)))
-          → Repairs rationTable ready (opened rationTable (w .card))
+      at : (openOf greatest (w .card) .memory .rest ≡ [])
+          × ((startReply (openOf greatest (w .card) .begun) ≡ started → ⊥) ⊎ ((key : ℕ) × (openOf greatest (w .card) .memory .doing ≡ Repairing key)))
+          → Repairs (rationTable greatest) ready (opened (rationTable greatest) (w .card))
       at (r, inl not) = absurd (not e)
       at (r, inr (key, d)) =
-          repairs-by-rules Ready (suc repairSteps) repairSteps (opened rationTable (w .card)) (omega arith)
+          repairs-by-rules greatest Ready (suc repairSteps) repairSteps (opened (rationTable greatest) (w .card)) (omega arith)
           (record {
             book-now = book (b .held) empty;
-            covered = record { size = v .size; steps = repairSteps; inv = reopened-inv (v .size) (w .card) (v .inv .tree) (b .held) (v .inv .table) (v .inv .openable) (v .inv .same) };
+            covered = record { size = v .size; steps = repairSteps; inv = reopened-inv greatest (v .size) (w .card) (v .inv .tree) (b .held) (v .inv .table) (v .inv .openable) (v .inv .same) };
             soon = omega arith;
-            is-due = reopened-due (v .size) (w .card) (v .inv .tree) (b .held) (v .inv .table) (v .inv .openable) (v .inv .same);
+            is-due = reopened-due greatest (v .size) (w .card) (v .inv .tree) (b .held) (v .inv .table) (v .inv .openable) (v .inv .same);
           })
           r (subst Begun (sym d) (Decided, key, Ready, none, job-repair))

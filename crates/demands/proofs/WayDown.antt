@@ -21,8 +21,8 @@ use Rattle.walk.specs.declared.Slot.the-variants.{At, Absent as NoSlot}
 use Rattle.laws.proofs.Cases.{bool-cases}
 use Rattle.call_change.specs.Updates.{landing}
 
-pub sized-on : (c : List ℕ) (n : ℕ) → Sized (length c) n → nodesOn c ≡ n
-sized-on c n s = omega (arith, s .words)
+pub sized-on : (greatest : ℕ) (c : List ℕ) (n : ℕ) → Sized greatest (length c) n → nodesOn c ≡ n
+sized-on greatest c n s = omega (arith, s .words)
 
 unfoldable pub landed : Landing → Option (ℕ × ℕ)
 landed NoLanding = none
@@ -76,9 +76,10 @@ full-at c run none = refl
 full-at c run (some p) = refl
 
 -- the leaf is full exactly where no slot of it is empty
-pub full-is : (c : List ℕ) (n key m link run : ℕ) (s : Slot) → Sized (length c) n → landing c n key ≡ LandingAt m link run → slotOf (nodeAt c m) 0 ≡ s → leafFull c key ≡ not (slotFound s)
+pub full-is : (greatest : ℕ) (c : List ℕ) (n key m link run : ℕ) (s : Slot) → Sized greatest (length c) n
+    → landing c n key ≡ LandingAt m link run → slotOf (nodeAt c m) 0 ≡ s → leafFull c key ≡ not (slotFound s)
 unfolding Option·elim landed
-full-is c n key m link run s z e f =
+full-is greatest c n key m link run s z e f =
     full-at c (runOver c 0 (way c (nodesOn c) key .inner)) (way c (nodesOn c) key .leaf)
     ∙ ap (λ (o : Option (ℕ × ℕ)). Option·elim o false (λ l. not (among 0 (keyWords (nodeAt c (l .0))))))
-    (sym (leads-is c n key (sized-on c n z)) ∙ ap landed e) ∙ ap not (sym (slot-is (nodeAt c m) 0 s f))
+    (sym (leads-is c n key (sized-on greatest c n z)) ∙ ap landed e) ∙ ap not (sym (slot-is (nodeAt c m) 0 s f))

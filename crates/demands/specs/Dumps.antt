@@ -4,7 +4,7 @@ use mathlib.Core.Path.{_≡_}
 use mathlib.Core.List.{List}
 use Prim.Native.Nat.{ℕ, _+_, _*_, _/_, _%_, _^_, _≤_, _<_}
 use lib.ListN.{length, getD, take}
-use Rattle.card.specs.Layout.{leastNodes, greatestNodes}
+use Rattle.card.specs.Layout.{leastNodes, limited}
 use Rattle.card.specs.Replies.{Reply, refusal, long}
 use Rattle.card_dump.specs.Dump.{wordsFor}
 use Rattle.demands.specs.Way.{nodesOn}
@@ -36,20 +36,20 @@ wordsIn dump = wordsFor (nodesIn dump)
 
 -- "Refusal 11: length 0, not a multiple of 512, or above 57,856; word 1 not 4 to 600; padded length for that N not the dump's; a
 -- padding byte not 0."
-pub data Damaged (dump : List ℕ) : Type 0 where
-  empty : length dump ≡ 0 → Damaged dump
-  no-multiple : (length dump % blockLength ≡ 0 → ⊥) → Damaged dump
-  too-long : 57856 < length dump → Damaged dump
-  bad-nodes : ((leastNodes ≤ nodesIn dump) × (nodesIn dump ≤ greatestNodes) → ⊥) → Damaged dump
-  other-length : (PaddedLength (wordsIn dump) (length dump) → ⊥) → Damaged dump
-  not-zero : (i : ℕ) → 4 * wordsIn dump ≤ i → i < length dump → (getD dump i 0 ≡ 0 → ⊥) → Damaged dump
+pub data Damaged (greatest : ℕ) (dump : List ℕ) : Type 0 where
+  empty : length dump ≡ 0 → Damaged greatest dump
+  no-multiple : (length dump % blockLength ≡ 0 → ⊥) → Damaged greatest dump
+  too-long : (most : ℕ) → PaddedLength (wordsFor (limited greatest)) most → most < length dump → Damaged greatest dump
+  bad-nodes : ((leastNodes ≤ nodesIn dump) × (nodesIn dump ≤ limited greatest) → ⊥) → Damaged greatest dump
+  other-length : (PaddedLength (wordsIn dump) (length dump) → ⊥) → Damaged greatest dump
+  not-zero : (i : ℕ) → 4 * wordsIn dump ≤ i → i < length dump → (getD dump i 0 ≡ 0 → ⊥) → Damaged greatest dump
 
 -- "12: lent slice shorter than the result", where so many words or bytes are lent
-abbrev pub readRows : List ℕ → ℕ → Rows
-readRows dump lent = row 11 (Damaged dump) (row 12 (lent < wordsIn dump) end)
+abbrev pub readRows : ℕ → List ℕ → ℕ → Rows
+readRows greatest dump lent = row 11 (Damaged greatest dump) (row 12 (lent < wordsIn dump) end)
 
-abbrev pub writeRows : List ℕ → ℕ → Rows
-writeRows card lent = cardRows card (nodesOn card) (row 12 ((size : ℕ) × PaddedLength (length card) size × (lent < size)) end)
+abbrev pub writeRows : ℕ → List ℕ → ℕ → Rows
+writeRows greatest card lent = cardRows greatest card (nodesOn card) (row 12 ((size : ℕ) × PaddedLength (length card) size × (lent < size)) end)
 
 -- What a call gives back: its reply, and the lent slice as it is afterwards.
 module _ (lent : List ℕ) (result : Reply × List ℕ) where
@@ -77,11 +77,11 @@ module _ (lent : List ℕ) (result : Reply × List ℕ) where
 
 -- Reading takes a dump's bytes and the lent words, writing a card's words and the lent bytes; what is read or written stays as it
 -- is, since neither call gives it back.
-pub record Dumps (read write : List ℕ → List ℕ → Reply × List ℕ) : Type 0 where
-  pub reads : (dump lent : List ℕ) → ByRows (readRows dump (length lent)) (RefusesDump lent (read dump lent)) (Reads lent (read dump lent) dump)
-  pub writes : (card lent : List ℕ) → ByRows (writeRows card (length lent)) (RefusesDump lent (write card lent)) (Writes lent (write card lent) card)
+pub record Dumps (greatest : ℕ) (read write : List ℕ → List ℕ → Reply × List ℕ) : Type 0 where
+  pub reads : (dump lent : List ℕ) → ByRows (readRows greatest dump (length lent)) (RefusesDump lent (read dump lent)) (Reads lent (read dump lent) dump)
+  pub writes : (card lent : List ℕ) → ByRows (writeRows greatest card (length lent)) (RefusesDump lent (write card lent)) (Writes lent (write card lent) card)
   -- what was written is never refused 11,
-  pub undamaged : (card lent : List ℕ) (size : ℕ) → write card lent .0 ≡ long size → Damaged (take size (write card lent .1)) → ⊥
+  pub undamaged : (card lent : List ℕ) (size : ℕ) → write card lent .0 ≡ long size → Damaged greatest (take size (write card lent .1)) → ⊥
   -- and a card of 32-bit words is read back from it, over any slice that is not shorter
   pub read-back : (card lent words : List ℕ) (size : ℕ) → ((i : ℕ) → getD card i 0 < 2 ^ 32) → write card lent .0 ≡ long size → length card ≤ length words
       → (read (take size (write card lent .1)) words .0 ≡ long (length card)) × (take (length card) (read (take size (write card lent .1)) words .1) ≡ card)

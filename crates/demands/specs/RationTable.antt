@@ -1,6 +1,7 @@
 -- The ration table as its caller sees it: the definitions that the contracts of the calls say the code meets, and the numbers of
 -- its answers. (What those definitions are need not be read: the demands are proved of them.)
 use mathlib.Core.Bool.{Bool, true, false}
+use Prim.Native.Nat.{ℕ}
 use Rattle.demands.specs.Table.{Handed, Stepped, Work, Table, noWork, formatting, inserting, deleting, repairing}
 use Rattle.call_find.specs.Answers.{foundReply}
 use Rattle.call_find.specs.Find.{findOf}
@@ -36,8 +37,8 @@ handed h = record { reply = startReply (h .begun); state = h .memory }
 abbrev pub asStepped : Step → Stepped Memory
 asStepped s = record { reply = stepReply (s .answer); card = s .card; state = s .memory }
 
-abbrev pub rationTable : Table
-rationTable =
+abbrev pub rationTable : ℕ → Table
+rationTable greatest =
     record {
       State = Memory;
       nodes = λ m. m .nodes;
@@ -45,11 +46,11 @@ rationTable =
       lastGiven = λ m. m .last;
       work = λ m. workOf (m .doing);
       toCome = λ m. m .rest;
-      find = λ c key. foundReply (findOf c key);
-      next = λ c number. nextReply (nextOf c number);
-      format = λ c. handed (formatOf c);
-      openCard = λ c. handed (openOf c);
-      insert = λ c m key value. handed (insertOf c m key value);
-      delete = λ c m key. handed (deleteOf c m key);
-      step = λ c m. asStepped (stepOf c m);
+      find = λ c key. foundReply (findOf greatest c key);
+      next = λ c number. nextReply (nextOf greatest c number);
+      format = λ c. handed (formatOf greatest c);
+      openCard = λ c. handed (openOf greatest c);
+      insert = λ c m key value. handed (insertOf greatest c m key value);
+      delete = λ c m key. handed (deleteOf greatest c m key);
+      step = λ c m. asStepped (stepOf greatest c m);
     }

@@ -58,11 +58,11 @@ module _ (T : Table) (c : List ℕ) where
     pub exact : (t : Tree) → WellFormed c t → (number : ℕ) → number < keyLimit → AnswersNext (pairs t) number (T .next c number)
     pub walks : (t : Tree) → WellFormed c t → Walked (pairs t)
 
-pub record W201 (T : Table) : Type 0 where
+pub record W201 (greatest : ℕ) (T : Table) : Type 0 where
   -- "like a find, and may come between steps": on a table as in demand 2, at every moment, by the book's pairs. The lists hold such
   -- calls themselves, and cuts too: so also between the steps of a repair, and of one begun again after a cut.
   pub moments : Always T (λ w b. (number : ℕ) → number < keyLimit → AnswersNext (b .held) number (T .next (w .card) number))
   pub walks : Always T (λ w b. Walked T (w .card) (b .held))
   -- every card, whatever its words: 1, 2, 3, and past them never 6; so also while formatting runs, with 2 from its first store to the
   -- last, which is the mark
-  pub cards : (c : List ℕ) → ByRows (cardRows c (nodesOn c) end) (λ r. (number : ℕ) → T .next c number ≡ refusal r) (OnAnyCard T c)
+  pub cards : (c : List ℕ) → ByRows (cardRows greatest c (nodesOn c) end) (λ r. (number : ℕ) → T .next c number ≡ refusal r) (OnAnyCard T c)

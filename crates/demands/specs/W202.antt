@@ -5,7 +5,7 @@ use mathlib.Core.List.{List}
 use mathlib.Core.Logic.{_↔_}
 use Prim.Native.Nat.{ℕ, _+_, _-_, _*_, _%_, _^_, _≤_, _<_}
 use lib.ListN.{length, getD, drop}
-use Rattle.card.specs.Layout.{leastNodes, greatestNodes}
+use Rattle.card.specs.Layout.{leastNodes, greatestNodes, limited}
 use Rattle.card.specs.Replies.{Reply, refusal, long}
 use Rattle.card_dump.specs.Dump.{paddedLength, wordsFor, dumpNodes}
 use Rattle.demands.specs.Refusals.{Rows, ByRows, end, row}
@@ -19,15 +19,15 @@ abbrev pub padding : List ℕ → List ℕ
 padding dump = drop (4 * wordsFor (dumpNodes dump)) dump
 
 -- Eight bytes as one number: those from number 8 × k on.
-module _ (eight : List ℕ → ℕ → ℕ) where
+module _ (greatest : ℕ) (eight : List ℕ → ℕ → ℕ) where
   -- "Refusal 11: length 0, not a multiple of 512, or above 57,856; word 1 not 4 to 600; padded length for that N not the dump's; a
   -- padding byte not 0", the last of them by eights
   pub record WholeDump (dump : List ℕ) : Type 0 where
     pub not-empty : length dump ≡ 0 → ⊥
     pub in-blocks : length dump % 512 ≡ 0
-    pub not-long : length dump ≤ 57856
+    pub not-long : length dump ≤ paddedLength (wordsFor (limited greatest))
     pub least : leastNodes ≤ dumpNodes dump
-    pub most : dumpNodes dump ≤ greatestNodes
+    pub most : dumpNodes dump ≤ limited greatest
     pub padded : paddedLength (wordsFor (dumpNodes dump)) ≡ length dump
     pub zeros : (k : ℕ) → 4 * wordsFor (dumpNodes dump) ≤ 8 * k → 8 * k < length dump → eight dump k ≡ 0
 
@@ -35,12 +35,12 @@ module _ (eight : List ℕ → ℕ → ℕ) where
   abbrev pub readRowsByEights : List ℕ → ℕ → Rows
   readRowsByEights dump lent = row 11 (WholeDump dump → ⊥) (row 12 (lent < wordsFor (dumpNodes dump)) end)
 
-pub record W202 (eight : List ℕ → ℕ → ℕ) (read : List ℕ → ℕ → Reply) : Type 0 where
+pub record W202 (greatest : ℕ) (eight : List ℕ → ℕ → ℕ) (read : List ℕ → ℕ → Reply) : Type 0 where
   -- "one 64-bit number", of bytes
   pub sixty-four : (dump : List ℕ) (k : ℕ) → ((i : ℕ) → getD dump i 0 < 256) → eight dump k < 2 ^ 64
   pub exactly : (dump : List ℕ) (k : ℕ) → (eight dump k ≡ 0) ↔ ((i : ℕ) → i < 8 → getD dump (8 * k + i) 0 ≡ 0)
   -- "its length is always a multiple of 32"
   pub in-eights : (n : ℕ) → leastNodes ≤ n → n ≤ greatestNodes → paddingLength n % 32 ≡ 0
-  pub as-long : (dump : List ℕ) → WholeDump eight dump → length (padding dump) ≡ paddingLength (dumpNodes dump)
+  pub as-long : (dump : List ℕ) → WholeDump greatest eight dump → length (padding dump) ≡ paddingLength (dumpNodes dump)
   -- "Answers and refusals remain what they were."
-  pub reads : (dump : List ℕ) (lent : ℕ) → ByRows (readRowsByEights eight dump lent) (λ r. read dump lent ≡ refusal r) (read dump lent ≡ long (wordsFor (dumpNodes dump)))
+  pub reads : (dump : List ℕ) (lent : ℕ) → ByRows (readRowsByEights greatest eight dump lent) (λ r. read dump lent ≡ refusal r) (read dump lent ≡ long (wordsFor (dumpNodes dump)))

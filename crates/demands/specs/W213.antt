@@ -39,9 +39,9 @@ module _ (part : List ℕ) (reply : Reply) where
   ByFind block found = ((found ≡ absent) × NoRecord absent) ⊎ ((at : ℕ) × (found ≡ holds at) × AtOffset block at)
 
 -- For every card, key and block. Nothing lent is written: neither question gives a card or a block back.
-pub record W213 (T : Table) (part : List ℕ → ℕ → List ℕ → List ℕ) (reply : List ℕ → ℕ → List ℕ → Reply) : Type 0 where
+pub record W213 (greatest : ℕ) (T : Table) (part : List ℕ → ℕ → List ℕ → List ℕ) (reply : List ℕ → ℕ → List ℕ → Reply) : Type 0 where
   -- the find's own refusals, 1, 2, 3, 6 and 9, come first
-  pub answers : (c : List ℕ) (key : ℕ) (block : List ℕ) → ByRows (findRows c key)
+  pub answers : (c : List ℕ) (key : ℕ) (block : List ℕ) → ByRows (findRows greatest c key)
       (λ r. (T .find c key ≡ refusal r) × NoRecord (part c key block) (reply c key block) (refusal r)) (ByFind (part c key block) (reply c key block) block (T .find c key))
   -- the two questions agree: "found" exactly where the part is not empty
   pub found-exactly : (c : List ℕ) (key : ℕ) (block : List ℕ) → (reply c key block ≡ fetched) ↔ (1 ≤ length (part c key block))

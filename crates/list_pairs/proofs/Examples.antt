@@ -1,5 +1,6 @@
 -- The definitions at work on the input that document 01 gives the list program.
 use mathlib.Core.Path.{_≡_, refl}
+use Rattle.card.specs.Layout.{greatestNodes}
 use mathlib.Core.List.{[], _∷_}
 use Rattle.card.specs.Header.{nodesOfLength, headerRefusal, cardRefusal}
 use Rattle.card.specs.Layout.{nodeAt, keyWords, valueWords, leafPairs, nodeImage}
@@ -16,7 +17,7 @@ use Rattle.walk_next.specs.Successor.{nearer, nearerAbove, leastAbove, found, n
 use Rattle.list_pairs.specs.Listing.{listChecked, listTable, listBegun, listCard, listRead, listDump, listed}
 
 -- "nodes 4 free 3 levels 0 pairs 2", then "3 31" and "7 70": "3 before 7 in its sample"
-example-listed : listDump (dumpOf example) 104 ≡ listed (record { nodes = 4; free = 3; levels = 0; pairs = (3, 31) ∷ (7, 70) ∷ [] })
+example-listed : listDump greatestNodes (dumpOf example) 104 ≡ listed (record { nodes = 4; free = 3; levels = 0; pairs = (3, 31) ∷ (7, 70) ∷ [] })
 unfolding example nodeImage readAnswer damaged faults fittingLength dumpOf cardBytes wordBytes wordAt paddedLength dumpWords listDump
     listRead listCard listBegun listTable listChecked openedCard repairedCard isIdle openOf openChecked openSound resting cardRefusal
     headerRefusal nodesOfLength tableCheck nodeCheck onLook enterNode enterKind enterLeaf leafSound slotSound member allNodes countTrue

@@ -1,5 +1,6 @@
 -- Laws of what is answered: one for each branch of the code.
 use mathlib.Core.Path.{_≡_, refl}
+use Rattle.card.specs.Layout.{greatestNodes}
 use mathlib.Core.List.{List}
 use mathlib.Core.Option.{none, some}
 use Prim.Native.Nat.{ℕ}
@@ -35,7 +36,7 @@ module _ (card : List ℕ) (n : ℕ) where
   table-unsound d e = rw (ne-eqb n 0 d, e)
 
   pub table-sound : (h : ℕ) (f : Findings) → (n ≡ 0 → ⊥) → tableCheck card n ≡ some (h, f)
-      → listTable card n ≡ listed (record { nodes = n; free = countTrue (f .free); levels = h; pairs = walkFrom mostPairs card 0 })
+      → listTable card n ≡ listed (record { nodes = n; free = countTrue (f .free); levels = h; pairs = walkFrom greatestNodes mostPairs card 0 })
   unfolding listTable listChecked
   table-sound h f d e = rw (ne-eqb n 0 d, e)
 
@@ -47,27 +48,27 @@ summary-listed x l words at after e p = rw (e, ← p) (refl, refl)
 -- ---- a card, by what opening answers
 
 module _ (card : List ℕ) where
-  pub card-refused : (r : ℕ) → openOf card .begun ≡ Refused r → listCard card ≡ refused r
+  pub card-refused : (r : ℕ) → openOf greatestNodes card .begun ≡ Refused r → listCard card ≡ refused r
   unfolding listCard listBegun
   card-refused r e = rw e
 
   -- where opening does not refuse
-  pub card-listed : ((r : ℕ) → openOf card .begun ≡ Refused r → ⊥) → listCard card ≡ listTable (openedCard card .card) (nodesOfLength (length card))
+  pub card-listed : ((r : ℕ) → openOf greatestNodes card .begun ≡ Refused r → ⊥) → listCard card ≡ listTable (openedCard card .card) (nodesOfLength greatestNodes (length card))
   unfolding listCard listBegun
-  card-listed opens = go (openOf card .begun) opens
+  card-listed opens = go (openOf greatestNodes card .begun) opens
     where
-      go : (b : Begun) → ((r : ℕ) → b ≡ Refused r → ⊥) → listBegun card b ≡ listTable (openedCard card .card) (nodesOfLength (length card))
+      go : (b : Begun) → ((r : ℕ) → b ≡ Refused r → ⊥) → listBegun card b ≡ listTable (openedCard card .card) (nodesOfLength greatestNodes (length card))
       go Idle f = refl
       go Started f = refl
       go (Refused r) f = absurd (f r refl)
 
 -- ---- a dump
 
-module _ (dump : List ℕ) (lent : ℕ) where
-  pub dump-refused : (r : ℕ) → readAnswer dump lent ≡ ReadRefused r → listDump dump lent ≡ refused r
+module _ (greatest : ℕ) (dump : List ℕ) (lent : ℕ) where
+  pub dump-refused : (r : ℕ) → readAnswer greatest dump lent ≡ ReadRefused r → listDump greatest dump lent ≡ refused r
   unfolding listDump listRead
   dump-refused r e = rw e
 
-  pub dump-read : (size : ℕ) → readAnswer dump lent ≡ Length size → listDump dump lent ≡ listCard (dumpWords size dump)
+  pub dump-read : (size : ℕ) → readAnswer greatest dump lent ≡ Length size → listDump greatest dump lent ≡ listCard (dumpWords size dump)
   unfolding listDump listRead
   dump-read size e = rw e

@@ -41,7 +41,7 @@ pub data Listed : Type 0 where
 -- a table that was checked; "4: table not sound"
 unfoldable pub listChecked : List ℕ → ℕ → Option (ℕ × Findings) → Listed
 listChecked card n none = refused 4
-listChecked card n (some r) = listed (record { nodes = n; free = countTrue (r .1 .free); levels = r .0; pairs = walkFrom mostPairs card 0 })
+listChecked card n (some r) = listed (record { nodes = n; free = countTrue (r .1 .free); levels = r .0; pairs = walkFrom greatestNodes mostPairs card 0 })
 
 unfoldable pub listTable : List ℕ → ℕ → Listed
 listTable card n = pick (eqb n 0) (refused 1) (listChecked card n (tableCheck card n))
@@ -49,20 +49,20 @@ listTable card n = pick (eqb n 0) (refused 1) (listChecked card n (tableCheck ca
 -- "opens and repairs it in memory"
 unfoldable pub listBegun : List ℕ → Begun → Listed
 listBegun card (Refused r) = refused r
-listBegun card Idle = listTable (openedCard card .card) (nodesOfLength (length card))
-listBegun card Started = listTable (openedCard card .card) (nodesOfLength (length card))
+listBegun card Idle = listTable (openedCard card .card) (nodesOfLength greatestNodes (length card))
+listBegun card Started = listTable (openedCard card .card) (nodesOfLength greatestNodes (length card))
 
 -- a card: opened, repaired, and its table read
 unfoldable pub listCard : List ℕ → Listed
-listCard card = listBegun card (openOf card .begun)
+listCard card = listBegun card (openOf greatestNodes card .begun)
 
 unfoldable pub listRead : List ℕ → Answer → Listed
 listRead dump (ReadRefused r) = refused r
 listRead dump (Length size) = listCard (dumpWords size dump)
 
--- a dump, read into so many words: "Reading a dump checks 11, 12"
-unfoldable pub listDump : List ℕ → ℕ → Listed
-listDump dump lent = listRead dump (readAnswer dump lent)
+-- a dump of a card up to some greatest N, read into so many words: "Reading a dump checks 11, 12"
+unfoldable pub listDump : ℕ → List ℕ → ℕ → Listed
+listDump greatest dump lent = listRead dump (readAnswer greatest dump lent)
 
 -- ---- how the pairs are stored: key, value, key, value .., as many as a lent slice has room for
 

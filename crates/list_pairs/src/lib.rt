@@ -9,6 +9,7 @@ use table::STATE_WORDS;
 ghost use mathlib.Core.Path.{_≡_};
 ghost use lib.ListN.{length};
 ghost use Rattle.call_repair.specs.Repairing.{openedCard, openedOver};
+ghost use Rattle.card.specs.Layout.{greatestNodes};
 ghost use Rattle.card.specs.Header.{nodesOfLength};
 ghost use Rattle.list_pairs.specs.Listing.{listTable, listCard, listDump, layListed};
 ghost use Rattle.list_pairs.specs.Summaries.{summaryOf};
@@ -38,10 +39,10 @@ fn refusing(refusal: u32) -> Summary
 
 // The table of a card as it is, checked once more: its height and its free nodes are those that the check finds.
 fn list_table(card: &[u32], out: &mut [u32]) -> Summary
-    ensures { λ r. ⌜ r ≡ summaryOf (listTable (now (card .entry)) (nodesOfLength (length (now (card .entry))))) (now (out .entry)) ⌝ }
-    ensures { λ r. ⌜ now (out .exit) ≡ layListed (listTable (now (card .entry)) (nodesOfLength (length (now (card .entry))))) (now (out .entry)) .words ⌝ }
+    ensures { λ r. ⌜ r ≡ summaryOf (listTable (now (card .entry)) (nodesOfLength greatestNodes (length (now (card .entry))))) (now (out .entry)) ⌝ }
+    ensures { λ r. ⌜ now (out .exit) ≡ layListed (listTable (now (card .entry)) (nodesOfLength greatestNodes (length (now (card .entry))))) (now (out .entry)) .words ⌝ }
 {
-    let n = card::nodes_of(card.len());
+    let n = card::nodes_of(card.len(), card::GREATEST_NODES);
     if n == 0 {
         return refusing(1);
     }
@@ -74,13 +75,13 @@ pub fn list_card(card: &mut [u32], out: &mut [u32]) -> Summary
     }
 }
 
-// A dump, read into a lent slice.
-pub fn list_dump(bytes: &[u8], card: &mut [u32], out: &mut [u32]) -> Summary
-    ensures { λ r. ⌜ r ≡ summaryOf (listDump (now (bytes .entry)) (length (now (card .entry)))) (now (out .entry)) ⌝ }
-    ensures { λ r. ⌜ now (out .exit) ≡ layListed (listDump (now (bytes .entry)) (length (now (card .entry)))) (now (out .entry)) .words ⌝ }
-    ensures { λ r. ⌜ now (card .exit) ≡ openedOver (now (bytes .entry)) (now (card .entry)) ⌝ }
+// A dump of a card up to some greatest N, read into a lent slice.
+pub fn list_dump(bytes: &[u8], card: &mut [u32], out: &mut [u32], greatest: usize) -> Summary
+    ensures { λ r. ⌜ r ≡ summaryOf (listDump greatest (now (bytes .entry)) (length (now (card .entry)))) (now (out .entry)) ⌝ }
+    ensures { λ r. ⌜ now (out .exit) ≡ layListed (listDump greatest (now (bytes .entry)) (length (now (card .entry)))) (now (out .entry)) .words ⌝ }
+    ensures { λ r. ⌜ now (card .exit) ≡ openedOver greatest (now (bytes .entry)) (now (card .entry)) ⌝ }
 {
-    match card_dump::read_dump(bytes, card) {
+    match card_dump::read_dump(bytes, card, greatest) {
         card_dump::Answer::Refused(refusal) => refusing(refusal),
         card_dump::Answer::Length(size) => list_card(&mut card[..size], out),
     }

@@ -68,10 +68,10 @@ pairRoom = 22 * programNodes
 abbrev pub zeros : ℕ → List ℕ
 zeros n = replicate n 0
 
--- the listing of a dump as it is handed to the printing. It is `listDump dump cardRoom`: demands, ListText `handed-whole`
+-- the listing of a dump as it is handed to the printing. It is `listDump programNodes dump cardRoom`: demands, ListText `handed-whole`
 unfoldable pub listingHanded : List ℕ → Listed
-listingHanded dump = listingTold (summaryOf (listDump dump cardRoom) (zeros pairRoom)) (layListed (listDump dump cardRoom) (zeros pairRoom) .words)
+listingHanded dump = listingTold (summaryOf (listDump programNodes dump cardRoom) (zeros pairRoom)) (layListed (listDump programNodes dump cardRoom) (zeros pairRoom) .words)
 
--- the text of a dump. It is `listText (listDump dump cardRoom)`: demands, ListText `text-right`
+-- the text of a dump. It is `listText (listDump programNodes dump cardRoom)`: demands, ListText `text-right`
 unfoldable pub dumpText : List ℕ → List ℕ
 dumpText dump = listText (listingHanded dump)

@@ -68,7 +68,7 @@ pub fn list_text(dump: &[u8], text: &mut Text) -> usize
 {
     let mut card = [0u32; card::PROGRAM_WORDS];
     let mut out = [0u32; PAIR_WORDS];
-    let s = list_pairs::list_dump(dump, &mut card, &mut out);
+    let s = list_pairs::list_dump(dump, &mut card, &mut out, card::PROGRAM_NODES);
     if s.refusal != 0 {
         return put_refusal(text, s.refusal);
     }

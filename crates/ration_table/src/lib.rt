@@ -9,6 +9,7 @@ use c_replies::with_depth;
 ghost use mathlib.Core.Path.{_≡_};
 ghost use mathlib.Core.Bool.{false};
 ghost use lib.ListN.{length};
+ghost use Rattle.card.specs.Layout.{greatestNodes};
 ghost use Rattle.card_dump.specs.Dump.{readAnswer, readOver, writeAnswer, writeOver};
 ghost use Rattle.card_dump.specs.Answers.{dumpReply};
 ghost use Rattle.call_find.specs.Answers.{foundReply};
@@ -29,7 +30,7 @@ ghost use Rattle.c_replies.specs.ReplyWords.{replyOf};
 // "A find is one call on the card alone".
 #[no_mangle]
 pub extern "C" fn ration_find(card: &[u32], key: u32) -> Reply
-    ensures { λ r. ⌜ replyOf r ≡ withDepth (findDepth (now (card .entry)) key) (foundReply (findOf (now (card .entry)) key)) ⌝ }
+    ensures { λ r. ⌜ replyOf r ≡ withDepth (findDepth greatestNodes (now (card .entry)) key) (foundReply (findOf greatestNodes (now (card .entry)) key)) ⌝ }
 {
     let lookup = table::find_with_depth(card, key);
     let found = lookup.found;
@@ -39,7 +40,7 @@ pub extern "C" fn ration_find(card: &[u32], key: u32) -> Reply
 // "It reads the card only, like a find, and may come between steps."
 #[no_mangle]
 pub extern "C" fn ration_next(card: &[u32], after: u32) -> Reply
-    ensures { λ r. ⌜ replyOf r ≡ withDepth (nextDepth (now (card .entry)) after) (nextReply (nextOf (now (card .entry)) after)) ⌝ }
+    ensures { λ r. ⌜ replyOf r ≡ withDepth (nextDepth greatestNodes (now (card .entry)) after) (nextReply (nextOf greatestNodes (now (card .entry)) after)) ⌝ }
 {
     let next = table::next_with_depth(card, after);
     let successor = next.successor;
@@ -49,7 +50,7 @@ pub extern "C" fn ration_next(card: &[u32], after: u32) -> Reply
 // "Formatting needs no earlier state".
 #[no_mangle]
 pub extern "C" fn ration_start_format(card: &[u32], state: &mut [u32]) -> Reply
-    ensures { λ r. ⌜ Replies startReply (replyOf r) (λ begun. OpenCall (now (state .entry)) (now (state .exit)) begun (formatOf (now (card .entry)))) ⌝ }
+    ensures { λ r. ⌜ Replies startReply (replyOf r) (λ begun. OpenCall (now (state .entry)) (now (state .exit)) begun (formatOf greatestNodes (now (card .entry)))) ⌝ }
 {
     start_reply(table::start_format(card, state))
 }
@@ -57,7 +58,7 @@ pub extern "C" fn ration_start_format(card: &[u32], state: &mut [u32]) -> Reply
 // "Opening stores nothing".
 #[no_mangle]
 pub extern "C" fn ration_open(card: &[u32], state: &mut [u32]) -> Reply
-    ensures { λ r. ⌜ Replies startReply (replyOf r) (λ begun. OpenCall (now (state .entry)) (now (state .exit)) begun (openOf (now (card .entry)))) ⌝ }
+    ensures { λ r. ⌜ Replies startReply (replyOf r) (λ begun. OpenCall (now (state .entry)) (now (state .exit)) begun (openOf greatestNodes (now (card .entry)))) ⌝ }
 {
     start_reply(table::open(card, state))
 }
@@ -71,7 +72,7 @@ pub extern "C" fn ration_start_insert(
     value: u32,
 ) -> Reply
     ensures { λ r. ⌜ Replies startReply (replyOf r) (λ begun. StartCall (now (state .entry)) (now (state .exit)) begun
-        (Inserting key value NotBegun) (insertOf (now (card .entry)) (memoryIn (now (state .entry))) key value)) ⌝ }
+        (Inserting key value NotBegun) (insertOf greatestNodes (now (card .entry)) (memoryIn (now (state .entry))) key value)) ⌝ }
 {
     start_reply(table::start_insert(card, state, key, value))
 }
@@ -80,7 +81,7 @@ pub extern "C" fn ration_start_insert(
 #[no_mangle]
 pub extern "C" fn ration_start_delete(card: &[u32], state: &mut [u32], key: u32) -> Reply
     ensures { λ r. ⌜ Replies startReply (replyOf r) (λ begun. StartCall (now (state .entry)) (now (state .exit)) begun
-        (Deleting key NotBegun 0) (deleteOf (now (card .entry)) (memoryIn (now (state .entry))) key)) ⌝ }
+        (Deleting key NotBegun 0) (deleteOf greatestNodes (now (card .entry)) (memoryIn (now (state .entry))) key)) ⌝ }
 {
     start_reply(table::start_delete(card, state, key))
 }
@@ -90,7 +91,7 @@ pub extern "C" fn ration_start_delete(card: &[u32], state: &mut [u32], key: u32)
 #[no_mangle]
 pub extern "C" fn ration_step(card: &mut [u32], state: &mut [u32]) -> Reply
     ensures { λ r. ⌜ Replies (λ answer. withDepth (toldDepth (memoryIn (now (state .exit)) .depth) answer) (stepReply answer)) (replyOf r)
-        (λ answer. StepCall (now (card .entry)) (now (state .entry)) (now (card .exit)) (now (state .exit)) answer) ⌝ }
+        (λ answer. StepCall greatestNodes (now (card .entry)) (now (state .entry)) (now (card .exit)) (now (state .exit)) answer) ⌝ }
 {
     let answer = table::step(card, state);
     step_reply(answer, state)
@@ -99,19 +100,19 @@ pub extern "C" fn ration_step(card: &mut [u32], state: &mut [u32]) -> Reply
 // "Reading a dump checks 11, 12".
 #[no_mangle]
 pub extern "C" fn ration_read_dump(dump: &[u8], words: &mut [u32]) -> Reply
-    ensures { λ r. ⌜ replyOf r ≡ dumpReply (readAnswer (now (dump .entry)) (length (now (words .entry)))) ⌝ }
-    ensures { λ r. ⌜ now (words .exit) ≡ readOver (now (dump .entry)) (now (words .entry)) ⌝ }
+    ensures { λ r. ⌜ replyOf r ≡ dumpReply (readAnswer greatestNodes (now (dump .entry)) (length (now (words .entry)))) ⌝ }
+    ensures { λ r. ⌜ now (words .exit) ≡ readOver greatestNodes (now (dump .entry)) (now (words .entry)) ⌝ }
 {
-    let answer = card_dump::read_dump(dump, words);
+    let answer = card_dump::read_dump(dump, words, card::GREATEST_NODES);
     dump_reply(answer)
 }
 
 // "writing one checks 1, 2, 3, 12".
 #[no_mangle]
 pub extern "C" fn ration_write_dump(card: &[u32], bytes: &mut [u8]) -> Reply
-    ensures { λ r. ⌜ replyOf r ≡ dumpReply (writeAnswer (now (card .entry)) (length (now (bytes .entry)))) ⌝ }
-    ensures { λ r. ⌜ now (bytes .exit) ≡ writeOver (now (card .entry)) (now (bytes .entry)) ⌝ }
+    ensures { λ r. ⌜ replyOf r ≡ dumpReply (writeAnswer greatestNodes (now (card .entry)) (length (now (bytes .entry)))) ⌝ }
+    ensures { λ r. ⌜ now (bytes .exit) ≡ writeOver greatestNodes (now (card .entry)) (now (bytes .entry)) ⌝ }
 {
-    let answer = card_dump::write_dump(card, bytes);
+    let answer = card_dump::write_dump(card, bytes, card::GREATEST_NODES);
     dump_reply(answer)
 }

@@ -1,5 +1,6 @@
 -- Laws of the reason: one for each branch of the code.
 use mathlib.Core.Path.{_≡_, refl, sym, subst, _∙_}
+use Rattle.card.specs.Layout.{greatestNodes}
 use mathlib.Core.Bool.{Bool}
 use mathlib.Core.List.{List, [], _∷_}
 use Prim.Native.Nat.{ℕ}
@@ -19,29 +20,29 @@ use Rattle.card_dump.specs.declared.Answer.the-variants.{Length, Refused as Rea
 use Rattle.reason.specs.InsertReason.{reasonLanded, reasonOn, reasonBegun, reasonOf, reasonRead, reasonInDump}
 use Rattle.reason.specs.declared.Reason.the-variants.{Refused, NoKey}
 
-module _ (card : List ℕ) (free : List Bool) (key n : ℕ) (counted : n ≡ nodesOfLength (length card)) where
+module _ (card : List ℕ) (free : List Bool) (key n : ℕ) (counted : n ≡ nodesOfLength greatestNodes (length card)) where
   pub on-no-length : n ≡ 0 → reasonOn card free key ≡ Refused 1
   unfolding reasonOn
-  on-no-length z = simp (eq-eqb (nodesOfLength (length card)) 0 (sym counted ∙ z))
+  on-no-length z = simp (eq-eqb (nodesOfLength greatestNodes (length card)) 0 (sym counted ∙ z))
 
   pub on-no-key : (n ≡ 0 → ⊥) → key ≡ 0 → reasonOn card free key ≡ NoKey
   unfolding reasonOn
-  on-no-key p z = simp (ne-eqb (nodesOfLength (length card)) 0 (λ q. p (counted ∙ q)), eq-eqb key 0 z)
+  on-no-key p z = simp (ne-eqb (nodesOfLength greatestNodes (length card)) 0 (λ q. p (counted ∙ q)), eq-eqb key 0 z)
 
   pub on-key : (n ≡ 0 → ⊥) → (key ≡ 0 → ⊥) → reasonOn card free key ≡ reasonLanded card free key (landing card n key)
   unfolding reasonOn
-  on-key p q = simp (ne-eqb (nodesOfLength (length card)) 0 (λ z. p (counted ∙ z)), ne-eqb key 0 q, ← counted)
+  on-key p q = simp (ne-eqb (nodesOfLength greatestNodes (length card)) 0 (λ z. p (counted ∙ z)), ne-eqb key 0 q, ← counted)
 
 module _ (card : List ℕ) (key : ℕ) where
-  pub of-refused : (r : ℕ) → openOf card .begun ≡ BegunRefused r → reasonOf card key ≡ Refused r
+  pub of-refused : (r : ℕ) → openOf greatestNodes card .begun ≡ BegunRefused r → reasonOf card key ≡ Refused r
   unfolding reasonOf reasonBegun
   of-refused r e = rw e
 
-  pub of-opened : ((r : ℕ) → openOf card .begun ≡ BegunRefused r → ⊥) → reasonOf card key ≡ reasonOn (openedCard card .card) (openedCard card .memory .free) key
+  pub of-opened : ((r : ℕ) → openOf greatestNodes card .begun ≡ BegunRefused r → ⊥) → reasonOf card key ≡ reasonOn (openedCard card .card) (openedCard card .memory .free) key
   unfolding reasonOf reasonBegun
-  of-opened unrefused = go (openOf card .begun) refl
+  of-opened unrefused = go (openOf greatestNodes card .begun) refl
     where
-      go : (b : Begun) → openOf card .begun ≡ b → reasonOf card key ≡ reasonOn (openedCard card .card) (openedCard card .memory .free) key
+      go : (b : Begun) → openOf greatestNodes card .begun ≡ b → reasonOf card key ≡ reasonOn (openedCard card .card) (openedCard card .memory .free) key
       go Idle e = rw e
       go Started e = rw e
       go (BegunRefused r) e = absurd (unrefused r e)
@@ -50,11 +51,11 @@ module _ (card : List ℕ) (key : ℕ) where
 pub is-unrefused : (b : Begun) → OneOf (0 ∷ 1 ∷ []) (tagOf the-type b) → (r : ℕ) → b ≡ BegunRefused r → ⊥
 is-unrefused b o r e = miss (0 ∷ 1 ∷ []) 2 tt (subst (λ (x : Begun). OneOf (0 ∷ 1 ∷ []) (tagOf the-type x)) e o)
 
-module _ (dump : List ℕ) (lent key : ℕ) where
-  pub dump-refused : (r : ℕ) → readAnswer dump lent ≡ ReadRefused r → reasonInDump dump lent key ≡ Refused r
+module _ (greatest : ℕ) (dump : List ℕ) (lent key : ℕ) where
+  pub dump-refused : (r : ℕ) → readAnswer greatest dump lent ≡ ReadRefused r → reasonInDump greatest dump lent key ≡ Refused r
   unfolding reasonInDump reasonRead
   dump-refused r e = rw e
 
-  pub dump-read : (size : ℕ) → readAnswer dump lent ≡ Length size → reasonInDump dump lent key ≡ reasonOf (dumpWords size dump) key
+  pub dump-read : (size : ℕ) → readAnswer greatest dump lent ≡ Length size → reasonInDump greatest dump lent key ≡ reasonOf (dumpWords size dump) key
   unfolding reasonInDump reasonRead
   dump-read size e = rw e

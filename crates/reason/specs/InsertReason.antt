@@ -6,6 +6,7 @@ use Prim.Native.Nat.{ℕ}
 use lib.ListN.{length}
 use lib.Dec.{eqb}
 use Rattle.laws.specs.Cases.{pick}
+use Rattle.card.specs.Layout.{greatestNodes}
 use Rattle.card.specs.Header.{nodesOfLength}
 use Rattle.card.specs.Layout.{nodeAt}
 use Rattle.card_free.specs.NodeSet.{countTrue}
@@ -37,8 +38,8 @@ reasonLanded card free key (LandingAt m link run) = reasonFor (insertReason (nod
 -- on a card with these free nodes; a key of 0 is no key
 unfoldable pub reasonOn : List ℕ → List Bool → ℕ → Reason
 reasonOn card free key =
-    pick (eqb (nodesOfLength (length card)) 0) (Refused 1)
-    (pick (eqb key 0) NoKey (reasonLanded card free key (landing card (nodesOfLength (length card)) key)))
+    pick (eqb (nodesOfLength greatestNodes (length card)) 0) (Refused 1)
+    (pick (eqb key 0) NoKey (reasonLanded card free key (landing card (nodesOfLength greatestNodes (length card)) key)))
 
 -- "opens and repairs it"; "refusals print first, as `list` prints them"
 unfoldable pub reasonBegun : List ℕ → ℕ → Begun → Reason
@@ -47,12 +48,12 @@ reasonBegun card key Idle = reasonOn (openedCard card .card) (openedCard card .m
 reasonBegun card key Started = reasonOn (openedCard card .card) (openedCard card .memory .free) key
 
 unfoldable pub reasonOf : List ℕ → ℕ → Reason
-reasonOf card key = reasonBegun card key (openOf card .begun)
+reasonOf card key = reasonBegun card key (openOf greatestNodes card .begun)
 
--- "A program reads a dump from standard input": into so many words
+-- "A program reads a dump from standard input": of a card up to some greatest N, into so many words
 unfoldable pub reasonRead : List ℕ → ℕ → Answer → Reason
 reasonRead dump key (ReadRefused r) = Refused r
 reasonRead dump key (Length size) = reasonOf (dumpWords size dump) key
 
-unfoldable pub reasonInDump : List ℕ → ℕ → ℕ → Reason
-reasonInDump dump lent key = reasonRead dump key (readAnswer dump lent)
+unfoldable pub reasonInDump : ℕ → List ℕ → ℕ → ℕ → Reason
+reasonInDump greatest dump lent key = reasonRead dump key (readAnswer greatest dump lent)

@@ -64,7 +64,7 @@ fn reason_on(card: &[u32], free: &[u32], key: u32) -> Reason
     requires { ⌜ length (now free) ≡ wordCount ⌝ }
     ensures { λ r. ⌜ r ≡ reasonOn (now (card .entry)) (nodesOf (now (free .entry))) key ⌝ }
 {
-    let n = card::nodes_of(card.len());
+    let n = card::nodes_of(card.len(), card::GREATEST_NODES);
     if n == 0 {
         return Reason::Refused(1);
     }
@@ -99,22 +99,22 @@ pub fn insert_reason(card: &mut [u32], key: u32) -> Reason
     reason_with(card, &state, key)
 }
 
-// A dump, read into a lent slice.
-pub fn insert_reason_in_dump(bytes: &[u8], card: &mut [u32], key: u32) -> Reason
-    ensures { λ r. ⌜ r ≡ reasonInDump (now (bytes .entry)) (length (now (card .entry))) key ⌝ }
-    ensures { λ r. ⌜ now (card .exit) ≡ openedOver (now (bytes .entry)) (now (card .entry)) ⌝ }
+// A dump of a card up to some greatest N, read into a lent slice.
+pub fn insert_reason_in_dump(bytes: &[u8], card: &mut [u32], key: u32, greatest: usize) -> Reason
+    ensures { λ r. ⌜ r ≡ reasonInDump greatest (now (bytes .entry)) (length (now (card .entry))) key ⌝ }
+    ensures { λ r. ⌜ now (card .exit) ≡ openedOver greatest (now (bytes .entry)) (now (card .entry)) ⌝ }
 {
-    match card_dump::read_dump(bytes, card) {
+    match card_dump::read_dump(bytes, card, greatest) {
         card_dump::Answer::Refused(refusal) => Reason::Refused(refusal),
         card_dump::Answer::Length(size) => insert_reason(&mut card[..size], key),
     }
 }
 
 // "then reads a key from the last line of a file": of a dump and of the bytes of that file.
-pub fn insert_reason_for_file(dump: &[u8], file: &[u8], card: &mut [u32]) -> Reason
-    ensures { λ r. ⌜ r ≡ reasonInDump (now (dump .entry)) (length (now (card .entry))) (keyIn (now (file .entry))) ⌝ }
-    ensures { λ r. ⌜ now (card .exit) ≡ openedOver (now (dump .entry)) (now (card .entry)) ⌝ }
+pub fn insert_reason_for_file(dump: &[u8], file: &[u8], card: &mut [u32], greatest: usize) -> Reason
+    ensures { λ r. ⌜ r ≡ reasonInDump greatest (now (dump .entry)) (length (now (card .entry))) (keyIn (now (file .entry))) ⌝ }
+    ensures { λ r. ⌜ now (card .exit) ≡ openedOver greatest (now (dump .entry)) (now (card .entry)) ⌝ }
 {
     let key = reason_key::key_in(file);
-    insert_reason_in_dump(dump, card, key)
+    insert_reason_in_dump(dump, card, key, greatest)
 }

@@ -6,6 +6,7 @@ use Rattle.reason.specs.InsertReason.{reasonInDump}
 use Rattle.reason.specs.declared.Reason.{Reason}
 use Rattle.reason.specs.declared.Reason.the-variants.{Refused, NoKey, Held, Slot, Split}
 use Rattle.reason_key.specs.KeyFile.{keyIn}
+use Rattle.card.specs.Layout.{programNodes}
 use Rattle.call_repair.specs.Repairing.{cardRoom}
 
 -- "no key"
@@ -42,4 +43,4 @@ reasonText (Split run free need) = splitLine run free need
 
 -- what is printed of a dump and of the bytes of the file that has the key
 unfoldable pub checkText : List ℕ → List ℕ → List ℕ
-checkText dump file = reasonText (reasonInDump dump cardRoom (keyIn file))
+checkText dump file = reasonText (reasonInDump programNodes dump cardRoom (keyIn file))

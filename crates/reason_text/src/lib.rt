@@ -50,7 +50,7 @@ pub fn check_text(dump: &[u8], file: &[u8], text: &mut Line) -> usize
     ensures { λ r. ⌜ now (text .exit) ≡ checkText (now (dump .entry)) (now (file .entry)) ++ drop (length (checkText (now (dump .entry)) (now (file .entry)))) (now (text .entry)) ⌝ }
 {
     let mut card = [0u32; card::PROGRAM_WORDS];
-    let reason = reason::insert_reason_for_file(dump, file, &mut card);
+    let reason = reason::insert_reason_for_file(dump, file, &mut card, card::PROGRAM_NODES);
     put_reason(text, reason)
 }
 

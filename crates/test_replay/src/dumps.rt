@@ -63,7 +63,7 @@ fn read_within(bytes: &[u8], size: usize, lent: &mut [u32], n: usize) -> Answer 
     if lent.len() < n {
         return Answer::Refused(0);
     }
-    card_dump::read_dump(&bytes[0..size], &mut lent[0..n])
+    card_dump::read_dump(&bytes[0..size], &mut lent[0..n], card::GREATEST_NODES)
 }
 
 // The same of the first `size` words written over the first n bytes.
@@ -74,7 +74,7 @@ fn write_within(words: &[u32], size: usize, lent: &mut [u8], n: usize) -> Answer
     if lent.len() < n {
         return Answer::Refused(0);
     }
-    card_dump::write_dump(&words[0..size], &mut lent[0..n])
+    card_dump::write_dump(&words[0..size], &mut lent[0..n], card::GREATEST_NODES)
 }
 
 fn read(bytes: &Bytes, input: &mut [u8; 4096], row: &mut [u64; 8]) {

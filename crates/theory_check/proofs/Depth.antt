@@ -8,6 +8,7 @@ use Prim.Native.Nat.{ℕ, zero, suc, _+_, _*_, _^_, _≤_, _<_}
 use native.Mathlib.Omega.{arith}
 use lib.ListN.{length}
 use lib.Pow.{pow-mono}
+use borrow.Author.Tests.{lt-ltb, le-ltb}
 use Rattle.card.specs.Layout.{greatestNodes, depthLimit}
 use Rattle.card.specs.NodeWords.{OnCard}
 use Rattle.laws.proofs.Cases.{order}
@@ -15,7 +16,7 @@ use Rattle.laws.specs.Totals.{indicator}
 use Rattle.theory_tree.proofs.Counting.{Upto, Uptos, size-le, Wide, Wides, size-height, sizes-height}
 use Rattle.theory_tree.proofs.Pairs.{depth, depths}
 use Rattle.theory_tree.specs.Represent.{Represents, RepresentsAll}
-use Rattle.theory_tree.specs.Height.{Height, AllHeight}
+use Rattle.theory_tree.specs.Height.{Height, AllHeight, levelsUpTo, mostLevels}
 use Rattle.theory_tree.specs.Tree.{Tree, Forest, roots, nodeTotal, nodeTotals, leaf, node, one, more}
 use Rattle.theory_tree.proofs.Violations.{few-zero}
 use Rattle.theory_tree.specs.Violations.{violations, forestViolations, RootOk, tableViolations}
@@ -42,9 +43,20 @@ pub balanced-height : (h levels n : ℕ) (t : Tree) → suc n < 2 ^ suc levels �
 balanced-height h levels n t small i r e s =
     order h levels (λ o. o) (λ o. absurd (omega (arith, size-height h t i (balanced-wide t r e), pow-mono {i = suc levels} {j = suc h} (omega arith))))
 
+-- the most levels that so many nodes allow are as many as any tree of them has
+levels-up-to : (most h nodes : ℕ) → h ≤ most → 2 ^ suc h ≤ suc nodes → h ≤ levelsUpTo most nodes
+levels-up-to zero h nodes l p = l
+levels-up-to (suc most) h nodes l p =
+    order (suc nodes) (2 ^ suc (suc most))
+    (λ o. rw (lt-ltb (suc nodes) (2 ^ suc (suc most)) o) (levels-up-to most h nodes
+    (order h (suc most) (λ q. omega arith) (λ q. absurd (omega (arith, o, p, pow-mono {i = suc (suc most)} {j = suc h} (omega arith))))) p))
+    (λ o. rw (le-ltb (suc nodes) (2 ^ suc (suc most)) o) l)
+
 -- "With 600 nodes a balanced tree has at most 8 internal levels"
-pub balanced-levels : (h : ℕ) (t : Tree) → Height h t → RootOk t → tableViolations t ≡ 0 → nodeTotal (λ m. 1) t ≤ greatestNodes → h ≤ 8
-balanced-levels h t i r e s = omega (arith, balanced-height h 9 greatestNodes t (omega arith) i r e s)
+pub balanced-levels : (h n : ℕ) (t : Tree) → n ≤ greatestNodes → Height h t → RootOk t → tableViolations t ≡ 0 → nodeTotal (λ m. 1) t ≤ n → h ≤ mostLevels n
+balanced-levels h n t few i r e s =
+    let below = balanced-height h depthLimit greatestNodes t (omega arith) i r e (omega arith) in
+    levels-up-to depthLimit h n (omega arith) (omega (arith, size-height h t i (balanced-wide t r e)))
 
 -- of two children or more, one has no violation where there is at most one
 children-size : (h : ℕ) (f : Forest) → AllHeight h f → 2 ≤ length (roots f) → forestViolations f ≤ 1 → 2 ^ suc h ≤ 2 + nodeTotals (λ m. 1) f

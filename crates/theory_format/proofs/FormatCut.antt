@@ -14,11 +14,11 @@ use Rattle.state.specs.Steps.{noBeginning}
 use Rattle.call_open.specs.Opening.{openOf}
 
 -- "2: word 0 not 1"
-unmarked-refused : (card : List ℕ) (n : ℕ) → Sized (length card) n → getD card 0 0 ≢ 1 → openOf card ≡ noBeginning 2
+unmarked-refused : (greatest : ℕ) (card : List ℕ) (n : ℕ) → Sized greatest (length card) n → getD card 0 0 ≢ 1 → openOf greatest card ≡ noBeginning 2
 unfolding openOf cardRefusal
-unmarked-refused card n s wrong = rw (sized-nodes (length card) n s, ne-eqb n 0 (omega (arith, s .least)), wrong-word0 card n wrong)
+unmarked-refused greatest card n s wrong = rw (sized-nodes greatest (length card) n s, ne-eqb n 0 (omega (arith, s .least)), wrong-word0 card n wrong)
 
-pub cut-refused : (c : List ℕ) (n made : ℕ) → Sized (length c) n → 1 ≤ made → made ≤ length c → openOf (formatCard n c made) ≡ noBeginning 2
-cut-refused c n made s low high =
+pub cut-refused : (greatest : ℕ) (c : List ℕ) (n made : ℕ) → Sized greatest (length c) n → 1 ≤ made → made ≤ length c → openOf greatest (formatCard n c made) ≡ noBeginning 2
+cut-refused greatest c n made s low high =
     let u = format-unfinished n c made low high in
-    unmarked-refused (formatCard n c made) n (rw (format-length n c made) s) (omega (arith, u .mark))
+    unmarked-refused greatest (formatCard n c made) n (rw (format-length n c made) s) (omega (arith, u .mark))

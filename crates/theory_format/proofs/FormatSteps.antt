@@ -37,20 +37,20 @@ abbrev pub freshMemory : ℕ → Memory
 freshMemory n = resting n (freshNodes n) formattedRoot Idle
 
 -- STARTING
-pub format-starts : (c : List ℕ) (n : ℕ) → Sized (length c) n → formatOf c ≡ record { begun = Started; memory = formatMemory n 0 }
+pub format-starts : (greatest : ℕ) (c : List ℕ) (n : ℕ) → Sized greatest (length c) n → formatOf greatest c ≡ record { begun = Started; memory = formatMemory n 0 }
 unfolding formatOf
-format-starts c n s = rw (sized-nodes (length c) n s, ne-eqb n 0 (omega (arith, s .least)))
+format-starts greatest c n s = rw (sized-nodes greatest (length c) n s, ne-eqb n 0 (omega (arith, s .least)))
 
 -- "1: length not 8 + 24 × N, N 4 to 600"
-pub format-refused : (c : List ℕ) → nodesOfLength (length c) ≡ 0 → formatOf c ≡ noBeginning 1
+pub format-refused : (greatest : ℕ) (c : List ℕ) → nodesOfLength greatest (length c) ≡ 0 → formatOf greatest c ≡ noBeginning 1
 unfolding formatOf
-format-refused c e = rw e
+format-refused greatest c e = rw e
 
 -- ONE STEP: "Formatting steps check only 1."
-step-formats : (card : List ℕ) (n made : ℕ) (free : List Bool) (last : ℕ) (o : Option Store) → Sized (length card) n → formatStore n (length card) made ≡ o
-    → stepOf card (resting n free last (Formatting made)) ≡ stepFormat card (resting n free last (Formatting made)) made o
+step-formats : (greatest : ℕ) (card : List ℕ) (n made : ℕ) (free : List Bool) (last : ℕ) (o : Option Store) → Sized greatest (length card) n → formatStore n (length card) made ≡ o
+    → stepOf greatest card (resting n free last (Formatting made)) ≡ stepFormat card (resting n free last (Formatting made)) made o
 unfolding stepOf heldBy stepHeld resting
-step-formats card n made free last o s e = rw (sized-nodes (length card) n s, ne-eqb n 0 (omega (arith, s .least)), eq-eqb n n refl, e)
+step-formats greatest card n made free last o s e = rw (sized-nodes greatest (length card) n s, ne-eqb n 0 (omega (arith, s .least)), eq-eqb n n refl, e)
 
 format-stores : (card : List ℕ) (n made : ℕ) (free : List Bool) (last : ℕ) (s : Store)
     → stepFormat card (resting n free last (Formatting made)) made (some s) ≡ record { answer = Stored (s .0); card = set card (s .0) (s .1); memory = resting n free last (Formatting (suc made)) }
@@ -62,8 +62,8 @@ format-ends : (card : List ℕ) (n made : ℕ) (free : List Bool) (last : ℕ) �
 unfolding stepFormat stepFinal idled resting
 format-ends card n made free last = refl
 
-module _ (c : List ℕ) (n : ℕ) (sized : Sized (length c) n) where
-  still-sized : (made : ℕ) → Sized (length (formatCard n c made)) n
+module _ (greatest : ℕ) (c : List ℕ) (n : ℕ) (sized : Sized greatest (length c) n) where
+  still-sized : (made : ℕ) → Sized greatest (length (formatCard n c made)) n
   still-sized made = rw (format-length n c made) sized
 
   same-store : (made : ℕ) → formatStore n (length (formatCard n c made)) made ≡ formatStore n (length c) made
@@ -71,16 +71,18 @@ module _ (c : List ℕ) (n : ℕ) (sized : Sized (length c) n) where
 
   -- after so many stores, at most as many as the card has words, a step makes the next one
   pub format-step-stores : (made : ℕ) → made ≤ length c
-      → stepOf (formatCard n c made) (formatMemory n made) ≡ record { answer = Stored (placeOf (formatStore n (length c) made)); card = formatCard n c (suc made); memory = formatMemory n (suc made) }
+      → stepOf greatest (formatCard n c made) (formatMemory n made)
+      ≡ record { answer = Stored (placeOf (formatStore n (length c) made)); card = formatCard n c (suc made); memory = formatMemory n (suc made) }
   format-step-stores made h =
       let f = some-store n (length c) made (omega (arith, sized .words)) h in
       rw (format-next n c made (f .0) (f .1), f .1)
-      (step-formats (formatCard n c made) n made (freshNodes n) formattedRoot (some (f .0)) (still-sized made) (same-store made ∙ f .1)
+      (step-formats greatest (formatCard n c made) n made (freshNodes n) formattedRoot (some (f .0)) (still-sized made) (same-store made ∙ f .1)
       ∙ format-stores (formatCard n c made) n made (freshNodes n) formattedRoot (f .0))
 
   -- after the last store a step answers "ready" and makes the state idle
-  pub format-step-ready : stepOf (formatCard n c (suc (length c))) (formatMemory n (suc (length c))) ≡ record { answer = Ready; card = formatCard n c (suc (length c)); memory = freshMemory n }
+  pub format-step-ready : stepOf greatest (formatCard n c (suc (length c))) (formatMemory n (suc (length c)))
+      ≡ record { answer = Ready; card = formatCard n c (suc (length c)); memory = freshMemory n }
   format-step-ready =
       let made : ℕ = suc (length c) in
-      step-formats (formatCard n c made) n made (freshNodes n) formattedRoot none (still-sized made) (same-store made ∙ format-end n (length c) made (omega arith))
+      step-formats greatest (formatCard n c made) n made (freshNodes n) formattedRoot none (still-sized made) (same-store made ∙ format-end n (length c) made (omega arith))
       ∙ format-ends (formatCard n c made) n made (freshNodes n) formattedRoot

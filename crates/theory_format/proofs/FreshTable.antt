@@ -29,8 +29,8 @@ use Rattle.theory_tree.specs.Violations.{tableViolations}
 abbrev pub freshTree : Tree
 freshTree = leaf 1 (replicate 11 0) (replicate 11 0)
 
-pub record FreshTable (card : List ℕ) (n : ℕ) : Type 0 where
-  pub sized : Sized (length card) n
+pub record FreshTable (greatest : ℕ) (card : List ℕ) (n : ℕ) : Type 0 where
+  pub sized : Sized greatest (length card) n
   pub formatted : Formatted card n
   pub holds : Holds card freshTree
   pub sound : Sound freshTree
@@ -39,7 +39,7 @@ pub record FreshTable (card : List ℕ) (n : ℕ) : Type 0 where
   pub exact : Exact n (freshNodes n) freshTree
   pub room : countTrue (freshNodes n) ≡ n - 1
 
-module _ (n : ℕ) (card : List ℕ) (s : Sized (length card) n) (f : Finished n (length card) card) where
+module _ (greatest : ℕ) (n : ℕ) (card : List ℕ) (s : Sized greatest (length card) n) (f : Finished n (length card) card) where
   fresh-header : Formatted card n
   fresh-header =
       let h = header-words n in
@@ -97,15 +97,15 @@ module _ (n : ℕ) (least : leastNodes ≤ n) (most : n ≤ greatestNodes) where
   fresh-room = omega (arith, count-remove (allNodes n) 1 (omega (arith, length-all n (omega arith))) (all-get n 1 (omega arith) (omega arith) (omega arith)), count-all n)
 
 -- the card after the last store, whatever it held before
-pub format-fresh : (c : List ℕ) (n : ℕ) → Sized (length c) n → FreshTable (formatCard n c (suc (length c))) n
-format-fresh c n s =
+pub format-fresh : (greatest : ℕ) (c : List ℕ) (n : ℕ) → Sized greatest (length c) n → FreshTable greatest (formatCard n c (suc (length c))) n
+format-fresh greatest c n s =
     let made : ℕ = suc (length c) in
-    let s′ : Sized (length (formatCard n c made)) n = rw (format-length n c made) s in
+    let s′ : Sized greatest (length (formatCard n c made)) n = rw (format-length n c made) s in
     let f : Finished n (length (formatCard n c made)) (formatCard n c made) = rw (format-length n c made) (format-finished n c (omega (arith, s .words))) in
     record {
       sized = s′;
-      formatted = fresh-header n (formatCard n c made) s′ f;
-      holds = fresh-holds n (formatCard n c made) s′ f;
+      formatted = fresh-header greatest n (formatCard n c made) s′ f;
+      holds = fresh-holds greatest n (formatCard n c made) s′ f;
       sound = fresh-sound;
       no-violations = refl;
       no-pairs = refl;

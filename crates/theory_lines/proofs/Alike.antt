@@ -58,27 +58,29 @@ pub data Outcome : Type 0 where
   refused : ℕ → Outcome
   answered : Answer → Outcome
 
-abbrev pub starts : Update → World rationTable → Begun
-starts (put key value) w = insertOf (w .card) (w .state) key value .begun
-starts (remove key) w = deleteOf (w .card) (w .state) key .begun
+abbrev pub starts : (greatest : ℕ) → Update → World (rationTable greatest) → Begun
+starts greatest (put key value) w = insertOf greatest (w .card) (w .state) key value .begun
+starts greatest (remove key) w = deleteOf greatest (w .card) (w .state) key .begun
 
 abbrev pub event : Update → Event
 event (put key value) = insert key value
 event (remove key) = delete key
 
 -- steps that store, and then the one that gives the final answer
-pub data Ends : World rationTable → World rationTable → Answer → Type 0 where
-  ends-here : {w : World rationTable} {a : Answer} → stepOf (w .card) (w .state) .answer ≡ a → IsFinal a → Ends w (happens rationTable step w) a
-  stores-first : {w v : World rationTable} {a : Answer} → IsStored (stepOf (w .card) (w .state) .answer) → Ends (happens rationTable step w) v a → Ends w v a
+pub data Ends (greatest : ℕ) : World (rationTable greatest) → World (rationTable greatest) → Answer → Type 0 where
+  ends-here : {w : World (rationTable greatest)} {a : Answer} → stepOf greatest (w .card) (w .state) .answer ≡ a → IsFinal a → Ends greatest w (happens (rationTable greatest) step w) a
+  stores-first : {w v : World (rationTable greatest)} {a : Answer} → IsStored (stepOf greatest (w .card) (w .state) .answer)
+      → Ends greatest (happens (rationTable greatest) step w) v a → Ends greatest w v a
 
 -- a whole call, and a list of them: "each call .. runs to its end before the next, without cuts"
-pub data Whole (u : Update) : World rationTable → World rationTable → Outcome → Type 0 where
-  not-begun : {w : World rationTable} (r : ℕ) → starts u w ≡ BegunRefused r → Whole u w w (refused r)
-  worked : {w v : World rationTable} {a : Answer} → starts u w ≡ Started → Ends (happens rationTable (event u) w) v a → Whole u w v (answered a)
+pub data Whole (greatest : ℕ) (u : Update) : World (rationTable greatest) → World (rationTable greatest) → Outcome → Type 0 where
+  not-begun : {w : World (rationTable greatest)} (r : ℕ) → starts greatest u w ≡ BegunRefused r → Whole greatest u w w (refused r)
+  worked : {w v : World (rationTable greatest)} {a : Answer} → starts greatest u w ≡ Started → Ends greatest (happens (rationTable greatest) (event u) w) v a → Whole greatest u w v (answered a)
 
-pub data Runs : List Update → World rationTable → World rationTable → List Outcome → Type 0 where
-  no-more : {w : World rationTable} → Runs [] w w []
-  one-more : {u : Update} {us : List Update} {w v x : World rationTable} {o : Outcome} {os : List Outcome} → Whole u w v o → Runs us v x os → Runs (u ∷ us) w x (o ∷ os)
+pub data Runs (greatest : ℕ) : List Update → World (rationTable greatest) → World (rationTable greatest) → List Outcome → Type 0 where
+  no-more : {w : World (rationTable greatest)} → Runs greatest [] w w []
+  one-more : {u : Update} {us : List Update} {w v x : World (rationTable greatest)} {o : Outcome} {os : List Outcome}
+      → Whole greatest u w v o → Runs greatest us v x os → Runs greatest (u ∷ us) w x (o ∷ os)
 
 -- ---- the function: what is refused, answered and left, by the tree without numbers
 
@@ -102,44 +104,44 @@ leaves n u t = pick (refuses n u t) t (afterShape u t)
 
 -- ---- an idle table of N nodes whose tree, without numbers, is t
 
-pub record Resting (n : ℕ) (w : World rationTable) (t : Tree) : Type 0 where
+pub record Resting (greatest : ℕ) (n : ℕ) (w : World (rationTable greatest)) (t : Tree) : Type 0 where
   pub steps : ℕ
   pub book : Book
-  pub inv : Inv n steps w book
+  pub inv : Inv greatest n steps w book
   pub idle : w .state .doing ≡ Idle
   pub goal : inv .goal ≡ t
 
-after-idle : (w : World rationTable) → stepOf (w .card) (w .state) .memory .doing ≡ Idle → happens rationTable step w .state .doing ≡ Idle
+after-idle : (greatest : ℕ) (w : World (rationTable greatest)) → stepOf greatest (w .card) (w .state) .memory .doing ≡ Idle → happens (rationTable greatest) step w .state .doing ≡ Idle
 unfolding happens
-after-idle w e = e
+after-idle greatest w e = e
 
 -- the work in hand ends with the answer due, and at its goal
-pub ends-at : {w v : World rationTable} {a : Answer} → Ends w v a → (n steps : ℕ) (b : Book) (i : Inv n steps w b) (goal : Tree)
-    → i .goal ≡ goal → isIdle (w .state .doing) ≡ false → (a ≡ i .due) × Resting n v goal
-ends-at {w} {v} {a} (ends-here e f) n steps b i goal eg busy =
-    let q = kept-step n steps w b (loosen n steps (suc steps) w b (omega arith) i) in
-    let f′ : IsFinal (stepOf (w .card) (w .state) .answer) = subst IsFinal (sym e) f in (
-      sym e ∙ right-final (q .1) f′ ∙ loosen-due n steps (suc steps) w b (omega arith) i,
-      record { steps = steps; book = _; inv = q .0 .0; idle = after-idle w (at (q .2) f′); goal = q .0 .1 ∙ loosen-goal n steps (suc steps) w b (omega arith) i ∙ eg },
+pub ends-at : (greatest : ℕ) {w v : World (rationTable greatest)} {a : Answer} → Ends greatest w v a → (n steps : ℕ) (b : Book) (i : Inv greatest n steps w b) (goal : Tree)
+    → i .goal ≡ goal → isIdle (w .state .doing) ≡ false → (a ≡ i .due) × Resting greatest n v goal
+ends-at greatest {w} {v} {a} (ends-here e f) n steps b i goal eg busy =
+    let q = kept-step greatest n steps w b (loosen greatest n steps (suc steps) w b (omega arith) i) in
+    let f′ : IsFinal (stepOf greatest (w .card) (w .state) .answer) = subst IsFinal (sym e) f in (
+      sym e ∙ right-final (q .1) f′ ∙ loosen-due greatest n steps (suc steps) w b (omega arith) i,
+      record { steps = steps; book = _; inv = q .0 .0; idle = after-idle greatest w (at (q .2) f′); goal = q .0 .1 ∙ loosen-goal greatest n steps (suc steps) w b (omega arith) i ∙ eg },
     )
   where
-    at : Moves (w .card) (w .state) (stepOf (w .card) (w .state)) → IsFinal (stepOf (w .card) (w .state) .answer) → stepOf (w .card) (w .state) .memory .doing ≡ Idle
+    at : Moves (w .card) (w .state) (stepOf greatest (w .card) (w .state)) → IsFinal (stepOf greatest (w .card) (w .state) .answer) → stepOf greatest (w .card) (w .state) .memory .doing ≡ Idle
     at (was-idle d) g = absurd (idle-not-busy (w .state .doing) d busy)
     at (ends-now d same idle) g = idle
     at (goes-further s d) g = absurd (subst IsFinal (s .1) g)
-ends-at {w} {v} {a} (stores-first e rest) n steps b i goal eg busy =
-    let q = kept-step n steps w b (loosen n steps (suc steps) w b (omega arith) i) in
-    let r = ends-at rest n steps _ (q .0 .0) goal (q .0 .1 ∙ loosen-goal n steps (suc steps) w b (omega arith) i ∙ eg) (at (q .2)) in
-    (r .0 ∙ q .0 .2 ∙ loosen-due n steps (suc steps) w b (omega arith) i, r .1)
+ends-at greatest {w} {v} {a} (stores-first e rest) n steps b i goal eg busy =
+    let q = kept-step greatest n steps w b (loosen greatest n steps (suc steps) w b (omega arith) i) in
+    let r = ends-at greatest rest n steps _ (q .0 .0) goal (q .0 .1 ∙ loosen-goal greatest n steps (suc steps) w b (omega arith) i ∙ eg) (at (q .2)) in
+    (r .0 ∙ q .0 .2 ∙ loosen-due greatest n steps (suc steps) w b (omega arith) i, r .1)
   where
-    at : Moves (w .card) (w .state) (stepOf (w .card) (w .state)) → isIdle (happens rationTable step w .state .doing) ≡ false
+    at : Moves (w .card) (w .state) (stepOf greatest (w .card) (w .state)) → isIdle (happens (rationTable greatest) step w .state .doing) ≡ false
     at (was-idle d) = absurd (idle-not-busy (w .state .doing) d busy)
     at (ends-now d same idle) = absurd (subst IsFinal (e .1) d)
-    at (goes-further s d) = after-step w d
+    at (goes-further s d) = after-step greatest w d
 
 -- ---- the start, by the room
 
-module _ (n steps : ℕ) (w : World rationTable) (b : Book) (i : Inv n steps w b) (idle : w .state .doing ≡ Idle) where
+module _ (greatest : ℕ) (n steps : ℕ) (w : World (rationTable greatest)) (b : Book) (i : Inv greatest n steps w b) (idle : w .state .doing ≡ Idle) where
   abbrev t : Tree
   t = bare (i .tree)
 
@@ -156,7 +158,7 @@ module _ (n steps : ℕ) (w : World rationTable) (b : Book) (i : Inv n steps w b
 
   landed : (key : ℕ) (g : LandedAt (w .card) n key (i .tree)) → landing (w .card) (w .state .nodes) key ≡ LandingAt (g .number) (linkPlace (g .context)) (fullRun (g .context))
   unfolding landing
-  landed key g = rw (nodes-same n steps w b i) (g .landed)
+  landed key g = rw (nodes-same greatest n steps w b i) (g .landed)
 
   row-slot : (key k : ℕ) (g : LandedAt (w .card) n key (i .tree)) → firstEqual (g .keys) k 0 ≡ slotOf (nodeAt (w .card) (g .number)) k
   unfolding slotOf
@@ -166,7 +168,7 @@ module _ (n steps : ℕ) (w : World rationTable) (b : Book) (i : Inv n steps w b
   unfolding refuses roomFor insertReason reasonIn emptyReason slotAnswer leafNeed
   room-by-tree key value low high =
       go (landing-found (w .card) n key (i .table .sized .words) lowestKey keyLimit (i .tree) (i .table .holds)
-      (i .table .sound .range) low high (omega arith) (table-depth-limited (i .table)))
+      (i .table .sound .range) low high (omega arith) (table-depth-limited greatest (i .table)))
     where
       go : LandedAt (w .card) n key (i .tree) → startRoom (w .card) key (w .state .free) (landing (w .card) (w .state .nodes) key) ≡ not (refuses n (put key value) t)
       go g =
@@ -203,10 +205,10 @@ module _ (n steps : ℕ) (w : World rationTable) (b : Book) (i : Inv n steps w b
           by-key NoSlot e = by-empty (slotOf (nodeAt (w .card) (g .number)) 0) refl e
 
   -- an update starts, or is refused 8
-  pub start-decided : (u : Update) → lowestKey ≤ keyOf u → keyOf u < keyLimit → (r : Bool) → refuses n u t ≡ r → starts u w ≡ pick r (BegunRefused 8) Started
+  pub start-decided : (u : Update) → lowestKey ≤ keyOf u → keyOf u < keyLimit → (r : Bool) → refuses n u t ≡ r → starts greatest u w ≡ pick r (BegunRefused 8) Started
   unfolding refuses insertOf deleteOf startAccepted startRefused
   start-decided (put key value) low high r e =
-      let d = room-decides n steps w b i key (Inserting key value NotBegun) (startRoom (w .card) key (w .state .free)) idle low high in
+      let d = room-decides greatest n steps w b i key (Inserting key value NotBegun) (startRoom (w .card) key (w .state .free)) idle low high in
       let q : startRoom (w .card) key (w .state .free) (landing (w .card) (w .state .nodes) key) ≡ not r = room-by-tree key value low high ∙ ap not e in
       ap (λ (x : Handed). x .begun) (d ∙ ap (λ (x : Bool). pick x (startAccepted (w .state) (Inserting key value NotBegun) (startDepth (w .card) (w .state) key)) (startRefused 8 (w .state))) q) ∙ at r
     where
@@ -215,19 +217,19 @@ module _ (n steps : ℕ) (w : World rationTable) (b : Book) (i : Inv n steps w b
       at true = refl
       at false = refl
   start-decided (remove key) low high true e = impossible (cc)
-  start-decided (remove key) low high false e = ap (λ (x : Handed). x .begun) (room-decides n steps w b i key (Deleting key NotBegun 0) (λ x. true) idle low high)
+  start-decided (remove key) low high false e = ap (λ (x : Handed). x .begun) (room-decides greatest n steps w b i key (Deleting key NotBegun 0) (λ x. true) idle low high)
 
   -- what a start that is not refused leaves
-  pub begun-right : (u : Update) → keyOf u < keyLimit → starts u w ≡ Started
-      → (k : ℕ) × (l : Book) × (j : Inv n k (happens rationTable (event u) w) l) × (j .goal ≡ afterShape u (i .goal))
-      × (j .due ≡ dictionaryAnswer (lookup (keyOf u) (pairs t))) × (isIdle (happens rationTable (event u) w .state .doing) ≡ false)
+  pub begun-right : (u : Update) → keyOf u < keyLimit → starts greatest u w ≡ Started
+      → (k : ℕ) × (l : Book) × (j : Inv greatest n k (happens (rationTable greatest) (event u) w) l) × (j .goal ≡ afterShape u (i .goal))
+      × (j .due ≡ dictionaryAnswer (lookup (keyOf u) (pairs t))) × (isIdle (happens (rationTable greatest) (event u) w .state .doing) ≡ false)
   unfolding happens
   begun-right (put key value) high e =
-      let q = kept-insert n steps w b i key value high in
-      (q .0, _, q .1, q .2 .new-goal e, q .2 .new-due e ∙ ap dictionaryAnswer (sym (same-lookup i key) ∙ ap (lookup key) (sym (bare-pairs (i .tree)))), q .2 .busy e)
+      let q = kept-insert greatest n steps w b i key value high in
+      (q .0, _, q .1, q .2 .new-goal e, q .2 .new-due e ∙ ap dictionaryAnswer (sym (same-lookup greatest i key) ∙ ap (lookup key) (sym (bare-pairs (i .tree)))), q .2 .busy e)
   begun-right (remove key) high e =
-      let q = kept-delete n steps w b i key high in
-      (q .0, _, q .1, q .2 .new-goal e, q .2 .new-due e ∙ ap dictionaryAnswer (sym (same-lookup i key) ∙ ap (lookup key) (sym (bare-pairs (i .tree)))), q .2 .busy e)
+      let q = kept-delete greatest n steps w b i key high in
+      (q .0, _, q .1, q .2 .new-goal e, q .2 .new-due e ∙ ap dictionaryAnswer (sym (same-lookup greatest i key) ∙ ap (lookup key) (sym (bare-pairs (i .tree)))), q .2 .busy e)
 
 refused-same : {r s : ℕ} → _≡_ {A = Begun} (BegunRefused r) (BegunRefused s) → r ≡ s
 refused-same e = cc
@@ -241,23 +243,23 @@ unfolding outcome leaves
 outcome-answered n u t e = (rw e, rw e)
 
 -- ONE WHOLE UPDATE: its outcome, and what it leaves, are functions of N and of the tree without numbers
-pub one-whole : {u : Update} {w v : World rationTable} {o : Outcome} → Whole u w v o → (n : ℕ) (t : Tree) → Resting n w t
-    → lowestKey ≤ keyOf u → keyOf u < keyLimit → (o ≡ outcome n u t) × Resting n v (leaves n u t)
-one-whole {u} (not-begun {w} r e) n t x low high =
+pub one-whole : (greatest : ℕ) {u : Update} {w v : World (rationTable greatest)} {o : Outcome} → Whole greatest u w v o → (n : ℕ) (t : Tree) → Resting greatest n w t
+    → lowestKey ≤ keyOf u → keyOf u < keyLimit → (o ≡ outcome n u t) × Resting greatest n v (leaves n u t)
+one-whole greatest {u} (not-begun {w} r e) n t x low high =
     let i = x .inv in
-    let now : bare (i .tree) ≡ t = resting-goal n (x .steps) w (x .book) i (x .idle) .0 ∙ x .goal in
+    let now : bare (i .tree) ≡ t = resting-goal greatest n (x .steps) w (x .book) i (x .idle) .0 ∙ x .goal in
     bool-cases (refuses n u t)
-    (λ d. let s = start-decided n (x .steps) w (x .book) i (x .idle) u low high true (ap (refuses n u) now ∙ d) in
+    (λ d. let s = start-decided greatest n (x .steps) w (x .book) i (x .idle) u low high true (ap (refuses n u) now ∙ d) in
     let z = outcome-refused n u t d in (ap refused (refused-same (sym e ∙ s)) ∙ sym (z .0), rw (z .1) x))
-    (λ d. let s = start-decided n (x .steps) w (x .book) i (x .idle) u low high false (ap (refuses n u) now ∙ d) in absurd (started-no-refusal _ (sym s ∙ e)))
-one-whole {u} (worked {w} {v} {a} e ends) n t x low high =
+    (λ d. let s = start-decided greatest n (x .steps) w (x .book) i (x .idle) u low high false (ap (refuses n u) now ∙ d) in absurd (started-no-refusal _ (sym s ∙ e)))
+one-whole greatest {u} (worked {w} {v} {a} e ends) n t x low high =
     let i = x .inv in
-    let now : bare (i .tree) ≡ t = resting-goal n (x .steps) w (x .book) i (x .idle) .0 ∙ x .goal in
+    let now : bare (i .tree) ≡ t = resting-goal greatest n (x .steps) w (x .book) i (x .idle) .0 ∙ x .goal in
     bool-cases (refuses n u t)
-    (λ d. let s = start-decided n (x .steps) w (x .book) i (x .idle) u low high true (ap (refuses n u) now ∙ d) in absurd (started-no-refusal _ (sym e ∙ s)))
-    (λ d. let q = begun-right n (x .steps) w (x .book) i (x .idle) u high e in
+    (λ d. let s = start-decided greatest n (x .steps) w (x .book) i (x .idle) u low high true (ap (refuses n u) now ∙ d) in absurd (started-no-refusal _ (sym e ∙ s)))
+    (λ d. let q = begun-right greatest n (x .steps) w (x .book) i (x .idle) u high e in
     let z = outcome-answered n u t d in
-    let y = ends-at ends n (q .0) (q .1) (q .2) (afterShape u t) (q .3 ∙ ap (afterShape u) (x .goal)) (q .5) in
+    let y = ends-at greatest ends n (q .0) (q .1) (q .2) (afterShape u t) (q .3 ∙ ap (afterShape u) (x .goal)) (q .5) in
     (ap answered (y .0 ∙ q .4 ∙ ap (λ (p : Tree). dictionaryAnswer (lookup (keyOf u) (pairs p))) now) ∙ sym (z .0), rw (z .1) (y .1)))
 
 -- ---- lists of calls
@@ -274,15 +276,16 @@ abbrev pub Keys : List Update → Type 0
 Keys [] = Unit
 Keys (u ∷ us) = (lowestKey ≤ keyOf u) × (keyOf u < keyLimit) × Keys us
 
-pub whole-runs : {us : List Update} {w v : World rationTable} {os : List Outcome} → Runs us w v os
-    → (n : ℕ) (t : Tree) → Resting n w t → Keys us → (os ≡ outcomes n us t) × Resting n v (shapeLeft n us t)
-whole-runs no-more n t x k = (refl, x)
-whole-runs (one-more {u} {us} c rest) n t x k =
-    let p = one-whole c n t x (k .0) (k .1) in
-    let q = whole-runs rest n (leaves n u t) (p .1) (k .2) in
+pub whole-runs : (greatest : ℕ) {us : List Update} {w v : World (rationTable greatest)} {os : List Outcome} → Runs greatest us w v os
+    → (n : ℕ) (t : Tree) → Resting greatest n w t → Keys us → (os ≡ outcomes n us t) × Resting greatest n v (shapeLeft n us t)
+whole-runs greatest no-more n t x k = (refl, x)
+whole-runs greatest (one-more {u} {us} c rest) n t x k =
+    let p = one-whole greatest c n t x (k .0) (k .1) in
+    let q = whole-runs greatest rest n (leaves n u t) (p .1) (k .2) in
     (ap₂ (λ (o : Outcome) (os : List Outcome). o ∷ os) (p .0) (q .0), q .1)
 
 -- NODE NUMBERS DO NOT MATTER: two tables of the same N whose trees are alike give the same outcomes to the same calls, and stay alike
-pub same-outcomes : {us : List Update} {w v w′ v′ : World rationTable} {os os′ : List Outcome} → Runs us w v os → Runs us w′ v′ os′ → (n : ℕ) (t : Tree) → Resting n w t → Resting n w′ t → Keys us
-    → (os ≡ os′) × (s : Tree) × Resting n v s × Resting n v′ s
-same-outcomes {us} a b n t x y k = let p = whole-runs a n t x k in let q = whole-runs b n t y k in (p .0 ∙ sym (q .0), shapeLeft n us t, p .1, q .1)
+pub same-outcomes : (greatest : ℕ) {us : List Update} {w v w′ v′ : World (rationTable greatest)} {os os′ : List Outcome}
+    → Runs greatest us w v os → Runs greatest us w′ v′ os′ → (n : ℕ) (t : Tree) → Resting greatest n w t → Resting greatest n w′ t → Keys us
+    → (os ≡ os′) × (s : Tree) × Resting greatest n v s × Resting greatest n v′ s
+same-outcomes greatest {us} a b n t x y k = let p = whole-runs greatest a n t x k in let q = whole-runs greatest b n t y k in (p .0 ∙ sym (q .0), shapeLeft n us t, p .1, q .1)

@@ -29,7 +29,7 @@ next-is-above ps after (Pair key value) i = i .0
 next-is-above ps after Nothing i = tt
 next-is-above ps after (Refused r) i = absurd i
 
-module _ (card : List ℕ) (after : ℕ) where
+module _ (greatest : ℕ) (card : List ℕ) (after : ℕ) where
   in-leaf-above : (w : Reached) → AboveOrNine after (nextInLeaf card after w)
   unfolding nextInLeaf
   in-leaf-above NotReached = refl
@@ -48,9 +48,9 @@ module _ (card : List ℕ) (after : ℕ) where
   or-next-leaf-above n (Refused r) a = a
 
   -- where 1, 2 and 3 are not due
-  pub next-above : cardRefusal card ≡ 0 → AboveOrNine after (nextOf card after)
+  pub next-above : cardRefusal greatest card ≡ 0 → AboveOrNine after (nextOf greatest card after)
   unfolding nextIn
   next-above e =
-      let n = nodesOfLength (length card) in
+      let n = nodesOfLength greatest (length card) in
       let w = leafOf (way card n after) in
-      rw (next-taken card after e) (or-next-leaf-above n (nextInLeaf card after w) (in-leaf-above w))
+      rw (next-taken greatest card after e) (or-next-leaf-above n (nextInLeaf card after w) (in-leaf-above w))

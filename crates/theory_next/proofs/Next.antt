@@ -113,12 +113,12 @@ module _ (c : List ℕ) (n : ℕ) (t : Tree) (len : length c ≡ 8 + 24 * n) (at
 
 -- ---- the call
 
-pub next-right : (c : List ℕ) (t : Tree) (after : ℕ) → WellFormed c t → cardRefusal c ≡ 0 → after < keyLimit → IsNext (pairs t) after (nextOf c after)
+pub next-right : (greatest : ℕ) (c : List ℕ) (t : Tree) (after : ℕ) → WellFormed c t → cardRefusal greatest c ≡ 0 → after < keyLimit → IsNext (pairs t) after (nextOf greatest c after)
 unfolding nextOf
-next-right c t after w e h =
-    let n = nodesOfLength (length c) in
-    let s = sized c n refl (card-sized c e) in
+next-right greatest c t after w e h =
+    let n = nodesOfLength greatest (length c) in
+    let s = sized greatest c n refl (card-sized greatest c e) in
     let i = lower 0 lowestKey keyLimit (omega arith) t (well-formed-in-range w) in
     let deep = well-formed-depth c n (s .words) t (s .most) w in
     let here = leaf-of c n after (s .words) depthLimit 0 keyLimit t (w .holds .2) i (omega arith) h deep in
-    rw (eq-eqb (cardRefusal c) 0 e) (in-table c n t (s .words) (w .holds .0) (w .holds .2) i deep (w .widths) after here)
+    rw (eq-eqb (cardRefusal greatest c) 0 e) (in-table c n t (s .words) (w .holds .0) (w .holds .2) i deep (w .widths) after here)

@@ -46,16 +46,17 @@ rising-same lo hi lo′ hi′ (p ∷ a) (q ∷ b) r r′ s =
 
 -- ---- the table
 
-module _ (c : List ℕ) (t : Tree) (w : WellFormed c t) (e : cardRefusal c ≡ 0) (most : ℕ) (enough : length (pairs t) ≤ most) where
+module _ (greatest : ℕ) (c : List ℕ) (t : Tree) (w : WellFormed c t) (e : cardRefusal greatest c ≡ 0) (most : ℕ) (enough : length (pairs t) ≤ most) where
   -- all keys of the walk are in the range of all keys, so those of the table are
   all-in-range : LeafRange lowestKey keyLimit (pairs t)
   all-in-range =
       record {
-        inside = sym (walk-lists c t w e most enough (outside lowestKey keyLimit)) ∙ rising-inside lowestKey keyLimit (walkFrom most c 0) (walk-rises c t w e most);
+        inside = sym (walk-lists greatest c t w e most enough (outside lowestKey keyLimit)) ∙ rising-inside lowestKey keyLimit (walkFrom greatest most c 0) (walk-rises greatest c t w e most);
         once = λ k. key-once lowestKey keyLimit k t (well-formed-in-range w);
       }
 
-  pub walk-sorted : walkFrom most c 0 ≡ sort (pairs t)
+  pub walk-sorted : walkFrom greatest most c 0 ≡ sort (pairs t)
   walk-sorted =
-      rising-same lowestKey keyLimit lowestKey keyLimit (walkFrom most c 0) (sort (pairs t)) (walk-rises c t w e most) (rising-sort lowestKey keyLimit (pairs t) (omega arith) all-in-range)
-      (λ v. walk-lists c t w e most enough v ∙ sym (total-sort v (pairs t)))
+      rising-same lowestKey keyLimit lowestKey keyLimit (walkFrom greatest most c 0) (sort (pairs t)) (walk-rises greatest c t w e most)
+      (rising-sort lowestKey keyLimit (pairs t) (omega arith) all-in-range)
+      (λ v. walk-lists greatest c t w e most enough v ∙ sym (total-sort v (pairs t)))

@@ -216,14 +216,14 @@ module _ (card : List ℕ) (n after : ℕ) where
   round-on true e = refl
   round-on false e = impossible (cc)
 
-module _ (card : List ℕ) (after : ℕ) where
-  pub next-refused : (cardRefusal card ≡ 0 → ⊥) → nextOf card after ≡ Refused (cardRefusal card)
+module _ (greatest : ℕ) (card : List ℕ) (after : ℕ) where
+  pub next-refused : (cardRefusal greatest card ≡ 0 → ⊥) → nextOf greatest card after ≡ Refused (cardRefusal greatest card)
   unfolding nextOf
-  next-refused h = rw (ne-eqb (cardRefusal card) 0 h)
+  next-refused h = rw (ne-eqb (cardRefusal greatest card) 0 h)
 
-  pub next-taken : cardRefusal card ≡ 0 → nextOf card after ≡ nextIn card (nodesOfLength (length card)) after
+  pub next-taken : cardRefusal greatest card ≡ 0 → nextOf greatest card after ≡ nextIn card (nodesOfLength greatest (length card)) after
   unfolding nextOf
-  next-taken e = rw (eq-eqb (cardRefusal card) 0 e)
+  next-taken e = rw (eq-eqb (cardRefusal greatest card) 0 e)
 
 -- ---- how many internal nodes the number's own way passes
 
@@ -233,9 +233,9 @@ carried-le depth most (Pair key value) h = h
 carried-le depth most Nothing h = h
 carried-le depth most (Refused r) h = omega arith
 
-pub next-depth-le : (card : List ℕ) (after : ℕ) → nextDepth card after ≤ depthLimit
+pub next-depth-le : (greatest : ℕ) (card : List ℕ) (after : ℕ) → nextDepth greatest card after ≤ depthLimit
 unfolding nextDepth
-next-depth-le card after = carried-le _ depthLimit (nextOf card after) (way-depth-le card (nodesOfLength (length card)) after)
+next-depth-le greatest card after = carried-le _ depthLimit (nextOf greatest card after) (way-depth-le card (nodesOfLength greatest (length card)) after)
 
 -- what is told of it in the first round and kept in the second
 pub own-depth : (card : List ℕ) (n after key from depth first : ℕ) (own : Bool)

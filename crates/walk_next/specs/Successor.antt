@@ -72,8 +72,8 @@ unfoldable pub nextIn : List ℕ → ℕ → ℕ → Successor
 nextIn card n after = orNextLeaf card n after (nextInLeaf card after (leafOf (way card n after)))
 
 -- "It reads the card only, like a find": 1, 2, 3 and 9; "6 is not given"
-unfoldable pub nextOf : List ℕ → ℕ → Successor
-nextOf card after = pick (eqb (cardRefusal card) 0) (nextIn card (nodesOfLength (length card)) after) (Refused (cardRefusal card))
+unfoldable pub nextOf : ℕ → List ℕ → ℕ → Successor
+nextOf greatest card after = pick (eqb (cardRefusal greatest card) 0) (nextIn card (nodesOfLength greatest (length card)) after) (Refused (cardRefusal greatest card))
 
 -- ---- document 02, W-203: "the number of internal nodes on the given number's way when the call began, tagged ones counted"
 
@@ -84,8 +84,8 @@ carried depth Nothing = depth
 carried depth (Refused r) = 0
 
 -- the number's own way, also where the answer is in the next leaf
-unfoldable pub nextDepth : List ℕ → ℕ → ℕ
-nextDepth card after = carried (depthOf (leafOf (way card (nodesOfLength (length card)) after))) (nextOf card after)
+unfoldable pub nextDepth : ℕ → List ℕ → ℕ → ℕ
+nextDepth greatest card after = carried (depthOf (leafOf (way card (nodesOfLength greatest (length card)) after))) (nextOf greatest card after)
 
 -- ---- "Walking an unchanged card from 0 lists each pair once, rising": at most so many pairs, from those above a number on
 
@@ -94,9 +94,9 @@ onNext rest (Pair key value) = (key, value) ∷ rest key
 onNext rest Nothing = []
 onNext rest (Refused r) = []
 
-unfoldable pub walkFrom : ℕ → List ℕ → ℕ → List (ℕ × ℕ)
-walkFrom zero card after = []
-walkFrom (suc most) card after = onNext (walkFrom most card) (nextOf card after)
+unfoldable pub walkFrom : ℕ → ℕ → List ℕ → ℕ → List (ℕ × ℕ)
+walkFrom greatest zero card after = []
+walkFrom greatest (suc most) card after = onNext (walkFrom greatest most card) (nextOf greatest card after)
 
 -- ---- its answer as numbers: a key and a value
 

@@ -1,5 +1,6 @@
 -- `call_change::take_out` meets its contract.
 use mathlib.Core.Path.{ap, _∙_}
+use Rattle.card.specs.Layout.{greatestNodes}
 use lib.ListN.{length}
 use Rattle.call_change.specs.Decided.{deleteAt, decided}
 use Rattle.call_change.proofs.UpdateLaws.{decided-nowhere, decided-there, leaf-there, leaf-words}
@@ -19,19 +20,19 @@ enum-known-node c = search needs
 node-at-requires : tie.Need-node-at-requires
 node-at-requires c κs =
     let s = c .before .before .before .before .before in
-    leaf-there (s .args .card .now) (s .args .n) (s .args .key) _ (c .before .before .before .arrive .ensures) _ _ (c .before .node .given .1) (s .pre)
+    leaf-there greatestNodes (s .args .card .now) (s .args .n) (s .args .key) _ (c .before .before .before .arrive .ensures) _ _ (c .before .node .given .1) (s .pre)
 
 delete-in-requires : tie.Need-delete-in-requires
 delete-in-requires c κs =
     let s = c .before .before .before .before .before .before in
     ap length (c .node-at .ensures)
-    ∙ leaf-words (s .args .card .now) (s .args .n) (s .args .key) _ (c .before .before .before .before .arrive .ensures) _ _ (c .before .before .node .given .1) (s .pre)
+    ∙ leaf-words greatestNodes (s .args .card .now) (s .args .n) (s .args .key) _ (c .before .before .before .before .arrive .ensures) _ _ (c .before .before .node .given .1) (s .pre)
 
 returns : tie.Need-returns
 unfolding decided
 returns c =
     let s = c .before .before .before .before in
-    decided-nowhere (s .args .card .now) (s .args .n) (s .args .key) _ (c .before .before .arrive .ensures) (s .args .doing) (deleteAt (s .args .key)) (c .enum-told .given .1)
+    decided-nowhere greatestNodes (s .args .card .now) (s .args .n) (s .args .key) _ (c .before .before .arrive .ensures) (s .args .doing) (deleteAt (s .args .key)) (c .enum-told .given .1)
 
 returns-2 : tie.Need-returns-2
 unfolding decided
@@ -40,7 +41,8 @@ returns-2 c =
     let leaf = c .before .before .before .node .given in
     c .delete-in .ensures
     ∙ ap (deleteAt (s .args .key) (leaf .0 .0) (leaf .0 .1 .0)) (c .before .node-at .ensures)
-    ∙ decided-there (s .args .card .now) (s .args .n) (s .args .key) _ (c .before .before .before .before .before .arrive .ensures) _ _ (leaf .1) (s .args .doing) (deleteAt (s .args .key))
+    ∙ decided-there greatestNodes (s .args .card .now) (s .args .n) (s .args .key) _
+    (c .before .before .before .before .before .arrive .ensures) _ _ (leaf .1) (s .args .doing) (deleteAt (s .args .key))
 
 pub take-out-spec : {M : Type 1} → statement M
 take-out-spec =

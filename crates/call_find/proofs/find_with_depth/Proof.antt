@@ -13,10 +13,10 @@ use borrow.Author.Needs.{needs}
 use Rattle.call_find.proofs.find_with_depth.Statement.{statement}
 use Rattle.call_find.proofs.find_with_depth.Tie as tie
 
-whole : (c : tie.After-nodes-of) → Sized (length (c .before .before .before .before .before .args .card .now)) (c .nodes-of .result)
+whole : (c : tie.After-nodes-of) → Sized (c .before .before .before .before .before .args .greatest) (length (c .before .before .before .before .before .args .card .now)) (c .nodes-of .result)
 whole c =
-    sized (c .before .before .before .before .before .args .card .now) (c .nodes-of .result) (c .nodes-of .ensures)
-    (λ z. card-sized (c .before .before .before .before .before .args .card .now)
+    sized (c .before .before .before .before .before .args .greatest) (c .before .before .before .before .before .args .card .now) (c .nodes-of .result) (c .nodes-of .ensures)
+    (λ z. card-sized _ (c .before .before .before .before .before .args .card .now)
     (sym (c .before .before .before .card-refusal .ensures) ∙ c .before .before .if1 .left) (sym (c .nodes-of .ensures) ∙ z))
 
 card-refusal-requires : tie.Need-card-refusal-requires
@@ -28,9 +28,9 @@ refused-requires c κs = search needs
 returns : tie.Need-returns
 returns c =
     let s = c .before .before .before .before in
-    let no : cardRefusal (s .args .card .now) ≡ 0 → ⊥ = λ z. c .before .if1 .taken (c .before .before .card-refusal .ensures ∙ z) in (
-      c .refused .ensures .0 ∙ ap FoundRefused (c .before .before .card-refusal .ensures) ∙ sym (find-refused _ _ no),
-      c .refused .ensures .1 ∙ sym (depth-refused (s .args .card .now) (s .args .key) no),
+    let no : cardRefusal (s .args .greatest) (s .args .card .now) ≡ 0 → ⊥ = λ z. c .before .if1 .taken (c .before .before .card-refusal .ensures ∙ z) in (
+      c .refused .ensures .0 ∙ ap FoundRefused (c .before .before .card-refusal .ensures) ∙ sym (find-refused _ _ _ no),
+      c .refused .ensures .1 ∙ sym (depth-refused _ (s .args .card .now) (s .args .key) no),
       omega (arith, c .refused .ensures .1),
     )
 
@@ -41,8 +41,8 @@ returns-2 : tie.Need-returns-2
 returns-2 c =
     let s = c .before .before .before .before .before in
     let taken = sym (c .before .before .before .card-refusal .ensures) ∙ c .before .before .if1 .left in (
-      c .refused2 .ensures .0 ∙ sym (find-no-key _ _ taken (c .before .if2 .taken)),
-      c .refused2 .ensures .1 ∙ sym (depth-no-key (s .args .card .now) (s .args .key) taken (c .before .if2 .taken)),
+      c .refused2 .ensures .0 ∙ sym (find-no-key _ _ _ taken (c .before .if2 .taken)),
+      c .refused2 .ensures .1 ∙ sym (depth-no-key _ (s .args .card .now) (s .args .key) taken (c .before .if2 .taken)),
       omega (arith, c .refused2 .ensures .1),
     )
 
@@ -57,11 +57,11 @@ returns-3 c =
     let s = c .before .before .before .before .before .before in
     let taken = sym (c .before .before .before .before .card-refusal .ensures) ∙ c .before .before .before .if1 .left in
     let depth = c .found-at .ensures .1 ∙ ap (λ (n : ℕ). depthOf (leafOf (way (s .args .card .now) n (s .args .key)))) (c .before .nodes-of .ensures)
-    ∙ sym (depth-key (s .args .card .now) (s .args .key) taken (c .before .before .if2 .left)) in (
+    ∙ sym (depth-key _ (s .args .card .now) (s .args .key) taken (c .before .before .if2 .left)) in (
       c .found-at .ensures .0 ∙ ap (λ (n : ℕ). foundAt (s .args .card .now) (s .args .key) (leafOf (way (s .args .card .now) n (s .args .key)))) (c .before .nodes-of .ensures)
-          ∙ sym (find-key _ _ taken (c .before .before .if2 .left)),
+          ∙ sym (find-key _ _ _ taken (c .before .before .if2 .left)),
       depth,
-      omega (arith, depth, find-depth-le (s .args .card .now) (s .args .key)),
+      omega (arith, depth, find-depth-le (s .args .greatest) (s .args .card .now) (s .args .key)),
     )
 
 pub find-with-depth-spec : {M : Type 1} → statement M

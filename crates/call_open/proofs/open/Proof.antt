@@ -15,14 +15,15 @@ use borrow.Author.Needs.{needs}
 use Rattle.call_open.proofs.open.Statement.{statement}
 use Rattle.call_open.proofs.open.Tie as tie
 
-whole : (c : tie.After-nodes-of) → Sized (length (c .before .before .before .before .before .before .args .card .now)) (c .nodes-of .result)
+whole : (c : tie.After-nodes-of) → Sized (c .before .before .before .before .before .before .args .greatest)
+    (length (c .before .before .before .before .before .before .args .card .now)) (c .nodes-of .result)
 whole c =
     let s = c .before .before .before .before .before .before in
-    sized (s .args .card .now) (c .nodes-of .result) (c .nodes-of .ensures)
-    (λ z. card-sized (s .args .card .now) (sym (c .before .before .card-refusal .ensures) ∙ c .before .if2 .left) (sym (c .nodes-of .ensures) ∙ z))
+    sized (s .args .greatest) (s .args .card .now) (c .nodes-of .result) (c .nodes-of .ensures)
+    (λ z. card-sized _ (s .args .card .now) (sym (c .before .before .card-refusal .ensures) ∙ c .before .if2 .left) (sym (c .nodes-of .ensures) ∙ z))
 
 returns : tie.Need-returns
-returns c = let s = c .before .before .before in open-no-state (s .args .state .now) (c .if1 .taken) (openOf (s .args .card .now))
+returns c = let s = c .before .before .before in open-no-state (s .args .state .now) (c .if1 .taken) (openOf (s .args .greatest) (s .args .card .now))
 
 card-refusal-requires : tie.Need-card-refusal-requires
 card-refusal-requires c κs = search needs
@@ -39,7 +40,7 @@ returns-2 c =
     opened-call (s .args .state .now) (c .before .before .refuse-beginning .last .0) _ _ (c .before .before .before .before .before .before .if1 .left)
     (subst (λ (due : Handed). Opened (c .before .before .refuse-beginning .last .0) (c .before .before .refuse-beginning .result) due)
     (ap noBeginning (c .before .before .before .before .before .card-refusal .ensures)
-    ∙ sym (open-refused _ (λ z. c .before .before .before .before .if2 .taken (c .before .before .before .before .before .card-refusal .ensures ∙ z))))
+    ∙ sym (open-refused _ _ (λ z. c .before .before .before .before .if2 .taken (c .before .before .before .before .before .card-refusal .ensures ∙ z))))
     (c .before .before .refuse-beginning .ensures))
 
 nodes-of-requires : tie.Need-nodes-of-requires
@@ -57,7 +58,7 @@ returns-3 c =
     opened-call (s .args .state .now) (c .before .before .open-checked .last .1 .1 .0) _ _ (c .before .before .before .before .before .before .before .if1 .left)
     (subst (λ (due : Handed). Opened (c .before .before .open-checked .last .1 .1 .0) (c .before .before .open-checked .result) due)
     (ap (λ (n : ℕ). openChecked n (searchStart (s .args .card .now)) (tableCheck (s .args .card .now) n)) (c .before .before .before .before .nodes-of .ensures)
-    ∙ sym (open-unrefused _
+    ∙ sym (open-unrefused _ _
     (sym (c .before .before .before .before .before .before .card-refusal .ensures) ∙ c .before .before .before .before .before .if2 .left)))
     (c .before .before .open-checked .ensures))
 

@@ -28,7 +28,7 @@ long c =
     freed-length (s .args .state .now) (c .free-but-root .last .0) (c .before .before .before .before .if1 .left) (c .free-but-root .kept .0)
 
 returns : tie.Need-returns
-returns c = let s = c .before .before .before in open-no-state (s .args .state .now) (c .if1 .taken) (formatOf (s .args .card .now))
+returns c = let s = c .before .before .before in open-no-state (s .args .state .now) (c .if1 .taken) (formatOf (s .args .greatest) (s .args .card .now))
 
 nodes-of-requires : tie.Need-nodes-of-requires
 nodes-of-requires c κs = search needs
@@ -44,7 +44,7 @@ returns-2 c =
     let s = c .before .before .before .before .before .before .before .before .before in
     opened-call (s .args .state .now) (c .before .before .refuse-beginning .last .0) _ _ (c .before .before .before .before .before .before .if1 .left)
     (subst (λ (due : Handed). Opened (c .before .before .refuse-beginning .last .0) (c .before .before .refuse-beginning .result) due)
-    (sym (format-no-length _ _ (c .before .before .before .before .before .nodes-of .ensures) (c .before .before .before .before .if2 .taken)))
+    (sym (format-no-length _ _ _ (c .before .before .before .before .before .nodes-of .ensures) (c .before .before .before .before .if2 .taken)))
     (c .before .before .refuse-beginning .ensures))
 
 sub-free-but-root : tie.Need-sub-free-but-root
@@ -59,13 +59,13 @@ part-free-but-root-end c = search needs
 free-but-root-requires : tie.Need-free-but-root-requires
 free-but-root-requires c κs =
     let s = c .before .before .before .before .before .before in
-    let k = sized (s .args .card .now) _ (c .before .before .nodes-of .ensures) (c .before .if2 .left) in
+    let k = sized (s .args .greatest) (s .args .card .now) _ (c .before .before .nodes-of .ensures) (c .before .if2 .left) in
     (search needs, omega (arith, k .most))
 
 store-resting-requires : tie.Need-store-resting-requires
 store-resting-requires c κs =
     let s = c .before .before .before .before .before .before .before .before .before .before in
-    let k = sized (s .args .card .now) _
+    let k = sized (s .args .greatest) (s .args .card .now) _
     (c .before .before .before .before .before .before .nodes-of .ensures) (c .before .before .before .before .before .if2 .left) in
     (long (c .before .before .before), k .most)
 
@@ -86,7 +86,7 @@ returns-3 c =
     (ap (λ (x : List Bool). record {
       begun = Started;
       memory = resting (c .before .before .before .before .before .before .before .before .before .nodes-of .result) x formattedRoot (Formatting 0);
-    }) free ∙ sym (format-length _ _ (c .before .before .before .before .before .before .before .before .before .nodes-of .ensures)
+    }) free ∙ sym (format-length _ _ _ (c .before .before .before .before .before .before .before .before .before .nodes-of .ensures)
     (c .before .before .before .before .before .before .before .before .if2 .left)))
     (record { answered = refl; handed = c .before .before .store-resting .ensures .1; words = c .before .before .store-resting .ensures .0 }))
 

@@ -5,6 +5,7 @@ use native.Mathlib.Omega.{arith}
 use lib.ListN.{length}
 use borrow.Author.Tests.{not-true, not-false}
 use Rattle.card.specs.Header.{headerRefusal, Sized}
+use Rattle.card.proofs.HeaderLaws.{sized-any}
 use Rattle.state.specs.Results.{moreToStore}
 use Rattle.state.specs.Steps.{heldBy}
 use Rattle.state.specs.Block.{blockWord, memoryIn}
@@ -17,11 +18,11 @@ use Rattle.call_step.proofs.step.Tie as tie
 
 sized : (c : tie.Else2) →
     let s = c .before .before .before .before .before .before .before in
-    Sized (length (s .args .card .now)) (blockWord (s .args .state .now) 0)
+    Sized (s .args .greatest) (length (s .args .card .now)) (blockWord (s .args .state .now) 0)
 sized c =
     let s = c .before .before .before .before .before .before .before in
     let wide = c .before .before .wide in
-    subst (Sized (length (s .args .card .now))) (wide .ensures) (c .before .is-sized .ensures .0 (not-false _ (c .if2 .left)))
+    subst (Sized (s .args .greatest) (length (s .args .card .now))) (wide .ensures) (c .before .is-sized .ensures .0 (not-false _ (c .if2 .left)))
 
 header-right : (c : tie.Else4) →
     let s = c .before .before .before .before .before .before .before .before .before .before .before .before in
@@ -43,7 +44,7 @@ in-hand c =
     stores-held (m .doing) (m .rest) (sym (c .before .has-store .ensures) ∙ c .if5 .taken) (not-formatting b (if3 .left))
 
 returns : tie.Need-returns
-returns c = let s = c .before .before .before in call-no-state (s .args .card .now) (s .args .state .now) (c .if1 .taken)
+returns c = let s = c .before .before .before in call-no-state _ (s .args .card .now) (s .args .state .now) (c .if1 .taken)
 
 slice-read-wide : tie.Need-slice-read-wide
 slice-read-wide c = search needs
@@ -62,9 +63,9 @@ returns-2 c =
     let b = s .args .state .now in
     let if1 = c .before .before .before .before .if1 in
     let wide = c .before .before .wide in
-    call-made card b _ (if1 .left)
-    (step-unsized card (memoryIn b)
-    (λ z. c .before .is-sized .ensures .1 (not-true _ (c .if2 .taken)) (subst (Sized (length card)) (sym (wide .ensures)) z)))
+    call-made _ card b _ (if1 .left)
+    (step-unsized _ card (memoryIn b)
+    (λ z. c .before .is-sized .ensures .1 (not-true _ (c .if2 .taken)) (subst (Sized (s .args .greatest) (length card)) (sym (wide .ensures)) z)))
     (made-refused card b 1 refl)
 
 slice-read-if3 : tie.Need-slice-read-if3
@@ -75,7 +76,7 @@ step-format-requires c κs =
     let if1 = c .before .before .before .before .before .before .before .before .if1 in
     let if3 = c .before .before .if3 in
     let at-sized = c .before .before .before .before in
-    (if1 .left, if3 .taken, sized at-sized)
+    (if1 .left, if3 .taken, sized-any (sized at-sized))
 
 same-length : tie.Need-same-length
 same-length c = search needs
@@ -93,8 +94,8 @@ returns-3 c =
     let if3 = c .before .before .before .before .before .before .before .if3 in
     let step-format = c .before .before .before .before .step-format in
     let at-sized = c .before .before .before .before .before .before .before .before .before in
-    call-made card b _ (if1 .left)
-    (step-sized card (memoryIn b) (sized at-sized) ∙ doing-format b card (if3 .taken))
+    call-made _ card b _ (if1 .left)
+    (step-sized _ card (memoryIn b) (sized at-sized) ∙ doing-format b card (if3 .taken))
     (step-format .ensures)
 
 header-refusal-requires : tie.Need-header-refusal-requires
@@ -114,8 +115,8 @@ returns-4 c =
     let if3 = c .before .before .before .if3 in
     let at-sized = c .before .before .before .before .before in
     let m = memoryIn b in
-    call-made card b _ (if1 .left)
-    (step-sized card m (sized at-sized)
+    call-made _ card b _ (if1 .left)
+    (step-sized _ card m (sized at-sized)
     ∙ held-unchecked card m (c .before .header-refusal .result) (c .before .header-refusal .ensures ∙ ap (headerRefusal card) (wide .ensures)) (c .if4 .taken)
     (heldBy (m .doing)) (not-formatting b (if3 .left)))
     (made-refused card b (c .before .header-refusal .result) refl)
@@ -147,8 +148,8 @@ returns-5 c =
     let at-header-right = c .before .before .before .before .before .before .before .before .before .before in
     let m = memoryIn b in
     let h = in-hand at-in-hand in
-    call-made card b _ (if1 .left)
-    (step-sized card m (sized at-sized) ∙ task-stores card m (header-right at-header-right) (h .1) (h .0))
+    call-made _ card b _ (if1 .left)
+    (step-sized _ card m (sized at-sized) ∙ task-stores card m (header-right at-header-right) (h .1) (h .0))
     (store-next .ensures)
 
 step-plan-requires : tie.Need-step-plan-requires
@@ -159,7 +160,7 @@ step-plan-requires c κs =
     let if5 = c .before .before .if5 in
     let at-sized = c .before .before .before .before .before .before .before .before .before .before in
     let at-header-right = c .before .before .before .before .before in
-    (if1 .left, sized at-sized, header-right at-header-right, if3 .left, sym (has-store .ensures) ∙ if5 .left)
+    (if1 .left, sized-any (sized at-sized), header-right at-header-right, if3 .left, sym (has-store .ensures) ∙ if5 .left)
 
 same-length-6 : tie.Need-same-length-6
 same-length-6 c = search needs
@@ -176,7 +177,7 @@ returns-6 c =
     let if1 = c .before .before .before .before .before .before .before .before .before .before .before .before .before .before .before .before .before .before .before .if1 in
     let step-plan = c .before .before .before .before .step-plan in
     let at-sized = c .before .before .before .before .before .before .before .before .before .before .before .before .before .before .before in
-    call-made card b _ (if1 .left) (step-sized card (memoryIn b) (sized at-sized)) (step-plan .ensures)
+    call-made _ card b _ (if1 .left) (step-sized _ card (memoryIn b) (sized at-sized)) (step-plan .ensures)
 
 pub step-spec : {M : Type 1} → statement M
 step-spec =

@@ -12,7 +12,10 @@ add-if1 : tie.Need-add-if1
 add-if1 c = search needs
 
 returns : tie.Need-returns
-returns c = sym (nodes-short _ (c .if1 .taken))
+returns c = sym (nodes-short _ _ (c .if1 .taken))
+
+limit-requires : tie.Need-limit-requires
+limit-requires c κs = search needs
 
 mul-if2 : tie.Need-mul-if2
 mul-if2 c = search needs
@@ -21,7 +24,7 @@ add-if2 : tie.Need-add-if2
 add-if2 c = search needs
 
 returns-2 : tie.Need-returns-2
-returns-2 c = sym (nodes-long _ (c .if2 .taken))
+returns-2 c = sym (nodes-long _ _ (omega arith) (omega (arith, c .before .limit .ensures .0, c .if2 .taken)))
 
 sub-if3 : tie.Need-sub-if3
 sub-if3 c = search needs
@@ -30,10 +33,10 @@ sub-result : tie.Need-sub-result
 sub-result c = search needs
 
 returns-3 : tie.Need-returns-3
-returns-3 c = sym (nodes-whole _ (omega arith) (omega arith) (c .if3 .taken))
+returns-3 c = sym (nodes-whole _ _ (omega arith) (omega (arith, c .before .before .limit .ensures .0)) (c .if3 .taken))
 
 returns-4 : tie.Need-returns-4
-returns-4 c = sym (nodes-odd _ (omega arith) (omega arith) (c .if3 .left))
+returns-4 c = sym (nodes-odd _ _ (omega arith) (omega (arith, c .before .before .limit .ensures .0)) (c .if3 .left))
 
 pub nodes-of-spec : {M : Type 1} → statement M
 nodes-of-spec =
@@ -42,6 +45,7 @@ nodes-of-spec =
     mul-if1
     add-if1
     returns
+    limit-requires
     mul-if2
     add-if2
     returns-2

@@ -20,7 +20,7 @@ fits c =
     let s = c .before .before .before .before .before .before .before .before .before .before in
     let d = c .before .before .before .before .before .read-dump in
     let z = c .before .size .given in
-    omega (arith, d .kept .1, read-sized (s .args .bytes .now) (length (s .args .card .now)) (z .0 .0) (sym (d .ensures .0) ∙ z .1) .room)
+    omega (arith, d .kept .1, read-sized _ (s .args .bytes .now) (length (s .args .card .now)) (z .0 .0) (sym (d .ensures .0) ∙ z .1) .room)
 
 read-dump-requires : tie.Need-read-dump-requires
 read-dump-requires c κs = search needs
@@ -53,8 +53,9 @@ returns c =
     let d = c .before .before .before .before .before .before .read-dump in
     let e = sym (d .ensures .0) ∙ b .given .1 in
     let lent = length (s .args .card .now) in
-    let q = summary-refused (b .given .0 .0) (listDump (s .args .bytes .now) lent) (s .args .out .now) (dump-refused (s .args .bytes .now) lent (b .given .0 .0) e) in
-    (c .refusing .ensures ∙ q .0, (q .1, d .ensures .1 ∙ over-refused (s .args .bytes .now) (s .args .card .now) (b .given .0 .0) e))
+    let q = summary-refused (b .given .0 .0) (listDump (s .args .greatest) (s .args .bytes .now) lent) (s .args .out .now)
+    (dump-refused (s .args .greatest) (s .args .bytes .now) lent (b .given .0 .0) e) in
+    (c .refusing .ensures ∙ q .0, (q .1, d .ensures .1 ∙ over-refused (s .args .greatest) (s .args .bytes .now) (s .args .card .now) (b .given .0 .0) e))
 
 same-length-2 : tie.Need-same-length-2
 same-length-2 c = search needs
@@ -71,14 +72,14 @@ returns-2 c =
     let size = z .0 .0 in
     let e = sym (d .ensures .0) ∙ z .1 in
     let is =
-    ap (λ (l : List ℕ). listCard (take (z .0 .0) l)) (d .ensures .1) ∙ ap listCard (read-card (s .args .bytes .now) (s .args .card .now) size e)
-    ∙ sym (dump-read (s .args .bytes .now) (length (s .args .card .now)) size e) in
-    let left = k .ensures .1 .1 ∙ ap (λ (l : List ℕ). openedCard l .card) (ap (take (z .0 .0)) (d .ensures .1) ∙ read-card (s .args .bytes .now) (s .args .card .now) size e) in
-    let beyond = ap (drop (z .0 .0)) (d .ensures .1) ∙ read-beyond (s .args .bytes .now) (s .args .card .now) size e in (
+    ap (λ (l : List ℕ). listCard (take (z .0 .0) l)) (d .ensures .1) ∙ ap listCard (read-card (s .args .greatest) (s .args .bytes .now) (s .args .card .now) size e)
+    ∙ sym (dump-read (s .args .greatest) (s .args .bytes .now) (length (s .args .card .now)) size e) in
+    let left = k .ensures .1 .1 ∙ ap (λ (l : List ℕ). openedCard l .card) (ap (take (z .0 .0)) (d .ensures .1) ∙ read-card (s .args .greatest) (s .args .bytes .now) (s .args .card .now) size e) in
+    let beyond = ap (drop (z .0 .0)) (d .ensures .1) ∙ read-beyond (s .args .greatest) (s .args .bytes .now) (s .args .card .now) size e in (
       k .ensures .0 ∙ ap (λ (l : Listed). summaryOf l (s .args .out .now)) is,
       (
         k .ensures .1 .0 ∙ ap (λ (l : Listed). layListed l (s .args .out .now) .words) is,
-        ap₂ (λ (a b : List ℕ). a ++ b) left beyond ∙ sym (over-read (s .args .bytes .now) (s .args .card .now) size e),
+        ap₂ (λ (a b : List ℕ). a ++ b) left beyond ∙ sym (over-read (s .args .greatest) (s .args .bytes .now) (s .args .card .now) size e),
       ),
     )
 

@@ -19,7 +19,7 @@ returns : tie.Need-returns
 returns c =
     let s = c .before .before .before .before .before .before .before .before in
     let r = c .before .before .insert-reason-in-dump .ensures in
-    (r .0 ∙ ap (reasonInDump (s .args .dump .now) (length (s .args .card .now))) (c .before .before .before .before .key-in .ensures), r .1)
+    (r .0 ∙ ap (reasonInDump (s .args .greatest) (s .args .dump .now) (length (s .args .card .now))) (c .before .before .before .before .key-in .ensures), r .1)
 
 pub insert-reason-for-file-spec : {M : Type 1} → statement M
 insert-reason-for-file-spec =

@@ -20,7 +20,7 @@ fits c =
     let s = c .before .before .before .before .before .before .before .before .before in
     let d = c .before .before .before .before .before .read-dump in
     let z = c .before .size .given in
-    omega (arith, d .kept .1, read-sized (s .args .bytes .now) (length (s .args .card .now)) (z .0 .0) (sym (d .ensures .0) ∙ z .1) .room)
+    omega (arith, d .kept .1, read-sized _ (s .args .bytes .now) (length (s .args .card .now)) (z .0 .0) (sym (d .ensures .0) ∙ z .1) .room)
 
 read-dump-requires : tie.Need-read-dump-requires
 read-dump-requires c κs = search needs
@@ -49,8 +49,8 @@ returns c =
     let b = c .before .refusal in
     let d = c .before .before .before .before .before .read-dump in
     let e = sym (d .ensures .0) ∙ b .given .1 in (
-      sym (dump-refused (s .args .bytes .now) (length (s .args .card .now)) (s .args .key) (b .given .0 .0) e),
-      d .ensures .1 ∙ over-refused (s .args .bytes .now) (s .args .card .now) (b .given .0 .0) e,
+      sym (dump-refused (s .args .greatest) (s .args .bytes .now) (length (s .args .card .now)) (s .args .key) (b .given .0 .0) e),
+      d .ensures .1 ∙ over-refused (s .args .greatest) (s .args .bytes .now) (s .args .card .now) (b .given .0 .0) e,
     )
 
 same-length-2 : tie.Need-same-length-2
@@ -63,12 +63,12 @@ returns-2 c =
     let z = c .before .before .before .before .before .size .given in
     let k = c .before .before .insert-reason in
     let e = sym (d .ensures .0) ∙ z .1 in
-    let card = ap (take (z .0 .0)) (d .ensures .1) ∙ read-card (s .args .bytes .now) (s .args .card .now) (z .0 .0) e in
-    let beyond = ap (drop (z .0 .0)) (d .ensures .1) ∙ read-beyond (s .args .bytes .now) (s .args .card .now) (z .0 .0) e in (
+    let card = ap (take (z .0 .0)) (d .ensures .1) ∙ read-card (s .args .greatest) (s .args .bytes .now) (s .args .card .now) (z .0 .0) e in
+    let beyond = ap (drop (z .0 .0)) (d .ensures .1) ∙ read-beyond (s .args .greatest) (s .args .bytes .now) (s .args .card .now) (z .0 .0) e in (
       k .ensures .0 ∙ ap (λ (l : List ℕ). reasonOf l (s .args .key)) card
-          ∙ sym (dump-read (s .args .bytes .now) (length (s .args .card .now)) (s .args .key) (z .0 .0) e),
+          ∙ sym (dump-read (s .args .greatest) (s .args .bytes .now) (length (s .args .card .now)) (s .args .key) (z .0 .0) e),
       ap₂ (λ (a b : List ℕ). a ++ b) (k .ensures .1 ∙ ap (λ (l : List ℕ). openedCard l .card) card) beyond
-          ∙ sym (over-read (s .args .bytes .now) (s .args .card .now) (z .0 .0) e),
+          ∙ sym (over-read (s .args .greatest) (s .args .bytes .now) (s .args .card .now) (z .0 .0) e),
     )
 
 pub insert-reason-in-dump-spec : {M : Type 1} → statement M

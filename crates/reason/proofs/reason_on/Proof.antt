@@ -1,5 +1,6 @@
 -- `reason::reason_on` meets its contract.
 use mathlib.Core.Path.{ap, sym, _∙_}
+use Rattle.card.specs.Layout.{greatestNodes}
 use mathlib.Core.List.{List}
 use Prim.Native.Nat.{ℕ, _≤_, _<_}
 use native.Mathlib.Omega.{arith}
@@ -18,13 +19,13 @@ use borrow.Author.Needs.{needs}
 use Rattle.reason.proofs.reason_on.Statement.{statement}
 use Rattle.reason.proofs.reason_on.Tie as tie
 
-whole : (c : tie.Else1) → Sized (length (c .before .before .before .before .args .card .now)) (c .before .nodes-of .result)
-whole c = sized (c .before .before .before .before .args .card .now) (c .before .nodes-of .result) (c .before .nodes-of .ensures) (c .if1 .left)
+whole : (c : tie.Else1) → Sized greatestNodes (length (c .before .before .before .before .args .card .now)) (c .before .nodes-of .result)
+whole c = sized greatestNodes (c .before .before .before .before .args .card .now) (c .before .nodes-of .result) (c .before .nodes-of .ensures) (c .if1 .left)
 
 leaf : (c : tie.After-node) → Landed (c .before .before .before .before .before .before .nodes-of .result) (c .node .given .0 .0) (c .node .given .0 .1 .0)
 unfolding landing way
 leaf c =
-    landed (c .before .before .before .before .before .before .before .before .before .args .card .now)
+    landed greatestNodes (c .before .before .before .before .before .before .before .before .before .args .card .now)
     (c .before .before .before .before .before .before .nodes-of .result)
     (c .before .before .before .before .before .before .before .before .before .args .key) (c .node .given .0 .0) (c .node .given .0 .1 .0)
     (c .node .given .0 .1 .1 .0) (whole (c .before .before .before .before .before))

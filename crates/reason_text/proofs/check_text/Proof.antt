@@ -1,5 +1,6 @@
 -- `reason_text::check_text` meets its contract.
 use mathlib.Core.Path.{ap, _∙_}
+use Rattle.card.specs.Layout.{programNodes}
 use Prim.Native.Nat.{ℕ}
 use lib.ListN.{length-replicate}
 use borrow.Author.Needs.{needs}
@@ -27,7 +28,7 @@ unfolding checkText
 returns c =
     let s = c .before .before .before .before .before .before .before in
     let file = keyIn (s .args .file .now) in
-    let reason = c .before .before .before .insert-reason-for-file .ensures .0 ∙ ap (λ (n : ℕ). reasonInDump (s .args .dump .now) n file) (length-replicate {A = ℕ} cardRoom 0) in
+    let reason = c .before .before .before .insert-reason-for-file .ensures .0 ∙ ap (λ (n : ℕ). reasonInDump programNodes (s .args .dump .now) n file) (length-replicate {A = ℕ} cardRoom 0) in
     let p = c .put-reason .ensures in
     fill-whole (checkText (s .args .dump .now) (s .args .file .now)) (s .args .text .now) _ _ (p .1) (p .0 ∙ ap (λ (r : Reason). fill (reasonText r) (filled 0 (s .args .text .now))) reason)
 

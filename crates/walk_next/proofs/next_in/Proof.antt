@@ -8,6 +8,7 @@ use native.Mathlib.Omega.{arith}
 use lib.ListN.{length, getD}
 use Rattle.laws.specs.Bits.{bit}
 use Rattle.laws.proofs.Cases.{impossible}
+use Rattle.card.specs.Layout.{greatestNodes}
 use Rattle.card.specs.Header.{Sized}
 use Rattle.card.specs.Layout.{depthLimit, rootPlace, leafPairs}
 use Rattle.card.proofs.NodeLaws.{length-node}
@@ -126,14 +127,14 @@ own-depth-requires c κs = search needs
 node-at-requires : tie.Need-node-at-requires Inv-loop μ-loop
 node-at-requires c κs =
     let k = leaf (c .before .before) in
-    let s : Sized (length (c .before .before .before .before .before .before .before .before .args .card .now))
+    let s : Sized greatestNodes (length (c .before .before .before .before .before .before .before .before .args .card .now))
     (c .before .before .before .before .before .before .before .before .args .n) = search needs in
     (k .one, omega (arith, k .most, s .most), omega (arith, k .most, s .words))
 
 least-above-requires : tie.Need-least-above-requires Inv-loop μ-loop
 least-above-requires c κs =
     let k = leaf (c .before .before .before) in
-    let s : Sized (length (c .before .before .before .before .before .before .before .before .before .args .card .now))
+    let s : Sized greatestNodes (length (c .before .before .before .before .before .before .before .before .before .args .card .now))
     (c .before .before .before .before .before .before .before .before .before .args .n) = search needs in
     ap length (c .node-at .ensures) ∙ length-node (c .before .before .before .before .before .before .before .before .before .args .card .now)
     (c .before .before .before .node .given .0 .0) (k .one) (omega (arith, k .most, s .words))

@@ -1,5 +1,6 @@
 -- `call_step::planning::step_change` meets its contract.
 use mathlib.Core.List.{[], _∷_}
+use Rattle.card.specs.Layout.{greatestNodes}
 use mathlib.Core.Option.{none, some}
 use mathlib.Core.Path.{_≡_, sym, ap, ap₂, subst, _∙_}
 use Prim.Native.Nat.{ℕ, _<_}
@@ -52,7 +53,7 @@ on-card c =
     let at-given = c .before .before .before .before .before .before .before .before .before .before .before .before in
     let n = blockWord b 0 in
     subst (λ (k : ℕ). k < length card) (sym (c .wide2 .ensures))
-    (change-on-card card b (s .pre .0) (s .args .doing) (s .args .decision) (s .pre .2) n (s .pre .1) _ _ _ (given at-given)
+    (change-on-card greatestNodes card b (s .pre .0) (s .args .doing) (s .args .decision) (s .pre .2) n (s .pre .1) _ _ _ (given at-given)
     (plan .ensures .1) _ (plan .ensures .0) (if1 .left))
 
 sub-give : tie.Need-sub-give
@@ -95,7 +96,7 @@ returns c =
     let few : takeNumbers (needed d) (nodesOf (part b 11 20)) (blockWord b 1) ≡ none =
     ap₂ (λ (k w : ℕ). takeNumbers k (nodesOf (part b 11 20)) w) (sym (nodes-are s)) (sym (wide .ensures)) ∙ give .ensures .0
     ∙ ap (λ (g : Given). givenBy g (s .args .size .nodes)) (c .enum-told .given .1) in
-    change-none (s .args .card .now) b (s .pre .0) (s .args .doing) d (s .pre .2) few
+    change-none greatestNodes (s .args .card .now) b (s .pre .0) (s .args .doing) d (s .pre .2) few
 
 slice-read-if1 : tie.Need-slice-read-if1
 slice-read-if1 c = search needs
@@ -110,7 +111,7 @@ returns-2 c =
     let left = c .before .before .before .left in
     let give = c .before .before .before .before .before .give in
     let at-given = c .before .before .before in
-    change-outside (s .args .card .now) (s .args .state .now) (s .pre .0) (s .args .doing) (s .args .decision) (s .pre .2) _ (s .pre .1)
+    change-outside greatestNodes (s .args .card .now) (s .args .state .now) (s .pre .0) (s .args .doing) (s .args .decision) (s .pre .2) _ (s .pre .1)
     _ _ _ (given at-given)
     (λ z. sym (ap leftGiven (left .given .1)) ∙ give .ensures .1 (nodes-are s ∙ z)) (c .if1 .taken)
 
@@ -133,7 +134,7 @@ play-requires c κs =
     let plan = c .before .before .before .before .before .before .plan in
     let at-given = c .before .before .before .before .before .before .before .before .before .before .before .before in
     let n = blockWord b 0 in (
-      change-length (s .args .card .now) b (s .pre .0) (s .args .doing) (s .args .decision) (s .pre .2) n (s .pre .1) _ _ _ (given at-given)
+      change-length greatestNodes (s .args .card .now) b (s .pre .0) (s .args .doing) (s .args .decision) (s .pre .2) n (s .pre .1) _ _ _ (given at-given)
           (plan .ensures .1) _ (plan .ensures .0),
       omega arith,
       on-card (c),
@@ -155,7 +156,7 @@ returns-3 c =
     let play = c .before .before .before .before .play in
     let at-on-card = c .before .before .before .before .before in
     let n = blockWord b 0 in
-    change-made (s .args .card .now) b (s .pre .0) (s .args .doing) (s .args .decision) (s .pre .2) n (s .pre .1) _ _ _ (given at-given)
+    change-made greatestNodes (s .args .card .now) b (s .pre .0) (s .args .doing) (s .args .decision) (s .pre .2) n (s .pre .1) _ _ _ (given at-given)
     (plan .ensures .1) _ (plan .ensures .0) (wide2-call .result) (wide2-call .ensures) (on-card at-on-card) (play .ensures .0) (play .ensures .1)
 
 pub step-change-spec : {M : Type 1} → statement M

@@ -1,5 +1,6 @@
 -- `call_step::planning::step_task` meets its contract.
 use mathlib.Core.Path.{_≡_, sym, ap, ap₂, subst, _∙_}
+use Rattle.card.specs.Layout.{greatestNodes}
 use Prim.Native.Nat.{ℕ}
 use Rattle.change_layout.specs.LayOut.{outcomeOf, sizeOf}
 use Rattle.change_layout.specs.declared.Size.{Size}
@@ -61,7 +62,7 @@ step-change-requires c κs =
     let at-is-decided = c .before .before .before .before .before in
     let o = outcome-is at-outcome-is ∙ enum-told3 .given .1 in
     let changes =
-    task-changes (s .args .card .now) (s .args .state .now) (s .pre .0) (s .args .task) (s .pre .3) (next-change-call .result)
+    task-changes greatestNodes (s .args .card .now) (s .args .state .now) (s .pre .0) (s .args .task) (s .pre .3) (next-change-call .result)
     (is-decided at-is-decided) (s .pre .1) (s .pre .4) o in
     (s .pre .0, s .pre .1, changes, size-of-call .ensures)
 
@@ -73,7 +74,7 @@ returns c =
     let s = c .before .before .before .before .before .before .before .before .before in
     let next-change-call = c .before .before .before .next-change in
     let at-is-decided = c .before .before .before in
-    task-refused (s .args .card .now) (s .args .state .now) (s .pre .0) (s .args .task) (s .pre .3) (next-change-call .result)
+    task-refused greatestNodes (s .args .card .now) (s .args .state .now) (s .pre .0) (s .args .task) (s .pre .3) (next-change-call .result)
     (is-decided at-is-decided) (outcome-is (c .before .before) ∙ c .enum-told .given .1)
 
 same-length-2 : tie.Need-same-length-2
@@ -90,7 +91,7 @@ returns-2 c =
     let finish = c .before .before .finish in
     let at-is-decided = c .before .before .before .before .before .before .before in
     let at-outcome-is = c .before .before .before .before .before .before in
-    task-ended (s .args .card .now) (s .args .state .now) (s .pre .0) (s .args .task) (s .pre .3) (next-change-call .result)
+    task-ended greatestNodes (s .args .card .now) (s .args .state .now) (s .pre .0) (s .args .task) (s .pre .3) (next-change-call .result)
     (is-decided at-is-decided) (outcome-is at-outcome-is ∙ enum-told2 .given .1)
     (finish .ensures)
 
@@ -109,7 +110,7 @@ returns-3 c =
     let step-change = c .before .before .before .before .step-change in
     let at-is-decided = c .before .before .before .before .before .before .before .before .before .before in
     subst (StepMade card b _ _ _)
-    (sym (task-prepares card b (s .pre .0) (s .args .task) (s .pre .3) (next-change-call .result) (is-decided at-is-decided)))
+    (sym (task-prepares greatestNodes card b (s .pre .0) (s .args .task) (s .pre .3) (next-change-call .result) (is-decided at-is-decided)))
     (step-change .ensures (next-change-call .result .answer))
 
 pub step-task-spec : {M : Type 1} → statement M
