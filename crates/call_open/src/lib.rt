@@ -15,9 +15,9 @@ ghost use mathlib.Core.Path.{_≡_};
 ghost use Prim.Native.Nat.{_+_, _*_, _≤_};
 ghost use lib.ListN.{length};
 ghost use Rattle.card.specs.Layout.{greatestNodes, searchStart};
-ghost use Rattle.card_free.specs.NodeSet.{nodesOf};
+ghost use Rattle.card_free.specs.NodeSet.{wordCount, nodesOf};
 ghost use Rattle.card_check.specs.Check.{findingsOf, tableCheck};
-ghost use Rattle.state.specs.Block.{stateWords, part};
+ghost use Rattle.state.specs.Block.{freeAt, stateWords, part};
 ghost use Rattle.state.specs.Contracts.{Opened, OpenCall};
 ghost use Rattle.call_open.specs.Opening.{openSound, openChecked, openOf};
 
@@ -25,7 +25,7 @@ ghost use Rattle.call_open.specs.Opening.{openSound, openChecked, openOf
 // not added to it.
 fn open_sound(state: &mut [u32], n: usize, last: u32, found: [u32; 3]) -> Begun
     requires { ⌜ (length (now state) ≡ stateWords) × (n ≤ greatestNodes) ⌝ }
-    ensures { λ r. ⌜ Opened (now (state .exit)) r (openSound n last (findingsOf (nodesOf (part (now (state .entry)) 11 20)) found)) ⌝ }
+    ensures { λ r. ⌜ Opened (now (state .exit)) r (openSound n last (findingsOf (nodesOf (part (now (state .entry)) freeAt wordCount)) found)) ⌝ }
 {
     let count = card_free::count(&state[FREE..PLACES]);
     if count < 3 {

@@ -27,7 +27,7 @@ use Rattle.walk.specs.declared.Slot.{Slot}
 use Rattle.walk.specs.declared.Slot.the-variants.{At, Absent as NoSlot}
 use Rattle.walk.specs.declared.Landing.{Landing}
 use Rattle.walk.specs.declared.Landing.the-variants.{Refused as NoLanding, Leaf as LandingAt}
-use Rattle.state.specs.Block.{stateWords, memoryIn}
+use Rattle.state.specs.Block.{depthAt, stateWords, memoryIn}
 use Rattle.state.specs.Blocks.{begunBlock, startedBlock}
 use Rattle.state.specs.Contracts.{StartCall}
 use Rattle.state.proofs.Blocks.{withDoing, memory-begun, withDepth, memory-deep, begun-length}
@@ -241,7 +241,7 @@ module _ (block : List ℕ) (l : length block ≡ stateWords) (doing : Doing) (r
   start-refused-in p =
       rw (ne-eqb refusal 0 p) (record { answered = λ k. refl; handed = λ k. refl; words = λ k. refl; no-state = λ n. absurd (n l) })
 
-  pub started-in : (after : List ℕ) → refusal ≡ 0 → after ≡ set (begunBlock block doing) 177 depth
+  pub started-in : (after : List ℕ) → refusal ≡ 0 → after ≡ set (begunBlock block doing) depthAt depth
       → StartCall block after Started doing (begunBy refusal depth (memoryIn block) doing)
   unfolding startAccepted startedBlock withDoing withDepth
   started-in after z e =

@@ -10,7 +10,7 @@ use Rattle.laws.proofs.Cases.{order}
 use Rattle.card.specs.Header.{Sized}
 use Rattle.card.specs.Layout.{place}
 use Rattle.card.specs.Stores.{Store}
-use Rattle.card_free.specs.NodeSet.{nodesOf}
+use Rattle.card_free.specs.NodeSet.{wordCount, nodesOf}
 use Rattle.card_free.proofs.NodeSetLaws.{length-nodes}
 use Rattle.change_decide.specs.Places.{Fits}
 use Rattle.change_decide.specs.declared.Decision.{Decision}
@@ -29,7 +29,7 @@ use Rattle.call_change.proofs.Preparations.{laid-stores}
 use Rattle.state.specs.Memory.{Memory, advanced}
 use Rattle.state.specs.Results.{moreToStore}
 use Rattle.state.specs.Steps.{Step, heldBy, stepStore}
-use Rattle.state.specs.Block.{stateWords, blockWord, part, memoryIn}
+use Rattle.state.specs.Block.{freeAt, placesAt, valuesAt, stateWords, blockWord, part, memoryIn}
 use Rattle.state.specs.declared.Answer.{Answer}
 use Rattle.state.specs.declared.Answer.the-variants.{Stored, Ready, Absent, Value, Refused}
 use Rattle.state.specs.declared.Doing.{Doing}
@@ -54,7 +54,7 @@ module _ (greatest : ℕ) (card b : List ℕ) (long : length b ≡ stateWords) (
   m = memoryIn b
 
   abbrev free : List Bool
-  free = nodesOf (part b 11 20)
+  free = nodesOf (part b freeAt wordCount)
 
   abbrev last : ℕ
   last = blockWord b 1
@@ -109,7 +109,7 @@ module _ (greatest : ℕ) (card b : List ℕ) (long : length b ≡ stateWords) (
           let w = subst (WithinBounds free) laid (laid-bounds card d free last (ch .fits)) in
           record {
             short = w .short;
-            full = w .same ∙ omega (arith, length-nodes (part b 11 20), free-span b [] long);
+            full = w .same ∙ omega (arith, length-nodes (part b freeAt wordCount), free-span b [] long);
             few = w .few;
             readable = w .readable;
           }
@@ -124,21 +124,21 @@ module _ (greatest : ℕ) (card b : List ℕ) (long : length b ≡ stateWords) (
       stores-are : planned p ≡ stores
       stores-are = ap planned planned-is ∙ planned-stores b doing stores freeThen lastThen (cutBy card d) long plannable
 
-      first-is : stores ≡ (blockWord p 31, blockWord p 104) ∷ drop 1 (planned p)
+      first-is : stores ≡ (blockWord p placesAt, blockWord p valuesAt) ∷ drop 1 (planned p)
       first-is = sym stores-are ∙ plan-next p change-length 0 (ap moreToStore stores-are ∙ some-stores)
 
       -- the place of the first store
-      place-is : blockWord p 31 ≡ getD (placesBy d (l ∷ r ∷ a ∷ [])) 0 0
+      place-is : blockWord p placesAt ≡ getD (placesBy d (l ∷ r ∷ a ∷ [])) 0 0
       place-is =
           ap (λ (s : Store). s .0)
           (sym (ap (λ (ss : List Store). getD ss 0 (0, 0)) first-is)
           ∙ zip-first (placesBy d (l ∷ r ∷ a ∷ [])) (wordsBy card d (l ∷ r ∷ a ∷ [])) (length-by d (l ∷ r ∷ a ∷ []) refl ∙ sym count))
 
-      pub change-on-card : l ≤ n → blockWord p 31 < length card
+      pub change-on-card : l ≤ n → blockWord p placesAt < length card
       change-on-card h =
           subst (λ (k : ℕ). k < length card) (sym place-is)
           (first-on-card card d l r a n (ch .fits) (ch .some) (size .words)
-          (given-within (part b 11 20) (l ∷ r ∷ a ∷ []) (needed d) last (free-span b [] long) taken) h)
+          (given-within (part b freeAt wordCount) (l ∷ r ∷ a ∷ []) (needed d) last (free-span b [] long) taken) h)
 
       block-first : (at : ℕ) → stepBlock card b (Stored at) ≡ playedBlock p 1 (drop 1 (planned p))
       unfolding stepBlock storedBlock memoryIn
@@ -148,17 +148,17 @@ module _ (greatest : ℕ) (card b : List ℕ) (long : length b ≡ stateWords) (
           ∙ first-prepared b (record { doing = doing; final = ch .final; preparation = layOut card d free last }) laid
           ∙ ap₂ (λ (x : List ℕ) (ss : List Store). playedBlock x 1 (drop 1 ss)) (sym planned-is) (sym stores-are)
 
-      pub change-made : {card-after after : List ℕ} (at : ℕ) → at ≡ blockWord p 31 → at < length card
-          → card-after ≡ set card at (getD (part p 104 73) 0 0) → after ≡ playedBlock p 1 (drop 1 (planned p))
-          → (final : Answer) → StepMade card b card-after after (Stored (blockWord p 31)) (dueFor final)
+      pub change-made : {card-after after : List ℕ} (at : ℕ) → at ≡ blockWord p placesAt → at < length card
+          → card-after ≡ set card at (getD (part p valuesAt 73) 0 0) → after ≡ playedBlock p 1 (drop 1 (planned p))
+          → (final : Answer) → StepMade card b card-after after (Stored (blockWord p placesAt)) (dueFor final)
       unfolding memoryIn stepPrepared
       change-made at e h s w final =
           let next : Memory = advanced (planning m doing freeThen lastThen (cutBy card d)) (drop 1 stores) in
-          let first : getD stores 0 (0, 0) ≡ (blockWord p 31, blockWord p 104) = ap (λ (ss : List Store). getD ss 0 (0, 0)) first-is in
-          made-by card b (record { answer = Stored (blockWord p 31); card = set card (blockWord p 31) (blockWord p 104); memory = next })
+          let first : getD stores 0 (0, 0) ≡ (blockWord p placesAt, blockWord p valuesAt) = ap (λ (ss : List Store). getD ss 0 (0, 0)) first-is in
+          made-by card b (record { answer = Stored (blockWord p placesAt); card = set card (blockWord p placesAt) (blockWord p valuesAt); memory = next })
           (ap (dueBy final) laid ∙ ap (λ (x : Store). stepStore card m x next) first
-          ∙ store-inside card m (blockWord p 31, blockWord p 104) next (subst (λ (k : ℕ). k < length card) e h))
-          refl (s ∙ ap₂ (set card) e (part-word p 104 73 0 (omega arith))) (w ∙ sym (block-first (blockWord p 31)))
+          ∙ store-inside card m (blockWord p placesAt, blockWord p valuesAt) next (subst (λ (k : ℕ). k < length card) e h))
+          refl (s ∙ ap₂ (set card) e (part-word p valuesAt 73 0 (omega arith))) (w ∙ sym (block-first (blockWord p placesAt)))
 
 -- ---- what is decided
 

@@ -10,7 +10,7 @@ use Rattle.card.specs.Stores.{Store}
 use Rattle.state.specs.Memory.{advanced}
 use Rattle.state.specs.Results.{moreToStore}
 use Rattle.state.specs.Steps.{Step, heldBy, stepRefused, stepFinal, formattingFrom, stepFormat, stepStore}
-use Rattle.state.specs.Block.{stateWords, blockWord, part, doingIn, memoryIn}
+use Rattle.state.specs.Block.{placesAt, valuesAt, stateWords, blockWord, part, doingIn, memoryIn}
 use Rattle.state.specs.declared.Answer.{Answer}
 use Rattle.state.specs.declared.Answer.the-variants.{Stored, Ready, Refused}
 use Rattle.state.proofs.StepLaws.{store-outside, store-inside}
@@ -74,7 +74,7 @@ module _ (card b : List ℕ) where
 
   module _ (long : length b ≡ stateWords) (more : moreToStore (memoryIn b .rest) ≡ true) (k : ℕ) (e : k ≡ blockWord b 6) where
     abbrev store : Store
-    store = (blockWord b (31 + k), blockWord b (104 + k))
+    store = (blockWord b (placesAt + k), blockWord b (valuesAt + k))
 
     abbrev later : List Store
     later = drop (k + 1) (planned b)
@@ -91,15 +91,15 @@ module _ (card b : List ℕ) where
     abbrev dueOf : List Store → Step
     dueOf rest = stepStore card (memoryIn b) (getD rest 0 (0, 0)) (advanced (memoryIn b) (drop 1 rest))
 
-    pub store-refused : length card ≤ blockWord b (31 + k) → StepMade card b card b (Refused 9) (dueOf (memoryIn b .rest))
+    pub store-refused : length card ≤ blockWord b (placesAt + k) → StepMade card b card b (Refused 9) (dueOf (memoryIn b .rest))
     store-refused h = made-refused 9 (ap dueOf rest-is ∙ store-outside card (memoryIn b) store (advanced (memoryIn b) later) h)
 
-    pub store-made : {card-after after : List ℕ} (at : ℕ) → HoldsTask (memoryIn b .doing) → at ≡ blockWord b (31 + k) → at < length card
-        → card-after ≡ set card at (getD (part b 104 73) k 0) → after ≡ playedBlock b (k + 1) later
-        → StepMade card b card-after after (Stored (blockWord b (31 + k))) (dueOf (memoryIn b .rest))
+    pub store-made : {card-after after : List ℕ} (at : ℕ) → HoldsTask (memoryIn b .doing) → at ≡ blockWord b (placesAt + k) → at < length card
+        → card-after ≡ set card at (getD (part b valuesAt 73) k 0) → after ≡ playedBlock b (k + 1) later
+        → StepMade card b card-after after (Stored (blockWord b (placesAt + k))) (dueOf (memoryIn b .rest))
     store-made at holds f h s w =
-        let place = blockWord b (31 + k) in
-        made-by (record { answer = Stored place; card = set card place (blockWord b (104 + k)); memory = advanced (memoryIn b) later })
+        let place = blockWord b (placesAt + k) in
+        made-by (record { answer = Stored place; card = set card place (blockWord b (valuesAt + k)); memory = advanced (memoryIn b) later })
         (ap dueOf rest-is ∙ store-inside card (memoryIn b) store (advanced (memoryIn b) later) (subst (λ (x : ℕ). x < length card) f h)) refl
-        (s ∙ ap₂ (set card) f (part-word b 104 73 k next-below))
-        (w ∙ ap (λ (i : ℕ). playedBlock b i later) (add-one k ∙ ap suc e) ∙ sym (block-store (blockWord b (31 + k)) store later holds rest-is))
+        (s ∙ ap₂ (set card) f (part-word b valuesAt 73 k next-below))
+        (w ∙ ap (λ (i : ℕ). playedBlock b i later) (add-one k ∙ ap suc e) ∙ sym (block-store (blockWord b (placesAt + k)) store later holds rest-is))

@@ -11,7 +11,7 @@ use Rattle.change_decide.specs.declared.Decision.{Decision}
 use Rattle.change_plan.specs.Planning.{withoutAll, lastOf}
 use Rattle.change_layout.specs.LayOut.{needed, storeCount, cutBy, placesBy, wordsBy, storesBy}
 use Rattle.change_layout.proofs.LayOutLaws.{length-by}
-use Rattle.state.specs.Block.{stateWords, blockWord, part, doingWords, headWords}
+use Rattle.state.specs.Block.{depthAt, freeAt, placesAt, valuesAt, stateWords, blockWord, part, doingWords, headWords}
 use Rattle.state.specs.Blocks.{wordsOf}
 use Rattle.state.specs.declared.Doing.{Doing}
 use Rattle.state.specs.declared.State.{State}
@@ -23,38 +23,38 @@ use Rattle.call_step.specs.StepBlocks.{atFront, plannedBlock, plannedOve
 module _ (b x : List ℕ) (long : length b ≡ stateWords) (lx : length x ≡ 73) where
   -- the block with the places
   abbrev withPlaces : List ℕ
-  withPlaces = placed 31 73 b x
+  withPlaces = placed placesAt 73 b x
 
   pub places-length : length withPlaces ≡ stateWords
-  places-length = placed-length b x 31 73 lx (omega arith) ∙ long
+  places-length = placed-length b x placesAt 73 lx (omega arith) ∙ long
 
   -- what was there before in the part that is stored next
-  pub values-stood : part withPlaces 104 73 ≡ part b 104 73
+  pub values-stood : part withPlaces valuesAt 73 ≡ part b valuesAt 73
   values-stood =
-      let rest : List ℕ = drop 73 (drop 31 b) in
-      let front : length (take 31 b ++ x) ≡ 104 = omega (arith, length-append (take 31 b) x, length-take 31 b) in
-      ap (take 73) (ap (drop 104) (sym (append-assoc (take 31 b) x rest)) ∙ drop-at (take 31 b ++ x) rest 104 front ∙ drop-drop 73 31 b)
+      let rest : List ℕ = drop 73 (drop placesAt b) in
+      let front : length (take placesAt b ++ x) ≡ valuesAt = omega (arith, length-append (take placesAt b) x, length-take placesAt b) in
+      ap (take 73) (ap (drop valuesAt) (sym (append-assoc (take placesAt b) x rest)) ∙ drop-at (take placesAt b ++ x) rest valuesAt front ∙ drop-drop 73 placesAt b)
 
   module _ (y : List ℕ) (ly : length y ≡ 73) where
     -- with the values too
     abbrev withValues : List ℕ
-    withValues = placed 104 73 withPlaces y
+    withValues = placed valuesAt 73 withPlaces y
 
     pub values-length : length withValues ≡ stateWords
-    values-length = placed-length withPlaces y 104 73 ly (omega (arith, places-length)) ∙ places-length
+    values-length = placed-length withPlaces y valuesAt 73 ly (omega (arith, places-length)) ∙ places-length
 
-    pub free-stood : part withValues 11 20 ≡ part b 11 20
+    pub free-stood : part withValues freeAt wordCount ≡ part b freeAt wordCount
     free-stood =
-        same-part withValues b 11 20 (values-length ∙ sym long)
-        (λ j h k. placed-before withPlaces y 104 73 ly (omega (arith, places-length)) j (omega arith)
-        ∙ placed-before b x 31 73 lx (omega arith) j (omega arith))
+        same-part withValues b freeAt wordCount (values-length ∙ sym long)
+        (λ j h k. placed-before withPlaces y valuesAt 73 ly (omega (arith, places-length)) j (omega arith)
+        ∙ placed-before b x placesAt 73 lx (omega arith) j (omega arith))
 
     -- and with the free nodes: the head is still as it was
-    pub word-stood : (z : List ℕ) → length z ≡ 20 → (j : ℕ) → j < 11 → blockWord (placed 11 20 withValues z) j ≡ blockWord b j
+    pub word-stood : (z : List ℕ) → length z ≡ wordCount → (j : ℕ) → j < 11 → blockWord (placed freeAt wordCount withValues z) j ≡ blockWord b j
     word-stood z lz j h =
-        placed-before withValues z 11 20 lz (omega (arith, values-length)) j h
-        ∙ placed-before withPlaces y 104 73 ly (omega (arith, places-length)) j (omega arith)
-        ∙ placed-before b x 31 73 lx (omega arith) j (omega arith)
+        placed-before withValues z freeAt wordCount lz (omega (arith, values-length)) j h
+        ∙ placed-before withPlaces y valuesAt 73 ly (omega (arith, places-length)) j (omega arith)
+        ∙ placed-before b x placesAt 73 lx (omega arith) j (omega arith)
 
 -- ---- the stores of two rows
 
@@ -112,11 +112,11 @@ module _ (card b : List ℕ) (doing : Doing) (d : Decision) (ms : List ℕ) (thr
       ∙ ap (λ (k : ℕ). wordsBy card d ms ++ drop k row) count
 
   pub plan-stored : (head : State) (x y z after : List ℕ) → head .nodes ≡ blockWord b 0 → head .last ≡ lastOf (blockWord b 1) (take (needed d) ms)
-      → head .doing ≡ doing → head .made ≡ 0 → head .count ≡ storeCount d → head .cut ≡ pad 3 (cutBy card d) → after ≡ z ++ (x ++ (y ++ drop 177 b))
-      → x ≡ placesBy d ms ++ drop (storeCount d) (part b 31 73) → y ≡ wordsBy card d ms ++ drop (storeCount d) (part b 104 73)
-      → z ≡ wordsOf wordCount (withoutAll (take (needed d) ms) (nodesOf (part b 11 20))) → headWords head ++ after ≡ plannedOver card b doing d ms
+      → head .doing ≡ doing → head .made ≡ 0 → head .count ≡ storeCount d → head .cut ≡ pad 3 (cutBy card d) → after ≡ z ++ (x ++ (y ++ drop depthAt b))
+      → x ≡ placesBy d ms ++ drop (storeCount d) (part b placesAt 73) → y ≡ wordsBy card d ms ++ drop (storeCount d) (part b valuesAt 73)
+      → z ≡ wordsOf wordCount (withoutAll (take (needed d) ms) (nodesOf (part b freeAt wordCount))) → headWords head ++ after ≡ plannedOver card b doing d ms
   unfolding headWords plannedOver plannedBlock
   plan-stored head x y z after en el ed em ec ecut ea ex ey ez =
       rw (ed, em, ea)
-      (ap (λ (l : List ℕ). head .nodes ∷ head .last ∷ l) (append-assoc (doingWords doing) (0 ∷ head .count ∷ head .cut) (z ++ (x ++ (y ++ drop 177 b))))
-      ∙ words-same doing (drop 177 b) en el (ec ∙ sym stores-count) ecut ez (ex ∙ sym (places-front (part b 31 73))) (ey ∙ sym (values-front (part b 104 73))))
+      (ap (λ (l : List ℕ). head .nodes ∷ head .last ∷ l) (append-assoc (doingWords doing) (0 ∷ head .count ∷ head .cut) (z ++ (x ++ (y ++ drop depthAt b))))
+      ∙ words-same doing (drop depthAt b) en el (ec ∙ sym stores-count) ecut ez (ex ∙ sym (places-front (part b placesAt 73))) (ey ∙ sym (values-front (part b valuesAt 73))))

@@ -15,7 +15,7 @@ use Rattle.card_free.specs.NodeSet.{wordCount, nodesOf}
 use Rattle.change_plan.specs.Plan.{storesOf}
 use Rattle.change_plan.specs.Planning.{withAll}
 use Rattle.state.specs.Results.{moreToStore}
-use Rattle.state.specs.Block.{stateWords, blockWord, part}
+use Rattle.state.specs.Block.{freeAt, placesAt, valuesAt, stateWords, blockWord, part}
 use Rattle.state.specs.Blocks.{over, wordsOf}
 use Rattle.state.proofs.Rows.{placed}
 use Rattle.state.proofs.Blocks.{Words, by-head, words-nodes, free-span, freed-part, freed-length}
@@ -49,7 +49,7 @@ idled-stored b h =
 
 -- the nodes free then
 abbrev pub freedNodes : List ℕ → List Bool
-freedNodes b = withAll (beforeZero (part b 8 3)) (nodesOf (part b 11 20))
+freedNodes b = withAll (beforeZero (part b 8 3)) (nodesOf (part b freeAt wordCount))
 
 -- i of the nodes cut out are free, in a block that differs from the one before in the words of the free nodes alone
 pub record Freeing (b s : List ℕ) (i : ℕ) : Type 0 where
@@ -57,8 +57,8 @@ pub record Freeing (b s : List ℕ) (i : ℕ) : Type 0 where
   pub long : length s ≡ stateWords
   pub small : Words s
   pub front : take 11 s ≡ take 11 b
-  pub back : drop 31 s ≡ drop 31 b
-  pub left : withAll (beforeZero (drop i (part b 8 3))) (nodesOf (part s 11 20)) ≡ freedNodes b
+  pub back : drop placesAt s ≡ drop placesAt b
+  pub left : withAll (beforeZero (drop i (part b 8 3))) (nodesOf (part s freeAt wordCount)) ≡ freedNodes b
 
 module _ (b : List ℕ) (long : length b ≡ stateWords) where
   pub freeing-start : Words b → Freeing b b 0
@@ -74,41 +74,41 @@ module _ (b : List ℕ) (long : length b ≡ stateWords) where
         part-word b 8 3 i h ∙ sym (getD-take 11 b (8 + i) 0 (omega arith)) ∙ ap (λ (l : List ℕ). getD l (8 + i) 0) (sym (f .front))
         ∙ getD-take 11 s (8 + i) 0 (omega arith)
 
-    pub freeing-more : (m : ℕ) (row : List ℕ) → i < 3 → m ≡ blockWord s (8 + i) → (m ≡ 0 → ⊥) → length row ≡ length (part s 11 20)
-        → nodesOf row ≡ set (nodesOf (part s 11 20)) m true → Words (placed 11 20 s row) → Freeing b (placed 11 20 s row) (i + 1)
+    pub freeing-more : (m : ℕ) (row : List ℕ) → i < 3 → m ≡ blockWord s (8 + i) → (m ≡ 0 → ⊥) → length row ≡ length (part s freeAt wordCount)
+        → nodesOf row ≡ set (nodesOf (part s freeAt wordCount)) m true → Words (placed freeAt wordCount s row) → Freeing b (placed freeAt wordCount s row) (i + 1)
     freeing-more m row h e p l n w =
         let word : getD (part b 8 3) i 0 ≡ m = freeing-word h ∙ sym e in
         let eleven : length (take 11 s) ≡ 11 = omega (arith, length-take 11 s, f .long) in
-        let twenty : length row ≡ 20 = l ∙ free-span s [] (f .long) in
+        let twenty : length row ≡ wordCount = l ∙ free-span s [] (f .long) in
         record {
           within = omega arith;
           long = freed-length s row (f .long) l;
           small = w;
-          front = take-at (take 11 s) (row ++ drop 20 (drop 11 s)) 11 eleven ∙ f .front;
+          front = take-at (take 11 s) (row ++ drop wordCount (drop 11 s)) 11 eleven ∙ f .front;
           back =
-              sym (drop-drop 20 11 (placed 11 20 s row))
-              ∙ ap (drop 20) (drop-at (take 11 s) (row ++ drop 20 (drop 11 s)) 11 eleven)
-              ∙ drop-at row (drop 20 (drop 11 s)) 20 twenty
-              ∙ drop-drop 20 11 s
+              sym (drop-drop wordCount 11 (placed freeAt wordCount s row))
+              ∙ ap (drop wordCount) (drop-at (take 11 s) (row ++ drop wordCount (drop 11 s)) 11 eleven)
+              ∙ drop-at row (drop wordCount (drop 11 s)) wordCount twenty
+              ∙ drop-drop wordCount 11 s
               ∙ f .back;
           left =
               ap (λ (r : List ℕ). withAll (beforeZero (drop (i + 1) (part b 8 3))) (nodesOf r)) (freed-part s row (f .long) l)
-              ∙ ap (withAll (beforeZero (drop (i + 1) (part b 8 3)))) (n ∙ ap (λ (x : ℕ). set (nodesOf (part s 11 20)) x true) (sym word))
-              ∙ sym (cut-next (part b 8 3) i (nodesOf (part s 11 20)) (omega (arith, cut-words)) (λ z. p (sym word ∙ z)))
+              ∙ ap (withAll (beforeZero (drop (i + 1) (part b 8 3)))) (n ∙ ap (λ (x : ℕ). set (nodesOf (part s freeAt wordCount)) x true) (sym word))
+              ∙ sym (cut-next (part b 8 3) i (nodesOf (part s freeAt wordCount)) (omega (arith, cut-words)) (λ z. p (sym word ∙ z)))
               ∙ f .left;
         }
 
     freeing-done : beforeZero (drop i (part b 8 3)) ≡ [] → s ≡ over b 11 (wordsOf wordCount (freedNodes b))
     freeing-done z =
-        let row : part s 11 20 ≡ wordsOf wordCount (freedNodes b) =
-        sym (words-nodes (part s 11 20) (part-small s 11 20 (f .small)))
+        let row : part s freeAt wordCount ≡ wordsOf wordCount (freedNodes b) =
+        sym (words-nodes (part s freeAt wordCount) (part-small s freeAt wordCount (f .small)))
         ∙ ap₂ wordsOf (free-span s [] (f .long))
-        (sym (no-cut (nodesOf (part s 11 20))) ∙ ap (λ (ms : List ℕ). withAll ms (nodesOf (part s 11 20))) (sym z) ∙ f .left) in
+        (sym (no-cut (nodesOf (part s freeAt wordCount))) ∙ ap (λ (ms : List ℕ). withAll ms (nodesOf (part s freeAt wordCount))) (sym z) ∙ f .left) in
         sym (take-append-drop 11 s)
         ∙ ap₂ _++_ (f .front)
-        (sym (take-append-drop 20 (drop 11 s))
-        ∙ ap (λ (l : List ℕ). part s 11 20 ++ l)
-        (drop-drop 20 11 s ∙ f .back ∙ ap (λ (k : ℕ). drop k b) (let t : 31 ≡ 11 + length (part s 11 20) = omega (arith, free-span s [] (f .long)) in t)))
+        (sym (take-append-drop wordCount (drop 11 s))
+        ∙ ap (λ (l : List ℕ). part s freeAt wordCount ++ l)
+        (drop-drop wordCount 11 s ∙ f .back ∙ ap (λ (k : ℕ). drop k b) (let t : placesAt ≡ 11 + length (part s freeAt wordCount) = omega (arith, free-span s [] (f .long)) in t)))
         ∙ ap (over b 11) row
 
     pub freeing-end : 3 ≤ i → s ≡ over b 11 (wordsOf wordCount (freedNodes b))
@@ -129,7 +129,7 @@ settled-other b h p =
 
 -- the stores of the plan in a block
 abbrev pub planned : List ℕ → List Store
-planned b = storesOf (part b 31 73) (part b 104 73) (blockWord b 7)
+planned b = storesOf (part b placesAt 73) (part b valuesAt 73) (blockWord b 7)
 
 over-cut : (b w : List ℕ) → 11 ≤ length b → over (over b 11 w) 8 (0 ∷ 0 ∷ 0 ∷ []) ≡ over b 8 (0 ∷ 0 ∷ 0 ∷ w)
 over-cut b w h =
@@ -139,29 +139,29 @@ over-cut b w h =
     (let t : 11 + length w ≡ 8 + suc (suc (suc (length w))) = omega arith in t))
 
 module _ (b : List ℕ) (long : length b ≡ stateWords) where
-  places-long : length (part b 31 73) ≡ 73
-  places-long = part-length b 31 73 (omega arith)
+  places-long : length (part b placesAt 73) ≡ 73
+  places-long = part-length b placesAt 73 (omega arith)
 
-  values-long : length (part b 104 73) ≡ 73
-  values-long = part-length b 104 73 (omega arith)
+  values-long : length (part b valuesAt 73) ≡ 73
+  values-long = part-length b valuesAt 73 (omega arith)
 
   -- whether a store is to come after so many, and which
   pub plan-full : (k : ℕ) → 73 ≤ k → moreToStore (drop k (planned b)) ≡ false
-  plan-full k h = more-full (part b 31 73) (part b 104 73) (blockWord b 7) k places-long values-long h
+  plan-full k h = more-full (part b placesAt 73) (part b valuesAt 73) (blockWord b 7) k places-long values-long h
 
   pub plan-test : (k : ℕ) → k < 73 → moreToStore (drop k (planned b)) ≡ ltb k (blockWord b 7)
-  plan-test k h = more-test (part b 31 73) (part b 104 73) (blockWord b 7) k places-long values-long h
+  plan-test k h = more-test (part b placesAt 73) (part b valuesAt 73) (blockWord b 7) k places-long values-long h
 
   pub plan-below : (k : ℕ) → moreToStore (drop k (planned b)) ≡ true → (k < blockWord b 7) × (k < 73)
-  plan-below k e = more-below (part b 31 73) (part b 104 73) (blockWord b 7) k places-long values-long e
+  plan-below k e = more-below (part b placesAt 73) (part b valuesAt 73) (blockWord b 7) k places-long values-long e
 
   pub plan-next : (k : ℕ) → moreToStore (drop k (planned b)) ≡ true
-      → drop k (planned b) ≡ (blockWord b (31 + k), blockWord b (104 + k)) ∷ drop (k + 1) (planned b)
+      → drop k (planned b) ≡ (blockWord b (placesAt + k), blockWord b (valuesAt + k)) ∷ drop (k + 1) (planned b)
   plan-next k e =
       let h = plan-below k e in
-      let p : getD (part b 31 73) k 0 ≡ blockWord b (31 + k) = part-word b 31 73 k (h .1) in
-      let v : getD (part b 104 73) k 0 ≡ blockWord b (104 + k) = part-word b 104 73 k (h .1) in
-      store-at (part b 31 73) (part b 104 73) (blockWord b 7) k places-long values-long (h .0) (h .1)
+      let p : getD (part b placesAt 73) k 0 ≡ blockWord b (placesAt + k) = part-word b placesAt 73 k (h .1) in
+      let v : getD (part b valuesAt 73) k 0 ≡ blockWord b (valuesAt + k) = part-word b valuesAt 73 k (h .1) in
+      store-at (part b placesAt 73) (part b valuesAt 73) (blockWord b 7) k places-long values-long (h .0) (h .1)
       ∙ ap₂ (λ (x y : ℕ). (x, y) ∷ drop (k + 1) (planned b)) p v
 
   -- the number of stores made does not bear on the plan, nor on what it cuts out

@@ -17,7 +17,7 @@ use Rattle.change_plan.specs.Plan.{storesOf}
 use Rattle.change_plan.specs.Planning.{withAll}
 use Rattle.state.specs.Memory.{Memory, idled, settledPhase, settled, advanced}
 use Rattle.state.specs.Steps.{formattingFrom}
-use Rattle.state.specs.Block.{stateWords, blockWord, part, phaseIn, doingIn, memoryIn, doingWords}
+use Rattle.state.specs.Block.{depthAt, freeAt, placesAt, valuesAt, stateWords, blockWord, part, phaseIn, doingIn, memoryIn, doingWords}
 use Rattle.state.specs.Blocks.{over, wordsOf}
 use Rattle.state.specs.declared.Doing.{Doing}
 use Rattle.state.specs.declared.Doing.the-variants.{Inserting, Deleting}
@@ -45,32 +45,32 @@ memory-formatting b v l =
     ap
     (λ (w : ℕ). record {
       nodes = n;
-      free = nodesOf (take 20 rest);
+      free = nodesOf (take wordCount rest);
       last = last;
       doing = doingIn w v e f;
-      rest = drop g (storesOf (take 73 (drop 20 rest)) (take 73 (drop 93 rest)) i);
+      rest = drop g (storesOf (take 73 (drop wordCount rest)) (take 73 (drop (wordCount + 73) rest)) i);
       cut = beforeZero (j ∷ k ∷ m ∷ []);
-      depth = getD rest 166 0;
+      depth = getD rest (wordCount + 146) 0;
     }) h)
 
 -- ---- a store of the plan
 
 -- other words of free nodes
-module _ (words rest : List ℕ) (l : length words ≡ 20) where
+module _ (words rest : List ℕ) (l : length words ≡ wordCount) where
   abbrev freed : List ℕ
-  freed = words ++ drop 20 rest
+  freed = words ++ drop wordCount rest
 
-  freed-words : take 20 freed ≡ words
-  freed-words = take-at words (drop 20 rest) 20 l
+  freed-words : take wordCount freed ≡ words
+  freed-words = take-at words (drop wordCount rest) wordCount l
 
-  freed-rows : drop 20 freed ≡ drop 20 rest
-  freed-rows = drop-at words (drop 20 rest) 20 l
+  freed-rows : drop wordCount freed ≡ drop wordCount rest
+  freed-rows = drop-at words (drop wordCount rest) wordCount l
 
-  freed-values : drop 93 freed ≡ drop 93 rest
-  freed-values = sym (drop-drop 73 20 freed) ∙ ap (drop 73) freed-rows ∙ drop-drop 73 20 rest
+  freed-values : drop (wordCount + 73) freed ≡ drop (wordCount + 73) rest
+  freed-values = sym (drop-drop 73 wordCount freed) ∙ ap (drop 73) freed-rows ∙ drop-drop 73 wordCount rest
 
-  freed-depth : getD freed 166 0 ≡ getD rest 166 0
-  freed-depth = append-after words (drop 20 rest) 146 166 (omega arith) ∙ getD-drop 20 rest 146 0
+  freed-depth : getD freed (wordCount + 146) 0 ≡ getD rest (wordCount + 146) 0
+  freed-depth = append-after words (drop wordCount rest) 146 (wordCount + 146) (omega arith) ∙ getD-drop wordCount rest 146 0
 
 -- the last one: how far the update is, the free nodes and the nodes cut out are others
 abbrev lastPlayed : List ℕ → List ℕ → ℕ → ℕ → Memory
@@ -80,12 +80,12 @@ lastPlayed b words made phase =
       free = nodesOf words;
       last = memoryIn b .last;
       doing = doingIn (blockWord b 2) (blockWord b 3) (blockWord b 4) phase;
-      rest = drop made (storesOf (part b 31 73) (part b 104 73) (blockWord b 7));
+      rest = drop made (storesOf (part b placesAt 73) (part b valuesAt 73) (blockWord b 7));
       cut = [];
       depth = memoryIn b .depth;
     }
 
-last-played : (b words : List ℕ) (made phase : ℕ) → length b ≡ stateWords → length words ≡ 20
+last-played : (b words : List ℕ) (made phase : ℕ) → length b ≡ stateWords → length words ≡ wordCount
     → memoryIn (over (set (set b 6 made) 5 phase) 8 (0 ∷ 0 ∷ 0 ∷ words)) ≡ lastPlayed b words made phase
 unfolding memoryIn
 last-played b words made phase l w =
@@ -104,8 +104,8 @@ last-played b words made phase l w =
       depth = depth;
     } in
     let freed-list = freed words rest w in
-    ap₂ (λ (x : List ℕ) (depth : ℕ). with x (drop 20 freed-list) (drop 93 freed-list) depth) (freed-words words rest w) (freed-depth words rest w)
-    ∙ ap₂ (λ (y z : List ℕ). with words y z (getD rest 166 0)) (freed-rows words rest w) (freed-values words rest w))
+    ap₂ (λ (x : List ℕ) (depth : ℕ). with x (drop wordCount freed-list) (drop (wordCount + 73) freed-list) depth) (freed-words words rest w) (freed-depth words rest w)
+    ∙ ap₂ (λ (y z : List ℕ). with words y z (getD rest (wordCount + 146) 0)) (freed-rows words rest w) (freed-values words rest w))
 
 -- one more is made
 on-played : (b : List ℕ) (made : ℕ) → length b ≡ stateWords
@@ -115,7 +115,7 @@ on-played : (b : List ℕ) (made : ℕ) → length b ≡ stateWords
       free = memoryIn b .free;
       last = memoryIn b .last;
       doing = memoryIn b .doing;
-      rest = drop made (storesOf (part b 31 73) (part b 104 73) (blockWord b 7));
+      rest = drop made (storesOf (part b placesAt 73) (part b valuesAt 73) (blockWord b 7));
       cut = memoryIn b .cut;
       depth = memoryIn b .depth;
     }
@@ -128,7 +128,7 @@ on-played b made l =
       free = memoryIn x .free;
       last = memoryIn x .last;
       doing = memoryIn x .doing;
-      rest = drop made (storesOf (part x 31 73) (part x 104 73) (blockWord x 7));
+      rest = drop made (storesOf (part x placesAt 73) (part x valuesAt 73) (blockWord x 7));
       cut = memoryIn x .cut;
       depth = memoryIn x .depth;
     })
@@ -157,7 +157,7 @@ length-with-all [] free = refl
 length-with-all (m ∷ ms) free = length-with-all ms (set free m true) ∙ length-set free m true
 
 pub memory-played : (b : List ℕ) (made : ℕ) (rest : List Store) → length b ≡ stateWords
-    → rest ≡ drop made (storesOf (part b 31 73) (part b 104 73) (blockWord b 7)) → memoryIn (playedBlock b made rest) ≡ advanced (memoryIn b) rest
+    → rest ≡ drop made (storesOf (part b placesAt 73) (part b valuesAt 73) (blockWord b 7)) → memoryIn (playedBlock b made rest) ≡ advanced (memoryIn b) rest
 unfolding playedBlock advanced memoryIn
 memory-played b made (s ∷ rest) l e =
     on-played b made l
@@ -172,10 +172,10 @@ memory-played b made (s ∷ rest) l e =
       depth = memoryIn b .depth;
     }) (sym e)
 memory-played b made [] l e =
-    let bits : List Bool = withAll (beforeZero (part b 8 3)) (nodesOf (part b 11 20)) in
-    let twenty : length (part b 11 20) ≡ 20 = omega (arith, length-take 20 (drop 11 b), length-drop 11 b) in
+    let bits : List Bool = withAll (beforeZero (part b 8 3)) (nodesOf (part b freeAt wordCount)) in
+    let twenty : length (part b freeAt wordCount) ≡ wordCount = omega (arith, length-take wordCount (drop 11 b), length-drop 11 b) in
     let full : length bits ≡ capacity =
-    omega (arith, length-with-all (beforeZero (part b 8 3)) (nodesOf (part b 11 20)), length-nodes (part b 11 20)) in
+    omega (arith, length-with-all (beforeZero (part b 8 3)) (nodesOf (part b freeAt wordCount)), length-nodes (part b freeAt wordCount)) in
     last-played b (wordsOf wordCount bits) made (settledWord (blockWord b 5)) l (length-words wordCount bits)
     ∙ ap₂
     (λ (free : List Bool) (r : List Store). record {
@@ -217,29 +217,29 @@ abbrev written : ℕ → ℕ → List ℕ → ℕ → List ℕ → List ℕ → 
 written n last doing count cut free places values end = n ∷ last ∷ doing ++ (0 ∷ count ∷ cut ++ (free ++ (places ++ (values ++ end))))
 
 -- its free nodes and rows, and the word after them
-module _ (free places values end : List ℕ) (lf : length free ≡ 20) (lp : length places ≡ 73) (lv : length values ≡ 73) where
+module _ (free places values end : List ℕ) (lf : length free ≡ wordCount) (lp : length places ≡ 73) (lv : length values ≡ 73) where
   abbrev tail : List ℕ
   tail = free ++ (places ++ (values ++ end))
 
-  tail-free : take 20 tail ≡ free
-  tail-free = take-at free (places ++ (values ++ end)) 20 lf
+  tail-free : take wordCount tail ≡ free
+  tail-free = take-at free (places ++ (values ++ end)) wordCount lf
 
-  tail-rows : drop 20 tail ≡ places ++ (values ++ end)
-  tail-rows = drop-at free (places ++ (values ++ end)) 20 lf
+  tail-rows : drop wordCount tail ≡ places ++ (values ++ end)
+  tail-rows = drop-at free (places ++ (values ++ end)) wordCount lf
 
-  tail-places : take 73 (drop 20 tail) ≡ places
+  tail-places : take 73 (drop wordCount tail) ≡ places
   tail-places = ap (take 73) tail-rows ∙ take-at places (values ++ end) 73 lp
 
-  tail-values : take 73 (drop 93 tail) ≡ values
+  tail-values : take 73 (drop (wordCount + 73) tail) ≡ values
   tail-values =
-      ap (take 73) (sym (drop-drop 73 20 tail) ∙ ap (drop 73) tail-rows ∙ drop-at places (values ++ end) 73 lp) ∙ take-at values end 73 lv
+      ap (take 73) (sym (drop-drop 73 wordCount tail) ∙ ap (drop 73) tail-rows ∙ drop-at places (values ++ end) 73 lp) ∙ take-at values end 73 lv
 
-  tail-end : getD tail 166 0 ≡ getD end 0 0
+  tail-end : getD tail (wordCount + 146) 0 ≡ getD end 0 0
   tail-end =
-      append-after free (places ++ (values ++ end)) 146 166 (omega arith) ∙ append-after places (values ++ end) 73 146 (omega arith)
+      append-after free (places ++ (values ++ end)) 146 (wordCount + 146) (omega arith) ∙ append-after places (values ++ end) 73 146 (omega arith)
       ∙ append-after values end 0 73 (omega arith)
 
-  tail-length : length tail ≡ 166 + length end
+  tail-length : length tail ≡ (wordCount + 146) + length end
   tail-length = omega (arith, length-append free (places ++ (values ++ end)), length-append places (values ++ end), length-append values end)
 
 length-front : (words row : List ℕ) → length words ≤ 73 → length row ≡ 73 → length (atFront words row) ≡ 73
@@ -254,10 +254,10 @@ module _ (b : List ℕ) (doing : Doing) (stores : List Store) (free : List Bool)
   values = map (λ (s : Store). s .1) stores
 
   abbrev placesRow : List ℕ
-  placesRow = atFront places (part b 31 73)
+  placesRow = atFront places (part b placesAt 73)
 
   abbrev valuesRow : List ℕ
-  valuesRow = atFront values (part b 104 73)
+  valuesRow = atFront values (part b valuesAt 73)
 
   places-long : length places ≡ length stores
   places-long = length-map stores (λ (s : Store). s .0)
@@ -267,11 +267,11 @@ module _ (b : List ℕ) (doing : Doing) (stores : List Store) (free : List Bool)
 
   places-row : length placesRow ≡ 73
   places-row =
-      length-front places (part b 31 73) (omega (arith, places-long, h .short)) (omega (arith, length-take 73 (drop 31 b), length-drop 31 b))
+      length-front places (part b placesAt 73) (omega (arith, places-long, h .short)) (omega (arith, length-take 73 (drop placesAt b), length-drop placesAt b))
 
   values-row : length valuesRow ≡ 73
   values-row =
-      length-front values (part b 104 73) (omega (arith, values-long, h .short)) (omega (arith, length-take 73 (drop 104 b), length-drop 104 b))
+      length-front values (part b valuesAt 73) (omega (arith, values-long, h .short)) (omega (arith, length-take 73 (drop valuesAt b), length-drop valuesAt b))
 
   cut-long : length (pad 3 cut) ≡ 3
   cut-long = omega (arith, length-append cut (replicate (3 - length cut) 0), length-replicate {A = ℕ} (3 - length cut) 0, h .few)
@@ -292,20 +292,20 @@ module _ (b : List ℕ) (doing : Doing) (stores : List Store) (free : List Bool)
   abbrev inWords : List ℕ
   inWords =
       written (blockWord b 0) last (doingWord 0 ∷ doingWord 1 ∷ doingWord 2 ∷ doingWord 3 ∷ []) (length stores)
-      (cutWord 0 ∷ cutWord 1 ∷ cutWord 2 ∷ []) (wordsOf wordCount free) placesRow valuesRow (drop 177 b)
+      (cutWord 0 ∷ cutWord 1 ∷ cutWord 2 ∷ []) (wordsOf wordCount free) placesRow valuesRow (drop depthAt b)
 
   in-words : inWords ≡ planned
   unfolding plannedBlock
   in-words =
-      ap₂ (λ (d c : List ℕ). written (blockWord b 0) last d (length stores) c (wordsOf wordCount free) placesRow valuesRow (drop 177 b)) (words-each doing) cut-each
+      ap₂ (λ (d c : List ℕ). written (blockWord b 0) last d (length stores) c (wordsOf wordCount free) placesRow valuesRow (drop depthAt b)) (words-each doing) cut-each
 
   pub planned-length : length planned ≡ stateWords
   planned-length =
       let long : length inWords ≡ stateWords =
       omega (
         arith,
-        tail-length (wordsOf wordCount free) placesRow valuesRow (drop 177 b) (length-words wordCount free) places-row values-row,
-        length-drop 177 b,
+        tail-length (wordsOf wordCount free) placesRow valuesRow (drop depthAt b) (length-words wordCount free) places-row values-row,
+        length-drop depthAt b,
       ) in
       ap length (sym in-words) ∙ long
 
@@ -313,23 +313,23 @@ module _ (b : List ℕ) (doing : Doing) (stores : List Store) (free : List Bool)
   unfolding storesOf
   rows-read =
       ap₂ (λ (x y : List ℕ). zip x y)
-      (take-at places (drop (length places) (part b 31 73)) (length stores) places-long)
-      (take-at values (drop (length values) (part b 104 73)) (length stores) values-long)
+      (take-at places (drop (length places) (part b placesAt 73)) (length stores) places-long)
+      (take-at values (drop (length values) (part b valuesAt 73)) (length stores) values-long)
       ∙ zip-parts stores
 
-  stores-in : storesOf (part inWords 31 73) (part inWords 104 73) (blockWord inWords 7) ≡ stores
+  stores-in : storesOf (part inWords placesAt 73) (part inWords valuesAt 73) (blockWord inWords 7) ≡ stores
   stores-in =
       ap₂ (λ (x y : List ℕ). storesOf x y (length stores))
-      (tail-places (wordsOf wordCount free) placesRow valuesRow (drop 177 b) (length-words wordCount free) places-row values-row)
-      (tail-values (wordsOf wordCount free) placesRow valuesRow (drop 177 b) (length-words wordCount free) places-row values-row)
+      (tail-places (wordsOf wordCount free) placesRow valuesRow (drop depthAt b) (length-words wordCount free) places-row values-row)
+      (tail-values (wordsOf wordCount free) placesRow valuesRow (drop depthAt b) (length-words wordCount free) places-row values-row)
       ∙ rows-read
 
-  pub planned-stores : storesOf (part planned 31 73) (part planned 104 73) (blockWord planned 7) ≡ stores
-  planned-stores = ap (λ (x : List ℕ). storesOf (part x 31 73) (part x 104 73) (blockWord x 7)) (sym in-words) ∙ stores-in
+  pub planned-stores : storesOf (part planned placesAt 73) (part planned valuesAt 73) (blockWord planned 7) ≡ stores
+  planned-stores = ap (λ (x : List ℕ). storesOf (part x placesAt 73) (part x valuesAt 73) (blockWord x 7)) (sym in-words) ∙ stores-in
 
-  depth-in : blockWord inWords 177 ≡ blockWord b 177
+  depth-in : blockWord inWords depthAt ≡ blockWord b depthAt
   depth-in =
-      tail-end (wordsOf wordCount free) placesRow valuesRow (drop 177 b) (length-words wordCount free) places-row values-row ∙ getD-drop 177 b 0 0
+      tail-end (wordsOf wordCount free) placesRow valuesRow (drop depthAt b) (length-words wordCount free) places-row values-row ∙ getD-drop depthAt b 0 0
 
   pub memory-planned : memoryIn planned
       ≡ record { nodes = memoryIn b .nodes; free = free; last = last; doing = doing; rest = stores; cut = cut; depth = memoryIn b .depth }
@@ -344,9 +344,9 @@ module _ (b : List ℕ) (doing : Doing) (stores : List Store) (free : List Bool)
         doing = doingIn (doingWord 0) (doingWord 1) (doingWord 2) (doingWord 3);
         rest = ss;
         cut = beforeZero (cutWord 0 ∷ cutWord 1 ∷ cutWord 2 ∷ []);
-        depth = blockWord inWords 177;
+        depth = blockWord inWords depthAt;
       })
-      (tail-free (wordsOf wordCount free) placesRow valuesRow (drop 177 b) (length-words wordCount free) places-row values-row) stores-in
+      (tail-free (wordsOf wordCount free) placesRow valuesRow (drop depthAt b) (length-words wordCount free) places-row values-row) stores-in
       ∙ ap₂ (λ (f : List Bool) (d : Doing). record {
         nodes = blockWord b 0;
         free = f;
@@ -354,7 +354,7 @@ module _ (b : List ℕ) (doing : Doing) (stores : List Store) (free : List Bool)
         doing = d;
         rest = stores;
         cut = beforeZero (cutWord 0 ∷ cutWord 1 ∷ cutWord 2 ∷ []);
-        depth = blockWord inWords 177;
+        depth = blockWord inWords depthAt;
       }) (nodes-words wordCount free (h .full)) (doing-read doing)
       ∙ ap₂ (λ (c : List ℕ) (depth : ℕ). record { nodes = blockWord b 0; free = free; last = last; doing = doing; rest = stores; cut = c; depth = depth })
       (ap beforeZero cut-each ∙ h .readable) depth-in

@@ -19,7 +19,7 @@ use Rattle.card.specs.Header.{Sized, nodesOfLength, headerRefusal}
 use Rattle.card.proofs.HeaderLaws.{nodes-sized}
 use Rattle.card.specs.Layout.{nodeAt}
 use Rattle.card.specs.Stores.{Store}
-use Rattle.card_free.specs.NodeSet.{capacity}
+use Rattle.card_free.specs.NodeSet.{wordCount, capacity}
 use Rattle.card_free.proofs.NodeSetLaws.{length-nodes}
 use Rattle.walk.specs.Descent.{slotOf}
 use Rattle.walk.specs.declared.Slot.{Slot}
@@ -34,7 +34,7 @@ use Rattle.call_change.specs.Decided.{decided}
 use Rattle.call_change.proofs.Decided.{next-decided, decided-fits}
 use Rattle.state.specs.Memory.{Memory, advanced}
 use Rattle.state.specs.Steps.{Step, heldBy, stepRefused, stepFinal, formatStore, formattingFrom, stepFormat, stepStore}
-use Rattle.state.specs.Block.{stateWords, blockWord, part, phaseIn, doingIn, memoryIn}
+use Rattle.state.specs.Block.{freeAt, placesAt, valuesAt, stateWords, blockWord, part, phaseIn, doingIn, memoryIn}
 use Rattle.state.specs.declared.Doing.{Doing}
 use Rattle.state.specs.declared.Doing.the-variants.{Idle, Formatting, Inserting, Deleting, Repairing}
 use Rattle.state.specs.declared.Phase.the-variants.{NotBegun, InHand, Decided}
@@ -224,7 +224,7 @@ module _ (greatest : ℕ) (card b : List ℕ) (l : length b ≡ stateWords) wher
         store-right s (advanced m rest)
         (ap₂ (λ (h : Held) (x : List Store). memoryIn (storedBlock card b m h x)) e r
         ∙ memory-played b (suc (blockWord b 6)) rest l
-        (drop-next (blockWord b 6) (storesOf (part b 31 73) (part b 104 73) (blockWord b 7)) s rest r))
+        (drop-next (blockWord b 6) (storesOf (part b placesAt 73) (part b valuesAt 73) (blockWord b 7)) s rest r))
         (ap₂ (λ (h : Held) (x : List Store). storedBlock card b m h x) e r
         ∙ hand-words b rest
         ∙ ap (storedWords b s (advanced m rest)) (sym r)
@@ -235,7 +235,7 @@ module _ (greatest : ℕ) (card b : List ℕ) (l : length b ≡ stateWords) wher
 
     free-full : length (m .free) ≡ capacity
     unfolding memoryIn
-    free-full = omega (arith, length-nodes (part b 11 20), length-take 20 (drop 11 b), length-drop 11 b)
+    free-full = omega (arith, length-nodes (part b freeAt wordCount), length-take wordCount (drop 11 b), length-drop 11 b)
 
     prepared-right : m .rest ≡ [] → (p : Preparation) → next .preparation ≡ p → WithinBounds (m .free) p
         → Right (stepPrepared card m (next .doing) (next .final) p)

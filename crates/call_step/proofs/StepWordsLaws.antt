@@ -8,10 +8,10 @@ use lib.ListN.{length, getD, set, take, drop, replicate, length-append, length-r
 use lib.Seq.{take-at, drop-at, drop-drop}
 use Rattle.laws.specs.Lists.{pad, beforeZero}
 use Rattle.card.specs.Stores.{Store}
-use Rattle.card_free.specs.NodeSet.{wordCount, nodesOf}
+use Rattle.card_free.specs.NodeSet.{capacity, wordCount, nodesOf}
 use Rattle.change_plan.specs.Planning.{withAll}
 use Rattle.state.specs.Memory.{Memory, settledPhase, settled, advanced}
-use Rattle.state.specs.Block.{blockWord, part, memoryIn, phaseWord, doingWords}
+use Rattle.state.specs.Block.{depthAt, freeAt, placesAt, valuesAt, blockWord, part, memoryIn, phaseWord, doingWords}
 use Rattle.state.specs.Blocks.{over, wordsOf}
 use Rattle.state.specs.declared.Doing.{Doing}
 use Rattle.state.specs.declared.Doing.the-variants.{Idle, Formatting, Inserting, Deleting, Repairing}
@@ -81,25 +81,25 @@ joined n last count more (Deleting key phase value) made = refl
 joined n last count more (Repairing key) made = refl
 
 -- three words, twenty, and the rows
-module _ (cut free rows : List ℕ) (lc : length cut ≡ 3) (lf : length free ≡ 20) where
+module _ (cut free rows : List ℕ) (lc : length cut ≡ 3) (lf : length free ≡ wordCount) where
   abbrev tail : List ℕ
   tail = cut ++ (free ++ rows)
 
   tail-cut : take 3 tail ≡ cut
   tail-cut = take-at cut (free ++ rows) 3 lc
 
-  tail-free : take 20 (drop 3 tail) ≡ free
-  tail-free = ap (take 20) (drop-at cut (free ++ rows) 3 lc) ∙ take-at free rows 20 lf
+  tail-free : take wordCount (drop 3 tail) ≡ free
+  tail-free = ap (take wordCount) (drop-at cut (free ++ rows) 3 lc) ∙ take-at free rows wordCount lf
 
   tail-rows : drop 23 tail ≡ rows
-  tail-rows = sym (drop-drop 20 3 tail) ∙ ap (drop 20) (drop-at cut (free ++ rows) 3 lc) ∙ drop-at free rows 20 lf
+  tail-rows = sym (drop-drop wordCount 3 tail) ∙ ap (drop wordCount) (drop-at cut (free ++ rows) 3 lc) ∙ drop-at free rows wordCount lf
 
 module _ (b : List ℕ) (doing : Doing) (free : List Bool) (last : ℕ) (cut : List ℕ) where
   cut-long : length cut ≤ 3 → length (pad 3 cut) ≡ 3
   cut-long h = omega (arith, length-append cut (replicate (3 - length cut) 0), length-replicate {A = ℕ} (3 - length cut) 0)
 
   -- the only store of a change
-  module _ (rows : List ℕ) (few : length cut ≤ 3) (readable : beforeZero (pad 3 cut) ≡ cut) (full : length free ≡ 640) where
+  module _ (rows : List ℕ) (few : length cut ≤ 3) (readable : beforeZero (pad 3 cut) ≡ cut) (full : length free ≡ capacity) where
     abbrev n : ℕ
     n = blockWord b 0
 
@@ -117,24 +117,24 @@ module _ (b : List ℕ) (doing : Doing) (free : List Bool) (last : ℕ) (cut : L
         ap (take 3) (sym (drop-drop 1 7 before) ∙ ap (drop 1) (after-seven n last (1 ∷ more) doing 0))
         ∙ tail-cut (pad 3 cut) words rows (cut-long few) (length-words wordCount free)
 
-    free-read : part before 11 20 ≡ words
+    free-read : part before freeAt wordCount ≡ words
     free-read =
-        ap (take 20) (sym (drop-drop 4 7 before) ∙ ap (drop 4) (after-seven n last (1 ∷ more) doing 0))
+        ap (take wordCount) (sym (drop-drop 4 7 before) ∙ ap (drop 4) (after-seven n last (1 ∷ more) doing 0))
         ∙ tail-free (pad 3 cut) words rows (cut-long few) (length-words wordCount free)
 
     abbrev after : List Bool
     after = withAll cut free
 
-    freed : withAll (beforeZero (part before 8 3)) (nodesOf (part before 11 20)) ≡ after
+    freed : withAll (beforeZero (part before 8 3)) (nodesOf (part before freeAt wordCount)) ≡ after
     freed =
         ap₂ (λ (c f : List ℕ). withAll (beforeZero c) (nodesOf f)) cut-read free-read
         ∙ ap₂ (λ (c : List ℕ) (f : List Bool). withAll c f) readable (nodes-words wordCount free full)
 
-    over-three : (bits : List ℕ) → length bits ≡ 20 → (made : Doing)
+    over-three : (bits : List ℕ) → length bits ≡ wordCount → (made : Doing)
         → over (block n last (1 ∷ more) made 1) 8 (0 ∷ 0 ∷ 0 ∷ bits) ≡ block n last (1 ∷ (0 ∷ 0 ∷ 0 ∷ (bits ++ rows))) made 1
     over-three bits l made =
         let start : List ℕ = block n last (1 ∷ more) made 1 in
-        let long : 8 + length (0 ∷ 0 ∷ 0 ∷ bits) ≡ 31 = omega arith in
+        let long : 8 + length (0 ∷ 0 ∷ 0 ∷ bits) ≡ placesAt = omega arith in
         let behind : drop (8 + length (0 ∷ 0 ∷ 0 ∷ bits)) start ≡ rows =
         ap (λ (k : ℕ). drop k start) long
         ∙ sym (drop-drop 24 7 start)
@@ -144,7 +144,7 @@ module _ (b : List ℕ) (doing : Doing) (free : List Bool) (last : ℕ) (cut : L
         ∙ joined n last 1 (0 ∷ 0 ∷ 0 ∷ (bits ++ rows)) made 1
 
     only-store : over (set (set before 6 1) 5 (settledWord (blockWord before 5))) 8
-        (0 ∷ 0 ∷ 0 ∷ wordsOf wordCount (withAll (beforeZero (part before 8 3)) (nodesOf (part before 11 20))))
+        (0 ∷ 0 ∷ 0 ∷ wordsOf wordCount (withAll (beforeZero (part before 8 3)) (nodesOf (part before freeAt wordCount))))
         ≡ block n last (1 ∷ (0 ∷ 0 ∷ 0 ∷ (wordsOf wordCount after ++ rows))) (settled doing) 1
     only-store =
         ap₂ (λ (x : List ℕ) (f : List Bool). over x 8 (0 ∷ 0 ∷ 0 ∷ wordsOf wordCount f)) (made-last n last (1 ∷ more) doing) freed
@@ -160,5 +160,5 @@ module _ (b : List ℕ) (doing : Doing) (free : List Bool) (last : ℕ) (cut : L
       → playedBlock (plannedBlock b doing stores free last cut) 1 (drop 1 stores) ≡ firstWords b (getD stores 0 (0, 0) ∷ left stores .rest) (left stores)
   unfolding playedBlock plannedBlock firstWords advanced planning
   first-words [] some h = absurd (none some)
-  first-words (s ∷ []) some h = only-store (atFront (s .0 ∷ []) (part b 31 73) ++ (atFront (s .1 ∷ []) (part b 104 73) ++ drop 177 b)) (h .few) (h .readable) (h .full)
+  first-words (s ∷ []) some h = only-store (atFront (s .0 ∷ []) (part b placesAt 73) ++ (atFront (s .1 ∷ []) (part b valuesAt 73) ++ drop depthAt b)) (h .few) (h .readable) (h .full)
   first-words (s ∷ t ∷ rest) some h = made-one (blockWord b 0) last _ doing

@@ -14,7 +14,7 @@ use Rattle.change_layout.specs.LayOut.{needed, storesBy, cutBy}
 use Rattle.call_change.specs.Updates.{FirstChange, nextChange}
 use Rattle.state.specs.Memory.{Memory}
 use Rattle.state.specs.Steps.{heldBy}
-use Rattle.state.specs.Block.{blockWord, part, memoryIn, doingWords}
+use Rattle.state.specs.Block.{depthAt, freeAt, placesAt, valuesAt, blockWord, part, memoryIn, doingWords}
 use Rattle.state.specs.Blocks.{over, wordsOf}
 use Rattle.state.specs.declared.Doing.{Doing}
 use Rattle.state.specs.declared.Held.{Held}
@@ -35,7 +35,7 @@ unfoldable pub playedBlock : List ℕ → ℕ → List Store → List ℕ
 playedBlock b made (s ∷ rest) = set b 6 made
 playedBlock b made [] =
     over (set (set b 6 made) 5 (settledWord (blockWord b 5))) 8
-    (0 ∷ 0 ∷ 0 ∷ wordsOf wordCount (withAll (beforeZero (part b 8 3)) (nodesOf (part b 11 20))))
+    (0 ∷ 0 ∷ 0 ∷ wordsOf wordCount (withAll (beforeZero (part b 8 3)) (nodesOf (part b freeAt wordCount))))
 
 -- words at the front of a row, over those that were there
 abbrev pub atFront : List ℕ → List ℕ → List ℕ
@@ -48,12 +48,12 @@ plannedBlock b doing stores free last cut =
     blockWord b 0 ∷ last ∷ doingWords doing
     ++ (0 ∷ length stores ∷ pad 3 cut
     ++ (wordsOf wordCount free
-    ++ (atFront (map (λ s. s .0) stores) (part b 31 73) ++ (atFront (map (λ s. s .1) stores) (part b 104 73) ++ drop 177 b))))
+    ++ (atFront (map (λ s. s .0) stores) (part b placesAt 73) ++ (atFront (map (λ s. s .1) stores) (part b valuesAt 73) ++ drop depthAt b))))
 
 -- a change that is decided, planned over the nodes given
 unfoldable pub plannedOver : List ℕ → List ℕ → Doing → Decision → List ℕ → List ℕ
 plannedOver card b doing d nodes =
-    plannedBlock b doing (storesBy card d nodes) (withoutAll (take (needed d) nodes) (nodesOf (part b 11 20)))
+    plannedBlock b doing (storesBy card d nodes) (withoutAll (take (needed d) nodes) (nodesOf (part b freeAt wordCount)))
     (lastOf (blockWord b 1) (take (needed d) nodes)) (cutBy card d)
 
 -- planned, and its first store made

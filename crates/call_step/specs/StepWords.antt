@@ -9,7 +9,7 @@ use Rattle.card.specs.Stores.{Store}
 use Rattle.card_free.specs.NodeSet.{wordCount}
 use Rattle.state.specs.Memory.{Memory}
 use Rattle.state.specs.Steps.{Step}
-use Rattle.state.specs.Block.{blockWord, part, memoryIn, doingWords}
+use Rattle.state.specs.Block.{depthAt, placesAt, valuesAt, blockWord, part, memoryIn, doingWords}
 use Rattle.state.specs.Blocks.{over, wordsOf}
 use Rattle.state.specs.declared.Answer.{Answer}
 use Rattle.state.specs.declared.Answer.the-variants.{Stored, Ready, Absent, Value, Refused}
@@ -29,7 +29,7 @@ firstWords b stores m =
     blockWord b 0 ∷ m .last ∷ doingWords (m .doing)
     ++ (1 ∷ length stores ∷ pad 3 (m .cut)
     ++ (wordsOf wordCount (m .free)
-    ++ (atFront (map (λ s. s .0) stores) (part b 31 73) ++ (atFront (map (λ s. s .1) stores) (part b 104 73) ++ drop 177 b))))
+    ++ (atFront (map (λ s. s .0) stores) (part b placesAt 73) ++ (atFront (map (λ s. s .1) stores) (part b valuesAt 73) ++ drop depthAt b))))
 
 -- a store that leaves this state, where these were to come: none, so that it is the first of a change planned just now
 unfoldable pub storedWords : List ℕ → Store → Memory → List Store → List ℕ

@@ -36,13 +36,13 @@ ghost use mathlib.Core.Option.{some};
 ghost use lib.ListN.{length, take};
 ghost use Rattle.card.specs.Layout.{greatestNodes};
 ghost use Rattle.card.specs.Header.{headerRefusal, Sized};
-ghost use Rattle.card_free.specs.NodeSet.{nodesOf};
+ghost use Rattle.card_free.specs.NodeSet.{wordCount, nodesOf};
 ghost use Rattle.change_decide.specs.Places.{Fits};
 ghost use Rattle.change_layout.specs.LayOut.{needed, storeCount, sizeOf, wordsBy, layOut};
 ghost use Rattle.change_plan.specs.Planning.{takeNumbers};
 ghost use Rattle.state.specs.Steps.{isIdle, heldBy};
 ghost use Rattle.state.specs.Results.{moreToStore};
-ghost use Rattle.state.specs.Block.{stateWords, blockWord, part, memoryIn};
+ghost use Rattle.state.specs.Block.{freeAt, stateWords, blockWord, part, memoryIn};
 ghost use Rattle.state.specs.declared.Answer.{Answer};
 ghost use Rattle.state.specs.declared.Held.the-variants.{Task as HeldTask};
 ghost use Rattle.call_step.specs.Calls.{stepPrepared, stepTask, stepHeld};
@@ -59,7 +59,7 @@ fn plan(
     nodes: [u32; 3],
 )
     requires { ⌜ (length (now state) ≡ stateWords) × Fits (now card) decision × (size ≡ sizeOf decision)
-        × (takeNumbers (needed decision) (nodesOf (part (now state) 11 20)) (blockWord (now state) 1) ≡ some (take (needed decision) nodes)) ⌝ }
+        × (takeNumbers (needed decision) (nodesOf (part (now state) freeAt wordCount)) (blockWord (now state) 1) ≡ some (take (needed decision) nodes)) ⌝ }
     ensures { λ _. ⌜ (now (state .exit) ≡ plannedOver (now (card .entry)) (now (state .entry)) doing decision nodes)
         × (length (wordsBy (now (card .entry)) decision nodes) ≡ storeCount decision) ⌝ }
 {

@@ -27,7 +27,7 @@ ghost use Rattle.change_plan.specs.Planning.{withAll};
 ghost use Rattle.state.specs.Memory.{advanced};
 ghost use Rattle.state.specs.Steps.{isIdle, stepStore};
 ghost use Rattle.state.specs.Results.{moreToStore};
-ghost use Rattle.state.specs.Block.{stateWords, blockWord, part, memoryIn};
+ghost use Rattle.state.specs.Block.{freeAt, placesAt, valuesAt, stateWords, blockWord, part, memoryIn};
 ghost use Rattle.state.specs.Blocks.{over, wordsOf};
 ghost use Rattle.call_step.specs.StepBlocks.{idledBlock, settledWord, playedBlock};
 ghost use Rattle.call_step.specs.Contracts.{StepMade, HoldsTask};
@@ -69,7 +69,7 @@ fn free_node(free: &mut [u32], m: usize)
 fn free_cut(state: &mut [u32])
     requires { ⌜ length (now state) ≡ stateWords ⌝ }
     ensures { λ _. ⌜ now (state .exit) ≡ over (now (state .entry)) 11
-        (wordsOf wordCount (withAll (beforeZero (part (now (state .entry)) 8 3)) (nodesOf (part (now (state .entry)) 11 20)))) ⌝ }
+        (wordsOf wordCount (withAll (beforeZero (part (now (state .entry)) 8 3)) (nodesOf (part (now (state .entry)) freeAt wordCount)))) ⌝ }
 {
     let mut i: usize = 0;
     while i < 3 {
@@ -107,7 +107,7 @@ fn settle(state: &mut [u32])
 fn in_hand(state: &[u32], made: usize) -> bool
     requires { ⌜ length (now state) ≡ stateWords ⌝ }
     ensures { λ r. ⌜ r
-        ≡ moreToStore (drop made (storesOf (part (now (state .entry)) 31 73) (part (now (state .entry)) 104 73) (blockWord (now (state .entry)) 7))) ⌝ }
+        ≡ moreToStore (drop made (storesOf (part (now (state .entry)) placesAt 73) (part (now (state .entry)) valuesAt 73) (blockWord (now (state .entry)) 7))) ⌝ }
 {
     if card::PLAN_SIZE <= made {
         return false;
@@ -134,9 +134,9 @@ pub fn has_store(state: &[u32]) -> bool
 // the nodes that it cut out are free.
 pub fn play(card: &mut [u32], state: &mut [u32], made: usize, at: usize)
     requires { ⌜ (length (now state) ≡ stateWords) × (made < 73) × (at < length (now card)) ⌝ }
-    ensures { λ _. ⌜ (now (card .exit) ≡ set (now (card .entry)) at (getD (part (now (state .entry)) 104 73) made 0))
+    ensures { λ _. ⌜ (now (card .exit) ≡ set (now (card .entry)) at (getD (part (now (state .entry)) valuesAt 73) made 0))
         × (now (state .exit) ≡ playedBlock (now (state .entry)) (made + 1)
-        (drop (made + 1) (storesOf (part (now (state .entry)) 31 73) (part (now (state .entry)) 104 73) (blockWord (now (state .entry)) 7)))) ⌝ }
+        (drop (made + 1) (storesOf (part (now (state .entry)) placesAt 73) (part (now (state .entry)) valuesAt 73) (blockWord (now (state .entry)) 7)))) ⌝ }
 {
     card[at] = state[VALUES + made];
     let next = made + 1;

@@ -1,9 +1,11 @@
 -- THE PROMISES OF THIS TABLE, one plain line each: the statements stand under specs/, and what they rest on is all that is to be believed.
+use mathlib.Core.Path.{_≡_, refl}
 use lib.ListN.{length}
 use Prim.Native.Nat.{ℕ}
 use Rattle.card.specs.Layout.{greatestNodes}
+use Rattle.theory_tree.specs.Height.{mostLevels}
 use Rattle.demands.specs.Demand1.{Demand1}
-use Rattle.demands.specs.Demand2.{Demand2}
+use Rattle.demands.specs.Demand2.{Demand2, mostStores}
 use Rattle.demands.specs.Demand3.{Demand3}
 use Rattle.demands.specs.Dumps.{Dumps}
 use Rattle.demands.specs.List.{ListProgram}
@@ -75,3 +77,10 @@ w-213 greatest = fetching-kept greatest
 
 pub w-214 : (greatest : ℕ) → W214 (rationTable greatest)
 w-214 greatest = depths-kept greatest
+
+-- READ OFF AT 600: "an update stores at most 73 × 9 = 657 words", "With 600 nodes a balanced tree has at most 8 internal levels"
+pub stores-at-600 : mostStores 600 ≡ 657
+stores-at-600 = refl
+
+pub levels-at-600 : mostLevels 600 ≡ 8
+levels-at-600 = refl

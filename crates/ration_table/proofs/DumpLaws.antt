@@ -4,7 +4,6 @@ use Rattle.card.specs.Layout.{greatestNodes}
 use mathlib.Core.List.{List}
 use Prim.Native.Nat.{ℕ, _^_, _<_}
 use native.Mathlib.Omega.{arith}
-use lib.ListN.{length}
 use Rattle.card_dump.specs.Dump.{paddedLength, readAnswer, writeAnswer}
 use Rattle.card_dump.proofs.AnswerLaws.{read-sized, write-sized}
 use Rattle.card_dump.specs.declared.Answer.the-variants.{Length}

@@ -13,7 +13,7 @@ use Rattle.laws.specs.Bits.{bit}
 use Rattle.laws.specs.Lists.{beforeZero}
 use Rattle.laws.specs.Digits.{digitsOf}
 use Rattle.laws.proofs.Digits.{length-digits}
-use Rattle.card_free.specs.NodeSet.{nodesOf, allNodes}
+use Rattle.card_free.specs.NodeSet.{wordCount, nodesOf, allNodes}
 use Rattle.change_plan.specs.Plan.{storesOf}
 use Rattle.state.specs.Memory.{Memory, resting, noMemory}
 use Rattle.state.specs.Steps.{isIdle}
@@ -22,7 +22,7 @@ use Rattle.state.specs.declared.Doing.{Doing}
 use Rattle.state.specs.declared.Doing.the-variants.{Idle, Formatting, Inserting, Deleting, Repairing}
 use Rattle.state.specs.declared.Phase.{Phase}
 use Rattle.state.specs.declared.Phase.the-variants.{NotBegun, InHand, Decided}
-use Rattle.state.specs.Block.{stateWords, blockWord, part, phaseIn, doingIn, phaseWord, headIn, memoryIn, doingWords, headWords}
+use Rattle.state.specs.Block.{depthAt, freeAt, placesAt, restWords, stateWords, blockWord, part, phaseIn, doingIn, phaseWord, headIn, memoryIn, doingWords, headWords}
 use Rattle.state.specs.Blocks.{over, begunBlock, numberOf, wordsOf, restingWords, restingBlock}
 use Rattle.state.proofs.Rows.{three, append-after, same-part, placed, placed-length, placed-part}
 
@@ -127,10 +127,10 @@ begun-length block doing l =
 unfoldable pub withDepth : Memory → ℕ → Memory
 withDepth m depth = record { nodes = m .nodes; free = m .free; last = m .last; doing = m .doing; rest = m .rest; cut = m .cut; depth = depth }
 
-pub memory-deep : (block : List ℕ) (depth : ℕ) → length block ≡ stateWords → memoryIn (set block 177 depth) ≡ withDepth (memoryIn block) depth
+pub memory-deep : (block : List ℕ) (depth : ℕ) → length block ≡ stateWords → memoryIn (set block depthAt depth) ≡ withDepth (memoryIn block) depth
 unfolding memoryIn withDepth
 memory-deep block depth l =
-    by-head (λ (b : List ℕ). length b ≡ stateWords → memoryIn (set b 177 depth) ≡ withDepth (memoryIn b) depth) block (omega arith)
+    by-head (λ (b : List ℕ). length b ≡ stateWords → memoryIn (set b depthAt depth) ≡ withDepth (memoryIn b) depth) block (omega arith)
     (λ n last w d e f g i j k m rest h.
     let with : List ℕ → List ℕ → List ℕ → ℕ → Memory = λ x y z deep. record {
       nodes = n;
@@ -141,15 +141,15 @@ memory-deep block depth l =
       cut = beforeZero (j ∷ k ∷ m ∷ []);
       depth = deep;
     } in
-    ap₂ (λ (x y : List ℕ). with x y (part (set rest 166 depth) 93 73) (getD (set rest 166 depth) 166 0))
-    (stays rest 0 20 (omega arith)) (stays rest 20 73 (omega arith))
-    ∙ ap₂ (λ (z : List ℕ) (deep : ℕ). with (part rest 0 20) (part rest 20 73) z deep)
-    (stays rest 93 73 (omega arith)) (getD-set-same rest 166 depth 0 (omega arith)))
+    ap₂ (λ (x y : List ℕ). with x y (part (set rest (wordCount + 146) depth) (wordCount + 73) 73) (getD (set rest (wordCount + 146) depth) (wordCount + 146) 0))
+    (stays rest 0 wordCount (omega arith)) (stays rest wordCount 73 (omega arith))
+    ∙ ap₂ (λ (z : List ℕ) (deep : ℕ). with (part rest 0 wordCount) (part rest wordCount 73) z deep)
+    (stays rest (wordCount + 73) 73 (omega arith)) (getD-set-same rest (wordCount + 146) depth 0 (omega arith)))
     l
   where
-    stays : (rest : List ℕ) (from count : ℕ) → from + count ≤ 166 → part (set rest 166 depth) from count ≡ part rest from count
+    stays : (rest : List ℕ) (from count : ℕ) → from + count ≤ (wordCount + 146) → part (set rest (wordCount + 146) depth) from count ≡ part rest from count
     stays rest from count h =
-        same-part (set rest 166 depth) rest from count (length-set rest 166 depth) (λ i a b. getD-set-other rest 166 i depth 0 (λ z. omega arith))
+        same-part (set rest (wordCount + 146) depth) rest from count (length-set rest (wordCount + 146) depth) (λ i a b. getD-set-other rest (wordCount + 146) i depth 0 (λ z. omega arith))
 
 -- words 0 to 10, read one by one
 pub head-read : (block : List ℕ) (doing : Doing) → 11 ≤ length block → doing ≡ doingIn (blockWord block 2) (blockWord block 3) (blockWord block 4) (blockWord block 5)
@@ -270,30 +270,30 @@ over-placed block words from count l =
 
 -- a block whose words of the free nodes were stored anew
 module _ (block row : List ℕ) (l : length block ≡ stateWords) where
-  pub free-span : length (part block 11 20) ≡ 20
-  free-span = omega (arith, length-take 20 (drop 11 block), length-drop 11 block)
+  pub free-span : length (part block freeAt wordCount) ≡ wordCount
+  free-span = omega (arith, length-take wordCount (drop 11 block), length-drop 11 block)
 
-  module _ (e : length row ≡ length (part block 11 20)) where
-    pub freed-length : length (placed 11 20 block row) ≡ stateWords
-    freed-length = placed-length block row 11 20 (e ∙ free-span) (omega arith) ∙ l
+  module _ (e : length row ≡ length (part block freeAt wordCount)) where
+    pub freed-length : length (placed freeAt wordCount block row) ≡ stateWords
+    freed-length = placed-length block row freeAt wordCount (e ∙ free-span) (omega arith) ∙ l
 
-    pub freed-part : part (placed 11 20 block row) 11 20 ≡ row
-    freed-part = placed-part block row 11 20 (e ∙ free-span) (omega arith)
+    pub freed-part : part (placed freeAt wordCount block row) freeAt wordCount ≡ row
+    freed-part = placed-part block row freeAt wordCount (e ∙ free-span) (omega arith)
 
 -- ---- a state with no change planned
 
-module _ (n : ℕ) (free : List ℕ) (last : ℕ) (long : length free ≡ 20) where
-  resting-four : (p q r s : ℕ) → memoryIn (n ∷ last ∷ p ∷ q ∷ r ∷ s ∷ 0 ∷ 0 ∷ 0 ∷ 0 ∷ 0 ∷ free ++ replicate 147 0) ≡ resting n (nodesOf free) last (doingIn p q r s)
+module _ (n : ℕ) (free : List ℕ) (last : ℕ) (long : length free ≡ wordCount) where
+  resting-four : (p q r s : ℕ) → memoryIn (n ∷ last ∷ p ∷ q ∷ r ∷ s ∷ 0 ∷ 0 ∷ 0 ∷ 0 ∷ 0 ∷ free ++ replicate restWords 0) ≡ resting n (nodesOf free) last (doingIn p q r s)
   unfolding memoryIn resting storesOf zip
   resting-four p q r s =
       ap₂ (λ (l : List ℕ) (d : ℕ). record { nodes = n; free = nodesOf l; last = last; doing = doingIn p q r s; rest = []; cut = []; depth = d })
-      (take-at free (replicate 147 0) 20 long)
-      (append-after free (replicate 147 0) 146 166 (omega arith))
+      (take-at free (replicate restWords 0) wordCount long)
+      (append-after free (replicate restWords 0) 146 (wordCount + 146) (omega arith))
 
   pub memory-resting : (doing : Doing) → memoryIn (restingWords n free last doing) ≡ resting n (nodesOf free) last doing
   unfolding restingWords
   memory-resting doing =
-      ap (λ (words : List ℕ). memoryIn (n ∷ last ∷ words ++ (0 ∷ 0 ∷ 0 ∷ 0 ∷ 0 ∷ free ++ replicate 147 0))) (sym (words-each doing)) ∙ resting-four _ _ _ _
+      ap (λ (words : List ℕ). memoryIn (n ∷ last ∷ words ++ (0 ∷ 0 ∷ 0 ∷ 0 ∷ 0 ∷ free ++ replicate restWords 0))) (sym (words-each doing)) ∙ resting-four _ _ _ _
       ∙ ap (resting n (nodesOf free) last) (doing-read doing)
 
   pub resting-block : (doing : Doing) → ((i : ℕ) → getD free i 0 < 2 ^ 32) → restingWords n free last doing ≡ restingBlock (resting n (nodesOf free) last doing)
@@ -301,11 +301,11 @@ module _ (n : ℕ) (free : List ℕ) (last : ℕ) (long : length free ≡ 20) wh
   resting-block doing h = ap (λ (l : List ℕ). restingWords n l last doing) (sym (ap (λ (k : ℕ). wordsOf k (nodesOf free)) (sym long) ∙ words-nodes free h))
 
 -- "Opening or starting to format, refused, hands back an idle state for N = 0": a block of zeros
-pub none-block : replicate 178 0 ≡ restingBlock noMemory
+pub none-block : replicate stateWords 0 ≡ restingBlock noMemory
 unfolding restingBlock restingWords noMemory doingWords wordsOf numberOf allNodes
 none-block = refl
 
-pub memory-none : memoryIn (replicate 178 0) ≡ noMemory
+pub memory-none : memoryIn (replicate stateWords 0) ≡ noMemory
 unfolding memoryIn noMemory doingIn nodesOf digitsOf allNodes storesOf zip
 memory-none = refl
 
@@ -316,22 +316,23 @@ numbered block n last = set (set (set (set (set (set (set block 0 n) 1 last) 6 0
 pub numbered-length : (block : List ℕ) (n last : ℕ) → length (numbered block n last) ≡ length block
 numbered-length block n last = simp length-set
 
-rest-four : (block zeros : List ℕ) (n last p q r s : ℕ) → length block ≡ stateWords → zeros ≡ replicate 147 0
-    → placed 31 147 (over (numbered block n last) 2 (p ∷ q ∷ r ∷ s ∷ [])) zeros ≡ n ∷ last ∷ p ∷ q ∷ r ∷ s ∷ 0 ∷ 0 ∷ 0 ∷ 0 ∷ 0 ∷ part block 11 20 ++ replicate 147 0
+rest-four : (block zeros : List ℕ) (n last p q r s : ℕ) → length block ≡ stateWords → zeros ≡ replicate restWords 0
+    → placed placesAt restWords (over (numbered block n last) 2 (p ∷ q ∷ r ∷ s ∷ [])) zeros ≡ n ∷ last ∷ p ∷ q ∷ r ∷ s ∷ 0 ∷ 0 ∷ 0 ∷ 0 ∷ 0 ∷ part block freeAt wordCount ++ replicate restWords 0
 rest-four block zeros n last p q r s len z =
     by-head
-    (λ (x : List ℕ). length x ≡ stateWords → placed 31 147 (over (numbered x n last) 2 (p ∷ q ∷ r ∷ s ∷ [])) zeros ≡ n ∷ last ∷ p ∷ q ∷ r ∷ s ∷ 0 ∷ 0 ∷ 0 ∷ 0 ∷ 0 ∷ part x 11 20 ++ replicate 147 0)
+    (λ (x : List ℕ). length x ≡ stateWords → placed placesAt restWords (over (numbered x n last) 2 (p ∷ q ∷ r ∷ s ∷ [])) zeros
+    ≡ n ∷ last ∷ p ∷ q ∷ r ∷ s ∷ 0 ∷ 0 ∷ 0 ∷ 0 ∷ 0 ∷ part x freeAt wordCount ++ replicate restWords 0)
     block (omega (arith, len))
     (λ a b c d e f g i j k l rest h.
-    let few : length (drop 20 rest) ≤ 147 = omega (arith, length-drop 20 rest) in
-    let none : drop 147 (drop 20 rest) ≡ [] = drop-of-length-le (drop 20 rest) {i = 147} few in
-    ap (λ (t : List ℕ). n ∷ last ∷ p ∷ q ∷ r ∷ s ∷ 0 ∷ 0 ∷ 0 ∷ 0 ∷ 0 ∷ take 20 rest ++ t) (ap₂ (λ (x y : List ℕ). x ++ y) z none ∙ append-nil (replicate 147 0)))
+    let few : length (drop wordCount rest) ≤ restWords = omega (arith, length-drop wordCount rest) in
+    let none : drop restWords (drop wordCount rest) ≡ [] = drop-of-length-le (drop wordCount rest) {i = restWords} few in
+    ap (λ (t : List ℕ). n ∷ last ∷ p ∷ q ∷ r ∷ s ∷ 0 ∷ 0 ∷ 0 ∷ 0 ∷ 0 ∷ take wordCount rest ++ t) (ap₂ (λ (x y : List ℕ). x ++ y) z none ∙ append-nil (replicate restWords 0)))
     len
 
-pub rest-stored : (block zeros : List ℕ) (n last : ℕ) (doing : Doing) → length block ≡ stateWords → zeros ≡ replicate 147 0
-    → placed 31 147 (begunBlock (numbered block n last) doing) zeros ≡ restingWords n (part block 11 20) last doing
+pub rest-stored : (block zeros : List ℕ) (n last : ℕ) (doing : Doing) → length block ≡ stateWords → zeros ≡ replicate restWords 0
+    → placed placesAt restWords (begunBlock (numbered block n last) doing) zeros ≡ restingWords n (part block freeAt wordCount) last doing
 unfolding begunBlock restingWords
 rest-stored block zeros n last doing len z =
-    ap (λ (words : List ℕ). placed 31 147 (over (numbered block n last) 2 words) zeros) (sym (words-each doing))
+    ap (λ (words : List ℕ). placed placesAt restWords (over (numbered block n last) 2 words) zeros) (sym (words-each doing))
     ∙ rest-four block zeros n last _ _ _ _ len z
-    ∙ ap (λ (words : List ℕ). n ∷ last ∷ words ++ (0 ∷ 0 ∷ 0 ∷ 0 ∷ 0 ∷ part block 11 20 ++ replicate 147 0)) (words-each doing)
+    ∙ ap (λ (words : List ℕ). n ∷ last ∷ words ++ (0 ∷ 0 ∷ 0 ∷ 0 ∷ 0 ∷ part block freeAt wordCount ++ replicate restWords 0)) (words-each doing)

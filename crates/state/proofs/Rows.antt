@@ -6,7 +6,8 @@ use native.Mathlib.Omega.{arith}
 use native.Mathlib.Numerals.{add-one}
 use lib.ListN.{length, getD, take, drop, set, length-append, length-take, length-drop, List·getD-append}
 use lib.Seq.{take-at, drop-at, drop-drop, drop-cons, take-suc, take-suc-set, take-all, getD-take, getD-drop, ext-getD}
-use Rattle.state.specs.Block.{part}
+use Rattle.state.specs.Block.{depthAt, freeAt, placesAt, stateWords, valuesAt, part}
+use Rattle.card_free.specs.NodeSet.{wordCount}
 
 -- ---- a row filled word by word
 
@@ -40,23 +41,23 @@ placed-next : (xs rest ys : List ℕ) (a n : ℕ) → length xs ≡ a → placed
 placed-next xs rest ys a n e = ap₂ (λ (x y : List ℕ). x ++ (ys ++ drop n y)) (take-at xs rest a e) (drop-at xs rest a e) ∙ sym (append-assoc xs ys (drop n rest))
 
 -- the free nodes, the places and the values, stored in one order or the other; the words after them stay
-pub rows-placed : (block free places values : List ℕ) → length block ≡ 178 → length free ≡ 20 → length places ≡ 73 → length values ≡ 73
-    → drop 11 (placed 11 20 (placed 104 73 (placed 31 73 block places) values) free) ≡ free ++ (places ++ (values ++ drop 177 block))
+pub rows-placed : (block free places values : List ℕ) → length block ≡ stateWords → length free ≡ wordCount → length places ≡ 73 → length values ≡ 73
+    → drop 11 (placed freeAt wordCount (placed valuesAt 73 (placed placesAt 73 block places) values) free) ≡ free ++ (places ++ (values ++ drop depthAt block))
 rows-placed block free places values lb lf lp lv =
-    let head : List ℕ = take 31 block in
-    let rest : List ℕ = drop 73 (drop 31 block) in
+    let head : List ℕ = take placesAt block in
+    let rest : List ℕ = drop 73 (drop placesAt block) in
     let later : List ℕ = places ++ (values ++ drop 73 rest) in
-    let lh : length head ≡ 31 = omega (arith, length-take 31 block) in
-    let lhp : length (head ++ places) ≡ 104 = omega (arith, length-append head places) in
-    let end : drop 73 rest ≡ drop 177 block = drop-drop 73 73 (drop 31 block) ∙ drop-drop 146 31 block in
-    let both : placed 104 73 (placed 31 73 block places) values ≡ head ++ (places ++ (values ++ drop 73 rest)) =
-    ap (λ (l : List ℕ). placed 104 73 l values) (sym (append-assoc head places rest))
-    ∙ placed-next (head ++ places) rest values 104 73 lhp
+    let lh : length head ≡ placesAt = omega (arith, length-take placesAt block) in
+    let lhp : length (head ++ places) ≡ valuesAt = omega (arith, length-append head places) in
+    let end : drop 73 rest ≡ drop depthAt block = drop-drop 73 73 (drop placesAt block) ∙ drop-drop 146 placesAt block in
+    let both : placed valuesAt 73 (placed placesAt 73 block places) values ≡ head ++ (places ++ (values ++ drop 73 rest)) =
+    ap (λ (l : List ℕ). placed valuesAt 73 l values) (sym (append-assoc head places rest))
+    ∙ placed-next (head ++ places) rest values valuesAt 73 lhp
     ∙ append-assoc (head ++ places) values (drop 73 rest) ∙ append-assoc head places (values ++ drop 73 rest) in
     let front : length (take 11 (head ++ later)) ≡ 11 = omega (arith, length-take 11 (head ++ later), length-append head later) in
-    ap (λ (l : List ℕ). drop 11 (placed 11 20 l free)) both
-    ∙ drop-at (take 11 (head ++ later)) (free ++ drop 20 (drop 11 (head ++ later))) 11 front
-    ∙ ap (λ (l : List ℕ). free ++ l) (drop-drop 20 11 (head ++ later) ∙ drop-at head later 31 lh)
+    ap (λ (l : List ℕ). drop 11 (placed freeAt wordCount l free)) both
+    ∙ drop-at (take 11 (head ++ later)) (free ++ drop wordCount (drop 11 (head ++ later))) 11 front
+    ∙ ap (λ (l : List ℕ). free ++ l) (drop-drop wordCount 11 (head ++ later) ∙ drop-at head later placesAt lh)
     ∙ ap (λ (l : List ℕ). free ++ (places ++ (values ++ l))) end
 
 -- ---- a part of a block stored anew

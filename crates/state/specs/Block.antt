@@ -1,12 +1,12 @@
--- The state of document 01, "State, steps and free nodes", as 178 words that the caller lends. Any words in the state block are
+-- The state of document 01, "State, steps and free nodes", as words that the caller lends. Any words in the state block are
 -- some state: `memoryIn` reads one off every list of words, so that no call has to trust what it is lent.
 use mathlib.Core.List.{List, [], _∷_, _++_}
-use Prim.Native.Nat.{ℕ}
+use Prim.Native.Nat.{ℕ, _+_}
 use lib.ListN.{getD, take, drop}
 use lib.Dec.{eqb}
 use Rattle.laws.specs.Cases.{pick}
 use Rattle.laws.specs.Lists.{beforeZero}
-use Rattle.card_free.specs.NodeSet.{nodesOf}
+use Rattle.card_free.specs.NodeSet.{wordCount, nodesOf}
 use Rattle.change_plan.specs.Plan.{storesOf}
 use Rattle.state.specs.Memory.{Memory}
 use Rattle.state.specs.declared.State.{State}
@@ -15,9 +15,25 @@ use Rattle.state.specs.declared.Doing.the-variants.{Idle, Formatting, In
 use Rattle.state.specs.declared.Phase.{Phase}
 use Rattle.state.specs.declared.Phase.the-variants.{NotBegun, InHand, Decided}
 
--- how many words a state block has
+-- where the parts of a block begin: the words of the free nodes, the places of the plan, its values, and the depth
+abbrev pub freeAt : ℕ
+freeAt = 11
+
+abbrev pub placesAt : ℕ
+placesAt = freeAt + wordCount
+
+abbrev pub valuesAt : ℕ
+valuesAt = placesAt + 73
+
+abbrev pub depthAt : ℕ
+depthAt = valuesAt + 73
+
+-- how many words a state block has, and how many of them stand from the plan's places on
 abbrev pub stateWords : ℕ
-stateWords = 178
+stateWords = depthAt + 1
+
+abbrev pub restWords : ℕ
+restWords = 147
 
 -- word i of a block, and `count` words from word `from` on
 abbrev pub blockWord : List ℕ → ℕ → ℕ
@@ -47,18 +63,18 @@ headIn block =
       cut = part block 8 3;
     }
 
--- what a block holds, as the calls see it: its head; "The free nodes are one bit each", words 11 to 30; the stores of the plan that are
--- still to come, their places in words 31 to 103 and their values in words 104 to 176; the depth, word 177
+-- what a block holds, as the calls see it: its head; "The free nodes are one bit each"; the stores of the plan that are still to
+-- come, by their places and values; the depth
 unfoldable pub memoryIn : List ℕ → Memory
 memoryIn block =
     record {
       nodes = blockWord block 0;
-      free = nodesOf (part block 11 20);
+      free = nodesOf (part block freeAt wordCount);
       last = blockWord block 1;
       doing = doingIn (blockWord block 2) (blockWord block 3) (blockWord block 4) (blockWord block 5);
-      rest = drop (blockWord block 6) (storesOf (part block 31 73) (part block 104 73) (blockWord block 7));
+      rest = drop (blockWord block 6) (storesOf (part block placesAt 73) (part block valuesAt 73) (blockWord block 7));
       cut = beforeZero (part block 8 3);
-      depth = blockWord block 177;
+      depth = blockWord block depthAt;
     }
 
 -- WRITING. The word for how far an insert or a delete is

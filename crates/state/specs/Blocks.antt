@@ -9,7 +9,7 @@ use Rattle.state.specs.Memory.{Memory}
 use Rattle.state.specs.declared.Doing.{Doing}
 use Rattle.state.specs.declared.Begun.{Begun}
 use Rattle.state.specs.declared.Begun.the-variants.{Idle as OpenedIdle, Started, Refused}
-use Rattle.state.specs.Block.{doingWords}
+use Rattle.state.specs.Block.{depthAt, restWords, doingWords}
 
 -- a block with other words from word `from` on
 abbrev pub over : List ℕ → ℕ → List ℕ → List ℕ
@@ -28,7 +28,7 @@ wordsOf (suc k) bits = numberOf (take 32 bits) ∷ wordsOf k (drop 32 bits)
 -- all words of a state with no change planned, which has these words of free nodes: N, the node given last, what is being done, no
 -- store made or planned, no node cut out, rows of zeros, and no depth
 unfoldable pub restingWords : ℕ → List ℕ → ℕ → Doing → List ℕ
-restingWords n free last doing = n ∷ last ∷ doingWords doing ++ (0 ∷ 0 ∷ 0 ∷ 0 ∷ 0 ∷ free ++ replicate 147 0)
+restingWords n free last doing = n ∷ last ∷ doingWords doing ++ (0 ∷ 0 ∷ 0 ∷ 0 ∷ 0 ∷ free ++ replicate restWords 0)
 
 -- after opening and starting to format, whatever was in the block
 unfoldable pub restingBlock : Memory → List ℕ
@@ -40,6 +40,6 @@ begunBlock block doing = over block 2 (doingWords doing)
 
 -- after starting an update, which passed so many internal nodes: "A refusal .. hands the state back unchanged", every word of it
 unfoldable pub startedBlock : Begun → List ℕ → Doing → ℕ → List ℕ
-startedBlock OpenedIdle block doing depth = set (begunBlock block doing) 177 depth
-startedBlock Started block doing depth = set (begunBlock block doing) 177 depth
+startedBlock OpenedIdle block doing depth = set (begunBlock block doing) depthAt depth
+startedBlock Started block doing depth = set (begunBlock block doing) depthAt depth
 startedBlock (Refused r) block doing depth = block

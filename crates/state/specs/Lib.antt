@@ -6,7 +6,7 @@ pub mod Steps
 pub mod Results
 -- document 01, "When an answer is an enum, a definition states this paper's number and values for each enum case."
 pub mod Answers
--- the state as 178 words that the caller lends
+-- the state as words that the caller lends
 pub mod Block
 -- the words of a block after a call, by those before it
 pub mod Blocks

@@ -1,4 +1,4 @@
-// The state as the 178 words that a caller lends; every call works on these.
+// The state as the words that a caller lends; every call works on these.
 use crate::Begun;
 use crate::Doing;
 use crate::Phase;
@@ -9,10 +9,10 @@ ghost use mathlib.Core.Bool.{true};
 ghost use mathlib.Core.List.{_++_};
 ghost use lib.ListN.{length, replicate, drop};
 ghost use Rattle.card.specs.Layout.{greatestNodes};
-ghost use Rattle.card_free.specs.NodeSet.{nodesOf};
+ghost use Rattle.card_free.specs.NodeSet.{wordCount, nodesOf};
 ghost use Rattle.state.specs.Memory.{resting};
 ghost use Rattle.state.specs.Steps.{isIdle, noBeginning};
-ghost use Rattle.state.specs.Block.{stateWords, part, phaseIn, phaseWord, doingIn, headIn, memoryIn, doingWords, headWords};
+ghost use Rattle.state.specs.Block.{freeAt, stateWords, part, phaseIn, phaseWord, doingIn, headIn, memoryIn, doingWords, headWords};
 ghost use Rattle.state.specs.Blocks.{begunBlock, restingBlock};
 ghost use Rattle.state.specs.Contracts.{Opened};
 
@@ -217,8 +217,8 @@ fn clear_words(words: &mut [u32])
 // `last`, the node taken for given last.
 pub fn store_resting(block: &mut [u32], n: usize, last: u32, doing: Doing)
     requires { ⌜ (length (now block) ≡ stateWords) × (n ≤ greatestNodes) ⌝ }
-    ensures { λ _. ⌜ now (block .exit) ≡ restingBlock (resting n (nodesOf (part (now (block .entry)) 11 20)) last doing) ⌝ }
-    ensures { λ _. ⌜ memoryIn (now (block .exit)) ≡ resting n (nodesOf (part (now (block .entry)) 11 20)) last doing ⌝ }
+    ensures { λ _. ⌜ now (block .exit) ≡ restingBlock (resting n (nodesOf (part (now (block .entry)) freeAt wordCount)) last doing) ⌝ }
+    ensures { λ _. ⌜ memoryIn (now (block .exit)) ≡ resting n (nodesOf (part (now (block .entry)) freeAt wordCount)) last doing ⌝ }
 {
     block[NODES] = n as u32;
     block[LAST] = last;

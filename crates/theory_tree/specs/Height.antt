@@ -1,7 +1,7 @@
 -- How high a tree is: "All leaves are equally deep when tagged nodes are not counted."
 use mathlib.Core.Path.{_≡_}
 use mathlib.Core.Bool.{true, false}
-use Prim.Native.Nat.{ℕ, zero, suc, _+_, _^_}
+use Prim.Native.Nat.{ℕ, zero, suc, _^_}
 use lib.Dec.{ltb}
 use Rattle.card.specs.Layout.{depthLimit}
 use Rattle.laws.specs.Cases.{pick}

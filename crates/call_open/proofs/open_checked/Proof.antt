@@ -4,7 +4,7 @@ use mathlib.Core.List.{List}
 use Prim.Native.Nat.{ℕ}
 use lib.ListN.{length}
 use Rattle.card.specs.Layout.{searchStart}
-use Rattle.card_free.specs.NodeSet.{nodesOf}
+use Rattle.card_free.specs.NodeSet.{wordCount, nodesOf}
 use Rattle.card_check.specs.Check.{findingsOf, checkedOf}
 use Rattle.card_check.specs.declared.Checked.{Checked}
 use Rattle.state.specs.Steps.{Handed}
@@ -15,9 +15,10 @@ use Rattle.call_open.specs.Opening.{openSound, openChecked}
 use borrow.Author.Needs.{needs}
 use Rattle.call_open.proofs.open_checked.Statement.{statement}
 use Rattle.call_open.proofs.open_checked.Tie as tie
+use Rattle.state.specs.Block.{freeAt, stateWords}
 
 -- the block with the free nodes that the check left
-long : (c : tie.After-check-table) → length (placed 11 20 (c .before .before .before .before .before .args .state .now) (c .check-table .last .1 .1 .0)) ≡ 178
+long : (c : tie.After-check-table) → length (placed freeAt wordCount (c .before .before .before .before .before .args .state .now) (c .check-table .last .1 .1 .0)) ≡ stateWords
 long c = let s = c .before .before .before .before .before in freed-length (s .args .state .now) (c .check-table .last .1 .1 .0) (s .pre .2) (c .check-table .kept .1 .1 .0)
 
 sub-check-table : tie.Need-sub-check-table

@@ -4,11 +4,11 @@ use mathlib.Core.Bool.{not}
 use native.Mathlib.Omega.{arith}
 use lib.ListN.{getD}
 use borrow.Author.Tests.{eq-eqb, ne-eqb}
-use Rattle.card_free.specs.NodeSet.{nodesOf}
+use Rattle.card_free.specs.NodeSet.{wordCount, nodesOf}
 use Rattle.card_check.specs.Check.{findingsOf}
 use Rattle.state.specs.Steps.{Handed}
 use Rattle.state.specs.declared.Begun.the-variants.{Idle as OpenedIdle, Started}
-use Rattle.state.specs.Block.{part}
+use Rattle.state.specs.Block.{freeAt, part}
 use Rattle.state.specs.Contracts.{Opened}
 use Rattle.call_open.proofs.OpeningLaws.{open-scarce, open-repair, open-idle}
 use borrow.Author.Needs.{needs}
@@ -80,7 +80,7 @@ unfolding findingsOf
 returns-3 c =
     let s = c .before .before .before .before .before .before .before .before .before .before .before in
     subst (λ (due : Handed). Opened (c .before .before .store-resting .last .0) Started due)
-    (sym (open-repair _ _ (findingsOf (nodesOf (part (s .args .state .now) 11 20)) (s .args .t4)) (omega (
+    (sym (open-repair _ _ (findingsOf (nodesOf (part (s .args .state .now) freeAt wordCount)) (s .args .t4)) (omega (
       arith,
       c .before .before .before .before .before .before .before .count .ensures,
       c .before .before .before .before .before .before .if1 .left,
@@ -99,7 +99,7 @@ unfolding findingsOf
 returns-4 c =
     let s = c .before .before .before .before .before .before .before .before .before .before .before in
     subst (λ (due : Handed). Opened (c .before .before .store-resting2 .last .0) OpenedIdle due)
-    (sym (open-idle _ _ (findingsOf (nodesOf (part (s .args .state .now) 11 20)) (s .args .t4)) (omega (
+    (sym (open-idle _ _ (findingsOf (nodesOf (part (s .args .state .now) freeAt wordCount)) (s .args .t4)) (omega (
       arith,
       c .before .before .before .before .before .before .before .count .ensures,
       c .before .before .before .before .before .before .if1 .left,

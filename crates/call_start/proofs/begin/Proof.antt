@@ -8,6 +8,7 @@ use Rattle.call_start.proofs.StartLaws.{start-refused-in, started-in}
 use borrow.Author.Needs.{needs}
 use Rattle.call_start.proofs.begin.Statement.{statement}
 use Rattle.call_start.proofs.begin.Tie as tie
+use Rattle.state.specs.Block.{depthAt}
 
 returns : tie.Need-returns
 returns c = let s = c .before .before in start-refused-in (s .args .state .now) (s .pre .0) (s .args .doing) (s .args .refusal) (s .args .depth) (c .if1 .taken)
@@ -28,7 +29,7 @@ returns-2 : tie.Need-returns-2
 returns-2 c =
     let s = c .before .before .before .before .before .before .args in
     started-in (s .state .now) (c .before .before .before .before .before .before .pre .0) (s .doing) (s .refusal) (s .depth) _
-    (c .before .before .before .before .if1 .left) (ap (λ (b : List ℕ). set b 177 (s .depth)) (c .before .before .store-doing .ensures))
+    (c .before .before .before .before .if1 .left) (ap (λ (b : List ℕ). set b depthAt (s .depth)) (c .before .before .store-doing .ensures))
 
 pub begin-spec : {M : Type 1} → statement M
 begin-spec =

@@ -3,8 +3,7 @@ use mathlib.Core.Path.{_≡_, ap, ap₂, sym, _∙_}
 use mathlib.Core.Bool.{Bool}
 use Prim.Native.Nat.{ℕ}
 use Rattle.card.proofs.HeaderLaws.{sized-any}
-use Rattle.card_free.specs.NodeSet.{nodesOf}
-use Rattle.state.specs.Block.{part, memoryIn}
+use Rattle.state.specs.Block.{memoryIn}
 use Rattle.state.specs.Steps.{isIdle}
 use Rattle.walk.specs.Descent.{way, leafOf, depthOf}
 use Rattle.call_change.specs.Updates.{landing}

@@ -6,7 +6,7 @@ use native.Mathlib.Omega.{arith}
 use lib.ListN.{length}
 use Rattle.card.specs.Layout.{formattedRoot}
 use Rattle.card.proofs.HeaderLaws.{sized}
-use Rattle.card_free.specs.NodeSet.{nodesOf}
+use Rattle.card_free.specs.NodeSet.{wordCount, nodesOf}
 use Rattle.state.specs.Memory.{resting}
 use Rattle.state.specs.Steps.{Handed}
 use Rattle.state.specs.declared.Doing.the-variants.{Formatting}
@@ -20,9 +20,10 @@ use Rattle.call_start.proofs.StartLaws.{format-no-length, format-length
 use borrow.Author.Needs.{needs}
 use Rattle.call_start.proofs.start_format.Statement.{statement}
 use Rattle.call_start.proofs.start_format.Tie as tie
+use Rattle.state.specs.Block.{freeAt, stateWords}
 
 -- the block with its free nodes
-long : (c : tie.After-free-but-root) → length (placed 11 20 (c .before .before .before .before .before .before .before .args .state .now) (c .free-but-root .last .0)) ≡ 178
+long : (c : tie.After-free-but-root) → length (placed freeAt wordCount (c .before .before .before .before .before .before .before .args .state .now) (c .free-but-root .last .0)) ≡ stateWords
 long c =
     let s = c .before .before .before .before .before .before .before in
     freed-length (s .args .state .now) (c .free-but-root .last .0) (c .before .before .before .before .if1 .left) (c .free-but-root .kept .0)

@@ -4,14 +4,14 @@ use mathlib.Core.Path.{_≡_, refl, sym, ap, ap₂, subst, _∙_}
 use Prim.Native.Nat.{ℕ, _^_, _<_}
 use native.Mathlib.Omega.{arith}
 use lib.ListN.{length, getD, take, drop}
-use Rattle.card_free.specs.NodeSet.{nodesOf}
+use Rattle.card_free.specs.NodeSet.{wordCount, nodesOf}
 use Rattle.change_plan.specs.Plan.{Among}
 use Rattle.change_plan.specs.Planning.{withoutAll, lastOf}
 use Rattle.change_plan.proofs.NumberLaws.{given-within}
 use Rattle.change_layout.specs.LayOut.{needed, storeCount, sizeOf, wordsBy}
 use Rattle.change_layout.specs.declared.Size.{Size}
 use Rattle.change_layout.proofs.LayOutLaws.{all-numbered, needed-few, words-count}
-use Rattle.state.specs.Block.{blockWord, part}
+use Rattle.state.specs.Block.{freeAt, placesAt, valuesAt, blockWord, part}
 use Rattle.state.specs.Blocks.{wordsOf}
 use Rattle.state.proofs.Rows.{placed, placed-part, rows-placed}
 use Rattle.state.proofs.Blocks.{free-span, words-nodes}
@@ -35,14 +35,14 @@ three c = search needs
 -- the numbers are nodes of the set
 among : (c : tie.Start) → Among (needed (c .args .decision)) (c .args .nodes)
 among c =
-    given-within (part (c .args .state .now) 11 20) (c .args .nodes) (needed (c .args .decision)) (blockWord (c .args .state .now) 1)
+    given-within (part (c .args .state .now) freeAt wordCount) (c .args .nodes) (needed (c .args .decision)) (blockWord (c .args .state .now) 1)
     (free-span (c .args .state .now) [] (c .pre .0)) (c .pre .3)
 
 -- the rows and the words of the free nodes are as long as they were
 places-row : (c : tie.After-lay-places) → length (c .lay-places .last .1 .1 .0) ≡ 73
 places-row c =
     let s = c .before .before .before .before in
-    c .lay-places .kept .1 .1 .0 ∙ part-length (s .args .state .now) 31 73 (omega (arith, s .pre .0))
+    c .lay-places .kept .1 .1 .0 ∙ part-length (s .args .state .now) placesAt 73 (omega (arith, s .pre .0))
 
 values-row : (c : tie.After-lay-values) → length (c .lay-values .last .1 .1 .1 .0) ≡ 73
 values-row c =
@@ -52,9 +52,9 @@ values-row c =
     let at-places-row = c .before .before .before .before in
     let x = lay-places-call .last .1 .1 .0 in
     c .lay-values .kept .1 .1 .1 .0
-    ∙ part-length (placed 31 73 b x) 104 73 (omega (arith, places-length b x (s .pre .0) (places-row at-places-row)))
+    ∙ part-length (placed placesAt 73 b x) valuesAt 73 (omega (arith, places-length b x (s .pre .0) (places-row at-places-row)))
 
-free-row : (c : tie.After-take) → length (c .take .last .0) ≡ 20
+free-row : (c : tie.After-take) → length (c .take .last .0) ≡ wordCount
 free-row c =
     let s = c .before .before .before .before .before .before .before .before .before .before .before .before in
     let lay-places-call = c .before .before .before .before .before .before .before .before .lay-places in
@@ -64,14 +64,14 @@ free-row c =
     let x = lay-places-call .last .1 .1 .0 in
     let y = lay-values-call .last .1 .1 .1 .0 in
     c .take .kept .0
-    ∙ part-length (placed 104 73 (placed 31 73 (s .args .state .now) x) y) 11 20
+    ∙ part-length (placed valuesAt 73 (placed placesAt 73 (s .args .state .now) x) y) freeAt wordCount
     (omega (arith, values-length (s .args .state .now) x (s .pre .0) (places-row at-places-row) y (values-row at-values-row)))
 
 -- the words of the free nodes are those of the nodes that are free then
 free-words : (c : tie.After-slice-known4) →
     let s = c .before .before .before .before .before .before .before .before .before .before .before .before .before .before in
     c .before .before .take .last .0
-    ≡ wordsOf 20 (withoutAll (take (needed (s .args .decision)) (s .args .nodes)) (nodesOf (part (s .args .state .now) 11 20)))
+    ≡ wordsOf wordCount (withoutAll (take (needed (s .args .decision)) (s .args .nodes)) (nodesOf (part (s .args .state .now) freeAt wordCount)))
 free-words c =
     let s = c .before .before .before .before .before .before .before .before .before .before .before .before .before .before in
     let b = s .args .state .now in
@@ -83,11 +83,11 @@ free-words c =
     let x = lay-places-call .last .1 .1 .0 in
     let y = lay-values-call .last .1 .1 .1 .0 in
     let z = take-call .last .0 in
-    let old = placed 104 73 (placed 31 73 b x) y in
-    let read : part (placed 11 20 old z) 11 20 ≡ z =
-    placed-part old z 11 20 (free-row (c .before .before)) (omega (arith, values-length b x (s .pre .0) (places-row at-places-row) y (values-row at-values-row))) in
+    let old = placed valuesAt 73 (placed placesAt 73 b x) y in
+    let read : part (placed freeAt wordCount old z) freeAt wordCount ≡ z =
+    placed-part old z freeAt wordCount (free-row (c .before .before)) (omega (arith, values-length b x (s .pre .0) (places-row at-places-row) y (values-row at-values-row))) in
     let small : (i : ℕ) → getD z i 0 < 2 ^ 32 =
-    λ i. subst (λ (l : List ℕ). getD l i 0 < 2 ^ 32) read (part-small (placed 11 20 old z) 11 20 (λ j. omega (arith, c .slice-known4 .given j)) i) in
+    λ i. subst (λ (l : List ℕ). getD l i 0 < 2 ^ 32) read (part-small (placed freeAt wordCount old z) freeAt wordCount (λ j. omega (arith, c .slice-known4 .given j)) i) in
     sym (words-nodes z small)
     ∙ ap₂ wordsOf (free-row (c .before .before))
     (take-call .ensures
@@ -107,7 +107,7 @@ lay-places-requires : tie.Need-lay-places-requires
 lay-places-requires c κs =
     let s = c .before .before .before in
     let numbers = all-numbered (needed (s .args .decision)) (s .args .nodes) (among s) in
-    ((s .args .card .now, s .pre .1), numbers, part-length (s .args .state .now) 31 73 (omega (arith, s .pre .0)))
+    ((s .args .card .now, s .pre .1), numbers, part-length (s .args .state .now) placesAt 73 (omega (arith, s .pre .0)))
 
 sub-lay-values : tie.Need-sub-lay-values
 sub-lay-values c = search needs
@@ -189,7 +189,7 @@ returns c =
     let stood = values-stood b x (s .pre .0) (places-row at-places-row) in
     let values = lay-values-call .ensures ∙ ap (λ (l : List ℕ). wordsBy card d nodes ++ drop (storeCount d) l) stood in
     let count : length (wordsBy card d nodes) ≡ storeCount d =
-    words-count card d nodes y (part b 104 73) values (values-row at-values-row) (part-length b 104 73 (omega (arith, s .pre .0))) in (
+    words-count card d nodes y (part b valuesAt 73) values (values-row at-values-row) (part-length b valuesAt 73 (omega (arith, s .pre .0))) in (
       store-head .ensures
           ∙ plan-stored card b (s .args .doing) d nodes (three s) count _ x y z _ (same 0 (omega arith))
           (last-given .ensures ∙ ap₂ (λ (w k : ℕ). lastOf w (take k nodes)) (same 1 (omega arith)) (nodes-are s))

@@ -6,14 +6,14 @@ use mathlib.Core.Path.{_≡_, sym, ap, ap₂, subst, _∙_}
 use Prim.Native.Nat.{ℕ, _<_}
 use native.Mathlib.Omega.{arith}
 use lib.ListN.{length, take}
-use Rattle.card_free.specs.NodeSet.{nodesOf}
+use Rattle.card_free.specs.NodeSet.{wordCount, nodesOf}
 use Rattle.change_plan.specs.Plan.{givenBy, leftGiven}
 use Rattle.change_plan.specs.Planning.{takeNumbers}
 use Rattle.change_plan.specs.declared.numbers.Given.{Given}
 use Rattle.change_layout.specs.LayOut.{needed, sizeOf}
 use Rattle.change_layout.specs.declared.Size.{Size}
 use Rattle.change_layout.proofs.LayOutLaws.{needed-few}
-use Rattle.state.specs.Block.{blockWord, part}
+use Rattle.state.specs.Block.{freeAt, blockWord, part}
 use Rattle.state.proofs.Blocks.{free-span}
 use Rattle.call_step.proofs.ChangeLaws.{change-none, change-outside, change-length, change-on-card, change-made}
 use borrow.Author.Needs.{needs}
@@ -28,14 +28,14 @@ nodes-are c = ap (λ (z : Size). z .nodes) (c .pre .3)
 given : (c : tie.After-left) →
     let s = c .before .before .before .before .before .before .before .before in
     let k = needed (s .args .decision) in
-    takeNumbers k (nodesOf (part (s .args .state .now) 11 20)) (blockWord (s .args .state .now) 1)
+    takeNumbers k (nodesOf (part (s .args .state .now) freeAt wordCount)) (blockWord (s .args .state .now) 1)
     ≡ some (take k (c .left .given .0 .0 ∷ c .left .given .0 .1 .0 ∷ c .left .given .0 .1 .1 .0 ∷ []))
 unfolding givenBy
 given c =
     let s = c .before .before .before .before .before .before .before .before in
     let wide = c .before .before .before .wide in
     let give = c .before .before .give in
-    ap₂ (λ (k w : ℕ). takeNumbers k (nodesOf (part (s .args .state .now) 11 20)) w) (sym (nodes-are s)) (sym (wide .ensures))
+    ap₂ (λ (k w : ℕ). takeNumbers k (nodesOf (part (s .args .state .now) freeAt wordCount)) w) (sym (nodes-are s)) (sym (wide .ensures))
     ∙ give .ensures .0
     ∙ ap (λ (g : Given). givenBy g (s .args .size .nodes)) (c .left .given .1)
     ∙ ap (λ (k : ℕ). some (take k (c .left .given .0 .0 ∷ c .left .given .0 .1 .0 ∷ c .left .given .0 .1 .1 .0 ∷ []))) (nodes-are s)
@@ -93,8 +93,8 @@ returns c =
     let wide = c .before .before .before .wide in
     let give = c .before .before .give in
     let b = s .args .state .now in
-    let few : takeNumbers (needed d) (nodesOf (part b 11 20)) (blockWord b 1) ≡ none =
-    ap₂ (λ (k w : ℕ). takeNumbers k (nodesOf (part b 11 20)) w) (sym (nodes-are s)) (sym (wide .ensures)) ∙ give .ensures .0
+    let few : takeNumbers (needed d) (nodesOf (part b freeAt wordCount)) (blockWord b 1) ≡ none =
+    ap₂ (λ (k w : ℕ). takeNumbers k (nodesOf (part b freeAt wordCount)) w) (sym (nodes-are s)) (sym (wide .ensures)) ∙ give .ensures .0
     ∙ ap (λ (g : Given). givenBy g (s .args .size .nodes)) (c .enum-told .given .1) in
     change-none greatestNodes (s .args .card .now) b (s .pre .0) (s .args .doing) d (s .pre .2) few
 

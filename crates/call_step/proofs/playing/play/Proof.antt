@@ -12,6 +12,7 @@ use Rattle.call_step.proofs.PlayLaws.{freedNodes, planned, part-word, m
 use borrow.Author.Needs.{needs}
 use Rattle.call_step.proofs.playing.play.Statement.{statement}
 use Rattle.call_step.proofs.playing.play.Tie as tie
+use Rattle.state.specs.Block.{valuesAt}
 
 add-card : tie.Need-add-card
 add-card c = search needs
@@ -53,7 +54,7 @@ returns c =
     let k = s .args .made + 1 in
     let more : moreToStore (drop k (planned b)) ≡ true =
     ap (λ (l : List Store). moreToStore (drop k l)) (sym (made-planned b (s .pre .0) k)) ∙ sym (c .before .in-hand .ensures) ∙ c .if1 .taken in (
-      ap (set (s .args .card .now) (s .args .at)) (sym (part-word b 104 73 (s .args .made) (s .pre .1))),
+      ap (set (s .args .card .now) (s .args .at)) (sym (part-word b valuesAt 73 (s .args .made) (s .pre .1))),
       played-on b (s .pre .0) k (drop k (planned b)) more,
     )
 
@@ -97,7 +98,7 @@ returns-2 c =
       ap (set (c .before .before .before .before .before .before .before .before .before .before .before .before .before .before .before
           .before .before .before .args .card .now) (c .before .before .before .before .before .before .before .before .before .before
           .before .before .before .before .before .before .before .before .args .at))
-          (sym (part-word b 104 73 (c .before .before .before .before .before .before .before .before .before .before .before .before
+          (sym (part-word b valuesAt 73 (c .before .before .before .before .before .before .before .before .before .before .before .before
           .before .before .before .before .before .before .args .made) (c .before .before .before .before .before .before .before .before
           .before .before .before .before .before .before .before .before .before .before .pre .1))),
       c .before .before .clear-cut .ensures

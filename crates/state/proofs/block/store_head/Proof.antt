@@ -9,9 +9,10 @@ use Rattle.state.proofs.Blocks.{headed, headed-length, head-stored}
 use borrow.Author.Needs.{needs}
 use Rattle.state.proofs.block.store_head.Statement.{statement}
 use Rattle.state.proofs.block.store_head.Tie as tie
+use Rattle.state.specs.Block.{stateWords}
 
 -- the block after what is being done was stored
-long : (c : tie.After-store-doing) → length (c .store-doing .last .0) ≡ 178
+long : (c : tie.After-store-doing) → length (c .store-doing .last .0) ≡ stateWords
 long c =
     let s = c .before .before .before .before in
     c .store-doing .kept .0

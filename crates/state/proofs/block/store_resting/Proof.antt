@@ -6,20 +6,21 @@ use native.Mathlib.Omega.{arith}
 use lib.ListN.{length, getD, take, drop, replicate, length-take, length-drop, List·getD-eq-default}
 use lib.Seq.{getD-take, getD-drop}
 use Rattle.laws.proofs.Cases.{order}
-use Rattle.state.specs.Block.{part, memoryIn}
+use Rattle.state.specs.Block.{freeAt, placesAt, restWords, stateWords, part, memoryIn}
 use Rattle.state.proofs.Rows.{placed, placed-length}
 use Rattle.state.proofs.Blocks.{numbered-length, memory-resting, resting-block, rest-stored}
 use borrow.Author.Needs.{needs}
 use Rattle.state.proofs.block.store_resting.Statement.{statement}
 use Rattle.state.proofs.block.store_resting.Tie as tie
+use Rattle.card_free.specs.NodeSet.{wordCount}
 
 -- the block before its rows are cleared
-long : (c : tie.After-store-doing) → length (c .store-doing .last .0) ≡ 178
+long : (c : tie.After-store-doing) → length (c .store-doing .last .0) ≡ stateWords
 long c = let s = c .before .before .before in c .store-doing .kept .0 ∙ numbered-length (s .args .block .now) (s .args .n) (s .args .last) ∙ s .pre .0
 
 -- the rows
-span : (c : tie.After-store-doing) → length (take 147 (drop 31 (c .store-doing .last .0))) ≡ 147
-span c = omega (arith, long c, length-take 147 (drop 31 (c .store-doing .last .0)), length-drop 31 (c .store-doing .last .0))
+span : (c : tie.After-store-doing) → length (take restWords (drop placesAt (c .store-doing .last .0))) ≡ restWords
+span c = omega (arith, long c, length-take restWords (drop placesAt (c .store-doing .last .0)), length-drop placesAt (c .store-doing .last .0))
 
 cast-block : tie.Need-cast-block
 cast-block c = search needs
@@ -75,7 +76,7 @@ clear-words-requires c κs = search needs
 same-length : tie.Need-same-length
 same-length c =
     let s = c .before .before .before .before .before .before .before .before .before in
-    placed-length (c .before .before .before .before .before .before .store-doing .last .0) (c .before .before .clear-words .last .0) 31 147
+    placed-length (c .before .before .before .before .before .before .store-doing .last .0) (c .before .before .clear-words .last .0) placesAt restWords
     (c .before .before .clear-words .kept .0 ∙ span (c .before .before .before .before .before .before))
     (omega (arith, long (c .before .before .before .before .before .before)))
     ∙ c .before .before .before .before .before .before .store-doing .kept .0 ∙ numbered-length (s .args .block .now) (s .args .n) (s .args .last)
@@ -84,14 +85,14 @@ returns : tie.Need-returns
 returns c =
     let s = c .before .before .before .before .before .before .before .before .before in
     let block = s .args .block .now in
-    let row = part block 11 20 in
-    let whole = ap (λ (b : List ℕ). placed 31 147 b (c .before .before .clear-words .last .0))
+    let row = part block freeAt wordCount in
+    let whole = ap (λ (b : List ℕ). placed placesAt restWords b (c .before .before .clear-words .last .0))
     (c .before .before .before .before .before .before .store-doing .ensures)
     ∙ rest-stored block (c .before .before .clear-words .last .0) (s .args .n) (s .args .last) (s .args .doing) (s .pre .0)
     (c .before .before .clear-words .ensures ∙ ap (λ (k : ℕ). replicate k 0) (span (c .before .before .before .before .before .before))) in
-    let twenty : length row ≡ 20 = omega (arith, length-take 20 (drop 11 block), length-drop 11 block, s .pre .0) in
+    let twenty : length row ≡ wordCount = omega (arith, length-take wordCount (drop 11 block), length-drop 11 block, s .pre .0) in
     let words : (i : ℕ) → getD row i 0 < 2 ^ 32 =
-    λ i. order i 20 (λ h. rw (getD-take 20 (drop 11 block) i 0 h ∙ getD-drop 11 block i 0) (omega (
+    λ i. order i wordCount (λ h. rw (getD-take wordCount (drop 11 block) i 0 h ∙ getD-drop 11 block i 0) (omega (
       arith,
       c .before .before .before .before .before .before .before .before .slice-known .given (11 + i),
     ))) (λ h. rw (List·getD-eq-default row 0 {n = i} (omega (arith, twenty))) (omega arith)) in (
