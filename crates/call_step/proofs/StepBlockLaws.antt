@@ -89,9 +89,9 @@ last-played : (b words : List ℕ) (made phase : ℕ) → length b ≡ stateWord
     → memoryIn (over (set (set b 6 made) 5 phase) 8 (0 ∷ 0 ∷ 0 ∷ words)) ≡ lastPlayed b words made phase
 unfolding memoryIn
 last-played b words made phase l w =
-    let long : length (0 ∷ 0 ∷ 0 ∷ words) ≡ 23 = omega arith in
-    ap memoryIn (over-placed (set (set b 6 made) 5 phase) (0 ∷ 0 ∷ 0 ∷ words) 8 23 long)
-    ∙ by-head (λ (x : List ℕ). memoryIn (placed 8 23 (set (set x 6 made) 5 phase) (0 ∷ 0 ∷ 0 ∷ words)) ≡ lastPlayed x words made phase)
+    let long : length (0 ∷ 0 ∷ 0 ∷ words) ≡ 3 + wordCount = omega arith in
+    ap memoryIn (over-placed (set (set b 6 made) 5 phase) (0 ∷ 0 ∷ 0 ∷ words) 8 (3 + wordCount) long)
+    ∙ by-head (λ (x : List ℕ). memoryIn (placed 8 (3 + wordCount) (set (set x 6 made) 5 phase) (0 ∷ 0 ∷ 0 ∷ words)) ≡ lastPlayed x words made phase)
     b (omega arith)
     (λ n last c d e f g i j k m rest.
     let with : List ℕ → List ℕ → List ℕ → ℕ → Memory = λ x y z depth. record {

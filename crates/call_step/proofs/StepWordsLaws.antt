@@ -80,7 +80,7 @@ joined n last count more (Inserting key value phase) made = refl
 joined n last count more (Deleting key phase value) made = refl
 joined n last count more (Repairing key) made = refl
 
--- three words, twenty, and the rows
+-- three words, those of the free nodes, and the rows
 module _ (cut free rows : List ℕ) (lc : length cut ≡ 3) (lf : length free ≡ wordCount) where
   abbrev tail : List ℕ
   tail = cut ++ (free ++ rows)
@@ -91,7 +91,7 @@ module _ (cut free rows : List ℕ) (lc : length cut ≡ 3) (lf : length free �
   tail-free : take wordCount (drop 3 tail) ≡ free
   tail-free = ap (take wordCount) (drop-at cut (free ++ rows) 3 lc) ∙ take-at free rows wordCount lf
 
-  tail-rows : drop 23 tail ≡ rows
+  tail-rows : drop (3 + wordCount) tail ≡ rows
   tail-rows = sym (drop-drop wordCount 3 tail) ∙ ap (drop wordCount) (drop-at cut (free ++ rows) 3 lc) ∙ drop-at free rows wordCount lf
 
 module _ (b : List ℕ) (doing : Doing) (free : List Bool) (last : ℕ) (cut : List ℕ) where
@@ -137,8 +137,8 @@ module _ (b : List ℕ) (doing : Doing) (free : List Bool) (last : ℕ) (cut : L
         let long : 8 + length (0 ∷ 0 ∷ 0 ∷ bits) ≡ placesAt = omega arith in
         let behind : drop (8 + length (0 ∷ 0 ∷ 0 ∷ bits)) start ≡ rows =
         ap (λ (k : ℕ). drop k start) long
-        ∙ sym (drop-drop 24 7 start)
-        ∙ ap (drop 24) (after-seven n last (1 ∷ more) made 1)
+        ∙ sym (drop-drop (4 + wordCount) 7 start)
+        ∙ ap (drop (4 + wordCount)) (after-seven n last (1 ∷ more) made 1)
         ∙ tail-rows (pad 3 cut) words rows (cut-long few) (length-words wordCount free) in
         ap₂ (λ (x y : List ℕ). x ++ (0 ∷ 0 ∷ 0 ∷ (bits ++ y))) (before-eight n last 1 more made 1) behind
         ∙ joined n last 1 (0 ∷ 0 ∷ 0 ∷ (bits ++ rows)) made 1

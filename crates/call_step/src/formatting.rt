@@ -5,7 +5,7 @@ use state::block::FIRST;
 use state::block::NODES;
 use state::block::wide;
 ghost use mathlib.Core.Path.{_≡_};
-ghost use Prim.Native.Nat.{suc, _≤_, _<_};
+ghost use Prim.Native.Nat.{suc, _+_, _*_, _≤_, _<_};
 ghost use lib.ListN.{length, set};
 ghost use Rattle.card.specs.Layout.{greatestNodes};
 ghost use Rattle.card.specs.Header.{Sized};
@@ -37,7 +37,7 @@ fn formatted_word(n: usize, i: usize) -> u32
 // A store of formatting in this place, which is told.
 fn store_format(card: &mut [u32], state: &mut [u32], place: u32, word: u32) -> Answer
     requires { ⌜ (length (now state) ≡ stateWords) × (place < length (now card))
-        × (blockWord (now state) 3 ≤ length (now card)) × (length (now card) ≤ 14408) ⌝ }
+        × (blockWord (now state) 3 ≤ length (now card)) × (length (now card) ≤ 8 + 24 * greatestNodes) ⌝ }
     ensures { λ r. ⌜ (r ≡ Stored place) × (now (card .exit) ≡ set (now (card .entry)) place word)
         × (now (state .exit) ≡ set (now (state .entry)) 3 (suc (blockWord (now (state .entry)) 3))) ⌝ }
 {

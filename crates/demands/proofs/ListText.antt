@@ -14,10 +14,13 @@ use borrow.Author.Tests.{ne-eqb, eq-eqb}
 use Rattle.laws.proofs.Cases.{bool-cases}
 use Rattle.card.specs.Header.{nodesOfLength, cardRefusal}
 use Rattle.card_dump.specs.Dump.{dumpWords, wordsFor, dumpNodes, damaged, fittingLength, readAnswer}
+use Rattle.card_dump.proofs.AnswerLaws.{read-sized}
+use Rattle.card_dump.proofs.ByteLaws.{length-dumpWords}
+use Rattle.card.proofs.HeaderLaws.{sized-nodes, sized-any}
 use Rattle.card_dump.specs.declared.Answer.{Answer}
 use Rattle.card_dump.specs.declared.Answer.the-variants.{Length, Refused as ReadRefused}
 use Rattle.card_free.specs.NodeSet.{countTrue}
-use Rattle.list_pairs.specs.Listing.{mostPairs, Listed, refused, listed, listCard, listDump, laid, layPairs, layListed}
+use Rattle.list_pairs.specs.Listing.{Listed, refused, listed, listCard, listDump, laid, layPairs, layListed}
 use Rattle.list_pairs.specs.Summaries.{summarized, summaryOf}
 use Rattle.list_pairs.proofs.SummaryLaws.{card-refused, dump-refused, dump-read}
 use Rattle.demands.proofs.ListedMap.{listing-right}
@@ -34,10 +37,10 @@ use Rattle.call_open.specs.Opening.{openSound, openChecked, openOf}
 
 -- ---- a listing that the rows have room for is told whole
 
--- a refusal has a number, and there are no more pairs than a card holds
+-- a refusal has a number, and there are no more pairs than a card that the programs are made for holds
 abbrev Fits : Listed → Type 0
 Fits (refused number) = number ≡ 0 → ⊥
-Fits (listed l) = length (l .pairs) ≤ mostPairs
+Fits (listed l) = length (l .pairs) ≤ 11 * programNodes
 
 words-pairs : (ps : List (ℕ × ℕ)) → pairsOfWords (pairWords ps) ≡ ps
 unfolding pairsOfWords
@@ -48,7 +51,7 @@ length-words : (ps : List (ℕ × ℕ)) → length (pairWords ps) ≡ 2 * length
 length-words [] = refl
 length-words (p ∷ ps) = omega (arith, length-words ps)
 
-told-whole : (l : Listed) (words : List ℕ) → 2 * mostPairs ≤ length words → Fits l → listingTold (summaryOf l words) (layListed l words .words) ≡ l
+told-whole : (l : Listed) (words : List ℕ) → 22 * programNodes ≤ length words → Fits l → listingTold (summaryOf l words) (layListed l words .words) ≡ l
 unfolding listingTold summaryOf summarized layListed
 told-whole (refused number) words h f = rw (ne-eqb number 0 f)
 told-whole (listed l) words h f =
@@ -91,15 +94,15 @@ open-number c number e z = go (ℕ-discrete (cardRefusal greatestNodes c) 0)
         (tableCheck c (nodesOfLength greatestNodes (length c))) (rw (eq-eqb (cardRefusal greatestNodes c) 0 q) at e)
     go (no d) = d (let k : Refused (cardRefusal greatestNodes c) ≡ Refused number = rw (ne-eqb (cardRefusal greatestNodes c) 0 d) at e in cc)
 
-card-fits : (c : List ℕ) → Fits (listCard c)
-card-fits c = go (openOf greatestNodes c .begun) refl
+card-fits : (c : List ℕ) → nodesOfLength greatestNodes (length c) ≤ programNodes → Fits (listCard c)
+card-fits c few = go (openOf greatestNodes c .begun) refl
   where
     opened : ((number : ℕ) → openOf greatestNodes c .begun ≡ Refused number → ⊥) → Fits (listCard c)
     opened f =
         let a = opens-unrefused greatestNodes c f in
         let t = accepted-table greatestNodes c a in
         let k = listing-right c (t .0) (t .1) a in
-        rw (k .is-listed) (k .few-pairs)
+        rw (k .is-listed) (omega (arith, k .few-pairs, few))
 
     go : (b : Begun) → openOf greatestNodes c .begun ≡ b → Fits (listCard c)
     go (Refused number) e = rw (card-refused c number e) (open-number c number e)
@@ -111,7 +114,11 @@ dump-fits dump lent = go (readAnswer programNodes dump lent) refl
   where
     go : (a : Answer) → readAnswer programNodes dump lent ≡ a → Fits (listDump programNodes dump lent)
     go (ReadRefused number) e = rw (dump-refused programNodes dump lent number e) (read-number dump lent number e)
-    go (Length size) e = rw (dump-read programNodes dump lent size e) (card-fits (dumpWords size dump))
+    go (Length size) e =
+        let s = read-sized programNodes dump lent size e .sized in
+        let n : nodesOfLength greatestNodes (length (dumpWords size dump)) ≡ dumpNodes dump =
+        ap (nodesOfLength greatestNodes) (length-dumpWords size dump) ∙ sized-nodes greatestNodes size (dumpNodes dump) (sized-any s) in
+        rw (dump-read programNodes dump lent size e) (card-fits (dumpWords size dump) (omega (arith, n, s .within)))
 
 -- ---- the text
 

@@ -4,7 +4,7 @@ use Rattle.card.specs.Layout.{greatestNodes}
 use mathlib.Core.List.{List}
 use mathlib.Core.Bool.{Bool}
 use mathlib.Core.Option.{some}
-use Prim.Native.Nat.{ℕ, _≤_}
+use Prim.Native.Nat.{ℕ, _*_, _≤_}
 use native.Mathlib.Omega.{arith}
 use lib.ListN.{length}
 use Rattle.card.specs.Header.{nodesOfLength}
@@ -54,7 +54,7 @@ pub record ListedRight (c : List ℕ) (t : Tree) : Type 0 where
   pub unreached : List Bool
   pub exact : Exact (nodesOfLength greatestNodes (length c)) unreached table
   pub free : listing .free ≡ countTrue unreached
-  pub few-pairs : length (listing .pairs) ≤ mostPairs
+  pub few-pairs : length (listing .pairs) ≤ 11 * nodesOfLength greatestNodes (length c)
 
 module _ (c : List ℕ) (t : Tree) where
   pub listing-right : WellFormed c t → Opens (rationTable greatestNodes) c → ListedRight c t
@@ -72,8 +72,11 @@ module _ (c : List ℕ) (t : Tree) where
           sound : WellFormed after (x .table)
           sound = x .balanced .well-formed
 
+          held : length (pairs (x .table)) ≤ 11 * number
+          held = omega (arith, pairs-le after (x .table) (sound .holds .2), well-formed-size after number (x .sized .words) (x .table) sound)
+
           enough : length (pairs (x .table)) ≤ mostPairs
-          enough = omega (arith, pairs-le after (x .table) (sound .holds .2), well-formed-size after number (x .sized .words) (x .table) sound, x .sized .most)
+          enough = omega (arith, held, x .sized .most)
 
           walked : List (ℕ × ℕ)
           walked = walkFrom greatestNodes mostPairs after 0
@@ -97,5 +100,5 @@ module _ (c : List ℕ) (t : Tree) where
                 unreached = f .free;
                 exact = facts-exact k;
                 free = refl;
-                few-pairs = omega (arith, counted, enough);
+                few-pairs = omega (arith, counted, held);
               }
