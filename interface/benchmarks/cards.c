@@ -27,7 +27,9 @@ int main(void)
         prepare(&workloads[i]);
         describe(i < RANDOM_WORKLOADS ? "random keys" : workloads[i].order + 2, workloads[i].nodes, workloads[i].pairs);
     }
-    uint32_t pairs = prepare_full(RATION_MOST_NODES);
-    describe("full: random keys until an insert is refused 8", RATION_MOST_NODES, pairs);
+    for (uint32_t nodes = 600; nodes <= RATION_MOST_NODES; nodes += RATION_MOST_NODES - 600) {
+        uint32_t pairs = prepare_full(nodes);
+        describe("full: random keys until an insert is refused 8", nodes, pairs);
+    }
     return 0;
 }

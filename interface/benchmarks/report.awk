@@ -3,7 +3,7 @@
 # is not marked as known.
 BEGIN {
     FS = "\t"
-    sizes = split("4 60 600 any", size, " ")
+    sizes = split("4 60 600 2600 any", size, " ")
 }
 
 {

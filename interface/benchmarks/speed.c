@@ -39,7 +39,7 @@ static void measure_finds(const workload *w, which_key *which, const char *name)
 {
     const uint32_t *keys = keys_of(w, which);
     batch_begin();
-    for (uint32_t i = 0; i < MOST_KEYS; i++)
+    for (uint32_t i = 0; i < FINDS; i++)
         CALL(ration_find(CARD, keys[i]));
     batch_end();
     end_row(w, name);
@@ -62,7 +62,7 @@ static uint32_t leaf_of(uint32_t number)
 
 static void measure_next(const workload *w, const uint32_t *numbers, uint32_t count, const char *name)
 {
-    uint32_t rounds = count == 0 ? 0 : MOST_KEYS / count;
+    uint32_t rounds = count == 0 ? 0 : count < FINDS ? FINDS / count : 1;
     batch_begin();
     for (uint32_t round = 0; round < rounds; round++)
         for (uint32_t i = 0; i < count; i++)
@@ -236,7 +236,7 @@ static void measure(void)
         measure_steps(w);
         restore();
         measure_opening(w, "opening");
-        if (w->nodes == RATION_MOST_NODES) {
+        if (w->nodes >= 600) {
             prepare_full(w->nodes);
             measure_opening(w, "opening a full card");
         }

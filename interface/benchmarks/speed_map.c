@@ -22,12 +22,12 @@ static void measure_one(const workload *w)
     for (uint32_t i = 0; i < w->pairs; i++)
         map_insert(base, w->key(i), w->key(i) + 1);
     batch_begin();
-    for (uint32_t i = 0; i < MOST_KEYS; i++)
+    for (uint32_t i = 0; i < FINDS; i++)
         CALL(map_find(base, held[i]));
     batch_end();
     row_end(w->nodes, "find, key held");
     batch_begin();
-    for (uint32_t i = 0; i < MOST_KEYS; i++)
+    for (uint32_t i = 0; i < FINDS; i++)
         CALL(map_find(base, absent[i]));
     batch_end();
     row_end(w->nodes, "find, key absent");

@@ -90,11 +90,12 @@ static void run_all(void)
 {
     random_stream random = {600};
     static const struct {
-        uint32_t levels, least, most;
-    } shapes[] = {{8, 2, 2}, {2, 11, 11}, {3, 5, 8}, {5, 2, 3}};
+        uint32_t nodes, levels, least, most;
+    } shapes[] = {{600, 8, 2, 2}, {600, 2, 11, 11}, {600, 3, 5, 8},
+                  {600, 5, 2, 3}, {2600, 10, 2, 2}, {2600, 3, 11, 11}};
     for (size_t i = 0; i < sizeof shapes / sizeof shapes[0]; i++) {
-        words = RATION_MOST_CARD_WORDS;
-        build_card(card, 600, shapes[i].levels, shapes[i].least, shapes[i].most, &random);
+        words = RATION_CARD_WORDS(shapes[i].nodes);
+        build_card(card, shapes[i].nodes, shapes[i].levels, shapes[i].least, shapes[i].most, &random);
         work(&random, 4000, 20000);
     }
     words = RATION_CARD_WORDS(60);
@@ -108,13 +109,13 @@ static void run_all(void)
         words = RATION_CARD_WORDS(nodes);
         work(&random, 5, 3000);
     }
-    for (uint32_t internal_nodes = 0; internal_nodes < 15; internal_nodes++) {
+    for (uint32_t internal_nodes = 0; internal_nodes < 17; internal_nodes++) {
         words = RATION_CARD_WORDS(20);
         build_chain(card, 20, internal_nodes, 7, &random);
         work(&random, 20, 10);
     }
     for (uint32_t i = 0; i < 3000; i++) {
-        uint32_t nodes = i % 100 == 0 ? 600 : 4 + random_below(&random, 60);
+        uint32_t nodes = i % 100 == 0 ? 600 : i % 100 == 50 ? 2600 : 4 + random_below(&random, 60);
         words = RATION_CARD_WORDS(nodes);
         make_garbage_card(card, nodes, random_percent(&random, 80), &random);
         make_garbage_state(state, nodes, random_percent(&random, 80), &random);

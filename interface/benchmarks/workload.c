@@ -1,6 +1,7 @@
 #include "workload.h"
 
 const workload workloads[WORKLOADS] = {
+    {2600, 13000, 300, 1, "", random_key, false},
     {600, 3000, 300, 1, "", random_key, false},
     {60, 250, 30, 10, "", random_key, false},
     {4, 8, 3, 100, "", random_key, false},

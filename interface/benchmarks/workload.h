@@ -20,8 +20,9 @@ typedef struct {
     bool oldest_first; // pairs are found and deleted in the order in which they were inserted, else in another one
 } workload;
 
-// Random keys on cards of three sizes; on 600 nodes also sequential keys, and clusters of 32 neighbours.
-enum { WORKLOADS = 5, RANDOM_WORKLOADS = 3, MOST_KEYS = 3000 };
+// Random keys on cards of four sizes; on 600 nodes also sequential keys, and clusters of 32 neighbours.
+// No card has more pairs than MOST_KEYS; so many finds are measured.
+enum { WORKLOADS = 6, RANDOM_WORKLOADS = 4, MOST_KEYS = 13000, FINDS = 3000 };
 extern const workload workloads[WORKLOADS];
 
 key_order random_key, sequential_key, clustered_key;

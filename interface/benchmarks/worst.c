@@ -140,12 +140,12 @@ static void run_small(void)
     update_counted(200, 0, 5, 2000);
 }
 
-// A built card of 600 nodes: so many internal levels, and so many children and pairs in its nodes.
-static void run_built(uint32_t levels, uint32_t least, uint32_t most, uint32_t keys)
+// A built card: so many internal levels, and so many children and pairs in its nodes.
+static void run_built(uint32_t nodes, uint32_t levels, uint32_t least, uint32_t most, uint32_t keys)
 {
     random_stream random = {levels};
-    words = RATION_MOST_CARD_WORDS;
-    expect(build_card(known_card, RATION_MOST_NODES, levels, least, most, &random) != 0);
+    words = RATION_CARD_WORDS(nodes);
+    expect(build_card(known_card, nodes, levels, least, most, &random) != 0);
     memcpy(card, known_card, sizeof card);
     expect(ration_open(CARD, STATE).code == RATION_IDLE &&
            hand_written_open(KNOWN_CARD, KNOWN_STATE).code == RATION_IDLE);
@@ -159,9 +159,11 @@ static void measure(void)
     COUNTED(nothing());
     say("nothing");
     run_small();
-    run_built(8, 2, 2, 5000);
-    run_built(3, 5, 8, 20000);
-    run_built(2, 11, 11, 13000);
+    run_built(600, 8, 2, 2, 5000);
+    run_built(600, 3, 5, 8, 20000);
+    run_built(600, 2, 11, 11, 13000);
+    run_built(2600, 10, 2, 2, 20000);
+    run_built(2600, 3, 11, 11, 140000);
     VALGRIND_PRINTF("end\n");
 }
 

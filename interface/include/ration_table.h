@@ -9,7 +9,7 @@
  *
  * HOW IT IS WORKED
  *
- * A card with N nodes, 4 to 600, is an array of exactly 8 + 24 * N words. Beside it stands a state block
+ * A card with N nodes, 4 to 2,600, is an array of exactly 8 + 24 * N words. Beside it stands a state block
  * of RATION_STATE_WORDS words in ordinary memory, lost with power. Whatever the block holds is for these
  * calls alone.
  *
@@ -18,7 +18,7 @@
  *      until RATION_READY.
  *   2. Update: ration_start_insert or ration_start_delete, then ration_step until the final answer,
  *      RATION_VALUE or RATION_ABSENT. Each step stores one word, RATION_STORED, or gives the answer. An
- *      update takes at most 657 stores.
+ *      update takes at most 803 stores, on a card of at most 600 nodes 657.
  *   3. ration_find and ration_next at any time, also between steps and before opening.
  *   4. Power was cut, or the block was lost: back to ration_open.
  *   5. To abandon an update, call ration_open again, with power on: to the card it is a cut. Go on as in
@@ -44,7 +44,7 @@
  *   carry a table to a machine of another order by ration_write_dump and ration_read_dump.
  * - Pairs until the first insert refused with 8, with keys rising and, in 20 tries each, with keys at random:
  *   12 nodes 47 and 53 to 68; 60 nodes 287 and 362 to 405; 200 nodes 989 and 1,300 to 1,392; 600 nodes 2,987
- *   and 3,996 to 4,172.
+ *   and 3,996 to 4,172; 2,600 nodes 12,995 and 17,578 to 17,930.
  * - There is no checksum. Opening sees damage that leaves no sound table; a value that wore is a value.
  * - The proved archive is for x86-64 Linux. From the folder above interface/:
  *
@@ -93,13 +93,13 @@ extern "C" {
 #endif
 
 /* Sizes. */
-#define RATION_STATE_WORDS 178 /* the state block, in words */
+#define RATION_STATE_WORDS 240 /* the state block, in words */
 #define RATION_LEAST_NODES 4
-#define RATION_MOST_NODES 600
+#define RATION_MOST_NODES 2600
 #define RATION_CARD_WORDS(nodes) (8 + 24 * (nodes)) /* a card, in words */
-#define RATION_MOST_CARD_WORDS 14408                /* a card of 600 nodes */
+#define RATION_MOST_CARD_WORDS 62408                /* a card of 2,600 nodes */
 #define RATION_DUMP_BYTES(nodes) ((4 * RATION_CARD_WORDS(nodes) + 511) / 512 * 512)
-#define RATION_MOST_DUMP_BYTES 57856 /* a dump of 600 nodes */
+#define RATION_MOST_DUMP_BYTES 249856 /* a dump of 2,600 nodes */
 
 /*
  * The answer of every call. value counts with RATION_VALUE, RATION_STORED, RATION_LENGTH and RATION_NEXT, key with
@@ -107,7 +107,7 @@ extern "C" {
  * are 0, so that a refusal carries none of them.
  *
  * depth is how many internal nodes stood on the given number's way down to its leaf when the call began, tagged ones
- * counted: 0 where the root is that leaf, and at most 10, since a longer way is refused with 9.
+ * counted: 0 where the root is that leaf, and at most 12, since a longer way is refused with 9.
  *   find: on the way of the key, held or absent.
  *   next: on the way of the number given, also where the pair is in another leaf, and where there is none; 0 leads to
  *     the first leaf.
@@ -138,7 +138,7 @@ typedef struct ration_answer {
  * the refusals listed with the call decides.
  */
 
-/* The length is not 8 + 24 * N with N 4 to 600, or the block is not that of a card of this length.
+/* The length is not 8 + 24 * N with N 4 to 2,600, or the block is not that of a card of this length.
    Check the length; open the card with this block. */
 #define RATION_WRONG_LENGTH 1
 
@@ -174,8 +174,8 @@ typedef struct ration_answer {
 /* A step with nothing in progress. */
 #define RATION_NOTHING_TO_STEP 10
 
-/* Reading a dump: its length is 0, not a multiple of 512 or above 57,856, its word 1 is not 4 to 600 or does
-   not fit the length, or a padding byte is not 0. It is no dump, or a damaged one. */
+/* Reading a dump: its length is 0, not a multiple of 512 or above 249,856, its word 1 is not 4 to 2,600 or
+   does not fit the length, or a padding byte is not 0. It is no dump, or a damaged one. */
 #define RATION_WRONG_DUMP 11
 
 /* What is lent for the result is too short: lend RATION_CARD_WORDS(N) words or RATION_DUMP_BYTES(N) bytes. */

@@ -114,9 +114,9 @@ static void begin(uint32_t nodes)
 void test_agreement(scale s)
 {
     stream.state = 600;
-    static const uint32_t sizes[] = {4, 5, 6, 12, 60, 600};
+    static const uint32_t sizes[] = {4, 5, 6, 12, 60, 600, 2600};
     for (size_t i = 0; i < sizeof sizes / sizeof sizes[0]; i++) {
-        if (sizes[i] == 600 && s.percent < 100)
+        if (sizes[i] >= 600 && s.percent < 100)
             continue;
         begin(sizes[i]);
         for (size_t place = 0; place < both.desk->words; place++) {
@@ -127,15 +127,16 @@ void test_agreement(scale s)
               hand_written_start_format(both.card, both.desk->words, both.state, RATION_STATE_WORDS));
         while (both.in_progress)
             step();
-        work((sizes[i] == 600 ? 40 : 60) * s.percent, 6 * sizes[i]);
+        work((sizes[i] >= 600 ? 40 : 60) * s.percent, 6 * sizes[i]);
         desk_free(both.desk);
     }
     static const struct {
-        uint32_t levels, least, most;
-    } built[] = {{8, 2, 2}, {2, 11, 11}, {4, 3, 4}, {5, 2, 3}};
+        uint32_t nodes, levels, least, most;
+    } built[] = {{600, 8, 2, 2}, {600, 2, 11, 11}, {600, 4, 3, 4}, {600, 5, 2, 3}, {2600, 10, 2, 2}, {2600, 3, 11, 11}};
     for (size_t i = 0; i < sizeof built / sizeof built[0]; i++) {
-        begin(600);
-        CHECK(build_card(both.card, 600, built[i].levels, built[i].least, built[i].most, &stream) != 0, "card %zu", i);
+        begin(built[i].nodes);
+        CHECK(build_card(both.card, built[i].nodes, built[i].levels, built[i].least, built[i].most, &stream) != 0,
+              "card %zu", i);
         desk_set_card(both.desk, both.card);
         cut();
         work(10 * s.percent, 15000);

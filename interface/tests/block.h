@@ -9,9 +9,9 @@ enum {
     BLOCK_MADE = 6,
     BLOCK_PLANNED = 7,
     BLOCK_FREE = 11, // node m is bit m % 32 of word 11 + m / 32
-    BLOCK_FREE_WORDS = 20,
-    BLOCK_PLACES = 31,
-    BLOCK_DEPTH = 177, // the last: of the way of the update begun last, when it began
+    BLOCK_FREE_WORDS = 82,
+    BLOCK_PLACES = BLOCK_FREE + BLOCK_FREE_WORDS,
+    BLOCK_DEPTH = BLOCK_PLACES + 2 * 73, // the last: of the way of the update begun last, when it began
     BLOCK_DOINGS = 5
 };
 

@@ -97,11 +97,11 @@ static uint32_t build_odd_part(building *b, uint32_t levels, bool root)
 
 uint32_t build_odd_card(uint32_t *card, uint32_t levels, random_stream *random)
 {
-    building b = {.card = card, .nodes = 600, .random = random};
+    building b = {.card = card, .nodes = RATION_MOST_NODES, .random = random};
     memset(card, 0, 4 * RATION_MOST_CARD_WORDS);
     uint32_t root = build_odd_part(&b, levels, true);
     uint32_t nodes = b.used + random_below(random, 8);
-    if (root == 0 || nodes < 4 || nodes > 600)
+    if (root == 0 || nodes < 4 || nodes > RATION_MOST_NODES)
         return 0;
     write_header(card, nodes, root);
     return nodes;

@@ -14,7 +14,7 @@ uint32_t build_card(uint32_t *card, uint32_t nodes, uint32_t levels, uint32_t le
 
 // A table with now and then something odd: a tagged node, a node with too few children or pairs, leaves at different
 // depths, a tagged node with other than 2 children; else sound, with ranges as narrow as the keys allow. The card has
-// as many nodes as are used and up to 7 more; gives that number, or 0 where 600 are not enough.
+// as many nodes as are used and up to 7 more; gives that number, or 0 where the most are not enough.
 uint32_t build_odd_card(uint32_t *card, uint32_t levels, random_stream *random);
 
 // Internal nodes one below the other, each with one child, and a leaf with one pair.

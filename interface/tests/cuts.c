@@ -136,16 +136,18 @@ void test_cuts(scale s)
         worked_free(w);
     }
 
-    // The longest ways: deletes that merge through 8 levels, inserts that split through full ones.
+    // The longest ways: deletes that merge through 8 and 10 levels, inserts that split through full ones.
     static const struct {
-        uint32_t levels, least, most, insert_percent;
-    } built[] = {{8, 2, 2, 0}, {2, 11, 11, 100}, {3, 5, 8, 50}};
+        uint32_t nodes, levels, least, most, insert_percent;
+    } built[] = {{600, 8, 2, 2, 0},   {600, 2, 11, 11, 100},  {600, 3, 5, 8, 50},
+                 {2600, 10, 2, 2, 0}, {2600, 3, 11, 11, 100}, {2600, 4, 5, 6, 50}};
     static uint32_t card[RATION_MOST_CARD_WORDS];
     uint32_t most = 0;
     for (size_t i = 0; i < sizeof built / sizeof built[0] && s.percent == 100; i++) {
-        CHECK(build_card(card, 600, built[i].levels, built[i].least, built[i].most, &stream) != 0, "card %zu", i);
-        w = worked_open(600, card);
-        worked *copy = worked_open(600, card);
+        CHECK(build_card(card, built[i].nodes, built[i].levels, built[i].least, built[i].most, &stream) != 0,
+              "card %zu", i);
+        w = worked_open(built[i].nodes, card);
+        worked *copy = worked_open(built[i].nodes, card);
         for (uint32_t n = 0; n < 6; n++) {
             uint32_t key = 10 * (1 + random_below(&stream, w->book.pairs));
             if (random_percent(&stream, built[i].insert_percent) ? worked_start_insert(w, key + 5, 1)

@@ -102,7 +102,7 @@ static void try_calls(desk *d, uint32_t steps)
     if (a.code == RATION_STARTED) {
         ended = false;
         for (uint32_t stores = 0; !ended; stores++) {
-            CHECK(stores <= 657, "a repair without end");
+            CHECK(stores <= 803, "a repair without end");
             check_step(d, &ended);
         }
         CHECK(due_open(d) == RATION_IDLE, "a sound card was not repaired");
@@ -228,13 +228,13 @@ static void check_update(desk *d, bool insert, uint32_t key, bool passes, uint32
 // "more than 10 internal nodes": ten pass, an eleventh is refused. So every depth is told by every call.
 static void chains(void)
 {
-    for (uint32_t internal_nodes = 0; internal_nodes < 15; internal_nodes++) {
+    for (uint32_t internal_nodes = 0; internal_nodes < 17; internal_nodes++) {
         desk *d = desk_new(8 + 24 * 20, RATION_STATE_WORDS);
         uint32_t card[8 + 24 * 20];
         build_chain(card, 20, internal_nodes, 7, &stream);
         desk_set_card(d, card);
         d->state[BLOCK_NODES] = d->state_copy[BLOCK_NODES] = 20;
-        bool passes = internal_nodes <= 10;
+        bool passes = internal_nodes <= 12;
         CHECK(desk_find(d, 7).code == (passes ? RATION_VALUE : RATION_BROKEN_WAY), "%u nodes", internal_nodes);
         CHECK(desk_next(d, 0).code == (passes ? RATION_NEXT : RATION_BROKEN_WAY), "%u nodes", internal_nodes);
         check_update(d, true, 7, passes, RATION_VALUE);
@@ -287,11 +287,13 @@ void test_damage(scale s)
     damaged_cards(60, 2, 3, 6, 150 * s.percent);
     damaged_cards(60, 4, 2, 2, 150 * s.percent);
     damaged_cards(600, 8, 2, 2, 10 * s.percent);
+    damaged_cards(2600, 10, 2, 2, 2 * s.percent);
     garbage(4, 100 * s.percent);
     garbage(6, 100 * s.percent);
     garbage(12, 100 * s.percent);
     garbage(60, 30 * s.percent);
     garbage(600, 2 * s.percent);
+    garbage(2600, s.percent / 2);
     mixed(20, 100 * s.percent);
     mixed(60, 50 * s.percent);
     CHECK(next_on_few_free > 0 && next_on_unsound > 0, "no such card");

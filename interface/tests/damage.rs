@@ -180,7 +180,7 @@ pub fn test() -> u64 {
     for (nodes, tries) in [(6, 5000), (12, 5000), (20, 5000), (60, 3000)] {
         damage.damaged(nodes, tries);
     }
-    for (nodes, tries) in [(4, 5000), (6, 5000), (12, 5000), (60, 1000), (600, 50)] {
+    for (nodes, tries) in [(4, 5000), (6, 5000), (12, 5000), (60, 1000), (600, 50), (2600, 10)] {
         damage.garbage(nodes, tries);
     }
     damage.events

@@ -98,12 +98,12 @@ uint32_t due_step(const desk *d)
 
 ration_answer due_read_dump(const uint8_t *dump, size_t dump_bytes, size_t words_lent)
 {
-    if (dump_bytes == 0 || dump_bytes % 512 != 0 || dump_bytes > 57856)
+    if (dump_bytes == 0 || dump_bytes % 512 != 0 || dump_bytes > 249856)
         return only(RATION_WRONG_DUMP);
     uint64_t nodes = 0;
     for (int i = 7; i >= 4; i--)
         nodes = 256 * nodes + dump[i];
-    if (nodes < 4 || nodes > 600)
+    if (nodes < 4 || nodes > 2600)
         return only(RATION_WRONG_DUMP);
     uint64_t words = 8 + 24 * nodes;
     if (4 * words > dump_bytes || dump_bytes - 4 * words >= 512)

@@ -29,7 +29,7 @@ extern uint64_t events;
 extern uint64_t answered[CALLS][CODES];
 
 // How often each call told each depth that a card can have.
-enum { DEPTHS = 11 };
+enum { DEPTHS = 13 };
 extern uint64_t told[CALLS][DEPTHS];
 
 // A card of 0s with a block of 0s, the idle state for N = 0.
@@ -53,7 +53,7 @@ ration_answer desk_start_delete(desk *d, uint32_t key);
 ration_answer desk_step(desk *d);
 
 // Walks a card from 0 to RATION_NONE; gives the number of its pairs, at most MOST_WALKED. They stand at *pairs until the next walk.
-enum { MOST_WALKED = 600 * 11 };
+enum { MOST_WALKED = RATION_MOST_NODES * 11 };
 typedef struct {
     uint32_t key, value;
 } walked_pair;

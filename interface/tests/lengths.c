@@ -42,7 +42,7 @@ static void try_lengths(size_t words, size_t state_words, size_t wrong_place)
     }
     CHECK(desk_open(d).code == due_open(d), "open on %zu words, block of %zu", words, state_words);
     due = state_words != RATION_STATE_WORDS                       ? RATION_NO_STATE
-          : words < 104 || words > 14408 || (words - 8) % 24 != 0 ? RATION_WRONG_LENGTH
+          : words < 104 || words > 62408 || (words - 8) % 24 != 0 ? RATION_WRONG_LENGTH
                                                                   : RATION_STARTED;
     CHECK(desk_start_format(d).code == due, "format of %zu words, block of %zu", words, state_words);
     desk_free(d);
@@ -92,14 +92,15 @@ static void try_dumps(uint32_t nodes)
 
 void test_lengths(void)
 {
-    static const size_t words[] = {0, 1, 7, 8, 32, 80, 103, 104, 105, 128, 14384, 14407, 14408, 14409, 14432};
-    static const size_t state_words[] = {0, 1, 177, 178, 179};
+    static const size_t words[] = {0,   1,     7,     8,     32,    80,    103,   104,   105,
+                                   128, 14408, 14409, 14432, 62384, 62407, 62408, 62409, 62432};
+    static const size_t state_words[] = {0, 1, 178, 239, 240, 241};
     for (size_t i = 0; i < sizeof words / sizeof words[0]; i++)
         for (size_t j = 0; j < sizeof state_words / sizeof state_words[0]; j++)
             try_lengths(words[i], state_words[j], NO_PLACE);
     for (size_t place = 0; place < NO_PLACE; place++)
         try_lengths(104, RATION_STATE_WORDS, place);
-    static const uint32_t nodes[] = {4, 5, 6, 20, 21, 60, 599, 600};
+    static const uint32_t nodes[] = {4, 5, 6, 20, 21, 60, 599, 600, 601, 602, 603, 2599, 2600};
     for (size_t i = 0; i < sizeof nodes / sizeof nodes[0]; i++)
         try_dumps(nodes[i]);
 }

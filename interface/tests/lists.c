@@ -94,11 +94,12 @@ void test_lists(scale s)
         {60, 300000, 500, 1, 20},
         {60, 200000, 400, 2654435761u, 20},
         {600, 150000, 5000, 2654435761u, 500},
+        {2600, 60000, 20000, 2654435761u, 500},
     };
     for (size_t i = 0; i < sizeof shapes / sizeof shapes[0]; i++) {
         list_shape l = shapes[i];
         random_stream r = {1994 + i};
-        if (l.nodes == 600 && s.percent < 100)
+        if (l.nodes >= 600 && s.percent < 100)
             continue;
         l.events = l.events / 100 * s.percent;
         worked *w = worked_format(l.nodes, &r);
@@ -106,17 +107,18 @@ void test_lists(scale s)
         worked_free(w);
     }
 
-    // Cards of 600 nodes that are full or deep from the start.
+    // Cards that are full or deep from the start.
     static const struct {
-        uint32_t levels, least, most;
-    } built[] = {{8, 2, 2}, {2, 11, 11}, {4, 3, 4}, {3, 7, 7}, {5, 2, 3}};
+        uint32_t nodes, levels, least, most;
+    } built[] = {{600, 8, 2, 2}, {600, 2, 11, 11}, {600, 4, 3, 4},    {600, 3, 7, 7},
+                 {600, 5, 2, 3}, {2600, 10, 2, 2}, {2600, 3, 11, 11}, {2600, 7, 2, 3}};
     for (size_t i = 0; i < sizeof built / sizeof built[0]; i++) {
         static uint32_t card[RATION_MOST_CARD_WORDS];
         random_stream r = {2026 + i};
-        uint32_t used = build_card(card, 600, built[i].levels, built[i].least, built[i].most, &r);
+        uint32_t used = build_card(card, built[i].nodes, built[i].levels, built[i].least, built[i].most, &r);
         CHECK(used != 0, "card %zu", i);
-        list_shape l = {600, 40000 / 100 * s.percent, 30000, 1, 500};
-        worked *w = worked_open(600, card);
+        list_shape l = {built[i].nodes, 40000 / 100 * s.percent, 50 * built[i].nodes, 1, 500};
+        worked *w = worked_open(built[i].nodes, card);
         work_list(w, &l, &r);
         worked_free(w);
     }

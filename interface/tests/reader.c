@@ -6,7 +6,7 @@
 
 uint32_t read_nodes(size_t words)
 {
-    for (uint32_t n = 4; n <= 600; n++)
+    for (uint32_t n = 4; n <= RATION_MOST_NODES; n++)
         if (words == 8 + 24 * (size_t)n)
             return n;
     return 0;
@@ -42,7 +42,7 @@ landing read_landing(const uint32_t *card, size_t words, uint32_t key)
     while (m >= 1 && m <= n && (node_of(card, m)[0] == 2 || node_of(card, m)[0] == 3)) {
         const uint32_t *node = node_of(card, m);
         int c = children_of(node);
-        if (c == 0 || ++l.depth > 10)
+        if (c == 0 || ++l.depth > 12)
             return l;
         int i = 0;
         for (int k = 1; k <= c - 1 && node[k] <= key; k++)
@@ -123,7 +123,7 @@ static bool read_internal(const waiting *w, const uint32_t *node, bool root, tab
             return false;
     }
     for (int i = 0; i < c; i++) {
-        if (*end == 601) // more than 600 nodes waiting: one of them twice
+        if (*end > RATION_MOST_NODES) // more than all nodes waiting: one of them twice
             return false;
         queue[(*end)++] = (waiting){.node = node[12 + i],
                                     .low = i == 0 ? w->low : node[i],
@@ -136,7 +136,7 @@ static bool read_internal(const waiting *w, const uint32_t *node, bool root, tab
 
 void read_table(const uint32_t *card, size_t words, table_reading *t)
 {
-    static waiting queue[601];
+    static waiting queue[RATION_MOST_NODES + 1];
     uint32_t n = read_nodes(words), begin = 0, end = 0;
     int leaf_depth = -1;
     t->sound = false;

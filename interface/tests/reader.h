@@ -7,7 +7,7 @@
 #include <stddef.h>
 #include <stdint.h>
 
-enum { MOST_PAIRS = 600 * 11 };
+enum { MOST_PAIRS = 2600 * 11 };
 
 // The number of nodes of a card of so many words; 0 where no card has that length.
 uint32_t read_nodes(size_t words);
@@ -33,7 +33,7 @@ typedef struct {
     uint32_t faults;
     uint32_t run; // 11-child nodes without a break straight above a tagged node
     uint32_t free;
-    bool reached[601];
+    bool reached[2601];
     uint32_t pairs;
     uint32_t keys[MOST_PAIRS];
     uint32_t values[MOST_PAIRS];

@@ -6,7 +6,7 @@ use ration_table::calls::Opening;
 use ration_table::{Refusal, WithDepth};
 
 pub fn nodes(words: usize) -> Option<usize> {
-    (4..=600).find(|n| words == 8 + 24 * n)
+    (4..=2600).find(|n| words == 8 + 24 * n)
 }
 
 pub fn header(card: &[u32]) -> Result<usize, Refusal> {
@@ -44,7 +44,7 @@ pub fn landing(card: &[u32], key: u32) -> Option<Landing<'_>> {
     while matches!(at[0], 2 | 3) {
         let below = children(at);
         passed.push(below.len());
-        if below.is_empty() || passed.len() > 10 {
+        if below.is_empty() || passed.len() > 12 {
             return None;
         }
         let index = at[1..below.len()].iter().take_while(|&&routing| routing <= key).count();

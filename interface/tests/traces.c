@@ -17,8 +17,9 @@ typedef struct {
     uint64_t stores;
     const uint8_t *dump;
     size_t dump_bytes;
-    bool from_node_1; // W-205 had not landed: after an opening the search for free nodes begins at node 1
-    bool depths;      // W-203 had landed: every answer that carries a depth stands there with it
+    bool from_node_1;  // W-205 had not landed: after an opening the search for free nodes begins at node 1
+    bool depths;       // W-203 had landed: every answer that carries a depth stands there with it
+    bool twelve_nodes; // W-210 had landed: a way of 12 internal nodes is no longer refused
     uint32_t traces;
     uint32_t line;
 } replay;
@@ -142,8 +143,21 @@ static void search_from_node_1(desk *d)
     desk_set_state(d, words);
 }
 
+// Before W-210 a way of more than 10 internal nodes was refused: such a call is left out, since it stored nothing and changed no state.
+static bool was_too_deep(const replay *r, const desk *d, char *at, const char *result)
+{
+    if (r->twelve_nodes || strcmp(result, "refused 9") != 0)
+        return false;
+    if (!next_is(&at, "find") && !next_is(&at, "next") && !next_is(&at, "insert") && !next_is(&at, "delete"))
+        return false;
+    landing l = read_landing(d->card, d->words, next_number(&at, 10));
+    return !l.refused && l.depth > 10;
+}
+
 static void replay_call(replay *r, desk *d, char *at, char *result)
 {
+    if (was_too_deep(r, d, at, result))
+        return;
     if (strcmp(result, "loose") == 0) {
         replay_loose(r, d, at);
         return;
@@ -203,6 +217,11 @@ static void walk_list(replay *r, char *at)
         CHECK(next_is(&at, "refused") && a.code == next_number(&at, 10), "line %u: code %u", r->line, a.code);
         return;
     }
+    // "the programs still answer 11 above 57,856 bytes or 600 nodes"
+    if (a.value > RATION_CARD_WORDS(600)) {
+        CHECK(next_is(&at, "refused") && next_number(&at, 10) == 11, "line %u: %u words are listed", r->line, a.value);
+        return;
+    }
     desk *d = desk_new(a.value, RATION_STATE_WORDS);
     desk_set_card(d, words);
     if (next_is(&at, "refused")) {
@@ -220,6 +239,15 @@ static void walk_list(replay *r, char *at)
         CHECK(desk_next(d, after).code == RATION_NONE, "line %u: the walk goes on", r->line);
     }
     desk_free(d);
+}
+
+// What `insert_check` prints for the dump in hand: looked at here is only whether it refuses the dump.
+static void check_why(replay *r, const char *text)
+{
+    const uint32_t *words;
+    ration_answer a = guarded_read_dump(r->dump, r->dump_bytes, RATION_MOST_CARD_WORDS, &words);
+    bool is_refused = a.code != RATION_LENGTH || a.value > RATION_CARD_WORDS(600);
+    CHECK(is_refused == (strcmp(text, "refused 11/") == 0), "line %u: code %u, %u words", r->line, a.code, a.value);
 }
 
 // "the first L words, or the card followed by 0s; the card in hand is not changed, the state handed back counts"
@@ -284,8 +312,11 @@ static void replay_line(replay *r, char *line)
     if (next_is(&at, "features")) {
         r->from_node_1 = strstr(at, "W-205") == NULL;
         r->depths = strstr(at, "W-203") != NULL;
+        r->twelve_nodes = strstr(at, "W-210") != NULL;
     } else if (next_is(&at, "list")) {
         walk_list(r, result);
+    } else if (next_is(&at, "why")) {
+        check_why(r, result);
     } else if (next_is(&at, "trace")) {
         at = strchr(at, ' ') + 1;
         if (r->desk != NULL)

@@ -5,6 +5,7 @@ use ration_table::calls::{self, Opening, Step, STATE_WORDS};
 use ration_table::{Pairs, Refusal, StateBlock};
 
 use crate::guarded::{Desk, Guarded};
+use crate::reader;
 
 /// What hangs on the requests that a file is right for.
 #[derive(Clone, Copy, Default)]
@@ -13,9 +14,17 @@ struct Features {
     from_node_1: bool,
     /// W-203 had landed: every answer that carries a depth stands there with it. Where they do not, guarded.rs alone looks at them.
     depths: bool,
+    /// W-210 had landed: a way of 12 internal nodes is no longer refused.
+    twelve_nodes: bool,
 }
 
 impl Features {
+    /// Before W-210 a way of more than 10 internal nodes was refused: such a call is left out, since it stored nothing and changed no
+    /// state.
+    fn was_too_deep(self, card: &[u32], key: u32, result: &str) -> bool {
+        !self.twelve_nodes && result == "refused 9" && reader::depth(card, key).is_some_and(|depth| depth > 10)
+    }
+
     fn with_depth(self, answer: String, depth: u32) -> String {
         if self.depths {
             format!("{answer} depth {depth}")
@@ -48,7 +57,7 @@ fn search_from_node_1(desk: &mut Desk) {
 }
 
 fn free_bits(block: &StateBlock) -> u32 {
-    block.words()[11..31].iter().map(|word| word.count_ones()).sum()
+    block.words()[11..93].iter().map(|word| word.count_ones()).sum()
 }
 
 /// An answer in the words of a trace.
@@ -137,9 +146,11 @@ fn dump(text: &str) -> Vec<u8> {
 
 /// What `list` prints for a dump, line feeds written /: a line of counts and one for each pair, or a refusal.
 fn list(dump: &[u8]) -> String {
-    let mut card = vec![0; 14_408];
+    let mut card = vec![0; 62_408];
     match calls::read_dump(dump, &mut card) {
         Err(refusal) => return format!("refused {}", refusal.number()),
+        // "the programs still answer 11 above 57,856 bytes or 600 nodes"
+        Ok(words) if words > 14_408 => return "refused 11".into(),
         Ok(words) => card.truncate(words),
     }
     match calls::open(&card, &mut StateBlock::new()) {
@@ -219,9 +230,17 @@ pub fn test(text: &str) -> (u32, u64) {
             }
             ["list"] => assert_eq!(list(&bytes), pairs_listed(result), "line {}", line_number + 1),
             ["features", ..] => {
-                features = Features { from_node_1: !fields.contains(&"W-205"), depths: fields.contains(&"W-203") };
+                features = Features {
+                    from_node_1: !fields.contains(&"W-205"),
+                    depths: fields.contains(&"W-203"),
+                    twelve_nodes: fields.contains(&"W-210"),
+                };
             }
+            // what `insert_check` prints: looked at here is only whether it refuses the dump
+            ["why", _] => assert_eq!(list(&bytes) == "refused 11", result == "refused 11/", "line {}", line_number + 1),
             ["#", ..] => {}
+            ["find" | "next" | "insert" | "delete", key, ..]
+                if features.was_too_deep(desk.card(), number(key), result) => {}
             _ => {
                 let given = call(&mut desk, &fields, result, features);
                 stores += u32::from(given.starts_with("store "));

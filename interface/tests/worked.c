@@ -6,8 +6,8 @@
 #include "block.h"
 #include "check.h"
 
-// "an update stores at most 73 x 9 = 657 words"; a repair begins where an update was cut.
-enum { MOST_STORES = 657 };
+// "an update takes at most 73 x 11 = 803 stores", with 600 nodes "at most 73 x 9 = 657"; a repair begins where an update was cut.
+enum { MOST_STORES = 803, MOST_STORES_AT_600 = 657 };
 
 uint64_t told_before_growth, told_before_shrinking;
 
@@ -210,7 +210,8 @@ void worked_step(worked *w)
     }
     if (a.code == RATION_STORED) {
         w->stores++;
-        CHECK(w->stores <= MOST_STORES, "more than %d stores", MOST_STORES);
+        uint32_t most = w->desk->words <= RATION_CARD_WORDS(600) ? MOST_STORES_AT_600 : MOST_STORES;
+        CHECK(w->stores <= most, "more than %u stores", most);
         if (w->stores > w->most_stores)
             w->most_stores = w->stores;
         book_stepped(&w->book, false);

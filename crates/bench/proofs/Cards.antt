@@ -35,7 +35,7 @@ use Rattle.state.specs.declared.Answer.the-variants.{Absent, Value}
 use Rattle.state.specs.declared.Doing.the-variants.{Idle}
 use Rattle.bench.specs.Cards.{Bench, onAnswer, drive, fresh, insertWhole, deleteWhole, steps, upto, said, cardL, cardB, cardS, cardI}
 use Rattle.bench.specs.Cards.{cardK, cardL2, cutB, againB, cutI, splitI, rowA, rowB, rowC, rowD, rowE, rowF, rowG104, rowG80, rowG103}
-use Rattle.bench.specs.Cards.{rowG105, rowG14408, rowG14432, rowHinsert, rowHfind, rowHgreatest, rowI, rowJ, rowK, rowKleft}
+use Rattle.bench.specs.Cards.{rowG105, rowG14432, rowG62432, rowHinsert, rowHfind, rowHgreatest, rowI, rowJ, rowK, rowKleft}
 use Rattle.bench.specs.Cards.{rowKright, rowL2, rowL2leaf, rowCutOpened, rowCutAbsent, rowCutHeld, StarredCards}
 
 -- B, made again after its cut, every word
@@ -203,13 +203,13 @@ pub rowG105-is : rowG105 ≡ said (refusal 1)
 unfolding rowG105 computing
 rowG105-is = refl
 
-pub rowG14408-is : rowG14408 ≡ said begun
-unfolding rowG14408 computing
-rowG14408-is = refl
-
-pub rowG14432-is : rowG14432 ≡ said (refusal 1)
+pub rowG14432-is : rowG14432 ≡ said begun
 unfolding rowG14432 computing
 rowG14432-is = refl
+
+pub rowG62432-is : rowG62432 ≡ said (refusal 1)
+unfolding rowG62432 computing
+rowG62432-is = refl
 
 pub rowHinsert-is : rowHinsert ≡ said (refusal 6)
 unfolding rowHinsert computing
@@ -307,6 +307,6 @@ beside {y = y} {xs} e es = ap (_∷ xs) e ∙ ap (y ∷_) es
 pub starred-cards : StarredCards
 starred-cards =
     beside rowA-is (beside rowB-is (beside rowC-is (beside rowD-is (beside rowE-is (beside rowF-is
-    (beside rowG104-is (beside rowG80-is (beside rowG103-is (beside rowG105-is (beside rowG14408-is (beside rowG14432-is (beside rowHinsert-is
+    (beside rowG104-is (beside rowG80-is (beside rowG103-is (beside rowG105-is (beside rowG14432-is (beside rowG62432-is (beside rowHinsert-is
     (beside rowHfind-is (beside rowHgreatest-is (beside rowI-is (beside rowJ-is (beside rowK-is (beside rowKleft-is (beside rowKright-is
     (beside rowL2-is (beside rowL2leaf-is (beside rowCutOpened-is (beside rowCutAbsent-is (beside rowCutHeld-is refl))))))))))))))))))))))))

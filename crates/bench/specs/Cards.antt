@@ -126,7 +126,7 @@ rowE = deleteWhole 7 cardB .stores ∷ getD (deleteWhole 7 cardB .card) 9 0 ∷ 
 unfoldable pub rowF : List ℕ
 rowF = deleteWhole 7 cardL .stores ∷ said (stepReply (deleteWhole 7 cardL .answer))
 
--- G: 104 words may be formatted; 80, 103, 105 are refused 1. 14,408 may; 14,432 not
+-- G: 104 words may be formatted; 80, 103, 105 are refused 1. 14,432 may; 62,432 not
 unfoldable pub rowG104 : List ℕ
 rowG104 = said (startReply (formatOf greatestNodes (replicate 104 0) .begun))
 
@@ -139,11 +139,11 @@ rowG103 = said (startReply (formatOf greatestNodes (replicate 103 0) .begun))
 unfoldable pub rowG105 : List ℕ
 rowG105 = said (startReply (formatOf greatestNodes (replicate 105 0) .begun))
 
-unfoldable pub rowG14408 : List ℕ
-rowG14408 = said (startReply (formatOf greatestNodes (replicate 14408 0) .begun))
-
 unfoldable pub rowG14432 : List ℕ
 rowG14432 = said (startReply (formatOf greatestNodes (replicate 14432 0) .begun))
+
+unfoldable pub rowG62432 : List ℕ
+rowG62432 = said (startReply (formatOf greatestNodes (replicate 62432 0) .begun))
 
 -- H: key 0 refused 6; 4,294,967,295 accepted
 unfoldable pub rowHinsert : List ℕ
@@ -193,7 +193,7 @@ rowCutHeld = said (foundReply (findOf greatestNodes (splitI cardS) 12))
 -- the starred cards, as one table: what each row says
 abbrev pub StarredCards : Type 0
 StarredCards =
-    rowA ∷ rowB ∷ rowC ∷ rowD ∷ rowE ∷ rowF ∷ rowG104 ∷ rowG80 ∷ rowG103 ∷ rowG105 ∷ rowG14408 ∷ rowG14432 ∷ rowHinsert ∷ rowHfind
+    rowA ∷ rowB ∷ rowC ∷ rowD ∷ rowE ∷ rowF ∷ rowG104 ∷ rowG80 ∷ rowG103 ∷ rowG105 ∷ rowG14432 ∷ rowG62432 ∷ rowHinsert ∷ rowHfind
     ∷ rowHgreatest ∷ rowI ∷ rowJ ∷ rowK ∷ rowKleft ∷ rowKright ∷ rowL2 ∷ rowL2leaf ∷ rowCutOpened ∷ rowCutAbsent ∷ rowCutHeld ∷ []
     ≡ (said absent)
     ∷ (70 ∷ 0 ∷ 70 ∷ 7 ∷ 2 ∷ said absent)

@@ -6,12 +6,12 @@ use lib.Dec.{eqb, ltb}
 use Rattle.laws.specs.Cases.{pick}
 use Rattle.laws.specs.Lists.{beforeZero, pad}
 
--- "With N nodes (4 to 600)"
+-- "With N nodes (4 to 600)"; document 02, W-210: "cards of up to 2,600 nodes"
 abbrev pub leastNodes : ℕ
 leastNodes = 4
 
 abbrev pub greatestNodes : ℕ
-greatestNodes = 600
+greatestNodes = 2600
 
 -- The calls are made for cards up to some greatest N, which every definition of them takes as `greatest`. A state has bits for so many
 -- nodes, and a greatest N above that stands for it.
@@ -22,9 +22,9 @@ limited greatest = pick (ltb greatest greatestNodes) greatest greatestNodes
 abbrev pub programNodes : ℕ
 programNodes = 600
 
--- "more than 10 internal nodes": the most that a way down may pass
+-- "more than 10 internal nodes", document 02, W-210: "On every card the walk down allows 12": the most that a way down may pass
 abbrev pub depthLimit : ℕ
-depthLimit = 10
+depthLimit = 12
 
 -- "4: number of the root node"
 abbrev pub rootPlace : ℕ

@@ -50,10 +50,10 @@ pub const THREE_NODES: usize = 3 * NODE_WORDS;
 
 pub const PLAN_SIZE: usize = THREE_NODES + 1;
 
-// "With N nodes (4 to 600)": the only places in code where the two limits stand.
+// "With N nodes (4 to 600)", document 02, W-210: "cards of up to 2,600 nodes": the only places in code where the two limits stand.
 pub const LEAST_NODES: usize = 4;
 
-pub const GREATEST_NODES: usize = 600;
+pub const GREATEST_NODES: usize = 2600;
 
 // The programs are made for cards of up to 600 nodes, and lend rows of that many words.
 pub const PROGRAM_NODES: usize = 600;
@@ -61,10 +61,10 @@ pub const PROGRAM_NODES: usize = 600;
 pub const PROGRAM_WORDS: usize = HEADER_WORDS + NODE_WORDS * PROGRAM_NODES;
 
 // "The free nodes are one bit each": how many words of 32 bits there are for them, enough for the greatest N.
-pub const FREE_WORDS: usize = 20;
+pub const FREE_WORDS: usize = 82;
 
-// "more than 10 internal nodes": the only place in code where the depth limit stands.
-pub const DEPTH_LIMIT: usize = 10;
+// "more than 10 internal nodes", since document 02, W-210, 12: the only place in code where the depth limit stands.
+pub const DEPTH_LIMIT: usize = 12;
 
 // "4: number of the root node"
 pub const ROOT_PLACE: usize = 4;

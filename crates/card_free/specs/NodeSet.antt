@@ -9,7 +9,7 @@ use Rattle.card_free.specs.declared.Next.the-variants.{Node, Nothing}
 
 -- How many words of 32 bits a set has; the code's `WORDS` says the same.
 abbrev pub wordCount : ℕ
-wordCount = 20
+wordCount = 82
 
 -- How many bits that makes. There is no node 0: its bit only spares a subtraction.
 abbrev pub capacity : ℕ

@@ -1,11 +1,9 @@
 -- THE PROMISES OF THIS TABLE, one plain line each: the statements stand under specs/, and what they rest on is all that is to be believed.
-use mathlib.Core.Path.{_≡_, refl}
 use lib.ListN.{length}
 use Prim.Native.Nat.{ℕ}
 use Rattle.card.specs.Layout.{greatestNodes}
-use Rattle.theory_tree.specs.Height.{mostLevels}
 use Rattle.demands.specs.Demand1.{Demand1}
-use Rattle.demands.specs.Demand2.{Demand2, mostStores}
+use Rattle.demands.specs.Demand2.{Demand2}
 use Rattle.demands.specs.Demand3.{Demand3}
 use Rattle.demands.specs.Dumps.{Dumps}
 use Rattle.demands.specs.List.{ListProgram}
@@ -15,6 +13,7 @@ use Rattle.demands.specs.W202.{W202}
 use Rattle.demands.specs.W203.{W203}
 use Rattle.demands.specs.W205.{W205}
 use Rattle.demands.specs.W209.{W209}
+use Rattle.demands.specs.W210.{W210}
 use Rattle.demands.specs.W213.{W213}
 use Rattle.demands.specs.W214.{W214}
 use Rattle.demands.proofs.Depths.{w-214 as depths-kept}
@@ -22,6 +21,7 @@ use Rattle.demands.proofs.Fetching.{w-213 as fetching-kept}
 use Rattle.demands.proofs.InsertChecks.{w-209 as reasons-kept}
 use Rattle.demands.proofs.DepthTold.{w-203 as depth-kept}
 use Rattle.demands.proofs.SearchStart.{w-205 as search-kept}
+use Rattle.demands.proofs.BiggerCards.{w-210 as sizes-kept}
 use Rattle.demands.proofs.FirstSteps.{demand-1 as rows-kept}
 use Rattle.demands.proofs.Dictionary.{demand-2 as dictionary-kept}
 use Rattle.demands.proofs.PowerCuts.{demand-3 as book-kept}
@@ -72,15 +72,18 @@ w-205 greatest = search-kept greatest
 pub w-209 : W209 (rationTable greatestNodes) checkText
 w-209 = reasons-kept
 
+pub w-210 : W210 (λ greatest dump lent. dumpReply (readAnswer greatest dump lent)) (λ greatest c lent. dumpReply (writeAnswer greatest c lent)) dumpText checkText
+w-210 = sizes-kept
+
 pub w-213 : (greatest : ℕ) → W213 greatest (rationTable greatest) (recordOf greatest) (λ c key block. fetchReply (fetchOf greatest c key block))
 w-213 greatest = fetching-kept greatest
 
 pub w-214 : (greatest : ℕ) → W214 (rationTable greatest)
 w-214 greatest = depths-kept greatest
 
--- READ OFF AT 600: "an update stores at most 73 × 9 = 657 words", "With 600 nodes a balanced tree has at most 8 internal levels"
-pub stores-at-600 : mostStores 600 ≡ 657
-stores-at-600 = refl
+-- READ OFF AT 600 AND AT 2,600 (what levels and stores are there: `w-210`)
+pub demands-at-600 : Demand1 600 (rationTable 600) × Demand2 600 (rationTable 600) × Demand3 (rationTable 600)
+demands-at-600 = (demand-1 600, demand-2 600, demand-3 600)
 
-pub levels-at-600 : mostLevels 600 ≡ 8
-levels-at-600 = refl
+pub demands-at-2600 : Demand1 2600 (rationTable 2600) × Demand2 2600 (rationTable 2600) × Demand3 (rationTable 2600)
+demands-at-2600 = (demand-1 2600, demand-2 2600, demand-3 2600)

@@ -109,6 +109,8 @@ pub mod DepthTold
 pub mod SearchStart
 -- W-209, of the program `insert_check`
 pub mod InsertChecks
+-- document 02, W-210
+pub mod BiggerCards
 -- W-213, of the questions that `call_record` answers
 pub mod Fetching
 -- W-214, of the ration table

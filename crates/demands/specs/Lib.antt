@@ -32,6 +32,8 @@ pub mod W203
 pub mod W205
 -- what stands in the way of a new number
 pub mod W209
+-- cards of any greatest N, beside those of a greater one
+pub mod W210
 -- the record of a ration, as a part of a lent block
 pub mod W213
 -- how many levels a line has, by its rations

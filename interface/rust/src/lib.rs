@@ -132,7 +132,7 @@ pub use refusal::Refusal;
 pub use table::{FinalAnswer, Formatting, InProgress, Opened, Progress, Refused, Repair, Table, Unfinished, Update};
 
 pub const LEAST_NODES: usize = 4;
-pub const MOST_NODES: usize = 600;
+pub const MOST_NODES: usize = 2600;
 
 /// The words of a card with so many nodes.
 pub const fn card_words(nodes: usize) -> usize {
