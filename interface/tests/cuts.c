@@ -80,6 +80,16 @@ static void work_random(worked *w, uint32_t updates, uint32_t keys, uint32_t ins
     worked_free(copy);
 }
 
+// Deletes of keys that are held.
+static void work_held(worked *w, uint32_t updates)
+{
+    worked *copy = worked_open(read_nodes(w->desk->words), w->desk->card);
+    for (uint32_t i = 0; i < updates; i++)
+        if (worked_start_delete(w, w->book.keys[random_below(&stream, w->book.pairs)]))
+            finish_with_cuts(w, copy, false);
+    worked_free(copy);
+}
+
 // A card that holds a table is formatted and power goes after each number of stores: "Cut before its first store, it
 // leaves the card alone; before its last store, opening refuses with 2."
 static void cut_formatting(void)
@@ -156,6 +166,17 @@ void test_cuts(scale s)
         }
         most = w->most_stores > most ? w->most_stores : most;
         worked_free(copy);
+        worked_free(w);
+    }
+    // A card of the most nodes, filled until a key that is absent is refused for want of nodes.
+    if (s.percent == 100) {
+        w = worked_format(RATION_MOST_NODES, &stream);
+        while (worked_start_insert(w, 1 + random_below(&stream, UINT32_MAX), 1))
+            worked_finish(w);
+        CHECK(w->book.pairs > 5 * RATION_MOST_NODES, "only %u pairs", w->book.pairs);
+        worked_check(w);
+        work_random(w, 20, UINT32_MAX, 50);
+        work_held(w, 20);
         worked_free(w);
     }
     printf("  %llu cuts; the longest update on built cards %u stores\n", (unsigned long long)cuts, most);
