@@ -1,6 +1,7 @@
 #!/usr/bin/env python3
 """make_list_cards.py CRATE: makes CRATE/stdin, dumps of cards one after the other: one for each kind of repair and one for each
-refusal of `list`; and CRATE/stdout, what `list` prints for each. The repairs are worked out here on lists, from document 01's "The
+refusal of `list`; and CRATE/stdout, what `list` prints for each. make_list_cards.py --of-601 CRATE: makes CRATE/stdin, the dump of a
+sound card of 601 nodes, and CRATE/stdout, the refusals of `list` and `insert_check`. The repairs are worked out here on lists, from document 01's "The
 changes" and from nothing else; node numbers and stores play no part. The pairs are listed by rising key (document 02, W-201)."""
 import struct, sys
 
@@ -134,7 +135,11 @@ REFUSED = [
 ]
 
 def main():
-    crate = sys.argv[1]
+    crate = sys.argv[-1]
+    if sys.argv[1] == '--of-601':
+        open(crate + '/stdin', 'wb').write(dump(PLAIN, 601))
+        open(crate + '/stdout', 'w').write('refused 11\n' * 2)
+        return
     open(crate + '/stdin', 'wb').write(b''.join([dump(t, NODES) for t in REPAIRED] + [d for _, d in REFUSED]))
     open(crate + '/stdout', 'w').write(''.join([text(t, NODES) for t in REPAIRED] + ['refused %d\n' % r for r, _ in REFUSED]))
 

@@ -46,7 +46,7 @@ use Rattle.demands.specs.Events.{Event, World, replyTo, happens, run, LeftUncut
 use Rattle.demands.specs.RationTable.{rationTable}
 use Rattle.demands.specs.Way.{among}
 use Rattle.demands.specs.Worked.{dictionary}
-use Rattle.demands.proofs.Demands.{demand-3}
+use Rattle.demands.proofs.Demands.{promises}
 use Rattle.theory_tree.specs.Pairs.{lookup}
 
 unfoldable pub isStored : Answer → Bool
@@ -147,7 +147,7 @@ Survived k = Survives (rationTable greatestNodes) (run (rationTable greatestNode
 
 pub survives-at-40 : Survived 40
 survives-at-40 =
-    demand-3 greatestNodes formatted [] begins (cutAfter 40) (
+    promises greatestNodes .demand-3 formatted [] begins (cutAfter 40) (
       omega arith,
       (
         omega arith,
@@ -160,7 +160,7 @@ survives-at-40 =
 
 pub survives-at-73 : Survived 73
 survives-at-73 =
-    demand-3 greatestNodes formatted [] begins (cutAfter 73) (
+    promises greatestNodes .demand-3 formatted [] begins (cutAfter 73) (
       omega arith,
       (
         omega arith,

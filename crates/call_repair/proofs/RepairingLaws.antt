@@ -1,6 +1,5 @@
 -- Laws of the repair: one for each branch of the code, and that a refused opening stores nothing.
 use mathlib.Core.Path.{_≡_, refl, ap, _∙_}
-use Rattle.card.specs.Layout.{greatestNodes}
 use mathlib.Core.List.{List, _++_}
 use mathlib.Core.Bool.{true, false}
 use mathlib.Core.Option.{Option, none, some}
@@ -25,20 +24,20 @@ use Rattle.card_dump.proofs.ByteLaws.{length-dumpWords}
 use Rattle.card_dump.specs.declared.Answer.the-variants.{Length, Refused as ReadRefused}
 use Rattle.call_repair.specs.Repairing.{Repaired, repairedCard, openedCard, openedRead, openedOver}
 
-pub repair-idle : (k : ℕ) (card : List ℕ) (m : Memory) → isIdle (m .doing) ≡ true → repairedCard k card m ≡ record { card = card; memory = m }
+pub repair-idle : (greatest : ℕ) (k : ℕ) (card : List ℕ) (m : Memory) → isIdle (m .doing) ≡ true → repairedCard greatest k card m ≡ record { card = card; memory = m }
 unfolding repairedCard
-repair-idle zero card m e = refl
-repair-idle (suc k) card m e = rw e
+repair-idle greatest zero card m e = refl
+repair-idle greatest (suc k) card m e = rw e
 
-pub repair-over : (k : ℕ) (card : List ℕ) (m : Memory) → k ≡ 0 → repairedCard k card m ≡ record { card = card; memory = m }
+pub repair-over : (greatest : ℕ) (k : ℕ) (card : List ℕ) (m : Memory) → k ≡ 0 → repairedCard greatest k card m ≡ record { card = card; memory = m }
 unfolding repairedCard
-repair-over k card m e = rw e
+repair-over greatest k card m e = rw e
 
-pub repair-on : (k : ℕ) (card : List ℕ) (m : Memory) → (k ≡ 0 → ⊥) → isIdle (m .doing) ≡ false
-    → repairedCard k card m ≡ repairedCard (k - 1) (stepOf greatestNodes card m .card) (stepOf greatestNodes card m .memory)
+pub repair-on : (greatest : ℕ) (k : ℕ) (card : List ℕ) (m : Memory) → (k ≡ 0 → ⊥) → isIdle (m .doing) ≡ false
+    → repairedCard greatest k card m ≡ repairedCard greatest (k - 1) (stepOf greatest card m .card) (stepOf greatest card m .memory)
 unfolding repairedCard
-repair-on zero card m d e = absurd (d refl)
-repair-on (suc k) card m d e = let z : suc k - 1 ≡ k = omega arith in rw (e, z)
+repair-on greatest zero card m d e = absurd (d refl)
+repair-on greatest (suc k) card m d e = let z : suc k - 1 ≡ k = omega arith in rw (e, z)
 
 -- "Opening .., refused, hands back an idle state for N = 0"
 sound-idle : (n last : ℕ) (f : Findings) (r : ℕ) → openSound n last f .begun ≡ Refused r → isIdle (openSound n last f .memory .doing) ≡ true
@@ -52,17 +51,17 @@ unfolding openChecked noBeginning noMemory resting isIdle
 checked-idle n last none r e = refl
 checked-idle n last (some x) r e = sound-idle n last (x .1) r e
 
-pub refused-idle : (card : List ℕ) (r : ℕ) → openOf greatestNodes card .begun ≡ Refused r → isIdle (openOf greatestNodes card .memory .doing) ≡ true
+pub refused-idle : (greatest : ℕ) (card : List ℕ) (r : ℕ) → openOf greatest card .begun ≡ Refused r → isIdle (openOf greatest card .memory .doing) ≡ true
 unfolding openOf noBeginning noMemory resting isIdle
-refused-idle card r =
-    bool-cases (eqb (cardRefusal greatestNodes card) 0) (λ s. rw s
-    (λ e. checked-idle (nodesOfLength greatestNodes (length card)) (searchStart card) (tableCheck card (nodesOfLength greatestNodes (length card))) r e))
+refused-idle greatest card r =
+    bool-cases (eqb (cardRefusal greatest card) 0) (λ s. rw s
+    (λ e. checked-idle (nodesOfLength greatest (length card)) (searchStart card) (tableCheck card (nodesOfLength greatest (length card))) r e))
     (λ s. rw s (λ e. refl))
 
 -- "A refusal .. stores nothing"
-pub refused-untouched : (card : List ℕ) (r : ℕ) → openOf greatestNodes card .begun ≡ Refused r → openedCard card .card ≡ card
+pub refused-untouched : (greatest : ℕ) (card : List ℕ) (r : ℕ) → openOf greatest card .begun ≡ Refused r → openedCard greatest card .card ≡ card
 unfolding openedCard
-refused-untouched card r e = ap (λ (x : Repaired). x .card) (repair-idle repairSteps card (openOf greatestNodes card .memory) (refused-idle card r e))
+refused-untouched greatest card r e = ap (λ (x : Repaired). x .card) (repair-idle greatest repairSteps card (openOf greatest card .memory) (refused-idle greatest card r e))
 
 -- ---- a dump
 
@@ -76,7 +75,7 @@ module _ (greatest : ℕ) (dump words : List ℕ) where
   unfolding readOver openedOver openedRead
   over-refused r e = rw e
 
-  pub over-read : (size : ℕ) → readAnswer greatest dump (length words) ≡ Length size → openedOver greatest dump words ≡ openedCard (dumpWords size dump) .card ++ drop size words
+  pub over-read : (size : ℕ) → readAnswer greatest dump (length words) ≡ Length size → openedOver greatest dump words ≡ openedCard greatest (dumpWords size dump) .card ++ drop size words
   unfolding openedOver openedRead
   over-read size e = rw e
 

@@ -102,12 +102,12 @@ dump-of-more greatest dump h lent = read-damaged greatest dump lent (damaged-man
 
 -- ---- the programs
 
-not-read : (dump : List ℕ) → (57856 < length dump) ⊎ (600 < dumpNodes dump) → readAnswer programNodes dump cardRoom ≡ Refused 11
+not-read : (dump : List ℕ) → (57856 < length dump) ⊎ (600 < dumpNodes dump) → readAnswer programNodes dump (cardRoom programNodes) ≡ Refused 11
 unfolding paddedLength
-not-read dump (inl h) = read-damaged programNodes dump cardRoom (damaged-long programNodes dump h)
-not-read dump (inr h) = dump-of-more programNodes dump h cardRoom
+not-read dump (inl h) = read-damaged programNodes dump (cardRoom programNodes) (damaged-long programNodes dump h)
+not-read dump (inr h) = dump-of-more programNodes dump h (cardRoom programNodes)
 
-pub w-210 : W210 (λ greatest dump lent. dumpReply (readAnswer greatest dump lent)) (λ greatest c lent. dumpReply (writeAnswer greatest c lent)) dumpText checkText
+pub w-210 : W210 (λ greatest dump lent. dumpReply (readAnswer greatest dump lent)) (λ greatest c lent. dumpReply (writeAnswer greatest c lent)) (dumpText programNodes) (checkText programNodes)
 unfolding dumpReply
 w-210 =
     record {
@@ -117,8 +117,8 @@ w-210 =
       writes = λ less more h c n s lent. ap dumpReply (same-write less more h c n s lent);
       older-dump = λ greatest dump h lent. rw (dump-of-more greatest dump h lent);
       programs = λ dump file h. (
-        text-right dump ∙ ap listText (dump-refused programNodes dump cardRoom 11 (not-read dump h)),
-        unread-text dump file 11 (not-read dump h),
+        text-right programNodes dump ∙ ap listText (dump-refused programNodes dump (cardRoom programNodes) 11 (not-read dump h)),
+        unread-text programNodes dump file 11 (not-read dump h),
       );
       ways = refl;
       levels-at-600 = refl;

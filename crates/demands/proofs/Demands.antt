@@ -1,7 +1,8 @@
--- THE PROMISES OF THIS TABLE, one plain line each: the statements stand under specs/, and what they rest on is all that is to be believed.
+-- THE PROMISES OF THIS TABLE, one plain line each, for any greatest N: the statements stand under specs/, and what they rest on is all that is
+-- to be believed.
 use lib.ListN.{length}
 use Prim.Native.Nat.{ℕ}
-use Rattle.card.specs.Layout.{greatestNodes}
+use Rattle.card.specs.Layout.{programNodes}
 use Rattle.demands.specs.Demand1.{Demand1}
 use Rattle.demands.specs.Demand2.{Demand2}
 use Rattle.demands.specs.Demand3.{Demand3}
@@ -41,49 +42,45 @@ use Rattle.list_text.specs.Text.{dumpText}
 use Rattle.reason_text.specs.ReasonText.{checkText}
 use Rattle.call_record.specs.Records.{recordOf, fetchOf, fetchReply}
 
-pub demand-1 : (greatest : ℕ) → Demand1 greatest (rationTable greatest)
-demand-1 greatest = rows-kept greatest
+pub record Promises (greatest : ℕ) : Type 0 where
+  pub demand-1 : Demand1 greatest (rationTable greatest)
+  pub demand-2 : Demand2 greatest (rationTable greatest)
+  pub demand-3 : Demand3 (rationTable greatest)
+  pub dumps : Dumps greatest (λ dump lent. (dumpReply (readAnswer greatest dump (length lent)), readOver greatest dump lent))
+      (λ card lent. (dumpReply (writeAnswer greatest card (length lent)), writeOver greatest card lent))
+  pub list-program : ListProgram greatest (rationTable greatest) (listCard greatest) (dumpText greatest)
+  pub w-201 : W201 greatest (rationTable greatest)
+  pub w-202 : W202 greatest eightAt (λ dump lent. dumpReply (readAnswer greatest dump lent))
+  pub w-203 : W203 (rationTable greatest) (findDepth greatest) (nextDepth greatest) (λ c m. toldDepth (stepOf greatest c m .memory .depth) (stepOf greatest c m .answer))
+  pub w-205 : W205 (rationTable greatest)
+  pub w-209 : W209 greatest (rationTable greatest) (checkText greatest)
+  pub w-213 : W213 greatest (rationTable greatest) (recordOf greatest) (λ c key block. fetchReply (fetchOf greatest c key block))
+  pub w-214 : W214 (rationTable greatest)
 
-pub demand-2 : (greatest : ℕ) → Demand2 greatest (rationTable greatest)
-demand-2 greatest = dictionary-kept greatest
+pub promises : (greatest : ℕ) → Promises greatest
+promises greatest =
+    record {
+      demand-1 = rows-kept greatest;
+      demand-2 = dictionary-kept greatest;
+      demand-3 = book-kept greatest;
+      dumps = dumps-kept greatest;
+      list-program = list-kept greatest;
+      w-201 = next-kept greatest;
+      w-202 = padding-kept greatest;
+      w-203 = depth-kept greatest;
+      w-205 = search-kept greatest;
+      w-209 = reasons-kept greatest;
+      w-213 = fetching-kept greatest;
+      w-214 = depths-kept greatest;
+    }
 
-pub demand-3 : (greatest : ℕ) → Demand3 (rationTable greatest)
-demand-3 greatest = book-kept greatest
+-- READ OFF AT 600, where the programs `list` and `insert_check` stand, AND AT 2,600, where the calls do
+pub at-600 : Promises 600
+at-600 = promises 600
 
-pub dumps : (greatest : ℕ) → Dumps greatest (λ dump lent. (dumpReply (readAnswer greatest dump (length lent)), readOver greatest dump lent))
-    (λ card lent. (dumpReply (writeAnswer greatest card (length lent)), writeOver greatest card lent))
-dumps greatest = dumps-kept greatest
+pub at-2600 : Promises 2600
+at-2600 = promises 2600
 
-pub list-program : ListProgram (rationTable greatestNodes) listCard dumpText
-list-program = list-kept
-
-pub w-201 : (greatest : ℕ) → W201 greatest (rationTable greatest)
-w-201 greatest = next-kept greatest
-
-pub w-202 : (greatest : ℕ) → W202 greatest eightAt (λ dump lent. dumpReply (readAnswer greatest dump lent))
-w-202 greatest = padding-kept greatest
-
-pub w-203 : (greatest : ℕ) → W203 (rationTable greatest) (findDepth greatest) (nextDepth greatest) (λ c m. toldDepth (stepOf greatest c m .memory .depth) (stepOf greatest c m .answer))
-w-203 greatest = depth-kept greatest
-
-pub w-205 : (greatest : ℕ) → W205 (rationTable greatest)
-w-205 greatest = search-kept greatest
-
-pub w-209 : W209 (rationTable greatestNodes) checkText
-w-209 = reasons-kept
-
-pub w-210 : W210 (λ greatest dump lent. dumpReply (readAnswer greatest dump lent)) (λ greatest c lent. dumpReply (writeAnswer greatest c lent)) dumpText checkText
+-- what is alike for two greatest Ns, and the levels and stores at these two
+pub w-210 : W210 (λ greatest dump lent. dumpReply (readAnswer greatest dump lent)) (λ greatest c lent. dumpReply (writeAnswer greatest c lent)) (dumpText programNodes) (checkText programNodes)
 w-210 = sizes-kept
-
-pub w-213 : (greatest : ℕ) → W213 greatest (rationTable greatest) (recordOf greatest) (λ c key block. fetchReply (fetchOf greatest c key block))
-w-213 greatest = fetching-kept greatest
-
-pub w-214 : (greatest : ℕ) → W214 (rationTable greatest)
-w-214 greatest = depths-kept greatest
-
--- READ OFF AT 600 AND AT 2,600 (what levels and stores are there: `w-210`)
-pub demands-at-600 : Demand1 600 (rationTable 600) × Demand2 600 (rationTable 600) × Demand3 (rationTable 600)
-demands-at-600 = (demand-1 600, demand-2 600, demand-3 600)
-
-pub demands-at-2600 : Demand1 2600 (rationTable 2600) × Demand2 2600 (rationTable 2600) × Demand3 (rationTable 2600)
-demands-at-2600 = (demand-1 2600, demand-2 2600, demand-3 2600)

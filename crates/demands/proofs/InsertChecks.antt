@@ -1,6 +1,5 @@
 -- W-209, of the program `insert_check`.
 use mathlib.Core.Path.{_≡_, ap, sym, subst, _∙_}
-use Rattle.card.specs.Layout.{greatestNodes, programNodes}
 use mathlib.Core.Bool.{true, false}
 use mathlib.Core.List.{List, [], _∷_}
 use mathlib.Core.Logic.{_⊎_, inl, inr, ⊎-map, _↔_}
@@ -82,73 +81,73 @@ no-empty-slot leaf eleven =
     bool-cases (among 0 (keyWords leaf)) (λ q. absurd (omega (arith, eleven, pairs-fewer (keyWords leaf) (valueWords leaf) q, length-take 11 (drop 1 leaf)))) (λ q. q)
 
 -- an insert is refused with 8, by its reply
-refused-eight : (c : List ℕ) (m : Memory) (key value : ℕ) → (startReply (insertOf greatestNodes c m key value .begun) ≡ refusal 8) ↔ (insertOf greatestNodes c m key value ≡ startRefused 8 m)
+refused-eight : (greatest : ℕ) (c : List ℕ) (m : Memory) (key value : ℕ) → (startReply (insertOf greatest c m key value .begun) ≡ refusal 8) ↔ (insertOf greatest c m key value ≡ startRefused 8 m)
 unfolding startRefused startReply happens replyTo
-refused-eight c m key value = (to, λ e. ap (λ (h : Handed). startReply (h .begun)) e)
+refused-eight greatest c m key value = (to, λ e. ap (λ (h : Handed). startReply (h .begun)) e)
   where
     whole : (h : Handed) → h .begun ≡ BegunRefused 8 → h .memory ≡ m → h ≡ record { begun = BegunRefused 8; memory = m }
     whole h e f = ap (λ (b : Begun). record { begun = b; memory = h .memory }) e ∙ ap (λ (x : Memory). record { begun = BegunRefused 8; memory = x }) f
 
-    to : startReply (insertOf greatestNodes c m key value .begun) ≡ refusal 8 → insertOf greatestNodes c m key value ≡ record { begun = BegunRefused 8; memory = m }
+    to : startReply (insertOf greatest c m key value .begun) ≡ refusal 8 → insertOf greatest c m key value ≡ record { begun = BegunRefused 8; memory = m }
     to e =
-        let b = begun-refused (insertOf greatestNodes c m key value .begun) 8 (omega arith) e in
-        whole (insertOf greatestNodes c m key value) b (ap (λ (w : World (rationTable greatestNodes)). w .state)
-        (insert-same greatestNodes key value (record { card = c; state = m }) (rw b (omega arith))))
+        let b = begun-refused (insertOf greatest c m key value .begun) 8 (omega arith) e in
+        whole (insertOf greatest c m key value) b (ap (λ (w : World (rationTable greatest)). w .state)
+        (insert-same greatest key value (record { card = c; state = m }) (rw b (omega arith))))
 
 -- what a reason says of the leaf, of any card and state
-abbrev SlotAt : ℕ → World (rationTable greatestNodes) → Type 0
-SlotAt key w = (leaf : ℕ) × (j : ℕ) × (i : ℕ) × LeadsTo greatestNodes w key leaf j × (slotOf (nodeAt (w .card) leaf) 0 ≡ At i)
+abbrev SlotAt : (greatest : ℕ) → ℕ → World (rationTable greatest) → Type 0
+SlotAt greatest key w = (leaf : ℕ) × (j : ℕ) × (i : ℕ) × LeadsTo greatest w key leaf j × (slotOf (nodeAt (w .card) leaf) 0 ≡ At i)
 
-abbrev FullAt : ℕ → ℕ → World (rationTable greatestNodes) → Type 0
-FullAt key j w = (leaf : ℕ) × LeadsTo greatestNodes w key leaf j × (length (leafPairs (nodeAt (w .card) leaf)) ≡ 11)
+abbrev FullAt : (greatest : ℕ) → ℕ → ℕ → World (rationTable greatest) → Type 0
+FullAt greatest key j w = (leaf : ℕ) × LeadsTo greatest w key leaf j × (length (leafPairs (nodeAt (w .card) leaf)) ≡ 11)
 
-module _ (c : List ℕ) where
-  abbrev after : World (rationTable greatestNodes)
-  after = repairedWorld (rationTable greatestNodes) c
+module _ (greatest : ℕ) (c : List ℕ) where
+  abbrev after : World (rationTable greatest)
+  after = repairedWorld (rationTable greatest) c
 
-  is-after : worldFrom (openedCard c) ≡ after
-  is-after = sym (repaired-world c)
+  is-after : worldFrom greatest (openedCard greatest c) ≡ after
+  is-after = sym (repaired-world greatest c)
 
-  module _ (t : Tree) (well : WellFormed c t) (opening : Opens (rationTable greatestNodes) c) where
-    begins : Begins (rationTable greatestNodes) (opened (rationTable greatestNodes) c) (pairs t)
+  module _ (t : Tree) (well : WellFormed c t) (opening : Opens (rationTable greatest) c) where
+    begins : Begins (rationTable greatest) (opened (rationTable greatest) c) (pairs t)
     begins = from-open c t opening well
 
     nodes-after : nodesOn (after .card) ≡ after .state .nodes
     unfolding repairedWorld
     nodes-after =
-        always greatestNodes (λ w b. nodesOn (w .card) ≡ w .state .nodes) (λ w b v. covered-nodes greatestNodes v)
-        (opened (rationTable greatestNodes) c) (pairs t) begins (replicate mostRepairSteps step) (all-words mostRepairSteps)
+        always greatest (λ w b. nodesOn (w .card) ≡ w .state .nodes) (λ w b v. covered-nodes greatest v)
+        (opened (rationTable greatest) c) (pairs t) begins (replicate mostRepairSteps step) (all-words mostRepairSteps)
 
-    survives : Survives (rationTable greatestNodes) c (pairs t)
+    survives : Survives (rationTable greatest) c (pairs t)
     unfolding run kept
-    survives = demand-3 greatestNodes (opened (rationTable greatestNodes) c) (pairs t) begins [] tt
+    survives = demand-3 greatest (opened (rationTable greatest) c) (pairs t) begins [] tt
 
-    leads-after : (key leaf j : ℕ) → LeadsTo greatestNodes after key leaf j → leadsTo (after .card) key ≡ some (leaf, j)
+    leads-after : (key leaf j : ℕ) → LeadsTo greatest after key leaf j → leadsTo (after .card) key ≡ some (leaf, j)
     unfolding landed
     leads-after key leaf j l = sym (leads-is (after .card) (after .state .nodes) key nodes-after) ∙ ap landed (l .1)
 
     module _ (key : ℕ) (low : 0 < key) (high : key < keyLimit) (out : List ℕ) where
-      found-after : (o : Option ℕ) → lookup key (pairs t) ≡ o → rationTable greatestNodes .find (after .card) key ≡ dictionary o
+      found-after : (o : Option ℕ) → lookup key (pairs t) ≡ o → rationTable greatest .find (after .card) key ≡ dictionary o
       unfolding repairedWorld
-      found-after o e = survives .finds (replicate mostRepairSteps step) (steps-uncut mostRepairSteps (opened (rationTable greatestNodes) c)) key low high ∙ ap dictionary e
+      found-after o e = survives .finds (replicate mostRepairSteps step) (steps-uncut greatest mostRepairSteps (opened (rationTable greatest) c)) key low high ∙ ap dictionary e
 
-      absent-at : (leaf j : ℕ) → lookup key (pairs t) ≡ none → LeadsTo greatestNodes after key leaf j → LeadsAbsent (rationTable greatestNodes) after key out leaf j
+      absent-at : (leaf j : ℕ) → lookup key (pairs t) ≡ none → LeadsTo greatest after key leaf j → LeadsAbsent (rationTable greatest) after key out leaf j
       unfolding dictionary
       absent-at leaf j e l = record { not-held = found-after none e; leads = leads-after key leaf j l }
 
       -- the text of a reason that holds
-      tells : (r : Reason) → out ≡ reasonText r → ReasonHolds c t key r → TellsHeld (rationTable greatestNodes) after key out
-          ⊎ (TellsSlot (rationTable greatestNodes) after key out ⊎ TellsSplit (rationTable greatestNodes) after key out)
+      tells : (r : Reason) → out ≡ reasonText r → ReasonHolds greatest c t key r → TellsHeld (rationTable greatest) after key out
+          ⊎ (TellsSlot (rationTable greatest) after key out ⊎ TellsSplit (rationTable greatest) after key out)
       unfolding ReasonHolds reasonText dictionary slotFound
       tells (Refused r) e h = absurd h
       tells NoKey e h = absurd h
       tells (Held v) e h = inl (record { value = v; found = found-after (some v) h; printed = e })
       tells EmptySlot e h =
-          let (leaf, j, i, to, s) = subst (SlotAt key) is-after (h .1) in
+          let (leaf, j, i, to, s) = subst (SlotAt greatest key) is-after (h .1) in
           inr (inl (record { leaf = leaf; j = j; place = absent-at leaf j (h .0) to; empty = sym (slot-is (nodeAt (after .card) leaf) 0 (At i) s); printed = e }))
       tells (Split j free need) e h =
-          let (leaf, to, eleven) = subst (FullAt key j) is-after (h .1) in
-          let are-free : free ≡ countTrue (after .state .free) = sym (h .2) ∙ ap (λ (x : World (rationTable greatestNodes)). countTrue (x .state .free)) is-after in
+          let (leaf, to, eleven) = subst (FullAt greatest key j) is-after (h .1) in
+          let are-free : free ≡ countTrue (after .state .free) = sym (h .2) ∙ ap (λ (x : World (rationTable greatest)). countTrue (x .state .free)) is-after in
           inr (inr (record {
             leaf = leaf;
             j = j;
@@ -159,64 +158,64 @@ module _ (c : List ℕ) where
 
 -- ---- dumps
 
-module _ (dump file : List ℕ) where
-  module _ (whole : damaged programNodes dump ≡ false) where
+module _ (greatest : ℕ) (dump file : List ℕ) where
+  module _ (whole : damaged greatest dump ≡ false) where
     abbrev size : ℕ
     size = wordsFor (dumpNodes dump)
 
     abbrev card : List ℕ
     card = dumpWords size dump
 
-    read : readAnswer programNodes dump cardRoom ≡ Length size
-    read = read-whole programNodes dump cardRoom whole ∙ room-long size cardRoom (omega (arith, undamaged-whole programNodes dump whole .within))
+    read : readAnswer greatest dump (cardRoom greatest) ≡ Length size
+    read = read-whole greatest dump (cardRoom greatest) whole ∙ room-long size (cardRoom greatest) (omega (arith, undamaged-whole greatest dump whole .within))
 
-    told : OpensTo (rationTable greatestNodes) card (handed (openOf greatestNodes card))
-        → TellsOfKey (rationTable greatestNodes) (repairedWorld (rationTable greatestNodes) card) (keyIn file) (checkText dump file)
+    told : OpensTo (rationTable greatest) card (handed (openOf greatest card))
+        → TellsOfKey (rationTable greatest) (repairedWorld (rationTable greatest) card) (keyIn file) (checkText greatest dump file)
     told o = go (ℕ-discrete (keyIn file) 0)
       where
-        opening : Opens (rationTable greatestNodes) card
+        opening : Opens (rationTable greatest) card
         opening = ⊎-map (λ z. z .1) (λ z. z .1) (o .hands)
 
         text : (keyIn file ≡ 0 → ⊥) → (value : ℕ)
-            → (insertOf greatestNodes (after card .card) (after card .state) (keyIn file) value ≡ startRefused 8 (after card .state))
-            ↔ SplitBelow (checkText dump file)
+            → (insertOf greatest (after greatest card .card) (after greatest card .state) (keyIn file) value ≡ startRefused 8 (after greatest card .state))
+            ↔ SplitBelow (checkText greatest dump file)
         text d value =
-            subst (λ (x : World (rationTable greatestNodes)).
-            (insertOf greatestNodes (x .card) (x .state) (keyIn file) value ≡ startRefused 8 (x .state)) ↔ SplitBelow (checkText dump file))
-            (is-after card)
-            (text-refused dump file size read (o .table) opening (o .sound) d value)
+            subst (λ (x : World (rationTable greatest)).
+            (insertOf greatest (x .card) (x .state) (keyIn file) value ≡ startRefused 8 (x .state)) ↔ SplitBelow (checkText greatest dump file))
+            (is-after greatest card)
+            (text-refused greatest dump file size read (o .table) opening (o .sound) d value)
 
         exactly : (keyIn file ≡ 0 → ⊥) → (value : ℕ)
-            → (startReply (insertOf greatestNodes (after card .card) (after card .state) (keyIn file) value .begun) ≡ refusal 8)
-            ↔ SplitBelow (checkText dump file)
+            → (startReply (insertOf greatest (after greatest card .card) (after greatest card .state) (keyIn file) value .begun) ≡ refusal 8)
+            ↔ SplitBelow (checkText greatest dump file)
         exactly d value =
-            let reply = refused-eight (after card .card) (after card .state) (keyIn file) value in
+            let reply = refused-eight greatest (after greatest card .card) (after greatest card .state) (keyIn file) value in
             (λ e. text d value .0 (reply .0 e), λ p. reply .1 (text d value .1 p))
 
-        go : Dec (keyIn file ≡ 0) → TellsOfKey (rationTable greatestNodes) (repairedWorld (rationTable greatestNodes) card) (keyIn file) (checkText dump file)
-        go (yes z) = inl (z, no-key-text dump file size read (o .table) opening (o .sound) z)
+        go : Dec (keyIn file ≡ 0) → TellsOfKey (rationTable greatest) (repairedWorld (rationTable greatest) card) (keyIn file) (checkText greatest dump file)
+        go (yes z) = inl (z, no-key-text greatest dump file size read (o .table) opening (o .sound) z)
         go (no d) =
-            let (r, is, holding) = text-holds dump file size read (o .table) opening (o .sound) d in
+            let (r, is, holding) = text-holds greatest dump file size read (o .table) opening (o .sound) d in
             inr (
               d,
               record {
-                reason = tells card (o .table) (o .sound) opening (keyIn file) (omega (arith, d)) (key-below file) (checkText dump file) r is holding;
+                reason = tells greatest card (o .table) (o .sound) opening (keyIn file) (omega (arith, d)) (key-below file) (checkText greatest dump file) r is holding;
                 refused-exactly = exactly d;
               },
             )
 
-    of-card : OfCard (rationTable greatestNodes) card (keyIn file) (checkText dump file)
+    of-card : OfCard greatest (rationTable greatest) card (keyIn file) (checkText greatest dump file)
     of-card =
-        rows-map (openRows greatestNodes card) (omega arith, (omega arith, (omega arith, (omega arith, (omega arith, tt)))))
-        (λ r h z. unopened-text dump file size read r (begun-refused (openOf greatestNodes card .begun) r h (z .number-given)))
-        told (opens greatestNodes card)
+        rows-map (openRows greatest card) (omega arith, (omega arith, (omega arith, (omega arith, (omega arith, tt)))))
+        (λ r h z. unopened-text greatest dump file size read r (begun-refused (openOf greatest card .begun) r h (z .number-given)))
+        told (opens greatest card)
 
-  of-dump : ByRows (row 11 (Damaged programNodes dump) end) (λ r. checkText dump file ≡ refusalLine r)
-      (OfCard (rationTable greatestNodes) (dumpWords (wordsFor (dumpNodes dump)) dump) (keyIn file) (checkText dump file))
+  of-dump : ByRows (row 11 (Damaged greatest dump) end) (λ r. checkText greatest dump file ≡ refusalLine r)
+      (OfCard greatest (rationTable greatest) (dumpWords (wordsFor (dumpNodes dump)) dump) (keyIn file) (checkText greatest dump file))
   unfolding ByRows
   of-dump =
-      bool-cases (damaged programNodes dump) (λ q. inl (damaged-exactly programNodes dump .1 q, unread-text dump file 11 (read-damaged programNodes dump cardRoom q)))
-      (λ q. inr (λ z. true-false (sym (damaged-exactly programNodes dump .0 z) ∙ q), of-card q))
+      bool-cases (damaged greatest dump) (λ q. inl (damaged-exactly greatest dump .1 q, unread-text greatest dump file 11 (read-damaged greatest dump (cardRoom greatest) q)))
+      (λ q. inr (λ z. true-false (sym (damaged-exactly greatest dump .0 z) ∙ q), of-card q))
 
-pub w-209 : W209 (rationTable greatestNodes) checkText
-w-209 = record { dumps = of-dump }
+pub w-209 : (greatest : ℕ) → W209 greatest (rationTable greatest) (checkText greatest)
+w-209 greatest = record { dumps = of-dump greatest }

@@ -51,8 +51,6 @@ pub mod OpenRefusals
 -- THE PROGRAMS: a card opened and repaired in one call, what `list` and `insert_check` print.
 -- A repair in one call is a run of steps, and leaves a balanced table with the same map and an idle state
 pub mod RepairedCard
--- the dump of a card that opening accepts is read whole
-pub mod ReadDump
 -- how much room the pairs take: a slice with two words for each of them holds them all
 pub mod ListRoom
 -- WHAT THE PROGRAM `list` LISTS: the map of the card, from the balanced table that its repair leaves

@@ -1,6 +1,5 @@
 -- The program `list`, of the ration table.
 use mathlib.Core.Path.{_≡_, ap, sym, _∙_}
-use Rattle.card.specs.Layout.{greatestNodes, programNodes}
 use mathlib.Core.Bool.{false}
 use mathlib.Core.List.{List}
 use mathlib.Core.Logic.{⊎-map, inl, inr}
@@ -42,22 +41,22 @@ use Rattle.theory_tree.specs.WellFormed.{WellFormed}
 
 -- ---- the repaired card
 
-pub repaired-world : (c : List ℕ) → repairedWorld (rationTable greatestNodes) c ≡ worldFrom (openedCard c)
+pub repaired-world : (greatest : ℕ) (c : List ℕ) → repairedWorld (rationTable greatest) c ≡ worldFrom greatest (openedCard greatest c)
 unfolding repairedWorld
-repaired-world c = sym (opened-run c)
+repaired-world greatest c = sym (opened-run greatest c)
 
-repaired-is : (c : List ℕ) → repairedWorld (rationTable greatestNodes) c .card ≡ openedCard c .card
-repaired-is c = ap (λ (x : World (rationTable greatestNodes)). x .card) (repaired-world c)
+repaired-is : (greatest : ℕ) (c : List ℕ) → repairedWorld (rationTable greatest) c .card ≡ openedCard greatest c .card
+repaired-is greatest c = ap (λ (x : World (rationTable greatest)). x .card) (repaired-world greatest c)
 
 -- ---- cards
 
-module _ (c : List ℕ) where
-  lists-right : Opens (rationTable greatestNodes) c → (t : Tree) → WellFormed c t → (x : ListedRight c t) → ListsRight (rationTable greatestNodes) c (x .listing)
+module _ (greatest : ℕ) (c : List ℕ) where
+  lists-right : Opens (rationTable greatest) c → (t : Tree) → WellFormed c t → (x : ListedRight greatest c t) → ListsRight (rationTable greatest) c (x .listing)
   lists-right a t w x =
-      let n = sym (sized-on greatestNodes c (nodesOfLength greatestNodes (length c)) (accepted-card greatestNodes c a .1)) in
+      let n = sym (sized-on greatest c (nodesOfLength greatest (length c)) (accepted-card greatest c a .1)) in
       record {
         table = x .table;
-        balanced = rw (repaired-is c) (x .balanced);
+        balanced = rw (repaired-is greatest c) (x .balanced);
         nodes = x .nodes ∙ n;
         unreached = x .unreached;
         exact = rw n at (x .exact);
@@ -69,40 +68,41 @@ module _ (c : List ℕ) where
         as-many = λ s v. rw (one-held c s t (v .holds) (w .holds)) (x .as-many);
       }
 
-  of-card : ByRows (openRows greatestNodes c) (λ r. (rationTable greatestNodes .openCard c .reply ≡ refusal r) × (listCard c ≡ refused r))
-      ((l : Listing) × (listCard c ≡ listed l) × ListsRight (rationTable greatestNodes) c l)
+  of-card : ByRows (openRows greatest c) (λ r. (rationTable greatest .openCard c .reply ≡ refusal r) × (listCard greatest c ≡ refused r))
+      ((l : Listing) × (listCard greatest c ≡ listed l) × ListsRight (rationTable greatest) c l)
   of-card =
-      rows-map (openRows greatestNodes c) (omega arith, (omega arith, (omega arith, (omega arith, (omega arith, tt)))))
-      (λ r h z. (z .number-given, card-refused c r (begun-refused (openOf greatestNodes c .begun) r h (z .number-given))))
-      works (opens greatestNodes c)
+      rows-map (openRows greatest c) (omega arith, (omega arith, (omega arith, (omega arith, (omega arith, tt)))))
+      (λ r h z. (z .number-given, card-refused greatest c r (begun-refused (openOf greatest c .begun) r h (z .number-given))))
+      works (opens greatest c)
     where
-      works : OpensTo (rationTable greatestNodes) c (handed (openOf greatestNodes c)) → (l : Listing) × (listCard c ≡ listed l) × ListsRight (rationTable greatestNodes) c l
-      works o = let a = ⊎-map (λ z. z .1) (λ z. z .1) (o .hands) in let x = listing-right c (o .table) (o .sound) a in (x .listing, x .is-listed, lists-right a (o .table) (o .sound) x)
+      works : OpensTo (rationTable greatest) c (handed (openOf greatest c)) → (l : Listing) × (listCard greatest c ≡ listed l) × ListsRight (rationTable greatest) c l
+      works o = let a = ⊎-map (λ z. z .1) (λ z. z .1) (o .hands) in let x = listing-right greatest c (o .table) (o .sound) a in (x .listing, x .is-listed, lists-right a (o .table) (o .sound) x)
 
 -- ---- dumps
 
-module _ (dump : List ℕ) where
-  read-room : damaged programNodes dump ≡ false → listDump programNodes dump cardRoom ≡ listCard (dumpWords (wordsFor (dumpNodes dump)) dump)
+module _ (greatest : ℕ) (dump : List ℕ) where
+  read-room : damaged greatest dump ≡ false → listDump greatest dump (cardRoom greatest) ≡ listCard greatest (dumpWords (wordsFor (dumpNodes dump)) dump)
   read-room q =
       let size = wordsFor (dumpNodes dump) in
-      dump-read programNodes dump cardRoom size (read-whole programNodes dump cardRoom q ∙ room-long size cardRoom (omega (arith, undamaged-whole programNodes dump q .within)))
+      dump-read greatest dump (cardRoom greatest) size (read-whole greatest dump (cardRoom greatest) q ∙ room-long size (cardRoom greatest) (omega (arith, undamaged-whole greatest dump q .within)))
 
-  of-dump : ByRows (row 11 (Damaged programNodes dump) end) (λ r. dumpText dump ≡ listText (refused r)) (dumpText dump ≡ listText (listCard (dumpWords (wordsFor (dumpNodes dump)) dump)))
+  of-dump : ByRows (row 11 (Damaged greatest dump) end) (λ r. dumpText greatest dump ≡ listText (refused r))
+      (dumpText greatest dump ≡ listText (listCard greatest (dumpWords (wordsFor (dumpNodes dump)) dump)))
   unfolding ByRows
   of-dump =
-      bool-cases (damaged programNodes dump) (λ q. inl (
-        damaged-exactly programNodes dump .1 q,
-        text-right dump ∙ ap listText (dump-refused programNodes dump cardRoom 11 (read-damaged programNodes dump cardRoom q)),
+      bool-cases (damaged greatest dump) (λ q. inl (
+        damaged-exactly greatest dump .1 q,
+        text-right greatest dump ∙ ap listText (dump-refused greatest dump (cardRoom greatest) 11 (read-damaged greatest dump (cardRoom greatest) q)),
       ))
-      (λ q. inr (λ z. true-false (sym (damaged-exactly programNodes dump .0 z) ∙ q), text-right dump ∙ ap listText (read-room q)))
+      (λ q. inr (λ z. true-false (sym (damaged-exactly greatest dump .0 z) ∙ q), text-right greatest dump ∙ ap listText (read-room q)))
 
-own : (c : List ℕ) → ((i : ℕ) → getD c i 0 < 2 ^ 32) → Sized programNodes (length c) (nodesOn c) → Formatted c (nodesOn c) → dumpText (dumpOf c) ≡ listText (listCard c)
-own c fits s f =
-    let e = sized-nodes programNodes (length c) (nodesOn c) s in
-    let good : Good programNodes c = record { sized = rw e s; header = rw e f } in
-    let q = whole-undamaged programNodes (dumpOf c) (dump-whole programNodes c fits good) in
-    let size : wordsFor (dumpNodes (dumpOf c)) ≡ length c = ap wordsFor (dump-nodes programNodes c fits good) ∙ sym (good .sized .words) in
-    text-right (dumpOf c) ∙ ap listText (read-room (dumpOf c) q ∙ ap listCard (ap (λ (k : ℕ). dumpWords k (dumpOf c)) size ∙ dump-words programNodes c fits))
+own : (greatest : ℕ) (c : List ℕ) → ((i : ℕ) → getD c i 0 < 2 ^ 32) → Sized greatest (length c) (nodesOn c) → Formatted c (nodesOn c) → dumpText greatest (dumpOf c) ≡ listText (listCard greatest c)
+own greatest c fits s f =
+    let e = sized-nodes greatest (length c) (nodesOn c) s in
+    let good : Good greatest c = record { sized = rw e s; header = rw e f } in
+    let q = whole-undamaged greatest (dumpOf c) (dump-whole greatest c fits good) in
+    let size : wordsFor (dumpNodes (dumpOf c)) ≡ length c = ap wordsFor (dump-nodes greatest c fits good) ∙ sym (good .sized .words) in
+    text-right greatest (dumpOf c) ∙ ap listText (read-room greatest (dumpOf c) q ∙ ap (listCard greatest) (ap (λ (k : ℕ). dumpWords k (dumpOf c)) size ∙ dump-words greatest c fits))
 
-pub list-program : ListProgram (rationTable greatestNodes) listCard dumpText
-list-program = record { cards = of-card; dumps = of-dump; own-dump = own }
+pub list-program : (greatest : ℕ) → ListProgram greatest (rationTable greatest) (listCard greatest) (dumpText greatest)
+list-program greatest = record { cards = of-card greatest; dumps = of-dump greatest; own-dump = own greatest }

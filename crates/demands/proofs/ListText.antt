@@ -1,7 +1,6 @@
 -- WHAT THE PROGRAM `list` PRINTS: of every dump, the text of its whole listing. A listing comes only of a table that the check
--- accepts, and that has at most 11 pairs for each of 600 nodes; so the rows lent have room for all, and no line is left out.
+-- accepts, and that has at most 11 pairs for each of its nodes; so the rows lent have room for all, and no line is left out.
 use mathlib.Core.Path.{_≡_, refl, ap, _∙_}
-use Rattle.card.specs.Layout.{greatestNodes, programNodes}
 use mathlib.Core.List.{List, [], _∷_, _++_}
 use mathlib.Core.Option.{Option, none, some}
 use Prim.Native.Nat.{ℕ, _+_, _*_, _≤_}
@@ -16,7 +15,7 @@ use Rattle.card.specs.Header.{nodesOfLength, cardRefusal}
 use Rattle.card_dump.specs.Dump.{dumpWords, wordsFor, dumpNodes, damaged, fittingLength, readAnswer}
 use Rattle.card_dump.proofs.AnswerLaws.{read-sized}
 use Rattle.card_dump.proofs.ByteLaws.{length-dumpWords}
-use Rattle.card.proofs.HeaderLaws.{sized-nodes, sized-any}
+use Rattle.card.proofs.HeaderLaws.{sized-nodes}
 use Rattle.card_dump.specs.declared.Answer.{Answer}
 use Rattle.card_dump.specs.declared.Answer.the-variants.{Length, Refused as ReadRefused}
 use Rattle.card_free.specs.NodeSet.{countTrue}
@@ -38,9 +37,9 @@ use Rattle.call_open.specs.Opening.{openSound, openChecked, openOf}
 -- ---- a listing that the rows have room for is told whole
 
 -- a refusal has a number, and there are no more pairs than a card that the programs are made for holds
-abbrev Fits : Listed → Type 0
-Fits (refused number) = number ≡ 0 → ⊥
-Fits (listed l) = length (l .pairs) ≤ 11 * programNodes
+abbrev Fits : ℕ → Listed → Type 0
+Fits greatest (refused number) = number ≡ 0 → ⊥
+Fits greatest (listed l) = length (l .pairs) ≤ 11 * greatest
 
 words-pairs : (ps : List (ℕ × ℕ)) → pairsOfWords (pairWords ps) ≡ ps
 unfolding pairsOfWords
@@ -51,10 +50,10 @@ length-words : (ps : List (ℕ × ℕ)) → length (pairWords ps) ≡ 2 * length
 length-words [] = refl
 length-words (p ∷ ps) = omega (arith, length-words ps)
 
-told-whole : (l : Listed) (words : List ℕ) → 22 * programNodes ≤ length words → Fits l → listingTold (summaryOf l words) (layListed l words .words) ≡ l
+told-whole : (greatest : ℕ) (l : Listed) (words : List ℕ) → 22 * greatest ≤ length words → Fits greatest l → listingTold (summaryOf l words) (layListed l words .words) ≡ l
 unfolding listingTold summaryOf summarized layListed
-told-whole (refused number) words h f = rw (ne-eqb number 0 f)
-told-whole (listed l) words h f =
+told-whole greatest (refused number) words h f = rw (ne-eqb number 0 f)
+told-whole greatest (listed l) words h f =
     let n = 2 * length (l .pairs) in
     let e : layPairs (l .pairs) (laid 0 words) ≡ laid n (pairWords (l .pairs) ++ drop n words) =
     all-laid (l .pairs) [] words (omega arith) ∙ ap (λ (k : ℕ). laid k (pairWords (l .pairs) ++ drop n words)) (omega arith) in
@@ -62,10 +61,10 @@ told-whole (listed l) words h f =
 
 -- ---- every listing is one
 
-read-number : (dump : List ℕ) (lent number : ℕ) → readAnswer programNodes dump lent ≡ ReadRefused number → number ≡ 0 → ⊥
+read-number : (greatest : ℕ) (dump : List ℕ) (lent number : ℕ) → readAnswer greatest dump lent ≡ ReadRefused number → number ≡ 0 → ⊥
 unfolding readAnswer fittingLength
-read-number dump lent number e z =
-    bool-cases (damaged programNodes dump) (λ q. let k : ReadRefused 11 ≡ ReadRefused number = rw q at e in let w : _≡_ {A = ℕ} 11 0 = cc in omega arith)
+read-number greatest dump lent number e z =
+    bool-cases (damaged greatest dump) (λ q. let k : ReadRefused 11 ≡ ReadRefused number = rw q at e in let w : _≡_ {A = ℕ} 11 0 = cc in omega arith)
     (λ q. bool-cases (ltb lent (wordsFor (dumpNodes dump)))
     (λ s. let k : ReadRefused 12 ≡ ReadRefused number = rw (q, s) at e in let w : _≡_ {A = ℕ} 12 0 = cc in omega arith)
     (λ s. let k : Length (wordsFor (dumpNodes dump)) ≡ ReadRefused number = rw (q, s) at e in let w : _≡_ {A = ℕ} 0 1 = cc in omega arith))
@@ -84,50 +83,52 @@ module _ (number n last : ℕ) (z : number ≡ 0) where
   checked-number none e = let w : _≡_ {A = ℕ} 4 0 = cc in omega arith
   checked-number (some r) e = sound-number (r .1) e
 
-open-number : (c : List ℕ) (number : ℕ) → openOf greatestNodes c .begun ≡ Refused number → number ≡ 0 → ⊥
+open-number : (greatest : ℕ) (c : List ℕ) (number : ℕ) → openOf greatest c .begun ≡ Refused number → number ≡ 0 → ⊥
 unfolding openOf noBeginning
-open-number c number e z = go (ℕ-discrete (cardRefusal greatestNodes c) 0)
+open-number greatest c number e z = go (ℕ-discrete (cardRefusal greatest c) 0)
   where
-    go : Dec (cardRefusal greatestNodes c ≡ 0) → ⊥
+    go : Dec (cardRefusal greatest c ≡ 0) → ⊥
     go (yes q) =
-        checked-number number (nodesOfLength greatestNodes (length c)) (searchStart c) z
-        (tableCheck c (nodesOfLength greatestNodes (length c))) (rw (eq-eqb (cardRefusal greatestNodes c) 0 q) at e)
-    go (no d) = d (let k : Refused (cardRefusal greatestNodes c) ≡ Refused number = rw (ne-eqb (cardRefusal greatestNodes c) 0 d) at e in cc)
+        checked-number number (nodesOfLength greatest (length c)) (searchStart c) z
+        (tableCheck c (nodesOfLength greatest (length c))) (rw (eq-eqb (cardRefusal greatest c) 0 q) at e)
+    go (no d) = d (let k : Refused (cardRefusal greatest c) ≡ Refused number = rw (ne-eqb (cardRefusal greatest c) 0 d) at e in cc)
 
-card-fits : (c : List ℕ) → nodesOfLength greatestNodes (length c) ≤ programNodes → Fits (listCard c)
-card-fits c few = go (openOf greatestNodes c .begun) refl
+card-fits : (greatest : ℕ) (c : List ℕ) → nodesOfLength greatest (length c) ≤ greatest → Fits greatest (listCard greatest c)
+card-fits greatest c few = go (openOf greatest c .begun) refl
   where
-    opened : ((number : ℕ) → openOf greatestNodes c .begun ≡ Refused number → ⊥) → Fits (listCard c)
+    opened : ((number : ℕ) → openOf greatest c .begun ≡ Refused number → ⊥) → Fits greatest (listCard greatest c)
     opened f =
-        let a = opens-unrefused greatestNodes c f in
-        let t = accepted-table greatestNodes c a in
-        let k = listing-right c (t .0) (t .1) a in
+        let a = opens-unrefused greatest c f in
+        let t = accepted-table greatest c a in
+        let k = listing-right greatest c (t .0) (t .1) a in
         rw (k .is-listed) (omega (arith, k .few-pairs, few))
 
-    go : (b : Begun) → openOf greatestNodes c .begun ≡ b → Fits (listCard c)
-    go (Refused number) e = rw (card-refused c number e) (open-number c number e)
+    go : (b : Begun) → openOf greatest c .begun ≡ b → Fits greatest (listCard greatest c)
+    go (Refused number) e = rw (card-refused greatest c number e) (open-number greatest c number e)
     go Idle e = opened (λ number q. let z : _≡_ {A = ℕ} 0 1 = cc in omega arith)
     go Started e = opened (λ number q. let z : _≡_ {A = ℕ} 0 1 = cc in omega arith)
 
-dump-fits : (dump : List ℕ) (lent : ℕ) → Fits (listDump programNodes dump lent)
-dump-fits dump lent = go (readAnswer programNodes dump lent) refl
+dump-fits : (greatest : ℕ) (dump : List ℕ) (lent : ℕ) → Fits greatest (listDump greatest dump lent)
+dump-fits greatest dump lent = go (readAnswer greatest dump lent) refl
   where
-    go : (a : Answer) → readAnswer programNodes dump lent ≡ a → Fits (listDump programNodes dump lent)
-    go (ReadRefused number) e = rw (dump-refused programNodes dump lent number e) (read-number dump lent number e)
+    go : (a : Answer) → readAnswer greatest dump lent ≡ a → Fits greatest (listDump greatest dump lent)
+    go (ReadRefused number) e = rw (dump-refused greatest dump lent number e) (read-number greatest dump lent number e)
     go (Length size) e =
-        let s = read-sized programNodes dump lent size e .sized in
-        let n : nodesOfLength greatestNodes (length (dumpWords size dump)) ≡ dumpNodes dump =
-        ap (nodesOfLength greatestNodes) (length-dumpWords size dump) ∙ sized-nodes greatestNodes size (dumpNodes dump) (sized-any s) in
-        rw (dump-read programNodes dump lent size e) (card-fits (dumpWords size dump) (omega (arith, n, s .within)))
+        let s = read-sized greatest dump lent size e .sized in
+        let n : nodesOfLength greatest (length (dumpWords size dump)) ≡ dumpNodes dump =
+        ap (nodesOfLength greatest) (length-dumpWords size dump) ∙ sized-nodes greatest size (dumpNodes dump) s in
+        rw (dump-read greatest dump lent size e) (card-fits greatest (dumpWords size dump) (omega (arith, n, s .within)))
 
 -- ---- the text
 
 -- what is handed to the printing is the listing of the dump
-pub handed-whole : (dump : List ℕ) → listingHanded dump ≡ listDump programNodes dump cardRoom
+pub handed-whole : (greatest : ℕ) (dump : List ℕ) → listingHanded greatest dump ≡ listDump greatest dump (cardRoom greatest)
 unfolding listingHanded
-handed-whole dump = told-whole (listDump programNodes dump cardRoom) (zeros pairRoom) (omega (arith, length-replicate {A = ℕ} pairRoom 0)) (dump-fits dump cardRoom)
+handed-whole greatest dump =
+    told-whole greatest (listDump greatest dump (cardRoom greatest)) (zeros (pairRoom greatest))
+    (omega (arith, length-replicate {A = ℕ} (pairRoom greatest) 0)) (dump-fits greatest dump (cardRoom greatest))
 
 -- the text that `list_text::list_text` is proved to make is that of the listing
-pub text-right : (dump : List ℕ) → dumpText dump ≡ listText (listDump programNodes dump cardRoom)
+pub text-right : (greatest : ℕ) (dump : List ℕ) → dumpText greatest dump ≡ listText (listDump greatest dump (cardRoom greatest))
 unfolding dumpText
-text-right dump = ap listText (handed-whole dump)
+text-right greatest dump = ap listText (handed-whole greatest dump)

@@ -1,6 +1,5 @@
 -- WHAT THE PROGRAM `list` LISTS: the map of the card by rising key, from the balanced table that its repair leaves.
 use mathlib.Core.Path.{_≡_, refl, _∙_}
-use Rattle.card.specs.Layout.{greatestNodes}
 use mathlib.Core.List.{List}
 use mathlib.Core.Bool.{Bool}
 use mathlib.Core.Option.{some}
@@ -37,37 +36,37 @@ use Rattle.theory_tree.specs.WellFormed.{WellFormed, Balanced}
 
 -- "N, free nodes, internal levels, pairs. Then key and value", "each pair once, rising": of a balanced table whose map is that of the
 -- card listed
-pub record ListedRight (c : List ℕ) (t : Tree) : Type 0 where
+pub record ListedRight (greatest : ℕ) (c : List ℕ) (t : Tree) : Type 0 where
   pub listing : Listing
-  pub is-listed : listCard c ≡ listed listing
+  pub is-listed : listCard greatest c ≡ listed listing
   -- the table on the card as the repair leaves it
   pub table : Tree
-  pub balanced : Balanced (openedCard c .card) table
+  pub balanced : Balanced (openedCard greatest c .card) table
   pub all-pairs : listing .pairs ≡ sort (pairs table)
   pub rising : Rises 0 (listing .pairs)
   -- the map that the card had when it was opened
   pub alike : (key : ℕ) → lookup key (listing .pairs) ≡ lookup key (pairs t)
   pub as-many : length (listing .pairs) ≡ length (pairs t)
   pub level : Height (listing .levels) table
-  pub nodes : listing .nodes ≡ nodesOfLength greatestNodes (length c)
+  pub nodes : listing .nodes ≡ nodesOfLength greatest (length c)
   -- the free nodes are exactly those that are not reached
   pub unreached : List Bool
-  pub exact : Exact (nodesOfLength greatestNodes (length c)) unreached table
+  pub exact : Exact (nodesOfLength greatest (length c)) unreached table
   pub free : listing .free ≡ countTrue unreached
-  pub few-pairs : length (listing .pairs) ≤ 11 * nodesOfLength greatestNodes (length c)
+  pub few-pairs : length (listing .pairs) ≤ 11 * nodesOfLength greatest (length c)
 
-module _ (c : List ℕ) (t : Tree) where
-  pub listing-right : WellFormed c t → Opens (rationTable greatestNodes) c → ListedRight c t
-  listing-right w a = go (repaired c t a w)
+module _ (greatest : ℕ) (c : List ℕ) (t : Tree) where
+  pub listing-right : WellFormed c t → Opens (rationTable greatest) c → ListedRight greatest c t
+  listing-right w a = go (repaired greatest c t a w)
     where
-      go : After c t → ListedRight c t
+      go : After greatest c t → ListedRight greatest c t
       go x = shown (sound-accepted after number (x .sized .words) (x .sized .most) (x .table) sound)
         where
           after : List ℕ
-          after = openedCard c .card
+          after = openedCard greatest c .card
 
           number : ℕ
-          number = nodesOfLength greatestNodes (length c)
+          number = nodesOfLength greatest (length c)
 
           sound : WellFormed after (x .table)
           sound = x .balanced .well-formed
@@ -79,21 +78,21 @@ module _ (c : List ℕ) (t : Tree) where
           enough = omega (arith, held, x .sized .most)
 
           walked : List (ℕ × ℕ)
-          walked = walkFrom greatestNodes mostPairs after 0
+          walked = walkFrom greatest mostPairs after 0
 
           counted : length walked ≡ length (pairs (x .table))
-          counted = walk-length greatestNodes after (x .table) sound (x .accepted) mostPairs enough
+          counted = walk-length greatest after (x .table) sound (x .accepted) mostPairs enough
 
-          shown : ((h : ℕ) × (f : Findings) × (tableCheck after number ≡ some (h, f)) × Facts after number (x .table) h f) → ListedRight c t
+          shown : ((h : ℕ) × (f : Findings) × (tableCheck after number ≡ some (h, f)) × Facts after number (x .table) h f) → ListedRight greatest c t
           shown (h, f, e, k) =
               record {
                 listing = record { nodes = number; free = countTrue (f .free); levels = h; pairs = walked };
-                is-listed = card-listed c (not-refused greatestNodes c a) ∙ table-sound after number h f (λ z. omega (arith, x .sized .least)) e;
+                is-listed = card-listed greatest c (not-refused greatest c a) ∙ table-sound greatest after number h f (λ z. omega (arith, x .sized .least)) e;
                 table = x .table;
                 balanced = x .balanced;
-                all-pairs = walk-sorted greatestNodes after (x .table) sound (x .accepted) mostPairs enough;
-                rising = rises 0 keyLimit walked (walk-rises greatestNodes after (x .table) sound (x .accepted) mostPairs);
-                alike = λ key. walk-lookup greatestNodes after (x .table) sound (x .accepted) mostPairs enough key ∙ x .map .alike key;
+                all-pairs = walk-sorted greatest after (x .table) sound (x .accepted) mostPairs enough;
+                rising = rises 0 keyLimit walked (walk-rises greatest after (x .table) sound (x .accepted) mostPairs);
+                alike = λ key. walk-lookup greatest after (x .table) sound (x .accepted) mostPairs enough key ∙ x .map .alike key;
                 as-many = counted ∙ x .map .as-many;
                 level = k .level;
                 nodes = refl;

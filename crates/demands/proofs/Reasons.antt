@@ -1,11 +1,10 @@
 -- WHAT STANDS IN THE WAY OF A NEW NUMBER (document 02, W-209): "Proved: the reason handed over for printing is the one that holds, and
 -- an insert of that key would be refused 8 exactly when `split` is printed with F below M."
 use mathlib.Core.Path.{_≡_, refl, ap, sym, subst, _∙_}
-use Rattle.card.specs.Layout.{greatestNodes}
 use mathlib.Core.List.{List}
 use mathlib.Core.Option.{none, some}
 use mathlib.Core.Logic.{_↔_}
-use Prim.Native.Nat.{ℕ, _+_, _^_, _≤_, _<_}
+use Prim.Native.Nat.{ℕ, _+_, _≤_, _<_}
 use native.Mathlib.Omega.{arith}
 use lib.ListN.{length, getD}
 use Rattle.laws.proofs.Cases.{order}
@@ -18,11 +17,9 @@ use Rattle.walk.specs.declared.Slot.{Slot}
 use Rattle.walk.specs.declared.Slot.the-variants.{At, Absent as NoSlot}
 use Rattle.theory_walk.proofs.Find.{slotAnswer}
 use Rattle.theory_walk.proofs.Landing.{LandedAt, landing-found}
-use Rattle.card_dump.specs.Dump.{dumpOf}
-use Rattle.card_dump.proofs.RoundTrip.{dump-words}
 use Rattle.card_free.specs.NodeSet.{countTrue}
-use Rattle.reason.specs.InsertReason.{reasonFor, reasonLanded, reasonOf, reasonInDump}
-use Rattle.reason.proofs.InsertReasonLaws.{of-opened, on-no-key, on-key, dump-read}
+use Rattle.reason.specs.InsertReason.{reasonFor, reasonLanded, reasonOf}
+use Rattle.reason.proofs.InsertReasonLaws.{of-opened, on-no-key, on-key}
 use Rattle.reason.specs.declared.Reason.{Reason}
 use Rattle.reason.specs.declared.Reason.the-variants.{Refused, NoKey, Held, Slot as EmptySlot, Split}
 use Rattle.demands.specs.Book.{book, kept, empty}
@@ -34,7 +31,6 @@ use Rattle.demands.proofs.PowerLoss.{kept-from}
 use Rattle.demands.proofs.Room.{LeadsTo, key-leads, splitting-insert-starts, splitting-insert-refused, other-insert-starts}
 use Rattle.demands.proofs.Starting.{nodes-same}
 use Rattle.call_repair.specs.Repairing.{openedCard}
-use Rattle.demands.proofs.ReadDump.{dump-answered}
 use Rattle.demands.proofs.RepairedCard.{After, steps, all-words, worldFrom, opened-run, repaired}
 use Rattle.theory_check.proofs.Depth.{well-formed-depth}
 use Rattle.theory_check.proofs.Ranges.{root-in-range}
@@ -52,57 +48,59 @@ use Rattle.call_change.specs.Updates.{landing, emptyReason, reasonIn, insertRea
 -- What each reason says of the card's map and of the card as the repair leaves it: the key's value; or that it has none and that the
 -- leaf it leads to has an empty slot; or that it has none, that this leaf is full, how many 11-child nodes without a break stand
 -- straight above it, how many nodes are free, and how many the split needs.
-unfoldable pub ReasonHolds : List ℕ → Tree → ℕ → Reason → Type 0
-ReasonHolds c t key (Refused r) = ⊥
-ReasonHolds c t key NoKey = ⊥
-ReasonHolds c t key (Held v) = lookup key (pairs t) ≡ some v
-ReasonHolds c t key EmptySlot =
+unfoldable pub ReasonHolds : ℕ → List ℕ → Tree → ℕ → Reason → Type 0
+ReasonHolds greatest c t key (Refused r) = ⊥
+ReasonHolds greatest c t key NoKey = ⊥
+ReasonHolds greatest c t key (Held v) = lookup key (pairs t) ≡ some v
+ReasonHolds greatest c t key EmptySlot =
     (lookup key (pairs t) ≡ none) × ((leaf : ℕ) × (j : ℕ) × (i : ℕ)
-    × LeadsTo greatestNodes (worldFrom (openedCard c)) key leaf j × (slotOf (nodeAt (openedCard c .card) leaf) 0 ≡ At i))
-ReasonHolds c t key (Split j free need) =
+    × LeadsTo greatest (worldFrom greatest (openedCard greatest c)) key leaf j × (slotOf (nodeAt (openedCard greatest c .card) leaf) 0 ≡ At i))
+ReasonHolds greatest c t key (Split j free need) =
     (lookup key (pairs t) ≡ none)
-    × ((leaf : ℕ) × LeadsTo greatestNodes (worldFrom (openedCard c)) key leaf j × (length (leafPairs (nodeAt (openedCard c .card) leaf)) ≡ 11))
-    × (countTrue (openedCard c .memory .free) ≡ free)
+    × ((leaf : ℕ) × LeadsTo greatest (worldFrom greatest (openedCard greatest c)) key leaf j × (length (leafPairs (nodeAt (openedCard greatest c .card) leaf)) ≡ 11))
+    × (countTrue (openedCard greatest c .memory .free) ≡ free)
     × (need ≡ splitNeed j)
 
-module _ (c : List ℕ) (t : Tree) (accepted : Opens (rationTable greatestNodes) c) (well : WellFormed c t) where
+module _ (greatest : ℕ) (c : List ℕ) (t : Tree) (accepted : Opens (rationTable greatest) c) (well : WellFormed c t) where
   -- the card and the state that the repair leaves, as a run of steps
-  abbrev after : World (rationTable greatestNodes)
-  after = run (rationTable greatestNodes) (steps repairSteps) (opened (rationTable greatestNodes) c)
+  abbrev after : World (rationTable greatest)
+  after = run (rationTable greatest) (steps repairSteps) (opened (rationTable greatest) c)
 
-  is-after : worldFrom (openedCard c) ≡ after
-  is-after = opened-run c
+  is-after : worldFrom greatest (openedCard greatest c) ≡ after
+  is-after = opened-run greatest c
 
-  left : After c t
-  left = repaired c t accepted well
+  left : After greatest c t
+  left = repaired greatest c t accepted well
 
   -- the invariant then
-  kept-after : (n : ℕ) × (k : ℕ) × Inv greatestNodes n k after (kept (rationTable greatestNodes) (steps repairSteps) (opened (rationTable greatestNodes) c) (book (pairs t) empty))
-  kept-after = kept-from greatestNodes (opened (rationTable greatestNodes) c) (pairs t) (from-open c t accepted well) (steps repairSteps) (all-words repairSteps)
+  kept-after : (n : ℕ) × (k : ℕ) × Inv greatest n k after (kept (rationTable greatest) (steps repairSteps) (opened (rationTable greatest) c) (book (pairs t) empty))
+  kept-after = kept-from greatest (opened (rationTable greatest) c) (pairs t) (from-open c t accepted well) (steps repairSteps) (all-words repairSteps)
 
   -- the state's N is the card's
-  counted : openedCard c .memory .nodes ≡ nodesOfLength greatestNodes (length (openedCard c .card))
+  counted : openedCard greatest c .memory .nodes ≡ nodesOfLength greatest (length (openedCard greatest c .card))
   counted =
       let k = kept-after in
-      let e = nodes-same greatestNodes (k .0) (k .1) after _ (k .2) in
-      ap (λ (w : World (rationTable greatestNodes)). w .state .nodes) is-after ∙ e
-      ∙ sym (sized-nodes greatestNodes _ (k .0) (k .2 .table .sized))
-      ∙ ap (λ (w : World (rationTable greatestNodes)). nodesOfLength greatestNodes (length (w .card))) (sym is-after)
+      let e = nodes-same greatest (k .0) (k .1) after _ (k .2) in
+      ap (λ (w : World (rationTable greatest)). w .state .nodes) is-after ∙ e
+      ∙ sym (sized-nodes greatest _ (k .0) (k .2 .table .sized))
+      ∙ ap (λ (w : World (rationTable greatest)). nodesOfLength greatest (length (w .card))) (sym is-after)
 
-  same-nodes : openedCard c .memory .nodes ≡ nodesOfLength greatestNodes (length c)
-  same-nodes = counted ∙ sized-nodes greatestNodes _ _ (left .sized)
+  same-nodes : openedCard greatest c .memory .nodes ≡ nodesOfLength greatest (length c)
+  same-nodes = counted ∙ sized-nodes greatest _ _ (left .sized)
 
-  some-nodes : openedCard c .memory .nodes ≡ 0 → ⊥
+  some-nodes : openedCard greatest c .memory .nodes ≡ 0 → ⊥
   some-nodes z = omega (arith, same-nodes, left .sized .least)
 
   -- "prints `no key`" where the file has none: on a card that opens, key 0 has no other reason
-  pub no-key : reasonOf c 0 ≡ NoKey
-  no-key = of-opened c 0 (not-refused greatestNodes c accepted) ∙ on-no-key (openedCard c .card) (openedCard c .memory .free) 0 (openedCard c .memory .nodes) counted some-nodes refl
+  pub no-key : reasonOf greatest c 0 ≡ NoKey
+  no-key =
+      of-opened greatest c 0 (not-refused greatest c accepted) ∙ on-no-key greatest (openedCard greatest c .card)
+      (openedCard greatest c .memory .free) 0 (openedCard greatest c .memory .nodes) counted some-nodes refl
 
   module _ (key : ℕ) (low : lowestKey ≤ key) (high : key < keyLimit) where
     -- the leaf that the key leads to
-    leads : (leaf : ℕ) × (j : ℕ) × LeadsTo greatestNodes (worldFrom (openedCard c)) key leaf j
-    leads = subst (λ (w : World (rationTable greatestNodes)). (leaf : ℕ) × (j : ℕ) × LeadsTo greatestNodes w key leaf j) (sym is-after) (key-leads greatestNodes (kept-after .2) key low high)
+    leads : (leaf : ℕ) × (j : ℕ) × LeadsTo greatest (worldFrom greatest (openedCard greatest c)) key leaf j
+    leads = subst (λ (w : World (rationTable greatest)). (leaf : ℕ) × (j : ℕ) × LeadsTo greatest w key leaf j) (sym is-after) (key-leads greatest (kept-after .2) key low high)
 
     abbrev leaf : ℕ
     leaf = leads .0
@@ -111,34 +109,36 @@ module _ (c : List ℕ) (t : Tree) (accepted : Opens (rationTable greatestNodes)
     runAbove = leads .1
 
     abbrev leafReason : InLeaf
-    leafReason = insertReason (nodeAt (openedCard c .card) leaf) key
+    leafReason = insertReason (nodeAt (openedCard greatest c .card) leaf) key
 
     -- the reason, by what the leaf holds
-    reason-is : reasonOf c key ≡ reasonFor leafReason runAbove (countTrue (openedCard c .memory .free))
+    reason-is : reasonOf greatest c key ≡ reasonFor leafReason runAbove (countTrue (openedCard greatest c .memory .free))
     unfolding reasonLanded
     reason-is =
-        of-opened c key (not-refused greatestNodes c accepted)
-        ∙ on-key (openedCard c .card) (openedCard c .memory .free) key (openedCard c .memory .nodes) counted some-nodes (λ z. omega arith)
-        ∙ ap (reasonLanded (openedCard c .card) (openedCard c .memory .free) key) (leads .2 .1)
+        of-opened greatest c key (not-refused greatest c accepted)
+        ∙ on-key greatest (openedCard greatest c .card) (openedCard greatest c .memory .free) key (openedCard greatest c .memory .nodes) counted some-nodes (λ z. omega arith)
+        ∙ ap (reasonLanded (openedCard greatest c .card) (openedCard greatest c .memory .free) key) (leads .2 .1)
 
     -- what the leaf holds is what the map has
-    answered : slotAnswer (nodeAt (openedCard c .card) leaf) (slotOf (nodeAt (openedCard c .card) leaf) key) ≡ lookup key (pairs t)
+    answered : slotAnswer (nodeAt (openedCard greatest c .card) leaf) (slotOf (nodeAt (openedCard greatest c .card) leaf) key) ≡ lookup key (pairs t)
     unfolding landing
-    answered = subst (λ (m : ℕ). slotAnswer (nodeAt (openedCard c .card) m) (slotOf (nodeAt (openedCard c .card) m) key) ≡ lookup key (pairs t)) same-leaf (found .answers ∙ left .map .alike key)
+    answered =
+        subst (λ (m : ℕ). slotAnswer (nodeAt (openedCard greatest c .card) m) (slotOf (nodeAt (openedCard greatest c .card) m) key)
+        ≡ lookup key (pairs t)) same-leaf (found .answers ∙ left .map .alike key)
       where
-        well-after : WellFormed (openedCard c .card) (left .table)
+        well-after : WellFormed (openedCard greatest c .card) (left .table)
         well-after = left .balanced .well-formed
 
-        found : LandedAt (openedCard c .card) (nodesOfLength greatestNodes (length c)) key (left .table)
+        found : LandedAt (openedCard greatest c .card) (nodesOfLength greatest (length c)) key (left .table)
         found =
-            landing-found (openedCard c .card)
-            (nodesOfLength greatestNodes (length c)) key (left .sized .words) lowestKey keyLimit (left .table) (well-after .holds)
+            landing-found (openedCard greatest c .card)
+            (nodesOfLength greatest (length c)) key (left .sized .words) lowestKey keyLimit (left .table) (well-after .holds)
             (root-in-range lowestKey keyLimit (left .table) (well-after .sound) (well-after .widths)) low high (omega arith)
-            (well-formed-depth (openedCard c .card) (nodesOfLength greatestNodes (length c)) (left .sized .words) (left .table) (left .sized .most) well-after)
+            (well-formed-depth (openedCard greatest c .card) (nodesOfLength greatest (length c)) (left .sized .words) (left .table) (left .sized .most) well-after)
 
         same-leaf : found .number ≡ leaf
         same-leaf =
-            let e = sym (found .landed) ∙ ap (λ (n : ℕ). landing (openedCard c .card) n key) (sym same-nodes) ∙ leads .2 .1 in
+            let e = sym (found .landed) ∙ ap (λ (n : ℕ). landing (openedCard greatest c .card) n key) (sym same-nodes) ∙ leads .2 .1 in
             let z : found .number ≡ leaf = cc in
             z
 
@@ -188,89 +188,96 @@ module _ (c : List ℕ) (t : Tree) (accepted : Opens (rationTable greatestNodes)
         go (At m) e = let z : _≡_ {A = ℕ} 0 1 = cc in absurd (omega arith)
         go NoSlot e = empty (slotOf words 0) e
 
-    leaf-words : length (nodeAt (openedCard c .card) leaf) ≡ 24
+    leaf-words : length (nodeAt (openedCard greatest c .card) leaf) ≡ 24
     leaf-words =
-        let whole : Sized greatestNodes (length (openedCard c .card)) (openedCard c .memory .nodes) = subst (Sized greatestNodes (length (openedCard c .card))) (sym same-nodes) (left .sized) in
-        let k = landed greatestNodes (openedCard c .card) (openedCard c .memory .nodes) key leaf (leads .2 .0) runAbove whole (leads .2 .1) in
-        length-node (openedCard c .card) leaf (k .inside .one) (omega (arith, k .inside .most, whole .words))
+        let whole : Sized greatest (length (openedCard greatest c .card)) (openedCard greatest c .memory .nodes) =
+        subst (Sized greatest (length (openedCard greatest c .card))) (sym same-nodes) (left .sized) in
+        let k = landed greatest (openedCard greatest c .card) (openedCard greatest c .memory .nodes) key leaf (leads .2 .0) runAbove whole (leads .2 .1) in
+        length-node (openedCard greatest c .card) leaf (k .inside .one) (omega (arith, k .inside .most, whole .words))
 
     -- "the reason handed over for printing is the one that holds"
-    pub reason-holds : ReasonHolds c t key (reasonOf c key)
+    pub reason-holds : ReasonHolds greatest c t key (reasonOf greatest c key)
     unfolding ReasonHolds reasonFor emptyReason
-    reason-holds = subst (ReasonHolds c t key) (sym reason-is) (go leafReason refl)
+    reason-holds = subst (ReasonHolds greatest c t key) (sym reason-is) (go leafReason refl)
       where
-        go : (r : InLeaf) → leafReason ≡ r → ReasonHolds c t key (reasonFor r runAbove (countTrue (openedCard c .memory .free)))
-        go (held v) e = sym answered ∙ leaf-held (nodeAt (openedCard c .card) leaf) key v e
-        go (slot i) e = (sym answered ∙ leaf-absent (nodeAt (openedCard c .card) leaf) key (At i) e, (leaf, runAbove, i, leads .2, leaf-slot (nodeAt (openedCard c .card) leaf) key i e))
+        go : (r : InLeaf) → leafReason ≡ r → ReasonHolds greatest c t key (reasonFor r runAbove (countTrue (openedCard greatest c .memory .free)))
+        go (held v) e = sym answered ∙ leaf-held (nodeAt (openedCard greatest c .card) leaf) key v e
+        go (slot i) e = (
+          sym answered ∙ leaf-absent (nodeAt (openedCard greatest c .card) leaf) key (At i) e,
+          (leaf, runAbove, i, leads .2, leaf-slot (nodeAt (openedCard greatest c .card) leaf) key i e),
+        )
         go full e = (
-          sym answered ∙ leaf-absent (nodeAt (openedCard c .card) leaf) key NoSlot e,
-          (leaf, leads .2, leaf-full (nodeAt (openedCard c .card) leaf) leaf-words (leaf-no-slot (nodeAt (openedCard c .card) leaf) key e)),
+          sym answered ∙ leaf-absent (nodeAt (openedCard greatest c .card) leaf) key NoSlot e,
+          (leaf, leads .2, leaf-full (nodeAt (openedCard greatest c .card) leaf) leaf-words (leaf-no-slot (nodeAt (openedCard greatest c .card) leaf) key e)),
           refl,
           refl,
         )
 
     -- the insert of the key, with any value, after the repair
     abbrev insertCall : ℕ → Handed
-    insertCall value = insertOf greatestNodes (openedCard c .card) (openedCard c .memory) key value
+    insertCall value = insertOf greatest (openedCard greatest c .card) (openedCard greatest c .memory) key value
 
-    leads-after : LeadsTo greatestNodes after key leaf runAbove
-    leads-after = subst (λ (w : World (rationTable greatestNodes)). LeadsTo greatestNodes w key leaf runAbove) is-after (leads .2)
+    leads-after : LeadsTo greatest after key leaf runAbove
+    leads-after = subst (λ (w : World (rationTable greatest)). LeadsTo greatest w key leaf runAbove) is-after (leads .2)
 
     idle-after : after .state .doing ≡ Idle
-    idle-after = ap (λ (w : World (rationTable greatestNodes)). w .state .doing) (sym is-after) ∙ left .idle
+    idle-after = ap (λ (w : World (rationTable greatest)). w .state .doing) (sym is-after) ∙ left .idle
 
-    refused-eight : (value : ℕ) → leafReason ≡ full → countTrue (openedCard c .memory .free) < splitNeed runAbove → insertCall value ≡ startRefused 8 (openedCard c .memory)
+    refused-eight : (value : ℕ) → leafReason ≡ full → countTrue (openedCard greatest c .memory .free) < splitNeed runAbove → insertCall value ≡ startRefused 8 (openedCard greatest c .memory)
     refused-eight value =
-        subst (λ (w : World (rationTable greatestNodes)). insertReason (nodeAt (w .card) leaf) key ≡ full → countTrue (w .state .free) < splitNeed runAbove
-        → insertOf greatestNodes (w .card) (w .state) key value ≡ startRefused 8 (w .state)) (sym is-after)
-        (splitting-insert-refused greatestNodes (kept-after .2) key low high idle-after value leaf runAbove leads-after)
+        subst (λ (w : World (rationTable greatest)). insertReason (nodeAt (w .card) leaf) key ≡ full → countTrue (w .state .free) < splitNeed runAbove
+        → insertOf greatest (w .card) (w .state) key value ≡ startRefused 8 (w .state)) (sym is-after)
+        (splitting-insert-refused greatest (kept-after .2) key low high idle-after value leaf runAbove leads-after)
 
-    started-room : (value : ℕ) → leafReason ≡ full → splitNeed runAbove ≤ countTrue (openedCard c .memory .free) → insertCall value .begun ≡ Started
+    started-room : (value : ℕ) → leafReason ≡ full → splitNeed runAbove ≤ countTrue (openedCard greatest c .memory .free) → insertCall value .begun ≡ Started
     started-room value =
-        subst (λ (w : World (rationTable greatestNodes)). insertReason (nodeAt (w .card) leaf) key ≡ full → splitNeed runAbove ≤ countTrue (w .state .free)
-        → insertOf greatestNodes (w .card) (w .state) key value .begun ≡ Started) (sym is-after)
-        (splitting-insert-starts greatestNodes (kept-after .2) key low high idle-after value leaf runAbove leads-after)
+        subst (λ (w : World (rationTable greatest)). insertReason (nodeAt (w .card) leaf) key ≡ full → splitNeed runAbove ≤ countTrue (w .state .free)
+        → insertOf greatest (w .card) (w .state) key value .begun ≡ Started) (sym is-after)
+        (splitting-insert-starts greatest (kept-after .2) key low high idle-after value leaf runAbove leads-after)
 
     started-other : (value : ℕ) → (leafReason ≡ full → ⊥) → insertCall value .begun ≡ Started
     started-other value =
-        subst (λ (w : World (rationTable greatestNodes)). (insertReason (nodeAt (w .card) leaf) key ≡ full → ⊥) → insertOf greatestNodes (w .card) (w .state) key value .begun ≡ Started) (sym is-after)
-        (other-insert-starts greatestNodes (kept-after .2) key low high idle-after value leaf runAbove leads-after)
+        subst (λ (w : World (rationTable greatest)). (insertReason (nodeAt (w .card) leaf) key ≡ full → ⊥) → insertOf greatest (w .card) (w .state) key value .begun ≡ Started) (sym is-after)
+        (other-insert-starts greatest (kept-after .2) key low high idle-after value leaf runAbove leads-after)
 
-    not-started : (value : ℕ) → insertCall value ≡ startRefused 8 (openedCard c .memory) → insertCall value .begun ≡ Started → ⊥
+    not-started : (value : ℕ) → insertCall value ≡ startRefused 8 (openedCard greatest c .memory) → insertCall value .begun ≡ Started → ⊥
     unfolding startRefused
     not-started value e s = let z : _≡_ {A = ℕ} 0 1 = cc (sym (ap (λ (h : Handed). h .begun) e) ∙ s) in omega arith
 
     -- "an insert of that key would be refused 8 exactly when `split` is printed with F below M": F and M as they are handed over
-    pub refused-exactly : (value : ℕ) → (insertCall value ≡ startRefused 8 (openedCard c .memory)) ↔ ((j : ℕ) × (free : ℕ) × (need : ℕ) × (reasonOf c key ≡ Split j free need) × (free < need))
+    pub refused-exactly : (value : ℕ) → (insertCall value ≡ startRefused 8 (openedCard greatest c .memory))
+        ↔ ((j : ℕ) × (free : ℕ) × (need : ℕ) × (reasonOf greatest c key ≡ Split j free need) × (free < need))
     unfolding reasonFor
     refused-exactly value = (to leafReason refl, from leafReason refl)
       where
-        to : (r : InLeaf) → leafReason ≡ r → insertCall value ≡ startRefused 8 (openedCard c .memory) → (j : ℕ) × (free : ℕ) × (need : ℕ) × (reasonOf c key ≡ Split j free need) × (free < need)
+        to : (r : InLeaf) → leafReason ≡ r → insertCall value ≡ startRefused 8 (openedCard greatest c .memory)
+            → (j : ℕ) × (free : ℕ) × (need : ℕ) × (reasonOf greatest c key ≡ Split j free need) × (free < need)
         to (held v) e q = absurd (not-started value q (started-other value (λ f. let z : _≡_ {A = ℕ} 0 1 = cc in omega arith)))
         to (slot i) e q = absurd (not-started value q (started-other value (λ f. let z : _≡_ {A = ℕ} 0 1 = cc in omega arith)))
         to full e q =
-            order (countTrue (openedCard c .memory .free)) (splitNeed runAbove)
-            (λ h. (runAbove, countTrue (openedCard c .memory .free), splitNeed runAbove, reason-is ∙ ap (λ (r : InLeaf). reasonFor r runAbove (countTrue (openedCard c .memory .free))) e, h))
+            order (countTrue (openedCard greatest c .memory .free)) (splitNeed runAbove)
+            (λ h. (
+              runAbove,
+              countTrue (openedCard greatest c .memory .free),
+              splitNeed runAbove,
+              reason-is ∙ ap (λ (r : InLeaf). reasonFor r runAbove (countTrue (openedCard greatest c .memory .free))) e,
+              h,
+            ))
             (λ h. absurd (not-started value q (started-room value e h)))
 
-        from : (r : InLeaf) → leafReason ≡ r → ((j : ℕ) × (free : ℕ) × (need : ℕ) × (reasonOf c key ≡ Split j free need) × (free < need)) → insertCall value ≡ startRefused 8 (openedCard c .memory)
+        from : (r : InLeaf) → leafReason ≡ r
+            → ((j : ℕ) × (free : ℕ) × (need : ℕ) × (reasonOf greatest c key ≡ Split j free need) × (free < need))
+            → insertCall value ≡ startRefused 8 (openedCard greatest c .memory)
         from (held v) e (j, free, need, s, h) =
             let z : _≡_ {A = ℕ} 0 1 =
-            cc (sym s ∙ reason-is ∙ ap (λ (r : InLeaf). reasonFor r runAbove (countTrue (openedCard c .memory .free))) e) in
+            cc (sym s ∙ reason-is ∙ ap (λ (r : InLeaf). reasonFor r runAbove (countTrue (openedCard greatest c .memory .free))) e) in
             absurd (omega arith)
         from (slot i) e (j, free, need, s, h) =
             let z : _≡_ {A = ℕ} 0 1 =
-            cc (sym s ∙ reason-is ∙ ap (λ (r : InLeaf). reasonFor r runAbove (countTrue (openedCard c .memory .free))) e) in
+            cc (sym s ∙ reason-is ∙ ap (λ (r : InLeaf). reasonFor r runAbove (countTrue (openedCard greatest c .memory .free))) e) in
             absurd (omega arith)
         from full e (j, free, need, s, h) =
-            let q = sym s ∙ reason-is ∙ ap (λ (r : InLeaf). reasonFor r runAbove (countTrue (openedCard c .memory .free))) e in
-            let b : free ≡ countTrue (openedCard c .memory .free) = cc in
+            let q = sym s ∙ reason-is ∙ ap (λ (r : InLeaf). reasonFor r runAbove (countTrue (openedCard greatest c .memory .free))) e in
+            let b : free ≡ countTrue (openedCard greatest c .memory .free) = cc in
             let n : need ≡ splitNeed runAbove = cc in
             refused-eight value e (omega (arith, b, n))
-
--- the dump of an accepted card gives the reason that the card gives
-pub dump-reason : (c : List ℕ) → Opens (rationTable greatestNodes) c → ((i : ℕ) → getD c i 0 < 2 ^ 32) → (lent : ℕ)
-    → length c ≤ lent → (key : ℕ) → reasonInDump greatestNodes (dumpOf c) lent key ≡ reasonOf c key
-dump-reason c a fits lent room key =
-    dump-read greatestNodes (dumpOf c) lent key (length c) (dump-answered greatestNodes c a fits lent room)
-    ∙ ap (λ (l : List ℕ). reasonOf l key) (dump-words greatestNodes c fits)

@@ -1,6 +1,5 @@
 -- A repair in one call is a run of steps, and leaves a balanced table with the same map and an idle state.
 use mathlib.Core.Path.{_≡_, refl, ap, sym, _∙_}
-use Rattle.card.specs.Layout.{greatestNodes}
 use mathlib.Core.List.{List}
 use mathlib.Core.Bool.{true}
 use Prim.Native.Nat.{ℕ, zero, suc}
@@ -32,10 +31,10 @@ use mathlib.Core.Option.{none}
 abbrev pub steps : ℕ → List Event
 steps k = replicate k step
 
-rests : (k : ℕ) (w : World (rationTable greatestNodes)) → w .state .doing ≡ Idle → run (rationTable greatestNodes) (steps k) w ≡ w
+rests : (greatest : ℕ) (k : ℕ) (w : World (rationTable greatest)) → w .state .doing ≡ Idle → run (rationTable greatest) (steps k) w ≡ w
 unfolding run
-rests zero w e = refl
-rests (suc k) w e = ap (run (rationTable greatestNodes) (steps k)) (idle-world greatestNodes w e) ∙ rests k w e
+rests greatest zero w e = refl
+rests greatest (suc k) w e = ap (run (rationTable greatest) (steps k)) (idle-world greatest w e) ∙ rests greatest k w e
 
 pub is-idle : (d : Doing) → isIdle d ≡ true → d ≡ Idle
 unfolding isIdle
@@ -46,62 +45,62 @@ is-idle (Deleting key phase value) e = impossible (cc)
 is-idle (Repairing key) e = impossible (cc)
 
 -- the card and the state that a repair leaves
-abbrev pub worldFrom : Repaired → World (rationTable greatestNodes)
-worldFrom r = record { card = r .card; state = r .memory }
+abbrev pub worldFrom : (greatest : ℕ) → Repaired → World (rationTable greatest)
+worldFrom greatest r = record { card = r .card; state = r .memory }
 
 -- the loop that stops when the state is idle is the run of all the steps
-repair-run : (k : ℕ) (c : List ℕ) (m : Memory) → worldFrom (repairedCard k c m) ≡ run (rationTable greatestNodes) (steps k) (record { card = c; state = m })
+repair-run : (greatest : ℕ) (k : ℕ) (c : List ℕ) (m : Memory) → worldFrom greatest (repairedCard greatest k c m) ≡ run (rationTable greatest) (steps k) (record { card = c; state = m })
 unfolding repairedCard run happens
-repair-run zero c m = refl
-repair-run (suc k) c m = bool-cases (isIdle (m .doing)) (λ q. rw q (stays q)) (λ q. rw q (repair-run k (stepOf greatestNodes c m .card) (stepOf greatestNodes c m .memory)))
+repair-run greatest zero c m = refl
+repair-run greatest (suc k) c m = bool-cases (isIdle (m .doing)) (λ q. rw q (stays q)) (λ q. rw q (repair-run greatest k (stepOf greatest c m .card) (stepOf greatest c m .memory)))
   where
-    stays : isIdle (m .doing) ≡ true → record { card = c; state = m } ≡ run (rationTable greatestNodes) (steps (suc k)) (record { card = c; state = m })
-    stays q = sym (rests (suc k) (record { card = c; state = m }) (is-idle (m .doing) q))
+    stays : isIdle (m .doing) ≡ true → record { card = c; state = m } ≡ run (rationTable greatest) (steps (suc k)) (record { card = c; state = m })
+    stays q = sym (rests greatest (suc k) (record { card = c; state = m }) (is-idle (m .doing) q))
 
 -- a card that was opened, once its repair is done
-pub opened-run : (c : List ℕ) → worldFrom (openedCard c) ≡ run (rationTable greatestNodes) (steps repairSteps) (opened (rationTable greatestNodes) c)
+pub opened-run : (greatest : ℕ) (c : List ℕ) → worldFrom greatest (openedCard greatest c) ≡ run (rationTable greatest) (steps repairSteps) (opened (rationTable greatest) c)
 unfolding openedCard
-opened-run c = repair-run repairSteps c (openOf greatestNodes c .memory)
+opened-run greatest c = repair-run greatest repairSteps c (openOf greatest c .memory)
 
 pub all-words : (k : ℕ) → Words (steps k)
 all-words zero = tt
 all-words (suc k) = all-words k
 
-pub steps-uncut : (k : ℕ) (w : World (rationTable greatestNodes)) → LeftUncut (rationTable greatestNodes) (steps k) w
+pub steps-uncut : (greatest : ℕ) (k : ℕ) (w : World (rationTable greatest)) → LeftUncut (rationTable greatest) (steps k) w
 unfolding LeftUncut
-steps-uncut zero w = tt
-steps-uncut (suc k) w = (tt, steps-uncut k (happens (rationTable greatestNodes) step w))
+steps-uncut greatest zero w = tt
+steps-uncut greatest (suc k) w = (tt, steps-uncut greatest k (happens (rationTable greatest) step w))
 
 pub count-steps : (k : ℕ) → stepsIn (steps k) ≡ k
 count-steps zero = refl
 count-steps (suc k) = ap suc (count-steps k)
 
 -- after the repair: a balanced table, with the map that the card had when it was opened, and an idle state
-pub record After (c : List ℕ) (t : Tree) : Type 0 where
+pub record After (greatest : ℕ) (c : List ℕ) (t : Tree) : Type 0 where
   pub table : Tree
-  pub sized : Sized greatestNodes (length (openedCard c .card)) (nodesOfLength greatestNodes (length c))
-  pub accepted : cardRefusal greatestNodes (openedCard c .card) ≡ 0
-  pub balanced : Balanced (openedCard c .card) table
+  pub sized : Sized greatest (length (openedCard greatest c .card)) (nodesOfLength greatest (length c))
+  pub accepted : cardRefusal greatest (openedCard greatest c .card) ≡ 0
+  pub balanced : Balanced (openedCard greatest c .card) table
   pub map : MapIs table (pairs t)
-  pub idle : openedCard c .memory .doing ≡ Idle
+  pub idle : openedCard greatest c .memory .doing ≡ Idle
 
-module _ (c : List ℕ) (t : Tree) (a : Opens (rationTable greatestNodes) c) (w : WellFormed c t) where
-  ended : Inv greatestNodes (nodesOfLength greatestNodes (length c)) 0 (run (rationTable greatestNodes) (steps repairSteps) (opened (rationTable greatestNodes) c)) (book (pairs t) empty)
+module _ (greatest : ℕ) (c : List ℕ) (t : Tree) (a : Opens (rationTable greatest) c) (w : WellFormed c t) where
+  ended : Inv greatest (nodesOfLength greatest (length c)) 0 (run (rationTable greatest) (steps repairSteps) (opened (rationTable greatest) c)) (book (pairs t) empty)
   ended =
-      let i = opened-inv greatestNodes c t a w in
-      repair-ends greatestNodes (nodesOfLength greatestNodes (length c)) (pairs t) (steps repairSteps) repairSteps (opened (rationTable greatestNodes) c)
-      (steps-uncut repairSteps (opened (rationTable greatestNodes) c)) (omega (arith, count-steps repairSteps)) (i .0, i .2) .0
+      let i = opened-inv greatest c t a w in
+      repair-ends greatest (nodesOfLength greatest (length c)) (pairs t) (steps repairSteps) repairSteps (opened (rationTable greatest) c)
+      (steps-uncut greatest repairSteps (opened (rationTable greatest) c)) (omega (arith, count-steps repairSteps)) (i .0, i .2) .0
 
-  pub repaired : After c t
+  pub repaired : After greatest c t
   repaired =
-      let r = ap (λ (x : World (rationTable greatestNodes)). x .card) (opened-run c) in
-      let rest = at-rest greatestNodes (nodesOfLength greatestNodes (length c)) 0
-      (run (rationTable greatestNodes) (steps repairSteps) (opened (rationTable greatestNodes) c)) (book (pairs t) empty) refl ended in
+      let r = ap (λ (x : World (rationTable greatest)). x .card) (opened-run greatest c) in
+      let rest = at-rest greatest (nodesOfLength greatest (length c)) 0
+      (run (rationTable greatest) (steps repairSteps) (opened (rationTable greatest) c)) (book (pairs t) empty) refl ended in
       record {
         table = ended .tree;
         sized = rw r (ended .table .sized);
-        accepted = rw r (card-accepted greatestNodes (ended .table .sized) (ended .table .header) .0);
-        balanced = rw r (record { well-formed = table-well-formed greatestNodes (ended .table); none = rest .1 });
-        map = map-is greatestNodes ended;
-        idle = ap (λ (x : World (rationTable greatestNodes)). x .state .doing) (opened-run c) ∙ rest .0;
+        accepted = rw r (card-accepted greatest (ended .table .sized) (ended .table .header) .0);
+        balanced = rw r (record { well-formed = table-well-formed greatest (ended .table); none = rest .1 });
+        map = map-is greatest ended;
+        idle = ap (λ (x : World (rationTable greatest)). x .state .doing) (opened-run greatest c) ∙ rest .0;
       }

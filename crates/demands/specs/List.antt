@@ -1,7 +1,6 @@
 -- Document 01, "Dumps and the list program": "The program `list` reads a dump from standard input, opens and repairs it in memory,
 -- and prints." Document 02, W-201: "lists each pair once, rising, as `list` now does, 3 before 7 in its sample."
 use mathlib.Core.Path.{_≡_}
-use Rattle.card.specs.Layout.{greatestNodes, programNodes}
 use mathlib.Core.Bool.{Bool}
 use mathlib.Core.List.{List}
 use Prim.Native.Nat.{ℕ, _^_, _<_}
@@ -49,11 +48,11 @@ pub record ListsRight (T : Table) (c : List ℕ) (l : Listing) : Type 0 where
   pub as-many : (t : Tree) → WellFormed c t → length (l .pairs) ≡ length (pairs t)
 
 -- `list` of a card's words, and the text that it prints of a dump's bytes
-pub record ListProgram (T : Table) (list : List ℕ → Listed) (text : List ℕ → List ℕ) : Type 0 where
+pub record ListProgram (greatest : ℕ) (T : Table) (list : List ℕ → Listed) (text : List ℕ → List ℕ) : Type 0 where
   -- it refuses as opening does, and only then
-  pub cards : (c : List ℕ) → ByRows (openRows greatestNodes c) (λ r. (T .openCard c .reply ≡ refusal r) × (list c ≡ refused r)) ((l : Listing) × (list c ≡ listed l) × ListsRight T c l)
+  pub cards : (c : List ℕ) → ByRows (openRows greatest c) (λ r. (T .openCard c .reply ≡ refusal r) × (list c ≡ refused r)) ((l : Listing) × (list c ≡ listed l) × ListsRight T c l)
   -- 11 comes first; "12: lent slice shorter than the result" is never due
   pub dumps : (dump : List ℕ)
-      → ByRows (row 11 (Damaged programNodes dump) end) (λ r. text dump ≡ listText (refused r)) (text dump ≡ listText (list (dumpWords (wordsFor (dumpNodes dump)) dump)))
+      → ByRows (row 11 (Damaged greatest dump) end) (λ r. text dump ≡ listText (refused r)) (text dump ≡ listText (list (dumpWords (wordsFor (dumpNodes dump)) dump)))
   -- the dump of a card prints what the card does
-  pub own-dump : (c : List ℕ) → ((i : ℕ) → getD c i 0 < 2 ^ 32) → Sized programNodes (length c) (nodesOn c) → Formatted c (nodesOn c) → text (dumpOf c) ≡ listText (list c)
+  pub own-dump : (c : List ℕ) → ((i : ℕ) → getD c i 0 < 2 ^ 32) → Sized greatest (length c) (nodesOn c) → Formatted c (nodesOn c) → text (dumpOf c) ≡ listText (list c)

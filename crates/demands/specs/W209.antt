@@ -6,7 +6,7 @@ use mathlib.Core.List.{List, _++_}
 use mathlib.Core.Logic.{_⊎_, _↔_}
 use mathlib.Core.Option.{some}
 use Prim.Native.Nat.{ℕ, _<_}
-use Rattle.card.specs.Layout.{greatestNodes, programNodes, nodeAt, keyWords}
+use Rattle.card.specs.Layout.{nodeAt, keyWords}
 use Rattle.card.specs.Replies.{refusal, holds, absent}
 use Rattle.card_dump.specs.Dump.{dumpWords, wordsFor, dumpNodes}
 use Rattle.card_free.specs.NodeSet.{countTrue}
@@ -67,11 +67,11 @@ module _ (T : Table) (w : World T) (key : ℕ) (out : List ℕ) where
   TellsOfKey = ((key ≡ 0) × (out ≡ noKeyWord ++ lineFeed)) ⊎ ((key ≡ 0 → ⊥) × Tells)
 
 -- what is printed of a card
-abbrev pub OfCard : (T : Table) → List ℕ → ℕ → List ℕ → Type 0
-OfCard T c key out = ByRows (openRows greatestNodes c) (λ r. out ≡ refusalLine r) (TellsOfKey T (repairedWorld T c) key out)
+abbrev pub OfCard : ℕ → (T : Table) → List ℕ → ℕ → List ℕ → Type 0
+OfCard greatest T c key out = ByRows (openRows greatest c) (λ r. out ≡ refusalLine r) (TellsOfKey T (repairedWorld T c) key out)
 
 -- The bytes of the dump and of the file `key`, none where it is missing, give the bytes printed.
-pub record W209 (T : Table) (text : List ℕ → List ℕ → List ℕ) : Type 0 where
+pub record W209 (greatest : ℕ) (T : Table) (text : List ℕ → List ℕ → List ℕ) : Type 0 where
   -- "refusals print first, as `list` prints them": 11 of the dump, then those of opening
-  pub dumps : (dump file : List ℕ) → ByRows (row 11 (Damaged programNodes dump) end) (λ r. text dump file ≡ refusalLine r)
-      (OfCard T (dumpWords (wordsFor (dumpNodes dump)) dump) (keyIn file) (text dump file))
+  pub dumps : (dump file : List ℕ) → ByRows (row 11 (Damaged greatest dump) end) (λ r. text dump file ≡ refusalLine r)
+      (OfCard greatest T (dumpWords (wordsFor (dumpNodes dump)) dump) (keyIn file) (text dump file))

@@ -1,6 +1,5 @@
 -- Laws of what is answered: one for each branch of the code.
 use mathlib.Core.Path.{_≡_, refl}
-use Rattle.card.specs.Layout.{greatestNodes}
 use mathlib.Core.List.{List}
 use mathlib.Core.Option.{none, some}
 use Prim.Native.Nat.{ℕ}
@@ -26,17 +25,17 @@ pub summary-refused : (r : ℕ) (l : Listed) (words : List ℕ) → l ≡ refuse
 unfolding summaryOf summarized layListed
 summary-refused r l words e = rw e (refl, refl)
 
-module _ (card : List ℕ) (n : ℕ) where
-  pub table-none : n ≡ 0 → listTable card n ≡ refused 1
+module _ (greatest : ℕ) (card : List ℕ) (n : ℕ) where
+  pub table-none : n ≡ 0 → listTable greatest card n ≡ refused 1
   unfolding listTable
   table-none e = rw (eq-eqb n 0 e)
 
-  pub table-unsound : (n ≡ 0 → ⊥) → tableCheck card n ≡ none → listTable card n ≡ refused 4
+  pub table-unsound : (n ≡ 0 → ⊥) → tableCheck card n ≡ none → listTable greatest card n ≡ refused 4
   unfolding listTable listChecked
   table-unsound d e = rw (ne-eqb n 0 d, e)
 
   pub table-sound : (h : ℕ) (f : Findings) → (n ≡ 0 → ⊥) → tableCheck card n ≡ some (h, f)
-      → listTable card n ≡ listed (record { nodes = n; free = countTrue (f .free); levels = h; pairs = walkFrom greatestNodes mostPairs card 0 })
+      → listTable greatest card n ≡ listed (record { nodes = n; free = countTrue (f .free); levels = h; pairs = walkFrom greatest mostPairs card 0 })
   unfolding listTable listChecked
   table-sound h f d e = rw (ne-eqb n 0 d, e)
 
@@ -47,17 +46,17 @@ summary-listed x l words at after e p = rw (e, ← p) (refl, refl)
 
 -- ---- a card, by what opening answers
 
-module _ (card : List ℕ) where
-  pub card-refused : (r : ℕ) → openOf greatestNodes card .begun ≡ Refused r → listCard card ≡ refused r
+module _ (greatest : ℕ) (card : List ℕ) where
+  pub card-refused : (r : ℕ) → openOf greatest card .begun ≡ Refused r → listCard greatest card ≡ refused r
   unfolding listCard listBegun
   card-refused r e = rw e
 
   -- where opening does not refuse
-  pub card-listed : ((r : ℕ) → openOf greatestNodes card .begun ≡ Refused r → ⊥) → listCard card ≡ listTable (openedCard card .card) (nodesOfLength greatestNodes (length card))
+  pub card-listed : ((r : ℕ) → openOf greatest card .begun ≡ Refused r → ⊥) → listCard greatest card ≡ listTable greatest (openedCard greatest card .card) (nodesOfLength greatest (length card))
   unfolding listCard listBegun
-  card-listed opens = go (openOf greatestNodes card .begun) opens
+  card-listed opens = go (openOf greatest card .begun) opens
     where
-      go : (b : Begun) → ((r : ℕ) → b ≡ Refused r → ⊥) → listBegun card b ≡ listTable (openedCard card .card) (nodesOfLength greatestNodes (length card))
+      go : (b : Begun) → ((r : ℕ) → b ≡ Refused r → ⊥) → listBegun greatest card b ≡ listTable greatest (openedCard greatest card .card) (nodesOfLength greatest (length card))
       go Idle f = refl
       go Started f = refl
       go (Refused r) f = absurd (f r refl)
@@ -69,6 +68,6 @@ module _ (greatest : ℕ) (dump : List ℕ) (lent : ℕ) where
   unfolding listDump listRead
   dump-refused r e = rw e
 
-  pub dump-read : (size : ℕ) → readAnswer greatest dump lent ≡ Length size → listDump greatest dump lent ≡ listCard (dumpWords size dump)
+  pub dump-read : (size : ℕ) → readAnswer greatest dump lent ≡ Length size → listDump greatest dump lent ≡ listCard greatest (dumpWords size dump)
   unfolding listDump listRead
   dump-read size e = rw e

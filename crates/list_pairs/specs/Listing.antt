@@ -39,30 +39,30 @@ pub data Listed : Type 0 where
   listed : Listing → Listed
 
 -- a table that was checked; "4: table not sound"
-unfoldable pub listChecked : List ℕ → ℕ → Option (ℕ × Findings) → Listed
-listChecked card n none = refused 4
-listChecked card n (some r) = listed (record { nodes = n; free = countTrue (r .1 .free); levels = r .0; pairs = walkFrom greatestNodes mostPairs card 0 })
+unfoldable pub listChecked : ℕ → List ℕ → ℕ → Option (ℕ × Findings) → Listed
+listChecked greatest card n none = refused 4
+listChecked greatest card n (some r) = listed (record { nodes = n; free = countTrue (r .1 .free); levels = r .0; pairs = walkFrom greatest mostPairs card 0 })
 
-unfoldable pub listTable : List ℕ → ℕ → Listed
-listTable card n = pick (eqb n 0) (refused 1) (listChecked card n (tableCheck card n))
+unfoldable pub listTable : ℕ → List ℕ → ℕ → Listed
+listTable greatest card n = pick (eqb n 0) (refused 1) (listChecked greatest card n (tableCheck card n))
 
 -- "opens and repairs it in memory"
-unfoldable pub listBegun : List ℕ → Begun → Listed
-listBegun card (Refused r) = refused r
-listBegun card Idle = listTable (openedCard card .card) (nodesOfLength greatestNodes (length card))
-listBegun card Started = listTable (openedCard card .card) (nodesOfLength greatestNodes (length card))
+unfoldable pub listBegun : ℕ → List ℕ → Begun → Listed
+listBegun greatest card (Refused r) = refused r
+listBegun greatest card Idle = listTable greatest (openedCard greatest card .card) (nodesOfLength greatest (length card))
+listBegun greatest card Started = listTable greatest (openedCard greatest card .card) (nodesOfLength greatest (length card))
 
 -- a card: opened, repaired, and its table read
-unfoldable pub listCard : List ℕ → Listed
-listCard card = listBegun card (openOf greatestNodes card .begun)
+unfoldable pub listCard : ℕ → List ℕ → Listed
+listCard greatest card = listBegun greatest card (openOf greatest card .begun)
 
-unfoldable pub listRead : List ℕ → Answer → Listed
-listRead dump (ReadRefused r) = refused r
-listRead dump (Length size) = listCard (dumpWords size dump)
+unfoldable pub listRead : ℕ → List ℕ → Answer → Listed
+listRead greatest dump (ReadRefused r) = refused r
+listRead greatest dump (Length size) = listCard greatest (dumpWords size dump)
 
 -- a dump of a card up to some greatest N, read into so many words: "Reading a dump checks 11, 12"
 unfoldable pub listDump : ℕ → List ℕ → ℕ → Listed
-listDump greatest dump lent = listRead dump (readAnswer greatest dump lent)
+listDump greatest dump lent = listRead greatest dump (readAnswer greatest dump lent)
 
 -- ---- how the pairs are stored: key, value, key, value .., as many as a lent slice has room for
 

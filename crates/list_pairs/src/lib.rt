@@ -4,12 +4,11 @@ mod pairs;
 use call_repair::open_repaired;
 use card_check::Checked;
 use pairs::put_pairs;
-use table::Begun;
-use table::STATE_WORDS;
+use state::Begun;
+use state::block::STATE_WORDS;
 ghost use mathlib.Core.Path.{_≡_};
 ghost use lib.ListN.{length};
 ghost use Rattle.call_repair.specs.Repairing.{openedCard, openedOver};
-ghost use Rattle.card.specs.Layout.{greatestNodes};
 ghost use Rattle.card.specs.Header.{nodesOfLength};
 ghost use Rattle.list_pairs.specs.Listing.{listTable, listCard, listDump, layListed};
 ghost use Rattle.list_pairs.specs.Summaries.{summaryOf};
@@ -38,11 +37,11 @@ fn refusing(refusal: u32) -> Summary
 }
 
 // The table of a card as it is, checked once more: its height and its free nodes are those that the check finds.
-fn list_table(card: &[u32], out: &mut [u32]) -> Summary
-    ensures { λ r. ⌜ r ≡ summaryOf (listTable (now (card .entry)) (nodesOfLength greatestNodes (length (now (card .entry))))) (now (out .entry)) ⌝ }
-    ensures { λ r. ⌜ now (out .exit) ≡ layListed (listTable (now (card .entry)) (nodesOfLength greatestNodes (length (now (card .entry))))) (now (out .entry)) .words ⌝ }
+fn list_table(card: &[u32], out: &mut [u32], greatest: usize) -> Summary
+    ensures { λ r. ⌜ r ≡ summaryOf (listTable greatest (now (card .entry)) (nodesOfLength greatest (length (now (card .entry))))) (now (out .entry)) ⌝ }
+    ensures { λ r. ⌜ now (out .exit) ≡ layListed (listTable greatest (now (card .entry)) (nodesOfLength greatest (length (now (card .entry))))) (now (out .entry)) .words ⌝ }
 {
-    let n = card::nodes_of(card.len(), card::GREATEST_NODES);
+    let n = card::nodes_of(card.len(), greatest);
     if n == 0 {
         return refusing(1);
     }
@@ -52,7 +51,7 @@ fn list_table(card: &[u32], out: &mut [u32]) -> Summary
         return refusing(4);
     };
     let free = card_free::count(&unreached);
-    let words = put_pairs(card, out);
+    let words = put_pairs(card, out, greatest);
     Summary {
         refusal: 0,
         nodes: n,
@@ -63,15 +62,15 @@ fn list_table(card: &[u32], out: &mut [u32]) -> Summary
 }
 
 // "opens and repairs it in memory": a card.
-pub fn list_card(card: &mut [u32], out: &mut [u32]) -> Summary
-    ensures { λ r. ⌜ r ≡ summaryOf (listCard (now (card .entry))) (now (out .entry)) ⌝ }
-    ensures { λ r. ⌜ now (out .exit) ≡ layListed (listCard (now (card .entry))) (now (out .entry)) .words ⌝ }
-    ensures { λ r. ⌜ now (card .exit) ≡ openedCard (now (card .entry)) .card ⌝ }
+pub fn list_card(card: &mut [u32], out: &mut [u32], greatest: usize) -> Summary
+    ensures { λ r. ⌜ r ≡ summaryOf (listCard greatest (now (card .entry))) (now (out .entry)) ⌝ }
+    ensures { λ r. ⌜ now (out .exit) ≡ layListed (listCard greatest (now (card .entry))) (now (out .entry)) .words ⌝ }
+    ensures { λ r. ⌜ now (card .exit) ≡ openedCard greatest (now (card .entry)) .card ⌝ }
 {
     let mut state: [u32; STATE_WORDS] = [0; STATE_WORDS];
-    match open_repaired(card, &mut state) {
+    match open_repaired(card, &mut state, greatest) {
         Begun::Refused(refusal) => refusing(refusal),
-        Begun::Idle | Begun::Started => list_table(card, out),
+        Begun::Idle | Begun::Started => list_table(card, out, greatest),
     }
 }
 
@@ -83,6 +82,6 @@ pub fn list_dump(bytes: &[u8], card: &mut [u32], out: &mut [u32], greatest: usiz
 {
     match card_dump::read_dump(bytes, card, greatest) {
         card_dump::Answer::Refused(refusal) => refusing(refusal),
-        card_dump::Answer::Length(size) => list_card(&mut card[..size], out),
+        card_dump::Answer::Length(size) => list_card(&mut card[..size], out, greatest),
     }
 }

@@ -1,10 +1,9 @@
 // The pairs of a card, by rising key, stored in a lent slice as key, value, key, value ..
-use table::Successor;
-use table::next_pair;
+use walk_next::Successor;
+use walk_next::next_pair;
 ghost use mathlib.Core.Path.{_≡_};
 ghost use Prim.Native.Nat.{_≤_};
 ghost use lib.ListN.{length};
-ghost use Rattle.card.specs.Layout.{greatestNodes};
 ghost use Rattle.walk_next.specs.Successor.{walkFrom};
 ghost use Rattle.list_pairs.specs.Listing.{mostPairs, laid, layPair, layPairs};
 
@@ -27,15 +26,15 @@ fn put_pair(out: &mut [u32], at: usize, key: u32, value: u32) -> usize
 
 // "Walking an unchanged card from 0 lists each pair once, rising": stores them from the slice's start on, and answers how many words
 // hold them.
-pub fn put_pairs(card: &[u32], out: &mut [u32]) -> usize
-    ensures { λ r. ⌜ laid r (now (out .exit)) ≡ layPairs (walkFrom greatestNodes mostPairs (now (card .entry)) 0) (laid 0 (now (out .entry))) ⌝ }
+pub fn put_pairs(card: &[u32], out: &mut [u32], greatest: usize) -> usize
+    ensures { λ r. ⌜ laid r (now (out .exit)) ≡ layPairs (walkFrom greatest mostPairs (now (card .entry)) 0) (laid 0 (now (out .entry))) ⌝ }
 {
     let mut at: usize = 0;
     let mut after: u32 = 0;
     let mut left: usize = MOST_PAIRS;
     while 0 < left {
         left -= 1;
-        let Successor::Pair { key, value } = next_pair(card, after) else {
+        let Successor::Pair { key, value } = next_pair(card, after, greatest) else {
             return at;
         };
         at = put_pair(out, at, key, value);

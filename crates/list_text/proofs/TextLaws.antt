@@ -1,6 +1,5 @@
 -- Laws of the text: a turn of the loop over the pairs, and what `list_pairs::list_dump` hands over.
 use mathlib.Core.Path.{_≡_, refl, ap, ap₂, _∙_}
-use Rattle.card.specs.Layout.{programNodes}
 use mathlib.Core.List.{List, [], _∷_, _++_}
 use Prim.Native.Nat.{ℕ, suc, _+_, _/_, _^_, _≤_, _<_}
 use native.Mathlib.Omega.{arith}
@@ -104,12 +103,21 @@ module _ (s : Summary) (words : List ℕ) where
       rw (eq-eqb (s .refusal) 0 e, count)
 
 -- the call of `list_pairs::list_dump` on rows of zeros
-module _ (dump : List ℕ) (s : Summary) (e : s ≡ summaryOf (listDump programNodes dump (length (zeros cardRoom))) (zeros pairRoom)) where
-  pub handed-is : (after : List ℕ) → after ≡ layListed (listDump programNodes dump (length (zeros cardRoom))) (zeros pairRoom) .words → listingTold s after ≡ listingHanded dump
+module _ (greatest : ℕ) (dump : List ℕ) (s : Summary) (e : s ≡ summaryOf (listDump greatest dump (length (zeros (cardRoom greatest)))) (zeros (pairRoom greatest))) where
+  pub handed-is : (after : List ℕ)
+      → after ≡ layListed (listDump greatest dump (length (zeros (cardRoom greatest)))) (zeros (pairRoom greatest)) .words
+      → listingTold s after ≡ listingHanded greatest dump
   unfolding listingHanded
   handed-is after w =
-      let size : length (zeros cardRoom) ≡ cardRoom = length-replicate {A = ℕ} cardRoom 0 in
-      ap₂ listingTold (e ∙ ap (λ (k : ℕ). summaryOf (listDump programNodes dump k) (zeros pairRoom)) size) (w ∙ ap (λ (k : ℕ). layListed (listDump programNodes dump k) (zeros pairRoom) .words) size)
+      let size : length (zeros (cardRoom greatest)) ≡ cardRoom greatest = length-replicate {A = ℕ} (cardRoom greatest) 0 in
+      ap₂ listingTold (e ∙ ap (λ (k : ℕ). summaryOf (listDump greatest dump k) (zeros (pairRoom greatest))) size)
+      (w ∙ ap (λ (k : ℕ). layListed (listDump greatest dump k) (zeros (pairRoom greatest)) .words) size)
 
-  pub words-fit : s .words ≤ pairRoom
-  words-fit = omega (arith, ap (λ (x : Summary). x .words) e, words-within (listDump programNodes dump (length (zeros cardRoom))) (zeros pairRoom), length-replicate {A = ℕ} pairRoom 0)
+  pub words-fit : s .words ≤ pairRoom greatest
+  words-fit =
+      omega (
+        arith,
+        ap (λ (x : Summary). x .words) e,
+        words-within (listDump greatest dump (length (zeros (cardRoom greatest)))) (zeros (pairRoom greatest)),
+        length-replicate {A = ℕ} (pairRoom greatest) 0,
+      )

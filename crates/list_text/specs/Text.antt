@@ -4,7 +4,6 @@ use Prim.Native.Nat.{ℕ, _*_}
 use lib.ListN.{length, take, replicate}
 use lib.Dec.{eqb}
 use Rattle.laws.specs.Cases.{pick}
-use Rattle.card.specs.Layout.{programNodes}
 use Rattle.list_pairs.specs.Listing.{Listed, refused, listed, listDump, layListed}
 use Rattle.list_pairs.specs.Summaries.{summaryOf}
 use Rattle.list_pairs.specs.declared.Summary.{Summary}
@@ -61,17 +60,20 @@ unfoldable pub listingTold : Summary → List ℕ → Listed
 listingTold s words =
     pick (eqb (s .refusal) 0) (listed (record { nodes = s .nodes; free = s .free; levels = s .levels; pairs = pairsOfWords (take (s .words) words) })) (refused (s .refusal))
 
--- the words that the pairs of a dump are laid into: key and value of 11 pairs for each of 600 nodes
-abbrev pub pairRoom : ℕ
-pairRoom = 22 * programNodes
+-- the words that the pairs of a dump of a card up to some greatest N are laid into: key and value of 11 pairs for each node
+abbrev pub pairRoom : ℕ → ℕ
+pairRoom greatest = 22 * greatest
 
 abbrev pub zeros : ℕ → List ℕ
 zeros n = replicate n 0
 
--- the listing of a dump as it is handed to the printing. It is `listDump programNodes dump cardRoom`: demands, ListText `handed-whole`
-unfoldable pub listingHanded : List ℕ → Listed
-listingHanded dump = listingTold (summaryOf (listDump programNodes dump cardRoom) (zeros pairRoom)) (layListed (listDump programNodes dump cardRoom) (zeros pairRoom) .words)
+-- the listing of such a dump as it is handed to the printing. It is `listDump greatest dump (cardRoom greatest)`: demands, ListText `handed-whole`
+unfoldable pub listingHanded : ℕ → List ℕ → Listed
+listingHanded greatest dump =
+    listingTold (summaryOf (listDump greatest dump (cardRoom greatest)) (zeros (pairRoom greatest)))
+    (layListed (listDump greatest dump (cardRoom greatest)) (zeros (pairRoom greatest)) .words)
 
--- the text of a dump. It is `listText (listDump programNodes dump cardRoom)`: demands, ListText `text-right`
-unfoldable pub dumpText : List ℕ → List ℕ
-dumpText dump = listText (listingHanded dump)
+-- its text, which the program prints for the greatest N that it is made for. It is `listText (listDump greatest dump (cardRoom greatest))`: demands,
+-- ListText `text-right`
+unfoldable pub dumpText : ℕ → List ℕ → List ℕ
+dumpText greatest dump = listText (listingHanded greatest dump)

@@ -10,6 +10,7 @@ ghost use mathlib.Core.Path.{_≡_};
 ghost use mathlib.Core.List.{_++_};
 ghost use Prim.Native.Nat.{_+_, _*_, _/_, _≤_};
 ghost use lib.ListN.{length, drop};
+ghost use Rattle.card.specs.Layout.{programNodes};
 ghost use Rattle.list_text.specs.Text.{firstLine, pairLine, pairLines, pairsOfWords, dumpText};
 ghost use Rattle.text_row.specs.Filling.{filled, fill};
 
@@ -63,8 +64,8 @@ fn put_pairs(text: &mut [u8], at: usize, words: &[u32]) -> usize
 // What `list` prints for a dump, from the start of the row on; the answer is how many bytes it is. The words are those of 600
 // nodes, and the pairs those of 600 leaves.
 pub fn list_text(dump: &[u8], text: &mut Text) -> usize
-    ensures { λ r. ⌜ r ≡ length (dumpText (now (dump .entry))) ⌝ }
-    ensures { λ r. ⌜ now (text .exit) ≡ dumpText (now (dump .entry)) ++ drop (length (dumpText (now (dump .entry)))) (now (text .entry)) ⌝ }
+    ensures { λ r. ⌜ r ≡ length (dumpText programNodes (now (dump .entry))) ⌝ }
+    ensures { λ r. ⌜ now (text .exit) ≡ dumpText programNodes (now (dump .entry)) ++ drop (length (dumpText programNodes (now (dump .entry)))) (now (text .entry)) ⌝ }
 {
     let mut card = [0u32; card::PROGRAM_WORDS];
     let mut out = [0u32; PAIR_WORDS];

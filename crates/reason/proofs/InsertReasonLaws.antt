@@ -1,6 +1,5 @@
 -- Laws of the reason: one for each branch of the code.
 use mathlib.Core.Path.{_≡_, refl, sym, subst, _∙_}
-use Rattle.card.specs.Layout.{greatestNodes}
 use mathlib.Core.Bool.{Bool}
 use mathlib.Core.List.{List, [], _∷_}
 use Prim.Native.Nat.{ℕ}
@@ -20,29 +19,30 @@ use Rattle.card_dump.specs.declared.Answer.the-variants.{Length, Refused as Rea
 use Rattle.reason.specs.InsertReason.{reasonLanded, reasonOn, reasonBegun, reasonOf, reasonRead, reasonInDump}
 use Rattle.reason.specs.declared.Reason.the-variants.{Refused, NoKey}
 
-module _ (card : List ℕ) (free : List Bool) (key n : ℕ) (counted : n ≡ nodesOfLength greatestNodes (length card)) where
-  pub on-no-length : n ≡ 0 → reasonOn card free key ≡ Refused 1
+module _ (greatest : ℕ) (card : List ℕ) (free : List Bool) (key n : ℕ) (counted : n ≡ nodesOfLength greatest (length card)) where
+  pub on-no-length : n ≡ 0 → reasonOn greatest card free key ≡ Refused 1
   unfolding reasonOn
-  on-no-length z = simp (eq-eqb (nodesOfLength greatestNodes (length card)) 0 (sym counted ∙ z))
+  on-no-length z = simp (eq-eqb (nodesOfLength greatest (length card)) 0 (sym counted ∙ z))
 
-  pub on-no-key : (n ≡ 0 → ⊥) → key ≡ 0 → reasonOn card free key ≡ NoKey
+  pub on-no-key : (n ≡ 0 → ⊥) → key ≡ 0 → reasonOn greatest card free key ≡ NoKey
   unfolding reasonOn
-  on-no-key p z = simp (ne-eqb (nodesOfLength greatestNodes (length card)) 0 (λ q. p (counted ∙ q)), eq-eqb key 0 z)
+  on-no-key p z = simp (ne-eqb (nodesOfLength greatest (length card)) 0 (λ q. p (counted ∙ q)), eq-eqb key 0 z)
 
-  pub on-key : (n ≡ 0 → ⊥) → (key ≡ 0 → ⊥) → reasonOn card free key ≡ reasonLanded card free key (landing card n key)
+  pub on-key : (n ≡ 0 → ⊥) → (key ≡ 0 → ⊥) → reasonOn greatest card free key ≡ reasonLanded card free key (landing card n key)
   unfolding reasonOn
-  on-key p q = simp (ne-eqb (nodesOfLength greatestNodes (length card)) 0 (λ z. p (counted ∙ z)), ne-eqb key 0 q, ← counted)
+  on-key p q = simp (ne-eqb (nodesOfLength greatest (length card)) 0 (λ z. p (counted ∙ z)), ne-eqb key 0 q, ← counted)
 
-module _ (card : List ℕ) (key : ℕ) where
-  pub of-refused : (r : ℕ) → openOf greatestNodes card .begun ≡ BegunRefused r → reasonOf card key ≡ Refused r
+module _ (greatest : ℕ) (card : List ℕ) (key : ℕ) where
+  pub of-refused : (r : ℕ) → openOf greatest card .begun ≡ BegunRefused r → reasonOf greatest card key ≡ Refused r
   unfolding reasonOf reasonBegun
   of-refused r e = rw e
 
-  pub of-opened : ((r : ℕ) → openOf greatestNodes card .begun ≡ BegunRefused r → ⊥) → reasonOf card key ≡ reasonOn (openedCard card .card) (openedCard card .memory .free) key
+  pub of-opened : ((r : ℕ) → openOf greatest card .begun ≡ BegunRefused r → ⊥)
+      → reasonOf greatest card key ≡ reasonOn greatest (openedCard greatest card .card) (openedCard greatest card .memory .free) key
   unfolding reasonOf reasonBegun
-  of-opened unrefused = go (openOf greatestNodes card .begun) refl
+  of-opened unrefused = go (openOf greatest card .begun) refl
     where
-      go : (b : Begun) → openOf greatestNodes card .begun ≡ b → reasonOf card key ≡ reasonOn (openedCard card .card) (openedCard card .memory .free) key
+      go : (b : Begun) → openOf greatest card .begun ≡ b → reasonOf greatest card key ≡ reasonOn greatest (openedCard greatest card .card) (openedCard greatest card .memory .free) key
       go Idle e = rw e
       go Started e = rw e
       go (BegunRefused r) e = absurd (unrefused r e)
@@ -56,6 +56,6 @@ module _ (greatest : ℕ) (dump : List ℕ) (lent key : ℕ) where
   unfolding reasonInDump reasonRead
   dump-refused r e = rw e
 
-  pub dump-read : (size : ℕ) → readAnswer greatest dump lent ≡ Length size → reasonInDump greatest dump lent key ≡ reasonOf (dumpWords size dump) key
+  pub dump-read : (size : ℕ) → readAnswer greatest dump lent ≡ Length size → reasonInDump greatest dump lent key ≡ reasonOf greatest (dumpWords size dump) key
   unfolding reasonInDump reasonRead
   dump-read size e = rw e

@@ -6,7 +6,6 @@ use Prim.Native.Nat.{ℕ}
 use lib.ListN.{length}
 use lib.Dec.{eqb}
 use Rattle.laws.specs.Cases.{pick}
-use Rattle.card.specs.Layout.{greatestNodes}
 use Rattle.card.specs.Header.{nodesOfLength}
 use Rattle.card.specs.Layout.{nodeAt}
 use Rattle.card_free.specs.NodeSet.{countTrue}
@@ -36,24 +35,24 @@ reasonLanded card free key NoLanding = Refused 9
 reasonLanded card free key (LandingAt m link run) = reasonFor (insertReason (nodeAt card m) key) run (countTrue free)
 
 -- on a card with these free nodes; a key of 0 is no key
-unfoldable pub reasonOn : List ℕ → List Bool → ℕ → Reason
-reasonOn card free key =
-    pick (eqb (nodesOfLength greatestNodes (length card)) 0) (Refused 1)
-    (pick (eqb key 0) NoKey (reasonLanded card free key (landing card (nodesOfLength greatestNodes (length card)) key)))
+unfoldable pub reasonOn : ℕ → List ℕ → List Bool → ℕ → Reason
+reasonOn greatest card free key =
+    pick (eqb (nodesOfLength greatest (length card)) 0) (Refused 1)
+    (pick (eqb key 0) NoKey (reasonLanded card free key (landing card (nodesOfLength greatest (length card)) key)))
 
 -- "opens and repairs it"; "refusals print first, as `list` prints them"
-unfoldable pub reasonBegun : List ℕ → ℕ → Begun → Reason
-reasonBegun card key (BegunRefused r) = Refused r
-reasonBegun card key Idle = reasonOn (openedCard card .card) (openedCard card .memory .free) key
-reasonBegun card key Started = reasonOn (openedCard card .card) (openedCard card .memory .free) key
+unfoldable pub reasonBegun : ℕ → List ℕ → ℕ → Begun → Reason
+reasonBegun greatest card key (BegunRefused r) = Refused r
+reasonBegun greatest card key Idle = reasonOn greatest (openedCard greatest card .card) (openedCard greatest card .memory .free) key
+reasonBegun greatest card key Started = reasonOn greatest (openedCard greatest card .card) (openedCard greatest card .memory .free) key
 
-unfoldable pub reasonOf : List ℕ → ℕ → Reason
-reasonOf card key = reasonBegun card key (openOf greatestNodes card .begun)
+unfoldable pub reasonOf : ℕ → List ℕ → ℕ → Reason
+reasonOf greatest card key = reasonBegun greatest card key (openOf greatest card .begun)
 
 -- "A program reads a dump from standard input": of a card up to some greatest N, into so many words
-unfoldable pub reasonRead : List ℕ → ℕ → Answer → Reason
-reasonRead dump key (ReadRefused r) = Refused r
-reasonRead dump key (Length size) = reasonOf (dumpWords size dump) key
+unfoldable pub reasonRead : ℕ → List ℕ → ℕ → Answer → Reason
+reasonRead greatest dump key (ReadRefused r) = Refused r
+reasonRead greatest dump key (Length size) = reasonOf greatest (dumpWords size dump) key
 
 unfoldable pub reasonInDump : ℕ → List ℕ → ℕ → ℕ → Reason
-reasonInDump greatest dump lent key = reasonRead dump key (readAnswer greatest dump lent)
+reasonInDump greatest dump lent key = reasonRead greatest dump key (readAnswer greatest dump lent)

@@ -1,10 +1,10 @@
 // What stands in the way of a new number: the value that its key holds already, a leaf with an empty slot, or a split and the room
 // for it (document 02, W-209).
 use call_repair::open_repaired;
+use state::Begun;
 use state::block::FREE;
 use state::block::PLACES;
-use table::Begun;
-use table::STATE_WORDS;
+use state::block::STATE_WORDS;
 use walk::Landing;
 use walk::Slot;
 ghost use mathlib.Core.Path.{_≡_};
@@ -60,11 +60,11 @@ fn reason_in(leaf: &[u32], key: u32, free: &[u32], run: usize) -> Reason
 }
 
 // On a card with these free nodes.
-fn reason_on(card: &[u32], free: &[u32], key: u32) -> Reason
+fn reason_on(card: &[u32], free: &[u32], key: u32, greatest: usize) -> Reason
     requires { ⌜ length (now free) ≡ wordCount ⌝ }
-    ensures { λ r. ⌜ r ≡ reasonOn (now (card .entry)) (nodesOf (now (free .entry))) key ⌝ }
+    ensures { λ r. ⌜ r ≡ reasonOn greatest (now (card .entry)) (nodesOf (now (free .entry))) key ⌝ }
 {
-    let n = card::nodes_of(card.len(), card::GREATEST_NODES);
+    let n = card::nodes_of(card.len(), greatest);
     if n == 0 {
         return Reason::Refused(1);
     }
@@ -80,23 +80,23 @@ fn reason_on(card: &[u32], free: &[u32], key: u32) -> Reason
 }
 
 // On a card that was opened and repaired, with the state that it was left with.
-fn reason_with(card: &[u32], state: &[u32], key: u32) -> Reason
+fn reason_with(card: &[u32], state: &[u32], key: u32, greatest: usize) -> Reason
     requires { ⌜ length (now state) ≡ stateWords ⌝ }
-    ensures { λ r. ⌜ r ≡ reasonOn (now (card .entry)) (memoryIn (now (state .entry)) .free) key ⌝ }
+    ensures { λ r. ⌜ r ≡ reasonOn greatest (now (card .entry)) (memoryIn (now (state .entry)) .free) key ⌝ }
 {
-    reason_on(card, &state[FREE..PLACES], key)
+    reason_on(card, &state[FREE..PLACES], key, greatest)
 }
 
 // "opens and repairs it": a card.
-pub fn insert_reason(card: &mut [u32], key: u32) -> Reason
-    ensures { λ r. ⌜ r ≡ reasonOf (now (card .entry)) key ⌝ }
-    ensures { λ r. ⌜ now (card .exit) ≡ openedCard (now (card .entry)) .card ⌝ }
+pub fn insert_reason(card: &mut [u32], key: u32, greatest: usize) -> Reason
+    ensures { λ r. ⌜ r ≡ reasonOf greatest (now (card .entry)) key ⌝ }
+    ensures { λ r. ⌜ now (card .exit) ≡ openedCard greatest (now (card .entry)) .card ⌝ }
 {
     let mut state: [u32; STATE_WORDS] = [0; STATE_WORDS];
-    if let Begun::Refused(refusal) = open_repaired(card, &mut state) {
+    if let Begun::Refused(refusal) = open_repaired(card, &mut state, greatest) {
         return Reason::Refused(refusal);
     }
-    reason_with(card, &state, key)
+    reason_with(card, &state, key, greatest)
 }
 
 // A dump of a card up to some greatest N, read into a lent slice.
@@ -106,7 +106,7 @@ pub fn insert_reason_in_dump(bytes: &[u8], card: &mut [u32], key: u32, greatest:
 {
     match card_dump::read_dump(bytes, card, greatest) {
         card_dump::Answer::Refused(refusal) => Reason::Refused(refusal),
-        card_dump::Answer::Length(size) => insert_reason(&mut card[..size], key),
+        card_dump::Answer::Length(size) => insert_reason(&mut card[..size], key, greatest),
     }
 }
 

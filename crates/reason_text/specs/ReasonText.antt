@@ -6,7 +6,6 @@ use Rattle.reason.specs.InsertReason.{reasonInDump}
 use Rattle.reason.specs.declared.Reason.{Reason}
 use Rattle.reason.specs.declared.Reason.the-variants.{Refused, NoKey, Held, Slot, Split}
 use Rattle.reason_key.specs.KeyFile.{keyIn}
-use Rattle.card.specs.Layout.{programNodes}
 use Rattle.call_repair.specs.Repairing.{cardRoom}
 
 -- "no key"
@@ -41,6 +40,6 @@ reasonText (Held value) = numberLine heldWord value
 reasonText Slot = slotWord ++ lineFeed
 reasonText (Split run free need) = splitLine run free need
 
--- what is printed of a dump and of the bytes of the file that has the key
-unfoldable pub checkText : List ℕ → List ℕ → List ℕ
-checkText dump file = reasonText (reasonInDump programNodes dump cardRoom (keyIn file))
+-- what is printed of a dump of a card up to some greatest N and of the bytes of the file that has the key
+unfoldable pub checkText : ℕ → List ℕ → List ℕ → List ℕ
+checkText greatest dump file = reasonText (reasonInDump greatest dump (cardRoom greatest) (keyIn file))

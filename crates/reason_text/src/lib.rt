@@ -11,6 +11,7 @@ ghost use mathlib.Core.List.{_++_};
 ghost use Prim.Native.Nat.{_≤_};
 ghost use lib.ListN.{length, drop};
 ghost use Rattle.text_row.specs.Filling.{filled, fill};
+ghost use Rattle.card.specs.Layout.{programNodes};
 ghost use Rattle.reason_text.specs.ReasonText.{splitLine, reasonText, checkText};
 
 // Room for the longest text, `split J free F need M` with numbers of at most 20 digits.
@@ -46,8 +47,9 @@ fn put_reason(text: &mut [u8], reason: Reason) -> usize
 // What `insert_check` prints for a dump and the bytes of the file that has the key; the answer is how many bytes it is. The words
 // are those of 600 nodes.
 pub fn check_text(dump: &[u8], file: &[u8], text: &mut Line) -> usize
-    ensures { λ r. ⌜ r ≡ length (checkText (now (dump .entry)) (now (file .entry))) ⌝ }
-    ensures { λ r. ⌜ now (text .exit) ≡ checkText (now (dump .entry)) (now (file .entry)) ++ drop (length (checkText (now (dump .entry)) (now (file .entry)))) (now (text .entry)) ⌝ }
+    ensures { λ r. ⌜ r ≡ length (checkText programNodes (now (dump .entry)) (now (file .entry))) ⌝ }
+    ensures { λ r. ⌜ now (text .exit) ≡ checkText programNodes (now (dump .entry)) (now (file .entry))
+        ++ drop (length (checkText programNodes (now (dump .entry)) (now (file .entry)))) (now (text .entry)) ⌝ }
 {
     let mut card = [0u32; card::PROGRAM_WORDS];
     let reason = reason::insert_reason_for_file(dump, file, &mut card, card::PROGRAM_NODES);

@@ -24,7 +24,7 @@ unfolding openedCard
 returns c =
     let s = c .before .before .before .before .before .before .before .before .before .before .before .before .before .before in (
       c .before .before .before .before .before .before .before .before .before .«open» .ensures .opened (s .pre) .answered,
-      c .before .before .before .before .repair .ensures ∙ ap (λ (m : Memory). repairedCard repairSteps (s .args .card .now) m)
+      c .before .before .before .before .repair .ensures ∙ ap (λ (m : Memory). repairedCard (s .args .greatest) repairSteps (s .args .card .now) m)
           (c .before .before .before .before .before .before .before .before .before .«open» .ensures .opened (s .pre) .handed),
     )
 

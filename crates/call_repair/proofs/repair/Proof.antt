@@ -12,10 +12,12 @@ use Rattle.call_repair.proofs.repair.Statement.{statement}
 use Rattle.call_repair.proofs.repair.Tie as tie
 
 abbrev Inv-loop : tie.InvT-loop
-Inv-loop card₀ state₀ left₀ card state left = (repairedCard repairSteps card₀ (memoryIn state₀) ≡ repairedCard left card (memoryIn state)) × (length card ≡ length card₀) × (length state ≡ stateWords)
+Inv-loop card₀ state₀ greatest left₀ card state left =
+    (repairedCard greatest repairSteps card₀ (memoryIn state₀) ≡ repairedCard greatest left card (memoryIn state))
+    × (length card ≡ length card₀) × (length state ≡ stateWords)
 
 abbrev μ-loop : tie.MeasureT-loop
-μ-loop card₀ state₀ left₀ card state left = left
+μ-loop card₀ state₀ greatest left₀ card state left = left
 
 mul-left : tie.Need-mul-left Inv-loop μ-loop
 mul-left c = search needs
@@ -38,7 +40,7 @@ same-length-2 c = search needs
 returns : tie.Need-returns Inv-loop μ-loop
 unfolding leftBy
 returns c =
-    sym (c .before .before .before .before .loop .inv .0 ∙ repair-idle (c .before .before .before .before .loop .left)
+    sym (c .before .before .before .before .loop .inv .0 ∙ repair-idle _ (c .before .before .before .before .loop .left)
     (c .before .before .before .before .loop .card) (memoryIn (c .before .before .before .before .loop .state))
     (sym (c .before .is-idle .ensures .0 (c .before .before .before .before .loop .inv .2)) ∙ c .if1 .taken))
 
@@ -55,12 +57,12 @@ loop-again : tie.Need-loop-again Inv-loop μ-loop
 loop-again c =
     let long = c .before .before .before .before .before .before .before .before .before .before .before .loop .inv .2 in (
       c .before .before .before .before .before .before .before .before .before .before .before .loop .inv .0
-          ∙ repair-on (c .before .before .before .before .before .before .before .before .before .before .before .loop .left)
+          ∙ repair-on _ (c .before .before .before .before .before .before .before .before .before .before .before .loop .left)
           (c .before .before .before .before .before .before .before .before .before .before .before .loop .card)
           (memoryIn (c .before .before .before .before .before .before .before .before .before .before .before .loop .state)) (omega arith)
           (sym (c .before .before .before .before .before .before .before .before .is-idle .ensures .0 long)
           ∙ c .before .before .before .before .before .before .before .if1 .left)
-          ∙ ap₂ (repairedCard (c .before .before .before .before .before .before .before .before .before .before .before .loop .left - 1))
+          ∙ ap₂ (repairedCard _ (c .before .before .before .before .before .before .before .before .before .before .before .loop .left - 1))
           (sym (c .before .before .before .before .step .ensures .made long .stored))
           (sym (c .before .before .before .before .step .ensures .made long .handed)),
       c .before .before .before .before .step .kept .0 ∙ c .before .before .before .before .before .before .before .before .before .before .before .loop .inv .1,
@@ -75,7 +77,7 @@ same-length-4 c = search needs
 
 returns-2 : tie.Need-returns-2 Inv-loop μ-loop
 unfolding leftBy
-returns-2 c = sym (c .before .loop .inv .0 ∙ repair-over (c .before .loop .left) (c .before .loop .card) (memoryIn (c .before .loop .state)) (omega arith))
+returns-2 c = sym (c .before .loop .inv .0 ∙ repair-over _ (c .before .loop .left) (c .before .loop .card) (memoryIn (c .before .loop .state)) (omega arith))
 
 pub repair-spec : {M : Type 1} → statement M
 repair-spec =

@@ -1,6 +1,5 @@
 -- `list_pairs::list_card` meets its contract.
 use mathlib.Core.Path.{_≡_, ap, ap₂, sym, _∙_}
-use Rattle.card.specs.Layout.{greatestNodes}
 use mathlib.Core.Logic.{⊎-elim}
 use Prim.Native.Nat.{ℕ}
 use native.Mathlib.Omega.{arith}
@@ -39,7 +38,7 @@ returns c =
     let s = c .before .before .before .before .before .before .before .before .before .before .before .before in
     let b = c .before .before .refusal in
     let e = sym (c .before .before .before .before .before .before .before .open-repaired .ensures .0) ∙ b .given .1 in
-    let q = summary-refused (b .given .0 .0) (listCard (s .args .card .now)) (s .args .out .now) (card-refused (s .args .card .now) (b .given .0 .0) e) in
+    let q = summary-refused (b .given .0 .0) (listCard (s .args .greatest) (s .args .card .now)) (s .args .out .now) (card-refused _ (s .args .card .now) (b .given .0 .0) e) in
     (c .refusing .ensures ∙ q .0, (q .1, ap (λ (x : Repaired). x .card) (c .before .before .before .before .before .before .before .open-repaired .ensures .1)))
 
 same-length-2 : tie.Need-same-length-2
@@ -55,9 +54,9 @@ returns-2 c =
     let r = c .before .before .before .before .before .before .before .before .before .open-repaired in
     let k = c .before .before .list-table in
     let left = ap (λ (x : Repaired). x .card) (r .ensures .1) in
-    let opens : (number : ℕ) → openOf greatestNodes (s .args .card .now) .begun ≡ Refused number → ⊥ =
+    let opens : (number : ℕ) → openOf (s .args .greatest) (s .args .card .now) .begun ≡ Refused number → ⊥ =
     λ number e. let told = c .before .before .before .before .before .match .keys2 in ⊎-elim (λ z. omega (arith, z)) (λ z. omega (arith, z)) (rw (r .ensures .0 ∙ e) at told) in
-    let is = ap₂ listTable left (ap (nodesOfLength _) (r .kept .0)) ∙ sym (card-listed (s .args .card .now) opens) in
+    let is = ap₂ (listTable (s .args .greatest)) left (ap (nodesOfLength _) (r .kept .0)) ∙ sym (card-listed _ (s .args .card .now) opens) in
     (k .ensures .0 ∙ ap (λ (l : Listed). summaryOf l (s .args .out .now)) is, (k .ensures .1 ∙ ap (λ (l : Listed). layListed l (s .args .out .now) .words) is, left))
 
 pub list-card-spec : {M : Type 1} → statement M

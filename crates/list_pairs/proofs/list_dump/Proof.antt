@@ -72,9 +72,11 @@ returns-2 c =
     let size = z .0 .0 in
     let e = sym (d .ensures .0) ∙ z .1 in
     let is =
-    ap (λ (l : List ℕ). listCard (take (z .0 .0) l)) (d .ensures .1) ∙ ap listCard (read-card (s .args .greatest) (s .args .bytes .now) (s .args .card .now) size e)
+    ap (λ (l : List ℕ). listCard (s .args .greatest) (take (z .0 .0) l)) (d .ensures .1)
+    ∙ ap (listCard (s .args .greatest)) (read-card (s .args .greatest) (s .args .bytes .now) (s .args .card .now) size e)
     ∙ sym (dump-read (s .args .greatest) (s .args .bytes .now) (length (s .args .card .now)) size e) in
-    let left = k .ensures .1 .1 ∙ ap (λ (l : List ℕ). openedCard l .card) (ap (take (z .0 .0)) (d .ensures .1) ∙ read-card (s .args .greatest) (s .args .bytes .now) (s .args .card .now) size e) in
+    let left = k .ensures .1 .1 ∙ ap (λ (l : List ℕ). openedCard (s .args .greatest) l .card)
+    (ap (take (z .0 .0)) (d .ensures .1) ∙ read-card (s .args .greatest) (s .args .bytes .now) (s .args .card .now) size e) in
     let beyond = ap (drop (z .0 .0)) (d .ensures .1) ∙ read-beyond (s .args .greatest) (s .args .bytes .now) (s .args .card .now) size e in (
       k .ensures .0 ∙ ap (λ (l : Listed). summaryOf l (s .args .out .now)) is,
       (

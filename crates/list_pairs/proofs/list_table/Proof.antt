@@ -1,6 +1,5 @@
 -- `list_pairs::list_table` meets its contract.
 use mathlib.Core.Path.{_≡_, ap, sym, _∙_}
-use Rattle.card.specs.Layout.{greatestNodes}
 use lib.ListN.{length}
 use Rattle.card.specs.Header.{nodesOfLength, Sized}
 use Rattle.card.proofs.HeaderLaws.{nodes-sized}
@@ -14,7 +13,7 @@ use borrow.Author.Needs.{needs}
 use Rattle.list_pairs.proofs.list_table.Statement.{statement}
 use Rattle.list_pairs.proofs.list_table.Tie as tie
 
-sized : (c : tie.Else1) → Sized greatestNodes (length (c .before .before .before .before .args .card .now)) (c .before .nodes-of .result)
+sized : (c : tie.Else1) → Sized (c .before .before .before .before .args .greatest) (length (c .before .before .before .before .args .card .now)) (c .before .nodes-of .result)
 sized c =
     let e = c .before .nodes-of .ensures in
     rw e (nodes-sized _ (length (c .before .before .before .before .args .card .now)) (λ z. c .if1 .left (e ∙ z)))
@@ -28,8 +27,8 @@ refusing-requires c κs = search needs
 returns : tie.Need-returns
 returns c =
     let s = c .before .before .before .before .before in
-    let q = summary-refused 1 (listTable (s .args .card .now) (nodesOfLength greatestNodes (length (s .args .card .now)))) (s .args .out .now)
-    (table-none (s .args .card .now) (nodesOfLength greatestNodes (length (s .args .card .now))) (sym (c .before .before .nodes-of .ensures) ∙ c .before .if1 .taken)) in
+    let q = summary-refused 1 (listTable (s .args .greatest) (s .args .card .now) (nodesOfLength (s .args .greatest) (length (s .args .card .now)))) (s .args .out .now)
+    (table-none _ (s .args .card .now) (nodesOfLength (s .args .greatest) (length (s .args .card .now))) (sym (c .before .before .nodes-of .ensures) ∙ c .before .if1 .taken)) in
     (c .refusing .ensures ∙ q .0, q .1)
 
 slice-aggregate-check-table : tie.Need-slice-aggregate-check-table
@@ -58,9 +57,9 @@ returns-2 c =
     let none-found = sym (c .before .before .before .before .before .check-table .ensures)
     ∙ ap (λ (r : Checked). checkedOf r (findingsOf (nodesOf (c .before .before .before .before .before .check-table .last .1 .1 .0))
     (c .before .before .before .before .before .check-table .last .1 .1 .1 .0))) (c .before .enum-told .given .1) in
-    let q = summary-refused 4 (listTable (s .args .card .now) (nodesOfLength greatestNodes (length (s .args .card .now)))) (s .args .out .now)
-    (ap (listTable (s .args .card .now)) (sym e)
-    ∙ table-unsound (s .args .card .now) (c .before .before .before .before .before .before .before .before .before .nodes-of .result)
+    let q = summary-refused 4 (listTable (s .args .greatest) (s .args .card .now) (nodesOfLength (s .args .greatest) (length (s .args .card .now)))) (s .args .out .now)
+    (ap (listTable (s .args .greatest) (s .args .card .now)) (sym e)
+    ∙ table-unsound _ (s .args .card .now) (c .before .before .before .before .before .before .before .before .before .nodes-of .result)
     (c .before .before .before .before .before .before .before .before .if1 .left) none-found) in
     (c .refusing2 .ensures ∙ q .0, q .1)
 
@@ -89,10 +88,10 @@ returns-3 c =
     let f = findingsOf (nodesOf (k .last .1 .1 .0)) (k .last .1 .1 .1 .0) in
     let card = s .args .card .now in
     let found = sym (k .ensures) ∙ ap (λ (r : Checked). checkedOf r f) (g .1) in
-    let x : Listing = record { nodes = n .result; free = m .result; levels = g .0 .0; pairs = walkFrom greatestNodes mostPairs card 0 } in
-    let is : listTable card (nodesOfLength greatestNodes (length card)) ≡ listed x =
-    ap (listTable card) (sym (n .ensures)) ∙ table-sound card (n .result) (g .0 .0) f some-node found ∙ rw (m .ensures) in
-    summary-listed x (listTable card (nodesOfLength greatestNodes (length card))) (s .args .out .now) (q .result) (q .last .1 .0) is (q .ensures)
+    let x : Listing = record { nodes = n .result; free = m .result; levels = g .0 .0; pairs = walkFrom (s .args .greatest) mostPairs card 0 } in
+    let is : listTable (s .args .greatest) card (nodesOfLength (s .args .greatest) (length card)) ≡ listed x =
+    ap (listTable (s .args .greatest) card) (sym (n .ensures)) ∙ table-sound _ card (n .result) (g .0 .0) f some-node found ∙ rw (m .ensures) in
+    summary-listed x (listTable (s .args .greatest) card (nodesOfLength (s .args .greatest) (length card))) (s .args .out .now) (q .result) (q .last .1 .0) is (q .ensures)
 
 pub list-table-spec : {M : Type 1} → statement M
 list-table-spec =

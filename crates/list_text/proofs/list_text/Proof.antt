@@ -4,6 +4,7 @@ use Prim.Native.Nat.{ℕ, _/_, _≤_}
 use native.Mathlib.Omega.{arith}
 use lib.ListN.{length, take, length-take, length-replicate}
 use borrow.Author.Needs.{needs}
+use Rattle.card.specs.Layout.{programNodes}
 use Rattle.list_text.specs.Text.{firstLine, pairLines, pairsOfWords, listText, listingTold, pairRoom, listingHanded, dumpText}
 use Rattle.text_row.specs.Filling.{filled, fill}
 use Rattle.text_row.proofs.FillingLaws.{fill-then, fill-whole}
@@ -12,11 +13,11 @@ use Rattle.list_text.proofs.list_text.Statement.{statement}
 use Rattle.list_text.proofs.list_text.Tie as tie
 
 -- the listing handed over, and that its words lie inside the row
-known : (c : tie.After-list-dump) → listingTold (c .list-dump .result) (c .list-dump .last .1 .1 .0) ≡ listingHanded (c .before .before .before .before .args .dump .now)
-known c = handed-is _ _ (c .list-dump .ensures .0) _ (c .list-dump .ensures .1 .0)
+known : (c : tie.After-list-dump) → listingTold (c .list-dump .result) (c .list-dump .last .1 .1 .0) ≡ listingHanded programNodes (c .before .before .before .before .args .dump .now)
+known c = handed-is programNodes _ _ (c .list-dump .ensures .0) _ (c .list-dump .ensures .1 .0)
 
 inside : (c : tie.After-list-dump) → c .list-dump .result .words ≤ length (c .list-dump .last .1 .1 .0)
-inside c = omega (arith, words-fit _ _ (c .list-dump .ensures .0), c .list-dump .kept .1 .1 .0, length-replicate {A = ℕ} pairRoom 0)
+inside c = omega (arith, words-fit programNodes _ _ (c .list-dump .ensures .0), c .list-dump .kept .1 .1 .0, length-replicate {A = ℕ} (pairRoom programNodes) 0)
 
 slice-aggregate-list-dump : tie.Need-slice-aggregate-list-dump
 slice-aggregate-list-dump c = search needs
@@ -37,7 +38,7 @@ returns c =
     let text = told-refused (c .before .before .before .before .before .before .list-dump .result)
     (c .before .before .before .before .before .before .list-dump .last .1 .1 .0) (c .before .before .if1 .taken)
     ∙ ap listText (known (c .before .before .before .before .before .before)) in
-    fill-whole (dumpText (s .args .dump .now)) (s .args .text .now) _ _ (c .put-refusal .ensures .1)
+    fill-whole (dumpText programNodes (s .args .dump .now)) (s .args .text .now) _ _ (c .put-refusal .ensures .1)
     (c .put-refusal .ensures .0 ∙ ap (λ (bytes : List ℕ). fill bytes (filled 0 (s .args .text .now))) text)
 
 put-summary-requires : tie.Need-put-summary-requires
@@ -59,7 +60,7 @@ put-pairs-requires : tie.Need-put-pairs-requires
 put-pairs-requires c κs =
     omega (
       arith,
-      words-fit _ _ (c .before .before .before .before .before .before .before .before .list-dump .ensures .0),
+      words-fit programNodes _ _ (c .before .before .before .before .before .before .before .before .list-dump .ensures .0),
       length-take (c .before .before .before .before .before .before .before .before .list-dump .result .words)
           (c .before .before .before .before .before .before .before .before .list-dump .last .1 .1 .0),
       c .before .before .put-summary .ensures .1,
@@ -76,7 +77,7 @@ returns-2 c =
     ∙ ap listText (known (c .before .before .before .before .before .before .before .before .before)) in
     let put = fill-then (firstLine (r .nodes) (r .free) (r .levels) (r .words / 2)) (pairLines (pairsOfWords (take (r .words) words))) _
     (c .before .before .before .put-summary .ensures .0) (c .put-pairs .ensures .0) in
-    fill-whole (dumpText (s .args .dump .now)) (s .args .text .now) _ _
+    fill-whole (dumpText programNodes (s .args .dump .now)) (s .args .text .now) _ _
     (omega (arith, c .put-pairs .ensures .1, c .before .before .before .put-summary .kept .0))
     (put ∙ ap (λ (bytes : List ℕ). fill bytes (filled 0 (s .args .text .now))) text)
 

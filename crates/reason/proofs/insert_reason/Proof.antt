@@ -29,7 +29,7 @@ returns : tie.Need-returns
 unfolding leftBy
 returns c =
     let s = c .before .before .before .before .before .before .before .before .before .before in (
-      sym (of-refused (s .args .card .now) (s .args .key) (c .before .refusal .given .0 .0)
+      sym (of-refused _ (s .args .card .now) (s .args .key) (c .before .refusal .given .0 .0)
           (sym (c .before .before .before .before .before .before .open-repaired .ensures .0) ∙ c .before .refusal .given .1)),
       ap (λ (x : Repaired). x .card) (c .before .before .before .before .before .before .open-repaired .ensures .1),
     )
@@ -42,8 +42,8 @@ unfolding leftBy
 returns-2 c =
     let s = c .before .before .before .before .before .before .before .before .before .before .before in
     let opened = c .before .before .before .before .before .before .before .open-repaired in (
-      c .reason-with .ensures ∙ ap (λ (x : Repaired). reasonOn (x .card) (x .memory .free) (s .args .key)) (opened .ensures .1)
-          ∙ sym (of-opened (s .args .card .now) (s .args .key) (λ r e. is-unrefused (opened .result) (c .before .before .before .match .keys2) r (opened .ensures .0 ∙ e))),
+      c .reason-with .ensures ∙ ap (λ (x : Repaired). reasonOn (s .args .greatest) (x .card) (x .memory .free) (s .args .key)) (opened .ensures .1)
+          ∙ sym (of-opened _ (s .args .card .now) (s .args .key) (λ r e. is-unrefused (opened .result) (c .before .before .before .match .keys2) r (opened .ensures .0 ∙ e))),
       ap (λ (x : Repaired). x .card) (opened .ensures .1),
     )
 

@@ -65,9 +65,9 @@ returns-2 c =
     let e = sym (d .ensures .0) ∙ z .1 in
     let card = ap (take (z .0 .0)) (d .ensures .1) ∙ read-card (s .args .greatest) (s .args .bytes .now) (s .args .card .now) (z .0 .0) e in
     let beyond = ap (drop (z .0 .0)) (d .ensures .1) ∙ read-beyond (s .args .greatest) (s .args .bytes .now) (s .args .card .now) (z .0 .0) e in (
-      k .ensures .0 ∙ ap (λ (l : List ℕ). reasonOf l (s .args .key)) card
+      k .ensures .0 ∙ ap (λ (l : List ℕ). reasonOf (s .args .greatest) l (s .args .key)) card
           ∙ sym (dump-read (s .args .greatest) (s .args .bytes .now) (length (s .args .card .now)) (s .args .key) (z .0 .0) e),
-      ap₂ (λ (a b : List ℕ). a ++ b) (k .ensures .1 ∙ ap (λ (l : List ℕ). openedCard l .card) card) beyond
+      ap₂ (λ (a b : List ℕ). a ++ b) (k .ensures .1 ∙ ap (λ (l : List ℕ). openedCard (s .args .greatest) l .card) card) beyond
           ∙ sym (over-read (s .args .greatest) (s .args .bytes .now) (s .args .card .now) (z .0 .0) e),
     )
 

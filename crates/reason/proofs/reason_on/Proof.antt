@@ -1,6 +1,5 @@
 -- `reason::reason_on` meets its contract.
 use mathlib.Core.Path.{ap, sym, _∙_}
-use Rattle.card.specs.Layout.{greatestNodes}
 use mathlib.Core.List.{List}
 use Prim.Native.Nat.{ℕ, _≤_, _<_}
 use native.Mathlib.Omega.{arith}
@@ -19,13 +18,13 @@ use borrow.Author.Needs.{needs}
 use Rattle.reason.proofs.reason_on.Statement.{statement}
 use Rattle.reason.proofs.reason_on.Tie as tie
 
-whole : (c : tie.Else1) → Sized greatestNodes (length (c .before .before .before .before .args .card .now)) (c .before .nodes-of .result)
-whole c = sized greatestNodes (c .before .before .before .before .args .card .now) (c .before .nodes-of .result) (c .before .nodes-of .ensures) (c .if1 .left)
+whole : (c : tie.Else1) → Sized (c .before .before .before .before .args .greatest) (length (c .before .before .before .before .args .card .now)) (c .before .nodes-of .result)
+whole c = sized _ (c .before .before .before .before .args .card .now) (c .before .nodes-of .result) (c .before .nodes-of .ensures) (c .if1 .left)
 
 leaf : (c : tie.After-node) → Landed (c .before .before .before .before .before .before .nodes-of .result) (c .node .given .0 .0) (c .node .given .0 .1 .0)
 unfolding landing way
 leaf c =
-    landed greatestNodes (c .before .before .before .before .before .before .before .before .before .args .card .now)
+    landed _ (c .before .before .before .before .before .before .before .before .before .args .card .now)
     (c .before .before .before .before .before .before .nodes-of .result)
     (c .before .before .before .before .before .before .before .before .before .args .key) (c .node .given .0 .0) (c .node .given .0 .1 .0)
     (c .node .given .0 .1 .1 .0) (whole (c .before .before .before .before .before))
@@ -45,12 +44,12 @@ nodes-of-requires c κs = search needs
 returns : tie.Need-returns
 returns c =
     let s = c .before .before .before .before in
-    sym (on-no-length (s .args .card .now) (nodesOf (s .args .free .now)) (s .args .key) (c .before .nodes-of .result) (c .before .nodes-of .ensures) (c .if1 .taken))
+    sym (on-no-length _ (s .args .card .now) (nodesOf (s .args .free .now)) (s .args .key) (c .before .nodes-of .result) (c .before .nodes-of .ensures) (c .if1 .taken))
 
 returns-2 : tie.Need-returns-2
 returns-2 c =
     let s = c .before .before .before .before .before in
-    sym (on-no-key (s .args .card .now) (nodesOf (s .args .free .now)) (s .args .key) (c .before .before .nodes-of .result)
+    sym (on-no-key _ (s .args .card .now) (nodesOf (s .args .free .now)) (s .args .key) (c .before .before .nodes-of .result)
     (c .before .before .nodes-of .ensures) (c .before .if1 .left) (c .if2 .taken))
 
 shared-slice-read-find-landing : tie.Need-shared-slice-read-find-landing
@@ -90,7 +89,7 @@ unfolding landing way reasonLanded
 returns-3 c =
     let s = c .before .before .before .before .before .before .before .before .before in
     sym
-    (on-key (s .args .card .now) (nodesOf (s .args .free .now)) (s .args .key)
+    (on-key _ (s .args .card .now) (nodesOf (s .args .free .now)) (s .args .key)
     (c .before .before .before .before .before .before .nodes-of .result)
     (c .before .before .before .before .before .before .nodes-of .ensures)
     (c .before .before .before .before .before .if1 .left) (c .before .before .before .before .if2 .left)
@@ -103,7 +102,7 @@ returns-4 c =
     c .reason-in .ensures
     ∙ ap (λ (x : List ℕ). reasonFor (insertReason x (s .args .key)) (c .before .before .before .node .given .0 .1 .1 .0) (countTrue (nodesOf (s .args .free .now)))) (c .before .node-at .ensures)
     ∙ sym
-    (on-key (s .args .card .now) (nodesOf (s .args .free .now)) (s .args .key)
+    (on-key _ (s .args .card .now) (nodesOf (s .args .free .now)) (s .args .key)
     (c .before .before .before .before .before .before .before .before .before .nodes-of .result)
     (c .before .before .before .before .before .before .before .before .before .nodes-of .ensures)
     (c .before .before .before .before .before .before .before .before .if1 .left)

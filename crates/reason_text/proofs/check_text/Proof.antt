@@ -28,9 +28,11 @@ unfolding checkText
 returns c =
     let s = c .before .before .before .before .before .before .before in
     let file = keyIn (s .args .file .now) in
-    let reason = c .before .before .before .insert-reason-for-file .ensures .0 ∙ ap (λ (n : ℕ). reasonInDump programNodes (s .args .dump .now) n file) (length-replicate {A = ℕ} cardRoom 0) in
+    let reason = c .before .before .before .insert-reason-for-file .ensures .0
+    ∙ ap (λ (n : ℕ). reasonInDump programNodes (s .args .dump .now) n file) (length-replicate {A = ℕ} (cardRoom programNodes) 0) in
     let p = c .put-reason .ensures in
-    fill-whole (checkText (s .args .dump .now) (s .args .file .now)) (s .args .text .now) _ _ (p .1) (p .0 ∙ ap (λ (r : Reason). fill (reasonText r) (filled 0 (s .args .text .now))) reason)
+    fill-whole (checkText programNodes (s .args .dump .now) (s .args .file .now)) (s .args .text .now) _ _ (p .1)
+    (p .0 ∙ ap (λ (r : Reason). fill (reasonText r) (filled 0 (s .args .text .now))) reason)
 
 pub check-text-spec : {M : Type 1} → statement M
 check-text-spec =

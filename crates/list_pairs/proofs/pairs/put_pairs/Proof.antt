@@ -1,5 +1,4 @@
 use mathlib.Core.Path.{_≡_, refl, ap, sym, _∙_}
-use Rattle.card.specs.Layout.{greatestNodes}
 use mathlib.Core.Logic.{⊎-elim}
 use Prim.Native.Nat.{ℕ, _≤_, _-_}
 use native.Mathlib.Omega.{arith}
@@ -13,11 +12,11 @@ use Rattle.list_pairs.proofs.pairs.put_pairs.Statement.{statement}
 use Rattle.list_pairs.proofs.pairs.put_pairs.Tie as tie
 
 abbrev Inv-loop : tie.InvT-loop
-Inv-loop card out₀ at₀ after₀ left₀ out at after left =
-    (at ≤ length out) × (length out ≡ length out₀) × (layPairs (walkFrom greatestNodes mostPairs card 0) (laid 0 out₀) ≡ layPairs (walkFrom greatestNodes left card after) (laid at out))
+Inv-loop card out₀ greatest at₀ after₀ left₀ out at after left =
+    (at ≤ length out) × (length out ≡ length out₀) × (layPairs (walkFrom greatest mostPairs card 0) (laid 0 out₀) ≡ layPairs (walkFrom greatest left card after) (laid at out))
 
 abbrev μ-loop : tie.MeasureT-loop
-μ-loop card out₀ at₀ after₀ left₀ out at after left = left
+μ-loop card out₀ greatest at₀ after₀ left₀ out at after left = left
 
 loop-holds : tie.Need-loop-holds Inv-loop μ-loop
 loop-holds c = (search needs, refl, refl)
@@ -40,9 +39,9 @@ returns c =
     let l = c .before .before .before .loop in
     let n = c .before .next-pair .ensures in
     let told = c .match .keys2 in
-    let ends : (key value : ℕ) → nextOf greatestNodes (s .args .card .now) (l .after) ≡ Pair key value → ⊥ =
+    let ends : (key value : ℕ) → nextOf (s .args .greatest) (s .args .card .now) (l .after) ≡ Pair key value → ⊥ =
     λ key value e. ⊎-elim (λ z. omega (arith, z)) (λ z. omega (arith, z)) (rw (n ∙ e) at told) in
-    walk-ends (s .args .card .now) (l .after) (laid (l .at) (l .out)) (l .left) ends ∙ sym (l .inv .2)
+    walk-ends _ (s .args .card .now) (l .after) (laid (l .at) (l .out)) (l .left) ends ∙ sym (l .inv .2)
 
 put-pair-requires : tie.Need-put-pair-requires Inv-loop μ-loop
 put-pair-requires c κs = search needs
@@ -60,8 +59,8 @@ loop-again c =
     let card = s .args .card .now in (
       omega (arith, k .kept .0, k .ensures .1),
       omega (arith, k .kept .0, l .inv .1),
-      l .inv .2 ∙ walk-goes-on card (l .after) (laid (l .at) (l .out)) (l .left) (g .0 .0) (g .0 .1 .0) (search needs) (sym n ∙ g .1)
-          ∙ ap (layPairs (walkFrom greatestNodes (l .left - 1) card (g .0 .0))) (sym (k .ensures .0)),
+      l .inv .2 ∙ walk-goes-on _ card (l .after) (laid (l .at) (l .out)) (l .left) (g .0 .0) (g .0 .1 .0) (search needs) (sym n ∙ g .1)
+          ∙ ap (layPairs (walkFrom _ (l .left - 1) card (g .0 .0))) (sym (k .ensures .0)),
     )
 
 same-length-2 : tie.Need-same-length-2 Inv-loop μ-loop
@@ -71,7 +70,7 @@ returns-2 : tie.Need-returns-2 Inv-loop μ-loop
 returns-2 c =
     let s = c .before .before .before .before in
     let l = c .before .loop in
-    walk-out (s .args .card .now) (l .after) (laid (l .at) (l .out)) (l .left) (search needs) ∙ sym (l .inv .2)
+    walk-out _ (s .args .card .now) (l .after) (laid (l .at) (l .out)) (l .left) (search needs) ∙ sym (l .inv .2)
 
 pub put-pairs-spec : {M : Type 1} → statement M
 put-pairs-spec =
