@@ -2,7 +2,8 @@
 """make_list_cards.py CRATE: makes CRATE/stdin, dumps of cards one after the other: one for each kind of repair and one for each
 refusal of `list`; and CRATE/stdout, what `list` prints for each. make_list_cards.py --of-601 CRATE: makes CRATE/stdin, the dump of a
 sound card of 601 nodes, and CRATE/stdout, the refusals of `list` and `insert_check`. The repairs are worked out here on lists, from document 01's "The
-changes" and from nothing else; node numbers and stores play no part. The pairs are listed by rising key (document 02, W-201)."""
+changes" and from nothing else; node numbers and stores play no part. The pairs are listed by rising key (document 02, W-201), after
+the families that hold one (W-204)."""
 import struct, sys
 
 # A leaf is ('leaf', [(key, value), ..]) with its slots in their order, (0, x) an empty one; an internal node is
@@ -70,7 +71,13 @@ def text(t, n):
         t = mended(t, way)
         way = fault(t)
     ps = sorted(pairs(t))
-    return 'nodes %d free %d levels %d pairs %d\n' % (n, n - nodes(t), levels(t), len(ps)) + ''.join('%d %d\n' % p for p in ps)
+    first = 'nodes %d free %d levels %d pairs %d\n' % (n, n - nodes(t), levels(t), len(ps))
+    return first + families(ps) + ''.join('%d %d\n' % p for p in ps)
+
+def families(ps):
+    """a line for each family, "the top 4 bits of a ration number", that holds a pair, rising"""
+    held = [k // FAMILY for k, _ in ps]
+    return ''.join('family %d %d\n' % (f, held.count(f)) for f in sorted(set(held)))
 
 def dump(t, n):
     words = [0] * (8 + 24 * n)
@@ -103,6 +110,9 @@ def with_tag(t):
 # all of 25 nodes, so that their dumps are of one length
 NODES = 25
 
+# how many numbers a family has
+FAMILY = 2 ** 28
+
 REPAIRED = [
     # a tagged node: a parent with at most 10 children, a root with 11, another parent with 11
     inner([50], tag(20, run(1, 3), run(20, 4)), run(50, 2)),
@@ -116,6 +126,8 @@ REPAIRED = [
     inner([100], inner([], run(1, 2)), inner([200, 300], run(100, 2), run(200, 2), run(300, 3))),
     inner([100, 500], inner([], run(1, 2)), inner([200], run(100, 2), run(200, 2)), inner([600], run(500, 2), run(600, 2))),
     inner([100], inner([50], run(1, 2), run(50, 2)), inner([], run(100, 2))),
+    # keys at the ends of families, some of which hold nothing
+    inner([FAMILY], leaf((FAMILY - 1, 1)), leaf((15 * FAMILY, 2), (16 * FAMILY - 1, 3), (15 * FAMILY - 1, 4), (FAMILY, 5), (2 * FAMILY, 6), (2 * FAMILY - 1, 7))),
 ]
 
 def poked(t, place, byte):

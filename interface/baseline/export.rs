@@ -7,7 +7,7 @@ use std::slice::{from_raw_parts, from_raw_parts_mut};
 
 use table::{Opening, Refusal, State, Step, WithDepth};
 
-const STATE_WORDS: usize = 240;
+const STATE_WORDS: usize = 256;
 const _: () = assert!(size_of::<State>() == 4 * STATE_WORDS);
 
 #[repr(C)]
@@ -107,6 +107,14 @@ pub unsafe extern "C" fn ration_step(card: *mut u32, words: usize, state: *mut u
             Step::Answer(held) => value(held),
         })
     })
+}
+
+#[no_mangle]
+pub unsafe extern "C" fn ration_family_total(state: *const u32, n: usize, family: u32) -> Answer {
+    if n != STATE_WORDS {
+        return code(71);
+    }
+    answer(table::family_total(&*state.cast(), family), |total| valued(75, total))
 }
 
 #[no_mangle]

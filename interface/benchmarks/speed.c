@@ -108,12 +108,13 @@ static void measure_updates(const workload *w, which_key *which, uint32_t count,
     end_row(w, name);
 }
 
-// How many stores the insert of a key takes from the base card on.
-static uint32_t stores_of_insert(uint32_t key)
+// How many stores the insert or the delete of a key takes from the base card on.
+static uint32_t stores_of(bool is_insert, uint32_t key)
 {
     uint32_t stores = 0;
     restore();
-    expect(ration_start_insert(CARD, STATE, key, 1).code == RATION_STARTED);
+    ration_answer a = is_insert ? ration_start_insert(CARD, STATE, key, 1) : ration_start_delete(CARD, STATE, key);
+    expect(a.code == RATION_STARTED);
     while (ration_step(CARD, STATE).code == RATION_STORED)
         stores++;
     return stores;
@@ -155,13 +156,39 @@ static void measure_starts(const workload *w, const uint32_t *keys, uint32_t cou
     end_row(w, "start of a delete");
 }
 
+// The one store of the deletes that take no more: it decides them.
+static void measure_deletes(const workload *w)
+{
+    for (uint32_t i = 0, measured = 0; i < w->pairs && measured < 40; i++) {
+        uint32_t key = held_key(w, i);
+        if (stores_of(false, key) != 1)
+            continue;
+        restore();
+        ration_start_delete(CARD, STATE, key);
+        batch_begin();
+        CALL(ration_step(CARD, STATE));
+        batch_end();
+        measured++;
+    }
+    end_row(w, "step that plans a delete (1 store)");
+}
+
+static void measure_totals(const workload *w)
+{
+    batch_begin();
+    for (uint32_t i = 0; i < FINDS; i++)
+        CALL(ration_family_total(STATE, i % RATION_FAMILIES));
+    batch_end();
+    end_row(w, "a family's total");
+}
+
 static void measure_steps(const workload *w)
 {
     // Absent keys whose insert puts a pair in, and some whose insert begins with a split.
     enum { KEYS = 40 };
     uint32_t pairs[KEYS], splits[KEYS], pair_count = 0, split_count = 0;
     for (uint32_t i = 0; i < 500 && (pair_count < KEYS || split_count < KEYS); i++) {
-        uint32_t key = absent_key(w, i), stores = stores_of_insert(key);
+        uint32_t key = absent_key(w, i), stores = stores_of(true, key);
         if (stores == 2 && pair_count < KEYS)
             pairs[pair_count++] = key;
         if (stores >= 73 && split_count < KEYS)
@@ -234,7 +261,9 @@ static void measure(void)
         if (!random)
             continue;
         measure_steps(w);
+        measure_deletes(w);
         restore();
+        measure_totals(w);
         measure_opening(w, "opening");
         if (w->nodes >= 600) {
             prepare_full(w->nodes);

@@ -12,7 +12,20 @@
 #include "random.h"
 #include "ration_table.h"
 
-enum { NOTHING, START_FORMAT, OPEN, FIND, NEXT, START_INSERT, START_DELETE, STEP, READ_DUMP, WRITE_DUMP, KINDS };
+enum {
+    NOTHING,
+    START_FORMAT,
+    OPEN,
+    FIND,
+    NEXT,
+    START_INSERT,
+    START_DELETE,
+    STEP,
+    FAMILY_TOTAL,
+    READ_DUMP,
+    WRITE_DUMP,
+    KINDS
+};
 enum { STACK_BYTES = 1 << 18, PAINT = 0xa5 };
 
 static ucontext_t back, contexts[KINDS];
@@ -36,6 +49,7 @@ static void make_call(void)
     case START_INSERT: answer = ration_start_insert(card, words, state, RATION_STATE_WORDS, key, 1); break;
     case START_DELETE: answer = ration_start_delete(card, words, state, RATION_STATE_WORDS, key); break;
     case STEP: answer = ration_step(card, words, state, RATION_STATE_WORDS); break;
+    case FAMILY_TOTAL: answer = ration_family_total(state, RATION_STATE_WORDS, key); break;
     case READ_DUMP: answer = ration_read_dump(dump, sizeof dump, card, words); break;
     case WRITE_DUMP: answer = ration_write_dump(card, words, dump, sizeof dump); break;
     }
@@ -79,6 +93,7 @@ static void work(random_stream *random, uint32_t updates, uint32_t keys)
         key = random_below(random, keys);
         call(FIND);
         call(NEXT);
+        call(FAMILY_TOTAL);
         call(random_percent(random, 50) ? START_INSERT : START_DELETE);
         step_to_the_end(800);
     }
@@ -142,7 +157,8 @@ int main(void)
     run_all();
 
     static const char *const names[KINDS] = {
-        "", "start_format", "open", "find", "next", "start_insert", "start_delete", "step", "read_dump", "write_dump"};
+        "",     "start_format", "open",      "find",      "next", "start_insert", "start_delete",
+        "step", "family_total", "read_dump", "write_dump"};
     for (int i = NOTHING + 1; i < KINDS; i++)
         printf("%s\t%zu\n", names[i], deepest(i) - deepest(NOTHING));
     return 0;

@@ -1,4 +1,5 @@
-// Rations come in any order; the card is walked in the order of their numbers, also between the steps of an update.
+// Rations come in any order; the card is walked in the order of their numbers, and each feed family's total asked, also between the
+// steps of an update.
 #include <stdint.h>
 #include <stdio.h>
 
@@ -33,6 +34,17 @@ static int print_from(uint32_t first)
     return pair.code == RATION_NONE;
 }
 
+// Prints the total of each feed family that has rations. The state keeps them: the card is not looked at.
+static void print_families(void)
+{
+    for (uint32_t family = 0; family < RATION_FAMILIES; family++) {
+        ration_answer total = ration_family_total(STATE, family);
+        if (total.code == RATION_TOTAL && total.value > 0)
+            printf(" family %u: %u", (unsigned)family, (unsigned)total.value);
+    }
+    printf("\n");
+}
+
 int main(void)
 {
     if (ration_start_format(CARD, STATE).code != RATION_STARTED || finish().code != RATION_READY)
@@ -47,18 +59,27 @@ int main(void)
     printf("all rations, each with its dose record:");
     if (!print_from(0))
         return 1;
+    printf("what each feed family has:");
+    print_families();
     printf("from ration 60 on:");
     if (!print_from(60))
         return 1;
 
-    // A delete's first store takes the pair out. What is walked then is the card at that moment.
+    // A delete's first store takes the pair out. What is walked then is the card at that moment, and the totals are those of its
+    // pairs.
     if (ration_start_delete(CARD, STATE, 77).code != RATION_STARTED)
         return 1;
     printf("77 to be deleted, nothing stored yet:");
-    if (!print_from(60) || ration_step(CARD, STATE).code != RATION_STORED)
+    if (!print_from(60))
+        return 1;
+    printf("its family still counts it:");
+    print_families();
+    if (ration_step(CARD, STATE).code != RATION_STORED)
         return 1;
     printf("one word stored:");
     if (!print_from(60))
         return 1;
+    printf("and no longer counts it:");
+    print_families();
     return finish().code == RATION_VALUE ? 0 : 1;
 }

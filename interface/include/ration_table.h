@@ -19,7 +19,8 @@
  *   2. Update: ration_start_insert or ration_start_delete, then ration_step until the final answer,
  *      RATION_VALUE or RATION_ABSENT. Each step stores one word, RATION_STORED, or gives the answer. An
  *      update takes at most 803 stores, on a card of at most 600 nodes 657.
- *   3. ration_find and ration_next at any time, also between steps and before opening.
+ *   3. ration_find and ration_next at any time, also between steps and before opening. ration_family_total at any time
+ *      once the card is open.
  *   4. Power was cut, or the block was lost: back to ration_open.
  *   5. To abandon an update, call ration_open again, with power on: to the card it is a cut. Go on as in
  *      1; the update is wholly in, where the store that decides it was made, or wholly out.
@@ -93,7 +94,9 @@ extern "C" {
 #endif
 
 /* Sizes. */
-#define RATION_STATE_WORDS 240 /* the state block, in words */
+#define RATION_STATE_WORDS 256                     /* the state block, in words */
+#define RATION_FAMILIES 16                         /* the feed families, 0 to 15 */
+#define RATION_FAMILY(key) ((uint32_t)(key) >> 28) /* the family of a key */
 #define RATION_LEAST_NODES 4
 #define RATION_MOST_NODES 2600
 #define RATION_CARD_WORDS(nodes) (8 + 24 * (nodes)) /* a card, in words */
@@ -102,9 +105,9 @@ extern "C" {
 #define RATION_MOST_DUMP_BYTES 249856 /* a dump of 2,600 nodes */
 
 /*
- * The answer of every call. value counts with RATION_VALUE, RATION_STORED, RATION_LENGTH and RATION_NEXT, key with
- * RATION_NEXT alone, depth with RATION_VALUE, RATION_ABSENT, RATION_NEXT and RATION_NONE; with any other code they
- * are 0, so that a refusal carries none of them.
+ * The answer of every call. value counts with RATION_VALUE, RATION_STORED, RATION_LENGTH, RATION_NEXT and RATION_TOTAL,
+ * key with RATION_NEXT alone, depth with RATION_VALUE, RATION_ABSENT, RATION_NEXT and RATION_NONE; with any other code
+ * they are 0, so that a refusal carries none of them.
  *
  * depth is how many internal nodes stood on the given number's way down to its leaf when the call began, tagged ones
  * counted: 0 where the root is that leaf, and at most 12, since a longer way is refused with 9.
@@ -132,10 +135,11 @@ typedef struct ration_answer {
 #define RATION_LENGTH 70  /* read_dump, write_dump: value is the length of the result, in words or bytes */
 #define RATION_NEXT 72    /* next: the pair with the smallest key above the number, its key and its value */
 #define RATION_NONE 73    /* next: no key above the number is held */
+#define RATION_TOTAL 75   /* family_total: value is how many pairs the family has */
 
 /*
- * Refusals: 1 to 12 as document 01 numbers them, and RATION_NO_STATE. Where several are due, the order of
- * the refusals listed with the call decides.
+ * Refusals: 1 to 12 as document 01 numbers them, 13 as document 02, "What customers ask next", and RATION_NO_STATE.
+ * Where several are due, the order of the refusals listed with the call decides.
  */
 
 /* The length is not 8 + 24 * N with N 4 to 2,600, or the block is not that of a card of this length.
@@ -181,10 +185,13 @@ typedef struct ration_answer {
 /* What is lent for the result is too short: lend RATION_CARD_WORDS(N) words or RATION_DUMP_BYTES(N) bytes. */
 #define RATION_TOO_SHORT 12
 
+/* The family is above 15. The family of a key is RATION_FAMILY(key). */
+#define RATION_NO_FAMILY 13
+
 /* The block has not RATION_STATE_WORDS words. Comes before all others; nothing was read or written. */
 #define RATION_NO_STATE 71
 
-#define RATION_IS_REFUSAL(code) ((code) <= 12 || (code) == RATION_NO_STATE)
+#define RATION_IS_REFUSAL(code) ((code) <= 13 || (code) == RATION_NO_STATE)
 
 /* A few words for each code, for a log. */
 static inline const char *ration_text(uint32_t code)
@@ -199,6 +206,7 @@ static inline const char *ration_text(uint32_t code)
     case RATION_LENGTH: return "the length of the result";
     case RATION_NEXT: return "the next pair";
     case RATION_NONE: return "no key above the number";
+    case RATION_TOTAL: return "the pairs of the family";
     case RATION_WRONG_LENGTH: return "the length is no card's, or the state is another card's";
     case RATION_NOT_FORMATTED: return "the card is not formatted";
     case RATION_WRONG_HEADER: return "the card's header is wrong";
@@ -211,6 +219,7 @@ static inline const char *ration_text(uint32_t code)
     case RATION_NOTHING_TO_STEP: return "nothing is in progress";
     case RATION_WRONG_DUMP: return "no dump, or a damaged one";
     case RATION_TOO_SHORT: return "too short for the result";
+    case RATION_NO_FAMILY: return "there is no such family";
     case RATION_NO_STATE: return "the state block has another length";
     default: return "no code of the ration table";
     }
@@ -301,6 +310,26 @@ static inline ration_answer ration_finish_with(uint32_t *card, size_t card_words
     while (answer.code == RATION_STORED && write_word(context, answer.value, card[answer.value]));
     return answer;
 }
+
+/*
+ * How many pairs of a feed family the table holds. "The top 4 bits of a ration number are its family, 0 to 15" (document
+ * 02, W-204): RATION_FAMILY(key). The block keeps the 16 totals, so that this call reads one word of it and no card,
+ * however many pairs there are.
+ * Answers RATION_TOTAL. Refusals, in this order: RATION_NO_STATE, 13. "that question checks nothing else": not whether
+ * the block is that of a card, nor whether something is in progress.
+ *
+ * What it answers
+ *   after opening, also during a repair: the pairs of the family that the card holds. Opening counts them, and a repair
+ *     moves pairs but puts none in and takes none out.
+ *   between the steps of an update: what ration_find and ration_next find at that moment. An insert is counted with its
+ *     second store, where the leaf was full with its 73rd, a delete with its first, and no other step changes a total;
+ *     a key that was held already, and a delete of one that was not, change none.
+ *   from ration_start_format until RATION_READY: 0, also where the card still holds the pairs of before; then 0, since
+ *     the card is empty.
+ *   after ration_open or ration_start_format was refused: 0.
+ * With a block that was lost, or that something else wrote, the total may be any number: open the card first.
+ */
+ration_answer ration_family_total(const uint32_t *state, size_t state_words, uint32_t family);
 
 /*
  * Reads a dump (a card's words as bytes, low byte first, padded with zero bytes to a multiple of 512) into

@@ -1,5 +1,5 @@
-// The table under test and the hand-written one are given the same calls: every answer and every word of the card agree
-// after each. So on random lists, too, the word that each step stores and the place it tells are compared, as in the traces. The
+// The table under test and the hand-written one are given the same calls: every answer, every word of the card and every family's
+// total agree after each. So on random lists, too, the word that each step stores and the place it tells are compared, as in the traces. The
 // next pair is asked of both at every moment, and of the table written for speed (baseline/expert.c).
 #include <stdbool.h>
 #include <string.h>
@@ -25,6 +25,11 @@ static void agree(ration_answer tested, ration_answer hand_written)
     CHECK(memcmp(&tested, &hand_written, sizeof tested) == 0, "%u %u depth %u and %u %u depth %u", tested.code,
           tested.value, tested.depth, hand_written.code, hand_written.value, hand_written.depth);
     CHECK(memcmp(both.card, both.desk->card, 4 * both.desk->words) == 0, "the cards differ");
+    for (uint32_t family = 0; family < RATION_FAMILIES; family++) {
+        uint32_t total = hand_written_family_total(both.state, RATION_STATE_WORDS, family).value;
+        CHECK(both.desk->totals[family] == total, "%u and %u pairs of family %u", both.desk->totals[family], total,
+              family);
+    }
     if (tested.code == RATION_STARTED)
         both.in_progress = true;
     else if (tested.code != RATION_STORED && !RATION_IS_REFUSAL(tested.code))
@@ -75,9 +80,10 @@ static void cut(void)
     agree(desk_open(both.desk), hand_written_open(both.card, both.desk->words, both.state, RATION_STATE_WORDS));
 }
 
-static void start(uint32_t keys, uint32_t insert_percent)
+// The multiplier spreads the keys over all words, and so over the families.
+static void start(uint32_t keys, uint32_t multiplier, uint32_t insert_percent)
 {
-    uint32_t key = 1 + random_below(&stream, keys), value = random_word(&stream);
+    uint32_t key = (1 + random_below(&stream, keys)) * multiplier, value = random_word(&stream);
     size_t words = both.desk->words;
     if (random_percent(&stream, insert_percent))
         agree(desk_start_insert(both.desk, key, value),
@@ -87,13 +93,13 @@ static void start(uint32_t keys, uint32_t insert_percent)
               hand_written_start_delete(both.card, words, both.state, RATION_STATE_WORDS, key));
 }
 
-static void work(uint32_t updates, uint32_t keys)
+static void work(uint32_t updates, uint32_t keys, uint32_t multiplier)
 {
     uint32_t insert_percent = 80;
     for (uint32_t i = 0; i < updates; i++) {
         if (random_below(&stream, keys) == 0)
             insert_percent = 100 - insert_percent;
-        start(keys, insert_percent);
+        start(keys, multiplier, insert_percent);
         while (both.in_progress) {
             if (random_below(&stream, 1000) == 0)
                 cut();
@@ -127,7 +133,7 @@ void test_agreement(scale s)
               hand_written_start_format(both.card, both.desk->words, both.state, RATION_STATE_WORDS));
         while (both.in_progress)
             step();
-        work((sizes[i] >= 600 ? 40 : 60) * s.percent, 6 * sizes[i]);
+        work((sizes[i] >= 600 ? 40 : 60) * s.percent, 6 * sizes[i], i % 2 == 0 ? 1 : 2654435761u);
         desk_free(both.desk);
     }
     static const struct {
@@ -137,9 +143,10 @@ void test_agreement(scale s)
         begin(built[i].nodes);
         CHECK(build_card(both.card, built[i].nodes, built[i].levels, built[i].least, built[i].most, &stream) != 0,
               "card %zu", i);
+        uint32_t factor = spread_keys(both.card, built[i].nodes);
         desk_set_card(both.desk, both.card);
         cut();
-        work(10 * s.percent, 15000);
+        work(10 * s.percent, 15000, factor);
         desk_free(both.desk);
     }
 }

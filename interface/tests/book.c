@@ -35,6 +35,12 @@ bool book_next(const book *b, uint32_t after, uint32_t *key, uint32_t *value)
     return true;
 }
 
+uint32_t book_total(const book *b, uint32_t family)
+{
+    uint32_t end = family == 15 ? b->pairs : below(b, (family + 1) << 28);
+    return end - below(b, family << 28);
+}
+
 // "an insert adds its pair unless the key is there"
 static void add(book *b, uint32_t key, uint32_t value)
 {

@@ -35,6 +35,9 @@ bool book_holds(const book *b, uint32_t key, uint32_t *value);
 // Whether a key above this number is held; the smallest of them with its value.
 bool book_next(const book *b, uint32_t after, uint32_t *key, uint32_t *value);
 
+// How many pairs of a family the book has.
+uint32_t book_total(const book *b, uint32_t family);
+
 // Whether the pairs read off a card are exactly the book's.
 bool book_agrees(const book *b, const table_reading *t);
 

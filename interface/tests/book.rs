@@ -5,6 +5,8 @@ use std::collections::BTreeMap;
 #[derive(Clone, Default)]
 pub struct Book {
     pub pairs: BTreeMap<u32, u32>,
+    /// How many of the pairs are of each family; counted anew with each change.
+    pub totals: [u32; 16],
     hand: Option<InHand>,
 }
 
@@ -46,6 +48,8 @@ impl Book {
                     self.pairs.remove(&key);
                 }
             }
+            self.totals = [0; 16];
+            self.pairs.keys().for_each(|key| self.totals[(key / 0x1000_0000) as usize] += 1);
         }
         if is_final {
             self.hand = None;

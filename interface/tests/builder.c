@@ -120,3 +120,16 @@ void build_chain(uint32_t *card, uint32_t nodes, uint32_t internal_nodes, uint32
     leaf[1] = key;
     leaf[12] = internal_nodes;
 }
+
+uint32_t spread_keys(uint32_t *card, uint32_t nodes)
+{
+    uint32_t greatest = 0;
+    for (uint32_t place = 8; place < 8 + 24 * nodes; place++)
+        if ((place - 8) % 24 >= 1 && (place - 8) % 24 <= 11 && card[place] > greatest)
+            greatest = card[place];
+    uint32_t factor = UINT32_MAX / (greatest + 10); // keys a little greater than the greatest are numbers too
+    for (uint32_t place = 8; place < 8 + 24 * nodes; place++)
+        if ((place - 8) % 24 >= 1 && (place - 8) % 24 <= 11)
+            card[place] *= factor;
+    return factor;
+}

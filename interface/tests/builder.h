@@ -20,4 +20,7 @@ uint32_t build_odd_card(uint32_t *card, uint32_t levels, random_stream *random);
 // Internal nodes one below the other, each with one child, and a leaf with one pair.
 void build_chain(uint32_t *card, uint32_t nodes, uint32_t internal_nodes, uint32_t key, random_stream *random);
 
+// Multiplies every key of a card that was built by one number, so that they lie in all families; gives that number.
+uint32_t spread_keys(uint32_t *card, uint32_t nodes);
+
 #endif

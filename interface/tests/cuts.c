@@ -68,11 +68,12 @@ static void work_chosen(worked *w, const int *updates, size_t count, bool everyw
     worked_free(copy);
 }
 
-static void work_random(worked *w, uint32_t updates, uint32_t keys, uint32_t insert_percent)
+// The multiplier spreads the keys over all words, and so over the families.
+static void work_random(worked *w, uint32_t updates, uint32_t keys, uint32_t multiplier, uint32_t insert_percent)
 {
     worked *copy = worked_open(read_nodes(w->desk->words), w->desk->card);
     for (uint32_t i = 0; i < updates; i++) {
-        uint32_t key = 1 + random_below(&stream, keys);
+        uint32_t key = (1 + random_below(&stream, keys)) * multiplier;
         bool insert = random_percent(&stream, insert_percent);
         if (insert ? worked_start_insert(w, key, random_word(&stream)) : worked_start_delete(w, key))
             finish_with_cuts(w, copy, false);
@@ -137,12 +138,12 @@ void test_cuts(scale s)
     worked_free(w);
 
     static const struct {
-        uint32_t nodes, updates, keys, insert_percent;
-    } lists[] = {{4, 100, 14, 50},  {5, 100, 14, 50},   {6, 200, 30, 50},
-                 {12, 200, 80, 60}, {60, 200, 300, 70}, {60, 100, 300, 20}};
+        uint32_t nodes, updates, keys, multiplier, insert_percent;
+    } lists[] = {{4, 100, 14, 1, 50},  {5, 100, 14, 2654435761u, 50},   {6, 200, 30, 2654435761u, 50},
+                 {12, 200, 80, 1, 60}, {60, 200, 300, 2654435761u, 70}, {60, 100, 300, 1, 20}};
     for (size_t i = 0; i < sizeof lists / sizeof lists[0]; i++) {
         w = worked_format(lists[i].nodes, &stream);
-        work_random(w, lists[i].updates * s.percent / 100, lists[i].keys, lists[i].insert_percent);
+        work_random(w, lists[i].updates * s.percent / 100, lists[i].keys, lists[i].multiplier, lists[i].insert_percent);
         worked_free(w);
     }
 
@@ -156,10 +157,11 @@ void test_cuts(scale s)
     for (size_t i = 0; i < sizeof built / sizeof built[0] && s.percent == 100; i++) {
         CHECK(build_card(card, built[i].nodes, built[i].levels, built[i].least, built[i].most, &stream) != 0,
               "card %zu", i);
+        uint32_t factor = spread_keys(card, built[i].nodes);
         w = worked_open(built[i].nodes, card);
         worked *copy = worked_open(built[i].nodes, card);
         for (uint32_t n = 0; n < 6; n++) {
-            uint32_t key = 10 * (1 + random_below(&stream, w->book.pairs));
+            uint32_t key = 10 * factor * (1 + random_below(&stream, w->book.pairs));
             if (random_percent(&stream, built[i].insert_percent) ? worked_start_insert(w, key + 5, 1)
                                                                  : worked_start_delete(w, key))
                 finish_with_cuts(w, copy, false);
@@ -175,7 +177,7 @@ void test_cuts(scale s)
             worked_finish(w);
         CHECK(w->book.pairs > 5 * RATION_MOST_NODES, "only %u pairs", w->book.pairs);
         worked_check(w);
-        work_random(w, 20, UINT32_MAX, 50);
+        work_random(w, 20, UINT32_MAX, 1, 50);
         work_held(w, 20);
         worked_free(w);
     }

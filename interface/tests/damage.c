@@ -84,6 +84,8 @@ static void try_calls(desk *d, uint32_t steps)
         CHECK(found.code == due.code && found.value == due.value, "find %u: %u %u, due %u %u", key, found.code,
               found.value, due.code, due.value);
     }
+    uint32_t family = random_percent(&stream, 50) ? random_below(&stream, 20) : likely_word(d);
+    CHECK(desk_family_total(d, family).code == (family < 16 ? RATION_TOTAL : RATION_NO_FAMILY), "family %u", family);
     for (uint32_t i = 0; i < steps && !ended; i++)
         check_step(d, &ended);
 
@@ -115,11 +117,12 @@ static void damaged_cards(uint32_t nodes, uint32_t levels, uint32_t least, uint3
     static uint32_t card[RATION_MOST_CARD_WORDS];
     uint32_t used = build_card(card, nodes, levels, least, most, &stream);
     CHECK(used != 0, "no card");
+    uint32_t factor = spread_keys(card, nodes);
     worked *w = worked_open(nodes, card);
     worked *damaged = worked_open(nodes, card);
     for (uint32_t i = 0; i < tries; i++) {
         // A card in use, often in the middle of an update.
-        uint32_t key = 10 * random_below(&stream, 11 * used);
+        uint32_t key = 10 * factor * random_below(&stream, 11 * used);
         if (w->in_progress == NOTHING && random_percent(&stream, 50))
             worked_start_insert(w, key + 1 + random_below(&stream, 9), i);
         else if (w->in_progress == NOTHING)
@@ -273,10 +276,40 @@ static void any_depth(uint32_t tries)
     desk_free(d);
 }
 
+// Other totals are written into a block: an update counts from there, and goes round at the ends of all numbers.
+static void any_totals(uint32_t tries)
+{
+    static uint32_t card[RATION_CARD_WORDS(20)];
+    uint32_t state[RATION_STATE_WORDS];
+    CHECK(build_card(card, 20, 1, 3, 9, &stream) != 0, "no card");
+    spread_keys(card, 20);
+    desk *d = desk_new(RATION_CARD_WORDS(20), RATION_STATE_WORDS);
+    for (uint32_t i = 0; i < tries; i++) {
+        desk_set_card(d, card);
+        CHECK(desk_open(d).code == RATION_IDLE, "not opened");
+        memcpy(state, d->state, sizeof state);
+        bool insert = random_percent(&stream, 50);
+        for (uint32_t family = 0; family < RATION_FAMILIES; family++)
+            state[BLOCK_TOTALS + family] = insert ? UINT32_MAX : 0;
+        desk_set_state(d, state);
+        ration_answer a = desk_next(d, random_word(&stream));
+        uint32_t held = a.code == RATION_NEXT ? a.key : desk_next(d, 0).key, family = RATION_FAMILY(held);
+        a = insert ? desk_start_insert(d, held + 1, i) : desk_start_delete(d, held);
+        CHECK(a.code == RATION_STARTED, "key %u: %u", held, a.code);
+        do
+            a = desk_step(d);
+        while (a.code == RATION_STORED);
+        CHECK(a.code == (insert ? RATION_ABSENT : RATION_VALUE), "key %u: %u", held, a.code);
+        CHECK(d->totals[family] == (insert ? 0 : UINT32_MAX), "%u pairs of family %u", d->totals[family], family);
+    }
+    desk_free(d);
+}
+
 void test_damage(scale s)
 {
     stream.state = 12;
     any_depth(20 * s.percent);
+    any_totals(20 * s.percent);
     odd_cards(1, 100 * s.percent);
     odd_cards(2, 50 * s.percent);
     odd_cards(3, 20 * s.percent);

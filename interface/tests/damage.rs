@@ -81,6 +81,8 @@ impl Damage {
             assert_eq!(desk.find(key), reader::find(desk.card(), key), "find {key}");
         }
         self.check_next(desk);
+        let family = self.likely(desk);
+        assert_eq!(desk.family_total(family).is_err(), family > 15, "family {family}");
         self.steps(desk);
         let key = self.likely(desk);
         let due = Self::due_start(desk, key);
@@ -168,6 +170,8 @@ impl Damage {
             assert_eq!(desk.step(), Err(Refusal::WrongLength));
             assert_eq!(desk.start_insert(7, 70), Err(Refusal::WrongLength));
             assert_eq!(desk.start_delete(7), Err(Refusal::WrongLength));
+            assert_eq!(desk.family_total(15), Ok(0));
+            assert_eq!(desk.family_total(16), Err(Refusal::NoFamily));
             assert_eq!(desk.start_format(), due);
             self.events += desk.events;
         }

@@ -7,6 +7,7 @@
 #define ration_start_insert expert_start_insert
 #define ration_start_delete expert_start_delete
 #define ration_step expert_step
+#define ration_family_total expert_family_total
 #define ration_read_dump expert_read_dump
 #define ration_write_dump expert_write_dump
 

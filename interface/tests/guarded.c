@@ -8,12 +8,13 @@
 #include "check.h"
 #include "reader.h"
 
-_Static_assert(BLOCK_DEPTH == RATION_STATE_WORDS - 1, "the depth is the block's last word");
+_Static_assert(BLOCK_TOTALS == RATION_STATE_WORDS - RATION_FAMILIES, "the totals are the block's last words");
 
 size_t guard_words = 16;
 uint64_t events;
 uint64_t answered[CALLS][CODES];
 uint64_t told[CALLS][DEPTHS];
+uint64_t counted_in[RATION_FAMILIES], counted_out[RATION_FAMILIES];
 
 static const uint32_t guard = 0x5afe5afe;
 
@@ -81,8 +82,10 @@ void desk_set_state(desk *d, const uint32_t *words)
 {
     memcpy(d->state, words, 4 * d->state_words);
     memcpy(d->state_copy, words, 4 * d->state_words);
-    if (d->state_words == RATION_STATE_WORDS)
+    if (d->state_words == RATION_STATE_WORDS) {
         d->depth = words[BLOCK_DEPTH];
+        memcpy(d->totals, words + BLOCK_TOTALS, sizeof d->totals);
+    }
 }
 
 void desk_cut(desk *d)
@@ -90,6 +93,8 @@ void desk_cut(desk *d)
     for (size_t i = 0; i < d->state_words; i++)
         d->state[i] = d->state_copy[i] = 0xa5c3a5c3 + (uint32_t)i;
     d->depth = 0xa5c3a5c3 + BLOCK_DEPTH;
+    for (uint32_t family = 0; family < RATION_FAMILIES; family++)
+        d->totals[family] = 0xa5c3a5c3 + BLOCK_TOTALS + family;
 }
 
 // The depth of a number's way on the card as it is; one that no card has where the way is refused.
@@ -118,6 +123,7 @@ static void check_answer(int call, ration_answer a, uint32_t depth)
         [START_INSERT] = {RATION_STARTED},
         [START_DELETE] = {RATION_STARTED},
         [STEP] = {RATION_STORED, RATION_READY, RATION_VALUE, RATION_ABSENT},
+        [FAMILY_TOTAL] = {RATION_TOTAL},
         [READ_DUMP] = {RATION_LENGTH},
         [WRITE_DUMP] = {RATION_LENGTH},
     };
@@ -126,7 +132,8 @@ static void check_answer(int call, ration_answer a, uint32_t depth)
         known = known || a.code == *code;
     CHECK(known, "code %u", a.code);
     bool is_pair = a.code == RATION_NEXT;
-    bool has_value = a.code == RATION_VALUE || a.code == RATION_STORED || a.code == RATION_LENGTH || is_pair;
+    bool has_value = a.code == RATION_VALUE || a.code == RATION_STORED || a.code == RATION_LENGTH ||
+                     a.code == RATION_TOTAL || is_pair;
     CHECK(a.value == 0 || has_value, "code %u with value %u", a.code, a.value);
     CHECK((a.key != 0) == is_pair, "code %u with key %u", a.code, a.key);
     uint32_t due = has_depth(a.code) ? depth : 0;
@@ -149,6 +156,84 @@ static void check_state_unchanged(const desk *d)
     CHECK(memcmp(d->state, d->state_copy, 4 * d->state_words) == 0, "the block was changed");
 }
 
+// What a family's total is due to be by the block's words.
+static ration_answer due_total(const desk *d, uint32_t family)
+{
+    if (d->state_words != RATION_STATE_WORDS)
+        return (ration_answer){.code = RATION_NO_STATE};
+    if (family > 15)
+        return (ration_answer){.code = RATION_NO_FAMILY};
+    return (ration_answer){.code = RATION_TOTAL, .value = d->state[BLOCK_TOTALS + family]};
+}
+
+// "One question answers a family's total".
+static ration_answer ask_total(const desk *d, uint32_t family)
+{
+    ration_answer a = ration_family_total(d->state, d->state_words, family), due = due_total(d, family);
+    check_answer(FAMILY_TOTAL, a, 0);
+    CHECK(a.code == due.code && a.value == due.value, "family %u: %u %u, due %u %u", family, a.code, a.value, due.code,
+          due.value);
+    return a;
+}
+
+// All totals, and families that there are not. The questions are not counted as events.
+static void ask_totals(const desk *d, uint32_t totals[RATION_FAMILIES])
+{
+    uint64_t events_before = events;
+    for (uint32_t family = 0; family < RATION_FAMILIES; family++)
+        totals[family] = ask_total(d, family).value;
+    static const uint32_t none[] = {16, 17, 255, 256, UINT32_C(1) << 28, UINT32_MAX};
+    ask_total(d, none[events % (sizeof none / sizeof none[0])]);
+    events = events_before;
+}
+
+// The totals after a call that begins: opened they are those of the card's pairs, counted here, else 0.
+static void check_begun_totals(desk *d, bool is_open)
+{
+    static table_reading reading;
+    uint32_t told_now[RATION_FAMILIES], due[RATION_FAMILIES] = {0};
+    if (is_open) {
+        read_table(d->card, d->words, &reading);
+        for (uint32_t i = 0; i < reading.pairs; i++)
+            due[reading.keys[i] / 268435456]++;
+    }
+    ask_totals(d, told_now);
+    for (uint32_t family = 0; family < RATION_FAMILIES; family++)
+        CHECK(told_now[family] == due[family], "begun: %u pairs of family %u, due %u", told_now[family], family,
+              due[family]);
+    memcpy(d->totals, due, sizeof due);
+}
+
+// The totals after any other call: no family's has changed but this one's, where it may be another by so much.
+static void check_totals(desk *d, uint32_t changed_family, uint32_t change)
+{
+    uint32_t told_now[RATION_FAMILIES];
+    ask_totals(d, told_now);
+    for (uint32_t family = 0; family < RATION_FAMILIES; family++) {
+        if (told_now[family] == d->totals[family])
+            continue;
+        CHECK(change != 0 && family == changed_family && told_now[family] == d->totals[family] + change,
+              "family %u: %u pairs, before %u", family, told_now[family], d->totals[family]);
+        d->totals[family] = told_now[family];
+        if (change == 1)
+            counted_in[family]++;
+        else
+            counted_out[family]++;
+    }
+}
+
+// A step may change the total of an update's key where it stores a word. The copy is the block before it.
+static void check_stepped_totals(desk *d, ration_answer a)
+{
+    uint32_t change = 0, key = 0;
+    if (d->state_words == RATION_STATE_WORDS && a.code == RATION_STORED) {
+        uint32_t doing = d->state_copy[BLOCK_DOING];
+        key = d->state_copy[BLOCK_KEY];
+        change = doing == 2 ? 1 : doing == 3 ? UINT32_MAX : 0;
+    }
+    check_totals(d, RATION_FAMILY(key), change);
+}
+
 // The block may have changed, where the call was not refused; the depth in it is that of the update begun last.
 static void check_state(desk *d, ration_answer a)
 {
@@ -161,11 +246,12 @@ static void check_state(desk *d, ration_answer a)
 }
 
 // "Opening or starting to format, refused, hands back an idle state for N = 0": all words are 0. No update was begun since.
-static void check_beginning(desk *d, ration_answer a)
+static void check_beginning(desk *d, ration_answer a, bool is_opening)
 {
     check_card_unchanged(d);
     if (a.code == RATION_NO_STATE) {
         check_state_unchanged(d);
+        check_totals(d, 0, 0);
         return;
     }
     check_guards(d->state, 4 * d->state_words);
@@ -174,13 +260,15 @@ static void check_beginning(desk *d, ration_answer a)
     CHECK(d->state[BLOCK_DEPTH] == 0, "depth %u in the block", d->state[BLOCK_DEPTH]);
     d->depth = 0;
     memcpy(d->state_copy, d->state, 4 * d->state_words);
+    check_begun_totals(d, is_opening && !RATION_IS_REFUSAL(a.code));
+    check_state_unchanged(d);
 }
 
 ration_answer desk_start_format(desk *d)
 {
     ration_answer a = ration_start_format(d->card, d->words, d->state, d->state_words);
     check_answer(START_FORMAT, a, 0);
-    check_beginning(d, a);
+    check_beginning(d, a, false);
     return a;
 }
 
@@ -188,7 +276,7 @@ ration_answer desk_open(desk *d)
 {
     ration_answer a = ration_open(d->card, d->words, d->state, d->state_words);
     check_answer(OPEN, a, 0);
-    check_beginning(d, a);
+    check_beginning(d, a, true);
     return a;
 }
 
@@ -238,6 +326,7 @@ static ration_answer check_start(desk *d, int call, ration_answer a, uint32_t de
     check_card_unchanged(d);
     if (a.code == RATION_STARTED)
         d->depth = depth;
+    check_totals(d, 0, 0);
     check_state(d, a);
     return a;
 }
@@ -272,7 +361,16 @@ ration_answer desk_step(desk *d)
         take_store_over(d, a.value);
     else
         check_card_unchanged(d);
+    check_stepped_totals(d, a);
     check_state(d, a);
+    return a;
+}
+
+ration_answer desk_family_total(desk *d, uint32_t family)
+{
+    ration_answer a = ask_total(d, family);
+    check_card_unchanged(d);
+    check_state_unchanged(d);
     return a;
 }
 

@@ -1,16 +1,21 @@
 //! Memory lent with guard words around it, and what a call may have done to it. Every depth told is the one that reader.rs counts on
-//! the number's way on the card as it was when the call began, an update when it was started.
+//! the number's way on the card as it was when the call began, an update when it was started. After each call that can change the
+//! block all totals by family are asked: opened they are those of the pairs that reader.rs reads off the card, refused or formatting
+//! 0; a step changes none but that of an update's key, by 1 and with a store, and no other call changes one.
 
 use ration_table::calls::{self, Step, STATE_WORDS};
-use ration_table::{Refusal, StateBlock, WithDepth};
+use ration_table::{family_of, Refusal, StateBlock, WithDepth};
 
 use crate::reader;
 
 const GUARDS: usize = 16;
 const GUARD: u32 = 0x5afe_5afe;
 
+/// The words of the block with the totals by family, its last ones.
+const TOTALS: usize = STATE_WORDS - 16;
+
 /// The word of the block with the depth of the way of the update begun last.
-const DEPTH: usize = STATE_WORDS - 1;
+const DEPTH: usize = TOTALS - 1;
 
 /// Words with guards on both sides.
 pub struct Guarded(Vec<u32>);
@@ -78,13 +83,15 @@ pub struct Desk {
     copy: Vec<u32>,
     /// Of the way of the update begun last; else what was written into the block from outside.
     depth: u32,
+    /// As the table told them after the last call; else what was written into the block from outside.
+    totals: [u32; 16],
     pub events: u64,
 }
 
 impl Desk {
     pub fn new(words: usize) -> Self {
         let copy = vec![0; words];
-        Self { card: Guarded::new(&copy), state: GuardedState::new(), copy, depth: 0, events: 0 }
+        Self { card: Guarded::new(&copy), state: GuardedState::new(), copy, depth: 0, totals: [0; 16], events: 0 }
     }
 
     pub fn card(&self) -> &[u32] {
@@ -102,6 +109,7 @@ impl Desk {
 
     pub fn set_block(&mut self, block: StateBlock) {
         self.depth = block.words()[DEPTH];
+        self.totals.copy_from_slice(&block.words()[TOTALS..]);
         self.state.block = block;
     }
 
@@ -113,13 +121,39 @@ impl Desk {
         result
     }
 
-    /// Refused it leaves an idle state for 0 nodes, which is all 0; else no update was begun since.
-    fn beginning<T>(&mut self, result: Result<T, Refusal>) -> Result<T, Refusal> {
+    /// All totals; and there are 16 families.
+    fn ask_totals(&self) -> [u32; 16] {
+        for family in [16, 17, 256, 1 << 28, u32::MAX] {
+            assert_eq!(calls::family_total(&self.state.block, family), Err(Refusal::NoFamily), "family {family}");
+        }
+        std::array::from_fn(|family| calls::family_total(&self.state.block, family as u32).expect("refused"))
+    }
+
+    /// The totals are those of before, but that of a family which may have changed by so much.
+    fn check_totals(&mut self, change: Option<(u32, u32)>) {
+        let told = self.ask_totals();
+        if told != self.totals {
+            let (family, change) = change.expect("a total was changed");
+            let total = &mut self.totals[family as usize];
+            *total = total.wrapping_add(change);
+            assert_eq!(told, self.totals, "a total was changed by {change}");
+        }
+    }
+
+    /// Refused it leaves an idle state for 0 nodes, which is all 0; else no update was begun since. Opened the totals are those of
+    /// the card's pairs, counted here.
+    fn beginning<T>(&mut self, result: Result<T, Refusal>, is_opening: bool) -> Result<T, Refusal> {
         self.events += 1;
         assert!(self.card.lend() == self.copy, "the card was changed");
         assert!(result.is_ok() || self.state.block == StateBlock::new(), "not the idle state for 0 nodes");
         self.depth = 0;
         assert_eq!(self.state.block.words()[DEPTH], self.depth, "a depth in the block");
+        self.totals = [0; 16];
+        if is_opening && result.is_ok() {
+            let reading = reader::table(&self.copy).expect("not sound");
+            reading.map.keys().for_each(|key| self.totals[(key / 0x1000_0000) as usize] += 1);
+        }
+        assert_eq!(self.ask_totals(), self.totals, "the totals");
         result
     }
 
@@ -145,17 +179,18 @@ impl Desk {
         if result.is_ok() {
             self.depth = depth.expect("no way down");
         }
+        self.check_totals(None);
         self.unchanged(&block, result)
     }
 
     pub fn start_format(&mut self) -> Result<(), Refusal> {
         let result = calls::start_format(self.card.lend(), &mut self.state.block);
-        self.beginning(result)
+        self.beginning(result, false)
     }
 
     pub fn open(&mut self) -> Result<calls::Opening, Refusal> {
         let result = calls::open(self.card.lend(), &mut self.state.block);
-        self.beginning(result)
+        self.beginning(result, true)
     }
 
     pub fn find(&mut self, key: u32) -> Answer<Option<u32>> {
@@ -183,6 +218,21 @@ impl Desk {
             Ok(Step::Held { depth, .. } | Step::Absent { depth }) => assert_eq!(depth, self.depth, "final answer"),
             Ok(Step::Ready) | Err(_) => {}
         }
+        let change = match (&result, block.words()[2]) {
+            (Ok(Step::Stored { .. }), 2) => Some((family_of(block.words()[3]), 1)), // an insert
+            (Ok(Step::Stored { .. }), 3) => Some((family_of(block.words()[3]), u32::MAX)), // a delete
+            _ => None,
+        };
+        self.check_totals(change);
+        self.unchanged(&block, result)
+    }
+
+    pub fn family_total(&mut self, family: u32) -> Result<u32, Refusal> {
+        let block = self.state.block.clone();
+        let result = calls::family_total(&self.state.block, family);
+        let due = block.words()[TOTALS..].get(family as usize).copied().ok_or(Refusal::NoFamily);
+        assert_eq!(result, due, "family {family}");
+        assert!(block == self.state.block, "the block was changed");
         self.unchanged(&block, result)
     }
 }

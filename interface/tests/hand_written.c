@@ -7,6 +7,7 @@
 #define ration_start_insert hand_written_start_insert
 #define ration_start_delete hand_written_start_delete
 #define ration_step hand_written_step
+#define ration_family_total hand_written_family_total
 #define ration_read_dump hand_written_read_dump
 #define ration_write_dump hand_written_write_dump
 

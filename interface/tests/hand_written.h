@@ -15,6 +15,7 @@ ration_answer hand_written_start_insert(const uint32_t *card, size_t card_words,
 ration_answer hand_written_start_delete(const uint32_t *card, size_t card_words, uint32_t *state, size_t state_words,
                                         uint32_t key);
 ration_answer hand_written_step(uint32_t *card, size_t card_words, uint32_t *state, size_t state_words);
+ration_answer hand_written_family_total(const uint32_t *state, size_t state_words, uint32_t family);
 ration_answer hand_written_read_dump(const uint8_t *dump, size_t dump_bytes, uint32_t *words, size_t words_lent);
 ration_answer hand_written_write_dump(const uint32_t *card, size_t card_words, uint8_t *bytes, size_t bytes_lent);
 

@@ -39,6 +39,11 @@ static int write_word(void *context, size_t place, uint32_t word)
     desk.card[place] = word;
     desk.written++;
     CHECK(memcmp(desk.card, desk.copy, 4 * desk.words) == 0, "the card written by the hook is another");
+    for (uint32_t family = 0; family < RATION_FAMILIES; family++) {
+        uint32_t total = ration_family_total(desk.state, RATION_STATE_WORDS, family).value;
+        uint32_t total_by_hand = hand_written_family_total(desk.by_hand_state, RATION_STATE_WORDS, family).value;
+        CHECK(total == total_by_hand, "%u pairs of family %u, by hand %u", total, family, total_by_hand);
+    }
     return fails ? 0 : 1;
 }
 

@@ -5,17 +5,22 @@
 #include "parts.h"
 #include "worked.h"
 
+enum { FAMILY_ENDS = 0 };
+
 // Which keys a list uses, and how it is worked.
 typedef struct {
     uint32_t nodes;
     uint32_t events;
-    uint32_t keys;       // how many different ones
-    uint32_t multiplier; // spreads them over all words
+    uint32_t keys; // how many different ones
+    uint32_t
+        multiplier; // spreads them over all words; FAMILY_ENDS for keys beside the first and the last of each family
     uint32_t check_every;
 } list_shape;
 
 static uint32_t random_key(const list_shape *l, random_stream *r)
 {
+    if (l->multiplier == FAMILY_ENDS)
+        return random_below(r, 16) * 268435456 + random_below(r, 7) - 3;
     static const uint32_t ends[] = {0, 1, 2, UINT32_MAX - 1, UINT32_MAX};
     if (random_percent(r, 1))
         return ends[random_below(r, 5)];
@@ -82,8 +87,41 @@ static void work_list(worked *w, const list_shape *l, random_stream *r)
     worked_walk(w);
 }
 
+// Three leaves under the root, whose ranges meet at these two keys; the first has keys just below the one, the last just from the other
+// on, and that between them its first and its last number.
+static void open_three_leaves(uint32_t first, uint32_t second)
+{
+    uint32_t card[RATION_CARD_WORDS(7)] = {1, 7, 8, 24, 1};
+    const uint32_t keys[4][2] = {{first, second}, {first - 1, first - 2}, {first, second - 1}, {second, second + 1}};
+    for (uint32_t node = 0; node < 4; node++) {
+        uint32_t *words = card + 8 + 24 * node;
+        words[0] = node == 0 ? 2 : 1;
+        for (uint32_t i = 0; i < 3; i++) {
+            if (i < 2)
+                words[1 + i] = keys[node][i];
+            if (node == 0)
+                words[12 + i] = 2 + i;
+        }
+    }
+    worked *w = worked_open(7, card);
+    CHECK(w->in_progress == NOTHING && w->book.pairs == 6, "not opened");
+    worked_free(w);
+}
+
+// Opening counts the pairs of leaves whose ranges begin and end at or beside the first number of a family.
+static void open_at_family_ends(void)
+{
+    for (uint32_t family = 1; family < 15; family++)
+        for (uint32_t i = 0; i < 25; i++) {
+            open_three_leaves(family * 268435456 + i / 5 - 2, (family + 1) * 268435456 + i % 5 - 2);
+            if (i > 0)
+                open_three_leaves(family * 268435456 - 2, family * 268435456 + i);
+        }
+}
+
 void test_lists(scale s)
 {
+    open_at_family_ends();
     static const list_shape shapes[] = {
         {4, 60000, 20, 1, 1},
         {5, 60000, 20, 2654435761u, 1},
@@ -91,8 +129,10 @@ void test_lists(scale s)
         {6, 60000, 40, 2654435761u, 1},
         {12, 200000, 120, 1, 2},
         {12, 100000, 80, 2654435761u, 2},
+        {12, 100000, 112, FAMILY_ENDS, 2},
         {60, 300000, 500, 1, 20},
         {60, 200000, 400, 2654435761u, 20},
+        {60, 60000, 112, FAMILY_ENDS, 20},
         {600, 150000, 5000, 2654435761u, 500},
         {2600, 60000, 20000, 2654435761u, 500},
     };
@@ -117,7 +157,8 @@ void test_lists(scale s)
         random_stream r = {2026 + i};
         uint32_t used = build_card(card, built[i].nodes, built[i].levels, built[i].least, built[i].most, &r);
         CHECK(used != 0, "card %zu", i);
-        list_shape l = {built[i].nodes, 40000 / 100 * s.percent, 50 * built[i].nodes, 1, 500};
+        uint32_t factor = spread_keys(card, built[i].nodes);
+        list_shape l = {built[i].nodes, 40000 / 100 * s.percent, 50 * built[i].nodes, factor, 500};
         worked *w = worked_open(built[i].nodes, card);
         work_list(w, &l, &r);
         worked_free(w);

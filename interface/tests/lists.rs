@@ -6,7 +6,7 @@ use std::num::NonZeroU32;
 use std::ops::Bound;
 
 use ration_table::{
-    card_words, dump_bytes, Formatting, Opened, Pairs, Progress, Refusal, Repair, Table, Update, WithDepth,
+    card_words, dump_bytes, Formatting, Opened, Pairs, Progress, Refusal, Repair, Table, Update, WithDepth, FAMILIES,
 };
 
 use crate::book::{self, Book};
@@ -62,6 +62,19 @@ impl Now<'_> {
         let above = (Bound::Excluded(number), Bound::Unbounded);
         let due = book.pairs.range(above).next();
         self.check_answer(number, next, due.map(|(&key, &value)| (NonZeroU32::new(key).expect("no key"), value)));
+    }
+
+    /// "each total .. equals the pairs of that family in the map, also between steps and during a repair"
+    fn check_totals(&self, book: &Book) {
+        let total = |family| match self {
+            Now::Idle(table) => table.family_total(family),
+            Now::Updating(update, _) => update.family_total(family),
+            Now::Repairing(repair) => repair.family_total(family),
+        };
+        for family in 0..FAMILIES {
+            assert_eq!(total(family), Ok(book.totals[family as usize]), "family {family}");
+        }
+        assert_eq!(total(FAMILIES), Err(Refusal::NoFamily));
     }
 
     /// A walk gives the book's pairs in their order.
@@ -193,6 +206,7 @@ impl Lists {
             let mut now = open(&mut card, &mut state);
             check(now.card(), book, false);
             now.check_walk(book);
+            now.check_totals(book);
             while let Now::Repairing(repair) = now {
                 if self.random.below(60) == 0 {
                     now = Now::Repairing(repair);
@@ -204,6 +218,7 @@ impl Lists {
                     Ok(Progress::Done(table, ())) => Now::Idle(table),
                     Err(refused) => panic!("repair: {}", refused.refusal),
                 };
+                now.check_totals(book);
             }
             if let Now::Idle(table) = now {
                 return check(table.card(), book, true);
@@ -215,8 +230,15 @@ impl Lists {
         let before: Vec<u32> = (0..card_words(list.nodes)).map(|_| self.random.word()).collect();
         let mut card = Guarded::new(&before);
         let mut state = GuardedState::new();
-        let formatting: Formatting = Table::format(card.lend(), &mut state.block).expect("format refused");
-        assert!(formatting.finish().is_ok(), "format refused");
+        let mut formatting: Formatting = Table::format(card.lend(), &mut state.block).expect("format refused");
+        let table = loop {
+            assert!((0..FAMILIES).all(|family| formatting.family_total(family) == Ok(0)), "a total while formatting");
+            formatting = match formatting.step().expect("format refused") {
+                Progress::Stored { more, .. } => more,
+                Progress::Done(table, ()) => break table,
+            };
+        };
+        Now::Idle(table).check_totals(&Book::default());
         let mut copy = card.words().to_vec();
         let mut book = Book::default();
         let mut insert_percent = 80;
@@ -224,6 +246,7 @@ impl Lists {
         while self.events < end {
             let mut now = open(&mut card, &mut state);
             check(now.card(), &book, matches!(now, Now::Idle(_)));
+            now.check_totals(&book);
             self.events += 1;
             while self.events < end && self.random.below(2000) != 0 {
                 if self.random.below(40 * list.nodes as u32) == 0 {
@@ -245,6 +268,7 @@ impl Lists {
                 }
                 let place;
                 (now, place) = self.step(now, &mut book, list, insert_percent);
+                now.check_totals(&book);
                 match place {
                     Some(place) => take_store_over(now.card(), &mut copy, place),
                     None => assert!(now.card() == copy, "the card was changed and no place told"),
@@ -277,9 +301,9 @@ pub fn test() -> (u64, u64) {
         (600, 5000, 2_654_435_761, 100_000, false),
         (2600, 20_000, 2_654_435_761, 30_000, false),
         (4, 14, 1, 20_000, true),
-        (6, 30, 1, 150_000, true),
+        (6, 30, 2_654_435_761, 150_000, true),
         (12, 80, 1, 200_000, true),
-        (60, 300, 1, 200_000, true),
+        (60, 300, 2_654_435_761, 200_000, true),
     ] {
         lists.work(&List { nodes, keys, multiplier, events, cut_everywhere });
     }

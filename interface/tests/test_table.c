@@ -11,10 +11,10 @@
 
 static void print_answers(void)
 {
-    static const char *const calls[CALLS] = {"start_format", "open", "find",      "next",      "start_insert",
-                                             "start_delete", "step", "read_dump", "write_dump"};
-    static const char *const worked[] = {"value",   "absent", "stored",   "ready", "idle",
-                                         "started", "length", "no state", "next",  "none"};
+    static const char *const calls[CALLS] = {"start_format", "open", "find",         "next",      "start_insert",
+                                             "start_delete", "step", "family_total", "read_dump", "write_dump"};
+    static const char *const worked[] = {"value",  "absent",   "stored", "ready", "idle",   "started",
+                                         "length", "no state", "next",   "none",  "record", "total"};
     for (int call = 0; call < CALLS; call++) {
         printf("  %-12s", calls[call]);
         for (int code = 1; code < CODES; code++)
@@ -37,6 +37,7 @@ static void check_all_answers_seen(void)
         [START_INSERT] = {1, 2, 3, 6, 7, 8, 9, 69, 71},
         [START_DELETE] = {1, 2, 3, 6, 7, 9, 69, 71},
         [STEP] = {1, 2, 3, 9, 10, 64, 65, 66, 67, 71},
+        [FAMILY_TOTAL] = {13, 71, 75},
         [READ_DUMP] = {11, 12, 70},
         [WRITE_DUMP] = {1, 2, 3, 12, 70},
     };
@@ -64,11 +65,25 @@ static void check_all_depths_seen(void)
            (unsigned long long)told_before_growth, (unsigned long long)told_before_shrinking);
 }
 
+// Every family's total went up and down.
+static void check_all_families_counted(void)
+{
+    uint64_t in = 0, out = 0;
+    for (uint32_t family = 0; family < RATION_FAMILIES; family++) {
+        CHECK(counted_in[family] > 0 && counted_out[family] > 0, "no pair of family %u came and went", family);
+        in += counted_in[family];
+        out += counted_out[family];
+    }
+    printf("  totals by family: %llu steps made one greater, %llu less\n", (unsigned long long)in,
+           (unsigned long long)out);
+}
+
 // Each code has a text of its own, and nothing else has one.
 static void check_texts(void)
 {
     for (uint32_t code = 0; code <= 80; code++) {
-        bool is_code = (code >= 1 && code <= 12) || (code >= RATION_VALUE && code <= RATION_NONE);
+        bool is_code =
+            (code >= 1 && code <= 13) || (code >= RATION_VALUE && code <= RATION_NONE) || code == RATION_TOTAL;
         bool has_text = strcmp(ration_text(code), ration_text(UINT32_MAX)) != 0;
         CHECK(has_text == is_code, "code %u: %s", code, ration_text(code));
         for (uint32_t other = 1; is_code && other < code; other++)
@@ -95,6 +110,7 @@ int main(int count, char **arguments)
     check_all_answers_seen();
     print_answers();
     check_all_depths_seen();
+    check_all_families_counted();
     printf("C: all right, %u traces, %llu events\n", traces, (unsigned long long)events);
     return 0;
 }

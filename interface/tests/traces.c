@@ -1,6 +1,6 @@
 // Replays traces word for word: the calls of a list, one a line, with the answers and stores that are due. The first line,
 // `features`, names the requests of document 02 that the traces are right for. Of the program's `list` lines the pairs are compared
-// with a walk over the card, which gives them in rising order too.
+// with a walk over the card, which gives them in rising order too, and the families with the totals of the card opened.
 #include <inttypes.h>
 #include <stdbool.h>
 #include <string.h>
@@ -20,6 +20,7 @@ typedef struct {
     bool from_node_1;  // W-205 had not landed: after an opening the search for free nodes begins at node 1
     bool depths;       // W-203 had landed: every answer that carries a depth stands there with it
     bool twelve_nodes; // W-210 had landed: a way of 12 internal nodes is no longer refused
+    bool families;     // W-204 had landed: `list` has a line for each family that has pairs
     uint32_t traces;
     uint32_t line;
 } replay;
@@ -106,6 +107,9 @@ static void check_result(replay *r, desk *d, ration_answer a, char *at, uint32_t
         code = RATION_VALUE;
         value = next_number(&at, 10);
         has_depth = true;
+    } else if (next_is(&at, "total")) {
+        code = RATION_TOTAL;
+        value = next_number(&at, 10);
     } else if (next_is(&at, "store")) {
         code = RATION_STORED;
         value = next_number(&at, 10);
@@ -183,6 +187,8 @@ static void replay_call(replay *r, desk *d, char *at, char *result)
         a = desk_start_delete(d, next_number(&at, 10));
     else if (next_is(&at, "step"))
         a = desk_step(d);
+    else if (next_is(&at, "total"))
+        a = desk_family_total(d, next_number(&at, 10));
     else
         CHECK(false, "line %u: %.40s", r->line, at);
     check_result(r, d, a, result, card_before);
@@ -206,7 +212,37 @@ static void replay_run(replay *r, char *at)
     free(stored);
 }
 
-// What `list` prints for the dump in hand, line feeds written /: a line of counts and one for each pair, or a refusal.
+// The totals of all families, the same question asked for each.
+static void replay_totals(replay *r, char *at)
+{
+    for (uint32_t family = 0; family < RATION_FAMILIES; family++) {
+        ration_answer a = desk_family_total(r->desk, family);
+        uint32_t due = next_number(&at, 10);
+        CHECK(a.code == RATION_TOTAL && a.value == due, "line %u: family %u: %u %u, due %u", r->line, family, a.code,
+              a.value, due);
+    }
+    CHECK(*at == 0, "line %u", r->line);
+}
+
+// The lines of `list` after its first, one for each family that has pairs, rising: those of the card opened. Gives what follows them.
+static char *check_family_lines(replay *r, desk *d, char *line)
+{
+    CHECK(!RATION_IS_REFUSAL(desk_open(d).code), "line %u: not opened", r->line);
+    for (uint32_t family = 0; family < RATION_FAMILIES; family++) {
+        uint32_t pairs = desk_family_total(d, family).value;
+        if (pairs == 0)
+            continue;
+        char *end = strchr(line, '/');
+        *end = 0;
+        CHECK(next_is(&line, "family") && next_number(&line, 10) == family && next_number(&line, 10) == pairs,
+              "line %u: not: family %u %u", r->line, family, pairs);
+        line = end + 1;
+    }
+    return line;
+}
+
+// What `list` prints for the dump in hand, line feeds written /: a line of counts, those of the families, and one for each pair, or a
+// refusal.
 static void walk_list(replay *r, char *at)
 {
     const uint32_t *words;
@@ -228,7 +264,7 @@ static void walk_list(replay *r, char *at)
         CHECK(desk_open(d).code == next_number(&at, 10), "line %u: opened", r->line);
     } else {
         uint32_t after = 0;
-        for (char *line = end + 1; *line != 0; line = end + 1) {
+        for (char *line = r->families ? check_family_lines(r, d, end + 1) : end + 1; *line != 0; line = end + 1) {
             end = strchr(line, '/');
             *end = 0;
             a = desk_next(d, after);
@@ -313,6 +349,7 @@ static void replay_line(replay *r, char *line)
         r->from_node_1 = strstr(at, "W-205") == NULL;
         r->depths = strstr(at, "W-203") != NULL;
         r->twelve_nodes = strstr(at, "W-210") != NULL;
+        r->families = strstr(at, "W-204") != NULL;
     } else if (next_is(&at, "list")) {
         walk_list(r, result);
     } else if (next_is(&at, "why")) {
@@ -339,6 +376,8 @@ static void replay_line(replay *r, char *line)
         CHECK(crc_of_words(r->desk->card, r->desk->words) == next_number(&at, 16), "line %u: crc", r->line);
     } else if (next_is(&at, "run")) {
         replay_run(r, at);
+    } else if (next_is(&at, "totals")) {
+        replay_totals(r, result);
     } else if (next_is(&at, "on")) {
         replay_on(r, at, result);
     } else if (next_is(&at, "dump")) {

@@ -1,8 +1,9 @@
 //! Replays traces word for word over the single calls. The first line, `features`, names the requests of document 02 that the
-//! traces are right for. Of the program's `list` lines the pairs are compared with a walk over the card.
+//! traces are right for. Of the program's `list` lines the pairs are compared with a walk over the card, and the families with the
+//! totals of the card opened.
 
 use ration_table::calls::{self, Opening, Step, STATE_WORDS};
-use ration_table::{Pairs, Refusal, StateBlock};
+use ration_table::{Pairs, Refusal, StateBlock, FAMILIES};
 
 use crate::guarded::{Desk, Guarded};
 use crate::reader;
@@ -16,6 +17,8 @@ struct Features {
     depths: bool,
     /// W-210 had landed: a way of 12 internal nodes is no longer refused.
     twelve_nodes: bool,
+    /// W-204 had landed: `list` has a line for each family that has pairs.
+    families: bool,
 }
 
 impl Features {
@@ -93,6 +96,12 @@ fn call(desk: &mut Desk, fields: &[&str], result: &str, features: Features) -> S
                 Opening::Repairing => format!("repairing {free}"),
             }))
         }
+        ["total", family] => refused_or(desk.family_total(number(family)).map(|total| format!("total {total}"))),
+        ["totals"] => {
+            let totals: Result<Vec<String>, Refusal> =
+                (0..FAMILIES).map(|family| Ok(desk.family_total(family)?.to_string())).collect();
+            refused_or(totals.map(|totals| totals.join(" ")))
+        }
         ["step"] => {
             let mut before = desk.card().to_vec();
             refused_or(desk.step().map(|step| match step {
@@ -144,8 +153,9 @@ fn dump(text: &str) -> Vec<u8> {
     bytes
 }
 
-/// What `list` prints for a dump, line feeds written /: a line of counts and one for each pair, or a refusal.
-fn list(dump: &[u8]) -> String {
+/// What `list` prints for a dump, line feeds written /, but for the line of counts: the lines of the families, rising, and one for each
+/// pair, or a refusal.
+fn list(dump: &[u8], features: Features) -> String {
     let mut card = vec![0; 62_408];
     match calls::read_dump(dump, &mut card) {
         Err(refusal) => return format!("refused {}", refusal.number()),
@@ -153,20 +163,26 @@ fn list(dump: &[u8]) -> String {
         Ok(words) if words > 14_408 => return "refused 11".into(),
         Ok(words) => card.truncate(words),
     }
-    match calls::open(&card, &mut StateBlock::new()) {
+    let mut state = StateBlock::new();
+    match calls::open(&card, &mut state) {
         Err(refusal) => format!("refused {}", refusal.number()),
         Ok(_) => {
+            let families = (0..FAMILIES).filter_map(|family| match calls::family_total(&state, family) {
+                Ok(0) => None,
+                total => Some(total.map(|total| format!("family {family} {total}"))),
+            });
             let pairs = Pairs::on(&card).map(|pair| pair.map(|(key, value)| format!("{key} {value}")));
-            pairs.collect::<Result<Vec<_>, _>>().expect("refused").join("/")
+            let lines = families.take(if features.families { 16 } else { 0 }).chain(pairs);
+            lines.collect::<Result<Vec<_>, _>>().expect("refused").join("/")
         }
     }
 }
 
 /// Without the line of counts.
-fn pairs_listed(text: &str) -> &str {
+fn after_counts(text: &str) -> &str {
     let text = text.strip_suffix('/').unwrap();
     match text.split_once('/') {
-        Some((_, pairs)) => pairs,
+        Some((_, lines)) => lines,
         None if text.starts_with("refused") => text,
         None => "",
     }
@@ -228,16 +244,19 @@ pub fn test(text: &str) -> (u32, u64) {
                 assert_eq!(format!("{:08x}", crc_of_words(&stored)), due, "line {}", line_number + 1);
                 stores += number(steps);
             }
-            ["list"] => assert_eq!(list(&bytes), pairs_listed(result), "line {}", line_number + 1),
+            ["list"] => assert_eq!(list(&bytes, features), after_counts(result), "line {}", line_number + 1),
             ["features", ..] => {
                 features = Features {
                     from_node_1: !fields.contains(&"W-205"),
                     depths: fields.contains(&"W-203"),
                     twelve_nodes: fields.contains(&"W-210"),
+                    families: fields.contains(&"W-204"),
                 };
             }
             // what `insert_check` prints: looked at here is only whether it refuses the dump
-            ["why", _] => assert_eq!(list(&bytes) == "refused 11", result == "refused 11/", "line {}", line_number + 1),
+            ["why", _] => {
+                assert_eq!(list(&bytes, features) == "refused 11", result == "refused 11/", "line {}", line_number + 1)
+            }
             ["#", ..] => {}
             ["find" | "next" | "insert" | "delete", key, ..]
                 if features.was_too_deep(desk.card(), number(key), result) => {}

@@ -27,6 +27,16 @@ void worked_free(worked *w)
     free(w);
 }
 
+// "each total in any other state equals the pairs of that family in the map, also between steps and during a repair"
+static void check_totals(const worked *w)
+{
+    for (uint32_t family = 0; family < RATION_FAMILIES; family++) {
+        uint32_t due = book_total(&w->book, family);
+        CHECK(w->desk->totals[family] == due, "%u pairs of family %u, in the book %u", w->desk->totals[family], family,
+              due);
+    }
+}
+
 static void open_card(worked *w)
 {
     uint32_t code = read_opening(w->desk->card, w->desk->words, &reading);
@@ -53,6 +63,7 @@ worked *worked_format(uint32_t nodes, random_stream *random)
     }
     CHECK(desk_step(w->desk).code == RATION_READY, "formatting not ready");
     book_begin(&w->book);
+    check_totals(w);
     worked_check(w);
     return w;
 }
@@ -64,6 +75,7 @@ worked *worked_open(uint32_t nodes, const uint32_t *card)
     desk_cut(w->desk);
     open_card(w);
     book_begin_with(&w->book, &reading);
+    check_totals(w);
     return w;
 }
 
@@ -80,6 +92,7 @@ void worked_cut(worked *w)
     book_cut(&w->book);
     open_card(w);
     CHECK(book_agrees(&w->book, &reading), "after a cut the map is not the book's");
+    check_totals(w);
 }
 
 static bool is_free_bit(const desk *d, uint32_t node) { return d->state[BLOCK_FREE + node / 32] >> node % 32 & 1; }
@@ -132,6 +145,7 @@ bool worked_start_insert(worked *w, uint32_t key, uint32_t value)
     }
     ration_answer a = desk_start_insert(w->desk, key, value);
     CHECK(a.code == code, "insert of %u: %u, due %u", key, a.code, code);
+    check_totals(w);
     if (code != RATION_STARTED)
         return false;
     started(w, key);
@@ -144,6 +158,7 @@ bool worked_start_delete(worked *w, uint32_t key)
     uint32_t code = early_refusal(w, key);
     ration_answer a = desk_start_delete(w->desk, key);
     CHECK(a.code == (code == 0 ? RATION_STARTED : code), "delete of %u: %u", key, a.code);
+    check_totals(w);
     if (code != 0)
         return false;
     started(w, key);
@@ -206,6 +221,7 @@ void worked_step(worked *w)
     ration_answer a = desk_step(w->desk);
     if (w->in_progress == NOTHING) {
         CHECK(a.code == RATION_NOTHING_TO_STEP, "idle step: %u", a.code);
+        check_totals(w);
         return;
     }
     if (a.code == RATION_STORED) {
@@ -215,12 +231,14 @@ void worked_step(worked *w)
         if (w->stores > w->most_stores)
             w->most_stores = w->stores;
         book_stepped(&w->book, false);
+        check_totals(w);
         return;
     }
     CHECK(a.code == w->due.code && a.value == w->due.value, "final answer %u %u, due %u %u", a.code, a.value,
           w->due.code, w->due.value);
     count_changed_depth(w, a);
     book_stepped(&w->book, true);
+    check_totals(w);
     w->in_progress = NOTHING;
 }
 

@@ -1,4 +1,5 @@
-// A table worked by the calls alone, beside the book. Every answer is compared with the one due.
+// A table worked by the calls alone, beside the book. Every answer is compared with the one due, and after each start, step and cut
+// each family's total with the book's pairs.
 #ifndef WORKED_H
 #define WORKED_H
 

@@ -4,8 +4,8 @@ use std::error::Error;
 use std::num::NonZeroU32;
 
 use ration_table::{
-    card_words, FinalAnswer, InProgress, Opened, Pairs, Progress, Refusal, Refused, StateBlock, Table, Unfinished,
-    WithDepth,
+    calls, card_words, family_of, FinalAnswer, InProgress, Opened, Pairs, Progress, Refusal, Refused, StateBlock,
+    Table, Unfinished, WithDepth,
 };
 
 const NODES: usize = 4;
@@ -183,6 +183,38 @@ fn depths() {
     assert_eq!(depth, 0);
 }
 
+/// A family's total: 0 in a new block and while formatting, an update counted from its deciding store on, the same after a cut.
+fn totals() {
+    let (mut card, mut state) = ([0; card_words(NODES)], StateBlock::new());
+    assert_eq!(calls::family_total(&state, 0), Ok(0));
+    let table = full(&mut card, &mut state);
+    assert_eq!((table.family_total(0), table.family_total(1)), (Ok(11), Ok(0)));
+    let formatting = Table::format(&mut card, &mut state).unwrap();
+    assert_eq!(formatting.find(key(11)), Ok(WithDepth { answer: Some(110), depth: 0 }));
+    assert_eq!(formatting.family_total(0), Ok(0));
+    let (mut table, (), _) = finish(formatting).unwrap();
+    for (family, number) in [(15, u32::MAX), (15, 0xf000_0000), (14, 0xefff_ffff), (0, 1), (0, 0x0fff_ffff)] {
+        assert_eq!(family_of(number), family);
+        let before = table.family_total(family).unwrap();
+        let mut update = table.insert(key(number), 1).unwrap();
+        for counted in [0, 1] {
+            let Progress::Stored { more, .. } = update.step().unwrap() else { panic!("no store") };
+            assert_eq!(more.family_total(family), Ok(before + counted));
+            update = more;
+        }
+        let (card, state) = update.into_parts();
+        let Opened::Idle(opened) = Table::open(card, state).unwrap() else { panic!("a repair") };
+        assert_eq!(opened.family_total(family), Ok(before + 1));
+        table = opened;
+    }
+    let Progress::Stored { more: update, .. } = table.delete(key(u32::MAX)).unwrap().step().unwrap() else { panic!() };
+    assert_eq!(update.family_total(15), Ok(1));
+    assert_eq!(update.family_total(16), Err(Refusal::NoFamily));
+    let (card, state) = update.into_parts();
+    assert_eq!(Table::open(&mut card[1..], state).unwrap_err(), Refusal::WrongLength);
+    assert_eq!(calls::family_total(state, 0), Ok(0));
+}
+
 /// The manual's text for each refusal is the one that is printed here.
 fn texts() {
     let manual = include_str!("../include/ration_table.h");
@@ -199,6 +231,7 @@ fn texts() {
         Refusal::NothingToStep,
         Refusal::WrongDump,
         Refusal::TooShort,
+        Refusal::NoFamily,
     ];
     for (refusal, number) in refusals.into_iter().zip(1..) {
         assert_eq!(refusal.number(), number);
@@ -214,5 +247,6 @@ pub fn test() {
     behind_a_bus();
     walked();
     depths();
+    totals();
     texts();
 }

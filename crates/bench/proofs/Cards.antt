@@ -3,7 +3,7 @@ use mathlib.Core.Path.{_≡_, refl, ap, _∙_}
 use Rattle.card.specs.Layout.{greatestNodes}
 use mathlib.Core.List.{List, [], _∷_, _++_}
 use Prim.Native.Nat.{ℕ}
-use lib.ListN.{getD}
+use lib.ListN.{getD, replicate}
 use Rattle.card.specs.Header.{nodesOfLength, headerRefusal, cardRefusal}
 use Rattle.card.specs.Layout.{formattedRoot, runBelow, nodeAt, keyWords, valueWords, children, routingKeys, leafPairs, nodeImage}
 use Rattle.change_plan.specs.Change.{changeStores, kindAbove, splitLeaf, joinedKeys, joinedChildren, absorb, splitParent, leavesTogether}
@@ -29,7 +29,9 @@ use Rattle.call_open.specs.Opening.{openSound, openChecked, openOf}
 use Rattle.call_start.specs.Starts.{formatOf, startRefused, startAccepted, startLanded, startChecked, startOf, insertOf, deleteOf}
 use Rattle.call_step.specs.Calls.{planning, stepPrepared, stepBegin, stepHeld, stepOf, stepTask, stepChecked}
 use Rattle.state.specs.Steps.{noBeginning, stepRefused, stepFinal, formattedWord, formatStore, formattingFrom, stepFormat, stepStore, isIdle, heldBy}
-use Rattle.state.specs.Memory.{noMemory, resting, idled, settledPhase, settled, advanced}
+use Rattle.state.specs.Memory.{noMemory, resting, idled, settledPhase, settled, settledIn, settledOut, settledTotals, advanced}
+use Rattle.card_family.specs.Families.{familyOf, countedIn, countedOut}
+use Rattle.card_check.specs.Counting.{keysCounted, childrenCounted, nodeCounted, tableCounted}
 use Rattle.call_change.specs.Updates.{landing, emptyReason, reasonIn, insertReason, insertChange, deleteChange, roomFor, startRoom, nextChange, inLeaf, noWay}
 use Rattle.state.specs.declared.Answer.the-variants.{Absent, Value}
 use Rattle.state.specs.declared.Doing.the-variants.{Idle}
@@ -46,7 +48,7 @@ heldB =
           ∷ 70 ∷ 0 ∷ 0 ∷ 0 ∷ 0 ∷ 0 ∷ 0 ∷ 0 ∷ 0 ∷ 0 ∷ 0 ∷ 0 ∷ 0 ∷ 0 ∷ 0 ∷ 0 ∷ 0 ∷ 0 ∷ 0 ∷ 0 ∷ 0 ∷ 0 ∷ 0 ∷ 0 ∷ 0 ∷ 0 ∷ 0 ∷ 0 ∷ 0 ∷ 0 ∷ 0 ∷ 0
           ∷ 0 ∷ 0 ∷ 0 ∷ 0 ∷ 0 ∷ 0 ∷ 0 ∷ 0 ∷ 0 ∷ 0 ∷ 0 ∷ 0 ∷ 0 ∷ 0 ∷ 0 ∷ 0 ∷ 0 ∷ 0 ∷ 0 ∷ 0 ∷ 0 ∷ 0 ∷ 0 ∷ 0 ∷ 0 ∷ 0 ∷ 0 ∷ 0 ∷ 0 ∷ 0 ∷ 0 ∷ 0
           ∷ 0 ∷ 0 ∷ 0 ∷ 0 ∷ 0 ∷ 0 ∷ 0 ∷ 0 ∷ 0 ∷ 0 ∷ 0 ∷ 0 ∷ 0 ∷ 0 ∷ 0 ∷ 0 ∷ 0 ∷ 0 ∷ 0 ∷ 0 ∷ []);
-      memory = record { nodes = 4; free = withoutAll (1 ∷ []) (allNodes 4); last = formattedRoot; doing = Idle; rest = []; cut = []; depth = 0 };
+      memory = record { nodes = 4; free = withoutAll (1 ∷ []) (allNodes 4); last = formattedRoot; doing = Idle; rest = []; cut = []; depth = 0; totals = 1 ∷ replicate 15 0 };
       stores = 2;
       answer = Absent;
     }
@@ -60,7 +62,7 @@ heldS =
           ∷ 0 ∷ 0 ∷ 0 ∷ 0 ∷ 0 ∷ 0 ∷ 0 ∷ 0 ∷ 0 ∷ 0 ∷ 0 ∷ 0 ∷ 0 ∷ 0 ∷ 0 ∷ 0 ∷ 0 ∷ 0 ∷ 0 ∷ 0 ∷ 0 ∷ 0 ∷ 0 ∷ 0 ∷ 0 ∷ 0 ∷ 0 ∷ 0 ∷ 0 ∷ 0 ∷ 0 ∷ 0
           ∷ 0 ∷ 0 ∷ 0 ∷ 0 ∷ 0 ∷ 0 ∷ 0 ∷ 0 ∷ 0 ∷ 0 ∷ 0 ∷ 0 ∷ 0 ∷ 0 ∷ 0 ∷ 0 ∷ 0 ∷ 0 ∷ 0 ∷ 0 ∷ 0 ∷ 0 ∷ 0 ∷ 0 ∷ 0 ∷ 0 ∷ 0 ∷ 0 ∷ 0 ∷ 0 ∷ 0 ∷ 0
           ∷ 0 ∷ 0 ∷ 0 ∷ 0 ∷ 0 ∷ 0 ∷ 0 ∷ 0 ∷ 0 ∷ 0 ∷ 0 ∷ 0 ∷ 0 ∷ 0 ∷ 0 ∷ 0 ∷ 0 ∷ 0 ∷ 0 ∷ 0 ∷ 0 ∷ 0 ∷ 0 ∷ 0 ∷ 0 ∷ 0 ∷ 0 ∷ 0 ∷ []);
-      memory = record { nodes = 6; free = withoutAll (1 ∷ []) (allNodes 6); last = formattedRoot; doing = Idle; rest = []; cut = []; depth = 0 };
+      memory = record { nodes = 6; free = withoutAll (1 ∷ []) (allNodes 6); last = formattedRoot; doing = Idle; rest = []; cut = []; depth = 0; totals = 11 ∷ replicate 15 0 };
       stores = 2;
       answer = Absent;
     }
@@ -74,7 +76,7 @@ heldI =
           ∷ 9 ∷ 10 ∷ 11 ∷ 12 ∷ 0 ∷ 0 ∷ 0 ∷ 0 ∷ 0 ∷ 70 ∷ 80 ∷ 90 ∷ 100 ∷ 110 ∷ 120 ∷ 0 ∷ 0 ∷ 0 ∷ 0 ∷ 0 ∷ 0 ∷ 2 ∷ 7 ∷ 0 ∷ 0 ∷ 0 ∷ 0 ∷ 0 ∷ 0 ∷ 0
           ∷ 0 ∷ 0 ∷ 0 ∷ 2 ∷ 3 ∷ 0 ∷ 0 ∷ 0 ∷ 0 ∷ 0 ∷ 0 ∷ 0 ∷ 0 ∷ 0 ∷ 0 ∷ 0 ∷ 0 ∷ 0 ∷ 0 ∷ 0 ∷ 0 ∷ 0 ∷ 0 ∷ 0 ∷ 0 ∷ 0 ∷ 0 ∷ 0 ∷ 0 ∷ 0 ∷ 0 ∷ 0
           ∷ 0 ∷ 0 ∷ 0 ∷ 0 ∷ 0 ∷ 0 ∷ 0 ∷ 0 ∷ 0 ∷ 0 ∷ 0 ∷ 0 ∷ 0 ∷ 0 ∷ 0 ∷ 0 ∷ 0 ∷ 0 ∷ 0 ∷ 0 ∷ 0 ∷ 0 ∷ 0 ∷ 0 ∷ 0 ∷ 0 ∷ 0 ∷ 0 ∷ 0 ∷ 0 ∷ 0 ∷ []);
-      memory = record { nodes = 6; free = withoutAll (2 ∷ 3 ∷ 4 ∷ []) (allNodes 6); last = 4; doing = Idle; rest = []; cut = []; depth = 0 };
+      memory = record { nodes = 6; free = withoutAll (2 ∷ 3 ∷ 4 ∷ []) (allNodes 6); last = 4; doing = Idle; rest = []; cut = []; depth = 0; totals = 12 ∷ replicate 15 0 };
       stores = 73;
       answer = Absent;
     }
@@ -88,7 +90,7 @@ heldK =
           ∷ 12 ∷ 0 ∷ 0 ∷ 0 ∷ 0 ∷ 0 ∷ 70 ∷ 80 ∷ 90 ∷ 100 ∷ 110 ∷ 120 ∷ 0 ∷ 0 ∷ 0 ∷ 0 ∷ 0 ∷ 0 ∷ 2 ∷ 7 ∷ 0 ∷ 0 ∷ 0 ∷ 0 ∷ 0 ∷ 0 ∷ 0 ∷ 0 ∷ 0 ∷ 0
           ∷ 2 ∷ 3 ∷ 0 ∷ 0 ∷ 0 ∷ 0 ∷ 0 ∷ 0 ∷ 0 ∷ 0 ∷ 0 ∷ 0 ∷ 1 ∷ 6 ∷ 7 ∷ 8 ∷ 9 ∷ 0 ∷ 0 ∷ 0 ∷ 0 ∷ 0 ∷ 0 ∷ 0 ∷ 60 ∷ 70 ∷ 80 ∷ 90 ∷ 0 ∷ 0 ∷ 0 ∷ 0
           ∷ 0 ∷ 0 ∷ 0 ∷ 0 ∷ 1 ∷ 10 ∷ 11 ∷ 12 ∷ 0 ∷ 0 ∷ 0 ∷ 0 ∷ 0 ∷ 0 ∷ 0 ∷ 0 ∷ 100 ∷ 110 ∷ 120 ∷ 0 ∷ 0 ∷ 0 ∷ 0 ∷ 0 ∷ 0 ∷ 0 ∷ 0 ∷ 0 ∷ []);
-      memory = record { nodes = 6; free = withoutAll (5 ∷ 6 ∷ 1 ∷ []) (allNodes 6); last = 1; doing = Idle; rest = []; cut = []; depth = 1 };
+      memory = record { nodes = 6; free = withoutAll (5 ∷ 6 ∷ 1 ∷ []) (allNodes 6); last = 1; doing = Idle; rest = []; cut = []; depth = 1; totals = 7 ∷ replicate 15 0 };
       stores = 74;
       answer = (Value 50);
     }
@@ -102,7 +104,7 @@ heldL2 =
           ∷ 12 ∷ 0 ∷ 0 ∷ 0 ∷ 0 ∷ 0 ∷ 70 ∷ 80 ∷ 90 ∷ 100 ∷ 110 ∷ 120 ∷ 0 ∷ 0 ∷ 0 ∷ 0 ∷ 0 ∷ 0 ∷ 2 ∷ 7 ∷ 0 ∷ 0 ∷ 0 ∷ 0 ∷ 0 ∷ 0 ∷ 0 ∷ 0 ∷ 0 ∷ 0
           ∷ 2 ∷ 3 ∷ 0 ∷ 0 ∷ 0 ∷ 0 ∷ 0 ∷ 0 ∷ 0 ∷ 0 ∷ 0 ∷ 0 ∷ 1 ∷ 6 ∷ 0 ∷ 0 ∷ 0 ∷ 0 ∷ 0 ∷ 0 ∷ 0 ∷ 0 ∷ 0 ∷ 0 ∷ 60 ∷ 70 ∷ 80 ∷ 90 ∷ 0 ∷ 0 ∷ 0
           ∷ 0 ∷ 0 ∷ 0 ∷ 0 ∷ 0 ∷ 1 ∷ 0 ∷ 11 ∷ 12 ∷ 0 ∷ 0 ∷ 0 ∷ 0 ∷ 0 ∷ 0 ∷ 0 ∷ 0 ∷ 100 ∷ 110 ∷ 120 ∷ 0 ∷ 0 ∷ 0 ∷ 0 ∷ 0 ∷ 0 ∷ 0 ∷ 0 ∷ 0 ∷ []);
-      memory = record { nodes = 6; free = withoutAll (2 ∷ []) (allNodes 6); last = 2; doing = Idle; rest = []; cut = []; depth = 1 };
+      memory = record { nodes = 6; free = withoutAll (2 ∷ []) (allNodes 6); last = 2; doing = Idle; rest = []; cut = []; depth = 1; totals = 3 ∷ replicate 15 0 };
       stores = 26;
       answer = (Value 90);
     }
@@ -113,6 +115,7 @@ unfolding fresh drive onAnswer insertWhole deleteWhole upto steps cardL cardB ca
     stepOf stepFormat formatStore formattedWord formatOf stepFinal nodesOfLength formattingFrom resting idled allNodes headerRefusal
     stepHeld isIdle stepBegin stepPrepared landing landingOf landedAt way wayFrom byLook past outside lookIn lookAt runOver nodeAt children valueWords
     keyWords slotOf firstEqual insertReason reasonIn emptyReason insertChange stepStore planning advanced settled settledPhase nextChange
+    settledTotals settledIn settledOut countedIn countedOut familyOf tableCounted nodeCounted childrenCounted keysCounted
     nextRepair onSearch seek searchOf endOf firstFault ended toList isFault countOf rootPosition leafPairs insertOf startOf startChecked
     startRoom roomFor startLanded startAccepted stepRefused startRefused withAll giving overNumbers takeNumbers numbersFrom nextFree
     firstFrom firstTrue orElse withoutAll lastOf splitLeaf changeStores sort insertAll insertPair kindAbove nodeImage countTrue

@@ -24,6 +24,7 @@ use Rattle.change_siblings.specs.Siblings.{togetherAt}
 use Rattle.walk.specs.Descent.{passed, childIndex, childFor, firstEqual, slotOf, outside, lookIn, lookAt, rootPosition, childPosition, past, byLook, wayFrom, leafOf, reachedAt, depthOf}
 use Rattle.walk.specs.Descent.{way, runOver, landedAt, landingOf, countOf, isFault, firstFault, ended, toList, endOf}
 use Rattle.walk.specs.Descent.{searchOf, seek}
+use Rattle.card_family.specs.Families.{noTotals}
 use Rattle.card_free.specs.NodeSet.{allNodes, countTrue, firstTrue, firstFrom, orElse, nextFree}
 use Rattle.laws.specs.Sorting.{insertPair, insertAll, sort}
 use Rattle.card_check.specs.Check.{member, leafSound, unusedZero, lookOf, noted, enterLeaf, innerSound, enterInner, enterKind, enterNode}
@@ -111,7 +112,7 @@ cutAfter k = putNow 1 ++ putNow 2 ++ putNow 3 ++ putNow 4 ++ putNow 5 ++ putNow 
 
 -- formatted: "root node 1, an empty leaf, all else 0"
 abbrev pub formatted : World (rationTable greatestNodes)
-formatted = record { card = 1 ∷ 6 ∷ 8 ∷ 24 ∷ 1 ∷ 0 ∷ 0 ∷ 0 ∷ 1 ∷ replicate 143 0; state = resting 6 (withoutAll (1 ∷ []) (allNodes 6)) formattedRoot Idle }
+formatted = record { card = 1 ∷ 6 ∷ 8 ∷ 24 ∷ 1 ∷ 0 ∷ 0 ∷ 0 ∷ 1 ∷ replicate 143 0; state = resting 6 (withoutAll (1 ∷ []) (allNodes 6)) formattedRoot noTotals Idle }
 
 -- the pairs of S, the last put in first
 abbrev pub pairsTo11 : List (ℕ × ℕ)

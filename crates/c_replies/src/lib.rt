@@ -2,12 +2,13 @@
 use call_find::Found;
 use state::Answer;
 use state::Begun;
+use state::Total;
 use state::block::depth_kept;
 use walk_next::Successor;
 ghost use mathlib.Core.Path.{_≡_};
 ghost use Rattle.card.specs.Replies.{plain, valued, next, withDepth};
 ghost use Rattle.call_find.specs.Answers.{foundReply};
-ghost use Rattle.state.specs.Answers.{stepReply, toldDepth, startReply};
+ghost use Rattle.state.specs.Answers.{stepReply, toldDepth, startReply, totalReply};
 ghost use Rattle.card_dump.specs.Answers.{dumpReply};
 ghost use Rattle.walk_next.specs.Successor.{nextReply};
 ghost use Rattle.c_replies.specs.ReplyWords.{replyOf, keptDepth, ShortDump};
@@ -21,7 +22,8 @@ pub struct Reply {
 }
 
 // The answers that have no number in document 01: the value held under a key, "absent", one word stored in a place, "ready", an
-// idle state opened, a call or repair in progress, and the length of a dump's result; of document 02, W-201, a pair and "none".
+// idle state opened, a call or repair in progress, and the length of a dump's result; of document 02, W-201, a pair and "none",
+// and W-204, what a family holds.
 const VALUE: u32 = 64;
 
 const ABSENT: u32 = 65;
@@ -39,6 +41,8 @@ const LENGTH: u32 = 70;
 const NEXT: u32 = 72;
 
 const NONE: u32 = 73;
+
+const TOTAL: u32 = 75;
 
 // An answer with a value beside it.
 fn valued(code: u32, value: u32) -> Reply
@@ -114,6 +118,16 @@ pub fn start_reply(begun: Begun) -> Reply
         Begun::Idle => plain(IDLE),
         Begun::Started => plain(STARTED),
         Begun::Refused(refusal) => plain(refusal),
+    }
+}
+
+// "One question answers a family's total".
+pub fn total_reply(total: Total) -> Reply
+    ensures { λ r. ⌜ replyOf r ≡ totalReply total ⌝ }
+{
+    match total {
+        Total::Pairs(pairs) => valued(TOTAL, pairs),
+        Total::Refused(refusal) => plain(refusal),
     }
 }
 

@@ -9,6 +9,7 @@ use Rattle.card.specs.Header.{nodesOfLength, cardRefusal}
 use Rattle.card.specs.Layout.{searchStart}
 use Rattle.card_free.specs.NodeSet.{countTrue}
 use Rattle.card_check.specs.Check.{Findings, tableCheck}
+use Rattle.card_check.specs.Counting.{tableCounted}
 use Rattle.call_open.specs.Opening.{openSound, openChecked, openOf}
 use Rattle.state.specs.Steps.{noBeginning}
 use Rattle.state.specs.Memory.{resting}
@@ -19,20 +20,20 @@ pub open-refused : (greatest : ℕ) (card : List ℕ) → (cardRefusal greatest 
 unfolding openOf
 open-refused greatest card p = simp (ne-eqb (cardRefusal greatest card) 0 p)
 
-module _ (n last : ℕ) (f : Findings) where
-  pub open-scarce : countTrue (f .free) < 3 + f .run → openSound n last f ≡ noBeginning 5
+module _ (n last : ℕ) (totals : List ℕ) (f : Findings) where
+  pub open-scarce : countTrue (f .free) < 3 + f .run → openSound n last totals f ≡ noBeginning 5
   unfolding openSound
   open-scarce h = simp (lt-ltb (countTrue (f .free)) (3 + f .run) h)
 
-  pub open-repair : 3 + f .run ≤ countTrue (f .free) → f .violated ≡ true → openSound n last f ≡ record { begun = Started; memory = resting n (f .free) last (Repairing (f .key)) }
+  pub open-repair : 3 + f .run ≤ countTrue (f .free) → f .violated ≡ true → openSound n last totals f ≡ record { begun = Started; memory = resting n (f .free) last totals (Repairing (f .key)) }
   unfolding openSound
   open-repair h v = simp (le-ltb (countTrue (f .free)) (3 + f .run) h, v)
 
-  pub open-idle : 3 + f .run ≤ countTrue (f .free) → f .violated ≡ false → openSound n last f ≡ record { begun = OpenedIdle; memory = resting n (f .free) last Idle }
+  pub open-idle : 3 + f .run ≤ countTrue (f .free) → f .violated ≡ false → openSound n last totals f ≡ record { begun = OpenedIdle; memory = resting n (f .free) last totals Idle }
   unfolding openSound
   open-idle h v = simp (le-ltb (countTrue (f .free)) (3 + f .run) h, v)
 
 pub open-unrefused : (greatest : ℕ) (card : List ℕ) → cardRefusal greatest card ≡ 0 → openOf greatest card
-    ≡ openChecked (nodesOfLength greatest (length card)) (searchStart card) (tableCheck card (nodesOfLength greatest (length card)))
+    ≡ openChecked (nodesOfLength greatest (length card)) (searchStart card) (tableCounted card) (tableCheck card (nodesOfLength greatest (length card)))
 unfolding openOf
 open-unrefused greatest card r = simp (eq-eqb (cardRefusal greatest card) 0 r)

@@ -12,7 +12,8 @@ use Rattle.laws.proofs.Cases.{bool-cases, impossible}
 use Rattle.card.specs.Header.{nodesOfLength, cardRefusal}
 use Rattle.card_free.specs.NodeSet.{countTrue}
 use Rattle.card_check.specs.Check.{Findings, tableCheck}
-use Rattle.state.specs.Memory.{Memory, resting, noMemory}
+use Rattle.card_check.specs.Counting.{tableCounted}
+use Rattle.state.specs.Memory.{Memory, noMemory}
 use Rattle.state.specs.Steps.{isIdle, noBeginning}
 use Rattle.state.specs.declared.Begun.the-variants.{Refused}
 use Rattle.card.specs.Layout.{searchStart}
@@ -40,23 +41,27 @@ repair-on greatest zero card m d e = absurd (d refl)
 repair-on greatest (suc k) card m d e = let z : suc k - 1 ≡ k = omega arith in rw (e, z)
 
 -- "Opening .., refused, hands back an idle state for N = 0"
-sound-idle : (n last : ℕ) (f : Findings) (r : ℕ) → openSound n last f .begun ≡ Refused r → isIdle (openSound n last f .memory .doing) ≡ true
-unfolding openSound noBeginning noMemory resting isIdle
-sound-idle n last f r =
+sound-none : (n last : ℕ) (totals : List ℕ) (f : Findings) (r : ℕ) → openSound n last totals f .begun ≡ Refused r → openSound n last totals f .memory ≡ noMemory
+unfolding openSound noBeginning
+sound-none n last totals f r =
     bool-cases (ltb (countTrue (f .free)) (3 + f .run)) (λ s. rw s (λ e. refl))
-    (λ s. rw s (bool-cases (f .violated) (λ v. rw v (λ e. impossible (cc))) (λ v. rw v (λ e. refl))))
+    (λ s. rw s (bool-cases (f .violated) (λ v. rw v (λ e. impossible (cc))) (λ v. rw v (λ e. impossible (cc)))))
 
-checked-idle : (n last : ℕ) (x : Option (ℕ × Findings)) (r : ℕ) → openChecked n last x .begun ≡ Refused r → isIdle (openChecked n last x .memory .doing) ≡ true
-unfolding openChecked noBeginning noMemory resting isIdle
-checked-idle n last none r e = refl
-checked-idle n last (some x) r e = sound-idle n last (x .1) r e
+checked-none : (n last : ℕ) (totals : List ℕ) (x : Option (ℕ × Findings)) (r : ℕ) → openChecked n last totals x .begun ≡ Refused r → openChecked n last totals x .memory ≡ noMemory
+unfolding openChecked noBeginning
+checked-none n last totals none r e = refl
+checked-none n last totals (some x) r e = sound-none n last totals (x .1) r e
 
-pub refused-idle : (greatest : ℕ) (card : List ℕ) (r : ℕ) → openOf greatest card .begun ≡ Refused r → isIdle (openOf greatest card .memory .doing) ≡ true
-unfolding openOf noBeginning noMemory resting isIdle
-refused-idle greatest card r =
+pub refused-none : (greatest : ℕ) (card : List ℕ) (r : ℕ) → openOf greatest card .begun ≡ Refused r → openOf greatest card .memory ≡ noMemory
+unfolding openOf noBeginning
+refused-none greatest card r =
     bool-cases (eqb (cardRefusal greatest card) 0) (λ s. rw s
-    (λ e. checked-idle (nodesOfLength greatest (length card)) (searchStart card) (tableCheck card (nodesOfLength greatest (length card))) r e))
+    (λ e. checked-none (nodesOfLength greatest (length card)) (searchStart card) (tableCounted card) (tableCheck card (nodesOfLength greatest (length card))) r e))
     (λ s. rw s (λ e. refl))
+
+refused-idle : (greatest : ℕ) (card : List ℕ) (r : ℕ) → openOf greatest card .begun ≡ Refused r → isIdle (openOf greatest card .memory .doing) ≡ true
+unfolding noMemory isIdle
+refused-idle greatest card r e = ap (λ (m : Memory). isIdle (m .doing)) (refused-none greatest card r e)
 
 -- "A refusal .. stores nothing"
 pub refused-untouched : (greatest : ℕ) (card : List ℕ) (r : ℕ) → openOf greatest card .begun ≡ Refused r → openedCard greatest card .card ≡ card

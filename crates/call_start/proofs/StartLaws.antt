@@ -15,6 +15,7 @@ use Rattle.card.specs.Layout.{depthLimit, formattedRoot}
 use Rattle.card.proofs.HeaderLaws.{nodes-sized}
 use Rattle.walk.specs.Descent.{slotOf, Way, way, reachedAt, leafOf, depthOf}
 use Rattle.walk.proofs.Along.{way-depth-le}
+use Rattle.card_family.specs.Families.{noTotals}
 use Rattle.card_free.specs.NodeSet.{allNodes, countTrue}
 use Rattle.laws.proofs.Cases.{bool-cases, order, impossible}
 use Rattle.laws.specs.Cases.{pick}
@@ -262,6 +263,6 @@ module _ (greatest : ℕ) (card : List ℕ) (n : ℕ) (e : n ≡ nodesOfLength g
   unfolding formatOf
   format-no-length z = simp (eq-eqb (nodesOfLength greatest (length card)) 0 (sym e ∙ z))
 
-  pub format-length : (n ≡ 0 → ⊥) → formatOf greatest card ≡ record { begun = Started; memory = resting n (set (allNodes n) formattedRoot false) formattedRoot (Formatting 0) }
+  pub format-length : (n ≡ 0 → ⊥) → formatOf greatest card ≡ record { begun = Started; memory = resting n (set (allNodes n) formattedRoot false) formattedRoot noTotals (Formatting 0) }
   unfolding formatOf
   format-length p = simp (ne-eqb (nodesOfLength greatest (length card)) 0 (λ z. p (e ∙ z)), ← e)

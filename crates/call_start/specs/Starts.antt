@@ -10,6 +10,7 @@ use Rattle.card.specs.Layout.{formattedRoot}
 use Rattle.walk.specs.Descent.{way, leafOf, depthOf}
 use Rattle.walk.specs.declared.Landing.{Landing}
 use Rattle.walk.specs.declared.Landing.the-variants.{Refused as NoLanding, Leaf as LandingAt}
+use Rattle.card_family.specs.Families.{noTotals}
 use Rattle.card_free.specs.NodeSet.{allNodes}
 use Rattle.call_change.specs.Updates.{landing, startRoom}
 use Rattle.state.specs.Memory.{Memory, resting}
@@ -20,11 +21,15 @@ use Rattle.state.specs.declared.Begun.the-variants.{Started, Refused as BegunRe
 use Rattle.state.specs.Steps.{isIdle, Handed, noBeginning}
 
 -- STARTING TO FORMAT. "Formatting needs no earlier state"; while it goes on the free nodes are those of the table it makes, and the
--- root of that table is taken for the node given last (document 02, W-205)
+-- root of that table is taken for the node given last (document 02, W-205); the totals are "0 while formatting" (W-204)
 unfoldable pub formatOf : ℕ → List ℕ → Handed
 formatOf greatest card =
     pick (eqb (nodesOfLength greatest (length card)) 0) (noBeginning 1)
-    (record { begun = Started; memory = resting (nodesOfLength greatest (length card)) (set (allNodes (nodesOfLength greatest (length card))) formattedRoot false) formattedRoot (Formatting 0) })
+    (record {
+      begun = Started;
+      memory = resting (nodesOfLength greatest (length card))
+          (set (allNodes (nodesOfLength greatest (length card))) formattedRoot false) formattedRoot noTotals (Formatting 0);
+    })
 
 -- STARTING AN UPDATE. "Starting an update stores nothing." Refusals 1, 2, 3, 7, 6, 9, and 8 for an insert.
 unfoldable pub startRefused : ℕ → Memory → Handed
@@ -33,7 +38,7 @@ startRefused r m = record { begun = BegunRefused r; memory = m }
 -- the internal nodes on the key's way are kept for the final answer: "when the call began" (document 02, W-203)
 unfoldable pub startAccepted : Memory → Doing → ℕ → Handed
 startAccepted m doing depth =
-    record { begun = Started; memory = record { nodes = m .nodes; free = m .free; last = m .last; doing = doing; rest = m .rest; cut = m .cut; depth = depth } }
+    record { begun = Started; memory = record { nodes = m .nodes; free = m .free; last = m .last; doing = doing; rest = m .rest; cut = m .cut; depth = depth; totals = m .totals } }
 
 -- those on the way of a key, for a state of so many nodes
 abbrev pub startDepth : List ℕ → Memory → ℕ → ℕ

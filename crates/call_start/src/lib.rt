@@ -1,5 +1,6 @@
 // Starting to format, and starting an update: its refusals, the room it needs, and the state it hands back (document 01, "State, steps
 // and free nodes").
+use card_family::FAMILIES;
 use state::Begun;
 use state::Doing;
 use state::Phase;
@@ -13,6 +14,7 @@ use state::block::is_idle;
 use state::block::refuse_beginning;
 use state::block::store_doing;
 use state::block::store_resting;
+use state::block::store_totals;
 use state::block::wide;
 use walk::End;
 use walk::Slot;
@@ -22,13 +24,14 @@ ghost use Prim.Native.Nat.{_≤_, _<_};
 ghost use lib.ListN.{length, set};
 ghost use Rattle.card.specs.Header.{Sized};
 ghost use Rattle.card.specs.Layout.{greatestNodes, depthLimit, nodeAt, formattedRoot};
+ghost use Rattle.card_family.specs.Families.{familyCount, noTotals};
 ghost use Rattle.card_free.specs.NodeSet.{wordCount, capacity, nodesOf, allNodes};
 ghost use Rattle.walk.specs.Descent.{slotOf, way, leafOf, depthOf, runOver};
 ghost use Rattle.laws.specs.Cases.{pick};
 ghost use Rattle.state.specs.Steps.{isIdle};
 ghost use Rattle.state.specs.declared.Doing.the-variants.{Inserting, Deleting};
 ghost use Rattle.state.specs.declared.Phase.the-variants.{NotBegun};
-ghost use Rattle.state.specs.Block.{stateWords, memoryIn};
+ghost use Rattle.state.specs.Block.{freeAt, totalsAt, stateWords, part, memoryIn};
 ghost use Rattle.state.specs.Contracts.{OpenCall, StartCall};
 ghost use Rattle.call_change.specs.Updates.{landing, insertReason, roomFor};
 ghost use Rattle.call_start.specs.Starts.{formatOf, insertOf, deleteOf};
@@ -181,6 +184,17 @@ fn free_but_root(free: &mut [u32], n: usize)
     card_free::take_out(free, ROOT);
 }
 
+// What a state holds of the table that formatting makes: all nodes but the root are free, and the totals are "0 while formatting"
+// (document 02, W-204).
+fn hold_empty(state: &mut [u32], n: usize)
+    requires { ⌜ (length (now state) ≡ stateWords) × (n < capacity) ⌝ }
+    ensures { λ _. ⌜ nodesOf (part (now (state .exit)) freeAt wordCount) ≡ set (allNodes n) formattedRoot false ⌝ }
+    ensures { λ _. ⌜ part (now (state .exit)) totalsAt familyCount ≡ noTotals ⌝ }
+{
+    free_but_root(&mut state[FREE..PLACES], n);
+    store_totals(state, &[0; FAMILIES]);
+}
+
 // "Formatting needs no earlier state". While it goes on the free nodes are those of the table it makes, and the search for one begins
 // after the root of that table (document 02, W-205).
 pub fn start_format(card: &[u32], state: &mut [u32], greatest: usize) -> Begun
@@ -193,7 +207,7 @@ pub fn start_format(card: &[u32], state: &mut [u32], greatest: usize) -> Begun
     if n == 0 {
         return refuse_beginning(state, 1);
     }
-    free_but_root(&mut state[FREE..PLACES], n);
+    hold_empty(state, n);
     store_resting(
         state,
         n,

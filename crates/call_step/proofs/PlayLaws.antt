@@ -1,26 +1,28 @@
 -- Laws of the words of a block that is played in place: one for each branch of the code.
 use mathlib.Core.Path.{_≡_, refl, sym, ap, ap₂, _∙_}
 use mathlib.Core.Bool.{Bool, true, false}
-use mathlib.Core.List.{List, [], _∷_, _++_}
+use mathlib.Core.List.{List, [], _∷_, _++_, append-nil}
 use Prim.Native.Nat.{ℕ, suc, _+_, _^_, _≤_, _<_}
 use native.Mathlib.Omega.{arith}
-use lib.ListN.{length, getD, take, drop, set, replicate, length-take, length-drop, length-set, take-append-drop, List·getD-eq-default}
-use lib.Seq.{take-at, drop-at, drop-drop, getD-take, getD-drop}
-use lib.Dec.{ltb}
+use lib.ListN.{length, getD, take, drop, set, replicate, length-take, length-drop, length-set, take-append-drop, drop-of-length-le, List·getD-eq-default}
+use lib.Seq.{take-at, drop-at, drop-drop, take-all, getD-take, getD-drop}
+use lib.Dec.{ltb, eqb}
 use borrow.Author.Tests.{ne-eqb}
 use Rattle.laws.specs.Lists.{beforeZero}
-use Rattle.laws.proofs.Cases.{order, impossible}
+use Rattle.laws.proofs.Cases.{order, impossible, bool-cases}
 use Rattle.card.specs.Stores.{Store}
+use Rattle.card_family.specs.Families.{familyCount, countedIn, countedOut}
 use Rattle.card_free.specs.NodeSet.{wordCount, nodesOf}
 use Rattle.change_plan.specs.Plan.{storesOf}
 use Rattle.change_plan.specs.Planning.{withAll}
+use Rattle.state.specs.Memory.{settledIn, settledOut, settledTotals}
 use Rattle.state.specs.Results.{moreToStore}
-use Rattle.state.specs.Block.{freeAt, placesAt, valuesAt, stateWords, blockWord, part}
+use Rattle.state.specs.Block.{freeAt, placesAt, totalsAt, valuesAt, stateWords, blockWord, part, phaseIn, doingIn, memoryIn}
 use Rattle.state.specs.Blocks.{over, wordsOf}
 use Rattle.state.proofs.Rows.{placed}
-use Rattle.state.proofs.Blocks.{Words, by-head, words-nodes, free-span, freed-part, freed-length}
+use Rattle.state.proofs.Blocks.{Words, by-head, over-placed, length-words, words-nodes, free-span, freed-part, freed-length}
 use Rattle.state.proofs.StepLaws.{store-at, more-full, more-test, more-below, cut-end, cut-zero, cut-next, no-cut}
-use Rattle.call_step.specs.StepBlocks.{idledBlock, settledWord, playedBlock}
+use Rattle.call_step.specs.StepBlocks.{idledBlock, settledWord, totalled, settledBlock, playedBlock}
 
 pub part-length : (b : List ℕ) (from n : ℕ) → from + n ≤ length b → length (part b from n) ≡ n
 part-length b from n h = omega (arith, length-take n (drop from b), length-drop from b)
@@ -119,13 +121,57 @@ module _ (b : List ℕ) (long : length b ≡ stateWords) where
 
 -- ---- one store of the plan
 
--- word 5 after the last store of a change
-pub settled-hand : (b : List ℕ) → blockWord b 5 ≡ 1 → set b 5 2 ≡ set b 5 (settledWord (blockWord b 5))
-settled-hand b e = ap (λ (w : ℕ). set b 5 (settledWord w)) (sym e)
+-- of a change that is no first change in hand nothing is counted
+totals-stay : (what x y w : ℕ) (totals : List ℕ) → (w ≡ 1 → ⊥) → settledTotals (doingIn what x y w) totals ≡ totals
+unfolding doingIn phaseIn settledTotals settledIn settledOut
+totals-stay what x y w totals p =
+    bool-cases (eqb what 1) (λ h. rw h refl)
+    (λ n. bool-cases (eqb what 2) (λ h. rw (n, h, ne-eqb w 1 p) (bool-cases (eqb w 0) (λ z. rw z refl) (λ z. rw z refl)))
+    (λ n₂. bool-cases (eqb what 3) (λ h. rw (n, n₂, h, ne-eqb w 1 p) (bool-cases (eqb w 0) (λ z. rw z refl) (λ z. rw z refl)))
+    (λ n₃. bool-cases (eqb what 4) (λ h. rw (n, n₂, n₃, h) refl) (λ n₄. rw (n, n₂, n₃, n₄) refl))))
 
-pub settled-other : (b : List ℕ) → 11 ≤ length b → (blockWord b 5 ≡ 1 → ⊥) → b ≡ set b 5 (settledWord (blockWord b 5))
-settled-other b h p =
-    rw (ne-eqb (blockWord b 5) 1 p) (by-head (λ (x : List ℕ). x ≡ set x 5 (blockWord x 5)) b h (λ a b c d e f g i j k l rest. refl))
+-- of a first change in hand the pair is counted
+pub counted-insert : (what key y : ℕ) (totals : List ℕ) → what ≡ 2 → settledTotals (doingIn what key y 1) totals ≡ countedIn key totals
+unfolding doingIn phaseIn settledTotals settledIn
+counted-insert what key y totals e = rw e refl
+
+pub counted-delete : (what key y : ℕ) (totals : List ℕ) → what ≡ 3 → settledTotals (doingIn what key y 1) totals ≡ countedOut key totals
+unfolding doingIn phaseIn settledTotals settledOut
+counted-delete what key y totals e = rw e refl
+
+pub counted-none : (what key y : ℕ) (totals : List ℕ) → (what ≡ 2 → ⊥) → (what ≡ 3 → ⊥) → settledTotals (doingIn what key y 1) totals ≡ totals
+unfolding doingIn settledTotals
+counted-none what key y totals p q =
+    bool-cases (eqb what 1) (λ h. rw h refl)
+    (λ n. rw (n, ne-eqb what 2 p, ne-eqb what 3 q) (bool-cases (eqb what 4) (λ h. rw h refl) (λ h. rw h refl)))
+
+-- the totals that a block has, stored again
+pub totals-again : (b : List ℕ) → length b ≡ stateWords → totalled b (part b totalsAt familyCount) ≡ b
+totals-again b l =
+    let all : part b totalsAt familyCount ≡ drop totalsAt b = take-all familyCount (drop totalsAt b) (omega (arith, length-drop totalsAt b)) in
+    let none : drop (totalsAt + length (part b totalsAt familyCount)) b ≡ [] =
+    drop-of-length-le b {i = totalsAt + length (part b totalsAt familyCount)} (omega (arith, part-length b totalsAt familyCount (omega arith))) in
+    ap₂ (λ (x y : List ℕ). take totalsAt b ++ (x ++ y)) all none ∙ ap (λ (x : List ℕ). take totalsAt b ++ x) (append-nil (drop totalsAt b)) ∙ take-append-drop totalsAt b
+
+-- word 5 and the totals after the last store of a change
+pub settled-hand : (b : List ℕ) → 11 ≤ length b → blockWord b 5 ≡ 1
+    → totalled (set b 5 2) (settledTotals (doingIn (blockWord (set b 5 2) 2) (blockWord (set b 5 2) 3) (blockWord (set b 5 2) 4) 1) (part (set b 5 2) totalsAt familyCount))
+    ≡ settledBlock b
+unfolding settledBlock
+settled-hand b h =
+    by-head
+    (λ (x : List ℕ). blockWord x 5 ≡ 1
+    → totalled (set x 5 2) (settledTotals (doingIn (blockWord (set x 5 2) 2) (blockWord (set x 5 2) 3) (blockWord (set x 5 2) 4) 1) (part (set x 5 2) totalsAt familyCount))
+    ≡ settledBlock x)
+    b h (λ a b c d e f g i j k l rest z. rw z refl)
+
+pub settled-other : (b : List ℕ) → length b ≡ stateWords → (blockWord b 5 ≡ 1 → ⊥) → b ≡ settledBlock b
+unfolding settledBlock
+settled-other b l p =
+    let same : b ≡ set b 5 (settledWord (blockWord b 5)) =
+    rw (ne-eqb (blockWord b 5) 1 p) (by-head (λ (x : List ℕ). x ≡ set x 5 (blockWord x 5)) b (omega arith) (λ a b c d e f g i j k l rest. refl)) in
+    sym (totals-again b l)
+    ∙ ap₂ totalled same (sym (totals-stay (blockWord b 2) (blockWord b 3) (blockWord b 4) (blockWord b 5) (part b totalsAt familyCount) p))
 
 -- the stores of the plan in a block
 abbrev pub planned : List ℕ → List Store
@@ -168,22 +214,27 @@ module _ (b : List ℕ) (long : length b ≡ stateWords) where
   pub made-planned : (k : ℕ) → planned (set b 6 k) ≡ planned b
   made-planned k = by-head (λ (x : List ℕ). planned (set x 6 k) ≡ planned x) b (omega arith) (λ a b c d e f g i j k l rest. refl)
 
-  -- the block with so many stores made, the last one among them
-  abbrev pub lastMade : ℕ → List ℕ
-  lastMade k = set (set b 6 k) 5 (settledWord (blockWord (set b 6 k) 5))
+  made-freed : (k : ℕ) → freedNodes (set b 6 k) ≡ freedNodes b
+  made-freed k = by-head (λ (x : List ℕ). freedNodes (set x 6 k) ≡ freedNodes x) b (omega arith) (λ a b c d e f g i j k l rest. refl)
 
-  made-freed : (k : ℕ) → freedNodes (lastMade k) ≡ freedNodes b
-  made-freed k =
-      by-head (λ (x : List ℕ). freedNodes (set (set x 6 k) 5 (settledWord (blockWord (set x 6 k) 5))) ≡ freedNodes x) b (omega arith)
-      (λ a b c d e f g i j k l rest. refl)
-
-  made-word : (k : ℕ) → lastMade k ≡ set (set b 6 k) 5 (settledWord (blockWord b 5))
-  made-word k =
-      by-head (λ (x : List ℕ). set (set x 6 k) 5 (settledWord (blockWord (set x 6 k) 5)) ≡ set (set x 6 k) 5 (settledWord (blockWord x 5)))
-      b (omega arith) (λ a b c d e f g i j k l rest. refl)
-
-  pub made-long : (k : ℕ) → length (lastMade k) ≡ stateWords
-  made-long k = length-set (set b 6 k) 5 (settledWord (blockWord (set b 6 k) 5)) ∙ length-set b 6 k ∙ long
+  -- the last of the stores is made and the nodes are cut out: what is left is word 5 and the totals
+  settled-over : (k : ℕ) (words : List ℕ) → length words ≡ wordCount → settledBlock (over (set b 6 k) 8 (0 ∷ 0 ∷ 0 ∷ words))
+      ≡ totalled (over (set (set b 6 k) 5 (settledWord (blockWord b 5))) 8 (0 ∷ 0 ∷ 0 ∷ words)) (settledTotals (memoryIn b .doing) (memoryIn b .totals))
+  unfolding settledBlock memoryIn
+  settled-over k words w =
+      let three-more : length (0 ∷ 0 ∷ 0 ∷ words) ≡ 3 + wordCount = omega arith in
+      ap settledBlock (over-placed (set b 6 k) (0 ∷ 0 ∷ 0 ∷ words) 8 (3 + wordCount) three-more)
+      ∙ by-head
+      (λ (x : List ℕ). settledBlock (placed 8 (3 + wordCount) (set x 6 k) (0 ∷ 0 ∷ 0 ∷ words))
+      ≡ totalled (placed 8 (3 + wordCount) (set (set x 6 k) 5 (settledWord (blockWord x 5))) (0 ∷ 0 ∷ 0 ∷ words)) (settledTotals (memoryIn x .doing) (memoryIn x .totals)))
+      b (omega arith)
+      (λ n last c d e f g i j q m rest.
+      let x : List ℕ = n ∷ last ∷ c ∷ d ∷ e ∷ f ∷ g ∷ i ∷ j ∷ q ∷ m ∷ rest in
+      ap
+      (λ (t : List ℕ). totalled (placed 8 (3 + wordCount) (set (set x 6 k) 5 (settledWord f)) (0 ∷ 0 ∷ 0 ∷ words)) (settledTotals (doingIn c d e f) (take familyCount t)))
+      (sym (drop-drop 147 wordCount (words ++ drop wordCount rest)) ∙ ap (drop 147) (drop-at words (drop wordCount rest) wordCount w) ∙ drop-drop 147 wordCount rest))
+      ∙ ap (λ (y : List ℕ). totalled y (settledTotals (memoryIn b .doing) (memoryIn b .totals)))
+      (sym (over-placed (set (set b 6 k) 5 (settledWord (blockWord b 5))) (0 ∷ 0 ∷ 0 ∷ words) 8 (3 + wordCount) three-more))
 
   pub played-on : (k : ℕ) (rest : List Store) → moreToStore rest ≡ true → set b 6 k ≡ playedBlock b k rest
   unfolding moreToStore playedBlock
@@ -191,9 +242,12 @@ module _ (b : List ℕ) (long : length b ≡ stateWords) where
   played-on k (s ∷ rest) e = refl
 
   pub played-last : (k : ℕ) (rest : List Store) → moreToStore rest ≡ false
-      → over (over (lastMade k) 11 (wordsOf wordCount (freedNodes (lastMade k)))) 8 (0 ∷ 0 ∷ 0 ∷ []) ≡ playedBlock b k rest
+      → settledBlock (over (over (set b 6 k) 11 (wordsOf wordCount (freedNodes (set b 6 k)))) 8 (0 ∷ 0 ∷ 0 ∷ [])) ≡ playedBlock b k rest
   unfolding moreToStore playedBlock
   played-last k [] e =
-      over-cut (lastMade k) (wordsOf wordCount (freedNodes (lastMade k))) (omega (arith, made-long k))
-      ∙ ap₂ (λ (x : List ℕ) (f : List Bool). over x 8 (0 ∷ 0 ∷ 0 ∷ wordsOf wordCount f)) (made-word k) (made-freed k)
+      let words : List ℕ = wordsOf wordCount (freedNodes b) in
+      ap settledBlock
+      (ap (λ (f : List Bool). over (over (set b 6 k) 11 (wordsOf wordCount f)) 8 (0 ∷ 0 ∷ 0 ∷ [])) (made-freed k)
+      ∙ over-cut (set b 6 k) words (omega (arith, length-set b 6 k)))
+      ∙ settled-over k words (length-words wordCount (freedNodes b))
   played-last k (s ∷ rest) e = impossible (cc)

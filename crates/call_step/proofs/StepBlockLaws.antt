@@ -11,19 +11,20 @@ use borrow.Author.Tests.{eqb-true}
 use Rattle.laws.proofs.Cases.{bool-cases}
 use Rattle.laws.specs.Lists.{pad, beforeZero}
 use Rattle.card.specs.Stores.{Store}
+use Rattle.card_family.specs.Families.{familyCount}
 use Rattle.card_free.specs.NodeSet.{wordCount, capacity, nodesOf}
 use Rattle.card_free.proofs.NodeSetLaws.{length-nodes}
 use Rattle.change_plan.specs.Plan.{storesOf}
 use Rattle.change_plan.specs.Planning.{withAll}
-use Rattle.state.specs.Memory.{Memory, idled, settledPhase, settled, advanced}
+use Rattle.state.specs.Memory.{Memory, idled, settledPhase, settled, settledTotals, advanced}
 use Rattle.state.specs.Steps.{formattingFrom}
-use Rattle.state.specs.Block.{depthAt, freeAt, placesAt, valuesAt, stateWords, blockWord, part, phaseIn, doingIn, memoryIn, doingWords}
+use Rattle.state.specs.Block.{depthAt, freeAt, placesAt, totalsAt, valuesAt, stateWords, blockWord, part, phaseIn, doingIn, memoryIn, doingWords}
 use Rattle.state.specs.Blocks.{over, wordsOf}
 use Rattle.state.specs.declared.Doing.{Doing}
 use Rattle.state.specs.declared.Doing.the-variants.{Inserting, Deleting}
 use Rattle.state.specs.declared.Phase.{Phase}
-use Rattle.state.proofs.Rows.{append-after, three, placed}
-use Rattle.state.proofs.Blocks.{by-head, words-each, doing-read, nodes-words, length-words, over-placed}
+use Rattle.state.proofs.Rows.{append-after, three, placed, placed-length}
+use Rattle.state.proofs.Blocks.{by-head, words-each, doing-read, nodes-words, length-words, over-placed, withTotals, memory-totals, settled-long}
 use Rattle.state.proofs.StepLaws.{advance-same}
 use Rattle.call_step.specs.Calls.{planning}
 use Rattle.call_step.specs.StepBlocks.{idledBlock, settledWord, playedBlock, atFront, plannedBlock}
@@ -51,6 +52,7 @@ memory-formatting b v l =
       rest = drop g (storesOf (take 73 (drop wordCount rest)) (take 73 (drop (wordCount + 73) rest)) i);
       cut = beforeZero (j ∷ k ∷ m ∷ []);
       depth = getD rest (wordCount + 146) 0;
+      totals = take familyCount (drop (wordCount + 147) rest);
     }) h)
 
 -- ---- a store of the plan
@@ -72,6 +74,9 @@ module _ (words rest : List ℕ) (l : length words ≡ wordCount) where
   freed-depth : getD freed (wordCount + 146) 0 ≡ getD rest (wordCount + 146) 0
   freed-depth = append-after words (drop wordCount rest) 146 (wordCount + 146) (omega arith) ∙ getD-drop wordCount rest 146 0
 
+  freed-totals : drop (wordCount + 147) freed ≡ drop (wordCount + 147) rest
+  freed-totals = sym (drop-drop 147 wordCount freed) ∙ ap (drop 147) freed-rows ∙ drop-drop 147 wordCount rest
+
 -- the last one: how far the update is, the free nodes and the nodes cut out are others
 abbrev lastPlayed : List ℕ → List ℕ → ℕ → ℕ → Memory
 lastPlayed b words made phase =
@@ -83,6 +88,7 @@ lastPlayed b words made phase =
       rest = drop made (storesOf (part b placesAt 73) (part b valuesAt 73) (blockWord b 7));
       cut = [];
       depth = memoryIn b .depth;
+      totals = memoryIn b .totals;
     }
 
 last-played : (b words : List ℕ) (made phase : ℕ) → length b ≡ stateWords → length words ≡ wordCount
@@ -94,7 +100,7 @@ last-played b words made phase l w =
     ∙ by-head (λ (x : List ℕ). memoryIn (placed 8 (3 + wordCount) (set (set x 6 made) 5 phase) (0 ∷ 0 ∷ 0 ∷ words)) ≡ lastPlayed x words made phase)
     b (omega arith)
     (λ n last c d e f g i j k m rest.
-    let with : List ℕ → List ℕ → List ℕ → ℕ → Memory = λ x y z depth. record {
+    let with : List ℕ → List ℕ → List ℕ → ℕ → List ℕ → Memory = λ x y z depth totals. record {
       nodes = n;
       free = nodesOf x;
       last = last;
@@ -102,10 +108,22 @@ last-played b words made phase l w =
       rest = drop made (storesOf (take 73 y) (take 73 z) i);
       cut = [];
       depth = depth;
+      totals = take familyCount totals;
     } in
     let freed-list = freed words rest w in
-    ap₂ (λ (x : List ℕ) (depth : ℕ). with x (drop wordCount freed-list) (drop (wordCount + 73) freed-list) depth) (freed-words words rest w) (freed-depth words rest w)
-    ∙ ap₂ (λ (y z : List ℕ). with words y z (getD rest (wordCount + 146) 0)) (freed-rows words rest w) (freed-values words rest w))
+    ap₂ (λ (x : List ℕ) (depth : ℕ). with x (drop wordCount freed-list) (drop (wordCount + 73) freed-list) depth (drop (wordCount + 147) freed-list))
+    (freed-words words rest w) (freed-depth words rest w)
+    ∙ ap₂ (λ (y z : List ℕ). with words y z (getD rest (wordCount + 146) 0) (drop (wordCount + 147) freed-list)) (freed-rows words rest w) (freed-values words rest w)
+    ∙ ap (with words (drop wordCount rest) (drop (wordCount + 73) rest) (getD rest (wordCount + 146) 0)) (freed-totals words rest w))
+
+-- as many words as before
+played-long : (b words : List ℕ) (made phase : ℕ) → length b ≡ stateWords → length words ≡ wordCount
+    → length (over (set (set b 6 made) 5 phase) 8 (0 ∷ 0 ∷ 0 ∷ words)) ≡ stateWords
+played-long b words made phase l w =
+    let long : length (0 ∷ 0 ∷ 0 ∷ words) ≡ 3 + wordCount = omega arith in
+    let before : length (set (set b 6 made) 5 phase) ≡ stateWords = length-set (set b 6 made) 5 phase ∙ length-set b 6 made ∙ l in
+    ap length (over-placed (set (set b 6 made) 5 phase) (0 ∷ 0 ∷ 0 ∷ words) 8 (3 + wordCount) long)
+    ∙ placed-length (set (set b 6 made) 5 phase) (0 ∷ 0 ∷ 0 ∷ words) 8 (3 + wordCount) long (omega (arith, before)) ∙ before
 
 -- one more is made
 on-played : (b : List ℕ) (made : ℕ) → length b ≡ stateWords
@@ -118,6 +136,7 @@ on-played : (b : List ℕ) (made : ℕ) → length b ≡ stateWords
       rest = drop made (storesOf (part b placesAt 73) (part b valuesAt 73) (blockWord b 7));
       cut = memoryIn b .cut;
       depth = memoryIn b .depth;
+      totals = memoryIn b .totals;
     }
 unfolding memoryIn
 on-played b made l =
@@ -131,6 +150,7 @@ on-played b made l =
       rest = drop made (storesOf (part x placesAt 73) (part x valuesAt 73) (blockWord x 7));
       cut = memoryIn x .cut;
       depth = memoryIn x .depth;
+      totals = memoryIn x .totals;
     })
     b (omega arith) (λ n last c d e f g i j k m rest. refl)
 
@@ -158,7 +178,7 @@ length-with-all (m ∷ ms) free = length-with-all ms (set free m true) ∙ lengt
 
 pub memory-played : (b : List ℕ) (made : ℕ) (rest : List Store) → length b ≡ stateWords
     → rest ≡ drop made (storesOf (part b placesAt 73) (part b valuesAt 73) (blockWord b 7)) → memoryIn (playedBlock b made rest) ≡ advanced (memoryIn b) rest
-unfolding playedBlock advanced memoryIn
+unfolding playedBlock advanced memoryIn withTotals
 memory-played b made (s ∷ rest) l e =
     on-played b made l
     ∙ ap
@@ -170,13 +190,19 @@ memory-played b made (s ∷ rest) l e =
       rest = r;
       cut = memoryIn b .cut;
       depth = memoryIn b .depth;
+      totals = memoryIn b .totals;
     }) (sym e)
 memory-played b made [] l e =
     let bits : List Bool = withAll (beforeZero (part b 8 3)) (nodesOf (part b freeAt wordCount)) in
     let twenty : length (part b freeAt wordCount) ≡ wordCount = omega (arith, length-take wordCount (drop 11 b), length-drop 11 b) in
     let full : length bits ≡ capacity =
     omega (arith, length-with-all (beforeZero (part b 8 3)) (nodesOf (part b freeAt wordCount)), length-nodes (part b freeAt wordCount)) in
-    last-played b (wordsOf wordCount bits) made (settledWord (blockWord b 5)) l (length-words wordCount bits)
+    let counted : List ℕ = settledTotals (memoryIn b .doing) (memoryIn b .totals) in
+    let sixteen : length counted ≡ familyCount =
+    settled-long (memoryIn b .doing) (memoryIn b .totals) ∙ omega (arith, length-take familyCount (drop totalsAt b), length-drop totalsAt b) in
+    memory-totals (over (set (set b 6 made) 5 (settledWord (blockWord b 5))) 8 (0 ∷ 0 ∷ 0 ∷ wordsOf wordCount bits)) counted
+    (played-long b (wordsOf wordCount bits) made (settledWord (blockWord b 5)) l (length-words wordCount bits)) sixteen
+    ∙ ap (λ (m : Memory). withTotals m counted) (last-played b (wordsOf wordCount bits) made (settledWord (blockWord b 5)) l (length-words wordCount bits))
     ∙ ap₂
     (λ (free : List Bool) (r : List Store). record {
       nodes = memoryIn b .nodes;
@@ -186,6 +212,7 @@ memory-played b made [] l e =
       rest = r;
       cut = [];
       depth = memoryIn b .depth;
+      totals = counted;
     }) (nodes-words wordCount bits full) (sym e)
     ∙ ap
     (λ (doing : Doing). record {
@@ -196,6 +223,7 @@ memory-played b made [] l e =
       rest = [];
       cut = [];
       depth = memoryIn b .depth;
+      totals = counted;
     }) (settled-read (blockWord b 2) (blockWord b 3) (blockWord b 4) (blockWord b 5))
 
 -- ---- a change planned
@@ -238,6 +266,11 @@ module _ (free places values end : List ℕ) (lf : length free ≡ wordCount) (l
   tail-end =
       append-after free (places ++ (values ++ end)) 146 (wordCount + 146) (omega arith) ∙ append-after places (values ++ end) 73 146 (omega arith)
       ∙ append-after values end 0 73 (omega arith)
+
+  tail-after : drop (wordCount + 147) tail ≡ drop 1 end
+  tail-after =
+      sym (drop-drop 147 wordCount tail) ∙ ap (drop 147) tail-rows ∙ sym (drop-drop 74 73 (places ++ (values ++ end)))
+      ∙ ap (drop 74) (drop-at places (values ++ end) 73 lp) ∙ sym (drop-drop 1 73 (values ++ end)) ∙ ap (drop 1) (drop-at values end 73 lv)
 
   tail-length : length tail ≡ (wordCount + 146) + length end
   tail-length = omega (arith, length-append free (places ++ (values ++ end)), length-append places (values ++ end), length-append values end)
@@ -331,8 +364,13 @@ module _ (b : List ℕ) (doing : Doing) (stores : List Store) (free : List Bool)
   depth-in =
       tail-end (wordsOf wordCount free) placesRow valuesRow (drop depthAt b) (length-words wordCount free) places-row values-row ∙ getD-drop depthAt b 0 0
 
+  totals-in : part inWords totalsAt familyCount ≡ part b totalsAt familyCount
+  totals-in =
+      ap (take familyCount)
+      (tail-after (wordsOf wordCount free) placesRow valuesRow (drop depthAt b) (length-words wordCount free) places-row values-row ∙ drop-drop 1 depthAt b)
+
   pub memory-planned : memoryIn planned
-      ≡ record { nodes = memoryIn b .nodes; free = free; last = last; doing = doing; rest = stores; cut = cut; depth = memoryIn b .depth }
+      ≡ record { nodes = memoryIn b .nodes; free = free; last = last; doing = doing; rest = stores; cut = cut; depth = memoryIn b .depth; totals = memoryIn b .totals }
   unfolding memoryIn
   memory-planned =
       ap memoryIn (sym in-words)
@@ -345,6 +383,7 @@ module _ (b : List ℕ) (doing : Doing) (stores : List Store) (free : List Bool)
         rest = ss;
         cut = beforeZero (cutWord 0 ∷ cutWord 1 ∷ cutWord 2 ∷ []);
         depth = blockWord inWords depthAt;
+        totals = part inWords totalsAt familyCount;
       })
       (tail-free (wordsOf wordCount free) placesRow valuesRow (drop depthAt b) (length-words wordCount free) places-row values-row) stores-in
       ∙ ap₂ (λ (f : List Bool) (d : Doing). record {
@@ -355,9 +394,20 @@ module _ (b : List ℕ) (doing : Doing) (stores : List Store) (free : List Bool)
         rest = stores;
         cut = beforeZero (cutWord 0 ∷ cutWord 1 ∷ cutWord 2 ∷ []);
         depth = blockWord inWords depthAt;
+        totals = part inWords totalsAt familyCount;
       }) (nodes-words wordCount free (h .full)) (doing-read doing)
-      ∙ ap₂ (λ (c : List ℕ) (depth : ℕ). record { nodes = blockWord b 0; free = free; last = last; doing = doing; rest = stores; cut = c; depth = depth })
+      ∙ ap₂ (λ (c : List ℕ) (depth : ℕ). record {
+        nodes = blockWord b 0;
+        free = free;
+        last = last;
+        doing = doing;
+        rest = stores;
+        cut = c;
+        depth = depth;
+        totals = part inWords totalsAt familyCount;
+      })
       (ap beforeZero cut-each ∙ h .readable) depth-in
+      ∙ ap (λ (t : List ℕ). record { nodes = blockWord b 0; free = free; last = last; doing = doing; rest = stores; cut = cut; depth = blockWord b depthAt; totals = t }) totals-in
 
   -- and its first store made
   pub memory-first-stored : memoryIn (playedBlock planned 1 (drop 1 stores)) ≡ advanced (planning (memoryIn b) doing free last cut) (drop 1 stores)

@@ -252,7 +252,7 @@ module _ (greatest : ℕ) (card b : List ℕ) (l : length b ≡ stateWords) wher
         ∙ memory-first-stored b (next .doing) stores free last cut l plan)
         (ap₂ (λ (h : Held) (x : List Store). storedBlock card b m h x) e r
         ∙ first-prepared b next f
-        ∙ first-words b (next .doing) free last cut stores (w .some) plan
+        ∙ first-words b (next .doing) free last cut stores (w .some) l plan
         ∙ ap (storedWords b (getD stores 0 (0, 0)) then) (sym r)
         ∙ sym (on-task (getD stores 0 (0, 0)) then (m .rest)))
 

@@ -4,23 +4,25 @@ use mathlib.Core.Bool.{Bool}
 use mathlib.Core.List.{List, [], _∷_, _++_}
 use Prim.Native.Nat.{ℕ, suc, _+_, _-_, _≤_}
 use native.Mathlib.Omega.{arith}
-use lib.ListN.{length, getD, set, take, drop, replicate, length-append, length-replicate}
+use lib.ListN.{length, getD, set, take, drop, replicate, length-append, length-replicate, length-set}
 use lib.Seq.{take-at, drop-at, drop-drop}
 use Rattle.laws.specs.Lists.{pad, beforeZero}
 use Rattle.card.specs.Stores.{Store}
+use Rattle.card_family.specs.Families.{familyCount}
 use Rattle.card_free.specs.NodeSet.{capacity, wordCount, nodesOf}
 use Rattle.change_plan.specs.Planning.{withAll}
-use Rattle.state.specs.Memory.{Memory, settledPhase, settled, advanced}
-use Rattle.state.specs.Block.{depthAt, freeAt, placesAt, valuesAt, blockWord, part, memoryIn, phaseWord, doingWords}
+use Rattle.state.specs.Memory.{Memory, settledPhase, settled, settledTotals, advanced}
+use Rattle.state.specs.Block.{depthAt, freeAt, placesAt, totalsAt, valuesAt, stateWords, blockWord, part, memoryIn, phaseWord, doingWords}
 use Rattle.state.specs.Blocks.{over, wordsOf}
 use Rattle.state.specs.declared.Doing.{Doing}
 use Rattle.state.specs.declared.Doing.the-variants.{Idle, Formatting, Inserting, Deleting, Repairing}
 use Rattle.state.specs.declared.Phase.the-variants.{NotBegun, InHand, Decided}
-use Rattle.state.proofs.Blocks.{nodes-words, length-words}
+use Rattle.state.proofs.Blocks.{by-head, nodes-words, length-words}
 use Rattle.call_step.specs.Calls.{planning}
-use Rattle.call_step.specs.StepBlocks.{settledWord, playedBlock, atFront, plannedBlock}
+use Rattle.call_step.specs.StepBlocks.{settledWord, totalled, playedBlock, atFront, plannedBlock}
 use Rattle.call_step.specs.StepWords.{handWords, firstWords}
-use Rattle.call_step.proofs.StepBlockLaws.{Plannable}
+use Rattle.call_step.proofs.StepBlockLaws.{Plannable, planned-length, memory-planned}
+use Rattle.call_step.proofs.PlayLaws.{totals-again}
 
 -- a store of the change in hand
 pub hand-words : (b : List ℕ) (rest : List Store)
@@ -28,6 +30,11 @@ pub hand-words : (b : List ℕ) (rest : List Store)
 unfolding playedBlock handWords advanced memoryIn
 hand-words b [] = refl
 hand-words b (s ∷ rest) = refl
+
+-- the totals do not go by how many stores are made
+one-made : (x : List ℕ) → 11 ≤ length x → part (set x 6 1) totalsAt familyCount ≡ memoryIn x .totals
+unfolding memoryIn
+one-made x k = by-head (λ (y : List ℕ). part (set y 6 1) totalsAt familyCount ≡ memoryIn y .totals) x k (λ a b c d e f g i j q m rest. refl)
 
 -- the first eight words, by what is being done
 module _ (n last : ℕ) (more : List ℕ) where
@@ -156,9 +163,19 @@ module _ (b : List ℕ) (doing : Doing) (free : List Bool) (last : ℕ) (cut : L
   abbrev left : List Store → Memory
   left stores = advanced (planning (memoryIn b) doing free last cut) (drop 1 stores)
 
-  pub first-words : (stores : List Store) → 1 ≤ length stores → Plannable stores free cut
+  pub first-words : (stores : List Store) → 1 ≤ length stores → length b ≡ stateWords → Plannable stores free cut
       → playedBlock (plannedBlock b doing stores free last cut) 1 (drop 1 stores) ≡ firstWords b (getD stores 0 (0, 0) ∷ left stores .rest) (left stores)
   unfolding playedBlock plannedBlock firstWords advanced planning
-  first-words [] some h = absurd (none some)
-  first-words (s ∷ []) some h = only-store (atFront (s .0 ∷ []) (part b placesAt 73) ++ (atFront (s .1 ∷ []) (part b valuesAt 73) ++ drop depthAt b)) (h .few) (h .readable) (h .full)
-  first-words (s ∷ t ∷ rest) some h = made-one (blockWord b 0) last _ doing
+  first-words [] some l h = absurd (none some)
+  first-words (s ∷ []) some l h =
+      let planned = memory-planned b doing (s ∷ []) free last cut l h in
+      ap₂ totalled
+      (only-store (atFront (s .0 ∷ []) (part b placesAt 73) ++ (atFront (s .1 ∷ []) (part b valuesAt 73) ++ drop depthAt b)) (h .few) (h .readable) (h .full))
+      (ap₂ settledTotals (ap (λ (m : Memory). m .doing) planned) (ap (λ (m : Memory). m .totals) planned))
+  first-words (s ∷ t ∷ rest) some l h =
+      let block-before : List ℕ = plannedBlock b doing (s ∷ t ∷ rest) free last cut in
+      let long : length (set block-before 6 1) ≡ stateWords = length-set block-before 6 1 ∙ planned-length b doing (s ∷ t ∷ rest) free last cut l h in
+      sym (totals-again (set block-before 6 1) long)
+      ∙ ap₂ totalled (made-one (blockWord b 0) last _ doing)
+      (one-made block-before (omega (arith, planned-length b doing (s ∷ t ∷ rest) free last cut l h))
+      ∙ ap (λ (m : Memory). m .totals) (memory-planned b doing (s ∷ t ∷ rest) free last cut l h))

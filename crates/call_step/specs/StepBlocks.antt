@@ -7,14 +7,15 @@ use lib.Dec.{eqb}
 use Rattle.laws.specs.Cases.{pick}
 use Rattle.laws.specs.Lists.{beforeZero, pad}
 use Rattle.card.specs.Stores.{Store}
+use Rattle.card_family.specs.Families.{familyCount}
 use Rattle.card_free.specs.NodeSet.{wordCount, nodesOf}
 use Rattle.change_plan.specs.Planning.{refused, balanced, prepared, withAll, withoutAll, lastOf}
 use Rattle.change_decide.specs.declared.Decision.{Decision}
 use Rattle.change_layout.specs.LayOut.{needed, storesBy, cutBy}
 use Rattle.call_change.specs.Updates.{FirstChange, nextChange}
-use Rattle.state.specs.Memory.{Memory}
+use Rattle.state.specs.Memory.{Memory, settledTotals}
 use Rattle.state.specs.Steps.{heldBy}
-use Rattle.state.specs.Block.{depthAt, freeAt, placesAt, valuesAt, blockWord, part, memoryIn, doingWords}
+use Rattle.state.specs.Block.{depthAt, freeAt, placesAt, totalsAt, valuesAt, blockWord, part, doingIn, memoryIn, doingWords}
 use Rattle.state.specs.Blocks.{over, wordsOf}
 use Rattle.state.specs.declared.Doing.{Doing}
 use Rattle.state.specs.declared.Held.{Held}
@@ -30,19 +31,31 @@ idledBlock b = over b 2 (replicate 9 0)
 abbrev pub settledWord : ℕ → ℕ
 settledWord w = pick (eqb w 1) 2 w
 
+-- a block with other totals
+abbrev pub totalled : List ℕ → List ℕ → List ℕ
+totalled b totals = over b totalsAt totals
+
+-- a change is made: word 5, and the totals, where that was a first change ("changed at the very step that puts a pair in or takes it out":
+-- document 02, W-204)
+unfoldable pub settledBlock : List ℕ → List ℕ
+settledBlock b =
+    totalled (set b 5 (settledWord (blockWord b 5)))
+    (settledTotals (doingIn (blockWord b 2) (blockWord b 3) (blockWord b 4) (blockWord b 5)) (part b totalsAt familyCount))
+
 -- so many stores of the plan are made, and these are to come; after the last one "nodes cut out of the tree are free"
 unfoldable pub playedBlock : List ℕ → ℕ → List Store → List ℕ
 playedBlock b made (s ∷ rest) = set b 6 made
 playedBlock b made [] =
-    over (set (set b 6 made) 5 (settledWord (blockWord b 5))) 8
-    (0 ∷ 0 ∷ 0 ∷ wordsOf wordCount (withAll (beforeZero (part b 8 3)) (nodesOf (part b freeAt wordCount))))
+    totalled (over (set (set b 6 made) 5 (settledWord (blockWord b 5))) 8
+    (0 ∷ 0 ∷ 0 ∷ wordsOf wordCount (withAll (beforeZero (part b 8 3)) (nodesOf (part b freeAt wordCount)))))
+    (settledTotals (memoryIn b .doing) (memoryIn b .totals))
 
 -- words at the front of a row, over those that were there
 abbrev pub atFront : List ℕ → List ℕ → List ℕ
 atFront words row = words ++ drop (length words) row
 
 -- a change is planned: the node given last, what is being done, no store made, how many there are, what they cut out, the nodes free
--- then, the places and values of the stores, and the depth that was there
+-- then, the places and values of the stores, and the depth and the totals that were there
 unfoldable pub plannedBlock : List ℕ → Doing → List Store → List Bool → ℕ → List ℕ → List ℕ
 plannedBlock b doing stores free last cut =
     blockWord b 0 ∷ last ∷ doingWords doing

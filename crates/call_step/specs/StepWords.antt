@@ -13,23 +13,24 @@ use Rattle.state.specs.Block.{depthAt, placesAt, valuesAt, blockWord, part, mem
 use Rattle.state.specs.Blocks.{over, wordsOf}
 use Rattle.state.specs.declared.Answer.{Answer}
 use Rattle.state.specs.declared.Answer.the-variants.{Stored, Ready, Absent, Value, Refused}
-use Rattle.call_step.specs.StepBlocks.{idledBlock, settledWord, atFront}
+use Rattle.call_step.specs.StepBlocks.{idledBlock, settledWord, totalled, atFront}
 
 -- a store of the change in hand, which leaves this state: word 6 counts it; after the last one word 5 says that a first change is
--- made, no node is cut out, and the free nodes are those of the state
+-- made, no node is cut out, and the free nodes and the totals are those of the state
 unfoldable pub handWords : List ℕ → Memory → List Store → List ℕ
 handWords b m (s ∷ rest) = set b 6 (suc (blockWord b 6))
 handWords b m [] =
-    over (set (set b 6 (suc (blockWord b 6))) 5 (settledWord (blockWord b 5))) 8 (0 ∷ 0 ∷ 0 ∷ wordsOf wordCount (m .free))
+    totalled (over (set (set b 6 (suc (blockWord b 6))) 5 (settledWord (blockWord b 5))) 8 (0 ∷ 0 ∷ 0 ∷ wordsOf wordCount (m .free))) (m .totals)
 
--- the first of these stores, which leaves this state: its words 1 to 30, the stores at the front of the two rows, and the depth
--- that was there
+-- the first of these stores, which leaves this state: its words up to the free nodes, the stores at the front of the two rows, the depth
+-- that was there, and its totals
 unfoldable pub firstWords : List ℕ → List Store → Memory → List ℕ
 firstWords b stores m =
-    blockWord b 0 ∷ m .last ∷ doingWords (m .doing)
+    totalled (blockWord b 0 ∷ m .last ∷ doingWords (m .doing)
     ++ (1 ∷ length stores ∷ pad 3 (m .cut)
     ++ (wordsOf wordCount (m .free)
-    ++ (atFront (map (λ s. s .0) stores) (part b placesAt 73) ++ (atFront (map (λ s. s .1) stores) (part b valuesAt 73) ++ drop depthAt b))))
+    ++ (atFront (map (λ s. s .0) stores) (part b placesAt 73) ++ (atFront (map (λ s. s .1) stores) (part b valuesAt 73) ++ drop depthAt b)))))
+    (m .totals)
 
 -- a store that leaves this state, where these were to come: none, so that it is the first of a change planned just now
 unfoldable pub storedWords : List ℕ → Store → Memory → List Store → List ℕ

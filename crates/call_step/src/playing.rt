@@ -3,16 +3,20 @@ use state::Answer;
 use state::block::COUNT;
 use state::block::CUT;
 use state::block::DECIDED;
+use state::block::DELETING;
 use state::block::DOING;
 use state::block::FIRST;
 use state::block::FREE;
 use state::block::IDLE;
 use state::block::IN_HAND;
+use state::block::INSERTING;
 use state::block::MADE;
 use state::block::PLACES;
 use state::block::REPAIRING;
 use state::block::SECOND;
+use state::block::STATE_WORDS;
 use state::block::THIRD;
+use state::block::TOTALS;
 use state::block::VALUES;
 use state::block::wide;
 ghost use mathlib.Core.Path.{_≡_};
@@ -24,12 +28,13 @@ ghost use Rattle.laws.specs.Lists.{beforeZero};
 ghost use Rattle.card_free.specs.NodeSet.{wordCount, nodesOf};
 ghost use Rattle.change_plan.specs.Plan.{storesOf};
 ghost use Rattle.change_plan.specs.Planning.{withAll};
-ghost use Rattle.state.specs.Memory.{advanced};
+ghost use Rattle.card_family.specs.Families.{familyCount};
+ghost use Rattle.state.specs.Memory.{settledTotals, advanced};
 ghost use Rattle.state.specs.Steps.{isIdle, stepStore};
 ghost use Rattle.state.specs.Results.{moreToStore};
-ghost use Rattle.state.specs.Block.{freeAt, placesAt, valuesAt, stateWords, blockWord, part, memoryIn};
+ghost use Rattle.state.specs.Block.{freeAt, placesAt, totalsAt, valuesAt, stateWords, blockWord, part, doingIn, memoryIn};
 ghost use Rattle.state.specs.Blocks.{over, wordsOf};
-ghost use Rattle.call_step.specs.StepBlocks.{idledBlock, settledWord, playedBlock};
+ghost use Rattle.call_step.specs.StepBlocks.{idledBlock, totalled, settledBlock, playedBlock};
 ghost use Rattle.call_step.specs.Contracts.{StepMade, HoldsTask};
 
 // Nothing is being done. The depth stays as it was kept at the start, since a final answer tells that one (document 02, W-203).
@@ -92,15 +97,32 @@ fn clear_cut(state: &mut [u32])
     state[CUT + 2] = 0;
 }
 
-// The last store of a first change decides its call. Of anything else word 5 is not read, or says so already.
+// The pair of an insert or a delete is counted in or out of its family's total.
+fn count_pair(state: &mut [u32])
+    requires { ⌜ length (now state) ≡ stateWords ⌝ }
+    ensures { λ _. ⌜ now (state .exit) ≡ totalled (now (state .entry))
+        (settledTotals (doingIn (blockWord (now (state .entry)) 2) (blockWord (now (state .entry)) 3) (blockWord (now (state .entry)) 4) 1)
+        (part (now (state .entry)) totalsAt familyCount)) ⌝ }
+{
+    let key = state[FIRST];
+    match state[DOING] {
+        INSERTING => card_family::count_in(&mut state[TOTALS..STATE_WORDS], key),
+        DELETING => card_family::count_out(&mut state[TOTALS..STATE_WORDS], key),
+        _ => {}
+    }
+}
+
+// The last store of a first change decides its call, and its pair is in or out ("changed at the very step that puts a pair in or takes it
+// out": document 02, W-204). Of anything else word 5 is not read, or says so already.
 fn settle(state: &mut [u32])
     requires { ⌜ length (now state) ≡ stateWords ⌝ }
-    ensures { λ _. ⌜ now (state .exit) ≡ set (now (state .entry)) 5 (settledWord (blockWord (now (state .entry)) 5)) ⌝ }
+    ensures { λ _. ⌜ now (state .exit) ≡ settledBlock (now (state .entry)) ⌝ }
 {
     if state[THIRD] != IN_HAND {
         return;
     }
     state[THIRD] = DECIDED;
+    count_pair(state);
 }
 
 // Whether a store of the plan is still to come after so many. A block may hold any numbers, so both ends are looked at.
@@ -144,9 +166,9 @@ pub fn play(card: &mut [u32], state: &mut [u32], made: usize, at: usize)
     if in_hand(state, next) {
         return;
     }
-    settle(state);
     free_cut(state);
     clear_cut(state);
+    settle(state);
 }
 
 // The next store of the plan, which has one; "or its store is outside the card": refused. The place is looked at before the store, so

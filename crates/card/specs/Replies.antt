@@ -1,4 +1,4 @@
--- The answers of the calls as numbers. "A refusal gives its number": 1 to 12 are document 01's. The other answers have no number
+-- The answers of the calls as numbers. "A refusal gives its number": 1 to 12 are document 01's, and 13 is document 02's (W-204). The other answers have no number
 -- there; they are numbered from 64 on, here and nowhere else, and so they stand in the C header.
 use Prim.Native.Nat.{ℕ}
 
@@ -67,3 +67,7 @@ nothing = plain 73
 -- document 02, W-213: there is a record
 abbrev pub fetched : Reply
 fetched = plain 74
+
+-- document 02, W-204: what a family holds
+abbrev pub totalled : ℕ → Reply
+totalled pairs = valued 75 pairs

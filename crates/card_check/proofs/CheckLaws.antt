@@ -291,7 +291,7 @@ unfolding noted
 noted-inner true entry f key run c g e = look-inner entry _ c g (pick-bad (f .violated) _ c g e .1)
 noted-inner false entry f key run c g e = look-inner entry f c g e
 
-enter-leaf-inner : (node : List ℕ) (low high : ℕ) (root : Bool) (f : Findings) (c : ℕ) (g : Findings) → enterLeaf node low high root f ≡ inner c g → ⊥
+pub enter-leaf-inner : (node : List ℕ) (low high : ℕ) (root : Bool) (f : Findings) (c : ℕ) (g : Findings) → enterLeaf node low high root f ≡ inner c g → ⊥
 unfolding enterLeaf
 enter-leaf-inner node low high true f c g e = let q = pick-else-bad (leafSound low high (keyWords node)) _ c g e in impossible (cc)
 enter-leaf-inner node low high false f c g e =
@@ -342,7 +342,7 @@ enter-children card n m low high run root f c g e =
 -- ---- the words of findings
 
 -- all three stored anew
-pub found-stored : (free : List Bool) (found : List ℕ) (v key run : ℕ) → length found ≡ 3
+pub found-stored : (free : List Bool) (found : List ℕ) (v key run : ℕ) → 3 ≤ length found
     → findingsOf free (set (set (set found 0 v) 1 key) 2 run) ≡ record { free = free; violated = not (eqb v 0); key = key; run = run }
 unfolding findingsOf
 found-stored free [] v key run e = absurd (omega arith)
@@ -355,7 +355,7 @@ stored-length found v key run = length-set (set (set found 0 v) 1 key) 2 run ∙
 
 -- the first violation is noted, a second one is refused
 module _ (free : List Bool) (found : List ℕ) (entry : Entry) (key run : ℕ) where
-  pub noted-first : length found ≡ 3 → getD found 0 0 ≡ 0
+  pub noted-first : 3 ≤ length found → getD found 0 0 ≡ 0
       → lookOf entry (findingsOf free (set (set (set found 0 1) 1 key) 2 run)) ≡ noted true entry (findingsOf free found) key run
   unfolding noted findingsOf
   noted-first l e = ap (lookOf entry) (found-stored free found 1 key run l) ∙ rw (eq-eqb (getD found 0 0) 0 e)

@@ -7,12 +7,15 @@ mod unused;
 use entering::enter;
 ghost use mathlib.Core.Path.{_≡_};
 ghost use mathlib.Core.Bool.{true, false, _||_};
-ghost use Prim.Native.Nat.{_+_, _*_, _-_, _≤_, _<_};
+ghost use Prim.Native.Nat.{ℕ, _+_, _*_, _-_, _≤_, _<_};
 ghost use lib.ListN.{length, drop};
 ghost use lib.Dec.{eqb};
+ghost use Rattle.card_family.specs.Families.{familyCount, noTotals};
 ghost use Rattle.card_free.specs.NodeSet.{wordCount, nodesOf};
 ghost use Rattle.card.specs.Layout.{greatestNodes, depthLimit, children, routingKeys, runBelow};
 ghost use Rattle.card_check.specs.Check.{Findings, findingsOf, checkedOf, heightOf, raised, childrenCheck, nodeCheck, tableCheck, rangeEnd, rangeEndOf};
+ghost use Rattle.card_check.specs.Counting.{childrenCounted, nodeCounted, tableCounted};
+ghost use Rattle.card_check.specs.declared.Checked.the-variants.{Sound};
 
 // What was learnt so far is lent: the nodes not reached, and three words of findings: whether a violation was met, a key that leads
 // to it, and how many 11-child nodes stand without a break straight above it where it is a tagged node. So no check copies it.
@@ -21,6 +24,11 @@ pub const VIOLATED: usize = 0;
 pub const KEY: usize = 1;
 
 pub const RUN: usize = 2;
+
+// After them stand the totals by family (document 02, W-204), counted in the same pass.
+pub const TOTALS: usize = 3;
+
+pub const FOUND_WORDS: usize = TOTALS + card_family::FAMILIES;
 
 // The answer of a check: whether the part is sound, and its height (tagged nodes not counted). Where it is not, what the lent
 // words then hold says nothing.
@@ -118,10 +126,11 @@ fn node_check(
     free: &mut [u32],
     found: &mut [u32],
 ) -> Checked
-    requires { ⌜ (length (now card) ≡ 8 + 24 * n) × (n ≤ greatestNodes) × (run + levels ≤ depthLimit) × (length (now free) ≡ wordCount) × (length (now found) ≡ 3) ⌝ }
+    requires { ⌜ (length (now card) ≡ 8 + 24 * n) × (n ≤ greatestNodes) × (run + levels ≤ depthLimit) × (length (now free) ≡ wordCount) × (length (now found) ≡ 3 + familyCount) ⌝ }
     ensures { λ r. ⌜ checkedOf r (findingsOf (nodesOf (now (free .exit))) (now (found .exit)))
         ≡ nodeCheck levels (now (card .entry)) n run root low high m (findingsOf (nodesOf (now (free .entry))) (now (found .entry))) ⌝ }
     ensures { λ r. ⌜ heightOf r ≤ levels ⌝ }
+    ensures { λ r. ⌜ ((h : ℕ) → r ≡ Sound h → drop 3 (now (found .exit)) ≡ nodeCounted levels (now (card .entry)) m (drop 3 (now (found .entry)))) ⌝ }
 {
     let entry = enter(card, n, m, low, high, run, root, free, found);
     match entry {
@@ -155,11 +164,13 @@ fn children_check(
     found: &mut [u32],
 ) -> Checked
     requires { ⌜ (length (now card) ≡ 8 + 24 * n) × (n ≤ greatestNodes) × (length (now node) ≡ 24)
-        × (c ≡ length (children (now node))) × (run + levels ≤ depthLimit) × (length (now free) ≡ wordCount) × (length (now found) ≡ 3) ⌝ }
+        × (c ≡ length (children (now node))) × (run + levels ≤ depthLimit) × (length (now free) ≡ wordCount) × (length (now found) ≡ 3 + familyCount) ⌝ }
     ensures { λ r. ⌜ checkedOf r (findingsOf (nodesOf (now (free .exit))) (now (found .exit)))
         ≡ childrenCheck (nodeCheck levels (now (card .entry)) n run false) true 0 low high
         (routingKeys (now (node .entry))) (children (now (node .entry))) (findingsOf (nodesOf (now (free .entry))) (now (found .entry))) ⌝ }
     ensures { λ r. ⌜ heightOf r ≤ levels ⌝ }
+    ensures { λ r. ⌜ ((h : ℕ) → r ≡ Sound h → drop 3 (now (found .exit))
+        ≡ childrenCounted (nodeCounted levels (now (card .entry))) (children (now (node .entry))) (drop 3 (now (found .entry)))) ⌝ }
 {
     let mut from = low;
     let mut height: usize = 0;
@@ -183,15 +194,29 @@ fn children_check(
     Checked::Sound(height)
 }
 
+// No pair is counted yet.
+fn clear_totals(totals: &mut [u32])
+    requires { ⌜ length (now totals) ≡ familyCount ⌝ }
+    ensures { λ _. ⌜ now (totals .exit) ≡ noTotals ⌝ }
+{
+    let mut i: usize = 0;
+    while i < card_family::FAMILIES {
+        totals[i] = 0;
+        i += 1;
+    }
+}
+
 // The whole table of a card with n nodes, from its root.
 pub fn check_table(card: &[u32], n: usize, free: &mut [u32], found: &mut [u32]) -> Checked
-    requires { ⌜ (length (now card) ≡ 8 + 24 * n) × (n ≤ greatestNodes) × (length (now free) ≡ wordCount) × (length (now found) ≡ 3) ⌝ }
+    requires { ⌜ (length (now card) ≡ 8 + 24 * n) × (n ≤ greatestNodes) × (length (now free) ≡ wordCount) × (length (now found) ≡ 3 + familyCount) ⌝ }
     ensures { λ r. ⌜ checkedOf r (findingsOf (nodesOf (now (free .exit))) (now (found .exit))) ≡ tableCheck (now (card .entry)) n ⌝ }
+    ensures { λ r. ⌜ ((h : ℕ) → r ≡ Sound h → drop 3 (now (found .exit)) ≡ tableCounted (now (card .entry))) ⌝ }
 {
     card_free::fill(free, n);
     found[VIOLATED] = 0;
     found[KEY] = 0;
     found[RUN] = 0;
+    clear_totals(&mut found[TOTALS..FOUND_WORDS]);
     node_check(
         card,
         n,

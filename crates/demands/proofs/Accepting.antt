@@ -38,6 +38,7 @@ use Rattle.state.specs.declared.Begun.{Begun}
 use Rattle.state.specs.declared.Begun.the-variants.{Idle as OpenedIdle, Started, Refused as BegunRefused}
 use Rattle.demands.proofs.Reopen.{table-depth-limited, card-accepted, facts-exact}
 use Rattle.card_check.specs.Check.{Findings, tableCheck}
+use Rattle.card_check.specs.Counting.{tableCounted}
 use Rattle.theory_check.proofs.Facts.{Facts}
 use Rattle.theory_check.proofs.Soundness.{accepts-sound, sound-accepted}
 use Rattle.theory_tree.specs.Pairs.{pairs, lookup}
@@ -84,9 +85,9 @@ accepted-card greatest c a = go (ℕ-discrete (cardRefusal greatest c) 0) (ℕ-d
     go (yes e) (yes z) = let k : _≡_ {A = ℕ} 1 0 = rw (eq-eqb (nodesOfLength greatest (length c)) 0 z) at e in absurd (omega arith)
     go (yes e) (no d) = (e, nodes-sized greatest (length c) d, header-formatted c (nodesOfLength greatest (length c)) (rw (ne-eqb (nodesOfLength greatest (length c)) 0 d) at e))
 
-open-some : (n last h : ℕ) (f : Findings) → openChecked n last (some (h, f)) ≡ openSound n last f
+open-some : (n last : ℕ) (totals : List ℕ) (h : ℕ) (f : Findings) → openChecked n last totals (some (h, f)) ≡ openSound n last totals f
 unfolding openChecked
-open-some n last h f = refl
+open-some n last totals h f = refl
 
 pub accepted-table : (greatest : ℕ) (c : List ℕ) → Opens (rationTable greatest) c → (t : Tree) × WellFormed c t
 unfolding openChecked
@@ -100,9 +101,9 @@ accepted-table greatest c a = go (tableCheck c (nodesOfLength greatest (length c
     go (some r) e = let s = accepts-sound c (nodesOfLength greatest (length c)) (k .1 .words) (k .1 .most) (r .0) (r .1) e in (s .0, s .1)
 
 -- the root is then taken for the node given last
-resting-last : (n last : ℕ) (f : Findings) → 3 + f .run ≤ countTrue (f .free) → openSound n last f .memory .last ≡ last
+resting-last : (n last : ℕ) (totals : List ℕ) (f : Findings) → 3 + f .run ≤ countTrue (f .free) → openSound n last totals f .memory .last ≡ last
 unfolding openSound resting
-resting-last n last f room = bool-cases (f .violated) (λ q. rw (le-ltb (countTrue (f .free)) (3 + f .run) room, q)) (λ q. rw (le-ltb (countTrue (f .free)) (3 + f .run) room, q))
+resting-last n last totals f room = bool-cases (f .violated) (λ q. rw (le-ltb (countTrue (f .free)) (3 + f .run) room, q)) (λ q. rw (le-ltb (countTrue (f .free)) (3 + f .run) room, q))
 
 pub accepted-start : (greatest : ℕ) (c : List ℕ) → Opens (rationTable greatest) c → openOf greatest c .memory .last ≡ searchStart c
 unfolding openChecked
@@ -114,10 +115,10 @@ accepted-start greatest c a = go (tableCheck c (nodesOfLength greatest (length c
     go : (x : Option (ℕ × Findings)) → tableCheck c (nodesOfLength greatest (length c)) ≡ x → openOf greatest c .memory .last ≡ searchStart c
     go none e = absurd (refuses greatest c 4 (open-unrefused greatest c (k .0) ∙ rw e) a)
     go (some (h, f)) e =
-        let is : openOf greatest c ≡ openSound (nodesOfLength greatest (length c)) (searchStart c) f = open-unrefused greatest c (k .0) ∙ rw e in
+        let is : openOf greatest c ≡ openSound (nodesOfLength greatest (length c)) (searchStart c) (tableCounted c) f = open-unrefused greatest c (k .0) ∙ rw e in
         order (countTrue (f .free)) (3 + f .run)
-        (λ o. absurd (refuses greatest c 5 (is ∙ open-scarce (nodesOfLength greatest (length c)) (searchStart c) f o) a))
-        (λ o. ap (λ (x : Handed). x .memory .last) is ∙ resting-last (nodesOfLength greatest (length c)) (searchStart c) f o)
+        (λ o. absurd (refuses greatest c 5 (is ∙ open-scarce (nodesOfLength greatest (length c)) (searchStart c) (tableCounted c) f o) a))
+        (λ o. ap (λ (x : Handed). x .memory .last) is ∙ resting-last (nodesOfLength greatest (length c)) (searchStart c) (tableCounted c) f o)
 
 -- the table of a card that opens can be opened again
 pub accepted-openable : (greatest : ℕ) (c : List ℕ) (t : Tree) → Opens (rationTable greatest) c → WellFormed c t → Openable (nodesOfLength greatest (length c)) t
@@ -133,8 +134,8 @@ accepted-openable greatest c t a w = go (sound-accepted c (nodesOfLength greates
         room : 3 + f .run ≤ countTrue (f .free)
         room =
             order (countTrue (f .free)) (3 + f .run)
-            (λ o. absurd (refuses greatest c 5 (open-unrefused greatest c (k .0) ∙ ap (openChecked (nodesOfLength greatest (length c)) (searchStart c)) e
-            ∙ open-some (nodesOfLength greatest (length c)) (searchStart c) h f ∙ open-scarce (nodesOfLength greatest (length c)) (searchStart c) f o) a)) (λ o. o)
+            (λ o. absurd (refuses greatest c 5 (open-unrefused greatest c (k .0) ∙ ap (openChecked (nodesOfLength greatest (length c)) (searchStart c) (tableCounted c)) e
+            ∙ open-some (nodesOfLength greatest (length c)) (searchStart c) (tableCounted c) h f ∙ open-scarce (nodesOfLength greatest (length c)) (searchStart c) (tableCounted c) f o) a)) (λ o. o)
 
         broken : f .violated ≡ true → Openable (nodesOfLength greatest (length c)) t
         broken q =

@@ -23,6 +23,7 @@ use Rattle.card.specs.Layout.{nodeAt, searchStart}
 use Rattle.laws.proofs.Cases.{bool-cases}
 use Rattle.call_open.specs.Opening.{openSound, openChecked, openOf}
 use Rattle.card_check.specs.Check.{Findings, tableCheck}
+use Rattle.card_check.specs.Counting.{tableCounted}
 use Rattle.call_start.specs.Starts.{startRefused, startAccepted, startDepth, startLanded, startChecked, startOf}
 use Rattle.state.specs.Memory.{Memory, advanced}
 use Rattle.state.specs.Steps.{heldBy, Step, isIdle, noBeginning, stepRefused, stepFinal, stepFormat, stepStore}
@@ -60,20 +61,20 @@ pub card-small : (greatest : ℕ) (c : List ℕ) → cardRefusal greatest c < 64
 unfolding cardRefusal
 card-small greatest c = bool-cases (eqb (nodesOfLength greatest (length c)) 0) (λ q. rw q (omega arith)) (λ q. rw q (header-small c (nodesOfLength greatest (length c))))
 
-sound-small : (n last : ℕ) (f : Findings) → SmallBegun (openSound n last f .begun)
+sound-small : (n last : ℕ) (totals : List ℕ) (f : Findings) → SmallBegun (openSound n last totals f .begun)
 unfolding openSound noBeginning
-sound-small n last f = bool-cases (ltb (countTrue (f .free)) (3 + f .run)) (λ a. rw a (omega arith)) (λ a. bool-cases (f .violated) (λ v. rw (a, v) tt) (λ v. rw (a, v) tt))
+sound-small n last totals f = bool-cases (ltb (countTrue (f .free)) (3 + f .run)) (λ a. rw a (omega arith)) (λ a. bool-cases (f .violated) (λ v. rw (a, v) tt) (λ v. rw (a, v) tt))
 
-checked-small : (n last : ℕ) (x : Option (ℕ × Findings)) → SmallBegun (openChecked n last x .begun)
+checked-small : (n last : ℕ) (totals : List ℕ) (x : Option (ℕ × Findings)) → SmallBegun (openChecked n last totals x .begun)
 unfolding openChecked noBeginning
-checked-small n last none = omega arith
-checked-small n last (some r) = sound-small n last (r .1)
+checked-small n last totals none = omega arith
+checked-small n last totals (some r) = sound-small n last totals (r .1)
 
 pub open-small : (greatest : ℕ) (c : List ℕ) → SmallBegun (openOf greatest c .begun)
 unfolding openOf noBeginning
 open-small greatest c =
     bool-cases (eqb (cardRefusal greatest c) 0)
-    (λ q. rw q (checked-small (nodesOfLength greatest (length c)) (searchStart c) (tableCheck c (nodesOfLength greatest (length c)))))
+    (λ q. rw q (checked-small (nodesOfLength greatest (length c)) (searchStart c) (tableCounted c) (tableCheck c (nodesOfLength greatest (length c)))))
     (λ q. rw q (card-small greatest c))
 
 landed-small : (m : Memory) (doing : Doing) (depth : ℕ) (room : Bool) (l : Landing) → SmallBegun (startLanded m doing depth room l .begun)

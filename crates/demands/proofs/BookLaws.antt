@@ -11,6 +11,7 @@ use borrow.Author.Tests.{ne-eqb, eq-eqb}
 use Rattle.laws.proofs.Cases.{bool-cases}
 use Rattle.laws.specs.Cases.{pick}
 use Rattle.laws.proofs.Totals.{indicator-same, indicator-other, indicator-zero}
+use Rattle.card.specs.Layout.{keyLimit}
 use Rattle.laws.specs.Totals.{total}
 use Rattle.demands.specs.Book.{Update, added, takenOut, entered, outcome, final, put, remove}
 use Rattle.state.specs.Answers.{stepReply}
@@ -89,13 +90,13 @@ entered-old : (k v : ℕ) (l : List (ℕ × ℕ)) → 0 < total (hasKey k) l →
 unfolding entered added
 entered-old k v l h = ap (λ (x : Option ℕ). added x k v l) (lookup-held k l h .1)
 
-pub enters-put : (k v : ℕ) (a b : List (ℕ × ℕ)) → total (hasKey k) a ≡ 0 → ((w : ℕ × ℕ → ℕ) → total w b ≡ w (k, v) + total w a) → Enters (put k v) a b
+enters-put : (k v : ℕ) (a b : List (ℕ × ℕ)) → total (hasKey k) a ≡ 0 → ((w : ℕ × ℕ → ℕ) → total w b ≡ w (k, v) + total w a) → Enters (put k v) a b
 enters-put k v a b z h = record { to = λ l s. record { totals = λ w. rw (entered-new k v l (sym (s .totals (hasKey k)) ∙ z)) (omega (arith, h w, s .totals w)) } }
 
 pub enters-held : (k v : ℕ) (a : List (ℕ × ℕ)) → 0 < total (hasKey k) a → Enters (put k v) a a
 enters-held k v a h = record { to = λ l s. record { totals = λ w. rw (entered-old k v l (omega (arith, s .totals (hasKey k)))) (s .totals w) } }
 
-pub enters-remove : (k x : ℕ) (a b : List (ℕ × ℕ)) → total (hasKey k) a ≤ 1 → ((w : ℕ × ℕ → ℕ) → total w a ≡ w (k, x) + total w b) → Enters (remove k) a b
+enters-remove : (k x : ℕ) (a b : List (ℕ × ℕ)) → total (hasKey k) a ≤ 1 → ((w : ℕ × ℕ → ℕ) → total w a ≡ w (k, x) + total w b) → Enters (remove k) a b
 unfolding entered
 enters-remove k x a b o h =
     let gone : total (hasKey k) b ≡ 0 = omega (arith, h (hasKey k), indicator-same k) in
@@ -112,5 +113,33 @@ unfolding entered
 enters-gone k a z = record { to = λ l s. record { totals = λ w. s .totals w ∙ sym (out-total w k l ∙ off-none w k l (sym (s .totals (hasKey k)) ∙ z)) } }
 
 -- before it, the pairs may be rearranged
-pub enters-from : {u : Update} {a a′ b : List (ℕ × ℕ)} → Same a a′ → Enters u a b → Enters u a′ b
+enters-from : {u : Update} {a a′ b : List (ℕ × ℕ)} → Same a a′ → Enters u a b → Enters u a′ b
 enters-from s e = record { to = λ l z. e .to l (same-over s z) }
+
+-- the pairs a become b by the update's own pair, one more or one less
+abbrev pub ByOne : Update → List (ℕ × ℕ) → List (ℕ × ℕ) → Type 0
+ByOne (put k v) a b = (w : ℕ × ℕ → ℕ) → total w b ≡ w (k, v) + total w a
+ByOne (remove k) a b = (x : ℕ) × ((w : ℕ × ℕ → ℕ) → total w a ≡ w (k, x) + total w b)
+
+abbrev pub keyOf : Update → ℕ
+keyOf (put k v) = k
+keyOf (remove k) = k
+
+-- so the update is entered
+pub record Changes (u : Update) (a b : List (ℕ × ℕ)) : Type 0 where
+  pub enters : Enters u a b
+  pub by-one : ByOne u a b
+  pub key-small : keyOf u < keyLimit
+
+pub changes-put : (k v : ℕ) (a b : List (ℕ × ℕ)) → k < keyLimit → total (hasKey k) a ≡ 0 → ((w : ℕ × ℕ → ℕ) → total w b ≡ w (k, v) + total w a) → Changes (put k v) a b
+changes-put k v a b s z h = record { enters = enters-put k v a b z h; by-one = h; key-small = s }
+
+pub changes-remove : (k x : ℕ) (a b : List (ℕ × ℕ)) → k < keyLimit → total (hasKey k) a ≤ 1 → ((w : ℕ × ℕ → ℕ) → total w a ≡ w (k, x) + total w b) → Changes (remove k) a b
+changes-remove k x a b s o h = record { enters = enters-remove k x a b o h; by-one = (x, h); key-small = s }
+
+pub changes-from : {u : Update} {a a′ b : List (ℕ × ℕ)} → Same a a′ → Changes u a b → Changes u a′ b
+changes-from {u} {a} {a′} {b} s e = record { enters = enters-from s (e .enters); by-one = at u (e .by-one); key-small = e .key-small }
+  where
+    at : (u : Update) → ByOne u a b → ByOne u a′ b
+    at (put k v) h = λ w. omega (arith, h w, s .totals w)
+    at (remove k) (x, h) = (x, λ w. omega (arith, h w, s .totals w))

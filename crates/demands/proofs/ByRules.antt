@@ -204,7 +204,11 @@ record RepairNext (greatest : ℕ) (c : List ℕ) (n : ℕ) (m : Memory) : Type 
   pub out : List ℕ
   pub planned : nextRepair c n key (m .free) (m .last) ≡ prepared (first ∷ rest) then-free then-last out
   pub short : suc (length rest) ≤ 73
-  pub first-made : stepOf greatest c m ≡ record { answer = Stored (first .0); card = set c (first .0) (first .1); memory = advanced (memory n then-free then-last (m .depth) (m .doing) [] out) rest }
+  pub first-made : stepOf greatest c m ≡ record {
+    answer = Stored (first .0);
+    card = set c (first .0) (first .1);
+    memory = advanced (memory n then-free then-last (m .depth) (m .totals) (m .doing) [] out) rest;
+  }
 
 -- the final answer, or the next change
 abbrev Turns : ℕ → List ℕ → ℕ → Tree → Memory → Answer → Type 0
@@ -234,21 +238,21 @@ turns-at greatest b o (stage-put {key = key} {value = value} z r x low high room
 turns-at greatest b o (stage-remove {key = key} z r x low high q g) e k = absurd (remove-no-job key (k .4) refl)
 turns-at greatest b o (stage-first {s = s} {rest = rest} j p en count few hd) e k = let y : _≡_ {A = List Store} (s ∷ rest) [] = e in impossible (cc)
 turns-at greatest b o (stage-within {s = s} {rest = rest} j en p q few hd) e k = let y : _≡_ {A = List Store} (s ∷ rest) [] = e in impossible (cc)
-turns-at greatest {c} {n} {t} {due = due} b o (stage-between {free} {last} {depth} {key} {doing} j en deep (settled z r) x few hd) e k = (
+turns-at greatest {c} {n} {t} {due = due} b o (stage-between {free} {last} {depth} {key} {doing} {totals = totals} j en deep (settled z r) x few hd) e k = (
   x,
   inl (
     z,
-    ap (λ y. y .answer) (step-repairs greatest c n (b .sized) (b .header) free last depth j
-        ∙ prepared-ready c (memory n free last depth doing [] []) doing due (nextRepair c n key free last) (rests greatest c n key t free last b z)),
+    ap (λ y. y .answer) (step-repairs greatest c n (b .sized) (b .header) free last depth totals j
+        ∙ prepared-ready c (memory n free last depth totals doing [] []) doing due (nextRepair c n key free last) (rests greatest c n key t free last b z)),
   ),
 )
-turns-at greatest {c} {n} {t} {due = due} b o (stage-between {free} {last} {depth} {key} {doing} j en deep (violated v w r) x few hd) e k =
+turns-at greatest {c} {n} {t} {due = due} b o (stage-between {free} {last} {depth} {key} {doing} {totals = totals} j en deep (violated v w r) x few hd) e k =
     (x, inr (apply (mends greatest c n key t free last b x v w r)))
   where
-    apply : Repaired c n key t free last (depthOf (v .context)) → RepairNext greatest c n (memory n free last depth doing [] [])
+    apply : Repaired c n key t free last (depthOf (v .context)) → RepairNext greatest c n (memory n free last depth totals doing [] [])
     apply q = split (q .stores) refl
       where
-        split : (ss : List Store) → q .stores ≡ ss → RepairNext greatest c n (memory n free last depth doing [] [])
+        split : (ss : List Store) → q .stores ≡ ss → RepairNext greatest c n (memory n free last depth totals doing [] [])
         split [] e₁ = let z = ap length (sym e₁ ∙ q .pending .is-rest) in absurd (omega (arith, simp length-append at z))
         split (s ∷ rest) e₁ =
             let planned : nextRepair c n key free last ≡ prepared (s ∷ rest) (q .free-then) (q .last-then) (q .cut) = rw e₁ at (q .planned) in
@@ -262,7 +266,7 @@ turns-at greatest {c} {n} {t} {due = due} b o (stage-between {free} {last} {dept
               out = q .cut;
               planned = planned;
               short = rw e₁ at (q .short);
-              first-made = step-repairs greatest c n (b .sized) (b .header) free last depth j ∙ prepared-first c (memory n free last depth doing [] []) doing due
+              first-made = step-repairs greatest c n (b .sized) (b .header) free last depth totals j ∙ prepared-first c (memory n free last depth totals doing [] []) doing due
                   (nextRepair c n key free last) s rest (q .free-then) (q .last-then) (q .cut) planned (first-storable (p .0 .plays) .inside);
             }
 
@@ -289,7 +293,7 @@ repair-next greatest final most w x k (exact, turn) later = at turn
     at (inl (z, a)) = done (v .inv .tree) between z (ap stepReply (a ∙ x .is-due))
     at (inr q) =
         let r = repair-by-rule (w .card) (v .size) (q .key) (q .planned) in
-        let m = memory (v .size) (q .then-free) (q .then-last) (w .state .depth) (w .state .doing) [] (q .out) in
+        let m = memory (v .size) (q .then-free) (q .then-last) (w .state .depth) (w .state .totals) (w .state .doing) [] (q .out) in
         mends-by (v .inv .tree) between (r .rule)
         (change-made greatest final most w x m (q .first) (q .rest) (q .first-made) (q .short) (r .given) (q .out) (r .in-turn) (r .left)
         (r .given-last ∙ last-same (w .state .last) (r .given)) refl (cut-marked (q .out) (q .then-free)))
@@ -350,14 +354,14 @@ module _ (greatest : ℕ) (final : Answer) (most : ℕ) (w : World (rationTable 
             (λ o. absurd (not-refused 9 (e ∙ ap (stepPrepared (w .card) (w .state) (f .doing) (f .final)) q ∙ rw (le-ltb (s .0) (length (w .card)) o))))
           where
             m : Memory
-            m = memory (w .state .nodes) fewer now (w .state .depth) (f .doing) [] out
+            m = memory (w .state .nodes) fewer now (w .state .depth) (w .state .totals) (f .doing) [] out
 
             inside : s .0 < length (w .card) → Updates (rationTable greatest) Nothing Rule (stepReply final) w
             inside o =
                 let first : stepOf greatest (w .card) (w .state) ≡ record {
                   answer = Stored (s .0);
                   card = set (w .card) (s .0) (s .1);
-                  memory = advanced (memory (w .state .nodes) fewer now (w .state .depth) (f .doing) [] out) rest;
+                  memory = advanced (memory (w .state .nodes) fewer now (w .state .depth) (w .state .totals) (f .doing) [] out) rest;
                 } = e ∙ ap (stepPrepared (w .card) (w .state) (f .doing) (f .final)) q ∙ rw (lt-ltb (s .0) (length (w .card)) o) in
                 let r = rule (s ∷ rest) fewer now out q in
                 changes (r .0 .rule)
@@ -373,10 +377,10 @@ pub put-turns : (greatest : ℕ) {c : List ℕ} {n : ℕ} {t goal : Tree} {steps
     → Stage c n t goal steps m h due → m .doing ≡ Inserting key value NotBegun
     → stepOf greatest c m ≡ stepBegin c m (nextChange c n (m .free) (m .last) (Inserting key value NotBegun) (PutIn key value))
 put-turns greatest key value b (stage-idle z r x g) e = impossible (cc)
-put-turns greatest {c} {n} key value b (stage-put {free} {last} {depth} {key = k} {value = v} z r x low high room q g) e =
+put-turns greatest {c} {n} key value b (stage-put {free} {last} {depth} {key = k} {value = v} {totals = totals} z r x low high room q g) e =
     let ek : k ≡ key = cc in
     let ev : v ≡ value = cc in
-    rw (← ek, ← ev) (step-puts greatest c n (b .sized) (b .header) free last depth k v)
+    rw (← ek, ← ev) (step-puts greatest c n (b .sized) (b .header) free last depth totals k v)
 put-turns greatest key value b (stage-remove z r x low high q g) e = impossible (cc)
 put-turns greatest key value b (stage-first j p en count few hd) e = absurd (put-no-job key value j e)
 put-turns greatest key value b (stage-between j en deep k x few hd) e = absurd (put-no-job key value j e)
@@ -387,9 +391,9 @@ pub remove-turns : (greatest : ℕ) {c : List ℕ} {n : ℕ} {t goal : Tree} {st
     → stepOf greatest c m ≡ stepBegin c m (nextChange c n (m .free) (m .last) (Deleting key NotBegun 0) (TakeOut key))
 remove-turns greatest key b (stage-idle z r x g) e = impossible (cc)
 remove-turns greatest key b (stage-put z r x low high room q g) e = impossible (cc)
-remove-turns greatest {c} {n} key b (stage-remove {free} {last} {depth} {key = k} z r x low high q g) e =
+remove-turns greatest {c} {n} key b (stage-remove {free} {last} {depth} {key = k} {totals = totals} z r x low high q g) e =
     let ek : k ≡ key = cc in
-    rw (← ek) (step-removes greatest c n (b .sized) (b .header) free last depth k)
+    rw (← ek) (step-removes greatest c n (b .sized) (b .header) free last depth totals k)
 remove-turns greatest key b (stage-first j p en count few hd) e = absurd (remove-no-job key j e)
 remove-turns greatest key b (stage-between j en deep k x few hd) e = absurd (remove-no-job key j e)
 remove-turns greatest key b (stage-within j en p q few hd) e = absurd (remove-no-job key j e)

@@ -34,6 +34,7 @@ use Rattle.call_open.specs.Opening.{openSound, openChecked, openOf}
 use Rattle.demands.proofs.OpenRefusals.{refuses-unsound, refuses-few}
 use Rattle.demands.proofs.Reopen.{length-accepted, card-accepted, open-sound, open-repair, open-idle, facts-exact}
 use Rattle.card_check.specs.Check.{Findings, tableCheck}
+use Rattle.card_check.specs.Counting.{tableCounted}
 use Rattle.theory_check.proofs.Facts.{Facts}
 use Rattle.theory_check.proofs.Soundness.{accepts-sound}
 use Rattle.call_start.specs.Starts.{formatOf}
@@ -150,9 +151,9 @@ open-due : (greatest : ℕ) (c : List ℕ) (r : ℕ) → cardRefusal greatest c 
 unfolding openOf
 open-due greatest c r e d = rw (e, ne-eqb r 0 d)
 
-sound-five : (n last : ℕ) (f : Findings) → countTrue (f .free) < 3 + f .run → openSound n last f ≡ noBeginning 5
+sound-five : (n last : ℕ) (totals : List ℕ) (f : Findings) → countTrue (f .free) < 3 + f .run → openSound n last totals f ≡ noBeginning 5
 unfolding openSound
-sound-five n last f o = rw (lt-ltb (countTrue (f .free)) (3 + f .run) o)
+sound-five n last totals f o = rw (lt-ltb (countTrue (f .free)) (3 + f .run) o)
 
 reply-five : (greatest : ℕ) (c : List ℕ) (r : ℕ) → openOf greatest c ≡ noBeginning r → startReply (openOf greatest c .begun) ≡ refusal r
 unfolding noBeginning startReply
@@ -187,7 +188,7 @@ opens greatest c =
             few : countTrue (f .free) < 3 + f .run → (Scarce c × HandsNone (rationTable greatest) (handed (openOf greatest c)) 5)
                 ⊎ ((Scarce c → ⊥) × OpensTo (rationTable greatest) c (handed (openOf greatest c)))
             few o =
-                let is : openOf greatest c ≡ noBeginning 5 = open-sound greatest c (nodesOn c) h f s k e ∙ sound-five (nodesOn c) (searchStart c) f o in
+                let is : openOf greatest c ≡ noBeginning 5 = open-sound greatest c (nodesOn c) h f s k e ∙ sound-five (nodesOn c) (searchStart c) (tableCounted c) f o in
                 inl (refuses-few greatest c (nodesOn c) s k .0 (reply-five greatest c 5 is), rw is (none-handed greatest 5))
 
             enough : 3 + f .run ≤ countTrue (f .free) → (Scarce c × HandsNone (rationTable greatest) (handed (openOf greatest c)) 5)

@@ -12,6 +12,7 @@ use Rattle.demands.specs.RationTable.{rationTable}
 use Rattle.demands.specs.W201.{W201}
 use Rattle.demands.specs.W202.{W202}
 use Rattle.demands.specs.W203.{W203}
+use Rattle.demands.specs.W204.{W204}
 use Rattle.demands.specs.W205.{W205}
 use Rattle.demands.specs.W209.{W209}
 use Rattle.demands.specs.W210.{W210}
@@ -21,6 +22,7 @@ use Rattle.demands.proofs.Depths.{w-214 as depths-kept}
 use Rattle.demands.proofs.Fetching.{w-213 as fetching-kept}
 use Rattle.demands.proofs.InsertChecks.{w-209 as reasons-kept}
 use Rattle.demands.proofs.DepthTold.{w-203 as depth-kept}
+use Rattle.demands.proofs.FamiliesTold.{w-204 as totals-kept}
 use Rattle.demands.proofs.SearchStart.{w-205 as search-kept}
 use Rattle.demands.proofs.BiggerCards.{w-210 as sizes-kept}
 use Rattle.demands.proofs.FirstSteps.{demand-1 as rows-kept}
@@ -33,7 +35,7 @@ use Rattle.demands.proofs.PaddingTest.{w-202 as padding-kept}
 use Rattle.call_find.specs.Find.{findDepth}
 use Rattle.walk_next.specs.Successor.{nextDepth}
 use Rattle.call_step.specs.Calls.{stepOf}
-use Rattle.state.specs.Answers.{toldDepth}
+use Rattle.state.specs.Answers.{toldDepth, totalOf, totalReply}
 use Rattle.card_dump.specs.Answers.{dumpReply}
 use Rattle.card_dump.specs.Dump.{readAnswer, readOver, writeAnswer, writeOver}
 use Rattle.card_dump.specs.Padding.{eightAt}
@@ -52,6 +54,7 @@ pub record Promises (greatest : ℕ) : Type 0 where
   pub w-201 : W201 greatest (rationTable greatest)
   pub w-202 : W202 greatest eightAt (λ dump lent. dumpReply (readAnswer greatest dump lent))
   pub w-203 : W203 (rationTable greatest) (findDepth greatest) (nextDepth greatest) (λ c m. toldDepth (stepOf greatest c m .memory .depth) (stepOf greatest c m .answer))
+  pub w-204 : W204 (rationTable greatest) (λ m family. totalReply (totalOf m family))
   pub w-205 : W205 (rationTable greatest)
   pub w-209 : W209 greatest (rationTable greatest) (checkText greatest)
   pub w-213 : W213 greatest (rationTable greatest) (recordOf greatest) (λ c key block. fetchReply (fetchOf greatest c key block))
@@ -68,6 +71,7 @@ promises greatest =
       w-201 = next-kept greatest;
       w-202 = padding-kept greatest;
       w-203 = depth-kept greatest;
+      w-204 = totals-kept greatest;
       w-205 = search-kept greatest;
       w-209 = reasons-kept greatest;
       w-213 = fetching-kept greatest;

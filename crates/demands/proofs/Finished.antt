@@ -96,7 +96,7 @@ pub inv-rests : (greatest : ℕ) (n steps : ℕ) (w : World (rationTable greates
 inv-rests greatest n steps w b i idle = go (idle-or-busy (i .stage))
   where
     go : (w .state .nodes ≡ n)
-        × ((isIdle (w .state .doing) ≡ false) ⊎ ((free : List Bool) × (last : ℕ) × (w .state ≡ memory n free last (w .state .depth) Idle [] [])
+        × ((isIdle (w .state .doing) ≡ false) ⊎ ((free : List Bool) × (last : ℕ) × (w .state ≡ memory n free last (w .state .depth) (w .state .totals) Idle [] [])
         × (tableViolations (i .tree) ≡ 0) × (3 ≤ countTrue free) × Exact n free (i .tree) × (bare (i .tree) ≡ i .goal))) → Rests greatest w (b .held)
     go (e, inl busy) = absurd (idle-not-busy (w .state .doing) idle busy)
     go (e, inr (free, last, em, z, r, x, eg)) =

@@ -37,7 +37,7 @@ use Rattle.laws.specs.Totals.{indicator, total}
 use Rattle.laws.proofs.Totals.{indicator-other, indicator-le}
 use Rattle.demands.proofs.LeafAfter.{LeafAfter, ready-after, on-path, two-pairs, leaf-after}
 use Rattle.demands.specs.Book.{Update, put, remove}
-use Rattle.demands.proofs.BookLaws.{Enters, enters-put, enters-remove}
+use Rattle.demands.proofs.BookLaws.{Changes, changes-put, changes-remove}
 use Rattle.call_change.specs.Updates.{held, splitNeed}
 use Rattle.theory_tree.proofs.Cut.{cut}
 use Rattle.theory_tree.proofs.InPlace.{value-stored, key-stored, slot-pairs-out, slot-pairs-in, length-total}
@@ -136,10 +136,10 @@ module _ (c : List ℕ) (n key : ℕ) (free : List Bool) (C : Context) (m : ℕ)
       unfolding slot-changing withAll
       slot-level = done-leaf .shallow
 
-      pub slot-enters : Enters (put key v) (pairs (plug C (leaf m ks vs))) (pairs (slot-changing .next))
+      pub slot-enters : Changes (put key v) (pairs (plug C (leaf m ks vs))) (pairs (slot-changing .next))
       unfolding slot-changing withAll
       slot-enters =
-          enters-put key v (pairs (plug C (leaf m ks vs))) (pairs (plug C (leaf m (set ks i key) (set vs i v)))) absent
+          changes-put key v (pairs (plug C (leaf m ks vs))) (pairs (plug C (leaf m (set ks i key) (set vs i v)))) high absent
           (λ w. omega (arith, pairs-plug w C (leaf m ks vs) (leaf m (set ks i key) (set vs i v)), key-more w))
 
       pub slot-shaped : firstEqual ks 0 0 ≡ At i → bare (slot-changing .next) ≡ firstShape (put key v) (bare (plug C (leaf m ks vs)))
@@ -176,10 +176,10 @@ module _ (c : List ℕ) (n key : ℕ) (free : List Bool) (C : Context) (m : ℕ)
       unfolding delete-changing withAll
       delete-level = gone-leaf .shallow
 
-      pub delete-enters : Enters (remove key) (pairs (plug C (leaf m ks vs))) (pairs (delete-changing .next))
+      pub delete-enters : Changes (remove key) (pairs (plug C (leaf m ks vs))) (pairs (delete-changing .next))
       unfolding delete-changing withAll
       delete-enters =
-          enters-remove key (getD vs i 0) (pairs (plug C (leaf m ks vs))) (pairs (plug C (leaf m (set ks i 0) vs))) (key-once lowestKey keyLimit key (plug C (leaf m ks vs)) (sound .range))
+          changes-remove key (getD vs i 0) (pairs (plug C (leaf m ks vs))) (pairs (plug C (leaf m (set ks i 0) vs))) high (key-once lowestKey keyLimit key (plug C (leaf m ks vs)) (sound .range))
           (λ w. omega (arith, pairs-plug w C (leaf m ks vs) (leaf m (set ks i 0) vs), key-less w))
 
       pub delete-shaped : firstEqual ks key 0 ≡ At i → bare (delete-changing .next) ≡ firstShape (remove key) (bare (plug C (leaf m ks vs)))
@@ -258,9 +258,9 @@ module _ (c : List ℕ) (n key : ℕ) (free : List Bool) (C : Context) (m : ℕ)
         unfolding split-changing
         split-level = ready .2
 
-        pub split-enters : Enters (put key v) (pairs (plug C (leaf m ks vs))) (pairs (split-changing .next))
+        pub split-enters : Changes (put key v) (pairs (plug C (leaf m ks vs))) (pairs (split-changing .next))
         unfolding split-changing
-        split-enters = enters-put key v (pairs (plug C (leaf m ks vs))) (pairs (plug C part)) absent (λ w. omega (arith, pairs-plug w C (leaf m ks vs) part, G .pair-more w))
+        split-enters = changes-put key v (pairs (plug C (leaf m ks vs))) (pairs (plug C part)) high absent (λ w. omega (arith, pairs-plug w C (leaf m ks vs) part, G .pair-more w))
 
         pub split-shaped : firstEqual ks 0 0 ≡ NoSlot → bare (split-changing .next) ≡ firstShape (put key v) (bare (plug C (leaf m ks vs)))
         unfolding split-changing firstShape putIn putAt
@@ -274,6 +274,6 @@ module _ (c : List ℕ) (n key : ℕ) (free : List Bool) (C : Context) (m : ℕ)
 -- the first change of an update, whichever it is: where it leads, what is entered, and how deep a violation it may leave
 pub record First (c : List ℕ) (n key : ℕ) (t : Tree) (stores : List Store) (free : List Bool) (cut : List ℕ) (u : Update) (deep : ℕ) : Type 0 where
   pub changing : Changing c n key t stores free cut
-  pub enters : Enters u (pairs t) (pairs (changing .next))
+  pub enters : Changes u (pairs t) (pairs (changing .next))
   pub shallow : changing .level ≤ deep
   pub shaped : bare (changing .next) ≡ firstShape u (bare t)

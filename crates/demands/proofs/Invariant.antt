@@ -12,11 +12,12 @@ use Rattle.theory_tree.specs.FreeNodes.{Exact}
 use Rattle.theory_change.proofs.Plays.{Openable, Changing}
 use Rattle.theory_change.proofs.Repaired.{Mendable}
 use Rattle.theory_change.proofs.Rewritten.{Sound}
+use Rattle.card_family.proofs.FamilyLaws.{Totals}
 use Rattle.card_free.specs.NodeSet.{countTrue}
 use Rattle.demands.specs.Way.{leafFull}
 use Rattle.demands.proofs.Finishing.{updateStoresAt}
 use Rattle.demands.specs.Book.{Update, Outcome, Told, Hand, Book, book, feed, put, remove, goesOn, anInsert, aDelete, empty, holding}
-use Rattle.demands.proofs.BookLaws.{Enters, Same, dictionaryAnswer}
+use Rattle.demands.proofs.BookLaws.{Changes, Same, dictionaryAnswer}
 use Rattle.demands.specs.Events.{World}
 use Rattle.demands.specs.RationTable.{rationTable}
 use Rattle.state.specs.Memory.{Memory}
@@ -74,38 +75,40 @@ pub record UpdateSteps (t : Tree) (steps : ℕ) : Type 0 where
 -- What is being done, by the state and the book's hand, and the final answer due to it.
 pub data Stage (c : List ℕ) (n : ℕ) (t goal : Tree) (steps : ℕ) : Memory → Hand → Answer → Type 0 where
   -- nothing is being done, and no answer is due: any will do
-  stage-idle : {free : List Bool} {last depth : ℕ} {due : Answer} → tableViolations t ≡ 0 → 3 ≤ countTrue free → Exact n free t → bare t ≡ goal
-      → Stage c n t goal steps (record { nodes = n; free = free; last = last; doing = Idle; rest = []; cut = []; depth = depth }) empty due
+  stage-idle : {free : List Bool} {last depth : ℕ} {due : Answer} {totals : List ℕ} → tableViolations t ≡ 0 → 3 ≤ countTrue free → Exact n free t → bare t ≡ goal
+      → Stage c n t goal steps (record { nodes = n; free = free; last = last; doing = Idle; rest = []; cut = []; depth = depth; totals = totals }) empty due
   -- started: nothing is planned yet
-  stage-put : {free : List Bool} {last depth key value : ℕ} → tableViolations t ≡ 0 → 3 ≤ countTrue free → Exact n free t → lowestKey ≤ key
+  stage-put : {free : List Bool} {last depth key value : ℕ} {totals : List ℕ} → tableViolations t ≡ 0 → 3 ≤ countTrue free → Exact n free t → lowestKey ≤ key
       → key < keyLimit → startRoom c key free (landing c n key) ≡ true → UpdateSteps t steps → afterShape (put key value) (bare t) ≡ goal
-      → Stage c n t goal steps (record { nodes = n; free = free; last = last; doing = Inserting key value NotBegun; rest = []; cut = []; depth = depth })
+      → Stage c n t goal steps (record { nodes = n; free = free; last = last; doing = Inserting key value NotBegun; rest = []; cut = []; depth = depth; totals = totals })
       (takenUp (toldOf (put key value) c goesOn)) (dictionaryAnswer (lookup key (pairs t)))
-  stage-remove : {free : List Bool} {last depth key : ℕ} → tableViolations t ≡ 0 → 3 ≤ countTrue free → Exact n free t
+  stage-remove : {free : List Bool} {last depth key : ℕ} {totals : List ℕ} → tableViolations t ≡ 0 → 3 ≤ countTrue free → Exact n free t
       → lowestKey ≤ key → key < keyLimit → UpdateSteps t steps → afterShape (remove key) (bare t) ≡ goal
-      → Stage c n t goal steps (record { nodes = n; free = free; last = last; doing = Deleting key NotBegun 0; rest = []; cut = []; depth = depth })
+      → Stage c n t goal steps (record { nodes = n; free = free; last = last; doing = Deleting key NotBegun 0; rest = []; cut = []; depth = depth; totals = totals })
       (takenUp (toldOf (remove key) c goesOn)) (dictionaryAnswer (lookup key (pairs t)))
   -- the first change of an update, whose last store enters it
   stage-first : {free : List Bool} {last depth key : ℕ} {doing : Doing} {due : Answer} {u : Update}
-      {deciding count : ℕ} {cut : List ℕ} {s : Store} {rest : List Store} → Job InHand doing key due (some u)
-      → (p : Changing c n key t (s ∷ rest) free cut) → Enters u (pairs t) (pairs (p .next))
+      {deciding count : ℕ} {cut : List ℕ} {s : Store} {rest : List Store} {totals : List ℕ} → Job InHand doing key due (some u)
+      → (p : Changing c n key t (s ∷ rest) free cut) → Changes u (pairs t) (pairs (p .next))
       → count + suc (length rest) ≡ deciding → suc (length rest) + (73 * p .level + 1) ≤ steps → Heads (p .level) (bare (p .next)) goal
-      → Stage c n t goal steps (record { nodes = n; free = free; last = last; doing = doing; rest = s ∷ rest; cut = cut; depth = depth }) (holding u deciding count) due
+      → Stage c n t goal steps (record { nodes = n; free = free; last = last; doing = doing; rest = s ∷ rest; cut = cut; depth = depth; totals = totals }) (holding u deciding count) due
   -- between two changes of a repair
-  stage-between : {free : List Bool} {last depth key : ℕ} {doing : Doing} {due : Answer} {u : Option Update} {h : Hand} → Job Decided doing key
+  stage-between : {free : List Bool} {last depth key : ℕ} {doing : Doing} {due : Answer} {u : Option Update} {h : Hand} {totals : List ℕ} → Job Decided doing key
       due u → Entered u h → (deep : ℕ) → Mendable key free t deep → Exact n free t → 73 * deep + 1 ≤ steps → Heads deep (bare t) goal
-      → Stage c n t goal steps (record { nodes = n; free = free; last = last; doing = doing; rest = []; cut = []; depth = depth }) h due
+      → Stage c n t goal steps (record { nodes = n; free = free; last = last; doing = doing; rest = []; cut = []; depth = depth; totals = totals }) h due
   -- within a change of a repair, which keeps the pairs
   stage-within : {free : List Bool} {last depth key : ℕ} {doing : Doing} {due : Answer} {u : Option Update} {h : Hand} {cut : List ℕ} {s : Store}
-      {rest : List Store} → Job Decided doing key due u → Entered u h → (p : Changing c n key t (s ∷ rest) free cut)
+      {rest : List Store} {totals : List ℕ} → Job Decided doing key due u → Entered u h → (p : Changing c n key t (s ∷ rest) free cut)
       → Same (pairs (p .next)) (pairs t) → suc (length rest) + (73 * p .level + 1) ≤ steps → Heads (p .level) (bare (p .next)) goal
-      → Stage c n t goal steps (record { nodes = n; free = free; last = last; doing = doing; rest = s ∷ rest; cut = cut; depth = depth }) h due
+      → Stage c n t goal steps (record { nodes = n; free = free; last = last; doing = doing; rest = s ∷ rest; cut = cut; depth = depth; totals = totals }) h due
 
 pub record Inv (greatest : ℕ) (n steps : ℕ) (w : World (rationTable greatest)) (b : Book) : Type 0 where
   pub tree : Tree
   pub table : Table greatest (w .card) n tree
   pub openable : Openable n tree
   pub same : Same (pairs tree) (b .held)
+  -- document 02, W-204: the totals are those of the tree on the card
+  pub counted : Totals (w .state .totals) (pairs tree)
   -- what the work in hand comes to, without numbers
   pub goal : Tree
   -- the final answer that it gives

@@ -1,5 +1,5 @@
 -- Every event keeps the invariant; a step uses one of the steps that are left.
-use mathlib.Core.Path.{_≡_, refl, _∙_}
+use mathlib.Core.Path.{_≡_, refl, _∙_, sym}
 use mathlib.Core.List.{List, [], _∷_}
 use mathlib.Core.Bool.{Bool}
 use mathlib.Core.Option.{Option, some}
@@ -16,7 +16,9 @@ use Rattle.theory_change.proofs.Plays.{Openable, Storable, Plays, Changing, las
 use Rattle.theory_change.proofs.Rewritten.{Sound}
 use Rattle.demands.proofs.Invariant.{Toward, Table, Job, Entered, updated, stage-first, stage-between, stage-within}
 use Rattle.demands.specs.Book.{Update, Hand, book, fedStep, goesOn, holding}
-use Rattle.demands.proofs.BookLaws.{Enters, Same, same-over, same-back, enters-from}
+use Rattle.demands.proofs.BookLaws.{Changes, Same, same-over, same-back, changes-from}
+use Rattle.demands.proofs.FamilyTotals.{few-pairs, decided-totals, changed-totals}
+use Rattle.card_family.proofs.FamilyLaws.{Totals, totals-same}
 use Rattle.demands.proofs.Steps.{memory, job-settled}
 use Rattle.state.specs.Memory.{advanced}
 use Rattle.state.specs.declared.Doing.{Doing}
@@ -74,16 +76,16 @@ one-store greatest {c} {n} {key} {t} {free = free} {cut = cut} b p = at (p .play
 
 -- a store of a repair's change
 pub repair-stored : (greatest : ℕ) {c : List ℕ} {n key : ℕ} {t : Tree} {s : Store} {rest : List Store} {free : List Bool} {cut : List ℕ} {doing : Doing}
-    {due : Answer} {u : Option Update} {h : Hand} {goal : Tree} (last depth steps : ℕ) (z : List Store) (l : List (ℕ × ℕ)) → Table greatest c n t
-    → Same (pairs t) l
+    {due : Answer} {u : Option Update} {h : Hand} {goal : Tree} (last depth steps : ℕ) (totals : List ℕ) (z : List Store) (l : List (ℕ × ℕ)) → Table greatest c n t
+    → Same (pairs t) l → Totals totals (pairs t)
     → Job Decided doing key due u → Entered u h → (p : Changing c n key t (s ∷ rest) free cut) → Same (pairs (p .next)) (pairs t)
     → length rest + (73 * p .level + 1) ≤ steps → Heads (p .level) (bare (p .next)) goal
-    → Toward greatest goal due n steps (record { card = set c (s .0) (s .1); state = advanced (memory n free last depth doing z cut) rest }) (book l h)
+    → Toward greatest goal due n steps (record { card = set c (s .0) (s .1); state = advanced (memory n free last depth totals doing z cut) rest }) (book l h)
 unfolding advanced
-repair-stored greatest {c} {n} {key} {t} {s} {rest} {free} {cut} {doing} {due} {h = h} {goal = goal} last depth steps z l b same j en p e few hd = at rest (one-store greatest b p) few
+repair-stored greatest {c} {n} {key} {t} {s} {rest} {free} {cut} {doing} {due} {h = h} {goal = goal} last depth steps totals z l b same counted j en p e few hd = at rest (one-store greatest b p) few
   where
     at : (rest : List Store) → Left greatest n key c t free cut (p .next) (p .level) s rest → length rest + (73 * p .level + 1) ≤ steps
-        → Toward greatest goal due n steps (record { card = set c (s .0) (s .1); state = advanced (memory n free last depth doing z cut) rest }) (book l h)
+        → Toward greatest goal due n steps (record { card = set c (s .0) (s .1); state = advanced (memory n free last depth totals doing z cut) rest }) (book l h)
     at rest (all-made b′) few = (
       record {
         tree = p .next;
@@ -92,6 +94,7 @@ repair-stored greatest {c} {n} {key} {t} {s} {rest} {free} {cut} {doing} {due} {
         table = b′;
         openable = record { free = withAll cut free; exact = p .exact; key = key; deep = p .level; ready = p .ready };
         same = same-over e same;
+        counted = rw (decided-totals j totals) (totals-same totals (pairs t) (pairs (p .next)) (λ w. sym (e .totals w)) counted);
         stage = stage-between (job-settled j) en (p .level) (p .ready) (p .exact) (omega arith) hd;
       },
       refl,
@@ -105,6 +108,7 @@ repair-stored greatest {c} {n} {key} {t} {s} {rest} {free} {cut} {doing} {due} {
         table = b′;
         openable = o;
         same = same-over e₁ same;
+        counted = totals-same totals (pairs t) (pairs v) (λ w. sym (e₁ .totals w)) counted;
         stage = stage-within j en q (same-over (rw en₁ e) (same-back e₁)) (rw el few) (rw (en₁, el) hd);
       },
       refl,
@@ -113,15 +117,18 @@ repair-stored greatest {c} {n} {key} {t} {s} {rest} {free} {cut} {doing} {due} {
 
 -- a store of an update's first change: the last one enters it
 pub update-stored : (greatest : ℕ) {c : List ℕ} {n key : ℕ} {t : Tree} {s : Store} {rest : List Store} {free : List Bool} {cut : List ℕ} {doing : Doing}
-    {due : Answer} {u : Update} {goal : Tree} (deciding k last depth steps : ℕ) (z : List Store) (l : List (ℕ × ℕ)) → Table greatest c n t → Same (pairs t) l
-    → Job InHand doing key due (some u) → (p : Changing c n key t (s ∷ rest) free cut) → Enters u (pairs t) (pairs (p .next))
+    {due : Answer} {u : Update} {goal : Tree} (deciding k last depth steps : ℕ) (totals : List ℕ) (z : List Store) (l : List (ℕ × ℕ))
+    → Table greatest c n t → Same (pairs t) l → Totals totals (pairs t)
+    → Job InHand doing key due (some u) → (p : Changing c n key t (s ∷ rest) free cut) → Changes u (pairs t) (pairs (p .next))
     → k + suc (length rest) ≡ deciding → length rest + (73 * p .level + 1) ≤ steps → Heads (p .level) (bare (p .next)) goal
-    → Toward greatest goal due n steps (record { card = set c (s .0) (s .1); state = advanced (memory n free last depth doing z cut) rest }) (fedStep goesOn l (holding u deciding k))
+    → Toward greatest goal due n steps (record { card = set c (s .0) (s .1); state = advanced (memory n free last depth totals doing z cut) rest }) (fedStep goesOn l (holding u deciding k))
 unfolding advanced fedStep
-update-stored greatest {c} {n} {key} {t} {s} {rest} {free} {cut} {doing} {due} {u} {goal} deciding k last depth steps z l b same j p e count few hd = at rest (one-store greatest b p) count few
+update-stored greatest {c} {n} {key} {t} {s} {rest} {free} {cut} {doing} {due} {u} {goal}
+    deciding k last depth steps totals z l b same counted j p e count few hd =
+    at rest (one-store greatest b p) count few
   where
     at : (rest : List Store) → Left greatest n key c t free cut (p .next) (p .level) s rest → k + suc (length rest) ≡ deciding → length rest + (73 * p .level + 1) ≤ steps
-        → Toward greatest goal due n steps (record { card = set c (s .0) (s .1); state = advanced (memory n free last depth doing z cut) rest }) (fedStep goesOn l (holding u deciding k))
+        → Toward greatest goal due n steps (record { card = set c (s .0) (s .1); state = advanced (memory n free last depth totals doing z cut) rest }) (fedStep goesOn l (holding u deciding k))
     at rest (all-made b′) count few =
         rw (eq-eqb (suc k) deciding (omega arith)) (
           record {
@@ -130,7 +137,8 @@ update-stored greatest {c} {n} {key} {t} {s} {rest} {free} {cut} {doing} {due} {
             due = due;
             table = b′;
             openable = record { free = withAll cut free; exact = p .exact; key = key; deep = p .level; ready = p .ready };
-            same = e .to l same;
+            same = e .enters .to l same;
+            counted = changed-totals j totals (pairs t) (pairs (p .next)) (few-pairs greatest b) (few-pairs greatest b′) e counted;
             stage = stage-between (job-settled j) (updated {deciding = deciding} {count = suc k} (omega arith)) (p .level) (p .ready) (p .exact) (omega arith) hd;
           },
           refl,
@@ -146,7 +154,8 @@ update-stored greatest {c} {n} {key} {t} {s} {rest} {free} {cut} {doing} {due} {
             table = b′;
             openable = o;
             same = same-over e₁ same;
-            stage = stage-first {count = suc k} j q (enters-from (same-back e₁) (rw en e)) q′ (rw el few) (rw (en, el) hd);
+            counted = totals-same totals (pairs t) (pairs v) (λ w. sym (e₁ .totals w)) counted;
+            stage = stage-first {count = suc k} j q (changes-from (same-back e₁) (rw en e)) q′ (rw el few) (rw (en, el) hd);
           },
           refl,
           refl,

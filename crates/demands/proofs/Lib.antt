@@ -27,6 +27,8 @@ pub mod Steps
 pub mod Reopen
 -- the first step of an update, by what its leaf holds
 pub mod Begin
+-- what the last store of a change does to the totals by family
+pub mod FamilyTotals
 -- every event keeps the invariant; a step uses one of the steps that are left
 pub mod Kept
 -- A step keeps the invariant, feeds the book rightly, and gives the answer that is due
@@ -103,6 +105,8 @@ pub mod NextNumber
 pub mod PaddingTest
 -- W-203, of the ration table
 pub mod DepthTold
+-- W-204, of the ration table
+pub mod FamiliesTold
 -- W-205, of the ration table
 pub mod SearchStart
 -- W-209, of the program `insert_check`

@@ -62,6 +62,8 @@ module _ (greatest : ℕ) (c : List ℕ) where
         exact = rw n at (x .exact);
         free = omega (arith, x .free);
         levels = x .level;
+        all-families = x .counted .words;
+        families = x .counted .each;
         all-pairs = x .all-pairs;
         rising = x .rising;
         alike = λ s v key. rw (one-held c s t (v .holds) (w .holds)) (x .alike key);

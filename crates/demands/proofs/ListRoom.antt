@@ -6,21 +6,7 @@ use native.Mathlib.Omega.{arith}
 use lib.ListN.{length, drop, set, length-append}
 use lib.Seq.{set-append-seam}
 use borrow.Author.Tests.{lt-ltb}
-use Rattle.card.proofs.NodeLaws.{slot-pairs-le}
 use Rattle.list_pairs.specs.Listing.{Laid, laid, layPair, layPairs}
-use Rattle.theory_tree.specs.Pairs.{pairs, forestPairs}
-use Rattle.theory_tree.specs.Represent.{Represents, RepresentsAll}
-use Rattle.theory_tree.specs.Tree.{Tree, Forest, nodeTotal, nodeTotals, leaf, node, one, more}
-
-module _ (c : List ℕ) where
-  mutual
-    pub pairs-le : (t : Tree) → Represents c t → length (pairs t) ≤ 11 * nodeTotal (λ m. 1) t
-    pairs-le (leaf m ks vs) r = omega (arith, slot-pairs-le ks vs, r .1)
-    pairs-le (node m g f) r = omega (arith, forest-le f (r .1))
-
-    pub forest-le : (f : Forest) → RepresentsAll c f → length (forestPairs f) ≤ 11 * nodeTotals (λ m. 1) f
-    forest-le (one t) r = pairs-le t r
-    forest-le (more t k f) r = omega (arith, length-append (pairs t) (forestPairs f), pairs-le t (r .0), forest-le f (r .1))
 
 -- key, value, key, value ..
 abbrev pub pairWords : List (ℕ × ℕ) → List ℕ

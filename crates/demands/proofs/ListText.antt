@@ -28,6 +28,7 @@ use Rattle.list_text.specs.Text.{listText, pairsOfWords, listingTold, pairRoom,
 use Rattle.demands.proofs.Accepting.{accepted-table, opens-unrefused}
 use Rattle.call_repair.specs.Repairing.{cardRoom}
 use Rattle.card_check.specs.Check.{Findings, tableCheck}
+use Rattle.card_check.specs.Counting.{tableCounted}
 use Rattle.state.specs.Steps.{noBeginning}
 use Rattle.state.specs.declared.Begun.{Begun}
 use Rattle.state.specs.declared.Begun.the-variants.{Idle, Started, Refused}
@@ -69,8 +70,8 @@ read-number greatest dump lent number e z =
     (λ s. let k : ReadRefused 12 ≡ ReadRefused number = rw (q, s) at e in let w : _≡_ {A = ℕ} 12 0 = cc in omega arith)
     (λ s. let k : Length (wordsFor (dumpNodes dump)) ≡ ReadRefused number = rw (q, s) at e in let w : _≡_ {A = ℕ} 0 1 = cc in omega arith))
 
-module _ (number n last : ℕ) (z : number ≡ 0) where
-  sound-number : (f : Findings) → openSound n last f .begun ≡ Refused number → ⊥
+module _ (number n last : ℕ) (totals : List ℕ) (z : number ≡ 0) where
+  sound-number : (f : Findings) → openSound n last totals f .begun ≡ Refused number → ⊥
   unfolding openSound noBeginning
   sound-number f e =
       bool-cases (ltb (countTrue (f .free)) (3 + f .run)) (λ q. let k : Refused 5 ≡ Refused number = rw q at e in let w : _≡_ {A = ℕ} 5 0 = cc in omega arith)
@@ -78,7 +79,7 @@ module _ (number n last : ℕ) (z : number ≡ 0) where
       (λ v. let k : Started ≡ Refused number = rw (q, v) at e in let w : _≡_ {A = ℕ} 0 1 = cc in omega arith)
       (λ v. let k : Idle ≡ Refused number = rw (q, v) at e in let w : _≡_ {A = ℕ} 0 1 = cc in omega arith))
 
-  checked-number : (found : Option (ℕ × Findings)) → openChecked n last found .begun ≡ Refused number → ⊥
+  checked-number : (found : Option (ℕ × Findings)) → openChecked n last totals found .begun ≡ Refused number → ⊥
   unfolding openChecked noBeginning
   checked-number none e = let w : _≡_ {A = ℕ} 4 0 = cc in omega arith
   checked-number (some r) e = sound-number (r .1) e
@@ -89,7 +90,7 @@ open-number greatest c number e z = go (ℕ-discrete (cardRefusal greatest c) 0)
   where
     go : Dec (cardRefusal greatest c ≡ 0) → ⊥
     go (yes q) =
-        checked-number number (nodesOfLength greatest (length c)) (searchStart c) z
+        checked-number number (nodesOfLength greatest (length c)) (searchStart c) (tableCounted c) z
         (tableCheck c (nodesOfLength greatest (length c))) (rw (eq-eqb (cardRefusal greatest c) 0 q) at e)
     go (no d) = d (let k : Refused (cardRefusal greatest c) ≡ Refused number = rw (ne-eqb (cardRefusal greatest c) 0 d) at e in cc)
 

@@ -1,5 +1,5 @@
 -- WHAT THE PROGRAM `list` LISTS: the map of the card by rising key, from the balanced table that its repair leaves.
-use mathlib.Core.Path.{_≡_, refl, _∙_}
+use mathlib.Core.Path.{_≡_, refl, ap, sym, _∙_}
 use mathlib.Core.List.{List}
 use mathlib.Core.Bool.{Bool}
 use mathlib.Core.Option.{some}
@@ -9,6 +9,11 @@ use lib.ListN.{length}
 use Rattle.card.specs.Header.{nodesOfLength}
 use Rattle.card.specs.Layout.{keyLimit}
 use Rattle.laws.specs.Sorting.{sort}
+use Rattle.laws.proofs.Sorting.{total-sort}
+use Rattle.laws.specs.Totals.{total}
+use Rattle.card_check.specs.Counting.{tableCounted}
+use Rattle.card_family.proofs.FamilyLaws.{Totals, totals-same}
+use Rattle.theory_check.proofs.Families.{table-totals}
 use Rattle.theory_tree.specs.FreeNodes.{Exact}
 use Rattle.card_free.specs.NodeSet.{countTrue}
 use Rattle.list_pairs.specs.Listing.{mostPairs, Listing, listCard, listed}
@@ -19,7 +24,7 @@ use Rattle.theory_next.proofs.SortedWalk.{walk-sorted}
 use Rattle.theory_next.proofs.Walk.{walk-rises, walk-lookup, walk-length}
 use Rattle.demands.proofs.NextNumber.{rises}
 use Rattle.demands.proofs.RepairedCard.{After, repaired}
-use Rattle.demands.proofs.ListRoom.{pairs-le}
+use Rattle.theory_check.proofs.Rations.{pairs-le}
 use Rattle.demands.proofs.Accepting.{not-refused}
 use Rattle.demands.specs.Events.{Opens}
 use Rattle.demands.specs.RationTable.{rationTable}
@@ -48,6 +53,7 @@ pub record ListedRight (greatest : ℕ) (c : List ℕ) (t : Tree) : Type 0 where
   pub alike : (key : ℕ) → lookup key (listing .pairs) ≡ lookup key (pairs t)
   pub as-many : length (listing .pairs) ≡ length (pairs t)
   pub level : Height (listing .levels) table
+  pub counted : Totals (listing .families) (listing .pairs)
   pub nodes : listing .nodes ≡ nodesOfLength greatest (length c)
   -- the free nodes are exactly those that are not reached
   pub unreached : List Bool
@@ -83,18 +89,25 @@ module _ (greatest : ℕ) (c : List ℕ) (t : Tree) where
           counted : length walked ≡ length (pairs (x .table))
           counted = walk-length greatest after (x .table) sound (x .accepted) mostPairs enough
 
+          sorted : walked ≡ sort (pairs (x .table))
+          sorted = walk-sorted greatest after (x .table) sound (x .accepted) mostPairs enough
+
+          all-counted : Totals (tableCounted after) (pairs (x .table))
+          all-counted = table-totals after number (x .table) (x .sized .words) (x .sized .most) sound
+
           shown : ((h : ℕ) × (f : Findings) × (tableCheck after number ≡ some (h, f)) × Facts after number (x .table) h f) → ListedRight greatest c t
           shown (h, f, e, k) =
               record {
-                listing = record { nodes = number; free = countTrue (f .free); levels = h; pairs = walked };
+                listing = record { nodes = number; free = countTrue (f .free); levels = h; families = tableCounted after; pairs = walked };
                 is-listed = card-listed greatest c (not-refused greatest c a) ∙ table-sound greatest after number h f (λ z. omega (arith, x .sized .least)) e;
                 table = x .table;
                 balanced = x .balanced;
-                all-pairs = walk-sorted greatest after (x .table) sound (x .accepted) mostPairs enough;
+                all-pairs = sorted;
                 rising = rises 0 keyLimit walked (walk-rises greatest after (x .table) sound (x .accepted) mostPairs);
                 alike = λ key. walk-lookup greatest after (x .table) sound (x .accepted) mostPairs enough key ∙ x .map .alike key;
                 as-many = counted ∙ x .map .as-many;
                 level = k .level;
+                counted = totals-same (tableCounted after) (pairs (x .table)) walked (λ v. sym (ap (total v) sorted ∙ total-sort v (pairs (x .table)))) all-counted;
                 nodes = refl;
                 unreached = f .free;
                 exact = facts-exact k;

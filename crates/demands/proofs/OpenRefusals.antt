@@ -22,6 +22,7 @@ use Rattle.laws.proofs.Bits.{bit-true, bit-false}
 use Rattle.laws.proofs.Cases.{bool-cases, order, impossible}
 use Rattle.demands.proofs.Reopen.{card-accepted, open-sound, facts-exact}
 use Rattle.card_check.specs.Check.{Findings, tableCheck}
+use Rattle.card_check.specs.Counting.{tableCounted}
 use Rattle.theory_check.proofs.Facts.{Facts}
 use Rattle.theory_check.proofs.Soundness.{accepts-sound, sound-accepted}
 use Rattle.state.specs.Answers.{startReply}
@@ -59,13 +60,13 @@ unfolding openOf openChecked noBeginning
 open-unsound greatest c n s k e = let a = card-accepted greatest s k in rw (a .0, a .1, e)
 
 -- a sound table is refused where the free nodes are too few, and only there
-sound-few : (n last : ℕ) (f : Findings) → countTrue (f .free) < 3 + f .run → openSound n last f .begun ≡ BegunRefused 5
+sound-few : (n last : ℕ) (totals : List ℕ) (f : Findings) → countTrue (f .free) < 3 + f .run → openSound n last totals f .begun ≡ BegunRefused 5
 unfolding openSound noBeginning
-sound-few n last f o = rw (lt-ltb (countTrue (f .free)) (3 + f .run) o)
+sound-few n last totals f o = rw (lt-ltb (countTrue (f .free)) (3 + f .run) o)
 
-sound-refused : (n last : ℕ) (f : Findings) (r : ℕ) → openSound n last f .begun ≡ BegunRefused r → (r ≡ 5) × (countTrue (f .free) < 3 + f .run)
+sound-refused : (n last : ℕ) (totals : List ℕ) (f : Findings) (r : ℕ) → openSound n last totals f .begun ≡ BegunRefused r → (r ≡ 5) × (countTrue (f .free) < 3 + f .run)
 unfolding openSound noBeginning
-sound-refused n last f r e =
+sound-refused n last totals f r e =
     order (countTrue (f .free)) (3 + f .run) (λ o. (sym (refused-same 5 r (rw (lt-ltb (countTrue (f .free)) (3 + f .run) o) at e)), o))
     (λ o. bool-cases (f .violated)
     (λ q. started-not r (rw (le-ltb (countTrue (f .free)) (3 + f .run) o, q) at e))
@@ -99,7 +100,7 @@ module _ (greatest : ℕ) (c : List ℕ) (n : ℕ) (s : Sized greatest (length c
   not-unsound t w e = go (sound-accepted c n (s .words) (s .most) t w)
     where
       go : ((l : ℕ) × (f : Findings) × (tableCheck c n ≡ some (l, f)) × Facts c n t l f) → ⊥
-      go (l, f, q, x) = let z = sound-refused n (searchStart c) f 4 (rw (open-sound greatest c n l f s h q) at e) in absurd (omega (arith, z .0))
+      go (l, f, q, x) = let z = sound-refused n (searchStart c) (tableCounted c) f 4 (rw (open-sound greatest c n l f s h q) at e) in absurd (omega (arith, z .0))
 
   -- "4: table not sound"
   pub refuses-unsound : (startReply (openOf greatest c .begun) ≡ refusal 4) ↔ (((t : Tree) × WellFormed c t) → ⊥)
@@ -120,10 +121,11 @@ module _ (greatest : ℕ) (c : List ℕ) (n : ℕ) (s : Sized greatest (length c
       found e none q = let z : _≡_ {A = ℕ} 4 5 = refused-same 4 5 (sym (open-unsound greatest c n s h q) ∙ e) in absurd (omega arith)
       found e (some (l, f)) q =
           let a = accepts-sound c n (s .words) (s .most) l f q in
-          let z = sound-refused n (searchStart c) f 5 (rw (open-sound greatest c n l f s h q) at e) in
+          let z = sound-refused n (searchStart c) (tableCounted c) f 5 (rw (open-sound greatest c n l f s h q) at e) in
           (a .0, a .1, f .free, facts-exact (a .2), omega (arith, z .1, facts-run (a .1 .widths) (a .2)))
 
       few : (t : Tree) → WellFormed c t → (free : List Bool) → Exact n free t → countTrue free < 3 + reserves 0 t
           → ((l : ℕ) × (f : Findings) × (tableCheck c n ≡ some (l, f)) × Facts c n t l f) → openOf greatest c .begun ≡ BegunRefused 5
       few t w free x o (l, f, q, y) =
-          rw (open-sound greatest c n l f s h q) (sound-few n (searchStart c) f (omega (arith, o, ap countTrue (exact-same n (f .free) free t (facts-exact y) x), facts-run (w .widths) y)))
+          rw (open-sound greatest c n l f s h q) (sound-few n (searchStart c) (tableCounted c) f
+          (omega (arith, o, ap countTrue (exact-same n (f .free) free t (facts-exact y) x), facts-run (w .widths) y)))

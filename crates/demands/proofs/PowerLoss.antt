@@ -41,8 +41,10 @@ use Rattle.demands.specs.Events.{Opens, Begins, ask, insert, delete, ste
 use Rattle.demands.specs.RationTable.{rationTable}
 use Rattle.demands.specs.Table.{Refused}
 use Rattle.demands.proofs.Finishing.{MapIs}
-use Rattle.demands.proofs.Reopen.{well-formed-table, reopened}
+use Rattle.demands.proofs.Reopen.{well-formed-table, reopened, table-well-formed}
 use Rattle.demands.proofs.Starting.{same-lookup, kept-insert, kept-delete}
+use Rattle.card_family.proofs.FamilyLaws.{totals-none}
+use Rattle.theory_check.proofs.Families.{table-totals}
 use Rattle.demands.proofs.Steps.{step-idle}
 use Rattle.demands.proofs.Stepping.{Right, right-final, Moves, kept-step, was-idle, ends-now, goes-further}
 use Rattle.theory_tree.proofs.InPlace.{length-total}
@@ -103,7 +105,7 @@ ask-same greatest question w = refl
 -- ---- more steps than needed are enough; a cut; any events
 
 pub loosen : (greatest : ℕ) (n few many : ℕ) (w : World (rationTable greatest)) (b : Book) → few ≤ many → Inv greatest n few w b → Inv greatest n many w b
-loosen greatest n few many w b h i = record { tree = i .tree; goal = i .goal; due = i .due; table = i .table; openable = i .openable; same = i .same; stage = at (i .stage) }
+loosen greatest n few many w b h i = record { tree = i .tree; goal = i .goal; due = i .due; table = i .table; openable = i .openable; same = i .same; counted = i .counted; stage = at (i .stage) }
   where
     more : UpdateSteps (i .tree) few → UpdateSteps (i .tree) many
     more q = record { height = q .height; level = q .level; enough = omega (arith, q .enough) }
@@ -129,7 +131,16 @@ pub reopened-inv : (greatest : ℕ) (n : ℕ) (c : List ℕ) (t : Tree) (l : Lis
 reopened-inv greatest n c t l b o s =
     let r = reopened greatest c n t b o in
     loosen greatest n (r .steps) repairSteps (opened (rationTable greatest) c) (book l empty) (r .few-steps)
-    (record { tree = t; goal = r .goal; due = Ready; table = b; openable = o; same = s; stage = r .stage })
+    (record {
+      tree = t;
+      goal = r .goal;
+      due = Ready;
+      table = b;
+      openable = o;
+      same = s;
+      counted = rw (r .rebuilt) (table-totals c n t (b .sized .words) (b .sized .most) (table-well-formed greatest b));
+      stage = r .stage;
+    })
 
 module _ (greatest : ℕ) (n : ℕ) (c : List ℕ) (t : Tree) (l : List (ℕ × ℕ)) (b : Table greatest c n t) (o : Openable n t) (s : Same (pairs t) l) where
   pub reopened-goal : reopened-inv greatest n c t l b o s .goal ≡ settledBy depthLimit (bare t)
@@ -182,6 +193,7 @@ fresh-inv greatest n c f =
       table = record { sized = f .sized; header = f .formatted; holds = f .holds; sound = f .sound };
       openable = record { free = freshNodes n; exact = f .exact; key = 0; deep = 0; ready = settled (f .no-violations) room };
       same = record { totals = λ w. ap (total w) (f .no-pairs) };
+      counted = rw (f .no-pairs) totals-none;
       stage = stage-idle (f .no-violations) room (f .exact) refl;
     }
 

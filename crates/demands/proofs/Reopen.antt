@@ -23,6 +23,7 @@ use Rattle.laws.proofs.Cases.{bool-cases}
 use Rattle.demands.proofs.Invariant.{Table, Stage, job-repair, no-update, stage-idle, stage-between}
 use Rattle.demands.specs.Book.{empty}
 use Rattle.card_check.specs.Check.{Findings, tableCheck}
+use Rattle.card_check.specs.Counting.{tableCounted}
 use Rattle.theory_check.proofs.Depth.{well-formed-depth}
 use Rattle.theory_check.proofs.Facts.{Facts}
 use Rattle.theory_check.proofs.Ranges.{well-formed-in-range, range-sound}
@@ -77,16 +78,16 @@ card-accepted greatest {c} {n} s f = (length-accepted greatest c n s ∙ formatt
 
 -- opening, by what the check finds
 module _ (greatest : ℕ) (c : List ℕ) (n h : ℕ) (f : Findings) (s : Sized greatest (length c) n) (k : Formatted c n) (e : tableCheck c n ≡ some (h, f)) where
-  pub open-sound : openOf greatest c ≡ openSound n (searchStart c) f
+  pub open-sound : openOf greatest c ≡ openSound n (searchStart c) (tableCounted c) f
   unfolding openOf openChecked
   open-sound = let a = card-accepted greatest s k in rw (a .0, a .1, e)
 
 module _ (greatest : ℕ) (c : List ℕ) (n h : ℕ) (f : Findings) (s : Sized greatest (length c) n) (k : Formatted c n) (e : tableCheck c n ≡ some (h, f)) (room : 3 + f .run ≤ countTrue (f .free)) where
-  pub open-repair : f .violated ≡ true → openOf greatest c ≡ record { begun = Started; memory = resting n (f .free) (searchStart c) (Repairing (f .key)) }
+  pub open-repair : f .violated ≡ true → openOf greatest c ≡ record { begun = Started; memory = resting n (f .free) (searchStart c) (tableCounted c) (Repairing (f .key)) }
   unfolding openSound
   open-repair v = open-sound greatest c n h f s k e ∙ rw (le-ltb (countTrue (f .free)) (3 + f .run) room, v)
 
-  pub open-idle : f .violated ≡ false → openOf greatest c ≡ record { begun = OpenedIdle; memory = resting n (f .free) (searchStart c) Idle }
+  pub open-idle : f .violated ≡ false → openOf greatest c ≡ record { begun = OpenedIdle; memory = resting n (f .free) (searchStart c) (tableCounted c) Idle }
   unfolding openSound
   open-idle v = open-sound greatest c n h f s k e ∙ rw (le-ltb (countTrue (f .free)) (3 + f .run) room, v)
 
@@ -100,11 +101,12 @@ pub record Reopened (greatest : ℕ) (c : List ℕ) (n : ℕ) (t : Tree) : Type 
   pub goal : Tree
   pub goal-is : goal ≡ settledBy depthLimit (bare t)
   pub stage : Stage c n t goal steps (openOf greatest c .memory) empty Ready
+  pub rebuilt : openOf greatest c .memory .totals ≡ tableCounted c
   pub hands : ((openOf greatest c .begun ≡ OpenedIdle) × (openOf greatest c .memory .doing ≡ Idle)) ⊎ ((openOf greatest c .begun ≡ Started) × (isIdle (openOf greatest c .memory .doing) ≡ false))
 
-repair-busy : (n last : ℕ) (free : List Bool) (key : ℕ) → isIdle (resting n free last (Repairing key) .doing) ≡ false
+repair-busy : (n last : ℕ) (totals : List ℕ) (free : List Bool) (key : ℕ) → isIdle (resting n free last totals (Repairing key) .doing) ≡ false
 unfolding resting isIdle
-repair-busy n last free key = refl
+repair-busy n last totals free key = refl
 
 -- the violation lies above the depth limit
 violation-deep : (t : Tree) (key : ℕ) (v : Violation t key) → depthOf (v .context) ≤ depth t
@@ -148,7 +150,8 @@ reopened greatest c n t b o = go (sound-accepted c n (b .sized .words) (b .sized
                   (record { repairs = depthLimit; enough = omega (arith, violation-deep t (f .key) (v .0), x .deep); reaches = refl }));
               goal = settledBy depthLimit (bare t);
               goal-is = refl;
-              hands = inr (ap (λ (x : Handed). x .begun) is, ap (λ (x : Handed). isIdle (x .memory .doing)) is ∙ repair-busy n (searchStart c) (f .free) (f .key));
+              hands = inr (ap (λ (x : Handed). x .begun) is, ap (λ (x : Handed). isIdle (x .memory .doing)) is ∙ repair-busy n (searchStart c) (tableCounted c) (f .free) (f .key));
+              rebuilt = ap (λ (x : Handed). x .memory .totals) is;
             }
 
         whole : f .violated ≡ false → Reopened greatest c n t
@@ -163,4 +166,5 @@ reopened greatest c n t b o = go (sound-accepted c n (b .sized .words) (b .sized
               goal = bare t;
               goal-is = heads-done {deep = 0} (record { repairs = depthLimit; enough = omega arith; reaches = refl }) (bare-table-violations t ∙ z);
               hands = inl (ap (λ (x : Handed). x .begun) is, ap (λ (x : Handed). x .memory .doing) is);
+              rebuilt = ap (λ (x : Handed). x .memory .totals) is;
             }

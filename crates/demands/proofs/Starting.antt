@@ -82,7 +82,7 @@ landing-is c n key e = e
 -- a state is idle, or some work is in progress
 pub idle-or-busy : {c : List ℕ} {n : ℕ} {t goal : Tree} {steps : ℕ} {m : Memory} {h : Hand} {due : Answer} → Stage c n t goal steps m h due
     → (m .nodes ≡ n) × ((isIdle (m .doing) ≡ false) ⊎ ((free : List Bool) × (last : ℕ)
-    × (m ≡ memory n free last (m .depth) Idle [] []) × (tableViolations t ≡ 0) × (3 ≤ countTrue free) × Exact n free t × (bare t ≡ goal)))
+    × (m ≡ memory n free last (m .depth) (m .totals) Idle [] []) × (tableViolations t ≡ 0) × (3 ≤ countTrue free) × Exact n free t × (bare t ≡ goal)))
 unfolding isIdle
 idle-or-busy (stage-idle {free} {last} {depth} z r x g) = (refl, inr (free, last, refl, z, r, x, g))
 idle-or-busy (stage-put z r x low high room few g) = (refl, inl refl)
@@ -148,7 +148,7 @@ module _ (greatest : ℕ) {n steps : ℕ} {w : World (rationTable greatest)} {b 
 
 -- started: the update is in hand, and its answer by the map is due
 put-started : (greatest : ℕ) {n steps : ℕ} (w : World (rationTable greatest)) (b : Book) (i : Inv greatest n steps w b) (free : List Bool) (last key value : ℕ)
-    → w .state ≡ memory n free last (w .state .depth) Idle [] [] → tableViolations (i .tree) ≡ 0 → 3 ≤ countTrue free → Exact n free (i .tree)
+    → w .state ≡ memory n free last (w .state .depth) (w .state .totals) Idle [] [] → tableViolations (i .tree) ≡ 0 → 3 ≤ countTrue free → Exact n free (i .tree)
     → bare (i .tree) ≡ i .goal → lowestKey ≤ key → key < keyLimit
     → startRoom (w .card) key (w .state .free) (landing (w .card) (w .state .nodes) key) ≡ true → (depth : ℕ)
     → Goal greatest i (put key value) (startAccepted (w .state) (Inserting key value NotBegun) depth)
@@ -163,6 +163,7 @@ put-started greatest {n} w b i free last key value em z r x eg low high q depth 
         table = i .table;
         openable = i .openable;
         same = i .same;
+        counted = i .counted;
         stage = rw em (stage-put {free = free} {last = last} z r x low high q′ (enough-steps greatest i) (ap (afterShape (put key value)) eg));
       },
       record {
@@ -175,7 +176,7 @@ put-started greatest {n} w b i free last key value em z r x eg low high q depth 
     )
 
 remove-started : (greatest : ℕ) {n steps : ℕ} (w : World (rationTable greatest)) (b : Book) (i : Inv greatest n steps w b) (free : List Bool) (last key : ℕ)
-    → w .state ≡ memory n free last (w .state .depth) Idle [] [] → tableViolations (i .tree) ≡ 0 → 3 ≤ countTrue free → Exact n free (i .tree)
+    → w .state ≡ memory n free last (w .state .depth) (w .state .totals) Idle [] [] → tableViolations (i .tree) ≡ 0 → 3 ≤ countTrue free → Exact n free (i .tree)
     → bare (i .tree) ≡ i .goal → lowestKey ≤ key → key < keyLimit
     → (depth : ℕ) → Goal greatest i (remove key) (startAccepted (w .state) (Deleting key NotBegun 0) depth)
 unfolding startAccepted startReply outcome feed fedStart isIdle
@@ -188,6 +189,7 @@ remove-started greatest w b i free last key em z r x eg low high depth = (
     table = i .table;
     openable = i .openable;
     same = i .same;
+    counted = i .counted;
     stage = rw em (stage-remove {free = free} {last = last} z r x low high (enough-steps greatest i) (ap (afterShape (remove key)) eg));
   },
   record {
@@ -223,7 +225,7 @@ module _ (greatest : ℕ) (n steps : ℕ) (w : World (rationTable greatest)) (b 
       passed key doing room ∙ start-landed (w .card) (w .state) key doing room (g .0) (g .1) (g .2) (is-idle idle) (omega arith) (g .3)
 
   start-with : (key : ℕ) (doing : Doing) (room : Landing → Bool) (u : Update) → key < keyLimit
-      → ((free : List Bool) (last : ℕ) → w .state ≡ memory n free last (w .state .depth) Idle [] []
+      → ((free : List Bool) (last : ℕ) → w .state ≡ memory n free last (w .state .depth) (w .state .totals) Idle [] []
       → tableViolations (i .tree) ≡ 0 → 3 ≤ countTrue free → Exact n free (i .tree) → bare (i .tree) ≡ i .goal → lowestKey ≤ key
       → room (landing (w .card) (w .state .nodes) key) ≡ true → Goal greatest i u (startAccepted (w .state) doing (startDepth (w .card) (w .state) key)))
       → Goal greatest i u (startOf greatest (w .card) (w .state) key doing room)
@@ -232,7 +234,7 @@ module _ (greatest : ℕ) (n steps : ℕ) (w : World (rationTable greatest)) (b 
       refused-with : (r : ℕ) → r < 64 → startOf greatest (w .card) (w .state) key doing room ≡ startRefused r (w .state) → Goal greatest i u (startOf greatest (w .card) (w .state) key doing room)
       refused-with r h e = subst (Goal greatest i u) (sym e) (refused-goal greatest w b i u r h)
 
-      go : (isIdle (w .state .doing) ≡ false) ⊎ ((free : List Bool) × (last : ℕ) × (w .state ≡ memory n free last (w .state .depth) Idle [] [])
+      go : (isIdle (w .state .doing) ≡ false) ⊎ ((free : List Bool) × (last : ℕ) × (w .state ≡ memory n free last (w .state .depth) (w .state .totals) Idle [] [])
           × (tableViolations (i .tree) ≡ 0) × (3 ≤ countTrue free) × Exact n free (i .tree) × (bare (i .tree) ≡ i .goal))
           → Goal greatest i u (startOf greatest (w .card) (w .state) key doing room)
       go (inl q) = refused-with 7 (omega arith) (passed key doing room ∙ start-busy (w .card) (w .state) key doing room q)

@@ -40,6 +40,7 @@ use Rattle.demands.proofs.Invariant.{job-repair, job-insert, job-delete
 use Rattle.demands.proofs.PowerLoss.{reopened-inv, reopened-due}
 use Rattle.demands.proofs.Starting.{nodes-same, kept-insert, kept-delete}
 use Rattle.card_check.specs.Check.{Findings, tableCheck}
+use Rattle.card_check.specs.Counting.{tableCounted}
 use Rattle.call_start.specs.Starts.{insertOf, deleteOf}
 use Rattle.state.specs.Answers.{stepReply, startReply}
 use Rattle.state.specs.Memory.{noMemory, resting}
@@ -64,21 +65,21 @@ none-doing : (r : ℕ) → r < 64 → OpenDoing (noBeginning r)
 unfolding noBeginning noMemory startReply
 none-doing r h = (refl, inl (λ e. omega (arith, h, ap (λ (x : Reply). x .code) e)))
 
-sound-doing : (n last : ℕ) (f : Findings) → OpenDoing (openSound n last f)
+sound-doing : (n last : ℕ) (totals : List ℕ) (f : Findings) → OpenDoing (openSound n last totals f)
 unfolding openSound resting startReply
-sound-doing n last f =
+sound-doing n last totals f =
     bool-cases (ltb (countTrue (f .free)) (3 + f .run)) (λ q. rw q (none-doing 5 (omega arith)))
     (λ q. bool-cases (f .violated) (λ a. rw (q, a) (refl, inr (_, refl))) (λ a. rw (q, a) (refl, inl (λ e. omega (arith, ap (λ (x : Reply). x .code) e)))))
 
-checked-doing : (n last : ℕ) (found : Option (ℕ × Findings)) → OpenDoing (openChecked n last found)
+checked-doing : (n last : ℕ) (totals : List ℕ) (found : Option (ℕ × Findings)) → OpenDoing (openChecked n last totals found)
 unfolding openChecked
-checked-doing n last none = none-doing 4 (omega arith)
-checked-doing n last (some r) = sound-doing n last (r .1)
+checked-doing n last totals none = none-doing 4 (omega arith)
+checked-doing n last totals (some r) = sound-doing n last totals (r .1)
 
 open-doing : (greatest : ℕ) (c : List ℕ) → OpenDoing (openOf greatest c)
 unfolding openOf
 open-doing greatest c =
-    bool-cases (eqb (cardRefusal greatest c) 0) (λ q. rw q (checked-doing (nodesOfLength greatest (length c)) (searchStart c) (tableCheck c (nodesOfLength greatest (length c)))))
+    bool-cases (eqb (cardRefusal greatest c) 0) (λ q. rw q (checked-doing (nodesOfLength greatest (length c)) (searchStart c) (tableCounted c) (tableCheck c (nodesOfLength greatest (length c)))))
     (λ q. rw q (none-doing (cardRefusal greatest c) (card-small greatest c)))
 
 -- a change that is given nodes is not nothing

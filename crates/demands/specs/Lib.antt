@@ -28,6 +28,8 @@ pub mod W201
 pub mod W202
 -- how many internal nodes a look-up passed
 pub mod W203
+-- what each feed family holds
+pub mod W204
 -- where the search for free nodes begins
 pub mod W205
 -- what stands in the way of a new number

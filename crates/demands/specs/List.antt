@@ -8,8 +8,10 @@ use lib.ListN.{length, getD, replicate}
 use Rattle.card.specs.Header.{Sized, Formatted}
 use Rattle.card.specs.Replies.{refusal}
 use Rattle.card_dump.specs.Dump.{dumpOf, dumpWords, wordsFor, dumpNodes}
+use Rattle.card_family.specs.Families.{familyCount, ofFamily}
 use Rattle.card_free.specs.NodeSet.{countTrue}
 use Rattle.laws.specs.Sorting.{sort}
+use Rattle.laws.specs.Totals.{total}
 use Rattle.list_pairs.specs.Listing.{Listing, Listed, refused, listed}
 use Rattle.list_text.specs.Text.{listText}
 use Rattle.theory_tree.specs.FreeNodes.{Exact}
@@ -40,6 +42,9 @@ pub record ListsRight (T : Table) (c : List ℕ) (l : Listing) : Type 0 where
   pub exact : Exact (nodesOn c) unreached table
   pub free : l .free ≡ countTrue unreached
   pub levels : Height (l .levels) table
+  -- document 02, W-204, "a line `family F n` for each family with n above 0": the n of each of the 16 families is what it holds in the pairs listed
+  pub all-families : length (l .families) ≡ familyCount
+  pub families : (family : ℕ) → family < familyCount → getD (l .families) family 0 ≡ total (ofFamily family) (l .pairs)
   -- its pairs, each once, in the order of their keys: each is greater than the one before it
   pub all-pairs : l .pairs ≡ sort (pairs table)
   pub rising : Rises 0 (l .pairs)

@@ -2,12 +2,15 @@
 use mathlib.Core.Path.{_≡_, refl}
 use Rattle.card.specs.Layout.{greatestNodes}
 use mathlib.Core.List.{[], _∷_}
+use lib.ListN.{replicate}
 use Rattle.card.specs.Header.{nodesOfLength, headerRefusal, cardRefusal}
 use Rattle.card.specs.Layout.{nodeAt, keyWords, valueWords, leafPairs, nodeImage}
 use Rattle.card_dump.specs.Dump.{wordBytes, cardBytes, paddedLength, dumpOf, wordAt, dumpWords, faults, damaged, fittingLength, readAnswer}
 use Rattle.card_dump.proofs.Examples.{example}
 use Rattle.card_free.specs.NodeSet.{allNodes, countTrue}
 use Rattle.card_check.specs.Check.{member, leafSound, enterLeaf, enterKind, enterNode, onLook, nodeCheck, tableCheck, slotSound}
+use Rattle.card_check.specs.Counting.{keysCounted, childrenCounted, nodeCounted, tableCounted}
+use Rattle.card_family.specs.Families.{familyOf, countedIn}
 use Rattle.call_open.specs.Opening.{openSound, openChecked, openOf}
 use Rattle.state.specs.Steps.{isIdle}
 use Rattle.state.specs.Memory.{resting}
@@ -16,11 +19,12 @@ use Rattle.walk.specs.Descent.{outside, lookIn, lookAt, rootPosition, byLook, w
 use Rattle.walk_next.specs.Successor.{nearer, nearerAbove, leastAbove, found, nextInLeaf, inNextLeaf, orNextLeaf, nextIn, nextOf, onNext, walkFrom}
 use Rattle.list_pairs.specs.Listing.{listChecked, listTable, listBegun, listCard, listRead, listDump, listed}
 
--- "nodes 4 free 3 levels 0 pairs 2", then "3 31" and "7 70": "3 before 7 in its sample"
-example-listed : listDump greatestNodes (dumpOf example) 104 ≡ listed (record { nodes = 4; free = 3; levels = 0; pairs = (3, 31) ∷ (7, 70) ∷ [] })
+-- "nodes 4 free 3 levels 0 pairs 2", both pairs of family 0, then "3 31" and "7 70": "3 before 7 in its sample"
+example-listed : listDump greatestNodes (dumpOf example) 104 ≡ listed (record { nodes = 4; free = 3; levels = 0; families = 2 ∷ replicate 15 0; pairs = (3, 31) ∷ (7, 70) ∷ [] })
 unfolding example nodeImage readAnswer damaged faults fittingLength dumpOf cardBytes wordBytes wordAt paddedLength dumpWords listDump
     listRead listCard listBegun listTable listChecked openedCard repairedCard isIdle openOf openChecked openSound resting cardRefusal
     headerRefusal nodesOfLength tableCheck nodeCheck onLook enterNode enterKind enterLeaf leafSound slotSound member allNodes countTrue
     nodeAt keyWords valueWords leafPairs outside lookIn lookAt rootPosition byLook wayFrom way reachedAt leafOf nearer nearerAbove leastAbove besideAll
+    tableCounted nodeCounted childrenCounted keysCounted countedIn familyOf
     found nextInLeaf inNextLeaf orNextLeaf nextIn nextOf onNext walkFrom
 example-listed = refl

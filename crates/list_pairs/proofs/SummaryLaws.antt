@@ -10,6 +10,8 @@ use Rattle.card_dump.specs.Dump.{dumpWords, readAnswer}
 use Rattle.card_dump.specs.declared.Answer.the-variants.{Length, Refused as ReadRefused}
 use Rattle.card_free.specs.NodeSet.{countTrue}
 use Rattle.card_check.specs.Check.{Findings, tableCheck}
+use Rattle.card_check.specs.Counting.{tableCounted}
+use Rattle.card_family.specs.Families.{noTotals}
 use Rattle.call_open.specs.Opening.{openOf}
 use Rattle.state.specs.declared.Begun.{Begun}
 use Rattle.state.specs.declared.Begun.the-variants.{Idle, Started, Refused}
@@ -21,7 +23,7 @@ use Rattle.list_pairs.specs.Summaries.{summarized, summaryOf}
 -- ---- a table
 
 pub summary-refused : (r : ℕ) (l : Listed) (words : List ℕ) → l ≡ refused r
-    → (record { refusal = r; nodes = 0; free = 0; levels = 0; words = 0 } ≡ summaryOf l words) × (words ≡ layListed l words .words)
+    → (record { refusal = r; nodes = 0; free = 0; levels = 0; families = noTotals; words = 0 } ≡ summaryOf l words) × (words ≡ layListed l words .words)
 unfolding summaryOf summarized layListed
 summary-refused r l words e = rw e (refl, refl)
 
@@ -35,12 +37,13 @@ module _ (greatest : ℕ) (card : List ℕ) (n : ℕ) where
   table-unsound d e = rw (ne-eqb n 0 d, e)
 
   pub table-sound : (h : ℕ) (f : Findings) → (n ≡ 0 → ⊥) → tableCheck card n ≡ some (h, f)
-      → listTable greatest card n ≡ listed (record { nodes = n; free = countTrue (f .free); levels = h; pairs = walkFrom greatest mostPairs card 0 })
+      → listTable greatest card n
+      ≡ listed (record { nodes = n; free = countTrue (f .free); levels = h; families = tableCounted card; pairs = walkFrom greatest mostPairs card 0 })
   unfolding listTable listChecked
   table-sound h f d e = rw (ne-eqb n 0 d, e)
 
 pub summary-listed : (x : Listing) (l : Listed) (words : List ℕ) (at : ℕ) (after : List ℕ) → l ≡ listed x → laid at after ≡ layPairs (x .pairs) (laid 0 words)
-    → (record { refusal = 0; nodes = x .nodes; free = x .free; levels = x .levels; words = at } ≡ summaryOf l words) × (after ≡ layListed l words .words)
+    → (record { refusal = 0; nodes = x .nodes; free = x .free; levels = x .levels; families = x .families; words = at } ≡ summaryOf l words) × (after ≡ layListed l words .words)
 unfolding summaryOf summarized layListed
 summary-listed x l words at after e p = rw (e, ← p) (refl, refl)
 

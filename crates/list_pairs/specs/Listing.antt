@@ -1,6 +1,6 @@
 -- Document 01, "Dumps and the list program": "opens and repairs it in memory, and prints .. N, free nodes, internal levels,
 -- pairs. Then key and value". Document 02, W-201: "Walking an unchanged card from 0 lists each pair once, rising, as `list` now
--- does, 3 before 7 in its sample."
+-- does, 3 before 7 in its sample." W-204: "`list` adds a line `family F n` for each family with n above 0".
 use mathlib.Core.List.{List, [], _∷_}
 use mathlib.Core.Option.{Option, none, some}
 use Prim.Native.Nat.{ℕ, _+_, _*_}
@@ -11,6 +11,7 @@ use Rattle.card.specs.Layout.{greatestNodes}
 use Rattle.card.specs.Header.{nodesOfLength}
 use Rattle.card_free.specs.NodeSet.{countTrue}
 use Rattle.card_check.specs.Check.{Findings, tableCheck}
+use Rattle.card_check.specs.Counting.{tableCounted}
 use Rattle.call_open.specs.Opening.{openOf}
 use Rattle.call_repair.specs.Repairing.{openedCard}
 use Rattle.state.specs.declared.Begun.{Begun}
@@ -26,11 +27,12 @@ mostPairs = 11 * greatestNodes
 
 -- ---- what is listed
 
--- "First line: N, free nodes, internal levels, pairs. Then key and value"
+-- "First line: N, free nodes, internal levels, pairs. Then key and value", and between them what each family holds, a total for each of 16
 pub record Listing : Type 0 where
   pub nodes : ℕ
   pub free : ℕ
   pub levels : ℕ
+  pub families : List ℕ
   pub pairs : List (ℕ × ℕ)
 
 -- "Refused, it prints `refused ` and the number only."
@@ -38,10 +40,11 @@ pub data Listed : Type 0 where
   refused : ℕ → Listed
   listed : Listing → Listed
 
--- a table that was checked; "4: table not sound"
+-- a table that was checked; "4: table not sound". The totals are those that the check counts
 unfoldable pub listChecked : ℕ → List ℕ → ℕ → Option (ℕ × Findings) → Listed
 listChecked greatest card n none = refused 4
-listChecked greatest card n (some r) = listed (record { nodes = n; free = countTrue (r .1 .free); levels = r .0; pairs = walkFrom greatest mostPairs card 0 })
+listChecked greatest card n (some r) =
+    listed (record { nodes = n; free = countTrue (r .1 .free); levels = r .0; families = tableCounted card; pairs = walkFrom greatest mostPairs card 0 })
 
 unfoldable pub listTable : ℕ → List ℕ → ℕ → Listed
 listTable greatest card n = pick (eqb n 0) (refused 1) (listChecked greatest card n (tableCheck card n))

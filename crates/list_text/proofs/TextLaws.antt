@@ -1,17 +1,35 @@
--- Laws of the text: a turn of the loop over the pairs, and what `list_pairs::list_dump` hands over.
+-- Laws of the text: a turn of the loops over the pairs and over the families, and what `list_pairs::list_dump` hands over.
 use mathlib.Core.Path.{_≡_, refl, ap, ap₂, _∙_}
 use mathlib.Core.List.{List, [], _∷_, _++_}
-use Prim.Native.Nat.{ℕ, suc, _+_, _/_, _^_, _≤_, _<_}
+use Prim.Native.Nat.{ℕ, suc, _+_, _-_, _/_, _^_, _≤_, _<_}
 use native.Mathlib.Omega.{arith}
 use native.Mathlib.Numerals.{add-one}
 use lib.ListN.{length, getD, set, take, drop, length-append, length-drop, length-set, length-replicate}
 use lib.Seq.{drop-cons, length-take-le}
 use borrow.Author.Tests.{lt-ltb, le-ltb, eq-eqb, ne-eqb}
-use Rattle.laws.proofs.Cases.{order}
+use lib.Dec.{eqb}
+use Rattle.laws.proofs.Cases.{order, bool-cases}
+use Rattle.card_family.specs.Families.{familyCount}
 use Rattle.list_pairs.specs.Listing.{Listed, refused, listed, listDump, Laid, laid, layPair, layPairs, layListed}
 use Rattle.list_pairs.specs.Summaries.{summarized, summaryOf}
 use Rattle.list_pairs.specs.declared.Summary.{Summary}
-use Rattle.list_text.specs.Text.{space, firstLine, pairLine, pairLines, listText, pairsOfWords, listingTold, pairRoom, zeros, listingHanded}
+use Rattle.list_text.specs.Text.{
+  space,
+  familyWord,
+  firstLine,
+  pairLine,
+  pairLines,
+  familyLine,
+  familyShown,
+  familyLinesFrom,
+  familyLines,
+  listText,
+  pairsOfWords,
+  listingTold,
+  pairRoom,
+  zeros,
+  listingHanded,
+}
 use Rattle.call_repair.specs.Repairing.{cardRoom}
 use Rattle.text_row.specs.Lines.{decimal, lineFeed, refusalLine}
 use Rattle.text_row.proofs.DecimalLaws.{word-short}
@@ -64,6 +82,35 @@ count-pairs [] = omega arith
 count-pairs (key ∷ []) = omega arith
 count-pairs (key ∷ value ∷ words) = omega (arith, count-pairs words)
 
+-- ---- the families
+
+-- a family's line
+pub family-short : (f n : ℕ) → f < 2 ^ 32 → n < 2 ^ 32 → length (familyShown f n) ≤ 29
+unfolding familyShown familyLine familyWord
+family-short f n h k =
+    bool-cases (eqb n 0) (λ e. rw e (omega arith)) (λ e. rw e (omega (arith, length-append familyWord (pairLine f n), pair-short f n h k)))
+
+module _ (f n : ℕ) where
+  pub family-hidden : n ≡ 0 → familyShown f n ≡ []
+  unfolding familyShown
+  family-hidden e = rw (eq-eqb n 0 e)
+
+  pub family-shown : (n ≡ 0 → ⊥) → familyShown f n ≡ familyLine f n
+  unfolding familyShown
+  family-shown d = rw (ne-eqb n 0 d)
+
+module _ (totals : List ℕ) (i at : ℕ) (row : List ℕ) where
+  pub families-next : {r : ℕ} {after : List ℕ} → i < familyCount → filled r after ≡ fill (familyShown i (getD totals i 0)) (filled at row)
+      → fill (familyLinesFrom i (familyCount - i) totals) (filled at row) ≡ fill (familyLinesFrom (i + 1) (familyCount - (i + 1)) totals) (filled r after)
+  unfolding familyLinesFrom
+  families-next h e =
+      let left : familyCount - i ≡ suc (familyCount - (i + 1)) = omega arith in
+      rw (left, add-one i, e) (fill-append (familyShown i (getD totals i 0)) (familyLinesFrom (suc i) (familyCount - suc i) totals) (filled at row))
+
+  pub families-end : familyCount ≤ i → fill (familyLinesFrom i (familyCount - i) totals) (filled at row) ≡ filled at row
+  unfolding familyLinesFrom fill
+  families-end h = let none-left : familyCount - i ≡ 0 = omega arith in rw none-left
+
 -- ---- what is handed over
 
 -- the words of a summary lie inside the words lent
@@ -96,7 +143,8 @@ module _ (s : Summary) (words : List ℕ) where
   told-refused d = rw (ne-eqb (s .refusal) 0 d)
 
   pub told-listed : s .refusal ≡ 0 → s .words ≤ length words
-      → firstLine (s .nodes) (s .free) (s .levels) (s .words / 2) ++ pairLines (pairsOfWords (take (s .words) words)) ≡ listText (listingTold s words)
+      → firstLine (s .nodes) (s .free) (s .levels) (s .words / 2) ++ familyLines (s .families) ++ pairLines (pairsOfWords (take (s .words) words))
+      ≡ listText (listingTold s words)
   unfolding listingTold listText
   told-listed e h =
       let count : length (pairsOfWords (take (s .words) words)) ≡ s .words / 2 = count-pairs (take (s .words) words) ∙ ap (λ (n : ℕ). n / 2) (length-take-le (s .words) words h) in

@@ -1,9 +1,11 @@
--- THE TEXT THAT `list` PRINTS, byte by byte (document 01, "Dumps and the list program").
+-- THE TEXT THAT `list` PRINTS, byte by byte (document 01, "Dumps and the list program"; document 02, W-204: "`list` adds a line
+-- `family F n` for each family with n above 0, rising, after its first line").
 use mathlib.Core.List.{List, [], _∷_, _++_}
-use Prim.Native.Nat.{ℕ, _*_}
-use lib.ListN.{length, take, replicate}
+use Prim.Native.Nat.{ℕ, zero, suc, _*_}
+use lib.ListN.{length, getD, take, replicate}
 use lib.Dec.{eqb}
 use Rattle.laws.specs.Cases.{pick}
+use Rattle.card_family.specs.Families.{familyCount}
 use Rattle.list_pairs.specs.Listing.{Listed, refused, listed, listDump, layListed}
 use Rattle.list_pairs.specs.Summaries.{summaryOf}
 use Rattle.list_pairs.specs.declared.Summary.{Summary}
@@ -28,6 +30,10 @@ levelsWord = 32 ∷ 108 ∷ 101 ∷ 118 ∷ 101 ∷ 108 ∷ 115 ∷ 32 ∷ []
 unfoldable pub pairsWord : List ℕ
 pairsWord = 32 ∷ 112 ∷ 97 ∷ 105 ∷ 114 ∷ 115 ∷ 32 ∷ []
 
+-- "family "
+unfoldable pub familyWord : List ℕ
+familyWord = 102 ∷ 97 ∷ 109 ∷ 105 ∷ 108 ∷ 121 ∷ 32 ∷ []
+
 -- "First line: N, free nodes, internal levels, pairs."
 unfoldable pub firstLine : ℕ → ℕ → ℕ → ℕ → List ℕ
 firstLine nodes free levels pairs =
@@ -42,10 +48,27 @@ unfoldable pub pairLines : List (ℕ × ℕ) → List ℕ
 pairLines [] = []
 pairLines (p ∷ ps) = pairLine (p .0) (p .1) ++ pairLines ps
 
+-- "a line `family F n`": after the word the two numbers stand as on a pair's line
+unfoldable pub familyLine : ℕ → ℕ → List ℕ
+familyLine f n = familyWord ++ pairLine f n
+
+-- "for each family with n above 0"
+unfoldable pub familyShown : ℕ → ℕ → List ℕ
+familyShown f n = pick (eqb n 0) [] (familyLine f n)
+
+-- "rising": those of so many families, from family f on
+unfoldable pub familyLinesFrom : ℕ → ℕ → List ℕ → List ℕ
+familyLinesFrom f zero totals = []
+familyLinesFrom f (suc more) totals = familyShown f (getD totals f 0) ++ familyLinesFrom (suc f) more totals
+
+-- the lines of families 0 to 15
+unfoldable pub familyLines : List ℕ → List ℕ
+familyLines totals = familyLinesFrom 0 familyCount totals
+
 -- what is printed of a listing
 unfoldable pub listText : Listed → List ℕ
 listText (refused number) = refusalLine number
-listText (listed l) = firstLine (l .nodes) (l .free) (l .levels) (length (l .pairs)) ++ pairLines (l .pairs)
+listText (listed l) = firstLine (l .nodes) (l .free) (l .levels) (length (l .pairs)) ++ familyLines (l .families) ++ pairLines (l .pairs)
 
 -- ---- what is printed of a dump
 
@@ -58,7 +81,9 @@ pairsOfWords (key ∷ value ∷ words) = (key, value) ∷ pairsOfWords words
 -- the listing that a summary and the words stored for it tell
 unfoldable pub listingTold : Summary → List ℕ → Listed
 listingTold s words =
-    pick (eqb (s .refusal) 0) (listed (record { nodes = s .nodes; free = s .free; levels = s .levels; pairs = pairsOfWords (take (s .words) words) })) (refused (s .refusal))
+    pick (eqb (s .refusal) 0)
+    (listed (record { nodes = s .nodes; free = s .free; levels = s .levels; families = s .families; pairs = pairsOfWords (take (s .words) words) }))
+    (refused (s .refusal))
 
 -- the words that the pairs of a dump of a card up to some greatest N are laid into: key and value of 11 pairs for each node
 abbrev pub pairRoom : ℕ → ℕ

@@ -1,6 +1,7 @@
 // What the program `list` does: it reads a dump from standard input, opens and repairs it in memory, and prints it
-// (document 01, "Dumps and the list program"). The text is made in a row of bytes before it is written, so that the program
+// (document 01, "Dumps and the list program"; document 02, W-204). The text is made in a row of bytes before it is written, so that the program
 // `test_replay` compares the very text that `list` prints.
+use card_family::FAMILIES;
 use list_pairs::Summary;
 use text_row::print_first;
 use text_row::put_all;
@@ -11,12 +12,13 @@ ghost use mathlib.Core.List.{_++_};
 ghost use Prim.Native.Nat.{_+_, _*_, _/_, _≤_};
 ghost use lib.ListN.{length, drop};
 ghost use Rattle.card.specs.Layout.{programNodes};
-ghost use Rattle.list_text.specs.Text.{firstLine, pairLine, pairLines, pairsOfWords, dumpText};
+ghost use Rattle.card_family.specs.Families.{familyCount};
+ghost use Rattle.list_text.specs.Text.{firstLine, pairLine, pairLines, familyShown, familyLines, pairsOfWords, dumpText};
 ghost use Rattle.text_row.specs.Filling.{filled, fill};
 
-// Room for the longest text: 6,600 pairs, those of 600 leaves, on lines of at most 22 bytes, and a first line with four numbers
-// of at most 20 digits.
-pub const TEXT_BYTES: usize = 108 + 22 * card::SLOTS * card::PROGRAM_NODES;
+// Room for the longest text: 6,600 pairs, those of 600 leaves, on lines of at most 22 bytes, a line of at most 29 bytes for each family
+// (a word and two numbers of at most 10 digits), and a first line with four numbers of at most 20 digits.
+pub const TEXT_BYTES: usize = 108 + 29 * FAMILIES + 22 * card::SLOTS * card::PROGRAM_NODES;
 
 pub type Text = [u8; TEXT_BYTES];
 
@@ -61,6 +63,34 @@ fn put_pairs(text: &mut [u8], at: usize, words: &[u32]) -> usize
     next
 }
 
+// "a line `family F n` for each family with n above 0"
+fn put_family(text: &mut [u8], at: usize, family: u32, total: u32) -> usize
+    requires { ⌜ at + 29 ≤ length (now text) ⌝ }
+    ensures { λ r. ⌜ filled r (now (text .exit)) ≡ fill (familyShown family total) (filled at (now (text .entry))) ⌝ }
+    ensures { λ r. ⌜ r ≤ at + 29 ⌝ }
+{
+    if total == 0 {
+        return at;
+    }
+    let first = put_all(text, at, b"family ");
+    put_pair(text, first, family, total)
+}
+
+// "rising, after its first line": the lines of all families.
+fn put_families(text: &mut [u8], at: usize, families: &[u32; FAMILIES]) -> usize
+    requires { ⌜ at + 29 * familyCount ≤ length (now text) ⌝ }
+    ensures { λ r. ⌜ filled r (now (text .exit)) ≡ fill (familyLines (now (families .entry))) (filled at (now (text .entry))) ⌝ }
+    ensures { λ r. ⌜ r ≤ at + 29 * familyCount ⌝ }
+{
+    let mut next = at;
+    let mut i: usize = 0;
+    while i < FAMILIES {
+        next = put_family(text, next, i as u32, families[i]);
+        i += 1;
+    }
+    next
+}
+
 // What `list` prints for a dump, from the start of the row on; the answer is how many bytes it is. The words are those of 600
 // nodes, and the pairs those of 600 leaves.
 pub fn list_text(dump: &[u8], text: &mut Text) -> usize
@@ -74,8 +104,10 @@ pub fn list_text(dump: &[u8], text: &mut Text) -> usize
         return put_refusal(text, s.refusal);
     }
     let first = put_summary(text, s);
+    let families = s.families;
+    let next = put_families(text, first, &families);
     let words = s.words;
-    put_pairs(text, first, &out[..words])
+    put_pairs(text, next, &out[..words])
 }
 
 // As a slice, from its start.

@@ -5,6 +5,7 @@ use c_replies::found_reply;
 use c_replies::next_reply;
 use c_replies::start_reply;
 use c_replies::step_reply;
+use c_replies::total_reply;
 use c_replies::with_depth;
 ghost use mathlib.Core.Path.{_≡_};
 ghost use mathlib.Core.Bool.{false};
@@ -18,10 +19,10 @@ ghost use Rattle.call_find.specs.Find.{findOf, findDepth};
 ghost use Rattle.walk_next.specs.Successor.{nextOf, nextDepth, nextReply};
 ghost use Rattle.call_open.specs.Opening.{openOf};
 ghost use Rattle.call_start.specs.Starts.{formatOf, insertOf, deleteOf};
-ghost use Rattle.state.specs.Answers.{startReply, stepReply, toldDepth};
+ghost use Rattle.state.specs.Answers.{startReply, stepReply, toldDepth, totalReply};
 ghost use Rattle.state.specs.declared.Doing.the-variants.{Inserting, Deleting};
 ghost use Rattle.state.specs.declared.Phase.the-variants.{NotBegun};
-ghost use Rattle.state.specs.Contracts.{OpenCall, StartCall};
+ghost use Rattle.state.specs.Contracts.{OpenCall, StartCall, TotalCall};
 ghost use Rattle.call_step.specs.Contracts.{StepCall};
 ghost use Rattle.state.specs.Block.{memoryIn};
 ghost use Rattle.ration_table.specs.Contracts.{Replies};
@@ -95,6 +96,14 @@ pub extern "C" fn ration_step(card: &mut [u32], state: &mut [u32]) -> Reply
 {
     let answer = table::step(card, state);
     step_reply(answer, state)
+}
+
+// "One question answers a family's total".
+#[no_mangle]
+pub extern "C" fn ration_family_total(state: &[u32], family: u32) -> Reply
+    ensures { λ r. ⌜ Replies totalReply (replyOf r) (λ total. TotalCall (now (state .entry)) family total) ⌝ }
+{
+    total_reply(table::family_total(state, family))
 }
 
 // "Reading a dump checks 11, 12".

@@ -1,11 +1,11 @@
 -- Laws of Blocks: what a block holds whose words are those of a definition, and the stores that make it.
 use mathlib.Core.Path.{_≡_, refl, sym, ap, ap₂, subst, _∙_}
 use mathlib.Core.Bool.{Bool, true, false}
-use mathlib.Core.List.{List, [], _∷_, _++_, zip, append-nil}
+use mathlib.Core.List.{List, [], _∷_, _++_, zip}
 use Prim.Native.Nat.{ℕ, zero, suc, _+_, _*_, _/_, _%_, _≤_, _<_, _^_}
 use native.Mathlib.Omega.{arith}
 use native.Mathlib.Nat.{pow-suc}
-use lib.ListN.{length, getD, set, take, drop, replicate, length-set, length-take, length-drop, drop-of-length-le, take-append-drop}
+use lib.ListN.{length, getD, set, take, drop, replicate, length-set, length-take, length-drop, take-append-drop}
 use lib.Seq.{take-at, drop-at, drop-drop, take-all, getD-set-same, getD-set-other}
 use lib.Dec.{ltb, eqb}
 use borrow.Author.Tests.{lt-ltb, eq-eqb, ne-eqb}
@@ -13,18 +13,19 @@ use Rattle.laws.specs.Bits.{bit}
 use Rattle.laws.specs.Lists.{beforeZero}
 use Rattle.laws.specs.Digits.{digitsOf}
 use Rattle.laws.proofs.Digits.{length-digits}
+use Rattle.card_family.specs.Families.{familyCount, countedIn, countedOut}
 use Rattle.card_free.specs.NodeSet.{wordCount, nodesOf, allNodes}
 use Rattle.change_plan.specs.Plan.{storesOf}
-use Rattle.state.specs.Memory.{Memory, resting, noMemory}
+use Rattle.state.specs.Memory.{Memory, resting, noMemory, settledIn, settledOut, settledTotals}
 use Rattle.state.specs.Steps.{isIdle}
 use Rattle.state.specs.declared.State.{State}
 use Rattle.state.specs.declared.Doing.{Doing}
 use Rattle.state.specs.declared.Doing.the-variants.{Idle, Formatting, Inserting, Deleting, Repairing}
 use Rattle.state.specs.declared.Phase.{Phase}
 use Rattle.state.specs.declared.Phase.the-variants.{NotBegun, InHand, Decided}
-use Rattle.state.specs.Block.{depthAt, freeAt, placesAt, restWords, stateWords, blockWord, part, phaseIn, doingIn, phaseWord, headIn, memoryIn, doingWords, headWords}
+use Rattle.state.specs.Block.{depthAt, totalsAt, freeAt, placesAt, valuesAt, restWords, stateWords, blockWord, part, phaseIn, doingIn, phaseWord, headIn, memoryIn, doingWords, headWords}
 use Rattle.state.specs.Blocks.{over, begunBlock, numberOf, wordsOf, restingWords, restingBlock}
-use Rattle.state.proofs.Rows.{three, append-after, same-part, placed, placed-length, placed-part}
+use Rattle.state.proofs.Rows.{three, append-after, same-part, placed, placed-length, placed-before, placed-part}
 
 -- every word of a block has 32 bits
 abbrev pub Words : List ℕ → Type 0
@@ -103,7 +104,7 @@ doing-read (Repairing key) = refl
 
 -- a state with something else being done
 unfoldable pub withDoing : Memory → Doing → Memory
-withDoing m doing = record { nodes = m .nodes; free = m .free; last = m .last; doing = doing; rest = m .rest; cut = m .cut; depth = m .depth }
+withDoing m doing = record { nodes = m .nodes; free = m .free; last = m .last; doing = doing; rest = m .rest; cut = m .cut; depth = m .depth; totals = m .totals }
 
 memory-four : (block : List ℕ) (p q r s : ℕ) → 11 ≤ length block → memoryIn (over block 2 (p ∷ q ∷ r ∷ s ∷ [])) ≡ withDoing (memoryIn block) (doingIn p q r s)
 unfolding memoryIn withDoing
@@ -125,14 +126,14 @@ begun-length block doing l =
 
 -- a state with another depth
 unfoldable pub withDepth : Memory → ℕ → Memory
-withDepth m depth = record { nodes = m .nodes; free = m .free; last = m .last; doing = m .doing; rest = m .rest; cut = m .cut; depth = depth }
+withDepth m depth = record { nodes = m .nodes; free = m .free; last = m .last; doing = m .doing; rest = m .rest; cut = m .cut; depth = depth; totals = m .totals }
 
 pub memory-deep : (block : List ℕ) (depth : ℕ) → length block ≡ stateWords → memoryIn (set block depthAt depth) ≡ withDepth (memoryIn block) depth
 unfolding memoryIn withDepth
 memory-deep block depth l =
     by-head (λ (b : List ℕ). length b ≡ stateWords → memoryIn (set b depthAt depth) ≡ withDepth (memoryIn b) depth) block (omega arith)
     (λ n last w d e f g i j k m rest h.
-    let with : List ℕ → List ℕ → List ℕ → ℕ → Memory = λ x y z deep. record {
+    let with : List ℕ → List ℕ → List ℕ → ℕ → List ℕ → Memory = λ x y z deep totals. record {
       nodes = n;
       free = nodesOf x;
       last = last;
@@ -140,16 +141,24 @@ memory-deep block depth l =
       rest = drop g (storesOf y z i);
       cut = beforeZero (j ∷ k ∷ m ∷ []);
       depth = deep;
+      totals = totals;
     } in
-    ap₂ (λ (x y : List ℕ). with x y (part (set rest (wordCount + 146) depth) (wordCount + 73) 73) (getD (set rest (wordCount + 146) depth) (wordCount + 146) 0))
-    (stays rest 0 wordCount (omega arith)) (stays rest wordCount 73 (omega arith))
-    ∙ ap₂ (λ (z : List ℕ) (deep : ℕ). with (part rest 0 wordCount) (part rest wordCount 73) z deep)
-    (stays rest (wordCount + 73) 73 (omega arith)) (getD-set-same rest (wordCount + 146) depth 0 (omega arith)))
+    let after : List ℕ = set rest (wordCount + 146) depth in
+    ap₂ (λ (x y : List ℕ). with x y (part after (wordCount + 73) 73) (getD after (wordCount + 146) 0) (part after (wordCount + 147) familyCount))
+    (before rest 0 wordCount (omega arith)) (before rest wordCount 73 (omega arith))
+    ∙ ap₂ (λ (z : List ℕ) (deep : ℕ). with (part rest 0 wordCount) (part rest wordCount 73) z deep (part after (wordCount + 147) familyCount))
+    (before rest (wordCount + 73) 73 (omega arith)) (getD-set-same rest (wordCount + 146) depth 0 (omega arith))
+    ∙ ap (with (part rest 0 wordCount) (part rest wordCount 73) (part rest (wordCount + 73) 73) depth) (behind rest))
     l
   where
-    stays : (rest : List ℕ) (from count : ℕ) → from + count ≤ (wordCount + 146) → part (set rest (wordCount + 146) depth) from count ≡ part rest from count
-    stays rest from count h =
+    before : (rest : List ℕ) (from count : ℕ) → from + count ≤ (wordCount + 146) → part (set rest (wordCount + 146) depth) from count ≡ part rest from count
+    before rest from count h =
         same-part (set rest (wordCount + 146) depth) rest from count (length-set rest (wordCount + 146) depth) (λ i a b. getD-set-other rest (wordCount + 146) i depth 0 (λ z. omega arith))
+
+    behind : (rest : List ℕ) → part (set rest (wordCount + 146) depth) (wordCount + 147) familyCount ≡ part rest (wordCount + 147) familyCount
+    behind rest =
+        same-part (set rest (wordCount + 146) depth) rest (wordCount + 147) familyCount (length-set rest (wordCount + 146) depth)
+        (λ i a b. getD-set-other rest (wordCount + 146) i depth 0 (λ z. omega arith))
 
 -- words 0 to 10, read one by one
 pub head-read : (block : List ℕ) (doing : Doing) → 11 ≤ length block → doing ≡ doingIn (blockWord block 2) (blockWord block 3) (blockWord block 4) (blockWord block 5)
@@ -280,25 +289,106 @@ module _ (block row : List ℕ) (l : length block ≡ stateWords) where
     pub freed-part : part (placed freeAt wordCount block row) freeAt wordCount ≡ row
     freed-part = placed-part block row freeAt wordCount (e ∙ free-span) (omega arith)
 
+-- ---- the totals stored anew
+
+-- a state with other totals
+unfoldable pub withTotals : Memory → List ℕ → Memory
+withTotals m totals = record { nodes = m .nodes; free = m .free; last = m .last; doing = m .doing; rest = m .rest; cut = m .cut; depth = m .depth; totals = totals }
+
+module _ (b totals : List ℕ) (l : length b ≡ stateWords) (k : length totals ≡ familyCount) where
+  abbrev stored : List ℕ
+  stored = over b totalsAt totals
+
+  stored-is : stored ≡ placed totalsAt familyCount b totals
+  stored-is = over-placed b totals totalsAt familyCount k
+
+  pub stored-length : length stored ≡ stateWords
+  stored-length = ap length stored-is ∙ placed-length b totals totalsAt familyCount k (omega arith) ∙ l
+
+  stored-before : (j : ℕ) → j < totalsAt → blockWord stored j ≡ blockWord b j
+  stored-before j h = ap (λ (x : List ℕ). getD x j 0) stored-is ∙ placed-before b totals totalsAt familyCount k (omega arith) j h
+
+  pub stored-part : (from n : ℕ) → from + n ≤ totalsAt → part stored from n ≡ part b from n
+  stored-part from n h = same-part stored b from n (stored-length ∙ sym l) (λ j u v. stored-before j (omega arith))
+
+  pub stored-totals : part stored totalsAt familyCount ≡ totals
+  stored-totals = ap (λ (x : List ℕ). part x totalsAt familyCount) stored-is ∙ placed-part b totals totalsAt familyCount k (omega arith)
+
+pub memory-totals : (b totals : List ℕ) → length b ≡ stateWords → length totals ≡ familyCount → memoryIn (over b totalsAt totals) ≡ withTotals (memoryIn b) totals
+unfolding memoryIn withTotals
+memory-totals block totals len k =
+    by-head (λ (b : List ℕ). length b ≡ stateWords → memoryIn (over b totalsAt totals) ≡ withTotals (memoryIn b) totals) block (omega arith)
+    (λ n last w d e f g i j q m rest h.
+    let b : List ℕ = n ∷ last ∷ w ∷ d ∷ e ∷ f ∷ g ∷ i ∷ j ∷ q ∷ m ∷ rest in
+    let with : List ℕ → List ℕ → List ℕ → ℕ → List ℕ → Memory = λ x y z deep t. record {
+      nodes = n;
+      free = nodesOf x;
+      last = last;
+      doing = doingIn w d e f;
+      rest = drop g (storesOf y z i);
+      cut = beforeZero (j ∷ q ∷ m ∷ []);
+      depth = deep;
+      totals = t;
+    } in
+    let s : List ℕ = over b totalsAt totals in
+    ap₂ (λ (x y : List ℕ). with x y (part s valuesAt 73) (blockWord s depthAt) (part s totalsAt familyCount))
+    (stored-part b totals h k freeAt wordCount (omega arith)) (stored-part b totals h k placesAt 73 (omega arith))
+    ∙ ap₂ (λ (z : List ℕ) (deep : ℕ). with (part b freeAt wordCount) (part b placesAt 73) z deep (part s totalsAt familyCount))
+    (stored-part b totals h k valuesAt 73 (omega arith)) (stored-before b totals h k depthAt (omega arith))
+    ∙ ap (with (part b freeAt wordCount) (part b placesAt 73) (part b valuesAt 73) (blockWord b depthAt)) (stored-totals b totals h k))
+    len
+
+-- the totals of a first change in hand, and of any other work
+pub settled-long : (doing : Doing) (totals : List ℕ) → length (settledTotals doing totals) ≡ length totals
+unfolding settledTotals settledIn settledOut countedIn countedOut
+settled-long Idle totals = refl
+settled-long (Formatting made) totals = refl
+settled-long (Inserting key value NotBegun) totals = refl
+settled-long (Inserting key value InHand) totals = length-set totals _ _
+settled-long (Inserting key value Decided) totals = refl
+settled-long (Deleting key NotBegun value) totals = refl
+settled-long (Deleting key InHand value) totals = length-set totals _ _
+settled-long (Deleting key Decided value) totals = refl
+settled-long (Repairing key) totals = refl
+
 -- ---- a state with no change planned
 
-module _ (n : ℕ) (free : List ℕ) (last : ℕ) (long : length free ≡ wordCount) where
-  resting-four : (p q r s : ℕ) → memoryIn (n ∷ last ∷ p ∷ q ∷ r ∷ s ∷ 0 ∷ 0 ∷ 0 ∷ 0 ∷ 0 ∷ free ++ replicate restWords 0) ≡ resting n (nodesOf free) last (doingIn p q r s)
+module _ (n : ℕ) (free : List ℕ) (last : ℕ) (totals : List ℕ) (long : length free ≡ wordCount) (all : length totals ≡ familyCount) where
+  -- what stands behind the words of the free nodes
+  abbrev tail : List ℕ
+  tail = replicate restWords 0 ++ totals
+
+  resting-four : (p q r s : ℕ) → memoryIn (n ∷ last ∷ p ∷ q ∷ r ∷ s ∷ 0 ∷ 0 ∷ 0 ∷ 0 ∷ 0 ∷ free ++ tail) ≡ resting n (nodesOf free) last totals (doingIn p q r s)
   unfolding memoryIn resting storesOf zip
   resting-four p q r s =
-      ap₂ (λ (l : List ℕ) (d : ℕ). record { nodes = n; free = nodesOf l; last = last; doing = doingIn p q r s; rest = []; cut = []; depth = d })
-      (take-at free (replicate restWords 0) wordCount long)
-      (append-after free (replicate restWords 0) 146 (wordCount + 146) (omega arith))
+      ap₂ (λ (l : List ℕ) (d : ℕ). record {
+        nodes = n;
+        free = nodesOf l;
+        last = last;
+        doing = doingIn p q r s;
+        rest = [];
+        cut = [];
+        depth = d;
+        totals = take familyCount (drop (wordCount + 147) (free ++ tail));
+      })
+      (take-at free tail wordCount long)
+      (append-after free tail 146 (wordCount + 146) (omega arith))
+      ∙ ap (λ (l : List ℕ). record { nodes = n; free = nodesOf free; last = last; doing = doingIn p q r s; rest = []; cut = []; depth = 0; totals = l }) behind
+    where
+      behind : take familyCount (drop (wordCount + 147) (free ++ tail)) ≡ totals
+      behind =
+          ap (take familyCount) (sym (drop-drop 147 wordCount (free ++ tail)) ∙ ap (drop 147) (drop-at free tail wordCount long) ∙ drop-at (replicate restWords 0) totals 147 refl)
+          ∙ take-all familyCount totals (omega arith)
 
-  pub memory-resting : (doing : Doing) → memoryIn (restingWords n free last doing) ≡ resting n (nodesOf free) last doing
+  pub memory-resting : (doing : Doing) → memoryIn (restingWords n free last totals doing) ≡ resting n (nodesOf free) last totals doing
   unfolding restingWords
   memory-resting doing =
-      ap (λ (words : List ℕ). memoryIn (n ∷ last ∷ words ++ (0 ∷ 0 ∷ 0 ∷ 0 ∷ 0 ∷ free ++ replicate restWords 0))) (sym (words-each doing)) ∙ resting-four _ _ _ _
-      ∙ ap (resting n (nodesOf free) last) (doing-read doing)
+      ap (λ (words : List ℕ). memoryIn (n ∷ last ∷ words ++ (0 ∷ 0 ∷ 0 ∷ 0 ∷ 0 ∷ free ++ tail))) (sym (words-each doing)) ∙ resting-four _ _ _ _
+      ∙ ap (resting n (nodesOf free) last totals) (doing-read doing)
 
-  pub resting-block : (doing : Doing) → ((i : ℕ) → getD free i 0 < 2 ^ 32) → restingWords n free last doing ≡ restingBlock (resting n (nodesOf free) last doing)
+  pub resting-block : (doing : Doing) → ((i : ℕ) → getD free i 0 < 2 ^ 32) → restingWords n free last totals doing ≡ restingBlock (resting n (nodesOf free) last totals doing)
   unfolding restingBlock resting
-  resting-block doing h = ap (λ (l : List ℕ). restingWords n l last doing) (sym (ap (λ (k : ℕ). wordsOf k (nodesOf free)) (sym long) ∙ words-nodes free h))
+  resting-block doing h = ap (λ (l : List ℕ). restingWords n l last totals doing) (sym (ap (λ (k : ℕ). wordsOf k (nodesOf free)) (sym long) ∙ words-nodes free h))
 
 -- "Opening or starting to format, refused, hands back an idle state for N = 0": a block of zeros
 pub none-block : replicate stateWords 0 ≡ restingBlock noMemory
@@ -317,22 +407,23 @@ pub numbered-length : (block : List ℕ) (n last : ℕ) → length (numbered blo
 numbered-length block n last = simp length-set
 
 rest-four : (block zeros : List ℕ) (n last p q r s : ℕ) → length block ≡ stateWords → zeros ≡ replicate restWords 0
-    → placed placesAt restWords (over (numbered block n last) 2 (p ∷ q ∷ r ∷ s ∷ [])) zeros ≡ n ∷ last ∷ p ∷ q ∷ r ∷ s ∷ 0 ∷ 0 ∷ 0 ∷ 0 ∷ 0 ∷ part block freeAt wordCount ++ replicate restWords 0
+    → placed placesAt restWords (over (numbered block n last) 2 (p ∷ q ∷ r ∷ s ∷ [])) zeros
+    ≡ n ∷ last ∷ p ∷ q ∷ r ∷ s ∷ 0 ∷ 0 ∷ 0 ∷ 0 ∷ 0 ∷ part block freeAt wordCount ++ (replicate restWords 0 ++ part block totalsAt familyCount)
 rest-four block zeros n last p q r s len z =
     by-head
     (λ (x : List ℕ). length x ≡ stateWords → placed placesAt restWords (over (numbered x n last) 2 (p ∷ q ∷ r ∷ s ∷ [])) zeros
-    ≡ n ∷ last ∷ p ∷ q ∷ r ∷ s ∷ 0 ∷ 0 ∷ 0 ∷ 0 ∷ 0 ∷ part x freeAt wordCount ++ replicate restWords 0)
+    ≡ n ∷ last ∷ p ∷ q ∷ r ∷ s ∷ 0 ∷ 0 ∷ 0 ∷ 0 ∷ 0 ∷ part x freeAt wordCount ++ (replicate restWords 0 ++ part x totalsAt familyCount))
     block (omega (arith, len))
     (λ a b c d e f g i j k l rest h.
-    let few : length (drop wordCount rest) ≤ restWords = omega (arith, length-drop wordCount rest) in
-    let none : drop restWords (drop wordCount rest) ≡ [] = drop-of-length-le (drop wordCount rest) {i = restWords} few in
-    ap (λ (t : List ℕ). n ∷ last ∷ p ∷ q ∷ r ∷ s ∷ 0 ∷ 0 ∷ 0 ∷ 0 ∷ 0 ∷ take wordCount rest ++ t) (ap₂ (λ (x y : List ℕ). x ++ y) z none ∙ append-nil (replicate restWords 0)))
+    let last-words : drop restWords (drop wordCount rest) ≡ take familyCount (drop (wordCount + 147) rest) =
+    drop-drop restWords wordCount rest ∙ sym (take-all familyCount (drop (wordCount + 147) rest) (omega (arith, length-drop (wordCount + 147) rest))) in
+    ap (λ (t : List ℕ). n ∷ last ∷ p ∷ q ∷ r ∷ s ∷ 0 ∷ 0 ∷ 0 ∷ 0 ∷ 0 ∷ take wordCount rest ++ t) (ap₂ (λ (x y : List ℕ). x ++ y) z last-words))
     len
 
 pub rest-stored : (block zeros : List ℕ) (n last : ℕ) (doing : Doing) → length block ≡ stateWords → zeros ≡ replicate restWords 0
-    → placed placesAt restWords (begunBlock (numbered block n last) doing) zeros ≡ restingWords n (part block freeAt wordCount) last doing
+    → placed placesAt restWords (begunBlock (numbered block n last) doing) zeros ≡ restingWords n (part block freeAt wordCount) last (part block totalsAt familyCount) doing
 unfolding begunBlock restingWords
 rest-stored block zeros n last doing len z =
     ap (λ (words : List ℕ). placed placesAt restWords (over (numbered block n last) 2 words) zeros) (sym (words-each doing))
     ∙ rest-four block zeros n last _ _ _ _ len z
-    ∙ ap (λ (words : List ℕ). n ∷ last ∷ words ++ (0 ∷ 0 ∷ 0 ∷ 0 ∷ 0 ∷ part block freeAt wordCount ++ replicate restWords 0)) (words-each doing)
+    ∙ ap (λ (words : List ℕ). n ∷ last ∷ words ++ (0 ∷ 0 ∷ 0 ∷ 0 ∷ 0 ∷ part block freeAt wordCount ++ (replicate restWords 0 ++ part block totalsAt familyCount))) (words-each doing)

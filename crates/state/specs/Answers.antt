@@ -1,6 +1,13 @@
 -- Document 01, "When an answer is an enum, a definition states this paper's number and values for each enum case."
 use Prim.Native.Nat.{ℕ}
-use Rattle.card.specs.Replies.{Reply, refusal, holds, absent, stored, ready, idle, started}
+use lib.ListN.{getD}
+use lib.Dec.{ltb}
+use Rattle.laws.specs.Cases.{pick}
+use Rattle.card.specs.Replies.{Reply, refusal, holds, absent, stored, ready, idle, started, totalled}
+use Rattle.card_family.specs.Families.{familyCount}
+use Rattle.state.specs.Memory.{Memory}
+use Rattle.state.specs.declared.families.Total.{Total}
+use Rattle.state.specs.declared.families.Total.the-variants.{Pairs, Refused as NoFamily}
 use Rattle.state.specs.declared.Answer.{Answer}
 use Rattle.state.specs.declared.Answer.the-variants.{Stored, Ready, Absent, Value, Refused}
 use Rattle.state.specs.declared.Begun.{Begun}
@@ -28,3 +35,11 @@ unfoldable pub startReply : Begun → Reply
 startReply OpenedIdle = idle
 startReply Started = started
 startReply (BegunRefused r) = refusal r
+
+-- document 02, W-204: "One question answers a family's total"; "13: family above 15; that question checks nothing else."
+unfoldable pub totalOf : Memory → ℕ → Total
+totalOf m family = pick (ltb family familyCount) (Pairs (getD (m .totals) family 0)) (NoFamily 13)
+
+unfoldable pub totalReply : Total → Reply
+totalReply (Pairs pairs) = totalled pairs
+totalReply (NoFamily r) = refusal r

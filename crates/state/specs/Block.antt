@@ -6,6 +6,7 @@ use lib.ListN.{getD, take, drop}
 use lib.Dec.{eqb}
 use Rattle.laws.specs.Cases.{pick}
 use Rattle.laws.specs.Lists.{beforeZero}
+use Rattle.card_family.specs.Families.{familyCount}
 use Rattle.card_free.specs.NodeSet.{wordCount, nodesOf}
 use Rattle.change_plan.specs.Plan.{storesOf}
 use Rattle.state.specs.Memory.{Memory}
@@ -15,7 +16,7 @@ use Rattle.state.specs.declared.Doing.the-variants.{Idle, Formatting, In
 use Rattle.state.specs.declared.Phase.{Phase}
 use Rattle.state.specs.declared.Phase.the-variants.{NotBegun, InHand, Decided}
 
--- where the parts of a block begin: the words of the free nodes, the places of the plan, its values, and the depth
+-- where the parts of a block begin: the words of the free nodes, the places of the plan, its values, the depth, and the totals
 abbrev pub freeAt : ℕ
 freeAt = 11
 
@@ -28,9 +29,12 @@ valuesAt = placesAt + 73
 abbrev pub depthAt : ℕ
 depthAt = valuesAt + 73
 
--- how many words a state block has, and how many of them stand from the plan's places on
+abbrev pub totalsAt : ℕ
+totalsAt = depthAt + 1
+
+-- how many words a state block has, and how many of them stand from the plan's places to the totals
 abbrev pub stateWords : ℕ
-stateWords = depthAt + 1
+stateWords = totalsAt + familyCount
 
 abbrev pub restWords : ℕ
 restWords = 147
@@ -64,7 +68,7 @@ headIn block =
     }
 
 -- what a block holds, as the calls see it: its head; "The free nodes are one bit each"; the stores of the plan that are still to
--- come, by their places and values; the depth
+-- come, by their places and values; the depth; the totals
 unfoldable pub memoryIn : List ℕ → Memory
 memoryIn block =
     record {
@@ -75,6 +79,7 @@ memoryIn block =
       rest = drop (blockWord block 6) (storesOf (part block placesAt 73) (part block valuesAt 73) (blockWord block 7));
       cut = beforeZero (part block 8 3);
       depth = blockWord block depthAt;
+      totals = part block totalsAt familyCount;
     }
 
 -- WRITING. The word for how far an insert or a delete is

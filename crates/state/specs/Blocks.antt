@@ -26,13 +26,13 @@ wordsOf zero bits = []
 wordsOf (suc k) bits = numberOf (take 32 bits) ∷ wordsOf k (drop 32 bits)
 
 -- all words of a state with no change planned, which has these words of free nodes: N, the node given last, what is being done, no
--- store made or planned, no node cut out, rows of zeros, and no depth
-unfoldable pub restingWords : ℕ → List ℕ → ℕ → Doing → List ℕ
-restingWords n free last doing = n ∷ last ∷ doingWords doing ++ (0 ∷ 0 ∷ 0 ∷ 0 ∷ 0 ∷ free ++ replicate restWords 0)
+-- store made or planned, no node cut out, rows of zeros, no depth, and these totals
+unfoldable pub restingWords : ℕ → List ℕ → ℕ → List ℕ → Doing → List ℕ
+restingWords n free last totals doing = n ∷ last ∷ doingWords doing ++ (0 ∷ 0 ∷ 0 ∷ 0 ∷ 0 ∷ free ++ (replicate restWords 0 ++ totals))
 
 -- after opening and starting to format, whatever was in the block
 unfoldable pub restingBlock : Memory → List ℕ
-restingBlock m = restingWords (m .nodes) (wordsOf wordCount (m .free)) (m .last) (m .doing)
+restingBlock m = restingWords (m .nodes) (wordsOf wordCount (m .free)) (m .last) (m .totals) (m .doing)
 
 -- something else is being done: words 2 to 5
 unfoldable pub begunBlock : List ℕ → Doing → List ℕ

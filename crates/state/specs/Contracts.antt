@@ -11,6 +11,9 @@ use Rattle.state.specs.Steps.{Handed}
 use Rattle.state.specs.declared.Doing.{Doing}
 use Rattle.state.specs.declared.Begun.{Begun}
 use Rattle.state.specs.declared.Begun.the-variants.{Refused as BegunRefused}
+use Rattle.state.specs.declared.families.Total.{Total}
+use Rattle.state.specs.declared.families.Total.the-variants.{Refused as NoTotal}
+use Rattle.state.specs.Answers.{totalOf}
 use Rattle.state.specs.Block.{stateWords, memoryIn}
 use Rattle.state.specs.Blocks.{restingBlock, startedBlock}
 
@@ -30,3 +33,8 @@ pub record StartCall (before after : List ℕ) (begun : Begun) (doing : Doing) (
   pub handed : length before ≡ stateWords → memoryIn after ≡ due .memory
   pub words : length before ≡ stateWords → after ≡ startedBlock (due .begun) before doing (due .memory .depth)
   pub no-state : (length before ≡ stateWords → ⊥) → (begun ≡ BegunRefused (noState .code)) × (after ≡ before)
+
+-- the question for a family's total (document 02, W-204)
+pub record TotalCall (block : List ℕ) (family : ℕ) (total : Total) : Type 0 where
+  pub told : length block ≡ stateWords → total ≡ totalOf (memoryIn block) family
+  pub no-state : (length block ≡ stateWords → ⊥) → total ≡ NoTotal (noState .code)

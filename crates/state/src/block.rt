@@ -9,16 +9,17 @@ ghost use mathlib.Core.Bool.{true};
 ghost use mathlib.Core.List.{_++_};
 ghost use lib.ListN.{length, replicate, drop};
 ghost use Rattle.card.specs.Layout.{greatestNodes};
+ghost use Rattle.card_family.specs.Families.{familyCount};
 ghost use Rattle.card_free.specs.NodeSet.{wordCount, nodesOf};
 ghost use Rattle.state.specs.Memory.{resting};
 ghost use Rattle.state.specs.Steps.{isIdle, noBeginning};
-ghost use Rattle.state.specs.Block.{freeAt, stateWords, part, phaseIn, phaseWord, doingIn, headIn, memoryIn, doingWords, headWords};
-ghost use Rattle.state.specs.Blocks.{begunBlock, restingBlock};
+ghost use Rattle.state.specs.Block.{freeAt, totalsAt, stateWords, part, phaseIn, phaseWord, doingIn, headIn, memoryIn, doingWords, headWords};
+ghost use Rattle.state.specs.Blocks.{over, begunBlock, restingBlock};
 ghost use Rattle.state.specs.Contracts.{Opened};
 
 // The words of a block: N and the node given last; what is being done by its number, and its three numbers; the stores of the
 // plan made and planned; the nodes that the last store cuts out; the free nodes; the plan's places and values; of the update begun
-// last the internal nodes on its key's way then (document 02, W-203).
+// last the internal nodes on its key's way then (document 02, W-203); the totals by family (W-204).
 pub const NODES: usize = 0;
 
 pub const LAST: usize = 1;
@@ -45,8 +46,10 @@ pub const VALUES: usize = PLACES + card::PLAN_SIZE;
 
 pub const DEPTH: usize = VALUES + card::PLAN_SIZE;
 
+pub const TOTALS: usize = DEPTH + 1;
+
 // How many words that makes.
-pub const STATE_WORDS: usize = DEPTH + 1;
+pub const STATE_WORDS: usize = TOTALS + card_family::FAMILIES;
 
 // What a call answers where a block of another length is lent, which is no state. Document 01 has no number for it.
 pub const NO_STATE: u32 = 71;
@@ -56,9 +59,9 @@ pub const IDLE: u32 = 0;
 
 pub const FORMATTING: u32 = 1;
 
-const INSERTING: u32 = 2;
+pub const INSERTING: u32 = 2;
 
-const DELETING: u32 = 3;
+pub const DELETING: u32 = 3;
 
 pub const REPAIRING: u32 = 4;
 
@@ -213,12 +216,34 @@ fn clear_words(words: &mut [u32])
     }
 }
 
-// Nothing is planned in a block for N nodes, whose words of the free nodes are right already. The search for a free node begins after
-// `last`, the node taken for given last.
+// All words of a slice become those of another, as long as it.
+pub fn copy_words(to: &mut [u32], from: &[u32])
+    requires { ⌜ length (now to) ≡ length (now from) ⌝ }
+    ensures { λ _. ⌜ now (to .exit) ≡ now (from .entry) ⌝ }
+{
+    let mut i: usize = 0;
+    while i < to.len() {
+        to[i] = from[i];
+        i += 1;
+    }
+}
+
+// The totals by family are stored.
+pub fn store_totals(block: &mut [u32], totals: &[u32])
+    requires { ⌜ (length (now block) ≡ stateWords) × (length (now totals) ≡ familyCount) ⌝ }
+    ensures { λ _. ⌜ now (block .exit) ≡ over (now (block .entry)) totalsAt (now (totals .entry)) ⌝ }
+{
+    copy_words(&mut block[TOTALS..STATE_WORDS], totals);
+}
+
+// Nothing is planned in a block for N nodes, whose words of the free nodes and of the totals are right already. The search for a free
+// node begins after `last`, the node taken for given last.
 pub fn store_resting(block: &mut [u32], n: usize, last: u32, doing: Doing)
     requires { ⌜ (length (now block) ≡ stateWords) × (n ≤ greatestNodes) ⌝ }
-    ensures { λ _. ⌜ now (block .exit) ≡ restingBlock (resting n (nodesOf (part (now (block .entry)) freeAt wordCount)) last doing) ⌝ }
-    ensures { λ _. ⌜ memoryIn (now (block .exit)) ≡ resting n (nodesOf (part (now (block .entry)) freeAt wordCount)) last doing ⌝ }
+    ensures { λ _. ⌜ now (block .exit) ≡ restingBlock (resting n (nodesOf (part (now (block .entry)) freeAt wordCount)) last
+        (part (now (block .entry)) totalsAt familyCount) doing) ⌝ }
+    ensures { λ _. ⌜ memoryIn (now (block .exit)) ≡ resting n (nodesOf (part (now (block .entry)) freeAt wordCount)) last
+        (part (now (block .entry)) totalsAt familyCount) doing ⌝ }
 {
     block[NODES] = n as u32;
     block[LAST] = last;
@@ -228,7 +253,7 @@ pub fn store_resting(block: &mut [u32], n: usize, last: u32, doing: Doing)
     block[CUT + 1] = 0;
     block[CUT + 2] = 0;
     store_doing(block, doing);
-    clear_words(&mut block[PLACES..STATE_WORDS]);
+    clear_words(&mut block[PLACES..TOTALS]);
 }
 
 // "Opening or starting to format, refused, hands back an idle state for N = 0".

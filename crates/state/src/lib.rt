@@ -1,7 +1,10 @@
 // The state (document 01, "State, steps and free nodes"): what is being done, what is answered, and the words that hold a state.
 pub mod block;
+mod families;
 mod holding;
 
+pub use families::Total;
+pub use families::family_total;
 pub use holding::held_by;
 
 // How far an insert or a delete is: its first change is not begun; it is in hand; it is made, which decides the call, so that

@@ -1,8 +1,8 @@
-// The program `list` on fourteen cards, one for each kind of repair and one for each refusal: their dumps, all of one length, follow
-// one another in standard input. tools/make_list_cards.py makes them, and works out what is to be printed.
+// The program `list` on fifteen cards, one for each kind of repair, one with keys of several families and one for each refusal: their
+// dumps, all of one length, follow one another in standard input. tools/make_list_cards.py makes them, and works out what is to be printed.
 const DUMP: usize = 2560;
 
-const CARDS: usize = 14;
+const CARDS: usize = 15;
 
 // The listing of card k, where it is there.
 fn list_card(bytes: &[u8; 65536], k: usize) {

@@ -105,7 +105,7 @@ fn feed_text(text: &Text, n: usize, row: &mut [u64; 8]) {
 }
 
 fn list(bytes: &Bytes, row: &mut [u64; 8]) {
-    let mut text = [0u8; 145308];
+    let mut text = [0u8; list_text::TEXT_BYTES];
     let n = list_within(bytes, row[DUMP] as usize, &mut text);
     feed_text(&text, n, row);
 }

@@ -2,7 +2,7 @@
 pub mod Ranges
 -- how deep a way down a sound table can go
 pub mod Depth
--- "Purchasing sizes cards by rations, not nodes." How many levels a balanced tree can have for its pairs
+-- "Purchasing sizes cards by rations, not nodes." How many levels a balanced tree can have for its pairs, and how many pairs its nodes hold
 pub mod Rations
 -- what the check of a tree finds, as a function of the tree: `found` takes the tree's numbers out of the free nodes and notes the violations on the way
 pub mod Found
@@ -24,3 +24,5 @@ pub mod Facts
 pub mod Soundness
 -- the height of a card's table is one number: a tree has no two heights
 pub mod Level
+-- the totals by family that the check counts are those of the table's pairs
+pub mod Families

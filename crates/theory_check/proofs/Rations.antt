@@ -3,15 +3,17 @@
 use mathlib.Core.Path.{_≡_, refl}
 use mathlib.Core.List.{List}
 use mathlib.Core.Bool.{true, false}
-use Prim.Native.Nat.{ℕ, zero, suc, _^_, _≤_, _<_}
+use Prim.Native.Nat.{ℕ, zero, suc, _*_, _^_, _≤_, _<_}
 use native.Mathlib.Omega.{arith}
 use lib.ListN.{length, length-append}
 use lib.Pow.{pow-mono}
 use Rattle.card.specs.Layout.{slotPairs}
+use Rattle.card.proofs.NodeLaws.{slot-pairs-le}
 use Rattle.laws.proofs.Cases.{order}
 use Rattle.theory_tree.specs.Pairs.{pairs, forestPairs}
+use Rattle.theory_tree.specs.Represent.{Represents, RepresentsAll}
 use Rattle.theory_tree.specs.Height.{Height, AllHeight}
-use Rattle.theory_tree.specs.Tree.{Tree, Forest, roots, leaf, node, one, more}
+use Rattle.theory_tree.specs.Tree.{Tree, Forest, roots, nodeTotal, nodeTotals, leaf, node, one, more}
 use Rattle.theory_tree.proofs.Violations.{few-zero}
 use Rattle.theory_tree.specs.Violations.{violations, forestViolations, RootOk, tableViolations}
 
@@ -54,3 +56,14 @@ pub flat-leaf : (t : Tree) → Height 0 t → RootOk t → SingleLeaf t
 flat-leaf (leaf m ks vs) i r = (m, ks, vs, refl)
 flat-leaf (node m true f) i r = absurd r
 flat-leaf (node m false f) i r = absurd i
+
+-- a leaf has 11 slots, so that so many nodes have at most 11 pairs each
+module _ (c : List ℕ) where
+  mutual
+    pub pairs-le : (t : Tree) → Represents c t → length (pairs t) ≤ 11 * nodeTotal (λ m. 1) t
+    pairs-le (leaf m ks vs) r = omega (arith, slot-pairs-le ks vs, r .1)
+    pairs-le (node m g f) r = omega (arith, forest-le f (r .1))
+
+    pub forest-le : (f : Forest) → RepresentsAll c f → length (forestPairs f) ≤ 11 * nodeTotals (λ m. 1) f
+    forest-le (one t) r = pairs-le t r
+    forest-le (more t k f) r = omega (arith, length-append (pairs t) (forestPairs f), pairs-le t (r .0), forest-le f (r .1))

@@ -14,6 +14,7 @@ use Rattle.card.proofs.HeaderLaws.{sized-nodes}
 use Rattle.card.specs.Stores.{Store}
 use Rattle.theory_format.proofs.FormatCard.{placeOf, formatCard, format-next, format-length}
 use Rattle.theory_format.proofs.FormatStores.{some-store}
+use Rattle.card_family.specs.Families.{noTotals}
 use Rattle.card_free.specs.NodeSet.{allNodes}
 use Rattle.state.specs.Steps.{heldBy, noBeginning, stepFinal, formatStore, formattingFrom, stepFormat}
 use Rattle.call_start.specs.Starts.{formatOf}
@@ -30,11 +31,11 @@ freshNodes n = set (allNodes n) formattedRoot false
 
 -- the state after so many stores of formatting
 abbrev pub formatMemory : ℕ → ℕ → Memory
-formatMemory n made = resting n (freshNodes n) formattedRoot (Formatting made)
+formatMemory n made = resting n (freshNodes n) formattedRoot noTotals (Formatting made)
 
 -- the state after "ready"
 abbrev pub freshMemory : ℕ → Memory
-freshMemory n = resting n (freshNodes n) formattedRoot Idle
+freshMemory n = resting n (freshNodes n) formattedRoot noTotals Idle
 
 -- STARTING
 pub format-starts : (greatest : ℕ) (c : List ℕ) (n : ℕ) → Sized greatest (length c) n → formatOf greatest c ≡ record { begun = Started; memory = formatMemory n 0 }
@@ -48,17 +49,18 @@ format-refused greatest c e = rw e
 
 -- ONE STEP: "Formatting steps check only 1."
 step-formats : (greatest : ℕ) (card : List ℕ) (n made : ℕ) (free : List Bool) (last : ℕ) (o : Option Store) → Sized greatest (length card) n → formatStore n (length card) made ≡ o
-    → stepOf greatest card (resting n free last (Formatting made)) ≡ stepFormat card (resting n free last (Formatting made)) made o
+    → stepOf greatest card (resting n free last noTotals (Formatting made)) ≡ stepFormat card (resting n free last noTotals (Formatting made)) made o
 unfolding stepOf heldBy stepHeld resting
 step-formats greatest card n made free last o s e = rw (sized-nodes greatest (length card) n s, ne-eqb n 0 (omega (arith, s .least)), eq-eqb n n refl, e)
 
 format-stores : (card : List ℕ) (n made : ℕ) (free : List Bool) (last : ℕ) (s : Store)
-    → stepFormat card (resting n free last (Formatting made)) made (some s) ≡ record { answer = Stored (s .0); card = set card (s .0) (s .1); memory = resting n free last (Formatting (suc made)) }
+    → stepFormat card (resting n free last noTotals (Formatting made)) made (some s)
+    ≡ record { answer = Stored (s .0); card = set card (s .0) (s .1); memory = resting n free last noTotals (Formatting (suc made)) }
 unfolding stepFormat formattingFrom resting
 format-stores card n made free last s = refl
 
-format-ends : (card : List ℕ) (n made : ℕ) (free : List Bool) (last : ℕ) → stepFormat card (resting n free last (Formatting made)) made none
-    ≡ record { answer = Ready; card = card; memory = resting n free last Idle }
+format-ends : (card : List ℕ) (n made : ℕ) (free : List Bool) (last : ℕ) → stepFormat card (resting n free last noTotals (Formatting made)) made none
+    ≡ record { answer = Ready; card = card; memory = resting n free last noTotals Idle }
 unfolding stepFormat stepFinal idled resting
 format-ends card n made free last = refl
 

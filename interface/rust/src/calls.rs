@@ -6,7 +6,7 @@ use core::num::NonZeroU32;
 use crate::Refusal;
 
 /// The words of a state block.
-pub const STATE_WORDS: usize = 240;
+pub const STATE_WORDS: usize = 256;
 
 /// The state block. Its words are the table's own.
 #[derive(Clone, Debug, PartialEq, Eq)]
@@ -18,7 +18,8 @@ impl StateBlock {
         Self([0; STATE_WORDS])
     }
 
-    /// Any words: the calls stay total. An update that is in progress by these words may tell any depth.
+    /// Any words: the calls stay total. An update that is in progress by these words may tell any depth, and [`family_total`] any
+    /// number.
     pub const fn from_words(words: [u32; STATE_WORDS]) -> Self {
         Self(words)
     }
@@ -35,7 +36,7 @@ impl Default for StateBlock {
 }
 
 /// An answer, and how deep the call went for it: how many internal nodes stood on the given number's way down to its leaf when the
-/// call began, an update when it was started; tagged ones are counted. It is 0 where the root is that leaf, and at most 10. A refusal
+/// call began, an update when it was started; tagged ones are counted. It is 0 where the root is that leaf, and at most 12. A refusal
 /// carries none.
 ///
 /// ```
@@ -81,6 +82,7 @@ const STARTED: u32 = 69;
 const LENGTH: u32 = 70;
 const NEXT: u32 = 72;
 const NONE: u32 = 73;
+const TOTAL: u32 = 75;
 
 #[link(name = "ration_table", kind = "static")]
 extern "C" {
@@ -104,6 +106,7 @@ extern "C" {
         key: u32,
     ) -> Answer;
     fn ration_step(card: *mut u32, card_words: usize, state: *mut u32, state_words: usize) -> Answer;
+    fn ration_family_total(state: *const u32, state_words: usize, family: u32) -> Answer;
     fn ration_read_dump(dump: *const u8, dump_bytes: usize, words: *mut u32, words_lent: usize) -> Answer;
     fn ration_write_dump(card: *const u32, card_words: usize, bytes: *mut u8, bytes_lent: usize) -> Answer;
 }
@@ -185,6 +188,16 @@ pub fn step(card: &mut [u32], state: &mut StateBlock) -> Result<Step, Refusal> {
         READY => Ok(Step::Ready),
         VALUE => Ok(Step::Held { value: answer.value, depth: answer.depth }),
         ABSENT => Ok(Step::Absent { depth: answer.depth }),
+        number => Err(Refusal::from_number(number)),
+    }
+}
+
+/// How many pairs of a feed family the table holds: see [`crate::Table::family_total`]. It looks at no card. It is 0 in a new block,
+/// while a card is formatted, and after an opening that was refused.
+pub fn family_total(state: &StateBlock, family: u32) -> Result<u32, Refusal> {
+    let answer = unsafe { ration_family_total(state.0.as_ptr(), STATE_WORDS, family) };
+    match answer.code {
+        TOTAL => Ok(answer.value),
         number => Err(Refusal::from_number(number)),
     }
 }

@@ -5,7 +5,7 @@
 //!   So no second update can be started before the final answer of the first.
 //! - [`Update`], [`Repair`] and [`Formatting`] are in progress and have to be stepped. One that is dropped is a power cut:
 //!   open the card again.
-//! - `find`, `next_after`, `pairs` and `write_dump` work on all of them.
+//! - `find`, `next_after`, `pairs`, `family_total` and `write_dump` work on all of them.
 //! - [`calls`] are the same calls one by one, without that order.
 //!
 //! A card is formatted, a ration put in, power cut and the card opened again:
@@ -61,6 +61,22 @@
 //!
 //! What `find`, `next_after` and a finished update answer comes [`WithDepth`]: how many internal nodes stood on the way down when
 //! the call began, tagged ones counted.
+//!
+//! # What a feed family holds
+//!
+//! The top 4 bits of a key are its family ([`family_of`]); [`Table::family_total`] tells how many pairs one has, without a look at
+//! the card:
+//!
+//! ```
+//! use ration_table::{Refusal, Table, FAMILIES};
+//!
+//! fn print(table: &Table) -> Result<(), Refusal> {
+//!     for family in 0..FAMILIES {
+//!         println!("family {family}: {} rations", table.family_total(family)?);
+//!     }
+//!     Ok(())
+//! }
+//! ```
 //!
 //! # To keep an update across calls
 //!
@@ -133,6 +149,14 @@ pub use table::{FinalAnswer, Formatting, InProgress, Opened, Progress, Refused, 
 
 pub const LEAST_NODES: usize = 4;
 pub const MOST_NODES: usize = 2600;
+
+/// The feed families are 0 to 15.
+pub const FAMILIES: u32 = 16;
+
+/// The family of a key: its top 4 bits.
+pub const fn family_of(key: u32) -> u32 {
+    key >> 28
+}
 
 /// The words of a card with so many nodes.
 pub const fn card_words(nodes: usize) -> usize {

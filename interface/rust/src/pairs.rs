@@ -57,7 +57,7 @@ impl Iterator for Pairs<'_> {
 
 impl FusedIterator for Pairs<'_> {}
 
-/// Without the card's words, which are up to 14,408.
+/// Without the card's words, which are up to 62,408.
 impl fmt::Debug for Pairs<'_> {
     fn fmt(&self, f: &mut fmt::Formatter<'_>) -> fmt::Result {
         let words = self.card.len();

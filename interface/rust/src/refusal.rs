@@ -1,6 +1,6 @@
 use core::fmt;
 
-/// Why a call was refused, numbered as document 01 numbers it; `include/ration_table.h` says what to do about each.
+/// Why a call was refused, numbered as documents 01 and 02 number it; `include/ration_table.h` says what to do about each.
 #[derive(Clone, Copy, Debug, PartialEq, Eq)]
 #[repr(u32)]
 pub enum Refusal {
@@ -16,6 +16,7 @@ pub enum Refusal {
     NothingToStep = 10,
     WrongDump = 11,
     TooShort = 12,
+    NoFamily = 13,
 }
 
 impl Refusal {
@@ -37,6 +38,7 @@ impl Refusal {
             10 => Self::NothingToStep,
             11 => Self::WrongDump,
             12 => Self::TooShort,
+            13 => Self::NoFamily,
             _ => unreachable!("the archive gives no other codes to this call"),
         }
     }
@@ -57,6 +59,7 @@ impl fmt::Display for Refusal {
             Self::NothingToStep => "nothing is in progress",
             Self::WrongDump => "no dump, or a damaged one",
             Self::TooShort => "too short for the result",
+            Self::NoFamily => "there is no such family",
         };
         write!(f, "refused {}: {}", self.number(), text)
     }

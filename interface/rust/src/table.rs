@@ -196,6 +196,32 @@ impl<'a> Table<'a> {
         Pairs::on(self.card)
     }
 
+    /// How many pairs of a feed family, 0 to 15, the table holds; above 15 [`Refusal::NoFamily`].
+    ///
+    /// ```
+    /// # use core::num::NonZeroU32;
+    /// # use ration_table::{card_words, family_of, Progress, Refusal, StateBlock, Table};
+    /// # fn main() -> Result<(), Refusal> {
+    /// # let mut card = [0; card_words(12)];
+    /// # let mut state = StateBlock::new();
+    /// # let (mut table, ()) = Table::format(&mut card, &mut state)?.finish()?;
+    /// let ration = NonZeroU32::new(0xa000_0007).unwrap();
+    /// assert_eq!(family_of(ration.get()), 10);
+    /// let update = table.insert(ration, 70)?;
+    /// let Progress::Stored { more: update, .. } = update.step()? else { panic!() }; // the value
+    /// assert_eq!(update.family_total(10)?, 0);
+    /// let Progress::Stored { more: update, .. } = update.step()? else { panic!() }; // the key: now the pair is in
+    /// assert_eq!(update.family_total(10)?, 1);
+    /// let (table, _) = update.finish()?;
+    /// assert_eq!(table.family_total(10)?, 1);
+    /// assert_eq!(table.family_total(16), Err(Refusal::NoFamily));
+    /// # Ok(())
+    /// # }
+    /// ```
+    pub fn family_total(&self, family: u32) -> Result<u32, Refusal> {
+        calls::family_total(self.state, family)
+    }
+
     pub fn write_dump(&self, bytes: &mut [u8]) -> Result<usize, Refusal> {
         calls::write_dump(self.card, bytes)
     }
@@ -210,7 +236,7 @@ impl<'a> Table<'a> {
     }
 }
 
-/// Without the card's words, which are up to 14,408.
+/// Without the card's words, which are up to 62,408.
 impl fmt::Debug for Table<'_> {
     fn fmt(&self, f: &mut fmt::Formatter<'_>) -> fmt::Result {
         f.debug_struct("Table").field("card_words", &self.card.len()).finish_non_exhaustive()
@@ -295,6 +321,12 @@ impl<'a, A: FinalAnswer> InProgress<'a, A> {
     /// All pairs as the card is at this moment, in rising order of their keys: the next step waits for the end of the walk.
     pub fn pairs(&self) -> Pairs<'_> {
         self.table.pairs()
+    }
+
+    /// How many pairs of a feed family the table holds at this moment: an update counts from the store on that decides it, a repair
+    /// changes no total, and while a card is formatted they are 0.
+    pub fn family_total(&self, family: u32) -> Result<u32, Refusal> {
+        self.table.family_total(family)
     }
 
     pub fn write_dump(&self, bytes: &mut [u8]) -> Result<usize, Refusal> {

@@ -6,6 +6,7 @@ use Rattle.card.specs.Header.{Sized}
 use Rattle.card.specs.Layout.{searchStart}
 use Rattle.card.proofs.HeaderLaws.{sized, card-sized}
 use Rattle.card_check.specs.Check.{tableCheck}
+use Rattle.card_check.specs.Counting.{tableCounted}
 use Rattle.state.specs.Steps.{Handed, noBeginning}
 use Rattle.state.specs.Contracts.{Opened}
 use Rattle.state.proofs.ContractLaws.{open-no-state, opened-call}
@@ -57,7 +58,7 @@ returns-3 c =
     let s = c .before .before .before .before .before .before .before .before .before .before in
     opened-call (s .args .state .now) (c .before .before .open-checked .last .1 .1 .0) _ _ (c .before .before .before .before .before .before .before .if1 .left)
     (subst (λ (due : Handed). Opened (c .before .before .open-checked .last .1 .1 .0) (c .before .before .open-checked .result) due)
-    (ap (λ (n : ℕ). openChecked n (searchStart (s .args .card .now)) (tableCheck (s .args .card .now) n)) (c .before .before .before .before .nodes-of .ensures)
+    (ap (λ (n : ℕ). openChecked n (searchStart (s .args .card .now)) (tableCounted (s .args .card .now)) (tableCheck (s .args .card .now) n)) (c .before .before .before .before .nodes-of .ensures)
     ∙ sym (open-unrefused _ _
     (sym (c .before .before .before .before .before .before .card-refusal .ensures) ∙ c .before .before .before .before .before .if2 .left)))
     (c .before .before .open-checked .ensures))

@@ -37,14 +37,14 @@ returns : tie.Need-returns
 unfolding findingsOf
 returns c =
     subst (λ (due : Handed). Opened (c .before .before .refuse-beginning .last .0) (c .before .before .refuse-beginning .result) due)
-    (sym (open-scarce _ _ _ (omega (arith, c .before .before .before .before .before .count .ensures, c .before .before .before .before .if1 .taken))))
+    (sym (open-scarce _ _ _ _ (omega (arith, c .before .before .before .before .before .count .ensures, c .before .before .before .before .if1 .taken))))
     (c .before .before .refuse-beginning .ensures)
 
-array-read-run : tie.Need-array-read-run
-array-read-run c = search needs
+shared-slice-read-run : tie.Need-shared-slice-read-run
+shared-slice-read-run c = search needs
 
 cast-run : tie.Need-cast-run
-cast-run c = search needs
+cast-run c = omega (arith, c .shared-slice-known2 .given 2)
 
 refuse-beginning-requires-2 : tie.Need-refuse-beginning-requires-2
 refuse-beginning-requires-2 c κs = search needs
@@ -56,21 +56,21 @@ returns-2 : tie.Need-returns-2
 unfolding findingsOf
 returns-2 c =
     subst (λ (due : Handed). Opened (c .before .before .refuse-beginning2 .last .0) (c .before .before .refuse-beginning2 .result) due)
-    (sym (open-scarce _ _ _ (omega (
+    (sym (open-scarce _ _ _ _ (omega (
       arith,
-      c .before .before .before .before .before .before .count .ensures,
-      c .before .before .before .before .before .if1 .left,
+      c .before .before .before .before .before .before .before .count .ensures,
+      c .before .before .before .before .before .before .if1 .left,
       c .before .before .before .before .if2 .taken,
     )))) (c .before .before .refuse-beginning2 .ensures)
 
-array-read-if3 : tie.Need-array-read-if3
-array-read-if3 c = search needs
+shared-slice-read-if3 : tie.Need-shared-slice-read-if3
+shared-slice-read-if3 c = search needs
 
-array-read-t27 : tie.Need-array-read-t27
-array-read-t27 c = search needs
+shared-slice-read-t23 : tie.Need-shared-slice-read-t23
+shared-slice-read-t23 c = search needs
 
 store-resting-requires : tie.Need-store-resting-requires
-store-resting-requires c κs = let s = c .before .before .before .before .before .before .before .before in (s .pre .0, s .pre .1)
+store-resting-requires c κs = let s = c .before .before .before .before .before .before .before .before .before .before .before .before in (s .pre .0, s .pre .1)
 
 same-length-3 : tie.Need-same-length-3
 same-length-3 c = search needs
@@ -78,18 +78,18 @@ same-length-3 c = search needs
 returns-3 : tie.Need-returns-3
 unfolding findingsOf
 returns-3 c =
-    let s = c .before .before .before .before .before .before .before .before .before .before .before in
+    let s = c .before .before .before .before .before .before .before .before .before .before .before .before .before .before .before in
     subst (λ (due : Handed). Opened (c .before .before .store-resting .last .0) Started due)
-    (sym (open-repair _ _ (findingsOf (nodesOf (part (s .args .state .now) freeAt wordCount)) (s .args .t4)) (omega (
+    (sym (open-repair _ _ _ (findingsOf (nodesOf (part (s .args .state .now) freeAt wordCount)) (s .args .found .now)) (omega (
       arith,
-      c .before .before .before .before .before .before .before .count .ensures,
-      c .before .before .before .before .before .before .if1 .left,
-      c .before .before .before .before .before .if2 .left,
-    )) (ap not (ne-eqb (getD (s .args .t4) 0 0) 0 (c .before .before .before .before .if3 .taken)))))
+      c .before .before .before .before .before .before .before .before .before .before .count .ensures,
+      c .before .before .before .before .before .before .before .before .before .if1 .left,
+      c .before .before .before .before .before .before .before .if2 .left,
+    )) (ap not (ne-eqb (getD (s .args .found .now) 0 0) 0 (c .before .before .before .before .before .if3 .taken)))))
     (record { answered = refl; handed = c .before .before .store-resting .ensures .1; words = c .before .before .store-resting .ensures .0 })
 
 store-resting-requires-2 : tie.Need-store-resting-requires-2
-store-resting-requires-2 c κs = let s = c .before .before .before .before .before .before .before .before in (s .pre .0, s .pre .1)
+store-resting-requires-2 c κs = let s = c .before .before .before .before .before .before .before .before .before .before .before in (s .pre .0, s .pre .1)
 
 same-length-4 : tie.Need-same-length-4
 same-length-4 c = search needs
@@ -97,14 +97,14 @@ same-length-4 c = search needs
 returns-4 : tie.Need-returns-4
 unfolding findingsOf
 returns-4 c =
-    let s = c .before .before .before .before .before .before .before .before .before .before .before in
+    let s = c .before .before .before .before .before .before .before .before .before .before .before .before .before .before in
     subst (λ (due : Handed). Opened (c .before .before .store-resting2 .last .0) OpenedIdle due)
-    (sym (open-idle _ _ (findingsOf (nodesOf (part (s .args .state .now) freeAt wordCount)) (s .args .t4)) (omega (
+    (sym (open-idle _ _ _ (findingsOf (nodesOf (part (s .args .state .now) freeAt wordCount)) (s .args .found .now)) (omega (
       arith,
-      c .before .before .before .before .before .before .before .count .ensures,
-      c .before .before .before .before .before .before .if1 .left,
-      c .before .before .before .before .before .if2 .left,
-    )) (ap not (eq-eqb (getD (s .args .t4) 0 0) 0 (c .before .before .before .before .if3 .left)))))
+      c .before .before .before .before .before .before .before .before .before .count .ensures,
+      c .before .before .before .before .before .before .before .before .if1 .left,
+      c .before .before .before .before .before .before .if2 .left,
+    )) (ap not (eq-eqb (getD (s .args .found .now) 0 0) 0 (c .before .before .before .before .if3 .left)))))
     (record { answered = refl; handed = c .before .before .store-resting2 .ensures .1; words = c .before .before .store-resting2 .ensures .0 })
 
 pub open-sound-spec : {M : Type 1} → statement M
@@ -118,13 +118,13 @@ open-sound-spec =
     refuse-beginning-requires
     same-length
     returns
-    array-read-run
+    shared-slice-read-run
     cast-run
     refuse-beginning-requires-2
     same-length-2
     returns-2
-    array-read-if3
-    array-read-t27
+    shared-slice-read-if3
+    shared-slice-read-t23
     store-resting-requires
     same-length-3
     returns-3

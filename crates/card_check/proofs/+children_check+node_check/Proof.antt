@@ -1,7 +1,7 @@
 -- `card_check::children_check` and `card_check::node_check` meet their contracts: they call each other, "levels remaining falling".
 use mathlib.Core.List.{List}
 use mathlib.Core.Bool.{true, false}
-use mathlib.Core.Path.{_≡_, refl, sym, ap, _∙_}
+use mathlib.Core.Path.{_≡_, refl, sym, ap, subst, _∙_}
 use Prim.Native.Nat.{ℕ, _+_, _*_, _-_, _≤_, _<_}
 use native.Mathlib.Omega.{arith}
 use lib.Dec.{eqb}
@@ -9,12 +9,15 @@ use lib.ListN.{length, drop}
 use borrow.Author.Tests.{not-true, not-false}
 use borrow.Author.Needs.{needs}
 use Rattle.card.proofs.NodeLaws.{children-le, length-node, run-below-le}
-use Rattle.card.specs.Layout.{children, routingKeys}
+use Rattle.card.specs.Layout.{nodeAt, kindOf, children, routingKeys}
+use Rattle.card_family.specs.Families.{familyCount}
 use Rattle.card_free.specs.NodeSet.{wordCount, nodesOf}
 use Rattle.card_check.specs.declared.Checked.{Checked}
 use Rattle.card_check.specs.declared.Entry.{Entry}
 use Rattle.card_check.proofs.CheckLaws.{Children, enter-children, sound-height, turn-wrong, turn-bad, turn-uneven, turn-on, turn-end, check-bad, check-leaf, check-deep, check-inner}
 use Rattle.card_check.specs.Check.{rangeEndOf, lookOf, findingsOf, checkedOf, heightOf, enterNode, inner, raised, childrenCheck, nodeCheck}
+use Rattle.card_check.proofs.CountingLaws.{turn-counted, turn-counted-end, leaf-counted, counted-inner, raised-sound, unsound-not}
+use Rattle.card_check.specs.Counting.{childrenCounted, nodeCounted, EntryCounts}
 use borrow.Fn.Kinds.{In}
 use borrow.Fn.PlainCycle.{Measures, is, falls, and}
 use Rattle.card_check.proofs.children_check.Reads as children-check
@@ -66,9 +69,10 @@ node-check-below t =
 -- the whole of the definition equals what is left of it
 abbrev children-check-Inv-loop : children-check-lts.InvT-loop
 children-check-Inv-loop card node n c levels low high run free₀ found₀ from₀ height₀ i₀ free found from height i =
-    (i ≤ c) × (height ≤ levels) × (length free ≡ wordCount) × (length found ≡ 3)
+    (i ≤ c) × (height ≤ levels) × (length free ≡ wordCount) × (length found ≡ 3 + familyCount)
     × (childrenCheck (nodeCheck levels card n run false) true 0 low high (routingKeys node) (children node) (findingsOf (nodesOf free₀) found₀)
     ≡ childrenCheck (nodeCheck levels card n run false) (eqb i 0) height from high (drop i (routingKeys node)) (drop i (children node)) (findingsOf (nodesOf free) found))
+    × (childrenCounted (nodeCounted levels card) (children node) (drop 3 found₀) ≡ childrenCounted (nodeCounted levels card) (drop i (children node)) (drop 3 found))
 
 abbrev children-check-μ-loop : children-check-lts.MeasureT-loop
 children-check-μ-loop card node n c levels low high run free₀ found₀ from₀ height₀ i₀ free found from height i = c - i
@@ -76,7 +80,7 @@ children-check-μ-loop card node n c levels low high run free₀ found₀ from�
 children-check-loop-holds : (t : ℕ)
     → children-check-lts.Need-loop-holds (range-end.Asked, range-end.Learnt, node-check-below t, node-check.Post, is-level.Asked, is-level.Learnt)
     (children-check-at t) children-check.Post children-check-Inv-loop children-check-μ-loop
-children-check-loop-holds t c = (search needs, search needs, search needs, search needs, refl)
+children-check-loop-holds t c = (search needs, search needs, search needs, search needs, refl, refl)
 
 children-check-range-end-requires : (t : ℕ) → children-check-lts.Need-range-end-requires
     (range-end.Asked, range-end.Learnt, node-check-below t, node-check.Post, is-level.Asked, is-level.Learnt)
@@ -113,7 +117,7 @@ children-check-returns t c =
       sym (l .inv .4 ∙ turn-wrong (s .args .node .now) (s .pre .1 .2) (s .args .c) (l .i) (s .pre .1 .3)
           (nodeCheck (s .args .levels) (s .args .card .now) (s .args .n) (s .args .run) false) (l .height) (l .from) (s .args .high) (findingsOf (nodesOf (l .free)) (l .found)) (omega arith)
           (sym (c .before .before .range-end .ensures) ∙ ap rangeEndOf (c .enum-told .given .1))),
-      omega arith,
+      (omega arith, λ h e. absurd (unsound-not h e)),
     )
 
 children-check-add-m : (t : ℕ)
@@ -176,7 +180,7 @@ children-check-returns-2 t c =
           (sym (c .before .before .before .before .before .before .node-check .ensures .0) ∙ ap (λ (r : Checked). checkedOf r
           (findingsOf (nodesOf (c .before .before .before .before .before .before .node-check .last .1 .1 .1 .1 .1 .1 .1 .1 .0))
           (c .before .before .before .before .before .before .node-check .last .1 .1 .1 .1 .1 .1 .1 .1 .1 .0))) (c .enum-told2 .given .1))),
-      omega arith,
+      (omega arith, λ h e. absurd (unsound-not h e)),
     )
 
 children-check-is-level-requires : (t : ℕ) → children-check-lts.Need-is-level-requires
@@ -216,7 +220,7 @@ children-check-returns-3 t c =
           (c .before .before .before .before .before .before .before .before .before .node-check .last .1 .1 .1 .1 .1 .1 .1 .1 .1 .0)))
           (c .before .before .before .its .given .1))
           (sym (c .before .is-level .ensures) ∙ not-true _ (c .if1 .taken))),
-      omega arith,
+      (omega arith, λ h e. absurd (unsound-not h e)),
     )
 
 children-check-add-from : (t : ℕ)
@@ -272,7 +276,7 @@ children-check-loop-again t c =
     .before .before .before .before .before .before .before .before .before in
     let l = c .before .before .before .before .before .before .before .before .before .before .before .before .before .before .before .before .before .before .before .loop in (
       omega arith,
-      omega (arith, c .before .before .before .before .before .before .before .before .before .before .node-check .ensures .1, sound-height _ _ (c .before .before .before .before .its .given .1)),
+      omega (arith, c .before .before .before .before .before .before .before .before .before .before .node-check .ensures .1 .0, sound-height _ _ (c .before .before .before .before .its .given .1)),
       search needs,
       search needs,
       l .inv .4 ∙ turn-on (s .args .node .now) (s .pre .1 .2) (s .args .c) (l .i) (s .pre .1 .3)
@@ -290,6 +294,10 @@ children-check-loop-again t c =
           (c .before .before .before .before .before .before .before .before .before .before .node-check .last .1 .1 .1 .1 .1 .1 .1 .1 .1 .0)))
           (c .before .before .before .before .its .given .1))
           (sym (c .before .before .is-level .ensures) ∙ not-false _ (c .before .if1 .left)),
+      l .inv .5
+          ∙ turn-counted (s .args .node .now) (s .pre .1 .2) (s .args .c) (l .i) (s .pre .1 .3) (nodeCounted (s .args .levels) (s .args .card .now)) (drop 3 (l .found)) (omega arith)
+          ∙ ap (childrenCounted (nodeCounted (s .args .levels) (s .args .card .now)) (drop (l .i + 1) (children (s .args .node .now))))
+          (sym (c .before .before .before .before .before .before .before .before .before .before .node-check .ensures .1 .1 _ (c .before .before .before .before .its .given .1))),
     )
 
 children-check-same-length-7 : (t : ℕ)
@@ -312,7 +320,11 @@ children-check-returns-4 t c =
       sym (l .inv .4 ∙ turn-end (s .args .node .now) (s .pre .1 .2) (s .args .c) (l .i) (s .pre .1 .3)
           (nodeCheck (s .args .levels) (s .args .card .now) (s .args .n) (s .args .run) false) (eqb (l .i) 0) (l .height) (l .from)
           (s .args .high) (findingsOf (nodesOf (l .free)) (l .found)) (omega arith)),
-      l .inv .1,
+      (
+        l .inv .1,
+        λ h e. sym (l .inv .5 ∙ turn-counted-end (s .args .node .now) (s .pre .1 .2) (s .args .c) (l .i) (s .pre .1 .3)
+            (nodeCounted (s .args .levels) (s .args .card .now)) (drop 3 (l .found)) (omega arith)),
+      ),
     )
 
 -- the arm of an internal node: what `enter` found
@@ -333,9 +345,22 @@ found : (t : ℕ) (c : node-check-lts.After-entry
     (c .before .before .before .before .before .before .enter .last .1 .1 .1 .1 .1 .1 .1 .1 .0))
 unfolding lookOf
 found t c =
-    sym (c .before .before .before .before .before .before .enter .ensures)
+    sym (c .before .before .before .before .before .before .enter .ensures .0)
     ∙ ap (λ (e : Entry). lookOf e (findingsOf (nodesOf (c .before .before .before .before .before .before .enter .last .1 .1 .1 .1 .1 .1 .1 .0))
     (c .before .before .before .before .before .before .enter .last .1 .1 .1 .1 .1 .1 .1 .1 .0))) (c .entry .given .1)
+
+-- the totals are as they were
+unchanged : (t : ℕ) (c : node-check-lts.After-entry
+    (enter.Asked, enter.Learnt, node-at.Asked, node-at.Learnt, child-run.Asked, child-run.Learnt, children-check-below t, children-check.Post, raise.Asked, raise.Learnt)
+    (node-check-at t) node-check.Post)
+    → (kindOf (nodeAt (c .before .before .before .before .before .before .before .before .before .before .before .before .args .card .now)
+    (c .before .before .before .before .before .before .before .before .before .before .before .before .args .m)) ≡ 1 → ⊥)
+    × (drop 3 (c .before .before .before .before .before .before .enter .last .1 .1 .1 .1 .1 .1 .1 .1 .0)
+    ≡ drop 3 (c .before .before .before .before .before .before .before .before .before .before .before .before .args .found .now))
+unchanged t c =
+    let s = c .before .before .before .before .before .before .before .before .before .before .before .before in
+    subst (λ (e : Entry). EntryCounts e (nodeAt (s .args .card .now) (s .args .m)) (drop 3 (s .args .found .now))
+    (drop 3 (c .before .before .before .before .before .before .enter .last .1 .1 .1 .1 .1 .1 .1 .1 .0))) (c .entry .given .1) (c .before .before .before .before .before .before .enter .ensures .1)
 
 children-of : (t : ℕ) (c : node-check-lts.After-entry
     (enter.Asked, enter.Learnt, node-at.Asked, node-at.Learnt, child-run.Asked, child-run.Learnt, children-check-below t, children-check.Post, raise.Asked, raise.Learnt)
@@ -392,7 +417,7 @@ node-check-returns t c =
     let s = c .before .before .before .before .before .before .before .before .before .before .before .before .before .before in (
       sym (check-deep (s .args .card .now) (s .args .n) (s .args .run) (s .args .root) (s .args .low) (s .args .high) (s .args .m)
           (findingsOf (nodesOf (s .args .free .now)) (s .args .found .now)) (s .args .levels) _ _ (found t (c .before .before)) (c .if1 .taken)),
-      omega arith,
+      (omega arith, λ h e. absurd (unsound-not h e)),
     )
 
 node-check-node-at-requires : (t : ℕ) → node-check-lts.Need-node-at-requires
@@ -438,7 +463,13 @@ node-check-children-check-requires t c κs =
 node-check-raise-requires : (t : ℕ) → node-check-lts.Need-raise-requires
     (enter.Asked, enter.Learnt, node-at.Asked, node-at.Learnt, child-run.Asked, child-run.Learnt, children-check-below t, children-check.Post, raise.Asked, raise.Learnt)
     (node-check-at t) node-check.Post
-node-check-raise-requires t c κs = omega (arith, c .before .before .before .before .children-check .ensures .1)
+node-check-raise-requires t c κs =
+    omega (
+      arith,
+      c .before .before .before .before .children-check .ensures .1 .0,
+      c .before .before .before .before .before .before .before .before .before .before .before .before .before .before .before .before
+          .before .before .before .before .before .before .before .before .pre .1 .2,
+    )
 
 node-check-same-length-3 : (t : ℕ) → node-check-lts.Need-same-length-3
     (enter.Asked, enter.Learnt, node-at.Asked, node-at.Learnt, child-run.Asked, child-run.Learnt, children-check-below t, children-check.Post, raise.Asked, raise.Learnt)
@@ -458,10 +489,10 @@ node-check-returns-2 t c =
     let s = c .before .before .before .before .before .before .before .before .before .before .before .before in (
       sym (check-bad (s .args .card .now) (s .args .n) (s .args .run) (s .args .root) (s .args .low) (s .args .high) (s .args .m)
           (findingsOf (nodesOf (s .args .free .now)) (s .args .found .now)) (s .args .levels)
-          (sym (c .before .before .before .before .before .before .enter .ensures)
+          (sym (c .before .before .before .before .before .before .enter .ensures .0)
           ∙ (ap (λ (e : Entry). lookOf e (findingsOf (nodesOf (c .before .before .before .before .before .before .enter .last .1 .1 .1 .1 .1 .1 .1 .0))
           (c .before .before .before .before .before .before .enter .last .1 .1 .1 .1 .1 .1 .1 .1 .0))) (c .enum-told .given .1)))),
-      omega arith,
+      (omega arith, λ h e. absurd (unsound-not h e)),
     )
 
 node-check-same-length-5 : (t : ℕ) → node-check-lts.Need-same-length-5
@@ -482,10 +513,14 @@ node-check-returns-3 t c =
     let s = c .before .before .before .before .before .before .before .before .before .before .before .before in (
       sym (check-leaf (s .args .card .now) (s .args .n) (s .args .run) (s .args .root) (s .args .low) (s .args .high) (s .args .m)
           (findingsOf (nodesOf (s .args .free .now)) (s .args .found .now)) (s .args .levels) _
-          (sym (c .before .before .before .before .before .before .enter .ensures)
+          (sym (c .before .before .before .before .before .before .enter .ensures .0)
           ∙ (ap (λ (e : Entry). lookOf e (findingsOf (nodesOf (c .before .before .before .before .before .before .enter .last .1 .1 .1 .1 .1 .1 .1 .0))
           (c .before .before .before .before .before .before .enter .last .1 .1 .1 .1 .1 .1 .1 .1 .0))) (c .enum-told2 .given .1)))),
-      omega arith,
+      (
+        omega arith,
+        λ h q. leaf-counted (s .args .card .now) (s .args .m) (drop 3 (s .args .found .now)) (s .args .levels) _ _
+            (c .enum-told2 .given .1) (c .before .before .before .before .before .before .enter .ensures .1),
+      ),
     )
 
 node-check-same-length-7 : (t : ℕ) → node-check-lts.Need-same-length-7
@@ -513,7 +548,19 @@ node-check-returns-4 t c =
           (findingsOf (nodesOf (s .args .free .now)) (s .args .found .now)) (s .args .levels) _ _
           (found t (c .before .before .before .before .before .before .before .before .before .before .before .before .before))
           (c .before .before .before .before .before .before .before .before .before .before .before .if1 .left))),
-      omega (arith, c .raise .ensures .1, c .before .before .before .before .before .children-check .ensures .1),
+      (
+        omega (arith, c .raise .ensures .1, c .before .before .before .before .before .children-check .ensures .1 .0),
+        λ h e.
+            let k = raised-sound _ _ _ (c .raise .ensures .0) h e in
+            c .before .before .before .before .before .children-check .ensures .1 .1 (k .0) (k .1)
+            ∙ rw (
+              c .before .before .before .before .before .before .before .before .before .before .node-at .ensures,
+              unchanged t (c .before .before .before .before .before .before .before .before .before .before .before .before .before) .1,
+            )
+            (sym (counted-inner (s .args .card .now) (s .args .m) (drop 3 (s .args .found .now)) (s .args .levels)
+            (c .before .before .before .before .before .before .before .before .before .before .before .if1 .left) (unchanged t
+            (c .before .before .before .before .before .before .before .before .before .before .before .before .before) .0))),
+      ),
     )
 
 pub +children-check+node-check-spec : {M : Type 1} → statement M

@@ -6,6 +6,7 @@ use Rattle.card.proofs.HeaderLaws.{nodes-sized}
 use Rattle.walk_next.specs.Successor.{walkFrom}
 use Rattle.card_free.specs.NodeSet.{nodesOf}
 use Rattle.card_check.specs.Check.{findingsOf, checkedOf}
+use Rattle.card_check.specs.Counting.{tableCounted}
 use Rattle.card_check.specs.declared.Checked.{Checked}
 use Rattle.list_pairs.specs.Listing.{mostPairs, Listing, listed, listTable}
 use Rattle.list_pairs.proofs.SummaryLaws.{summary-refused, table-none, table-unsound, table-sound, summary-listed}
@@ -54,7 +55,7 @@ unfolding checkedOf
 returns-2 c =
     let s = c .before .before .before .before .before .before .before .before .before .before .before .before in
     let e = c .before .before .before .before .before .before .before .before .before .nodes-of .ensures in
-    let none-found = sym (c .before .before .before .before .before .check-table .ensures)
+    let none-found = sym (c .before .before .before .before .before .check-table .ensures .0)
     ∙ ap (λ (r : Checked). checkedOf r (findingsOf (nodesOf (c .before .before .before .before .before .check-table .last .1 .1 .0))
     (c .before .before .before .before .before .check-table .last .1 .1 .1 .0))) (c .before .enum-told .given .1) in
     let q = summary-refused 4 (listTable (s .args .greatest) (s .args .card .now) (nodesOfLength (s .args .greatest) (length (s .args .card .now)))) (s .args .out .now)
@@ -69,6 +70,12 @@ slice-aggregate-count c = search needs
 count-requires : tie.Need-count-requires
 count-requires c κs = search needs
 
+slice-aggregate-totals-found : tie.Need-slice-aggregate-totals-found
+slice-aggregate-totals-found c = search needs
+
+totals-found-requires : tie.Need-totals-found-requires
+totals-found-requires c κs = search needs
+
 put-pairs-requires : tie.Need-put-pairs-requires
 put-pairs-requires c κs = search needs
 
@@ -78,19 +85,21 @@ same-length c = search needs
 returns-3 : tie.Need-returns-3
 unfolding findingsOf checkedOf
 returns-3 c =
-    let s = c .before .before .before .before .before .before .before .before .before .before .before .before .before .before .before .before .before .before in
-    let n = c .before .before .before .before .before .before .before .before .before .before .before .before .before .before .before .nodes-of in
-    let k = c .before .before .before .before .before .before .before .before .before .before .before .check-table in
-    let g = c .before .before .before .before .before .before .before .levels .given in
-    let m = c .before .before .before .before .count in
+    let s = c .before .before .before .before .before .before .before .before .before .before .before .before .before .before .before .before .before .before .before .before in
+    let n = c .before .before .before .before .before .before .before .before .before .before .before .before .before .before .before .before .before .nodes-of in
+    let k = c .before .before .before .before .before .before .before .before .before .before .before .before .before .check-table in
+    let g = c .before .before .before .before .before .before .before .before .before .levels .given in
+    let m = c .before .before .before .before .before .before .count in
+    let t = c .before .before .before .before .totals-found in
     let q = c .before .before .put-pairs in
-    let some-node = c .before .before .before .before .before .before .before .before .before .before .before .before .before .before .if1 .left in
+    let some-node = c .before .before .before .before .before .before .before .before .before .before .before .before .before .before .before .before .if1 .left in
     let f = findingsOf (nodesOf (k .last .1 .1 .0)) (k .last .1 .1 .1 .0) in
     let card = s .args .card .now in
-    let found = sym (k .ensures) ∙ ap (λ (r : Checked). checkedOf r f) (g .1) in
-    let x : Listing = record { nodes = n .result; free = m .result; levels = g .0 .0; pairs = walkFrom (s .args .greatest) mostPairs card 0 } in
+    let found = sym (k .ensures .0) ∙ ap (λ (r : Checked). checkedOf r f) (g .1) in
+    let counted : t .result ≡ tableCounted card = t .ensures ∙ k .ensures .1 (g .0 .0) (g .1) in
+    let x : Listing = record { nodes = n .result; free = m .result; levels = g .0 .0; families = t .result; pairs = walkFrom (s .args .greatest) mostPairs card 0 } in
     let is : listTable (s .args .greatest) card (nodesOfLength (s .args .greatest) (length card)) ≡ listed x =
-    ap (listTable (s .args .greatest) card) (sym (n .ensures)) ∙ table-sound _ card (n .result) (g .0 .0) f some-node found ∙ rw (m .ensures) in
+    ap (listTable (s .args .greatest) card) (sym (n .ensures)) ∙ table-sound _ card (n .result) (g .0 .0) f some-node found ∙ rw (m .ensures, counted) in
     summary-listed x (listTable (s .args .greatest) card (nodesOfLength (s .args .greatest) (length card))) (s .args .out .now) (q .result) (q .last .1 .0) is (q .ensures)
 
 pub list-table-spec : {M : Type 1} → statement M
@@ -109,6 +118,8 @@ list-table-spec =
     returns-2
     slice-aggregate-count
     count-requires
+    slice-aggregate-totals-found
+    totals-found-requires
     put-pairs-requires
     same-length
     returns-3)

@@ -5,7 +5,7 @@ use native.Mathlib.Omega.{arith}
 use lib.ListN.{length, take, length-take, length-replicate}
 use borrow.Author.Needs.{needs}
 use Rattle.card.specs.Layout.{programNodes}
-use Rattle.list_text.specs.Text.{firstLine, pairLines, pairsOfWords, listText, listingTold, pairRoom, listingHanded, dumpText}
+use Rattle.list_text.specs.Text.{firstLine, pairLines, familyLines, pairsOfWords, listText, listingTold, pairRoom, listingHanded, dumpText}
 use Rattle.text_row.specs.Filling.{filled, fill}
 use Rattle.text_row.proofs.FillingLaws.{fill-then, fill-whole}
 use Rattle.list_text.proofs.TextLaws.{told-refused, told-listed, handed-is, words-fit}
@@ -44,42 +44,43 @@ returns c =
 put-summary-requires : tie.Need-put-summary-requires
 put-summary-requires c κs = search needs
 
+put-families-requires : tie.Need-put-families-requires
+put-families-requires c κs = omega (arith, c .before .before .before .put-summary .ensures .1, c .before .before .before .put-summary .kept .0)
+
 array-share-prefix-out : tie.Need-array-share-prefix-out
-array-share-prefix-out c = inside (c .before .before .before .before .before .before .before)
+array-share-prefix-out c = inside (c .before .before .before .before .before .before .before .before .before .before .before)
 
 slice-aggregate-put-pairs : tie.Need-slice-aggregate-put-pairs
 slice-aggregate-put-pairs c =
-    omega (
-      arith,
-      inside (c .before .before .before .before .before .before .before .before),
-      length-take (c .before .before .before .before .before .before .before .before .list-dump .result .words)
-          (c .before .before .before .before .before .before .before .before .list-dump .last .1 .1 .0),
-    )
+    let d = c .before .before .before .before .before .before .before .before .before .before .before .before in
+    omega (arith, inside d, length-take (d .list-dump .result .words) (d .list-dump .last .1 .1 .0))
 
 put-pairs-requires : tie.Need-put-pairs-requires
 put-pairs-requires c κs =
+    let d = c .before .before .before .before .before .before .before .before .before .before .before .before in
     omega (
       arith,
-      words-fit programNodes _ _ (c .before .before .before .before .before .before .before .before .list-dump .ensures .0),
-      length-take (c .before .before .before .before .before .before .before .before .list-dump .result .words)
-          (c .before .before .before .before .before .before .before .before .list-dump .last .1 .1 .0),
-      c .before .before .put-summary .ensures .1,
+      words-fit programNodes _ _ (d .list-dump .ensures .0),
+      length-take (d .list-dump .result .words) (d .list-dump .last .1 .1 .0),
+      c .before .before .before .before .before .before .put-summary .ensures .1,
+      c .before .before .put-families .ensures .1,
     )
 
 returns-2 : tie.Need-returns-2
 unfolding dumpText
 returns-2 c =
-    let s = c .before .before .before .before .before .before .before .before .before .before .before .before .before in
-    let r = c .before .before .before .before .before .before .before .before .before .list-dump .result in
-    let words = c .before .before .before .before .before .before .before .before .before .list-dump .last .1 .1 .0 in
-    let text = told-listed r words (c .before .before .before .before .before .if1 .left)
-    (inside (c .before .before .before .before .before .before .before .before .before))
-    ∙ ap listText (known (c .before .before .before .before .before .before .before .before .before)) in
-    let put = fill-then (firstLine (r .nodes) (r .free) (r .levels) (r .words / 2)) (pairLines (pairsOfWords (take (r .words) words))) _
-    (c .before .before .before .put-summary .ensures .0) (c .put-pairs .ensures .0) in
+    let s = c .before .before .before .before .before .before .before .before .before .before .before .before .before .before .before .before .before in
+    let d = c .before .before .before .before .before .before .before .before .before .before .before .before .before in
+    let r = d .list-dump .result in
+    let words = d .list-dump .last .1 .1 .0 in
+    let first = c .before .before .before .before .before .before .before .put-summary in
+    let families = c .before .before .before .put-families in
+    let text = told-listed r words (c .before .before .before .before .before .before .before .before .before .if1 .left) (inside d) ∙ ap listText (known d) in
+    let put = fill-then (firstLine (r .nodes) (r .free) (r .levels) (r .words / 2)) (familyLines (r .families)) _ (first .ensures .0) (families .ensures .0) in
+    let all = fill-then _ (pairLines (pairsOfWords (take (r .words) words))) _ put (c .put-pairs .ensures .0) in
     fill-whole (dumpText programNodes (s .args .dump .now)) (s .args .text .now) _ _
-    (omega (arith, c .put-pairs .ensures .1, c .before .before .before .put-summary .kept .0))
-    (put ∙ ap (λ (bytes : List ℕ). fill bytes (filled 0 (s .args .text .now))) text)
+    (omega (arith, c .put-pairs .ensures .1, first .kept .0, families .kept .0))
+    (all ∙ ap (λ (bytes : List ℕ). fill bytes (filled 0 (s .args .text .now))) text)
 
 pub list-text-spec : {M : Type 1} → statement M
 list-text-spec =
@@ -91,6 +92,7 @@ list-text-spec =
     put-refusal-requires
     returns
     put-summary-requires
+    put-families-requires
     array-share-prefix-out
     slice-aggregate-put-pairs
     put-pairs-requires

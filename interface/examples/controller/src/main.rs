@@ -6,7 +6,7 @@ use std::error::Error;
 use std::num::NonZeroU32;
 
 use ration_table::{
-    card_words, FinalAnswer, InProgress, Opened, Progress, Refusal, StateBlock, Table, Update, WithDepth,
+    card_words, family_of, FinalAnswer, InProgress, Opened, Progress, Refusal, StateBlock, Table, Update, WithDepth,
 };
 
 /// What is being done between two ticks.
@@ -70,6 +70,14 @@ impl<'a> Controller<'a> {
         }
     }
 
+    /// How many rations a feed family has at this moment, within an update too.
+    fn family_total(&self, family: u32) -> Result<u32, Refusal> {
+        match self.work.as_ref().expect("none only within a call") {
+            Work::Idle(table) => table.family_total(family),
+            Work::Updating(update) => update.family_total(family),
+        }
+    }
+
     /// Abandons an update: the card is opened again, and the update is wholly in or wholly out.
     fn abandon(self) -> Result<Self, Refusal> {
         let (card, state) = match self.work.expect("none only within a call") {
@@ -122,6 +130,15 @@ fn main() -> Result<(), Box<dyn Error>> {
         }
         controller = controller.abandon()?;
         println!("ration 13, abandoned with {stores} of its 2 stores made: {:?}", controller.find(key)?.answer);
+    }
+    let ration = NonZeroU32::new(0x3000_0001).ok_or(Refusal::KeyZero)?;
+    let family = family_of(ration.get());
+    controller.start_insert(ration, 1)?;
+    loop {
+        println!("ration {ration} is being put in: family {family} has {}", controller.family_total(family)?);
+        if let Tick::Done(_) = controller.tick()? {
+            break;
+        }
     }
     controller.start_insert(key, 131)?;
     if let Tick::Done(held) = controller.tick()? {

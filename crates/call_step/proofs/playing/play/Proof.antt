@@ -6,9 +6,9 @@ use Prim.Native.Nat.{ℕ, _+_}
 use lib.ListN.{drop, set, length-set}
 use Rattle.card.specs.Stores.{Store}
 use Rattle.state.specs.Results.{moreToStore}
-use Rattle.card_free.specs.NodeSet.{wordCount}
-use Rattle.state.specs.Blocks.{over, wordsOf}
-use Rattle.call_step.proofs.PlayLaws.{freedNodes, planned, part-word, made-planned, played-on, played-last}
+use Rattle.state.specs.Blocks.{over}
+use Rattle.call_step.specs.StepBlocks.{settledBlock}
+use Rattle.call_step.proofs.PlayLaws.{planned, part-word, made-planned, played-on, played-last}
 use borrow.Author.Needs.{needs}
 use Rattle.call_step.proofs.playing.play.Statement.{statement}
 use Rattle.call_step.proofs.playing.play.Tie as tie
@@ -58,55 +58,46 @@ returns c =
       played-on b (s .pre .0) k (drop k (planned b)) more,
     )
 
-settle-requires : tie.Need-settle-requires
-settle-requires c κs = search needs
-
 free-cut-requires : tie.Need-free-cut-requires
-free-cut-requires c κs =
-    c .before .before .before .settle .kept .0
-    ∙ length-set (c .before .before .before .before .before .before .before .before .before .before .before .args .state .now) 6
-    (c .before .before .before .before .before .before .before .before .before .before .before .args .made + 1)
-    ∙ c .before .before .before .before .before .before .before .before .before .before .before .pre .0
+free-cut-requires c κs = search needs
 
 clear-cut-requires : tie.Need-clear-cut-requires
 clear-cut-requires c κs =
-    c .before .before .before .free-cut .kept .0 ∙ c .before .before .before .before .before .before .before .settle .kept .0 ∙ length-set
-    (c .before .before .before .before .before .before .before .before .before .before .before .before .before .before .before .args .state .now) 6
-    (c .before .before .before .before .before .before .before .before .before .before .before .before .before .before .before .args .made + 1)
-    ∙ c .before .before .before .before .before .before .before .before .before .before .before .before .before .before .before .pre .0
+    let s = c .before .before .before .before .before .before .before .before .before .before .before in
+    c .before .before .before .free-cut .kept .0 ∙ length-set (s .args .state .now) 6 (s .args .made + 1) ∙ s .pre .0
+
+settle-requires : tie.Need-settle-requires
+settle-requires c κs =
+    let s = c .before .before .before .before .before .before .before .before .before .before .before .before .before .before .before in
+    c .before .before .before .clear-cut .kept .0 ∙ c .before .before .before .before .before .before .before .free-cut .kept .0
+    ∙ length-set (s .args .state .now) 6 (s .args .made + 1) ∙ s .pre .0
 
 same-length-3 : tie.Need-same-length-3
 same-length-3 c = search needs
 
 same-length-4 : tie.Need-same-length-4
 same-length-4 c =
-    c .before .before .clear-cut .kept .0 ∙ c .before .before .before .before .before .before .free-cut .kept .0
-    ∙ c .before .before .before .before .before .before .before .before .before .before .settle .kept .0
-    ∙ length-set (c .before .before .before .before .before .before .before .before .before .before .before .before .before .before .before
-    .before .before .before .args .state .now) 6 (c .before .before .before .before .before .before .before .before .before .before .before
-    .before .before .before .before .before .before .before .args .made + 1)
+    let s = c .before .before .before .before .before .before .before .before .before .before .before .before .before .before .before .before .before .before in
+    c .before .before .settle .kept .0 ∙ c .before .before .before .before .before .before .clear-cut .kept .0
+    ∙ c .before .before .before .before .before .before .before .before .before .before .free-cut .kept .0
+    ∙ length-set (s .args .state .now) 6 (s .args .made + 1)
 
 returns-2 : tie.Need-returns-2
 returns-2 c =
-    let b = c .before .before .before .before .before .before .before .before .before .before .before .before .before .before .before .before .before .before .args .state .now in
-    let k = c .before .before .before .before .before .before .before .before .before .before .before .before .before .before .before .before .before .before .args .made + 1 in
+    let s = c .before .before .before .before .before .before .before .before .before .before .before .before .before .before .before .before .before .before in
+    let b = s .args .state .now in
+    let k = s .args .made + 1 in
     let none : moreToStore (drop k (planned b)) ≡ false =
-    ap (λ (l : List Store). moreToStore (drop k l)) (sym (made-planned b (c .before .before .before .before .before .before .before .before
-    .before .before .before .before .before .before .before .before .before .before .pre .0) k))
+    ap (λ (l : List Store). moreToStore (drop k l)) (sym (made-planned b (s .pre .0) k))
     ∙ sym (c .before .before .before .before .before .before .before .before .before .before .before .before .before .in-hand .ensures)
     ∙ c .before .before .before .before .before .before .before .before .before .before .before .before .if1 .left in (
-      ap (set (c .before .before .before .before .before .before .before .before .before .before .before .before .before .before .before
-          .before .before .before .args .card .now) (c .before .before .before .before .before .before .before .before .before .before
-          .before .before .before .before .before .before .before .before .args .at))
-          (sym (part-word b valuesAt 73 (c .before .before .before .before .before .before .before .before .before .before .before .before
-          .before .before .before .before .before .before .args .made) (c .before .before .before .before .before .before .before .before
-          .before .before .before .before .before .before .before .before .before .before .pre .1))),
-      c .before .before .clear-cut .ensures
+      ap (set (s .args .card .now) (s .args .at)) (sym (part-word b valuesAt 73 (s .args .made) (s .pre .1))),
+      c .before .before .settle .ensures
+          ∙ ap settledBlock
+          (c .before .before .before .before .before .before .clear-cut .ensures
           ∙ ap (λ (x : List ℕ). over x 8 (0 ∷ 0 ∷ 0 ∷ []))
-          (c .before .before .before .before .before .before .free-cut .ensures ∙ ap (λ (x : List ℕ). over x 11 (wordsOf wordCount (freedNodes x)))
-          (c .before .before .before .before .before .before .before .before .before .before .settle .ensures))
-          ∙ played-last b (c .before .before .before .before .before .before .before .before .before .before .before .before .before .before
-          .before .before .before .before .pre .0) k (drop k (planned b)) none,
+          (c .before .before .before .before .before .before .before .before .before .before .free-cut .ensures))
+          ∙ played-last b (s .pre .0) k (drop k (planned b)) none,
     )
 
 pub play-spec : {M : Type 1} → statement M
@@ -125,9 +116,9 @@ play-spec =
     same-length
     same-length-2
     returns
-    settle-requires
     free-cut-requires
     clear-cut-requires
+    settle-requires
     same-length-3
     same-length-4
     returns-2)

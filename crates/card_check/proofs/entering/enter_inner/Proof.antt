@@ -1,5 +1,5 @@
 -- `card_check::entering::enter_inner` meets its contract.
-use mathlib.Core.Path.{sym, _∙_}
+use mathlib.Core.Path.{refl, sym, _∙_}
 use native.Mathlib.Omega.{arith}
 use borrow.Author.Tests.{not-true, not-false}
 use borrow.Author.Needs.{needs}
@@ -14,40 +14,48 @@ child-count-requires c κs = search needs
 
 returns : tie.Need-returns
 unfolding lookOf
-returns c free =
-    let s = c .before .before .before .before in
-    sym (enter-inner-none (s .args .node .now) (s .args .tagged) (s .args .low) (s .args .run) (s .args .root)
-    (findingsOf free (s .args .found .now)) (c .before .child-count .result) (c .before .child-count .ensures) (c .if1 .taken))
+returns c =
+    let s = c .before .before .before .before in (
+      λ free. sym (enter-inner-none (s .args .node .now) (s .args .tagged) (s .args .low) (s .args .run) (s .args .root)
+          (findingsOf free (s .args .found .now)) (c .before .child-count .result) (c .before .child-count .ensures) (c .if1 .taken)),
+      refl,
+    )
 
 unused-is-zero-requires : tie.Need-unused-is-zero-requires
 unused-is-zero-requires c κs = (search needs, omega arith, omega (arith, children-le (c .before .before .before .before .args .node .now), c .before .child-count .ensures))
 
 returns-2 : tie.Need-returns-2
 unfolding lookOf
-returns-2 c free =
-    let s = c .before .before .before .before .before .before in
-    sym (enter-inner-unused (s .args .node .now) (s .args .tagged) (s .args .low) (s .args .run) (s .args .root)
-    (findingsOf free (s .args .found .now)) (c .before .before .before .child-count .result) (c .before .before .before .child-count .ensures)
-    (c .before .before .if1 .left) (sym (c .before .unused-is-zero .ensures) ∙ not-true _ (c .if2 .taken)))
+returns-2 c =
+    let s = c .before .before .before .before .before .before in (
+      λ free. sym (enter-inner-unused (s .args .node .now) (s .args .tagged) (s .args .low) (s .args .run) (s .args .root)
+          (findingsOf free (s .args .found .now)) (c .before .before .before .child-count .result) (c .before .before .before .child-count .ensures)
+          (c .before .before .if1 .left) (sym (c .before .unused-is-zero .ensures) ∙ not-true _ (c .if2 .taken))),
+      refl,
+    )
 
 returns-3 : tie.Need-returns-3
 unfolding lookOf
-returns-3 c free =
-    let s = c .before .before .before .before .before .before .before .before in
-    sym (enter-tagged-root (s .args .node .now) (s .args .tagged) (s .args .low) (s .args .run) (s .args .root)
-    (findingsOf free (s .args .found .now)) (c .before .before .before .before .before .child-count .result)
-    (c .before .before .before .before .before .child-count .ensures) (c .before .before .before .before .if1 .left)
-    (sym (c .before .before .before .unused-is-zero .ensures) ∙ not-false _ (c .before .before .if2 .left)) (c .before .if3 .taken) (c .if4 .taken))
+returns-3 c =
+    let s = c .before .before .before .before .before .before .before .before in (
+      λ free. sym (enter-tagged-root (s .args .node .now) (s .args .tagged) (s .args .low) (s .args .run) (s .args .root)
+          (findingsOf free (s .args .found .now)) (c .before .before .before .before .before .child-count .result)
+          (c .before .before .before .before .before .child-count .ensures) (c .before .before .before .before .if1 .left)
+          (sym (c .before .before .before .unused-is-zero .ensures) ∙ not-false _ (c .before .before .if2 .left)) (c .before .if3 .taken) (c .if4 .taken)),
+      refl,
+    )
 
 returns-4 : tie.Need-returns-4
 unfolding lookOf
-returns-4 c free =
-    let s = c .before .before .before .before .before .before .before .before .before in
-    sym (enter-tagged-count (s .args .node .now) (s .args .tagged) (s .args .low) (s .args .run) (s .args .root)
-    (findingsOf free (s .args .found .now)) (c .before .before .before .before .before .before .child-count .result)
-    (c .before .before .before .before .before .before .child-count .ensures) (c .before .before .before .before .before .if1 .left)
-    (sym (c .before .before .before .before .unused-is-zero .ensures) ∙ not-false _ (c .before .before .before .if2 .left))
-    (c .before .before .if3 .taken) (c .if5 .taken))
+returns-4 c =
+    let s = c .before .before .before .before .before .before .before .before .before in (
+      λ free. sym (enter-tagged-count (s .args .node .now) (s .args .tagged) (s .args .low) (s .args .run) (s .args .root)
+          (findingsOf free (s .args .found .now)) (c .before .before .before .before .before .before .child-count .result)
+          (c .before .before .before .before .before .before .child-count .ensures) (c .before .before .before .before .before .if1 .left)
+          (sym (c .before .before .before .before .unused-is-zero .ensures) ∙ not-false _ (c .before .before .before .if2 .left))
+          (c .before .before .if3 .taken) (c .if5 .taken)),
+      refl,
+    )
 
 with-violation-requires : tie.Need-with-violation-requires
 with-violation-requires c κs = search needs
@@ -56,26 +64,30 @@ same-length : tie.Need-same-length
 same-length c = search needs
 
 returns-5 : tie.Need-returns-5
-returns-5 c free =
-    let s = c .before .before .before .before .before .before .before .before .before .before .before .before .before in
-    c .before .before .with-violation .ensures free
-    ∙ sym (enter-tagged (s .args .node .now) (s .args .tagged) (s .args .low) (s .args .run) (s .args .root) (findingsOf free (s .args .found .now))
-    (c .before .before .before .before .before .before .before .before .before .before .child-count .result)
-    (c .before .before .before .before .before .before .before .before .before .before .child-count .ensures)
-    (c .before .before .before .before .before .before .before .before .before .if1 .left)
-    (sym (c .before .before .before .before .before .before .before .before .unused-is-zero .ensures) ∙ not-false _
-    (c .before .before .before .before .before .before .before .if2 .left)) (c .before .before .before .before .before .before .if3 .taken)
-    (c .before .before .before .before .before .if4 .left) (c .before .before .before .before .if5 .left))
+returns-5 c =
+    let s = c .before .before .before .before .before .before .before .before .before .before .before .before .before in (
+      λ free. c .before .before .with-violation .ensures .0 free
+          ∙ sym (enter-tagged (s .args .node .now) (s .args .tagged) (s .args .low) (s .args .run) (s .args .root) (findingsOf free (s .args .found .now))
+          (c .before .before .before .before .before .before .before .before .before .before .child-count .result)
+          (c .before .before .before .before .before .before .before .before .before .before .child-count .ensures)
+          (c .before .before .before .before .before .before .before .before .before .if1 .left)
+          (sym (c .before .before .before .before .before .before .before .before .unused-is-zero .ensures) ∙ not-false _
+          (c .before .before .before .before .before .before .before .if2 .left)) (c .before .before .before .before .before .before .if3 .taken)
+          (c .before .before .before .before .before .if4 .left) (c .before .before .before .before .if5 .left)),
+      c .before .before .with-violation .ensures .1,
+    )
 
 returns-6 : tie.Need-returns-6
 unfolding lookOf
-returns-6 c free =
-    let s = c .before .before .before .before .before .before .before .before .before in
-    sym (enter-single-root (s .args .node .now) (s .args .tagged) (s .args .low) (s .args .run) (s .args .root)
-    (findingsOf free (s .args .found .now)) (c .before .before .before .before .before .before .child-count .result)
-    (c .before .before .before .before .before .before .child-count .ensures) (c .before .before .before .before .before .if1 .left)
-    (sym (c .before .before .before .before .unused-is-zero .ensures) ∙ not-false _ (c .before .before .before .if2 .left))
-    (c .before .before .if3 .left) (c .before .if6 .taken) (c .if7 .taken))
+returns-6 c =
+    let s = c .before .before .before .before .before .before .before .before .before in (
+      λ free. sym (enter-single-root (s .args .node .now) (s .args .tagged) (s .args .low) (s .args .run) (s .args .root)
+          (findingsOf free (s .args .found .now)) (c .before .before .before .before .before .before .child-count .result)
+          (c .before .before .before .before .before .before .child-count .ensures) (c .before .before .before .before .before .if1 .left)
+          (sym (c .before .before .before .before .unused-is-zero .ensures) ∙ not-false _ (c .before .before .before .if2 .left))
+          (c .before .before .if3 .left) (c .before .if6 .taken) (c .if7 .taken)),
+      refl,
+    )
 
 with-violation-requires-2 : tie.Need-with-violation-requires-2
 with-violation-requires-2 c κs = search needs
@@ -84,25 +96,29 @@ same-length-2 : tie.Need-same-length-2
 same-length-2 c = search needs
 
 returns-7 : tie.Need-returns-7
-returns-7 c free =
-    let s = c .before .before .before .before .before .before .before .before .before .before .before .before .before in
-    c .before .before .with-violation2 .ensures free
-    ∙ sym (enter-single (s .args .node .now) (s .args .tagged) (s .args .low) (s .args .run) (s .args .root) (findingsOf free (s .args .found .now))
-    (c .before .before .before .before .before .before .before .before .before .before .child-count .result)
-    (c .before .before .before .before .before .before .before .before .before .before .child-count .ensures)
-    (c .before .before .before .before .before .before .before .before .before .if1 .left)
-    (sym (c .before .before .before .before .before .before .before .before .unused-is-zero .ensures) ∙ not-false _
-    (c .before .before .before .before .before .before .before .if2 .left)) (c .before .before .before .before .before .before .if3 .left)
-    (c .before .before .before .before .before .if6 .taken) (c .before .before .before .before .if7 .left))
+returns-7 c =
+    let s = c .before .before .before .before .before .before .before .before .before .before .before .before .before in (
+      λ free. c .before .before .with-violation2 .ensures .0 free
+          ∙ sym (enter-single (s .args .node .now) (s .args .tagged) (s .args .low) (s .args .run) (s .args .root) (findingsOf free (s .args .found .now))
+          (c .before .before .before .before .before .before .before .before .before .before .child-count .result)
+          (c .before .before .before .before .before .before .before .before .before .before .child-count .ensures)
+          (c .before .before .before .before .before .before .before .before .before .if1 .left)
+          (sym (c .before .before .before .before .before .before .before .before .unused-is-zero .ensures) ∙ not-false _
+          (c .before .before .before .before .before .before .before .if2 .left)) (c .before .before .before .before .before .before .if3 .left)
+          (c .before .before .before .before .before .if6 .taken) (c .before .before .before .before .if7 .left)),
+      c .before .before .with-violation2 .ensures .1,
+    )
 
 returns-8 : tie.Need-returns-8
 unfolding lookOf
-returns-8 c free =
-    let s = c .before .before .before .before .before .before .before .before in
-    sym (enter-several (s .args .node .now) (s .args .tagged) (s .args .low) (s .args .run) (s .args .root)
-    (findingsOf free (s .args .found .now)) (c .before .before .before .before .before .child-count .result)
-    (c .before .before .before .before .before .child-count .ensures) (c .before .before .before .before .if1 .left)
-    (sym (c .before .before .before .unused-is-zero .ensures) ∙ not-false _ (c .before .before .if2 .left)) (c .before .if3 .left) (c .if6 .left))
+returns-8 c =
+    let s = c .before .before .before .before .before .before .before .before in (
+      λ free. sym (enter-several (s .args .node .now) (s .args .tagged) (s .args .low) (s .args .run) (s .args .root)
+          (findingsOf free (s .args .found .now)) (c .before .before .before .before .before .child-count .result)
+          (c .before .before .before .before .before .child-count .ensures) (c .before .before .before .before .if1 .left)
+          (sym (c .before .before .before .unused-is-zero .ensures) ∙ not-false _ (c .before .before .if2 .left)) (c .before .if3 .left) (c .if6 .left)),
+      refl,
+    )
 
 pub enter-inner-spec : {M : Type 1} → statement M
 enter-inner-spec =

@@ -6,12 +6,13 @@ use native.Mathlib.Omega.{arith}
 use lib.ListN.{length, getD, take, drop, replicate, length-take, length-drop, List·getD-eq-default}
 use lib.Seq.{getD-take, getD-drop}
 use Rattle.laws.proofs.Cases.{order}
-use Rattle.state.specs.Block.{freeAt, placesAt, restWords, stateWords, part, memoryIn}
+use Rattle.state.specs.Block.{freeAt, placesAt, totalsAt, restWords, stateWords, part, memoryIn}
 use Rattle.state.proofs.Rows.{placed, placed-length}
 use Rattle.state.proofs.Blocks.{numbered-length, memory-resting, resting-block, rest-stored}
 use borrow.Author.Needs.{needs}
 use Rattle.state.proofs.block.store_resting.Statement.{statement}
 use Rattle.state.proofs.block.store_resting.Tie as tie
+use Rattle.card_family.specs.Families.{familyCount}
 use Rattle.card_free.specs.NodeSet.{wordCount}
 
 -- the block before its rows are cleared
@@ -90,14 +91,16 @@ returns c =
     (c .before .before .before .before .before .before .store-doing .ensures)
     ∙ rest-stored block (c .before .before .clear-words .last .0) (s .args .n) (s .args .last) (s .args .doing) (s .pre .0)
     (c .before .before .clear-words .ensures ∙ ap (λ (k : ℕ). replicate k 0) (span (c .before .before .before .before .before .before))) in
-    let twenty : length row ≡ wordCount = omega (arith, length-take wordCount (drop 11 block), length-drop 11 block, s .pre .0) in
+    let totals = part block totalsAt familyCount in
+    let all-free : length row ≡ wordCount = omega (arith, length-take wordCount (drop 11 block), length-drop 11 block, s .pre .0) in
+    let sixteen : length totals ≡ familyCount = omega (arith, length-take familyCount (drop totalsAt block), length-drop totalsAt block, s .pre .0) in
     let words : (i : ℕ) → getD row i 0 < 2 ^ 32 =
     λ i. order i wordCount (λ h. rw (getD-take wordCount (drop 11 block) i 0 h ∙ getD-drop 11 block i 0) (omega (
       arith,
       c .before .before .before .before .before .before .before .before .slice-known .given (11 + i),
-    ))) (λ h. rw (List·getD-eq-default row 0 {n = i} (omega (arith, twenty))) (omega arith)) in (
-      whole ∙ resting-block (s .args .n) row (s .args .last) twenty (s .args .doing) words,
-      ap memoryIn whole ∙ memory-resting (s .args .n) row (s .args .last) twenty (s .args .doing),
+    ))) (λ h. rw (List·getD-eq-default row 0 {n = i} (omega (arith, all-free))) (omega arith)) in (
+      whole ∙ resting-block (s .args .n) row (s .args .last) totals all-free sixteen (s .args .doing) words,
+      ap memoryIn whole ∙ memory-resting (s .args .n) row (s .args .last) totals all-free sixteen (s .args .doing),
     )
 
 pub store-resting-spec : {M : Type 1} → statement M
