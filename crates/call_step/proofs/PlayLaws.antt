@@ -241,7 +241,7 @@ module _ (b : List ℕ) (long : length b ≡ stateWords) where
   played-on k [] e = impossible (cc)
   played-on k (s ∷ rest) e = refl
 
-  pub played-last : (k : ℕ) (rest : List Store) → moreToStore rest ≡ false
+  played-last : (k : ℕ) (rest : List Store) → moreToStore rest ≡ false
       → settledBlock (over (over (set b 6 k) 11 (wordsOf wordCount (freedNodes (set b 6 k)))) 8 (0 ∷ 0 ∷ 0 ∷ [])) ≡ playedBlock b k rest
   unfolding moreToStore playedBlock
   played-last k [] e =
@@ -251,3 +251,8 @@ module _ (b : List ℕ) (long : length b ≡ stateWords) where
       ∙ over-cut (set b 6 k) words (omega (arith, length-set b 6 k)))
       ∙ settled-over k words (length-words wordCount (freedNodes b))
   played-last k (s ∷ rest) e = impossible (cc)
+
+  -- the block after the last store, as the code leaves it
+  pub ended : (k : ℕ) (rest : List Store) → moreToStore rest ≡ false → {x y : List ℕ} → x ≡ set b 6 k
+      → y ≡ settledBlock (over (over x 11 (wordsOf wordCount (freedNodes x))) 8 (0 ∷ 0 ∷ 0 ∷ [])) → y ≡ playedBlock b k rest
+  ended k rest e p q = q ∙ ap (λ (x : List ℕ). settledBlock (over (over x 11 (wordsOf wordCount (freedNodes x))) 8 (0 ∷ 0 ∷ 0 ∷ []))) p ∙ played-last k rest e

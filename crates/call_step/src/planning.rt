@@ -1,7 +1,8 @@
 // The steps that have no store left to make: a new change is decided, its nodes are given, it is laid out in the block's rows, and its
 // first store is made; or the final answer is given.
+use crate::playing::end_change;
 use crate::playing::finish;
-use crate::playing::play;
+use crate::playing::store_word;
 use call_change::next_change;
 use change_decide::Decision;
 use change_layout::Size;
@@ -105,7 +106,10 @@ fn step_change(
     }
     plan(card, state, doing, decision, size, [left, right, above]);
     let place = state[PLACES];
-    play(card, state, 0, wide(place));
+    if store_word(card, state, 0, wide(place)) {
+        return Answer::Stored(place);
+    }
+    end_change(state);
     Answer::Stored(place)
 }
 

@@ -34,7 +34,7 @@ ghost use Rattle.state.specs.Steps.{isIdle, stepStore};
 ghost use Rattle.state.specs.Results.{moreToStore};
 ghost use Rattle.state.specs.Block.{freeAt, placesAt, totalsAt, valuesAt, stateWords, blockWord, part, doingIn, memoryIn};
 ghost use Rattle.state.specs.Blocks.{over, wordsOf};
-ghost use Rattle.call_step.specs.StepBlocks.{idledBlock, totalled, settledBlock, playedBlock};
+ghost use Rattle.call_step.specs.StepBlocks.{idledBlock, totalled, settledBlock};
 ghost use Rattle.call_step.specs.Contracts.{StepMade, HoldsTask};
 
 // Nothing is being done. The depth stays as it was kept at the start, since a final answer tells that one (document 02, W-203).
@@ -152,20 +152,26 @@ pub fn has_store(state: &[u32]) -> bool
     in_hand(state, wide(state[MADE]))
 }
 
-// The store of the plan after so many is made, in this place, and told to the block; after the last one a first change is decided and
-// the nodes that it cut out are free.
-pub fn play(card: &mut [u32], state: &mut [u32], made: usize, at: usize)
+// The store of the plan after so many is made, in this place, and counted in the block; the answer is whether another is to come.
+pub fn store_word(card: &mut [u32], state: &mut [u32], made: usize, at: usize) -> bool
     requires { ⌜ (length (now state) ≡ stateWords) × (made < 73) × (at < length (now card)) ⌝ }
-    ensures { λ _. ⌜ (now (card .exit) ≡ set (now (card .entry)) at (getD (part (now (state .entry)) valuesAt 73) made 0))
-        × (now (state .exit) ≡ playedBlock (now (state .entry)) (made + 1)
-        (drop (made + 1) (storesOf (part (now (state .entry)) placesAt 73) (part (now (state .entry)) valuesAt 73) (blockWord (now (state .entry)) 7)))) ⌝ }
+    ensures { λ r. ⌜ r ≡ moreToStore (drop (made + 1) (storesOf (part (now (state .entry)) placesAt 73) (part (now (state .entry)) valuesAt 73) (blockWord (now (state .entry)) 7))) ⌝ }
+    ensures { λ _. ⌜ now (card .exit) ≡ set (now (card .entry)) at (getD (part (now (state .entry)) valuesAt 73) made 0) ⌝ }
+    ensures { λ _. ⌜ now (state .exit) ≡ set (now (state .entry)) 6 (made + 1) ⌝ }
 {
     card[at] = state[VALUES + made];
     let next = made + 1;
     state[MADE] = next as u32;
-    if in_hand(state, next) {
-        return;
-    }
+    in_hand(state, next)
+}
+
+// After the last store of a change: the nodes that it cut out are free, and a first change is decided. Both that make stores call it, so
+// that a store before the last is made without its code.
+pub fn end_change(state: &mut [u32])
+    requires { ⌜ length (now state) ≡ stateWords ⌝ }
+    ensures { λ _. ⌜ now (state .exit) ≡ settledBlock (over (over (now (state .entry)) 11
+        (wordsOf wordCount (withAll (beforeZero (part (now (state .entry)) 8 3)) (nodesOf (part (now (state .entry)) freeAt wordCount))))) 8 (0 ∷ 0 ∷ 0 ∷ [])) ⌝ }
+{
     free_cut(state);
     clear_cut(state);
     settle(state);
@@ -186,6 +192,9 @@ pub fn store_next(card: &mut [u32], state: &mut [u32]) -> Answer
     if card.len() <= at {
         return Answer::Refused(9);
     }
-    play(card, state, made, at);
+    if store_word(card, state, made, at) {
+        return Answer::Stored(place);
+    }
+    end_change(state);
     Answer::Stored(place)
 }

@@ -5,7 +5,7 @@ use mathlib.Core.Option.{none, some}
 use mathlib.Core.Path.{_≡_, sym, ap, ap₂, subst, _∙_}
 use Prim.Native.Nat.{ℕ, _<_}
 use native.Mathlib.Omega.{arith}
-use lib.ListN.{length, take}
+use lib.ListN.{length, take, drop}
 use Rattle.card_free.specs.NodeSet.{wordCount, nodesOf}
 use Rattle.change_plan.specs.Plan.{givenBy, leftGiven}
 use Rattle.change_plan.specs.Planning.{takeNumbers}
@@ -16,6 +16,7 @@ use Rattle.change_layout.proofs.LayOutLaws.{needed-few}
 use Rattle.state.specs.Block.{freeAt, blockWord, part}
 use Rattle.state.proofs.Blocks.{free-span}
 use Rattle.call_step.proofs.ChangeLaws.{change-none, change-outside, change-length, change-on-card, change-made}
+use Rattle.call_step.proofs.PlayLaws.{planned, played-on, ended}
 use borrow.Author.Needs.{needs}
 use Rattle.call_step.proofs.planning.step_change.Statement.{statement}
 use Rattle.call_step.proofs.planning.step_change.Tie as tie
@@ -127,8 +128,8 @@ slice-read-place c = search needs
 wide-requires-2 : tie.Need-wide-requires-2
 wide-requires-2 c κs = search needs
 
-play-requires : tie.Need-play-requires
-play-requires c κs =
+store-word-requires : tie.Need-store-word-requires
+store-word-requires c κs =
     let s = c .before .before .before .before .before .before .before .before .before .before .before .before .before .before .before .before .before .before .before .before in
     let b = s .args .state .now in
     let plan = c .before .before .before .before .before .before .plan in
@@ -140,6 +141,9 @@ play-requires c κs =
       on-card (c),
     )
 
+end-change-requires : tie.Need-end-change-requires
+end-change-requires c κs = search needs
+
 same-length-3 : tie.Need-same-length-3
 same-length-3 c = search needs
 
@@ -148,16 +152,43 @@ same-length-4 c = search needs
 
 returns-3 : tie.Need-returns-3
 returns-3 c =
-    let at-given = c .before .before .before .before .before .before .before .before .before .before .before .before .before .before .before .before .before in
+    let at-given = c .before .before .before .before .before .before .before .before .before .before .before .before .before .before .before .before .before .before in
     let s = at-given .before .before .before .before .before .before .before .before in
     let b = s .args .state .now in
-    let plan = c .before .before .before .before .before .before .before .before .before .before .before .plan in
-    let wide2-call = c .before .before .before .before .before .wide2 in
-    let play = c .before .before .before .before .play in
-    let at-on-card = c .before .before .before .before .before in
+    let plan = c .before .before .before .before .before .before .before .before .before .before .before .before .plan in
+    let wide2-call = c .before .before .before .before .before .before .wide2 in
+    let store = c .before .before .before .before .before .store-word in
+    let at-on-card = c .before .before .before .before .before .before in
     let n = blockWord b 0 in
+    let p = plan .last .1 .0 in
+    let long = change-length greatestNodes (s .args .card .now) b (s .pre .0) (s .args .doing) (s .args .decision) (s .pre .2) n (s .pre .1) _ _ _ (given at-given)
+    (plan .ensures .1) _ (plan .ensures .0) in
     change-made greatestNodes (s .args .card .now) b (s .pre .0) (s .args .doing) (s .args .decision) (s .pre .2) n (s .pre .1) _ _ _ (given at-given)
-    (plan .ensures .1) _ (plan .ensures .0) (wide2-call .result) (wide2-call .ensures) (on-card at-on-card) (play .ensures .0) (play .ensures .1)
+    (plan .ensures .1) _ (plan .ensures .0) (wide2-call .result) (wide2-call .ensures) (on-card at-on-card) (store .ensures .1 .0)
+    (store .ensures .1 .1 ∙ played-on p long 1 (drop 1 (planned p)) (sym (store .ensures .0) ∙ c .if2 .taken))
+
+same-length-5 : tie.Need-same-length-5
+same-length-5 c = search needs
+
+same-length-6 : tie.Need-same-length-6
+same-length-6 c = search needs
+
+returns-4 : tie.Need-returns-4
+returns-4 c =
+    let at-given = c .before .before .before .before .before .before .before .before .before .before .before .before .before .before .before .before .before .before .before .before .before .before in
+    let s = at-given .before .before .before .before .before .before .before .before in
+    let b = s .args .state .now in
+    let plan = c .before .before .before .before .before .before .before .before .before .before .before .before .before .before .before .before .plan in
+    let wide2-call = c .before .before .before .before .before .before .before .before .before .before .wide2 in
+    let store = c .before .before .before .before .before .before .before .before .before .store-word in
+    let at-on-card = c .before .before .before .before .before .before .before .before .before .before in
+    let n = blockWord b 0 in
+    let p = plan .last .1 .0 in
+    let long = change-length greatestNodes (s .args .card .now) b (s .pre .0) (s .args .doing) (s .args .decision) (s .pre .2) n (s .pre .1) _ _ _ (given at-given)
+    (plan .ensures .1) _ (plan .ensures .0) in
+    change-made greatestNodes (s .args .card .now) b (s .pre .0) (s .args .doing) (s .args .decision) (s .pre .2) n (s .pre .1) _ _ _ (given at-given)
+    (plan .ensures .1) _ (plan .ensures .0) (wide2-call .result) (wide2-call .ensures) (on-card at-on-card) (store .ensures .1 .0)
+    (ended p long 1 (drop 1 (planned p)) (sym (store .ensures .0) ∙ c .before .before .before .before .if2 .left) (store .ensures .1 .1) (c .before .before .end-change .ensures))
 
 pub step-change-spec : {M : Type 1} → statement M
 step-change-spec =
@@ -179,7 +210,11 @@ step-change-spec =
     plan-requires
     slice-read-place
     wide-requires-2
-    play-requires
+    store-word-requires
     same-length-3
     same-length-4
-    returns-3)
+    returns-3
+    end-change-requires
+    same-length-5
+    same-length-6
+    returns-4)

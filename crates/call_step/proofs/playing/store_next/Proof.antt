@@ -1,7 +1,10 @@
 -- `call_step::playing::store_next` meets its contract.
-use Prim.Native.Nat.{_<_}
+use mathlib.Core.Path.{sym, _∙_}
+use Prim.Native.Nat.{_+_, _<_}
+use lib.ListN.{drop}
 use native.Mathlib.Omega.{arith}
 use Rattle.call_step.proofs.ContractLaws.{next-below, store-refused, store-made}
+use Rattle.call_step.proofs.PlayLaws.{planned, played-on, ended}
 use borrow.Author.Needs.{needs}
 use Rattle.call_step.proofs.playing.store_next.Statement.{statement}
 use Rattle.call_step.proofs.playing.store_next.Tie as tie
@@ -36,12 +39,15 @@ returns c =
     store-refused (s .args .card .now) (s .args .state .now) (s .pre .0) (s .pre .1) (wide-call .result) (wide-call .ensures)
     (omega (arith, c .before .wide2 .ensures, c .if1 .taken))
 
-play-requires : tie.Need-play-requires
-play-requires c κs =
+store-word-requires : tie.Need-store-word-requires
+store-word-requires c κs =
     let s = c .before .before .before .before .before .before .before .before .before in
     let if1 = c .before .before .if1 in
     let at-below = c .before .before .before .before .before in
     (s .pre .0, below at-below, if1 .left)
+
+end-change-requires : tie.Need-end-change-requires
+end-change-requires c κs = search needs
 
 same-length : tie.Need-same-length
 same-length c = search needs
@@ -51,14 +57,37 @@ same-length-2 c = search needs
 
 returns-2 : tie.Need-returns-2
 returns-2 c =
-    let s = c .before .before .before .before .before .before .before .before .before .before .before .before .before .before in
-    let wide-call = c .before .before .before .before .before .before .before .before .before .before .wide in
-    let wide2 = c .before .before .before .before .before .before .before .before .wide2 in
-    let if1 = c .before .before .before .before .before .before .before .if1 in
-    let play = c .before .before .before .before .play in
-    store-made (s .args .card .now) (s .args .state .now) (s .pre .0) (s .pre .1) (wide-call .result) (wide-call .ensures) (wide2 .result)
+    let s = c .before .before .before .before .before .before .before .before .before .before .before .before .before .before .before in
+    let b = s .args .state .now in
+    let wide-call = c .before .before .before .before .before .before .before .before .before .before .before .wide in
+    let wide2 = c .before .before .before .before .before .before .before .before .before .wide2 in
+    let if1 = c .before .before .before .before .before .before .before .before .if1 in
+    let store = c .before .before .before .before .before .store-word in
+    let k = wide-call .result + 1 in
+    store-made (s .args .card .now) b (s .pre .0) (s .pre .1) (wide-call .result) (wide-call .ensures) (wide2 .result)
     (s .pre .2) (wide2 .ensures)
-    (if1 .left) (play .ensures .0) (play .ensures .1)
+    (if1 .left) (store .ensures .1 .0)
+    (store .ensures .1 .1 ∙ played-on b (s .pre .0) k (drop k (planned b)) (sym (store .ensures .0) ∙ c .if2 .taken))
+
+same-length-3 : tie.Need-same-length-3
+same-length-3 c = search needs
+
+same-length-4 : tie.Need-same-length-4
+same-length-4 c = search needs
+
+returns-3 : tie.Need-returns-3
+returns-3 c =
+    let s = c .before .before .before .before .before .before .before .before .before .before .before .before .before .before .before .before .before .before .before in
+    let b = s .args .state .now in
+    let wide-call = c .before .before .before .before .before .before .before .before .before .before .before .before .before .before .before .wide in
+    let wide2 = c .before .before .before .before .before .before .before .before .before .before .before .before .before .wide2 in
+    let if1 = c .before .before .before .before .before .before .before .before .before .before .before .before .if1 in
+    let store = c .before .before .before .before .before .before .before .before .before .store-word in
+    let k = wide-call .result + 1 in
+    store-made (s .args .card .now) b (s .pre .0) (s .pre .1) (wide-call .result) (wide-call .ensures) (wide2 .result)
+    (s .pre .2) (wide2 .ensures)
+    (if1 .left) (store .ensures .1 .0)
+    (ended b (s .pre .0) k (drop k (planned b)) (sym (store .ensures .0) ∙ c .before .before .before .before .if2 .left) (store .ensures .1 .1) (c .before .before .end-change .ensures))
 
 pub store-next-spec : {M : Type 1} → statement M
 store-next-spec =
@@ -71,7 +100,11 @@ store-next-spec =
     slice-read-place
     wide-requires-2
     returns
-    play-requires
+    store-word-requires
     same-length
     same-length-2
-    returns-2)
+    returns-2
+    end-change-requires
+    same-length-3
+    same-length-4
+    returns-3)
