@@ -49,12 +49,15 @@ module _ (b x : List ℕ) (long : length b ≡ stateWords) (lx : length x ≡ 73
         (λ j h k. placed-before withPlaces y valuesAt 73 ly (omega (arith, places-length)) j (omega arith)
         ∙ placed-before b x placesAt 73 lx (omega arith) j (omega arith))
 
-    -- and with the free nodes: the head is still as it was
-    pub word-stood : (z : List ℕ) → length z ≡ wordCount → (j : ℕ) → j < 11 → blockWord (placed freeAt wordCount withValues z) j ≡ blockWord b j
-    word-stood z lz j h =
-        placed-before withValues z freeAt wordCount lz (omega (arith, values-length)) j h
-        ∙ placed-before withPlaces y valuesAt 73 ly (omega (arith, places-length)) j (omega arith)
+    -- the head is still as it was
+    pub head-stood : (j : ℕ) → j < 11 → blockWord withValues j ≡ blockWord b j
+    head-stood j h =
+        placed-before withPlaces y valuesAt 73 ly (omega (arith, places-length)) j (omega arith)
         ∙ placed-before b x placesAt 73 lx (omega arith) j (omega arith)
+
+    -- and with the free nodes
+    pub word-stood : (z : List ℕ) → length z ≡ wordCount → (j : ℕ) → j < 11 → blockWord (placed freeAt wordCount withValues z) j ≡ blockWord b j
+    word-stood z lz j h = placed-before withValues z freeAt wordCount lz (omega (arith, values-length)) j h ∙ head-stood j h
 
 -- ---- the stores of two rows
 

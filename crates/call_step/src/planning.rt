@@ -13,7 +13,6 @@ use change_layout::size_of;
 use change_plan::Outcome;
 use change_plan::numbers::Given;
 use change_plan::numbers::give;
-use change_plan::numbers::last_given;
 use change_plan::numbers::take;
 use state::Answer;
 use state::Doing;
@@ -66,10 +65,11 @@ fn plan(
 {
     lay_places(decision, nodes, &mut state[PLACES..VALUES]);
     lay_values(card, decision, nodes, &mut state[VALUES..DEPTH]);
-    take(&mut state[FREE..PLACES], nodes, size.nodes);
+    let before = state[LAST];
+    let last = take(&mut state[FREE..PLACES], nodes, size.nodes, before);
     let head = State {
         nodes: state[NODES],
-        last: last_given(nodes, size.nodes, state[LAST]),
+        last,
         doing,
         made: 0,
         count: size.stores,

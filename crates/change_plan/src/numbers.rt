@@ -42,25 +42,18 @@ pub fn give(free: &[u32], last: usize, count: usize) -> Given
     }
 }
 
-// "nor given for the change in hand": the nodes given are free no longer.
-pub fn take(free: &mut [u32], nodes: [u32; 3], count: usize)
+// "nor given for the change in hand": the nodes given are free no longer. The answer is the node given last, then.
+pub fn take(free: &mut [u32], nodes: [u32; 3], count: usize, last: u32) -> u32
     requires { ⌜ (length (now free) ≡ wordCount) × (count ≤ 3) × Among count nodes ⌝ }
     ensures { λ _. ⌜ nodesOf (now (free .exit)) ≡ withoutAll (take count nodes) (nodesOf (now (free .entry))) ⌝ }
-{
-    let mut i: usize = 0;
-    while i < count {
-        card_free::take_out(free, nodes[i] as usize);
-        i += 1;
-    }
-}
-
-// The node given last, then.
-pub fn last_given(nodes: [u32; 3], count: usize, last: u32) -> u32
-    requires { ⌜ count ≤ 3 ⌝ }
     ensures { λ r. ⌜ r ≡ lastOf last (take count nodes) ⌝ }
 {
-    if count == 0 {
-        return last;
+    let mut latest = last;
+    let mut i: usize = 0;
+    while i < count {
+        latest = nodes[i];
+        card_free::take_out(free, latest as usize);
+        i += 1;
     }
-    nodes[count - 1]
+    latest
 }

@@ -16,7 +16,7 @@ use Rattle.state.specs.Blocks.{wordsOf}
 use Rattle.state.proofs.Rows.{placed, placed-part, rows-placed}
 use Rattle.state.proofs.Blocks.{free-span, words-nodes}
 use Rattle.call_step.proofs.PlayLaws.{part-length, part-small}
-use Rattle.call_step.proofs.PlanLaws.{places-length, values-length, values-stood, free-stood, word-stood, plan-stored}
+use Rattle.call_step.proofs.PlanLaws.{places-length, values-length, values-stood, free-stood, head-stood, word-stood, plan-stored}
 use borrow.Author.Needs.{needs}
 use Rattle.call_step.proofs.planning.plan.Statement.{statement}
 use Rattle.call_step.proofs.planning.plan.Tie as tie
@@ -56,11 +56,11 @@ values-row c =
 
 free-row : (c : tie.After-take) → length (c .take .last .0) ≡ wordCount
 free-row c =
-    let s = c .before .before .before .before .before .before .before .before .before .before .before .before in
-    let lay-places-call = c .before .before .before .before .before .before .before .before .lay-places in
-    let lay-values-call = c .before .before .before .before .lay-values in
-    let at-places-row = c .before .before .before .before .before .before .before .before in
-    let at-values-row = c .before .before .before .before in
+    let s = c .before .before .before .before .before .before .before .before .before .before .before .before .before in
+    let lay-places-call = c .before .before .before .before .before .before .before .before .before .lay-places in
+    let lay-values-call = c .before .before .before .before .before .lay-values in
+    let at-places-row = c .before .before .before .before .before .before .before .before .before in
+    let at-values-row = c .before .before .before .before .before in
     let x = lay-places-call .last .1 .1 .0 in
     let y = lay-values-call .last .1 .1 .1 .0 in
     c .take .kept .0
@@ -68,18 +68,18 @@ free-row c =
     (omega (arith, values-length (s .args .state .now) x (s .pre .0) (places-row at-places-row) y (values-row at-values-row)))
 
 -- the words of the free nodes are those of the nodes that are free then
-free-words : (c : tie.After-slice-known4) →
-    let s = c .before .before .before .before .before .before .before .before .before .before .before .before .before .before in
+free-words : (c : tie.After-slice-known5) →
+    let s = c .before .before .before .before .before .before .before .before .before .before .before .before .before .before .before in
     c .before .before .take .last .0
     ≡ wordsOf wordCount (withoutAll (take (needed (s .args .decision)) (s .args .nodes)) (nodesOf (part (s .args .state .now) freeAt wordCount)))
 free-words c =
-    let s = c .before .before .before .before .before .before .before .before .before .before .before .before .before .before in
+    let s = c .before .before .before .before .before .before .before .before .before .before .before .before .before .before .before in
     let b = s .args .state .now in
-    let lay-places-call = c .before .before .before .before .before .before .before .before .before .before .lay-places in
-    let lay-values-call = c .before .before .before .before .before .before .lay-values in
+    let lay-places-call = c .before .before .before .before .before .before .before .before .before .before .before .lay-places in
+    let lay-values-call = c .before .before .before .before .before .before .before .lay-values in
     let take-call = c .before .before .take in
-    let at-places-row = c .before .before .before .before .before .before .before .before .before .before in
-    let at-values-row = c .before .before .before .before .before .before in
+    let at-places-row = c .before .before .before .before .before .before .before .before .before .before .before in
+    let at-values-row = c .before .before .before .before .before .before .before in
     let x = lay-places-call .last .1 .1 .0 in
     let y = lay-values-call .last .1 .1 .1 .0 in
     let z = take-call .last .0 in
@@ -87,10 +87,10 @@ free-words c =
     let read : part (placed freeAt wordCount old z) freeAt wordCount ≡ z =
     placed-part old z freeAt wordCount (free-row (c .before .before)) (omega (arith, values-length b x (s .pre .0) (places-row at-places-row) y (values-row at-values-row))) in
     let small : (i : ℕ) → getD z i 0 < 2 ^ 32 =
-    λ i. subst (λ (l : List ℕ). getD l i 0 < 2 ^ 32) read (part-small (placed freeAt wordCount old z) freeAt wordCount (λ j. omega (arith, c .slice-known4 .given j)) i) in
+    λ i. subst (λ (l : List ℕ). getD l i 0 < 2 ^ 32) read (part-small (placed freeAt wordCount old z) freeAt wordCount (λ j. omega (arith, c .slice-known5 .given j)) i) in
     sym (words-nodes z small)
     ∙ ap₂ wordsOf (free-row (c .before .before))
-    (take-call .ensures
+    (take-call .ensures .0
     ∙ ap₂ (λ (k : ℕ) (l : List ℕ). withoutAll (take k (s .args .nodes)) (nodesOf l)) (nodes-are s)
     (free-stood b x (s .pre .0) (places-row at-places-row) y (values-row at-values-row)))
 
@@ -121,6 +121,9 @@ part-lay-values-end c = search needs
 lay-values-requires : tie.Need-lay-values-requires
 lay-values-requires c κs = search needs
 
+slice-read-before : tie.Need-slice-read-before
+slice-read-before c = search needs
+
 sub-take : tie.Need-sub-take
 sub-take c = search needs
 
@@ -132,29 +135,21 @@ part-take-end c = search needs
 
 take-requires : tie.Need-take-requires
 take-requires c κs =
-    let s = c .before .before .before .before .before .before .before .before .before .before .before in
+    let s = c .before .before .before .before .before .before .before .before .before .before .before .before in
     let b = s .args .state .now in
-    let lay-places-call = c .before .before .before .before .before .before .before .lay-places in
-    let lay-values-call = c .before .before .before .lay-values in
-    let at-places-row = c .before .before .before .before .before .before .before in
-    let at-values-row = c .before .before .before in
-    let at-nodes-are = c .before .before .before .before .before .before .before .before .before .before .before in (
+    let lay-places-call = c .before .before .before .before .before .before .before .before .lay-places in
+    let lay-values-call = c .before .before .before .before .lay-values in
+    let at-places-row = c .before .before .before .before .before .before .before .before in
+    let at-values-row = c .before .before .before .before in
+    let at-nodes-are = c .before .before .before .before .before .before .before .before .before .before .before .before in (
       ap length (free-stood b (lay-places-call .last .1 .1 .0) (s .pre .0) (places-row at-places-row) (lay-values-call .last .1 .1 .1 .0) (values-row at-values-row))
           ∙ free-span b [] (s .pre .0),
       omega (arith, nodes-are at-nodes-are, needed-few (s .args .decision)),
       subst (λ (k : ℕ). Among k (s .args .nodes)) (sym (nodes-are at-nodes-are)) (among at-nodes-are),
     )
 
-slice-read-t20 : tie.Need-slice-read-t20
-slice-read-t20 c = search needs
-
-slice-read-last-given : tie.Need-slice-read-last-given
-slice-read-last-given c = search needs
-
-last-given-requires : tie.Need-last-given-requires
-last-given-requires c κs =
-    let s = c .before .before .before .before .before .before .before .before .before .before .before .before .before .before .before .before in
-    omega (arith, nodes-are s, needed-few (s .args .decision))
+slice-read-t19 : tie.Need-slice-read-t19
+slice-read-t19 c = search needs
 
 cut-of-requires : tie.Need-cut-of-requires
 cut-of-requires c κs = search needs
@@ -167,18 +162,17 @@ same-length c = search needs
 
 returns : tie.Need-returns
 returns c =
-    let s = c .before .before .before .before .before .before .before .before .before .before .before .before .before .before .before .before .before .before .before .before .before .before in
+    let s = c .before .before .before .before .before .before .before .before .before .before .before .before .before .before .before .before .before .before .before .before .before in
     let card = s .args .card .now in
-    let lay-places-call = c .before .before .before .before .before .before .before .before .before .before .before .before .before .before .before .before .before .before .lay-places in
-    let lay-values-call = c .before .before .before .before .before .before .before .before .before .before .before .before .before .before .lay-values in
-    let take-call = c .before .before .before .before .before .before .before .before .before .before .take in
+    let lay-places-call = c .before .before .before .before .before .before .before .before .before .before .before .before .before .before .before .before .before .lay-places in
+    let lay-values-call = c .before .before .before .before .before .before .before .before .before .before .before .before .before .lay-values in
+    let take-call = c .before .before .before .before .before .before .before .before .take in
     let store-head = c .before .before .store-head in
-    let last-given = c .before .before .before .before .before .last-given in
     let cut-of = c .before .before .before .before .cut-of in
-    let at-places-row = c .before .before .before .before .before .before .before .before .before .before .before .before .before .before .before .before .before .before in
-    let at-values-row = c .before .before .before .before .before .before .before .before .before .before .before .before .before .before in
-    let at-free-row = c .before .before .before .before .before .before .before .before .before .before in
-    let at-free-words = c .before .before .before .before .before .before .before .before in
+    let at-places-row = c .before .before .before .before .before .before .before .before .before .before .before .before .before .before .before .before .before in
+    let at-values-row = c .before .before .before .before .before .before .before .before .before .before .before .before .before in
+    let at-free-row = c .before .before .before .before .before .before .before .before in
+    let at-free-words = c .before .before .before .before .before .before in
     let b = s .args .state .now in
     let d = s .args .decision in
     let nodes = s .args .nodes in
@@ -186,13 +180,14 @@ returns c =
     let y = lay-values-call .last .1 .1 .1 .0 in
     let z = take-call .last .0 in
     let same = word-stood b x (s .pre .0) (places-row at-places-row) y (values-row at-values-row) z (free-row at-free-row) in
+    let head = head-stood b x (s .pre .0) (places-row at-places-row) y (values-row at-values-row) in
     let stood = values-stood b x (s .pre .0) (places-row at-places-row) in
     let values = lay-values-call .ensures ∙ ap (λ (l : List ℕ). wordsBy card d nodes ++ drop (storeCount d) l) stood in
     let count : length (wordsBy card d nodes) ≡ storeCount d =
     words-count card d nodes y (part b valuesAt 73) values (values-row at-values-row) (part-length b valuesAt 73 (omega (arith, s .pre .0))) in (
       store-head .ensures
           ∙ plan-stored card b (s .args .doing) d nodes (three s) count _ x y z _ (same 0 (omega arith))
-          (last-given .ensures ∙ ap₂ (λ (w k : ℕ). lastOf w (take k nodes)) (same 1 (omega arith)) (nodes-are s))
+          (take-call .ensures .1 ∙ ap₂ (λ (w k : ℕ). lastOf w (take k nodes)) (head 1 (omega arith)) (nodes-are s))
           refl refl (stores-are s) (cut-of .ensures) (rows-placed b z x y (s .pre .0) (free-row at-free-row) (places-row at-places-row) (values-row at-values-row))
           (lay-places-call .ensures)
           values
@@ -212,13 +207,12 @@ plan-spec =
     part-lay-values-start
     part-lay-values-end
     lay-values-requires
+    slice-read-before
     sub-take
     part-take-start
     part-take-end
     take-requires
-    slice-read-t20
-    slice-read-last-given
-    last-given-requires
+    slice-read-t19
     cut-of-requires
     store-head-requires
     same-length

@@ -2,31 +2,31 @@
 use mathlib.Core.Bool.{Bool, false}
 use mathlib.Core.List.{List}
 use mathlib.Core.Path.{_≡_, refl, ap, _∙_}
-use Prim.Native.Nat.{ℕ, _-_, _≤_}
+use Prim.Native.Nat.{ℕ, _+_, _-_, _≤_}
 use native.Mathlib.Omega.{arith}
 use lib.ListN.{length, set, getD, take}
 use Rattle.card_free.specs.NodeSet.{wordCount, nodesOf}
-use Rattle.change_plan.specs.Planning.{withoutAll}
-use Rattle.change_plan.proofs.NumberLaws.{without-next}
+use Rattle.change_plan.specs.Planning.{withoutAll, lastOf}
+use Rattle.change_plan.proofs.NumberLaws.{without-next, last-some}
 use borrow.Author.Needs.{needs}
 use Rattle.change_plan.proofs.numbers.take.Statement.{statement}
 use Rattle.change_plan.proofs.numbers.take.Tie as tie
 
 abbrev Inv-loop : tie.InvT-loop
-Inv-loop free₀ count nodes i₀ free i = (i ≤ count) × (nodesOf free ≡ withoutAll (take i nodes) (nodesOf free₀)) × (length free ≡ wordCount)
+Inv-loop free₀ count last nodes latest₀ i₀ free latest i = (i ≤ count) × (nodesOf free ≡ withoutAll (take i nodes) (nodesOf free₀)) × (length free ≡ wordCount) × (latest ≡ lastOf last (take i nodes))
 
 abbrev μ-loop : tie.MeasureT-loop
-μ-loop free₀ count nodes i₀ free i = count - i
+μ-loop free₀ count last nodes latest₀ i₀ free latest i = count - i
 
 loop-holds : tie.Need-loop-holds Inv-loop μ-loop
-unfolding withoutAll
-loop-holds c = let s = c .before in (omega arith, refl, s .pre .0)
+unfolding withoutAll lastOf
+loop-holds c = let s = c .before in (omega arith, refl, s .pre .0, refl)
 
-mul-take-out : tie.Need-mul-take-out Inv-loop μ-loop
-mul-take-out c = search needs
+mul-latest : tie.Need-mul-latest Inv-loop μ-loop
+mul-latest c = search needs
 
-array-read-take-out : tie.Need-array-read-take-out Inv-loop μ-loop
-array-read-take-out c = search needs
+array-read-latest : tie.Need-array-read-latest Inv-loop μ-loop
+array-read-latest c = search needs
 
 cast-take-out : tie.Need-cast-take-out Inv-loop μ-loop
 cast-take-out c = search needs
@@ -49,6 +49,8 @@ loop-again c =
       c .before .before .take-out .ensures ∙ ap (λ (b : List Bool). set b (getD (s .args .t2) (l .i) 0) false) (l .inv .1)
           ∙ without-next (s .args .t2) (l .i) (nodesOf (s .args .free .now)) (omega (arith, s .pre .1)),
       c .before .before .take-out .kept .0 ∙ l .inv .2,
+      ap (λ (k : ℕ). getD (s .args .t2) k 0) (let z : l .i ≡ l .i + 1 - 1 = omega arith in z)
+          ∙ last-some (s .args .t2) (l .i + 1) (s .args .last) (λ z. omega (arith, z)) (omega (arith, s .pre .1)),
     )
 
 same-length : tie.Need-same-length Inv-loop μ-loop
@@ -58,7 +60,10 @@ returns : tie.Need-returns Inv-loop μ-loop
 returns c =
     let s = c .before .before .before in
     let l = c .before .loop in
-    l .inv .1 ∙ ap (λ (k : ℕ). withoutAll (take k (s .args .t2)) (nodesOf (s .args .free .now))) (let z : l .i ≡ s .args .count = omega (arith, l .inv .0) in z)
+    let all : l .i ≡ s .args .count = omega (arith, l .inv .0) in (
+      l .inv .1 ∙ ap (λ (k : ℕ). withoutAll (take k (s .args .t2)) (nodesOf (s .args .free .now))) all,
+      l .inv .3 ∙ ap (λ (k : ℕ). lastOf (s .args .last) (take k (s .args .t2))) all,
+    )
 
 pub take-spec : {M : Type 1} → statement M
 take-spec =
@@ -67,8 +72,8 @@ take-spec =
     Inv-loop
     μ-loop
     loop-holds
-    mul-take-out
-    array-read-take-out
+    mul-latest
+    array-read-latest
     cast-take-out
     take-out-requires
     add-i
