@@ -6,7 +6,6 @@ use lib.ListN.{getD}
 use lib.Dec.{ltb}
 use Rattle.laws.specs.Sorting.{sort}
 use Rattle.card.specs.Layout.{place, nodeAt, leafPairs}
-use Rattle.card_free.specs.NodeSet.{countTrue}
 use Rattle.walk.specs.Descent.{slotOf, way, landingOf}
 use Rattle.walk.specs.declared.Slot.{Slot}
 use Rattle.walk.specs.declared.Slot.the-variants.{At, Absent as NoSlot}
@@ -90,12 +89,12 @@ nextChange card n free last doing (Repair key answer) = record { doing = doing; 
 abbrev pub splitNeed : ℕ → ℕ
 splitNeed j = j + 5
 
--- whether an insert has the free nodes that it needs, by what it finds in its leaf
-unfoldable pub roomFor : List Bool → ℕ → Reason → Bool
-roomFor free run (held v) = true
-roomFor free run (slot i) = true
-roomFor free run full = not (ltb (countTrue free) (splitNeed run))
+-- whether an insert has the free nodes that it needs, where there are so many, by what it finds in its leaf
+unfoldable pub roomFor : ℕ → ℕ → Reason → Bool
+roomFor room run (held v) = true
+roomFor room run (slot i) = true
+roomFor room run full = not (ltb room (splitNeed run))
 
-unfoldable pub startRoom : List ℕ → ℕ → List Bool → Landing → Bool
-startRoom card key free NoLanding = true
-startRoom card key free (LandingAt m link run) = roomFor free run (insertReason (nodeAt card m) key)
+unfoldable pub startRoom : List ℕ → ℕ → ℕ → Landing → Bool
+startRoom card key room NoLanding = true
+startRoom card key room (LandingAt m link run) = roomFor room run (insertReason (nodeAt card m) key)

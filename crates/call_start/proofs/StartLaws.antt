@@ -16,7 +16,7 @@ use Rattle.card.proofs.HeaderLaws.{nodes-sized}
 use Rattle.walk.specs.Descent.{slotOf, Way, way, reachedAt, leafOf, depthOf}
 use Rattle.walk.proofs.Along.{way-depth-le}
 use Rattle.card_family.specs.Families.{noTotals}
-use Rattle.card_free.specs.NodeSet.{allNodes, countTrue}
+use Rattle.card_free.specs.NodeSet.{allNodes}
 use Rattle.laws.proofs.Cases.{bool-cases, order, impossible}
 use Rattle.laws.specs.Cases.{pick}
 use Rattle.state.specs.Steps.{Handed, isIdle, noBeginning}
@@ -188,39 +188,39 @@ start-sized greatest card nodes idle key r =
     (λ q. let w = sym (start-other greatest card nodes idle key (nodesOfLength greatest (length card)) refl p q) ∙ r in absurd (omega arith)))
 
 -- room for an insert
-held-slot : (leaf : List ℕ) (run : ℕ) (free : List Bool) (t : Slot) → isSlot t ≡ true → roomFor free run (reasonIn leaf t) ≡ true
+held-slot : (leaf : List ℕ) (run : ℕ) (room : ℕ) (t : Slot) → isSlot t ≡ true → roomFor room run (reasonIn leaf t) ≡ true
 unfolding isSlot roomFor reasonIn
-held-slot leaf run free (At i) h = refl
-held-slot leaf run free NoSlot h = impossible (cc)
+held-slot leaf run room (At i) h = refl
+held-slot leaf run room NoSlot h = impossible (cc)
 
 pub absent-reason : (leaf : List ℕ) (t : Slot) → isSlot t ≡ false → reasonIn leaf t ≡ emptyReason (slotOf leaf 0)
 unfolding isSlot reasonIn
 absent-reason leaf (At i) h = impossible (cc)
 absent-reason leaf NoSlot h = refl
 
-empty-slot : (run : ℕ) (free : List Bool) (t : Slot) → isSlot t ≡ true → roomFor free run (emptyReason t) ≡ true
+empty-slot : (run : ℕ) (room : ℕ) (t : Slot) → isSlot t ≡ true → roomFor room run (emptyReason t) ≡ true
 unfolding isSlot roomFor emptyReason
-empty-slot run free (At i) h = refl
-empty-slot run free NoSlot h = impossible (cc)
+empty-slot run room (At i) h = refl
+empty-slot run room NoSlot h = impossible (cc)
 
-full-slot : (run : ℕ) (free : List Bool) (t : Slot) → isSlot t ≡ false → roomFor free run (emptyReason t) ≡ not (ltb (countTrue free) (splitNeed run))
+full-slot : (run : ℕ) (room : ℕ) (t : Slot) → isSlot t ≡ false → roomFor room run (emptyReason t) ≡ not (ltb room (splitNeed run))
 unfolding isSlot roomFor emptyReason
-full-slot run free (At i) h = impossible (cc)
-full-slot run free NoSlot h = refl
+full-slot run room (At i) h = impossible (cc)
+full-slot run room NoSlot h = refl
 
-module _ (leaf : List ℕ) (key run : ℕ) (free : List Bool) where
-  pub room-held : isSlot (slotOf leaf key) ≡ true → roomFor free run (insertReason leaf key) ≡ true
+module _ (leaf : List ℕ) (key run : ℕ) (room : ℕ) where
+  pub room-held : isSlot (slotOf leaf key) ≡ true → roomFor room run (insertReason leaf key) ≡ true
   unfolding insertReason
-  room-held e = held-slot leaf run free (slotOf leaf key) e
+  room-held e = held-slot leaf run room (slotOf leaf key) e
 
   module _ (a : isSlot (slotOf leaf key) ≡ false) where
-    pub room-slot : isSlot (slotOf leaf 0) ≡ true → roomFor free run (insertReason leaf key) ≡ true
+    pub room-slot : isSlot (slotOf leaf 0) ≡ true → roomFor room run (insertReason leaf key) ≡ true
     unfolding insertReason
-    room-slot e = ap (roomFor free run) (absent-reason leaf (slotOf leaf key) a) ∙ empty-slot run free (slotOf leaf 0) e
+    room-slot e = ap (roomFor room run) (absent-reason leaf (slotOf leaf key) a) ∙ empty-slot run room (slotOf leaf 0) e
 
-    pub room-full : isSlot (slotOf leaf 0) ≡ false → roomFor free run (insertReason leaf key) ≡ not (ltb (countTrue free) (splitNeed run))
+    pub room-full : isSlot (slotOf leaf 0) ≡ false → roomFor room run (insertReason leaf key) ≡ not (ltb room (splitNeed run))
     unfolding insertReason
-    room-full e = ap (roomFor free run) (absent-reason leaf (slotOf leaf key) a) ∙ full-slot run free (slotOf leaf 0) e
+    room-full e = ap (roomFor room run) (absent-reason leaf (slotOf leaf key) a) ∙ full-slot run room (slotOf leaf 0) e
 
 pub not-scarce : (count run : ℕ) → count < splitNeed run → not (ltb count (splitNeed run)) ≡ false
 not-scarce count run h = ap not (lt-ltb count (splitNeed run) h)

@@ -31,8 +31,8 @@ startRefusal greatest card nodes idle key =
     (pick (eqb (headerRefusal card nodes) 0) (pick idle (pick (eqb key 0) 6 0) 7) (headerRefusal card nodes)) 1)
 
 -- the room that an update needs which may split its leaf, or one which never does
-abbrev pub roomWhere : Bool → List ℕ → ℕ → List Bool → Landing → Bool
-roomWhere splits card key free l = pick splits (startRoom card key free l) true
+abbrev pub roomWhere : Bool → List ℕ → ℕ → ℕ → Landing → Bool
+roomWhere splits card key room l = pick splits (startRoom card key room l) true
 
 -- 9 and 8, and 0 where neither is due
 unfoldable pub landingRefusal : Bool → Landing → ℕ

@@ -11,7 +11,7 @@ use Rattle.walk.specs.Descent.{way, leafOf, depthOf}
 use Rattle.walk.specs.declared.Landing.{Landing}
 use Rattle.walk.specs.declared.Landing.the-variants.{Refused as NoLanding, Leaf as LandingAt}
 use Rattle.card_family.specs.Families.{noTotals}
-use Rattle.card_free.specs.NodeSet.{allNodes}
+use Rattle.card_free.specs.NodeSet.{allNodes, countTrue}
 use Rattle.call_change.specs.Updates.{landing, startRoom}
 use Rattle.state.specs.Memory.{Memory, resting}
 use Rattle.state.specs.declared.Doing.{Doing}
@@ -64,8 +64,12 @@ startOf greatest card m key doing room =
     (pick (eqb (headerRefusal card (m .nodes)) 0) (startChecked card m key doing room) (startRefused (headerRefusal card (m .nodes)) m))
     (startRefused 1 m))
 
+-- "8: .. free nodes fewer than j + 5": "Steps and refusal 8 go by these bits"
+abbrev pub roomOf : Memory → ℕ
+roomOf m = countTrue (m .free)
+
 unfoldable pub insertOf : ℕ → List ℕ → Memory → ℕ → ℕ → Handed
-insertOf greatest card m key value = startOf greatest card m key (Inserting key value NotBegun) (startRoom card key (m .free))
+insertOf greatest card m key value = startOf greatest card m key (Inserting key value NotBegun) (startRoom card key (roomOf m))
 
 unfoldable pub deleteOf : ℕ → List ℕ → Memory → ℕ → Handed
 deleteOf greatest card m key = startOf greatest card m key (Deleting key NotBegun 0) (λ l. true)

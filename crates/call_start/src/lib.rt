@@ -25,7 +25,7 @@ ghost use lib.ListN.{length, set};
 ghost use Rattle.card.specs.Header.{Sized};
 ghost use Rattle.card.specs.Layout.{greatestNodes, depthLimit, nodeAt, formattedRoot};
 ghost use Rattle.card_family.specs.Families.{familyCount, noTotals};
-ghost use Rattle.card_free.specs.NodeSet.{wordCount, capacity, nodesOf, allNodes};
+ghost use Rattle.card_free.specs.NodeSet.{wordCount, capacity, nodesOf, countTrue, allNodes};
 ghost use Rattle.walk.specs.Descent.{slotOf, way, leafOf, depthOf, runOver};
 ghost use Rattle.laws.specs.Cases.{pick};
 ghost use Rattle.state.specs.Steps.{isIdle};
@@ -34,7 +34,7 @@ ghost use Rattle.state.specs.declared.Phase.the-variants.{NotBegun};
 ghost use Rattle.state.specs.Block.{freeAt, totalsAt, stateWords, part, memoryIn};
 ghost use Rattle.state.specs.Contracts.{OpenCall, StartCall};
 ghost use Rattle.call_change.specs.Updates.{landing, insertReason, roomFor};
-ghost use Rattle.call_start.specs.Starts.{formatOf, insertOf, deleteOf};
+ghost use Rattle.call_start.specs.Starts.{formatOf, roomOf, insertOf, deleteOf};
 ghost use Rattle.call_start.specs.Refusals.{startRefusal, isSlot, roomWhere, landingRefusal, dueRefusal, dueDepth, begunBy};
 
 // The refusals 1, 2, 3, 7 and 6 of starting an update, in this order; 0 where none is due.
@@ -72,7 +72,7 @@ fn has_word(leaf: &[u32], word: u32) -> bool
 // number here, so the 5 are taken from the free nodes.
 fn has_room(card: &[u32], n: usize, m: usize, key: u32, free: &[u32]) -> bool
     requires { ⌜ Sized greatestNodes (length (now card)) n × (1 ≤ m) × (m ≤ n) × (length (now free) ≡ wordCount) ⌝ }
-    ensures { λ r. ⌜ r ≡ roomFor (nodesOf (now (free .entry))) (runOver (now (card .entry)) 0 (way (now (card .entry)) n key .inner)) (insertReason (nodeAt (now (card .entry)) m) key) ⌝ }
+    ensures { λ r. ⌜ r ≡ roomFor (countTrue (nodesOf (now (free .entry)))) (runOver (now (card .entry)) 0 (way (now (card .entry)) n key .inner)) (insertReason (nodeAt (now (card .entry)) m) key) ⌝ }
 {
     let leaf = card::node_at(card, m);
     if has_word(leaf, key) {
@@ -92,7 +92,7 @@ fn has_room(card: &[u32], n: usize, m: usize, key: u32, free: &[u32]) -> bool
 // The same of an update that may split its leaf, or of one that never does and so needs no room.
 fn has_room_where(splits: bool, card: &[u32], n: usize, m: usize, key: u32, free: &[u32]) -> bool
     requires { ⌜ Sized greatestNodes (length (now card)) n × (1 ≤ m) × (m ≤ n) × (length (now free) ≡ wordCount) ⌝ }
-    ensures { λ r. ⌜ r ≡ pick splits (roomFor (nodesOf (now (free .entry)))
+    ensures { λ r. ⌜ r ≡ pick splits (roomFor (countTrue (nodesOf (now (free .entry))))
         (runOver (now (card .entry)) 0 (way (now (card .entry)) n key .inner)) (insertReason (nodeAt (now (card .entry)) m) key)) true ⌝ }
 {
     if splits {
@@ -119,7 +119,7 @@ pub struct Due {
 // may split its leaf.
 fn way_due(card: &[u32], nodes: usize, free: &[u32], key: u32, splits: bool) -> Due
     requires { ⌜ Sized greatestNodes (length (now card)) nodes × (length (now free) ≡ wordCount) ⌝ }
-    ensures { λ r. ⌜ r .refusal ≡ landingRefusal (roomWhere splits (now (card .entry)) key (nodesOf (now (free .entry)))
+    ensures { λ r. ⌜ r .refusal ≡ landingRefusal (roomWhere splits (now (card .entry)) key (countTrue (nodesOf (now (free .entry))))
         (landing (now (card .entry)) nodes key)) (landing (now (card .entry)) nodes key) ⌝ }
     ensures { λ r. ⌜ r .depth ≡ depthOf (leafOf (way (now (card .entry)) nodes key)) ⌝ }
 {
@@ -144,7 +144,7 @@ fn block_due(card: &[u32], state: &[u32], key: u32, splits: bool, greatest: usiz
     requires { ⌜ length (now state) ≡ stateWords ⌝ }
     ensures { λ r. ⌜ r .refusal
         ≡ dueRefusal greatest (now (card .entry)) (memoryIn (now (state .entry)) .nodes) (isIdle (memoryIn (now (state .entry)) .doing)) key
-        (roomWhere splits (now (card .entry)) key (memoryIn (now (state .entry)) .free)) ⌝ }
+        (roomWhere splits (now (card .entry)) key (roomOf (memoryIn (now (state .entry))))) ⌝ }
     ensures { λ r. ⌜ r .depth
         ≡ dueDepth greatest (now (card .entry)) (memoryIn (now (state .entry)) .nodes) (isIdle (memoryIn (now (state .entry)) .doing)) key ⌝ }
 {

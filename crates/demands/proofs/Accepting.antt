@@ -9,6 +9,7 @@ use native.Mathlib.Omega.{arith}
 use native.Mathlib.Decide.{ℕ-discrete}
 use lib.ListN.{length}
 use borrow.Author.Tests.{ne-eqb, eq-eqb, le-ltb}
+use Rattle.theory_change.proofs.Line.{size, partition-only, count-only}
 use Rattle.walk.specs.declared.Reached.{Reached}
 use Rattle.demands.proofs.BookLaws.{dictionaryAnswer}
 use Rattle.call_find.specs.Answers.{foundReply}
@@ -137,19 +138,22 @@ accepted-openable greatest c t a w = go (sound-accepted c (nodesOfLength greates
             (λ o. absurd (refuses greatest c 5 (open-unrefused greatest c (k .0) ∙ ap (openChecked (nodesOfLength greatest (length c)) (searchStart c) (tableCounted c)) e
             ∙ open-some (nodesOfLength greatest (length c)) (searchStart c) (tableCounted c) h f ∙ open-scarce (nodesOfLength greatest (length c)) (searchStart c) (tableCounted c) f o) a)) (λ o. o)
 
+        counted : countTrue (f .free) + size t ≡ nodesOfLength greatest (length c)
+        counted =
+            count-only (nodesOfLength greatest (length c)) (f .free) t
+            (partition-only c (nodesOfLength greatest (length c)) (f .free) t (k .1 .words) (w .holds .2) (facts-exact x)) (omega (arith, k .1 .most))
+
         broken : f .violated ≡ true → Openable (nodesOfLength greatest (length c)) t
         broken q =
             let v = x .violation q in
             record {
-              free = f .free;
-              exact = facts-exact x;
               key = f .key;
               deep = depthOf (v .0 .context);
-              ready = violated (v .0) (omega (arith, x .violated, bit-true (f .violated) q)) (omega (arith, room, v .1));
+              ready = violated (v .0) (omega (arith, x .violated, bit-true (f .violated) q)) (omega (arith, room, v .1, counted));
             }
 
         whole : f .violated ≡ false → Openable (nodesOfLength greatest (length c)) t
-        whole q = record { free = f .free; exact = facts-exact x; key = f .key; deep = 0; ready = settled (omega (arith, x .violated, bit-false (f .violated) q)) (omega (arith, room)) }
+        whole q = record { key = f .key; deep = 0; ready = settled (omega (arith, x .violated, bit-false (f .violated) q)) (omega (arith, room, counted)) }
 
 -- ---- finds
 

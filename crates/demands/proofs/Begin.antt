@@ -10,7 +10,6 @@ use Rattle.card.specs.Layout.{place, nodeAt, leafPairs}
 use Rattle.change_plan.specs.Change.{splitLeaf}
 use Rattle.change_plan.specs.Planning.{giving, first, second, third, balanced, prepared}
 use Rattle.walk.specs.Descent.{slotOf}
-use Rattle.card_free.specs.NodeSet.{countTrue}
 use Rattle.laws.proofs.Cases.{order, impossible}
 use Rattle.laws.specs.Sorting.{sort}
 use Rattle.demands.specs.Way.{leafFull}
@@ -61,12 +60,12 @@ module _ (greatest : ℕ) (c : List ℕ) (n key : ℕ) (m link run : ℕ) (land 
     remove-absent e = rw (land, e)
 
   -- "A splitting insert needs j + 5 free nodes."
-  pub room-full : (free : List Bool) → slotOf (nodeAt c m) key ≡ NoSlot → slotOf (nodeAt c m) 0 ≡ NoSlot → startRoom c key free (landing c n key) ≡ true → splitNeed run ≤ countTrue free
+  pub room-full : (room : ℕ) → slotOf (nodeAt c m) key ≡ NoSlot → slotOf (nodeAt c m) 0 ≡ NoSlot → startRoom c key room (landing c n key) ≡ true → splitNeed run ≤ room
   unfolding startRoom roomFor insertReason reasonIn emptyReason
-  room-full free e z r = let q : not (ltb (countTrue free) (splitNeed run)) ≡ true = rw (land, e, z) at r in order (countTrue free) (splitNeed run) (λ o. absurd (never o q)) (λ o. o)
+  room-full room e z r = let q : not (ltb room (splitNeed run)) ≡ true = rw (land, e, z) at r in order room (splitNeed run) (λ o. absurd (never o q)) (λ o. o)
     where
-      never : countTrue free < splitNeed run → not (ltb (countTrue free) (splitNeed run)) ≡ true → ⊥
-      never o q = let k : _≡_ {A = Bool} false true = rw (lt-ltb (countTrue free) (splitNeed run) o) at q in impossible (cc)
+      never : room < splitNeed run → not (ltb room (splitNeed run)) ≡ true → ⊥
+      never o q = let k : _≡_ {A = Bool} false true = rw (lt-ltb room (splitNeed run) o) at q in impossible (cc)
 
   pub flag-slot : Sized greatest (length c) n → (i : ℕ) → slotOf (nodeAt c m) 0 ≡ At i → leafFull c key ≡ false
   unfolding slotFound

@@ -8,6 +8,7 @@ use mathlib.Core.Option.{Option}
 use Prim.Native.Nat.{ℕ, zero, suc, _-_, _≤_, _<_}
 use native.Mathlib.Omega.{arith}
 use lib.ListN.{length, getD, set, drop, length-append}
+use Rattle.theory_change.proofs.Line.{only, exact-only}
 use Rattle.card.specs.Stores.{Store}
 use Rattle.demands.specs.Events.{Event, World, replyTo, happens, run, LeftUncut, stepsIn, ask, insert, delete, step, cut}
 use Rattle.demands.specs.Demand2.{StoresNow, Makes, Between, Repairs, Updates, done, mends as mends-by, no-change, changes}
@@ -232,14 +233,14 @@ remove-no-job k (job-delete in-hand) e = impossible (cc)
 remove-no-job k (job-delete decided) e = impossible (cc)
 
 turns-at : (greatest : ℕ) {c : List ℕ} {n : ℕ} {t goal : Tree} {steps : ℕ} {m : Memory} {h : Hand} {due : Answer} → Table greatest c n t → Openable n t
-    → Stage c n t goal steps m h due → m .rest ≡ [] → Begun (m .doing) → Turns greatest c n t m due
+    → Stage c (only n) t goal steps m h due → m .rest ≡ [] → Begun (m .doing) → Turns greatest c n t m due
 turns-at greatest b o (stage-idle z r x g) e k = absurd (idle-no-job (k .4) refl)
-turns-at greatest b o (stage-put {key = key} {value = value} z r x low high room q g) e k = absurd (put-no-job key value (k .4) refl)
+turns-at greatest b o (stage-put {key = key} {value = value} room z r x low high enough below q g) e k = absurd (put-no-job key value (k .4) refl)
 turns-at greatest b o (stage-remove {key = key} z r x low high q g) e k = absurd (remove-no-job key (k .4) refl)
 turns-at greatest b o (stage-first {s = s} {rest = rest} j p en count few hd) e k = let y : _≡_ {A = List Store} (s ∷ rest) [] = e in impossible (cc)
 turns-at greatest b o (stage-within {s = s} {rest = rest} j en p q few hd) e k = let y : _≡_ {A = List Store} (s ∷ rest) [] = e in impossible (cc)
 turns-at greatest {c} {n} {t} {due = due} b o (stage-between {free} {last} {depth} {key} {doing} {totals = totals} j en deep (settled z r) x few hd) e k = (
-  x,
+  exact-only n free t x,
   inl (
     z,
     ap (λ y. y .answer) (step-repairs greatest c n (b .sized) (b .header) free last depth totals j
@@ -247,9 +248,9 @@ turns-at greatest {c} {n} {t} {due = due} b o (stage-between {free} {last} {dept
   ),
 )
 turns-at greatest {c} {n} {t} {due = due} b o (stage-between {free} {last} {depth} {key} {doing} {totals = totals} j en deep (violated v w r) x few hd) e k =
-    (x, inr (apply (mends greatest c n key t free last b x v w r)))
+    (exact-only n free t x, inr (apply (mends greatest c (only n) key t free last b x v w r)))
   where
-    apply : Repaired c n key t free last (depthOf (v .context)) → RepairNext greatest c n (memory n free last depth totals doing [] [])
+    apply : Repaired c (only n) key t free last (depthOf (v .context)) → RepairNext greatest c n (memory n free last depth totals doing [] [])
     apply q = split (q .stores) refl
       where
         split : (ss : List Store) → q .stores ≡ ss → RepairNext greatest c n (memory n free last depth totals doing [] [])
@@ -285,7 +286,7 @@ repair-next greatest final most w x k (exact, turn) later = at turn
     between =
         record {
           sound = table-well-formed greatest (v .inv .table);
-          free-exact = subst (λ y. Exact y (w .state .free) (v .inv .tree)) (sym (nodes-same greatest (v .size) (v .steps) w (x .book-now) (v .inv))) exact;
+          free-exact = subst (λ y. Exact y (w .state .free) (v .inv .tree)) (sym (nodes-same greatest (only (v .size)) (v .steps) w (x .book-now) (v .inv))) exact;
         }
 
     at : ((tableViolations (v .inv .tree) ≡ 0) × (stepOf greatest (w .card) (w .state) .answer ≡ v .inv .due))
@@ -324,16 +325,16 @@ module _ (greatest : ℕ) (final : Answer) (most : ℕ) (w : World (rationTable 
   where
     not-refused : (r : ℕ) → stepOf greatest (w .card) (w .state) ≡ stepRefused r (w .card) (w .state) → ⊥
     unfolding stepRefused
-    not-refused r e = let v = x .covered in work-not-refused greatest (v .size) (v .steps) w (x .book-now) (v .inv) busy r (ap (λ y. y .answer) e)
+    not-refused r e = let v = x .covered in work-not-refused greatest (only (v .size)) (v .steps) w (x .book-now) (v .inv) busy r (ap (λ y. y .answer) e)
 
     ends-due : (a : Answer) → Final a → stepOf greatest (w .card) (w .state) ≡ stepFinal a (w .card) (w .state) → a ≡ final
     unfolding stepFinal
     ends-due a f e =
         let v = x .covered in
-        let i = loosen greatest (v .size) (v .steps) (suc (v .steps)) w (x .book-now) (omega arith) (v .inv) in
-        let q = kept-step greatest (v .size) (v .steps) w (x .book-now) i in
+        let i = loosen greatest (only (v .size)) (v .steps) (suc (v .steps)) w (x .book-now) (omega arith) (v .inv) in
+        let q = kept-step greatest (only (v .size)) (v .steps) w (x .book-now) i in
         right-final (subst (λ y. Right y (i .due)) (ap (λ y. y .answer) e) (q .1)) (final-counts a f)
-        ∙ loosen-due greatest (v .size) (v .steps) (suc (v .steps)) w (x .book-now) (omega arith) (v .inv) ∙ x .is-due
+        ∙ loosen-due greatest (only (v .size)) (v .steps) (suc (v .steps)) w (x .book-now) (omega arith) (v .inv) ∙ x .is-due
 
     pub first-by-rules : (f : FirstChange) → stepOf greatest (w .card) (w .state) ≡ stepBegin (w .card) (w .state) f → Final (f .final)
         → Storing (f .preparation) → (f .preparation ≡ balanced → f .final ≡ final → Nothing)
@@ -374,10 +375,10 @@ module _ (greatest : ℕ) (final : Answer) (most : ℕ) (w : World (rationTable 
 
 -- where an update stands that has just been started
 pub put-turns : (greatest : ℕ) {c : List ℕ} {n : ℕ} {t goal : Tree} {steps : ℕ} {m : Memory} {h : Hand} {due : Answer} (key value : ℕ) → Table greatest c n t
-    → Stage c n t goal steps m h due → m .doing ≡ Inserting key value NotBegun
+    → Stage c (only n) t goal steps m h due → m .doing ≡ Inserting key value NotBegun
     → stepOf greatest c m ≡ stepBegin c m (nextChange c n (m .free) (m .last) (Inserting key value NotBegun) (PutIn key value))
 put-turns greatest key value b (stage-idle z r x g) e = impossible (cc)
-put-turns greatest {c} {n} key value b (stage-put {free} {last} {depth} {key = k} {value = v} {totals = totals} z r x low high room q g) e =
+put-turns greatest {c} {n} key value b (stage-put {free} {last} {depth} {key = k} {value = v} {totals = totals} room z r x low high enough below q g) e =
     let ek : k ≡ key = cc in
     let ev : v ≡ value = cc in
     rw (← ek, ← ev) (step-puts greatest c n (b .sized) (b .header) free last depth totals k v)
@@ -387,10 +388,10 @@ put-turns greatest key value b (stage-between j en deep k x few hd) e = absurd (
 put-turns greatest key value b (stage-within j en p q few hd) e = absurd (put-no-job key value j e)
 
 pub remove-turns : (greatest : ℕ) {c : List ℕ} {n : ℕ} {t goal : Tree} {steps : ℕ} {m : Memory} {h : Hand} {due : Answer} (key : ℕ)
-    → Table greatest c n t → Stage c n t goal steps m h due → m .doing ≡ Deleting key NotBegun 0
+    → Table greatest c n t → Stage c (only n) t goal steps m h due → m .doing ≡ Deleting key NotBegun 0
     → stepOf greatest c m ≡ stepBegin c m (nextChange c n (m .free) (m .last) (Deleting key NotBegun 0) (TakeOut key))
 remove-turns greatest key b (stage-idle z r x g) e = impossible (cc)
-remove-turns greatest key b (stage-put z r x low high room q g) e = impossible (cc)
+remove-turns greatest key b (stage-put room z r x low high enough below q g) e = impossible (cc)
 remove-turns greatest {c} {n} key b (stage-remove {free} {last} {depth} {key = k} {totals = totals} z r x low high q g) e =
     let ek : k ≡ key = cc in
     rw (← ek) (step-removes greatest c n (b .sized) (b .header) free last depth totals k)

@@ -7,6 +7,7 @@ use Prim.Native.Nat.{ℕ, _<_}
 use native.Mathlib.Omega.{arith}
 use lib.ListN.{length, getD, drop}
 use lib.Dec.{eqb, ltb}
+use Rattle.theory_change.proofs.Line.{only}
 use Rattle.laws.proofs.Cases.{bool-cases}
 use Rattle.card.specs.Header.{nodesOfLength, cardRefusal, headerRefusal, Sized}
 use Rattle.card.specs.Layout.{rootPlace, depthLimit, keyLimit, nodeAt}
@@ -38,7 +39,7 @@ use Rattle.state.specs.declared.Held.{Held}
 use Rattle.state.specs.declared.Held.the-variants.{Nothing, Formatting, Task as HeldTask}
 use Rattle.state.specs.declared.Task.{Task}
 use Rattle.call_change.specs.Updates.{startRoom}
-use Rattle.call_start.specs.Starts.{startAccepted, startDepth, startOf, insertOf, deleteOf}
+use Rattle.call_start.specs.Starts.{startAccepted, startDepth, startOf, insertOf, deleteOf, roomOf}
 use Rattle.call_step.specs.Calls.{planning, stepPrepared, stepBegin, stepTask, stepChecked, stepHeld, stepOf}
 use Rattle.call_step.proofs.StepLaws.{step-sized, step-unsized}
 use Rattle.theory_tree.specs.Passed.{passedIn}
@@ -200,7 +201,7 @@ module _ (greatest : ℕ) (w : World (rationTable greatest)) (b : Book) (v : Cov
   -- the depth of the key's way on the card as it is now
   now-passed : (t : Tree) → WellFormed (w .card) t → (key : ℕ) → startDepth (w .card) (w .state) key ≡ passedIn key t
   now-passed t k key =
-      ap (λ (n : ℕ). depthOf (leafOf (way (w .card) n key))) (nodes-same greatest (v .size) (v .steps) w b (v .inv)) ∙ passes greatest (w .card) (v .size) t (standing greatest w b v t k) key
+      ap (λ (n : ℕ). depthOf (leafOf (way (w .card) n key))) (nodes-same greatest (only (v .size)) (v .steps) w b (v .inv)) ∙ passes greatest (w .card) (v .size) t (standing greatest w b v t k) key
 
   -- after a start that works, whatever calls come before the final answer
   begun-tells : (key : ℕ) (doing : Doing) (room : Landing → Bool) (t : Tree) → WellFormed (w .card) t
@@ -258,7 +259,7 @@ w-203 greatest =
       finds = always greatest (λ w b. (t : Tree) → WellFormed (w .card) t → (key : ℕ) → 0 < key → key < keyLimit → findDepth greatest (w .card) key ≡ passedIn key t) (find-tells greatest);
       nexts = always greatest (λ w b. (t : Tree) → WellFormed (w .card) t → (number : ℕ) → number < keyLimit → nextDepth greatest (w .card) number ≡ passedIn number t) (next-tells greatest);
       inserts = always greatest (λ w b. (key value : ℕ) → key < keyLimit → TellsStart (rationTable greatest) (stepDepth greatest) (insert key value) key w)
-          (λ w b v key value high t k e qs left held r. begun-tells greatest w b v key (Inserting key value NotBegun) (startRoom (w .card) key (w .state .free)) t k e _ refl qs left held r);
+          (λ w b v key value high t k e qs left held r. begun-tells greatest w b v key (Inserting key value NotBegun) (startRoom (w .card) key (roomOf (w .state))) t k e _ refl qs left held r);
       deletes = always greatest (λ w b. (key : ℕ) → key < keyLimit → TellsStart (rationTable greatest) (stepDepth greatest) (delete key) key w)
           (λ w b v key high t k e qs left held r. begun-tells greatest w b v key (Deleting key NotBegun 0) (λ l. true) t k e _ refl qs left held r);
       find-refused = find-refused greatest;

@@ -20,7 +20,7 @@ use Rattle.card.specs.Layout.{keyLimit}
 use Rattle.demands.proofs.UpdateAnswers.{insert-stores-by-depth, delete-stores-by-depth}
 use Rattle.theory_check.proofs.Level.{same-height}
 use Rattle.theory_check.proofs.Rations.{balanced-pairs, pairs-bound-levels, few-pairs-flat, flat-leaf}
-use Rattle.call_start.specs.Starts.{insertOf, deleteOf}
+use Rattle.call_start.specs.Starts.{insertOf, deleteOf, roomOf}
 use Rattle.state.specs.declared.Doing.the-variants.{Inserting, Deleting}
 use Rattle.state.specs.declared.Phase.the-variants.{NotBegun}
 use Rattle.theory_tree.specs.Height.{Height}
@@ -60,7 +60,7 @@ module _ (greatest : ℕ) (w : World (rationTable greatest)) (b : Book) (v : Cov
   insert-ends value t sound h level s =
       let e =
       begun-started (insertOf greatest (w .card) (w .state) key value .begun)
-      (start-small greatest (w .card) (w .state) key (Inserting key value NotBegun) (startRoom (w .card) key (w .state .free))) s in
+      (start-small greatest (w .card) (w .state) key (Inserting key value NotBegun) (startRoom (w .card) key (roomOf (w .state)))) s in
       finishes-by greatest (lookup key (b .held)) (storesAt h) (happens (rationTable greatest) (insert key value) w) (insert-stores-by-depth greatest (v .inv) key high value e t sound h level)
 
   delete-ends : EndsByDepth (rationTable greatest) (delete key) key w (b .held)

@@ -7,6 +7,7 @@ use mathlib.Core.Option.{Option, none, some}
 use Prim.Native.Nat.{ℕ, _<_}
 use native.Mathlib.Omega.{arith}
 use lib.ListN.{length}
+use Rattle.theory_change.proofs.Line.{only}
 use Rattle.card.specs.Header.{Sized, Formatted}
 use Rattle.card.proofs.HeaderLaws.{formatted-header}
 use Rattle.demands.proofs.Invariant.{Inv}
@@ -38,7 +39,7 @@ use Rattle.demands.proofs.UpdateAnswers.{Stores, insert-stores, delete-
 use Rattle.demands.proofs.Finished.{each-stores, then-answers, work-not-refused, inv-rests}
 use Rattle.demands.proofs.Finishing.{Rests as WasRests}
 use Rattle.demands.proofs.Starting.{nodes-same, lands, same-lookup}
-use Rattle.call_start.specs.Starts.{insertOf, deleteOf}
+use Rattle.call_start.specs.Starts.{insertOf, deleteOf, roomOf}
 use Rattle.state.specs.Answers.{stepReply, startReply}
 use Rattle.state.specs.Steps.{isIdle, heldBy, Step, stepRefused}
 use Rattle.state.specs.declared.Answer.{Answer}
@@ -78,11 +79,11 @@ module _ (greatest : ℕ) (w : World (rationTable greatest)) (b : Book) (v : Cov
   abbrev n : ℕ
   n = v .size
 
-  abbrev i : Inv greatest (v .size) (v .steps) w b
+  abbrev i : Inv greatest (only (v .size)) (v .steps) w b
   i = v .inv
 
   nodes-are : w .state .nodes ≡ n
-  nodes-are = nodes-same greatest n (v .steps) w b i
+  nodes-are = nodes-same greatest (only n) (v .steps) w b i
 
   sized : Sized greatest (length (w .card)) (w .state .nodes)
   sized = subst (λ x. Sized greatest (length (w .card)) x) (sym nodes-are) (i .table .sized)
@@ -97,7 +98,7 @@ module _ (greatest : ℕ) (w : World (rationTable greatest)) (b : Book) (v : Cov
   leads-somewhere : (key : ℕ) → (key ≡ 0 → ⊥) → key < keyLimit → leadsTo (w .card) key ≡ none → ⊥
   unfolding landed
   leads-somewhere key d high e =
-      let g = lands greatest n (v .steps) w b i key (order key 1 (λ o. absurd (d (omega arith))) (λ o. o)) high in
+      let g = lands greatest (only n) (v .steps) w b i key (order key 1 (λ o. absurd (d (omega arith))) (λ o. o)) high in
       none-some (g .0, g .2) (sym e ∙ sym (leads-is (w .card) (w .state .nodes) key (sized-on greatest (w .card) (w .state .nodes) sized)) ∙ ap landed (g .3))
 
   rests-now : w .state .doing ≡ Idle → WasRests greatest w (b .held)
@@ -109,7 +110,7 @@ module _ (greatest : ℕ) (w : World (rationTable greatest)) (b : Book) (v : Cov
   unfolding replyTo insertOf startReply
   insert-works key value high s =
       let e = begun-started (insertOf greatest (w .card) (w .state) key value .begun)
-      (start-small greatest (w .card) (w .state) key (Inserting key value NotBegun) (startRoom (w .card) key (w .state .free))) (s .reply-given) in
+      (start-small greatest (w .card) (w .state) key (Inserting key value NotBegun) (startRoom (w .card) key (roomOf (w .state)))) (s .reply-given) in
       record {
         begins = s .reply-given;
         by-rules = subst (λ (r : Reply). Updates (rationTable greatest) ((a : ℕ) × (lookup key (b .held) ≡ some a)) (InsertRule (w .card) key value) r
@@ -187,7 +188,7 @@ module _ (greatest : ℕ) (w : World (rationTable greatest)) (b : Book) (v : Cov
   steps-right =
       bool-cases (isIdle (w .state .doing))
       (λ q. inl (idle-work (w .state .doing) q, idle-ten (is-idle (w .state .doing) q)))
-      (λ q. inr (busy-work (w .state .doing) q, λ r h e. work-not-refused greatest n (v .steps) w b i q r (answer-refused (stepOf greatest (w .card) (w .state) .answer) r h e)))
+      (λ q. inr (busy-work (w .state .doing) q, λ r h e. work-not-refused greatest (only n) (v .steps) w b i q r (answer-refused (stepOf greatest (w .card) (w .state) .answer) r h e)))
 
   rests-are : Resting (rationTable greatest) (w .state) → Rests (rationTable greatest) greatest w (b .held)
   rests-are q =

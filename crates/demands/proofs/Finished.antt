@@ -4,8 +4,9 @@ use mathlib.Core.Path.{_≡_, refl, ap, sym, subst, _∙_}
 use mathlib.Core.List.{List, [], _∷_}
 use mathlib.Core.Bool.{Bool, false}
 use mathlib.Core.Logic.{_⊎_, inl, inr}
-use Prim.Native.Nat.{ℕ, zero, suc, _≤_, _<_}
+use Prim.Native.Nat.{ℕ, zero, suc, _+_, _≤_, _<_}
 use native.Mathlib.Omega.{arith}
+use Rattle.theory_change.proofs.Line.{Line, Partition, only, size, exact-only, count-only}
 use Rattle.card.specs.Replies.{Reply, stored}
 use Rattle.state.specs.Answers.{stepReply}
 use Rattle.state.specs.Steps.{isIdle}
@@ -13,8 +14,6 @@ use Rattle.call_step.specs.Calls.{stepOf}
 use Rattle.state.specs.declared.Doing.the-variants.{Idle}
 use Rattle.state.specs.declared.Answer.{Answer}
 use Rattle.state.specs.declared.Answer.the-variants.{Stored, Refused}
-use Rattle.theory_tree.specs.FreeNodes.{Exact}
-use Rattle.card_free.specs.NodeSet.{countTrue}
 use Rattle.demands.proofs.BookLaws.{IsFinal}
 use Rattle.demands.proofs.Finishing.{Rests}
 use Rattle.demands.proofs.Invariant.{Inv}
@@ -40,14 +39,14 @@ pub data Counted (greatest : ℕ) (final : Reply) : ℕ → World (rationTable g
       → Counted greatest final k (happens (rationTable greatest) step w) → Counted greatest final (suc k) w
 
 -- the work in hand takes fewer stores than it has steps left, and gives the answer due
-pub counted : (greatest : ℕ) (n steps : ℕ) (w : World (rationTable greatest)) (b : Book) (i : Inv greatest n steps w b)
+pub counted : (greatest : ℕ) (line : Line) (steps : ℕ) (w : World (rationTable greatest)) (b : Book) (i : Inv greatest line steps w b)
     → isIdle (w .state .doing) ≡ false → (k : ℕ) × (k < steps) × Counted greatest (stepReply (i .due)) k w
 unfolding replyTo stepReply
-counted greatest n zero w b i busy = absurd (idle-not-busy (w .state .doing) (at-rest greatest n 0 w b refl i .0) busy)
-counted greatest n (suc steps) w b i busy =
-    let q = kept-step greatest n steps w b i in
+counted greatest line zero w b i busy = absurd (idle-not-busy (w .state .doing) (at-rest greatest line 0 w b refl i .0) busy)
+counted greatest line (suc steps) w b i busy =
+    let q = kept-step greatest line steps w b i in
     go (q .2) (q .1) (λ e. subst (λ (a : Answer). (k : ℕ) × (k < steps) × Counted greatest (stepReply a) k (happens (rationTable greatest) step w)) (q .0 .2)
-    (counted greatest n steps (happens (rationTable greatest) step w) _ (q .0 .0) (after-step greatest w e)))
+    (counted greatest line steps (happens (rationTable greatest) step w) _ (q .0 .0) (after-step greatest w e)))
   where
     go : Moves (w .card) (w .state) (stepOf greatest (w .card) (w .state)) → Right (stepOf greatest (w .card) (w .state) .answer) (i .due)
         → (isIdle (stepOf greatest (w .card) (w .state) .memory .doing) ≡ false → (k : ℕ) × (k < steps)
@@ -82,9 +81,9 @@ module _ (greatest : ℕ) {final : Reply} where
   then-answers (stores-first s c) (step ∷ qs) u h = then-answers c qs (u .1) (omega arith)
   then-answers c (cut ∷ qs) u h = absurd (u .0)
 
-pub work-not-refused : (greatest : ℕ) (n steps : ℕ) (w : World (rationTable greatest)) (b : Book) → Inv greatest n steps w b
+pub work-not-refused : (greatest : ℕ) (line : Line) (steps : ℕ) (w : World (rationTable greatest)) (b : Book) → Inv greatest line steps w b
     → isIdle (w .state .doing) ≡ false → (r : ℕ) → stepOf greatest (w .card) (w .state) .answer ≡ Refused r → ⊥
-work-not-refused greatest n steps w b i busy r e = at (kept-step greatest n steps w b (loosen greatest n steps (suc steps) w b (omega arith) i) .2)
+work-not-refused greatest line steps w b i busy r e = at (kept-step greatest line steps w b (loosen greatest line steps (suc steps) w b (omega arith) i) .2)
   where
     at : Moves (w .card) (w .state) (stepOf greatest (w .card) (w .state)) → ⊥
     at (was-idle f) = idle-not-busy (w .state .doing) f busy
@@ -92,12 +91,12 @@ work-not-refused greatest n steps w b i busy r e = at (kept-step greatest n step
     at (goes-further s f) = let z : _≡_ {A = Answer} (Refused r) (Stored (s .0)) = sym e ∙ s .1 in impossible (cc)
 
 -- an idle state's table
-pub inv-rests : (greatest : ℕ) (n steps : ℕ) (w : World (rationTable greatest)) (b : Book) → Inv greatest n steps w b → w .state .doing ≡ Idle → Rests greatest w (b .held)
+pub inv-rests : (greatest : ℕ) (n steps : ℕ) (w : World (rationTable greatest)) (b : Book) → Inv greatest (only n) steps w b → w .state .doing ≡ Idle → Rests greatest w (b .held)
 inv-rests greatest n steps w b i idle = go (idle-or-busy (i .stage))
   where
     go : (w .state .nodes ≡ n)
         × ((isIdle (w .state .doing) ≡ false) ⊎ ((free : List Bool) × (last : ℕ) × (w .state ≡ memory n free last (w .state .depth) (w .state .totals) Idle [] [])
-        × (tableViolations (i .tree) ≡ 0) × (3 ≤ countTrue free) × Exact n free (i .tree) × (bare (i .tree) ≡ i .goal))) → Rests greatest w (b .held)
+        × (tableViolations (i .tree) ≡ 0) × (size (i .tree) + 3 ≤ n) × Partition (only n) free (i .tree) × (bare (i .tree) ≡ i .goal))) → Rests greatest w (b .held)
     go (e, inl busy) = absurd (idle-not-busy (w .state .doing) idle busy)
     go (e, inr (free, last, em, z, r, x, eg)) =
         record {
@@ -109,6 +108,6 @@ inv-rests greatest n steps w b i idle = go (idle-or-busy (i .stage))
             nodes-within (w .card) n (i .table .sized .words) (i .tree) (i .table .holds .2) (i .table .sound .once),
             within-limited greatest n (i .table .sized .within) (i .table .sized .most),
           ));
-          free-exact = rw em x;
-          three-kept = rw em r;
+          free-exact = rw em (exact-only n free (i .tree) x);
+          three-kept = rw em (omega (arith, r, count-only n free (i .tree) x (omega (arith, i .table .sized .most))));
         }

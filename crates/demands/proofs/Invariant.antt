@@ -8,12 +8,11 @@ use lib.ListN.{length}
 use Rattle.card.specs.Layout.{lowestKey, keyLimit}
 use Rattle.card.specs.Header.{Sized, Formatted}
 use Rattle.card.specs.Stores.{Store}
-use Rattle.theory_tree.specs.FreeNodes.{Exact}
+use Rattle.theory_change.proofs.Line.{Line, Partition, size}
 use Rattle.theory_change.proofs.Plays.{Openable, Changing}
 use Rattle.theory_change.proofs.Repaired.{Mendable}
 use Rattle.theory_change.proofs.Rewritten.{Sound}
 use Rattle.card_family.proofs.FamilyLaws.{Totals}
-use Rattle.card_free.specs.NodeSet.{countTrue}
 use Rattle.demands.specs.Way.{leafFull}
 use Rattle.demands.proofs.Finishing.{updateStoresAt}
 use Rattle.demands.specs.Book.{Update, Outcome, Told, Hand, Book, book, feed, put, remove, goesOn, anInsert, aDelete, empty, holding}
@@ -73,39 +72,39 @@ pub record UpdateSteps (t : Tree) (steps : ℕ) : Type 0 where
   pub enough : updateStoresAt height + 1 ≤ steps
 
 -- What is being done, by the state and the book's hand, and the final answer due to it.
-pub data Stage (c : List ℕ) (n : ℕ) (t goal : Tree) (steps : ℕ) : Memory → Hand → Answer → Type 0 where
+pub data Stage (c : List ℕ) (line : Line) (t goal : Tree) (steps : ℕ) : Memory → Hand → Answer → Type 0 where
   -- nothing is being done, and no answer is due: any will do
-  stage-idle : {free : List Bool} {last depth : ℕ} {due : Answer} {totals : List ℕ} → tableViolations t ≡ 0 → 3 ≤ countTrue free → Exact n free t → bare t ≡ goal
-      → Stage c n t goal steps (record { nodes = n; free = free; last = last; doing = Idle; rest = []; cut = []; depth = depth; totals = totals }) empty due
+  stage-idle : {free : List Bool} {last depth : ℕ} {due : Answer} {totals : List ℕ} → tableViolations t ≡ 0 → size t + 3 ≤ line .limit → Partition line free t → bare t ≡ goal
+      → Stage c line t goal steps (record { nodes = line .nodes; free = free; last = last; doing = Idle; rest = []; cut = []; depth = depth; totals = totals }) empty due
   -- started: nothing is planned yet
-  stage-put : {free : List Bool} {last depth key value : ℕ} {totals : List ℕ} → tableViolations t ≡ 0 → 3 ≤ countTrue free → Exact n free t → lowestKey ≤ key
-      → key < keyLimit → startRoom c key free (landing c n key) ≡ true → UpdateSteps t steps → afterShape (put key value) (bare t) ≡ goal
-      → Stage c n t goal steps (record { nodes = n; free = free; last = last; doing = Inserting key value NotBegun; rest = []; cut = []; depth = depth; totals = totals })
+  stage-put : {free : List Bool} {last depth key value : ℕ} {totals : List ℕ} (room : ℕ) → tableViolations t ≡ 0 → size t + 3 ≤ line .limit → Partition line free t → lowestKey ≤ key
+      → key < keyLimit → startRoom c key room (landing c (line .nodes) key) ≡ true → size t + room ≤ line .limit → UpdateSteps t steps → afterShape (put key value) (bare t) ≡ goal
+      → Stage c line t goal steps (record { nodes = line .nodes; free = free; last = last; doing = Inserting key value NotBegun; rest = []; cut = []; depth = depth; totals = totals })
       (takenUp (toldOf (put key value) c goesOn)) (dictionaryAnswer (lookup key (pairs t)))
-  stage-remove : {free : List Bool} {last depth key : ℕ} {totals : List ℕ} → tableViolations t ≡ 0 → 3 ≤ countTrue free → Exact n free t
+  stage-remove : {free : List Bool} {last depth key : ℕ} {totals : List ℕ} → tableViolations t ≡ 0 → size t + 3 ≤ line .limit → Partition line free t
       → lowestKey ≤ key → key < keyLimit → UpdateSteps t steps → afterShape (remove key) (bare t) ≡ goal
-      → Stage c n t goal steps (record { nodes = n; free = free; last = last; doing = Deleting key NotBegun 0; rest = []; cut = []; depth = depth; totals = totals })
+      → Stage c line t goal steps (record { nodes = line .nodes; free = free; last = last; doing = Deleting key NotBegun 0; rest = []; cut = []; depth = depth; totals = totals })
       (takenUp (toldOf (remove key) c goesOn)) (dictionaryAnswer (lookup key (pairs t)))
   -- the first change of an update, whose last store enters it
   stage-first : {free : List Bool} {last depth key : ℕ} {doing : Doing} {due : Answer} {u : Update}
       {deciding count : ℕ} {cut : List ℕ} {s : Store} {rest : List Store} {totals : List ℕ} → Job InHand doing key due (some u)
-      → (p : Changing c n key t (s ∷ rest) free cut) → Changes u (pairs t) (pairs (p .next))
+      → (p : Changing c line key t (s ∷ rest) free cut) → Changes u (pairs t) (pairs (p .next))
       → count + suc (length rest) ≡ deciding → suc (length rest) + (73 * p .level + 1) ≤ steps → Heads (p .level) (bare (p .next)) goal
-      → Stage c n t goal steps (record { nodes = n; free = free; last = last; doing = doing; rest = s ∷ rest; cut = cut; depth = depth; totals = totals }) (holding u deciding count) due
+      → Stage c line t goal steps (record { nodes = line .nodes; free = free; last = last; doing = doing; rest = s ∷ rest; cut = cut; depth = depth; totals = totals }) (holding u deciding count) due
   -- between two changes of a repair
   stage-between : {free : List Bool} {last depth key : ℕ} {doing : Doing} {due : Answer} {u : Option Update} {h : Hand} {totals : List ℕ} → Job Decided doing key
-      due u → Entered u h → (deep : ℕ) → Mendable key free t deep → Exact n free t → 73 * deep + 1 ≤ steps → Heads deep (bare t) goal
-      → Stage c n t goal steps (record { nodes = n; free = free; last = last; doing = doing; rest = []; cut = []; depth = depth; totals = totals }) h due
+      due u → Entered u h → (deep : ℕ) → Mendable key (line .limit) t deep → Partition line free t → 73 * deep + 1 ≤ steps → Heads deep (bare t) goal
+      → Stage c line t goal steps (record { nodes = line .nodes; free = free; last = last; doing = doing; rest = []; cut = []; depth = depth; totals = totals }) h due
   -- within a change of a repair, which keeps the pairs
   stage-within : {free : List Bool} {last depth key : ℕ} {doing : Doing} {due : Answer} {u : Option Update} {h : Hand} {cut : List ℕ} {s : Store}
-      {rest : List Store} {totals : List ℕ} → Job Decided doing key due u → Entered u h → (p : Changing c n key t (s ∷ rest) free cut)
+      {rest : List Store} {totals : List ℕ} → Job Decided doing key due u → Entered u h → (p : Changing c line key t (s ∷ rest) free cut)
       → Same (pairs (p .next)) (pairs t) → suc (length rest) + (73 * p .level + 1) ≤ steps → Heads (p .level) (bare (p .next)) goal
-      → Stage c n t goal steps (record { nodes = n; free = free; last = last; doing = doing; rest = s ∷ rest; cut = cut; depth = depth; totals = totals }) h due
+      → Stage c line t goal steps (record { nodes = line .nodes; free = free; last = last; doing = doing; rest = s ∷ rest; cut = cut; depth = depth; totals = totals }) h due
 
-pub record Inv (greatest : ℕ) (n steps : ℕ) (w : World (rationTable greatest)) (b : Book) : Type 0 where
+pub record Inv (greatest : ℕ) (line : Line) (steps : ℕ) (w : World (rationTable greatest)) (b : Book) : Type 0 where
   pub tree : Tree
-  pub table : Table greatest (w .card) n tree
-  pub openable : Openable n tree
+  pub table : Table greatest (w .card) (line .nodes) tree
+  pub openable : Openable (line .limit) tree
   pub same : Same (pairs tree) (b .held)
   -- document 02, W-204: the totals are those of the tree on the card
   pub counted : Totals (w .state .totals) (pairs tree)
@@ -113,8 +112,8 @@ pub record Inv (greatest : ℕ) (n steps : ℕ) (w : World (rationTable greatest
   pub goal : Tree
   -- the final answer that it gives
   pub due : Answer
-  pub stage : Stage (w .card) n tree goal steps (w .state) (b .inHand) due
+  pub stage : Stage (w .card) line tree goal steps (w .state) (b .inHand) due
 
 -- the invariant, with this goal and this answer due
-abbrev pub Toward : (greatest : ℕ) → Tree → Answer → ℕ → ℕ → World (rationTable greatest) → Book → Type 0
-Toward greatest goal due n steps w b = (i : Inv greatest n steps w b) × (i .goal ≡ goal) × (i .due ≡ due)
+abbrev pub Toward : (greatest : ℕ) → Tree → Answer → Line → ℕ → World (rationTable greatest) → Book → Type 0
+Toward greatest goal due line steps w b = (i : Inv greatest line steps w b) × (i .goal ≡ goal) × (i .due ≡ due)

@@ -3,7 +3,7 @@ use mathlib.Core.Path.{_≡_, refl, _∙_, sym}
 use mathlib.Core.List.{List, [], _∷_}
 use mathlib.Core.Bool.{Bool}
 use mathlib.Core.Option.{Option, some}
-use mathlib.Core.Logic.{_⊎_, _≢_, ⊎-elim}
+use mathlib.Core.Logic.{_≢_, ⊎-elim}
 use Prim.Native.Nat.{ℕ, suc, _+_, _*_, _≤_}
 use native.Mathlib.Omega.{arith}
 use lib.ListN.{length, set, getD, length-set}
@@ -11,7 +11,7 @@ use lib.Seq.{getD-set-other}
 use borrow.Author.Tests.{ne-eqb, eq-eqb}
 use Rattle.card.specs.Header.{Formatted}
 use Rattle.card.specs.Stores.{Store}
-use Rattle.change_plan.specs.Planning.{withAll}
+use Rattle.theory_change.proofs.Line.{Line, Own}
 use Rattle.theory_change.proofs.Plays.{Openable, Storable, Plays, Changing, last-store, store-then}
 use Rattle.theory_change.proofs.Rewritten.{Sound}
 use Rattle.demands.proofs.Invariant.{Toward, Table, Job, Entered, updated, stage-first, stage-between, stage-within}
@@ -34,65 +34,67 @@ use Rattle.theory_tree.specs.Violations.{few}
 
 -- ---- one store of the change in hand
 
-formatted-set : (c : List ℕ) (n p v : ℕ) → (p ≡ 4) ⊎ (8 ≤ p) → Formatted c n → Formatted (set c p v) n
-formatted-set c n p v o f =
+formatted-set : (c : List ℕ) (n p v : ℕ) (line : Line) → Own line p → Formatted c n → Formatted (set c p v) n
+formatted-set c n p v line o f =
     record {
-      mark = keep 0 (⊎-elim (λ e. omega arith) (λ e. omega arith) o) (f .mark);
-      nodes = keep 1 (⊎-elim (λ e. omega arith) (λ e. omega arith) o) (f .nodes);
-      first = keep 2 (⊎-elim (λ e. omega arith) (λ e. omega arith) o) (f .first);
-      each = keep 3 (⊎-elim (λ e. omega arith) (λ e. omega arith) o) (f .each);
-      five = keep 5 (⊎-elim (λ e. omega arith) (λ e. omega arith) o) (f .five);
-      six = keep 6 (⊎-elim (λ e. omega arith) (λ e. omega arith) o) (f .six);
-      seven = keep 7 (⊎-elim (λ e. omega arith) (λ e. omega arith) o) (f .seven);
+      mark = keep 0 (⊎-elim (λ e. omega arith) (λ e. omega (arith, e .is)) o) (f .mark);
+      nodes = keep 1 (⊎-elim (λ e. omega arith) (λ e. omega (arith, e .is)) o) (f .nodes);
+      first = keep 2 (⊎-elim (λ e. omega arith) (λ e. omega (arith, e .is)) o) (f .first);
+      each = keep 3 (⊎-elim (λ e. omega arith) (λ e. omega (arith, e .is)) o) (f .each);
+      five = keep 5 (⊎-elim (λ e. omega arith) (λ e. omega (arith, e .is)) o) (f .five);
+      six = keep 6 (⊎-elim (λ e. omega arith) (λ e. omega (arith, e .is)) o) (f .six);
+      seven = keep 7 (⊎-elim (λ e. omega arith) (λ e. omega (arith, e .is)) o) (f .seven);
     }
   where
     keep : (i : ℕ) → i ≢ p → {x : ℕ} → getD c i 0 ≡ x → getD (set c p v) i 0 ≡ x
     keep i d e = getD-set-other c p i v 0 d ∙ e
 
 -- the table after a store that leads to the tree u
-table-set : (greatest : ℕ) {c : List ℕ} {n : ℕ} {t u : Tree} (p v : ℕ) → Storable c p → Table greatest c n t → Holds (set c p v) u → Sound u → Table greatest (set c p v) n u
-table-set greatest {c} {n} p v s b h k = record { sized = rw (length-set c p v) (b .sized); header = formatted-set c n p v (s .apart) (b .header); holds = h; sound = k }
+table-set : (greatest : ℕ) {c : List ℕ} {line : Line} {t u : Tree} (p v : ℕ) → Storable line c p → Table greatest c (line .nodes) t → Holds (set c p v) u
+    → Sound u → Table greatest (set c p v) (line .nodes) u
+table-set greatest {c} {line} p v s b h k = record { sized = rw (length-set c p v) (b .sized); header = formatted-set c (line .nodes) p v line (s .own) (b .header); holds = h; sound = k }
 
 -- the first place to store to is on the card
-pub first-storable : {n : ℕ} {next : Tree} {c : List ℕ} {t : Tree} {s : Store} {rest : List Store} → Plays n next c t (s ∷ rest) → Storable c (s .0)
+pub first-storable : {line : Line} {next : Tree} {c : List ℕ} {t : Tree} {s : Store} {rest : List Store} → Plays line next c t (s ∷ rest) → Storable line c (s .0)
 first-storable (last-store s h) = s
 first-storable (store-then u s h k o e p) = s
 
 -- what one store of a change leaves: the rest of it, on a table with the same pairs, or the next tree
-pub data Left (greatest : ℕ) (n key : ℕ) (c : List ℕ) (t : Tree) (free : List Bool) (cut : List ℕ) (next : Tree) (level : ℕ) (s : Store) : List Store → Type 0 where
-  all-made : Table greatest (set c (s .0) (s .1)) n next → Left greatest n key c t free cut next level s []
-  some-left : {x : Store} {rest : List Store} (u : Tree) → Table greatest (set c (s .0) (s .1)) n u → Openable n u → Same (pairs u) (pairs t)
-      → (p : Changing (set c (s .0) (s .1)) n key u (x ∷ rest) free cut) → p .next ≡ next → p .level ≡ level
-      → Left greatest n key c t free cut next level s (x ∷ rest)
+pub data Left (greatest : ℕ) (line : Line) (key : ℕ) (c : List ℕ) (t : Tree) (free : List Bool) (cut : List ℕ) (next : Tree) (level : ℕ) (s : Store) : List Store → Type 0 where
+  all-made : Table greatest (set c (s .0) (s .1)) (line .nodes) next → Left greatest line key c t free cut next level s []
+  some-left : {x : Store} {rest : List Store} (u : Tree) → Table greatest (set c (s .0) (s .1)) (line .nodes) u → Openable (line .limit) u → Same (pairs u) (pairs t)
+      → (p : Changing (set c (s .0) (s .1)) line key u (x ∷ rest) free cut) → p .next ≡ next → p .level ≡ level
+      → Left greatest line key c t free cut next level s (x ∷ rest)
 
-one-store : (greatest : ℕ) {c : List ℕ} {n key : ℕ} {t : Tree} {s : Store} {rest : List Store} {free : List Bool} {cut : List ℕ} → Table greatest c n t
-    → (p : Changing c n key t (s ∷ rest) free cut) → Left greatest n key c t free cut (p .next) (p .level) s rest
-one-store greatest {c} {n} {key} {t} {free = free} {cut = cut} b p = at (p .plays)
+one-store : (greatest : ℕ) {c : List ℕ} {line : Line} {key : ℕ} {t : Tree} {s : Store} {rest : List Store} {free : List Bool} {cut : List ℕ} → Table greatest c (line .nodes) t
+    → (p : Changing c line key t (s ∷ rest) free cut) → Left greatest line key c t free cut (p .next) (p .level) s rest
+one-store greatest {c} {line} {key} {t} {free = free} {cut = cut} b p = at (p .plays)
   where
-    at : {s : Store} {rest : List Store} → Plays n (p .next) c t (s ∷ rest) → Left greatest n key c t free cut (p .next) (p .level) s rest
+    at : {s : Store} {rest : List Store} → Plays line (p .next) c t (s ∷ rest) → Left greatest line key c t free cut (p .next) (p .level) s rest
     at (last-store {p = a} {v = v} s h) = all-made (table-set greatest a v s b h (p .sound))
     at (store-then {p = a} {v = v} u s h k o e q) =
         some-left u (table-set greatest a v s b h k) o (record { totals = e }) (record { next = p .next; plays = q; sound = p .sound; exact = p .exact; level = p .level; ready = p .ready }) refl refl
 
 -- a store of a repair's change
-pub repair-stored : (greatest : ℕ) {c : List ℕ} {n key : ℕ} {t : Tree} {s : Store} {rest : List Store} {free : List Bool} {cut : List ℕ} {doing : Doing}
-    {due : Answer} {u : Option Update} {h : Hand} {goal : Tree} (last depth steps : ℕ) (totals : List ℕ) (z : List Store) (l : List (ℕ × ℕ)) → Table greatest c n t
+pub repair-stored : (greatest : ℕ) {c : List ℕ} {line : Line} {key : ℕ} {t : Tree} {s : Store} {rest : List Store} {free : List Bool} {cut : List ℕ} {doing : Doing}
+    {due : Answer} {u : Option Update} {h : Hand} {goal : Tree} (last depth steps : ℕ) (totals : List ℕ) (z : List Store) (l : List (ℕ × ℕ)) → Table greatest c (line .nodes) t
     → Same (pairs t) l → Totals totals (pairs t)
-    → Job Decided doing key due u → Entered u h → (p : Changing c n key t (s ∷ rest) free cut) → Same (pairs (p .next)) (pairs t)
+    → Job Decided doing key due u → Entered u h → (p : Changing c line key t (s ∷ rest) free cut) → Same (pairs (p .next)) (pairs t)
     → length rest + (73 * p .level + 1) ≤ steps → Heads (p .level) (bare (p .next)) goal
-    → Toward greatest goal due n steps (record { card = set c (s .0) (s .1); state = advanced (memory n free last depth totals doing z cut) rest }) (book l h)
+    → Toward greatest goal due line steps (record { card = set c (s .0) (s .1); state = advanced (memory (line .nodes) free last depth totals doing z cut) rest }) (book l h)
 unfolding advanced
-repair-stored greatest {c} {n} {key} {t} {s} {rest} {free} {cut} {doing} {due} {h = h} {goal = goal} last depth steps totals z l b same counted j en p e few hd = at rest (one-store greatest b p) few
+repair-stored greatest {c} {line} {key} {t} {s} {rest} {free} {cut} {doing} {due} {h = h} {goal = goal} last depth steps totals z l b same counted j en p e few hd = at rest
+    (one-store greatest b p) few
   where
-    at : (rest : List Store) → Left greatest n key c t free cut (p .next) (p .level) s rest → length rest + (73 * p .level + 1) ≤ steps
-        → Toward greatest goal due n steps (record { card = set c (s .0) (s .1); state = advanced (memory n free last depth totals doing z cut) rest }) (book l h)
+    at : (rest : List Store) → Left greatest line key c t free cut (p .next) (p .level) s rest → length rest + (73 * p .level + 1) ≤ steps
+        → Toward greatest goal due line steps (record { card = set c (s .0) (s .1); state = advanced (memory (line .nodes) free last depth totals doing z cut) rest }) (book l h)
     at rest (all-made b′) few = (
       record {
         tree = p .next;
         goal = goal;
         due = due;
         table = b′;
-        openable = record { free = withAll cut free; exact = p .exact; key = key; deep = p .level; ready = p .ready };
+        openable = record { key = key; deep = p .level; ready = p .ready };
         same = same-over e same;
         counted = rw (decided-totals j totals) (totals-same totals (pairs t) (pairs (p .next)) (λ w. sym (e .totals w)) counted);
         stage = stage-between (job-settled j) en (p .level) (p .ready) (p .exact) (omega arith) hd;
@@ -116,19 +118,21 @@ repair-stored greatest {c} {n} {key} {t} {s} {rest} {free} {cut} {doing} {due} {
     )
 
 -- a store of an update's first change: the last one enters it
-pub update-stored : (greatest : ℕ) {c : List ℕ} {n key : ℕ} {t : Tree} {s : Store} {rest : List Store} {free : List Bool} {cut : List ℕ} {doing : Doing}
+pub update-stored : (greatest : ℕ) {c : List ℕ} {line : Line} {key : ℕ} {t : Tree} {s : Store} {rest : List Store} {free : List Bool} {cut : List ℕ} {doing : Doing}
     {due : Answer} {u : Update} {goal : Tree} (deciding k last depth steps : ℕ) (totals : List ℕ) (z : List Store) (l : List (ℕ × ℕ))
-    → Table greatest c n t → Same (pairs t) l → Totals totals (pairs t)
-    → Job InHand doing key due (some u) → (p : Changing c n key t (s ∷ rest) free cut) → Changes u (pairs t) (pairs (p .next))
+    → Table greatest c (line .nodes) t → Same (pairs t) l → Totals totals (pairs t)
+    → Job InHand doing key due (some u) → (p : Changing c line key t (s ∷ rest) free cut) → Changes u (pairs t) (pairs (p .next))
     → k + suc (length rest) ≡ deciding → length rest + (73 * p .level + 1) ≤ steps → Heads (p .level) (bare (p .next)) goal
-    → Toward greatest goal due n steps (record { card = set c (s .0) (s .1); state = advanced (memory n free last depth totals doing z cut) rest }) (fedStep goesOn l (holding u deciding k))
+    → Toward greatest goal due line steps (record { card = set c (s .0) (s .1); state = advanced (memory (line .nodes) free last depth totals doing z cut) rest })
+    (fedStep goesOn l (holding u deciding k))
 unfolding advanced fedStep
-update-stored greatest {c} {n} {key} {t} {s} {rest} {free} {cut} {doing} {due} {u} {goal}
+update-stored greatest {c} {line} {key} {t} {s} {rest} {free} {cut} {doing} {due} {u} {goal}
     deciding k last depth steps totals z l b same counted j p e count few hd =
     at rest (one-store greatest b p) count few
   where
-    at : (rest : List Store) → Left greatest n key c t free cut (p .next) (p .level) s rest → k + suc (length rest) ≡ deciding → length rest + (73 * p .level + 1) ≤ steps
-        → Toward greatest goal due n steps (record { card = set c (s .0) (s .1); state = advanced (memory n free last depth totals doing z cut) rest }) (fedStep goesOn l (holding u deciding k))
+    at : (rest : List Store) → Left greatest line key c t free cut (p .next) (p .level) s rest → k + suc (length rest) ≡ deciding → length rest + (73 * p .level + 1) ≤ steps
+        → Toward greatest goal due line steps (record { card = set c (s .0) (s .1); state = advanced (memory (line .nodes) free last depth totals doing z cut) rest })
+        (fedStep goesOn l (holding u deciding k))
     at rest (all-made b′) count few =
         rw (eq-eqb (suc k) deciding (omega arith)) (
           record {
@@ -136,7 +140,7 @@ update-stored greatest {c} {n} {key} {t} {s} {rest} {free} {cut} {doing} {due} {
             goal = goal;
             due = due;
             table = b′;
-            openable = record { free = withAll cut free; exact = p .exact; key = key; deep = p .level; ready = p .ready };
+            openable = record { key = key; deep = p .level; ready = p .ready };
             same = e .enters .to l same;
             counted = changed-totals j totals (pairs t) (pairs (p .next)) (few-pairs greatest b) (few-pairs greatest b′) e counted;
             stage = stage-between (job-settled j) (updated {deciding = deciding} {count = suc k} (omega arith)) (p .level) (p .ready) (p .exact) (omega arith) hd;

@@ -5,6 +5,7 @@ use mathlib.Core.Logic.{_⊎_, inl, inr}
 use Prim.Native.Nat.{ℕ, zero, suc, _+_, _≤_, _<_}
 use native.Mathlib.Omega.{arith}
 use lib.ListN.{length, getD, set, drop}
+use Rattle.theory_change.proofs.Line.{only}
 use Rattle.card.specs.Stores.{Store}
 use Rattle.demands.specs.Events.{Event, World, replyTo, happens, run, LeftUncut, stepsIn, ask, insert, delete, step, cut}
 use Rattle.demands.specs.Book.{Hand, Book, feed, told}
@@ -45,20 +46,20 @@ nearer greatest final zero w x e = absurd (never (idle-refused greatest (w .card
     v = x .covered
 
     rested : w .state .doing ≡ Idle
-    rested = at-rest greatest (v .size) (v .steps) w (x .book-now) (omega (arith, x .soon)) (v .inv) .0
+    rested = at-rest greatest (only (v .size)) (v .steps) w (x .book-now) (omega (arith, x .soon)) (v .inv) .0
 
     never : ((r : ℕ) × (stepOf greatest (w .card) (w .state) ≡ stepRefused r (w .card) (w .state))) → ⊥
     never (r, q) = let y : _≡_ {A = Answer} (WasRefused r) (Stored (e .0)) = sym (ap (λ z. z .answer) q) ∙ e .1 in impossible (cc)
 nearer greatest final (suc few) w x e =
     let v = x .covered in
-    let q = kept-step greatest (v .size) few w (x .book-now) (loosen greatest (v .size) (v .steps) (suc few) w (x .book-now) (x .soon) (v .inv)) in (
+    let q = kept-step greatest (only (v .size)) few w (x .book-now) (loosen greatest (only (v .size)) (v .steps) (suc few) w (x .book-now) (x .soon) (v .inv)) in (
       few,
       refl,
       record {
         book-now = feed (told (rationTable greatest) step w) (x .book-now);
         covered = record { size = v .size; steps = few; inv = q .0 .0 };
         soon = omega arith;
-        is-due = q .0 .2 ∙ loosen-due greatest (v .size) (v .steps) (suc few) w (x .book-now) (x .soon) (v .inv) ∙ x .is-due;
+        is-due = q .0 .2 ∙ loosen-due greatest (only (v .size)) (v .steps) (suc few) w (x .book-now) (x .soon) (v .inv) ∙ x .is-due;
       },
     )
 
@@ -73,9 +74,9 @@ abbrev Storing : ℕ → List ℕ → Memory → Type 0
 Storing greatest c m = (s : Store) × (rest : List Store) × (m .rest ≡ s ∷ rest) × (stepOf greatest c m ≡ record { answer = Stored (s .0); card = set c (s .0) (s .1); memory = advanced m rest })
 
 stage-storing : (greatest : ℕ) {c : List ℕ} {n : ℕ} {t goal : Tree} {steps : ℕ} {m : Memory} {h : Hand} {due : Answer}
-    → Table greatest c n t → Stage c n t goal steps m h due → (m .rest ≡ []) ⊎ Storing greatest c m
+    → Table greatest c n t → Stage c (only n) t goal steps m h due → (m .rest ≡ []) ⊎ Storing greatest c m
 stage-storing greatest b (stage-idle z r x g) = inl refl
-stage-storing greatest b (stage-put z r x low high room q g) = inl refl
+stage-storing greatest b (stage-put room z r x low high enough below q g) = inl refl
 stage-storing greatest b (stage-remove z r x low high q g) = inl refl
 stage-storing greatest {c} {n} b (stage-first {free} {last} {depth} {doing = doing} {cut = out} {s = s} {rest = rest} {totals = totals} j p en count few hd) =
     inr (s, rest, refl, step-stores greatest c n (b .sized) (b .header) free last depth totals doing (job-busy j) out s rest (first-storable (p .plays) .inside))

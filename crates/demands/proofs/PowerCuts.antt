@@ -6,6 +6,7 @@ use mathlib.Core.Logic.{_⊎_, inl, inr, ⊎-map}
 use mathlib.Core.Option.{Option, none, some}
 use Prim.Native.Nat.{ℕ, suc, _≤_, _<_}
 use native.Mathlib.Omega.{arith}
+use Rattle.theory_change.proofs.Line.{Line, only}
 use Rattle.demands.proofs.BookLaws.{dictionaryAnswer}
 use Rattle.demands.proofs.Invariant.{Inv}
 use Rattle.demands.proofs.WayDown.{sized-on}
@@ -46,10 +47,10 @@ dictionary-same (some v) = refl
 pub record Covered (greatest : ℕ) (w : World (rationTable greatest)) (b : Book) : Type 0 where
   pub size : ℕ
   pub steps : ℕ
-  pub inv : Inv greatest size steps w b
+  pub inv : Inv greatest (only size) steps w b
 
 pub covered-nodes : (greatest : ℕ) {w : World (rationTable greatest)} {b : Book} (v : Covered greatest w b) → nodesOn (w .card) ≡ w .state .nodes
-covered-nodes greatest {w} {b} v = sized-on greatest (w .card) (v .size) (v .inv .table .sized) ∙ sym (nodes-same greatest (v .size) (v .steps) w b (v .inv))
+covered-nodes greatest {w} {b} v = sized-on greatest (w .card) (v .size) (v .inv .table .sized) ∙ sym (nodes-same greatest (only (v .size)) (v .steps) w b (v .inv))
 
 -- what holds of covered tables holds always
 pub always : (greatest : ℕ) (Claim : World (rationTable greatest) → Book → Type 0)
@@ -60,14 +61,14 @@ always greatest Claim claim w l s es u =
 
 -- ---- opening's repair keeps the invariant, and is idle from its "ready" on
 
-module _ (greatest : ℕ) (n k : ℕ) (l : List (ℕ × ℕ)) where
+module _ (greatest : ℕ) (line : Line) (k : ℕ) (l : List (ℕ × ℕ)) where
   abbrev Held : World (rationTable greatest) → Type 0
-  Held w = Inv greatest n k w (book l empty)
+  Held w = Inv greatest line k w (book l empty)
 
   step-held : (w : World (rationTable greatest)) → Held w → Held (happens (rationTable greatest) step w) × Moves (w .card) (w .state) (stepOf greatest (w .card) (w .state))
   unfolding feed told
   step-held w i =
-      let q = kept-step greatest n k w (book l empty) (loosen greatest n k (suc k) w (book l empty) (omega arith) i) in
+      let q = kept-step greatest line k w (book l empty) (loosen greatest line k (suc k) w (book l empty) (omega arith) i) in
       (rw (empty-fed (outcome (replyTo (rationTable greatest) step w)) l) at (q .0 .0), q .2)
 
   -- a run without a cut keeps it
@@ -81,7 +82,8 @@ module _ (greatest : ℕ) (n k : ℕ) (l : List (ℕ × ℕ)) where
   run-held (cut ∷ qs) w u i = absurd (u .0)
 
   held-finds : (w : World (rationTable greatest)) → Held w → (key : ℕ) → 0 < key → key < keyLimit → foundReply (findOf greatest (w .card) key) ≡ dictionary (lookup key l)
-  held-finds w i key low high = find-answers greatest (w .card) n (i .tree) key (i .table) low high ∙ dictionary-same (lookup key (pairs (i .tree))) ∙ ap dictionary (same-lookup greatest i key)
+  held-finds w i key low high = find-answers greatest (w .card) (line .nodes) (i .tree) key (i .table) low high ∙ dictionary-same (lookup key (pairs (i .tree))) ∙ ap dictionary
+      (same-lookup greatest i key)
 
   ready-idle : (w : World (rationTable greatest)) → Moves (w .card) (w .state) (stepOf greatest (w .card) (w .state))
       → replyTo (rationTable greatest) step w ≡ ready → happens (rationTable greatest) step w .state .doing ≡ Idle
@@ -156,25 +158,25 @@ module _ (greatest : ℕ) (w : World (rationTable greatest)) (b : Book) (v : Cov
       at (inr z) = absurd (omega (arith, code-of (sym (ap startReply (z .0)) ∙ e)))
 
   -- the repair that opening starts, at its beginning
-  abbrev begun : Inv greatest (v .size) repairSteps (opened (rationTable greatest) (w .card)) (book (b .held) empty)
+  abbrev begun : Inv greatest (only (v .size)) repairSteps (opened (rationTable greatest) (w .card)) (book (b .held) empty)
   begun = reopened-inv greatest (v .size) (w .card) (v .inv .tree) (b .held) (v .inv .table) (v .inv .openable) (v .inv .same)
 
   ends-in-time : (qs : List Event) → LeftUncut (rationTable greatest) qs (opened (rationTable greatest) (w .card)) → mostRepairSteps ≤ stepsIn qs → Ended (rationTable greatest) (w .card) qs
   ends-in-time qs u h =
       let due = reopened-due greatest (v .size) (w .card) (v .inv .tree) (b .held) (v .inv .table) (v .inv .openable) (v .inv .same) in
-      ⊎-map idle-said (λ r. r) (repair-ends greatest (v .size) (b .held) qs repairSteps (opened (rationTable greatest) (w .card)) u h (begun, due) .1)
+      ⊎-map idle-said (λ r. r) (repair-ends greatest (only (v .size)) (b .held) qs repairSteps (opened (rationTable greatest) (w .card)) u h (begun, due) .1)
 
   ends-right : (qs : List Event) → LeftUncut (rationTable greatest) qs (opened (rationTable greatest) (w .card)) → Ended (rationTable greatest) (w .card) qs
       → BalancedWith (run (rationTable greatest) qs (opened (rationTable greatest) (w .card)) .card) (b .held)
   ends-right qs u e =
-      let q = rest-idle greatest (v .size) repairSteps (b .held) qs (opened (rationTable greatest) (w .card)) u begun (⊎-map said-idle (λ r. r) e) in
+      let q = rest-idle greatest (only (v .size)) repairSteps (b .held) qs (opened (rationTable greatest) (w .card)) u begun (⊎-map said-idle (λ r. r) e) in
       restsRight greatest (inv-rests greatest (v .size) repairSteps (run (rationTable greatest) qs (opened (rationTable greatest) (w .card))) (book (b .held) empty) (q .0) (q .1))
 
   finds-throughout : (qs : List Event) → LeftUncut (rationTable greatest) qs (opened (rationTable greatest) (w .card)) → (key : ℕ) → 0 < key → key < keyLimit
       → rationTable greatest .find (run (rationTable greatest) qs (opened (rationTable greatest) (w .card)) .card) key ≡ dictionary (lookup key (b .held))
   finds-throughout qs u =
-      held-finds greatest (v .size) repairSteps (b .held) (run (rationTable greatest) qs (opened (rationTable greatest) (w .card)))
-      (run-held greatest (v .size) repairSteps (b .held) qs (opened (rationTable greatest) (w .card)) u begun)
+      held-finds greatest (only (v .size)) repairSteps (b .held) (run (rationTable greatest) qs (opened (rationTable greatest) (w .card)))
+      (run-held greatest (only (v .size)) repairSteps (b .held) qs (opened (rationTable greatest) (w .card)) u begun)
 
 -- DEMAND 3 of the ration table
 pub demand-3 : (greatest : ℕ) → Demand3 (rationTable greatest)

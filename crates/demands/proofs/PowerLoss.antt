@@ -3,15 +3,16 @@ use mathlib.Core.Path.{_≡_, refl, ap, sym, subst, _∙_}
 use mathlib.Core.List.{List, [], _∷_}
 use mathlib.Core.Bool.{Bool, true, false}
 use mathlib.Core.Logic.{_⊎_, inl, inr, ⊎-map, ⊎-elim}
-use Prim.Native.Nat.{ℕ, zero, suc, _≤_}
+use Prim.Native.Nat.{ℕ, zero, suc, _+_, _≤_}
 use native.Mathlib.Omega.{arith}
 use native.Mathlib.Decide.{ℕ-discrete}
 use lib.ListN.{length}
 use lib.Dec.{eqb}
+use Rattle.theory_change.proofs.Line.{Line, only, size, partition-only}
 use Rattle.card.specs.Replies.{refusal, ready, stored, started as startedReply}
 use Rattle.state.specs.Answers.{stepReply, startReply}
 use Rattle.state.specs.Steps.{noBeginning, isIdle, stepRefused, formatStore}
-use Rattle.call_start.specs.Starts.{startDepth, formatOf, startRefused, startAccepted, startLanded, startChecked, startOf, insertOf, deleteOf}
+use Rattle.call_start.specs.Starts.{startDepth, formatOf, startRefused, startAccepted, startLanded, startChecked, startOf, insertOf, deleteOf, roomOf}
 use Rattle.call_step.specs.Calls.{stepOf, repairSteps}
 use Rattle.state.specs.Memory.{Memory, resting}
 use Rattle.call_change.specs.Updates.{landing, startRoom}
@@ -28,7 +29,6 @@ use Rattle.theory_change.proofs.Repaired.{settled}
 use Rattle.theory_format.proofs.FormatCard.{placeOf, formatCard, format-untouched}
 use Rattle.theory_format.proofs.FormatSteps.{freshNodes, formatMemory, freshMemory, format-starts, format-refused, format-step-stores, format-step-ready}
 use Rattle.theory_format.proofs.FreshTable.{freshTree, FreshTable, format-fresh}
-use Rattle.card_free.specs.NodeSet.{countTrue}
 use Rattle.laws.proofs.Cases.{bool-cases, order, impossible}
 use Rattle.laws.specs.Totals.{total}
 use Rattle.demands.proofs.Accepting.{accepted-card, accepted-openable}
@@ -90,7 +90,7 @@ pub insert-same : (greatest : ℕ) (key value : ℕ) (w : World (rationTable gre
 unfolding happens replyTo insertOf
 insert-same greatest key value w h =
     let r = is-refused (insertOf greatest (w .card) (w .state) key value .begun) h in
-    same-world greatest w _ (start-unchanged greatest (w .card) (w .state) key (Inserting key value NotBegun) (startRoom (w .card) key (w .state .free)) (r .0) (r .1))
+    same-world greatest w _ (start-unchanged greatest (w .card) (w .state) key (Inserting key value NotBegun) (startRoom (w .card) key (roomOf (w .state))) (r .0) (r .1))
 
 pub delete-same : (greatest : ℕ) (key : ℕ) (w : World (rationTable greatest)) → Refused (replyTo (rationTable greatest) (delete key) w) → happens (rationTable greatest) (delete key) w ≡ w
 unfolding happens replyTo deleteOf
@@ -104,33 +104,35 @@ ask-same greatest question w = refl
 
 -- ---- more steps than needed are enough; a cut; any events
 
-pub loosen : (greatest : ℕ) (n few many : ℕ) (w : World (rationTable greatest)) (b : Book) → few ≤ many → Inv greatest n few w b → Inv greatest n many w b
-loosen greatest n few many w b h i = record { tree = i .tree; goal = i .goal; due = i .due; table = i .table; openable = i .openable; same = i .same; counted = i .counted; stage = at (i .stage) }
+pub loosen : (greatest : ℕ) (line : Line) (few many : ℕ) (w : World (rationTable greatest)) (b : Book) → few ≤ many → Inv greatest line few w b → Inv greatest line many w b
+loosen greatest line few many w b h i = record { tree = i .tree; goal = i .goal; due = i .due; table = i .table; openable = i .openable; same = i .same; counted = i .counted; stage = at (i .stage) }
   where
     more : UpdateSteps (i .tree) few → UpdateSteps (i .tree) many
     more q = record { height = q .height; level = q .level; enough = omega (arith, q .enough) }
 
-    at : {m : Memory} {x : Hand} {d : Answer} → Stage (w .card) n (i .tree) (i .goal) few m x d → Stage (w .card) n (i .tree) (i .goal) many m x d
+    at : {m : Memory} {x : Hand} {d : Answer} → Stage (w .card) line (i .tree) (i .goal) few m x d → Stage (w .card) line (i .tree) (i .goal) many m x d
     at (stage-idle z r x g) = stage-idle z r x g
-    at (stage-put z r x low high room q g) = stage-put z r x low high room (more q) g
+    at (stage-put room z r x low high enough below q g) = stage-put room z r x low high enough below (more q) g
     at (stage-remove z r x low high q g) = stage-remove z r x low high (more q) g
     at (stage-first j p en count q g) = stage-first j p en count (omega arith) g
     at (stage-between j en deep r x q g) = stage-between j en deep r x (omega arith) g
     at (stage-within j en p e q g) = stage-within j en p e (omega arith) g
 
-pub loosen-goal : (greatest : ℕ) (n few many : ℕ) (w : World (rationTable greatest)) (b : Book) (h : few ≤ many) (i : Inv greatest n few w b) → loosen greatest n few many w b h i .goal ≡ i .goal
+pub loosen-goal : (greatest : ℕ) (line : Line) (few many : ℕ) (w : World (rationTable greatest)) (b : Book) (h : few ≤ many) (i : Inv greatest line few w b)
+    → loosen greatest line few many w b h i .goal ≡ i .goal
 unfolding loosen
-loosen-goal greatest n few many w b h i = refl
+loosen-goal greatest line few many w b h i = refl
 
-pub loosen-due : (greatest : ℕ) (n few many : ℕ) (w : World (rationTable greatest)) (b : Book) (h : few ≤ many) (i : Inv greatest n few w b) → loosen greatest n few many w b h i .due ≡ i .due
+pub loosen-due : (greatest : ℕ) (line : Line) (few many : ℕ) (w : World (rationTable greatest)) (b : Book) (h : few ≤ many) (i : Inv greatest line few w b)
+    → loosen greatest line few many w b h i .due ≡ i .due
 unfolding loosen
-loosen-due greatest n few many w b h i = refl
+loosen-due greatest line few many w b h i = refl
 
 pub reopened-inv : (greatest : ℕ) (n : ℕ) (c : List ℕ) (t : Tree) (l : List (ℕ × ℕ)) → Table greatest c n t → Openable n t → Same (pairs t) l
-    → Inv greatest n repairSteps (opened (rationTable greatest) c) (book l empty)
+    → Inv greatest (only n) repairSteps (opened (rationTable greatest) c) (book l empty)
 reopened-inv greatest n c t l b o s =
     let r = reopened greatest c n t b o in
-    loosen greatest n (r .steps) repairSteps (opened (rationTable greatest) c) (book l empty) (r .few-steps)
+    loosen greatest (only n) (r .steps) repairSteps (opened (rationTable greatest) c) (book l empty) (r .few-steps)
     (record {
       tree = t;
       goal = r .goal;
@@ -151,24 +153,24 @@ module _ (greatest : ℕ) (n : ℕ) (c : List ℕ) (t : Tree) (l : List (ℕ × 
   unfolding reopened-inv loosen
   reopened-due = refl
 
-ask-keeps : (greatest : ℕ) (n steps : ℕ) (w : World (rationTable greatest)) (b : Book) (question : Question) → Inv greatest n steps w b
-    → Inv greatest n steps (happens (rationTable greatest) (ask question) w) (feed (told (rationTable greatest) (ask question) w) b)
+ask-keeps : (greatest : ℕ) (line : Line) (steps : ℕ) (w : World (rationTable greatest)) (b : Book) (question : Question) → Inv greatest line steps w b
+    → Inv greatest line steps (happens (rationTable greatest) (ask question) w) (feed (told (rationTable greatest) (ask question) w) b)
 unfolding happens feed told
-ask-keeps greatest n steps w b question i = i
+ask-keeps greatest line steps w b question i = i
 
-cut-keeps : (greatest : ℕ) (n steps : ℕ) (w : World (rationTable greatest)) (b : Book) → Inv greatest n steps w b
-    → Inv greatest n repairSteps (happens (rationTable greatest) cut w) (feed (told (rationTable greatest) cut w) b)
+cut-keeps : (greatest : ℕ) (n steps : ℕ) (w : World (rationTable greatest)) (b : Book) → Inv greatest (only n) steps w b
+    → Inv greatest (only n) repairSteps (happens (rationTable greatest) cut w) (feed (told (rationTable greatest) cut w) b)
 unfolding happens feed told
 cut-keeps greatest n steps w b i = reopened-inv greatest n (w .card) (i .tree) (b .held) (i .table) (i .openable) (i .same)
 
 pub inv-kept : (greatest : ℕ) (n : ℕ) (es : List Event) (steps : ℕ) (w : World (rationTable greatest)) (b : Book) → Words es
-    → Inv greatest n steps w b → (k : ℕ) × Inv greatest n k (run (rationTable greatest) es w) (kept (rationTable greatest) es w b)
+    → Inv greatest (only n) steps w b → (k : ℕ) × Inv greatest (only n) k (run (rationTable greatest) es w) (kept (rationTable greatest) es w b)
 unfolding run kept
 inv-kept greatest n [] steps w b u i = (steps, i)
-inv-kept greatest n (ask question ∷ es) steps w b u i = inv-kept greatest n es steps _ _ u (ask-keeps greatest n steps w b question i)
+inv-kept greatest n (ask question ∷ es) steps w b u i = inv-kept greatest n es steps _ _ u (ask-keeps greatest (only n) steps w b question i)
 inv-kept greatest n (insert key value ∷ es) steps w b u i = let q = kept-insert greatest n steps w b i key value (u .0) in inv-kept greatest n es (q .0) _ _ (u .1) (q .1)
-inv-kept greatest n (delete key ∷ es) steps w b u i = let q = kept-delete greatest n steps w b i key (u .0) in inv-kept greatest n es (q .0) _ _ (u .1) (q .1)
-inv-kept greatest n (step ∷ es) steps w b u i = inv-kept greatest n es steps _ _ u (kept-step greatest n steps w b (loosen greatest n steps (suc steps) w b (omega arith) i) .0 .0)
+inv-kept greatest n (delete key ∷ es) steps w b u i = let q = kept-delete greatest (only n) steps w b i key (u .0) in inv-kept greatest n es (q .0) _ _ (u .1) (q .1)
+inv-kept greatest n (step ∷ es) steps w b u i = inv-kept greatest n es steps _ _ u (kept-step greatest (only n) steps w b (loosen greatest (only n) steps (suc steps) w b (omega arith) i) .0 .0)
 inv-kept greatest n (cut ∷ es) steps w b u i = inv-kept greatest n es repairSteps _ _ u (cut-keeps greatest n steps w b i)
 
 -- ---- where the list begins
@@ -182,19 +184,19 @@ begun-world : (greatest : ℕ) (c : List ℕ) (n : ℕ) → Sized greatest (leng
 begun-world greatest c n s = rw (format-starts greatest c n s, format-untouched n c)
 
 -- the fresh table is idle, with no pair
-fresh-inv : (greatest : ℕ) (n : ℕ) (c : List ℕ) → FreshTable greatest c n → Inv greatest n repairSteps (record { card = c; state = freshMemory n }) (book [] empty)
+fresh-inv : (greatest : ℕ) (n : ℕ) (c : List ℕ) → FreshTable greatest c n → Inv greatest (only n) repairSteps (record { card = c; state = freshMemory n }) (book [] empty)
 unfolding resting
 fresh-inv greatest n c f =
-    let room : 3 ≤ countTrue (freshNodes n) = omega (arith, f .room, f .sized .least) in
+    let room : size freshTree + 3 ≤ n = omega (arith, f .sized .least) in
     record {
       tree = freshTree;
       goal = bare freshTree;
       due = Ready;
       table = record { sized = f .sized; header = f .formatted; holds = f .holds; sound = f .sound };
-      openable = record { free = freshNodes n; exact = f .exact; key = 0; deep = 0; ready = settled (f .no-violations) room };
+      openable = record { key = 0; deep = 0; ready = settled (f .no-violations) room };
       same = record { totals = λ w. ap (total w) (f .no-pairs) };
       counted = rw (f .no-pairs) totals-none;
-      stage = stage-idle (f .no-violations) room (f .exact) refl;
+      stage = stage-idle (f .no-violations) room (partition-only c n (freshNodes n) freshTree (f .sized .words) (f .holds .2) (f .exact)) refl;
     }
 
 -- and no step says "ready" again while nothing is started
@@ -264,7 +266,7 @@ fresh-world greatest c qs e u r = go (ℕ-discrete (nodesOfLength greatest (leng
               (begun-world greatest c (nodesOfLength greatest (length c)) s) (omega arith) u r,
         )
 
-pub begins-inv : (greatest : ℕ) (w : World (rationTable greatest)) (l : List (ℕ × ℕ)) → Begins (rationTable greatest) w l → (n : ℕ) × Inv greatest n repairSteps w (book l empty)
+pub begins-inv : (greatest : ℕ) (w : World (rationTable greatest)) (l : List (ℕ × ℕ)) → Begins (rationTable greatest) w l → (n : ℕ) × Inv greatest (only n) repairSteps w (book l empty)
 begins-inv greatest w l (from-open c t a k) =
     let q = accepted-card greatest c a in
     let b : Table greatest c (nodesOfLength greatest (length c)) t = well-formed-table greatest (q .1) (q .2) k in
@@ -278,7 +280,7 @@ begins-inv greatest w l (from-format c qs e u r) =
 
 -- a card just opened: the repair in hand, if there is one, comes to what the tree without numbers says
 pub opened-inv : (greatest : ℕ) (c : List ℕ) (t : Tree) → Opens (rationTable greatest) c → WellFormed c t
-    → (i : Inv greatest (nodesOfLength greatest (length c)) repairSteps (opened (rationTable greatest) c) (book (pairs t) empty))
+    → (i : Inv greatest (only (nodesOfLength greatest (length c))) repairSteps (opened (rationTable greatest) c) (book (pairs t) empty))
     × (i .goal ≡ settledBy depthLimit (bare t)) × (i .due ≡ Ready)
 opened-inv greatest c t a k =
     let q = accepted-card greatest c a in
@@ -290,7 +292,7 @@ opened-inv greatest c t a k =
 
 -- what holds after any list of events
 pub kept-from : (greatest : ℕ) (w : World (rationTable greatest)) (l : List (ℕ × ℕ)) → Begins (rationTable greatest) w l → (es : List Event) → Words es
-    → (n : ℕ) × (k : ℕ) × Inv greatest n k (run (rationTable greatest) es w) (kept (rationTable greatest) es w (book l empty))
+    → (n : ℕ) × (k : ℕ) × Inv greatest (only n) k (run (rationTable greatest) es w) (kept (rationTable greatest) es w (book l empty))
 kept-from greatest w l s es u =
     let b = begins-inv greatest w l s in
     let k = inv-kept greatest (b .0) es repairSteps w (book l empty) u (b .1) in
@@ -299,12 +301,13 @@ kept-from greatest w l s es u =
 -- ---- at rest
 
 -- no steps are left only where nothing is being done
-pub at-rest : (greatest : ℕ) (n steps : ℕ) (w : World (rationTable greatest)) (b : Book) → steps ≡ 0 → (i : Inv greatest n steps w b) → (w .state .doing ≡ Idle) × (tableViolations (i .tree) ≡ 0)
-at-rest greatest n steps w b none-left i = at (i .stage)
+pub at-rest : (greatest : ℕ) (line : Line) (steps : ℕ) (w : World (rationTable greatest)) (b : Book) → steps ≡ 0 → (i : Inv greatest line steps w b)
+    → (w .state .doing ≡ Idle) × (tableViolations (i .tree) ≡ 0)
+at-rest greatest line steps w b none-left i = at (i .stage)
   where
-    at : {m : Memory} {h : Hand} {d : Answer} → Stage (w .card) n (i .tree) (i .goal) steps m h d → (m .doing ≡ Idle) × (tableViolations (i .tree) ≡ 0)
+    at : {m : Memory} {h : Hand} {d : Answer} → Stage (w .card) line (i .tree) (i .goal) steps m h d → (m .doing ≡ Idle) × (tableViolations (i .tree) ≡ 0)
     at (stage-idle z r x g) = (refl, z)
-    at (stage-put z r x low high room q g) = absurd (omega arith)
+    at (stage-put room z r x low high enough below q g) = absurd (omega arith)
     at (stage-remove z r x low high q g) = absurd (omega arith)
     at (stage-first j p en count q g) = absurd (omega arith)
     at (stage-between j en deep r x q g) = absurd (omega arith)
@@ -327,25 +330,25 @@ idle-not-busy d e q = let z : _≡_ {A = Bool} true false = rw e at q in impossi
 -- ---- opening's repair, in a run left uncut
 
 -- nothing but opening's repair is in hand, if anything is
-abbrev pub Repairs : (greatest : ℕ) → ℕ → List (ℕ × ℕ) → ℕ → World (rationTable greatest) → Type 0
-Repairs greatest n l steps w = (i : Inv greatest n steps w (book l empty)) × (i .due ≡ Ready)
+abbrev pub Repairs : (greatest : ℕ) → Line → List (ℕ × ℕ) → ℕ → World (rationTable greatest) → Type 0
+Repairs greatest line l steps w = (i : Inv greatest line steps w (book l empty)) × (i .due ≡ Ready)
 
-repair-loosened : (greatest : ℕ) (n : ℕ) (l : List (ℕ × ℕ)) (few many : ℕ) (w : World (rationTable greatest)) → few ≤ many → Repairs greatest n l few w → Repairs greatest n l many w
-repair-loosened greatest n l few many w h (i, d) = (loosen greatest n few many w (book l empty) h i, loosen-due greatest n few many w (book l empty) h i ∙ d)
+repair-loosened : (greatest : ℕ) (line : Line) (l : List (ℕ × ℕ)) (few many : ℕ) (w : World (rationTable greatest)) → few ≤ many → Repairs greatest line l few w → Repairs greatest line l many w
+repair-loosened greatest line l few many w h (i, d) = (loosen greatest line few many w (book l empty) h i, loosen-due greatest line few many w (book l empty) h i ∙ d)
 
 -- one step of it
-repair-step : (greatest : ℕ) (n : ℕ) (l : List (ℕ × ℕ)) (steps : ℕ) (w : World (rationTable greatest)) → Repairs greatest n l (suc steps) w
-    → Repairs greatest n l steps (happens (rationTable greatest) step w) × ((w .state .doing ≡ Idle)
+repair-step : (greatest : ℕ) (line : Line) (l : List (ℕ × ℕ)) (steps : ℕ) (w : World (rationTable greatest)) → Repairs greatest line l (suc steps) w
+    → Repairs greatest line l steps (happens (rationTable greatest) step w) × ((w .state .doing ≡ Idle)
     ⊎ ((stepOf greatest (w .card) (w .state) .answer ≡ Ready) ⊎ (isIdle (happens (rationTable greatest) step w .state .doing) ≡ false)))
 unfolding feed told
-repair-step greatest n l steps w (i, d) =
-    let k = kept-step greatest n steps w (book l empty) i in
+repair-step greatest line l steps w (i, d) =
+    let k = kept-step greatest line steps w (book l empty) i in
     (at (k .0 .0) (k .0 .2 ∙ d), moves (k .2) (k .1))
   where
-    at : (j : Inv greatest n steps (happens (rationTable greatest) step w) (fedStep (outcome (replyTo (rationTable greatest) step w)) l empty))
-        → j .due ≡ Ready → Repairs greatest n l steps (happens (rationTable greatest) step w)
+    at : (j : Inv greatest line steps (happens (rationTable greatest) step w) (fedStep (outcome (replyTo (rationTable greatest) step w)) l empty))
+        → j .due ≡ Ready → Repairs greatest line l steps (happens (rationTable greatest) step w)
     at =
-        subst (λ (b : Book). (j : Inv greatest n steps (happens (rationTable greatest) step w) b) → j .due ≡ Ready → Repairs greatest n l steps (happens (rationTable greatest) step w))
+        subst (λ (b : Book). (j : Inv greatest line steps (happens (rationTable greatest) step w) b) → j .due ≡ Ready → Repairs greatest line l steps (happens (rationTable greatest) step w))
         (sym (empty-fed (outcome (replyTo (rationTable greatest) step w)) l)) (λ j e. (j, e))
 
     moves : Moves (w .card) (w .state) (stepOf greatest (w .card) (w .state)) → Right (stepOf greatest (w .card) (w .state) .answer) (i .due)
@@ -365,33 +368,33 @@ still-ends greatest w qs q (inr (inl e)) = inr (inl (refl, ap stepReply e))
 still-ends greatest w qs q (inr (inr e)) = inr (inr (⊎-elim (λ z. absurd (idle-not-busy (happens (rationTable greatest) step w .state .doing) z e)) (λ z. z) q))
 
 -- a run without a cut comes to rest
-pub repair-ends : (greatest : ℕ) (n : ℕ) (l : List (ℕ × ℕ)) (qs : List Event) (steps : ℕ) (w : World (rationTable greatest))
-    → LeftUncut (rationTable greatest) qs w → steps ≤ stepsIn qs → Repairs greatest n l steps w
-    → Inv greatest n 0 (run (rationTable greatest) qs w) (book l empty) × ((w .state .doing ≡ Idle) ⊎ SaysReady (rationTable greatest) qs w)
+pub repair-ends : (greatest : ℕ) (line : Line) (l : List (ℕ × ℕ)) (qs : List Event) (steps : ℕ) (w : World (rationTable greatest))
+    → LeftUncut (rationTable greatest) qs w → steps ≤ stepsIn qs → Repairs greatest line l steps w
+    → Inv greatest line 0 (run (rationTable greatest) qs w) (book l empty) × ((w .state .doing ≡ Idle) ⊎ SaysReady (rationTable greatest) qs w)
 unfolding run LeftUncut SaysReady
-repair-ends greatest n l [] steps w u h r = (loosen greatest n steps 0 w (book l empty) (omega arith) (r .0), inl (at-rest greatest n steps w (book l empty) (omega arith) (r .0) .0))
-repair-ends greatest n l (ask question ∷ qs) steps w u h r =
+repair-ends greatest line l [] steps w u h r = (loosen greatest line steps 0 w (book l empty) (omega arith) (r .0), inl (at-rest greatest line steps w (book l empty) (omega arith) (r .0) .0))
+repair-ends greatest line l (ask question ∷ qs) steps w u h r =
     let e = ask-same greatest question w in
-    let q = repair-ends greatest n l qs steps (happens (rationTable greatest) (ask question) w) (u .1) h (rw e r) in
+    let q = repair-ends greatest line l qs steps (happens (rationTable greatest) (ask question) w) (u .1) h (rw e r) in
     (q .0, ⊎-map (λ z. rw e at z) (λ z. inr z) (q .1))
-repair-ends greatest n l (insert key value ∷ qs) steps w u h r =
+repair-ends greatest line l (insert key value ∷ qs) steps w u h r =
     let e = insert-same greatest key value w (u .0) in
-    let q = repair-ends greatest n l qs steps (happens (rationTable greatest) (insert key value) w) (u .1) h (rw e r) in
+    let q = repair-ends greatest line l qs steps (happens (rationTable greatest) (insert key value) w) (u .1) h (rw e r) in
     (q .0, ⊎-map (λ z. rw e at z) (λ z. inr z) (q .1))
-repair-ends greatest n l (delete key ∷ qs) steps w u h r =
+repair-ends greatest line l (delete key ∷ qs) steps w u h r =
     let e = delete-same greatest key w (u .0) in
-    let q = repair-ends greatest n l qs steps (happens (rationTable greatest) (delete key) w) (u .1) h (rw e r) in
+    let q = repair-ends greatest line l qs steps (happens (rationTable greatest) (delete key) w) (u .1) h (rw e r) in
     (q .0, ⊎-map (λ z. rw e at z) (λ z. inr z) (q .1))
-repair-ends greatest n l (step ∷ qs) zero w u h r =
-    let k = repair-step greatest n l 0 w (repair-loosened greatest n l 0 1 w (omega arith) r) in
-    let q = repair-ends greatest n l qs 0 (happens (rationTable greatest) step w) (u .1) (omega arith) (k .0) in
+repair-ends greatest line l (step ∷ qs) zero w u h r =
+    let k = repair-step greatest line l 0 w (repair-loosened greatest line l 0 1 w (omega arith) r) in
+    let q = repair-ends greatest line l qs 0 (happens (rationTable greatest) step w) (u .1) (omega arith) (k .0) in
     (q .0, still-ends greatest w qs (q .1) (k .1))
-repair-ends greatest n l (step ∷ qs) (suc steps) w u h r =
-    let k = repair-step greatest n l steps w r in
-    let q = repair-ends greatest n l qs steps (happens (rationTable greatest) step w) (u .1) (omega arith) (k .0) in
+repair-ends greatest line l (step ∷ qs) (suc steps) w u h r =
+    let k = repair-step greatest line l steps w r in
+    let q = repair-ends greatest line l qs steps (happens (rationTable greatest) step w) (u .1) (omega arith) (k .0) in
     (q .0, still-ends greatest w qs (q .1) (k .1))
-repair-ends greatest n l (cut ∷ qs) steps w u h r = absurd (u .0)
+repair-ends greatest line l (cut ∷ qs) steps w u h r = absurd (u .0)
 
 -- the tree's map is the book's pairs
-pub map-is : (greatest : ℕ) {n steps : ℕ} {w : World (rationTable greatest)} {b : Book} (i : Inv greatest n steps w b) → MapIs (i .tree) (b .held)
+pub map-is : (greatest : ℕ) {line : Line} {steps : ℕ} {w : World (rationTable greatest)} {b : Book} (i : Inv greatest line steps w b) → MapIs (i .tree) (b .held)
 map-is greatest {b = b} i = record { alike = same-lookup greatest i; as-many = length-total (pairs (i .tree)) ∙ i .same .totals (λ p. 1) ∙ sym (length-total (b .held)) }

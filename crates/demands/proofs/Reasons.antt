@@ -7,6 +7,7 @@ use mathlib.Core.Logic.{_↔_}
 use Prim.Native.Nat.{ℕ, _+_, _≤_, _<_}
 use native.Mathlib.Omega.{arith}
 use lib.ListN.{length, getD}
+use Rattle.theory_change.proofs.Line.{only}
 use Rattle.laws.proofs.Cases.{order}
 use Rattle.card.specs.Header.{nodesOfLength, Sized}
 use Rattle.card.proofs.HeaderLaws.{sized-nodes}
@@ -73,14 +74,14 @@ module _ (greatest : ℕ) (c : List ℕ) (t : Tree) (accepted : Opens (rationTab
   left = repaired greatest c t accepted well
 
   -- the invariant then
-  kept-after : (n : ℕ) × (k : ℕ) × Inv greatest n k after (kept (rationTable greatest) (steps repairSteps) (opened (rationTable greatest) c) (book (pairs t) empty))
+  kept-after : (n : ℕ) × (k : ℕ) × Inv greatest (only n) k after (kept (rationTable greatest) (steps repairSteps) (opened (rationTable greatest) c) (book (pairs t) empty))
   kept-after = kept-from greatest (opened (rationTable greatest) c) (pairs t) (from-open c t accepted well) (steps repairSteps) (all-words repairSteps)
 
   -- the state's N is the card's
   counted : openedCard greatest c .memory .nodes ≡ nodesOfLength greatest (length (openedCard greatest c .card))
   counted =
       let k = kept-after in
-      let e = nodes-same greatest (k .0) (k .1) after _ (k .2) in
+      let e = nodes-same greatest (only (k .0)) (k .1) after _ (k .2) in
       ap (λ (w : World (rationTable greatest)). w .state .nodes) is-after ∙ e
       ∙ sym (sized-nodes greatest _ (k .0) (k .2 .table .sized))
       ∙ ap (λ (w : World (rationTable greatest)). nodesOfLength greatest (length (w .card))) (sym is-after)

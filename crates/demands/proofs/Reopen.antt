@@ -1,5 +1,5 @@
 -- Opening a card that holds a sound table with enough free nodes succeeds, and hands back the state that the table asks for.
-use mathlib.Core.Path.{_≡_, refl, ap, sym, _∙_}
+use mathlib.Core.Path.{_≡_, refl, ap, _∙_}
 use mathlib.Core.List.{List}
 use mathlib.Core.Bool.{Bool, true, false}
 use mathlib.Core.Option.{some}
@@ -8,11 +8,11 @@ use Prim.Native.Nat.{ℕ, _+_, _*_, _≤_}
 use native.Mathlib.Omega.{arith}
 use lib.ListN.{length}
 use borrow.Author.Tests.{le-ltb, ne-eqb}
+use Rattle.theory_change.proofs.Line.{Partition, only, size, partition-only, count-only}
 use Rattle.card.specs.Header.{nodesOfLength, headerRefusal, cardRefusal, Sized, Formatted}
 use Rattle.card.proofs.HeaderLaws.{sized-nodes, formatted-header}
 use Rattle.card.specs.Layout.{lowestKey, keyLimit, depthLimit, searchStart}
 use Rattle.theory_tree.specs.FreeNodes.{Exact}
-use Rattle.theory_change.proofs.Exact.{exact-same}
 use Rattle.theory_change.proofs.Plays.{Openable}
 use Rattle.theory_change.proofs.Repaired.{Mendable, settled, violated}
 use Rattle.theory_change.proofs.Reserve.{reserve-total}
@@ -100,7 +100,7 @@ pub record Reopened (greatest : ℕ) (c : List ℕ) (n : ℕ) (t : Tree) : Type 
   pub few-steps : steps ≤ 73 * depthLimit + 1
   pub goal : Tree
   pub goal-is : goal ≡ settledBy depthLimit (bare t)
-  pub stage : Stage c n t goal steps (openOf greatest c .memory) empty Ready
+  pub stage : Stage c (only n) t goal steps (openOf greatest c .memory) empty Ready
   pub rebuilt : openOf greatest c .memory .totals ≡ tableCounted c
   pub hands : ((openOf greatest c .begun ≡ OpenedIdle) × (openOf greatest c .memory .doing ≡ Idle)) ⊎ ((openOf greatest c .begun ≡ Started) × (isIdle (openOf greatest c .memory .doing) ≡ false))
 
@@ -116,21 +116,25 @@ pub reopened : (greatest : ℕ) (c : List ℕ) (n : ℕ) (t : Tree) → Table gr
 unfolding resting
 reopened greatest c n t b o = go (sound-accepted c n (b .sized .words) (b .sized .most) t (table-well-formed greatest b))
   where
-    count-same : (f : Findings) (h : ℕ) → Facts c n t h f → countTrue (f .free) ≡ countTrue (o .free)
-    count-same f h x = ap countTrue (exact-same n (f .free) (o .free) t (facts-exact x) (o .exact))
+    -- the free nodes found are those that the limit leaves
+    part-of : (f : Findings) (h : ℕ) → Facts c n t h f → Partition (only n) (f .free) t
+    part-of f h x = partition-only c n (f .free) t (b .sized .words) (b .holds .2) (facts-exact x)
+
+    counted : (f : Findings) (h : ℕ) → Facts c n t h f → countTrue (f .free) + size t ≡ n
+    counted f h x = count-only n (f .free) t (part-of f h x) (omega (arith, b .sized .most))
 
     -- the nodes kept are enough, for whichever key leads to the violation
-    room-for : (count : ℕ) → countTrue (o .free) ≡ count → (key : ℕ) (v : Violation t key) → tableViolations t ≡ 1 → 3 + reserve (v .context) (v .part) ≤ count
-    room-for count e key v w = at (o .deep) (o .ready)
+    room-for : (key : ℕ) (v : Violation t key) → tableViolations t ≡ 1 → size t + (3 + reserve (v .context) (v .part)) ≤ n
+    room-for key v w = at (o .deep) (o .ready)
       where
-        at : (d : ℕ) → Mendable (o .key) (o .free) t d → 3 + reserve (v .context) (v .part) ≤ count
+        at : (d : ℕ) → Mendable (o .key) n t d → size t + (3 + reserve (v .context) (v .part)) ≤ n
         at d (settled z r) = absurd (omega arith)
         at d (violated v₀ w₀ r) = omega (arith, reserve-total t (o .key) (b .sound .widths) w v₀, reserve-total t key (b .sound .widths) w v)
 
-    room-idle : tableViolations t ≡ 0 → 3 ≤ countTrue (o .free)
+    room-idle : tableViolations t ≡ 0 → size t + 3 ≤ n
     room-idle z = at (o .deep) (o .ready)
       where
-        at : (d : ℕ) → Mendable (o .key) (o .free) t d → 3 ≤ countTrue (o .free)
+        at : (d : ℕ) → Mendable (o .key) n t d → size t + 3 ≤ n
         at d (settled z r) = r
         at d (violated v₀ w₀ r) = absurd (omega arith)
 
@@ -141,12 +145,12 @@ reopened greatest c n t b o = go (sound-accepted c n (b .sized .words) (b .sized
         broken q =
             let w : tableViolations t ≡ 1 = omega (arith, x .violated, bit-true (f .violated) q) in
             let v = x .violation q in
-            let room : 3 + reserve (v .0 .context) (v .0 .part) ≤ countTrue (f .free) = room-for (countTrue (f .free)) (sym (count-same f h x)) (f .key) (v .0) w in
-            let is = open-repair greatest c n h f (b .sized) (b .header) e (omega (arith, v .1)) q in
+            let room = room-for (f .key) (v .0) w in
+            let is = open-repair greatest c n h f (b .sized) (b .header) e (omega (arith, v .1, room, counted f h x)) q in
             record {
               steps = 73 * depthOf (v .0 .context) + 1;
               few-steps = omega (arith, violation-deep t (f .key) (v .0), x .deep);
-              stage = rw is (stage-between job-repair no-update (depthOf (v .0 .context)) (violated (v .0) w room) (facts-exact x) (omega arith)
+              stage = rw is (stage-between job-repair no-update (depthOf (v .0 .context)) (violated (v .0) w room) (part-of f h x) (omega arith)
                   (record { repairs = depthLimit; enough = omega (arith, violation-deep t (f .key) (v .0), x .deep); reaches = refl }));
               goal = settledBy depthLimit (bare t);
               goal-is = refl;
@@ -158,11 +162,11 @@ reopened greatest c n t b o = go (sound-accepted c n (b .sized .words) (b .sized
         whole q =
             let z : tableViolations t ≡ 0 = omega (arith, x .violated, bit-false (f .violated) q) in
             let r : f .run ≡ 0 = x .no-run q in
-            let is = open-idle greatest c n h f (b .sized) (b .header) e (omega (arith, room-idle z, count-same f h x)) q in
+            let is = open-idle greatest c n h f (b .sized) (b .header) e (omega (arith, room-idle z, counted f h x)) q in
             record {
               steps = 0;
               few-steps = omega arith;
-              stage = let enough : 3 ≤ countTrue (f .free) = omega (arith, room-idle z, count-same f h x) in rw is (stage-idle z enough (facts-exact x) refl);
+              stage = rw is (stage-idle z (room-idle z) (part-of f h x) refl);
               goal = bare t;
               goal-is = heads-done {deep = 0} (record { repairs = depthLimit; enough = omega arith; reaches = refl }) (bare-table-violations t ∙ z);
               hands = inl (ap (λ (x : Handed). x .begun) is, ap (λ (x : Handed). x .memory .doing) is);

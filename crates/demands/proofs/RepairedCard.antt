@@ -5,6 +5,7 @@ use mathlib.Core.Bool.{true}
 use Prim.Native.Nat.{ℕ, zero, suc}
 use native.Mathlib.Omega.{arith}
 use lib.ListN.{length, replicate}
+use Rattle.theory_change.proofs.Line.{only}
 use Rattle.laws.proofs.Cases.{bool-cases, impossible}
 use Rattle.card.specs.Header.{nodesOfLength, cardRefusal, Sized}
 use Rattle.call_repair.specs.Repairing.{Repaired, repairedCard, openedCard}
@@ -85,16 +86,16 @@ pub record After (greatest : ℕ) (c : List ℕ) (t : Tree) : Type 0 where
   pub idle : openedCard greatest c .memory .doing ≡ Idle
 
 module _ (greatest : ℕ) (c : List ℕ) (t : Tree) (a : Opens (rationTable greatest) c) (w : WellFormed c t) where
-  ended : Inv greatest (nodesOfLength greatest (length c)) 0 (run (rationTable greatest) (steps repairSteps) (opened (rationTable greatest) c)) (book (pairs t) empty)
+  ended : Inv greatest (only (nodesOfLength greatest (length c))) 0 (run (rationTable greatest) (steps repairSteps) (opened (rationTable greatest) c)) (book (pairs t) empty)
   ended =
       let i = opened-inv greatest c t a w in
-      repair-ends greatest (nodesOfLength greatest (length c)) (pairs t) (steps repairSteps) repairSteps (opened (rationTable greatest) c)
+      repair-ends greatest (only (nodesOfLength greatest (length c))) (pairs t) (steps repairSteps) repairSteps (opened (rationTable greatest) c)
       (steps-uncut greatest repairSteps (opened (rationTable greatest) c)) (omega (arith, count-steps repairSteps)) (i .0, i .2) .0
 
   pub repaired : After greatest c t
   repaired =
       let r = ap (λ (x : World (rationTable greatest)). x .card) (opened-run greatest c) in
-      let rest = at-rest greatest (nodesOfLength greatest (length c)) 0
+      let rest = at-rest greatest (only (nodesOfLength greatest (length c))) 0
       (run (rationTable greatest) (steps repairSteps) (opened (rationTable greatest) c)) (book (pairs t) empty) refl ended in
       record {
         table = ended .tree;

@@ -2,8 +2,9 @@
 use mathlib.Core.Path.{_≡_, ap, _∙_}
 use mathlib.Core.Bool.{Bool, true, false}
 use Prim.Native.Nat.{ℕ, _≤_, _<_}
+use Rattle.theory_change.proofs.Line.{only}
 use Rattle.state.specs.Steps.{Handed}
-use Rattle.call_start.specs.Starts.{startDepth, startRefused, startAccepted, insertOf}
+use Rattle.call_start.specs.Starts.{startDepth, startRefused, startAccepted, insertOf, roomOf}
 use Rattle.call_change.specs.Updates.{full, landing, insertReason, splitNeed, startRoom}
 use Rattle.state.specs.declared.Doing.the-variants.{Idle, Inserting}
 use Rattle.state.specs.declared.Phase.the-variants.{NotBegun}
@@ -23,19 +24,19 @@ use Rattle.walk.specs.declared.Landing.the-variants.{Leaf as LandingAt}
 abbrev pub LeadsTo : (greatest : ℕ) → World (rationTable greatest) → ℕ → ℕ → ℕ → Type 0
 LeadsTo greatest w key leaf j = (link : ℕ) × (landing (w .card) (w .state .nodes) key ≡ LandingAt leaf link j)
 
-module _ (greatest : ℕ) {n steps : ℕ} {w : World (rationTable greatest)} {b : Book} (i : Inv greatest n steps w b) (key : ℕ) (low : lowestKey ≤ key) (high : key < keyLimit) where
+module _ (greatest : ℕ) {n steps : ℕ} {w : World (rationTable greatest)} {b : Book} (i : Inv greatest (only n) steps w b) (key : ℕ) (low : lowestKey ≤ key) (high : key < keyLimit) where
   -- the leaf that a key leads to, at any moment
   pub key-leads : (leaf : ℕ) × (j : ℕ) × LeadsTo greatest w key leaf j
-  key-leads = let g = lands greatest n steps w b i key low high in (g .0, g .2, (g .1, g .3))
+  key-leads = let g = lands greatest (only n) steps w b i key low high in (g .0, g .2, (g .1, g .3))
 
   module _ (idle : w .state .doing ≡ Idle) (value : ℕ) where
     -- an insert's start, by its room
-    insert-decided : (r : Bool) → startRoom (w .card) key (w .state .free) (landing (w .card) (w .state .nodes) key) ≡ r
+    insert-decided : (r : Bool) → startRoom (w .card) key (roomOf (w .state)) (landing (w .card) (w .state .nodes) key) ≡ r
         → insertOf greatest (w .card) (w .state) key value ≡ pick r (startAccepted (w .state) (Inserting key value NotBegun) (startDepth (w .card) (w .state) key)) (startRefused 8 (w .state))
     unfolding insertOf
-    insert-decided r e = room-decides greatest n steps w b i key (Inserting key value NotBegun) (startRoom (w .card) key (w .state .free)) idle low high ∙ rw e
+    insert-decided r e = room-decides greatest (only n) steps w b i key (Inserting key value NotBegun) (startRoom (w .card) key (roomOf (w .state))) idle low high ∙ rw e
 
-    insert-starts : startRoom (w .card) key (w .state .free) (landing (w .card) (w .state .nodes) key) ≡ true → insertOf greatest (w .card) (w .state) key value .begun ≡ Started
+    insert-starts : startRoom (w .card) key (roomOf (w .state)) (landing (w .card) (w .state .nodes) key) ≡ true → insertOf greatest (w .card) (w .state) key value .begun ≡ Started
     insert-starts e = ap (λ (x : Handed). x .begun) (insert-decided true e) ∙ begun-started _ (Inserting key value NotBegun) _
 
     module _ (leaf j : ℕ) (leads : LeadsTo greatest w key leaf j) where

@@ -31,7 +31,7 @@ use Rattle.walk.specs.declared.Slot.the-variants.{At, Absent as NoSlot}
 use Rattle.card_free.specs.NodeSet.{countTrue}
 use Rattle.laws.proofs.Cases.{bool-cases, order, impossible}
 use Rattle.laws.specs.Cases.{pick}
-use Rattle.call_start.specs.Starts.{startDepth, startRefused, startAccepted, startLanded, startChecked, startOf, insertOf, deleteOf}
+use Rattle.call_start.specs.Starts.{startDepth, startRefused, startAccepted, startLanded, startChecked, startOf, insertOf, deleteOf, roomOf}
 use Rattle.state.specs.Answers.{startReply}
 use Rattle.state.specs.Steps.{Handed}
 use Rattle.state.specs.Memory.{Memory}
@@ -158,7 +158,7 @@ one-leaf c key leaf j leaf′ j′ e f = (ap at-leaf (sym e ∙ f), ap at-run (s
 
 -- an insert has no room exactly by row 8
 pub room-row : (c : List ℕ) (free : List Bool) (key leaf link j : ℕ) → leadsTo c key ≡ some (leaf, j)
-    → (NoRoom c free key × (startRoom c key free (LandingAt leaf link j) ≡ false)) ⊎ ((NoRoom c free key → ⊥) × (startRoom c key free (LandingAt leaf link j) ≡ true))
+    → (NoRoom c free key × (startRoom c key (countTrue free) (LandingAt leaf link j) ≡ false)) ⊎ ((NoRoom c free key → ⊥) × (startRoom c key (countTrue free) (LandingAt leaf link j) ≡ true))
 unfolding startRoom roomFor insertReason reasonIn emptyReason slotFound
 room-row c free key leaf link j to = at (slotOf (nodeAt c leaf) key) refl (slotOf (nodeAt c leaf) 0) refl
   where
@@ -166,7 +166,7 @@ room-row c free key leaf link j to = at (slotOf (nodeAt c leaf) key) refl (slotO
     same r = one-leaf c key (r .0) (r .1) leaf j (r .2 .leads) to
 
     at : (x : Slot) → slotOf (nodeAt c leaf) key ≡ x → (y : Slot) → slotOf (nodeAt c leaf) 0 ≡ y
-        → (NoRoom c free key × (startRoom c key free (LandingAt leaf link j) ≡ false)) ⊎ ((NoRoom c free key → ⊥) × (startRoom c key free (LandingAt leaf link j) ≡ true))
+        → (NoRoom c free key × (startRoom c key (countTrue free) (LandingAt leaf link j) ≡ false)) ⊎ ((NoRoom c free key → ⊥) × (startRoom c key (countTrue free) (LandingAt leaf link j) ≡ true))
     at (At i) e y f = inr (λ r. true-false (slot-is (nodeAt c leaf) key (At i) e ∙ ap (λ (x : ℕ). among key (keyWords (nodeAt c x))) (sym (same r .0)) ∙ r .2 .absent), rw e)
     at NoSlot e (At i) f = inr (λ r. true-false (slot-is (nodeAt c leaf) 0 (At i) f ∙ ap (λ (x : ℕ). among 0 (keyWords (nodeAt c x))) (sym (same r .0)) ∙ r .2 .full), rw (e, f))
     at NoSlot e NoSlot f =
@@ -182,14 +182,14 @@ pub inserts : (greatest : ℕ) (c : List ℕ) (m : Memory) (key value : ℕ)
     (Starts (rationTable greatest) m (rationTable greatest .insert c m key value) (inserting key value false))
 unfolding ByRows insertOf workOf hasBegun
 inserts greatest c m key value =
-    by-start greatest c m key (Inserting key value NotBegun) (startRoom c key (m .free)) (row 8 (NoRoom c (m .free) key) end)
+    by-start greatest c m key (Inserting key value NotBegun) (startRoom c key (roomOf m)) (row 8 (NoRoom c (m .free) key) end)
     (Starts (rationTable greatest) m (handed (insertOf greatest c m key value)) (inserting key value false))
     (λ leaf link j to e. at leaf link j e (room-row c (m .free) key leaf link j to))
   where
-    at : (leaf link j : ℕ) → startOf greatest c m key (Inserting key value NotBegun) (startRoom c key (m .free))
-        ≡ pick (startRoom c key (m .free) (LandingAt leaf link j)) (startAccepted m (Inserting key value NotBegun) (startDepth c m key)) (startRefused 8 m)
-        → (NoRoom c (m .free) key × (startRoom c key (m .free) (LandingAt leaf link j) ≡ false)) ⊎ ((NoRoom c (m .free) key → ⊥) × (startRoom c key (m .free) (LandingAt leaf link j) ≡ true))
+    at : (leaf link j : ℕ) → startOf greatest c m key (Inserting key value NotBegun) (startRoom c key (roomOf m))
+        ≡ pick (startRoom c key (roomOf m) (LandingAt leaf link j)) (startAccepted m (Inserting key value NotBegun) (startDepth c m key)) (startRefused 8 m)
+        → (NoRoom c (m .free) key × (startRoom c key (roomOf m) (LandingAt leaf link j) ≡ false)) ⊎ ((NoRoom c (m .free) key → ⊥) × (startRoom c key (roomOf m) (LandingAt leaf link j) ≡ true))
         → (NoRoom c (m .free) key × HandsBack (rationTable greatest) m (handed (insertOf greatest c m key value)) 8)
         ⊎ ((NoRoom c (m .free) key → ⊥) × Starts (rationTable greatest) m (handed (insertOf greatest c m key value)) (inserting key value false))
-    at leaf link j e (inl (r, q)) = inl (r, rw (e, q) (refused-back greatest c m key (Inserting key value NotBegun) (startRoom c key (m .free)) 8))
-    at leaf link j e (inr (r, q)) = inr (r, rw (e, q) (start-begun greatest c m key (Inserting key value NotBegun) (startRoom c key (m .free))))
+    at leaf link j e (inl (r, q)) = inl (r, rw (e, q) (refused-back greatest c m key (Inserting key value NotBegun) (startRoom c key (roomOf m)) 8))
+    at leaf link j e (inr (r, q)) = inr (r, rw (e, q) (start-begun greatest c m key (Inserting key value NotBegun) (startRoom c key (roomOf m))))

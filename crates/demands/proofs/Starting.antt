@@ -10,7 +10,7 @@ use borrow.Author.Tests.{ne-eqb, eq-eqb, lt-ltb}
 use Rattle.card.specs.Header.{nodesOfLength, Sized, Formatted}
 use Rattle.card.proofs.HeaderLaws.{sized-nodes, formatted-header}
 use Rattle.card.specs.Layout.{lowestKey, keyLimit}
-use Rattle.theory_tree.specs.FreeNodes.{Exact}
+use Rattle.theory_change.proofs.Line.{Line, Partition, only, size, count-only}
 use Rattle.walk.specs.Descent.{way, landingOf}
 use Rattle.theory_walk.proofs.Landing.{landing-found}
 use Rattle.card_free.specs.NodeSet.{countTrue}
@@ -27,7 +27,7 @@ use Rattle.demands.proofs.Reopen.{table-well-formed, table-depth-limite
 use Rattle.demands.proofs.Steps.{memory, job-busy}
 use Rattle.theory_check.proofs.Level.{same-height}
 use Rattle.state.specs.Steps.{Handed, isIdle}
-use Rattle.call_start.specs.Starts.{startDepth, startRefused, startAccepted, startLanded, startChecked, startOf, insertOf, deleteOf}
+use Rattle.call_start.specs.Starts.{startDepth, startRefused, startAccepted, startLanded, startChecked, startOf, roomOf, insertOf, deleteOf}
 use Rattle.state.specs.Memory.{Memory}
 use Rattle.call_change.specs.Updates.{landing, startRoom}
 use Rattle.state.specs.declared.Doing.{Doing}
@@ -80,12 +80,12 @@ unfolding landing
 landing-is c n key e = e
 
 -- a state is idle, or some work is in progress
-pub idle-or-busy : {c : List ℕ} {n : ℕ} {t goal : Tree} {steps : ℕ} {m : Memory} {h : Hand} {due : Answer} → Stage c n t goal steps m h due
-    → (m .nodes ≡ n) × ((isIdle (m .doing) ≡ false) ⊎ ((free : List Bool) × (last : ℕ)
-    × (m ≡ memory n free last (m .depth) (m .totals) Idle [] []) × (tableViolations t ≡ 0) × (3 ≤ countTrue free) × Exact n free t × (bare t ≡ goal)))
+pub idle-or-busy : {c : List ℕ} {line : Line} {t goal : Tree} {steps : ℕ} {m : Memory} {h : Hand} {due : Answer} → Stage c line t goal steps m h due
+    → (m .nodes ≡ (line .nodes)) × ((isIdle (m .doing) ≡ false) ⊎ ((free : List Bool) × (last : ℕ)
+    × (m ≡ memory (line .nodes) free last (m .depth) (m .totals) Idle [] []) × (tableViolations t ≡ 0) × (size t + 3 ≤ line .limit) × Partition line free t × (bare t ≡ goal)))
 unfolding isIdle
 idle-or-busy (stage-idle {free} {last} {depth} z r x g) = (refl, inr (free, last, refl, z, r, x, g))
-idle-or-busy (stage-put z r x low high room few g) = (refl, inl refl)
+idle-or-busy (stage-put room z r x low high enough below few g) = (refl, inl refl)
 idle-or-busy (stage-remove z r x low high few g) = (refl, inl refl)
 idle-or-busy (stage-first j p en count few g) = (refl, inl (job-busy j .not-idle))
 idle-or-busy (stage-between j en deep r x few g) = (refl, inl (job-busy j .not-idle))
@@ -93,7 +93,8 @@ idle-or-busy (stage-within j en p e few g) = (refl, inl (job-busy j .not-idle))
 
 -- a start that was not refused: the state was idle, and work is in hand, with so many steps left as the table's depth asks for, with the
 -- update's goal, and with the dictionary's answer due
-pub record Fresh (greatest : ℕ) {n steps k : ℕ} {w v : World (rationTable greatest)} {b l : Book} (u : Update) (g : Handed) (i : Inv greatest n steps w b) (j : Inv greatest n k v l) : Type 0 where
+pub record Fresh (greatest : ℕ) {line : Line} {steps k : ℕ} {w v : World (rationTable greatest)} {b l : Book} (u : Update) (g : Handed) (i : Inv greatest line steps w b)
+    (j : Inv greatest line k v l) : Type 0 where
   pub idle-before : g .begun ≡ Started → w .state .doing ≡ Idle
   pub steps-left : g .begun ≡ Started → (t : Tree) → WellFormed (w .card) t → (h : ℕ) → Height h t → k ≤ updateStoresAt h + 1
   pub busy : g .begun ≡ Started → isIdle (g .memory .doing) ≡ false
@@ -101,10 +102,10 @@ pub record Fresh (greatest : ℕ) {n steps k : ℕ} {w v : World (rationTable gr
   pub new-due : g .begun ≡ Started → j .due ≡ dictionaryAnswer (lookup (keyOf u) (b .held))
 
 -- what a start leaves, by the call's beginning
-abbrev Goal : (greatest : ℕ) → {n steps : ℕ} {w : World (rationTable greatest)} {b : Book} → Inv greatest n steps w b → Update → Handed → Type 0
-Goal greatest {n} {steps} {w} {b} i u g =
+abbrev Goal : (greatest : ℕ) → {line : Line} {steps : ℕ} {w : World (rationTable greatest)} {b : Book} → Inv greatest line steps w b → Update → Handed → Type 0
+Goal greatest {line} {steps} {w} {b} i u g =
     (k : ℕ)
-    × (j : Inv greatest n k (record { card = w .card; state = g .memory }) (feed (toldOf u (w .card) (outcome (startReply (g .begun)))) b))
+    × (j : Inv greatest line k (record { card = w .card; state = g .memory }) (feed (toldOf u (w .card) (outcome (startReply (g .begun)))) b))
     × Fresh greatest u g i j
 
 -- a refused start leaves the book as it is
@@ -113,25 +114,27 @@ unfolding startReply outcome feed fedStart
 refused-told (put key value) c r b h = rw (lt-ltb r 64 h)
 refused-told (remove key) c r b h = rw (lt-ltb r 64 h)
 
-refused-goal : (greatest : ℕ) {n steps : ℕ} (w : World (rationTable greatest)) (b : Book) (i : Inv greatest n steps w b) (u : Update) (r : ℕ) → r < 64 → Goal greatest i u (startRefused r (w .state))
+refused-goal : (greatest : ℕ) {line : Line} {steps : ℕ} (w : World (rationTable greatest)) (b : Book) (i : Inv greatest line steps w b) (u : Update) (r : ℕ) → r < 64
+    → Goal greatest i u (startRefused r (w .state))
 unfolding startRefused
-refused-goal greatest {n} {steps} w b i u r h = at (feed (toldOf u (w .card) (outcome (startReply (BegunRefused r)))) b) (refused-told u (w .card) r b h)
+refused-goal greatest {line} {steps} w b i u r h = at (feed (toldOf u (w .card) (outcome (startReply (BegunRefused r)))) b) (refused-told u (w .card) r b h)
   where
     not-started : {P : Type 0} → _≡_ {A = Begun} (BegunRefused r) Started → P
     not-started e = impossible (cc)
 
-    at : (l : Book) → l ≡ b → (k : ℕ) × (j : Inv greatest n k w l) × Fresh greatest u (startRefused r (w .state)) i j
+    at : (l : Book) → l ≡ b → (k : ℕ) × (j : Inv greatest line k w l) × Fresh greatest u (startRefused r (w .state)) i j
     at l e =
         rw e
         (steps, i, record { idle-before = λ e. not-started e; steps-left = λ e. not-started e; busy = λ e. not-started e; new-goal = λ e. not-started e; new-due = λ e. not-started e })
 
 -- the answer due by the book's pairs is that by the tree's
-pub same-lookup : (greatest : ℕ) {n steps : ℕ} {w : World (rationTable greatest)} {b : Book} (i : Inv greatest n steps w b) (key : ℕ) → lookup key (pairs (i .tree)) ≡ lookup key (b .held)
+pub same-lookup : (greatest : ℕ) {line : Line} {steps : ℕ} {w : World (rationTable greatest)} {b : Book} (i : Inv greatest line steps w b) (key : ℕ)
+    → lookup key (pairs (i .tree)) ≡ lookup key (b .held)
 same-lookup greatest {b = b} i key = lookup-same key (pairs (i .tree)) (b .held) (i .same .totals) (key-once lowestKey keyLimit key (i .tree) (i .table .sound .range))
 
 -- how many steps an update of the table may take. "h being the depth when the call began" (document 02, W-214) is that of every
 -- tree that the card's words represent.
-module _ (greatest : ℕ) {n steps : ℕ} {w : World (rationTable greatest)} {b : Book} (i : Inv greatest n steps w b) where
+module _ (greatest : ℕ) {line : Line} {steps : ℕ} {w : World (rationTable greatest)} {b : Book} (i : Inv greatest line steps w b) where
   abbrev mostSteps : ℕ
   mostSteps = updateStoresAt (i .table .sound .level .0) + 1
 
@@ -142,19 +145,19 @@ module _ (greatest : ℕ) {n steps : ℕ} {w : World (rationTable greatest)} {b 
   steps-by-depth t v h j =
       omega (
         arith,
-        same-height (w .card) n (i .table .sized .words) (i .table .sized .most) (i .tree) t
+        same-height (w .card) (line .nodes) (i .table .sized .words) (i .table .sized .most) (i .tree) t
             (table-well-formed greatest (i .table)) v (i .table .sound .level .0) h (i .table .sound .level .1) j,
       )
 
 -- started: the update is in hand, and its answer by the map is due
-put-started : (greatest : ℕ) {n steps : ℕ} (w : World (rationTable greatest)) (b : Book) (i : Inv greatest n steps w b) (free : List Bool) (last key value : ℕ)
-    → w .state ≡ memory n free last (w .state .depth) (w .state .totals) Idle [] [] → tableViolations (i .tree) ≡ 0 → 3 ≤ countTrue free → Exact n free (i .tree)
+put-started : (greatest : ℕ) {line : Line} {steps : ℕ} (w : World (rationTable greatest)) (b : Book) (i : Inv greatest line steps w b) (free : List Bool) (last room key value : ℕ)
+    → w .state ≡ memory (line .nodes) free last (w .state .depth) (w .state .totals) Idle [] [] → tableViolations (i .tree) ≡ 0 → size (i .tree) + 3 ≤ line .limit → Partition line free (i .tree)
     → bare (i .tree) ≡ i .goal → lowestKey ≤ key → key < keyLimit
-    → startRoom (w .card) key (w .state .free) (landing (w .card) (w .state .nodes) key) ≡ true → (depth : ℕ)
+    → startRoom (w .card) key room (landing (w .card) (w .state .nodes) key) ≡ true → size (i .tree) + room ≤ line .limit → (depth : ℕ)
     → Goal greatest i (put key value) (startAccepted (w .state) (Inserting key value NotBegun) depth)
 unfolding startAccepted startReply outcome feed fedStart isIdle
-put-started greatest {n} w b i free last key value em z r x eg low high q depth =
-    let q′ : startRoom (w .card) key free (landing (w .card) n key) ≡ true = rw em at q in (
+put-started greatest {line} w b i free last room key value em z r x eg low high q below depth =
+    let q′ : startRoom (w .card) key room (landing (w .card) (line .nodes) key) ≡ true = rw em at q in (
       mostSteps greatest i,
       record {
         tree = i .tree;
@@ -164,7 +167,7 @@ put-started greatest {n} w b i free last key value em z r x eg low high q depth 
         openable = i .openable;
         same = i .same;
         counted = i .counted;
-        stage = rw em (stage-put {free = free} {last = last} z r x low high q′ (enough-steps greatest i) (ap (afterShape (put key value)) eg));
+        stage = rw em (stage-put {free = free} {last = last} room z r x low high q′ below (enough-steps greatest i) (ap (afterShape (put key value)) eg));
       },
       record {
         idle-before = λ e. ap (λ (y : Memory). y .doing) em;
@@ -175,8 +178,8 @@ put-started greatest {n} w b i free last key value em z r x eg low high q depth 
       },
     )
 
-remove-started : (greatest : ℕ) {n steps : ℕ} (w : World (rationTable greatest)) (b : Book) (i : Inv greatest n steps w b) (free : List Bool) (last key : ℕ)
-    → w .state ≡ memory n free last (w .state .depth) (w .state .totals) Idle [] [] → tableViolations (i .tree) ≡ 0 → 3 ≤ countTrue free → Exact n free (i .tree)
+remove-started : (greatest : ℕ) {line : Line} {steps : ℕ} (w : World (rationTable greatest)) (b : Book) (i : Inv greatest line steps w b) (free : List Bool) (last key : ℕ)
+    → w .state ≡ memory (line .nodes) free last (w .state .depth) (w .state .totals) Idle [] [] → tableViolations (i .tree) ≡ 0 → size (i .tree) + 3 ≤ line .limit → Partition line free (i .tree)
     → bare (i .tree) ≡ i .goal → lowestKey ≤ key → key < keyLimit
     → (depth : ℕ) → Goal greatest i (remove key) (startAccepted (w .state) (Deleting key NotBegun 0) depth)
 unfolding startAccepted startReply outcome feed fedStart isIdle
@@ -201,20 +204,20 @@ remove-started greatest w b i free last key em z r x eg low high depth = (
   },
 )
 
-module _ (greatest : ℕ) (n steps : ℕ) (w : World (rationTable greatest)) (b : Book) (i : Inv greatest n steps w b) where
-  pub nodes-same : w .state .nodes ≡ n
+module _ (greatest : ℕ) (line : Line) (steps : ℕ) (w : World (rationTable greatest)) (b : Book) (i : Inv greatest line steps w b) where
+  pub nodes-same : w .state .nodes ≡ (line .nodes)
   nodes-same = idle-or-busy (i .stage) .0
 
   -- the leaf that a key leads to
   pub lands : (key : ℕ) → lowestKey ≤ key → key < keyLimit → (leaf : ℕ) × (link : ℕ) × (above : ℕ) × (landing (w .card) (w .state .nodes) key ≡ LandingAt leaf link above)
   lands key low high =
-      let g = landing-found (w .card) n key (i .table .sized .words) lowestKey keyLimit (i .tree) (i .table .holds)
+      let g = landing-found (w .card) (line .nodes) key (i .table .sized .words) lowestKey keyLimit (i .tree) (i .table .holds)
       (i .table .sound .range) low high (omega arith) (table-depth-limited greatest (i .table)) in
-      (g .number, linkPlace (g .context), fullRun (g .context), rw nodes-same (landing-is (w .card) n key (g .landed)))
+      (g .number, linkPlace (g .context), fullRun (g .context), rw nodes-same (landing-is (w .card) (line .nodes) key (g .landed)))
 
   -- the checks 1, 2 and 3 are passed
   passed : (key : ℕ) (doing : Doing) (room : Landing → Bool) → startOf greatest (w .card) (w .state) key doing room ≡ startChecked (w .card) (w .state) key doing room
-  passed key doing room = start-passed greatest (w .card) n (i .table .sized) (i .table .header) (w .state) key doing room nodes-same
+  passed key doing room = start-passed greatest (w .card) (line .nodes) (i .table .sized) (i .table .header) (w .state) key doing room nodes-same
 
   -- on an idle state nothing but the room decides
   pub room-decides : (key : ℕ) (doing : Doing) (room : Landing → Bool) → w .state .doing ≡ Idle → lowestKey ≤ key → key < keyLimit
@@ -225,8 +228,8 @@ module _ (greatest : ℕ) (n steps : ℕ) (w : World (rationTable greatest)) (b 
       passed key doing room ∙ start-landed (w .card) (w .state) key doing room (g .0) (g .1) (g .2) (is-idle idle) (omega arith) (g .3)
 
   start-with : (key : ℕ) (doing : Doing) (room : Landing → Bool) (u : Update) → key < keyLimit
-      → ((free : List Bool) (last : ℕ) → w .state ≡ memory n free last (w .state .depth) (w .state .totals) Idle [] []
-      → tableViolations (i .tree) ≡ 0 → 3 ≤ countTrue free → Exact n free (i .tree) → bare (i .tree) ≡ i .goal → lowestKey ≤ key
+      → ((free : List Bool) (last : ℕ) → w .state ≡ memory (line .nodes) free last (w .state .depth) (w .state .totals) Idle [] []
+      → tableViolations (i .tree) ≡ 0 → size (i .tree) + 3 ≤ line .limit → Partition line free (i .tree) → bare (i .tree) ≡ i .goal → lowestKey ≤ key
       → room (landing (w .card) (w .state .nodes) key) ≡ true → Goal greatest i u (startAccepted (w .state) doing (startDepth (w .card) (w .state) key)))
       → Goal greatest i u (startOf greatest (w .card) (w .state) key doing room)
   start-with key doing room u high begin = go (idle-or-busy (i .stage) .1)
@@ -234,8 +237,8 @@ module _ (greatest : ℕ) (n steps : ℕ) (w : World (rationTable greatest)) (b 
       refused-with : (r : ℕ) → r < 64 → startOf greatest (w .card) (w .state) key doing room ≡ startRefused r (w .state) → Goal greatest i u (startOf greatest (w .card) (w .state) key doing room)
       refused-with r h e = subst (Goal greatest i u) (sym e) (refused-goal greatest w b i u r h)
 
-      go : (isIdle (w .state .doing) ≡ false) ⊎ ((free : List Bool) × (last : ℕ) × (w .state ≡ memory n free last (w .state .depth) (w .state .totals) Idle [] [])
-          × (tableViolations (i .tree) ≡ 0) × (3 ≤ countTrue free) × Exact n free (i .tree) × (bare (i .tree) ≡ i .goal))
+      go : (isIdle (w .state .doing) ≡ false) ⊎ ((free : List Bool) × (last : ℕ) × (w .state ≡ memory (line .nodes) free last (w .state .depth) (w .state .totals) Idle [] [])
+          × (tableViolations (i .tree) ≡ 0) × (size (i .tree) + 3 ≤ line .limit) × Partition line free (i .tree) × (bare (i .tree) ≡ i .goal))
           → Goal greatest i u (startOf greatest (w .card) (w .state) key doing room)
       go (inl q) = refused-with 7 (omega arith) (passed key doing room ∙ start-busy (w .card) (w .state) key doing room q)
       go (inr (free, last, em, z, r, x, eg)) =
@@ -248,19 +251,27 @@ module _ (greatest : ℕ) (n steps : ℕ) (w : World (rationTable greatest)) (b 
           idle : w .state .doing ≡ Idle
           idle = ap (λ (y : Memory). y .doing) em
 
-  -- "Starting an update stores nothing."
-  pub kept-insert : (key value : ℕ) → key < keyLimit
-      → (k : ℕ) × (j : Inv greatest n k (happens (rationTable greatest) (insert key value) w) (feed (told (rationTable greatest) (insert key value) w) b))
-      × Fresh greatest (put key value) (insertOf greatest (w .card) (w .state) key value) i j
-  unfolding happens told replyTo insertOf
-  kept-insert key value high =
-      start-with key (Inserting key value NotBegun) (startRoom (w .card) key (w .state .free)) (put key value) high
-      (λ free last em z r x eg low q. put-started greatest w b i free last key value em z r x eg low high q (startDepth (w .card) (w .state) key))
+  -- an insert that goes by so many free nodes, which are no more than the limit leaves
+  pub started-insert : (room key value : ℕ) → key < keyLimit → ((free : List Bool) → w .state .free ≡ free → Partition line free (i .tree) → size (i .tree) + room ≤ line .limit)
+      → Goal greatest i (put key value) (startOf greatest (w .card) (w .state) key (Inserting key value NotBegun) (startRoom (w .card) key room))
+  started-insert room key value high below =
+      start-with key (Inserting key value NotBegun) (startRoom (w .card) key room) (put key value) high
+      (λ free last em z r x eg low q. put-started greatest w b i free last room key value em z r x eg low high q
+      (below free (ap (λ (y : Memory). y .free) em) x) (startDepth (w .card) (w .state) key))
 
   pub kept-delete : (key : ℕ) → key < keyLimit
-      → (k : ℕ) × (j : Inv greatest n k (happens (rationTable greatest) (delete key) w) (feed (told (rationTable greatest) (delete key) w) b))
+      → (k : ℕ) × (j : Inv greatest line k (happens (rationTable greatest) (delete key) w) (feed (told (rationTable greatest) (delete key) w) b))
       × Fresh greatest (remove key) (deleteOf greatest (w .card) (w .state) key) i j
   unfolding happens told replyTo deleteOf
   kept-delete key high =
       start-with key (Deleting key NotBegun 0) (λ l. true) (remove key) high
       (λ free last em z r x eg low q. remove-started greatest w b i free last key em z r x eg low high (startDepth (w .card) (w .state) key))
+
+-- "Starting an update stores nothing": on a card with one line an insert goes by the free bits
+pub kept-insert : (greatest n steps : ℕ) (w : World (rationTable greatest)) (b : Book) (i : Inv greatest (only n) steps w b) (key value : ℕ) → key < keyLimit
+    → (k : ℕ) × (j : Inv greatest (only n) k (happens (rationTable greatest) (insert key value) w) (feed (told (rationTable greatest) (insert key value) w) b))
+    × Fresh greatest (put key value) (insertOf greatest (w .card) (w .state) key value) i j
+unfolding happens told replyTo insertOf
+kept-insert greatest n steps w b i key value high =
+    started-insert greatest (only n) steps w b i (roomOf (w .state)) key value high
+    (λ free e x. omega (arith, count-only n free (i .tree) x (omega (arith, i .table .sized .most)), ap countTrue e))

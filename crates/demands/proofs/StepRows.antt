@@ -30,7 +30,7 @@ use Rattle.state.specs.declared.Answer.the-variants.{Stored, Ready, Absent, Val
 use Rattle.state.specs.declared.Doing.{Doing}
 use Rattle.state.specs.declared.Doing.the-variants.{Formatting, Inserting, Deleting}
 use Rattle.state.specs.declared.Phase.the-variants.{NotBegun}
-use Rattle.call_start.specs.Starts.{insertOf, deleteOf}
+use Rattle.call_start.specs.Starts.{insertOf, deleteOf, roomOf}
 use Rattle.call_step.specs.Calls.{stepTask, stepHeld, stepOf}
 use Rattle.call_step.proofs.StepMemory.{Ends, next-ends}
 use Rattle.call_step.proofs.StepLaws.{step-sized, step-unsized, idle-refused, task-due, held-unchecked}
@@ -192,7 +192,7 @@ pub none-refused : (greatest : ℕ) (c : List ℕ) (m : Memory) → m .nodes ≡
 unfolding insertOf deleteOf
 none-refused greatest c m e key value =
     let p = none-sized greatest c (m .nodes) e in (
-      rw (start-one greatest c m key (Inserting key value NotBegun) (startRoom c key (m .free)) p) (refused-back greatest c m key (Inserting key value NotBegun) (startRoom c key (m .free)) 1),
+      rw (start-one greatest c m key (Inserting key value NotBegun) (startRoom c key (roomOf m)) p) (refused-back greatest c m key (Inserting key value NotBegun) (startRoom c key (roomOf m)) 1),
       rw (start-one greatest c m key (Deleting key NotBegun 0) (λ l. true) p) (refused-back greatest c m key (Deleting key NotBegun 0) (λ l. true) 1),
       rw (step-unsized greatest c m p) (refused-same greatest 1 c m),
     )

@@ -8,6 +8,7 @@ use Prim.Native.Nat.{ℕ, suc, _+_, _<_}
 use native.Mathlib.Omega.{arith}
 use lib.Dec.{eqb, ltb}
 use lib.ListN.{length, getD}
+use Rattle.theory_change.proofs.Line.{only}
 use Rattle.card.specs.Header.{nodesOfLength, cardRefusal}
 use Rattle.card.specs.Layout.{keyLimit, nodeAt, searchStart}
 use Rattle.card.specs.Replies.{Reply, ready, started}
@@ -41,7 +42,7 @@ use Rattle.demands.proofs.PowerLoss.{reopened-inv, reopened-due}
 use Rattle.demands.proofs.Starting.{nodes-same, kept-insert, kept-delete}
 use Rattle.card_check.specs.Check.{Findings, tableCheck}
 use Rattle.card_check.specs.Counting.{tableCounted}
-use Rattle.call_start.specs.Starts.{insertOf, deleteOf}
+use Rattle.call_start.specs.Starts.{insertOf, deleteOf, roomOf}
 use Rattle.state.specs.Answers.{stepReply, startReply}
 use Rattle.state.specs.Memory.{noMemory, resting}
 use Rattle.state.specs.Steps.{isIdle, Handed, noBeginning}
@@ -109,7 +110,7 @@ module _ (greatest : ℕ) (w : World (rationTable greatest)) (b : Book) (v : Cov
       × (isIdle (happens (rationTable greatest) (delete key) w .state .doing) ≡ false)
   unfolding happens
   delete-nears key high e =
-      let q = kept-delete greatest (v .size) (v .steps) w b (v .inv) key high in (
+      let q = kept-delete greatest (only (v .size)) (v .steps) w b (v .inv) key high in (
         q .0,
         record { book-now = feed (told (rationTable greatest) (delete key) w) b; covered = record { size = v .size; steps = q .0; inv = q .1 }; soon = omega arith; is-due = q .2 .new-due e },
         q .2 .busy e,
@@ -181,8 +182,9 @@ module _ (greatest : ℕ) (w : World (rationTable greatest)) (b : Book) (v : Cov
       let q = insert-nears key value high e in
       let u = q .1 .covered in
       let m = insertOf greatest (w .card) (w .state) key value .memory in
-      let d : m .doing ≡ Inserting key value NotBegun = started-doing greatest (w .card) (w .state) (Inserting key value NotBegun) (startRoom (w .card) key (w .state .free)) key e in
-      let n : nodesOn (w .card) ≡ u .size = covered-nodes greatest u ∙ nodes-same greatest (u .size) (u .steps) (happens (rationTable greatest) (insert key value) w) (q .1 .book-now) (u .inv) in
+      let d : m .doing ≡ Inserting key value NotBegun = started-doing greatest (w .card) (w .state) (Inserting key value NotBegun) (startRoom (w .card) key (roomOf (w .state))) key e in
+      let n : nodesOn (w .card) ≡ u .size = covered-nodes greatest u ∙ nodes-same greatest (only (u .size)) (u .steps) (happens (rationTable greatest) (insert key value) w)
+      (q .1 .book-now) (u .inv) in
       first-by-rules greatest (dictionaryAnswer (lookup key (b .held))) (q .0) (happens (rationTable greatest) (insert key value) w) (q .1) (q .2)
       ((a : ℕ) × (lookup key (b .held) ≡ some a)) (InsertRule (w .card) key value) (λ given out ss r. insert-short r)
       (nextChange (w .card) (u .size) (m .free) (m .last) (Inserting key value NotBegun) (PutIn key value))
@@ -203,7 +205,7 @@ module _ (greatest : ℕ) (w : World (rationTable greatest)) (b : Book) (v : Cov
       let u = q .1 .covered in
       let m = deleteOf greatest (w .card) (w .state) key .memory in
       let d : m .doing ≡ Deleting key NotBegun 0 = started-doing greatest (w .card) (w .state) (Deleting key NotBegun 0) (λ l. true) key e in
-      let n : nodesOn (w .card) ≡ u .size = covered-nodes greatest u ∙ nodes-same greatest (u .size) (u .steps) (happens (rationTable greatest) (delete key) w) (q .1 .book-now) (u .inv) in
+      let n : nodesOn (w .card) ≡ u .size = covered-nodes greatest u ∙ nodes-same greatest (only (u .size)) (u .steps) (happens (rationTable greatest) (delete key) w) (q .1 .book-now) (u .inv) in
       first-by-rules greatest (dictionaryAnswer (lookup key (b .held))) (q .0) (happens (rationTable greatest) (delete key) w) (q .1) (q .2)
       (lookup key (b .held) ≡ none) (DeleteRule (w .card) key) (λ given out ss r. delete-short r)
       (nextChange (w .card) (u .size) (m .free) (m .last) (Deleting key NotBegun 0) (TakeOut key))

@@ -8,17 +8,16 @@ use native.Mathlib.Omega.{arith}
 use lib.ListN.{length, set, getD, length-set}
 use lib.Seq.{ext-getD}
 use Rattle.card.specs.NodeWords.{OnCard}
-use Rattle.change_plan.specs.Planning.{withoutAll, withAll}
+use Rattle.change_plan.specs.Planning.{withAll}
 use Rattle.theory_tree.specs.FreeNodes.{Exact}
-use Rattle.theory_change.proofs.Numbers.{freeBit, bit-added, Given}
-use Rattle.card_free.specs.NodeSet.{capacity, countTrue}
+use Rattle.theory_change.proofs.Numbers.{freeBit, bit-added}
+use Rattle.card_free.specs.NodeSet.{countTrue}
 use Rattle.card_free.proofs.NodeSetLaws.{count-add}
 use Rattle.laws.specs.Bits.{bit}
-use Rattle.laws.proofs.Bits.{bit-false, bit-le, bit-zero}
+use Rattle.laws.proofs.Bits.{bit-zero}
 use Rattle.laws.proofs.Cases.{order}
 use Rattle.laws.specs.Totals.{indicator, total}
 use Rattle.laws.proofs.Totals.{indicator-same, indicator-other}
-use Rattle.theory_tree.proofs.Cut.{cut}
 use Rattle.theory_tree.specs.Represent.{Represents, RepresentsAll}
 use Rattle.theory_tree.specs.Tree.{Tree, Forest, nodeTotal, nodeTotals, leaf, node, one, more}
 
@@ -56,27 +55,6 @@ freed (m ∷ ms) free h b =
       counted = omega (arith, q .counted, count-add free m (p .1) (bit-zero (getD free m false) z));
       kept-length = q .kept-length ∙ len;
     }
-
--- from the free nodes of one tree to those of the next: ms were given for it, cut are cut out of it
-pub exact-after : (c : List ℕ) (n : ℕ) (free : List Bool) (t t′ : Tree) (ms cut : List ℕ) → length c ≡ 8 + 24 * n → n < capacity → Represents c t
-    → Exact n free t → Given free ms → ((i : ℕ) → nodeTotal (indicator i) t′ + total (indicator i) cut ≡ nodeTotal (indicator i) t + total (indicator i) ms)
-    → ((i : ℕ) → total (indicator i) cut ≤ nodeTotal (indicator i) t)
-    → Exact n (withAll cut (withoutAll ms free)) t′ × (countTrue (withAll cut (withoutAll ms free)) + length ms ≡ countTrue free + length cut)
-exact-after c n free t t′ ms cut len small rep x g move sub =
-    let none-out : (i : ℕ) → (i ≡ 0) ⊎ (n < i) → nodeTotal (indicator i) t ≡ 0 = λ i o. number-outside c n len i o t rep in
-    let in-tree : (i : ℕ) → 0 < nodeTotal (indicator i) t → (1 ≤ i) × (i ≤ n) =
-    λ i o. order i 1 (λ l. absurd (omega (arith, none-out i (inl (omega arith))))) (λ l. order n i (λ l′. absurd (omega (arith, none-out i (inr l′)))) (λ l′. (l, l′))) in
-    let once : (i : ℕ) → freeBit free i + nodeTotal (indicator i) t ≤ 1 =
-    λ i. order 0 (nodeTotal (indicator i) t) (λ o. let b = in-tree i o in omega (arith, x .within i (b .0) (b .1))) (λ o. omega (arith, bit-le (getD free i false))) in
-    let f : Freed (withoutAll ms free) cut =
-    freed cut (withoutAll ms free) (λ i. omega (arith, sub i, g .left i, once i)) (λ i o. let b = in-tree i (omega (arith, sub i)) in (b .0, omega (arith, b .1, x .size, g .kept-length))) in (
-      record {
-        size = f .kept-length ∙ g .kept-length ∙ x .size;
-        within = λ m a b. omega (arith, f .now m, g .left m, move m, x .within m a b);
-        outside-none = λ m o. bit-zero _ (omega (arith, f .now m, g .left m, sub m, none-out m o, bit-false (getD free m false) (x .outside-none m o)));
-      },
-      omega (arith, f .counted, g .counted),
-    )
 
 -- there is one set of free nodes for a tree
 pub exact-same : (n : ℕ) (a b : List Bool) (t : Tree) → Exact n a t → Exact n b t → a ≡ b

@@ -3,13 +3,12 @@ use mathlib.Core.Path.{_≡_, refl, ap, sym, _∙_}
 use mathlib.Core.List.{List}
 use mathlib.Core.Bool.{Bool, true, false}
 use mathlib.Core.Logic.{_⊎_, inl, inr}
-use Prim.Native.Nat.{ℕ, _+_, _*_, _≤_, _<_}
+use Prim.Native.Nat.{ℕ, _+_, _≤_, _<_}
 use native.Mathlib.Omega.{arith}
 use lib.ListN.{length, getD}
 use lib.Seq.{ext-getD}
 use Rattle.change_plan.specs.Planning.{withoutAll, withAll}
-use Rattle.theory_tree.specs.FreeNodes.{Exact}
-use Rattle.theory_change.proofs.Exact.{Freed, freed, number-outside}
+use Rattle.theory_change.proofs.Exact.{Freed, freed}
 use Rattle.theory_change.proofs.Numbers.{freeBit, Given}
 use Rattle.card_free.specs.NodeSet.{capacity, allNodes, countTrue}
 use Rattle.card_free.proofs.NodeSetLaws.{length-all, all-zero, all-get, all-above, count-all}
@@ -17,17 +16,11 @@ use Rattle.laws.specs.Bits.{bit}
 use Rattle.laws.proofs.Bits.{bit-false, bit-zero}
 use Rattle.laws.proofs.Cases.{order}
 use Rattle.laws.specs.Totals.{indicator, total}
-use Rattle.theory_tree.specs.Represent.{Represents}
-use Rattle.theory_tree.specs.Tree.{Tree, nodeTotal}
 
 pub record ExactOver (n : ℕ) (free : List Bool) (count : ℕ → ℕ) : Type 0 where
   pub size : length free ≡ capacity
   pub within : (m : ℕ) → 1 ≤ m → m ≤ n → freeBit free m + count m ≡ 1
   pub outside-none : (m : ℕ) → (m ≡ 0) ⊎ (n < m) → (getD free m false ≡ false) × (count m ≡ 0)
-
--- the nodes that one tree reaches
-pub exact-one : (c : List ℕ) (n : ℕ) (free : List Bool) (t : Tree) → length c ≡ 8 + 24 * n → Represents c t → Exact n free t → ExactOver n free (λ m. nodeTotal (indicator m) t)
-exact-one c n free t len rep x = record { size = x .size; within = x .within; outside-none = λ m o. (x .outside-none m o, number-outside c n len m o t rep) }
 
 zero-sum : {a b : ℕ} → a ≡ 0 → b ≡ 0 → a + b ≡ 0
 zero-sum p q = omega arith

@@ -6,18 +6,19 @@ use mathlib.Core.Bool.{Bool}
 use Prim.Native.Nat.{ℕ, _+_, _≤_}
 use native.Mathlib.Omega.{arith}
 use lib.ListN.{length}
+use Rattle.theory_change.proofs.Line.{size}
 use Rattle.theory_change.proofs.Mending.{Planned}
 use Rattle.theory_change.proofs.Rewrite.{numbers}
 use Rattle.walk.specs.declared.Position.{Position}
 use Rattle.laws.specs.Totals.{total}
 use Rattle.laws.proofs.Totals.{total-length}
 use Rattle.theory_tree.proofs.Path.{reserve}
-use Rattle.theory_tree.specs.Tree.{Tree, nodeTotal}
+use Rattle.theory_tree.specs.Tree.{Tree}
 use Rattle.theory_tree.proofs.Tree.{Context, plug, total-plug}
 
 pub room-kept : {c : List ℕ} {n : ℕ} {pos : Position} {free : List Bool} {last : ℕ} {C : Context} {o : Tree} {spare : ℕ} {due : Tree}
     (p : Planned c n pos free last C o spare due) (ms : List ℕ) (limit : ℕ) → length ms ≡ p .given
-    → nodeTotal (λ m. 1) (plug C o) + 3 + spare ≤ limit → nodeTotal (λ m. 1) (plug C (p .part ms)) + 3 + reserve C (p .part ms) ≤ limit
+    → size (plug C o) + (3 + spare) ≤ limit → size (plug C (p .part ms)) + (3 + reserve C (p .part ms)) ≤ limit
 room-kept {C = C} {o = o} p ms limit e h =
     let R = p .rewrites ms .same-numbers (λ m. 1) in
     let given : total (λ m. 1) (numbers (p .nodes ms)) ≡ p .given = ap (total (λ m. 1)) (p .in-order ms e) ∙ total-length ms ∙ e in

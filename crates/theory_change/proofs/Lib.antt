@@ -47,8 +47,10 @@ pub mod Reshape
 pub mod Plays
 -- free nodes over a count of the nodes that are reached, whichever trees they stand in: what `Exact` says of one tree, without a card
 pub mod ExactOver
--- the free nodes of a table are as many as N less those of its tree
-pub mod Counted
+-- the numbers of the nodes of a tree, as a list
+pub mod NumbersIn
+-- a line of a card: its tree beside the other line's, and the room below its limit
+pub mod Line
 -- the other line's tree: no store of a change is in one of its nodes, or in the word of its root
 pub mod OtherTree
 -- the room of a line is its limit less its own nodes

@@ -9,9 +9,8 @@ use Prim.Native.Nat.{ℕ, suc, _+_, _≤_, _<_}
 use native.Mathlib.Omega.{arith}
 use lib.Dec.{ltb}
 use borrow.Author.Tests.{lt-ltb, le-ltb}
+use Rattle.theory_change.proofs.Line.{Partition, only, size, count-only}
 use Rattle.card.specs.Layout.{lowestKey, keyLimit, nodeAt}
-use Rattle.theory_change.proofs.Counted.{count-exact}
-use Rattle.theory_tree.specs.FreeNodes.{Exact}
 use Rattle.walk.specs.Descent.{slotOf, firstEqual}
 use Rattle.walk.specs.declared.Slot.{Slot}
 use Rattle.walk.specs.declared.Slot.the-variants.{At, Absent as NoSlot}
@@ -36,7 +35,7 @@ use Rattle.demands.proofs.Stepping.{right-final, Moves, kept-step, was-idle, en
 use Rattle.demands.proofs.Steps.{memory}
 use Rattle.theory_shapes.proofs.Bare.{bare, bare-pairs, bare-size}
 use Rattle.theory_shapes.proofs.Need.{leafNeed, needOf, need-leaf}
-use Rattle.call_start.specs.Starts.{insertOf, deleteOf, startAccepted, startDepth, startRefused}
+use Rattle.call_start.specs.Starts.{insertOf, deleteOf, startAccepted, startDepth, startRefused, roomOf}
 use Rattle.call_start.proofs.StartLaws.{started-no-refusal}
 use Rattle.state.specs.Steps.{Handed, isIdle}
 use Rattle.state.specs.declared.Answer.{Answer}
@@ -107,7 +106,7 @@ leaves n u t = pick (refuses n u t) t (afterShape u t)
 pub record Resting (greatest : ℕ) (n : ℕ) (w : World (rationTable greatest)) (t : Tree) : Type 0 where
   pub steps : ℕ
   pub book : Book
-  pub inv : Inv greatest n steps w book
+  pub inv : Inv greatest (only n) steps w book
   pub idle : w .state .doing ≡ Idle
   pub goal : inv .goal ≡ t
 
@@ -116,13 +115,13 @@ unfolding happens
 after-idle greatest w e = e
 
 -- the work in hand ends with the answer due, and at its goal
-pub ends-at : (greatest : ℕ) {w v : World (rationTable greatest)} {a : Answer} → Ends greatest w v a → (n steps : ℕ) (b : Book) (i : Inv greatest n steps w b) (goal : Tree)
+pub ends-at : (greatest : ℕ) {w v : World (rationTable greatest)} {a : Answer} → Ends greatest w v a → (n steps : ℕ) (b : Book) (i : Inv greatest (only n) steps w b) (goal : Tree)
     → i .goal ≡ goal → isIdle (w .state .doing) ≡ false → (a ≡ i .due) × Resting greatest n v goal
 ends-at greatest {w} {v} {a} (ends-here e f) n steps b i goal eg busy =
-    let q = kept-step greatest n steps w b (loosen greatest n steps (suc steps) w b (omega arith) i) in
+    let q = kept-step greatest (only n) steps w b (loosen greatest (only n) steps (suc steps) w b (omega arith) i) in
     let f′ : IsFinal (stepOf greatest (w .card) (w .state) .answer) = subst IsFinal (sym e) f in (
-      sym e ∙ right-final (q .1) f′ ∙ loosen-due greatest n steps (suc steps) w b (omega arith) i,
-      record { steps = steps; book = _; inv = q .0 .0; idle = after-idle greatest w (at (q .2) f′); goal = q .0 .1 ∙ loosen-goal greatest n steps (suc steps) w b (omega arith) i ∙ eg },
+      sym e ∙ right-final (q .1) f′ ∙ loosen-due greatest (only n) steps (suc steps) w b (omega arith) i,
+      record { steps = steps; book = _; inv = q .0 .0; idle = after-idle greatest w (at (q .2) f′); goal = q .0 .1 ∙ loosen-goal greatest (only n) steps (suc steps) w b (omega arith) i ∙ eg },
     )
   where
     at : Moves (w .card) (w .state) (stepOf greatest (w .card) (w .state)) → IsFinal (stepOf greatest (w .card) (w .state) .answer) → stepOf greatest (w .card) (w .state) .memory .doing ≡ Idle
@@ -130,9 +129,9 @@ ends-at greatest {w} {v} {a} (ends-here e f) n steps b i goal eg busy =
     at (ends-now d same idle) g = idle
     at (goes-further s d) g = absurd (subst IsFinal (s .1) g)
 ends-at greatest {w} {v} {a} (stores-first e rest) n steps b i goal eg busy =
-    let q = kept-step greatest n steps w b (loosen greatest n steps (suc steps) w b (omega arith) i) in
-    let r = ends-at greatest rest n steps _ (q .0 .0) goal (q .0 .1 ∙ loosen-goal greatest n steps (suc steps) w b (omega arith) i ∙ eg) (at (q .2)) in
-    (r .0 ∙ q .0 .2 ∙ loosen-due greatest n steps (suc steps) w b (omega arith) i, r .1)
+    let q = kept-step greatest (only n) steps w b (loosen greatest (only n) steps (suc steps) w b (omega arith) i) in
+    let r = ends-at greatest rest n steps _ (q .0 .0) goal (q .0 .1 ∙ loosen-goal greatest (only n) steps (suc steps) w b (omega arith) i ∙ eg) (at (q .2)) in
+    (r .0 ∙ q .0 .2 ∙ loosen-due greatest (only n) steps (suc steps) w b (omega arith) i, r .1)
   where
     at : Moves (w .card) (w .state) (stepOf greatest (w .card) (w .state)) → isIdle (happens (rationTable greatest) step w .state .doing) ≡ false
     at (was-idle d) = absurd (idle-not-busy (w .state .doing) d busy)
@@ -141,7 +140,7 @@ ends-at greatest {w} {v} {a} (stores-first e rest) n steps b i goal eg busy =
 
 -- ---- the start, by the room
 
-module _ (greatest : ℕ) (n steps : ℕ) (w : World (rationTable greatest)) (b : Book) (i : Inv greatest n steps w b) (idle : w .state .doing ≡ Idle) where
+module _ (greatest : ℕ) (n steps : ℕ) (w : World (rationTable greatest)) (b : Book) (i : Inv greatest (only n) steps w b) (idle : w .state .doing ≡ Idle) where
   abbrev t : Tree
   t = bare (i .tree)
 
@@ -150,29 +149,29 @@ module _ (greatest : ℕ) (n steps : ℕ) (w : World (rationTable greatest)) (b 
   resting-goal = at (idle-or-busy (i .stage) .1)
     where
       at : (isIdle (w .state .doing) ≡ false) ⊎ ((free : List Bool) × (last : ℕ) × (w .state ≡ memory n free last (w .state .depth) (w .state .totals) Idle [] [])
-          × (tableViolations (i .tree) ≡ 0) × (3 ≤ countTrue free) × Exact n free (i .tree) × (bare (i .tree) ≡ i .goal))
+          × (tableViolations (i .tree) ≡ 0) × (size (i .tree) + 3 ≤ n) × Partition (only n) free (i .tree) × (bare (i .tree) ≡ i .goal))
           → (bare (i .tree) ≡ i .goal) × (countTrue (w .state .free) + nodeTotal (λ m. 1) (bare (i .tree)) ≡ n)
       at (inl q) = absurd (idle-not-busy (w .state .doing) idle q)
       at (inr (free, last, em, z, r, x, eg)) =
-          (eg, rw em (omega (arith, bare-size (i .tree), count-exact (w .card) n free (i .tree) (i .table .sized .words) (omega (arith, i .table .sized .most)) (i .table .holds .2) x)))
+          (eg, rw em (omega (arith, bare-size (i .tree), count-only n free (i .tree) x (omega (arith, i .table .sized .most)))))
 
   landed : (key : ℕ) (g : LandedAt (w .card) n key (i .tree)) → landing (w .card) (w .state .nodes) key ≡ LandingAt (g .number) (linkPlace (g .context)) (fullRun (g .context))
   unfolding landing
-  landed key g = rw (nodes-same greatest n steps w b i) (g .landed)
+  landed key g = rw (nodes-same greatest (only n) steps w b i) (g .landed)
 
   row-slot : (key k : ℕ) (g : LandedAt (w .card) n key (i .tree)) → firstEqual (g .keys) k 0 ≡ slotOf (nodeAt (w .card) (g .number)) k
   unfolding slotOf
   row-slot key k g = ap (λ (q : List ℕ). firstEqual q k 0) (sym (leaf-keys (w .card) (g .number) (g .keys) (g .values) (g .on-card)))
 
-  pub room-by-tree : (key value : ℕ) → lowestKey ≤ key → key < keyLimit → startRoom (w .card) key (w .state .free) (landing (w .card) (w .state .nodes) key) ≡ not (refuses n (put key value) t)
+  pub room-by-tree : (key value : ℕ) → lowestKey ≤ key → key < keyLimit → startRoom (w .card) key (roomOf (w .state)) (landing (w .card) (w .state .nodes) key) ≡ not (refuses n (put key value) t)
   unfolding refuses roomFor insertReason reasonIn emptyReason slotAnswer leafNeed
   room-by-tree key value low high =
       go (landing-found (w .card) n key (i .table .sized .words) lowestKey keyLimit (i .tree) (i .table .holds)
       (i .table .sound .range) low high (omega arith) (table-depth-limited greatest (i .table)))
     where
-      go : LandedAt (w .card) n key (i .tree) → startRoom (w .card) key (w .state .free) (landing (w .card) (w .state .nodes) key) ≡ not (refuses n (put key value) t)
+      go : LandedAt (w .card) n key (i .tree) → startRoom (w .card) key (roomOf (w .state)) (landing (w .card) (w .state .nodes) key) ≡ not (refuses n (put key value) t)
       go g =
-          room-at (w .card) (w .state .nodes) key (w .state .free) (g .number) (linkPlace (g .context)) (fullRun (g .context)) (landed key g)
+          room-at (w .card) (w .state .nodes) key (roomOf (w .state)) (g .number) (linkPlace (g .context)) (fullRun (g .context)) (landed key g)
           ∙ by-key (slotOf (nodeAt (w .card) (g .number)) key) refl
         where
           found : (s : Slot) → slotOf (nodeAt (w .card) (g .number)) key ≡ s → lookup key (pairs t) ≡ slotAnswer (nodeAt (w .card) (g .number)) s
@@ -188,7 +187,7 @@ module _ (greatest : ℕ) (n steps : ℕ) (w : World (rationTable greatest)) (b 
               ∙ ap (λ (x : Slot). leafNeed x (fullRun (g .context))) (row 0 ∙ e)
 
           by-empty : (s : Slot) → slotOf (nodeAt (w .card) (g .number)) 0 ≡ s → slotOf (nodeAt (w .card) (g .number)) key ≡ NoSlot
-              → roomFor (w .state .free) (fullRun (g .context)) (insertReason (nodeAt (w .card) (g .number)) key)
+              → roomFor (roomOf (w .state)) (fullRun (g .context)) (insertReason (nodeAt (w .card) (g .number)) key)
               ≡ not (both (isAbsent (lookup key (pairs t))) (ltb n (nodeTotal (λ m. 1) t + needOf key 0 t)))
           by-empty (At j) e₀ e = rw (e, e₀, found NoSlot e, need (At j) e₀, le-ltb n (nodeTotal (λ m. 1) t + 0) (omega (arith, resting-goal .1)))
           by-empty NoSlot e₀ e =
@@ -199,7 +198,7 @@ module _ (greatest : ℕ) (n steps : ℕ) (w : World (rationTable greatest)) (b 
               (λ o. le-ltb (countTrue (w .state .free)) (splitNeed (fullRun (g .context))) o ∙ sym (le-ltb n (nodeTotal (λ m. 1) t + (splitNeed (fullRun (g .context)))) (omega arith)))))
 
           by-key : (s : Slot) → slotOf (nodeAt (w .card) (g .number)) key ≡ s
-              → roomFor (w .state .free) (fullRun (g .context)) (insertReason (nodeAt (w .card) (g .number)) key)
+              → roomFor (roomOf (w .state)) (fullRun (g .context)) (insertReason (nodeAt (w .card) (g .number)) key)
               ≡ not (both (isAbsent (lookup key (pairs t))) (ltb n (nodeTotal (λ m. 1) t + needOf key 0 t)))
           by-key (At j) e = rw (e, found (At j) e)
           by-key NoSlot e = by-empty (slotOf (nodeAt (w .card) (g .number)) 0) refl e
@@ -208,8 +207,8 @@ module _ (greatest : ℕ) (n steps : ℕ) (w : World (rationTable greatest)) (b 
   pub start-decided : (u : Update) → lowestKey ≤ keyOf u → keyOf u < keyLimit → (r : Bool) → refuses n u t ≡ r → starts greatest u w ≡ pick r (BegunRefused 8) Started
   unfolding refuses insertOf deleteOf startAccepted startRefused
   start-decided (put key value) low high r e =
-      let d = room-decides greatest n steps w b i key (Inserting key value NotBegun) (startRoom (w .card) key (w .state .free)) idle low high in
-      let q : startRoom (w .card) key (w .state .free) (landing (w .card) (w .state .nodes) key) ≡ not r = room-by-tree key value low high ∙ ap not e in
+      let d = room-decides greatest (only n) steps w b i key (Inserting key value NotBegun) (startRoom (w .card) key (roomOf (w .state))) idle low high in
+      let q : startRoom (w .card) key (roomOf (w .state)) (landing (w .card) (w .state .nodes) key) ≡ not r = room-by-tree key value low high ∙ ap not e in
       ap (λ (x : Handed). x .begun) (d ∙ ap (λ (x : Bool). pick x (startAccepted (w .state) (Inserting key value NotBegun) (startDepth (w .card) (w .state) key)) (startRefused 8 (w .state))) q) ∙ at r
     where
       at : (r : Bool) → pick (not r) (startAccepted (w .state) (Inserting key value NotBegun) (startDepth (w .card) (w .state) key))
@@ -217,18 +216,18 @@ module _ (greatest : ℕ) (n steps : ℕ) (w : World (rationTable greatest)) (b 
       at true = refl
       at false = refl
   start-decided (remove key) low high true e = impossible (cc)
-  start-decided (remove key) low high false e = ap (λ (x : Handed). x .begun) (room-decides greatest n steps w b i key (Deleting key NotBegun 0) (λ x. true) idle low high)
+  start-decided (remove key) low high false e = ap (λ (x : Handed). x .begun) (room-decides greatest (only n) steps w b i key (Deleting key NotBegun 0) (λ x. true) idle low high)
 
   -- what a start that is not refused leaves
   pub begun-right : (u : Update) → keyOf u < keyLimit → starts greatest u w ≡ Started
-      → (k : ℕ) × (l : Book) × (j : Inv greatest n k (happens (rationTable greatest) (event u) w) l) × (j .goal ≡ afterShape u (i .goal))
+      → (k : ℕ) × (l : Book) × (j : Inv greatest (only n) k (happens (rationTable greatest) (event u) w) l) × (j .goal ≡ afterShape u (i .goal))
       × (j .due ≡ dictionaryAnswer (lookup (keyOf u) (pairs t))) × (isIdle (happens (rationTable greatest) (event u) w .state .doing) ≡ false)
   unfolding happens
   begun-right (put key value) high e =
       let q = kept-insert greatest n steps w b i key value high in
       (q .0, _, q .1, q .2 .new-goal e, q .2 .new-due e ∙ ap dictionaryAnswer (sym (same-lookup greatest i key) ∙ ap (lookup key) (sym (bare-pairs (i .tree)))), q .2 .busy e)
   begun-right (remove key) high e =
-      let q = kept-delete greatest n steps w b i key high in
+      let q = kept-delete greatest (only n) steps w b i key high in
       (q .0, _, q .1, q .2 .new-goal e, q .2 .new-due e ∙ ap dictionaryAnswer (sym (same-lookup greatest i key) ∙ ap (lookup key) (sym (bare-pairs (i .tree)))), q .2 .busy e)
 
 refused-same : {r s : ℕ} → _≡_ {A = Begun} (BegunRefused r) (BegunRefused s) → r ≡ s

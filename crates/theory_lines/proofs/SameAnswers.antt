@@ -3,6 +3,7 @@
 use mathlib.Core.Path.{_≡_, ap, sym, _∙_, subst}
 use mathlib.Core.List.{List}
 use Prim.Native.Nat.{ℕ}
+use Rattle.theory_change.proofs.Line.{only}
 use Rattle.theory_lines.proofs.Alike.{Outcome, Ends, ends-at, Runs, Keys, Resting, resting-goal, same-outcomes}
 use Rattle.demands.proofs.Invariant.{Inv}
 use Rattle.demands.specs.Book.{Update, book, kept, empty}
@@ -39,9 +40,9 @@ pub record AtRest (greatest : ℕ) (w : World (rationTable greatest)) : Type 0 w
 pub at-rest-resting : (greatest : ℕ) {w : World (rationTable greatest)} → AtRest greatest w → (t : Tree) → Holds (w .card) t → Resting greatest (w .state .nodes) w (bare t)
 at-rest-resting greatest {w} a t h = go (rw (a .now) at (kept-from greatest (a .begin) (a .map) (a .begins) (a .events) (a .words)))
   where
-    go : ((n : ℕ) × (k : ℕ) × Inv greatest n k w (kept (rationTable greatest) (a .events) (a .begin) (book (a .map) empty))) → Resting greatest (w .state .nodes) w (bare t)
+    go : ((n : ℕ) × (k : ℕ) × Inv greatest (only n) k w (kept (rationTable greatest) (a .events) (a .begin) (book (a .map) empty))) → Resting greatest (w .state .nodes) w (bare t)
     go (n, k, i) =
-        let e = nodes-same greatest n k w _ i in
+        let e = nodes-same greatest (only n) k w _ i in
         let r : Resting greatest n w (bare t) =
         record {
           steps = k;

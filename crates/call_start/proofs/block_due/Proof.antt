@@ -8,6 +8,7 @@ use Rattle.state.specs.Steps.{isIdle}
 use Rattle.walk.specs.Descent.{way, leafOf, depthOf}
 use Rattle.call_change.specs.Updates.{landing}
 use Rattle.call_start.specs.Refusals.{startRefusal, landingRefusal, roomWhere}
+use Rattle.call_start.specs.Starts.{roomOf}
 use Rattle.call_start.proofs.StartLaws.{start-sized, due-early, due-landing, depth-early, depth-landing}
 use borrow.Author.Needs.{needs}
 use Rattle.call_start.proofs.block_due.Statement.{statement}
@@ -42,7 +43,7 @@ returns c =
     let m = memoryIn (s .args .state .now) in
     let due : startRefusal (s .args .greatest) (s .args .card .now) (m .nodes) (isIdle (m .doing)) (s .args .key) ≡ 0 → ⊥ = λ z. c .if1 .taken (early (c .before) ∙ z) in (
       early (c .before)
-          ∙ sym (due-early _ (s .args .card .now) (m .nodes) (isIdle (m .doing)) (s .args .key) (roomWhere (s .args .splits) (s .args .card .now) (s .args .key) (m .free)) due),
+          ∙ sym (due-early _ (s .args .card .now) (m .nodes) (isIdle (m .doing)) (s .args .key) (roomWhere (s .args .splits) (s .args .card .now) (s .args .key) (roomOf m)) due),
       sym (depth-early _ (s .args .card .now) (m .nodes) (isIdle (m .doing)) (s .args .key) due),
     )
 
@@ -66,7 +67,7 @@ returns-2 c =
     let s = c .before .before .before .before .before .before .before .before .before in
     let m = memoryIn (s .args .state .now) in
     let none : startRefusal (s .args .greatest) (s .args .card .now) (m .nodes) (isIdle (m .doing)) (s .args .key) ≡ 0 = sym (early (c .before .before .before)) ∙ c .before .before .if1 .left in
-    let room = roomWhere (s .args .splits) (s .args .card .now) (s .args .key) (m .free) in (
+    let room = roomWhere (s .args .splits) (s .args .card .now) (s .args .key) (roomOf m) in (
       c .way-due .ensures .0
           ∙ ap (λ (n : ℕ). landingRefusal (room (landing (s .args .card .now) n (s .args .key))) (landing (s .args .card .now) n (s .args .key)))
           (c .before .before .before .before .before .wide .ensures)

@@ -41,7 +41,7 @@ has-word-requires c κs = words (c)
 returns : tie.Need-returns
 returns c =
     let s = c .before .before .before .before .before in
-    sym (room-held (nodeAt (s .args .card .now) (s .args .m)) (s .args .key) _ (nodesOf (s .args .free .now)) (has-key (c .before) ∙ c .if1 .taken))
+    sym (room-held (nodeAt (s .args .card .now) (s .args .m)) (s .args .key) _ (countTrue (nodesOf (s .args .free .now))) (has-key (c .before) ∙ c .if1 .taken))
 
 has-word-requires-2 : tie.Need-has-word-requires-2
 has-word-requires-2 c κs = words (c .before .before)
@@ -49,7 +49,7 @@ has-word-requires-2 c κs = words (c .before .before)
 returns-2 : tie.Need-returns-2
 returns-2 c =
     let s = c .before .before .before .before .before .before .before in
-    sym (room-slot (nodeAt (s .args .card .now) (s .args .m)) (s .args .key) _ (nodesOf (s .args .free .now))
+    sym (room-slot (nodeAt (s .args .card .now) (s .args .m)) (s .args .key) _ (countTrue (nodesOf (s .args .free .now)))
     (has-key (c .before .before .before) ∙ c .before .before .if1 .left) (has-empty (c .before) ∙ c .if2 .taken))
 
 count-requires : tie.Need-count-requires
@@ -60,7 +60,7 @@ returns-3 c =
     let s = c .before .before .before .before .before .before .before .before .before in
     let run = runOver (s .args .card .now) 0 (way (s .args .card .now) (s .args .n) (s .args .key) .inner) in
     sym
-    (room-full (nodeAt (s .args .card .now) (s .args .m)) (s .args .key) run (nodesOf (s .args .free .now))
+    (room-full (nodeAt (s .args .card .now) (s .args .m)) (s .args .key) run (countTrue (nodesOf (s .args .free .now)))
     (has-key (c .before .before .before .before .before) ∙ c .before .before .before .before .if1 .left)
     (has-empty (c .before .before .before) ∙ c .before .before .if2 .left)
     ∙ not-scarce (countTrue (nodesOf (s .args .free .now))) run (omega (arith, c .before .count .ensures, c .if3 .taken)))
@@ -85,7 +85,7 @@ returns-4 c =
     let run = runOver (s .args .card .now) 0 (way (s .args .card .now) (s .args .n) (s .args .key) .inner) in
     ap₂ (λ (x y : ℕ). leb x (y - splitNeed 0)) (c .run-above .ensures) (c .before .before .before .count .ensures)
     ∙ sym
-    (room-full (nodeAt (s .args .card .now) (s .args .m)) (s .args .key) run (nodesOf (s .args .free .now))
+    (room-full (nodeAt (s .args .card .now) (s .args .m)) (s .args .key) run (countTrue (nodesOf (s .args .free .now)))
     (has-key (c .before .before .before .before .before .before .before) ∙ c .before .before .before .before .before .before .if1 .left)
     (has-empty (c .before .before .before .before .before) ∙ c .before .before .before .before .if2 .left)
     ∙ not-enough (countTrue (nodesOf (s .args .free .now))) run (omega (arith, c .before .before .before .count .ensures, c .before .before .if3 .left)))

@@ -8,7 +8,7 @@ use Rattle.walk.specs.Descent.{way, runOver, depthOf}
 use Rattle.walk.specs.declared.Landing.{Landing}
 use Rattle.walk.specs.declared.Landing.the-variants.{Leaf as LandingAt}
 use Rattle.walk.proofs.DescentLaws.{unsought-refused, unsought-reached, unsought-fault}
-use Rattle.card_free.specs.NodeSet.{nodesOf}
+use Rattle.card_free.specs.NodeSet.{nodesOf, countTrue}
 use Rattle.call_start.specs.Refusals.{roomWhere, landingRefusal}
 use Rattle.call_start.proofs.StartLaws.{no-depth}
 use Rattle.call_change.proofs.UpdateLaws.{Landed, landed, land-refused, land-leaf}
@@ -64,7 +64,7 @@ returns : tie.Need-returns
 unfolding way landingRefusal
 returns c =
     let s = c .before .before .before .before .before .before in
-    let room = roomWhere (s .args .splits) (s .args .card .now) (s .args .key) (nodesOf (s .args .free .now)) in
+    let room = roomWhere (s .args .splits) (s .args .card .now) (s .args .key) (countTrue (nodesOf (s .args .free .now))) in
     let ends = sym (c .before .before .descend .ensures) ∙ c .enum-told .given .1 in (
       sym (ap (λ (l : Landing). landingRefusal (room l) l) (land-refused (s .args .card .now) (s .args .nodes) (s .args .key) ends)),
       sym (no-depth _ (unsought-refused _ _ ends)),
@@ -78,7 +78,7 @@ returns-3 : tie.Need-returns-3
 unfolding landingRefusal startRoom way depthOf
 returns-3 c =
     let s = c .before .before .before .before .before .before .before .before .before in
-    let room = roomWhere (s .args .splits) (s .args .card .now) (s .args .key) (nodesOf (s .args .free .now)) in (
+    let room = roomWhere (s .args .splits) (s .args .card .now) (s .args .key) (countTrue (nodesOf (s .args .free .now))) in (
       c .room-refusal .ensures
           ∙ ap (λ (b : Bool). pick b 0 8) (c .before .has-room-where .ensures)
           ∙ sym (ap (λ (l : Landing). landingRefusal (room l) l) (lands (c .before .before .before))),
