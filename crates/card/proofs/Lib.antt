@@ -6,3 +6,5 @@ pub mod NodeLaws
 pub mod NodeWords
 -- laws of stores played one after the other: what is written is there, and all else is as it was
 pub mod Stores
+-- a line's table as one of its own: its nodes, its root and its stores
+pub mod LineLaws

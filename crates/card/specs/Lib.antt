@@ -8,3 +8,5 @@ pub mod NodeWords
 pub mod Stores
 -- the answers of the calls as numbers
 pub mod Replies
+-- document 02, W-207: the lines of a card, and a line's table as one of its own
+pub mod Lines

@@ -1,0 +1,102 @@
+-- A line's table as one of its own: its nodes are the card's, and a store of it is one on the card.
+use mathlib.Core.Path.{_≡_, refl, ap, ap₂, sym, _∙_}
+use mathlib.Core.List.{List, [], _∷_, _++_}
+use mathlib.Core.Bool.{true}
+use mathlib.Core.Logic.{_≢_}
+use Prim.Native.Nat.{ℕ, suc, _+_, _*_, _-_, _≤_, _<_}
+use native.Mathlib.Omega.{arith}
+use lib.ListN.{length, set, getD, drop, take, length-drop, length-append}
+use lib.Seq.{getD-set-same, getD-set-other, drop-append-add, drop-drop, drop-set-lt, drop-set-add, set-append-left}
+use borrow.Author.Tests.{ne-eqb, eq-eqb}
+use Rattle.card.specs.Header.{Formatted}
+use Rattle.card.specs.Layout.{rootPlace, nodeAt}
+use Rattle.card.specs.Lines.{hasLine, rootOf, headerFor, seen, onLine}
+
+set-append-right : (xs ys : List ℕ) (i v : ℕ) → set (xs ++ ys) (length xs + i) v ≡ xs ++ set ys i v
+set-append-right [] ys i v = ap (λ (k : ℕ). set ys k v) (let z : 0 + i ≡ i = omega arith in z)
+set-append-right (x ∷ xs) ys i v =
+    ap (λ (k : ℕ). set (x ∷ xs ++ ys) k v) (let z : suc (length xs) + i ≡ suc (length xs + i) = omega arith in z) ∙ ap (λ (l : List ℕ). x ∷ l) (set-append-right xs ys i v)
+
+-- a node is read alike on the card and in the line's table
+pub seen-node : (line : ℕ) (card : List ℕ) (m : ℕ) → nodeAt (seen line card) m ≡ nodeAt card m
+unfolding seen nodeAt
+seen-node line card m = ap (take 24) (drop-append-add (headerFor line card) (drop 8 card) (24 * (m - 1)) ∙ drop-drop (24 * (m - 1)) 8 card)
+
+pub seen-length : (line : ℕ) (card : List ℕ) → 8 ≤ length card → length (seen line card) ≡ length card
+unfolding seen
+seen-length line card h = omega (arith, length-append (headerFor line card) (drop 8 card), length-drop 8 card)
+
+pub seen-root : (line : ℕ) (card : List ℕ) → getD (seen line card) rootPlace 0 ≡ getD card (rootOf line) 0
+unfolding seen
+seen-root line card = refl
+
+-- the table of a card's only line is the card
+pub seen-only : (card : List ℕ) (n : ℕ) → 8 ≤ length card → Formatted card n → seen 1 card ≡ card
+unfolding seen
+seen-only (a ∷ b ∷ c ∷ d ∷ e ∷ f ∷ g ∷ h ∷ rest) n l k = rw (k .mark, k .five, k .six, k .seven)
+seen-only [] n l k = absurd (omega arith)
+seen-only (a ∷ []) n l k = absurd (omega arith)
+seen-only (a ∷ b ∷ []) n l k = absurd (omega arith)
+seen-only (a ∷ b ∷ c ∷ []) n l k = absurd (omega arith)
+seen-only (a ∷ b ∷ c ∷ d ∷ []) n l k = absurd (omega arith)
+seen-only (a ∷ b ∷ c ∷ d ∷ e ∷ []) n l k = absurd (omega arith)
+seen-only (a ∷ b ∷ c ∷ d ∷ e ∷ f ∷ []) n l k = absurd (omega arith)
+seen-only (a ∷ b ∷ c ∷ d ∷ e ∷ f ∷ g ∷ []) n l k = absurd (omega arith)
+
+-- the header of the table is the one that document 01 gives a card
+pub seen-formatted : (line : ℕ) (card : List ℕ) (n : ℕ) → getD card 1 0 ≡ n → getD card 2 0 ≡ 8 → getD card 3 0 ≡ 24 → Formatted (seen line card) n
+unfolding seen
+seen-formatted line card n e f g = record { mark = refl; nodes = e; first = f; each = g; five = refl; six = refl; seven = refl }
+
+-- ---- stores
+
+header-same : (line : ℕ) (card : List ℕ) (p v : ℕ) → (p ≡ 1 → ⊥) → (p ≡ 2 → ⊥) → (p ≡ 3 → ⊥) → (p ≡ rootOf line → ⊥) → headerFor line (set card p v) ≡ headerFor line card
+header-same line card p v a b c d =
+    rw (
+      getD-set-other card p 1 v 0 (λ e. a (sym e)),
+      getD-set-other card p 2 v 0 (λ e. b (sym e)),
+      getD-set-other card p 3 v 0 (λ e. c (sym e)),
+      getD-set-other card p (rootOf line) v 0 (λ e. d (sym e)),
+    )
+
+-- in a node
+pub seen-set : (line : ℕ) (card : List ℕ) (p v : ℕ) → rootOf line < 8 → 8 ≤ p → seen line (set card p v) ≡ set (seen line card) p v
+unfolding seen
+seen-set line card p v r h =
+    let j : p ≡ 8 + (p - 8) = omega arith in
+    ap₂ (λ (a b : List ℕ). a ++ b) (header-same line card p v (λ e. omega arith) (λ e. omega arith) (λ e. omega arith) (λ e. omega arith))
+    (ap (λ (k : ℕ). drop 8 (set card k v)) j ∙ drop-set-add 8 card (p - 8) v)
+    ∙ sym (set-append-right (headerFor line card) (drop 8 card) (p - 8) v)
+    ∙ ap (λ (k : ℕ). set (headerFor line card ++ drop 8 card) k v) (sym j)
+
+-- in the line's root word
+pub seen-link : (line : ℕ) (card : List ℕ) (v : ℕ) → 0 < line → rootOf line < 8 → 8 ≤ length card → seen line (set card (rootOf line) v) ≡ set (seen line card) rootPlace v
+unfolding seen
+seen-link line card v l r h =
+    rw (
+      getD-set-other card (rootOf line) 1 v 0 (λ e. omega arith),
+      getD-set-other card (rootOf line) 2 v 0 (λ e. omega arith),
+      getD-set-other card (rootOf line) 3 v 0 (λ e. omega arith),
+      getD-set-same card (rootOf line) v 0 (omega arith),
+      drop-set-lt 8 card (rootOf line) v r,
+    )
+
+-- in another word of the header: the line does not see it
+pub seen-other : (line : ℕ) (card : List ℕ) (p v : ℕ) → 3 < p → p < 8 → (p ≡ rootOf line → ⊥) → seen line (set card p v) ≡ seen line card
+unfolding seen
+seen-other line card p v a b d =
+    ap₂ (λ (x y : List ℕ). x ++ y) (header-same line card p v (λ e. omega arith) (λ e. omega arith) (λ e. omega arith) d) (drop-set-lt 8 card p v b)
+
+-- a store of the line's table, on the card
+pub seen-store : (line : ℕ) (card : List ℕ) (p v : ℕ) → 0 < line → rootOf line < 8 → 8 ≤ length card → (p ≡ rootPlace → ⊥) → 8 ≤ p
+    → seen line (set card (onLine line p) v) ≡ set (seen line card) p v
+unfolding onLine
+seen-store line card p v l r h d q = rw (ne-eqb p rootPlace d) (seen-set line card p v r q)
+
+pub seen-store-link : (line : ℕ) (card : List ℕ) (v : ℕ) → 0 < line → rootOf line < 8 → 8 ≤ length card → seen line (set card (onLine line rootPlace) v) ≡ set (seen line card) rootPlace v
+unfolding onLine
+seen-store-link line card v l r h = seen-link line card v l r h
+
+pub line-one : (card : List ℕ) → hasLine card 1 ≡ true
+unfolding hasLine
+line-one card = refl
