@@ -4,6 +4,7 @@ use Rattle.card.specs.Layout.{greatestNodes}
 use mathlib.Core.List.{List, [], _∷_, _++_}
 use Prim.Native.Nat.{ℕ}
 use lib.ListN.{getD, replicate}
+use Rattle.card.specs.Lines.{hasLine, seen}
 use Rattle.card.specs.Header.{nodesOfLength, headerRefusal, cardRefusal}
 use Rattle.card.specs.Layout.{formattedRoot, runBelow, nodeAt, keyWords, valueWords, children, routingKeys, leafPairs, nodeImage}
 use Rattle.change_plan.specs.Change.{changeStores, kindAbove, splitLeaf, joinedKeys, joinedChildren, absorb, splitParent, leavesTogether}
@@ -24,7 +25,7 @@ use Rattle.card_check.specs.Check.{childrenCheck, raised, onLook, nodeCheck, ta
 use Rattle.card.specs.Replies.{refusal, holds, absent, idle, started as begun}
 use Rattle.call_find.specs.Answers.{foundReply}
 use Rattle.state.specs.Answers.{stepReply, startReply}
-use Rattle.call_find.specs.Find.{foundIn, foundAt, findOf}
+use Rattle.call_find.specs.Find.{foundIn, foundAt, findOf, findIn}
 use Rattle.call_open.specs.Opening.{openSound, openChecked, openOf}
 use Rattle.call_start.specs.Starts.{formatOf, startRefused, startAccepted, startLanded, startChecked, startOf, insertOf, deleteOf}
 use Rattle.call_step.specs.Calls.{planning, stepPrepared, stepBegin, stepHeld, stepOf, stepTask, stepChecked}
@@ -120,7 +121,7 @@ unfolding fresh drive onAnswer insertWhole deleteWhole upto steps cardL cardB ca
     startRoom roomFor startLanded startAccepted stepRefused startRefused withAll giving overNumbers takeNumbers numbersFrom nextFree
     firstFrom firstTrue orElse withoutAll lastOf splitLeaf changeStores sort insertAll insertPair kindAbove nodeImage countTrue
     childPosition childFor childIndex passed routingKeys runBelow deleteOf deleteChange isNode share merge mergeRoot leavesTogether
-    innersTogether half leftKeys keyBetween absorb splitParent joinedKeys joinedChildren findOf cardRefusal foundAt leafOf reachedAt depthOf
+    innersTogether half leftKeys keyBetween absorb splitParent joinedKeys joinedChildren findOf findIn hasLine seen cardRefusal foundAt leafOf reachedAt depthOf
     foundIn noBeginning noMemory openOf openChecked openSound tableCheck nodeCheck onLook enterNode enterKind enterLeaf enterInner
     innerSound noted lookOf leafSound member unusedZero childrenCheck raised halves copied rangeEnd slotSound heldBy stepChecked stepTask
     inLeaf noWay layOut decidedRepair decideAt decideTagged decideUnderfull decideSiblings decideTogether togetherAt
@@ -166,7 +167,7 @@ pub rowB-is : rowB ≡ (70 ∷ 0 ∷ 70 ∷ 7 ∷ 2 ∷ said absent)
 unfolding rowB computing
 rowB-is = refl
 
-cutB-absent : foundReply (findOf greatestNodes cutB 7) ≡ absent
+cutB-absent : foundReply (findOf greatestNodes 1 cutB 7) ≡ absent
 unfolding computing
 cutB-absent = refl
 
@@ -286,21 +287,21 @@ pub rowCutOpened-is : rowCutOpened ≡ said idle
 unfolding rowCutOpened
 rowCutOpened-is = ap (λ b. said (startReply (openOf greatestNodes (cutI b) .begun))) worked-S ∙ rowCutOpened-held
 
-pub rowCutAbsent-held : said (foundReply (findOf greatestNodes (cutI heldS) 12)) ≡ said absent
+pub rowCutAbsent-held : said (foundReply (findOf greatestNodes 1 (cutI heldS) 12)) ≡ said absent
 unfolding computing
 rowCutAbsent-held = refl
 
 pub rowCutAbsent-is : rowCutAbsent ≡ said absent
 unfolding rowCutAbsent
-rowCutAbsent-is = ap (λ b. said (foundReply (findOf greatestNodes (cutI b) 12))) worked-S ∙ rowCutAbsent-held
+rowCutAbsent-is = ap (λ b. said (foundReply (findOf greatestNodes 1 (cutI b) 12))) worked-S ∙ rowCutAbsent-held
 
-pub rowCutHeld-held : said (foundReply (findOf greatestNodes (splitI heldS) 12)) ≡ said (holds 120)
+pub rowCutHeld-held : said (foundReply (findOf greatestNodes 1 (splitI heldS) 12)) ≡ said (holds 120)
 unfolding computing
 rowCutHeld-held = refl
 
 pub rowCutHeld-is : rowCutHeld ≡ said (holds 120)
 unfolding rowCutHeld
-rowCutHeld-is = ap (λ b. said (foundReply (findOf greatestNodes (splitI b) 12))) worked-S ∙ rowCutHeld-held
+rowCutHeld-is = ap (λ b. said (foundReply (findOf greatestNodes 1 (splitI b) 12))) worked-S ∙ rowCutHeld-held
 
 -- two rows that are right, one under the other
 beside : {x y : List ℕ} → {xs ys : List (List ℕ)} → x ≡ y → xs ≡ ys → x ∷ xs ≡ y ∷ ys

@@ -11,6 +11,7 @@ use mathlib.Core.Option.{Option·elim}
 use lib.ListN.{replicate}
 use Rattle.laws.specs.Cases.{pick}
 use Rattle.laws.proofs.Cases.{bool-cases}
+use Rattle.card.specs.Lines.{hasLine, seen}
 use Rattle.card.specs.Header.{nodesOfLength, headerRefusal, cardRefusal}
 use Rattle.card.specs.Layout.{formattedRoot, runBelow, nodeAt, keyWords, valueWords, children, routingKeys, leafPairs, nodeImage}
 use Rattle.change_plan.specs.Change.{changeStores, kindAbove, splitLeaf, joinedKeys, joinedChildren, absorb, splitParent, leavesTogether}
@@ -32,7 +33,7 @@ use Rattle.card_check.specs.Check.{childrenCheck, raised, onLook, nodeCheck, ta
 use Rattle.state.specs.Memory.{noMemory, resting, idled, settledPhase, settled, advanced}
 use Rattle.call_change.specs.Updates.{landing, emptyReason, reasonIn, insertReason, insertChange, deleteChange, roomFor, startRoom, nextChange, inLeaf, noWay}
 use Rattle.state.specs.Answers.{stepReply, startReply}
-use Rattle.call_find.specs.Find.{foundIn, foundAt, findOf}
+use Rattle.call_find.specs.Find.{foundIn, foundAt, findOf, findIn}
 use Rattle.call_open.specs.Opening.{openSound, openChecked, openOf}
 use Rattle.call_start.specs.Starts.{formatOf, startRefused, startAccepted, startLanded, startChecked, startOf, insertOf, deleteOf}
 use Rattle.call_step.specs.Calls.{stepOf, planning, stepPrepared, stepBegin, stepHeld, stepTask, stepChecked}
@@ -130,7 +131,7 @@ unfolding readyIn isStored isReady after kept feed told outcome replyTo fedStart
     startChecked startRoom roomFor startLanded startAccepted stepRefused startRefused withAll giving overNumbers takeNumbers numbersFrom
     nextFree firstFrom firstTrue orElse withoutAll lastOf splitLeaf changeStores sort insertAll insertPair kindAbove nodeImage countTrue
     childPosition childFor childIndex passed routingKeys runBelow deleteOf deleteChange isNode share merge mergeRoot leavesTogether
-    innersTogether half leftKeys keyBetween absorb splitParent joinedKeys joinedChildren findOf cardRefusal foundAt leafOf reachedAt depthOf foundIn
+    innersTogether half leftKeys keyBetween absorb splitParent joinedKeys joinedChildren findOf findIn hasLine seen cardRefusal foundAt leafOf reachedAt depthOf foundIn
     noBeginning noMemory openOf openChecked openSound tableCheck nodeCheck onLook enterNode enterKind enterLeaf enterInner innerSound noted
     lookOf leafSound member unusedZero childrenCheck raised halves copied rangeEnd slotSound heldBy stepChecked stepTask inLeaf noWay layOut
     decidedRepair decideAt decideTagged decideUnderfull decideSiblings decideTogether togetherAt

@@ -104,7 +104,7 @@ splitI b = steps 73 (begin (b .card) (insertOf greatestNodes (b .card) (b .memor
 
 -- A: L, find 7: absent
 unfoldable pub rowA : List ℕ
-rowA = said (foundReply (findOf greatestNodes (cardL .card) 7))
+rowA = said (foundReply (findOf greatestNodes 1 (cardL .card) 7))
 
 -- B: L, insert 7: word 20 gets 70, then word 9 gets 7; two stores, absent
 unfoldable pub rowB : List ℕ
@@ -112,7 +112,7 @@ rowB = getD cutB 20 0 ∷ getD cutB 9 0 ∷ getD (cardB .card) 20 0 ∷ getD (ca
 
 -- C: B cut after one store: find 7 absent
 unfoldable pub rowC : List ℕ
-rowC = said (foundReply (findOf greatestNodes cutB 7))
+rowC = said (foundReply (findOf greatestNodes 1 cutB 7))
 
 -- D: then B whole, insert 7 with 71: answers 70, no store
 unfoldable pub rowD : List ℕ
@@ -150,7 +150,7 @@ unfoldable pub rowHinsert : List ℕ
 rowHinsert = said (startReply (insertOf greatestNodes (cardL .card) (cardL .memory) 0 1 .begun))
 
 unfoldable pub rowHfind : List ℕ
-rowHfind = said (foundReply (findOf greatestNodes (cardL .card) 0))
+rowHfind = said (foundReply (findOf greatestNodes 1 (cardL .card) 0))
 
 unfoldable pub rowHgreatest : List ℕ
 rowHgreatest = said (startReply (insertOf greatestNodes (cardL .card) (cardL .memory) 4294967295 1 .begun))
@@ -185,10 +185,10 @@ unfoldable pub rowCutOpened : List ℕ
 rowCutOpened = said (startReply (openOf greatestNodes (cutI cardS) .begun))
 
 unfoldable pub rowCutAbsent : List ℕ
-rowCutAbsent = said (foundReply (findOf greatestNodes (cutI cardS) 12))
+rowCutAbsent = said (foundReply (findOf greatestNodes 1 (cutI cardS) 12))
 
 unfoldable pub rowCutHeld : List ℕ
-rowCutHeld = said (foundReply (findOf greatestNodes (splitI cardS) 12))
+rowCutHeld = said (foundReply (findOf greatestNodes 1 (splitI cardS) 12))
 
 -- the starred cards, as one table: what each row says
 abbrev pub StarredCards : Type 0

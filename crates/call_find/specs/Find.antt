@@ -5,6 +5,7 @@ use lib.ListN.{length, getD}
 use lib.Dec.{eqb}
 use Rattle.laws.specs.Cases.{pick}
 use Rattle.card.specs.Layout.{nodeAt}
+use Rattle.card.specs.Lines.{hasLine, seen}
 use Rattle.card.specs.Header.{nodesOfLength, cardRefusal}
 use Rattle.walk.specs.Descent.{slotOf, way, leafOf, depthOf}
 use Rattle.walk.specs.declared.Slot.{Slot}
@@ -24,14 +25,21 @@ unfoldable pub foundAt : List ℕ → ℕ → Reached → Found
 foundAt card key NotReached = FoundRefused 9
 foundAt card key (ReachedLeaf m depth) = foundIn (nodeAt card m) (slotOf (nodeAt card m) key)
 
--- 1, 2, 3, then "6: key 0"
-unfoldable pub findOf : ℕ → List ℕ → ℕ → Found
-findOf greatest card key =
+-- "6: key 0", on the table of one line
+unfoldable pub findIn : List ℕ → ℕ → ℕ → Found
+findIn card n key = pick (eqb key 0) (FoundRefused 6) (foundAt card key (leafOf (way card n key)))
+
+-- 1, 2, 3, then "18: line number not one the card has, just before 6" (document 02, W-207)
+unfoldable pub findOf : ℕ → ℕ → List ℕ → ℕ → Found
+findOf greatest line card key =
     pick (eqb (cardRefusal greatest card) 0)
-    (pick (eqb key 0) (FoundRefused 6) (foundAt card key (leafOf (way card (nodesOfLength greatest (length card)) key))))
-    (FoundRefused (cardRefusal greatest card))
+    (pick (hasLine card line) (findIn (seen line card) (nodesOfLength greatest (length card)) key) (FoundRefused 18)) (FoundRefused (cardRefusal greatest card))
 
 -- Document 02, W-203: "the number of internal nodes on the given number's way when the call began, tagged ones counted. A refusal carries
 -- none": 0 for every refusal of `findOf`
-unfoldable pub findDepth : ℕ → List ℕ → ℕ → ℕ
-findDepth greatest card key = pick (eqb (cardRefusal greatest card) 0) (pick (eqb key 0) 0 (depthOf (leafOf (way card (nodesOfLength greatest (length card)) key)))) 0
+unfoldable pub depthIn : List ℕ → ℕ → ℕ → ℕ
+depthIn card n key = pick (eqb key 0) 0 (depthOf (leafOf (way card n key)))
+
+unfoldable pub findDepth : ℕ → ℕ → List ℕ → ℕ → ℕ
+findDepth greatest line card key =
+    pick (eqb (cardRefusal greatest card) 0) (pick (hasLine card line) (depthIn (seen line card) (nodesOfLength greatest (length card)) key) 0) 0

@@ -27,8 +27,8 @@ recordFor block (Value at) = pick (eqb (recordRefusal block at) 0) (recordAt blo
 recordFor block NotHeld = []
 recordFor block (NoLook r) = []
 
-unfoldable pub recordOf : ℕ → List ℕ → ℕ → List ℕ → List ℕ
-recordOf greatest card key block = recordFor block (findOf greatest card key)
+unfoldable pub recordOf : ℕ → ℕ → List ℕ → ℕ → List ℕ → List ℕ
+recordOf greatest line card key block = recordFor block (findOf greatest line card key)
 
 -- ---- "a second question over the same inputs tells "found", "absent" or the refusal"
 
@@ -41,8 +41,8 @@ fetchedFor block (Value at) = fetchedAt block at
 fetchedFor block NotHeld = Absent
 fetchedFor block (NoLook r) = Refused r
 
-unfoldable pub fetchOf : ℕ → List ℕ → ℕ → List ℕ → Fetched
-fetchOf greatest card key block = fetchedFor block (findOf greatest card key)
+unfoldable pub fetchOf : ℕ → ℕ → List ℕ → ℕ → List ℕ → Fetched
+fetchOf greatest line card key block = fetchedFor block (findOf greatest line card key)
 
 -- ---- its answer as numbers
 

@@ -51,10 +51,16 @@ fn record_at(block: &[u8], at: usize) -> &[u8]
 }
 
 // "The found record is handed back as that part of the lent block".
-pub fn fetch_record<'a>(card: &[u32], key: u32, block: &'a [u8], greatest: usize) -> &'a [u8]
-    ensures { λ r. ⌜ now r ≡ recordOf greatest (now (card .entry)) key (now (block .entry)) ⌝ }
+pub fn fetch_record<'a>(
+    card: &[u32],
+    line: u32,
+    key: u32,
+    block: &'a [u8],
+    greatest: usize,
+) -> &'a [u8]
+    ensures { λ r. ⌜ now r ≡ recordOf greatest line (now (card .entry)) key (now (block .entry)) ⌝ }
 {
-    match call_find::find(card, key, greatest) {
+    match call_find::find(card, line, key, greatest) {
         Found::Value(value) => record_at(block, value as usize),
         Found::Absent => &block[0..0],
         Found::Refused(_) => &block[0..0],
@@ -73,10 +79,10 @@ fn fetched_at(block: &[u8], at: usize) -> Fetched
 }
 
 // "a second question over the same inputs"
-pub fn is_fetched(card: &[u32], key: u32, block: &[u8], greatest: usize) -> Fetched
-    ensures { λ r. ⌜ r ≡ fetchOf greatest (now (card .entry)) key (now (block .entry)) ⌝ }
+pub fn is_fetched(card: &[u32], line: u32, key: u32, block: &[u8], greatest: usize) -> Fetched
+    ensures { λ r. ⌜ r ≡ fetchOf greatest line (now (card .entry)) key (now (block .entry)) ⌝ }
 {
-    match call_find::find(card, key, greatest) {
+    match call_find::find(card, line, key, greatest) {
         Found::Value(value) => fetched_at(block, value as usize),
         Found::Absent => Fetched::Absent,
         Found::Refused(refusal) => Fetched::Refused(refusal),

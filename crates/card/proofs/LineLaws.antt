@@ -1,15 +1,19 @@
 -- A line's table as one of its own: its nodes are the card's, and a store of it is one on the card.
 use mathlib.Core.Path.{_≡_, refl, ap, ap₂, sym, _∙_}
 use mathlib.Core.List.{List, [], _∷_, _++_}
-use mathlib.Core.Bool.{true}
-use mathlib.Core.Logic.{_≢_}
+use mathlib.Core.Bool.{Bool, true, false}
+use mathlib.Core.Logic.{by-cases}
 use Prim.Native.Nat.{ℕ, suc, _+_, _*_, _-_, _≤_, _<_}
 use native.Mathlib.Omega.{arith}
+use native.Mathlib.Decide.{ℕ-discrete}
 use lib.ListN.{length, set, getD, drop, take, length-drop, length-append}
-use lib.Seq.{getD-set-same, getD-set-other, drop-append-add, drop-drop, drop-set-lt, drop-set-add, set-append-left}
+use lib.Seq.{getD-set-same, getD-set-other, drop-append-add, drop-drop, drop-set-lt, drop-set-add}
+use lib.Dec.{eqb}
 use borrow.Author.Tests.{ne-eqb, eq-eqb}
-use Rattle.card.specs.Header.{Formatted}
+use Rattle.laws.proofs.Cases.{impossible}
+use Rattle.card.specs.Header.{nodesOfLength, cardRefusal, Formatted}
 use Rattle.card.specs.Layout.{rootPlace, nodeAt}
+use Rattle.card.proofs.HeaderLaws.{header-formatted, card-header, sized, card-sized}
 use Rattle.card.specs.Lines.{hasLine, rootOf, headerFor, seen, onLine}
 
 set-append-right : (xs ys : List ℕ) (i v : ℕ) → set (xs ++ ys) (length xs + i) v ≡ xs ++ set ys i v
@@ -42,6 +46,14 @@ seen-only (a ∷ b ∷ c ∷ d ∷ []) n l k = absurd (omega arith)
 seen-only (a ∷ b ∷ c ∷ d ∷ e ∷ []) n l k = absurd (omega arith)
 seen-only (a ∷ b ∷ c ∷ d ∷ e ∷ f ∷ []) n l k = absurd (omega arith)
 seen-only (a ∷ b ∷ c ∷ d ∷ e ∷ f ∷ g ∷ []) n l k = absurd (omega arith)
+
+-- of a card that is not refused, too
+pub seen-accepted : (greatest : ℕ) (card : List ℕ) → cardRefusal greatest card ≡ 0 → seen 1 card ≡ card
+seen-accepted greatest card e =
+    let n = nodesOfLength greatest (length card) in
+    let some = card-sized greatest card e in
+    let s = sized greatest card n refl some in
+    seen-only card n (omega (arith, s .words)) (header-formatted card n (sym (card-header greatest card n refl some) ∙ e))
 
 -- the header of the table is the one that document 01 gives a card
 pub seen-formatted : (line : ℕ) (card : List ℕ) (n : ℕ) → getD card 1 0 ≡ n → getD card 2 0 ≡ 8 → getD card 3 0 ≡ 24 → Formatted (seen line card) n
@@ -97,6 +109,27 @@ pub seen-store-link : (line : ℕ) (card : List ℕ) (v : ℕ) → 0 < line → 
 unfolding onLine
 seen-store-link line card v l r h = seen-link line card v l r h
 
+-- ---- the lines that a card has
+
 pub line-one : (card : List ℕ) → hasLine card 1 ≡ true
 unfolding hasLine
 line-one card = refl
+
+pub is-first : (card : List ℕ) (line : ℕ) → line ≡ 1 → eqb line 1 ≡ hasLine card line
+unfolding hasLine
+is-first card line e = rw (eq-eqb line 1 e)
+
+pub is-second : (card : List ℕ) (line : ℕ) → line ≡ 2 → eqb (getD card 0 0) 2 ≡ hasLine card line
+unfolding hasLine
+is-second card line e = rw e
+
+pub is-neither : (card : List ℕ) (line : ℕ) → (line ≡ 1 → ⊥) → (line ≡ 2 → ⊥) → eqb line 2 ≡ hasLine card line
+unfolding hasLine
+is-neither card line a b = rw (ne-eqb line 1 a, ne-eqb line 2 b)
+
+pub not-second : (card : List ℕ) (line : ℕ) → hasLine card line ≡ true → (line ≡ 2 → ⊥) → line ≡ 1
+not-second card line h b = by-cases (ℕ-discrete line 1) (λ e. e) (λ a. let z : _≡_ {A = Bool} false true = sym (ne-eqb line 2 b) ∙ is-neither card line a b ∙ h in impossible (cc))
+
+-- one or two
+pub line-small : (card : List ℕ) (line : ℕ) → hasLine card line ≡ true → (0 < line) × (rootOf line < 8)
+line-small card line h = by-cases (ℕ-discrete line 2) (λ e. (omega arith, omega arith)) (λ b. let e = not-second card line h b in (omega arith, omega arith))

@@ -11,8 +11,9 @@
 ghost use mathlib.Core.Path.{_≡_};
 ghost use mathlib.Core.Bool.{true, false};
 ghost use Prim.Native.Nat.{_+_, _*_, _≤_};
-ghost use lib.ListN.{length};
+ghost use lib.ListN.{length, getD};
 ghost use Rattle.card.specs.Layout.{greatestNodes, limited, nodeAt, children, isKey, leafPairs};
+ghost use Rattle.card.specs.Lines.{hasLine, rootOf};
 ghost use Rattle.card.specs.Header.{nodesOfLength, headerRefusal, cardRefusal, Sized};
 
 // The numbers of the drawing: the only places in code where they stand.
@@ -68,6 +69,17 @@ pub const DEPTH_LIMIT: usize = 12;
 
 // "4: number of the root node"
 pub const ROOT_PLACE: usize = 4;
+
+// Document 02, W-207: a card with mark 1 has one line.
+pub const FIRST_LINE: u32 = 1;
+
+pub const SECOND_LINE: u32 = 2;
+
+// "word 5 is the second line's root".
+pub const SECOND_ROOT: usize = 5;
+
+// "A second form of card carries mark 2".
+pub const SECOND_MARK: u32 = 2;
 
 // "root node 1": the root that formatting makes.
 pub const FORMATTED_ROOT: u32 = 1;
@@ -156,6 +168,25 @@ pub fn card_refusal(card: &[u32], greatest: usize) -> u32
         return 1;
     }
     header_refusal(card, n)
+}
+
+// Whether a card has a line of this number: one with mark 1 has line 1, one with mark 2 has lines 1 and 2 (document 02, W-207).
+pub fn has_line(card: &[u32], line: u32) -> bool
+    requires { ⌜ 8 ≤ length (now card) ⌝ }
+    ensures { λ r. ⌜ r ≡ hasLine (now (card .entry)) line ⌝ }
+{
+    line == FIRST_LINE || line == SECOND_LINE && card[0] == SECOND_MARK
+}
+
+// The number of a line's root.
+pub fn root_of(card: &[u32], line: u32) -> usize
+    requires { ⌜ (8 ≤ length (now card)) × (hasLine (now card) line ≡ true) ⌝ }
+    ensures { λ r. ⌜ r ≡ getD (now (card .entry)) (rootOf line) 0 ⌝ }
+{
+    if line == SECOND_LINE {
+        return card[SECOND_ROOT] as usize;
+    }
+    card[ROOT_PLACE] as usize
 }
 
 // Node m: the 24-word part of the card that starts at word 8 + 24 × (m − 1).

@@ -9,6 +9,7 @@ use native.Mathlib.Omega.{arith}
 use native.Mathlib.Decide.{ℕ-discrete}
 use lib.ListN.{length}
 use borrow.Author.Tests.{ne-eqb, eq-eqb, le-ltb}
+use Rattle.call_find.proofs.FindLaws.{find-only}
 use Rattle.theory_change.proofs.Line.{size, partition-only, count-only}
 use Rattle.walk.specs.declared.Reached.{Reached}
 use Rattle.demands.proofs.BookLaws.{dictionaryAnswer}
@@ -157,9 +158,8 @@ accepted-openable greatest c t a w = go (sound-accepted c (nodesOfLength greates
 
 -- ---- finds
 
-find-is : (greatest : ℕ) (c : List ℕ) (n key : ℕ) → cardRefusal greatest c ≡ 0 → nodesOfLength greatest (length c) ≡ n → 0 < key → findOf greatest c key ≡ foundAt c key (leafOf (way c n key))
-unfolding findOf
-find-is greatest c n key e en h = rw (e, en, ne-eqb key 0 (omega arith))
+find-is : (greatest : ℕ) (c : List ℕ) (n key : ℕ) → cardRefusal greatest c ≡ 0 → nodesOfLength greatest (length c) ≡ n → 0 < key → findOf greatest 1 c key ≡ foundAt c key (leafOf (way c n key))
+find-is greatest c n key e en h = find-only greatest c key e (omega arith) ∙ ap (λ (m : ℕ). foundAt c key (leafOf (way c m key))) en
 
 found-is : (words : List ℕ) (s : Slot) → foundReply (foundIn words s) ≡ stepReply (dictionaryAnswer (slotAnswer words s))
 unfolding foundIn slotAnswer foundReply stepReply dictionaryAnswer
@@ -167,7 +167,7 @@ found-is words (At i) = refl
 found-is words NoSlot = refl
 
 pub find-answers : (greatest : ℕ) (c : List ℕ) (n : ℕ) (t : Tree) (key : ℕ) → Table greatest c n t → 0 < key → key < keyLimit
-    → foundReply (findOf greatest c key) ≡ stepReply (dictionaryAnswer (lookup key (pairs t)))
+    → foundReply (findOf greatest 1 c key) ≡ stepReply (dictionaryAnswer (lookup key (pairs t)))
 unfolding foundAt
 find-answers greatest c n t key b h l =
     let a = card-accepted greatest (b .sized) (b .header) in

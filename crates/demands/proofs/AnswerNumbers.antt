@@ -7,6 +7,7 @@ use Prim.Native.Nat.{ℕ, _+_, _<_}
 use native.Mathlib.Omega.{arith}
 use lib.ListN.{length, getD}
 use lib.Dec.{eqb, ltb}
+use Rattle.card.specs.Lines.{hasLine, seen}
 use Rattle.card.specs.Header.{nodesOfLength, headerRefusal, cardRefusal, must}
 use Rattle.walk.specs.declared.Landing.{Landing}
 use Rattle.walk.specs.declared.Landing.the-variants.{Refused as NoLanding, Leaf as LandingAt}
@@ -16,7 +17,7 @@ use Rattle.walk.specs.declared.Slot.{Slot}
 use Rattle.walk.specs.declared.Slot.the-variants.{At, Absent as NoSlot}
 use Rattle.walk.specs.declared.Reached.{Reached}
 use Rattle.walk.specs.declared.Reached.the-variants.{Refused as NotReached, Leaf as ReachedLeaf}
-use Rattle.call_find.specs.Find.{foundIn, foundAt, findOf}
+use Rattle.call_find.specs.Find.{foundIn, foundAt, findOf, findIn}
 use Rattle.call_find.specs.declared.Found.{Found}
 use Rattle.call_find.specs.declared.Found.the-variants.{Value as FoundValue, Absent as FoundAbsent, Refused as FoundRefused}
 use Rattle.card.specs.Layout.{nodeAt, searchStart}
@@ -109,11 +110,13 @@ unfolding foundAt
 at-small c key NotReached = omega arith
 at-small c key (ReachedLeaf m depth) = in-small (nodeAt c m) (slotOf (nodeAt c m) key)
 
-pub find-small : (greatest : ℕ) (c : List ℕ) (key : ℕ) → SmallFound (findOf greatest c key)
-unfolding findOf
-find-small greatest c key =
+pub find-small : (greatest line : ℕ) (c : List ℕ) (key : ℕ) → SmallFound (findOf greatest line c key)
+unfolding findOf findIn
+find-small greatest line c key =
     bool-cases (eqb (cardRefusal greatest c) 0)
-    (λ q. bool-cases (eqb key 0) (λ z. rw (q, z) (omega arith)) (λ z. rw (q, z) (at-small c key (leafOf (way c (nodesOfLength greatest (length c)) key)))))
+    (λ q. bool-cases (hasLine c line)
+    (λ l. bool-cases (eqb key 0) (λ z. rw (q, l, z) (omega arith)) (λ z. rw (q, l, z) (at-small (seen line c) key (leafOf (way (seen line c) (nodesOfLength greatest (length c)) key)))))
+    (λ l. rw (q, l) (omega arith)))
     (λ q. rw q (card-small greatest c))
 
 -- ---- a step's

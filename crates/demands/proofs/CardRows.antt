@@ -29,7 +29,8 @@ use Rattle.laws.proofs.Bits.{bit-true, bit-false}
 use Rattle.laws.proofs.Cases.{bool-cases, order, impossible}
 use Rattle.call_find.specs.Answers.{foundReply}
 use Rattle.call_find.specs.Find.{foundIn, foundAt, findOf}
-use Rattle.call_find.proofs.FindLaws.{find-refused, find-no-key, find-key}
+use Rattle.call_find.proofs.FindLaws.{find-refused, find-no-key, find-only}
+use Rattle.card.proofs.LineLaws.{line-one}
 use Rattle.call_open.specs.Opening.{openSound, openChecked, openOf}
 use Rattle.demands.proofs.OpenRefusals.{refuses-unsound, refuses-few}
 use Rattle.demands.proofs.Reopen.{length-accepted, card-accepted, open-sound, open-repair, open-idle, facts-exact}
@@ -48,9 +49,9 @@ use Rattle.theory_tree.specs.WellFormed.{WellFormed}
 -- ---- finds
 
 -- the card's refusal is not 0, whichever it is
-find-due : (greatest : ℕ) (c : List ℕ) (key r : ℕ) → cardRefusal greatest c ≡ r → (r ≡ 0 → ⊥) → foundReply (findOf greatest c key) ≡ refusal r
+find-due : (greatest : ℕ) (c : List ℕ) (key r : ℕ) → cardRefusal greatest c ≡ r → (r ≡ 0 → ⊥) → foundReply (findOf greatest 1 c key) ≡ refusal r
 unfolding foundReply
-find-due greatest c key r e d = rw (find-refused greatest c key (λ z. d (sym e ∙ z)), e)
+find-due greatest c key r e d = rw (find-refused greatest 1 c key (λ z. d (sym e ∙ z)), e)
 
 pub none-some : {A P : Type 0} (x : A) → _≡_ {A = Option A} none (some x) → P
 none-some x e = impossible (cc)
@@ -90,33 +91,33 @@ reads-finds key (k ∷ keys) values i =
 pub finds : (greatest : ℕ) (c : List ℕ) (key : ℕ) → ByRows (findRows greatest c key) (λ r. rationTable greatest .find c key ≡ refusal r) (ReadsLeaf c key (rationTable greatest .find c key))
 unfolding ByRows foundAt foundReply arrived reachedLeaf
 finds greatest c key =
-    by-card greatest (row 6 (key ≡ 0) (row 9 (leadsTo c key ≡ none) end)) (λ r. foundReply (findOf greatest c key) ≡ refusal r) (ReadsLeaf c key (foundReply (findOf greatest c key))) c (nodesOn c)
+    by-card greatest (row 6 (key ≡ 0) (row 9 (leadsTo c key ≡ none) end)) (λ r. foundReply (findOf greatest 1 c key) ≡ refusal r) (ReadsLeaf c key (foundReply (findOf greatest 1 c key))) c (nodesOn c)
     (λ p. find-due greatest c key 1 (card-one greatest c p) (λ z. omega (arith, z)))
     (λ r s e d. find-due greatest c key r (length-accepted greatest c (nodesOn c) s ∙ e) d)
     past
   where
     past : Sized greatest (length c) (nodesOn c) → Formatted c (nodesOn c) → ByRows (row 6 (key ≡ 0) (row 9 (leadsTo c key ≡ none) end))
-        (λ r. foundReply (findOf greatest c key) ≡ refusal r) (ReadsLeaf c key (foundReply (findOf greatest c key)))
+        (λ r. foundReply (findOf greatest 1 c key) ≡ refusal r) (ReadsLeaf c key (foundReply (findOf greatest 1 c key)))
     past s f = keyed (ℕ-discrete key 0)
       where
         a : (cardRefusal greatest c ≡ 0) × (nodesOfLength greatest (length c) ≡ nodesOn c)
         a = card-accepted greatest s f
 
         at : (key ≡ 0 → ⊥) → (x : Reached) → leafOf (way c (nodesOn c) key) ≡ x
-            → ((leadsTo c key ≡ none) × (foundReply (findOf greatest c key) ≡ refusal 9))
-            ⊎ ((leadsTo c key ≡ none → ⊥) × ReadsLeaf c key (foundReply (findOf greatest c key)))
-        at d NotReached e = inl (leaf-none (leadsTo c key) (sym (leaf-way c key) ∙ ap arrived e), rw (find-key greatest c key (a .0) d, a .1, e))
+            → ((leadsTo c key ≡ none) × (foundReply (findOf greatest 1 c key) ≡ refusal 9))
+            ⊎ ((leadsTo c key ≡ none → ⊥) × ReadsLeaf c key (foundReply (findOf greatest 1 c key)))
+        at d NotReached e = inl (leaf-none (leadsTo c key) (sym (leaf-way c key) ∙ ap arrived e), rw (find-only greatest c key (a .0) d, a .1, e))
         at d (ReachedLeaf m deep) e =
             let l = leaf-some (leadsTo c key) m (sym (leaf-way c key) ∙ ap arrived e) in
             inr (
               λ z. none-some (m, l .0) (sym z ∙ l .1),
-              (m, l .0, l .1, rw (find-key greatest c key (a .0) d, a .1, e) (found-works (nodeAt c m) key)),
+              (m, l .0, l .1, rw (find-only greatest c key (a .0) d, a .1, e) (found-works (nodeAt c m) key)),
             )
 
-        keyed : Dec (key ≡ 0) → ((key ≡ 0) × (foundReply (findOf greatest c key) ≡ refusal 6))
-            ⊎ ((key ≡ 0 → ⊥) × (((leadsTo c key ≡ none) × (foundReply (findOf greatest c key) ≡ refusal 9))
-            ⊎ ((leadsTo c key ≡ none → ⊥) × ReadsLeaf c key (foundReply (findOf greatest c key)))))
-        keyed (yes z) = inl (z, rw (find-no-key greatest c key (a .0) z))
+        keyed : Dec (key ≡ 0) → ((key ≡ 0) × (foundReply (findOf greatest 1 c key) ≡ refusal 6))
+            ⊎ ((key ≡ 0 → ⊥) × (((leadsTo c key ≡ none) × (foundReply (findOf greatest 1 c key) ≡ refusal 9))
+            ⊎ ((leadsTo c key ≡ none → ⊥) × ReadsLeaf c key (foundReply (findOf greatest 1 c key)))))
+        keyed (yes z) = inl (z, rw (find-no-key greatest 1 c key (a .0) (line-one c) z))
         keyed (no d) = inr (d, at d (leafOf (way c (nodesOn c) key)) refl)
 
 -- ---- formatting

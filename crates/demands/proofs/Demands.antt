@@ -53,11 +53,11 @@ pub record Promises (greatest : ℕ) : Type 0 where
   pub list-program : ListProgram greatest (rationTable greatest) (listCard greatest) (dumpText greatest)
   pub w-201 : W201 greatest (rationTable greatest)
   pub w-202 : W202 greatest eightAt (λ dump lent. dumpReply (readAnswer greatest dump lent))
-  pub w-203 : W203 (rationTable greatest) (findDepth greatest) (nextDepth greatest) (λ c m. toldDepth (stepOf greatest c m .memory .depth) (stepOf greatest c m .answer))
+  pub w-203 : W203 (rationTable greatest) (findDepth greatest 1) (nextDepth greatest 1) (λ c m. toldDepth (stepOf greatest c m .memory .depth) (stepOf greatest c m .answer))
   pub w-204 : W204 (rationTable greatest) (λ m family. totalReply (totalOf m family))
   pub w-205 : W205 (rationTable greatest)
   pub w-209 : W209 greatest (rationTable greatest) (checkText greatest)
-  pub w-213 : W213 greatest (rationTable greatest) (recordOf greatest) (λ c key block. fetchReply (fetchOf greatest c key block))
+  pub w-213 : W213 greatest (rationTable greatest) (recordOf greatest 1) (λ c key block. fetchReply (fetchOf greatest 1 c key block))
   pub w-214 : W214 (rationTable greatest)
 
 pub promises : (greatest : ℕ) → Promises greatest

@@ -7,6 +7,8 @@ use Prim.Native.Nat.{ℕ, _<_}
 use native.Mathlib.Omega.{arith}
 use lib.ListN.{length, getD, drop}
 use lib.Dec.{eqb, ltb}
+use Rattle.card.proofs.LineLaws.{line-one}
+use Rattle.card.specs.Lines.{seen}
 use Rattle.theory_change.proofs.Line.{only}
 use Rattle.laws.proofs.Cases.{bool-cases}
 use Rattle.card.specs.Header.{nodesOfLength, cardRefusal, headerRefusal, Sized}
@@ -22,8 +24,9 @@ use Rattle.walk.specs.declared.Reached.the-variants.{Refused as NotReached, Lea
 use Rattle.walk.specs.declared.Slot.{Slot}
 use Rattle.walk.specs.declared.Slot.the-variants.{At, Absent as NoSlot}
 use Rattle.call_find.specs.Answers.{foundReply}
-use Rattle.call_find.specs.Find.{foundIn, foundAt, findOf, findDepth}
-use Rattle.call_find.proofs.FindLaws.{depth-key}
+use Rattle.call_find.specs.Find.{foundIn, foundAt, findOf, findDepth, findIn, depthIn}
+use Rattle.call_find.proofs.FindLaws.{depth-only}
+use Rattle.walk_next.proofs.SuccessorLaws.{depth-only as next-depth-only}
 use Rattle.walk_next.specs.Successor.{nextOf, nextReply, carried, nextDepth}
 use Rattle.walk_next.specs.declared.Successor.{Successor}
 use Rattle.walk_next.specs.declared.Successor.the-variants.{Pair, Nothing as NoNext, Refused as NextRefused}
@@ -89,14 +92,15 @@ module _ (greatest : ℕ) (w : World (rationTable greatest)) (b : Book) (v : Cov
   on-card : nodesOfLength greatest (length (w .card)) ≡ v .size
   on-card = sized-nodes greatest (length (w .card)) (v .size) (v .inv .table .sized)
 
-  find-tells : (t : Tree) → WellFormed (w .card) t → (key : ℕ) → 0 < key → key < keyLimit → findDepth greatest (w .card) key ≡ passedIn key t
+  find-tells : (t : Tree) → WellFormed (w .card) t → (key : ℕ) → 0 < key → key < keyLimit → findDepth greatest 1 (w .card) key ≡ passedIn key t
   find-tells t k key low high =
-      depth-key greatest (w .card) key accepted (λ z. omega arith) ∙ ap (λ (n : ℕ). depthOf (leafOf (way (w .card) n key))) on-card ∙ passes greatest (w .card) (v .size) t (standing t k) key
+      depth-only greatest (w .card) key accepted (λ z. omega arith) ∙ ap (λ (n : ℕ). depthOf (leafOf (way (w .card) n key))) on-card ∙ passes greatest (w .card) (v .size) t (standing t k) key
 
-  next-tells : (t : Tree) → WellFormed (w .card) t → (number : ℕ) → number < keyLimit → nextDepth greatest (w .card) number ≡ passedIn number t
-  unfolding nextDepth carried
+  next-tells : (t : Tree) → WellFormed (w .card) t → (number : ℕ) → number < keyLimit → nextDepth greatest 1 (w .card) number ≡ passedIn number t
+  unfolding carried
   next-tells t k number high =
-      go (nextOf greatest (w .card) number) (next-right greatest (w .card) t number k accepted high)
+      next-depth-only greatest (w .card) number accepted
+      ∙ go (nextOf greatest 1 (w .card) number) (next-right greatest (w .card) t number k accepted high)
       ∙ ap (λ (n : ℕ). depthOf (leafOf (way (w .card) n number))) on-card ∙ passes greatest (w .card) (v .size) t (standing t k) number
     where
       go : (s : Successor) → IsNext (pairs t) number s → carried (depthOf (leafOf (way (w .card) (nodesOfLength greatest (length (w .card))) number))) s
@@ -105,7 +109,7 @@ module _ (greatest : ℕ) (w : World (rationTable greatest)) (b : Book) (v : Cov
       go NoNext i = refl
       go (NextRefused r) i = absurd i
 
-  rest-tells : Idle (rationTable greatest) (w .state) → (l : Line (w .card) (b .held)) → (number : ℕ) → number < keyLimit → Rested (findDepth greatest) (nextDepth greatest) (w .card) l number
+  rest-tells : Idle (rationTable greatest) (w .state) → (l : Line (w .card) (b .held)) → (number : ℕ) → number < keyLimit → Rested (findDepth greatest 1) (nextDepth greatest 1) (w .card) l number
   rest-tells idle l number high =
       let k = l .right .balanced .well-formed in
       let levels = passed-levels number (l .depth) (l .right .table) (k .widths) (l .right .balanced .none) (l .level) in
@@ -235,29 +239,29 @@ carried-none depth (Pair key value) h = absurd (omega arith)
 carried-none depth NoNext h = absurd (omega arith)
 carried-none depth (NextRefused r) h = refl
 
-find-refused : (greatest : ℕ) (c : List ℕ) (key : ℕ) → IsRefused (foundReply (findOf greatest c key)) → findDepth greatest c key ≡ 0
-unfolding findOf findDepth
+find-refused : (greatest : ℕ) (c : List ℕ) (key : ℕ) → IsRefused (foundReply (findOf greatest 1 c key)) → findDepth greatest 1 c key ≡ 0
+unfolding findOf findIn findDepth depthIn
 find-refused greatest c key =
     bool-cases (eqb (cardRefusal greatest c) 0)
-    (λ q. bool-cases (eqb key 0) (λ z. rw (q, z) (λ h. refl)) (λ z. rw (q, z) (at (leafOf (way c (nodesOfLength greatest (length c)) key)))))
+    (λ q. bool-cases (eqb key 0) (λ z. rw (q, line-one c, z) (λ h. refl)) (λ z. rw (q, line-one c, z) (at (leafOf (way (seen 1 c) (nodesOfLength greatest (length c)) key)))))
     (λ q. rw q (λ h. refl))
   where
-    at : (x : Reached) → IsRefused (foundReply (foundAt c key x)) → depthOf x ≡ 0
-    at x h = refused-depth c key x h
+    at : (x : Reached) → IsRefused (foundReply (foundAt (seen 1 c) key x)) → depthOf x ≡ 0
+    at x h = refused-depth (seen 1 c) key x h
 
-next-refused : (greatest : ℕ) (c : List ℕ) (number : ℕ) → IsRefused (nextReply (nextOf greatest c number)) → nextDepth greatest c number ≡ 0
+next-refused : (greatest : ℕ) (c : List ℕ) (number : ℕ) → IsRefused (nextReply (nextOf greatest 1 c number)) → nextDepth greatest 1 c number ≡ 0
 unfolding nextDepth
-next-refused greatest c number = at (nextOf greatest c number)
+next-refused greatest c number = at (nextOf greatest 1 c number)
   where
-    at : (s : Successor) → IsRefused (nextReply s) → carried (depthOf (leafOf (way c (nodesOfLength greatest (length c)) number))) s ≡ 0
+    at : (s : Successor) → IsRefused (nextReply s) → carried (depthOf (leafOf (way (seen 1 c) (nodesOfLength greatest (length c)) number))) s ≡ 0
     at s h = carried-none _ s h
 
-pub w-203 : (greatest : ℕ) → W203 (rationTable greatest) (findDepth greatest) (nextDepth greatest) (stepDepth greatest)
+pub w-203 : (greatest : ℕ) → W203 (rationTable greatest) (findDepth greatest 1) (nextDepth greatest 1) (stepDepth greatest)
 unfolding happens insertOf deleteOf replyTo
 w-203 greatest =
     record {
-      finds = always greatest (λ w b. (t : Tree) → WellFormed (w .card) t → (key : ℕ) → 0 < key → key < keyLimit → findDepth greatest (w .card) key ≡ passedIn key t) (find-tells greatest);
-      nexts = always greatest (λ w b. (t : Tree) → WellFormed (w .card) t → (number : ℕ) → number < keyLimit → nextDepth greatest (w .card) number ≡ passedIn number t) (next-tells greatest);
+      finds = always greatest (λ w b. (t : Tree) → WellFormed (w .card) t → (key : ℕ) → 0 < key → key < keyLimit → findDepth greatest 1 (w .card) key ≡ passedIn key t) (find-tells greatest);
+      nexts = always greatest (λ w b. (t : Tree) → WellFormed (w .card) t → (number : ℕ) → number < keyLimit → nextDepth greatest 1 (w .card) number ≡ passedIn number t) (next-tells greatest);
       inserts = always greatest (λ w b. (key value : ℕ) → key < keyLimit → TellsStart (rationTable greatest) (stepDepth greatest) (insert key value) key w)
           (λ w b v key value high t k e qs left held r. begun-tells greatest w b v key (Inserting key value NotBegun) (startRoom (w .card) key (roomOf (w .state))) t k e _ refl qs left held r);
       deletes = always greatest (λ w b. (key : ℕ) → key < keyLimit → TellsStart (rationTable greatest) (stepDepth greatest) (delete key) key w)
@@ -266,6 +270,6 @@ w-203 greatest =
       next-refused = next-refused greatest;
       others = λ c m n. told-others (stepOf greatest c m .memory .depth) (stepOf greatest c m .answer) n;
       rests = always greatest (λ w b. Idle (rationTable greatest) (w .state) → (l : Line (w .card) (b .held)) → (number : ℕ)
-          → number < keyLimit → Rested (findDepth greatest) (nextDepth greatest) (w .card) l number)
+          → number < keyLimit → Rested (findDepth greatest 1) (nextDepth greatest 1) (w .card) l number)
           (rest-tells greatest);
     }

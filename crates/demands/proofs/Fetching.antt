@@ -70,21 +70,21 @@ module _ (block : List ℕ) (at : ℕ) where
 -- ---- for every card, key and block
 
 abbrev part : ℕ → List ℕ → ℕ → List ℕ → List ℕ
-part greatest c key block = recordOf greatest c key block
+part greatest c key block = recordOf greatest 1 c key block
 
 abbrev reply : ℕ → List ℕ → ℕ → List ℕ → Reply
-reply greatest c key block = fetchReply (fetchOf greatest c key block)
+reply greatest c key block = fetchReply (fetchOf greatest 1 c key block)
 
 module _ (greatest : ℕ) (c : List ℕ) (key : ℕ) (block : List ℕ) where
-  no-look : (r : ℕ) → findOf greatest c key ≡ NoLook r → NoRecord (part greatest c key block) (reply greatest c key block) (refusal r)
+  no-look : (r : ℕ) → findOf greatest 1 c key ≡ NoLook r → NoRecord (part greatest c key block) (reply greatest c key block) (refusal r)
   unfolding recordOf recordFor fetchOf fetchedFor fetchReply
   no-look r e = record { told = rw e; empty = rw e }
 
-  not-held : findOf greatest c key ≡ NotHeld → NoRecord (part greatest c key block) (reply greatest c key block) absent
+  not-held : findOf greatest 1 c key ≡ NotHeld → NoRecord (part greatest c key block) (reply greatest c key block) absent
   unfolding recordOf recordFor fetchOf fetchedFor fetchReply
   not-held e = record { told = rw e; empty = rw e }
 
-  held-at : (at : ℕ) → findOf greatest c key ≡ Value at → AtOffset (part greatest c key block) (reply greatest c key block) block at
+  held-at : (at : ℕ) → findOf greatest 1 c key ≡ Value at → AtOffset (part greatest c key block) (reply greatest c key block) block at
   unfolding recordOf fetchOf
   held-at at e = rw e (at-offset block at)
 
@@ -92,8 +92,8 @@ module _ (greatest : ℕ) (c : List ℕ) (key : ℕ) (block : List ℕ) where
   Works = ByFind (part greatest c key block) (reply greatest c key block) block (rationTable greatest .find c key)
 
   answered : Finds (rationTable greatest .find c key) → Works
-  answered (inl (at, e)) = inr (at, e, held-at at (found-value (findOf greatest c key) at (find-small greatest c key) e))
-  answered (inr e) = inl (e, not-held (found-absent (findOf greatest c key) (find-small greatest c key) e))
+  answered (inl (at, e)) = inr (at, e, held-at at (found-value (findOf greatest 1 c key) at (find-small greatest 1 c key) e))
+  answered (inr e) = inl (e, not-held (found-absent (findOf greatest 1 c key) (find-small greatest 1 c key) e))
 
   looked : ReadsLeaf c key (rationTable greatest .find c key) → Works
   looked r = answered (subst Finds (sym (r .3)) (reads-finds key _ _ 0))
@@ -102,7 +102,7 @@ module _ (greatest : ℕ) (c : List ℕ) (key : ℕ) (block : List ℕ) where
   find-numbers = (omega arith, (omega arith, (omega arith, (omega arith, (omega arith, tt)))))
 
   all-answers : ByRows (findRows greatest c key) (λ r. (rationTable greatest .find c key ≡ refusal r) × NoRecord (part greatest c key block) (reply greatest c key block) (refusal r)) Works
-  all-answers = rows-map (findRows greatest c key) find-numbers (λ r h e. (e, no-look r (found-refused (findOf greatest c key) r h e))) looked (finds greatest c key)
+  all-answers = rows-map (findRows greatest c key) find-numbers (λ r h e. (e, no-look r (found-refused (findOf greatest 1 c key) r h e))) looked (finds greatest c key)
 
   -- the two questions agree, by what they answer alone
   none-found : (why : Reply) → NoRecord (part greatest c key block) (reply greatest c key block) why → (why .code ≡ 74 → ⊥)
@@ -134,5 +134,5 @@ module _ (greatest : ℕ) (c : List ℕ) (key : ℕ) (block : List ℕ) where
           rows-elim (recordRows block at) (omega arith, (omega arith, tt)) (λ r h n. neither (refusal r) (holds at) (n .told) e (λ z. omega (arith, z)) (λ z. omega (arith, z)))
           (λ i. neither fetched (holds at) (i .told) e (λ z. omega (arith, z)) (λ z. omega (arith, z))) q
 
-pub w-213 : (greatest : ℕ) → W213 greatest (rationTable greatest) (recordOf greatest) (λ c key block. fetchReply (fetchOf greatest c key block))
+pub w-213 : (greatest : ℕ) → W213 greatest (rationTable greatest) (recordOf greatest 1) (λ c key block. fetchReply (fetchOf greatest 1 c key block))
 w-213 greatest = record { answers = all-answers greatest; found-exactly = found-is greatest; absent-exactly = absent-is greatest }

@@ -84,7 +84,7 @@ module _ (greatest : ℕ) (c : List ℕ) (t : Tree) where
           enough = omega (arith, held, x .sized .most)
 
           walked : List (ℕ × ℕ)
-          walked = walkFrom greatest mostPairs after 0
+          walked = walkFrom greatest 1 mostPairs after 0
 
           counted : length walked ≡ length (pairs (x .table))
           counted = walk-length greatest after (x .table) sound (x .accepted) mostPairs enough

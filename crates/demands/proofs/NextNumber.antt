@@ -56,14 +56,14 @@ rises number hi (p ∷ l) r = (omega (arith, r .0), rises (p .0) hi l (r .1))
 
 module _ (greatest : ℕ) (c : List ℕ) (t : Tree) (w : WellFormed c t) (e : cardRefusal greatest c ≡ 0) where
   -- a walk that ends before it may not go further has come to "none"
-  walked-out : (most number : ℕ) → number < keyLimit → length (walkFrom greatest most c number) < most → Walks (rationTable greatest) c number (walkFrom greatest most c number)
+  walked-out : (most number : ℕ) → number < keyLimit → length (walkFrom greatest 1 most c number) < most → Walks (rationTable greatest) c number (walkFrom greatest 1 most c number)
   unfolding walkFrom onNext nextReply
   walked-out zero number h l = absurd (omega arith)
-  walked-out (suc most) number h l = go (nextOf greatest c number) refl (next-right greatest c t number w e h) l (walked-out most)
+  walked-out (suc most) number h l = go (nextOf greatest 1 c number) refl (next-right greatest c t number w e h) l (walked-out most)
     where
-      go : (s : Successor) → nextOf greatest c number ≡ s → IsNext (pairs t) number s → length (onNext (walkFrom greatest most c) s) < suc most
-          → ((k : ℕ) → k < keyLimit → length (walkFrom greatest most c k) < most → Walks (rationTable greatest) c k (walkFrom greatest most c k))
-          → Walks (rationTable greatest) c number (onNext (walkFrom greatest most c) s)
+      go : (s : Successor) → nextOf greatest 1 c number ≡ s → IsNext (pairs t) number s → length (onNext (walkFrom greatest 1 most c) s) < suc most
+          → ((k : ℕ) → k < keyLimit → length (walkFrom greatest 1 most c k) < most → Walks (rationTable greatest) c k (walkFrom greatest 1 most c k))
+          → Walks (rationTable greatest) c number (onNext (walkFrom greatest 1 most c) s)
       go (Pair k v) q i l further = goes-on k v (ap nextReply q) (further k (found-in-range lowestKey keyLimit k v t (well-formed-in-range w) (i .1) .1) (omega arith))
       go Nothing q i l further = ends (ap nextReply q)
       go (Refused r) q i l further = absurd i
@@ -72,9 +72,9 @@ module _ (greatest : ℕ) (c : List ℕ) (t : Tree) (w : WellFormed c t) (e : ca
   walked l same as-many =
       let most = suc (length (pairs t)) in
       record {
-        listed = walkFrom greatest most c 0;
+        listed = walkFrom greatest 1 most c 0;
         walk = walked-out most 0 (omega arith) (omega (arith, walk-length greatest c t w e most (omega arith)));
-        rising = rises 0 keyLimit (walkFrom greatest most c 0) (walk-rises greatest c t w e most);
+        rising = rises 0 keyLimit (walkFrom greatest 1 most c 0) (walk-rises greatest c t w e most);
         alike = λ key. walk-lookup greatest c t w e most (omega arith) key ∙ same key;
         as-many = walk-length greatest c t w e most (omega arith) ∙ as-many;
       }
@@ -84,14 +84,14 @@ module _ (greatest : ℕ) (c : List ℕ) (t : Tree) (w : WellFormed c t) (e : ca
 on-any-card : (greatest : ℕ) (c : List ℕ) → cardRefusal greatest c ≡ 0 → OnAnyCard (rationTable greatest) c
 on-any-card greatest c e =
     record {
-      held-to = λ number. held number (nextOf greatest c number) (next-above greatest c number e);
-      exact = λ t w number h. answered (pairs t) (pairs t) (λ key. refl) number (nextOf greatest c number) (next-right greatest c t number w e h);
+      held-to = λ number. held number (nextOf greatest 1 c number) (next-above greatest c number e);
+      exact = λ t w number h. answered (pairs t) (pairs t) (λ key. refl) number (nextOf greatest 1 c number) (next-right greatest c t number w e h);
       walks = λ t w. walked greatest c t w e (pairs t) (λ key. refl) refl;
     }
 
 refused : (greatest : ℕ) (c : List ℕ) (r : ℕ) → cardRefusal greatest c ≡ r → (r ≡ 0 → ⊥) → (number : ℕ) → rationTable greatest .next c number ≡ refusal r
 unfolding nextReply
-refused greatest c r e d number = rw (next-refused greatest c number (λ z. d (sym e ∙ z)), e)
+refused greatest c r e d number = rw (next-refused greatest 1 c number (λ z. d (sym e ∙ z)), e)
 
 cards : (greatest : ℕ) (c : List ℕ) → ByRows (cardRows greatest c (nodesOn c) end) (λ r. (number : ℕ) → rationTable greatest .next c number ≡ refusal r) (OnAnyCard (rationTable greatest) c)
 unfolding ByRows
@@ -115,7 +115,7 @@ module _ (greatest : ℕ) (w : World (rationTable greatest)) (b : Book) (v : Cov
 
   moment : (number : ℕ) → number < keyLimit → AnswersNext (b .held) number (rationTable greatest .next (w .card) number)
   moment number h =
-      answered (b .held) (pairs (v .inv .tree)) same-pairs number (nextOf greatest (w .card) number)
+      answered (b .held) (pairs (v .inv .tree)) same-pairs number (nextOf greatest 1 (w .card) number)
       (next-right greatest (w .card) (v .inv .tree) number (table-well-formed greatest (v .inv .table)) accepted h)
 
   walk-now : Walked (rationTable greatest) (w .card) (b .held)

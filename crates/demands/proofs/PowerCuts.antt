@@ -81,7 +81,7 @@ module _ (greatest : ℕ) (line : Line) (k : ℕ) (l : List (ℕ × ℕ)) where
   run-held (step ∷ qs) w u i = run-held qs (happens (rationTable greatest) step w) (u .1) (step-held w i .0)
   run-held (cut ∷ qs) w u i = absurd (u .0)
 
-  held-finds : (w : World (rationTable greatest)) → Held w → (key : ℕ) → 0 < key → key < keyLimit → foundReply (findOf greatest (w .card) key) ≡ dictionary (lookup key l)
+  held-finds : (w : World (rationTable greatest)) → Held w → (key : ℕ) → 0 < key → key < keyLimit → foundReply (findOf greatest 1 (w .card) key) ≡ dictionary (lookup key l)
   held-finds w i key low high = find-answers greatest (w .card) (line .nodes) (i .tree) key (i .table) low high ∙ dictionary-same (lookup key (pairs (i .tree))) ∙ ap dictionary
       (same-lookup greatest i key)
 

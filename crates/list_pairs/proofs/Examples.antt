@@ -3,6 +3,7 @@ use mathlib.Core.Path.{_≡_, refl}
 use Rattle.card.specs.Layout.{greatestNodes}
 use mathlib.Core.List.{[], _∷_}
 use lib.ListN.{replicate}
+use Rattle.card.specs.Lines.{hasLine, seen}
 use Rattle.card.specs.Header.{nodesOfLength, headerRefusal, cardRefusal}
 use Rattle.card.specs.Layout.{nodeAt, keyWords, valueWords, leafPairs, nodeImage}
 use Rattle.card_dump.specs.Dump.{wordBytes, cardBytes, paddedLength, dumpOf, wordAt, dumpWords, faults, damaged, fittingLength, readAnswer}
@@ -16,7 +17,7 @@ use Rattle.state.specs.Steps.{isIdle}
 use Rattle.state.specs.Memory.{resting}
 use Rattle.call_repair.specs.Repairing.{repairedCard, openedCard}
 use Rattle.walk.specs.Descent.{outside, lookIn, lookAt, rootPosition, byLook, wayFrom, way, reachedAt, leafOf, besideAll}
-use Rattle.walk_next.specs.Successor.{nearer, nearerAbove, leastAbove, found, nextInLeaf, inNextLeaf, orNextLeaf, nextIn, nextOf, onNext, walkFrom}
+use Rattle.walk_next.specs.Successor.{nearer, nearerAbove, leastAbove, found, nextInLeaf, inNextLeaf, orNextLeaf, nextAlong, nextIn, nextOf, onNext, walkFrom}
 use Rattle.list_pairs.specs.Listing.{listChecked, listTable, listBegun, listCard, listRead, listDump, listed}
 
 -- "nodes 4 free 3 levels 0 pairs 2", both pairs of family 0, then "3 31" and "7 70": "3 before 7 in its sample"
@@ -26,5 +27,5 @@ unfolding example nodeImage readAnswer damaged faults fittingLength dumpOf cardB
     headerRefusal nodesOfLength tableCheck nodeCheck onLook enterNode enterKind enterLeaf leafSound slotSound member allNodes countTrue
     nodeAt keyWords valueWords leafPairs outside lookIn lookAt rootPosition byLook wayFrom way reachedAt leafOf nearer nearerAbove leastAbove besideAll
     tableCounted nodeCounted childrenCounted keysCounted countedIn familyOf
-    found nextInLeaf inNextLeaf orNextLeaf nextIn nextOf onNext walkFrom
+    found nextInLeaf inNextLeaf orNextLeaf nextAlong nextIn nextOf onNext walkFrom hasLine seen
 example-listed = refl

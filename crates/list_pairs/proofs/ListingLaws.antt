@@ -24,22 +24,22 @@ module _ (p : ℕ × ℕ) (at : ℕ) (words : List ℕ) where
 -- ---- the walk, by what the next pair is
 
 module _ (greatest : ℕ) (card : List ℕ) (after : ℕ) (l : Laid) where
-  pub walk-out : (left : ℕ) → left ≡ 0 → l ≡ layPairs (walkFrom greatest left card after) l
+  pub walk-out : (left : ℕ) → left ≡ 0 → l ≡ layPairs (walkFrom greatest 1 left card after) l
   unfolding walkFrom layPairs
   walk-out left e = rw e
 
   -- where there is no next pair
-  pub walk-ends : (left : ℕ) → ((key value : ℕ) → nextOf greatest card after ≡ Pair key value → ⊥) → l ≡ layPairs (walkFrom greatest left card after) l
+  pub walk-ends : (left : ℕ) → ((key value : ℕ) → nextOf greatest 1 card after ≡ Pair key value → ⊥) → l ≡ layPairs (walkFrom greatest 1 left card after) l
   unfolding walkFrom onNext layPairs
   walk-ends zero f = refl
-  walk-ends (suc left) f = go (nextOf greatest card after) f
+  walk-ends (suc left) f = go (nextOf greatest 1 card after) f
     where
-      go : (s : Successor) → ((key value : ℕ) → s ≡ Pair key value → ⊥) → l ≡ layPairs (onNext (walkFrom greatest left card) s) l
+      go : (s : Successor) → ((key value : ℕ) → s ≡ Pair key value → ⊥) → l ≡ layPairs (onNext (walkFrom greatest 1 left card) s) l
       go (Pair key value) f = absurd (f key value refl)
       go Nothing f = refl
       go (Refused r) f = refl
 
-  pub walk-goes-on : (left key value : ℕ) → 0 < left → nextOf greatest card after ≡ Pair key value
-      → layPairs (walkFrom greatest left card after) l ≡ layPairs (walkFrom greatest (left - 1) card key) (layPair (key, value) l)
+  pub walk-goes-on : (left key value : ℕ) → 0 < left → nextOf greatest 1 card after ≡ Pair key value
+      → layPairs (walkFrom greatest 1 left card after) l ≡ layPairs (walkFrom greatest 1 (left - 1) card key) (layPair (key, value) l)
   unfolding walkFrom onNext layPairs
   walk-goes-on (suc left) key value h e = let q : suc left - 1 ≡ left = omega arith in rw (e, q)

@@ -38,7 +38,7 @@ module _ (greatest : ℕ) (card : List ℕ) (n : ℕ) where
 
   pub table-sound : (h : ℕ) (f : Findings) → (n ≡ 0 → ⊥) → tableCheck card n ≡ some (h, f)
       → listTable greatest card n
-      ≡ listed (record { nodes = n; free = countTrue (f .free); levels = h; families = tableCounted card; pairs = walkFrom greatest mostPairs card 0 })
+      ≡ listed (record { nodes = n; free = countTrue (f .free); levels = h; families = tableCounted card; pairs = walkFrom greatest 1 mostPairs card 0 })
   unfolding listTable listChecked
   table-sound h f d e = rw (ne-eqb n 0 d, e)
 

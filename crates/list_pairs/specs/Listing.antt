@@ -44,7 +44,7 @@ pub data Listed : Type 0 where
 unfoldable pub listChecked : ℕ → List ℕ → ℕ → Option (ℕ × Findings) → Listed
 listChecked greatest card n none = refused 4
 listChecked greatest card n (some r) =
-    listed (record { nodes = n; free = countTrue (r .1 .free); levels = r .0; families = tableCounted card; pairs = walkFrom greatest mostPairs card 0 })
+    listed (record { nodes = n; free = countTrue (r .1 .free); levels = r .0; families = tableCounted card; pairs = walkFrom greatest 1 mostPairs card 0 })
 
 unfoldable pub listTable : ℕ → List ℕ → ℕ → Listed
 listTable greatest card n = pick (eqb n 0) (refused 1) (listChecked greatest card n (tableCheck card n))

@@ -27,14 +27,15 @@ fn put_pair(out: &mut [u32], at: usize, key: u32, value: u32) -> usize
 // "Walking an unchanged card from 0 lists each pair once, rising": stores them from the slice's start on, and answers how many words
 // hold them.
 pub fn put_pairs(card: &[u32], out: &mut [u32], greatest: usize) -> usize
-    ensures { λ r. ⌜ laid r (now (out .exit)) ≡ layPairs (walkFrom greatest mostPairs (now (card .entry)) 0) (laid 0 (now (out .entry))) ⌝ }
+    ensures { λ r. ⌜ laid r (now (out .exit)) ≡ layPairs (walkFrom greatest 1 mostPairs (now (card .entry)) 0) (laid 0 (now (out .entry))) ⌝ }
 {
     let mut at: usize = 0;
     let mut after: u32 = 0;
     let mut left: usize = MOST_PAIRS;
     while 0 < left {
         left -= 1;
-        let Successor::Pair { key, value } = next_pair(card, after, greatest) else {
+        let Successor::Pair { key, value } = next_pair(card, card::FIRST_LINE, after, greatest)
+        else {
             return at;
         };
         at = put_pair(out, at, key, value);

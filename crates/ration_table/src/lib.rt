@@ -31,7 +31,7 @@ ghost use Rattle.c_replies.specs.ReplyWords.{replyOf};
 // "A find is one call on the card alone".
 #[no_mangle]
 pub extern "C" fn ration_find(card: &[u32], key: u32) -> Reply
-    ensures { λ r. ⌜ replyOf r ≡ withDepth (findDepth greatestNodes (now (card .entry)) key) (foundReply (findOf greatestNodes (now (card .entry)) key)) ⌝ }
+    ensures { λ r. ⌜ replyOf r ≡ withDepth (findDepth greatestNodes 1 (now (card .entry)) key) (foundReply (findOf greatestNodes 1 (now (card .entry)) key)) ⌝ }
 {
     let lookup = table::find_with_depth(card, key);
     let found = lookup.found;
@@ -41,7 +41,7 @@ pub extern "C" fn ration_find(card: &[u32], key: u32) -> Reply
 // "It reads the card only, like a find, and may come between steps."
 #[no_mangle]
 pub extern "C" fn ration_next(card: &[u32], after: u32) -> Reply
-    ensures { λ r. ⌜ replyOf r ≡ withDepth (nextDepth greatestNodes (now (card .entry)) after) (nextReply (nextOf greatestNodes (now (card .entry)) after)) ⌝ }
+    ensures { λ r. ⌜ replyOf r ≡ withDepth (nextDepth greatestNodes 1 (now (card .entry)) after) (nextReply (nextOf greatestNodes 1 (now (card .entry)) after)) ⌝ }
 {
     let next = table::next_with_depth(card, after);
     let successor = next.successor;

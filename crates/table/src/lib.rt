@@ -3,6 +3,7 @@
 // are those of the layers under this one for the greatest N that there is.
 pub use call_find::Found;
 pub use call_find::Lookup;
+use card::FIRST_LINE;
 use card::GREATEST_NODES;
 pub use state::Answer;
 pub use state::Begun;
@@ -27,29 +28,29 @@ ghost use Rattle.state.specs.declared.Doing.the-variants.{Inserting, Deleting};
 ghost use Rattle.state.specs.declared.Phase.the-variants.{NotBegun};
 
 pub fn find_with_depth(card: &[u32], key: u32) -> Lookup
-    ensures { λ r. ⌜ (r .found ≡ findOf greatestNodes (now (card .entry)) key) × (r .depth ≡ findDepth greatestNodes (now (card .entry)) key)
+    ensures { λ r. ⌜ (r .found ≡ findOf greatestNodes 1 (now (card .entry)) key) × (r .depth ≡ findDepth greatestNodes 1 (now (card .entry)) key)
         × (r .depth ≤ depthLimit) ⌝ }
 {
-    call_find::find_with_depth(card, key, GREATEST_NODES)
+    call_find::find_with_depth(card, FIRST_LINE, key, GREATEST_NODES)
 }
 
 pub fn find(card: &[u32], key: u32) -> Found
-    ensures { λ r. ⌜ r ≡ findOf greatestNodes (now (card .entry)) key ⌝ }
+    ensures { λ r. ⌜ r ≡ findOf greatestNodes 1 (now (card .entry)) key ⌝ }
 {
-    call_find::find(card, key, GREATEST_NODES)
+    call_find::find(card, FIRST_LINE, key, GREATEST_NODES)
 }
 
 pub fn next_with_depth(card: &[u32], after: u32) -> NextPair
-    ensures { λ r. ⌜ (r .successor ≡ nextOf greatestNodes (now (card .entry)) after) × (r .depth ≡ nextDepth greatestNodes (now (card .entry)) after)
+    ensures { λ r. ⌜ (r .successor ≡ nextOf greatestNodes 1 (now (card .entry)) after) × (r .depth ≡ nextDepth greatestNodes 1 (now (card .entry)) after)
         × (r .depth ≤ depthLimit) ⌝ }
 {
-    walk_next::next_with_depth(card, after, GREATEST_NODES)
+    walk_next::next_with_depth(card, FIRST_LINE, after, GREATEST_NODES)
 }
 
 pub fn next_pair(card: &[u32], after: u32) -> Successor
-    ensures { λ r. ⌜ r ≡ nextOf greatestNodes (now (card .entry)) after ⌝ }
+    ensures { λ r. ⌜ r ≡ nextOf greatestNodes 1 (now (card .entry)) after ⌝ }
 {
-    walk_next::next_pair(card, after, GREATEST_NODES)
+    walk_next::next_pair(card, FIRST_LINE, after, GREATEST_NODES)
 }
 
 pub fn start_format(card: &[u32], state: &mut [u32]) -> Begun

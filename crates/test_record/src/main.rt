@@ -29,12 +29,12 @@ fn card_of_six() -> [u32; 104] {
 fn say(card: &[u32], key: u32, block: &[u8]) {
     io::write_all(1, b"ration ");
     io::print_decimal(1, key as u64);
-    match call_record::is_fetched(card, key, block, card::GREATEST_NODES) {
+    match call_record::is_fetched(card, card::FIRST_LINE, key, block, card::GREATEST_NODES) {
         Fetched::Found => {
             io::write_all(1, b": ");
             io::write_all(
                 1,
-                call_record::fetch_record(card, key, block, card::GREATEST_NODES),
+                call_record::fetch_record(card, card::FIRST_LINE, key, block, card::GREATEST_NODES),
             );
         }
         Fetched::Absent => {

@@ -7,12 +7,12 @@ use lib.ListN.{length}
 use lib.Dec.{eqb}
 use Rattle.card.specs.Header.{cardRefusal, nodesOfLength}
 use Rattle.card.specs.Layout.{depthLimit, nodeAt, leafPairs}
-use Rattle.walk.specs.Descent.{rootPosition, wayFrom, way, leafOf, besideAll}
+use Rattle.walk.specs.Descent.{rootPosition, Way, wayFrom, way, leafOf, besideAll}
 use Rattle.walk.specs.declared.Reached.{Reached}
 use Rattle.walk.specs.declared.Reached.the-variants.{Refused as NotReached, Leaf as ReachedLeaf}
 use Rattle.laws.proofs.Cases.{bool-cases}
-use Rattle.walk_next.proofs.SuccessorLaws.{next-taken}
-use Rattle.walk_next.specs.Successor.{leastAbove, found, nextInLeaf, inNextLeaf, orNextLeaf, nextIn, nextOf}
+use Rattle.walk_next.proofs.SuccessorLaws.{next-only}
+use Rattle.walk_next.specs.Successor.{leastAbove, found, nextInLeaf, inNextLeaf, orNextLeaf, nextAlong, nextIn, nextOf}
 use Rattle.walk_next.specs.declared.Successor.{Successor}
 use Rattle.walk_next.specs.declared.Successor.the-variants.{Pair, Nothing, Refused}
 use Rattle.theory_next.proofs.IsNext.{IsNext}
@@ -41,16 +41,16 @@ module _ (greatest : ℕ) (card : List ℕ) (after : ℕ) where
   unfolding inNextLeaf
   in-next-leaf-above n beside = bool-cases (eqb beside 0) (λ e. rw e tt) (λ e. rw e (in-leaf-above (leafOf (wayFrom card n 0 depthLimit (rootPosition beside)))))
 
-  or-next-leaf-above : (n : ℕ) (s : Successor) → AboveOrNine after s → AboveOrNine after (orNextLeaf card n after s)
+  or-next-leaf-above : (n : ℕ) (w : Way) (s : Successor) → AboveOrNine after s → AboveOrNine after (orNextLeaf card n after w s)
   unfolding orNextLeaf
-  or-next-leaf-above n (Pair key value) a = a
-  or-next-leaf-above n Nothing a = in-next-leaf-above n (besideAll card after 0 (way card n after .inner))
-  or-next-leaf-above n (Refused r) a = a
+  or-next-leaf-above n w (Pair key value) a = a
+  or-next-leaf-above n w Nothing a = in-next-leaf-above n (besideAll card after 0 (w .inner))
+  or-next-leaf-above n w (Refused r) a = a
 
   -- where 1, 2 and 3 are not due
-  pub next-above : cardRefusal greatest card ≡ 0 → AboveOrNine after (nextOf greatest card after)
-  unfolding nextIn
+  pub next-above : cardRefusal greatest card ≡ 0 → AboveOrNine after (nextOf greatest 1 card after)
+  unfolding nextIn nextAlong
   next-above e =
       let n = nodesOfLength greatest (length card) in
-      let w = leafOf (way card n after) in
-      rw (next-taken greatest card after e) (or-next-leaf-above n (nextInLeaf card after w) (in-leaf-above w))
+      let w = way card n after in
+      rw (next-only greatest card after e) (or-next-leaf-above n w (nextInLeaf card after (leafOf w)) (in-leaf-above (leafOf w)))

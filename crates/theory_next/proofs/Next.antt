@@ -10,7 +10,7 @@ use Prim.Native.Nat.{ℕ, _+_, _*_, _≤_, _<_}
 use native.Mathlib.Omega.{arith}
 use native.Mathlib.Decide.{ℕ-discrete}
 use lib.ListN.{length, getD}
-use borrow.Author.Tests.{ne-eqb, eq-eqb}
+use borrow.Author.Tests.{ne-eqb}
 use Rattle.card.specs.Header.{cardRefusal, nodesOfLength}
 use Rattle.card.proofs.HeaderLaws.{sized, card-sized}
 use Rattle.card.specs.Layout.{rootPlace, depthLimit, lowestKey, keyLimit}
@@ -21,7 +21,8 @@ use Rattle.theory_walk.proofs.Way.{way-at-leaf}
 use Rattle.laws.proofs.Cases.{order}
 use Rattle.theory_check.proofs.Depth.{well-formed-depth}
 use Rattle.theory_check.proofs.Ranges.{well-formed-in-range}
-use Rattle.walk_next.specs.Successor.{leastAbove, found, inNextLeaf, orNextLeaf, nextIn, nextOf}
+use Rattle.walk_next.specs.Successor.{leastAbove, found, inNextLeaf, orNextLeaf, nextAlong, nextIn, nextOf}
+use Rattle.walk_next.proofs.SuccessorLaws.{next-only}
 use Rattle.walk_next.specs.declared.Successor.the-variants.{Pair}
 use Rattle.theory_next.proofs.ChildRange.{lower}
 use Rattle.theory_next.proofs.IsNext.{IsNext}
@@ -99,26 +100,25 @@ module _ (c : List ℕ) (n : ℕ) (t : Tree) (len : length c ≡ 8 + 24 * n) (at
         rw (stands, ne-eqb (root (k .part)) 0 is-there, there .reads 0 after (rootPosition (root (k .part))) (root-node (root (k .part))) (there .from) (there .until))
         (in-neighbour k w there (leastAbove after ps) (least-next after ps)))
 
-  next-here : (least : Option (ℕ × ℕ)) → IsNext (pairs (here .reached)) after (found least) → IsNext (pairs t) after (orNextLeaf c n after (found least))
+  next-here : (least : Option (ℕ × ℕ)) → IsNext (pairs (here .reached)) after (found least) → IsNext (pairs t) after (orNextLeaf c n after (way c n after) (found least))
   unfolding orNextLeaf found
   next-here none j = in-next-leaf j
   next-here (some p) j =
       part-next t (here .reached) (here .low) (here .high) after (p .0) (p .1) (here .range) (here .answers) (λ x a b. absurd (omega (arith, here .from))) j
 
   in-table : IsNext (pairs t) after (nextIn c n after)
-  unfolding nextIn way
+  unfolding nextIn nextAlong way
   in-table =
       let ps = pairs (here .reached) in
       rw (here .reads after after (rootPosition (getD c rootPlace 0)) start (here .from) (here .until)) (next-here (leastAbove after ps) (least-next after ps))
 
 -- ---- the call
 
-pub next-right : (greatest : ℕ) (c : List ℕ) (t : Tree) (after : ℕ) → WellFormed c t → cardRefusal greatest c ≡ 0 → after < keyLimit → IsNext (pairs t) after (nextOf greatest c after)
-unfolding nextOf
+pub next-right : (greatest : ℕ) (c : List ℕ) (t : Tree) (after : ℕ) → WellFormed c t → cardRefusal greatest c ≡ 0 → after < keyLimit → IsNext (pairs t) after (nextOf greatest 1 c after)
 next-right greatest c t after w e h =
     let n = nodesOfLength greatest (length c) in
     let s = sized greatest c n refl (card-sized greatest c e) in
     let i = lower 0 lowestKey keyLimit (omega arith) t (well-formed-in-range w) in
     let deep = well-formed-depth c n (s .words) t (s .most) w in
     let here = leaf-of c n after (s .words) depthLimit 0 keyLimit t (w .holds .2) i (omega arith) h deep in
-    rw (eq-eqb (cardRefusal greatest c) 0 e) (in-table c n t (s .words) (w .holds .0) (w .holds .2) i deep (w .widths) after here)
+    rw (next-only greatest c after e) (in-table c n t (s .words) (w .holds .0) (w .holds .2) i deep (w .widths) after here)

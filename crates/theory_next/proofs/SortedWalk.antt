@@ -51,12 +51,12 @@ module _ (greatest : ℕ) (c : List ℕ) (t : Tree) (w : WellFormed c t) (e : ca
   all-in-range : LeafRange lowestKey keyLimit (pairs t)
   all-in-range =
       record {
-        inside = sym (walk-lists greatest c t w e most enough (outside lowestKey keyLimit)) ∙ rising-inside lowestKey keyLimit (walkFrom greatest most c 0) (walk-rises greatest c t w e most);
+        inside = sym (walk-lists greatest c t w e most enough (outside lowestKey keyLimit)) ∙ rising-inside lowestKey keyLimit (walkFrom greatest 1 most c 0) (walk-rises greatest c t w e most);
         once = λ k. key-once lowestKey keyLimit k t (well-formed-in-range w);
       }
 
-  pub walk-sorted : walkFrom greatest most c 0 ≡ sort (pairs t)
+  pub walk-sorted : walkFrom greatest 1 most c 0 ≡ sort (pairs t)
   walk-sorted =
-      rising-same lowestKey keyLimit lowestKey keyLimit (walkFrom greatest most c 0) (sort (pairs t)) (walk-rises greatest c t w e most)
+      rising-same lowestKey keyLimit lowestKey keyLimit (walkFrom greatest 1 most c 0) (sort (pairs t)) (walk-rises greatest c t w e most)
       (rising-sort lowestKey keyLimit (pairs t) (omega arith) all-in-range)
       (λ v. walk-lists greatest c t w e most enough v ∙ sym (total-sort v (pairs t)))

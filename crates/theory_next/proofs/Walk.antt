@@ -44,46 +44,46 @@ module _ (greatest : ℕ) (c : List ℕ) (t : Tree) (w : WellFormed c t) (e : ca
   -- ---- from a number on
 
   walk-above : (weight : ℕ × ℕ → ℕ) (most after : ℕ) → after < keyLimit → total (above after one) (pairs t) ≤ most
-      → total weight (walkFrom greatest most c after) ≡ total (above after weight) (pairs t)
+      → total weight (walkFrom greatest 1 most c after) ≡ total (above after weight) (pairs t)
   unfolding walkFrom onNext
-  walk-above weight zero after h enough = go (nextOf greatest c after) (next-right greatest c t after w e h)
+  walk-above weight zero after h enough = go (nextOf greatest 1 c after) (next-right greatest c t after w e h)
     where
       go : (s : Successor) → IsNext (pairs t) after s → 0 ≡ total (above after weight) (pairs t)
       go (Pair k v) i = absurd (omega (arith, taken one after k v i))
       go Nothing i = sym (above-last weight after (pairs t) i)
       go (Refused r) i = absurd i
-  walk-above weight (suc most) after h enough = go (nextOf greatest c after) (next-right greatest c t after w e h) (walk-above weight most)
+  walk-above weight (suc most) after h enough = go (nextOf greatest 1 c after) (next-right greatest c t after w e h) (walk-above weight most)
     where
-      go : (s : Successor) → IsNext (pairs t) after s → ((k : ℕ) → k < keyLimit → total (above k one) (pairs t) ≤ most → total weight (walkFrom greatest most c k) ≡ total (above k weight) (pairs t))
-          → total weight (onNext (walkFrom greatest most c) s) ≡ total (above after weight) (pairs t)
+      go : (s : Successor) → IsNext (pairs t) after s → ((k : ℕ) → k < keyLimit → total (above k one) (pairs t) ≤ most → total weight (walkFrom greatest 1 most c k) ≡ total (above k weight) (pairs t))
+          → total weight (onNext (walkFrom greatest 1 most c) s) ≡ total (above after weight) (pairs t)
       go (Pair k v) i next = ap (λ (x : ℕ). weight (k, v) + x) (next k (key-below after k v i) (omega (arith, taken one after k v i))) ∙ sym (taken weight after k v i)
       go Nothing i next = sym (above-last weight after (pairs t) i)
       go (Refused r) i next = absurd i
 
-  walk-rises-above : (most after : ℕ) → after < keyLimit → Rising (suc after) keyLimit (walkFrom greatest most c after)
+  walk-rises-above : (most after : ℕ) → after < keyLimit → Rising (suc after) keyLimit (walkFrom greatest 1 most c after)
   unfolding walkFrom onNext
   walk-rises-above zero after h = omega arith
-  walk-rises-above (suc most) after h = go (nextOf greatest c after) (next-right greatest c t after w e h) (walk-rises-above most)
+  walk-rises-above (suc most) after h = go (nextOf greatest 1 c after) (next-right greatest c t after w e h) (walk-rises-above most)
     where
-      go : (s : Successor) → IsNext (pairs t) after s → ((k : ℕ) → k < keyLimit → Rising (suc k) keyLimit (walkFrom greatest most c k))
-          → Rising (suc after) keyLimit (onNext (walkFrom greatest most c) s)
+      go : (s : Successor) → IsNext (pairs t) after s → ((k : ℕ) → k < keyLimit → Rising (suc k) keyLimit (walkFrom greatest 1 most c k))
+          → Rising (suc after) keyLimit (onNext (walkFrom greatest 1 most c) s)
       go (Pair k v) i next = (omega (arith, i .0), next k (key-below after k v i))
       go Nothing i next = omega arith
       go (Refused r) i next = absurd i
 
   -- ---- from 0
 
-  pub walk-rises : (most : ℕ) → Rising lowestKey keyLimit (walkFrom greatest most c 0)
+  pub walk-rises : (most : ℕ) → Rising lowestKey keyLimit (walkFrom greatest 1 most c 0)
   walk-rises most = walk-rises-above most 0 (omega arith)
 
   module _ (most : ℕ) (enough : length (pairs t) ≤ most) where
-    pub walk-lists : (weight : ℕ × ℕ → ℕ) → total weight (walkFrom greatest most c 0) ≡ total weight (pairs t)
+    pub walk-lists : (weight : ℕ × ℕ → ℕ) → total weight (walkFrom greatest 1 most c 0) ≡ total weight (pairs t)
     walk-lists weight =
         let keyed = absent lowestKey keyLimit 0 (inl (omega arith)) t (well-formed-in-range w) in
         walk-above weight most 0 (omega arith) (omega (arith, above-all one (pairs t) keyed, count-length (pairs t))) ∙ above-all weight (pairs t) keyed
 
-    pub walk-lookup : (key : ℕ) → lookup key (walkFrom greatest most c 0) ≡ lookup key (pairs t)
-    walk-lookup key = lookup-same key (walkFrom greatest most c 0) (pairs t) walk-lists (rising-once lowestKey keyLimit key (walkFrom greatest most c 0) (walk-rises most))
+    pub walk-lookup : (key : ℕ) → lookup key (walkFrom greatest 1 most c 0) ≡ lookup key (pairs t)
+    walk-lookup key = lookup-same key (walkFrom greatest 1 most c 0) (pairs t) walk-lists (rising-once lowestKey keyLimit key (walkFrom greatest 1 most c 0) (walk-rises most))
 
-    pub walk-length : length (walkFrom greatest most c 0) ≡ length (pairs t)
-    walk-length = sym (count-length (walkFrom greatest most c 0)) ∙ walk-lists one ∙ count-length (pairs t)
+    pub walk-length : length (walkFrom greatest 1 most c 0) ≡ length (pairs t)
+    walk-length = sym (count-length (walkFrom greatest 1 most c 0)) ∙ walk-lists one ∙ count-length (pairs t)

@@ -7,17 +7,22 @@ use Prim.Native.Nat.{ℕ, zero, suc, _+_, _≤_, _<_}
 use native.Mathlib.Omega.{arith}
 use lib.ListN.{length, getD}
 use borrow.Author.Tests.{lt-ltb, le-ltb, eq-eqb, ne-eqb}
+use lib.Dec.{eqb}
+use Rattle.card.specs.Lines.{hasLine, rootOf, seen}
 use Rattle.card.specs.Header.{cardRefusal, nodesOfLength}
-use Rattle.card.specs.Layout.{depthLimit, keyLimit, rootPlace, nodeAt, slotPairs, leafPairs}
+use Rattle.card.specs.Layout.{depthLimit, keyLimit, nodeAt, slotPairs, leafPairs}
+use Rattle.card.proofs.LineLaws.{seen-node, seen-accepted, line-one}
 use Rattle.card.proofs.NodeLaws.{leafFrom, leaf-start, leaf-next, leaf-end}
 use Rattle.laws.specs.Cases.{pick}
 use Rattle.laws.proofs.Cases.{order, impossible}
 use Rattle.walk.specs.Descent.{slotOf, rootPosition, Way, wayFrom, way, leafOf, depthOf, besideAll}
 use Rattle.walk.specs.declared.Slot.the-variants.{At, Absent as NoSlot}
 use Rattle.walk.proofs.Along.{way-depth-le}
+use Rattle.walk.proofs.LineWays.{way-from-seen, way-seen, beside-seen}
+use Rattle.walk.specs.declared.Reached.{Reached}
 use Rattle.walk.proofs.DescentLaws.{slotFrom, slot-start, slot-here, slot-next}
 use Rattle.walk.specs.declared.Reached.the-variants.{Refused as NotReached, Leaf as ReachedLeaf}
-use Rattle.walk_next.specs.Successor.{IsKey, nearerKey, nearer, nearerAbove, leastAbove, leastOf, found, nextInLeaf, inNextLeaf, orNextLeaf, nextIn, nextOf}
+use Rattle.walk_next.specs.Successor.{IsKey, nearerKey, nearer, nearerAbove, leastAbove, leastOf, found, nextInLeaf, inNextLeaf, orNextLeaf, nextAlong, nextIn, nextOf}
 use Rattle.walk_next.specs.Successor.{carried, nextDepth}
 use Rattle.walk_next.specs.declared.Least.{Least}
 use Rattle.walk_next.specs.declared.Successor.{Successor}
@@ -187,43 +192,94 @@ first-round true e = refl
 first-round false e = impossible (cc)
 
 -- what a leaf's answer comes to in the round of the number's own leaf, and in the second one
-unfoldable pub inRound : Bool → List ℕ → ℕ → ℕ → Successor → Successor
-inRound true card n after s = orNextLeaf card n after s
-inRound false card n after s = s
+unfoldable pub inRound : Bool → List ℕ → ℕ → ℕ → Way → Successor → Successor
+inRound true card n after w s = orNextLeaf card n after w s
+inRound false card n after w s = s
 
-module _ (card : List ℕ) (n after : ℕ) where
-  pub round-first : nextIn card n after ≡ inRound true card n after (nextInLeaf card after (leafOf (way card n after)))
-  unfolding inRound nextIn
+module _ (card : List ℕ) (n after : ℕ) (w : Way) where
+  pub round-first : nextAlong card n after w ≡ inRound true card n after w (nextInLeaf card after (leafOf w))
+  unfolding inRound nextAlong
   round-first = refl
 
-  pub round-refused : (own : Bool) (r : ℕ) → inRound own card n after (Refused r) ≡ Refused r
+  pub round-refused : (own : Bool) (r : ℕ) → inRound own card n after w (Refused r) ≡ Refused r
   unfolding inRound orNextLeaf
   round-refused true r = refl
   round-refused false r = refl
 
-  pub round-pair : (own : Bool) (k v : ℕ) → inRound own card n after (Pair k v) ≡ Pair k v
+  pub round-pair : (own : Bool) (k v : ℕ) → inRound own card n after w (Pair k v) ≡ Pair k v
   unfolding inRound orNextLeaf
   round-pair true k v = refl
   round-pair false k v = refl
 
-  pub round-last : (own : Bool) → own ≡ false → inRound own card n after Nothing ≡ Nothing
+  pub round-last : (own : Bool) → own ≡ false → inRound own card n after w Nothing ≡ Nothing
   unfolding inRound
   round-last true e = impossible (cc)
   round-last false e = refl
 
-  pub round-on : (own : Bool) → own ≡ true → inRound own card n after Nothing ≡ inNextLeaf card n after (besideAll card after 0 (way card n after .inner))
+  pub round-on : (own : Bool) → own ≡ true → inRound own card n after w Nothing ≡ inNextLeaf card n after (besideAll card after 0 (w .inner))
   unfolding inRound orNextLeaf
   round-on true e = refl
   round-on false e = impossible (cc)
 
-module _ (greatest : ℕ) (card : List ℕ) (after : ℕ) where
-  pub next-refused : (cardRefusal greatest card ≡ 0 → ⊥) → nextOf greatest card after ≡ Refused (cardRefusal greatest card)
+in-leaf-seen : (line : ℕ) (card : List ℕ) (after : ℕ) (r : Reached) → nextInLeaf (seen line card) after r ≡ nextInLeaf card after r
+unfolding nextInLeaf
+in-leaf-seen line card after NotReached = refl
+in-leaf-seen line card after (ReachedLeaf m depth) = rw (seen-node line card m)
+
+in-next-seen : (line : ℕ) (card : List ℕ) (n after beside : ℕ) → inNextLeaf (seen line card) n after beside ≡ inNextLeaf card n after beside
+unfolding inNextLeaf
+in-next-seen line card n after beside =
+    ap (λ (s : Successor). pick (eqb beside 0) Nothing s)
+    (in-leaf-seen line card after _ ∙ ap (λ (w : Way). nextInLeaf card after (leafOf w)) (way-from-seen line card n 0 depthLimit (rootPosition beside)))
+
+or-next-seen : (line : ℕ) (card : List ℕ) (n after : ℕ) (w : Way) (s : Successor) → orNextLeaf (seen line card) n after w s ≡ orNextLeaf card n after w s
+unfolding orNextLeaf
+or-next-seen line card n after w Nothing = in-next-seen line card n after _ ∙ ap (inNextLeaf card n after) (beside-seen line card n after 0 (w .inner))
+or-next-seen line card n after w (Pair key value) = refl
+or-next-seen line card n after w (Refused r) = refl
+
+-- a line's answer is the card's from the line's root
+next-seen : (line : ℕ) (card : List ℕ) (n after : ℕ) → nextIn (seen line card) n after ≡ nextAlong card n after (wayFrom card n after depthLimit (rootPosition (getD card (rootOf line) 0)))
+unfolding nextIn nextAlong
+next-seen line card n after =
+    or-next-seen line card n after _ _
+    ∙ ap (orNextLeaf card n after (way (seen line card) n after)) (in-leaf-seen line card after _)
+    ∙ ap (λ (w : Way). orNextLeaf card n after w (nextInLeaf card after (leafOf w))) (way-seen line card n after)
+
+module _ (greatest line : ℕ) (card : List ℕ) (after : ℕ) where
+  pub next-refused : (cardRefusal greatest card ≡ 0 → ⊥) → nextOf greatest line card after ≡ Refused (cardRefusal greatest card)
   unfolding nextOf
   next-refused h = rw (ne-eqb (cardRefusal greatest card) 0 h)
 
-  pub next-taken : cardRefusal greatest card ≡ 0 → nextOf greatest card after ≡ nextIn card (nodesOfLength greatest (length card)) after
+  pub next-no-line : cardRefusal greatest card ≡ 0 → hasLine card line ≡ false → nextOf greatest line card after ≡ Refused 18
   unfolding nextOf
-  next-taken e = rw (eq-eqb (cardRefusal greatest card) 0 e)
+  next-no-line e l = rw (eq-eqb (cardRefusal greatest card) 0 e, l)
+
+  -- on the line's table
+  pub next-taken : cardRefusal greatest card ≡ 0 → hasLine card line ≡ true → nextOf greatest line card after ≡ nextIn (seen line card) (nodesOfLength greatest (length card)) after
+  unfolding nextOf
+  next-taken e l = rw (eq-eqb (cardRefusal greatest card) 0 e, l)
+
+  -- and on the card, from the line's root
+  abbrev pub wayOn : Way
+  wayOn = wayFrom card (nodesOfLength greatest (length card)) after depthLimit (rootPosition (getD card (rootOf line) 0))
+
+  pub next-along : cardRefusal greatest card ≡ 0 → hasLine card line ≡ true → nextOf greatest line card after ≡ nextAlong card (nodesOfLength greatest (length card)) after wayOn
+  next-along e l = next-taken e l ∙ next-seen line card (nodesOfLength greatest (length card)) after
+
+  pub depth-along : nextDepth greatest line card after ≡ carried (depthOf (leafOf wayOn)) (nextOf greatest line card after)
+  unfolding nextDepth
+  depth-along = ap (λ (w : Way). carried (depthOf (leafOf w)) (nextOf greatest line card after)) (way-seen line card (nodesOfLength greatest (length card)) after)
+
+-- the only line of a card
+pub next-only : (greatest : ℕ) (card : List ℕ) (after : ℕ) → cardRefusal greatest card ≡ 0 → nextOf greatest 1 card after ≡ nextIn card (nodesOfLength greatest (length card)) after
+next-only greatest card after e = next-taken greatest 1 card after e (line-one card) ∙ ap (λ (c : List ℕ). nextIn c (nodesOfLength greatest (length card)) after) (seen-accepted greatest card e)
+
+pub depth-only : (greatest : ℕ) (card : List ℕ) (after : ℕ) → cardRefusal greatest card ≡ 0
+    → nextDepth greatest 1 card after ≡ carried (depthOf (leafOf (way card (nodesOfLength greatest (length card)) after))) (nextOf greatest 1 card after)
+unfolding nextDepth
+depth-only greatest card after e =
+    ap (λ (c : List ℕ). carried (depthOf (leafOf (way c (nodesOfLength greatest (length card)) after))) (nextOf greatest 1 card after)) (seen-accepted greatest card e)
 
 -- ---- how many internal nodes the number's own way passes
 
@@ -233,15 +289,16 @@ carried-le depth most (Pair key value) h = h
 carried-le depth most Nothing h = h
 carried-le depth most (Refused r) h = omega arith
 
-pub next-depth-le : (greatest : ℕ) (card : List ℕ) (after : ℕ) → nextDepth greatest card after ≤ depthLimit
+pub next-depth-le : (greatest line : ℕ) (card : List ℕ) (after : ℕ) → nextDepth greatest line card after ≤ depthLimit
 unfolding nextDepth
-next-depth-le greatest card after = carried-le _ depthLimit (nextOf greatest card after) (way-depth-le card (nodesOfLength greatest (length card)) after)
+next-depth-le greatest line card after = carried-le _ depthLimit (nextOf greatest line card after) (way-depth-le (seen line card) (nodesOfLength greatest (length card)) after)
 
 -- what is told of it in the first round and kept in the second
-pub own-depth : (card : List ℕ) (n after key from depth first : ℕ) (own : Bool)
-    → (own ≡ true → (from ≡ getD card rootPlace 0) × (key ≡ after)) → (own ≡ false → first ≡ depthOf (leafOf (way card n after)))
-    → (m : ℕ) → leafOf (wayFrom card n key depthLimit (rootPosition from)) ≡ ReachedLeaf m depth → pick own depth first ≡ depthOf (leafOf (way card n after))
-unfolding way depthOf
-own-depth card n after key from depth first true at kept m e =
+pub own-depth : (card : List ℕ) (n after root key from depth first : ℕ) (own : Bool)
+    → (own ≡ true → (from ≡ root) × (key ≡ after)) → (own ≡ false → first ≡ depthOf (leafOf (wayFrom card n after depthLimit (rootPosition root))))
+    → (m : ℕ) → leafOf (wayFrom card n key depthLimit (rootPosition from)) ≡ ReachedLeaf m depth
+    → pick own depth first ≡ depthOf (leafOf (wayFrom card n after depthLimit (rootPosition root)))
+unfolding depthOf
+own-depth card n after root key from depth first true at kept m e =
     ap depthOf (sym e) ∙ ap₂ (λ (k r : ℕ). depthOf (leafOf (wayFrom card n k depthLimit (rootPosition r)))) (at refl .1) (at refl .0)
-own-depth card n after key from depth first false at kept m e = kept refl
+own-depth card n after root key from depth first false at kept m e = kept refl

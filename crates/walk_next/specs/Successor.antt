@@ -7,10 +7,11 @@ use Prim.Native.Nat.{ℕ, zero, suc, _<_}
 use lib.ListN.{length}
 use lib.Dec.{eqb, ltb}
 use Rattle.laws.specs.Cases.{pick}
+use Rattle.card.specs.Lines.{hasLine, seen}
 use Rattle.card.specs.Header.{cardRefusal, nodesOfLength}
 use Rattle.card.specs.Layout.{depthLimit, keyLimit, nodeAt, leafPairs}
 use Rattle.card.specs.Replies.{Reply, refusal, nothing, next}
-use Rattle.walk.specs.Descent.{rootPosition, wayFrom, way, leafOf, depthOf, besideAll}
+use Rattle.walk.specs.Descent.{rootPosition, Way, wayFrom, way, leafOf, depthOf, besideAll}
 use Rattle.walk.specs.declared.Reached.{Reached}
 use Rattle.walk.specs.declared.Reached.the-variants.{Refused as NotReached, Leaf as ReachedLeaf}
 use Rattle.walk_next.specs.declared.Least.{Least}
@@ -63,17 +64,24 @@ unfoldable pub inNextLeaf : List ℕ → ℕ → ℕ → ℕ → Successor
 inNextLeaf card n after beside = pick (eqb beside 0) Nothing (nextInLeaf card after (leafOf (wayFrom card n 0 depthLimit (rootPosition beside))))
 
 -- in the leaf that the number leads to, else in the next one
-unfoldable pub orNextLeaf : List ℕ → ℕ → ℕ → Successor → Successor
-orNextLeaf card n after Nothing = inNextLeaf card n after (besideAll card after 0 (way card n after .inner))
-orNextLeaf card n after (Pair key value) = Pair key value
-orNextLeaf card n after (Refused r) = Refused r
+unfoldable pub orNextLeaf : List ℕ → ℕ → ℕ → Way → Successor → Successor
+orNextLeaf card n after own Nothing = inNextLeaf card n after (besideAll card after 0 (own .inner))
+orNextLeaf card n after own (Pair key value) = Pair key value
+orNextLeaf card n after own (Refused r) = Refused r
 
+-- by the number's own way
+unfoldable pub nextAlong : List ℕ → ℕ → ℕ → Way → Successor
+nextAlong card n after own = orNextLeaf card n after own (nextInLeaf card after (leafOf own))
+
+-- on the table of one line
 unfoldable pub nextIn : List ℕ → ℕ → ℕ → Successor
-nextIn card n after = orNextLeaf card n after (nextInLeaf card after (leafOf (way card n after)))
+nextIn card n after = nextAlong card n after (way card n after)
 
--- "It reads the card only, like a find": 1, 2, 3 and 9; "6 is not given"
-unfoldable pub nextOf : ℕ → List ℕ → ℕ → Successor
-nextOf greatest card after = pick (eqb (cardRefusal greatest card) 0) (nextIn card (nodesOfLength greatest (length card)) after) (Refused (cardRefusal greatest card))
+-- "It reads the card only, like a find": 1, 2, 3, 18 (document 02, W-207) and 9; "6 is not given"
+unfoldable pub nextOf : ℕ → ℕ → List ℕ → ℕ → Successor
+nextOf greatest line card after =
+    pick (eqb (cardRefusal greatest card) 0)
+    (pick (hasLine card line) (nextIn (seen line card) (nodesOfLength greatest (length card)) after) (Refused 18)) (Refused (cardRefusal greatest card))
 
 -- ---- document 02, W-203: "the number of internal nodes on the given number's way when the call began, tagged ones counted"
 
@@ -84,8 +92,8 @@ carried depth Nothing = depth
 carried depth (Refused r) = 0
 
 -- the number's own way, also where the answer is in the next leaf
-unfoldable pub nextDepth : ℕ → List ℕ → ℕ → ℕ
-nextDepth greatest card after = carried (depthOf (leafOf (way card (nodesOfLength greatest (length card)) after))) (nextOf greatest card after)
+unfoldable pub nextDepth : ℕ → ℕ → List ℕ → ℕ → ℕ
+nextDepth greatest line card after = carried (depthOf (leafOf (way (seen line card) (nodesOfLength greatest (length card)) after))) (nextOf greatest line card after)
 
 -- ---- "Walking an unchanged card from 0 lists each pair once, rising": at most so many pairs, from those above a number on
 
@@ -94,9 +102,9 @@ onNext rest (Pair key value) = (key, value) ∷ rest key
 onNext rest Nothing = []
 onNext rest (Refused r) = []
 
-unfoldable pub walkFrom : ℕ → ℕ → List ℕ → ℕ → List (ℕ × ℕ)
-walkFrom greatest zero card after = []
-walkFrom greatest (suc most) card after = onNext (walkFrom greatest most card) (nextOf greatest card after)
+unfoldable pub walkFrom : ℕ → ℕ → ℕ → List ℕ → ℕ → List (ℕ × ℕ)
+walkFrom greatest line zero card after = []
+walkFrom greatest line (suc most) card after = onNext (walkFrom greatest line most card) (nextOf greatest line card after)
 
 -- ---- its answer as numbers: a key and a value
 

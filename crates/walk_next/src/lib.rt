@@ -7,8 +7,8 @@ ghost use lib.ListN.{length};
 ghost use Rattle.laws.specs.Cases.{pick};
 ghost use Rattle.card.specs.Layout.{greatestNodes, depthLimit, keyLimit, leafPairs};
 ghost use Rattle.card.specs.Header.{Sized};
-ghost use Rattle.walk.specs.Descent.{way, leafOf, depthOf};
-ghost use Rattle.walk_next.specs.Successor.{IsKey, nearerKey, leastAbove, leastOf, nextIn, nextOf, carried, nextDepth};
+ghost use Rattle.walk.specs.Descent.{rootPosition, wayFrom, leafOf, depthOf};
+ghost use Rattle.walk_next.specs.Successor.{IsKey, nearerKey, leastAbove, leastOf, nextAlong, nextOf, carried, nextDepth};
 ghost use Rattle.walk_next.specs.declared.Successor.the-variants.{Refused};
 
 // What the call answers.
@@ -98,12 +98,12 @@ fn own_depth(own: bool, depth: usize, first: usize) -> usize
 
 // In the leaf that the number leads to, else in the first leaf of the node that stands right after the way there, to which a second way
 // leads, by first children. The two ways are rounds of one loop: as two calls they took a third more instructions.
-fn next_in(card: &[u32], n: usize, after: u32) -> NextPair
+fn next_in(card: &[u32], n: usize, after: u32, root: usize) -> NextPair
     requires { ⌜ Sized greatestNodes (length (now card)) n ⌝ }
-    ensures { λ r. ⌜ (r .successor ≡ nextIn (now (card .entry)) n after)
-        × (r .depth ≡ carried (depthOf (leafOf (way (now (card .entry)) n after))) (r .successor)) ⌝ }
+    ensures { λ r. ⌜ (r .successor ≡ nextAlong (now (card .entry)) n after (wayFrom (now (card .entry)) n after depthLimit (rootPosition root)))
+        × (r .depth ≡ carried (depthOf (leafOf (wayFrom (now (card .entry)) n after depthLimit (rootPosition root)))) (r .successor)) ⌝ }
 {
-    let mut from = card[card::ROOT_PLACE] as usize;
+    let mut from = root;
     let mut key = after;
     let mut is_own = true;
     let mut first: usize = 0;
@@ -152,19 +152,24 @@ fn next_in(card: &[u32], n: usize, after: u32) -> NextPair
 // "the call answers the pair with the smallest key greater than it, or none exactly when the table holds no such key. It reads the
 // card only, like a find, and may come between steps." It hands on how many internal nodes the number's own way passed. `greatest` is the greatest N
 // that the calls are made for.
-pub fn next_with_depth(card: &[u32], after: u32, greatest: usize) -> NextPair
-    ensures { λ r. ⌜ (r .successor ≡ nextOf greatest (now (card .entry)) after) × (r .depth ≡ nextDepth greatest (now (card .entry)) after) × (r .depth ≤ depthLimit) ⌝ }
+pub fn next_with_depth(card: &[u32], line: u32, after: u32, greatest: usize) -> NextPair
+    ensures { λ r. ⌜ (r .successor ≡ nextOf greatest line (now (card .entry)) after)
+        × (r .depth ≡ nextDepth greatest line (now (card .entry)) after) × (r .depth ≤ depthLimit) ⌝ }
 {
     let refusal = card::card_refusal(card, greatest);
     if refusal != 0 {
         return refused(refusal);
     }
-    next_in(card, card::nodes_of(card.len(), greatest), after)
+    let n = card::nodes_of(card.len(), greatest);
+    if !card::has_line(card, line) {
+        return refused(18);
+    }
+    next_in(card, n, after, card::root_of(card, line))
 }
 
 // The same without the depth.
-pub fn next_pair(card: &[u32], after: u32, greatest: usize) -> Successor
-    ensures { λ r. ⌜ r ≡ nextOf greatest (now (card .entry)) after ⌝ }
+pub fn next_pair(card: &[u32], line: u32, after: u32, greatest: usize) -> Successor
+    ensures { λ r. ⌜ r ≡ nextOf greatest line (now (card .entry)) after ⌝ }
 {
-    next_with_depth(card, after, greatest).successor
+    next_with_depth(card, line, after, greatest).successor
 }

@@ -97,7 +97,7 @@ returns-3 c =
     let card = s .args .card .now in
     let found = sym (k .ensures .0) ∙ ap (λ (r : Checked). checkedOf r f) (g .1) in
     let counted : t .result ≡ tableCounted card = t .ensures ∙ k .ensures .1 (g .0 .0) (g .1) in
-    let x : Listing = record { nodes = n .result; free = m .result; levels = g .0 .0; families = t .result; pairs = walkFrom (s .args .greatest) mostPairs card 0 } in
+    let x : Listing = record { nodes = n .result; free = m .result; levels = g .0 .0; families = t .result; pairs = walkFrom (s .args .greatest) 1 mostPairs card 0 } in
     let is : listTable (s .args .greatest) card (nodesOfLength (s .args .greatest) (length card)) ≡ listed x =
     ap (listTable (s .args .greatest) card) (sym (n .ensures)) ∙ table-sound _ card (n .result) (g .0 .0) f some-node found ∙ rw (m .ensures, counted) in
     summary-listed x (listTable (s .args .greatest) card (nodesOfLength (s .args .greatest) (length card))) (s .args .out .now) (q .result) (q .last .1 .0) is (q .ensures)

@@ -13,7 +13,7 @@ use Rattle.list_pairs.proofs.pairs.put_pairs.Tie as tie
 
 abbrev Inv-loop : tie.InvT-loop
 Inv-loop card out₀ greatest at₀ after₀ left₀ out at after left =
-    (at ≤ length out) × (length out ≡ length out₀) × (layPairs (walkFrom greatest mostPairs card 0) (laid 0 out₀) ≡ layPairs (walkFrom greatest left card after) (laid at out))
+    (at ≤ length out) × (length out ≡ length out₀) × (layPairs (walkFrom greatest 1 mostPairs card 0) (laid 0 out₀) ≡ layPairs (walkFrom greatest 1 left card after) (laid at out))
 
 abbrev μ-loop : tie.MeasureT-loop
 μ-loop card out₀ greatest at₀ after₀ left₀ out at after left = left
@@ -39,7 +39,7 @@ returns c =
     let l = c .before .before .before .loop in
     let n = c .before .next-pair .ensures in
     let told = c .match .keys2 in
-    let ends : (key value : ℕ) → nextOf (s .args .greatest) (s .args .card .now) (l .after) ≡ Pair key value → ⊥ =
+    let ends : (key value : ℕ) → nextOf (s .args .greatest) 1 (s .args .card .now) (l .after) ≡ Pair key value → ⊥ =
     λ key value e. ⊎-elim (λ z. omega (arith, z)) (λ z. omega (arith, z)) (rw (n ∙ e) at told) in
     walk-ends _ (s .args .card .now) (l .after) (laid (l .at) (l .out)) (l .left) ends ∙ sym (l .inv .2)
 
@@ -60,7 +60,7 @@ loop-again c =
       omega (arith, k .kept .0, k .ensures .1),
       omega (arith, k .kept .0, l .inv .1),
       l .inv .2 ∙ walk-goes-on _ card (l .after) (laid (l .at) (l .out)) (l .left) (g .0 .0) (g .0 .1 .0) (search needs) (sym n ∙ g .1)
-          ∙ ap (layPairs (walkFrom _ (l .left - 1) card (g .0 .0))) (sym (k .ensures .0)),
+          ∙ ap (layPairs (walkFrom _ 1 (l .left - 1) card (g .0 .0))) (sym (k .ensures .0)),
     )
 
 same-length-2 : tie.Need-same-length-2 Inv-loop μ-loop
