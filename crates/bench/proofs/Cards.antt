@@ -21,7 +21,7 @@ use Rattle.walk.specs.Descent.{searchOf, seek}
 use Rattle.card_free.specs.NodeSet.{allNodes, countTrue, firstTrue, firstFrom, orElse, nextFree}
 use Rattle.laws.specs.Sorting.{insertPair, insertAll, sort, pairKeys}
 use Rattle.card_check.specs.Check.{member, leafSound, unusedZero, lookOf, noted, enterLeaf, innerSound, enterInner, enterKind, enterNode}
-use Rattle.card_check.specs.Check.{childrenCheck, raised, onLook, nodeCheck, tableCheck, rangeEnd, slotSound}
+use Rattle.card_check.specs.Check.{childrenCheck, raised, onLook, nodeCheck, tableCheck, rangeEnd, slotSound, treeCheck}
 use Rattle.card.specs.Replies.{refusal, holds, absent, idle, started as begun}
 use Rattle.call_find.specs.Answers.{foundReply}
 use Rattle.state.specs.Answers.{stepReply, startReply}
@@ -122,7 +122,7 @@ unfolding fresh drive onAnswer insertWhole deleteWhole upto steps cardL cardB ca
     firstFrom firstTrue orElse withoutAll lastOf splitLeaf changeStores sort insertAll insertPair kindAbove nodeImage countTrue
     childPosition childFor childIndex passed routingKeys runBelow deleteOf deleteChange isNode share merge mergeRoot leavesTogether
     innersTogether half leftKeys keyBetween absorb splitParent joinedKeys joinedChildren findOf findIn hasLine seen cardRefusal foundAt leafOf reachedAt depthOf
-    foundIn noBeginning noMemory openOf openChecked openSound tableCheck nodeCheck onLook enterNode enterKind enterLeaf enterInner
+    foundIn noBeginning noMemory openOf openChecked openSound tableCheck treeCheck nodeCheck onLook enterNode enterKind enterLeaf enterInner
     innerSound noted lookOf leafSound member unusedZero childrenCheck raised halves copied rangeEnd slotSound heldBy stepChecked stepTask
     inLeaf noWay layOut decidedRepair decideAt decideTagged decideUnderfull decideSiblings decideTogether togetherAt
 computing = tt

@@ -29,7 +29,7 @@ use Rattle.card_family.specs.Families.{noTotals}
 use Rattle.card_free.specs.NodeSet.{allNodes, countTrue, firstTrue, firstFrom, orElse, nextFree}
 use Rattle.laws.specs.Sorting.{insertPair, insertAll, sort}
 use Rattle.card_check.specs.Check.{member, leafSound, unusedZero, lookOf, noted, enterLeaf, innerSound, enterInner, enterKind, enterNode}
-use Rattle.card_check.specs.Check.{childrenCheck, raised, onLook, nodeCheck, tableCheck, rangeEnd, slotSound}
+use Rattle.card_check.specs.Check.{childrenCheck, raised, onLook, nodeCheck, tableCheck, rangeEnd, slotSound, treeCheck}
 use Rattle.state.specs.Memory.{noMemory, resting, idled, settledPhase, settled, advanced}
 use Rattle.call_change.specs.Updates.{landing, emptyReason, reasonIn, insertReason, insertChange, deleteChange, roomFor, startRoom, nextChange, inLeaf, noWay}
 use Rattle.state.specs.Answers.{stepReply, startReply}
@@ -132,7 +132,7 @@ unfolding readyIn isStored isReady after kept feed told outcome replyTo fedStart
     nextFree firstFrom firstTrue orElse withoutAll lastOf splitLeaf changeStores sort insertAll insertPair kindAbove nodeImage countTrue
     childPosition childFor childIndex passed routingKeys runBelow deleteOf deleteChange isNode share merge mergeRoot leavesTogether
     innersTogether half leftKeys keyBetween absorb splitParent joinedKeys joinedChildren findOf findIn hasLine seen cardRefusal foundAt leafOf reachedAt depthOf foundIn
-    noBeginning noMemory openOf openChecked openSound tableCheck nodeCheck onLook enterNode enterKind enterLeaf enterInner innerSound noted
+    noBeginning noMemory openOf openChecked openSound tableCheck treeCheck nodeCheck onLook enterNode enterKind enterLeaf enterInner innerSound noted
     lookOf leafSound member unusedZero childrenCheck raised halves copied rangeEnd slotSound heldBy stepChecked stepTask inLeaf noWay layOut
     decidedRepair decideAt decideTagged decideUnderfull decideSiblings decideTogether togetherAt
 computed = (refl, refl, refl, refl)

@@ -151,9 +151,17 @@ nodeCheck zero card n run isRoot low high m f = onLook (nodeAt card m) low high 
 nodeCheck (suc levels) card n run isRoot low high m f =
     onLook (nodeAt card m) low high (λ r. nodeCheck levels card n r false) run (enterNode card n m low high run isRoot f)
 
--- the whole table, from its root: "the root's is all keys"
+-- a whole tree, from its root, after what was learnt before it: "the root's is all keys"
+unfoldable pub treeCheck : List ℕ → ℕ → ℕ → Findings → Option (ℕ × Findings)
+treeCheck card n root f = nodeCheck depthLimit card n 0 true lowestKey keyLimit root f
+
+-- nothing is learnt yet: all nodes are free
+abbrev pub start : ℕ → Findings
+start n = record { free = allNodes n; violated = false; key = 0; run = 0 }
+
+-- the whole table
 unfoldable pub tableCheck : List ℕ → ℕ → Option (ℕ × Findings)
-tableCheck card n = nodeCheck depthLimit card n 0 true lowestKey keyLimit (getD card rootPlace 0) (record { free = allNodes n; violated = false; key = 0; run = 0 })
+tableCheck card n = treeCheck card n (getD card rootPlace 0) (start n)
 
 -- the same as the code holds it
 unfoldable pub rangeEndOf : RangeEnd → Option ℕ

@@ -13,7 +13,7 @@ ghost use lib.Dec.{eqb};
 ghost use Rattle.card_family.specs.Families.{familyCount, noTotals};
 ghost use Rattle.card_free.specs.NodeSet.{wordCount, nodesOf};
 ghost use Rattle.card.specs.Layout.{greatestNodes, depthLimit, children, routingKeys, runBelow};
-ghost use Rattle.card_check.specs.Check.{Findings, findingsOf, checkedOf, heightOf, raised, childrenCheck, nodeCheck, tableCheck, rangeEnd, rangeEndOf};
+ghost use Rattle.card_check.specs.Check.{Findings, findingsOf, checkedOf, heightOf, raised, childrenCheck, nodeCheck, treeCheck, tableCheck, rangeEnd, rangeEndOf};
 ghost use Rattle.card_check.specs.Counting.{childrenCounted, nodeCounted, tableCounted};
 ghost use Rattle.card_check.specs.declared.Checked.the-variants.{Sound};
 
@@ -206,7 +206,34 @@ fn clear_totals(totals: &mut [u32])
     }
 }
 
-// The whole table of a card with n nodes, from its root.
+// A whole tree of a card with n nodes, from its root, after what was learnt before it.
+pub fn check_tree(
+    card: &[u32],
+    n: usize,
+    root: usize,
+    free: &mut [u32],
+    found: &mut [u32],
+) -> Checked
+    requires { ⌜ (length (now card) ≡ 8 + 24 * n) × (n ≤ greatestNodes) × (length (now free) ≡ wordCount) × (length (now found) ≡ 3 + familyCount) ⌝ }
+    ensures { λ r. ⌜ checkedOf r (findingsOf (nodesOf (now (free .exit))) (now (found .exit)))
+        ≡ treeCheck (now (card .entry)) n root (findingsOf (nodesOf (now (free .entry))) (now (found .entry))) ⌝ }
+    ensures { λ r. ⌜ ((h : ℕ) → r ≡ Sound h → drop 3 (now (found .exit)) ≡ nodeCounted depthLimit (now (card .entry)) root (drop 3 (now (found .entry)))) ⌝ }
+{
+    node_check(
+        card,
+        n,
+        root,
+        card::DEPTH_LIMIT,
+        card::LOWEST_KEY,
+        card::KEY_LIMIT,
+        0,
+        true,
+        free,
+        found,
+    )
+}
+
+// The whole table of a card with n nodes.
 pub fn check_table(card: &[u32], n: usize, free: &mut [u32], found: &mut [u32]) -> Checked
     requires { ⌜ (length (now card) ≡ 8 + 24 * n) × (n ≤ greatestNodes) × (length (now free) ≡ wordCount) × (length (now found) ≡ 3 + familyCount) ⌝ }
     ensures { λ r. ⌜ checkedOf r (findingsOf (nodesOf (now (free .exit))) (now (found .exit))) ≡ tableCheck (now (card .entry)) n ⌝ }
@@ -217,16 +244,5 @@ pub fn check_table(card: &[u32], n: usize, free: &mut [u32], found: &mut [u32]) 
     found[KEY] = 0;
     found[RUN] = 0;
     clear_totals(&mut found[TOTALS..FOUND_WORDS]);
-    node_check(
-        card,
-        n,
-        card[card::ROOT_PLACE] as usize,
-        card::DEPTH_LIMIT,
-        card::LOWEST_KEY,
-        card::KEY_LIMIT,
-        0,
-        true,
-        free,
-        found,
-    )
+    check_tree(card, n, card[card::ROOT_PLACE] as usize, free, found)
 }

@@ -9,7 +9,7 @@ use Rattle.card.specs.Layout.{nodeAt, keyWords, valueWords, leafPairs, nodeImag
 use Rattle.card_dump.specs.Dump.{wordBytes, cardBytes, paddedLength, dumpOf, wordAt, dumpWords, faults, damaged, fittingLength, readAnswer}
 use Rattle.card_dump.proofs.Examples.{example}
 use Rattle.card_free.specs.NodeSet.{allNodes, countTrue}
-use Rattle.card_check.specs.Check.{member, leafSound, enterLeaf, enterKind, enterNode, onLook, nodeCheck, tableCheck, slotSound}
+use Rattle.card_check.specs.Check.{member, leafSound, enterLeaf, enterKind, enterNode, onLook, nodeCheck, tableCheck, slotSound, treeCheck}
 use Rattle.card_check.specs.Counting.{keysCounted, childrenCounted, nodeCounted, tableCounted}
 use Rattle.card_family.specs.Families.{familyOf, countedIn}
 use Rattle.call_open.specs.Opening.{openSound, openChecked, openOf}
@@ -24,7 +24,7 @@ use Rattle.list_pairs.specs.Listing.{listChecked, listTable, listBegun, 
 example-listed : listDump greatestNodes (dumpOf example) 104 ≡ listed (record { nodes = 4; free = 3; levels = 0; families = 2 ∷ replicate 15 0; pairs = (3, 31) ∷ (7, 70) ∷ [] })
 unfolding example nodeImage readAnswer damaged faults fittingLength dumpOf cardBytes wordBytes wordAt paddedLength dumpWords listDump
     listRead listCard listBegun listTable listChecked openedCard repairedCard isIdle openOf openChecked openSound resting cardRefusal
-    headerRefusal nodesOfLength tableCheck nodeCheck onLook enterNode enterKind enterLeaf leafSound slotSound member allNodes countTrue
+    headerRefusal nodesOfLength tableCheck treeCheck nodeCheck onLook enterNode enterKind enterLeaf leafSound slotSound member allNodes countTrue
     nodeAt keyWords valueWords leafPairs outside lookIn lookAt rootPosition byLook wayFrom way reachedAt leafOf nearer nearerAbove leastAbove besideAll
     tableCounted nodeCounted childrenCounted keysCounted countedIn familyOf
     found nextInLeaf inNextLeaf orNextLeaf nextAlong nextIn nextOf onNext walkFrom hasLine seen

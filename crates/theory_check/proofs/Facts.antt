@@ -15,7 +15,7 @@ use Rattle.laws.proofs.Bits.{bit-le, bit-zero}
 use Rattle.laws.proofs.Cases.{order}
 use Rattle.laws.specs.Totals.{indicator}
 use Rattle.laws.proofs.Totals.{indicator-other}
-use Rattle.card_check.specs.Check.{Findings}
+use Rattle.card_check.specs.Check.{Findings, start}
 use Rattle.theory_check.proofs.Depth.{represents-upto, well-formed-depth}
 use Rattle.theory_check.proofs.Found.{found, isFree, AllFree, found-free, found-length, found-violated, found-same}
 use Rattle.theory_check.proofs.Noted.{table-told}
@@ -42,10 +42,6 @@ pub record Facts (c : List ℕ) (n : ℕ) (t : Tree) (h : ℕ) (f : Findings) : 
   pub no-run : f .violated ≡ false → f .run ≡ 0
   pub deep : depth t ≤ depthLimit
 
--- the findings with which the check begins: all nodes free
-abbrev pub start : ℕ → Findings
-start n = record { free = allNodes n; violated = false; key = 0; run = 0 }
-
 -- a whole table as a sound part
 abbrev pub SoundTable : List ℕ → ℕ → ℕ → Tree → Type 0
 SoundTable c n h t = SoundPart c true lowestKey keyLimit h (suc depthLimit) (start n) t
@@ -54,18 +50,41 @@ start-out : (n m : ℕ) → (m ≡ 0) ⊎ (n < m) → isFree (start n) m ≡ 0
 start-out n m (inl e) = ap bit (ap (λ (x : ℕ). getD (allNodes n) x false) e ∙ all-zero n)
 start-out n m (inr h) = ap bit (all-above n m h)
 
-pub sound-facts : (c : List ℕ) (n h : ℕ) (t : Tree) → n ≤ greatestNodes → SoundTable c n h t → Facts c n t h (found true 0 lowestKey t (start n))
-sound-facts c n h t small p =
-    let v = found-violated true 0 lowestKey t (start n) (p .widths) (p .once-violated) in
+-- what the check of a tree adds to what was learnt before it
+pub record Learnt (before : Findings) (t : Tree) (h : ℕ) (f : Findings) : Type 0 where
+  pub level : Height h t
+  pub free-length : length (f .free) ≡ length (before .free)
+  -- the tree's nodes were free, and are so no longer
+  pub free-in : (m : ℕ) → isFree f m + nodeTotal (indicator m) t ≡ isFree before m
+  pub violated : bit (f .violated) ≡ bit (before .violated) + tableViolations t
+  pub violation : tableViolations t ≡ 1 → (v : Violation t (f .key)) × (f .run ≡ reserve (v .context) (v .part)) × (lowestKey ≤ f .key) × (f .key < keyLimit)
+  pub unchanged : tableViolations t ≡ 0 → (f .key ≡ before .key) × (f .run ≡ before .run)
+  pub deep : depth t ≤ depthLimit
+
+pub part-learnt : (c : List ℕ) (h : ℕ) (t : Tree) (f : Findings) → SoundPart c true lowestKey keyLimit h (suc depthLimit) f t → Learnt f t h (found true 0 lowestKey t f)
+part-learnt c h t f p =
     record {
       level = p .height;
-      free-length = found-length true 0 lowestKey t (start n) ∙ length-all n (omega arith);
-      free-in = λ m a b. omega (arith, found-free true 0 lowestKey t (start n) (p .free) m, ap bit (all-get n m a b (omega arith)));
-      free-out = λ m o. bit-zero (getD (found true 0 lowestKey t (start n) .free) m false) (omega (arith, found-free true 0 lowestKey t (start n) (p .free) m, start-out n m o));
-      violated = omega arith;
-      violation = λ e. let a = table-told lowestKey keyLimit t (start n) (p .widths) (p .range) (omega arith) (omega (arith, ap bit e)) in (a .violation, a .run, a .above, a .under);
-      no-run = λ e. found-same true 0 lowestKey t (start n) (p .widths) (omega (arith, ap bit e)) .run;
+      free-length = found-length true 0 lowestKey t f;
+      free-in = λ m. found-free true 0 lowestKey t f (p .free) m;
+      violated = found-violated true 0 lowestKey t f (p .widths) (p .once-violated);
+      violation = λ e. let a = table-told lowestKey keyLimit t f (p .widths) (p .range) (omega (arith, p .once-violated)) e in (a .violation, a .run, a .above, a .under);
+      unchanged = λ e. let a = found-same true 0 lowestKey t f (p .widths) e in (a .key, a .run);
       deep = omega (arith, p .deep);
+    }
+
+pub sound-facts : (c : List ℕ) (n h : ℕ) (t : Tree) → n ≤ greatestNodes → SoundTable c n h t → Facts c n t h (found true 0 lowestKey t (start n))
+sound-facts c n h t small p =
+    let l = part-learnt c h t (start n) p in
+    record {
+      level = l .level;
+      free-length = l .free-length ∙ length-all n (omega arith);
+      free-in = λ m a b. omega (arith, l .free-in m, ap bit (all-get n m a b (omega arith)));
+      free-out = λ m o. bit-zero (getD (found true 0 lowestKey t (start n) .free) m false) (omega (arith, l .free-in m, start-out n m o));
+      violated = omega (arith, l .violated);
+      violation = λ e. l .violation (omega (arith, l .violated, ap bit e));
+      no-run = λ e. l .unchanged (omega (arith, l .violated, ap bit e)) .1;
+      deep = l .deep;
     }
 
 -- ---- sound tables in document 01's words

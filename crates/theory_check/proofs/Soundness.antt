@@ -7,8 +7,8 @@ use mathlib.Core.Logic.{_↔_}
 use Prim.Native.Nat.{ℕ, _+_, _*_, _≤_}
 use lib.ListN.{length, getD}
 use Rattle.card.specs.Layout.{lowestKey, keyLimit, greatestNodes, depthLimit, rootPlace}
-use Rattle.card_check.specs.Check.{Findings, nodeCheck, tableCheck}
-use Rattle.theory_check.proofs.Facts.{Facts, start, SoundTable, sound-facts, well-formed-part, part-well-formed}
+use Rattle.card_check.specs.Check.{Findings, start, nodeCheck, treeCheck, tableCheck}
+use Rattle.theory_check.proofs.Facts.{Facts, SoundTable, sound-facts, well-formed-part, part-well-formed}
 use Rattle.theory_check.proofs.Found.{found}
 use Rattle.theory_check.proofs.Passed.{check-passes}
 use Rattle.theory_check.proofs.Shown.{check-shown}
@@ -16,7 +16,7 @@ use Rattle.theory_tree.specs.Tree.{Tree, root}
 use Rattle.theory_tree.specs.WellFormed.{WellFormed}
 
 table-step : (c : List ℕ) (n : ℕ) → tableCheck c n ≡ nodeCheck depthLimit c n 0 true lowestKey keyLimit (getD c rootPlace 0) (start n)
-unfolding tableCheck
+unfolding tableCheck treeCheck
 table-step c n = refl
 
 module _ (c : List ℕ) (n : ℕ) (len : length c ≡ 8 + 24 * n) (small : n ≤ greatestNodes) where

@@ -56,14 +56,14 @@ part-clear-totals-end c = let s = c .before .before .before .before .before .bef
 clear-totals-requires : tie.Need-clear-totals-requires
 clear-totals-requires c κs = let s = c .before .before .before .before .before .before .before .before in lent-length (cleared (s .args .found .now)) (cleared-length (s .args .found .now) (s .pre .3))
 
-shared-slice-read-node-check : tie.Need-shared-slice-read-node-check
-shared-slice-read-node-check c = search needs
+shared-slice-read-check-tree : tie.Need-shared-slice-read-check-tree
+shared-slice-read-check-tree c = search needs
 
-cast-node-check : tie.Need-cast-node-check
-cast-node-check c = omega (arith, c .shared-slice-known2 .given 4)
+cast-check-tree : tie.Need-cast-check-tree
+cast-check-tree c = omega (arith, c .shared-slice-known2 .given 4)
 
-node-check-requires : tie.Need-node-check-requires
-node-check-requires c κs = (search needs, search needs, search needs, search needs, long (c .before .before .before .before .before))
+check-tree-requires : tie.Need-check-tree-requires
+check-tree-requires c κs = (search needs, search needs, search needs, long (c .before .before .before .before .before))
 
 same-length : tie.Need-same-length
 same-length c = search needs
@@ -72,21 +72,21 @@ same-length-2 : tie.Need-same-length-2
 same-length-2 c =
     let s = c .before .before .before .before .before .before .before .before .before .before .before .before .before .before .before
     .before .before .before .before in
-    c .before .before .before .before .node-check .kept .1 .1 .1 .1 .1 .1 .1 .1 .1 .0
+    c .before .before .before .before .check-tree .kept .1 .1 .1 .1 .0
     ∙ long (c .before .before .before .before .before .before .before .before .before .before) ∙ sym (s .pre .3)
 
 returns : tie.Need-returns
 unfolding tableCheck tableCounted
 returns c =
     let s = c .before .before .before .before .before .before .before .before .before .before .before .before .before .before .before .before .before .before .before in (
-      c .before .before .before .before .node-check .ensures .0 ∙ rw (
+      c .before .before .before .before .check-tree .ensures .0 ∙ rw (
         with-findings _ (cleared (s .args .found .now))
             (c .before .before .before .before .before .before .before .before .before .before .clear-totals .last .0)
             (cleared-length (s .args .found .now) (s .pre .3)),
         found-stored _ (s .args .found .now) 0 0 0 (omega arith),
         c .before .before .before .before .before .before .before .before .before .before .before .before .before .before .fill .ensures,
       ),
-      λ h e. c .before .before .before .before .node-check .ensures .1 .1 h e ∙ ap (nodeCounted depthLimit (s .args .card .now) (getD (s .args .card .now) rootPlace 0))
+      λ h e. c .before .before .before .before .check-tree .ensures .1 h e ∙ ap (nodeCounted depthLimit (s .args .card .now) (getD (s .args .card .now) rootPlace 0))
           (with-totals (cleared (s .args .found .now))
           (c .before .before .before .before .before .before .before .before .before .before .clear-totals .last .0)
           (cleared-length (s .args .found .now) (s .pre .3))
@@ -105,9 +105,9 @@ check-table-spec =
     part-clear-totals-start
     part-clear-totals-end
     clear-totals-requires
-    shared-slice-read-node-check
-    cast-node-check
-    node-check-requires
+    shared-slice-read-check-tree
+    cast-check-tree
+    check-tree-requires
     same-length
     same-length-2
     returns)
