@@ -31,7 +31,7 @@ use Rattle.call_start.specs.Starts.{formatOf, startRefused, startAccepted, star
 use Rattle.call_step.specs.Calls.{planning, stepPrepared, stepBegin, stepHeld, stepOf, stepTask, stepChecked}
 use Rattle.state.specs.Steps.{noBeginning, stepRefused, stepFinal, formattedWord, formatStore, formattingFrom, stepFormat, stepStore, isIdle, heldBy}
 use Rattle.state.specs.Memory.{noMemory, resting, idled, settledPhase, settled, settledIn, settledOut, settledTotals, advanced}
-use Rattle.card_family.specs.Families.{familyOf, countedIn, countedOut}
+use Rattle.card_family.specs.Families.{familyOf, severalIn}
 use Rattle.card_check.specs.Counting.{keysCounted, childrenCounted, nodeCounted, tableCounted}
 use Rattle.call_change.specs.Updates.{landing, emptyReason, reasonIn, insertReason, insertChange, deleteChange, roomFor, startRoom, nextChange, inLeaf, noWay}
 use Rattle.state.specs.declared.Answer.the-variants.{Absent, Value}
@@ -116,7 +116,7 @@ unfolding fresh drive onAnswer insertWhole deleteWhole upto steps cardL cardB ca
     stepOf stepFormat formatStore formattedWord formatOf stepFinal nodesOfLength formattingFrom resting idled allNodes headerRefusal
     stepHeld isIdle stepBegin stepPrepared landing landingOf landedAt way wayFrom byLook past outside lookIn lookAt runOver nodeAt children valueWords
     keyWords slotOf firstEqual insertReason reasonIn emptyReason insertChange stepStore planning advanced settled settledPhase nextChange
-    settledTotals settledIn settledOut countedIn countedOut familyOf tableCounted nodeCounted childrenCounted keysCounted
+    settledTotals settledIn settledOut severalIn familyOf tableCounted nodeCounted childrenCounted keysCounted
     nextRepair onSearch seek searchOf endOf firstFault ended toList isFault countOf rootPosition leafPairs insertOf startOf startChecked
     startRoom roomFor startLanded startAccepted stepRefused startRefused withAll giving overNumbers takeNumbers numbersFrom nextFree
     firstFrom firstTrue orElse withoutAll lastOf splitLeaf changeStores sort insertAll insertPair kindAbove nodeImage countTrue

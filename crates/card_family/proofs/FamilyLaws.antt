@@ -43,7 +43,7 @@ module _ (low : ℕ) (totals : List ℕ) where
       ∙ set-getD totals (familyOf low) 0
 
   pub several-more : (key count : ℕ) → familyOf key ≡ familyOf low → familyOf low < length totals → countedIn key (severalIn low count totals) ≡ severalIn low (suc count) totals
-  unfolding countedIn severalIn
+  unfolding severalIn
   several-more key count e h =
       let f : ℕ = familyOf low in
       let x : ℕ = (getD totals (familyOf low) 0 + count) % 2 ^ 32 in
@@ -64,33 +64,27 @@ totals-none = record { words = length-replicate {A = ℕ} familyCount 0; each = 
 pub totals-same : (totals : List ℕ) (a b : List (ℕ × ℕ)) → ((w : ℕ × ℕ → ℕ) → total w a ≡ total w b) → Totals totals a → Totals totals b
 totals-same totals a b s k = record { words = k .words; each = λ f h. k .each f h ∙ s (ofFamily f) }
 
+-- so many more in one family, and as many in each other
+totals-by : (key by : ℕ) → key < 2 ^ 32 → (totals : List ℕ) (a b : List (ℕ × ℕ)) → Totals totals a
+    → ((total (ofFamily (familyOf key)) a + by) % 2 ^ 32 ≡ total (ofFamily (familyOf key)) b)
+    → ((f : ℕ) → f ≢ familyOf key → total (ofFamily f) a ≡ total (ofFamily f) b) → Totals (severalIn key by totals) b
+unfolding severalIn
+totals-by key by h totals a b k own others =
+    record {
+      words = length-set totals (familyOf key) _ ∙ k .words;
+      each = λ f l. by-cases (ℕ-discrete f (familyOf key))
+          (λ e. rw e (getD-set-same totals (familyOf key) _ 0 (omega (arith, k .words, family-below key h))
+          ∙ ap (λ (x : ℕ). (x + by) % 2 ^ 32) (k .each (familyOf key) (family-below key h)) ∙ own))
+          (λ d. getD-set-other totals (familyOf key) f _ 0 d ∙ k .each f l ∙ others f d);
+    }
+
 module _ (key value : ℕ) (h : key < 2 ^ 32) (totals : List ℕ) (a b : List (ℕ × ℕ)) (k : Totals totals a) where
   pub totals-in : ((w : ℕ × ℕ → ℕ) → total w b ≡ w (key, value) + total w a) → length b < 2 ^ 32 → Totals (countedIn key totals) b
-  unfolding countedIn
-  totals-in s few = record { words = length-set totals (familyOf key) _ ∙ k .words; each = λ f l. by-cases (ℕ-discrete f (familyOf key)) (own f l) (other f l) }
-    where
-      own : (f : ℕ) → f < familyCount → f ≡ familyOf key → getD (set totals (familyOf key) ((getD totals (familyOf key) 0 + 1) % 2 ^ 32)) f 0 ≡ total (ofFamily f) b
-      own f l e =
-          let x = getD-set-same totals (familyOf key) ((getD totals (familyOf key) 0 + 1) % 2 ^ 32) 0 (omega (arith, k .words, family-below key h)) in
-          let t = k .each (familyOf key) (family-below key h) in
-          rw e (x ∙ omega (arith, t, s (ofFamily (familyOf key)), of-own (key, value), family-few (familyOf key) b))
-
-      other : (f : ℕ) → f < familyCount → f ≢ familyOf key → getD (set totals (familyOf key) ((getD totals (familyOf key) 0 + 1) % 2 ^ 32)) f 0 ≡ total (ofFamily f) b
-      other f l d =
-          getD-set-other totals (familyOf key) f ((getD totals (familyOf key) 0 + 1) % 2 ^ 32) 0 d
-          ∙ omega (arith, k .each f l, s (ofFamily f), of-other f (key, value) d)
+  totals-in s few =
+      totals-by key 1 h totals a b k (omega (arith, s (ofFamily (familyOf key)), of-own (key, value), family-few (familyOf key) b))
+      (λ f d. omega (arith, s (ofFamily f), of-other f (key, value) d))
 
   pub totals-out : ((w : ℕ × ℕ → ℕ) → total w a ≡ w (key, value) + total w b) → length a < 2 ^ 32 → Totals (countedOut key totals) b
-  unfolding countedOut
-  totals-out s few = record { words = length-set totals (familyOf key) _ ∙ k .words; each = λ f l. by-cases (ℕ-discrete f (familyOf key)) (own f l) (other f l) }
-    where
-      own : (f : ℕ) → f < familyCount → f ≡ familyOf key → getD (set totals (familyOf key) ((getD totals (familyOf key) 0 + 4294967295) % 2 ^ 32)) f 0 ≡ total (ofFamily f) b
-      own f l e =
-          let x = getD-set-same totals (familyOf key) ((getD totals (familyOf key) 0 + 4294967295) % 2 ^ 32) 0 (omega (arith, k .words, family-below key h)) in
-          let t = k .each (familyOf key) (family-below key h) in
-          rw e (x ∙ omega (arith, t, s (ofFamily (familyOf key)), of-own (key, value), family-few (familyOf key) a))
-
-      other : (f : ℕ) → f < familyCount → f ≢ familyOf key → getD (set totals (familyOf key) ((getD totals (familyOf key) 0 + 4294967295) % 2 ^ 32)) f 0 ≡ total (ofFamily f) b
-      other f l d =
-          getD-set-other totals (familyOf key) f ((getD totals (familyOf key) 0 + 4294967295) % 2 ^ 32) 0 d
-          ∙ omega (arith, k .each f l, s (ofFamily f), of-other f (key, value) d)
+  totals-out s few =
+      totals-by key 4294967295 h totals a b k (omega (arith, s (ofFamily (familyOf key)), of-own (key, value), family-few (familyOf key) a))
+      (λ f d. omega (arith, s (ofFamily f), of-other f (key, value) d))

@@ -23,14 +23,14 @@ ofFamily f p = indicator f (familyOf (p .0))
 abbrev pub noTotals : List ℕ
 noTotals = replicate familyCount 0
 
--- a pair with this key is put in, or taken out. No card has so many pairs that a total leaves its word; in a state that no call handed
--- back it goes round.
-unfoldable pub countedIn : ℕ → List ℕ → List ℕ
-countedIn key totals = set totals (familyOf key) ((getD totals (familyOf key) 0 + 1) % 2 ^ 32)
-
-unfoldable pub countedOut : ℕ → List ℕ → List ℕ
-countedOut key totals = set totals (familyOf key) ((getD totals (familyOf key) 0 + 4294967295) % 2 ^ 32)
-
--- so many pairs of the family of this key are put in
+-- so many pairs of the family of this key are put in. No card has so many pairs that a total leaves its word; in a state that no call
+-- handed back it goes round.
 unfoldable pub severalIn : ℕ → ℕ → List ℕ → List ℕ
 severalIn key count totals = set totals (familyOf key) ((getD totals (familyOf key) 0 + count) % 2 ^ 32)
+
+-- a pair with this key is put in, or taken out: once round less one
+abbrev pub countedIn : ℕ → List ℕ → List ℕ
+countedIn key = severalIn key 1
+
+abbrev pub countedOut : ℕ → List ℕ → List ℕ
+countedOut key = severalIn key 4294967295

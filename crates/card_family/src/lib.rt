@@ -19,31 +19,29 @@ fn family_of(key: u32) -> usize
     (key / FAMILY_SIZE) as usize
 }
 
-// A pair with this key is put in.
-pub fn count_in(totals: &mut [u32], key: u32)
-    requires { ⌜ length (now totals) ≡ familyCount ⌝ }
-    ensures { λ _. ⌜ now (totals .exit) ≡ countedIn key (now (totals .entry)) ⌝ }
-{
-    let family = family_of(key);
-    totals[family] = std::num::wrapping_add_u32(totals[family], 1);
-}
-
-// A pair with this key is taken out.
-pub fn count_out(totals: &mut [u32], key: u32)
-    requires { ⌜ length (now totals) ≡ familyCount ⌝ }
-    ensures { λ _. ⌜ now (totals .exit) ≡ countedOut key (now (totals .entry)) ⌝ }
-{
-    let family = family_of(key);
-    totals[family] = std::num::wrapping_add_u32(totals[family], u32::MAX);
-}
-
-// So many pairs of the family of this key are put in.
+// So many pairs of the family of this key are put in. A total at its end goes round.
 pub fn count_several(totals: &mut [u32], key: u32, count: u32)
     requires { ⌜ length (now totals) ≡ familyCount ⌝ }
     ensures { λ _. ⌜ now (totals .exit) ≡ severalIn key count (now (totals .entry)) ⌝ }
 {
     let family = family_of(key);
     totals[family] = std::num::wrapping_add_u32(totals[family], count);
+}
+
+// A pair with this key is put in.
+pub fn count_in(totals: &mut [u32], key: u32)
+    requires { ⌜ length (now totals) ≡ familyCount ⌝ }
+    ensures { λ _. ⌜ now (totals .exit) ≡ countedIn key (now (totals .entry)) ⌝ }
+{
+    count_several(totals, key, 1);
+}
+
+// A pair with this key is taken out: once round less one.
+pub fn count_out(totals: &mut [u32], key: u32)
+    requires { ⌜ length (now totals) ≡ familyCount ⌝ }
+    ensures { λ _. ⌜ now (totals .exit) ≡ countedOut key (now (totals .entry)) ⌝ }
+{
+    count_several(totals, key, u32::MAX);
 }
 
 // Whether the numbers from `low`, included, to `high`, excluded, are all of the family of `low`.

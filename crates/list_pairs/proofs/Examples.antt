@@ -11,7 +11,7 @@ use Rattle.card_dump.proofs.Examples.{example}
 use Rattle.card_free.specs.NodeSet.{allNodes, countTrue}
 use Rattle.card_check.specs.Check.{member, leafSound, enterLeaf, enterKind, enterNode, onLook, nodeCheck, tableCheck, slotSound, treeCheck}
 use Rattle.card_check.specs.Counting.{keysCounted, childrenCounted, nodeCounted, tableCounted}
-use Rattle.card_family.specs.Families.{familyOf, countedIn}
+use Rattle.card_family.specs.Families.{familyOf, severalIn}
 use Rattle.call_open.specs.Opening.{openSound, openChecked, openOf}
 use Rattle.state.specs.Steps.{isIdle}
 use Rattle.state.specs.Memory.{resting}
@@ -26,6 +26,6 @@ unfolding example nodeImage readAnswer damaged faults fittingLength dumpOf cardB
     listRead listCard listBegun listTable listChecked openedCard repairedCard isIdle openOf openChecked openSound resting cardRefusal
     headerRefusal nodesOfLength tableCheck treeCheck nodeCheck onLook enterNode enterKind enterLeaf leafSound slotSound member allNodes countTrue
     nodeAt keyWords valueWords leafPairs outside lookIn lookAt rootPosition byLook wayFrom way reachedAt leafOf nearer nearerAbove leastAbove besideAll
-    tableCounted nodeCounted childrenCounted keysCounted countedIn familyOf
+    tableCounted nodeCounted childrenCounted keysCounted severalIn familyOf
     found nextInLeaf inNextLeaf orNextLeaf nextAlong nextIn nextOf onNext walkFrom hasLine seen
 example-listed = refl

@@ -13,7 +13,7 @@ use Rattle.laws.specs.Bits.{bit}
 use Rattle.laws.specs.Lists.{beforeZero}
 use Rattle.laws.specs.Digits.{digitsOf}
 use Rattle.laws.proofs.Digits.{length-digits}
-use Rattle.card_family.specs.Families.{familyCount, countedIn, countedOut}
+use Rattle.card_family.specs.Families.{familyCount, severalIn}
 use Rattle.card_free.specs.NodeSet.{wordCount, nodesOf, allNodes}
 use Rattle.change_plan.specs.Plan.{storesOf}
 use Rattle.state.specs.Memory.{Memory, resting, noMemory, settledIn, settledOut, settledTotals}
@@ -340,7 +340,7 @@ memory-totals block totals len k =
 
 -- the totals of a first change in hand, and of any other work
 pub settled-long : (doing : Doing) (totals : List ℕ) → length (settledTotals doing totals) ≡ length totals
-unfolding settledTotals settledIn settledOut countedIn countedOut
+unfolding settledTotals settledIn settledOut severalIn
 settled-long Idle totals = refl
 settled-long (Formatting made) totals = refl
 settled-long (Inserting key value NotBegun) totals = refl

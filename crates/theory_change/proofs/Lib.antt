@@ -51,7 +51,7 @@ pub mod ExactOver
 pub mod NumbersIn
 -- a line of a card: its tree beside the other line's, and the room below its limit
 pub mod Line
--- the other line's tree: no store of a change is in one of its nodes, or in the word of its root
+-- the other line's tree: a store of the line's table leaves it as it was
 pub mod OtherTree
 -- the room of a line is its limit less its own nodes
 pub mod KeptRoom
