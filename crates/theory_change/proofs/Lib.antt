@@ -55,3 +55,5 @@ pub mod Line
 pub mod OtherTree
 -- the room of a line is its limit less its own nodes
 pub mod KeptRoom
+-- two lines of one card: what a store of the one does to its own table and to the other's, and the nodes that they share out
+pub mod TwoLines

@@ -1,11 +1,9 @@
 -- The other line's tree: a store of the line's table leaves it as it was.
-use mathlib.Core.Path.{_≡_}
 use mathlib.Core.List.{List, [], _∷_}
 use mathlib.Core.Logic.{inl, inr}
-use Prim.Native.Nat.{ℕ, _≤_, _<_}
+use Prim.Native.Nat.{ℕ, _≤_}
 use native.Mathlib.Omega.{arith}
 use lib.ListN.{set}
-use Rattle.card.specs.Stores.{Store}
 use Rattle.card.proofs.NodeWords.{keeps-head}
 use Rattle.card.proofs.Stores.{Within, keeps-play, done, also}
 use Rattle.laws.specs.Totals.{indicator, total}
