@@ -5,7 +5,7 @@ use mathlib.Core.Bool.{Bool}
 use mathlib.Core.Logic.{inl, inr}
 use Prim.Native.Nat.{ℕ, _+_, _≤_, _<_}
 use native.Mathlib.Omega.{arith}
-use lib.ListN.{length, set, getD, length-set}
+use lib.ListN.{length, set, length-set}
 use lib.Seq.{getD-set-other}
 use borrow.Author.Tests.{ne-eqb, eq-eqb}
 use Rattle.card.specs.Layout.{rootPlace}
