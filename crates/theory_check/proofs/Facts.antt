@@ -103,7 +103,7 @@ mutual
   no-numbers n i (one t) o u = no-number n i t o u
   no-numbers n i (more t x k) o u = omega (arith, no-number n i t o (u .0), no-numbers n i k o (u .1))
 
-all-free : (n : ℕ) (t : Tree) → n ≤ greatestNodes → Upto n t → ((i : ℕ) → nodeTotal (indicator i) t ≤ 1) → AllFree (start n) t
+pub all-free : (n : ℕ) (t : Tree) → n ≤ greatestNodes → Upto n t → ((i : ℕ) → nodeTotal (indicator i) t ≤ 1) → AllFree (start n) t
 all-free n t small u once i =
     order i 1 (λ a. omega (arith, no-number n i t (inl (omega arith)) u))
     (λ a. order n i (λ b. omega (arith, no-number n i t (inr b) u)) (λ b. omega (arith, once i, ap bit (all-get n i a b (omega arith)))))

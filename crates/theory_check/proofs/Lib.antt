@@ -26,3 +26,5 @@ pub mod Soundness
 pub mod Level
 -- the totals by family that the check counts are those of the table's pairs
 pub mod Families
+-- the check of two lines, one after the other, accepts exactly the sound cards of two lines
+pub mod TwoTrees
