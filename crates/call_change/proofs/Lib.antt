@@ -4,3 +4,5 @@ pub mod Decided
 pub mod Preparations
 -- laws of the updates: one for each branch of the code
 pub mod UpdateLaws
+-- the next change on a line's table is the card's from the line's root
+pub mod LineChanges

@@ -4,3 +4,5 @@ pub mod DecideLaws
 pub mod Positions
 -- what a decision says of the card that it is made on holds there
 pub mod Fits
+-- what is decided on a line's table is decided on the card from the line's root
+pub mod LineDecisions

@@ -4,3 +4,5 @@ pub mod LayOutLaws
 pub mod Mending
 -- "So a change is at most 73 stores": what is laid out is within the bounds of a plan
 pub mod Bounds
+-- a change on a line's table is laid out as on the card: what the new nodes hold is read off nodes alone
+pub mod LineLayOut
