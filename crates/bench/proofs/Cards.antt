@@ -123,7 +123,7 @@ unfolding fresh drive onAnswer insertWhole deleteWhole upto steps cardL cardB ca
     childPosition childFor childIndex passed routingKeys runBelow deleteOf deleteChange isNode share merge mergeRoot leavesTogether
     innersTogether half leftKeys keyBetween absorb splitParent joinedKeys joinedChildren findOf findIn hasLine seen cardRefusal foundAt leafOf reachedAt depthOf
     foundIn noBeginning noMemory openOf openChecked openSound tableCheck treeCheck nodeCheck onLook enterNode enterKind enterLeaf enterInner
-    innerSound noted lookOf leafSound member unusedZero childrenCheck raised halves copied rangeEnd slotSound heldBy stepChecked stepTask
+    innerSound noted lookOf leafSound member unusedZero childrenCheck raised halves copied rangeEnd slotSound heldBy stepChecked stepTask placedOn onCard seen onLine hasLine
     inLeaf noWay layOut decidedRepair decideAt decideTagged decideUnderfull decideSiblings decideTogether togetherAt
 computing = tt
 

@@ -67,8 +67,8 @@ isReady (Refused r) = false
 
 -- so many steps store a word each, and the next one answers "ready"
 unfoldable pub readyIn : ℕ → World (rationTable greatestNodes) → Bool
-readyIn zero w = isReady (stepOf greatestNodes (w .card) (w .state) .answer)
-readyIn (suc k) w = pick (isStored (stepOf greatestNodes (w .card) (w .state) .answer)) (readyIn k (happens (rationTable greatestNodes) step w)) false
+readyIn zero w = isReady (stepOf greatestNodes 1 (w .card) (w .state) .answer)
+readyIn (suc k) w = pick (isStored (stepOf greatestNodes 1 (w .card) (w .state) .answer)) (readyIn k (happens (rationTable greatestNodes) step w)) false
 
 unfoldable pub after : ℕ → World (rationTable greatestNodes) → World (rationTable greatestNodes)
 after zero w = happens (rationTable greatestNodes) step w
@@ -92,7 +92,7 @@ pub to-ready : (k : ℕ) (w : World (rationTable greatestNodes)) → readyIn k w
 unfolding readyIn after replyTo stepReply LeftUncut run
 to-ready zero w e = (tt, ap stepReply (ready-is _ e), refl)
 to-ready (suc k) w e =
-    bool-cases (isStored (stepOf greatestNodes (w .card) (w .state) .answer))
+    bool-cases (isStored (stepOf greatestNodes 1 (w .card) (w .state) .answer))
     (λ q. let r = to-ready k (happens (rationTable greatestNodes) step w) (rw q at e) in ((tt, r .0), r .1, r .2))
     (λ q. absurd (not-true (rw q at e)))
 
@@ -133,7 +133,7 @@ unfolding readyIn isStored isReady after kept feed told outcome replyTo fedStart
     childPosition childFor childIndex passed routingKeys runBelow deleteOf deleteChange isNode share merge mergeRoot leavesTogether
     innersTogether half leftKeys keyBetween absorb splitParent joinedKeys joinedChildren findOf findIn hasLine seen cardRefusal foundAt leafOf reachedAt depthOf foundIn
     noBeginning noMemory openOf openChecked openSound tableCheck treeCheck nodeCheck onLook enterNode enterKind enterLeaf enterInner innerSound noted
-    lookOf leafSound member unusedZero childrenCheck raised halves copied rangeEnd slotSound heldBy stepChecked stepTask inLeaf noWay layOut
+    lookOf leafSound member unusedZero childrenCheck raised halves copied rangeEnd slotSound heldBy stepChecked stepTask placedOn onCard seen onLine hasLine inLeaf noWay layOut
     decidedRepair decideAt decideTagged decideUnderfull decideSiblings decideTogether togetherAt
 computed = (refl, refl, refl, refl)
 

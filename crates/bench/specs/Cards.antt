@@ -40,7 +40,7 @@ onAnswer next s n (Refused r) = bench s n (Refused r)
 -- steps until a final answer or a refusal, at most so many
 unfoldable pub drive : ℕ → Bench → Bench
 drive zero b = b
-drive (suc k) b = onAnswer (drive k) (stepOf greatestNodes (b .card) (b .memory)) (b .stores) (stepOf greatestNodes (b .card) (b .memory) .answer)
+drive (suc k) b = onAnswer (drive k) (stepOf greatestNodes 1 (b .card) (b .memory)) (b .stores) (stepOf greatestNodes 1 (b .card) (b .memory) .answer)
 
 abbrev pub begin : List ℕ → Handed → Bench
 begin card b = record { card = card; memory = b .memory; stores = 0; answer = Stored 0 }
@@ -50,15 +50,15 @@ unfoldable pub fresh : ℕ → Bench
 fresh n = drive 20000 (begin (replicate (8 + 24 * n) 9) (formatOf greatestNodes (replicate (8 + 24 * n) 9)))
 
 unfoldable pub insertWhole : ℕ → ℕ → Bench → Bench
-insertWhole k v b = drive 700 (begin (b .card) (insertOf greatestNodes (b .card) (b .memory) k v))
+insertWhole k v b = drive 700 (begin (b .card) (insertOf greatestNodes 1 (b .card) (b .memory) k v))
 
 unfoldable pub deleteWhole : ℕ → Bench → Bench
-deleteWhole k b = drive 700 (begin (b .card) (deleteOf greatestNodes (b .card) (b .memory) k))
+deleteWhole k b = drive 700 (begin (b .card) (deleteOf greatestNodes 1 (b .card) (b .memory) k))
 
 -- so many steps of an insert, and then power goes: the card as it is
 unfoldable pub steps : ℕ → Bench → Bench
 steps zero b = b
-steps (suc k) b = steps k (bench (stepOf greatestNodes (b .card) (b .memory)) (b .stores) (Stored 0))
+steps (suc k) b = steps k (bench (stepOf greatestNodes 1 (b .card) (b .memory)) (b .stores) (Stored 0))
 
 unfoldable pub upto : ℕ → Bench → Bench
 upto zero b = b
@@ -88,7 +88,7 @@ cardL2 = deleteWhole 9 (deleteWhole 10 (deleteWhole 8 (deleteWhole 7 cardK)))
 
 -- one store of card B's insert, then power goes
 abbrev pub cutB : List ℕ
-cutB = steps 1 (begin (cardL .card) (insertOf greatestNodes (cardL .card) (cardL .memory) 7 70)) .card
+cutB = steps 1 (begin (cardL .card) (insertOf greatestNodes 1 (cardL .card) (cardL .memory) 7 70)) .card
 
 -- B again, whole, on the card opened after that cut
 abbrev pub againB : Bench
@@ -96,11 +96,11 @@ againB = insertWhole 7 70 (begin cutB (openOf greatestNodes cutB))
 
 -- the card in the middle of card I's split: 40 of its 73 stores, then power goes
 abbrev pub cutI : Bench → List ℕ
-cutI b = steps 40 (begin (b .card) (insertOf greatestNodes (b .card) (b .memory) 12 120)) .card
+cutI b = steps 40 (begin (b .card) (insertOf greatestNodes 1 (b .card) (b .memory) 12 120)) .card
 
 -- the same after all 73
 abbrev pub splitI : Bench → List ℕ
-splitI b = steps 73 (begin (b .card) (insertOf greatestNodes (b .card) (b .memory) 12 120)) .card
+splitI b = steps 73 (begin (b .card) (insertOf greatestNodes 1 (b .card) (b .memory) 12 120)) .card
 
 -- A: L, find 7: absent
 unfoldable pub rowA : List ℕ
@@ -147,13 +147,13 @@ rowG62432 = said (startReply (formatOf greatestNodes (replicate 62432 0) .begun)
 
 -- H: key 0 refused 6; 4,294,967,295 accepted
 unfoldable pub rowHinsert : List ℕ
-rowHinsert = said (startReply (insertOf greatestNodes (cardL .card) (cardL .memory) 0 1 .begun))
+rowHinsert = said (startReply (insertOf greatestNodes 1 (cardL .card) (cardL .memory) 0 1 .begun))
 
 unfoldable pub rowHfind : List ℕ
 rowHfind = said (foundReply (findOf greatestNodes 1 (cardL .card) 0))
 
 unfoldable pub rowHgreatest : List ℕ
-rowHgreatest = said (startReply (insertOf greatestNodes (cardL .card) (cardL .memory) 4294967295 1 .begun))
+rowHgreatest = said (startReply (insertOf greatestNodes 1 (cardL .card) (cardL .memory) 4294967295 1 .begun))
 
 -- I: S, insert 12: 73 stores, leaves 2 and 3, root 4, routing key 7
 unfoldable pub rowI : List ℕ
@@ -161,7 +161,7 @@ rowI = cardI .stores ∷ getD (cardI .card) 4 0 ∷ (children (nodeAt (cardI .ca
 
 -- J: with N = 5, refused 8
 unfoldable pub rowJ : List ℕ
-rowJ = said (startReply (insertOf greatestNodes (upto 11 (fresh 5) .card) (upto 11 (fresh 5) .memory) 12 120 .begun))
+rowJ = said (startReply (insertOf greatestNodes 1 (upto 11 (fresh 5) .card) (upto 11 (fresh 5) .memory) 12 120 .begun))
 
 -- K: after I, delete 1 to 5: the last takes 74 stores, leaves 5 (6 to 9) and 6 (10 to 12), root 1, routing key 10
 unfoldable pub rowK : List ℕ

@@ -1,13 +1,16 @@
 -- The next change on a line's table is the card's from the line's root.
 use mathlib.Core.Path.{_≡_, refl, ap, _∙_}
-use mathlib.Core.Bool.{Bool}
+use mathlib.Core.Bool.{Bool, false}
 use mathlib.Core.List.{List}
 use Prim.Native.Nat.{ℕ}
 use lib.ListN.{getD}
 use Rattle.card.specs.Layout.{depthLimit}
 use Rattle.card.specs.Lines.{rootOf, seen}
 use Rattle.card.proofs.LineLaws.{seen-node}
-use Rattle.walk.specs.Descent.{rootPosition, seek, wayFrom, landedAt, landingOf}
+use Rattle.walk.specs.Descent.{rootPosition, seek, Way, wayFrom, runOver, endOf, landedAt, landingOf}
+use Rattle.walk.proofs.DescentLaws.{unsought-refused, unsought-leaf}
+use Rattle.walk.specs.declared.Position.{Position}
+use Rattle.walk.specs.declared.End.the-variants.{Refused as EndRefused, Leaf as EndLeaf}
 use Rattle.walk.proofs.LineWays.{way-seen, run-seen}
 use Rattle.walk.specs.declared.Landing.{Landing}
 use Rattle.walk.specs.declared.Landing.the-variants.{Refused as NoLanding, Leaf as LandingAt}
@@ -40,6 +43,19 @@ module _ (line : ℕ) (card : List ℕ) (n : ℕ) where
   landing-seen key =
       let w = wayFrom card n key depthLimit (rootPosition (getD card (rootOf line) 0)) in
       ap (landingOf (seen line card)) (way-seen line card n key) ∙ ap (λ (run : ℕ). landedAt run (w .leaf)) (run-seen line card n 0 (w .inner))
+
+  -- what the walk from the line's root tells of it
+  abbrev below : ℕ → Way
+  below key = wayFrom card n key depthLimit (rootPosition (getD card (rootOf line) 0))
+
+  pub land-refused : (key : ℕ) → endOf card false (below key) ≡ EndRefused → landing (seen line card) n key ≡ NoLanding
+  unfolding landingOf landedAt
+  land-refused key e = landing-seen key ∙ ap (landedAt _) (unsought-refused card (below key) e)
+
+  pub land-leaf : (key : ℕ) (p : Position) (depth : ℕ) → endOf card false (below key) ≡ EndLeaf p depth
+      → landing (seen line card) n key ≡ LandingAt (p .node) (p .link) (runOver card 0 (below key .inner))
+  unfolding landingOf landedAt
+  land-leaf key p depth e = landing-seen key ∙ ap (landedAt _) (unsought-leaf card (below key) p depth e)
 
   in-leaf-seen : (doing : Doing) (inLeaf : ℕ → ℕ → List ℕ → First) (l : Landing) → decidedIn (seen line card) doing inLeaf l ≡ decidedIn card doing inLeaf l
   unfolding decidedIn

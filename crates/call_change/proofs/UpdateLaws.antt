@@ -1,17 +1,18 @@
 -- Laws of the updates: one for each branch of the code.
 use mathlib.Core.Path.{_≡_, refl, ap, sym, subst, _∙_}
 use mathlib.Core.List.{List, [], _∷_}
-use mathlib.Core.Bool.{false}
 use mathlib.Core.Option.{Option, none, some}
 use Prim.Native.Nat.{ℕ, zero, suc, _+_, _*_, _^_, _≤_, _<_}
 use native.Mathlib.Omega.{arith}
 use lib.ListN.{length, getD}
 use borrow.Author.Tests.{ne-eqb}
 use Rattle.card.specs.Header.{Sized}
+use Rattle.card.specs.Lines.{seen}
+use Rattle.card.proofs.LineLaws.{seen-node, seen-sized}
 use Rattle.card.specs.Layout.{depthLimit, greatestNodes, rootPlace, nodeAt, keyWords, valueWords, children, slotPairs, leafPairs}
 use Rattle.card.proofs.NodeLaws.{length-node, length-keyWords, length-valueWords}
-use Rattle.walk.specs.Descent.{firstEqual, slotOf, lookAt, rootPosition, childPosition, Way, way, runOver, landedAt, landingOf, endOf}
-use Rattle.walk.proofs.DescentLaws.{Inside, index-le, leaf-inside, inner-inside, unsought-refused, unsought-leaf}
+use Rattle.walk.specs.Descent.{firstEqual, slotOf, lookAt, rootPosition, childPosition, Way, way, runOver, landedAt, landingOf}
+use Rattle.walk.proofs.DescentLaws.{Inside, index-le, leaf-inside, inner-inside}
 use Rattle.walk.proofs.Along.{along, run-over-le}
 use Rattle.laws.proofs.Cases.{impossible}
 use Rattle.call_change.specs.Updates.{landing, emptyReason}
@@ -20,7 +21,6 @@ use Rattle.walk.specs.declared.Slot.the-variants.{At, Absent as NoSlot}
 use Rattle.walk.specs.declared.Landing.the-variants.{Refused as NoLanding, Leaf as LandingAt}
 use Rattle.walk.specs.declared.Position.{Position}
 use Rattle.walk.specs.declared.Look.the-variants.{Inner as IsInner}
-use Rattle.walk.specs.declared.End.the-variants.{Refused as EndRefused, Leaf as EndLeaf}
 use Rattle.state.specs.declared.Doing.{Doing}
 use Rattle.state.specs.declared.Doing.the-variants.{Inserting}
 use Rattle.state.specs.declared.Phase.the-variants.{InHand}
@@ -65,16 +65,6 @@ leaf-on card w m link run e = go (w .leaf) refl e
     go none f z = impossible (cc)
     go (some p) f z = record { position = p; on-way = f; node-is = cc; link-is = cc; run-is = cc }
 
-module _ (card : List ℕ) (n key : ℕ) where
-  -- what the walk to a leaf tells of the landing
-  pub land-refused : endOf card false (way card n key) ≡ EndRefused → landing card n key ≡ NoLanding
-  unfolding landing landingOf landedAt
-  land-refused e = ap (landedAt _) (unsought-refused card (way card n key) e)
-
-  pub land-leaf : (p : Position) (depth : ℕ) → endOf card false (way card n key) ≡ EndLeaf p depth → landing card n key ≡ LandingAt (p .node) (p .link) (runOver card 0 (way card n key .inner))
-  unfolding landing landingOf landedAt
-  land-leaf p depth e = ap (landedAt _) (unsought-leaf card (way card n key) p depth e)
-
 module _ (greatest : ℕ) (card : List ℕ) (n key m link run : ℕ) (fits : Sized greatest (length card) n) where
   child-linked : (q : Position) → q .link < 2 ^ 32 → lookAt card n (q .node) ≡ IsInner → 0 < length (children (nodeAt card (q .node))) → childPosition (nodeAt card (q .node)) key q .link < 2 ^ 32
   unfolding childPosition
@@ -112,26 +102,26 @@ answer-empty leaf key value m link = go (slotOf leaf 0)
     go (At i) = refl
     go NoSlot = refl
 
--- where an update's key leads to, as the code finds it, and what is decided there
-module _ (greatest : ℕ) (card : List ℕ) (n key : ℕ) (a : Arrival) (arrives : Arrives a (landing card n key)) where
+-- where an update's key leads to in a line's table, as the code finds it, and what is decided there
+module _ (greatest line : ℕ) (card : List ℕ) (n key : ℕ) (a : Arrival) (arrives : Arrives a (landing (seen line card) n key)) where
   pub decided-nowhere : (doing : Doing) (at : ℕ → ℕ → List ℕ → First) → a ≡ NoArrival
-      → record { doing = doing; answer = Absent; decision = NoStep } ≡ decidedIn card doing at (landing card n key)
+      → record { doing = doing; answer = Absent; decision = NoStep } ≡ decidedIn (seen line card) doing at (landing (seen line card) n key)
   unfolding Arrives decidedIn
-  decided-nowhere doing at e = sym (ap (decidedIn card doing at) (subst (λ (r : Arrival). Arrives r (landing card n key)) e arrives))
+  decided-nowhere doing at e = sym (ap (decidedIn (seen line card) doing at) (subst (λ (r : Arrival). Arrives r (landing (seen line card) n key)) e arrives))
 
   module _ (m link : ℕ) (e : a ≡ ArrivesAt m link) where
-    somewhere : (run : ℕ) × (landing card n key ≡ LandingAt m link run)
+    somewhere : (run : ℕ) × (landing (seen line card) n key ≡ LandingAt m link run)
     unfolding Arrives
-    somewhere = subst (λ (r : Arrival). Arrives r (landing card n key)) e arrives
+    somewhere = subst (λ (r : Arrival). Arrives r (landing (seen line card) n key)) e arrives
 
-    pub decided-there : (doing : Doing) (at : ℕ → ℕ → List ℕ → First) → at m link (nodeAt card m) ≡ decidedIn card doing at (landing card n key)
+    pub decided-there : (doing : Doing) (at : ℕ → ℕ → List ℕ → First) → at m link (nodeAt card m) ≡ decidedIn (seen line card) doing at (landing (seen line card) n key)
     unfolding decidedIn
-    decided-there doing at = sym (ap (decidedIn card doing at) (somewhere .1))
+    decided-there doing at = ap (at m link) (sym (seen-node line card m)) ∙ sym (ap (decidedIn (seen line card) doing at) (somewhere .1))
 
     -- the leaf is one of the card's nodes
     pub leaf-there : Sized greatest (length card) n → (1 ≤ m) × (m ≤ greatestNodes) × (8 + 24 * m ≤ length card)
     leaf-there fits =
-        let on = landed greatest card n key m link (somewhere .0) fits (somewhere .1) .inside in
+        let on = landed greatest (seen line card) n key m link (somewhere .0) (seen-sized line card fits) (somewhere .1) .inside in
         (on .one, omega (arith, on .most, fits .most), omega (arith, on .most, fits .words))
 
     pub leaf-words : Sized greatest (length card) n → length (nodeAt card m) ≡ 24

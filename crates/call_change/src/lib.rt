@@ -13,6 +13,7 @@ ghost use Prim.Native.Nat.{ℕ};
 ghost use lib.ListN.{length};
 ghost use Rattle.card.specs.Layout.{greatestNodes};
 ghost use Rattle.card.specs.Header.{Sized};
+ghost use Rattle.card.specs.Lines.{IsLine, seen};
 ghost use Rattle.walk.specs.Descent.{slotOf};
 ghost use Rattle.state.specs.declared.Task.the-variants.{PutIn, TakeOut};
 ghost use Rattle.call_change.specs.Updates.{landing, emptyReason, insertReason};
@@ -110,12 +111,12 @@ pub enum Arrival {
     Leaf { node: usize, link: usize },
 }
 
-// The leaf that an update's key leads to. The walk is asked for no violation, so it stops at none.
-fn arrive(card: &[u32], n: usize, key: u32) -> Arrival
-    requires { ⌜ Sized greatestNodes (length (now card)) n ⌝ }
-    ensures { λ r. ⌜ Arrives r (landing (now (card .entry)) n key) ⌝ }
+// The leaf that an update's key leads to in a line's table. The walk is asked for no violation, so it stops at none.
+fn arrive(card: &[u32], n: usize, line: u32, key: u32) -> Arrival
+    requires { ⌜ Sized greatestNodes (length (now card)) n × IsLine line ⌝ }
+    ensures { λ r. ⌜ Arrives r (landing (seen line (now (card .entry))) n key) ⌝ }
 {
-    match walk::descend(card, n, key, card[card::ROOT_PLACE] as usize, false) {
+    match walk::descend(card, n, key, card::root_of(card, line), false) {
         End::Refused => Arrival::Refused,
         End::Fault(_) => Arrival::Refused,
         End::Leaf { position, depth: _ } => Arrival::Leaf {
@@ -126,11 +127,11 @@ fn arrive(card: &[u32], n: usize, key: u32) -> Arrival
 }
 
 // The first change of an insert, in the leaf that its key leads to; "on the way down": refused, the step is refused too.
-fn put_in(card: &[u32], n: usize, doing: Doing, key: u32, value: u32) -> First
-    requires { ⌜ Sized greatestNodes (length (now card)) n ⌝ }
-    ensures { λ r. ⌜ r ≡ decided (now (card .entry)) n doing (PutIn key value) ⌝ }
+fn put_in(card: &[u32], n: usize, line: u32, doing: Doing, key: u32, value: u32) -> First
+    requires { ⌜ Sized greatestNodes (length (now card)) n × IsLine line ⌝ }
+    ensures { λ r. ⌜ r ≡ decided (seen line (now (card .entry))) n doing (PutIn key value) ⌝ }
 {
-    match arrive(card, n, key) {
+    match arrive(card, n, line, key) {
         Arrival::Refused => First {
             doing,
             answer: Answer::Absent,
@@ -143,11 +144,11 @@ fn put_in(card: &[u32], n: usize, doing: Doing, key: u32, value: u32) -> First
 }
 
 // The first change of a delete, in the leaf that its key leads to.
-fn take_out(card: &[u32], n: usize, doing: Doing, key: u32) -> First
-    requires { ⌜ Sized greatestNodes (length (now card)) n ⌝ }
-    ensures { λ r. ⌜ r ≡ decided (now (card .entry)) n doing (TakeOut key) ⌝ }
+fn take_out(card: &[u32], n: usize, line: u32, doing: Doing, key: u32) -> First
+    requires { ⌜ Sized greatestNodes (length (now card)) n × IsLine line ⌝ }
+    ensures { λ r. ⌜ r ≡ decided (seen line (now (card .entry))) n doing (TakeOut key) ⌝ }
 {
-    match arrive(card, n, key) {
+    match arrive(card, n, line, key) {
         Arrival::Refused => First {
             doing,
             answer: Answer::Absent,
@@ -157,18 +158,18 @@ fn take_out(card: &[u32], n: usize, doing: Doing, key: u32) -> First
     }
 }
 
-// What the next step of a task decides, for a state that is doing this. "Repairs go on until balanced", and then the answer is given.
-pub fn next_change(card: &[u32], n: usize, doing: Doing, task: Task) -> First
-    requires { ⌜ Sized greatestNodes (length (now card)) n ⌝ }
-    ensures { λ r. ⌜ r ≡ decided (now (card .entry)) n doing task ⌝ }
+// What the next step of a task decides in a line's table, for a state that is doing this. "Repairs go on until balanced", and then the answer is given.
+pub fn next_change(card: &[u32], n: usize, line: u32, doing: Doing, task: Task) -> First
+    requires { ⌜ Sized greatestNodes (length (now card)) n × IsLine line ⌝ }
+    ensures { λ r. ⌜ r ≡ decided (seen line (now (card .entry))) n doing task ⌝ }
 {
     match task {
-        Task::PutIn { key, value } => put_in(card, n, doing, key, value),
-        Task::TakeOut { key } => take_out(card, n, doing, key),
+        Task::PutIn { key, value } => put_in(card, n, line, doing, key, value),
+        Task::TakeOut { key } => take_out(card, n, line, doing, key),
         Task::Repair { key, answer } => First {
             doing,
             answer,
-            decision: next_repair(card, n, key),
+            decision: next_repair(card, n, line, key),
         },
     }
 }

@@ -35,7 +35,7 @@ unfolding repairedCard
 repair-over greatest k card m e = rw e
 
 pub repair-on : (greatest : ℕ) (k : ℕ) (card : List ℕ) (m : Memory) → (k ≡ 0 → ⊥) → isIdle (m .doing) ≡ false
-    → repairedCard greatest k card m ≡ repairedCard greatest (k - 1) (stepOf greatest card m .card) (stepOf greatest card m .memory)
+    → repairedCard greatest k card m ≡ repairedCard greatest (k - 1) (stepOf greatest 1 card m .card) (stepOf greatest 1 card m .memory)
 unfolding repairedCard
 repair-on greatest zero card m d e = absurd (d refl)
 repair-on greatest (suc k) card m d e = let z : suc k - 1 ≡ k = omega arith in rw (e, z)

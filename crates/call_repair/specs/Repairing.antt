@@ -20,7 +20,7 @@ pub record Repaired : Type 0 where
 -- steps, at most so many, until the state is idle. Of each definition the first number is the greatest N
 unfoldable pub repairedCard : ℕ → ℕ → List ℕ → Memory → Repaired
 repairedCard greatest zero card m = record { card = card; memory = m }
-repairedCard greatest (suc k) card m = pick (isIdle (m .doing)) (record { card = card; memory = m }) (repairedCard greatest k (stepOf greatest card m .card) (stepOf greatest card m .memory))
+repairedCard greatest (suc k) card m = pick (isIdle (m .doing)) (record { card = card; memory = m }) (repairedCard greatest k (stepOf greatest 1 card m .card) (stepOf greatest 1 card m .memory))
 
 -- a card that was opened, once its repair is done
 unfoldable pub openedCard : ℕ → List ℕ → Repaired

@@ -20,7 +20,7 @@ fn repair(card: &mut [u32], state: &mut [u32], greatest: usize)
         if is_idle(state) {
             return;
         }
-        step(card, state, greatest);
+        step(card, state, card::FIRST_LINE, greatest);
         left -= 1;
     }
 }

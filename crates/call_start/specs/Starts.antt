@@ -7,6 +7,7 @@ use lib.Dec.{eqb}
 use Rattle.laws.specs.Cases.{pick}
 use Rattle.card.specs.Header.{nodesOfLength, headerRefusal}
 use Rattle.card.specs.Layout.{formattedRoot}
+use Rattle.card.specs.Lines.{hasLine, seen}
 use Rattle.walk.specs.Descent.{way, leafOf, depthOf}
 use Rattle.walk.specs.declared.Landing.{Landing}
 use Rattle.walk.specs.declared.Landing.the-variants.{Refused as NoLanding, Leaf as LandingAt}
@@ -31,7 +32,7 @@ formatOf greatest card =
           (set (allNodes (nodesOfLength greatest (length card))) formattedRoot false) formattedRoot noTotals (Formatting 0);
     })
 
--- STARTING AN UPDATE. "Starting an update stores nothing." Refusals 1, 2, 3, 7, 6, 9, and 8 for an insert.
+-- STARTING AN UPDATE. "Starting an update stores nothing." Refusals 1, 2, 3, 7, 18, 6, 9, and 8 for an insert.
 unfoldable pub startRefused : ℕ → Memory → Handed
 startRefused r m = record { begun = BegunRefused r; memory = m }
 
@@ -40,36 +41,39 @@ unfoldable pub startAccepted : Memory → Doing → ℕ → Handed
 startAccepted m doing depth =
     record { begun = Started; memory = record { nodes = m .nodes; free = m .free; last = m .last; doing = doing; rest = m .rest; cut = m .cut; depth = depth; totals = m .totals } }
 
--- those on the way of a key, for a state of so many nodes
-abbrev pub startDepth : List ℕ → Memory → ℕ → ℕ
-startDepth card m key = depthOf (leafOf (way card (m .nodes) key))
+-- those on the way of a key in a line's table, for a state of so many nodes
+abbrev pub startDepth : ℕ → List ℕ → Memory → ℕ → ℕ
+startDepth line card m key = depthOf (leafOf (way (seen line card) (m .nodes) key))
 
 -- "9: node number 0 or above N, kind not 1 to 3, no children, or more than 10 internal nodes"
 unfoldable pub startLanded : Memory → Doing → ℕ → Bool → Landing → Handed
 startLanded m doing depth room NoLanding = startRefused 9 m
 startLanded m doing depth room (LandingAt node link run) = pick room (startAccepted m doing depth) (startRefused 8 m)
 
--- "8: key absent, leaf full, free nodes fewer than j + 5"; an update that is no insert always has room
-unfoldable pub startChecked : List ℕ → Memory → ℕ → Doing → (Landing → Bool) → Handed
-startChecked card m key doing room =
+-- "18: line number not one the card has, just before 6" (document 02, W-207); "8: key absent, leaf full, free nodes fewer than j + 5"; an
+-- update that is no insert always has room
+unfoldable pub startChecked : ℕ → List ℕ → Memory → ℕ → Doing → (Landing → Bool) → Handed
+startChecked line card m key doing room =
     pick (isIdle (m .doing))
+    (pick (hasLine card line)
     (pick (eqb key 0) (startRefused 6 m)
-    (startLanded m doing (startDepth card m key) (room (landing card (m .nodes) key)) (landing card (m .nodes) key)))
+    (startLanded m doing (startDepth line card m key) (room (landing (seen line card) (m .nodes) key)) (landing (seen line card) (m .nodes) key)))
+    (startRefused 18 m))
     (startRefused 7 m)
 
-unfoldable pub startOf : ℕ → List ℕ → Memory → ℕ → Doing → (Landing → Bool) → Handed
-startOf greatest card m key doing room =
+unfoldable pub startOf : ℕ → ℕ → List ℕ → Memory → ℕ → Doing → (Landing → Bool) → Handed
+startOf greatest line card m key doing room =
     pick (eqb (nodesOfLength greatest (length card)) 0) (startRefused 1 m)
     (pick (eqb (nodesOfLength greatest (length card)) (m .nodes))
-    (pick (eqb (headerRefusal card (m .nodes)) 0) (startChecked card m key doing room) (startRefused (headerRefusal card (m .nodes)) m))
+    (pick (eqb (headerRefusal card (m .nodes)) 0) (startChecked line card m key doing room) (startRefused (headerRefusal card (m .nodes)) m))
     (startRefused 1 m))
 
 -- "8: .. free nodes fewer than j + 5": "Steps and refusal 8 go by these bits"
 abbrev pub roomOf : Memory → ℕ
 roomOf m = countTrue (m .free)
 
-unfoldable pub insertOf : ℕ → List ℕ → Memory → ℕ → ℕ → Handed
-insertOf greatest card m key value = startOf greatest card m key (Inserting key value NotBegun) (startRoom card key (roomOf m))
+unfoldable pub insertOf : ℕ → ℕ → List ℕ → Memory → ℕ → ℕ → Handed
+insertOf greatest line card m key value = startOf greatest line card m key (Inserting key value NotBegun) (startRoom (seen line card) key (roomOf m))
 
-unfoldable pub deleteOf : ℕ → List ℕ → Memory → ℕ → Handed
-deleteOf greatest card m key = startOf greatest card m key (Deleting key NotBegun 0) (λ l. true)
+unfoldable pub deleteOf : ℕ → ℕ → List ℕ → Memory → ℕ → Handed
+deleteOf greatest line card m key = startOf greatest line card m key (Deleting key NotBegun 0) (λ l. true)

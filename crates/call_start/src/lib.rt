@@ -24,22 +24,29 @@ ghost use Prim.Native.Nat.{_≤_, _<_};
 ghost use lib.ListN.{length, set};
 ghost use Rattle.card.specs.Header.{Sized};
 ghost use Rattle.card.specs.Layout.{greatestNodes, depthLimit, nodeAt, formattedRoot};
+ghost use Rattle.card.specs.Lines.{IsLine, seen};
 ghost use Rattle.card_family.specs.Families.{familyCount, noTotals};
-ghost use Rattle.card_free.specs.NodeSet.{wordCount, capacity, nodesOf, countTrue, allNodes};
+ghost use Rattle.card_free.specs.NodeSet.{wordCount, capacity, nodesOf, allNodes};
 ghost use Rattle.walk.specs.Descent.{slotOf, way, leafOf, depthOf, runOver};
 ghost use Rattle.laws.specs.Cases.{pick};
-ghost use Rattle.state.specs.Steps.{isIdle};
 ghost use Rattle.state.specs.declared.Doing.the-variants.{Inserting, Deleting};
 ghost use Rattle.state.specs.declared.Phase.the-variants.{NotBegun};
 ghost use Rattle.state.specs.Block.{freeAt, totalsAt, stateWords, part, memoryIn};
 ghost use Rattle.state.specs.Contracts.{OpenCall, StartCall};
 ghost use Rattle.call_change.specs.Updates.{landing, insertReason, roomFor};
 ghost use Rattle.call_start.specs.Starts.{formatOf, roomOf, insertOf, deleteOf};
-ghost use Rattle.call_start.specs.Refusals.{startRefusal, isSlot, roomWhere, landingRefusal, dueRefusal, dueDepth, begunBy};
+ghost use Rattle.call_start.specs.Refusals.{startRefusal, isSlot, lineWay, roomWhere, landingRefusal, dueRefusal, dueDepth, begunBy};
 
-// The refusals 1, 2, 3, 7 and 6 of starting an update, in this order; 0 where none is due.
-fn early_refusal(card: &[u32], nodes: usize, idle: bool, key: u32, greatest: usize) -> u32
-    ensures { λ r. ⌜ r ≡ startRefusal greatest (now (card .entry)) nodes idle key ⌝ }
+// The refusals 1, 2, 3, 7, 18 and 6 of starting an update, in this order; 0 where none is due.
+fn early_refusal(
+    card: &[u32],
+    nodes: usize,
+    idle: bool,
+    line: u32,
+    key: u32,
+    greatest: usize,
+) -> u32
+    ensures { λ r. ⌜ r ≡ startRefusal greatest line (now (card .entry)) nodes idle key ⌝ }
 {
     if !card::is_sized(card.len(), nodes, greatest) {
         return 1;
@@ -50,6 +57,9 @@ fn early_refusal(card: &[u32], nodes: usize, idle: bool, key: u32, greatest: usi
     }
     if !idle {
         return 7;
+    }
+    if !card::has_line(card, line) {
+        return 18;
     }
     if key == 0 {
         return 6;
@@ -68,11 +78,14 @@ fn has_word(leaf: &[u32], word: u32) -> bool
     }
 }
 
-// "A splitting insert needs j + 5 free nodes." The 11-child nodes above leaf m are counted only where it is full; they may be any
-// number here, so the 5 are taken from the free nodes.
-fn has_room(card: &[u32], n: usize, m: usize, key: u32, free: &[u32]) -> bool
-    requires { ⌜ Sized greatestNodes (length (now card)) n × (1 ≤ m) × (m ≤ n) × (length (now free) ≡ wordCount) ⌝ }
-    ensures { λ r. ⌜ r ≡ roomFor (countTrue (nodesOf (now (free .entry)))) (runOver (now (card .entry)) 0 (way (now (card .entry)) n key .inner)) (insertReason (nodeAt (now (card .entry)) m) key) ⌝ }
+// "A splitting insert needs j + 5 free nodes." The 11-child nodes above leaf m of the line's table are counted only where it is full;
+// they may be any number here, so the 5 are taken from the free nodes.
+fn has_room(card: &[u32], state: &[u32], line: u32, m: usize, key: u32) -> bool
+    requires { ⌜ (length (now state) ≡ stateWords) × Sized greatestNodes (length (now card)) (memoryIn (now state) .nodes)
+        × (1 ≤ m) × (m ≤ memoryIn (now state) .nodes) × IsLine line ⌝ }
+    ensures { λ r. ⌜ r ≡ roomFor (roomOf (memoryIn (now (state .entry))))
+        (runOver (now (card .entry)) 0 (lineWay line (now (card .entry)) (memoryIn (now (state .entry)) .nodes) key .inner))
+        (insertReason (nodeAt (now (card .entry)) m) key) ⌝ }
 {
     let leaf = card::node_at(card, m);
     if has_word(leaf, key) {
@@ -81,22 +94,31 @@ fn has_room(card: &[u32], n: usize, m: usize, key: u32, free: &[u32]) -> bool
     if has_word(leaf, 0) {
         return true;
     }
-    let count = card_free::count(free);
+    let count = card_free::count(&state[FREE..PLACES]);
     if count < call_change::SPLIT_NEED {
         return false;
     }
-    let run = walk::run_above(card, n, key, card[card::ROOT_PLACE] as usize);
+    let run = walk::run_above(card, wide(state[NODES]), key, card::root_of(card, line));
     run <= count - call_change::SPLIT_NEED
 }
 
 // The same of an update that may split its leaf, or of one that never does and so needs no room.
-fn has_room_where(splits: bool, card: &[u32], n: usize, m: usize, key: u32, free: &[u32]) -> bool
-    requires { ⌜ Sized greatestNodes (length (now card)) n × (1 ≤ m) × (m ≤ n) × (length (now free) ≡ wordCount) ⌝ }
-    ensures { λ r. ⌜ r ≡ pick splits (roomFor (countTrue (nodesOf (now (free .entry))))
-        (runOver (now (card .entry)) 0 (way (now (card .entry)) n key .inner)) (insertReason (nodeAt (now (card .entry)) m) key)) true ⌝ }
+fn has_room_where(
+    splits: bool,
+    card: &[u32],
+    state: &[u32],
+    line: u32,
+    m: usize,
+    key: u32,
+) -> bool
+    requires { ⌜ (length (now state) ≡ stateWords) × Sized greatestNodes (length (now card)) (memoryIn (now state) .nodes)
+        × (1 ≤ m) × (m ≤ memoryIn (now state) .nodes) × IsLine line ⌝ }
+    ensures { λ r. ⌜ r ≡ pick splits (roomFor (roomOf (memoryIn (now (state .entry))))
+        (runOver (now (card .entry)) 0 (lineWay line (now (card .entry)) (memoryIn (now (state .entry)) .nodes) key .inner))
+        (insertReason (nodeAt (now (card .entry)) m) key)) true ⌝ }
 {
     if splits {
-        return has_room(card, n, m, key, free);
+        return has_room(card, state, line, m, key);
     }
     true
 }
@@ -117,13 +139,15 @@ pub struct Due {
 
 // "9: node number 0 or above N, kind not 1 to 3, no children, or more than 10 internal nodes", then 8. `splits` says whether the update
 // may split its leaf.
-fn way_due(card: &[u32], nodes: usize, free: &[u32], key: u32, splits: bool) -> Due
-    requires { ⌜ Sized greatestNodes (length (now card)) nodes × (length (now free) ≡ wordCount) ⌝ }
-    ensures { λ r. ⌜ r .refusal ≡ landingRefusal (roomWhere splits (now (card .entry)) key (countTrue (nodesOf (now (free .entry))))
-        (landing (now (card .entry)) nodes key)) (landing (now (card .entry)) nodes key) ⌝ }
-    ensures { λ r. ⌜ r .depth ≡ depthOf (leafOf (way (now (card .entry)) nodes key)) ⌝ }
+fn way_due(card: &[u32], state: &[u32], line: u32, key: u32, splits: bool) -> Due
+    requires { ⌜ (length (now state) ≡ stateWords) × Sized greatestNodes (length (now card)) (memoryIn (now state) .nodes) × IsLine line ⌝ }
+    ensures { λ r. ⌜ r .refusal ≡ landingRefusal (roomWhere splits (seen line (now (card .entry))) key (roomOf (memoryIn (now (state .entry))))
+        (landing (seen line (now (card .entry))) (memoryIn (now (state .entry)) .nodes) key))
+        (landing (seen line (now (card .entry))) (memoryIn (now (state .entry)) .nodes) key) ⌝ }
+    ensures { λ r. ⌜ r .depth ≡ depthOf (leafOf (way (seen line (now (card .entry))) (memoryIn (now (state .entry)) .nodes) key)) ⌝ }
 {
-    match walk::descend(card, nodes, key, card[card::ROOT_PLACE] as usize, false) {
+    let nodes = wide(state[NODES]);
+    match walk::descend(card, nodes, key, card::root_of(card, line), false) {
         End::Refused => Due {
             refusal: 9,
             depth: 0,
@@ -133,30 +157,42 @@ fn way_due(card: &[u32], nodes: usize, free: &[u32], key: u32, splits: bool) -> 
             depth: 0,
         },
         End::Leaf { position, depth } => Due {
-            refusal: room_refusal(has_room_where(splits, card, nodes, position.node, key, free)),
+            refusal: room_refusal(has_room_where(splits, card, state, line, position.node, key)),
             depth,
         },
     }
 }
 
 // The early refusals, by the words of a block, and then those of the way.
-fn block_due(card: &[u32], state: &[u32], key: u32, splits: bool, greatest: usize) -> Due
+fn block_due(
+    card: &[u32],
+    state: &[u32],
+    line: u32,
+    key: u32,
+    splits: bool,
+    greatest: usize,
+) -> Due
     requires { ⌜ length (now state) ≡ stateWords ⌝ }
     ensures { λ r. ⌜ r .refusal
-        ≡ dueRefusal greatest (now (card .entry)) (memoryIn (now (state .entry)) .nodes) (isIdle (memoryIn (now (state .entry)) .doing)) key
-        (roomWhere splits (now (card .entry)) key (roomOf (memoryIn (now (state .entry))))) ⌝ }
-    ensures { λ r. ⌜ r .depth
-        ≡ dueDepth greatest (now (card .entry)) (memoryIn (now (state .entry)) .nodes) (isIdle (memoryIn (now (state .entry)) .doing)) key ⌝ }
+        ≡ dueRefusal greatest line (now (card .entry)) (memoryIn (now (state .entry))) key
+        (roomWhere splits (seen line (now (card .entry))) key (roomOf (memoryIn (now (state .entry))))) ⌝ }
+    ensures { λ r. ⌜ r .depth ≡ dueDepth greatest line (now (card .entry)) (memoryIn (now (state .entry))) key ⌝ }
 {
-    let nodes = wide(state[NODES]);
-    let early = early_refusal(card, nodes, is_idle(state), key, greatest);
+    let early = early_refusal(
+        card,
+        wide(state[NODES]),
+        is_idle(state),
+        line,
+        key,
+        greatest,
+    );
     if early != 0 {
         return Due {
             refusal: early,
             depth: 0,
         };
     }
-    way_due(card, nodes, &state[FREE..PLACES], key, splits)
+    way_due(card, state, line, key, splits)
 }
 
 // "Starting an update stores nothing": the block with the update in hand, or as it was where a refusal is due.
@@ -217,9 +253,17 @@ pub fn start_format(card: &[u32], state: &mut [u32], greatest: usize) -> Begun
     Begun::Started
 }
 
-// "Starting an update stores nothing."
-pub fn start_insert(card: &[u32], state: &mut [u32], key: u32, value: u32, greatest: usize) -> Begun
-    ensures { λ r. ⌜ StartCall (now (state .entry)) (now (state .exit)) r (Inserting key value NotBegun) (insertOf greatest (now (card .entry)) (memoryIn (now (state .entry))) key value) ⌝ }
+// "Starting an update stores nothing." A line that the card has not is refused with 18, just before 6 (document 02, W-207).
+pub fn start_insert(
+    card: &[u32],
+    state: &mut [u32],
+    line: u32,
+    key: u32,
+    value: u32,
+    greatest: usize,
+) -> Begun
+    ensures { λ r. ⌜ StartCall (now (state .entry)) (now (state .exit)) r (Inserting key value NotBegun)
+        (insertOf greatest line (now (card .entry)) (memoryIn (now (state .entry))) key value) ⌝ }
 {
     if state.len() != STATE_WORDS {
         return Begun::Refused(NO_STATE);
@@ -229,13 +273,20 @@ pub fn start_insert(card: &[u32], state: &mut [u32], key: u32, value: u32, great
         value,
         phase: Phase::NotBegun,
     };
-    let due = block_due(card, state, key, true, greatest);
+    let due = block_due(card, state, line, key, true, greatest);
     begin(state, doing, due.refusal, due.depth)
 }
 
 // "Refusing a delete on a full card" would spoil a bin: a delete needs no free nodes to start.
-pub fn start_delete(card: &[u32], state: &mut [u32], key: u32, greatest: usize) -> Begun
-    ensures { λ r. ⌜ StartCall (now (state .entry)) (now (state .exit)) r (Deleting key NotBegun 0) (deleteOf greatest (now (card .entry)) (memoryIn (now (state .entry))) key) ⌝ }
+pub fn start_delete(
+    card: &[u32],
+    state: &mut [u32],
+    line: u32,
+    key: u32,
+    greatest: usize,
+) -> Begun
+    ensures { λ r. ⌜ StartCall (now (state .entry)) (now (state .exit)) r (Deleting key NotBegun 0)
+        (deleteOf greatest line (now (card .entry)) (memoryIn (now (state .entry))) key) ⌝ }
 {
     if state.len() != STATE_WORDS {
         return Begun::Refused(NO_STATE);
@@ -245,6 +296,6 @@ pub fn start_delete(card: &[u32], state: &mut [u32], key: u32, greatest: usize) 
         phase: Phase::NotBegun,
         value: 0,
     };
-    let due = block_due(card, state, key, false, greatest);
+    let due = block_due(card, state, line, key, false, greatest);
     begin(state, doing, due.refusal, due.depth)
 }

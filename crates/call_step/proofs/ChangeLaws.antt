@@ -8,7 +8,8 @@ use native.Mathlib.Omega.{arith}
 use lib.ListN.{length, getD, take, drop, set}
 use Rattle.laws.proofs.Cases.{order}
 use Rattle.card.specs.Header.{Sized}
-use Rattle.card.specs.Layout.{place}
+use Rattle.card.specs.Lines.{seen, onLine}
+use Rattle.card.proofs.LineLaws.{seen-long, seen-sized, on-node}
 use Rattle.card.specs.Stores.{Store}
 use Rattle.card_free.specs.NodeSet.{wordCount, nodesOf}
 use Rattle.card_free.proofs.NodeSetLaws.{length-nodes}
@@ -18,7 +19,8 @@ use Rattle.change_plan.specs.Planning.{Preparation, prepared, takeNumbers, with
 use Rattle.change_plan.specs.declared.Outcome.the-variants.{Refused as NoStep, Balanced as NoChange, Prepared}
 use Rattle.change_plan.proofs.NumberLaws.{given-within}
 use Rattle.change_layout.specs.LayOut.{layOut, outcomeOf, needed, storeCount, cutBy, placesBy, wordsBy, storesBy}
-use Rattle.change_layout.proofs.LayOutLaws.{laid-none, laid-given, laid-refused, laid-balanced, laid-from, first-on-card, length-by}
+use Rattle.change_layout.proofs.LayOutLaws.{laid-none, laid-given, laid-refused, laid-balanced, laid-from, first-on-card, first-in-node, length-by}
+use Rattle.change_layout.proofs.LineLayOut.{lay-out-seen}
 use Rattle.change_layout.proofs.Bounds.{WithinBounds, laid-bounds}
 use Rattle.call_change.specs.Results.{Storing}
 use Rattle.call_change.specs.Updates.{FirstChange, nextChange}
@@ -40,16 +42,17 @@ use Rattle.state.proofs.StepLaws.{store-outside, store-inside}
 use Rattle.state.proofs.Tasks.{task-of}
 use Rattle.call_step.specs.Calls.{planning, stepPrepared, stepBegin, stepTask}
 use Rattle.call_step.specs.StepBlocks.{idledBlock, playedBlock, plannedBlock, plannedOver, firstStored, storedBlock, stepBlock}
-use Rattle.call_step.specs.Contracts.{StepMade, Changes}
+use Rattle.call_step.specs.Contracts.{StepMade, MadeOn, Changes}
 use Rattle.call_step.proofs.PlayLaws.{planned, plan-next, part-word}
 use Rattle.call_step.proofs.PlanLaws.{zip-first}
 use Rattle.call_step.proofs.StepBlockLaws.{Plannable, planned-length, planned-stores}
 use Rattle.call_step.proofs.StepMemory.{Ends, next-ends, first-prepared}
 use Rattle.call_step.proofs.ContractLaws.{made-by, made-refused, made-final}
+use Rattle.call_step.proofs.LineSteps.{Still, made-still, made-stored}
 
 -- ---- a change
 
-module _ (greatest : ℕ) (card b : List ℕ) (long : length b ≡ stateWords) (doing : Doing) (d : Decision) (ch : Changes card b doing d) where
+module _ (greatest : ℕ) (card b : List ℕ) (long : length b ≡ stateWords) (doing : Doing) (d : Decision) (fits : Fits card d) (some-change : outcomeOf d ≡ Prepared) where
   abbrev m : Memory
   m = memoryIn b
 
@@ -59,28 +62,35 @@ module _ (greatest : ℕ) (card b : List ℕ) (long : length b ≡ stateWords) (
   abbrev last : ℕ
   last = blockWord b 1
 
-  abbrev dueBy : Answer → Preparation → Step
-  dueBy final p = stepPrepared card m doing final p
+  -- what is due on the table of a line, for which the step makes this change
+  module _ (line : ℕ) (ch : Changes (seen line card) b doing d) where
+    abbrev table : List ℕ
+    table = seen line card
 
-  abbrev dueFor : Answer → Step
-  dueFor final = dueBy final (layOut card d (m .free) (m .last))
+    abbrev dueBy : Answer → Preparation → Step
+    dueBy final p = stepPrepared table m doing final p
 
-  -- "or too few free nodes"
-  pub change-none : takeNumbers (needed d) free last ≡ none → (final : Answer) → StepMade card b card b (Refused 9) (dueFor final)
-  unfolding memoryIn stepPrepared
-  change-none e final = made-refused card b 9 (ap (dueBy final) (sym (laid-none card d free last e)))
+    abbrev dueFor : Answer → Step
+    dueFor final = dueBy final (layOut table d (m .free) (m .last))
+
+    -- "or too few free nodes"
+    pub change-none : takeNumbers (needed d) free last ≡ none → (final : Answer) → MadeOn line card b card b (Refused 9) (dueFor final)
+    unfolding memoryIn stepPrepared Still
+    change-none e final = made-still line card b (made-refused table b 9 (ap (dueBy final) (sym (laid-none table d free last e)))) tt
 
   module _ (n : ℕ) (size : Sized greatest (length card) n) (l r a : ℕ)
       (taken : takeNumbers (needed d) free last ≡ some (take (needed d) (l ∷ r ∷ a ∷ []))) where
     -- "or its store is outside the card"
-    pub change-outside : (needed d ≡ 0 → l ≡ 0) → n < l → (final : Answer) → StepMade card b card b (Refused 9) (dueFor final)
-    unfolding memoryIn stepPrepared
-    change-outside z h final =
+    pub change-outside : (needed d ≡ 0 → l ≡ 0) → n < l → (line : ℕ) (ch : Changes (seen line card) b doing d) (final : Answer)
+        → MadeOn line card b card b (Refused 9) (dueFor line ch final)
+    unfolding memoryIn stepPrepared Still
+    change-outside z h line ch final =
         let new : 0 < needed d = order 0 (needed d) (λ k. k) (λ k. absurd (omega (arith, z (omega arith)))) in
-        let f = laid-from card d l r a free last new taken in
-        made-refused card b 9
-        (ap (dueBy final) (f .is)
-        ∙ store-outside card m (getD (f .stores) 0 (0, 0)) _ (omega (arith, f .first, size .words)))
+        let f = laid-from (seen line card) d l r a free last new taken in
+        made-still line card b
+        (made-refused (seen line card) b 9
+        (ap (dueBy line ch final) (f .is)
+        ∙ store-outside (seen line card) m (getD (f .stores) 0 (0, 0)) _ (omega (arith, f .first, size .words, seen-long line card size)))) tt
 
     module _ (count : length (wordsBy card d (l ∷ r ∷ a ∷ [])) ≡ storeCount d) (p : List ℕ)
         (is-planned : p ≡ plannedOver card b doing d (l ∷ r ∷ a ∷ [])) where
@@ -97,7 +107,7 @@ module _ (greatest : ℕ) (card b : List ℕ) (long : length b ≡ stateWords) (
       change = prepared stores freeThen lastThen (cutBy card d)
 
       laid : layOut card d free last ≡ change
-      laid = laid-given card d (l ∷ r ∷ a ∷ []) free last refl (ch .some) count taken
+      laid = laid-given card d (l ∷ r ∷ a ∷ []) free last refl some-change count taken
 
       some-stores : moreToStore stores ≡ true
       unfolding Storing
@@ -106,7 +116,7 @@ module _ (greatest : ℕ) (card b : List ℕ) (long : length b ≡ stateWords) (
       plannable : Plannable stores freeThen (cutBy card d)
       unfolding WithinBounds
       plannable =
-          let w = subst (WithinBounds free) laid (laid-bounds card d free last (ch .fits)) in
+          let w = subst (WithinBounds free) laid (laid-bounds card d free last fits) in
           record {
             short = w .short;
             full = w .same ∙ omega (arith, length-nodes (part b freeAt wordCount), free-span b [] long);
@@ -137,73 +147,89 @@ module _ (greatest : ℕ) (card b : List ℕ) (long : length b ≡ stateWords) (
       pub change-on-card : l ≤ n → blockWord p placesAt < length card
       change-on-card h =
           subst (λ (k : ℕ). k < length card) (sym place-is)
-          (first-on-card card d l r a n (ch .fits) (ch .some) (size .words)
+          (first-on-card card d l r a n fits some-change (size .words)
           (given-within (part b freeAt wordCount) (l ∷ r ∷ a ∷ []) (needed d) last (free-span b [] long) taken) h)
 
-      block-first : (at : ℕ) → stepBlock card b (Stored at) ≡ playedBlock p 1 (drop 1 (planned p))
-      unfolding stepBlock storedBlock memoryIn
-      block-first at =
-          ap₂ (storedBlock card b m) (ch .holds) (ch .none)
-          ∙ ap (firstStored b) (ch .next)
-          ∙ first-prepared b (record { doing = doing; final = ch .final; preparation = layOut card d free last }) laid
-          ∙ ap₂ (λ (x : List ℕ) (ss : List Store). playedBlock x 1 (drop 1 ss)) (sym planned-is) (sym stores-are)
+      module _ (line : ℕ) (ch : Changes (seen line card) b doing d) where
+        laid-there : layOut (seen line card) d free last ≡ change
+        laid-there = lay-out-seen line card d free last ∙ laid
 
-      pub change-made : {card-after after : List ℕ} (at : ℕ) → at ≡ blockWord p placesAt → at < length card
-          → card-after ≡ set card at (getD (part p valuesAt 73) 0 0) → after ≡ playedBlock p 1 (drop 1 (planned p))
-          → (final : Answer) → StepMade card b card-after after (Stored (blockWord p placesAt)) (dueFor final)
-      unfolding memoryIn stepPrepared
-      change-made at e h s w final =
-          let next : Memory = advanced (planning m doing freeThen lastThen (cutBy card d)) (drop 1 stores) in
-          let first : getD stores 0 (0, 0) ≡ (blockWord p placesAt, blockWord p valuesAt) = ap (λ (ss : List Store). getD ss 0 (0, 0)) first-is in
-          made-by card b (record { answer = Stored (blockWord p placesAt); card = set card (blockWord p placesAt) (blockWord p valuesAt); memory = next })
-          (ap (dueBy final) laid ∙ ap (λ (x : Store). stepStore card m x next) first
-          ∙ store-inside card m (blockWord p placesAt, blockWord p valuesAt) next (subst (λ (k : ℕ). k < length card) e h))
-          refl (s ∙ ap₂ (set card) e (part-word p valuesAt 73 0 (omega arith))) (w ∙ sym (block-first (blockWord p placesAt)))
+        block-first : (at : ℕ) → stepBlock (seen line card) b (Stored at) ≡ playedBlock p 1 (drop 1 (planned p))
+        unfolding stepBlock storedBlock memoryIn
+        block-first at =
+            ap₂ (storedBlock (seen line card) b m) (ch .holds) (ch .none)
+            ∙ ap (firstStored b) (ch .next)
+            ∙ first-prepared b (record { doing = doing; final = ch .final; preparation = layOut (seen line card) d free last }) laid-there
+            ∙ ap₂ (λ (x : List ℕ) (ss : List Store). playedBlock x 1 (drop 1 ss)) (sym planned-is) (sym stores-are)
+
+        pub change-made : {card-after after : List ℕ} (at : ℕ) → at ≡ blockWord p placesAt → at < length card
+            → card-after ≡ set card at (getD (part p valuesAt 73) 0 0) → after ≡ playedBlock p 1 (drop 1 (planned p))
+            → (final : Answer) → MadeOn line card b card-after after (Stored (blockWord p placesAt)) (dueFor line ch final)
+        unfolding memoryIn stepPrepared
+        change-made at e h s w final =
+            let place = blockWord p placesAt in
+            let value = blockWord p valuesAt in
+            let next : Memory = advanced (planning m doing freeThen lastThen (cutBy card d)) (drop 1 stores) in
+            let first : getD stores 0 (0, 0) ≡ (place, value) = ap (λ (ss : List Store). getD ss 0 (0, 0)) first-is in
+            let inside : place < length (seen line card) = omega (arith, e, h, seen-long line card size) in
+            let there : onLine line place ≡ place = on-node line place (λ z. omega (arith, z, place-is, first-in-node d l r a some-change)) in
+            made-stored line card b place value inside
+            (made-by (seen line card) b (record { answer = Stored place; card = set (seen line card) place value; memory = next })
+            (ap (dueBy line ch final) laid-there ∙ ap (λ (x : Store). stepStore (seen line card) m x next) first
+            ∙ store-inside (seen line card) m (place, value) next inside)
+            refl refl (w ∙ sym (block-first place)))
+            (ap Stored (sym there)) (s ∙ ap₂ (set card) (e ∙ sym there) (part-word p valuesAt 73 0 (omega arith)))
 
 -- ---- what is decided
 
-module _ (greatest : ℕ) (card b : List ℕ) (long : length b ≡ stateWords) (task : Task) (holds : heldBy (memoryIn b .doing) ≡ HeldTask task) (next : First)
-    (is : next ≡ decided card (memoryIn b .nodes) (memoryIn b .doing) task) where
+module _ (greatest line : ℕ) (card b : List ℕ) (long : length b ≡ stateWords) (task : Task) (holds : heldBy (memoryIn b .doing) ≡ HeldTask task) (next : First)
+    (is : next ≡ decided (seen line card) (memoryIn b .nodes) (memoryIn b .doing) task) where
   abbrev state : Memory
   state = memoryIn b
 
-  next-is : nextChange card (state .nodes) (state .free) (state .last) (state .doing) task ≡ laidFirst card next (state .free) (state .last)
+  abbrev own : List ℕ
+  own = seen line card
+
+  next-is : nextChange own (state .nodes) (state .free) (state .last) (state .doing) task ≡ laidFirst own next (state .free) (state .last)
   next-is =
-      next-decided card (state .free) (state .last) (state .nodes) (state .doing) task
-      ∙ ap (λ (f : First). laidFirst card f (state .free) (state .last)) (sym is)
+      next-decided own (state .free) (state .last) (state .nodes) (state .doing) task
+      ∙ ap (λ (f : First). laidFirst own f (state .free) (state .last)) (sym is)
 
-  pub task-prepares : stepTask card state task []
-      ≡ stepPrepared card state (next .doing) (next .answer) (layOut card (next .decision) (state .free) (state .last))
+  pub task-prepares : stepTask own state task []
+      ≡ stepPrepared own state (next .doing) (next .answer) (layOut own (next .decision) (state .free) (state .last))
   unfolding stepTask stepBegin
-  task-prepares = ap (stepBegin card state) next-is
+  task-prepares = ap (stepBegin own state) next-is
 
-  pub task-refused : outcomeOf (next .decision) ≡ NoStep → StepMade card b card b (Refused 9) (stepTask card state task [])
-  unfolding stepPrepared
+  pub task-refused : outcomeOf (next .decision) ≡ NoStep → MadeOn line card b card b (Refused 9) (stepTask own state task [])
+  unfolding stepPrepared Still
   task-refused o =
-      made-refused card b 9
-      (task-prepares ∙ ap (stepPrepared card state (next .doing) (next .answer)) (laid-refused card (next .decision) (state .free) (state .last) o))
+      made-still line card b
+      (made-refused own b 9
+      (task-prepares ∙ ap (stepPrepared own state (next .doing) (next .answer)) (laid-refused own (next .decision) (state .free) (state .last) o))) tt
 
-  block-ends : (a : Answer) → Ends a → stepBlock card b a ≡ idledBlock b
-  unfolding Ends stepBlock
+  block-ends : (a : Answer) → Ends a → (stepBlock own b a ≡ idledBlock b) × Still a
+  unfolding Ends Still stepBlock
   block-ends (Stored place) e = absurd e
-  block-ends Ready e = refl
-  block-ends Absent e = refl
-  block-ends (Value v) e = refl
+  block-ends Ready e = (refl, tt)
+  block-ends Absent e = (refl, tt)
+  block-ends (Value v) e = (refl, tt)
   block-ends (Refused r) e = absurd e
 
   pub task-ended : {after : List ℕ} → outcomeOf (next .decision) ≡ NoChange → after ≡ idledBlock b
-      → StepMade card b card after (next .answer) (stepTask card state task [])
+      → MadeOn line card b card after (next .answer) (stepTask own state task [])
   unfolding stepPrepared
   task-ended o w =
-      made-final card b {answer = next .answer}
-      (task-prepares ∙ ap (stepPrepared card state (next .doing) (next .answer)) (laid-balanced card (next .decision) (state .free) (state .last) o))
-      (block-ends (next .answer)
+      let ends =
+      block-ends (next .answer)
       (subst Ends (ap (λ (f : FirstChange). f .final) next-is)
-      (next-ends greatest card (state .nodes) (state .free) (state .last) (state .doing) task (task-of (state .doing) task holds))))
-      w
+      (next-ends greatest own (state .nodes) (state .free) (state .last) (state .doing) task (task-of (state .doing) task holds))) in
+      made-still line card b
+      (made-final own b {answer = next .answer}
+      (task-prepares ∙ ap (stepPrepared own state (next .doing) (next .answer)) (laid-balanced own (next .decision) (state .free) (state .last) o)) (ends .0) w)
+      (ends .1)
 
   pub task-changes : Sized greatest (length card) (state .nodes) → state .rest ≡ [] → outcomeOf (next .decision) ≡ Prepared
-      → Changes card b (next .doing) (next .decision)
+      → Changes own b (next .doing) (next .decision)
   task-changes size no-rest o =
       record {
         task = task;
@@ -211,6 +237,6 @@ module _ (greatest : ℕ) (card b : List ℕ) (long : length b ≡ stateWords) (
         holds = holds;
         none = no-rest;
         next = next-is;
-        fits = subst (λ (f : First). Fits card (f .decision)) (sym is) (decided-fits greatest card (state .nodes) size (state .doing) task);
+        fits = subst (λ (f : First). Fits own (f .decision)) (sym is) (decided-fits greatest own (state .nodes) (seen-sized line card size) (state .doing) task);
         some = o;
       }

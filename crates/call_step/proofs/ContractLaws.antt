@@ -12,7 +12,7 @@ use Rattle.state.specs.Results.{moreToStore}
 use Rattle.state.specs.Steps.{Step, heldBy, stepRefused, stepFinal, formattingFrom, stepFormat, stepStore}
 use Rattle.state.specs.Block.{placesAt, valuesAt, stateWords, blockWord, part, doingIn, memoryIn}
 use Rattle.state.specs.declared.Answer.{Answer}
-use Rattle.state.specs.declared.Answer.the-variants.{Stored, Ready, Refused}
+use Rattle.state.specs.declared.Answer.the-variants.{Stored, Ready, Absent, Value, Refused}
 use Rattle.state.proofs.StepLaws.{store-outside, store-inside}
 use Rattle.call_step.specs.StepBlocks.{idledBlock, playedBlock, storedBlock, stepBlock}
 use Rattle.call_step.specs.Contracts.{StepMade, HoldsTask}
@@ -25,6 +25,24 @@ idle-stores more e = ap (λ (t : Bool). not t && more) e
 pub held-stores : {idle : Bool} (more : Bool) → idle ≡ false → more ≡ not idle && more
 held-stores more e = ap (λ (t : Bool). not t && more) (sym e)
 
+-- formatting: the words of the block do not go by the card
+block-format : (card b : List ℕ) (place : ℕ) → blockWord b 2 ≡ 1 → stepBlock card b (Stored place) ≡ set b 3 (suc (blockWord b 3))
+unfolding stepBlock storedBlock memoryIn doingIn heldBy
+block-format card b place e =
+    ap (λ (what : ℕ). storedBlock card b (memoryIn b) (heldBy (doingIn what (blockWord b 3) (blockWord b 4) (blockWord b 5))) (memoryIn b .rest)) e
+
+pub format-any : (other card b : List ℕ) {card-after after : List ℕ} {answer : Answer} {due : Step} → blockWord b 2 ≡ 1 → StepMade other b card-after after answer due
+    → StepMade card b card-after after answer due
+unfolding stepBlock
+format-any other card b {due = due} e s = record { answered = s .answered; stored = s .stored; words = s .words ∙ any-block (due .answer) }
+  where
+    any-block : (a : Answer) → stepBlock other b a ≡ stepBlock card b a
+    any-block (Stored place) = block-format other b place e ∙ sym (block-format card b place e)
+    any-block Ready = refl
+    any-block Absent = refl
+    any-block (Value v) = refl
+    any-block (Refused r) = refl
+
 module _ (card b : List ℕ) where
   -- what is due, by an equal step
   pub made-by : {card-after after : List ℕ} {answer : Answer} (step : Step) {due : Step} → due ≡ step → answer ≡ step .answer → card-after ≡ step .card
@@ -32,10 +50,13 @@ module _ (card b : List ℕ) where
   made-by {card-after} {after} {answer} step e a s w =
       subst (StepMade card b card-after after answer) (sym e) (record { answered = a; stored = s; words = w })
 
-  -- refused: nothing is stored, and every word of the block stands
-  pub made-refused : (r : ℕ) {due : Step} → due ≡ stepRefused r card (memoryIn b) → StepMade card b card b (Refused r) due
+  -- refused: nothing is stored, and every word of the block stands; by the card that has a line, too, whose table this is
+  pub refused-on : (whole : List ℕ) (r : ℕ) {due : Step} → due ≡ stepRefused r whole (memoryIn b) → StepMade card b whole b (Refused r) due
   unfolding stepRefused stepBlock
-  made-refused r e = made-by (stepRefused r card (memoryIn b)) e refl refl refl
+  refused-on whole r e = made-by (stepRefused r whole (memoryIn b)) e refl refl refl
+
+  pub made-refused : (r : ℕ) {due : Step} → due ≡ stepRefused r card (memoryIn b) → StepMade card b card b (Refused r) due
+  made-refused r e = refused-on card r e
 
   -- the final answer
   pub made-final : {after : List ℕ} {answer : Answer} {due : Step} → due ≡ stepFinal answer card (memoryIn b) → stepBlock card b answer ≡ idledBlock b
@@ -44,18 +65,13 @@ module _ (card b : List ℕ) where
   made-final {answer = answer} e i w = made-by (stepFinal answer card (memoryIn b)) e refl refl (w ∙ sym i)
 
   -- formatting
-  block-format : (place : ℕ) → blockWord b 2 ≡ 1 → stepBlock card b (Stored place) ≡ set b 3 (suc (blockWord b 3))
-  unfolding stepBlock storedBlock memoryIn doingIn heldBy
-  block-format place e =
-      ap (λ (what : ℕ). storedBlock card b (memoryIn b) (heldBy (doingIn what (blockWord b 3) (blockWord b 4) (blockWord b 5))) (memoryIn b .rest)) e
-
   pub made-format : {card-after after : List ℕ} {answer : Answer} {store : Option Store} (place word : ℕ) → store ≡ some (place, word) → blockWord b 2 ≡ 1
       → answer ≡ Stored place → card-after ≡ set card place word → after ≡ set b 3 (suc (blockWord b 3))
       → StepMade card b card-after after answer (stepFormat card (memoryIn b) (blockWord b 3) store)
   unfolding stepFormat
   made-format place word e f a s w =
       made-by (record { answer = Stored place; card = set card place word; memory = formattingFrom (memoryIn b) (suc (blockWord b 3)) })
-      (ap (stepFormat card (memoryIn b) (blockWord b 3)) e) a s (w ∙ sym (block-format place f))
+      (ap (stepFormat card (memoryIn b) (blockWord b 3)) e) a s (w ∙ sym (block-format card b place f))
 
   pub made-formatted : {after : List ℕ} {store : Option Store} → store ≡ none → after ≡ idledBlock b
       → StepMade card b card after Ready (stepFormat card (memoryIn b) (blockWord b 3) store)

@@ -14,3 +14,5 @@ pub mod ContractLaws
 pub mod ChangeLaws
 -- laws of the steps: one for each branch of the code
 pub mod StepLaws
+-- a step of a line's own table, on the card
+pub mod LineSteps

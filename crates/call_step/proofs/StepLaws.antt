@@ -3,7 +3,7 @@ use mathlib.Core.Path.{_≡_, refl, ap, sym, subst, _∙_}
 use mathlib.Core.List.{List, [], _∷_}
 use mathlib.Core.Bool.{Bool, true, false, not, _&&_}
 use mathlib.Core.Logic.{by-cases}
-use Prim.Native.Nat.{ℕ}
+use Prim.Native.Nat.{ℕ, _≤_}
 use native.Mathlib.Omega.{arith}
 use native.Mathlib.Decide.{ℕ-discrete}
 use lib.ListN.{length, getD, drop}
@@ -13,6 +13,7 @@ use borrow.Author.Tests.{ne-eqb, eq-eqb}
 use Rattle.laws.proofs.Cases.{impossible}
 use Rattle.card.specs.Header.{nodesOfLength, headerRefusal, Sized}
 use Rattle.card.proofs.HeaderLaws.{nodes-sized, sized-nodes}
+use Rattle.card.specs.Lines.{seen}
 use Rattle.card.specs.Stores.{Store}
 use Rattle.state.specs.Memory.{Memory, advanced}
 use Rattle.state.specs.Results.{moreToStore}
@@ -29,22 +30,23 @@ use Rattle.state.proofs.Held.{the-type}
 use Rattle.state.specs.declared.Held.{Held}
 use Rattle.state.specs.declared.Held.the-variants.{Nothing, Formatting as HeldFormatting, Task as HeldTask}
 use Rattle.state.proofs.StepLaws.{more-none}
-use Rattle.call_step.specs.Calls.{stepTask, stepChecked, stepHeld, stepOf}
+use Rattle.call_step.specs.Calls.{stepTask, onCard, stepChecked, stepHeld, stepOf}
 use Rattle.call_step.specs.Contracts.{StepMade, StepCall, HoldsTask}
+use Rattle.call_step.proofs.LineSteps.{first-line}
 use Rattle.call_step.proofs.StepMemory.{held-formatting, formatting-word, step-right}
 
 -- ---- a call
 
-module _ (greatest : ℕ) (card b : List ℕ) where
+module _ (greatest line : ℕ) (card b : List ℕ) where
   -- no state
-  pub call-no-state : (length b ≡ stateWords → ⊥) → StepCall greatest card b card b (Refused 71)
+  pub call-no-state : (length b ≡ stateWords → ⊥) → StepCall greatest line card b card b (Refused 71)
   call-no-state p = record { made = λ l. absurd (p l); no-state = λ n. (refl, refl, refl) }
 
-  pub call-made : {card-after after : List ℕ} {answer : Answer} (due : Step) → length b ≡ stateWords → stepOf greatest card (memoryIn b) ≡ due
-      → StepMade card b card-after after answer due → StepCall greatest card b card-after after answer
+  pub call-made : {card-after after : List ℕ} {answer : Answer} (due : Step) → length b ≡ stateWords → stepOf greatest line card (memoryIn b) ≡ due
+      → StepMade (seen line card) b card-after after answer due → StepCall greatest line card b card-after after answer
   call-made {card-after} {after} {answer} due l e s =
-      let made : StepMade card b card-after after answer (stepOf greatest card (memoryIn b)) = subst (StepMade card b card-after after answer) (sym e) s in
-      let right = step-right greatest card b l in
+      let made = subst (StepMade (seen line card) b card-after after answer) (sym e) s in
+      let right = step-right greatest line card b l in
       record {
         made = λ z. record {
           answered = made .answered;
@@ -57,14 +59,14 @@ module _ (greatest : ℕ) (card b : List ℕ) where
 
 -- ---- "1: length not 8 + 24 × N, N 4 to 600; or N not the state's"
 
-module _ (greatest : ℕ) (card : List ℕ) (m : Memory) where
-  pub step-sized : Sized greatest (length card) (m .nodes) → stepOf greatest card m ≡ stepHeld card m (heldBy (m .doing))
+module _ (greatest line : ℕ) (card : List ℕ) (m : Memory) where
+  pub step-sized : Sized greatest (length card) (m .nodes) → stepOf greatest line card m ≡ stepHeld line card m (heldBy (m .doing))
   unfolding stepOf
   step-sized s =
       let e : nodesOfLength greatest (length card) ≡ m .nodes = sized-nodes greatest (length card) (m .nodes) s in
       simp (ne-eqb (nodesOfLength greatest (length card)) 0 (λ z. omega (arith, s .least, e)), eq-eqb (nodesOfLength greatest (length card)) (m .nodes) e)
 
-  pub step-unsized : (Sized greatest (length card) (m .nodes) → ⊥) → stepOf greatest card m ≡ stepRefused 1 card m
+  pub step-unsized : (Sized greatest (length card) (m .nodes) → ⊥) → stepOf greatest line card m ≡ stepRefused 1 card m
   unfolding stepOf
   step-unsized p =
       by-cases (ℕ-discrete (nodesOfLength greatest (length card)) 0)
@@ -82,27 +84,27 @@ unfolding moreToStore stepTask
 task-store card m task [] e = impossible (cc)
 task-store card m task (s ∷ rest) e = refl
 
-module _ (card : List ℕ) (m : Memory) where
+module _ (line : ℕ) (card : List ℕ) (m : Memory) where
   module _ (w : headerRefusal card (m .nodes) ≡ 0) where
     checked : (due : Step) → stepChecked card m due ≡ due
     unfolding stepChecked
     checked due = simp (eq-eqb (headerRefusal card (m .nodes)) 0 w)
 
-    pub idle-refused : stepHeld card m Nothing ≡ stepRefused 10 card m
+    pub idle-refused : stepHeld line card m Nothing ≡ stepRefused 10 card m
     unfolding stepHeld
     idle-refused = checked (stepRefused 10 card m)
 
-    pub task-due : (task : Task) → stepHeld card m (HeldTask task) ≡ stepTask card m task (m .rest)
+    pub task-on-line : (task : Task) → stepHeld line card m (HeldTask task) ≡ onCard line card (stepTask (seen line card) m task (m .rest))
     unfolding stepHeld
-    task-due task = checked (stepTask card m task (m .rest))
+    task-on-line task = checked (onCard line card (stepTask (seen line card) m task (m .rest)))
 
     pub task-stores : HoldsTask (m .doing) → moreToStore (m .rest) ≡ true
-        → stepHeld card m (heldBy (m .doing)) ≡ stepStore card m (getD (m .rest) 0 (0, 0)) (advanced m (drop 1 (m .rest)))
-    task-stores (task, holds) b = ap (stepHeld card m) holds ∙ task-due task ∙ task-store card m task (m .rest) b
+        → stepHeld line card m (heldBy (m .doing)) ≡ onCard line card (stepStore (seen line card) m (getD (m .rest) 0 (0, 0)) (advanced m (drop 1 (m .rest))))
+    task-stores (task, holds) b = ap (stepHeld line card m) holds ∙ task-on-line task ∙ ap (onCard line card) (task-store (seen line card) m task (m .rest) b)
 
     pub task-plans : (task : Task) → heldBy (m .doing) ≡ HeldTask task → m .rest ≡ []
-        → stepHeld card m (heldBy (m .doing)) ≡ stepTask card m task []
-    task-plans task holds none = ap (stepHeld card m) holds ∙ task-due task ∙ ap (stepTask card m task) none
+        → stepHeld line card m (heldBy (m .doing)) ≡ onCard line card (stepTask (seen line card) m task [])
+    task-plans task holds none = ap (stepHeld line card m) holds ∙ task-on-line task ∙ ap (λ (ss : List Store). onCard line card (stepTask (seen line card) m task ss)) none
 
   -- 2 and 3
   module _ (h : ℕ) (e : h ≡ headerRefusal card (m .nodes)) (p : h ≡ 0 → ⊥) where
@@ -110,11 +112,16 @@ module _ (card : List ℕ) (m : Memory) where
     unfolding stepChecked
     unchecked due = simp (ne-eqb (headerRefusal card (m .nodes)) 0 (λ z. p (e ∙ z))) (ap (λ (x : ℕ). stepRefused x card m) (sym e))
 
-    pub held-unchecked : (held : Held) → ((made : ℕ) → held ≡ HeldFormatting made → ⊥) → stepHeld card m held ≡ stepRefused h card m
+    pub held-unchecked : (held : Held) → ((made : ℕ) → held ≡ HeldFormatting made → ⊥) → stepHeld line card m held ≡ stepRefused h card m
     unfolding stepHeld
     held-unchecked Nothing q = unchecked (stepRefused 10 card m)
     held-unchecked (HeldFormatting made) q = absurd (q made refl)
-    held-unchecked (HeldTask task) q = unchecked (stepTask card m task (m .rest))
+    held-unchecked (HeldTask task) q = unchecked (onCard line card (stepTask (seen line card) m task (m .rest)))
+
+-- on a card with one line: the card's own step
+pub task-due : (card : List ℕ) (m : Memory) → 8 ≤ length card → headerRefusal card (m .nodes) ≡ 0 → (task : Task)
+    → stepHeld 1 card m (HeldTask task) ≡ stepTask card m task (m .rest)
+task-due card m h w task = task-on-line 1 card m w task ∙ first-line card m task (m .rest) h w
 
 -- ---- by the block's words
 
@@ -130,11 +137,11 @@ module _ (b : List ℕ) where
   holds-nothing p (HeldFormatting made) e o = absurd (not-formatting p made e)
   holds-nothing p (HeldTask task) e o = absurd (miss (0 ∷ 1 ∷ []) 2 tt o)
 
-  pub doing-format : (card : List ℕ) → blockWord b 2 ≡ 1
-      → stepHeld card (memoryIn b) (heldBy (memoryIn b .doing))
+  pub doing-format : (line : ℕ) (card : List ℕ) → blockWord b 2 ≡ 1
+      → stepHeld line card (memoryIn b) (heldBy (memoryIn b .doing))
       ≡ stepFormat card (memoryIn b) (blockWord b 3) (formatStore (blockWord b 0) (length card) (blockWord b 3))
   unfolding memoryIn doingIn heldBy stepHeld
-  doing-format card e = ap (λ (what : ℕ). stepHeld card (memoryIn b) (heldBy (doingIn what (blockWord b 3) (blockWord b 4) (blockWord b 5)))) e
+  doing-format line card e = ap (λ (what : ℕ). stepHeld line card (memoryIn b) (heldBy (doingIn what (blockWord b 3) (blockWord b 4) (blockWord b 5)))) e
 
 busy-holds : (doing : Doing) → isIdle doing ≡ false → ((made : ℕ) → heldBy doing ≡ HeldFormatting made → ⊥) → HoldsTask doing
 unfolding isIdle heldBy

@@ -5,7 +5,7 @@ use mathlib.Core.Bool.{Bool, true, false}
 use mathlib.Core.List.{List, [], _∷_}
 use mathlib.Core.Option.{Option, none, some}
 use mathlib.Core.Logic.{by-cases}
-use Prim.Native.Nat.{ℕ, suc}
+use Prim.Native.Nat.{ℕ, suc, _≤_, _<_}
 use native.Mathlib.Omega.{arith}
 use native.Mathlib.Decide.{ℕ-discrete}
 use native.Mathlib.Numerals.{add-one}
@@ -17,6 +17,8 @@ use Rattle.laws.specs.Cases.{pick}
 use Rattle.laws.proofs.Cases.{impossible}
 use Rattle.card.specs.Header.{Sized, nodesOfLength, headerRefusal}
 use Rattle.card.proofs.HeaderLaws.{nodes-sized}
+use Rattle.card.specs.Lines.{seen, onLine}
+use Rattle.card.proofs.LineLaws.{seen-long, seen-sized, on-node}
 use Rattle.card.specs.Layout.{nodeAt}
 use Rattle.card.specs.Stores.{Store}
 use Rattle.card_free.specs.NodeSet.{wordCount, capacity}
@@ -44,7 +46,7 @@ use Rattle.state.specs.declared.Held.the-variants.{Nothing, Formatting as HeldF
 use Rattle.state.specs.declared.Answer.{Answer}
 use Rattle.state.specs.declared.Answer.the-variants.{Stored, Ready, Absent, Value, Refused}
 use Rattle.state.proofs.Tasks.{TaskOf, putting, taking, put, taken, opened, task-of}
-use Rattle.call_step.specs.Calls.{planning, stepPrepared, stepBegin, stepTask, stepChecked, stepHeld, stepOf}
+use Rattle.call_step.specs.Calls.{planning, stepPrepared, stepBegin, stepTask, placedOn, onCard, stepChecked, stepHeld, stepOf}
 use Rattle.call_step.specs.StepBlocks.{playedBlock, plannedBlock, firstStored, storedBlock, stepBlock}
 use Rattle.call_step.specs.StepWords.{storedWords, stepWords}
 use Rattle.call_step.proofs.StepBlockLaws.{Plannable, memory-idled, memory-formatting, memory-played, memory-first-stored}
@@ -158,54 +160,58 @@ first-prepared b f e =
 drop-next : (k : ℕ) (ss : List Store) (s : Store) (rest : List Store) → drop k ss ≡ s ∷ rest → rest ≡ drop (suc k) ss
 drop-next k ss s rest e = sym (ap (drop 1) e) ∙ drop-drop 1 k ss ∙ ap (λ (i : ℕ). drop i ss) (add-one k)
 
-module _ (greatest : ℕ) (card b : List ℕ) (l : length b ≡ stateWords) where
+module _ (greatest line : ℕ) (card b : List ℕ) (l : length b ≡ stateWords) where
   abbrev m : Memory
   m = memoryIn b
 
+  -- the line's own table
+  abbrev table : List ℕ
+  table = seen line card
+
   -- the block that a step leaves holds what it hands back, in the words named
   abbrev Right : Step → Type 0
-  Right s = (memoryIn (stepBlock card b (s .answer)) ≡ s .memory) × (stepBlock card b (s .answer) ≡ stepWords b s (s .answer))
+  Right s = (memoryIn (stepBlock table b (s .answer)) ≡ s .memory) × (stepBlock table b (s .answer) ≡ stepWords b s (s .answer))
 
-  refused-right : (r : ℕ) → Right (stepRefused r card m)
+  refused-right : (c : List ℕ) (r : ℕ) → Right (stepRefused r c m)
   unfolding stepRefused stepBlock stepWords
-  refused-right r = (refl, refl)
+  refused-right c r = (refl, refl)
 
-  final-right : (a : Answer) → Ends a → Right (stepFinal a card m)
+  final-right : (c : List ℕ) (a : Answer) → Ends a → Right (stepFinal a c m)
   unfolding stepFinal stepBlock stepWords Ends
-  final-right (Stored place) e = absurd e
-  final-right Ready e = (memory-idled b l, refl)
-  final-right Absent e = (memory-idled b l, refl)
-  final-right (Value v) e = (memory-idled b l, refl)
-  final-right (Refused r) e = absurd e
+  final-right c (Stored place) e = absurd e
+  final-right c Ready e = (memory-idled b l, refl)
+  final-right c Absent e = (memory-idled b l, refl)
+  final-right c (Value v) e = (memory-idled b l, refl)
+  final-right c (Refused r) e = absurd e
 
   abbrev stored : List ℕ
-  stored = storedBlock card b m (heldBy (m .doing)) (m .rest)
+  stored = storedBlock table b m (heldBy (m .doing)) (m .rest)
 
   -- a store that leaves this state, where these were to come
   abbrev named : Store → Memory → List Store → List ℕ
   named s next rest = pick (eqb (blockWord b 2) 1) (set b 3 (suc (blockWord b 3))) (storedWords b s next rest)
 
-  store-right : (s : Store) (next : Memory) → memoryIn stored ≡ next → stored ≡ named s next (m .rest) → Right (stepStore card m s next)
+  store-right : (s : Store) (next : Memory) → memoryIn stored ≡ next → stored ≡ named s next (m .rest) → Right (stepStore table m s next)
   unfolding stepStore stepBlock stepWords
   store-right s next e w =
-      pick-either Right (ltb (s .0) (length card)) _ _
-      (λ t. (e, w ∙ ap (λ (v : ℕ). named (s .0, v) next (m .rest)) (sym (getD-set-same card (s .0) (s .1) 0 (ltb-true _ _ t))))) (λ t. refused-right 9)
+      pick-either Right (ltb (s .0) (length table)) _ _
+      (λ t. (e, w ∙ ap (λ (v : ℕ). named (s .0, v) next (m .rest)) (sym (getD-set-same table (s .0) (s .1) 0 (ltb-true _ _ t))))) (λ t. refused-right table 9)
 
   checked-right : (due : Step) → Right due → Right (stepChecked card m due)
   unfolding stepChecked
-  checked-right due h = pick-either Right (eqb (headerRefusal card (m .nodes)) 0) _ _ (λ t. h) (λ t. refused-right _)
+  checked-right due h = pick-either Right (eqb (headerRefusal card (m .nodes)) 0) _ _ (λ t. h) (λ t. refused-right card _)
 
   -- formatting
   format-right : (made : ℕ) → heldBy (m .doing) ≡ HeldFormatting made → (next : Option Store) → Right (stepFormat card m made next)
   unfolding stepFormat stepBlock stepWords storedBlock memoryIn Ends
-  format-right made e none = final-right Ready tt
+  format-right made e none = final-right card Ready tt
   format-right made e (some s) =
       let doing = held-formatting (m .doing) made e in
       let one : blockWord b 2 ≡ 1 = formatting-word _ _ _ _ made doing in
       let count : blockWord b 3 ≡ made = formatting-count _ _ _ _ made doing in
       let elsewhere : List ℕ = storedWords b (s .0, getD (set card (s .0) (s .1)) (s .0) 0) (formattingFrom m (suc made)) (m .rest) in (
-        ap (λ (h : Held). memoryIn (storedBlock card b m h (m .rest))) e ∙ memory-formatting b (suc made) l one,
-        ap (λ (h : Held). storedBlock card b m h (m .rest)) e
+        ap (λ (h : Held). memoryIn (storedBlock table b m h (m .rest))) e ∙ memory-formatting b (suc made) l one,
+        ap (λ (h : Held). storedBlock table b m h (m .rest)) e
             ∙ ap (λ (k : ℕ). set b 3 (suc k)) (sym count)
             ∙ sym (ap (λ (t : Bool). pick t (set b 3 (suc (blockWord b 3))) elsewhere) (eq-eqb (blockWord b 2) 1 one)),
       )
@@ -218,59 +224,120 @@ module _ (greatest : ℕ) (card b : List ℕ) (l : length b ≡ stateWords) wher
     on-task s next rest =
         ap (λ (t : Bool). pick t (set b 3 (suc (blockWord b 3))) (storedWords b s next rest)) (ne-eqb (blockWord b 2) 1 (task-word _ _ _ _ task e))
 
-    in-hand-right : (s : Store) (rest : List Store) → m .rest ≡ s ∷ rest → Right (stepStore card m s (advanced m rest))
+    in-hand-right : (s : Store) (rest : List Store) → m .rest ≡ s ∷ rest → Right (stepStore table m s (advanced m rest))
     unfolding storedBlock memoryIn storedWords
     in-hand-right s rest r =
         store-right s (advanced m rest)
-        (ap₂ (λ (h : Held) (x : List Store). memoryIn (storedBlock card b m h x)) e r
+        (ap₂ (λ (h : Held) (x : List Store). memoryIn (storedBlock table b m h x)) e r
         ∙ memory-played b (suc (blockWord b 6)) rest l
         (drop-next (blockWord b 6) (storesOf (part b placesAt 73) (part b valuesAt 73) (blockWord b 7)) s rest r))
-        (ap₂ (λ (h : Held) (x : List Store). storedBlock card b m h x) e r
+        (ap₂ (λ (h : Held) (x : List Store). storedBlock table b m h x) e r
         ∙ hand-words b rest
         ∙ ap (storedWords b s (advanced m rest)) (sym r)
         ∙ sym (on-task s (advanced m rest) (m .rest)))
 
     abbrev next : FirstChange
-    next = nextChange card (m .nodes) (m .free) (m .last) (m .doing) task
+    next = nextChange table (m .nodes) (m .free) (m .last) (m .doing) task
 
     free-full : length (m .free) ≡ capacity
     unfolding memoryIn
     free-full = omega (arith, length-nodes (part b freeAt wordCount), length-take wordCount (drop 11 b), length-drop 11 b)
 
     prepared-right : m .rest ≡ [] → (p : Preparation) → next .preparation ≡ p → WithinBounds (m .free) p
-        → Right (stepPrepared card m (next .doing) (next .final) p)
+        → Right (stepPrepared table m (next .doing) (next .final) p)
     unfolding stepPrepared WithinBounds storedBlock storedWords
-    prepared-right r refused f w = refused-right 9
+    prepared-right r refused f w = refused-right table 9
     prepared-right r balanced f w =
-        final-right (next .final) (next-ends greatest card (m .nodes) (m .free) (m .last) (m .doing) task (task-of (m .doing) task e))
+        final-right table (next .final) (next-ends greatest table (m .nodes) (m .free) (m .last) (m .doing) task (task-of (m .doing) task e))
     prepared-right r (prepared stores free last cut) f w =
         let plan : Plannable stores free cut = record { short = w .short; full = w .same ∙ free-full; few = w .few; readable = w .readable } in
         let then : Memory = advanced (planning m (next .doing) free last cut) (drop 1 stores) in
         store-right (getD stores 0 (0, 0)) then
-        (ap₂ (λ (h : Held) (x : List Store). memoryIn (storedBlock card b m h x)) e r
+        (ap₂ (λ (h : Held) (x : List Store). memoryIn (storedBlock table b m h x)) e r
         ∙ ap memoryIn (first-prepared b next f)
         ∙ memory-first-stored b (next .doing) stores free last cut l plan)
-        (ap₂ (λ (h : Held) (x : List Store). storedBlock card b m h x) e r
+        (ap₂ (λ (h : Held) (x : List Store). storedBlock table b m h x) e r
         ∙ first-prepared b next f
         ∙ first-words b (next .doing) free last cut stores (w .some) l plan
         ∙ ap (storedWords b (getD stores 0 (0, 0)) then) (sym r)
         ∙ sym (on-task (getD stores 0 (0, 0)) then (m .rest)))
 
-    task-right : Sized greatest (length card) (m .nodes) → (rest : List Store) → m .rest ≡ rest → Right (stepTask card m task rest)
-    unfolding stepTask stepBegin
-    task-right s [] r = prepared-right r (next .preparation) refl (next-bounds greatest card (m .nodes) (m .free) (m .last) (m .doing) task s)
-    task-right s (x ∷ rest) r = in-hand-right x rest r
+    -- the line's table is as long as the card
+    module _ (size : Sized greatest (length card) (m .nodes)) where
+      bounds : WithinBounds (m .free) (next .preparation)
+      bounds = next-bounds greatest table (m .nodes) (m .free) (m .last) (m .doing) task (seen-sized line card size)
 
-  held-right : Sized greatest (length card) (m .nodes) → (h : Held) → heldBy (m .doing) ≡ h → Right (stepHeld card m h)
+      task-right : (rest : List Store) → m .rest ≡ rest → Right (stepTask table m task rest)
+      unfolding stepTask stepBegin
+      task-right [] r = prepared-right r (next .preparation) refl bounds
+      task-right (x ∷ rest) r = in-hand-right x rest r
+
+      -- the words named by the store on the card: those of a first store, which is in a node, name its place; the others do not
+      abbrev Named : Step → Type 0
+      Named s = (p : ℕ) → s .answer ≡ Stored p
+          → storedWords b (onLine line p, getD (set card (onLine line p) (getD (s .card) p 0)) (onLine line p) 0) (s .memory) (m .rest)
+          ≡ storedWords b (p, getD (s .card) p 0) (s .memory) (m .rest)
+
+      on-card-right : (s : Step) → Named s → Right s → Right (onCard line card s)
+      unfolding onCard placedOn stepBlock stepWords
+      on-card-right s h r = go (s .answer) refl
+        where
+          go : (a : Answer) → s .answer ≡ a → Right (placedOn line card s a)
+          go (Stored p) e =
+              let q = subst (λ (a : Answer). (memoryIn (stepBlock table b a) ≡ s .memory) × (stepBlock table b a ≡ stepWords b s a)) e r in
+              (q .0, q .1 ∙ ap (pick (eqb (blockWord b 2) 1) (set b 3 (suc (blockWord b 3)))) (sym (h p e)))
+          go Ready e = subst (λ (a : Answer). (memoryIn (stepBlock table b a) ≡ s .memory) × (stepBlock table b a ≡ stepWords b s a)) e r
+          go Absent e = subst (λ (a : Answer). (memoryIn (stepBlock table b a) ≡ s .memory) × (stepBlock table b a ≡ stepWords b s a)) e r
+          go (Value v) e = subst (λ (a : Answer). (memoryIn (stepBlock table b a) ≡ s .memory) × (stepBlock table b a ≡ stepWords b s a)) e r
+          go (Refused x) e = subst (λ (a : Answer). (memoryIn (stepBlock table b a) ≡ s .memory) × (stepBlock table b a ≡ stepWords b s a)) e r
+
+      hand-named : (x : Store) (rest : List Store) → m .rest ≡ x ∷ rest → (s : Step) → Named s
+      unfolding storedWords
+      hand-named x rest r s p e = rw r refl
+
+      -- a store in a node
+      node-named : (s : Step) → ((p : ℕ) → s .answer ≡ Stored p → (8 ≤ p) × (p < length table)) → Named s
+      node-named s h p e =
+          let at = h p e in
+          let same : onLine line p ≡ p = on-node line p (λ z. omega (arith, at .0)) in
+          ap (λ (x : Store). storedWords b x (s .memory) (m .rest))
+          (ap (λ (q : ℕ). (q, getD (set card q (getD (s .card) p 0)) q 0)) same
+          ∙ ap (λ (v : ℕ). (p, v)) (getD-set-same card p (getD (s .card) p 0) 0 (omega (arith, at .1, seen-long line card size))))
+
+      store-in : (s : Store) (then : Memory) → 8 ≤ s .0 → (p : ℕ) → stepStore table m s then .answer ≡ Stored p → (8 ≤ p) × (p < length table)
+      unfolding stepStore stepRefused
+      store-in s then h p =
+          pick-either (λ x. x .answer ≡ Stored p → (8 ≤ p) × (p < length table)) (ltb (s .0) (length table)) _ _
+          (λ t e. let same : s .0 ≡ p = cc in (omega (arith, same), omega (arith, same, ltb-true (s .0) (length table) t))) (λ t e. impossible (cc))
+
+      prepared-in : (prep : Preparation) → WithinBounds (m .free) prep → (p : ℕ) → stepPrepared table m (next .doing) (next .final) prep .answer ≡ Stored p
+          → (8 ≤ p) × (p < length table)
+      unfolding stepPrepared WithinBounds stepRefused stepFinal Ends
+      prepared-in refused w p f = impossible (cc)
+      prepared-in balanced w p f =
+          absurd (subst Ends f (next-ends greatest table (m .nodes) (m .free) (m .last) (m .doing) task (task-of (m .doing) task e)))
+      prepared-in (prepared stores free last cut) w p f =
+          store-in (getD stores 0 (0, 0)) (advanced (planning m (next .doing) free last cut) (drop 1 stores)) (w .in-node) p f
+
+      task-on-card : (rest : List Store) → m .rest ≡ rest → Right (onCard line card (stepTask table m task rest))
+      unfolding stepTask stepBegin
+      task-on-card [] r =
+          let s = stepTask table m task [] in
+          on-card-right s (node-named s (prepared-in (next .preparation) bounds)) (task-right [] r)
+      task-on-card (x ∷ rest) r =
+          let s = stepTask table m task (x ∷ rest) in
+          on-card-right s (hand-named x rest r s) (task-right (x ∷ rest) r)
+
+  held-right : Sized greatest (length card) (m .nodes) → (h : Held) → heldBy (m .doing) ≡ h → Right (stepHeld line card m h)
   unfolding stepHeld
-  held-right s Nothing e = checked-right _ (refused-right 10)
+  held-right s Nothing e = checked-right _ (refused-right card 10)
   held-right s (HeldFormatting made) e = format-right made e (formatStore (m .nodes) (length card) made)
-  held-right s (HeldTask task) e = checked-right _ (task-right task e s (m .rest) refl)
+  held-right s (HeldTask task) e = checked-right _ (task-on-card task e s (m .rest) refl)
 
-  pub step-right : Right (stepOf greatest card m)
+  pub step-right : Right (stepOf greatest line card m)
   unfolding stepOf
   step-right =
-      pick-either Right (eqb (nodesOfLength greatest (length card)) 0) _ _ (λ t. refused-right 1)
+      pick-either Right (eqb (nodesOfLength greatest (length card)) 0) _ _ (λ t. refused-right card 1)
       (λ t. pick-either Right (eqb (nodesOfLength greatest (length card)) (m .nodes)) _ _
       (λ u. held-right (subst (Sized greatest (length card)) (eqb-true _ _ u) (nodes-sized greatest (length card) (eqb-false _ _ t))) (heldBy (m .doing)) refl)
-      (λ u. refused-right 1))
+      (λ u. refused-right card 1))

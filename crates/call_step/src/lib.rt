@@ -18,11 +18,14 @@ use state::block::wide;
 ghost use mathlib.Core.Path.{_≡_};
 ghost use mathlib.Core.Bool.{true, false};
 ghost use Rattle.card.specs.Header.{Sized};
+ghost use Rattle.card.specs.Lines.{IsLine};
 ghost use Rattle.call_step.specs.Contracts.{StepCall};
 
-// The refusals of a step are looked at in the order of "Refusal by place"; "Formatting steps check only 1."
-pub fn step(card: &mut [u32], state: &mut [u32], greatest: usize) -> Answer
-    ensures { λ r. ⌜ StepCall greatest (now (card .entry)) (now (state .entry)) (now (card .exit)) (now (state .exit)) r ⌝ }
+// The refusals of a step are looked at in the order of "Refusal by place"; "Formatting steps check only 1." What is in hand is of this
+// line (document 02, W-207).
+pub fn step(card: &mut [u32], state: &mut [u32], line: u32, greatest: usize) -> Answer
+    requires { ⌜ IsLine line ⌝ }
+    ensures { λ r. ⌜ StepCall greatest line (now (card .entry)) (now (state .entry)) (now (card .exit)) (now (state .exit)) r ⌝ }
 {
     if state.len() != STATE_WORDS {
         return Answer::Refused(NO_STATE);
@@ -39,7 +42,7 @@ pub fn step(card: &mut [u32], state: &mut [u32], greatest: usize) -> Answer
         return Answer::Refused(refusal);
     }
     if has_store(state) {
-        return store_next(card, state);
+        return store_next(card, state, line);
     }
-    step_plan(card, state)
+    step_plan(card, state, line)
 }

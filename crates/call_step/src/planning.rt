@@ -33,13 +33,16 @@ ghost use mathlib.Core.Path.{_≡_};
 ghost use mathlib.Core.Bool.{false, not, _&&_};
 ghost use mathlib.Core.List.{[]};
 ghost use mathlib.Core.Option.{some};
+ghost use Prim.Native.Nat.{ℕ};
 ghost use lib.ListN.{length, take};
 ghost use Rattle.card.specs.Layout.{greatestNodes};
 ghost use Rattle.card.specs.Header.{headerRefusal, Sized};
+ghost use Rattle.card.specs.Lines.{IsLine, seen};
 ghost use Rattle.card_free.specs.NodeSet.{wordCount, nodesOf};
 ghost use Rattle.change_decide.specs.Places.{Fits};
-ghost use Rattle.change_layout.specs.LayOut.{needed, storeCount, sizeOf, wordsBy, layOut};
+ghost use Rattle.change_layout.specs.LayOut.{needed, storeCount, outcomeOf, sizeOf, wordsBy, layOut};
 ghost use Rattle.change_plan.specs.Planning.{takeNumbers};
+ghost use Rattle.change_plan.specs.declared.Outcome.the-variants.{Prepared};
 ghost use Rattle.state.specs.Steps.{isIdle, heldBy};
 ghost use Rattle.state.specs.Results.{moreToStore};
 ghost use Rattle.state.specs.Block.{freeAt, stateWords, blockWord, part, memoryIn};
@@ -47,7 +50,7 @@ ghost use Rattle.state.specs.declared.Answer.{Answer};
 ghost use Rattle.state.specs.declared.Held.the-variants.{Task as HeldTask};
 ghost use Rattle.call_step.specs.Calls.{stepPrepared, stepTask, stepHeld};
 ghost use Rattle.call_step.specs.StepBlocks.{plannedOver};
-ghost use Rattle.call_step.specs.Contracts.{StepMade, Changes};
+ghost use Rattle.call_step.specs.Contracts.{StepMade, MadeOn, Changes};
 
 // The change is planned in the block: its stores over the nodes given, which are free no longer, and what it will cut out.
 fn plan(
@@ -80,7 +83,8 @@ fn plan(
 
 // A change: its nodes are given, "or too few free nodes", and the first of its stores is made. "or its store is outside the card": the
 // first word of its first node can be, where a state holds a bit for a node that the card has not. Both are looked at before a word of
-// the block is changed, so that a refusal hands the state back unchanged.
+// the block is changed, so that a refusal hands the state back unchanged. The first store is in a node, and so in the same place for
+// each line.
 fn step_change(
     card: &mut [u32],
     state: &mut [u32],
@@ -89,10 +93,11 @@ fn step_change(
     size: Size,
 ) -> Answer
     requires { ⌜ (length (now state) ≡ stateWords) × Sized greatestNodes (length (now card)) (blockWord (now state) 0)
-        × Changes (now card) (now state) doing decision × (size ≡ sizeOf decision) ⌝ }
-    ensures { λ r. ⌜ ((final : Answer) → StepMade (now (card .entry)) (now (state .entry)) (now (card .exit)) (now (state .exit)) r
-        (stepPrepared (now (card .entry)) (memoryIn (now (state .entry))) doing final
-        (layOut (now (card .entry)) decision (memoryIn (now (state .entry)) .free) (memoryIn (now (state .entry)) .last)))) ⌝ }
+        × Fits (now card) decision × (outcomeOf decision ≡ Prepared) × (size ≡ sizeOf decision) ⌝ }
+    ensures { λ r. ⌜ ((line : ℕ) → Changes (seen line (now (card .entry))) (now (state .entry)) doing decision → (final : Answer)
+        → MadeOn line (now (card .entry)) (now (state .entry)) (now (card .exit)) (now (state .exit)) r
+        (stepPrepared (seen line (now (card .entry))) (memoryIn (now (state .entry))) doing final
+        (layOut (seen line (now (card .entry))) decision (memoryIn (now (state .entry)) .free) (memoryIn (now (state .entry)) .last)))) ⌝ }
 {
     let Given::Nodes { left, right, above } = give(
         &state[FREE..PLACES],
@@ -114,13 +119,13 @@ fn step_change(
 }
 
 // The next change of a task: by what is decided refused, the final answer, or a change.
-fn step_task(card: &mut [u32], state: &mut [u32], doing: Doing, task: Task) -> Answer
+fn step_task(card: &mut [u32], state: &mut [u32], line: u32, doing: Doing, task: Task) -> Answer
     requires { ⌜ (length (now state) ≡ stateWords) × Sized greatestNodes (length (now card)) (blockWord (now state) 0)
-        × (doing ≡ memoryIn (now state) .doing) × (heldBy (memoryIn (now state) .doing) ≡ HeldTask task) × (memoryIn (now state) .rest ≡ []) ⌝ }
-    ensures { λ r. ⌜ StepMade (now (card .entry)) (now (state .entry)) (now (card .exit)) (now (state .exit)) r
-        (stepTask (now (card .entry)) (memoryIn (now (state .entry))) task []) ⌝ }
+        × (doing ≡ memoryIn (now state) .doing) × (heldBy (memoryIn (now state) .doing) ≡ HeldTask task) × (memoryIn (now state) .rest ≡ []) × IsLine line ⌝ }
+    ensures { λ r. ⌜ MadeOn line (now (card .entry)) (now (state .entry)) (now (card .exit)) (now (state .exit)) r
+        (stepTask (seen line (now (card .entry))) (memoryIn (now (state .entry))) task []) ⌝ }
 {
-    let next = next_change(card, wide(state[NODES]), doing, task);
+    let next = next_change(card, wide(state[NODES]), line, doing, task);
     let then = next.doing;
     let answer = next.answer;
     let decision = next.decision;
@@ -137,17 +142,17 @@ fn step_task(card: &mut [u32], state: &mut [u32], doing: Doing, task: Task) -> A
 }
 
 // A step that has no store left to make, nor formats: "10: state idle", or the next change of the task.
-pub fn step_plan(card: &mut [u32], state: &mut [u32]) -> Answer
+pub fn step_plan(card: &mut [u32], state: &mut [u32], line: u32) -> Answer
     requires { ⌜ (length (now state) ≡ stateWords) × Sized greatestNodes (length (now card)) (blockWord (now state) 0)
         × (headerRefusal (now card) (blockWord (now state) 0) ≡ 0) × (blockWord (now state) 2 ≡ 1 → ⊥)
-        × (not (isIdle (memoryIn (now state) .doing)) && moreToStore (memoryIn (now state) .rest) ≡ false) ⌝ }
-    ensures { λ r. ⌜ StepMade (now (card .entry)) (now (state .entry)) (now (card .exit)) (now (state .exit)) r
-        (stepHeld (now (card .entry)) (memoryIn (now (state .entry))) (heldBy (memoryIn (now (state .entry)) .doing))) ⌝ }
+        × (not (isIdle (memoryIn (now state) .doing)) && moreToStore (memoryIn (now state) .rest) ≡ false) × IsLine line ⌝ }
+    ensures { λ r. ⌜ StepMade (seen line (now (card .entry))) (now (state .entry)) (now (card .exit)) (now (state .exit)) r
+        (stepHeld line (now (card .entry)) (memoryIn (now (state .entry))) (heldBy (memoryIn (now (state .entry)) .doing))) ⌝ }
 {
     let head = head_in(state);
     let doing = head.doing;
     let Held::Task(task) = held_by(doing) else {
         return Answer::Refused(10);
     };
-    step_task(card, state, doing, task)
+    step_task(card, state, line, doing, task)
 }

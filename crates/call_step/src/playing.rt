@@ -22,9 +22,10 @@ use state::block::wide;
 ghost use mathlib.Core.Path.{_≡_};
 ghost use mathlib.Core.List.{[], _∷_};
 ghost use mathlib.Core.Bool.{true, false, not, _&&_};
-ghost use Prim.Native.Nat.{_+_, _<_};
+ghost use Prim.Native.Nat.{_+_, _≤_, _<_};
 ghost use lib.ListN.{length, set, drop, getD};
 ghost use Rattle.laws.specs.Lists.{beforeZero};
+ghost use Rattle.card.specs.Lines.{IsLine, seen};
 ghost use Rattle.card_free.specs.NodeSet.{wordCount, nodesOf};
 ghost use Rattle.change_plan.specs.Plan.{storesOf};
 ghost use Rattle.change_plan.specs.Planning.{withAll};
@@ -35,7 +36,7 @@ ghost use Rattle.state.specs.Results.{moreToStore};
 ghost use Rattle.state.specs.Block.{freeAt, placesAt, totalsAt, valuesAt, stateWords, blockWord, part, doingIn, memoryIn};
 ghost use Rattle.state.specs.Blocks.{over, wordsOf};
 ghost use Rattle.call_step.specs.StepBlocks.{idledBlock, totalled, settledBlock};
-ghost use Rattle.call_step.specs.Contracts.{StepMade, HoldsTask};
+ghost use Rattle.call_step.specs.Contracts.{MadeOn, HoldsTask};
 
 // Nothing is being done. The depth stays as it was kept at the start, since a final answer tells that one (document 02, W-203).
 fn clear_task(state: &mut [u32])
@@ -178,16 +179,17 @@ pub fn end_change(state: &mut [u32])
 }
 
 // The next store of the plan, which has one; "or its store is outside the card": refused. The place is looked at before the store, so
-// that a refusal stores nothing.
-pub fn store_next(card: &mut [u32], state: &mut [u32]) -> Answer
+// that a refusal stores nothing. The plan is that of the line's own table.
+pub fn store_next(card: &mut [u32], state: &mut [u32], line: u32) -> Answer
     requires { ⌜ (length (now state) ≡ stateWords) × (moreToStore (memoryIn (now state) .rest) ≡ true)
-        × HoldsTask (memoryIn (now state) .doing) ⌝ }
-    ensures { λ r. ⌜ StepMade (now (card .entry)) (now (state .entry)) (now (card .exit)) (now (state .exit)) r
-        (stepStore (now (card .entry)) (memoryIn (now (state .entry))) (getD (memoryIn (now (state .entry)) .rest) 0 (0, 0))
+        × HoldsTask (memoryIn (now state) .doing) × (8 ≤ length (now card)) × IsLine line ⌝ }
+    ensures { λ r. ⌜ MadeOn line (now (card .entry)) (now (state .entry)) (now (card .exit)) (now (state .exit)) r
+        (stepStore (seen line (now (card .entry))) (memoryIn (now (state .entry))) (getD (memoryIn (now (state .entry)) .rest) 0 (0, 0))
         (advanced (memoryIn (now (state .entry))) (drop 1 (memoryIn (now (state .entry)) .rest)))) ⌝ }
 {
     let made = wide(state[MADE]);
-    let place = state[PLACES + made];
+    let planned = state[PLACES + made];
+    let place = card::on_line(line, planned);
     let at = wide(place);
     if card.len() <= at {
         return Answer::Refused(9);

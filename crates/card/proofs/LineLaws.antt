@@ -1,5 +1,5 @@
 -- A line's table as one of its own: its nodes are the card's, and a store of it is one on the card.
-use mathlib.Core.Path.{_≡_, refl, ap, ap₂, sym, _∙_}
+use mathlib.Core.Path.{_≡_, refl, ap, ap₂, sym, subst, _∙_}
 use mathlib.Core.List.{List, [], _∷_, _++_}
 use mathlib.Core.Bool.{Bool, true, false}
 use mathlib.Core.Logic.{by-cases}
@@ -11,10 +11,10 @@ use lib.Seq.{getD-set-same, getD-set-other, drop-append-add, drop-drop, drop-set
 use lib.Dec.{eqb}
 use borrow.Author.Tests.{ne-eqb, eq-eqb}
 use Rattle.laws.proofs.Cases.{impossible}
-use Rattle.card.specs.Header.{nodesOfLength, cardRefusal, Formatted}
+use Rattle.card.specs.Header.{nodesOfLength, cardRefusal, Formatted, Sized}
 use Rattle.card.specs.Layout.{rootPlace, nodeAt}
 use Rattle.card.proofs.HeaderLaws.{header-formatted, card-header, sized, card-sized}
-use Rattle.card.specs.Lines.{hasLine, rootOf, headerFor, seen, onLine}
+use Rattle.card.specs.Lines.{IsLine, hasLine, rootOf, headerFor, seen, onLine}
 
 set-append-right : (xs ys : List ℕ) (i v : ℕ) → set (xs ++ ys) (length xs + i) v ≡ xs ++ set ys i v
 set-append-right [] ys i v = ap (λ (k : ℕ). set ys k v) (let z : 0 + i ≡ i = omega arith in z)
@@ -29,6 +29,13 @@ seen-node line card m = ap (take 24) (drop-append-add (headerFor line card) (dro
 pub seen-length : (line : ℕ) (card : List ℕ) → 8 ≤ length card → length (seen line card) ≡ length card
 unfolding seen
 seen-length line card h = omega (arith, length-append (headerFor line card) (drop 8 card), length-drop 8 card)
+
+-- of a card that is not refused it has the same length
+pub seen-long : {greatest n : ℕ} (line : ℕ) (card : List ℕ) → Sized greatest (length card) n → length (seen line card) ≡ length card
+seen-long line card s = seen-length line card (omega (arith, s .words))
+
+pub seen-sized : {greatest n : ℕ} (line : ℕ) (card : List ℕ) → Sized greatest (length card) n → Sized greatest (length (seen line card)) n
+seen-sized {greatest} {n} line card s = subst (λ (l : ℕ). Sized greatest l n) (sym (seen-long line card s)) s
 
 pub seen-root : (line : ℕ) (card : List ℕ) → getD (seen line card) rootPlace 0 ≡ getD card (rootOf line) 0
 unfolding seen
@@ -130,6 +137,25 @@ is-neither card line a b = rw (ne-eqb line 1 a, ne-eqb line 2 b)
 pub not-second : (card : List ℕ) (line : ℕ) → hasLine card line ≡ true → (line ≡ 2 → ⊥) → line ≡ 1
 not-second card line h b = by-cases (ℕ-discrete line 1) (λ e. e) (λ a. let z : _≡_ {A = Bool} false true = sym (ne-eqb line 2 b) ∙ is-neither card line a b ∙ h in impossible (cc))
 
--- one or two
-pub line-small : (card : List ℕ) (line : ℕ) → hasLine card line ≡ true → (0 < line) × (rootOf line < 8)
-line-small card line h = by-cases (ℕ-discrete line 2) (λ e. (omega arith, omega arith)) (λ b. let e = not-second card line h b in (omega arith, omega arith))
+-- a line that a card has is one or two
+pub has-is : (card : List ℕ) (line : ℕ) → hasLine card line ≡ true → IsLine line
+has-is card line h =
+    by-cases (ℕ-discrete line 2) (λ e. record { from = omega arith; to = omega arith })
+    (λ b. let e = not-second card line h b in record { from = omega arith; to = omega arith })
+
+pub not-the-second : (line : ℕ) → IsLine line → (line ≡ 2 → ⊥) → line ≡ 1
+not-the-second line is b = by-cases (ℕ-discrete line 1) (λ e. e) (λ a. absurd (b (omega (arith, is .from, is .to, a))))
+
+-- ---- where a store stands
+
+pub on-root : (line p : ℕ) → p ≡ rootPlace → onLine line p ≡ rootOf line
+unfolding onLine
+on-root line p e = rw (eq-eqb p rootPlace e)
+
+pub on-node : (line p : ℕ) → (p ≡ rootPlace → ⊥) → onLine line p ≡ p
+unfolding onLine
+on-node line p d = rw (ne-eqb p rootPlace d)
+
+-- of the first line it stands where it is
+pub on-first : (p : ℕ) → onLine 1 p ≡ p
+on-first p = by-cases (ℕ-discrete p rootPlace) (λ e. on-root 1 p e ∙ sym e) (on-node 1 p)

@@ -2,7 +2,7 @@
 -- and 7 the most nodes each line may use. Each line has its own tree".
 use mathlib.Core.Bool.{Bool, _&&_, _||_}
 use mathlib.Core.List.{List, [], _∷_, _++_}
-use Prim.Native.Nat.{ℕ, _+_}
+use Prim.Native.Nat.{ℕ, _+_, _≤_}
 use lib.ListN.{getD, drop}
 use lib.Dec.{eqb}
 use Rattle.laws.specs.Cases.{pick}
@@ -11,6 +11,11 @@ use Rattle.card.specs.Layout.{rootPlace}
 -- "line number not one the card has": with mark 1 a card has line 1, with mark 2 lines 1 and 2
 unfoldable pub hasLine : List ℕ → ℕ → Bool
 hasLine card line = eqb line 1 || (eqb line 2 && eqb (getD card 0 0) 2)
+
+-- a line's number, 1 or 2
+pub record IsLine (line : ℕ) : Type 0 where
+  pub from : 1 ≤ line
+  pub to : line ≤ 2
 
 -- the word of a line's root: word 4, and word 5 of the second line
 abbrev pub rootOf : ℕ → ℕ

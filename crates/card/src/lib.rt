@@ -13,7 +13,7 @@ ghost use mathlib.Core.Bool.{true, false};
 ghost use Prim.Native.Nat.{_+_, _*_, _≤_};
 ghost use lib.ListN.{length, getD};
 ghost use Rattle.card.specs.Layout.{greatestNodes, limited, nodeAt, children, isKey, leafPairs};
-ghost use Rattle.card.specs.Lines.{hasLine, rootOf};
+ghost use Rattle.card.specs.Lines.{IsLine, hasLine, rootOf, onLine};
 ghost use Rattle.card.specs.Header.{nodesOfLength, headerRefusal, cardRefusal, Sized};
 
 // The numbers of the drawing: the only places in code where they stand.
@@ -180,13 +180,32 @@ pub fn has_line(card: &[u32], line: u32) -> bool
 
 // The number of a line's root.
 pub fn root_of(card: &[u32], line: u32) -> usize
-    requires { ⌜ (8 ≤ length (now card)) × (hasLine (now card) line ≡ true) ⌝ }
+    requires { ⌜ (8 ≤ length (now card)) × IsLine line ⌝ }
     ensures { λ r. ⌜ r ≡ getD (now (card .entry)) (rootOf line) 0 ⌝ }
 {
     if line == SECOND_LINE {
         return card[SECOND_ROOT] as usize;
     }
     card[ROOT_PLACE] as usize
+}
+
+// The words of the two roots, as places that a step tells.
+const ROOT_LINK: u32 = ROOT_PLACE as u32;
+
+const SECOND_LINK: u32 = SECOND_ROOT as u32;
+
+// Where a store of a line's own table stands on the card: the link to the root in the line's word for it, all others where they are.
+pub fn on_line(line: u32, place: u32) -> u32
+    requires { ⌜ IsLine line ⌝ }
+    ensures { λ r. ⌜ r ≡ onLine line place ⌝ }
+{
+    if line != SECOND_LINE {
+        return place;
+    }
+    if place == ROOT_LINK {
+        return SECOND_LINK;
+    }
+    place
 }
 
 // Node m: the 24-word part of the card that starts at word 8 + 24 × (m − 1).

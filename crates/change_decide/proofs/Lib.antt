@@ -6,3 +6,5 @@ pub mod Positions
 pub mod Fits
 -- what is decided on a line's table is decided on the card from the line's root
 pub mod LineDecisions
+-- what a decision says of a line's table, it says of the card
+pub mod LinePlaces

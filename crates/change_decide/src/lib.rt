@@ -8,6 +8,7 @@ ghost use Prim.Native.Nat.{_+_, _*_, _≤_};
 ghost use lib.ListN.{length};
 ghost use lib.Dec.{eqb};
 ghost use Rattle.card.specs.Layout.{greatestNodes, rootPlace, kindOf, children};
+ghost use Rattle.card.specs.Lines.{IsLine, seen};
 ghost use Rattle.change_decide.specs.Decide.{isNode, leftSibling, decideTagged, decideTogether, decideSiblings, decideUnderfull, decideAt, decidedRepair};
 ghost use Rattle.change_decide.specs.Places.{PositionWithin};
 
@@ -169,12 +170,12 @@ fn decide_at(card: &[u32], n: usize, p: Position) -> Decision
     }
 }
 
-// "Repairs go on until balanced": the change that mends the first violation on a key's way.
-pub fn next_repair(card: &[u32], n: usize, key: u32) -> Decision
-    requires { ⌜ (length (now card) ≡ 8 + 24 * n) × (n ≤ greatestNodes) × (4 ≤ n) ⌝ }
-    ensures { λ r. ⌜ r ≡ decidedRepair (now (card .entry)) n key ⌝ }
+// "Repairs go on until balanced": the change that mends the first violation on a key's way in a line's table.
+pub fn next_repair(card: &[u32], n: usize, line: u32, key: u32) -> Decision
+    requires { ⌜ (length (now card) ≡ 8 + 24 * n) × (n ≤ greatestNodes) × IsLine line ⌝ }
+    ensures { λ r. ⌜ r ≡ decidedRepair (seen line (now (card .entry))) n key ⌝ }
 {
-    match walk::find_violation(card, n, key, card[card::ROOT_PLACE] as usize) {
+    match walk::find_violation(card, n, key, card::root_of(card, line)) {
         Search::Refused => Decision::Refused,
         Search::Balanced => Decision::Balanced,
         Search::Violation(p) => decide_at(card, n, p),

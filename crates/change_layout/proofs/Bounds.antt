@@ -260,6 +260,8 @@ pub record Bounded (before : List Bool) (stores : List Store) (after : List Bool
   pub same : length after ≡ length before
   pub few : length cut ≤ 3
   pub readable : beforeZero (pad 3 cut) ≡ cut
+  -- its first store is in a node
+  pub in-node : 8 ≤ getD stores 0 (0, 0) .0
 
 unfoldable pub WithinBounds : List Bool → Preparation → Type 0
 WithinBounds before refused = Unit {0}
@@ -273,43 +275,43 @@ length-without (m ∷ ms) free = length-without ms (set free m false) ∙ length
 
 module _ (free : List Bool) (last : ℕ) (change : List ℕ → Change) where
   over-bounds : ((ms : List ℕ) → (1 ≤ length (changeStores (change ms))) × (length (changeStores (change ms)) ≤ 73)
-      × (length (change ms .cut) ≤ 3) × (beforeZero (pad 3 (change ms .cut)) ≡ change ms .cut))
+      × (length (change ms .cut) ≤ 3) × (beforeZero (pad 3 (change ms .cut)) ≡ change ms .cut) × (8 ≤ getD (changeStores (change ms)) 0 (0, 0) .0))
       → (found : Option (List ℕ)) → WithinBounds free (overNumbers free last change found)
   unfolding overNumbers WithinBounds
   over-bounds h none = tt
-  over-bounds h (some ms) = record { some = h ms .0; short = h ms .1; same = length-without ms free; few = h ms .2; readable = h ms .3 }
+  over-bounds h (some ms) = record { some = h ms .0; short = h ms .1; same = length-without ms free; few = h ms .2; readable = h ms .3; in-node = h ms .4 }
 
   giving-bounds : (k : ℕ) → ((ms : List ℕ) → AllRoom (change ms .nodes)) → ((ms : List ℕ) → length (change ms .nodes) ≤ 3)
       → ((ms : List ℕ) → length (change ms .cut) ≤ 3) → ((ms : List ℕ) → beforeZero (pad 3 (change ms .cut)) ≡ change ms .cut)
-      → WithinBounds free (giving k free last change)
+      → ((ms : List ℕ) → getD (changeStores (change ms)) 0 (0, 0) .0 ≡ place (first ms) 0) → WithinBounds free (giving k free last change)
   unfolding giving
-  giving-bounds k room few cut-few read =
+  giving-bounds k room few cut-few read from =
       over-bounds
-      (λ ms. let count = change-count (change ms) (room ms) (few ms) in (count .0, count .1, cut-few ms, read ms)) (takeNumbers k free last)
+      (λ ms. let count = change-count (change ms) (room ms) (few ms) in (count .0, count .1, cut-few ms, read ms, omega (arith, from ms))) (takeNumbers k free last)
 
 pub laid-bounds : (card : List ℕ) (d : Decision) (free : List Bool) (last : ℕ) → Fits card d → WithinBounds free (layOut card d free last)
-unfolding layOut WithinBounds Fits cutBy splitLeaf absorb splitParent share halves copied merge mergeRoot
+unfolding layOut WithinBounds Fits cutBy changeStores splitLeaf absorb splitParent share halves copied merge mergeRoot nodeImage
 laid-bounds card Refused free last f = tt
 laid-bounds card Balanced free last f = tt
-laid-bounds card (PutPair m i key value) free last f = record { some = omega arith; short = omega arith; same = refl; few = omega arith; readable = refl }
-laid-bounds card (ClearKey m i) free last f = record { some = omega arith; short = omega arith; same = refl; few = omega arith; readable = refl }
+laid-bounds card (PutPair m i key value) free last f = record { some = omega arith; short = omega arith; same = refl; few = omega arith; readable = refl; in-node = omega arith }
+laid-bounds card (ClearKey m i) free last f = record { some = omega arith; short = omega arith; same = refl; few = omega arith; readable = refl; in-node = omega arith }
 laid-bounds card (SplitLeaf m link key value) free last f =
     giving-bounds free last (splitLeafOf m link key value (nodeAt card m)) 3
     (λ ms. split-room m link (sort ((key, value) ∷ leafPairs (nodeAt card m))) (first ms) (second ms) (third ms)
     (length-sort ((key, value) ∷ leafPairs (nodeAt card m)) ∙ ap suc (f .2))) (λ ms. omega arith) (λ ms. omega arith)
-    (λ ms. cut-read card (SplitLeaf m link key value) f)
+    (λ ms. cut-read card (SplitLeaf m link key value) f) (λ ms. refl)
 laid-bounds card (Absorb p) free last f =
     giving-bounds free last (absorbAt card p) 1 (λ ms. absorb-room card p (f .0) ms (f .1)) (λ ms. omega arith) (λ ms. omega arith)
-    (λ ms. cut-read card (Absorb p) f)
+    (λ ms. cut-read card (Absorb p) f) (λ ms. refl)
 laid-bounds card (SplitParent p) free last f =
     giving-bounds free last (splitParentAt card p) 3 (split-parent-room card p (f .0)) (λ ms. omega arith) (λ ms. omega arith)
-    (λ ms. cut-read card (SplitParent p) f)
+    (λ ms. cut-read card (SplitParent p) f) (λ ms. refl)
 laid-bounds card (Share p) free last f =
     giving-bounds free last (shareAt card p) 3 (λ ms. share-room card p (f .0) ms (f .1)) (λ ms. omega arith) (λ ms. omega arith)
-    (λ ms. cut-read card (Share p) f)
+    (λ ms. cut-read card (Share p) f) (λ ms. refl)
 laid-bounds card (Merge p) free last f =
     giving-bounds free last (mergeAt card p) 2 (λ ms. merge-room card p (f .0) ms (f .1)) (λ ms. omega arith) (λ ms. omega arith)
-    (λ ms. cut-read card (Merge p) f)
+    (λ ms. cut-read card (Merge p) f) (λ ms. refl)
 laid-bounds card (MergeRoot p) free last f =
     giving-bounds free last (mergeRootAt card p) 1 (λ ms. merge-root-room card p (f .0) ms (f .1)) (λ ms. omega arith) (λ ms. omega arith)
-    (λ ms. cut-read card (MergeRoot p) f)
+    (λ ms. cut-read card (MergeRoot p) f) (λ ms. refl)

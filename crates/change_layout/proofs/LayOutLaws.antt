@@ -208,6 +208,20 @@ pub first-on-card : (card : List ℕ) (d : Decision) (a b c n : ℕ) → Fits ca
 first-on-card card d a b c n f o size among h =
     order 0 (needed d) (λ k. rw (first-new d a b c k) (omega (arith, among 0 k .0))) (λ k. first-held card d (a ∷ b ∷ c ∷ []) f o (omega arith))
 
+-- the first store is in a node
+pub first-in-node : (d : Decision) (a b c : ℕ) → outcomeOf d ≡ Prepared → 8 ≤ getD (placesBy d (a ∷ b ∷ c ∷ [])) 0 0
+unfolding outcomeOf needed placesBy
+first-in-node Refused a b c o = impossible (cc)
+first-in-node Balanced a b c o = impossible (cc)
+first-in-node (PutPair m i key value) a b c o = omega arith
+first-in-node (ClearKey m i) a b c o = omega arith
+first-in-node (SplitLeaf m link key value) a b c o = omega (arith, first-new (SplitLeaf m link key value) a b c (omega arith))
+first-in-node (Absorb p) a b c o = omega (arith, first-new (Absorb p) a b c (omega arith))
+first-in-node (SplitParent p) a b c o = omega (arith, first-new (SplitParent p) a b c (omega arith))
+first-in-node (Share p) a b c o = omega (arith, first-new (Share p) a b c (omega arith))
+first-in-node (Merge p) a b c o = omega (arith, first-new (Merge p) a b c (omega arith))
+first-in-node (MergeRoot p) a b c o = omega (arith, first-new (MergeRoot p) a b c (omega arith))
+
 -- a change with new nodes, laid out: its first store goes to word 0 of the first of them
 pub record LaidFrom (p : Preparation) (at : ℕ) : Type 0 where
   pub stores : List Store

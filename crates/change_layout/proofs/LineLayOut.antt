@@ -1,7 +1,7 @@
 -- A change on a line's table is laid out as on the card: what the new nodes hold is read off nodes alone.
 use mathlib.Core.Path.{_≡_, refl, ap, ap₂}
 use mathlib.Core.Bool.{Bool}
-use mathlib.Core.List.{List}
+use mathlib.Core.List.{List, zip}
 use Prim.Native.Nat.{ℕ}
 use Rattle.card.specs.Layout.{nodeAt}
 use Rattle.card.specs.Lines.{seen}
@@ -13,7 +13,7 @@ use Rattle.change_plan.specs.Change.{Together, absorb, splitParent, joinedKeys,
 use Rattle.change_plan.specs.Planning.{giving, first, second, third}
 use Rattle.change_split.specs.Split.{splitLeafOf}
 use Rattle.change_siblings.specs.Siblings.{togetherAt}
-use Rattle.change_layout.specs.LayOut.{layOut, cutBy, wordsBy}
+use Rattle.change_layout.specs.LayOut.{layOut, cutBy, placesBy, wordsBy, storesBy}
 use Rattle.walk.specs.declared.Position.{Position}
 
 module _ (line : ℕ) (card : List ℕ) where
@@ -55,6 +55,9 @@ module _ (line : ℕ) (card : List ℕ) where
   words-seen (Share p) ms = rw (seen-node line card (p .parent), together-seen p)
   words-seen (Merge p) ms = rw (seen-node line card (p .parent), together-seen p)
   words-seen (MergeRoot p) ms = rw (seen-node line card (p .parent), together-seen p)
+
+  pub stores-seen : (d : Decision) (ms : List ℕ) → storesBy (seen line card) d ms ≡ storesBy card d ms
+  stores-seen d ms = ap (zip (placesBy d ms)) (words-seen d ms)
 
   pub cut-seen : (d : Decision) → cutBy (seen line card) d ≡ cutBy card d
   unfolding cutBy

@@ -32,7 +32,7 @@ use Rattle.state.specs.declared.Begun.{Begun}
 use Rattle.state.specs.declared.Begun.the-variants.{Idle as OpenedIdle, Started, Refused as BegunRefused}
 use Rattle.state.specs.declared.Doing.{Doing}
 use Rattle.call_change.specs.Updates.{landing}
-use Rattle.call_step.specs.Calls.{stepPrepared, stepBegin, stepTask, stepChecked, stepHeld, stepOf}
+use Rattle.call_step.specs.Calls.{stepPrepared, stepBegin, stepTask, placedOn, onCard, stepChecked, stepHeld, stepOf}
 use Rattle.call_step.proofs.StepMemory.{Ends, next-ends}
 use Rattle.change_plan.specs.Planning.{Preparation, refused, balanced, prepared}
 use Rattle.card.specs.Stores.{Store}
@@ -84,15 +84,15 @@ landed-small m doing depth room NoLanding = omega arith
 landed-small m doing depth true (LandingAt node link run) = tt
 landed-small m doing depth false (LandingAt node link run) = omega arith
 
-pub start-small : (greatest : ℕ) (c : List ℕ) (m : Memory) (key : ℕ) (doing : Doing) (room : Landing → Bool) → SmallBegun (startOf greatest c m key doing room .begun)
-unfolding startOf startChecked startRefused
+pub start-small : (greatest : ℕ) (c : List ℕ) (m : Memory) (key : ℕ) (doing : Doing) (room : Landing → Bool) → SmallBegun (startOf greatest 1 c m key doing room .begun)
+unfolding startOf startChecked startRefused hasLine
 start-small greatest c m key doing room =
     bool-cases (eqb (nodesOfLength greatest (length c)) 0) (λ q. rw q (omega arith)) (λ q.
     bool-cases (eqb (nodesOfLength greatest (length c)) (m .nodes)) (λ q₁.
     bool-cases (eqb (headerRefusal c (m .nodes)) 0) (λ q₂.
     bool-cases (isIdle (m .doing)) (λ q₃.
     bool-cases (eqb key 0) (λ q₄. rw (q, q₁, q₂, q₃, q₄) (omega arith))
-    (λ q₄. rw (q, q₁, q₂, q₃, q₄) (landed-small m doing (startDepth c m key) (room (landing c (m .nodes) key)) (landing c (m .nodes) key))))
+    (λ q₄. rw (q, q₁, q₂, q₃, q₄) (landed-small m doing (startDepth 1 c m key) (room (landing (seen 1 c) (m .nodes) key)) (landing (seen 1 c) (m .nodes) key))))
     (λ q₃. rw (q, q₁, q₂, q₃) (omega arith))) (λ q₂. rw (q, q₁, q₂) (header-small c (m .nodes)))) (λ q₁. rw (q, q₁) (omega arith)))
 
 abbrev pub SmallFound : Found → Type 0
@@ -152,6 +152,18 @@ module _ (greatest : ℕ) (c : List ℕ) (m : Memory) where
   task-small task [] e = prepared-small _ _ _ (ends-small _ (next-ends greatest c (m .nodes) (m .free) (m .last) (m .doing) task (task-of (m .doing) task e)))
   task-small task (s ∷ rest) e = store-small s (advanced m rest)
 
+placed-small : (c : List ℕ) (s : Step) → SmallAnswer (s .answer) → SmallAnswer (onCard 1 c s .answer)
+unfolding onCard placedOn
+placed-small c s h = go (s .answer) h
+  where
+    go : (a : Answer) → SmallAnswer a → SmallAnswer (placedOn 1 c s a .answer)
+    go (Stored place) h = tt
+    go Ready h = tt
+    go Absent h = tt
+    go (Value v) h = tt
+    go (Refused r) h = h
+
+module _ (greatest : ℕ) (c : List ℕ) (m : Memory) where
   checked-step-small : (due : Step) → SmallAnswer (due .answer) → SmallAnswer (stepChecked c m due .answer)
   unfolding stepChecked stepRefused
   checked-step-small due h = bool-cases (eqb (headerRefusal c (m .nodes)) 0) (λ q. rw q h) (λ q. rw q (header-small c (m .nodes)))
@@ -161,13 +173,13 @@ module _ (greatest : ℕ) (c : List ℕ) (m : Memory) where
   format-small made none = tt
   format-small made (some s) = tt
 
-  held-small : (held : Held) → heldBy (m .doing) ≡ held → SmallAnswer (stepHeld c m held .answer)
+  held-small : (held : Held) → heldBy (m .doing) ≡ held → SmallAnswer (stepHeld 1 c m held .answer)
   unfolding stepHeld stepRefused
   held-small Nothing e = checked-step-small _ (omega arith)
   held-small (Formatting made) e = format-small made _
-  held-small (HeldTask task) e = checked-step-small _ (task-small task (m .rest) e)
+  held-small (HeldTask task) e = checked-step-small _ (placed-small c _ (task-small greatest (seen 1 c) m task (m .rest) e))
 
-  pub step-small : SmallAnswer (stepOf greatest c m .answer)
+  pub step-small : SmallAnswer (stepOf greatest 1 c m .answer)
   unfolding stepOf stepRefused
   step-small =
       bool-cases (eqb (nodesOfLength greatest (length c)) 0) (λ q. rw q (omega arith))

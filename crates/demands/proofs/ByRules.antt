@@ -99,7 +99,7 @@ drop-some (s ∷ ss) (suc k) h = drop-some ss k (omega arith)
 
 -- A change whose first store the next step makes, with m the plan and the rest of the stores to come.
 module _ (greatest : ℕ) (final : Answer) (most : ℕ) (w : World (rationTable greatest)) (x : Nears greatest final most w) (m : Memory) (s : Store) (rest : List Store)
-    (first : stepOf greatest (w .card) (w .state) ≡ record { answer = Stored (s .0); card = set (w .card) (s .0) (s .1); memory = advanced m rest })
+    (first : stepOf greatest 1 (w .card) (w .state) ≡ record { answer = Stored (s .0); card = set (w .card) (s .0) (s .1); memory = advanced m rest })
   where
     first-stored : StoresNow (rationTable greatest) w s
     unfolding replyTo happens stepReply
@@ -205,7 +205,7 @@ record RepairNext (greatest : ℕ) (c : List ℕ) (n : ℕ) (m : Memory) : Type 
   pub out : List ℕ
   pub planned : nextRepair c n key (m .free) (m .last) ≡ prepared (first ∷ rest) then-free then-last out
   pub short : suc (length rest) ≤ 73
-  pub first-made : stepOf greatest c m ≡ record {
+  pub first-made : stepOf greatest 1 c m ≡ record {
     answer = Stored (first .0);
     card = set c (first .0) (first .1);
     memory = advanced (memory n then-free then-last (m .depth) (m .totals) (m .doing) [] out) rest;
@@ -213,7 +213,7 @@ record RepairNext (greatest : ℕ) (c : List ℕ) (n : ℕ) (m : Memory) : Type 
 
 -- the final answer, or the next change
 abbrev Turns : ℕ → List ℕ → ℕ → Tree → Memory → Answer → Type 0
-Turns greatest c n t m due = Exact n (m .free) t × (((tableViolations t ≡ 0) × (stepOf greatest c m .answer ≡ due)) ⊎ RepairNext greatest c n m)
+Turns greatest c n t m due = Exact n (m .free) t × (((tableViolations t ≡ 0) × (stepOf greatest 1 c m .answer ≡ due)) ⊎ RepairNext greatest c n m)
 
 idle-no-job : {phase : Phase} {doing : Doing} {key : ℕ} {final : Answer} {u : Option Update} → Job phase doing key final u → doing ≡ Idle → ⊥
 idle-no-job job-repair e = impossible (cc)
@@ -289,7 +289,7 @@ repair-next greatest final most w x k (exact, turn) later = at turn
           free-exact = subst (λ y. Exact y (w .state .free) (v .inv .tree)) (sym (nodes-same greatest (only (v .size)) (v .steps) w (x .book-now) (v .inv))) exact;
         }
 
-    at : ((tableViolations (v .inv .tree) ≡ 0) × (stepOf greatest (w .card) (w .state) .answer ≡ v .inv .due))
+    at : ((tableViolations (v .inv .tree) ≡ 0) × (stepOf greatest 1 (w .card) (w .state) .answer ≡ v .inv .due))
         ⊎ RepairNext greatest (w .card) (v .size) (w .state) → Repairs (rationTable greatest) (stepReply final) w
     at (inl (z, a)) = done (v .inv .tree) between z (ap stepReply (a ∙ x .is-due))
     at (inr q) =
@@ -323,11 +323,11 @@ module _ (greatest : ℕ) (final : Answer) (most : ℕ) (w : World (rationTable 
     (busy : isIdle (w .state .doing) ≡ false) (Nothing : Type 0) (Rule : List ℕ → List ℕ → List Store → Type 0)
     (short : (given out : List ℕ) (ss : List Store) → Rule given out ss → length ss ≤ 73)
   where
-    not-refused : (r : ℕ) → stepOf greatest (w .card) (w .state) ≡ stepRefused r (w .card) (w .state) → ⊥
+    not-refused : (r : ℕ) → stepOf greatest 1 (w .card) (w .state) ≡ stepRefused r (w .card) (w .state) → ⊥
     unfolding stepRefused
     not-refused r e = let v = x .covered in work-not-refused greatest (only (v .size)) (v .steps) w (x .book-now) (v .inv) busy r (ap (λ y. y .answer) e)
 
-    ends-due : (a : Answer) → Final a → stepOf greatest (w .card) (w .state) ≡ stepFinal a (w .card) (w .state) → a ≡ final
+    ends-due : (a : Answer) → Final a → stepOf greatest 1 (w .card) (w .state) ≡ stepFinal a (w .card) (w .state) → a ≡ final
     unfolding stepFinal
     ends-due a f e =
         let v = x .covered in
@@ -336,7 +336,7 @@ module _ (greatest : ℕ) (final : Answer) (most : ℕ) (w : World (rationTable 
         right-final (subst (λ y. Right y (i .due)) (ap (λ y. y .answer) e) (q .1)) (final-counts a f)
         ∙ loosen-due greatest (only (v .size)) (v .steps) (suc (v .steps)) w (x .book-now) (omega arith) (v .inv) ∙ x .is-due
 
-    pub first-by-rules : (f : FirstChange) → stepOf greatest (w .card) (w .state) ≡ stepBegin (w .card) (w .state) f → Final (f .final)
+    pub first-by-rules : (f : FirstChange) → stepOf greatest 1 (w .card) (w .state) ≡ stepBegin (w .card) (w .state) f → Final (f .final)
         → Storing (f .preparation) → (f .preparation ≡ balanced → f .final ≡ final → Nothing)
         → ((ss : List Store) (fewer : List Bool) (now : ℕ) (out : List ℕ) → f .preparation ≡ prepared ss fewer now out
         → ByRule Rule (w .state .free) (w .state .last) ss fewer now out × Begun (f .doing))
@@ -347,7 +347,7 @@ module _ (greatest : ℕ) (final : Answer) (most : ℕ) (w : World (rationTable 
         at : (p : Preparation) → f .preparation ≡ p → Storing p → Updates (rationTable greatest) Nothing Rule (stepReply final) w
         at refused q st = absurd (not-refused 9 (e ∙ ap (stepPrepared (w .card) (w .state) (f .doing) (f .final)) q))
         at balanced q st =
-            let s : stepOf greatest (w .card) (w .state) ≡ stepFinal (f .final) (w .card) (w .state) = e ∙ ap (stepPrepared (w .card) (w .state) (f .doing) (f .final)) q in
+            let s : stepOf greatest 1 (w .card) (w .state) ≡ stepFinal (f .final) (w .card) (w .state) = e ∙ ap (stepPrepared (w .card) (w .state) (f .doing) (f .final)) q in
             no-change (none-due q (ends-due (f .final) fin s)) (ap (λ y. stepReply (y .answer)) s ∙ ap stepReply (ends-due (f .final) fin s))
         at (prepared [] fewer now out) q st = true-false (sym st)
         at (prepared (s ∷ rest) fewer now out) q st =
@@ -359,7 +359,7 @@ module _ (greatest : ℕ) (final : Answer) (most : ℕ) (w : World (rationTable 
 
             inside : s .0 < length (w .card) → Updates (rationTable greatest) Nothing Rule (stepReply final) w
             inside o =
-                let first : stepOf greatest (w .card) (w .state) ≡ record {
+                let first : stepOf greatest 1 (w .card) (w .state) ≡ record {
                   answer = Stored (s .0);
                   card = set (w .card) (s .0) (s .1);
                   memory = advanced (memory (w .state .nodes) fewer now (w .state .depth) (w .state .totals) (f .doing) [] out) rest;
@@ -376,7 +376,7 @@ module _ (greatest : ℕ) (final : Answer) (most : ℕ) (w : World (rationTable 
 -- where an update stands that has just been started
 pub put-turns : (greatest : ℕ) {c : List ℕ} {n : ℕ} {t goal : Tree} {steps : ℕ} {m : Memory} {h : Hand} {due : Answer} (key value : ℕ) → Table greatest c n t
     → Stage c (only n) t goal steps m h due → m .doing ≡ Inserting key value NotBegun
-    → stepOf greatest c m ≡ stepBegin c m (nextChange c n (m .free) (m .last) (Inserting key value NotBegun) (PutIn key value))
+    → stepOf greatest 1 c m ≡ stepBegin c m (nextChange c n (m .free) (m .last) (Inserting key value NotBegun) (PutIn key value))
 put-turns greatest key value b (stage-idle z r x g) e = impossible (cc)
 put-turns greatest {c} {n} key value b (stage-put {free} {last} {depth} {key = k} {value = v} {totals = totals} room z r x low high enough below q g) e =
     let ek : k ≡ key = cc in
@@ -389,7 +389,7 @@ put-turns greatest key value b (stage-within j en p q few hd) e = absurd (put-no
 
 pub remove-turns : (greatest : ℕ) {c : List ℕ} {n : ℕ} {t goal : Tree} {steps : ℕ} {m : Memory} {h : Hand} {due : Answer} (key : ℕ)
     → Table greatest c n t → Stage c (only n) t goal steps m h due → m .doing ≡ Deleting key NotBegun 0
-    → stepOf greatest c m ≡ stepBegin c m (nextChange c n (m .free) (m .last) (Deleting key NotBegun 0) (TakeOut key))
+    → stepOf greatest 1 c m ≡ stepBegin c m (nextChange c n (m .free) (m .last) (Deleting key NotBegun 0) (TakeOut key))
 remove-turns greatest key b (stage-idle z r x g) e = impossible (cc)
 remove-turns greatest key b (stage-put room z r x low high enough below q g) e = impossible (cc)
 remove-turns greatest {c} {n} key b (stage-remove {free} {last} {depth} {key = k} {totals = totals} z r x low high q g) e =

@@ -53,7 +53,7 @@ pub record Promises (greatest : ℕ) : Type 0 where
   pub list-program : ListProgram greatest (rationTable greatest) (listCard greatest) (dumpText greatest)
   pub w-201 : W201 greatest (rationTable greatest)
   pub w-202 : W202 greatest eightAt (λ dump lent. dumpReply (readAnswer greatest dump lent))
-  pub w-203 : W203 (rationTable greatest) (findDepth greatest 1) (nextDepth greatest 1) (λ c m. toldDepth (stepOf greatest c m .memory .depth) (stepOf greatest c m .answer))
+  pub w-203 : W203 (rationTable greatest) (findDepth greatest 1) (nextDepth greatest 1) (λ c m. toldDepth (stepOf greatest 1 c m .memory .depth) (stepOf greatest 1 c m .answer))
   pub w-204 : W204 (rationTable greatest) (λ m family. totalReply (totalOf m family))
   pub w-205 : W205 (rationTable greatest)
   pub w-209 : W209 greatest (rationTable greatest) (checkText greatest)

@@ -1,5 +1,5 @@
 -- W-203, of the ration table: what is told beside the answers is the number of internal nodes on the number's way when the call began.
-use mathlib.Core.Path.{_≡_, refl, ap, _∙_}
+use mathlib.Core.Path.{_≡_, refl, ap, ap₂, _∙_}
 use mathlib.Core.Bool.{Bool, true}
 use mathlib.Core.List.{List, [], _∷_}
 use mathlib.Core.Option.{Option, none, some}
@@ -7,6 +7,9 @@ use Prim.Native.Nat.{ℕ, _<_}
 use native.Mathlib.Omega.{arith}
 use lib.ListN.{length, getD, drop}
 use lib.Dec.{eqb, ltb}
+use Rattle.card.specs.Lines.{seen}
+use Rattle.card.proofs.LineLaws.{seen-only}
+use Rattle.call_step.proofs.LineSteps.{on-memory}
 use Rattle.card.proofs.LineLaws.{line-one}
 use Rattle.card.specs.Lines.{seen}
 use Rattle.theory_change.proofs.Line.{only}
@@ -72,7 +75,7 @@ use Rattle.demands.proofs.StartRows.{started-is}
 
 -- what the step on this card and state tells
 abbrev pub stepDepth : ℕ → List ℕ → Memory → ℕ
-stepDepth greatest c m = toldDepth (stepOf greatest c m .memory .depth) (stepOf greatest c m .answer)
+stepDepth greatest c m = toldDepth (stepOf greatest 1 c m .memory .depth) (stepOf greatest 1 c m .answer)
 
 -- ---- the way on the card and through the tree
 
@@ -142,6 +145,7 @@ module _ (greatest : ℕ) (c : List ℕ) (m : Memory) where
   task-depth task [] = prepared-depth _ _ _
   task-depth task (s ∷ rest) = store-depth s (advanced m rest) (advanced-depth m rest)
 
+module _ (greatest : ℕ) (c : List ℕ) (m : Memory) where
   checked-depth : (due : Step) → due .memory .depth ≡ m .depth → stepChecked c m due .memory .depth ≡ m .depth
   unfolding stepChecked stepRefused
   checked-depth due e = bool-cases (eqb (headerRefusal c (m .nodes)) 0) (λ q. rw q e) (λ q. rw q)
@@ -151,19 +155,19 @@ module _ (greatest : ℕ) (c : List ℕ) (m : Memory) where
   format-depth made none = refl
   format-depth made (some s) = refl
 
-  held-depth : (held : Held) → stepHeld c m held .memory .depth ≡ m .depth
+  held-depth : (held : Held) → stepHeld 1 c m held .memory .depth ≡ m .depth
   unfolding stepHeld stepRefused
   held-depth Nothing = checked-depth _ refl
   held-depth (Formatting made) = format-depth made _
-  held-depth (HeldTask task) = checked-depth _ (task-depth task (m .rest))
+  held-depth (HeldTask task) = checked-depth _ (ap (λ (x : Memory). x .depth) (on-memory 1 c (stepTask (seen 1 c) m task (m .rest))) ∙ task-depth greatest (seen 1 c) m task (m .rest))
 
-  step-keeps : stepOf greatest c m .memory .depth ≡ m .depth
+  step-keeps : stepOf greatest 1 c m .memory .depth ≡ m .depth
   unfolding stepRefused
   step-keeps = go (sized? greatest (length c) (m .nodes))
     where
-      go : Dec (Sized greatest (length c) (m .nodes)) → stepOf greatest c m .memory .depth ≡ m .depth
-      go (yes s) = ap (λ (x : Step). x .memory .depth) (step-sized greatest c m s) ∙ held-depth (heldBy (m .doing))
-      go (no p) = ap (λ (x : Step). x .memory .depth) (step-unsized greatest c m p)
+      go : Dec (Sized greatest (length c) (m .nodes)) → stepOf greatest 1 c m .memory .depth ≡ m .depth
+      go (yes s) = ap (λ (x : Step). x .memory .depth) (step-sized greatest 1 c m s) ∙ held-depth (heldBy (m .doing))
+      go (no p) = ap (λ (x : Step). x .memory .depth) (step-unsized greatest 1 c m p)
 
 run-keeps : (greatest : ℕ) (qs : List Event) (w : World (rationTable greatest)) → LeftUncut (rationTable greatest) qs w → run (rationTable greatest) qs w .state .depth ≡ w .state .depth
 unfolding LeftUncut run happens
@@ -203,20 +207,21 @@ told-others depth (Refused r) n = refl
 
 module _ (greatest : ℕ) (w : World (rationTable greatest)) (b : Book) (v : Covered greatest w b) where
   -- the depth of the key's way on the card as it is now
-  now-passed : (t : Tree) → WellFormed (w .card) t → (key : ℕ) → startDepth (w .card) (w .state) key ≡ passedIn key t
+  now-passed : (t : Tree) → WellFormed (w .card) t → (key : ℕ) → startDepth 1 (w .card) (w .state) key ≡ passedIn key t
   now-passed t k key =
-      ap (λ (n : ℕ). depthOf (leafOf (way (w .card) n key))) (nodes-same greatest (only (v .size)) (v .steps) w b (v .inv)) ∙ passes greatest (w .card) (v .size) t (standing greatest w b v t k) key
+      ap₂ (λ (c : List ℕ) (n : ℕ). depthOf (leafOf (way c n key)))
+      (seen-only (w .card) (v .size) (omega (arith, v .inv .table .sized .words)) (v .inv .table .header)) (nodes-same greatest (only (v .size)) (v .steps) w b (v .inv)) ∙ passes greatest (w .card) (v .size) t (standing greatest w b v t k) key
 
   -- after a start that works, whatever calls come before the final answer
   begun-tells : (key : ℕ) (doing : Doing) (room : Landing → Bool) (t : Tree) → WellFormed (w .card) t
-      → startReply (startOf greatest (w .card) (w .state) key doing room .begun) ≡ started
-      → (u : World (rationTable greatest)) → u ≡ record { card = w .card; state = startOf greatest (w .card) (w .state) key doing room .memory }
+      → startReply (startOf greatest 1 (w .card) (w .state) key doing room .begun) ≡ started
+      → (u : World (rationTable greatest)) → u ≡ record { card = w .card; state = startOf greatest 1 (w .card) (w .state) key doing room .memory }
       → (qs : List Event) → LeftUncut (rationTable greatest) qs u → (held : Option ℕ) → replyTo (rationTable greatest) step (run (rationTable greatest) qs u) ≡ dictionary held
       → stepDepth greatest (run (rationTable greatest) qs u .card) (run (rationTable greatest) qs u .state) ≡ passedIn key t
   unfolding startAccepted replyTo
   begun-tells key doing room t k e u is qs left held r =
-      let is-started = begun-started (startOf greatest (w .card) (w .state) key doing room .begun) (start-small greatest (w .card) (w .state) key doing room) e in
-      let kept : u .state .depth ≡ startDepth (w .card) (w .state) key = ap (λ (x : World (rationTable greatest)). x .state .depth) is
+      let is-started = begun-started (startOf greatest 1 (w .card) (w .state) key doing room .begun) (start-small greatest (w .card) (w .state) key doing room) e in
+      let kept : u .state .depth ≡ startDepth 1 (w .card) (w .state) key = ap (λ (x : World (rationTable greatest)). x .state .depth) is
       ∙ ap (λ (h : Handed). h .memory .depth) (started-is greatest (w .card) (w .state) doing room key is-started) in
       told-final _ _ held (step-small greatest (run (rationTable greatest) qs u .card) (run (rationTable greatest) qs u .state)) r
       ∙ step-keeps greatest (run (rationTable greatest) qs u .card) (run (rationTable greatest) qs u .state) ∙ run-keeps greatest qs u left ∙ kept ∙ now-passed t k key
@@ -263,12 +268,12 @@ w-203 greatest =
       finds = always greatest (λ w b. (t : Tree) → WellFormed (w .card) t → (key : ℕ) → 0 < key → key < keyLimit → findDepth greatest 1 (w .card) key ≡ passedIn key t) (find-tells greatest);
       nexts = always greatest (λ w b. (t : Tree) → WellFormed (w .card) t → (number : ℕ) → number < keyLimit → nextDepth greatest 1 (w .card) number ≡ passedIn number t) (next-tells greatest);
       inserts = always greatest (λ w b. (key value : ℕ) → key < keyLimit → TellsStart (rationTable greatest) (stepDepth greatest) (insert key value) key w)
-          (λ w b v key value high t k e qs left held r. begun-tells greatest w b v key (Inserting key value NotBegun) (startRoom (w .card) key (roomOf (w .state))) t k e _ refl qs left held r);
+          (λ w b v key value high t k e qs left held r. begun-tells greatest w b v key (Inserting key value NotBegun) (startRoom (seen 1 (w .card)) key (roomOf (w .state))) t k e _ refl qs left held r);
       deletes = always greatest (λ w b. (key : ℕ) → key < keyLimit → TellsStart (rationTable greatest) (stepDepth greatest) (delete key) key w)
           (λ w b v key high t k e qs left held r. begun-tells greatest w b v key (Deleting key NotBegun 0) (λ l. true) t k e _ refl qs left held r);
       find-refused = find-refused greatest;
       next-refused = next-refused greatest;
-      others = λ c m n. told-others (stepOf greatest c m .memory .depth) (stepOf greatest c m .answer) n;
+      others = λ c m n. told-others (stepOf greatest 1 c m .memory .depth) (stepOf greatest 1 c m .answer) n;
       rests = always greatest (λ w b. Idle (rationTable greatest) (w .state) → (l : Line (w .card) (b .held)) → (number : ℕ)
           → number < keyLimit → Rested (findDepth greatest 1) (nextDepth greatest 1) (w .card) l number)
           (rest-tells greatest);

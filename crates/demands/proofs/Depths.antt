@@ -7,6 +7,7 @@ use Prim.Native.Nat.{ℕ, _^_, _<_}
 use native.Mathlib.Omega.{arith}
 use native.Mathlib.Numerals.{add-one}
 use lib.ListN.{length}
+use Rattle.card.specs.Lines.{seen}
 use Rattle.demands.specs.Book.{Book}
 use Rattle.demands.specs.Events.{World, replyTo, happens, insert, delete}
 use Rattle.demands.specs.Refusals.{Idle}
@@ -59,14 +60,14 @@ module _ (greatest : ℕ) (w : World (rationTable greatest)) (b : Book) (v : Cov
   unfolding replyTo insertOf
   insert-ends value t sound h level s =
       let e =
-      begun-started (insertOf greatest (w .card) (w .state) key value .begun)
-      (start-small greatest (w .card) (w .state) key (Inserting key value NotBegun) (startRoom (w .card) key (roomOf (w .state)))) s in
+      begun-started (insertOf greatest 1 (w .card) (w .state) key value .begun)
+      (start-small greatest (w .card) (w .state) key (Inserting key value NotBegun) (startRoom (seen 1 (w .card)) key (roomOf (w .state)))) s in
       finishes-by greatest (lookup key (b .held)) (storesAt h) (happens (rationTable greatest) (insert key value) w) (insert-stores-by-depth greatest (v .inv) key high value e t sound h level)
 
   delete-ends : EndsByDepth (rationTable greatest) (delete key) key w (b .held)
   unfolding replyTo deleteOf
   delete-ends t sound h level s =
-      let e = begun-started (deleteOf greatest (w .card) (w .state) key .begun) (start-small greatest (w .card) (w .state) key (Deleting key NotBegun 0) (λ l. true)) s in
+      let e = begun-started (deleteOf greatest 1 (w .card) (w .state) key .begun) (start-small greatest (w .card) (w .state) key (Deleting key NotBegun 0) (λ l. true)) s in
       finishes-by greatest (lookup key (b .held)) (storesAt h) (happens (rationTable greatest) (delete key) w) (delete-stores-by-depth greatest (v .inv) key high e t sound h level)
 
 pub w-214 : (greatest : ℕ) → W214 (rationTable greatest)

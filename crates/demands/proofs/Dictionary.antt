@@ -7,6 +7,7 @@ use mathlib.Core.Option.{Option, none, some}
 use Prim.Native.Nat.{ℕ, _<_}
 use native.Mathlib.Omega.{arith}
 use lib.ListN.{length}
+use Rattle.card.specs.Lines.{seen}
 use Rattle.theory_change.proofs.Line.{only}
 use Rattle.card.specs.Header.{Sized, Formatted}
 use Rattle.card.proofs.HeaderLaws.{formatted-header}
@@ -109,8 +110,8 @@ module _ (greatest : ℕ) (w : World (rationTable greatest)) (b : Book) (v : Cov
       → Works (rationTable greatest) greatest (insert key value) ((a : ℕ) × (lookup key (b .held) ≡ some a)) (InsertRule (w .card) key value) key w (b .held)
   unfolding replyTo insertOf startReply
   insert-works key value high s =
-      let e = begun-started (insertOf greatest (w .card) (w .state) key value .begun)
-      (start-small greatest (w .card) (w .state) key (Inserting key value NotBegun) (startRoom (w .card) key (roomOf (w .state)))) (s .reply-given) in
+      let e = begun-started (insertOf greatest 1 (w .card) (w .state) key value .begun)
+      (start-small greatest (w .card) (w .state) key (Inserting key value NotBegun) (startRoom (seen 1 (w .card)) key (roomOf (w .state)))) (s .reply-given) in
       record {
         begins = s .reply-given;
         by-rules = subst (λ (r : Reply). Updates (rationTable greatest) ((a : ℕ) × (lookup key (b .held) ≡ some a)) (InsertRule (w .card) key value) r
@@ -123,7 +124,7 @@ module _ (greatest : ℕ) (w : World (rationTable greatest)) (b : Book) (v : Cov
       → Works (rationTable greatest) greatest (delete key) (lookup key (b .held) ≡ none) (DeleteRule (w .card) key) key w (b .held)
   unfolding replyTo deleteOf startReply
   delete-works key high s =
-      let e = begun-started (deleteOf greatest (w .card) (w .state) key .begun) (start-small greatest (w .card) (w .state) key (Deleting key NotBegun 0) (λ l. true)) (s .reply-given) in
+      let e = begun-started (deleteOf greatest 1 (w .card) (w .state) key .begun) (start-small greatest (w .card) (w .state) key (Deleting key NotBegun 0) (λ l. true)) (s .reply-given) in
       record {
         begins = s .reply-given;
         by-rules = subst (λ (r : Reply). Updates (rationTable greatest) (lookup key (b .held) ≡ none) (DeleteRule (w .card) key) r
@@ -175,12 +176,12 @@ module _ (greatest : ℕ) (w : World (rationTable greatest)) (b : Book) (v : Cov
       go (inr (a, inr (d, inl (p, h)))) = absurd (leads-somewhere key d high p)
       go (inr (a, inr (d, inr (l, s)))) = inr (a, inr (d, delete-works key high s))
 
-  idle-ten : w .state .doing ≡ Idle → stepReply (stepOf greatest (w .card) (w .state) .answer) ≡ refusal 10
+  idle-ten : w .state .doing ≡ Idle → stepReply (stepOf greatest 1 (w .card) (w .state) .answer) ≡ refusal 10
   unfolding heldBy stepRefused stepReply
   idle-ten e =
       ap (λ (x : Step). stepReply (x .answer))
-      (step-sized greatest (w .card) (w .state) sized ∙ ap (λ (d : Doing). stepHeld (w .card) (w .state) (heldBy d)) e
-      ∙ idle-refused (w .card) (w .state) (formatted-header (w .card) (w .state .nodes) header))
+      (step-sized greatest 1 (w .card) (w .state) sized ∙ ap (λ (d : Doing). stepHeld 1 (w .card) (w .state) (heldBy d)) e
+      ∙ idle-refused 1 (w .card) (w .state) (formatted-header (w .card) (w .state .nodes) header))
 
   steps-right : ByRows (row 10 (Resting (rationTable greatest) (w .state)) end) (λ r. replyTo (rationTable greatest) step w ≡ refusal r)
       ((r : ℕ) → r < 64 → replyTo (rationTable greatest) step w ≡ refusal r → ⊥)
@@ -188,7 +189,7 @@ module _ (greatest : ℕ) (w : World (rationTable greatest)) (b : Book) (v : Cov
   steps-right =
       bool-cases (isIdle (w .state .doing))
       (λ q. inl (idle-work (w .state .doing) q, idle-ten (is-idle (w .state .doing) q)))
-      (λ q. inr (busy-work (w .state .doing) q, λ r h e. work-not-refused greatest (only n) (v .steps) w b i q r (answer-refused (stepOf greatest (w .card) (w .state) .answer) r h e)))
+      (λ q. inr (busy-work (w .state .doing) q, λ r h e. work-not-refused greatest (only n) (v .steps) w b i q r (answer-refused (stepOf greatest 1 (w .card) (w .state) .answer) r h e)))
 
   rests-are : Resting (rationTable greatest) (w .state) → Rests (rationTable greatest) greatest w (b .held)
   rests-are q =

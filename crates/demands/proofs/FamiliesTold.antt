@@ -71,15 +71,15 @@ module _ (greatest : ℕ) (c : List ℕ) (m : Memory) (u : Uncounted m) where
   format-uncounted made none = final-uncounted
   format-uncounted made (some s) = record { zeros = u .zeros; formats = inr (suc made, refl) }
 
-  step-uncounted : Uncounted (stepOf greatest c m .memory)
+  step-uncounted : Uncounted (stepOf greatest 1 c m .memory)
   unfolding stepOf stepRefused stepHeld stepChecked heldBy
   step-uncounted =
       bool-cases (eqb (nodesOfLength greatest (length c)) 0) (λ q. rw q u)
       (λ q. bool-cases (eqb (nodesOfLength greatest (length c)) (m .nodes)) (λ r. rw (q, r) (at (u .formats))) (λ r. rw (q, r) u))
     where
-      at : (m .doing ≡ Idle) ⊎ ((made : ℕ) × (m .doing ≡ Formatting made)) → Uncounted (stepHeld c m (heldBy (m .doing)) .memory)
-      at (inl e) = subst (λ (h : Held). Uncounted (stepHeld c m h .memory)) (sym (ap heldBy e)) (bool-cases (eqb (headerRefusal c (m .nodes)) 0) (λ h. rw h u) (λ h. rw h u))
-      at (inr (made, e)) = subst (λ (h : Held). Uncounted (stepHeld c m h .memory)) (sym (ap heldBy e)) (format-uncounted made (formatStore (m .nodes) (length c) made))
+      at : (m .doing ≡ Idle) ⊎ ((made : ℕ) × (m .doing ≡ Formatting made)) → Uncounted (stepHeld 1 c m (heldBy (m .doing)) .memory)
+      at (inl e) = subst (λ (h : Held). Uncounted (stepHeld 1 c m h .memory)) (sym (ap heldBy e)) (bool-cases (eqb (headerRefusal c (m .nodes)) 0) (λ h. rw h u) (λ h. rw h u))
+      at (inr (made, e)) = subst (λ (h : Held). Uncounted (stepHeld 1 c m h .memory)) (sym (ap heldBy e)) (format-uncounted made (formatStore (m .nodes) (length c) made))
 
 -- the same of the event
 stepped-uncounted : (greatest : ℕ) (w : World (rationTable greatest)) → Uncounted (w .state) → Uncounted (happens (rationTable greatest) step w .state)

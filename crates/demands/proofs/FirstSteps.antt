@@ -284,15 +284,15 @@ module _ (greatest : ℕ) (c : List ℕ) (m : Memory) (s : Sized greatest (lengt
 
 change-rows : (greatest : ℕ) (c : List ℕ) (m : Memory) → m .rest ≡ [] → (workOf (m .doing) ≡ formatting → ⊥)
     → ByRows (stepRows greatest (rationTable greatest) c m (NoChange c (m .free) (m .last) (workOf (m .doing))))
-    (Refuses (rationTable greatest) c m (asStepped (stepOf greatest c m))) (Works greatest c m (stepOf greatest c m))
+    (Refuses (rationTable greatest) c m (asStepped (stepOf greatest 1 c m))) (Works greatest c m (stepOf greatest 1 c m))
 unfolding ByRows stepTask
 change-rows greatest c m r q = go (idle-or-task (m .doing) q)
   where
     go : IdleOrTask (m .doing) → ByRows (stepRows greatest (rationTable greatest) c m (NoChange c (m .free) (m .last) (workOf (m .doing))))
-        (Refuses (rationTable greatest) c m (asStepped (stepOf greatest c m))) (Works greatest c m (stepOf greatest c m))
-    go (inl (e, w)) = idle-rows greatest c m e w (row 9 (NoChange c (m .free) (m .last) (workOf (m .doing))) end) (Works greatest c m (stepOf greatest c m))
+        (Refuses (rationTable greatest) c m (asStepped (stepOf greatest 1 c m))) (Works greatest c m (stepOf greatest 1 c m))
+    go (inl (e, w)) = idle-rows greatest c m e w (row 9 (NoChange c (m .free) (m .last) (workOf (m .doing))) end) (Works greatest c m (stepOf greatest 1 c m))
     go (inr (task, e, w)) =
-        task-rows greatest c m task e w (row 9 (NoChange c (m .free) (m .last) (workOf (m .doing))) end) (Works greatest c m (stepOf greatest c m))
+        task-rows greatest c m task e w (row 9 (NoChange c (m .free) (m .last) (workOf (m .doing))) end) (Works greatest c m (stepOf greatest 1 c m))
         (λ s due. subst (Nine greatest c m (NoChange c (m .free) (m .last) (workOf (m .doing)))) (sym (due ∙ ap (stepTask c m task) r)) (begins greatest c m s (task-of (m .doing) task e) refl))
 
 -- DEMAND 1 of the ration table

@@ -81,17 +81,17 @@ no-empty-slot leaf eleven =
     bool-cases (among 0 (keyWords leaf)) (λ q. absurd (omega (arith, eleven, pairs-fewer (keyWords leaf) (valueWords leaf) q, length-take 11 (drop 1 leaf)))) (λ q. q)
 
 -- an insert is refused with 8, by its reply
-refused-eight : (greatest : ℕ) (c : List ℕ) (m : Memory) (key value : ℕ) → (startReply (insertOf greatest c m key value .begun) ≡ refusal 8) ↔ (insertOf greatest c m key value ≡ startRefused 8 m)
+refused-eight : (greatest : ℕ) (c : List ℕ) (m : Memory) (key value : ℕ) → (startReply (insertOf greatest 1 c m key value .begun) ≡ refusal 8) ↔ (insertOf greatest 1 c m key value ≡ startRefused 8 m)
 unfolding startRefused startReply happens replyTo
 refused-eight greatest c m key value = (to, λ e. ap (λ (h : Handed). startReply (h .begun)) e)
   where
     whole : (h : Handed) → h .begun ≡ BegunRefused 8 → h .memory ≡ m → h ≡ record { begun = BegunRefused 8; memory = m }
     whole h e f = ap (λ (b : Begun). record { begun = b; memory = h .memory }) e ∙ ap (λ (x : Memory). record { begun = BegunRefused 8; memory = x }) f
 
-    to : startReply (insertOf greatest c m key value .begun) ≡ refusal 8 → insertOf greatest c m key value ≡ record { begun = BegunRefused 8; memory = m }
+    to : startReply (insertOf greatest 1 c m key value .begun) ≡ refusal 8 → insertOf greatest 1 c m key value ≡ record { begun = BegunRefused 8; memory = m }
     to e =
-        let b = begun-refused (insertOf greatest c m key value .begun) 8 (omega arith) e in
-        whole (insertOf greatest c m key value) b (ap (λ (w : World (rationTable greatest)). w .state)
+        let b = begun-refused (insertOf greatest 1 c m key value .begun) 8 (omega arith) e in
+        whole (insertOf greatest 1 c m key value) b (ap (λ (w : World (rationTable greatest)). w .state)
         (insert-same greatest key value (record { card = c; state = m }) (rw b (omega arith))))
 
 -- what a reason says of the leaf, of any card and state
@@ -177,16 +177,16 @@ module _ (greatest : ℕ) (dump file : List ℕ) where
         opening = ⊎-map (λ z. z .1) (λ z. z .1) (o .hands)
 
         text : (keyIn file ≡ 0 → ⊥) → (value : ℕ)
-            → (insertOf greatest (after greatest card .card) (after greatest card .state) (keyIn file) value ≡ startRefused 8 (after greatest card .state))
+            → (insertOf greatest 1 (after greatest card .card) (after greatest card .state) (keyIn file) value ≡ startRefused 8 (after greatest card .state))
             ↔ SplitBelow (checkText greatest dump file)
         text d value =
             subst (λ (x : World (rationTable greatest)).
-            (insertOf greatest (x .card) (x .state) (keyIn file) value ≡ startRefused 8 (x .state)) ↔ SplitBelow (checkText greatest dump file))
+            (insertOf greatest 1 (x .card) (x .state) (keyIn file) value ≡ startRefused 8 (x .state)) ↔ SplitBelow (checkText greatest dump file))
             (is-after greatest card)
             (text-refused greatest dump file size read (o .table) opening (o .sound) d value)
 
         exactly : (keyIn file ≡ 0 → ⊥) → (value : ℕ)
-            → (startReply (insertOf greatest (after greatest card .card) (after greatest card .state) (keyIn file) value .begun) ≡ refusal 8)
+            → (startReply (insertOf greatest 1 (after greatest card .card) (after greatest card .state) (keyIn file) value .begun) ≡ refusal 8)
             ↔ SplitBelow (checkText greatest dump file)
         exactly d value =
             let reply = refused-eight greatest (after greatest card .card) (after greatest card .state) (keyIn file) value in

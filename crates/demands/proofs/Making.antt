@@ -37,7 +37,7 @@ pub record Nears (greatest : ℕ) (final : Answer) (most : ℕ) (w : World (rati
   pub is-due : covered .inv .due ≡ final
 
 -- a store brings it one step nearer
-pub nearer : (greatest : ℕ) (final : Answer) (most : ℕ) (w : World (rationTable greatest)) → Nears greatest final most w → IsStored (stepOf greatest (w .card) (w .state) .answer)
+pub nearer : (greatest : ℕ) (final : Answer) (most : ℕ) (w : World (rationTable greatest)) → Nears greatest final most w → IsStored (stepOf greatest 1 (w .card) (w .state) .answer)
     → (few : ℕ) × (most ≡ suc few) × Nears greatest final few (happens (rationTable greatest) step w)
 unfolding stepRefused
 nearer greatest final zero w x e = absurd (never (idle-refused greatest (w .card) (w .state) rested))
@@ -48,7 +48,7 @@ nearer greatest final zero w x e = absurd (never (idle-refused greatest (w .card
     rested : w .state .doing ≡ Idle
     rested = at-rest greatest (only (v .size)) (v .steps) w (x .book-now) (omega (arith, x .soon)) (v .inv) .0
 
-    never : ((r : ℕ) × (stepOf greatest (w .card) (w .state) ≡ stepRefused r (w .card) (w .state))) → ⊥
+    never : ((r : ℕ) × (stepOf greatest 1 (w .card) (w .state) ≡ stepRefused r (w .card) (w .state))) → ⊥
     never (r, q) = let y : _≡_ {A = Answer} (WasRefused r) (Stored (e .0)) = sym (ap (λ z. z .answer) q) ∙ e .1 in impossible (cc)
 nearer greatest final (suc few) w x e =
     let v = x .covered in
@@ -71,7 +71,7 @@ storeAt stores i = getD stores i (0, 0)
 
 -- the next store of the plan is made
 abbrev Storing : ℕ → List ℕ → Memory → Type 0
-Storing greatest c m = (s : Store) × (rest : List Store) × (m .rest ≡ s ∷ rest) × (stepOf greatest c m ≡ record { answer = Stored (s .0); card = set c (s .0) (s .1); memory = advanced m rest })
+Storing greatest c m = (s : Store) × (rest : List Store) × (m .rest ≡ s ∷ rest) × (stepOf greatest 1 c m ≡ record { answer = Stored (s .0); card = set c (s .0) (s .1); memory = advanced m rest })
 
 stage-storing : (greatest : ℕ) {c : List ℕ} {n : ℕ} {t goal : Tree} {steps : ℕ} {m : Memory} {h : Hand} {due : Answer}
     → Table greatest c n t → Stage c (only n) t goal steps m h due → (m .rest ≡ []) ⊎ Storing greatest c m
@@ -91,13 +91,13 @@ advanced-twice m s rest (x ∷ more) = refl
 
 -- where the stores still to come are those of a plan, the next step makes the first of them
 pub makes-next : (greatest : ℕ) (w : World (rationTable greatest)) (b : Book) → Covered greatest w b → (m : Memory) (s : Store) (rest : List Store) → w .state ≡ advanced m (s ∷ rest)
-    → stepOf greatest (w .card) (w .state) ≡ record { answer = Stored (s .0); card = set (w .card) (s .0) (s .1); memory = advanced m rest }
+    → stepOf greatest 1 (w .card) (w .state) ≡ record { answer = Stored (s .0); card = set (w .card) (s .0) (s .1); memory = advanced m rest }
 makes-next greatest w b v m s rest e = at (stage-storing greatest (v .inv .table) (v .inv .stage))
   where
     is-rest : w .state .rest ≡ s ∷ rest
     is-rest = ap (λ (x : Memory). x .rest) e ∙ advanced-rest m (s ∷ rest)
 
-    at : (w .state .rest ≡ []) ⊎ Storing greatest (w .card) (w .state) → stepOf greatest (w .card) (w .state)
+    at : (w .state .rest ≡ []) ⊎ Storing greatest (w .card) (w .state) → stepOf greatest 1 (w .card) (w .state)
         ≡ record { answer = Stored (s .0); card = set (w .card) (s .0) (s .1); memory = advanced m rest }
     at (inl q) = let y : _≡_ {A = List Store} [] (s ∷ rest) = sym q ∙ is-rest in impossible (cc)
     at (inr (x, r, q, k)) =
@@ -115,7 +115,7 @@ module _ (greatest : ℕ) (final : Answer) (m : Memory) where
     pub is-left : w .state ≡ advanced m ss
 
   stored-step : (w : World (rationTable greatest)) (s : Store) (rest : List Store)
-      → stepOf greatest (w .card) (w .state) ≡ record { answer = Stored (s .0); card = set (w .card) (s .0) (s .1); memory = advanced m rest }
+      → stepOf greatest 1 (w .card) (w .state) ≡ record { answer = Stored (s .0); card = set (w .card) (s .0) (s .1); memory = advanced m rest }
       → (StoresNow (rationTable greatest) w s) × (happens (rationTable greatest) step w .state ≡ advanced m rest)
   unfolding replyTo happens stepReply
   stored-step w s rest e = (record { reply-given = rw e; one-store = rw e }, rw e)

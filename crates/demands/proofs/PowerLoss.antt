@@ -8,6 +8,7 @@ use native.Mathlib.Omega.{arith}
 use native.Mathlib.Decide.{ℕ-discrete}
 use lib.ListN.{length}
 use lib.Dec.{eqb}
+use Rattle.card.specs.Lines.{hasLine, seen}
 use Rattle.theory_change.proofs.Line.{Line, only, size, partition-only}
 use Rattle.card.specs.Replies.{refusal, ready, stored, started as startedReply}
 use Rattle.state.specs.Answers.{stepReply, startReply}
@@ -68,19 +69,19 @@ start-landed-unchanged m doing depth true (LandingAt number link run) r e = impo
 start-landed-unchanged m doing depth false (LandingAt number link run) r e = refl
 
 start-unchanged : (greatest : ℕ) (c : List ℕ) (m : Memory) (key : ℕ) (doing : Doing) (room : Landing → Bool) (r : ℕ)
-    → startOf greatest c m key doing room .begun ≡ BegunRefused r → startOf greatest c m key doing room .memory ≡ m
-unfolding startOf startChecked startRefused startAccepted
+    → startOf greatest 1 c m key doing room .begun ≡ BegunRefused r → startOf greatest 1 c m key doing room .memory ≡ m
+unfolding startOf startChecked startRefused startAccepted hasLine
 start-unchanged greatest c m key doing room r e =
     bool-cases (eqb (nodesOfLength greatest (length c)) 0) (λ q. rw q) (λ q.
     bool-cases (eqb (nodesOfLength greatest (length c)) (m .nodes)) (λ q₁.
     bool-cases (eqb (headerRefusal c (m .nodes)) 0) (λ q₂.
     bool-cases (isIdle (m .doing)) (λ q₃.
-    bool-cases (eqb key 0) (λ q₄. rw (q, q₁, q₂, q₃, q₄)) (λ q₄. rw (q, q₁, q₂, q₃, q₄) (landed-unchanged (landing c (m .nodes) key) (rw (q, q₁, q₂, q₃, q₄) at e))))
+    bool-cases (eqb key 0) (λ q₄. rw (q, q₁, q₂, q₃, q₄)) (λ q₄. rw (q, q₁, q₂, q₃, q₄) (landed-unchanged (landing (seen 1 c) (m .nodes) key) (rw (q, q₁, q₂, q₃, q₄) at e))))
     (λ q₃. rw (q, q₁, q₂, q₃))) (λ q₂. rw (q, q₁, q₂))) (λ q₁. rw (q, q₁)))
   where
-    landed-unchanged : (x : Landing) → startLanded m doing (startDepth c m key) (room (landing c (m .nodes) key)) x .begun ≡ BegunRefused r
-        → startLanded m doing (startDepth c m key) (room (landing c (m .nodes) key)) x .memory ≡ m
-    landed-unchanged x e = start-landed-unchanged m doing (startDepth c m key) (room (landing c (m .nodes) key)) x r e
+    landed-unchanged : (x : Landing) → startLanded m doing (startDepth 1 c m key) (room (landing (seen 1 c) (m .nodes) key)) x .begun ≡ BegunRefused r
+        → startLanded m doing (startDepth 1 c m key) (room (landing (seen 1 c) (m .nodes) key)) x .memory ≡ m
+    landed-unchanged x e = start-landed-unchanged m doing (startDepth 1 c m key) (room (landing (seen 1 c) (m .nodes) key)) x r e
 
 same-world : (greatest : ℕ) (w : World (rationTable greatest)) (m : Memory) → m ≡ w .state → _≡_ {A = World (rationTable greatest)} (record { card = w .card; state = m }) w
 same-world greatest w m e = ap (λ (x : Memory). record { card = w .card; state = x }) e
@@ -89,13 +90,13 @@ pub insert-same : (greatest : ℕ) (key value : ℕ) (w : World (rationTable gre
     → Refused (replyTo (rationTable greatest) (insert key value) w) → happens (rationTable greatest) (insert key value) w ≡ w
 unfolding happens replyTo insertOf
 insert-same greatest key value w h =
-    let r = is-refused (insertOf greatest (w .card) (w .state) key value .begun) h in
-    same-world greatest w _ (start-unchanged greatest (w .card) (w .state) key (Inserting key value NotBegun) (startRoom (w .card) key (roomOf (w .state))) (r .0) (r .1))
+    let r = is-refused (insertOf greatest 1 (w .card) (w .state) key value .begun) h in
+    same-world greatest w _ (start-unchanged greatest (w .card) (w .state) key (Inserting key value NotBegun) (startRoom (seen 1 (w .card)) key (roomOf (w .state))) (r .0) (r .1))
 
 pub delete-same : (greatest : ℕ) (key : ℕ) (w : World (rationTable greatest)) → Refused (replyTo (rationTable greatest) (delete key) w) → happens (rationTable greatest) (delete key) w ≡ w
 unfolding happens replyTo deleteOf
 delete-same greatest key w h =
-    let r = is-refused (deleteOf greatest (w .card) (w .state) key .begun) h in
+    let r = is-refused (deleteOf greatest 1 (w .card) (w .state) key .begun) h in
     same-world greatest w _ (start-unchanged greatest (w .card) (w .state) key (Deleting key NotBegun 0) (λ l. true) (r .0) (r .1))
 
 pub ask-same : (greatest : ℕ) (question : Question) (w : World (rationTable greatest)) → happens (rationTable greatest) (ask question) w ≡ w
@@ -205,7 +206,7 @@ ready-once : (greatest : ℕ) (c : List ℕ) (n : ℕ) → FreshTable greatest c
     → replyTo (rationTable greatest) step (run (rationTable greatest) qs w) ≡ ready → ⊥
 unfolding happens replyTo stepReply stepRefused resting LeftUncut run
 ready-once greatest c n f [] w e u q =
-    let z : stepReply (stepOf greatest (w .card) (w .state) .answer) ≡ refusal 10 = rw (e, step-idle greatest c n (f .sized) (f .formatted) (freshNodes n) formattedRoot) in
+    let z : stepReply (stepOf greatest 1 (w .card) (w .state) .answer) ≡ refusal 10 = rw (e, step-idle greatest c n (f .sized) (f .formatted) (freshNodes n) formattedRoot) in
     omega (arith, code-of (sym z ∙ q))
 ready-once greatest c n f (step ∷ qs) w e u q =
     ready-once greatest c n f qs (happens (rationTable greatest) step w)
@@ -224,7 +225,7 @@ unfolding happens replyTo stepReply LeftUncut run
 format-ready-inv greatest c n made s [] w e h u q =
     order (length c) made
     (λ o. let m : made ≡ suc (length c) = omega arith in rw (e, m, format-step-ready greatest c n s))
-    (λ o. let z : stepReply (stepOf greatest (w .card) (w .state) .answer) ≡ stored (placeOf (formatStore n (length c) made)) = rw (
+    (λ o. let z : stepReply (stepOf greatest 1 (w .card) (w .state) .answer) ≡ stored (placeOf (formatStore n (length c) made)) = rw (
       e,
       format-step-stores greatest c n s made o,
     ) in absurd (omega (arith, code-of (sym z ∙ q))))
@@ -318,7 +319,7 @@ pub empty-fed : (o : Outcome) (l : List (ℕ × ℕ)) → fedStep o l empty ≡ 
 unfolding fedStep
 empty-fed o l = refl
 
-pub after-step : (greatest : ℕ) (w : World (rationTable greatest)) → isIdle (stepOf greatest (w .card) (w .state) .memory .doing) ≡ false
+pub after-step : (greatest : ℕ) (w : World (rationTable greatest)) → isIdle (stepOf greatest 1 (w .card) (w .state) .memory .doing) ≡ false
     → isIdle (happens (rationTable greatest) step w .state .doing) ≡ false
 unfolding happens
 after-step greatest w e = e
@@ -339,7 +340,7 @@ repair-loosened greatest line l few many w h (i, d) = (loosen greatest line few 
 -- one step of it
 repair-step : (greatest : ℕ) (line : Line) (l : List (ℕ × ℕ)) (steps : ℕ) (w : World (rationTable greatest)) → Repairs greatest line l (suc steps) w
     → Repairs greatest line l steps (happens (rationTable greatest) step w) × ((w .state .doing ≡ Idle)
-    ⊎ ((stepOf greatest (w .card) (w .state) .answer ≡ Ready) ⊎ (isIdle (happens (rationTable greatest) step w .state .doing) ≡ false)))
+    ⊎ ((stepOf greatest 1 (w .card) (w .state) .answer ≡ Ready) ⊎ (isIdle (happens (rationTable greatest) step w .state .doing) ≡ false)))
 unfolding feed told
 repair-step greatest line l steps w (i, d) =
     let k = kept-step greatest line steps w (book l empty) i in
@@ -351,16 +352,16 @@ repair-step greatest line l steps w (i, d) =
         subst (λ (b : Book). (j : Inv greatest line steps (happens (rationTable greatest) step w) b) → j .due ≡ Ready → Repairs greatest line l steps (happens (rationTable greatest) step w))
         (sym (empty-fed (outcome (replyTo (rationTable greatest) step w)) l)) (λ j e. (j, e))
 
-    moves : Moves (w .card) (w .state) (stepOf greatest (w .card) (w .state)) → Right (stepOf greatest (w .card) (w .state) .answer) (i .due)
+    moves : Moves (w .card) (w .state) (stepOf greatest 1 (w .card) (w .state)) → Right (stepOf greatest 1 (w .card) (w .state) .answer) (i .due)
         → (w .state .doing ≡ Idle)
-        ⊎ ((stepOf greatest (w .card) (w .state) .answer ≡ Ready) ⊎ (isIdle (happens (rationTable greatest) step w .state .doing) ≡ false))
+        ⊎ ((stepOf greatest 1 (w .card) (w .state) .answer ≡ Ready) ⊎ (isIdle (happens (rationTable greatest) step w .state .doing) ≡ false))
     moves (was-idle e) r = inl e
     moves (ends-now e same idle) r = inr (inl (right-final r e ∙ d))
     moves (goes-further stored e) r = inr (inr (after-step greatest w e))
 
 still-ends : (greatest : ℕ) (w : World (rationTable greatest)) (qs : List Event)
     → (happens (rationTable greatest) step w .state .doing ≡ Idle) ⊎ SaysReady (rationTable greatest) qs (happens (rationTable greatest) step w)
-    → (w .state .doing ≡ Idle) ⊎ ((stepOf greatest (w .card) (w .state) .answer ≡ Ready) ⊎ (isIdle (happens (rationTable greatest) step w .state .doing) ≡ false))
+    → (w .state .doing ≡ Idle) ⊎ ((stepOf greatest 1 (w .card) (w .state) .answer ≡ Ready) ⊎ (isIdle (happens (rationTable greatest) step w .state .doing) ≡ false))
     → (w .state .doing ≡ Idle) ⊎ SaysReady (rationTable greatest) (step ∷ qs) w
 unfolding SaysReady replyTo stepReply
 still-ends greatest w qs q (inl e) = inl e

@@ -59,23 +59,23 @@ module _ (greatest : ℕ) (dump file : List ℕ) where
 
         -- "an insert of that key would be refused 8 exactly when `split` is printed with F below M": J, F and M of the line printed
         pub text-refused : (value : ℕ)
-            → (insertOf greatest (openedCard greatest (dumpWords size dump) .card) (openedCard greatest (dumpWords size dump) .memory) (keyIn file) value
+            → (insertOf greatest 1 (openedCard greatest (dumpWords size dump) .card) (openedCard greatest (dumpWords size dump) .memory) (keyIn file) value
             ≡ startRefused 8 (openedCard greatest (dumpWords size dump) .memory))
             ↔ ((j : ℕ) × (free : ℕ) × (need : ℕ) × (checkText greatest dump file ≡ splitLine j free need) × (free < need))
         unfolding reasonText
         text-refused value = (to, from)
           where
-            exactly : (insertOf greatest (openedCard greatest (dumpWords size dump) .card)
+            exactly : (insertOf greatest 1 (openedCard greatest (dumpWords size dump) .card)
                 (openedCard greatest (dumpWords size dump) .memory) (keyIn file) value ≡ startRefused 8 (openedCard greatest (dumpWords size dump) .memory))
                 ↔ ((j : ℕ) × (free : ℕ) × (need : ℕ) × (reasonOf greatest (dumpWords size dump) (keyIn file) ≡ Split j free need) × (free < need))
             exactly = refused-exactly greatest (dumpWords size dump) t accepted well (keyIn file) low (key-below file) value
 
-            to : insertOf greatest (openedCard greatest (dumpWords size dump) .card) (openedCard greatest (dumpWords size dump) .memory) (keyIn file) value
+            to : insertOf greatest 1 (openedCard greatest (dumpWords size dump) .card) (openedCard greatest (dumpWords size dump) .memory) (keyIn file) value
                 ≡ startRefused 8 (openedCard greatest (dumpWords size dump) .memory)
                 → (j : ℕ) × (free : ℕ) × (need : ℕ) × (checkText greatest dump file ≡ splitLine j free need) × (free < need)
             to e = let (j, free, need, is, less) = exactly .0 e in (j, free, need, card-text ∙ ap reasonText is, less)
 
             from : ((j : ℕ) × (free : ℕ) × (need : ℕ) × (checkText greatest dump file ≡ splitLine j free need) × (free < need))
-                → insertOf greatest (openedCard greatest (dumpWords size dump) .card) (openedCard greatest (dumpWords size dump) .memory) (keyIn file) value
+                → insertOf greatest 1 (openedCard greatest (dumpWords size dump) .card) (openedCard greatest (dumpWords size dump) .memory) (keyIn file) value
                 ≡ startRefused 8 (openedCard greatest (dumpWords size dump) .memory)
             from (j, free, need, is, less) = exactly .1 (j, free, need, split-told (reasonOf greatest (dumpWords size dump) (keyIn file)) j free need (sym card-text ∙ is), less)

@@ -216,7 +216,7 @@ module _ (greatest : ℕ) (c : List ℕ) (t : Tree) (accepted : Opens (rationTab
 
     -- the insert of the key, with any value, after the repair
     abbrev insertCall : ℕ → Handed
-    insertCall value = insertOf greatest (openedCard greatest c .card) (openedCard greatest c .memory) key value
+    insertCall value = insertOf greatest 1 (openedCard greatest c .card) (openedCard greatest c .memory) key value
 
     leads-after : LeadsTo greatest after key leaf runAbove
     leads-after = subst (λ (w : World (rationTable greatest)). LeadsTo greatest w key leaf runAbove) is-after (leads .2)
@@ -227,18 +227,18 @@ module _ (greatest : ℕ) (c : List ℕ) (t : Tree) (accepted : Opens (rationTab
     refused-eight : (value : ℕ) → leafReason ≡ full → countTrue (openedCard greatest c .memory .free) < splitNeed runAbove → insertCall value ≡ startRefused 8 (openedCard greatest c .memory)
     refused-eight value =
         subst (λ (w : World (rationTable greatest)). insertReason (nodeAt (w .card) leaf) key ≡ full → countTrue (w .state .free) < splitNeed runAbove
-        → insertOf greatest (w .card) (w .state) key value ≡ startRefused 8 (w .state)) (sym is-after)
+        → insertOf greatest 1 (w .card) (w .state) key value ≡ startRefused 8 (w .state)) (sym is-after)
         (splitting-insert-refused greatest (kept-after .2) key low high idle-after value leaf runAbove leads-after)
 
     started-room : (value : ℕ) → leafReason ≡ full → splitNeed runAbove ≤ countTrue (openedCard greatest c .memory .free) → insertCall value .begun ≡ Started
     started-room value =
         subst (λ (w : World (rationTable greatest)). insertReason (nodeAt (w .card) leaf) key ≡ full → splitNeed runAbove ≤ countTrue (w .state .free)
-        → insertOf greatest (w .card) (w .state) key value .begun ≡ Started) (sym is-after)
+        → insertOf greatest 1 (w .card) (w .state) key value .begun ≡ Started) (sym is-after)
         (splitting-insert-starts greatest (kept-after .2) key low high idle-after value leaf runAbove leads-after)
 
     started-other : (value : ℕ) → (leafReason ≡ full → ⊥) → insertCall value .begun ≡ Started
     started-other value =
-        subst (λ (w : World (rationTable greatest)). (insertReason (nodeAt (w .card) leaf) key ≡ full → ⊥) → insertOf greatest (w .card) (w .state) key value .begun ≡ Started) (sym is-after)
+        subst (λ (w : World (rationTable greatest)). (insertReason (nodeAt (w .card) leaf) key ≡ full → ⊥) → insertOf greatest 1 (w .card) (w .state) key value .begun ≡ Started) (sym is-after)
         (other-insert-starts greatest (kept-after .2) key low high idle-after value leaf runAbove leads-after)
 
     not-started : (value : ℕ) → insertCall value ≡ startRefused 8 (openedCard greatest c .memory) → insertCall value .begun ≡ Started → ⊥

@@ -53,7 +53,7 @@ worldFrom greatest r = record { card = r .card; state = r .memory }
 repair-run : (greatest : ℕ) (k : ℕ) (c : List ℕ) (m : Memory) → worldFrom greatest (repairedCard greatest k c m) ≡ run (rationTable greatest) (steps k) (record { card = c; state = m })
 unfolding repairedCard run happens
 repair-run greatest zero c m = refl
-repair-run greatest (suc k) c m = bool-cases (isIdle (m .doing)) (λ q. rw q (stays q)) (λ q. rw q (repair-run greatest k (stepOf greatest c m .card) (stepOf greatest c m .memory)))
+repair-run greatest (suc k) c m = bool-cases (isIdle (m .doing)) (λ q. rw q (stays q)) (λ q. rw q (repair-run greatest k (stepOf greatest 1 c m .card) (stepOf greatest 1 c m .memory)))
   where
     stays : isIdle (m .doing) ≡ true → record { card = c; state = m } ≡ run (rationTable greatest) (steps (suc k)) (record { card = c; state = m })
     stays q = sym (rests greatest (suc k) (record { card = c; state = m }) (is-idle (m .doing) q))

@@ -2,6 +2,8 @@
 use mathlib.Core.Path.{_≡_, ap, _∙_}
 use mathlib.Core.Bool.{Bool, true, false}
 use Prim.Native.Nat.{ℕ, _≤_, _<_}
+use Rattle.card.specs.Lines.{seen}
+use Rattle.call_start.proofs.StartLaws.{room-seen}
 use Rattle.theory_change.proofs.Line.{only}
 use Rattle.state.specs.Steps.{Handed}
 use Rattle.call_start.specs.Starts.{startDepth, startRefused, startAccepted, insertOf, roomOf}
@@ -32,23 +34,25 @@ module _ (greatest : ℕ) {n steps : ℕ} {w : World (rationTable greatest)} {b 
   module _ (idle : w .state .doing ≡ Idle) (value : ℕ) where
     -- an insert's start, by its room
     insert-decided : (r : Bool) → startRoom (w .card) key (roomOf (w .state)) (landing (w .card) (w .state .nodes) key) ≡ r
-        → insertOf greatest (w .card) (w .state) key value ≡ pick r (startAccepted (w .state) (Inserting key value NotBegun) (startDepth (w .card) (w .state) key)) (startRefused 8 (w .state))
+        → insertOf greatest 1 (w .card) (w .state) key value ≡ pick r (startAccepted (w .state) (Inserting key value NotBegun) (startDepth 1 (w .card) (w .state) key)) (startRefused 8 (w .state))
     unfolding insertOf
-    insert-decided r e = room-decides greatest (only n) steps w b i key (Inserting key value NotBegun) (startRoom (w .card) key (roomOf (w .state))) idle low high ∙ rw e
+    insert-decided r e =
+        room-decides greatest (only n) steps w b i key (Inserting key value NotBegun) (startRoom (seen 1 (w .card)) key (roomOf (w .state))) idle low high
+        ∙ rw (room-seen 1 (w .card) key (roomOf (w .state)) (landing (w .card) (w .state .nodes) key), e)
 
-    insert-starts : startRoom (w .card) key (roomOf (w .state)) (landing (w .card) (w .state .nodes) key) ≡ true → insertOf greatest (w .card) (w .state) key value .begun ≡ Started
+    insert-starts : startRoom (w .card) key (roomOf (w .state)) (landing (w .card) (w .state .nodes) key) ≡ true → insertOf greatest 1 (w .card) (w .state) key value .begun ≡ Started
     insert-starts e = ap (λ (x : Handed). x .begun) (insert-decided true e) ∙ begun-started _ (Inserting key value NotBegun) _
 
     module _ (leaf j : ℕ) (leads : LeadsTo greatest w key leaf j) where
       -- "A splitting insert needs j + 5 free nodes", and with them it is started
-      pub splitting-insert-starts : insertReason (nodeAt (w .card) leaf) key ≡ full → splitNeed j ≤ countTrue (w .state .free) → insertOf greatest (w .card) (w .state) key value .begun ≡ Started
+      pub splitting-insert-starts : insertReason (nodeAt (w .card) leaf) key ≡ full → splitNeed j ≤ countTrue (w .state .free) → insertOf greatest 1 (w .card) (w .state) key value .begun ≡ Started
       splitting-insert-starts e h = insert-starts (room-at _ _ key _ leaf (leads .0) j (leads .1) ∙ room-enough _ j _ e h)
 
       -- "8: key absent, leaf full, free nodes fewer than j + 5"
       pub splitting-insert-refused : insertReason (nodeAt (w .card) leaf) key ≡ full → countTrue (w .state .free) < splitNeed j
-          → insertOf greatest (w .card) (w .state) key value ≡ startRefused 8 (w .state)
+          → insertOf greatest 1 (w .card) (w .state) key value ≡ startRefused 8 (w .state)
       splitting-insert-refused e h = insert-decided false (room-at _ _ key _ leaf (leads .0) j (leads .1) ∙ room-short _ j _ e h)
 
       -- a key that is held, or a leaf with an empty slot, needs no room
-      pub other-insert-starts : (insertReason (nodeAt (w .card) leaf) key ≡ full → ⊥) → insertOf greatest (w .card) (w .state) key value .begun ≡ Started
+      pub other-insert-starts : (insertReason (nodeAt (w .card) leaf) key ≡ full → ⊥) → insertOf greatest 1 (w .card) (w .state) key value .begun ≡ Started
       other-insert-starts e = insert-starts (room-at _ _ key _ leaf (leads .0) j (leads .1) ∙ room-other _ j _ e)

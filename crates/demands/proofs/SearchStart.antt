@@ -10,6 +10,9 @@ use native.Mathlib.Decide.{ℕ-discrete}
 use lib.ListN.{length, getD, set, take, drop, length-append}
 use lib.Seq.{getD-set-other}
 use lib.Dec.{eqb, ltb}
+use Rattle.card.specs.Lines.{hasLine, seen}
+use Rattle.card.proofs.LineLaws.{seen-sized}
+use Rattle.call_step.proofs.LineSteps.{on-memory}
 use Rattle.laws.proofs.Cases.{bool-cases, impossible}
 use Rattle.laws.specs.Sorting.{keyAt}
 use Rattle.card.specs.Header.{nodesOfLength, headerRefusal, Sized}
@@ -151,28 +154,32 @@ module _ (greatest : ℕ) (c : List ℕ) (m : Memory) where
   task-holds task [] on = prepared-holds _ _ task _ on refl
   task-holds task (s ∷ rest) on = store-holds s (advanced m rest) (λ e. advanced-last m rest)
 
-  checked-holds : (due : Step) → Holds (due .memory) → Holds (stepChecked c m due .memory)
+module _ (greatest : ℕ) (c : List ℕ) (m : Memory) where
+  abbrev Keeps : Memory → Type 0
+  Keeps = Holds greatest c m
+
+  checked-holds : (due : Step) → Keeps (due .memory) → Keeps (stepChecked c m due .memory)
   unfolding stepChecked stepRefused
   checked-holds due h = bool-cases (eqb (headerRefusal c (m .nodes)) 0) (λ q. rw q h) (λ q. rw q (λ e. refl))
 
-  format-holds : (made : ℕ) (o : Option Store) → Holds (stepFormat c m made o .memory)
+  format-holds : (made : ℕ) (o : Option Store) → Keeps (stepFormat c m made o .memory)
   unfolding stepFormat stepFinal idled formattingFrom
   format-holds made none = λ e. refl
   format-holds made (some s) = λ e. refl
 
-  held-holds : (held : Held) → nodesOn c ≡ m .nodes → Holds (stepHeld c m held .memory)
+  held-holds : (held : Held) → Sized greatest (length c) (m .nodes) → Keeps (stepHeld 1 c m held .memory)
   unfolding stepHeld stepRefused
-  held-holds Nothing on = checked-holds _ (λ e. refl)
-  held-holds (Formatting made) on = format-holds made _
-  held-holds (HeldTask task) on = checked-holds _ (task-holds task (m .rest) on)
+  held-holds Nothing s = checked-holds _ (λ e. refl)
+  held-holds (Formatting made) s = format-holds made _
+  held-holds (HeldTask task) s = checked-holds _ (subst Keeps (sym (on-memory 1 c (stepTask (seen 1 c) m task (m .rest)))) (task-holds greatest (seen 1 c) m task (m .rest) (sized-on greatest (seen 1 c) (m .nodes) (seen-sized 1 c s))))
 
-  step-holds : Holds (stepOf greatest c m .memory)
+  step-holds : Keeps (stepOf greatest 1 c m .memory)
   unfolding stepRefused
   step-holds = go (sized? greatest (length c) (m .nodes))
     where
-      go : Dec (Sized greatest (length c) (m .nodes)) → Holds (stepOf greatest c m .memory)
-      go (yes s) = rw (step-sized greatest c m s) (held-holds (heldBy (m .doing)) (sized-on greatest c (m .nodes) s))
-      go (no p) = rw (step-unsized greatest c m p) (λ e. refl)
+      go : Dec (Sized greatest (length c) (m .nodes)) → Keeps (stepOf greatest 1 c m .memory)
+      go (yes s) = rw (step-sized greatest 1 c m s) (held-holds (heldBy (m .doing)) s)
+      go (no p) = rw (step-unsized greatest 1 c m p) (λ e. refl)
 
   -- ---- a start, refused or not, keeps the node given last
 
@@ -181,8 +188,8 @@ module _ (greatest : ℕ) (c : List ℕ) (m : Memory) where
   landed-last doing depth room NoLanding = refl
   landed-last doing depth room (LandingAt node link run) = bool-cases room (λ q. rw q) (λ q. rw q)
 
-  start-last : (key : ℕ) (doing : Doing) (room : Landing → Bool) → startOf greatest c m key doing room .memory .last ≡ m .last
-  unfolding startOf startChecked startRefused
+  start-last : (key : ℕ) (doing : Doing) (room : Landing → Bool) → startOf greatest 1 c m key doing room .memory .last ≡ m .last
+  unfolding startOf startChecked startRefused hasLine
   start-last key doing room =
       bool-cases (eqb (nodesOfLength greatest (length c)) 0) (λ q. rw q) (λ q. bool-cases (eqb (nodesOfLength greatest (length c)) (m .nodes))
       (λ q₁. bool-cases (eqb (headerRefusal c (m .nodes)) 0)

@@ -7,6 +7,9 @@ use Prim.Native.Nat.{ℕ, _+_, _≤_, _<_}
 use native.Mathlib.Omega.{arith}
 use lib.ListN.{length}
 use borrow.Author.Tests.{ne-eqb, eq-eqb, lt-ltb}
+use Rattle.card.specs.Lines.{hasLine, seen}
+use Rattle.card.proofs.LineLaws.{seen-only}
+use Rattle.call_start.proofs.StartLaws.{room-seen}
 use Rattle.card.specs.Header.{nodesOfLength, Sized, Formatted}
 use Rattle.card.proofs.HeaderLaws.{sized-nodes, formatted-header}
 use Rattle.card.specs.Layout.{lowestKey, keyLimit}
@@ -51,25 +54,28 @@ use Rattle.walk.specs.declared.Landing.the-variants.{Leaf as LandingAt}
 
 -- the checks 1, 2 and 3 are passed
 start-passed : (greatest : ℕ) (c : List ℕ) (n : ℕ) → Sized greatest (length c) n → Formatted c n → (m : Memory) (key : ℕ) (doing : Doing) (room : Landing → Bool)
-    → m .nodes ≡ n → startOf greatest c m key doing room ≡ startChecked c m key doing room
+    → m .nodes ≡ n → startOf greatest 1 c m key doing room ≡ startChecked 1 c m key doing room
 unfolding startOf
 start-passed greatest c n s f m key doing room e =
     let a : nodesOfLength greatest (length c) ≡ n = sized-nodes greatest (length c) n s in
     rw (a, e, ne-eqb n 0 (omega (arith, s .least)), eq-eqb n n refl, formatted-header c n f)
 
-start-busy : (c : List ℕ) (m : Memory) (key : ℕ) (doing : Doing) (room : Landing → Bool) → isIdle (m .doing) ≡ false → startChecked c m key doing room ≡ startRefused 7 m
+start-busy : (c : List ℕ) (m : Memory) (key : ℕ) (doing : Doing) (room : Landing → Bool) → isIdle (m .doing) ≡ false → startChecked 1 c m key doing room ≡ startRefused 7 m
 unfolding startChecked
 start-busy c m key doing room e = rw e
 
-start-zero : (c : List ℕ) (m : Memory) (key : ℕ) (doing : Doing) (room : Landing → Bool) → isIdle (m .doing) ≡ true → key ≡ 0 → startChecked c m key doing room ≡ startRefused 6 m
-unfolding startChecked
+start-zero : (c : List ℕ) (m : Memory) (key : ℕ) (doing : Doing) (room : Landing → Bool) → isIdle (m .doing) ≡ true → key ≡ 0 → startChecked 1 c m key doing room ≡ startRefused 6 m
+unfolding startChecked hasLine
 start-zero c m key doing room e z = rw (e, eq-eqb key 0 z)
 
 start-landed : (c : List ℕ) (m : Memory) (key : ℕ) (doing : Doing) (room : Landing → Bool) (number link run : ℕ)
     → isIdle (m .doing) ≡ true → (key ≡ 0 → ⊥) → landing c (m .nodes) key ≡ LandingAt number link run
-    → startChecked c m key doing room ≡ pick (room (landing c (m .nodes) key)) (startAccepted m doing (startDepth c m key)) (startRefused 8 m)
-unfolding startChecked startLanded
-start-landed c m key doing room number link run e z l = rw (e, ne-eqb key 0 z) (ap (startLanded m doing (startDepth c m key) (room (landing c (m .nodes) key))) l)
+    → seen 1 c ≡ c → startChecked 1 c m key doing room ≡ pick (room (landing c (m .nodes) key)) (startAccepted m doing (startDepth 1 c m key)) (startRefused 8 m)
+unfolding startChecked startLanded hasLine
+start-landed c m key doing room number link run e z l one =
+    let there : landing (seen 1 c) (m .nodes) key ≡ landing c (m .nodes) key = ap (λ (x : List ℕ). landing x (m .nodes) key) one in
+    rw (e, ne-eqb key 0 z)
+    (ap (λ (x : Landing). startLanded m doing (startDepth 1 c m key) (room x) x) there ∙ ap (startLanded m doing (startDepth 1 c m key) (room (landing c (m .nodes) key))) l)
 
 is-idle : {doing : Doing} → doing ≡ Idle → isIdle doing ≡ true
 unfolding isIdle
@@ -216,30 +222,31 @@ module _ (greatest : ℕ) (line : Line) (steps : ℕ) (w : World (rationTable gr
       (g .number, linkPlace (g .context), fullRun (g .context), rw nodes-same (landing-is (w .card) (line .nodes) key (g .landed)))
 
   -- the checks 1, 2 and 3 are passed
-  passed : (key : ℕ) (doing : Doing) (room : Landing → Bool) → startOf greatest (w .card) (w .state) key doing room ≡ startChecked (w .card) (w .state) key doing room
+  passed : (key : ℕ) (doing : Doing) (room : Landing → Bool) → startOf greatest 1 (w .card) (w .state) key doing room ≡ startChecked 1 (w .card) (w .state) key doing room
   passed key doing room = start-passed greatest (w .card) (line .nodes) (i .table .sized) (i .table .header) (w .state) key doing room nodes-same
 
   -- on an idle state nothing but the room decides
   pub room-decides : (key : ℕ) (doing : Doing) (room : Landing → Bool) → w .state .doing ≡ Idle → lowestKey ≤ key → key < keyLimit
-      → startOf greatest (w .card) (w .state) key doing room ≡ pick (room (landing (w .card) (w .state .nodes) key))
-      (startAccepted (w .state) doing (startDepth (w .card) (w .state) key)) (startRefused 8 (w .state))
+      → startOf greatest 1 (w .card) (w .state) key doing room ≡ pick (room (landing (w .card) (w .state .nodes) key))
+      (startAccepted (w .state) doing (startDepth 1 (w .card) (w .state) key)) (startRefused 8 (w .state))
   room-decides key doing room idle low high =
       let g = lands key low high in
       passed key doing room ∙ start-landed (w .card) (w .state) key doing room (g .0) (g .1) (g .2) (is-idle idle) (omega arith) (g .3)
+      (seen-only (w .card) (line .nodes) (omega (arith, i .table .sized .words)) (i .table .header))
 
   start-with : (key : ℕ) (doing : Doing) (room : Landing → Bool) (u : Update) → key < keyLimit
       → ((free : List Bool) (last : ℕ) → w .state ≡ memory (line .nodes) free last (w .state .depth) (w .state .totals) Idle [] []
       → tableViolations (i .tree) ≡ 0 → size (i .tree) + 3 ≤ line .limit → Partition line free (i .tree) → bare (i .tree) ≡ i .goal → lowestKey ≤ key
-      → room (landing (w .card) (w .state .nodes) key) ≡ true → Goal greatest i u (startAccepted (w .state) doing (startDepth (w .card) (w .state) key)))
-      → Goal greatest i u (startOf greatest (w .card) (w .state) key doing room)
+      → room (landing (w .card) (w .state .nodes) key) ≡ true → Goal greatest i u (startAccepted (w .state) doing (startDepth 1 (w .card) (w .state) key)))
+      → Goal greatest i u (startOf greatest 1 (w .card) (w .state) key doing room)
   start-with key doing room u high begin = go (idle-or-busy (i .stage) .1)
     where
-      refused-with : (r : ℕ) → r < 64 → startOf greatest (w .card) (w .state) key doing room ≡ startRefused r (w .state) → Goal greatest i u (startOf greatest (w .card) (w .state) key doing room)
+      refused-with : (r : ℕ) → r < 64 → startOf greatest 1 (w .card) (w .state) key doing room ≡ startRefused r (w .state) → Goal greatest i u (startOf greatest 1 (w .card) (w .state) key doing room)
       refused-with r h e = subst (Goal greatest i u) (sym e) (refused-goal greatest w b i u r h)
 
       go : (isIdle (w .state .doing) ≡ false) ⊎ ((free : List Bool) × (last : ℕ) × (w .state ≡ memory (line .nodes) free last (w .state .depth) (w .state .totals) Idle [] [])
           × (tableViolations (i .tree) ≡ 0) × (size (i .tree) + 3 ≤ line .limit) × Partition line free (i .tree) × (bare (i .tree) ≡ i .goal))
-          → Goal greatest i u (startOf greatest (w .card) (w .state) key doing room)
+          → Goal greatest i u (startOf greatest 1 (w .card) (w .state) key doing room)
       go (inl q) = refused-with 7 (omega arith) (passed key doing room ∙ start-busy (w .card) (w .state) key doing room q)
       go (inr (free, last, em, z, r, x, eg)) =
           order key 1
@@ -253,24 +260,24 @@ module _ (greatest : ℕ) (line : Line) (steps : ℕ) (w : World (rationTable gr
 
   -- an insert that goes by so many free nodes, which are no more than the limit leaves
   pub started-insert : (room key value : ℕ) → key < keyLimit → ((free : List Bool) → w .state .free ≡ free → Partition line free (i .tree) → size (i .tree) + room ≤ line .limit)
-      → Goal greatest i (put key value) (startOf greatest (w .card) (w .state) key (Inserting key value NotBegun) (startRoom (w .card) key room))
+      → Goal greatest i (put key value) (startOf greatest 1 (w .card) (w .state) key (Inserting key value NotBegun) (startRoom (seen 1 (w .card)) key room))
   started-insert room key value high below =
-      start-with key (Inserting key value NotBegun) (startRoom (w .card) key room) (put key value) high
-      (λ free last em z r x eg low q. put-started greatest w b i free last room key value em z r x eg low high q
-      (below free (ap (λ (y : Memory). y .free) em) x) (startDepth (w .card) (w .state) key))
+      start-with key (Inserting key value NotBegun) (startRoom (seen 1 (w .card)) key room) (put key value) high
+      (λ free last em z r x eg low q. put-started greatest w b i free last room key value em z r x eg low high (sym (room-seen 1 (w .card) key room _) ∙ q)
+      (below free (ap (λ (y : Memory). y .free) em) x) (startDepth 1 (w .card) (w .state) key))
 
   pub kept-delete : (key : ℕ) → key < keyLimit
       → (k : ℕ) × (j : Inv greatest line k (happens (rationTable greatest) (delete key) w) (feed (told (rationTable greatest) (delete key) w) b))
-      × Fresh greatest (remove key) (deleteOf greatest (w .card) (w .state) key) i j
+      × Fresh greatest (remove key) (deleteOf greatest 1 (w .card) (w .state) key) i j
   unfolding happens told replyTo deleteOf
   kept-delete key high =
       start-with key (Deleting key NotBegun 0) (λ l. true) (remove key) high
-      (λ free last em z r x eg low q. remove-started greatest w b i free last key em z r x eg low high (startDepth (w .card) (w .state) key))
+      (λ free last em z r x eg low q. remove-started greatest w b i free last key em z r x eg low high (startDepth 1 (w .card) (w .state) key))
 
 -- "Starting an update stores nothing": on a card with one line an insert goes by the free bits
 pub kept-insert : (greatest n steps : ℕ) (w : World (rationTable greatest)) (b : Book) (i : Inv greatest (only n) steps w b) (key value : ℕ) → key < keyLimit
     → (k : ℕ) × (j : Inv greatest (only n) k (happens (rationTable greatest) (insert key value) w) (feed (told (rationTable greatest) (insert key value) w) b))
-    × Fresh greatest (put key value) (insertOf greatest (w .card) (w .state) key value) i j
+    × Fresh greatest (put key value) (insertOf greatest 1 (w .card) (w .state) key value) i j
 unfolding happens told replyTo insertOf
 kept-insert greatest n steps w b i key value high =
     started-insert greatest (only n) steps w b i (roomOf (w .state)) key value high

@@ -8,6 +8,7 @@ use native.Mathlib.Omega.{arith}
 use lib.ListN.{length}
 use lib.Dec.{eqb, ltb}
 use borrow.Author.Tests.{lt-ltb, le-ltb, ltb-true}
+use Rattle.card.specs.Lines.{seen}
 use Rattle.card.specs.Header.{Sized}
 use Rattle.card.proofs.HeaderLaws.{formatted-header}
 use Rattle.card.specs.Stores.{Store}
@@ -122,34 +123,34 @@ format-cases greatest c m made ew pos =
 
 module _ (greatest : ℕ) (c : List ℕ) (m : Memory) where
   pub formatting-rows : workOf (m .doing) ≡ formatting → ByRows (row 1 (NoCard greatest c (m .nodes)) end)
-      (Refuses (rationTable greatest) c m (asStepped (stepOf greatest c m))) (Works greatest c m (stepOf greatest c m))
+      (Refuses (rationTable greatest) c m (asStepped (stepOf greatest 1 c m))) (Works greatest c m (stepOf greatest 1 c m))
   unfolding ByRows heldBy stepHeld
   formatting-rows q = go (sized? greatest (length c) (m .nodes)) (work-formatting (m .doing) q)
     where
       go : Dec (Sized greatest (length c) (m .nodes)) → ((made : ℕ) × (m .doing ≡ Formatting made))
-          → (NoCard greatest c (m .nodes) × Refuses (rationTable greatest) c m (asStepped (stepOf greatest c m)) 1) ⊎ ((NoCard greatest c (m .nodes) → ⊥) × Works greatest c m (stepOf greatest c m))
-      go (no p) d = inl (p, rw (step-unsized greatest c m p) (refused-same greatest 1 c m))
-      go (yes s) (made, e) = inr (λ p. p s, rw (step-sized greatest c m s ∙ ap (λ (d : Doing). stepHeld c m (heldBy d)) e) (format-cases greatest c m made q (omega (arith, s .words))))
+          → (NoCard greatest c (m .nodes) × Refuses (rationTable greatest) c m (asStepped (stepOf greatest 1 c m)) 1) ⊎ ((NoCard greatest c (m .nodes) → ⊥) × Works greatest c m (stepOf greatest 1 c m))
+      go (no p) d = inl (p, rw (step-unsized greatest 1 c m p) (refused-same greatest 1 c m))
+      go (yes s) (made, e) = inr (λ p. p s, rw (step-sized greatest 1 c m s ∙ ap (λ (d : Doing). stepHeld 1 c m (heldBy d)) e) (format-cases greatest c m made q (omega (arith, s .words))))
 
   -- 1, 2 and 3, and then 10 where nothing is held, whatever comes after it, or what comes after it where a task is
   pub idle-rows : heldBy (m .doing) ≡ NoneHeld → workOf (m .doing) ≡ noWork → (rows : Rows) (works : Type 0)
-      → ByRows (cardRows greatest c (m .nodes) (row 10 (Idle (rationTable greatest) m) rows)) (Refuses (rationTable greatest) c m (asStepped (stepOf greatest c m))) works
+      → ByRows (cardRows greatest c (m .nodes) (row 10 (Idle (rationTable greatest) m) rows)) (Refuses (rationTable greatest) c m (asStepped (stepOf greatest 1 c m))) works
   unfolding ByRows
   idle-rows e w rows works =
-      by-card greatest (row 10 (Idle (rationTable greatest) m) rows) (Refuses (rationTable greatest) c m (asStepped (stepOf greatest c m))) works c (m .nodes)
-      (λ p. rw (step-unsized greatest c m p) (refused-same greatest 1 c m))
-      (λ r s k d. rw (step-sized greatest c m s ∙ ap (stepHeld c m) e ∙ held-unchecked c m r (sym k) d NoneHeld (λ made z. impossible (cc))) (refused-same greatest r c m))
-      (λ s f. inl (w, rw (step-sized greatest c m s ∙ ap (stepHeld c m) e ∙ idle-refused c m (formatted-header c (m .nodes) f)) (refused-same greatest 10 c m)))
+      by-card greatest (row 10 (Idle (rationTable greatest) m) rows) (Refuses (rationTable greatest) c m (asStepped (stepOf greatest 1 c m))) works c (m .nodes)
+      (λ p. rw (step-unsized greatest 1 c m p) (refused-same greatest 1 c m))
+      (λ r s k d. rw (step-sized greatest 1 c m s ∙ ap (stepHeld 1 c m) e ∙ held-unchecked 1 c m r (sym k) d NoneHeld (λ made z. impossible (cc))) (refused-same greatest r c m))
+      (λ s f. inl (w, rw (step-sized greatest 1 c m s ∙ ap (stepHeld 1 c m) e ∙ idle-refused 1 c m (formatted-header c (m .nodes) f)) (refused-same greatest 10 c m)))
 
   pub task-rows : (task : Task) → heldBy (m .doing) ≡ HeldTask task → (workOf (m .doing) ≡ noWork → ⊥) → (rows : Rows) (works : Type 0)
-      → (Sized greatest (length c) (m .nodes) → stepOf greatest c m ≡ stepTask c m task (m .rest) → ByRows rows (Refuses (rationTable greatest) c m (asStepped (stepOf greatest c m))) works)
-      → ByRows (cardRows greatest c (m .nodes) (row 10 (Idle (rationTable greatest) m) rows)) (Refuses (rationTable greatest) c m (asStepped (stepOf greatest c m))) works
+      → (Sized greatest (length c) (m .nodes) → stepOf greatest 1 c m ≡ stepTask c m task (m .rest) → ByRows rows (Refuses (rationTable greatest) c m (asStepped (stepOf greatest 1 c m))) works)
+      → ByRows (cardRows greatest c (m .nodes) (row 10 (Idle (rationTable greatest) m) rows)) (Refuses (rationTable greatest) c m (asStepped (stepOf greatest 1 c m))) works
   unfolding ByRows
   task-rows task e w rows works next =
-      by-card greatest (row 10 (Idle (rationTable greatest) m) rows) (Refuses (rationTable greatest) c m (asStepped (stepOf greatest c m))) works c (m .nodes)
-      (λ p. rw (step-unsized greatest c m p) (refused-same greatest 1 c m))
-      (λ r s k d. rw (step-sized greatest c m s ∙ ap (stepHeld c m) e ∙ held-unchecked c m r (sym k) d (HeldTask task) (λ made z. impossible (cc))) (refused-same greatest r c m))
-      (λ s f. inr (w, next s (step-sized greatest c m s ∙ ap (stepHeld c m) e ∙ task-due c m (formatted-header c (m .nodes) f) task)))
+      by-card greatest (row 10 (Idle (rationTable greatest) m) rows) (Refuses (rationTable greatest) c m (asStepped (stepOf greatest 1 c m))) works c (m .nodes)
+      (λ p. rw (step-unsized greatest 1 c m p) (refused-same greatest 1 c m))
+      (λ r s k d. rw (step-sized greatest 1 c m s ∙ ap (stepHeld 1 c m) e ∙ held-unchecked 1 c m r (sym k) d (HeldTask task) (λ made z. impossible (cc))) (refused-same greatest r c m))
+      (λ s f. inr (w, next s (step-sized greatest 1 c m s ∙ ap (stepHeld 1 c m) e ∙ task-due c m (omega (arith, s .words)) (formatted-header c (m .nodes) f) task)))
 
 -- with a change in hand
 next-cases : (greatest : ℕ) (c : List ℕ) (m : Memory) (x : Store) (rest : List Store)
@@ -169,15 +170,15 @@ next-cases greatest c m x rest =
 
 pub in-hand-rows : (greatest : ℕ) (c : List ℕ) (m : Memory) (x : Store) (rest : List Store) → m .rest ≡ x ∷ rest → (workOf (m .doing) ≡ formatting → ⊥)
     → ByRows (cardRows greatest c (m .nodes) (row 10 (Idle (rationTable greatest) m) (row 9 (length c ≤ x .0) end)))
-    (Refuses (rationTable greatest) c m (asStepped (stepOf greatest c m))) (StoresNext (rationTable greatest) c m (asStepped (stepOf greatest c m)) x rest)
+    (Refuses (rationTable greatest) c m (asStepped (stepOf greatest 1 c m))) (StoresNext (rationTable greatest) c m (asStepped (stepOf greatest 1 c m)) x rest)
 unfolding stepTask
 in-hand-rows greatest c m x rest r q = go (idle-or-task (m .doing) q)
   where
     go : IdleOrTask (m .doing) → ByRows (cardRows greatest c (m .nodes) (row 10 (Idle (rationTable greatest) m) (row 9 (length c ≤ x .0) end)))
-        (Refuses (rationTable greatest) c m (asStepped (stepOf greatest c m))) (StoresNext (rationTable greatest) c m (asStepped (stepOf greatest c m)) x rest)
-    go (inl (e, w)) = idle-rows greatest c m e w (row 9 (length c ≤ x .0) end) (StoresNext (rationTable greatest) c m (asStepped (stepOf greatest c m)) x rest)
+        (Refuses (rationTable greatest) c m (asStepped (stepOf greatest 1 c m))) (StoresNext (rationTable greatest) c m (asStepped (stepOf greatest 1 c m)) x rest)
+    go (inl (e, w)) = idle-rows greatest c m e w (row 9 (length c ≤ x .0) end) (StoresNext (rationTable greatest) c m (asStepped (stepOf greatest 1 c m)) x rest)
     go (inr (task, e, w)) =
-        task-rows greatest c m task e w (row 9 (length c ≤ x .0) end) (StoresNext (rationTable greatest) c m (asStepped (stepOf greatest c m)) x rest)
+        task-rows greatest c m task e w (row 9 (length c ≤ x .0) end) (StoresNext (rationTable greatest) c m (asStepped (stepOf greatest 1 c m)) x rest)
         (λ s due. subst (λ (y : Step). ByRows (row 9 (length c ≤ x .0) end) (Refuses (rationTable greatest) c m (asStepped y))
         (StoresNext (rationTable greatest) c m (asStepped y) x rest)) (sym (due ∙ ap (stepTask c m task) r)) (next-cases greatest c m x rest))
 
@@ -192,7 +193,8 @@ pub none-refused : (greatest : ℕ) (c : List ℕ) (m : Memory) → m .nodes ≡
 unfolding insertOf deleteOf
 none-refused greatest c m e key value =
     let p = none-sized greatest c (m .nodes) e in (
-      rw (start-one greatest c m key (Inserting key value NotBegun) (startRoom c key (roomOf m)) p) (refused-back greatest c m key (Inserting key value NotBegun) (startRoom c key (roomOf m)) 1),
+      rw (start-one greatest c m key (Inserting key value NotBegun) (startRoom (seen 1 c) key (roomOf m)) p)
+          (refused-back greatest c m key (Inserting key value NotBegun) (startRoom (seen 1 c) key (roomOf m)) 1),
       rw (start-one greatest c m key (Deleting key NotBegun 0) (λ l. true) p) (refused-back greatest c m key (Deleting key NotBegun 0) (λ l. true) 1),
-      rw (step-unsized greatest c m p) (refused-same greatest 1 c m),
+      rw (step-unsized greatest 1 c m p) (refused-same greatest 1 c m),
     )

@@ -122,17 +122,17 @@ module _ (greatest : ℕ) (line : Line) (steps : ℕ) (c : List ℕ) (t : Tree) 
   -- what a step must leave
   abbrev Goal : Memory → Hand → Answer → Type 0
   Goal m h due =
-      Toward greatest goal due line steps (record { card = stepOf greatest c m .card; state = stepOf greatest c m .memory })
-      (fedStep (outcome (stepReply (stepOf greatest c m .answer))) l h) × Right (stepOf greatest c m .answer) due × Moves c m (stepOf greatest c m)
+      Toward greatest goal due line steps (record { card = stepOf greatest 1 c m .card; state = stepOf greatest 1 c m .memory })
+      (fedStep (outcome (stepReply (stepOf greatest 1 c m .answer))) l h) × Right (stepOf greatest 1 c m .answer) due × Moves c m (stepOf greatest 1 c m)
 
   stored-goal : {place : ℕ} (m m′ : Memory) (c′ : List ℕ) (h : Hand) (due : Answer)
-      → stepOf greatest c m ≡ record { answer = Stored place; card = c′; memory = m′ } → isIdle (m′ .doing) ≡ false
+      → stepOf greatest 1 c m ≡ record { answer = Stored place; card = c′; memory = m′ } → isIdle (m′ .doing) ≡ false
       → Toward greatest goal due line steps (record { card = c′; state = m′ }) (fedStep goesOn l h) → Goal m h due
   unfolding outcome stepReply
   stored-goal m m′ c′ h due e busy i = rw e (i, no-answer, goes-further (_, refl) busy)
 
   final-goal : (m m′ : Memory) (a : Answer) (h : Hand) (due : Answer)
-      → stepOf greatest c m ≡ record { answer = a; card = c; memory = m′ } → m′ .doing ≡ Idle → IsFinal a
+      → stepOf greatest 1 c m ≡ record { answer = a; card = c; memory = m′ } → m′ .doing ≡ Idle → IsFinal a
       → Toward greatest goal due line steps (record { card = c; state = m′ }) (fedStep final l h) → Right a due → Goal m h due
   final-goal m m′ a h due e idle f i r = rw (e, final-told a f) (i, r, ends-now f refl idle)
 
@@ -201,7 +201,7 @@ module _ (greatest : ℕ) (line : Line) (steps : ℕ) (c : List ℕ) (t : Tree) 
     -- the first store of an update's first change
     begins : {doing : Doing} {key : ℕ} {due : Answer} {u : Update} (d : ℕ) (m : Memory) → Totals (m .totals) (pairs t)
         → (s : Store) (rest : List Store) (free : List Bool) (last : ℕ) (cut : List ℕ) → Job InHand doing key due (some u)
-        → stepOf greatest c m ≡ record { answer = Stored (s .0); card = set c (s .0) (s .1); memory = advanced (memory (line .nodes) free last (m .depth) (m .totals) doing [] cut) rest }
+        → stepOf greatest 1 c m ≡ record { answer = Stored (s .0); card = set c (s .0) (s .1); memory = advanced (memory (line .nodes) free last (m .depth) (m .totals) doing [] cut) rest }
         → (p : Changing c line key t (s ∷ rest) free cut) → Changes u (pairs t) (pairs (p .next)) → suc (length rest) ≡ d
         → length rest + (73 * p .level + 1) ≤ steps → Heads (p .level) (bare (p .next)) goal → Goal m (holding u d 0) due
     begins {due = due} {u = u} d m k s rest free last cut j e p en count few hd =
@@ -276,7 +276,7 @@ module _ (greatest : ℕ) (line : Line) (steps : ℕ) (c : List ℕ) (t : Tree) 
     -- the first change is planned, and its first store made
     first-made : {doing : Doing} {key : ℕ} {due : Answer} {u : Update} (d : ℕ) (m : Memory) → Totals (m .totals) (pairs t) → (prep : Preparation) (s : Store)
         (rest : List Store) (free : List Bool) (last : ℕ) (cut : List ℕ) (deep : ℕ) → m .nodes ≡ (line .nodes) → Job InHand doing key due (some u)
-        → stepOf greatest c m ≡ stepPrepared c m doing due prep → prep ≡ prepared (s ∷ rest) free last cut
+        → stepOf greatest 1 c m ≡ stepPrepared c m doing due prep → prep ≡ prepared (s ∷ rest) free last cut
         → First c line key t (s ∷ rest) free cut u deep → suc (length rest) ≡ d → length rest + (73 * deep + 1) ≤ steps → deep ≤ depthLimit
         → settledBy depthLimit (firstShape u (bare t)) ≡ goal → Goal m (holding u d 0) due
     first-made {doing} {key} {due} {u} d m k prep s rest free last cut deep en j e e₁ p count few lim eg =
@@ -507,6 +507,6 @@ module _ (greatest : ℕ) (line : Line) (steps : ℕ) (c : List ℕ) (t : Tree) 
 -- THE STEP: the invariant is kept, and an answer given is the one due
 pub kept-step : (greatest : ℕ) (line : Line) (steps : ℕ) (w : World (rationTable greatest)) (b : Book) (i : Inv greatest line (suc steps) w b)
     → Toward greatest (i .goal) (i .due) line steps (happens (rationTable greatest) step w) (feed (told (rationTable greatest) step w) b)
-    × Right (stepOf greatest (w .card) (w .state) .answer) (i .due) × Moves (w .card) (w .state) (stepOf greatest (w .card) (w .state))
+    × Right (stepOf greatest 1 (w .card) (w .state) .answer) (i .due) × Moves (w .card) (w .state) (stepOf greatest 1 (w .card) (w .state))
 unfolding happens feed told replyTo
 kept-step greatest line steps w b i = stage-steps greatest line steps (w .card) (i .tree) (i .table) (i .openable) (b .held) (i .same) (i .goal) (w .state) (b .inHand) (i .due) (i .counted) (i .stage)

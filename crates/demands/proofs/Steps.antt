@@ -5,6 +5,7 @@ use mathlib.Core.Bool.{Bool, false}
 use mathlib.Core.Option.{Option}
 use Prim.Native.Nat.{ℕ, _<_}
 use lib.ListN.{length, set}
+use native.Mathlib.Omega.{arith}
 use lib.Dec.{eqb}
 use borrow.Author.Tests.{lt-ltb}
 use Rattle.card.specs.Header.{nodesOfLength, headerRefusal, Sized, Formatted}
@@ -81,31 +82,31 @@ job-plan (job-delete decided) c m e = rw e
 
 module _ (greatest : ℕ) (c : List ℕ) (n : ℕ) (sized : Sized greatest (length c) n) (header : Formatted c n) where
   -- the checks that come first are passed
-  checks-passed : (m : Memory) → m .nodes ≡ n → stepOf greatest c m ≡ stepHeld c m (heldBy (m .doing))
-  checks-passed m e = step-sized greatest c m (rw e sized)
+  checks-passed : (m : Memory) → m .nodes ≡ n → stepOf greatest 1 c m ≡ stepHeld 1 c m (heldBy (m .doing))
+  checks-passed m e = step-sized greatest 1 c m (rw e sized)
 
   headed : (m : Memory) → m .nodes ≡ n → headerRefusal c (m .nodes) ≡ 0
   headed m e = rw e (formatted-header c n header)
 
   module _ (free : List Bool) (last depth : ℕ) (totals : List ℕ) where
-    pub step-idle : stepOf greatest c (memory n free last depth totals Idle [] []) ≡ stepRefused 10 c (memory n free last depth totals Idle [] [])
+    pub step-idle : stepOf greatest 1 c (memory n free last depth totals Idle [] []) ≡ stepRefused 10 c (memory n free last depth totals Idle [] [])
     unfolding heldBy
-    step-idle = checks-passed (memory n free last depth totals Idle [] []) refl ∙ table-idle c (memory n free last depth totals Idle [] []) (headed (memory n free last depth totals Idle [] []) refl)
+    step-idle = checks-passed (memory n free last depth totals Idle [] []) refl ∙ table-idle 1 c (memory n free last depth totals Idle [] []) (headed (memory n free last depth totals Idle [] []) refl)
 
     module _ (doing : Doing) (busy : Busy doing) (cut : List ℕ) where
-      work : (rest : List Store) → stepOf greatest c (memory n free last depth totals doing rest cut) ≡ stepTask c (memory n free last depth totals doing rest cut) (busy .task) rest
+      work : (rest : List Store) → stepOf greatest 1 c (memory n free last depth totals doing rest cut) ≡ stepTask c (memory n free last depth totals doing rest cut) (busy .task) rest
       work rest =
           let m = memory n free last depth totals doing rest cut in
-          checks-passed m refl ∙ ap (stepHeld c m) (busy .held) ∙ task-due c m (headed m refl) (busy .task)
+          checks-passed m refl ∙ ap (stepHeld 1 c m) (busy .held) ∙ task-due c m (omega (arith, sized .words)) (headed m refl) (busy .task)
 
       -- a store of the change in hand
-      pub step-stores : (s : Store) (rest : List Store) → s .0 < length c → stepOf greatest c (memory n free last depth totals doing (s ∷ rest) cut)
+      pub step-stores : (s : Store) (rest : List Store) → s .0 < length c → stepOf greatest 1 c (memory n free last depth totals doing (s ∷ rest) cut)
           ≡ record { answer = Stored (s .0); card = set c (s .0) (s .1); memory = advanced (memory n free last depth totals doing (s ∷ rest) cut) rest }
       unfolding stepTask stepStore
       step-stores s rest h = work (s ∷ rest) ∙ rw (lt-ltb (s .0) (length c) h)
 
       -- no change in hand
-      step-plans : stepOf greatest c (memory n free last depth totals doing [] cut) ≡ stepTask c (memory n free last depth totals doing [] cut) (busy .task) []
+      step-plans : stepOf greatest 1 c (memory n free last depth totals doing [] cut) ≡ stepTask c (memory n free last depth totals doing [] cut) (busy .task) []
       step-plans = work []
 
 -- what a preparation makes of a step
@@ -123,25 +124,25 @@ prepared-first c m doing final p s rest free last cut e h = ap (stepPrepared c m
 -- the next change of a repair
 pub step-repairs : (greatest : ℕ) (c : List ℕ) (n : ℕ) → Sized greatest (length c) n → Formatted c n → (free : List Bool) (last depth : ℕ) (totals : List ℕ) {phase : Phase}
     {doing : Doing} {key : ℕ} {final : Answer} {u : Option Update} (j : Job phase doing key final u)
-    → stepOf greatest c (memory n free last depth totals doing [] []) ≡ stepPrepared c (memory n free last depth totals doing [] []) doing final (nextRepair c n key free last)
+    → stepOf greatest 1 c (memory n free last depth totals doing [] []) ≡ stepPrepared c (memory n free last depth totals doing [] []) doing final (nextRepair c n key free last)
 step-repairs greatest c n s f free last depth totals {doing = doing} j =
     step-plans greatest c n s f free last depth totals doing (job-busy j) [] ∙ job-plan j c (memory n free last depth totals doing [] []) refl
 
 -- the first change of an update
 pub step-puts : (greatest : ℕ) (c : List ℕ) (n : ℕ) → Sized greatest (length c) n → Formatted c n → (free : List Bool) (last depth : ℕ) (totals : List ℕ) (key value : ℕ)
-    → stepOf greatest c (memory n free last depth totals (Inserting key value NotBegun) [] []) ≡ stepBegin c
+    → stepOf greatest 1 c (memory n free last depth totals (Inserting key value NotBegun) [] []) ≡ stepBegin c
     (memory n free last depth totals (Inserting key value NotBegun) [] []) (nextChange c n free last (Inserting key value NotBegun) (PutIn key value))
 unfolding put-busy stepTask
 step-puts greatest c n s f free last depth totals key value = step-plans greatest c n s f free last depth totals (Inserting key value NotBegun) (put-busy key value) []
 
 pub step-removes : (greatest : ℕ) (c : List ℕ) (n : ℕ) → Sized greatest (length c) n → Formatted c n → (free : List Bool) (last depth : ℕ) (totals : List ℕ) (key : ℕ)
-    → stepOf greatest c (memory n free last depth totals (Deleting key NotBegun 0) [] [])
+    → stepOf greatest 1 c (memory n free last depth totals (Deleting key NotBegun 0) [] [])
     ≡ stepBegin c (memory n free last depth totals (Deleting key NotBegun 0) [] []) (nextChange c n free last (Deleting key NotBegun 0) (TakeOut key))
 unfolding remove-busy stepTask
 step-removes greatest c n s f free last depth totals key = step-plans greatest c n s f free last depth totals (Deleting key NotBegun 0) (remove-busy key 0) []
 
 -- a step of an idle state is refused and changes nothing, whatever the card
-pub idle-refused : (greatest : ℕ) (c : List ℕ) (m : Memory) → m .doing ≡ Idle → (r : ℕ) × (stepOf greatest c m ≡ stepRefused r c m)
+pub idle-refused : (greatest : ℕ) (c : List ℕ) (m : Memory) → m .doing ≡ Idle → (r : ℕ) × (stepOf greatest 1 c m ≡ stepRefused r c m)
 unfolding stepOf heldBy stepHeld stepChecked
 idle-refused greatest c m e =
     bool-cases (eqb (nodesOfLength greatest (length c)) 0) (λ q. rw q (1, refl)) (λ q.

@@ -39,14 +39,14 @@ work-stores greatest {n} {steps} {w} {b} i busy due e most h =
 
 module _ (greatest : ℕ) {n steps : ℕ} {w : World (rationTable greatest)} {b : Book} (i : Inv greatest (only n) steps w b) (key : ℕ) (high : key < keyLimit) where
   -- "73 × (h + 1) stores, h being the depth when the call began" (document 02, W-214)
-  pub insert-stores-by-depth : (value : ℕ) → insertOf greatest (w .card) (w .state) key value .begun ≡ Started → (t : Tree) → WellFormed (w .card) t → (h : ℕ) → Height h t
+  pub insert-stores-by-depth : (value : ℕ) → insertOf greatest 1 (w .card) (w .state) key value .begun ≡ Started → (t : Tree) → WellFormed (w .card) t → (h : ℕ) → Height h t
       → Stores greatest (updateStoresAt h) (stepReply (dictionaryAnswer (lookup key (b .held)))) (happens (rationTable greatest) (insert key value) w)
   unfolding happens
   insert-stores-by-depth value e t sound h level =
       let q = kept-insert greatest n steps w b i key value high in
       work-stores greatest (q .1) (q .2 .busy e) (dictionaryAnswer (lookup key (b .held))) (q .2 .new-due e) (updateStoresAt h) (q .2 .steps-left e t sound h level)
 
-  pub delete-stores-by-depth : deleteOf greatest (w .card) (w .state) key .begun ≡ Started → (t : Tree) → WellFormed (w .card) t → (h : ℕ) → Height h t
+  pub delete-stores-by-depth : deleteOf greatest 1 (w .card) (w .state) key .begun ≡ Started → (t : Tree) → WellFormed (w .card) t → (h : ℕ) → Height h t
       → Stores greatest (updateStoresAt h) (stepReply (dictionaryAnswer (lookup key (b .held)))) (happens (rationTable greatest) (delete key) w)
   unfolding happens
   delete-stores-by-depth e t sound h level =
@@ -62,10 +62,10 @@ module _ (greatest : ℕ) {n steps : ℕ} {w : World (rationTable greatest)} {b 
       let q = by-depth (r .table) (r .balanced .well-formed) (level .0) (level .1) in
       (q .0, omega (arith, q .1, r .levels (level .0) (level .1)), q .2)
 
-  pub insert-stores : (value : ℕ) → insertOf greatest (w .card) (w .state) key value .begun ≡ Started
+  pub insert-stores : (value : ℕ) → insertOf greatest 1 (w .card) (w .state) key value .begun ≡ Started
       → Stores greatest (mostStores greatest) (stepReply (dictionaryAnswer (lookup key (b .held)))) (happens (rationTable greatest) (insert key value) w)
   insert-stores value e = within-bound (kept-insert greatest n steps w b i key value high .2 .idle-before e) (insert-stores-by-depth value e)
 
-  pub delete-stores : deleteOf greatest (w .card) (w .state) key .begun ≡ Started
+  pub delete-stores : deleteOf greatest 1 (w .card) (w .state) key .begun ≡ Started
       → Stores greatest (mostStores greatest) (stepReply (dictionaryAnswer (lookup key (b .held)))) (happens (rationTable greatest) (delete key) w)
   delete-stores e = within-bound (kept-delete greatest (only n) steps w b i key high .2 .idle-before e) (delete-stores-by-depth e)

@@ -8,6 +8,7 @@ use Prim.Native.Nat.{ℕ, suc, _+_, _<_}
 use native.Mathlib.Omega.{arith}
 use lib.Dec.{eqb, ltb}
 use lib.ListN.{length, getD}
+use Rattle.card.specs.Lines.{seen}
 use Rattle.theory_change.proofs.Line.{only}
 use Rattle.card.specs.Header.{nodesOfLength, cardRefusal}
 use Rattle.card.specs.Layout.{keyLimit, nodeAt, searchStart}
@@ -94,7 +95,7 @@ giving-not-balanced k free last change e = at (takeNumbers k free last) e
 
 module _ (greatest : ℕ) (w : World (rationTable greatest)) (b : Book) (v : Covered greatest w b) where
   -- a started update is near its end, and its answer is the dictionary's
-  insert-nears : (key value : ℕ) → key < keyLimit → insertOf greatest (w .card) (w .state) key value .begun ≡ Started
+  insert-nears : (key value : ℕ) → key < keyLimit → insertOf greatest 1 (w .card) (w .state) key value .begun ≡ Started
       → (most : ℕ) × Nears greatest (dictionaryAnswer (lookup key (b .held))) most (happens (rationTable greatest) (insert key value) w)
       × (isIdle (happens (rationTable greatest) (insert key value) w .state .doing) ≡ false)
   unfolding happens
@@ -105,7 +106,7 @@ module _ (greatest : ℕ) (w : World (rationTable greatest)) (b : Book) (v : Cov
         q .2 .busy e,
       )
 
-  delete-nears : (key : ℕ) → key < keyLimit → deleteOf greatest (w .card) (w .state) key .begun ≡ Started
+  delete-nears : (key : ℕ) → key < keyLimit → deleteOf greatest 1 (w .card) (w .state) key .begun ≡ Started
       → (most : ℕ) × Nears greatest (dictionaryAnswer (lookup key (b .held))) most (happens (rationTable greatest) (delete key) w)
       × (isIdle (happens (rationTable greatest) (delete key) w .state .doing) ≡ false)
   unfolding happens
@@ -174,15 +175,15 @@ module _ (greatest : ℕ) (w : World (rationTable greatest)) (b : Book) (v : Cov
       at NoSlot e q none k = k
       at NoSlot e q (some v) k = let y : _≡_ {A = Answer} Absent (Value v) = q ∙ ap dictionaryAnswer k in impossible (cc)
 
-  pub insert-by-rules : (key value : ℕ) → key < keyLimit → insertOf greatest (w .card) (w .state) key value .begun ≡ Started
+  pub insert-by-rules : (key value : ℕ) → key < keyLimit → insertOf greatest 1 (w .card) (w .state) key value .begun ≡ Started
       → Updates (rationTable greatest) ((a : ℕ) × (lookup key (b .held) ≡ some a)) (InsertRule (w .card) key value)
       (stepReply (dictionaryAnswer (lookup key (b .held)))) (happens (rationTable greatest) (insert key value) w)
   unfolding happens insertOf nextChange
   insert-by-rules key value high e =
       let q = insert-nears key value high e in
       let u = q .1 .covered in
-      let m = insertOf greatest (w .card) (w .state) key value .memory in
-      let d : m .doing ≡ Inserting key value NotBegun = started-doing greatest (w .card) (w .state) (Inserting key value NotBegun) (startRoom (w .card) key (roomOf (w .state))) key e in
+      let m = insertOf greatest 1 (w .card) (w .state) key value .memory in
+      let d : m .doing ≡ Inserting key value NotBegun = started-doing greatest (w .card) (w .state) (Inserting key value NotBegun) (startRoom (seen 1 (w .card)) key (roomOf (w .state))) key e in
       let n : nodesOn (w .card) ≡ u .size = covered-nodes greatest u ∙ nodes-same greatest (only (u .size)) (u .steps) (happens (rationTable greatest) (insert key value) w)
       (q .1 .book-now) (u .inv) in
       first-by-rules greatest (dictionaryAnswer (lookup key (b .held))) (q .0) (happens (rationTable greatest) (insert key value) w) (q .1) (q .2)
@@ -197,13 +198,13 @@ module _ (greatest : ℕ) (w : World (rationTable greatest)) (b : Book) (v : Cov
         prepared-insert (w .card) key value (m .free) (m .last) (landing (w .card) (u .size) key) p,
       ))
 
-  pub delete-by-rules : (key : ℕ) → key < keyLimit → deleteOf greatest (w .card) (w .state) key .begun ≡ Started
+  pub delete-by-rules : (key : ℕ) → key < keyLimit → deleteOf greatest 1 (w .card) (w .state) key .begun ≡ Started
       → Updates (rationTable greatest) (lookup key (b .held) ≡ none) (DeleteRule (w .card) key) (stepReply (dictionaryAnswer (lookup key (b .held)))) (happens (rationTable greatest) (delete key) w)
   unfolding happens deleteOf nextChange
   delete-by-rules key high e =
       let q = delete-nears key high e in
       let u = q .1 .covered in
-      let m = deleteOf greatest (w .card) (w .state) key .memory in
+      let m = deleteOf greatest 1 (w .card) (w .state) key .memory in
       let d : m .doing ≡ Deleting key NotBegun 0 = started-doing greatest (w .card) (w .state) (Deleting key NotBegun 0) (λ l. true) key e in
       let n : nodesOn (w .card) ≡ u .size = covered-nodes greatest u ∙ nodes-same greatest (only (u .size)) (u .steps) (happens (rationTable greatest) (delete key) w) (q .1 .book-now) (u .inv) in
       first-by-rules greatest (dictionaryAnswer (lookup key (b .held))) (q .0) (happens (rationTable greatest) (delete key) w) (q .1) (q .2)

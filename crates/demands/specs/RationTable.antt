@@ -50,7 +50,7 @@ rationTable greatest =
       next = λ c number. nextReply (nextOf greatest 1 c number);
       format = λ c. handed (formatOf greatest c);
       openCard = λ c. handed (openOf greatest c);
-      insert = λ c m key value. handed (insertOf greatest c m key value);
-      delete = λ c m key. handed (deleteOf greatest c m key);
-      step = λ c m. asStepped (stepOf greatest c m);
+      insert = λ c m key value. handed (insertOf greatest 1 c m key value);
+      delete = λ c m key. handed (deleteOf greatest 1 c m key);
+      step = λ c m. asStepped (stepOf greatest 1 c m);
     }

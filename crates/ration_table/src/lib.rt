@@ -73,7 +73,7 @@ pub extern "C" fn ration_start_insert(
     value: u32,
 ) -> Reply
     ensures { λ r. ⌜ Replies startReply (replyOf r) (λ begun. StartCall (now (state .entry)) (now (state .exit)) begun
-        (Inserting key value NotBegun) (insertOf greatestNodes (now (card .entry)) (memoryIn (now (state .entry))) key value)) ⌝ }
+        (Inserting key value NotBegun) (insertOf greatestNodes 1 (now (card .entry)) (memoryIn (now (state .entry))) key value)) ⌝ }
 {
     start_reply(table::start_insert(card, state, key, value))
 }
@@ -82,7 +82,7 @@ pub extern "C" fn ration_start_insert(
 #[no_mangle]
 pub extern "C" fn ration_start_delete(card: &[u32], state: &mut [u32], key: u32) -> Reply
     ensures { λ r. ⌜ Replies startReply (replyOf r) (λ begun. StartCall (now (state .entry)) (now (state .exit)) begun
-        (Deleting key NotBegun 0) (deleteOf greatestNodes (now (card .entry)) (memoryIn (now (state .entry))) key)) ⌝ }
+        (Deleting key NotBegun 0) (deleteOf greatestNodes 1 (now (card .entry)) (memoryIn (now (state .entry))) key)) ⌝ }
 {
     start_reply(table::start_delete(card, state, key))
 }
@@ -92,7 +92,7 @@ pub extern "C" fn ration_start_delete(card: &[u32], state: &mut [u32], key: u32)
 #[no_mangle]
 pub extern "C" fn ration_step(card: &mut [u32], state: &mut [u32]) -> Reply
     ensures { λ r. ⌜ Replies (λ answer. withDepth (toldDepth (memoryIn (now (state .exit)) .depth) answer) (stepReply answer)) (replyOf r)
-        (λ answer. StepCall greatestNodes (now (card .entry)) (now (state .entry)) (now (card .exit)) (now (state .exit)) answer) ⌝ }
+        (λ answer. StepCall greatestNodes 1 (now (card .entry)) (now (state .entry)) (now (card .exit)) (now (state .exit)) answer) ⌝ }
 {
     let answer = table::step(card, state);
     step_reply(answer, state)

@@ -67,20 +67,20 @@ pub fn open(card: &[u32], state: &mut [u32]) -> Begun
 
 pub fn start_insert(card: &[u32], state: &mut [u32], key: u32, value: u32) -> Begun
     ensures { λ r. ⌜ StartCall (now (state .entry)) (now (state .exit)) r (Inserting key value NotBegun)
-        (insertOf greatestNodes (now (card .entry)) (memoryIn (now (state .entry))) key value) ⌝ }
+        (insertOf greatestNodes 1 (now (card .entry)) (memoryIn (now (state .entry))) key value) ⌝ }
 {
-    call_start::start_insert(card, state, key, value, GREATEST_NODES)
+    call_start::start_insert(card, state, FIRST_LINE, key, value, GREATEST_NODES)
 }
 
 pub fn start_delete(card: &[u32], state: &mut [u32], key: u32) -> Begun
     ensures { λ r. ⌜ StartCall (now (state .entry)) (now (state .exit)) r (Deleting key NotBegun 0)
-        (deleteOf greatestNodes (now (card .entry)) (memoryIn (now (state .entry))) key) ⌝ }
+        (deleteOf greatestNodes 1 (now (card .entry)) (memoryIn (now (state .entry))) key) ⌝ }
 {
-    call_start::start_delete(card, state, key, GREATEST_NODES)
+    call_start::start_delete(card, state, FIRST_LINE, key, GREATEST_NODES)
 }
 
 pub fn step(card: &mut [u32], state: &mut [u32]) -> Answer
-    ensures { λ r. ⌜ StepCall greatestNodes (now (card .entry)) (now (state .entry)) (now (card .exit)) (now (state .exit)) r ⌝ }
+    ensures { λ r. ⌜ StepCall greatestNodes 1 (now (card .entry)) (now (state .entry)) (now (card .exit)) (now (state .exit)) r ⌝ }
 {
-    call_step::step(card, state, GREATEST_NODES)
+    call_step::step(card, state, FIRST_LINE, GREATEST_NODES)
 }

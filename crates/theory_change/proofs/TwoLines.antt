@@ -7,10 +7,9 @@ use Prim.Native.Nat.{ℕ, _+_, _≤_, _<_}
 use native.Mathlib.Omega.{arith}
 use lib.ListN.{length, set, length-set}
 use lib.Seq.{getD-set-other}
-use borrow.Author.Tests.{ne-eqb, eq-eqb}
 use Rattle.card.specs.Layout.{rootPlace}
-use Rattle.card.specs.Lines.{rootOf, seen, onLine}
-use Rattle.card.proofs.LineLaws.{seen-set, seen-other, seen-store, seen-store-link}
+use Rattle.card.specs.Lines.{IsLine, rootOf, seen, onLine}
+use Rattle.card.proofs.LineLaws.{seen-set, seen-other, seen-store, seen-store-link, on-root, on-node}
 use Rattle.laws.specs.Totals.{indicator, total}
 use Rattle.laws.proofs.Totals.{total-length}
 use Rattle.theory_change.proofs.Line.{Line, Partition, Own, size}
@@ -19,25 +18,11 @@ use Rattle.theory_change.proofs.OtherTree.{other-kept}
 use Rattle.theory_tree.specs.Represent.{Holds}
 use Rattle.theory_tree.specs.Tree.{Tree, nodeTotal}
 
--- where a store of a line's table stands on the card
-on-root : (line p : ℕ) → p ≡ rootPlace → onLine line p ≡ rootOf line
-unfolding onLine
-on-root line p e = rw (eq-eqb p rootPlace e)
-
-on-node : (line p : ℕ) → (p ≡ rootPlace → ⊥) → onLine line p ≡ p
-unfolding onLine
-on-node line p d = rw (ne-eqb p rootPlace d)
-
--- a line's number is 1 or 2
-pub record IsLine (line : ℕ) : Type 0 where
-  pub from : 0 < line
-  pub to : rootOf line < 8
-
 module _ (own : Line) (line : ℕ) (is : IsLine line) (c : List ℕ) (long : 8 ≤ length c) (p v : ℕ) where
   -- a store of the line's table is one on the card
   pub stored-on : Own own p → seen line (set c (onLine line p) v) ≡ set (seen line c) p v
-  stored-on (inl e) = subst (λ (q : ℕ). seen line (set c (onLine line q) v) ≡ set (seen line c) q v) (sym e) (seen-store-link line c v (is .from) (is .to) long)
-  stored-on (inr n) = seen-store line c p v (is .from) (is .to) long (λ e. omega (arith, n .is)) (omega (arith, n .is))
+  stored-on (inl e) = subst (λ (q : ℕ). seen line (set c (onLine line q) v) ≡ set (seen line c) q v) (sym e) (seen-store-link line c v (is .from) (omega (arith, is .to)) long)
+  stored-on (inr n) = seen-store line c p v (is .from) (omega (arith, is .to)) long (λ e. omega (arith, n .is)) (omega (arith, n .is))
 
   -- "A call on one line stores nothing in the other line's nodes or root word": its table holds the tree that it held
   pub other-stands : (other : ℕ) → IsLine other → (line ≡ other → ⊥) → (s : Tree) → ((i : ℕ) → nodeTotal (indicator i) s ≤ total (indicator i) (own .others)) → Own own p
@@ -58,7 +43,7 @@ module _ (own : Line) (line : ℕ) (is : IsLine line) (c : List ℕ) (long : 8 �
       at = on-node line p (λ z. omega (arith, n .is, z))
 
       go : onLine line p ≡ p → seen other (set c (onLine line p) v) ≡ set (seen other c) p v
-      go e = subst (λ (q : ℕ). seen other (set c q v) ≡ set (seen other c) p v) (sym e) (seen-set other c p v (is′ .to) (omega (arith, n .is)))
+      go e = subst (λ (q : ℕ). seen other (set c q v) ≡ set (seen other c) p v) (sym e) (seen-set other c p v (omega (arith, is′ .to)) (omega (arith, n .is)))
 
 -- the nodes of two trees, seen from either line
 abbrev pub beside : ℕ → ℕ → Tree → Line

@@ -49,7 +49,7 @@ format-refused greatest c e = rw e
 
 -- ONE STEP: "Formatting steps check only 1."
 step-formats : (greatest : ℕ) (card : List ℕ) (n made : ℕ) (free : List Bool) (last : ℕ) (o : Option Store) → Sized greatest (length card) n → formatStore n (length card) made ≡ o
-    → stepOf greatest card (resting n free last noTotals (Formatting made)) ≡ stepFormat card (resting n free last noTotals (Formatting made)) made o
+    → stepOf greatest 1 card (resting n free last noTotals (Formatting made)) ≡ stepFormat card (resting n free last noTotals (Formatting made)) made o
 unfolding stepOf heldBy stepHeld resting
 step-formats greatest card n made free last o s e = rw (sized-nodes greatest (length card) n s, ne-eqb n 0 (omega (arith, s .least)), eq-eqb n n refl, e)
 
@@ -73,7 +73,7 @@ module _ (greatest : ℕ) (c : List ℕ) (n : ℕ) (sized : Sized greatest (leng
 
   -- after so many stores, at most as many as the card has words, a step makes the next one
   pub format-step-stores : (made : ℕ) → made ≤ length c
-      → stepOf greatest (formatCard n c made) (formatMemory n made)
+      → stepOf greatest 1 (formatCard n c made) (formatMemory n made)
       ≡ record { answer = Stored (placeOf (formatStore n (length c) made)); card = formatCard n c (suc made); memory = formatMemory n (suc made) }
   format-step-stores made h =
       let f = some-store n (length c) made (omega (arith, sized .words)) h in
@@ -82,7 +82,7 @@ module _ (greatest : ℕ) (c : List ℕ) (n : ℕ) (sized : Sized greatest (leng
       ∙ format-stores (formatCard n c made) n made (freshNodes n) formattedRoot (f .0))
 
   -- after the last store a step answers "ready" and makes the state idle
-  pub format-step-ready : stepOf greatest (formatCard n c (suc (length c))) (formatMemory n (suc (length c)))
+  pub format-step-ready : stepOf greatest 1 (formatCard n c (suc (length c))) (formatMemory n (suc (length c)))
       ≡ record { answer = Ready; card = formatCard n c (suc (length c)); memory = freshMemory n }
   format-step-ready =
       let made : ℕ = suc (length c) in

@@ -58,8 +58,8 @@ pub data Outcome : Type 0 where
   answered : Answer → Outcome
 
 abbrev pub starts : (greatest : ℕ) → Update → World (rationTable greatest) → Begun
-starts greatest (put key value) w = insertOf greatest (w .card) (w .state) key value .begun
-starts greatest (remove key) w = deleteOf greatest (w .card) (w .state) key .begun
+starts greatest (put key value) w = insertOf greatest 1 (w .card) (w .state) key value .begun
+starts greatest (remove key) w = deleteOf greatest 1 (w .card) (w .state) key .begun
 
 abbrev pub event : Update → Event
 event (put key value) = insert key value
@@ -67,8 +67,8 @@ event (remove key) = delete key
 
 -- steps that store, and then the one that gives the final answer
 pub data Ends (greatest : ℕ) : World (rationTable greatest) → World (rationTable greatest) → Answer → Type 0 where
-  ends-here : {w : World (rationTable greatest)} {a : Answer} → stepOf greatest (w .card) (w .state) .answer ≡ a → IsFinal a → Ends greatest w (happens (rationTable greatest) step w) a
-  stores-first : {w v : World (rationTable greatest)} {a : Answer} → IsStored (stepOf greatest (w .card) (w .state) .answer)
+  ends-here : {w : World (rationTable greatest)} {a : Answer} → stepOf greatest 1 (w .card) (w .state) .answer ≡ a → IsFinal a → Ends greatest w (happens (rationTable greatest) step w) a
+  stores-first : {w v : World (rationTable greatest)} {a : Answer} → IsStored (stepOf greatest 1 (w .card) (w .state) .answer)
       → Ends greatest (happens (rationTable greatest) step w) v a → Ends greatest w v a
 
 -- a whole call, and a list of them: "each call .. runs to its end before the next, without cuts"
@@ -110,7 +110,7 @@ pub record Resting (greatest : ℕ) (n : ℕ) (w : World (rationTable greatest))
   pub idle : w .state .doing ≡ Idle
   pub goal : inv .goal ≡ t
 
-after-idle : (greatest : ℕ) (w : World (rationTable greatest)) → stepOf greatest (w .card) (w .state) .memory .doing ≡ Idle → happens (rationTable greatest) step w .state .doing ≡ Idle
+after-idle : (greatest : ℕ) (w : World (rationTable greatest)) → stepOf greatest 1 (w .card) (w .state) .memory .doing ≡ Idle → happens (rationTable greatest) step w .state .doing ≡ Idle
 unfolding happens
 after-idle greatest w e = e
 
@@ -119,12 +119,12 @@ pub ends-at : (greatest : ℕ) {w v : World (rationTable greatest)} {a : Answer}
     → i .goal ≡ goal → isIdle (w .state .doing) ≡ false → (a ≡ i .due) × Resting greatest n v goal
 ends-at greatest {w} {v} {a} (ends-here e f) n steps b i goal eg busy =
     let q = kept-step greatest (only n) steps w b (loosen greatest (only n) steps (suc steps) w b (omega arith) i) in
-    let f′ : IsFinal (stepOf greatest (w .card) (w .state) .answer) = subst IsFinal (sym e) f in (
+    let f′ : IsFinal (stepOf greatest 1 (w .card) (w .state) .answer) = subst IsFinal (sym e) f in (
       sym e ∙ right-final (q .1) f′ ∙ loosen-due greatest (only n) steps (suc steps) w b (omega arith) i,
       record { steps = steps; book = _; inv = q .0 .0; idle = after-idle greatest w (at (q .2) f′); goal = q .0 .1 ∙ loosen-goal greatest (only n) steps (suc steps) w b (omega arith) i ∙ eg },
     )
   where
-    at : Moves (w .card) (w .state) (stepOf greatest (w .card) (w .state)) → IsFinal (stepOf greatest (w .card) (w .state) .answer) → stepOf greatest (w .card) (w .state) .memory .doing ≡ Idle
+    at : Moves (w .card) (w .state) (stepOf greatest 1 (w .card) (w .state)) → IsFinal (stepOf greatest 1 (w .card) (w .state) .answer) → stepOf greatest 1 (w .card) (w .state) .memory .doing ≡ Idle
     at (was-idle d) g = absurd (idle-not-busy (w .state .doing) d busy)
     at (ends-now d same idle) g = idle
     at (goes-further s d) g = absurd (subst IsFinal (s .1) g)
@@ -133,7 +133,7 @@ ends-at greatest {w} {v} {a} (stores-first e rest) n steps b i goal eg busy =
     let r = ends-at greatest rest n steps _ (q .0 .0) goal (q .0 .1 ∙ loosen-goal greatest (only n) steps (suc steps) w b (omega arith) i ∙ eg) (at (q .2)) in
     (r .0 ∙ q .0 .2 ∙ loosen-due greatest (only n) steps (suc steps) w b (omega arith) i, r .1)
   where
-    at : Moves (w .card) (w .state) (stepOf greatest (w .card) (w .state)) → isIdle (happens (rationTable greatest) step w .state .doing) ≡ false
+    at : Moves (w .card) (w .state) (stepOf greatest 1 (w .card) (w .state)) → isIdle (happens (rationTable greatest) step w .state .doing) ≡ false
     at (was-idle d) = absurd (idle-not-busy (w .state .doing) d busy)
     at (ends-now d same idle) = absurd (subst IsFinal (e .1) d)
     at (goes-further s d) = after-step greatest w d

@@ -20,19 +20,19 @@ enum-known-node c = search needs
 node-at-requires : tie.Need-node-at-requires
 node-at-requires c κs =
     let s = c .before .before .before .before .before in
-    leaf-there greatestNodes (s .args .card .now) (s .args .n) (s .args .key) _ (c .before .before .before .arrive .ensures) _ _ (c .before .node .given .1) (s .pre)
+    leaf-there greatestNodes (s .args .line) (s .args .card .now) (s .args .n) (s .args .key) _ (c .before .before .before .arrive .ensures) _ _ (c .before .node .given .1) (s .pre .0)
 
 delete-in-requires : tie.Need-delete-in-requires
 delete-in-requires c κs =
     let s = c .before .before .before .before .before .before in
     ap length (c .node-at .ensures)
-    ∙ leaf-words greatestNodes (s .args .card .now) (s .args .n) (s .args .key) _ (c .before .before .before .before .arrive .ensures) _ _ (c .before .before .node .given .1) (s .pre)
+    ∙ leaf-words greatestNodes (s .args .line) (s .args .card .now) (s .args .n) (s .args .key) _ (c .before .before .before .before .arrive .ensures) _ _ (c .before .before .node .given .1) (s .pre .0)
 
 returns : tie.Need-returns
 unfolding decided
 returns c =
     let s = c .before .before .before .before in
-    decided-nowhere greatestNodes (s .args .card .now) (s .args .n) (s .args .key) _ (c .before .before .arrive .ensures) (s .args .doing) (deleteAt (s .args .key)) (c .enum-told .given .1)
+    decided-nowhere greatestNodes (s .args .line) (s .args .card .now) (s .args .n) (s .args .key) _ (c .before .before .arrive .ensures) (s .args .doing) (deleteAt (s .args .key)) (c .enum-told .given .1)
 
 returns-2 : tie.Need-returns-2
 unfolding decided
@@ -41,7 +41,7 @@ returns-2 c =
     let leaf = c .before .before .before .node .given in
     c .delete-in .ensures
     ∙ ap (deleteAt (s .args .key) (leaf .0 .0) (leaf .0 .1 .0)) (c .before .node-at .ensures)
-    ∙ decided-there greatestNodes (s .args .card .now) (s .args .n) (s .args .key) _
+    ∙ decided-there greatestNodes (s .args .line) (s .args .card .now) (s .args .n) (s .args .key) _
     (c .before .before .before .before .before .arrive .ensures) _ _ (leaf .1) (s .args .doing) (deleteAt (s .args .key))
 
 pub take-out-spec : {M : Type 1} → statement M

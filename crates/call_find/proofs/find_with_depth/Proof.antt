@@ -7,6 +7,7 @@ use lib.ListN.{length}
 use borrow.Author.Tests.{not-true, not-false}
 use Rattle.card.specs.Layout.{depthLimit}
 use Rattle.card.specs.Lines.{hasLine}
+use Rattle.card.proofs.LineLaws.{has-is}
 use Rattle.card.specs.Header.{cardRefusal, Sized}
 use Rattle.card.proofs.HeaderLaws.{sized, card-sized}
 use Rattle.walk.specs.Descent.{rootPosition, wayFrom, leafOf, depthOf}
@@ -79,7 +80,7 @@ returns-3 c =
     )
 
 root-of-requires : tie.Need-root-of-requires
-root-of-requires c κs = (omega (arith, whole (c .before .before .before) .words), has (c .before))
+root-of-requires c κs = (omega (arith, whole (c .before .before .before) .words), has-is _ _ (has (c .before)))
 
 found-at-requires : tie.Need-found-at-requires
 found-at-requires c κs = let k = whole (c .before .before .before .before) in (k .words, k .most)

@@ -18,13 +18,13 @@ returns : tie.Need-returns
 returns c =
     let s = c .before .before .before in
     start-no-state (s .args .state .now) (c .if1 .taken) (Deleting (s .args .key) NotBegun 0)
-    (deleteOf (s .args .greatest) (s .args .card .now) (memoryIn (s .args .state .now)) (s .args .key))
+    (deleteOf (s .args .greatest) (s .args .line) (s .args .card .now) (memoryIn (s .args .state .now)) (s .args .key))
 
 block-due-requires : tie.Need-block-due-requires
 block-due-requires c κs = search needs
 
 begin-requires : tie.Need-begin-requires
-begin-requires c κs = (c .before .before .before .if1 .left, rw (c .before .block-due .ensures .1) (depth-bound _ _ _ _ _))
+begin-requires c κs = (c .before .before .before .if1 .left, rw (c .before .block-due .ensures .1) (depth-bound _ _ _ (memoryIn (c .before .before .before .before .before .before .args .state .now)) _))
 
 same-length : tie.Need-same-length
 same-length c = search needs
@@ -36,7 +36,7 @@ returns-2 c =
     let doing = Deleting (s .args .key) NotBegun 0 in
     subst (λ (due : Handed). StartCall (s .args .state .now) (c .before .before .begin .last .0) (c .before .before .begin .result) doing due)
     (ap₂ (λ (r depth : ℕ). begunBy r depth (memoryIn (s .args .state .now)) doing) (c .before .before .before .before .block-due .ensures .0) (c .before .before .before .before .block-due .ensures .1)
-    ∙ sym (start-due _ (s .args .card .now) (memoryIn (s .args .state .now)) (s .args .key) doing _))
+    ∙ sym (start-due _ (s .args .line) (s .args .card .now) (memoryIn (s .args .state .now)) (s .args .key) doing _))
     (c .before .before .begin .ensures)
 
 pub start-delete-spec : {M : Type 1} → statement M

@@ -5,12 +5,14 @@ use native.Mathlib.Omega.{arith}
 use lib.ListN.{length}
 use borrow.Author.Tests.{not-true, not-false}
 use Rattle.card.specs.Header.{headerRefusal, Sized}
+use Rattle.card.specs.Lines.{seen}
 use Rattle.card.proofs.HeaderLaws.{sized-any}
 use Rattle.state.specs.Results.{moreToStore}
 use Rattle.state.specs.Steps.{heldBy}
 use Rattle.state.specs.Block.{blockWord, memoryIn}
 use Rattle.call_step.specs.Contracts.{HoldsTask}
-use Rattle.call_step.proofs.ContractLaws.{made-refused}
+use Rattle.call_step.proofs.ContractLaws.{refused-on, format-any}
+use Rattle.call_step.proofs.LineSteps.{as-made}
 use Rattle.call_step.proofs.StepLaws.{call-no-state, call-made, step-sized, step-unsized, task-stores, held-unchecked, not-formatting, doing-format, stores-held}
 use borrow.Author.Needs.{needs}
 use Rattle.call_step.proofs.step.Statement.{statement}
@@ -44,7 +46,7 @@ in-hand c =
     stores-held (m .doing) (m .rest) (sym (c .before .has-store .ensures) ∙ c .if5 .taken) (not-formatting b (if3 .left))
 
 returns : tie.Need-returns
-returns c = let s = c .before .before .before in call-no-state _ (s .args .card .now) (s .args .state .now) (c .if1 .taken)
+returns c = let s = c .before .before .before in call-no-state _ _ (s .args .card .now) (s .args .state .now) (c .if1 .taken)
 
 slice-read-wide : tie.Need-slice-read-wide
 slice-read-wide c = search needs
@@ -63,10 +65,10 @@ returns-2 c =
     let b = s .args .state .now in
     let if1 = c .before .before .before .before .if1 in
     let wide = c .before .before .wide in
-    call-made _ card b _ (if1 .left)
-    (step-unsized _ card (memoryIn b)
+    call-made _ _ card b _ (if1 .left)
+    (step-unsized _ _ card (memoryIn b)
     (λ z. c .before .is-sized .ensures .1 (not-true _ (c .if2 .taken)) (subst (Sized (s .args .greatest) (length card)) (sym (wide .ensures)) z)))
-    (made-refused card b 1 refl)
+    (refused-on (seen (s .args .line) card) b card 1 refl)
 
 slice-read-if3 : tie.Need-slice-read-if3
 slice-read-if3 c = search needs
@@ -94,9 +96,9 @@ returns-3 c =
     let if3 = c .before .before .before .before .before .before .before .if3 in
     let step-format = c .before .before .before .before .step-format in
     let at-sized = c .before .before .before .before .before .before .before .before .before in
-    call-made _ card b _ (if1 .left)
-    (step-sized _ card (memoryIn b) (sized at-sized) ∙ doing-format b card (if3 .taken))
-    (step-format .ensures)
+    call-made _ _ card b _ (if1 .left)
+    (step-sized _ _ card (memoryIn b) (sized at-sized) ∙ doing-format b _ card (if3 .taken))
+    (format-any card (seen (s .args .line) card) b (if3 .taken) (step-format .ensures))
 
 header-refusal-requires : tie.Need-header-refusal-requires
 header-refusal-requires c κs = omega (arith, sized (c .before .before .before) .words)
@@ -115,11 +117,11 @@ returns-4 c =
     let if3 = c .before .before .before .if3 in
     let at-sized = c .before .before .before .before .before in
     let m = memoryIn b in
-    call-made _ card b _ (if1 .left)
-    (step-sized _ card m (sized at-sized)
-    ∙ held-unchecked card m (c .before .header-refusal .result) (c .before .header-refusal .ensures ∙ ap (headerRefusal card) (wide .ensures)) (c .if4 .taken)
+    call-made _ _ card b _ (if1 .left)
+    (step-sized _ _ card m (sized at-sized)
+    ∙ held-unchecked _ card m (c .before .header-refusal .result) (c .before .header-refusal .ensures ∙ ap (headerRefusal card) (wide .ensures)) (c .if4 .taken)
     (heldBy (m .doing)) (not-formatting b (if3 .left)))
-    (made-refused card b (c .before .header-refusal .result) refl)
+    (refused-on (seen (s .args .line) card) b card (c .before .header-refusal .result) refl)
 
 has-store-requires : tie.Need-has-store-requires
 has-store-requires c κs = search needs
@@ -127,7 +129,9 @@ has-store-requires c κs = search needs
 store-next-requires : tie.Need-store-next-requires
 store-next-requires c κs =
     let if1 = c .before .before .before .before .before .before .before .before .before .before .before .before .before .before .if1 in
-    let h = in-hand (c .before .before) in (if1 .left, h .0, h .1)
+    let s = c .before .before .before .before .before .before .before .before .before .before .before .before .before .before .before .before .before in
+    let at-sized = c .before .before .before .before .before .before .before .before .before .before in
+    let h = in-hand (c .before .before) in (if1 .left, h .0, h .1, omega (arith, sized at-sized .words), s .pre)
 
 same-length-4 : tie.Need-same-length-4
 same-length-4 c = search needs
@@ -148,9 +152,9 @@ returns-5 c =
     let at-header-right = c .before .before .before .before .before .before .before .before .before .before in
     let m = memoryIn b in
     let h = in-hand at-in-hand in
-    call-made _ card b _ (if1 .left)
-    (step-sized _ card m (sized at-sized) ∙ task-stores card m (header-right at-header-right) (h .1) (h .0))
-    (store-next .ensures)
+    call-made _ _ card b _ (if1 .left)
+    (step-sized _ _ card m (sized at-sized) ∙ task-stores _ card m (header-right at-header-right) (h .1) (h .0))
+    (as-made (s .args .line) card b refl (store-next .ensures))
 
 step-plan-requires : tie.Need-step-plan-requires
 step-plan-requires c κs =
@@ -160,7 +164,8 @@ step-plan-requires c κs =
     let if5 = c .before .before .if5 in
     let at-sized = c .before .before .before .before .before .before .before .before .before .before in
     let at-header-right = c .before .before .before .before .before in
-    (if1 .left, sized-any (sized at-sized), header-right at-header-right, if3 .left, sym (has-store .ensures) ∙ if5 .left)
+    let s = c .before .before .before .before .before .before .before .before .before .before .before .before .before .before .before .before .before in
+    (if1 .left, sized-any (sized at-sized), header-right at-header-right, if3 .left, sym (has-store .ensures) ∙ if5 .left, s .pre)
 
 same-length-6 : tie.Need-same-length-6
 same-length-6 c = search needs
@@ -177,7 +182,7 @@ returns-6 c =
     let if1 = c .before .before .before .before .before .before .before .before .before .before .before .before .before .before .before .before .before .before .before .if1 in
     let step-plan = c .before .before .before .before .step-plan in
     let at-sized = c .before .before .before .before .before .before .before .before .before .before .before .before .before .before .before in
-    call-made _ card b _ (if1 .left) (step-sized _ card (memoryIn b) (sized at-sized)) (step-plan .ensures)
+    call-made _ _ card b _ (if1 .left) (step-sized _ _ card (memoryIn b) (sized at-sized)) (step-plan .ensures)
 
 pub step-spec : {M : Type 1} → statement M
 step-spec =

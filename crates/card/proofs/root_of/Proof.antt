@@ -5,7 +5,7 @@ use native.Mathlib.Omega.{arith}
 use lib.ListN.{getD}
 use borrow.Author.Needs.{needs}
 use Rattle.card.specs.Lines.{rootOf}
-use Rattle.card.proofs.LineLaws.{not-second}
+use Rattle.card.proofs.LineLaws.{not-the-second}
 use Rattle.card.proofs.root_of.Statement.{statement}
 use Rattle.card.proofs.root_of.Tie as tie
 
@@ -29,7 +29,7 @@ cast-result-2 c = omega (arith, c .shared-slice-known2 .given 4)
 returns-2 : tie.Need-returns-2
 returns-2 c =
     let s = c .before .before in
-    ap (λ (l : ℕ). getD (s .args .card .now) (rootOf l) 0) (sym (not-second (s .args .card .now) (s .args .line) (s .pre .1) (c .before .if1 .left)))
+    ap (λ (l : ℕ). getD (s .args .card .now) (rootOf l) 0) (sym (not-the-second (s .args .line) (s .pre .1) (c .before .if1 .left)))
 
 pub root-of-spec : {M : Type 1} → statement M
 root-of-spec =

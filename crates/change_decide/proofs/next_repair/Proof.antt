@@ -1,8 +1,13 @@
 -- `change_decide::next_repair` meets its contract.
 use mathlib.Core.Path.{_≡_, ap, sym, _∙_}
 use native.Mathlib.Omega.{arith}
+use Prim.Native.Nat.{ℕ}
+use Rattle.card.specs.Layout.{depthLimit}
+use Rattle.card.specs.Lines.{seen}
+use Rattle.walk.specs.Descent.{seek, rootPosition}
 use Rattle.walk.specs.declared.Search.{Search}
 use Rattle.change_decide.specs.Decide.{onSearch, decidedRepair}
+use Rattle.change_decide.proofs.LineDecisions.{repair-seen}
 use Rattle.change_decide.proofs.Positions.{position-within}
 use borrow.Author.Needs.{needs}
 use Rattle.change_decide.proofs.next_repair.Statement.{statement}
@@ -10,18 +15,18 @@ use Rattle.change_decide.proofs.next_repair.Tie as tie
 
 -- the repair follows from what the search found
 repair : (c : tie.After-find-violation) (found : Search) → c .find-violation .result ≡ found
-    → onSearch (c .before .before .before .args .card .now) (c .before .before .before .args .n) found
-    ≡ decidedRepair (c .before .before .before .args .card .now) (c .before .before .before .args .n) (c .before .before .before .args .key)
-unfolding decidedRepair
+    →
+    let s = c .before .before .before in
+    onSearch (s .args .card .now) (s .args .n) found ≡ decidedRepair (seen (s .args .line) (s .args .card .now)) (s .args .n) (s .args .key)
 repair c found e =
     let s = c .before .before .before in
-    ap (onSearch (s .args .card .now) (s .args .n)) (sym e ∙ c .find-violation .ensures)
+    let card = s .args .card .now in
+    ap (onSearch card (s .args .n))
+    (sym e ∙ c .find-violation .ensures ∙ ap (λ (r : ℕ). seek card (s .args .n) (s .args .key) depthLimit (rootPosition r)) (c .before .root-of .ensures))
+    ∙ sym (repair-seen (s .args .line) card (s .args .n) (s .args .key))
 
-shared-slice-read-find-violation : tie.Need-shared-slice-read-find-violation
-shared-slice-read-find-violation c = search needs
-
-cast-find-violation : tie.Need-cast-find-violation
-cast-find-violation c = omega (arith, c .shared-slice-known2 .given 4)
+root-of-requires : tie.Need-root-of-requires
+root-of-requires c κs = let s = c .before in (omega (arith, s .pre .0), s .pre .2)
 
 find-violation-requires : tie.Need-find-violation-requires
 find-violation-requires c κs = search needs
@@ -56,8 +61,7 @@ pub next-repair-spec : {M : Type 1} → statement M
 next-repair-spec =
     tie.close
     (tie.spec
-    shared-slice-read-find-violation
-    cast-find-violation
+    root-of-requires
     find-violation-requires
     enum-told
     enum-told-2

@@ -7,6 +7,7 @@ use lib.ListN.{length}
 use borrow.Author.Tests.{not-true, not-false}
 use Rattle.card.specs.Layout.{depthLimit}
 use Rattle.card.specs.Lines.{hasLine}
+use Rattle.card.proofs.LineLaws.{has-is}
 use Rattle.card.specs.Header.{cardRefusal, Sized}
 use Rattle.card.proofs.HeaderLaws.{sized-any, sized, card-sized}
 use Rattle.walk.specs.Descent.{rootPosition, Way, wayFrom, leafOf, depthOf}
@@ -67,7 +68,7 @@ returns-2 c =
     (c .refused2 .ensures .0 ∙ sym no, c .refused2 .ensures .1 ∙ ap (carried _) (sym no), omega (arith, c .refused2 .ensures .1))
 
 root-of-requires : tie.Need-root-of-requires
-root-of-requires c κs = (omega (arith, whole (c .before .before) .words), has c)
+root-of-requires c κs = (omega (arith, whole (c .before .before) .words), has-is _ _ (has c))
 
 next-in-requires : tie.Need-next-in-requires
 next-in-requires c κs = sized-any (whole (c .before .before .before))

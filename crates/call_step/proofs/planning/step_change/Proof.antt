@@ -23,7 +23,7 @@ use Rattle.call_step.proofs.planning.step_change.Tie as tie
 
 nodes-are : (c : tie.Start) → c .args .size .nodes ≡ needed (c .args .decision)
 unfolding sizeOf
-nodes-are c = ap (λ (z : Size). z .nodes) (c .pre .3)
+nodes-are c = ap (λ (z : Size). z .nodes) (c .pre .4)
 
 -- the numbers that the decision needs
 given : (c : tie.After-left) →
@@ -54,7 +54,7 @@ on-card c =
     let at-given = c .before .before .before .before .before .before .before .before .before .before .before .before in
     let n = blockWord b 0 in
     subst (λ (k : ℕ). k < length card) (sym (c .wide2 .ensures))
-    (change-on-card greatestNodes card b (s .pre .0) (s .args .doing) (s .args .decision) (s .pre .2) n (s .pre .1) _ _ _ (given at-given)
+    (change-on-card greatestNodes card b (s .pre .0) (s .args .doing) (s .args .decision) (s .pre .2) (s .pre .3) n (s .pre .1) _ _ _ (given at-given)
     (plan .ensures .1) _ (plan .ensures .0) (if1 .left))
 
 sub-give : tie.Need-sub-give
@@ -97,7 +97,7 @@ returns c =
     let few : takeNumbers (needed d) (nodesOf (part b freeAt wordCount)) (blockWord b 1) ≡ none =
     ap₂ (λ (k w : ℕ). takeNumbers k (nodesOf (part b freeAt wordCount)) w) (sym (nodes-are s)) (sym (wide .ensures)) ∙ give .ensures .0
     ∙ ap (λ (g : Given). givenBy g (s .args .size .nodes)) (c .enum-told .given .1) in
-    change-none greatestNodes (s .args .card .now) b (s .pre .0) (s .args .doing) d (s .pre .2) few
+    λ line changes. change-none greatestNodes (s .args .card .now) b (s .pre .0) (s .args .doing) d (s .pre .2) (s .pre .3) line changes few
 
 slice-read-if1 : tie.Need-slice-read-if1
 slice-read-if1 c = search needs
@@ -112,7 +112,7 @@ returns-2 c =
     let left = c .before .before .before .left in
     let give = c .before .before .before .before .before .give in
     let at-given = c .before .before .before in
-    change-outside greatestNodes (s .args .card .now) (s .args .state .now) (s .pre .0) (s .args .doing) (s .args .decision) (s .pre .2) _ (s .pre .1)
+    change-outside greatestNodes (s .args .card .now) (s .args .state .now) (s .pre .0) (s .args .doing) (s .args .decision) (s .pre .2) (s .pre .3) _ (s .pre .1)
     _ _ _ (given at-given)
     (λ z. sym (ap leftGiven (left .given .1)) ∙ give .ensures .1 (nodes-are s ∙ z)) (c .if1 .taken)
 
@@ -120,7 +120,7 @@ plan-requires : tie.Need-plan-requires
 plan-requires c κs =
     let s = c .before .before .before .before .before .before .before .before .before .before .before .before .before in
     let at-given = c .before .before .before .before .before in
-    (s .pre .0, s .pre .2 .fits, s .pre .3, given at-given)
+    (s .pre .0, s .pre .2, s .pre .4, given at-given)
 
 slice-read-place : tie.Need-slice-read-place
 slice-read-place c = search needs
@@ -135,7 +135,7 @@ store-word-requires c κs =
     let plan = c .before .before .before .before .before .before .plan in
     let at-given = c .before .before .before .before .before .before .before .before .before .before .before .before in
     let n = blockWord b 0 in (
-      change-length greatestNodes (s .args .card .now) b (s .pre .0) (s .args .doing) (s .args .decision) (s .pre .2) n (s .pre .1) _ _ _ (given at-given)
+      change-length greatestNodes (s .args .card .now) b (s .pre .0) (s .args .doing) (s .args .decision) (s .pre .2) (s .pre .3) n (s .pre .1) _ _ _ (given at-given)
           (plan .ensures .1) _ (plan .ensures .0),
       omega arith,
       on-card (c),
@@ -161,10 +161,11 @@ returns-3 c =
     let at-on-card = c .before .before .before .before .before .before in
     let n = blockWord b 0 in
     let p = plan .last .1 .0 in
-    let long = change-length greatestNodes (s .args .card .now) b (s .pre .0) (s .args .doing) (s .args .decision) (s .pre .2) n (s .pre .1) _ _ _ (given at-given)
+    let long = change-length greatestNodes (s .args .card .now) b (s .pre .0) (s .args .doing) (s .args .decision) (s .pre .2) (s .pre .3) n (s .pre .1) _ _ _ (given at-given)
     (plan .ensures .1) _ (plan .ensures .0) in
-    change-made greatestNodes (s .args .card .now) b (s .pre .0) (s .args .doing) (s .args .decision) (s .pre .2) n (s .pre .1) _ _ _ (given at-given)
-    (plan .ensures .1) _ (plan .ensures .0) (wide2-call .result) (wide2-call .ensures) (on-card at-on-card) (store .ensures .1 .0)
+    λ line changes.
+    change-made greatestNodes (s .args .card .now) b (s .pre .0) (s .args .doing) (s .args .decision) (s .pre .2) (s .pre .3) n (s .pre .1) _ _ _ (given at-given)
+    (plan .ensures .1) _ (plan .ensures .0) line changes (wide2-call .result) (wide2-call .ensures) (on-card at-on-card) (store .ensures .1 .0)
     (store .ensures .1 .1 ∙ played-on p long 1 (drop 1 (planned p)) (sym (store .ensures .0) ∙ c .if2 .taken))
 
 same-length-5 : tie.Need-same-length-5
@@ -184,10 +185,11 @@ returns-4 c =
     let at-on-card = c .before .before .before .before .before .before .before .before .before .before in
     let n = blockWord b 0 in
     let p = plan .last .1 .0 in
-    let long = change-length greatestNodes (s .args .card .now) b (s .pre .0) (s .args .doing) (s .args .decision) (s .pre .2) n (s .pre .1) _ _ _ (given at-given)
+    let long = change-length greatestNodes (s .args .card .now) b (s .pre .0) (s .args .doing) (s .args .decision) (s .pre .2) (s .pre .3) n (s .pre .1) _ _ _ (given at-given)
     (plan .ensures .1) _ (plan .ensures .0) in
-    change-made greatestNodes (s .args .card .now) b (s .pre .0) (s .args .doing) (s .args .decision) (s .pre .2) n (s .pre .1) _ _ _ (given at-given)
-    (plan .ensures .1) _ (plan .ensures .0) (wide2-call .result) (wide2-call .ensures) (on-card at-on-card) (store .ensures .1 .0)
+    λ line changes.
+    change-made greatestNodes (s .args .card .now) b (s .pre .0) (s .args .doing) (s .args .decision) (s .pre .2) (s .pre .3) n (s .pre .1) _ _ _ (given at-given)
+    (plan .ensures .1) _ (plan .ensures .0) line changes (wide2-call .result) (wide2-call .ensures) (on-card at-on-card) (store .ensures .1 .0)
     (ended p long 1 (drop 1 (planned p)) (sym (store .ensures .0) ∙ c .before .before .before .before .if2 .left) (store .ensures .1 .1) (c .before .before .end-change .ensures))
 
 pub step-change-spec : {M : Type 1} → statement M

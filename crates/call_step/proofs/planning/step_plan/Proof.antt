@@ -1,11 +1,12 @@
 -- `call_step::planning::step_plan` meets its contract.
-use mathlib.Core.Path.{_≡_, sym, ap, subst, _∙_}
+use mathlib.Core.Path.{_≡_, sym, ap, _∙_}
+use Rattle.card.specs.Lines.{seen}
 use Rattle.state.specs.Steps.{heldBy}
 use Rattle.state.specs.Block.{headIn, memoryIn}
 use Rattle.state.specs.declared.State.{State}
 use Rattle.call_step.specs.Calls.{stepHeld}
-use Rattle.call_step.specs.Contracts.{StepMade}
-use Rattle.call_step.proofs.ContractLaws.{made-refused}
+use Rattle.call_step.proofs.ContractLaws.{refused-on}
+use Rattle.call_step.proofs.LineSteps.{as-made}
 use Rattle.call_step.proofs.StepLaws.{idle-refused, task-plans, holds-nothing, none-left}
 use borrow.Author.Needs.{needs}
 use Rattle.call_step.proofs.planning.step_plan.Statement.{statement}
@@ -35,7 +36,7 @@ step-task-requires c κs =
     let at-is-held = c .before .before .before .before .before in
     let at-is-doing = c .before .before .before .before .before .before in
     let holds = is-held at-is-held ∙ task .given .1 in
-    (s .pre .0, s .pre .1, is-doing at-is-doing, holds, none-left (memoryIn b .doing) _ (memoryIn b .rest) holds (s .pre .4))
+    (s .pre .0, s .pre .1, is-doing at-is-doing, holds, none-left (memoryIn b .doing) _ (memoryIn b .rest) holds (s .pre .4), s .pre .5)
 
 same-length : tie.Need-same-length
 same-length c = search needs
@@ -44,10 +45,11 @@ returns : tie.Need-returns
 unfolding memoryIn
 returns c =
     let s = c .before .before .before .before .before .before in
+    let card = s .args .card .now in
     let b = s .args .state .now in
-    made-refused (s .args .card .now) b 10
-    (ap (stepHeld (s .args .card .now) (memoryIn b)) (is-held (c .before) ∙ holds-nothing b (s .pre .3) _ (is-held (c .before)) (c .match .keys2))
-    ∙ idle-refused (s .args .card .now) (memoryIn b) (s .pre .2))
+    refused-on (seen (s .args .line) card) b card 10
+    (ap (stepHeld (s .args .line) card (memoryIn b)) (is-held (c .before) ∙ holds-nothing b (s .pre .3) _ (is-held (c .before)) (c .match .keys2))
+    ∙ idle-refused (s .args .line) card (memoryIn b) (s .pre .2))
 
 same-length-2 : tie.Need-same-length-2
 same-length-2 c = search needs
@@ -66,8 +68,7 @@ returns-2 c =
     let at-is-held = c .before .before .before .before .before .before .before .before .before .before in
     let m = memoryIn b in
     let holds = is-held at-is-held ∙ task .given .1 in
-    subst (StepMade card b _ _ _)
-    (sym (task-plans card m (s .pre .2) _ holds (none-left (m .doing) _ (m .rest) holds (s .pre .4)))) (step-task .ensures)
+    as-made (s .args .line) card b (task-plans (s .args .line) card m (s .pre .2) _ holds (none-left (m .doing) _ (m .rest) holds (s .pre .4))) (step-task .ensures)
 
 pub step-plan-spec : {M : Type 1} → statement M
 step-plan-spec =

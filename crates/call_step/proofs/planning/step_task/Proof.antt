@@ -1,13 +1,16 @@
 -- `call_step::planning::step_task` meets its contract.
 use mathlib.Core.Path.{_≡_, sym, ap, ap₂, subst, _∙_}
 use Rattle.card.specs.Layout.{greatestNodes}
+use Rattle.card.specs.Lines.{seen}
+use Rattle.card.proofs.LineLaws.{seen-long}
+use Rattle.change_decide.proofs.LinePlaces.{fits-seen}
 use Prim.Native.Nat.{ℕ}
 use Rattle.change_layout.specs.LayOut.{outcomeOf, sizeOf}
 use Rattle.change_layout.specs.declared.Size.{Size}
 use Rattle.call_change.specs.Decided.{decided}
 use Rattle.state.specs.Block.{memoryIn}
 use Rattle.state.specs.declared.Doing.{Doing}
-use Rattle.call_step.specs.Contracts.{StepMade}
+use Rattle.call_step.specs.Contracts.{MadeOn}
 use Rattle.call_step.proofs.ChangeLaws.{task-prepares, task-refused, task-ended, task-changes}
 use borrow.Author.Needs.{needs}
 use Rattle.call_step.proofs.planning.step_task.Statement.{statement}
@@ -16,12 +19,12 @@ use Rattle.call_step.proofs.planning.step_task.Tie as tie
 is-decided : (c : tie.After-next-change) →
     let s = c .before .before .before .before .before .before in
     let m = memoryIn (s .args .state .now) in
-    c .next-change .result ≡ decided (s .args .card .now) (m .nodes) (m .doing) (s .args .task)
+    c .next-change .result ≡ decided (seen (s .args .line) (s .args .card .now)) (m .nodes) (m .doing) (s .args .task)
 unfolding memoryIn
 is-decided c =
     let s = c .before .before .before .before .before .before in
     c .next-change .ensures
-    ∙ ap₂ (λ (n : ℕ) (doing : Doing). decided (s .args .card .now) n doing (s .args .task)) (c .before .wide .ensures) (s .pre .2)
+    ∙ ap₂ (λ (n : ℕ) (doing : Doing). decided (seen (s .args .line) (s .args .card .now)) n doing (s .args .task)) (c .before .wide .ensures) (s .pre .2)
 
 outcome-is : (c : tie.After-size-of) → outcomeOf (c .before .next-change .result .decision) ≡ c .size-of .result .outcome
 unfolding sizeOf
@@ -62,9 +65,9 @@ step-change-requires c κs =
     let at-is-decided = c .before .before .before .before .before in
     let o = outcome-is at-outcome-is ∙ enum-told3 .given .1 in
     let changes =
-    task-changes greatestNodes (s .args .card .now) (s .args .state .now) (s .pre .0) (s .args .task) (s .pre .3) (next-change-call .result)
+    task-changes greatestNodes (s .args .line) (s .args .card .now) (s .args .state .now) (s .pre .0) (s .args .task) (s .pre .3) (next-change-call .result)
     (is-decided at-is-decided) (s .pre .1) (s .pre .4) o in
-    (s .pre .0, s .pre .1, changes, size-of-call .ensures)
+    (s .pre .0, s .pre .1, fits-seen (s .args .line) (s .args .card .now) (seen-long (s .args .line) (s .args .card .now) (s .pre .1)) _ (changes .fits), o, size-of-call .ensures)
 
 same-length : tie.Need-same-length
 same-length c = search needs
@@ -74,7 +77,7 @@ returns c =
     let s = c .before .before .before .before .before .before .before .before .before in
     let next-change-call = c .before .before .before .next-change in
     let at-is-decided = c .before .before .before in
-    task-refused greatestNodes (s .args .card .now) (s .args .state .now) (s .pre .0) (s .args .task) (s .pre .3) (next-change-call .result)
+    task-refused greatestNodes (s .args .line) (s .args .card .now) (s .args .state .now) (s .pre .0) (s .args .task) (s .pre .3) (next-change-call .result)
     (is-decided at-is-decided) (outcome-is (c .before .before) ∙ c .enum-told .given .1)
 
 same-length-2 : tie.Need-same-length-2
@@ -91,7 +94,7 @@ returns-2 c =
     let finish = c .before .before .finish in
     let at-is-decided = c .before .before .before .before .before .before .before in
     let at-outcome-is = c .before .before .before .before .before .before in
-    task-ended greatestNodes (s .args .card .now) (s .args .state .now) (s .pre .0) (s .args .task) (s .pre .3) (next-change-call .result)
+    task-ended greatestNodes (s .args .line) (s .args .card .now) (s .args .state .now) (s .pre .0) (s .args .task) (s .pre .3) (next-change-call .result)
     (is-decided at-is-decided) (outcome-is at-outcome-is ∙ enum-told2 .given .1)
     (finish .ensures)
 
@@ -102,16 +105,22 @@ same-length-5 : tie.Need-same-length-5
 same-length-5 c = search needs
 
 returns-3 : tie.Need-returns-3
+unfolding memoryIn
 returns-3 c =
     let s = c .before .before .before .before .before .before .before .before .before .before .before .before .before .before .before .before in
     let card = s .args .card .now in
     let b = s .args .state .now in
+    let line = s .args .line in
     let next-change-call = c .before .before .before .before .before .before .before .before .before .before .next-change in
     let step-change = c .before .before .before .before .step-change in
+    let enum-told3 = c .before .before .before .before .before .before .before .enum-told3 in
+    let at-outcome-is = c .before .before .before .before .before .before .before .before .before in
     let at-is-decided = c .before .before .before .before .before .before .before .before .before .before in
-    subst (StepMade card b _ _ _)
-    (sym (task-prepares greatestNodes card b (s .pre .0) (s .args .task) (s .pre .3) (next-change-call .result) (is-decided at-is-decided)))
-    (step-change .ensures (next-change-call .result .answer))
+    let o = outcome-is at-outcome-is ∙ enum-told3 .given .1 in
+    let changes = task-changes greatestNodes line card b (s .pre .0) (s .args .task) (s .pre .3) (next-change-call .result) (is-decided at-is-decided) (s .pre .1) (s .pre .4) o in
+    subst (MadeOn line card b _ _ _)
+    (sym (task-prepares greatestNodes line card b (s .pre .0) (s .args .task) (s .pre .3) (next-change-call .result) (is-decided at-is-decided)))
+    (step-change .ensures line changes (next-change-call .result .answer))
 
 pub step-task-spec : {M : Type 1} → statement M
 step-task-spec =

@@ -1,9 +1,13 @@
 -- `call_step::playing::store_next` meets its contract.
-use mathlib.Core.Path.{sym, _∙_}
+use mathlib.Core.Path.{_≡_, sym, ap, _∙_}
 use Prim.Native.Nat.{_+_, _<_}
 use lib.ListN.{drop}
 use native.Mathlib.Omega.{arith}
-use Rattle.call_step.proofs.ContractLaws.{next-below, store-refused, store-made}
+use Rattle.call_step.proofs.ContractLaws.{next-below}
+use Rattle.call_step.proofs.LineSteps.{next-refused, next-made}
+use Rattle.card.specs.Lines.{onLine}
+use Rattle.state.specs.Block.{placesAt, blockWord}
+use Rattle.state.specs.declared.Answer.the-variants.{Stored}
 use Rattle.call_step.proofs.PlayLaws.{planned, played-on, ended}
 use borrow.Author.Needs.{needs}
 use Rattle.call_step.proofs.playing.store_next.Statement.{statement}
@@ -20,30 +24,39 @@ slice-read-wide c = search needs
 wide-requires : tie.Need-wide-requires
 wide-requires c κs = search needs
 
-add-place : tie.Need-add-place
-add-place c = let s = c .before .before .before .before in omega (arith, below (c))
+add-planned : tie.Need-add-planned
+add-planned c = omega (arith, below c)
 
-mul-place : tie.Need-mul-place
-mul-place c = let s = c .before .before .before .before in omega (arith, below (c))
+mul-planned : tie.Need-mul-planned
+mul-planned c = omega (arith, below c)
 
-slice-read-place : tie.Need-slice-read-place
-slice-read-place c = let s = c .before .before .before .before .before in omega (arith, below (c .before), s .pre .0)
+slice-read-planned : tie.Need-slice-read-planned
+slice-read-planned c = let s = c .before .before .before .before .before in omega (arith, below (c .before), s .pre .0)
+
+on-line-requires : tie.Need-on-line-requires
+on-line-requires c κs = search needs
 
 wide-requires-2 : tie.Need-wide-requires-2
 wide-requires-2 c κs = search needs
 
+-- the place that it is asked for
+at-is : (c : tie.After-wide2) →
+    let s = c .before .before .before .before .before .before .before in
+    c .wide2 .result ≡ onLine (s .args .line) (blockWord (s .args .state .now) (placesAt + c .before .before .before .wide .result))
+at-is c = c .wide2 .ensures ∙ c .before .on-line .ensures
+
 returns : tie.Need-returns
 returns c =
-    let s = c .before .before .before .before .before .before .before in
-    let wide-call = c .before .before .before .wide in
-    store-refused (s .args .card .now) (s .args .state .now) (s .pre .0) (s .pre .1) (wide-call .result) (wide-call .ensures)
-    (omega (arith, c .before .wide2 .ensures, c .if1 .taken))
+    let s = c .before .before .before .before .before .before .before .before in
+    let wide-call = c .before .before .before .before .wide in
+    next-refused (s .args .line) (s .args .card .now) (s .args .state .now) (s .pre .4) (s .pre .3) (s .pre .0) (s .pre .1) (wide-call .result) (wide-call .ensures)
+    (omega (arith, at-is (c .before), c .if1 .taken))
 
 store-word-requires : tie.Need-store-word-requires
 store-word-requires c κs =
-    let s = c .before .before .before .before .before .before .before .before .before in
+    let s = c .before .before .before .before .before .before .before .before .before .before in
     let if1 = c .before .before .if1 in
-    let at-below = c .before .before .before .before .before in
+    let at-below = c .before .before .before .before .before .before in
     (s .pre .0, below at-below, if1 .left)
 
 end-change-requires : tie.Need-end-change-requires
@@ -57,15 +70,15 @@ same-length-2 c = search needs
 
 returns-2 : tie.Need-returns-2
 returns-2 c =
-    let s = c .before .before .before .before .before .before .before .before .before .before .before .before .before .before .before in
+    let s = c .before .before .before .before .before .before .before .before .before .before .before .before .before .before .before .before in
     let b = s .args .state .now in
-    let wide-call = c .before .before .before .before .before .before .before .before .before .before .before .wide in
-    let wide2 = c .before .before .before .before .before .before .before .before .before .wide2 in
+    let wide-call = c .before .before .before .before .before .before .before .before .before .before .before .before .wide in
+    let at-wide2 = c .before .before .before .before .before .before .before .before .before in
     let if1 = c .before .before .before .before .before .before .before .before .if1 in
     let store = c .before .before .before .before .before .store-word in
     let k = wide-call .result + 1 in
-    store-made (s .args .card .now) b (s .pre .0) (s .pre .1) (wide-call .result) (wide-call .ensures) (wide2 .result)
-    (s .pre .2) (wide2 .ensures)
+    next-made (s .args .line) (s .args .card .now) b (s .pre .4) (s .pre .3) (s .pre .0) (s .pre .1) (wide-call .result) (wide-call .ensures) (at-wide2 .wide2 .result)
+    (ap Stored (at-wide2 .before .on-line .ensures)) (s .pre .2) (at-is at-wide2)
     (if1 .left) (store .ensures .1 .0)
     (store .ensures .1 .1 ∙ played-on b (s .pre .0) k (drop k (planned b)) (sym (store .ensures .0) ∙ c .if2 .taken))
 
@@ -77,15 +90,15 @@ same-length-4 c = search needs
 
 returns-3 : tie.Need-returns-3
 returns-3 c =
-    let s = c .before .before .before .before .before .before .before .before .before .before .before .before .before .before .before .before .before .before .before in
+    let s = c .before .before .before .before .before .before .before .before .before .before .before .before .before .before .before .before .before .before .before .before in
     let b = s .args .state .now in
-    let wide-call = c .before .before .before .before .before .before .before .before .before .before .before .before .before .before .before .wide in
-    let wide2 = c .before .before .before .before .before .before .before .before .before .before .before .before .before .wide2 in
+    let wide-call = c .before .before .before .before .before .before .before .before .before .before .before .before .before .before .before .before .wide in
+    let at-wide2 = c .before .before .before .before .before .before .before .before .before .before .before .before .before in
     let if1 = c .before .before .before .before .before .before .before .before .before .before .before .before .if1 in
     let store = c .before .before .before .before .before .before .before .before .before .store-word in
     let k = wide-call .result + 1 in
-    store-made (s .args .card .now) b (s .pre .0) (s .pre .1) (wide-call .result) (wide-call .ensures) (wide2 .result)
-    (s .pre .2) (wide2 .ensures)
+    next-made (s .args .line) (s .args .card .now) b (s .pre .4) (s .pre .3) (s .pre .0) (s .pre .1) (wide-call .result) (wide-call .ensures) (at-wide2 .wide2 .result)
+    (ap Stored (at-wide2 .before .on-line .ensures)) (s .pre .2) (at-is at-wide2)
     (if1 .left) (store .ensures .1 .0)
     (ended b (s .pre .0) k (drop k (planned b)) (sym (store .ensures .0) ∙ c .before .before .before .before .if2 .left) (store .ensures .1 .1) (c .before .before .end-change .ensures))
 
@@ -95,9 +108,10 @@ store-next-spec =
     (tie.spec
     slice-read-wide
     wide-requires
-    add-place
-    mul-place
-    slice-read-place
+    add-planned
+    mul-planned
+    slice-read-planned
+    on-line-requires
     wide-requires-2
     returns
     store-word-requires
