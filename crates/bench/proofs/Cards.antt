@@ -4,7 +4,7 @@ use Rattle.card.specs.Layout.{greatestNodes}
 use mathlib.Core.List.{List, [], _∷_, _++_}
 use Prim.Native.Nat.{ℕ}
 use lib.ListN.{getD, replicate}
-use Rattle.card.specs.Lines.{hasLine, seen}
+use Rattle.card.specs.Lines.{hasLine, seen, onLine}
 use Rattle.card.specs.Header.{nodesOfLength, headerRefusal, cardRefusal}
 use Rattle.card.specs.Layout.{formattedRoot, runBelow, nodeAt, keyWords, valueWords, children, routingKeys, leafPairs, nodeImage}
 use Rattle.change_plan.specs.Change.{changeStores, kindAbove, splitLeaf, joinedKeys, joinedChildren, absorb, splitParent, leavesTogether}
@@ -28,7 +28,7 @@ use Rattle.state.specs.Answers.{stepReply, startReply}
 use Rattle.call_find.specs.Find.{foundIn, foundAt, findOf, findIn}
 use Rattle.call_open.specs.Opening.{openSound, openChecked, openOf}
 use Rattle.call_start.specs.Starts.{formatOf, startRefused, startAccepted, startLanded, startChecked, startOf, insertOf, deleteOf}
-use Rattle.call_step.specs.Calls.{planning, stepPrepared, stepBegin, stepHeld, stepOf, stepTask, stepChecked}
+use Rattle.call_step.specs.Calls.{planning, stepPrepared, stepBegin, stepHeld, stepOf, stepTask, placedOn, onCard, stepChecked}
 use Rattle.state.specs.Steps.{noBeginning, stepRefused, stepFinal, formattedWord, formatStore, formattingFrom, stepFormat, stepStore, isIdle, heldBy}
 use Rattle.state.specs.Memory.{noMemory, resting, idled, settledPhase, settled, settledIn, settledOut, settledTotals, advanced}
 use Rattle.card_family.specs.Families.{familyOf, severalIn}
@@ -123,7 +123,7 @@ unfolding fresh drive onAnswer insertWhole deleteWhole upto steps cardL cardB ca
     childPosition childFor childIndex passed routingKeys runBelow deleteOf deleteChange isNode share merge mergeRoot leavesTogether
     innersTogether half leftKeys keyBetween absorb splitParent joinedKeys joinedChildren findOf findIn hasLine seen cardRefusal foundAt leafOf reachedAt depthOf
     foundIn noBeginning noMemory openOf openChecked openSound tableCheck treeCheck nodeCheck onLook enterNode enterKind enterLeaf enterInner
-    innerSound noted lookOf leafSound member unusedZero childrenCheck raised halves copied rangeEnd slotSound heldBy stepChecked stepTask placedOn onCard seen onLine hasLine
+    innerSound noted lookOf leafSound member unusedZero childrenCheck raised halves copied rangeEnd slotSound heldBy stepChecked stepTask placedOn onCard onLine
     inLeaf noWay layOut decidedRepair decideAt decideTagged decideUnderfull decideSiblings decideTogether togetherAt
 computing = tt
 

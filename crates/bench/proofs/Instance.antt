@@ -11,7 +11,7 @@ use mathlib.Core.Option.{Option·elim}
 use lib.ListN.{replicate}
 use Rattle.laws.specs.Cases.{pick}
 use Rattle.laws.proofs.Cases.{bool-cases}
-use Rattle.card.specs.Lines.{hasLine, seen}
+use Rattle.card.specs.Lines.{hasLine, seen, onLine}
 use Rattle.card.specs.Header.{nodesOfLength, headerRefusal, cardRefusal}
 use Rattle.card.specs.Layout.{formattedRoot, runBelow, nodeAt, keyWords, valueWords, children, routingKeys, leafPairs, nodeImage}
 use Rattle.change_plan.specs.Change.{changeStores, kindAbove, splitLeaf, joinedKeys, joinedChildren, absorb, splitParent, leavesTogether}
@@ -36,7 +36,7 @@ use Rattle.state.specs.Answers.{stepReply, startReply}
 use Rattle.call_find.specs.Find.{foundIn, foundAt, findOf, findIn}
 use Rattle.call_open.specs.Opening.{openSound, openChecked, openOf}
 use Rattle.call_start.specs.Starts.{formatOf, startRefused, startAccepted, startLanded, startChecked, startOf, insertOf, deleteOf}
-use Rattle.call_step.specs.Calls.{stepOf, planning, stepPrepared, stepBegin, stepHeld, stepTask, stepChecked}
+use Rattle.call_step.specs.Calls.{stepOf, planning, stepPrepared, stepBegin, stepHeld, stepTask, placedOn, onCard, stepChecked}
 use Rattle.state.specs.Steps.{noBeginning, stepRefused, stepFinal, formattedWord, formatStore, formattingFrom, stepFormat, stepStore, isIdle, heldBy}
 use Rattle.state.specs.declared.Doing.the-variants.{Idle}
 use Rattle.state.specs.declared.Answer.{Answer}
@@ -133,7 +133,7 @@ unfolding readyIn isStored isReady after kept feed told outcome replyTo fedStart
     childPosition childFor childIndex passed routingKeys runBelow deleteOf deleteChange isNode share merge mergeRoot leavesTogether
     innersTogether half leftKeys keyBetween absorb splitParent joinedKeys joinedChildren findOf findIn hasLine seen cardRefusal foundAt leafOf reachedAt depthOf foundIn
     noBeginning noMemory openOf openChecked openSound tableCheck treeCheck nodeCheck onLook enterNode enterKind enterLeaf enterInner innerSound noted
-    lookOf leafSound member unusedZero childrenCheck raised halves copied rangeEnd slotSound heldBy stepChecked stepTask placedOn onCard seen onLine hasLine inLeaf noWay layOut
+    lookOf leafSound member unusedZero childrenCheck raised halves copied rangeEnd slotSound heldBy stepChecked stepTask placedOn onCard onLine inLeaf noWay layOut
     decidedRepair decideAt decideTagged decideUnderfull decideSiblings decideTogether togetherAt
 computed = (refl, refl, refl, refl)
 

@@ -9,6 +9,8 @@ use Prim.Native.Nat.{ℕ, suc, _+_, _≤_, _<_}
 use native.Mathlib.Omega.{arith}
 use lib.Dec.{ltb}
 use borrow.Author.Tests.{lt-ltb, le-ltb}
+use Rattle.card.specs.Lines.{seen}
+use Rattle.call_start.proofs.StartLaws.{room-seen}
 use Rattle.theory_change.proofs.Line.{Partition, only, size, count-only}
 use Rattle.card.specs.Layout.{lowestKey, keyLimit, nodeAt}
 use Rattle.walk.specs.Descent.{slotOf, firstEqual}
@@ -207,11 +209,12 @@ module _ (greatest : ℕ) (n steps : ℕ) (w : World (rationTable greatest)) (b 
   pub start-decided : (u : Update) → lowestKey ≤ keyOf u → keyOf u < keyLimit → (r : Bool) → refuses n u t ≡ r → starts greatest u w ≡ pick r (BegunRefused 8) Started
   unfolding refuses insertOf deleteOf startAccepted startRefused
   start-decided (put key value) low high r e =
-      let d = room-decides greatest (only n) steps w b i key (Inserting key value NotBegun) (startRoom (w .card) key (roomOf (w .state))) idle low high in
-      let q : startRoom (w .card) key (roomOf (w .state)) (landing (w .card) (w .state .nodes) key) ≡ not r = room-by-tree key value low high ∙ ap not e in
-      ap (λ (x : Handed). x .begun) (d ∙ ap (λ (x : Bool). pick x (startAccepted (w .state) (Inserting key value NotBegun) (startDepth (w .card) (w .state) key)) (startRefused 8 (w .state))) q) ∙ at r
+      let d = room-decides greatest (only n) steps w b i key (Inserting key value NotBegun) (startRoom (seen 1 (w .card)) key (roomOf (w .state))) idle low high in
+      let q : startRoom (seen 1 (w .card)) key (roomOf (w .state)) (landing (w .card) (w .state .nodes) key) ≡ not r =
+      room-seen 1 (w .card) key (roomOf (w .state)) (landing (w .card) (w .state .nodes) key) ∙ room-by-tree key value low high ∙ ap not e in
+      ap (λ (x : Handed). x .begun) (d ∙ ap (λ (x : Bool). pick x (startAccepted (w .state) (Inserting key value NotBegun) (startDepth 1 (w .card) (w .state) key)) (startRefused 8 (w .state))) q) ∙ at r
     where
-      at : (r : Bool) → pick (not r) (startAccepted (w .state) (Inserting key value NotBegun) (startDepth (w .card) (w .state) key))
+      at : (r : Bool) → pick (not r) (startAccepted (w .state) (Inserting key value NotBegun) (startDepth 1 (w .card) (w .state) key))
           (startRefused 8 (w .state)) .begun ≡ pick r (BegunRefused 8) Started
       at true = refl
       at false = refl
