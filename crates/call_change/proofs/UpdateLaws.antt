@@ -18,7 +18,7 @@ use Rattle.laws.proofs.Cases.{impossible}
 use Rattle.call_change.specs.Updates.{landing, emptyReason}
 use Rattle.walk.specs.declared.Slot.{Slot}
 use Rattle.walk.specs.declared.Slot.the-variants.{At, Absent as NoSlot}
-use Rattle.walk.specs.declared.Landing.the-variants.{Refused as NoLanding, Leaf as LandingAt}
+use Rattle.walk.specs.declared.Landing.the-variants.{Leaf as LandingAt}
 use Rattle.walk.specs.declared.Position.{Position}
 use Rattle.walk.specs.declared.Look.the-variants.{Inner as IsInner}
 use Rattle.state.specs.declared.Doing.{Doing}

@@ -103,14 +103,7 @@ fn has_room(card: &[u32], state: &[u32], line: u32, m: usize, key: u32) -> bool
 }
 
 // The same of an update that may split its leaf, or of one that never does and so needs no room.
-fn has_room_where(
-    splits: bool,
-    card: &[u32],
-    state: &[u32],
-    line: u32,
-    m: usize,
-    key: u32,
-) -> bool
+fn has_room_where(splits: bool, card: &[u32], state: &[u32], line: u32, m: usize, key: u32) -> bool
     requires { ⌜ (length (now state) ≡ stateWords) × Sized greatestNodes (length (now card)) (memoryIn (now state) .nodes)
         × (1 ≤ m) × (m ≤ memoryIn (now state) .nodes) × IsLine line ⌝ }
     ensures { λ r. ⌜ r ≡ pick splits (roomFor (roomOf (memoryIn (now (state .entry))))
@@ -164,14 +157,7 @@ fn way_due(card: &[u32], state: &[u32], line: u32, key: u32, splits: bool) -> Du
 }
 
 // The early refusals, by the words of a block, and then those of the way.
-fn block_due(
-    card: &[u32],
-    state: &[u32],
-    line: u32,
-    key: u32,
-    splits: bool,
-    greatest: usize,
-) -> Due
+fn block_due(card: &[u32], state: &[u32], line: u32, key: u32, splits: bool, greatest: usize) -> Due
     requires { ⌜ length (now state) ≡ stateWords ⌝ }
     ensures { λ r. ⌜ r .refusal
         ≡ dueRefusal greatest line (now (card .entry)) (memoryIn (now (state .entry))) key
@@ -278,13 +264,7 @@ pub fn start_insert(
 }
 
 // "Refusing a delete on a full card" would spoil a bin: a delete needs no free nodes to start.
-pub fn start_delete(
-    card: &[u32],
-    state: &mut [u32],
-    line: u32,
-    key: u32,
-    greatest: usize,
-) -> Begun
+pub fn start_delete(card: &[u32], state: &mut [u32], line: u32, key: u32, greatest: usize) -> Begun
     ensures { λ r. ⌜ StartCall (now (state .entry)) (now (state .exit)) r (Deleting key NotBegun 0)
         (deleteOf greatest line (now (card .entry)) (memoryIn (now (state .entry))) key) ⌝ }
 {

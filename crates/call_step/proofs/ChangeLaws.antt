@@ -42,7 +42,7 @@ use Rattle.state.proofs.StepLaws.{store-outside, store-inside}
 use Rattle.state.proofs.Tasks.{task-of}
 use Rattle.call_step.specs.Calls.{planning, stepPrepared, stepBegin, stepTask}
 use Rattle.call_step.specs.StepBlocks.{idledBlock, playedBlock, plannedBlock, plannedOver, firstStored, storedBlock, stepBlock}
-use Rattle.call_step.specs.Contracts.{StepMade, MadeOn, Changes}
+use Rattle.call_step.specs.Contracts.{MadeOn, Changes}
 use Rattle.call_step.proofs.PlayLaws.{planned, plan-next, part-word}
 use Rattle.call_step.proofs.PlanLaws.{zip-first}
 use Rattle.call_step.proofs.StepBlockLaws.{Plannable, planned-length, planned-stores}

@@ -1,6 +1,6 @@
 -- A step of a line's own table, on the card: where its store stands; and on a card with one line it is the card's own step.
 use mathlib.Core.Path.{_≡_, refl, sym, ap, ap₂, subst, _∙_}
-use mathlib.Core.Bool.{Bool, true, false}
+use mathlib.Core.Bool.{true}
 use mathlib.Core.List.{List, [], _∷_}
 use mathlib.Core.Logic.{by-cases}
 use Prim.Native.Nat.{ℕ, _+_, _≤_, _<_}
@@ -13,7 +13,7 @@ use borrow.Author.Tests.{ltb-true}
 use Rattle.laws.proofs.Cases.{bool-cases}
 use Rattle.card.specs.Header.{headerRefusal}
 use Rattle.card.specs.Layout.{rootPlace}
-use Rattle.card.specs.Lines.{IsLine, rootOf, seen, onLine}
+use Rattle.card.specs.Lines.{IsLine, seen, onLine}
 use Rattle.card.specs.Stores.{Store}
 use Rattle.card.proofs.HeaderLaws.{header-formatted}
 use Rattle.card.proofs.LineLaws.{seen-length, seen-only, on-root, on-node, on-first}
@@ -121,7 +121,8 @@ module _ (line : ℕ) (card b : List ℕ) (is : IsLine line) (big : 8 ≤ length
       let place = blockWord b (placesAt + k) in
       made-still line card b (store-refused (seen line card) b long more k e (omega (arith, on-outside line (length card) place is big h, seen-length line card big))) tt
 
-  pub next-made : {card-after after : List ℕ} {answer : Answer} (at : ℕ) → answer ≡ Stored (onLine line (blockWord b (placesAt + k))) → HoldsTask (memoryIn b .doing) → at ≡ onLine line (blockWord b (placesAt + k)) → at < length card
+  pub next-made : {card-after after : List ℕ} {answer : Answer} (at : ℕ) → answer ≡ Stored (onLine line (blockWord b (placesAt + k)))
+      → HoldsTask (memoryIn b .doing) → at ≡ onLine line (blockWord b (placesAt + k)) → at < length card
       → card-after ≡ set card at (getD (part b valuesAt 73) k 0) → after ≡ playedBlock b (k + 1) (drop (k + 1) (planned b))
       → MadeOn line card b card-after after answer nextDue
   next-made at told holds f h s w =

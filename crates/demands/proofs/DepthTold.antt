@@ -210,7 +210,8 @@ module _ (greatest : ℕ) (w : World (rationTable greatest)) (b : Book) (v : Cov
   now-passed : (t : Tree) → WellFormed (w .card) t → (key : ℕ) → startDepth 1 (w .card) (w .state) key ≡ passedIn key t
   now-passed t k key =
       ap₂ (λ (c : List ℕ) (n : ℕ). depthOf (leafOf (way c n key)))
-      (seen-only (w .card) (v .size) (omega (arith, v .inv .table .sized .words)) (v .inv .table .header)) (nodes-same greatest (only (v .size)) (v .steps) w b (v .inv)) ∙ passes greatest (w .card) (v .size) t (standing greatest w b v t k) key
+      (seen-only (w .card) (v .size) (omega (arith, v .inv .table .sized .words)) (v .inv .table .header)) (nodes-same greatest
+      (only (v .size)) (v .steps) w b (v .inv)) ∙ passes greatest (w .card) (v .size) t (standing greatest w b v t k) key
 
   -- after a start that works, whatever calls come before the final answer
   begun-tells : (key : ℕ) (doing : Doing) (room : Landing → Bool) (t : Tree) → WellFormed (w .card) t
@@ -268,7 +269,8 @@ w-203 greatest =
       finds = always greatest (λ w b. (t : Tree) → WellFormed (w .card) t → (key : ℕ) → 0 < key → key < keyLimit → findDepth greatest 1 (w .card) key ≡ passedIn key t) (find-tells greatest);
       nexts = always greatest (λ w b. (t : Tree) → WellFormed (w .card) t → (number : ℕ) → number < keyLimit → nextDepth greatest 1 (w .card) number ≡ passedIn number t) (next-tells greatest);
       inserts = always greatest (λ w b. (key value : ℕ) → key < keyLimit → TellsStart (rationTable greatest) (stepDepth greatest) (insert key value) key w)
-          (λ w b v key value high t k e qs left held r. begun-tells greatest w b v key (Inserting key value NotBegun) (startRoom (seen 1 (w .card)) key (roomOf (w .state))) t k e _ refl qs left held r);
+          (λ w b v key value high t k e qs left held r. begun-tells greatest w b v key (Inserting key value NotBegun)
+          (startRoom (seen 1 (w .card)) key (roomOf (w .state))) t k e _ refl qs left held r);
       deletes = always greatest (λ w b. (key : ℕ) → key < keyLimit → TellsStart (rationTable greatest) (stepDepth greatest) (delete key) key w)
           (λ w b v key high t k e qs left held r. begun-tells greatest w b v key (Deleting key NotBegun 0) (λ l. true) t k e _ refl qs left held r);
       find-refused = find-refused greatest;

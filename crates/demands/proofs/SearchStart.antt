@@ -171,7 +171,9 @@ module _ (greatest : ℕ) (c : List ℕ) (m : Memory) where
   unfolding stepHeld stepRefused
   held-holds Nothing s = checked-holds _ (λ e. refl)
   held-holds (Formatting made) s = format-holds made _
-  held-holds (HeldTask task) s = checked-holds _ (subst Keeps (sym (on-memory 1 c (stepTask (seen 1 c) m task (m .rest)))) (task-holds greatest (seen 1 c) m task (m .rest) (sized-on greatest (seen 1 c) (m .nodes) (seen-sized 1 c s))))
+  held-holds (HeldTask task) s =
+      checked-holds _ (subst Keeps (sym (on-memory 1 c (stepTask (seen 1 c) m task (m .rest))))
+      (task-holds greatest (seen 1 c) m task (m .rest) (sized-on greatest (seen 1 c) (m .nodes) (seen-sized 1 c s))))
 
   step-holds : Keeps (stepOf greatest 1 c m .memory)
   unfolding stepRefused

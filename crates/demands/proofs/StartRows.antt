@@ -198,5 +198,15 @@ inserts greatest c m key value =
         → (NoRoom c (m .free) key × (startRoom c key (roomOf m) (LandingAt leaf link j) ≡ false)) ⊎ ((NoRoom c (m .free) key → ⊥) × (startRoom c key (roomOf m) (LandingAt leaf link j) ≡ true))
         → (NoRoom c (m .free) key × HandsBack (rationTable greatest) m (handed (insertOf greatest 1 c m key value)) 8)
         ⊎ ((NoRoom c (m .free) key → ⊥) × Starts (rationTable greatest) m (handed (insertOf greatest 1 c m key value)) (inserting key value false))
-    at leaf link j e (inl (r, q)) = inl (r, rw (e, room-seen 1 c key (roomOf m) (LandingAt leaf link j), q) (refused-back greatest c m key (Inserting key value NotBegun) (startRoom (seen 1 c) key (roomOf m)) 8))
-    at leaf link j e (inr (r, q)) = inr (r, rw (e, room-seen 1 c key (roomOf m) (LandingAt leaf link j), q) (start-begun greatest c m key (Inserting key value NotBegun) (startRoom (seen 1 c) key (roomOf m))))
+    at leaf link j e (inl (r, q)) =
+        inl (
+          r,
+          rw (e, room-seen 1 c key (roomOf m) (LandingAt leaf link j), q)
+              (refused-back greatest c m key (Inserting key value NotBegun) (startRoom (seen 1 c) key (roomOf m)) 8),
+        )
+    at leaf link j e (inr (r, q)) =
+        inr (
+          r,
+          rw (e, room-seen 1 c key (roomOf m) (LandingAt leaf link j), q)
+              (start-begun greatest c m key (Inserting key value NotBegun) (startRoom (seen 1 c) key (roomOf m))),
+        )

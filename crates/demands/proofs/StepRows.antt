@@ -128,7 +128,8 @@ module _ (greatest : ℕ) (c : List ℕ) (m : Memory) where
   formatting-rows q = go (sized? greatest (length c) (m .nodes)) (work-formatting (m .doing) q)
     where
       go : Dec (Sized greatest (length c) (m .nodes)) → ((made : ℕ) × (m .doing ≡ Formatting made))
-          → (NoCard greatest c (m .nodes) × Refuses (rationTable greatest) c m (asStepped (stepOf greatest 1 c m)) 1) ⊎ ((NoCard greatest c (m .nodes) → ⊥) × Works greatest c m (stepOf greatest 1 c m))
+          → (NoCard greatest c (m .nodes) × Refuses (rationTable greatest) c m (asStepped (stepOf greatest 1 c m)) 1)
+          ⊎ ((NoCard greatest c (m .nodes) → ⊥) × Works greatest c m (stepOf greatest 1 c m))
       go (no p) d = inl (p, rw (step-unsized greatest 1 c m p) (refused-same greatest 1 c m))
       go (yes s) (made, e) = inr (λ p. p s, rw (step-sized greatest 1 c m s ∙ ap (λ (d : Doing). stepHeld 1 c m (heldBy d)) e) (format-cases greatest c m made q (omega (arith, s .words))))
 

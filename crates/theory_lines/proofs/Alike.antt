@@ -212,7 +212,8 @@ module _ (greatest : ℕ) (n steps : ℕ) (w : World (rationTable greatest)) (b 
       let d = room-decides greatest (only n) steps w b i key (Inserting key value NotBegun) (startRoom (seen 1 (w .card)) key (roomOf (w .state))) idle low high in
       let q : startRoom (seen 1 (w .card)) key (roomOf (w .state)) (landing (w .card) (w .state .nodes) key) ≡ not r =
       room-seen 1 (w .card) key (roomOf (w .state)) (landing (w .card) (w .state .nodes) key) ∙ room-by-tree key value low high ∙ ap not e in
-      ap (λ (x : Handed). x .begun) (d ∙ ap (λ (x : Bool). pick x (startAccepted (w .state) (Inserting key value NotBegun) (startDepth 1 (w .card) (w .state) key)) (startRefused 8 (w .state))) q) ∙ at r
+      ap (λ (x : Handed). x .begun) (d ∙ ap (λ (x : Bool). pick x
+      (startAccepted (w .state) (Inserting key value NotBegun) (startDepth 1 (w .card) (w .state) key)) (startRefused 8 (w .state))) q) ∙ at r
     where
       at : (r : Bool) → pick (not r) (startAccepted (w .state) (Inserting key value NotBegun) (startDepth 1 (w .card) (w .state) key))
           (startRefused 8 (w .state)) .begun ≡ pick r (BegunRefused 8) Started

@@ -26,10 +26,16 @@ next-repair-requires : tie.Need-next-repair-requires
 next-repair-requires c κs = let s = c .before .before .before .before in (s .pre .0 .words, s .pre .0 .most, s .pre .1)
 
 returns : tie.Need-returns
-returns c = let s = c .before .before .before .before .before in c .put-in .ensures ∙ sym (ap (decided (seen (s .args .line) (s .args .card .now)) (s .args .n) (s .args .doing)) (c .before .before .task .given .1))
+returns c =
+    let s = c .before .before .before .before .before in
+    c .put-in .ensures
+    ∙ sym (ap (decided (seen (s .args .line) (s .args .card .now)) (s .args .n) (s .args .doing)) (c .before .before .task .given .1))
 
 returns-2 : tie.Need-returns-2
-returns-2 c = let s = c .before .before .before .before .before in c .take-out .ensures ∙ sym (ap (decided (seen (s .args .line) (s .args .card .now)) (s .args .n) (s .args .doing)) (c .before .before .task2 .given .1))
+returns-2 c =
+    let s = c .before .before .before .before .before in
+    c .take-out .ensures
+    ∙ sym (ap (decided (seen (s .args .line) (s .args .card .now)) (s .args .n) (s .args .doing)) (c .before .before .task2 .given .1))
 
 returns-3 : tie.Need-returns-3
 unfolding decided

@@ -26,7 +26,8 @@ insert-in-requires : tie.Need-insert-in-requires
 insert-in-requires c κs =
     let s = c .before .before .before .before .before .before in
     ap length (c .node-at .ensures)
-    ∙ leaf-words greatestNodes (s .args .line) (s .args .card .now) (s .args .n) (s .args .key) _ (c .before .before .before .before .arrive .ensures) _ _ (c .before .before .node .given .1) (s .pre .0)
+    ∙ leaf-words greatestNodes (s .args .line) (s .args .card .now) (s .args .n) (s .args .key) _
+    (c .before .before .before .before .arrive .ensures) _ _ (c .before .before .node .given .1) (s .pre .0)
 
 returns : tie.Need-returns
 unfolding decided

@@ -26,13 +26,15 @@ delete-in-requires : tie.Need-delete-in-requires
 delete-in-requires c κs =
     let s = c .before .before .before .before .before .before in
     ap length (c .node-at .ensures)
-    ∙ leaf-words greatestNodes (s .args .line) (s .args .card .now) (s .args .n) (s .args .key) _ (c .before .before .before .before .arrive .ensures) _ _ (c .before .before .node .given .1) (s .pre .0)
+    ∙ leaf-words greatestNodes (s .args .line) (s .args .card .now) (s .args .n) (s .args .key) _
+    (c .before .before .before .before .arrive .ensures) _ _ (c .before .before .node .given .1) (s .pre .0)
 
 returns : tie.Need-returns
 unfolding decided
 returns c =
     let s = c .before .before .before .before in
-    decided-nowhere greatestNodes (s .args .line) (s .args .card .now) (s .args .n) (s .args .key) _ (c .before .before .arrive .ensures) (s .args .doing) (deleteAt (s .args .key)) (c .enum-told .given .1)
+    decided-nowhere greatestNodes (s .args .line) (s .args .card .now) (s .args .n) (s .args .key) _
+    (c .before .before .arrive .ensures) (s .args .doing) (deleteAt (s .args .key)) (c .enum-told .given .1)
 
 returns-2 : tie.Need-returns-2
 unfolding decided

@@ -1,9 +1,7 @@
 -- `call_start::block_due` meets its contract.
-use mathlib.Core.Path.{_≡_, ap₂, sym, subst, _∙_}
+use mathlib.Core.Path.{_≡_, ap₂, sym, _∙_}
 use mathlib.Core.Bool.{Bool}
 use Prim.Native.Nat.{ℕ}
-use lib.ListN.{length}
-use Rattle.card.specs.Header.{Sized}
 use Rattle.card.specs.Lines.{seen}
 use Rattle.card.proofs.HeaderLaws.{sized-any}
 use Rattle.state.specs.Block.{memoryIn}

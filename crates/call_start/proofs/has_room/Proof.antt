@@ -1,12 +1,11 @@
 -- `call_start::has_room` meets its contract.
 use mathlib.Core.Path.{_≡_, ap, ap₂, sym, _∙_}
 use mathlib.Core.List.{List}
-use Prim.Native.Nat.{ℕ, _-_, _<_}
+use Prim.Native.Nat.{ℕ, _-_}
 use native.Mathlib.Omega.{arith}
 use lib.Dec.{leb}
-use lib.ListN.{length, getD}
+use lib.ListN.{length}
 use Rattle.card.specs.Layout.{depthLimit, nodeAt}
-use Rattle.card.specs.Lines.{rootOf}
 use Rattle.card.proofs.NodeLaws.{length-node}
 use Rattle.walk.specs.Descent.{slotOf, rootPosition, wayFrom, runOver}
 use Rattle.call_change.specs.Updates.{splitNeed}

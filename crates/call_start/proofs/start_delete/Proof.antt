@@ -24,7 +24,10 @@ block-due-requires : tie.Need-block-due-requires
 block-due-requires c κs = search needs
 
 begin-requires : tie.Need-begin-requires
-begin-requires c κs = (c .before .before .before .if1 .left, rw (c .before .block-due .ensures .1) (depth-bound _ _ _ (memoryIn (c .before .before .before .before .before .before .args .state .now)) _))
+begin-requires c κs = (
+  c .before .before .before .if1 .left,
+  rw (c .before .block-due .ensures .1) (depth-bound _ _ _ (memoryIn (c .before .before .before .before .before .before .args .state .now)) _),
+)
 
 same-length : tie.Need-same-length
 same-length c = search needs
