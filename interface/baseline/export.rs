@@ -7,7 +7,7 @@ use std::slice::{from_raw_parts, from_raw_parts_mut};
 
 use table::{Opening, Refusal, State, Step, WithDepth};
 
-const STATE_WORDS: usize = 256;
+const STATE_WORDS: usize = 276;
 const _: () = assert!(size_of::<State>() == 4 * STATE_WORDS);
 
 #[repr(C)]

@@ -94,7 +94,7 @@ extern "C" {
 #endif
 
 /* Sizes. */
-#define RATION_STATE_WORDS 256                     /* the state block, in words */
+#define RATION_STATE_WORDS 276                     /* the state block, in words */
 #define RATION_FAMILIES 16                         /* the feed families, 0 to 15 */
 #define RATION_FAMILY(key) ((uint32_t)(key) >> 28) /* the family of a key */
 #define RATION_LEAST_NODES 4

@@ -13,7 +13,8 @@ enum {
     BLOCK_FREE_WORDS = 82,
     BLOCK_PLACES = BLOCK_FREE + BLOCK_FREE_WORDS,
     BLOCK_DEPTH = BLOCK_PLACES + 2 * 73, // of the way of the update begun last, when it began
-    BLOCK_TOTALS = BLOCK_DEPTH + 1,      // by family; the last
+    BLOCK_TOTALS = BLOCK_DEPTH + 1,      // by family
+    BLOCK_LINES = BLOCK_TOTALS + 16,     // 0: the card has one line, and the words after this are nothing to it
     BLOCK_DOINGS = 5
 };
 

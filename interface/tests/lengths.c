@@ -37,9 +37,9 @@ static void try_lengths(size_t words, size_t state_words, size_t wrong_place)
     static const uint32_t families[] = {0, 15, 16, 17, UINT32_MAX};
     for (size_t i = 0; i < sizeof families / sizeof families[0]; i++) {
         a = desk_family_total(d, families[i]);
-        CHECK(a.code == (state_words != 256  ? RATION_NO_STATE
-                         : families[i] <= 15 ? RATION_TOTAL
-                                             : RATION_NO_FAMILY) &&
+        CHECK(a.code == (state_words != RATION_STATE_WORDS ? RATION_NO_STATE
+                         : families[i] <= 15               ? RATION_TOTAL
+                                                           : RATION_NO_FAMILY) &&
                   a.value == 0,
               "family %u, block of %zu: %u %u", families[i], state_words, a.code, a.value);
     }
@@ -103,7 +103,7 @@ void test_lengths(void)
 {
     static const size_t words[] = {0,   1,     7,     8,     32,    80,    103,   104,   105,
                                    128, 14408, 14409, 14432, 62384, 62407, 62408, 62409, 62432};
-    static const size_t state_words[] = {0, 1, 178, 240, 255, 256, 257};
+    static const size_t state_words[] = {0, 1, 178, 240, 256, 275, 276, 277};
     for (size_t i = 0; i < sizeof words / sizeof words[0]; i++)
         for (size_t j = 0; j < sizeof state_words / sizeof state_words[0]; j++)
             try_lengths(words[i], state_words[j], NO_PLACE);

@@ -21,7 +21,7 @@ use walk::Slot;
 ghost use mathlib.Core.Path.{_≡_};
 ghost use mathlib.Core.Bool.{true, false};
 ghost use Prim.Native.Nat.{_≤_, _<_};
-ghost use lib.ListN.{length, set};
+ghost use lib.ListN.{length, set, drop};
 ghost use Rattle.card.specs.Header.{Sized};
 ghost use Rattle.card.specs.Layout.{greatestNodes, depthLimit, nodeAt, formattedRoot};
 ghost use Rattle.card.specs.Lines.{IsLine, seen};
@@ -31,7 +31,7 @@ ghost use Rattle.walk.specs.Descent.{slotOf, way, leafOf, depthOf, runOver};
 ghost use Rattle.laws.specs.Cases.{pick};
 ghost use Rattle.state.specs.declared.Doing.the-variants.{Inserting, Deleting};
 ghost use Rattle.state.specs.declared.Phase.the-variants.{NotBegun};
-ghost use Rattle.state.specs.Block.{freeAt, totalsAt, stateWords, part, memoryIn};
+ghost use Rattle.state.specs.Block.{freeAt, totalsAt, backAt, stateWords, part, memoryIn};
 ghost use Rattle.state.specs.Contracts.{OpenCall, StartCall};
 ghost use Rattle.call_change.specs.Updates.{landing, insertReason, roomFor};
 ghost use Rattle.call_start.specs.Starts.{formatOf, roomOf, insertOf, deleteOf};
@@ -212,6 +212,7 @@ fn hold_empty(state: &mut [u32], n: usize)
     requires { ⌜ (length (now state) ≡ stateWords) × (n < capacity) ⌝ }
     ensures { λ _. ⌜ nodesOf (part (now (state .exit)) freeAt wordCount) ≡ set (allNodes n) formattedRoot false ⌝ }
     ensures { λ _. ⌜ part (now (state .exit)) totalsAt familyCount ≡ noTotals ⌝ }
+    ensures { λ _. ⌜ drop backAt (now (state .exit)) ≡ drop backAt (now (state .entry)) ⌝ }
 {
     free_but_root(&mut state[FREE..PLACES], n);
     store_totals(state, &[0; FAMILIES]);

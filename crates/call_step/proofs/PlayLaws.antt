@@ -148,10 +148,10 @@ counted-none what key y totals p q =
 -- the totals that a block has, stored again
 pub totals-again : (b : List ℕ) → length b ≡ stateWords → totalled b (part b totalsAt familyCount) ≡ b
 totals-again b l =
-    let all : part b totalsAt familyCount ≡ drop totalsAt b = take-all familyCount (drop totalsAt b) (omega (arith, length-drop totalsAt b)) in
-    let none : drop (totalsAt + length (part b totalsAt familyCount)) b ≡ [] =
-    drop-of-length-le b {i = totalsAt + length (part b totalsAt familyCount)} (omega (arith, part-length b totalsAt familyCount (omega arith))) in
-    ap₂ (λ (x y : List ℕ). take totalsAt b ++ (x ++ y)) all none ∙ ap (λ (x : List ℕ). take totalsAt b ++ x) (append-nil (drop totalsAt b)) ∙ take-append-drop totalsAt b
+    let after : drop (totalsAt + length (part b totalsAt familyCount)) b ≡ drop familyCount (drop totalsAt b) =
+    ap (λ (k : ℕ). drop (totalsAt + k) b) (part-length b totalsAt familyCount (omega arith)) ∙ sym (drop-drop familyCount totalsAt b) in
+    ap (λ (x : List ℕ). take totalsAt b ++ x) (ap (λ (x : List ℕ). part b totalsAt familyCount ++ x) after ∙ take-append-drop familyCount (drop totalsAt b))
+    ∙ take-append-drop totalsAt b
 
 -- word 5 and the totals after the last store of a change
 pub settled-hand : (b : List ℕ) → 11 ≤ length b → blockWord b 5 ≡ 1

@@ -10,11 +10,11 @@ use state::block::FREE;
 use state::block::IDLE;
 use state::block::IN_HAND;
 use state::block::INSERTING;
+use state::block::LINES;
 use state::block::MADE;
 use state::block::PLACES;
 use state::block::REPAIRING;
 use state::block::SECOND;
-use state::block::STATE_WORDS;
 use state::block::THIRD;
 use state::block::TOTALS;
 use state::block::VALUES;
@@ -107,8 +107,8 @@ fn count_pair(state: &mut [u32])
 {
     let key = state[FIRST];
     match state[DOING] {
-        INSERTING => card_family::count_in(&mut state[TOTALS..STATE_WORDS], key),
-        DELETING => card_family::count_out(&mut state[TOTALS..STATE_WORDS], key),
+        INSERTING => card_family::count_in(&mut state[TOTALS..LINES], key),
+        DELETING => card_family::count_out(&mut state[TOTALS..LINES], key),
         _ => {}
     }
 }

@@ -6,7 +6,7 @@ use Prim.Native.Nat.{ℕ, zero, suc, _+_, _*_, _/_, _%_, _≤_, _<_, _^_}
 use native.Mathlib.Omega.{arith}
 use native.Mathlib.Nat.{pow-suc}
 use lib.ListN.{length, getD, set, take, drop, replicate, length-set, length-take, length-drop, take-append-drop}
-use lib.Seq.{take-at, drop-at, drop-drop, take-all, getD-set-same, getD-set-other}
+use lib.Seq.{take-at, drop-at, drop-drop, drop-cons, drop-set-add, take-all, getD-set-same, getD-set-other}
 use lib.Dec.{ltb, eqb}
 use borrow.Author.Tests.{lt-ltb, eq-eqb, ne-eqb}
 use Rattle.laws.specs.Bits.{bit}
@@ -23,9 +23,9 @@ use Rattle.state.specs.declared.Doing.{Doing}
 use Rattle.state.specs.declared.Doing.the-variants.{Idle, Formatting, Inserting, Deleting, Repairing}
 use Rattle.state.specs.declared.Phase.{Phase}
 use Rattle.state.specs.declared.Phase.the-variants.{NotBegun, InHand, Decided}
-use Rattle.state.specs.Block.{depthAt, totalsAt, freeAt, placesAt, valuesAt, restWords, stateWords, blockWord, part, phaseIn, doingIn, phaseWord, headIn, memoryIn, doingWords, headWords}
+use Rattle.state.specs.Block.{depthAt, totalsAt, linesAt, backAt, freeAt, placesAt, valuesAt, restWords, stateWords, blockWord, part, phaseIn, doingIn, phaseWord, headIn, memoryIn, doingWords, headWords}
 use Rattle.state.specs.Blocks.{over, begunBlock, numberOf, wordsOf, restingWords, restingBlock}
-use Rattle.state.proofs.Rows.{three, append-after, same-part, placed, placed-length, placed-before, placed-part}
+use Rattle.state.proofs.Rows.{three, append-after, same-part, placed, placed-length, placed-before, placed-after, placed-part}
 
 -- every word of a block has 32 bits
 abbrev pub Words : List ℕ → Type 0
@@ -286,6 +286,9 @@ module _ (block row : List ℕ) (l : length block ≡ stateWords) where
     pub freed-length : length (placed freeAt wordCount block row) ≡ stateWords
     freed-length = placed-length block row freeAt wordCount (e ∙ free-span) (omega arith) ∙ l
 
+    pub freed-after : drop backAt (placed freeAt wordCount block row) ≡ drop backAt block
+    freed-after = placed-after block row freeAt wordCount (e ∙ free-span) (omega arith) backAt (omega arith)
+
     pub freed-part : part (placed freeAt wordCount block row) freeAt wordCount ≡ row
     freed-part = placed-part block row freeAt wordCount (e ∙ free-span) (omega arith)
 
@@ -310,6 +313,9 @@ module _ (b totals : List ℕ) (l : length b ≡ stateWords) (k : length totals 
 
   pub stored-part : (from n : ℕ) → from + n ≤ totalsAt → part stored from n ≡ part b from n
   stored-part from n h = same-part stored b from n (stored-length ∙ sym l) (λ j u v. stored-before j (omega arith))
+
+  pub stored-after : drop backAt stored ≡ drop backAt b
+  stored-after = ap (drop backAt) stored-is ∙ placed-after b totals totalsAt familyCount k (omega arith) backAt (omega arith)
 
   pub stored-totals : part stored totalsAt familyCount ≡ totals
   stored-totals = ap (λ (x : List ℕ). part x totalsAt familyCount) stored-is ∙ placed-part b totals totalsAt familyCount k (omega arith)
@@ -353,10 +359,10 @@ settled-long (Repairing key) totals = refl
 
 -- ---- a state with no change planned
 
-module _ (n : ℕ) (free : List ℕ) (last : ℕ) (totals : List ℕ) (long : length free ≡ wordCount) (all : length totals ≡ familyCount) where
+module _ (n : ℕ) (free : List ℕ) (last : ℕ) (totals after : List ℕ) (long : length free ≡ wordCount) (all : length totals ≡ familyCount) where
   -- what stands behind the words of the free nodes
   abbrev tail : List ℕ
-  tail = replicate restWords 0 ++ totals
+  tail = replicate restWords 0 ++ (totals ++ after)
 
   resting-four : (p q r s : ℕ) → memoryIn (n ∷ last ∷ p ∷ q ∷ r ∷ s ∷ 0 ∷ 0 ∷ 0 ∷ 0 ∷ 0 ∷ free ++ tail) ≡ resting n (nodesOf free) last totals (doingIn p q r s)
   unfolding memoryIn resting storesOf zip
@@ -377,27 +383,36 @@ module _ (n : ℕ) (free : List ℕ) (last : ℕ) (totals : List ℕ) (long : le
     where
       behind : take familyCount (drop (wordCount + 147) (free ++ tail)) ≡ totals
       behind =
-          ap (take familyCount) (sym (drop-drop 147 wordCount (free ++ tail)) ∙ ap (drop 147) (drop-at free tail wordCount long) ∙ drop-at (replicate restWords 0) totals 147 refl)
-          ∙ take-all familyCount totals (omega arith)
+          ap (take familyCount) (sym (drop-drop 147 wordCount (free ++ tail)) ∙ ap (drop 147) (drop-at free tail wordCount long)
+          ∙ drop-at (replicate restWords 0) (totals ++ after) 147 refl)
+          ∙ take-at totals after familyCount all
 
-  pub memory-resting : (doing : Doing) → memoryIn (restingWords n free last totals doing) ≡ resting n (nodesOf free) last totals doing
+  pub memory-resting : (doing : Doing) → memoryIn (restingWords n free last (totals ++ after) doing) ≡ resting n (nodesOf free) last totals doing
   unfolding restingWords
   memory-resting doing =
       ap (λ (words : List ℕ). memoryIn (n ∷ last ∷ words ++ (0 ∷ 0 ∷ 0 ∷ 0 ∷ 0 ∷ free ++ tail))) (sym (words-each doing)) ∙ resting-four _ _ _ _
       ∙ ap (resting n (nodesOf free) last totals) (doing-read doing)
 
-  pub resting-block : (doing : Doing) → ((i : ℕ) → getD free i 0 < 2 ^ 32) → restingWords n free last totals doing ≡ restingBlock (resting n (nodesOf free) last totals doing)
-  unfolding restingBlock resting
-  resting-block doing h = ap (λ (l : List ℕ). restingWords n l last totals doing) (sym (ap (λ (k : ℕ). wordsOf k (nodesOf free)) (sym long) ∙ words-nodes free h))
+-- of a card with one line
+pub resting-block : (before : List ℕ) (n : ℕ) (free : List ℕ) (last : ℕ) (totals : List ℕ) (doing : Doing) → length free ≡ wordCount → ((i : ℕ) → getD free i 0 < 2 ^ 32)
+    → restingWords n free last (totals ++ 0 ∷ drop backAt before) doing ≡ restingBlock before (resting n (nodesOf free) last totals doing)
+unfolding restingBlock resting
+resting-block before n free last totals doing long h =
+    ap (λ (l : List ℕ). restingWords n l last (totals ++ 0 ∷ drop backAt before) doing) (sym (ap (λ (k : ℕ). wordsOf k (nodesOf free)) (sym long) ∙ words-nodes free h))
 
--- "Opening or starting to format, refused, hands back an idle state for N = 0": a block of zeros
-pub none-block : replicate stateWords 0 ≡ restingBlock noMemory
+-- it does not go by the words before these
+pub resting-same : (a b : List ℕ) (m : Memory) → drop backAt a ≡ drop backAt b → restingBlock a m ≡ restingBlock b m
+unfolding restingBlock
+resting-same a b m e = ap (λ (x : List ℕ). restingWords (m .nodes) (wordsOf wordCount (m .free)) (m .last) (m .totals ++ 0 ∷ x) (m .doing)) e
+
+-- "Opening or starting to format, refused, hands back an idle state for N = 0": zeros
+pub none-block : (before : List ℕ) → replicate backAt 0 ++ drop backAt before ≡ restingBlock before noMemory
 unfolding restingBlock restingWords noMemory doingWords wordsOf numberOf allNodes
-none-block = refl
+none-block before = refl
 
-pub memory-none : memoryIn (replicate stateWords 0) ≡ noMemory
+pub memory-none : (after : List ℕ) → memoryIn (replicate backAt 0 ++ after) ≡ noMemory
 unfolding memoryIn noMemory doingIn nodesOf digitsOf allNodes storesOf zip
-memory-none = refl
+memory-none after = refl
 
 -- the stores that make it: words 0 and 1 and 6 to 10, what is being done, and the rows
 abbrev pub numbered : List ℕ → ℕ → ℕ → List ℕ
@@ -408,22 +423,39 @@ numbered-length block n last = simp length-set
 
 rest-four : (block zeros : List ℕ) (n last p q r s : ℕ) → length block ≡ stateWords → zeros ≡ replicate restWords 0
     → placed placesAt restWords (over (numbered block n last) 2 (p ∷ q ∷ r ∷ s ∷ [])) zeros
-    ≡ n ∷ last ∷ p ∷ q ∷ r ∷ s ∷ 0 ∷ 0 ∷ 0 ∷ 0 ∷ 0 ∷ part block freeAt wordCount ++ (replicate restWords 0 ++ part block totalsAt familyCount)
+    ≡ n ∷ last ∷ p ∷ q ∷ r ∷ s ∷ 0 ∷ 0 ∷ 0 ∷ 0 ∷ 0 ∷ part block freeAt wordCount ++ (replicate restWords 0 ++ drop totalsAt block)
 rest-four block zeros n last p q r s len z =
     by-head
     (λ (x : List ℕ). length x ≡ stateWords → placed placesAt restWords (over (numbered x n last) 2 (p ∷ q ∷ r ∷ s ∷ [])) zeros
-    ≡ n ∷ last ∷ p ∷ q ∷ r ∷ s ∷ 0 ∷ 0 ∷ 0 ∷ 0 ∷ 0 ∷ part x freeAt wordCount ++ (replicate restWords 0 ++ part x totalsAt familyCount))
+    ≡ n ∷ last ∷ p ∷ q ∷ r ∷ s ∷ 0 ∷ 0 ∷ 0 ∷ 0 ∷ 0 ∷ part x freeAt wordCount ++ (replicate restWords 0 ++ drop totalsAt x))
     block (omega (arith, len))
     (λ a b c d e f g i j k l rest h.
-    let last-words : drop restWords (drop wordCount rest) ≡ take familyCount (drop (wordCount + 147) rest) =
-    drop-drop restWords wordCount rest ∙ sym (take-all familyCount (drop (wordCount + 147) rest) (omega (arith, length-drop (wordCount + 147) rest))) in
-    ap (λ (t : List ℕ). n ∷ last ∷ p ∷ q ∷ r ∷ s ∷ 0 ∷ 0 ∷ 0 ∷ 0 ∷ 0 ∷ take wordCount rest ++ t) (ap₂ (λ (x y : List ℕ). x ++ y) z last-words))
+    ap (λ (t : List ℕ). n ∷ last ∷ p ∷ q ∷ r ∷ s ∷ 0 ∷ 0 ∷ 0 ∷ 0 ∷ 0 ∷ take wordCount rest ++ t) (ap₂ (λ (x y : List ℕ). x ++ y) z (drop-drop restWords wordCount rest)))
     len
 
+-- the words from the totals on, of a block that says that its card has one line
+one-line : (block : List ℕ) → length block ≡ stateWords → drop totalsAt (set block linesAt 0) ≡ part block totalsAt familyCount ++ 0 ∷ drop backAt block
+one-line block len =
+    drop-set-add totalsAt block familyCount 0
+    ∙ ap (λ (l : List ℕ). set l familyCount 0) (sym (take-append-drop familyCount (drop totalsAt block)) ∙ ap (λ (l : List ℕ). part block totalsAt familyCount ++ l)
+    (drop-drop familyCount totalsAt block ∙ drop-cons block linesAt 0 (omega arith)))
+    ∙ set-at (part block totalsAt familyCount) (drop backAt block) (getD block linesAt 0) familyCount (omega (arith, length-take familyCount (drop totalsAt block), length-drop totalsAt block))
+  where
+    set-at : (xs ys : List ℕ) (y i : ℕ) → length xs ≡ i → set (xs ++ y ∷ ys) i 0 ≡ xs ++ 0 ∷ ys
+    set-at [] ys y i e = ap (λ (k : ℕ). set (y ∷ ys) k 0) (sym e)
+    set-at (x ∷ xs) ys y zero e = absurd (omega arith)
+    set-at (x ∷ xs) ys y (suc i) e = ap (λ (l : List ℕ). x ∷ l) (set-at xs ys y i (omega arith))
+
+-- another word of the block in it changes neither the free nodes nor the totals before it
+free-before : (block : List ℕ) → part (set block linesAt 0) freeAt wordCount ≡ part block freeAt wordCount
+free-before block = same-part (set block linesAt 0) block freeAt wordCount (length-set block linesAt 0) (λ i a b. getD-set-other block linesAt i 0 0 (λ z. omega arith))
+
 pub rest-stored : (block zeros : List ℕ) (n last : ℕ) (doing : Doing) → length block ≡ stateWords → zeros ≡ replicate restWords 0
-    → placed placesAt restWords (begunBlock (numbered block n last) doing) zeros ≡ restingWords n (part block freeAt wordCount) last (part block totalsAt familyCount) doing
+    → placed placesAt restWords (begunBlock (numbered (set block linesAt 0) n last) doing) zeros
+    ≡ restingWords n (part block freeAt wordCount) last (part block totalsAt familyCount ++ 0 ∷ drop backAt block) doing
 unfolding begunBlock restingWords
 rest-stored block zeros n last doing len z =
-    ap (λ (words : List ℕ). placed placesAt restWords (over (numbered block n last) 2 words) zeros) (sym (words-each doing))
-    ∙ rest-four block zeros n last _ _ _ _ len z
-    ∙ ap (λ (words : List ℕ). n ∷ last ∷ words ++ (0 ∷ 0 ∷ 0 ∷ 0 ∷ 0 ∷ part block freeAt wordCount ++ (replicate restWords 0 ++ part block totalsAt familyCount))) (words-each doing)
+    ap (λ (words : List ℕ). placed placesAt restWords (over (numbered (set block linesAt 0) n last) 2 words) zeros) (sym (words-each doing))
+    ∙ rest-four (set block linesAt 0) zeros n last _ _ _ _ (length-set block linesAt 0 ∙ len) z
+    ∙ ap (λ (words : List ℕ). n ∷ last ∷ words ++ (0 ∷ 0 ∷ 0 ∷ 0 ∷ 0 ∷ part (set block linesAt 0) freeAt wordCount ++ (replicate restWords 0 ++ drop totalsAt (set block linesAt 0)))) (words-each doing)
+    ∙ ap₂ (λ (x y : List ℕ). n ∷ last ∷ doingWords doing ++ (0 ∷ 0 ∷ 0 ∷ 0 ∷ 0 ∷ x ++ (replicate restWords 0 ++ y))) (free-before block) (one-line block len)

@@ -81,6 +81,17 @@ module _ (block row : List ℕ) (from count : ℕ) (l : length row ≡ count) (f
   pub placed-before : (j : ℕ) → j < from → getD (placed from count block row) j 0 ≡ getD block j 0
   placed-before j h = List·getD-append (take from block) (row ++ rest) 0 j (omega (arith, length-take from block)) ∙ getD-take from block j 0 h
 
+  -- and those after it
+  pub placed-after : (k : ℕ) → from + count ≤ k → drop k (placed from count block row) ≡ drop k block
+  placed-after k h =
+      let j : ℕ = k - (from + count) in
+      let is : (l : List ℕ) → drop k l ≡ drop j (drop count (drop from l)) =
+      λ l. let e : k ≡ from + count + j = omega arith in ap (λ (i : ℕ). drop i l) e ∙ sym (drop-drop j (from + count) l) ∙ ap (drop j) (sym (drop-drop count from l)) in
+      is (placed from count block row)
+      ∙ ap (λ (l : List ℕ). drop j (drop count l)) (drop-at (take from block) (row ++ rest) from (omega (arith, length-take from block)))
+      ∙ ap (drop j) (drop-at row rest count l)
+      ∙ sym (is block)
+
   pub placed-part : part (placed from count block row) from count ≡ row
   placed-part = ap (take count) (drop-at (take from block) (row ++ rest) from (omega (arith, length-take from block))) ∙ take-at row rest count l
 

@@ -32,9 +32,23 @@ depthAt = valuesAt + 73
 abbrev pub totalsAt : ℕ
 totalsAt = depthAt + 1
 
+-- document 02, W-207: on a card with two lines the number of the line worked last, and 0 on a card with one; the free nodes that it may
+-- not use; the limits of the two lines; the totals of the line at rest
+abbrev pub linesAt : ℕ
+linesAt = totalsAt + familyCount
+
+abbrev pub backAt : ℕ
+backAt = linesAt + 1
+
+abbrev pub limitsAt : ℕ
+limitsAt = linesAt + 2
+
+abbrev pub restTotalsAt : ℕ
+restTotalsAt = linesAt + 4
+
 -- how many words a state block has, and how many of them stand from the plan's places to the totals
 abbrev pub stateWords : ℕ
-stateWords = totalsAt + familyCount
+stateWords = restTotalsAt + familyCount
 
 abbrev pub restWords : ℕ
 restWords = 147

@@ -19,7 +19,9 @@ ghost use Rattle.state.specs.Contracts.{Opened};
 
 // The words of a block: N and the node given last; what is being done by its number, and its three numbers; the stores of the
 // plan made and planned; the nodes that the last store cuts out; the free nodes; the plan's places and values; of the update begun
-// last the internal nodes on its key's way then (document 02, W-203); the totals by family (W-204).
+// last the internal nodes on its key's way then (document 02, W-203); the totals by family (W-204). Of a card with two lines (W-207) all
+// that is of the line worked last; then that line's number, or 0 on a card with one; the free nodes that it may not use; the limits of
+// the two lines, and the totals of the line at rest. The words after the 0 of a card with one line are nothing to it, and stay.
 pub const NODES: usize = 0;
 
 pub const LAST: usize = 1;
@@ -48,8 +50,18 @@ pub const DEPTH: usize = VALUES + card::PLAN_SIZE;
 
 pub const TOTALS: usize = DEPTH + 1;
 
+pub const LINES: usize = TOTALS + card_family::FAMILIES;
+
+pub const BACK: usize = LINES + 1;
+
+pub const FIRST_LIMIT: usize = LINES + 2;
+
+pub const SECOND_LIMIT: usize = LINES + 3;
+
+pub const REST_TOTALS: usize = LINES + 4;
+
 // How many words that makes.
-pub const STATE_WORDS: usize = TOTALS + card_family::FAMILIES;
+pub const STATE_WORDS: usize = REST_TOTALS + card_family::FAMILIES;
 
 // What a call answers where a block of another length is lent, which is no state. Document 01 has no number for it.
 pub const NO_STATE: u32 = 71;
@@ -233,18 +245,19 @@ pub fn store_totals(block: &mut [u32], totals: &[u32])
     requires { ⌜ (length (now block) ≡ stateWords) × (length (now totals) ≡ familyCount) ⌝ }
     ensures { λ _. ⌜ now (block .exit) ≡ over (now (block .entry)) totalsAt (now (totals .entry)) ⌝ }
 {
-    copy_words(&mut block[TOTALS..STATE_WORDS], totals);
+    copy_words(&mut block[TOTALS..LINES], totals);
 }
 
-// Nothing is planned in a block for N nodes, whose words of the free nodes and of the totals are right already. The search for a free
-// node begins after `last`, the node taken for given last.
+// Nothing is planned in a block for N nodes of a card with one line, whose words of the free nodes and of the totals are right already.
+// The search for a free node begins after `last`, the node taken for given last.
 pub fn store_resting(block: &mut [u32], n: usize, last: u32, doing: Doing)
     requires { ⌜ (length (now block) ≡ stateWords) × (n ≤ greatestNodes) ⌝ }
-    ensures { λ _. ⌜ now (block .exit) ≡ restingBlock (resting n (nodesOf (part (now (block .entry)) freeAt wordCount)) last
+    ensures { λ _. ⌜ now (block .exit) ≡ restingBlock (now (block .entry)) (resting n (nodesOf (part (now (block .entry)) freeAt wordCount)) last
         (part (now (block .entry)) totalsAt familyCount) doing) ⌝ }
     ensures { λ _. ⌜ memoryIn (now (block .exit)) ≡ resting n (nodesOf (part (now (block .entry)) freeAt wordCount)) last
         (part (now (block .entry)) totalsAt familyCount) doing ⌝ }
 {
+    block[LINES] = 0;
     block[NODES] = n as u32;
     block[LAST] = last;
     block[MADE] = 0;
@@ -259,8 +272,8 @@ pub fn store_resting(block: &mut [u32], n: usize, last: u32, doing: Doing)
 // "Opening or starting to format, refused, hands back an idle state for N = 0".
 pub fn refuse_beginning(block: &mut [u32], refusal: u32) -> Begun
     requires { ⌜ length (now block) ≡ stateWords ⌝ }
-    ensures { λ r. ⌜ Opened (now (block .exit)) r (noBeginning refusal) ⌝ }
+    ensures { λ r. ⌜ Opened (now (block .entry)) (now (block .exit)) r (noBeginning refusal) ⌝ }
 {
-    clear_words(block);
+    clear_words(&mut block[0..BACK]);
     Begun::Refused(refusal)
 }

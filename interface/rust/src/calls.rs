@@ -6,7 +6,7 @@ use core::num::NonZeroU32;
 use crate::Refusal;
 
 /// The words of a state block.
-pub const STATE_WORDS: usize = 256;
+pub const STATE_WORDS: usize = 276;
 
 /// The state block. Its words are the table's own.
 #[derive(Clone, Debug, PartialEq, Eq)]

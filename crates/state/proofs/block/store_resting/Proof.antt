@@ -3,10 +3,10 @@ use mathlib.Core.Path.{_≡_, ap, _∙_}
 use mathlib.Core.List.{List}
 use Prim.Native.Nat.{ℕ, _+_, _^_, _<_}
 use native.Mathlib.Omega.{arith}
-use lib.ListN.{length, getD, take, drop, replicate, length-take, length-drop, List·getD-eq-default}
+use lib.ListN.{length, getD, set, take, drop, replicate, length-set, length-take, length-drop, List·getD-eq-default}
 use lib.Seq.{getD-take, getD-drop}
 use Rattle.laws.proofs.Cases.{order}
-use Rattle.state.specs.Block.{freeAt, placesAt, totalsAt, restWords, stateWords, part, memoryIn}
+use Rattle.state.specs.Block.{freeAt, linesAt, placesAt, totalsAt, restWords, stateWords, part, memoryIn}
 use Rattle.state.proofs.Rows.{placed, placed-length}
 use Rattle.state.proofs.Blocks.{numbered-length, memory-resting, resting-block, rest-stored}
 use borrow.Author.Needs.{needs}
@@ -17,7 +17,7 @@ use Rattle.card_free.specs.NodeSet.{wordCount}
 
 -- the block before its rows are cleared
 long : (c : tie.After-store-doing) → length (c .store-doing .last .0) ≡ stateWords
-long c = let s = c .before .before .before in c .store-doing .kept .0 ∙ numbered-length (s .args .block .now) (s .args .n) (s .args .last) ∙ s .pre .0
+long c = let s = c .before .before .before in c .store-doing .kept .0 ∙ numbered-length (set (s .args .block .now) linesAt 0) (s .args .n) (s .args .last) ∙ length-set (s .args .block .now) linesAt 0 ∙ s .pre .0
 
 -- the rows
 span : (c : tie.After-store-doing) → length (take restWords (drop placesAt (c .store-doing .last .0))) ≡ restWords
@@ -39,7 +39,7 @@ slice-write-block-4 : tie.Need-slice-write-block-4
 slice-write-block-4 c = search needs
 
 slice-write-block-5 : tie.Need-slice-write-block-5
-slice-write-block-5 c = search needs depth 12
+slice-write-block-5 c = search needs depth 14
 
 add-block : tie.Need-add-block
 add-block c = search needs
@@ -48,7 +48,7 @@ mul-block : tie.Need-mul-block
 mul-block c = search needs
 
 slice-write-block-6 : tie.Need-slice-write-block-6
-slice-write-block-6 c = search needs depth 12
+slice-write-block-6 c = search needs depth 14
 
 add-block-2 : tie.Need-add-block-2
 add-block-2 c = search needs
@@ -57,10 +57,13 @@ mul-block-2 : tie.Need-mul-block-2
 mul-block-2 c = search needs
 
 slice-write-block-7 : tie.Need-slice-write-block-7
-slice-write-block-7 c = search needs depth 12
+slice-write-block-7 c = search needs depth 14
+
+slice-write-block-8 : tie.Need-slice-write-block-8
+slice-write-block-8 c = search needs depth 14
 
 store-doing-requires : tie.Need-store-doing-requires
-store-doing-requires c κs = let s = c .before .before in numbered-length (s .args .block .now) (s .args .n) (s .args .last) ∙ s .pre .0
+store-doing-requires c κs = let s = c .before .before in numbered-length (set (s .args .block .now) linesAt 0) (s .args .n) (s .args .last) ∙ length-set (s .args .block .now) linesAt 0 ∙ s .pre .0
 
 sub-clear-words : tie.Need-sub-clear-words
 sub-clear-words c = search needs
@@ -80,7 +83,8 @@ same-length c =
     placed-length (c .before .before .before .before .before .before .store-doing .last .0) (c .before .before .clear-words .last .0) placesAt restWords
     (c .before .before .clear-words .kept .0 ∙ span (c .before .before .before .before .before .before))
     (omega (arith, long (c .before .before .before .before .before .before)))
-    ∙ c .before .before .before .before .before .before .store-doing .kept .0 ∙ numbered-length (s .args .block .now) (s .args .n) (s .args .last)
+    ∙ c .before .before .before .before .before .before .store-doing .kept .0 ∙ numbered-length (set (s .args .block .now) linesAt 0) (s .args .n) (s .args .last)
+    ∙ length-set (s .args .block .now) linesAt 0
 
 returns : tie.Need-returns
 returns c =
@@ -99,26 +103,27 @@ returns c =
       arith,
       c .before .before .before .before .before .before .before .before .slice-known .given (11 + i),
     ))) (λ h. rw (List·getD-eq-default row 0 {n = i} (omega (arith, all-free))) (omega arith)) in (
-      whole ∙ resting-block (s .args .n) row (s .args .last) totals all-free sixteen (s .args .doing) words,
-      ap memoryIn whole ∙ memory-resting (s .args .n) row (s .args .last) totals all-free sixteen (s .args .doing),
+      whole ∙ resting-block block (s .args .n) row (s .args .last) totals (s .args .doing) all-free words,
+      ap memoryIn whole ∙ memory-resting (s .args .n) row (s .args .last) totals _ all-free sixteen (s .args .doing),
     )
 
 pub store-resting-spec : {M : Type 1} → statement M
 store-resting-spec =
     tie.close
     (tie.spec
-    cast-block
     slice-write-block
+    cast-block
     slice-write-block-2
     slice-write-block-3
     slice-write-block-4
     slice-write-block-5
+    slice-write-block-6
     add-block
     mul-block
-    slice-write-block-6
+    slice-write-block-7
     add-block-2
     mul-block-2
-    slice-write-block-7
+    slice-write-block-8
     store-doing-requires
     sub-clear-words
     part-clear-words-start
