@@ -48,12 +48,12 @@ counted greatest line (suc steps) w b i busy =
     go (q .2) (q .1) (λ e. subst (λ (a : Answer). (k : ℕ) × (k < steps) × Counted greatest (stepReply a) k (happens (rationTable greatest) step w)) (q .0 .2)
     (counted greatest line steps (happens (rationTable greatest) step w) _ (q .0 .0) (after-step greatest w e)))
   where
-    go : Moves (w .card) (w .state) (stepOf greatest 1 (w .card) (w .state)) → Right (stepOf greatest 1 (w .card) (w .state) .answer) (i .due)
+    go : Moves line (w .card) (w .state) (stepOf greatest 1 (w .card) (w .state)) → Right (stepOf greatest 1 (w .card) (w .state) .answer) (i .due)
         → (isIdle (stepOf greatest 1 (w .card) (w .state) .memory .doing) ≡ false → (k : ℕ) × (k < steps)
         × Counted greatest (stepReply (i .due)) k (happens (rationTable greatest) step w)) → (k : ℕ) × (k < suc steps) × Counted greatest (stepReply (i .due)) k w
     go (was-idle e) r later = absurd (idle-not-busy (w .state .doing) e busy)
     go (ends-now f same idle) r later = (0, omega arith, answers-now (ap stepReply (right-final r f)))
-    go (goes-further s e) r later = let q = later e in (suc (q .0), omega (arith, q .1), stores-first (s .0, ap stepReply (s .1)) (q .2))
+    go (goes-further s e) r later = let q = later e in (suc (q .0), omega (arith, q .1), stores-first (s .place, ap stepReply (s .told)) (q .2))
 
 -- what the count says of a run without a cut, by its steps
 module _ (greatest : ℕ) {final : Reply} where
@@ -85,10 +85,10 @@ pub work-not-refused : (greatest : ℕ) (line : Line) (steps : ℕ) (w : World (
     → isIdle (w .state .doing) ≡ false → (r : ℕ) → stepOf greatest 1 (w .card) (w .state) .answer ≡ Refused r → ⊥
 work-not-refused greatest line steps w b i busy r e = at (kept-step greatest line steps w b (loosen greatest line steps (suc steps) w b (omega arith) i) .2)
   where
-    at : Moves (w .card) (w .state) (stepOf greatest 1 (w .card) (w .state)) → ⊥
+    at : Moves line (w .card) (w .state) (stepOf greatest 1 (w .card) (w .state)) → ⊥
     at (was-idle f) = idle-not-busy (w .state .doing) f busy
     at (ends-now f same idle) = subst IsFinal e f
-    at (goes-further s f) = let z : _≡_ {A = Answer} (Refused r) (Stored (s .0)) = sym e ∙ s .1 in impossible (cc)
+    at (goes-further s f) = let z : _≡_ {A = Answer} (Refused r) (Stored (s .place)) = sym e ∙ s .told in impossible (cc)
 
 -- an idle state's table
 pub inv-rests : (greatest : ℕ) (n steps : ℕ) (w : World (rationTable greatest)) (b : Book) → Inv greatest (only n) steps w b → w .state .doing ≡ Idle → Rests greatest w (b .held)

@@ -119,3 +119,5 @@ pub mod Fetching
 pub mod Depths
 -- the promises of this table, one line each
 pub mod Demands
+-- the work in hand on a line of a card: its table goes on as one of its own, and the other's holds the tree that it held
+pub mod LineWork

@@ -65,7 +65,7 @@ module _ (greatest : ℕ) (line : Line) (k : ℕ) (l : List (ℕ × ℕ)) where
   abbrev Held : World (rationTable greatest) → Type 0
   Held w = Inv greatest line k w (book l empty)
 
-  step-held : (w : World (rationTable greatest)) → Held w → Held (happens (rationTable greatest) step w) × Moves (w .card) (w .state) (stepOf greatest 1 (w .card) (w .state))
+  step-held : (w : World (rationTable greatest)) → Held w → Held (happens (rationTable greatest) step w) × Moves line (w .card) (w .state) (stepOf greatest 1 (w .card) (w .state))
   unfolding feed told
   step-held w i =
       let q = kept-step greatest line k w (book l empty) (loosen greatest line k (suc k) w (book l empty) (omega arith) i) in
@@ -85,15 +85,15 @@ module _ (greatest : ℕ) (line : Line) (k : ℕ) (l : List (ℕ × ℕ)) where
   held-finds w i key low high = find-answers greatest (w .card) (line .nodes) (i .tree) key (i .table) low high ∙ dictionary-same (lookup key (pairs (i .tree))) ∙ ap dictionary
       (same-lookup greatest i key)
 
-  ready-idle : (w : World (rationTable greatest)) → Moves (w .card) (w .state) (stepOf greatest 1 (w .card) (w .state))
+  ready-idle : (w : World (rationTable greatest)) → Moves line (w .card) (w .state) (stepOf greatest 1 (w .card) (w .state))
       → replyTo (rationTable greatest) step w ≡ ready → happens (rationTable greatest) step w .state .doing ≡ Idle
   unfolding happens replyTo stepReply
   ready-idle w (was-idle e) r = ap (λ (x : World (rationTable greatest)). x .state .doing) (idle-world greatest w e) ∙ e
   ready-idle w (ends-now f same e) r = e
-  ready-idle w (goes-further s e) r = absurd (omega (arith, code-of (sym (ap stepReply (s .1)) ∙ r)))
+  ready-idle w (goes-further s e) r = absurd (omega (arith, code-of (sym (ap stepReply (s .told)) ∙ r)))
 
   -- a step that says "ready" leaves an idle state, and an idle state stays so
-  step-idle : (w : World (rationTable greatest)) → Moves (w .card) (w .state) (stepOf greatest 1 (w .card) (w .state))
+  step-idle : (w : World (rationTable greatest)) → Moves line (w .card) (w .state) (stepOf greatest 1 (w .card) (w .state))
       → (w .state .doing ≡ Idle) ⊎ (replyTo (rationTable greatest) step w ≡ ready) → happens (rationTable greatest) step w .state .doing ≡ Idle
   step-idle w m (inl e) = ap (λ (x : World (rationTable greatest)). x .state .doing) (idle-world greatest w e) ∙ e
   step-idle w m (inr r) = ready-idle w m r

@@ -352,7 +352,7 @@ repair-step greatest line l steps w (i, d) =
         subst (λ (b : Book). (j : Inv greatest line steps (happens (rationTable greatest) step w) b) → j .due ≡ Ready → Repairs greatest line l steps (happens (rationTable greatest) step w))
         (sym (empty-fed (outcome (replyTo (rationTable greatest) step w)) l)) (λ j e. (j, e))
 
-    moves : Moves (w .card) (w .state) (stepOf greatest 1 (w .card) (w .state)) → Right (stepOf greatest 1 (w .card) (w .state) .answer) (i .due)
+    moves : Moves line (w .card) (w .state) (stepOf greatest 1 (w .card) (w .state)) → Right (stepOf greatest 1 (w .card) (w .state) .answer) (i .due)
         → (w .state .doing ≡ Idle)
         ⊎ ((stepOf greatest 1 (w .card) (w .state) .answer ≡ Ready) ⊎ (isIdle (happens (rationTable greatest) step w .state .doing) ≡ false))
     moves (was-idle e) r = inl e

@@ -18,7 +18,7 @@ use Rattle.theory_change.proofs.LeafSplit.{withPair, splitNodes, split-change}
 use Rattle.theory_change.proofs.Mended.{change-stores, mended}
 use Rattle.theory_change.proofs.Mending.{rewriteAt, giving-same}
 use Rattle.theory_change.proofs.Numbers.{Given, numbers-given}
-use Rattle.theory_change.proofs.Plays.{Openable, Changing, pending-changing}
+use Rattle.theory_change.proofs.Plays.{Openable, Changing, pending-changing, Storable}
 use Rattle.theory_change.proofs.Repaired.{Mendable, Repaired, settled, violated}
 use Rattle.theory_change.proofs.Rewritten.{Sound}
 use Rattle.walk.specs.Descent.{slotOf, firstEqual}
@@ -46,7 +46,7 @@ use Rattle.demands.proofs.Invariant.{stage-within}
 use Rattle.card_family.proofs.FamilyLaws.{Totals}
 use Rattle.demands.proofs.Kept.{first-storable, repair-stored, update-stored}
 use Rattle.demands.specs.Book.{Update, Hand, Book, book, entered, fedStart, fedStep, feed, outcome, told, put, remove, anInsert, final, goesOn, empty, holding}
-use Rattle.demands.proofs.BookLaws.{Changes, Same, IsStored, IsFinal, final-told, dictionaryAnswer, enters-held, enters-gone}
+use Rattle.demands.proofs.BookLaws.{Changes, Same, IsFinal, final-told, dictionaryAnswer, enters-held, enters-gone}
 use Rattle.demands.specs.Events.{World, replyTo, happens, step}
 use Rattle.demands.specs.RationTable.{rationTable}
 use Rattle.demands.proofs.Reopen.{table-depth-limited}
@@ -92,12 +92,20 @@ mends greatest c line key t free last b x v single room =
 pub rests : (greatest : ℕ) (c : List ℕ) (n key : ℕ) (t : Tree) (free : List Bool) (last : ℕ) → Table greatest c n t → tableViolations t ≡ 0 → nextRepair c n key free last ≡ balanced
 rests greatest c n key t free last b z = repair-balanced c n free last key (seek-balanced c n key (b .sized .words) depthLimit t (b .holds) (b .sound .widths) z (table-depth-limited greatest b))
 
+-- a store of the line's own: in its root word, or in a node that the other line has not
+pub record OwnStore (line : Line) (c : List ℕ) (s : Step) : Type 0 where
+  pub place : ℕ
+  pub value : ℕ
+  pub told : s .answer ≡ Stored place
+  pub stored : s .card ≡ set c place value
+  pub storable : Storable line c place
+
 -- where a step leaves what was being done: it was idle; "Each step then either stores one word or gives the final answer and
 -- makes the state idle."
-pub data Moves (c : List ℕ) (m : Memory) (s : Step) : Type 0 where
-  was-idle : m .doing ≡ Idle → Moves c m s
-  ends-now : IsFinal (s .answer) → s .card ≡ c → s .memory .doing ≡ Idle → Moves c m s
-  goes-further : IsStored (s .answer) → isIdle (s .memory .doing) ≡ false → Moves c m s
+pub data Moves (line : Line) (c : List ℕ) (m : Memory) (s : Step) : Type 0 where
+  was-idle : m .doing ≡ Idle → Moves line c m s
+  ends-now : IsFinal (s .answer) → s .card ≡ c → s .memory .doing ≡ Idle → Moves line c m s
+  goes-further : OwnStore line c s → isIdle (s .memory .doing) ≡ false → Moves line c m s
 
 -- a store leaves the work in hand
 busy-after : {doing : Doing} (n : ℕ) (free : List Bool) (last depth : ℕ) (totals : List ℕ) (z : List Store) (cut : List ℕ) → Busy doing → (rest : List Store)
@@ -123,13 +131,14 @@ module _ (greatest : ℕ) (line : Line) (steps : ℕ) (c : List ℕ) (t : Tree) 
   abbrev Goal : Memory → Hand → Answer → Type 0
   Goal m h due =
       Toward greatest goal due line steps (record { card = stepOf greatest 1 c m .card; state = stepOf greatest 1 c m .memory })
-      (fedStep (outcome (stepReply (stepOf greatest 1 c m .answer))) l h) × Right (stepOf greatest 1 c m .answer) due × Moves c m (stepOf greatest 1 c m)
+      (fedStep (outcome (stepReply (stepOf greatest 1 c m .answer))) l h) × Right (stepOf greatest 1 c m .answer) due × Moves line c m (stepOf greatest 1 c m)
 
-  stored-goal : {place : ℕ} (m m′ : Memory) (c′ : List ℕ) (h : Hand) (due : Answer)
-      → stepOf greatest 1 c m ≡ record { answer = Stored place; card = c′; memory = m′ } → isIdle (m′ .doing) ≡ false
-      → Toward greatest goal due line steps (record { card = c′; state = m′ }) (fedStep goesOn l h) → Goal m h due
+  stored-goal : (m m′ : Memory) (place value : ℕ) (h : Hand) (due : Answer) → Storable line c place
+      → stepOf greatest 1 c m ≡ record { answer = Stored place; card = set c place value; memory = m′ } → isIdle (m′ .doing) ≡ false
+      → Toward greatest goal due line steps (record { card = set c place value; state = m′ }) (fedStep goesOn l h) → Goal m h due
   unfolding outcome stepReply
-  stored-goal m m′ c′ h due e busy i = rw e (i, no-answer, goes-further (_, refl) busy)
+  stored-goal m m′ place value h due s e busy i =
+      rw e (i, no-answer, goes-further (record { place = place; value = value; told = refl; stored = refl; storable = s }) busy)
 
   final-goal : (m m′ : Memory) (a : Answer) (h : Hand) (due : Answer)
       → stepOf greatest 1 c m ≡ record { answer = a; card = c; memory = m′ } → m′ .doing ≡ Idle → IsFinal a
@@ -191,7 +200,7 @@ module _ (greatest : ℕ) (line : Line) (steps : ℕ) (c : List ℕ) (t : Tree) 
                 let short : suc (length rest) ≤ 73 = rw e at (q .short) in
                 let p = pending-changing (b .holds) (b .sound) o (rw e at (q .pending)) in
                 let g = entered-on en in
-                stored-goal (memory (line .nodes) free last depth totals doing [] []) _ (set c (s .0) (s .1)) h due
+                stored-goal (memory (line .nodes) free last depth totals doing [] []) _ (s .0) (s .1) h due (first-storable (p .0 .plays))
                 (step-repairs greatest c (line .nodes) (b .sized) (b .header) free last depth totals j ∙ prepared-first c (memory (line .nodes) free last depth totals doing [] []) doing due
                 (nextRepair c (line .nodes) key free last) s rest (q .free-then) (q .last-then) (q .cut) k (first-storable (p .0 .plays) .inside))
                 (busy-after (line .nodes) (q .free-then) (q .last-then) depth totals [] (q .cut) (job-busy j) rest)
@@ -206,7 +215,7 @@ module _ (greatest : ℕ) (line : Line) (steps : ℕ) (c : List ℕ) (t : Tree) 
         → length rest + (73 * p .level + 1) ≤ steps → Heads (p .level) (bare (p .next)) goal → Goal m (holding u d 0) due
     begins {due = due} {u = u} d m k s rest free last cut j e p en count few hd =
         let q : 0 + suc (length rest) ≡ d = omega arith in
-        stored-goal m _ (set c (s .0) (s .1)) (holding u d 0) due e (busy-after (line .nodes) free last (m .depth) (m .totals) [] cut (job-busy j) rest)
+        stored-goal m _ (s .0) (s .1) (holding u d 0) due (first-storable (p .plays)) e (busy-after (line .nodes) free last (m .depth) (m .totals) [] cut (job-busy j) rest)
         (update-stored greatest d 0 last (m .depth) steps (m .totals) [] l b same k j p en q few hd)
 
     -- the leaf that a key leads to
@@ -493,13 +502,13 @@ module _ (greatest : ℕ) (line : Line) (steps : ℕ) (c : List ℕ) (t : Tree) 
       put-begins totals k free last depth key value z r x low high few room enough below eg
   stage-steps m h due k (stage-remove {free} {last} {depth} {key} {totals} z r x low high few eg) = remove-begins totals k free last depth key z r x low high few eg
   stage-steps m h due k (stage-first {free} {last} {depth} {key} {doing} {u = u} {deciding = deciding} {count = i} {cut = cut} {s = s} {rest = rest} {totals = totals} j p en count few hd) =
-      stored-goal (memory (line .nodes) free last depth totals doing (s ∷ rest) cut) _ (set c (s .0) (s .1)) (holding u deciding i) due
+      stored-goal (memory (line .nodes) free last depth totals doing (s ∷ rest) cut) _ (s .0) (s .1) (holding u deciding i) due (first-storable (p .plays))
       (step-stores greatest c (line .nodes) (b .sized) (b .header) free last depth totals doing (job-busy j) cut s rest (first-storable (p .plays) .inside))
       (busy-after (line .nodes) free last depth totals (s ∷ rest) cut (job-busy j) rest) (update-stored greatest deciding i last depth steps totals (s ∷ rest) l b same k j p en count (omega arith) hd)
   stage-steps m h due k (stage-between {free} {last} {depth} {totals = totals} j en deep r x few hd) = repaired totals k free last depth deep j en r x few hd
   stage-steps m h due k (stage-within {free} {last} {depth} {key} {doing} {cut = cut} {s = s} {rest = rest} {totals = totals} j en p e few hd) =
       let g = entered-on totals k en in
-      stored-goal (memory (line .nodes) free last depth totals doing (s ∷ rest) cut) _ (set c (s .0) (s .1)) h due
+      stored-goal (memory (line .nodes) free last depth totals doing (s ∷ rest) cut) _ (s .0) (s .1) h due (first-storable (p .plays))
       (step-stores greatest c (line .nodes) (b .sized) (b .header) free last depth totals doing (job-busy j) cut s rest (first-storable (p .plays) .inside))
       (busy-after (line .nodes) free last depth totals (s ∷ rest) cut (job-busy j) rest)
       (rw (g .1) (repair-stored greatest last depth steps totals (s ∷ rest) l b same k j (g .2) p e (omega arith) hd))
@@ -507,6 +516,6 @@ module _ (greatest : ℕ) (line : Line) (steps : ℕ) (c : List ℕ) (t : Tree) 
 -- THE STEP: the invariant is kept, and an answer given is the one due
 pub kept-step : (greatest : ℕ) (line : Line) (steps : ℕ) (w : World (rationTable greatest)) (b : Book) (i : Inv greatest line (suc steps) w b)
     → Toward greatest (i .goal) (i .due) line steps (happens (rationTable greatest) step w) (feed (told (rationTable greatest) step w) b)
-    × Right (stepOf greatest 1 (w .card) (w .state) .answer) (i .due) × Moves (w .card) (w .state) (stepOf greatest 1 (w .card) (w .state))
+    × Right (stepOf greatest 1 (w .card) (w .state) .answer) (i .due) × Moves line (w .card) (w .state) (stepOf greatest 1 (w .card) (w .state))
 unfolding happens feed told replyTo
 kept-step greatest line steps w b i = stage-steps greatest line steps (w .card) (i .tree) (i .table) (i .openable) (b .held) (i .same) (i .goal) (w .state) (b .inHand) (i .due) (i .counted) (i .stage)

@@ -63,11 +63,11 @@ job-settled (job-insert decided) = job-insert decided
 job-settled (job-delete in-hand) = job-delete decided
 job-settled (job-delete decided) = job-delete decided
 
-put-busy : (key value : ℕ) → Busy (Inserting key value NotBegun)
+pub put-busy : (key value : ℕ) → Busy (Inserting key value NotBegun)
 unfolding heldBy isIdle
 put-busy key value = record { task = PutIn key value; held = refl; not-idle = refl }
 
-remove-busy : (key value : ℕ) → Busy (Deleting key NotBegun value)
+pub remove-busy : (key value : ℕ) → Busy (Deleting key NotBegun value)
 unfolding heldBy isIdle
 remove-busy key value = record { task = TakeOut key; held = refl; not-idle = refl }
 

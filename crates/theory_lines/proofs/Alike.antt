@@ -126,16 +126,16 @@ ends-at greatest {w} {v} {a} (ends-here e f) n steps b i goal eg busy =
       record { steps = steps; book = _; inv = q .0 .0; idle = after-idle greatest w (at (q .2) f′); goal = q .0 .1 ∙ loosen-goal greatest (only n) steps (suc steps) w b (omega arith) i ∙ eg },
     )
   where
-    at : Moves (w .card) (w .state) (stepOf greatest 1 (w .card) (w .state)) → IsFinal (stepOf greatest 1 (w .card) (w .state) .answer) → stepOf greatest 1 (w .card) (w .state) .memory .doing ≡ Idle
+    at : Moves (only n) (w .card) (w .state) (stepOf greatest 1 (w .card) (w .state)) → IsFinal (stepOf greatest 1 (w .card) (w .state) .answer) → stepOf greatest 1 (w .card) (w .state) .memory .doing ≡ Idle
     at (was-idle d) g = absurd (idle-not-busy (w .state .doing) d busy)
     at (ends-now d same idle) g = idle
-    at (goes-further s d) g = absurd (subst IsFinal (s .1) g)
+    at (goes-further s d) g = absurd (subst IsFinal (s .told) g)
 ends-at greatest {w} {v} {a} (stores-first e rest) n steps b i goal eg busy =
     let q = kept-step greatest (only n) steps w b (loosen greatest (only n) steps (suc steps) w b (omega arith) i) in
     let r = ends-at greatest rest n steps _ (q .0 .0) goal (q .0 .1 ∙ loosen-goal greatest (only n) steps (suc steps) w b (omega arith) i ∙ eg) (at (q .2)) in
     (r .0 ∙ q .0 .2 ∙ loosen-due greatest (only n) steps (suc steps) w b (omega arith) i, r .1)
   where
-    at : Moves (w .card) (w .state) (stepOf greatest 1 (w .card) (w .state)) → isIdle (happens (rationTable greatest) step w .state .doing) ≡ false
+    at : Moves (only n) (w .card) (w .state) (stepOf greatest 1 (w .card) (w .state)) → isIdle (happens (rationTable greatest) step w .state .doing) ≡ false
     at (was-idle d) = absurd (idle-not-busy (w .state .doing) d busy)
     at (ends-now d same idle) = absurd (subst IsFinal (e .1) d)
     at (goes-further s d) = after-step greatest w d
