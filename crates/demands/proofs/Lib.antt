@@ -121,3 +121,5 @@ pub mod Depths
 pub mod Demands
 -- the work in hand on a line of a card: its table goes on as one of its own, and the other's holds the tree that it held
 pub mod LineWork
+-- the invariant of a card with two lines: a step of the one in hand, and a turn
+pub mod BothLines

@@ -92,7 +92,7 @@ module _ (greatest : ℕ) (own : Line) (line : ℕ) (is : IsLine line) (c : List
     header-there : headerRefusal table (m .nodes) ≡ 0
     header-there = formatted-header table (m .nodes) (subst (Formatted table) (sym nodes-are) (i .table .header))
 
-    long : 8 ≤ length c
+    pub long : 8 ≤ length c
     unfolding seen
     long = omega (arith, sized-there .words, sized-there .least, length-append (headerFor line c) (drop 8 c), length-drop 8 c)
 
