@@ -8,7 +8,8 @@
 #include "check.h"
 #include "reader.h"
 
-_Static_assert(BLOCK_TOTALS == RATION_STATE_WORDS - RATION_FAMILIES, "the totals are the block's last words");
+_Static_assert(BLOCK_LINES == BLOCK_TOTALS + RATION_FAMILIES, "the word of the lines follows the totals");
+_Static_assert(RATION_STATE_WORDS == BLOCK_LINES + 4 + RATION_FAMILIES, "the words of a second line are the block's last");
 
 size_t guard_words = 16;
 uint64_t events;

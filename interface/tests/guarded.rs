@@ -11,8 +11,11 @@ use crate::reader;
 const GUARDS: usize = 16;
 const GUARD: u32 = 0x5afe_5afe;
 
-/// The words of the block with the totals by family, its last ones.
-const TOTALS: usize = STATE_WORDS - 16;
+/// Where the block's words of a second line begin, its last ones.
+const LINES: usize = STATE_WORDS - 20;
+
+/// The words of the block with the totals by family.
+const TOTALS: usize = LINES - 16;
 
 /// The word of the block with the depth of the way of the update begun last.
 const DEPTH: usize = TOTALS - 1;
@@ -109,7 +112,7 @@ impl Desk {
 
     pub fn set_block(&mut self, block: StateBlock) {
         self.depth = block.words()[DEPTH];
-        self.totals.copy_from_slice(&block.words()[TOTALS..]);
+        self.totals.copy_from_slice(&block.words()[TOTALS..LINES]);
         self.state.block = block;
     }
 
@@ -230,7 +233,7 @@ impl Desk {
     pub fn family_total(&mut self, family: u32) -> Result<u32, Refusal> {
         let block = self.state.block.clone();
         let result = calls::family_total(&self.state.block, family);
-        let due = block.words()[TOTALS..].get(family as usize).copied().ok_or(Refusal::NoFamily);
+        let due = block.words()[TOTALS..LINES].get(family as usize).copied().ok_or(Refusal::NoFamily);
         assert_eq!(result, due, "family {family}");
         assert!(block == self.state.block, "the block was changed");
         self.unchanged(&block, result)

@@ -1,39 +1,50 @@
 -- The invariant of a card with two lines (document 02, W-207): the line in hand with its work, on its own table, and the other at rest.
 -- "At most one call is in hand on the whole card".
 use mathlib.Core.Path.{_≡_, refl, sym, ap, subst, _∙_}
-use mathlib.Core.List.{List, []}
+use mathlib.Core.List.{List, [], _++_}
 use mathlib.Core.Logic.{_⊎_, inl, inr}
-use mathlib.Core.Bool.{Bool, false}
-use Prim.Native.Nat.{ℕ, suc, _+_, _≤_, _<_}
+use mathlib.Core.Bool.{Bool, true, false}
+use Prim.Native.Nat.{ℕ, suc, _+_, _-_, _≤_, _<_}
 use native.Mathlib.Omega.{arith}
-use lib.ListN.{length, getD, set, length-set}
+use lib.ListN.{length, getD, set, length-set, length-append}
 use lib.Seq.{getD-set-other}
-use Rattle.laws.proofs.Cases.{impossible}
+use Rattle.laws.specs.Totals.{indicator, total}
+use Rattle.laws.proofs.Totals.{total-append, total-length}
 use Rattle.card.specs.Header.{headerRefusal, Sized, Formatted}
-use Rattle.card.specs.Lines.{IsLine, seen, onLine}
+use Rattle.card.specs.Lines.{IsLine, hasLine, seen, onLine}
+use Rattle.card.specs.Layout.{keyLimit}
 use Rattle.card.proofs.LineLaws.{seen-length, seen-formatted, on-root, on-node}
 use Rattle.card_family.proofs.FamilyLaws.{Totals}
+use Rattle.card_free.specs.NodeSet.{capacity, countTrue}
 use Rattle.theory_change.proofs.Line.{Line, Partition, Own, size}
+use Rattle.theory_change.proofs.NumbersIn.{numbersIn, numbers-total}
+use Rattle.theory_change.proofs.ExactOver.{over-count}
 use Rattle.theory_change.proofs.Repaired.{settled}
 use Rattle.theory_change.proofs.TwoLines.{beside, partition-swap, among-numbers, other-stands}
 use Rattle.theory_shapes.proofs.Bare.{bare}
 use Rattle.theory_tree.specs.Pairs.{pairs}
-use Rattle.theory_tree.specs.Tree.{Tree}
+use Rattle.theory_tree.specs.Tree.{Tree, nodeTotal}
 use Rattle.theory_tree.specs.Violations.{tableViolations}
 use Rattle.state.specs.Memory.{Memory}
-use Rattle.state.specs.Steps.{isIdle}
+use Rattle.state.specs.Answers.{startReply}
+use Rattle.state.specs.Steps.{Handed, isIdle}
 use Rattle.state.specs.declared.Answer.the-variants.{Absent}
-use Rattle.state.specs.declared.Doing.the-variants.{Idle}
+use Rattle.state.specs.declared.Doing.{Doing}
+use Rattle.state.specs.declared.Doing.the-variants.{Idle, Inserting, Deleting}
+use Rattle.state.specs.declared.Phase.the-variants.{NotBegun}
+use Rattle.walk.specs.declared.Landing.{Landing}
+use Rattle.call_change.specs.Updates.{startRoom}
+use Rattle.call_start.specs.Starts.{startOf, deleteOf}
 use Rattle.state.proofs.Blocks.{withTotals}
 use Rattle.call_step.specs.Calls.{stepOf}
-use Rattle.demands.specs.Book.{Book, book, empty, feed, told}
+use Rattle.demands.specs.Book.{Update, Book, book, put, remove, empty, outcome, feed, told}
 use Rattle.demands.specs.Events.{World, step}
 use Rattle.demands.specs.RationTable.{rationTable}
 use Rattle.demands.proofs.BookLaws.{Same}
-use Rattle.demands.proofs.Invariant.{Table, Inv, stage-idle}
-use Rattle.demands.proofs.LineWork.{StoresOwn, none, one, stores-own, long, line-kept}
+use Rattle.demands.proofs.Invariant.{Table, Inv, toldOf, stage-idle}
+use Rattle.demands.proofs.LineWork.{StoresOwn, none, one, stores-own, long, sized-here, header-there, line-kept, seen-again, start-on-line}
 use Rattle.demands.proofs.PowerLoss.{idle-not-busy}
-use Rattle.demands.proofs.Starting.{idle-or-busy}
+use Rattle.demands.proofs.Starting.{idle-or-busy, started-insert, started-delete}
 use Rattle.demands.proofs.Steps.{memory}
 
 -- one of the two: its number, and the most nodes that it may use
@@ -134,7 +145,7 @@ module _ (greatest n : ℕ) (l l′ : Side) (c : List ℕ) (atRest : List ℕ) (
         stands (none e f) = subst (λ (d : List ℕ). Table greatest (seen (l′ .number) d) n (x .resting)) (sym e) (x .table)
         stands (one p v o e f) =
             subst (λ (d : List ℕ). Table greatest (seen (l′ .number) d) n (x .resting)) (sym e)
-            (stored p v o (long greatest own (l .number) (l .is) c m b steps (x .inv) h))
+            (stored p v o (long greatest own (l .number) (l .is) c m b (x .inv)))
 
     -- A TURN: nothing is in hand, and the line at rest is worked next
     pub both-turn : (steps : ℕ) (x : Both greatest n l l′ steps c m atRest b others) → m .doing ≡ Idle
@@ -177,3 +188,57 @@ module _ (greatest n : ℕ) (l l′ : Side) (c : List ℕ) (atRest : List ℕ) (
           where
             turned : withTotals m atRest ≡ memory n free last (m .depth) atRest Idle [] []
             turned = with-totals m free last em
+
+-- ---- starts
+
+-- a line's room: the free nodes less those that it may not use, which are what its limit and the other line's own nodes leave of N
+pub room-below : (n limit back : ℕ) (free : List Bool) (t s : Tree) → n < capacity → size t ≤ limit → Partition (beside n limit s) free t → back + (limit + size s) ≡ n
+    → size t + (countTrue free - back) ≤ limit
+room-below n limit back free t s few fits x e =
+    let all = over-count n free (λ m. nodeTotal (indicator m) t + total (indicator m) (numbersIn s)) (x .exact) (numbersIn t ++ numbersIn s) few
+    (λ i. omega (arith, total-append (indicator i) (numbersIn t) (numbersIn s), numbers-total (indicator i) t)) in
+    omega (
+      arith,
+      all,
+      e,
+      fits,
+      length-append (numbersIn t) (numbersIn s),
+      numbers-total (λ m. 1) t,
+      numbers-total (λ m. 1) s,
+      total-length (numbersIn t),
+      total-length (numbersIn s),
+    )
+
+module _ (greatest n : ℕ) (l l′ : Side) (c : List ℕ) (m : Memory) (atRest : List ℕ) (b : Book) (others : List (ℕ × ℕ)) (steps : ℕ)
+    (x : Both greatest n l l′ steps c m atRest b others) (has : hasLine c (l .number) ≡ true) (right : headerRefusal c (m .nodes) ≡ 0) (key : ℕ) (high : key < keyLimit) where
+  abbrev own : Line
+  own = beside n (l .limit) (x .resting)
+
+  abbrev table : List ℕ
+  table = seen (l .number) c
+
+  -- a start on the card is the start on the line's table
+  here : (doing : Doing) (room : Landing → Bool) → startOf greatest (l .number) c m key doing room ≡ startOf greatest 1 table m key doing room
+  here doing room =
+      start-on-line greatest (l .number) c m key doing room has (sized-here greatest own (l .number) (l .is) c m b (x .inv)) right
+      (header-there greatest own (l .number) (l .is) c m b (x .inv))
+
+  -- what a start hands back, refused or not, on the line in hand
+  abbrev Started : Update → Handed → Type 0
+  Started u g = (k : ℕ) × Both greatest n l l′ k c (g .memory) atRest (feed (toldOf u table (outcome (startReply (g .begun)))) b) others
+
+  -- A START of an insert, which goes by so many free nodes as the limit allows
+  pub both-insert : (value room : ℕ) → ((free : List Bool) → m .free ≡ free → Partition own free (x .inv .tree) → size (x .inv .tree) + room ≤ l .limit)
+      → Started (put key value) (startOf greatest (l .number) c m key (Inserting key value NotBegun) (startRoom table key room))
+  both-insert value room below =
+      let g = started-insert greatest own steps (alone greatest l c m) b (x .inv) room key value high below in
+      let same = here (Inserting key value NotBegun) (startRoom table key room)
+      ∙ ap (λ (d : List ℕ). startOf greatest 1 table m key (Inserting key value NotBegun) (startRoom d key room)) (sym (seen-again (l .number) c)) in
+      subst (Started (put key value)) (sym same) (g .0, both-with greatest n l l′ c atRest others x (g .1))
+
+  -- A START of a delete
+  pub both-delete : Started (remove key) (deleteOf greatest (l .number) c m key)
+  unfolding deleteOf
+  both-delete =
+      let g = started-delete greatest own steps (alone greatest l c m) b (x .inv) key high in
+      subst (Started (remove key)) (sym (here (Deleting key NotBegun 0) (λ y. true))) (g .0, both-with greatest n l l′ c atRest others x (g .1))

@@ -82,23 +82,25 @@ module _ (greatest : ℕ) (own : Line) (line : ℕ) (is : IsLine line) (c : List
   abbrev onTable : Step
   onTable = stepOf greatest 1 table m
 
-  module _ (steps : ℕ) (i : Inv greatest own (suc steps) alone b) (right : headerRefusal c (m .nodes) ≡ 0) where
+  module _ {k : ℕ} (i : Inv greatest own k alone b) where
     nodes-are : m .nodes ≡ own .nodes
-    nodes-are = nodes-same greatest own (suc steps) alone b i
+    nodes-are = nodes-same greatest own k alone b i
 
-    sized-there : Sized greatest (length table) (m .nodes)
+    -- the line's table has its length and its header, and so the card its length
+    pub sized-there : Sized greatest (length table) (m .nodes)
     sized-there = subst (Sized greatest (length table)) (sym nodes-are) (i .table .sized)
 
-    header-there : headerRefusal table (m .nodes) ≡ 0
+    pub header-there : headerRefusal table (m .nodes) ≡ 0
     header-there = formatted-header table (m .nodes) (subst (Formatted table) (sym nodes-are) (i .table .header))
 
     pub long : 8 ≤ length c
     unfolding seen
     long = omega (arith, sized-there .words, sized-there .least, length-append (headerFor line c) (drop 8 c), length-drop 8 c)
 
-    sized-here : Sized greatest (length c) (m .nodes)
-    sized-here = subst (λ (k : ℕ). Sized greatest k (m .nodes)) (seen-length line c long) sized-there
+    pub sized-here : Sized greatest (length c) (m .nodes)
+    sized-here = subst (λ (j : ℕ). Sized greatest j (m .nodes)) (seen-length line c long) sized-there
 
+  module _ (steps : ℕ) (i : Inv greatest own (suc steps) alone b) (right : headerRefusal c (m .nodes) ≡ 0) where
     -- a step on the card is the step on the line's table
     pub on-line : stepOf greatest line c m ≡ onCard line c onTable
     unfolding heldBy
@@ -106,16 +108,16 @@ module _ (greatest : ℕ) (own : Line) (line : ℕ) (is : IsLine line) (c : List
       where
         go : (m .doing ≡ Idle) ⊎ Busy (m .doing) → stepOf greatest line c m ≡ onCard line c onTable
         go (inl idle) =
-            step-sized greatest line c m sized-here ∙ ap (stepHeld line c m) (ap heldBy idle) ∙ idle-refused line c m right
+            step-sized greatest line c m (sized-here i) ∙ ap (stepHeld line c m) (ap heldBy idle) ∙ idle-refused line c m right
             ∙ refused-on-card
-            ∙ sym (ap (onCard line c) (step-sized greatest 1 table m sized-there ∙ ap (stepHeld 1 table m) (ap heldBy idle) ∙ idle-refused 1 table m header-there))
+            ∙ sym (ap (onCard line c) (step-sized greatest 1 table m (sized-there i) ∙ ap (stepHeld 1 table m) (ap heldBy idle) ∙ idle-refused 1 table m (header-there i)))
           where
             refused-on-card : stepRefused 10 c m ≡ onCard line c (stepRefused 10 table m)
             refused-on-card = refused-placed line c table m
         go (inr busy) =
-            step-sized greatest line c m sized-here ∙ ap (stepHeld line c m) (busy .held) ∙ task-on-line line c m right (busy .task)
-            ∙ sym (ap (onCard line c) (step-sized greatest 1 table m sized-there ∙ ap (stepHeld 1 table m) (busy .held)
-            ∙ task-due table m (omega (arith, sized-there .words)) header-there (busy .task)))
+            step-sized greatest line c m (sized-here i) ∙ ap (stepHeld line c m) (busy .held) ∙ task-on-line line c m right (busy .task)
+            ∙ sym (ap (onCard line c) (step-sized greatest 1 table m (sized-there i) ∙ ap (stepHeld 1 table m) (busy .held)
+            ∙ task-due table m (omega (arith, sized-there i .words)) (header-there i) (busy .task)))
 
     kept : Toward greatest (i .goal) (i .due) own steps (happens (rationTable greatest) step alone) (feed (told (rationTable greatest) step alone) b)
         × Right (onTable .answer) (i .due) × Moves own table m onTable
@@ -145,7 +147,7 @@ module _ (greatest : ℕ) (own : Line) (line : ℕ) (is : IsLine line) (c : List
       where
         go : StoresOwn → seen line (stepOf greatest line c m .card) ≡ onTable .card
         go (none e f) = ap (seen line) e ∙ sym f
-        go (one p v o e f) = ap (seen line) e ∙ stored-on own line is c long p v o ∙ sym f
+        go (one p v o e f) = ap (seen line) e ∙ stored-on own line is c (long i) p v o ∙ sym f
 
     -- THE LINE'S TABLE goes on as one of its own
     pub line-kept : Inv greatest own steps (record { card = seen line (stepOf greatest line c m .card); state = stepOf greatest line c m .memory })
@@ -165,7 +167,7 @@ module _ (greatest : ℕ) (own : Line) (line : ℕ) (is : IsLine line) (c : List
       where
         go : StoresOwn → Holds (seen other (stepOf greatest line c m .card)) s
         go (none e f) = subst (λ (d : List ℕ). Holds (seen other d) s) (sym e) h
-        go (one p v o e f) = subst (λ (d : List ℕ). Holds (seen other d) s) (sym e) (other-stands own line is c long p v other is′ apart s among o h)
+        go (one p v o e f) = subst (λ (d : List ℕ). Holds (seen other d) s) (sym e) (other-stands own line is c (long i) p v other is′ apart s among o h)
 
 -- ---- starts
 
@@ -175,7 +177,7 @@ unfolding startOf
 start-checked greatest line c m key doing room s h =
     rw (sized-nodes greatest (length c) (m .nodes) s, ne-eqb (m .nodes) 0 (λ z. omega (arith, z, s .least)), eq-eqb (m .nodes) (m .nodes) refl, h)
 
-seen-again : (line : ℕ) (c : List ℕ) → seen 1 (seen line c) ≡ seen line c
+pub seen-again : (line : ℕ) (c : List ℕ) → seen 1 (seen line c) ≡ seen line c
 unfolding seen
 seen-again line c = refl
 

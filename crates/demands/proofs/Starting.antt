@@ -266,13 +266,17 @@ module _ (greatest : ℕ) (line : Line) (steps : ℕ) (w : World (rationTable gr
       (λ free last em z r x eg low q. put-started greatest w b i free last room key value em z r x eg low high (sym (room-seen 1 (w .card) key room _) ∙ q)
       (below free (ap (λ (y : Memory). y .free) em) x) (startDepth 1 (w .card) (w .state) key))
 
+  -- a delete, which needs none
+  pub started-delete : (key : ℕ) → key < keyLimit → Goal greatest i (remove key) (startOf greatest 1 (w .card) (w .state) key (Deleting key NotBegun 0) (λ l. true))
+  started-delete key high =
+      start-with key (Deleting key NotBegun 0) (λ l. true) (remove key) high
+      (λ free last em z r x eg low q. remove-started greatest w b i free last key em z r x eg low high (startDepth 1 (w .card) (w .state) key))
+
   pub kept-delete : (key : ℕ) → key < keyLimit
       → (k : ℕ) × (j : Inv greatest line k (happens (rationTable greatest) (delete key) w) (feed (told (rationTable greatest) (delete key) w) b))
       × Fresh greatest (remove key) (deleteOf greatest 1 (w .card) (w .state) key) i j
   unfolding happens told replyTo deleteOf
-  kept-delete key high =
-      start-with key (Deleting key NotBegun 0) (λ l. true) (remove key) high
-      (λ free last em z r x eg low q. remove-started greatest w b i free last key em z r x eg low high (startDepth 1 (w .card) (w .state) key))
+  kept-delete key high = started-delete key high
 
 -- "Starting an update stores nothing": on a card with one line an insert goes by the free bits
 pub kept-insert : (greatest n steps : ℕ) (w : World (rationTable greatest)) (b : Book) (i : Inv greatest (only n) steps w b) (key value : ℕ) → key < keyLimit
