@@ -1,11 +1,11 @@
 -- Laws of the words of a block that is played in place: one for each branch of the code.
 use mathlib.Core.Path.{_≡_, refl, sym, ap, ap₂, _∙_}
 use mathlib.Core.Bool.{Bool, true, false}
-use mathlib.Core.List.{List, [], _∷_, _++_, append-nil}
+use mathlib.Core.List.{List, [], _∷_, _++_}
 use Prim.Native.Nat.{ℕ, suc, _+_, _^_, _≤_, _<_}
 use native.Mathlib.Omega.{arith}
-use lib.ListN.{length, getD, take, drop, set, replicate, length-take, length-drop, length-set, take-append-drop, drop-of-length-le, List·getD-eq-default}
-use lib.Seq.{take-at, drop-at, drop-drop, take-all, getD-take, getD-drop}
+use lib.ListN.{length, getD, take, drop, set, replicate, length-take, length-drop, length-set, take-append-drop, List·getD-eq-default}
+use lib.Seq.{take-at, drop-at, drop-drop, getD-take, getD-drop}
 use lib.Dec.{ltb, eqb}
 use borrow.Author.Tests.{ne-eqb}
 use Rattle.laws.specs.Lists.{beforeZero}

@@ -173,17 +173,17 @@ module _ (greatest n : ℕ) (l l′ : Side) (c : List ℕ) (atRest : List ℕ) (
               same = x .inv .same;
               counted = x .inv .counted;
               inv = subst (λ (y : Memory). Inv greatest (beside n (l′ .limit) t) steps (alone greatest l′ c y) (book others empty)) (sym turned) (
-                record {
-                  tree = x .resting;
-                  table = x .table;
-                  openable = record { key = 0; deep = 0; ready = settled (x .balanced) (x .room) };
-                  same = x .same;
-                  counted = x .counted;
-                  goal = bare (x .resting);
-                  due = Absent;
-                  stage = stage-idle (x .balanced) (x .room) (partition-swap n (l .limit) (l′ .limit) free t (x .resting) (x .limits) (omega (arith, r)) p) refl;
-                }
-              );
+                  record {
+                    tree = x .resting;
+                    table = x .table;
+                    openable = record { key = 0; deep = 0; ready = settled (x .balanced) (x .room) };
+                    same = x .same;
+                    counted = x .counted;
+                    goal = bare (x .resting);
+                    due = Absent;
+                    stage = stage-idle (x .balanced) (x .room) (partition-swap n (l .limit) (l′ .limit) free t (x .resting) (x .limits) (omega (arith, r)) p) refl;
+                  }
+                  );
             }
           where
             turned : withTotals m atRest ≡ memory n free last (m .depth) atRest Idle [] []

@@ -23,7 +23,8 @@ use Rattle.state.specs.declared.Doing.{Doing}
 use Rattle.state.specs.declared.Doing.the-variants.{Idle, Formatting, Inserting, Deleting, Repairing}
 use Rattle.state.specs.declared.Phase.{Phase}
 use Rattle.state.specs.declared.Phase.the-variants.{NotBegun, InHand, Decided}
-use Rattle.state.specs.Block.{depthAt, totalsAt, linesAt, backAt, freeAt, placesAt, valuesAt, restWords, stateWords, blockWord, part, phaseIn, doingIn, phaseWord, headIn, memoryIn, doingWords, headWords}
+use Rattle.state.specs.Block.{depthAt, totalsAt, linesAt, backAt, freeAt, placesAt, valuesAt, restWords, stateWords, blockWord, part}
+use Rattle.state.specs.Block.{phaseIn, doingIn, phaseWord, headIn, memoryIn, doingWords, headWords}
 use Rattle.state.specs.Blocks.{over, begunBlock, numberOf, wordsOf, restingWords, restingBlock}
 use Rattle.state.proofs.Rows.{three, append-after, same-part, placed, placed-length, placed-before, placed-after, placed-part}
 
@@ -457,5 +458,7 @@ unfolding begunBlock restingWords
 rest-stored block zeros n last doing len z =
     ap (λ (words : List ℕ). placed placesAt restWords (over (numbered (set block linesAt 0) n last) 2 words) zeros) (sym (words-each doing))
     ∙ rest-four (set block linesAt 0) zeros n last _ _ _ _ (length-set block linesAt 0 ∙ len) z
-    ∙ ap (λ (words : List ℕ). n ∷ last ∷ words ++ (0 ∷ 0 ∷ 0 ∷ 0 ∷ 0 ∷ part (set block linesAt 0) freeAt wordCount ++ (replicate restWords 0 ++ drop totalsAt (set block linesAt 0)))) (words-each doing)
+    ∙ ap (λ (words : List ℕ). n ∷ last ∷ words
+    ++ (0 ∷ 0 ∷ 0 ∷ 0 ∷ 0 ∷ part (set block linesAt 0) freeAt wordCount ++ (replicate restWords 0 ++ drop totalsAt (set block linesAt 0))))
+    (words-each doing)
     ∙ ap₂ (λ (x y : List ℕ). n ∷ last ∷ doingWords doing ++ (0 ∷ 0 ∷ 0 ∷ 0 ∷ 0 ∷ x ++ (replicate restWords 0 ++ y))) (free-before block) (one-line block len)

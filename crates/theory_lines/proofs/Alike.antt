@@ -126,7 +126,8 @@ ends-at greatest {w} {v} {a} (ends-here e f) n steps b i goal eg busy =
       record { steps = steps; book = _; inv = q .0 .0; idle = after-idle greatest w (at (q .2) f′); goal = q .0 .1 ∙ loosen-goal greatest (only n) steps (suc steps) w b (omega arith) i ∙ eg },
     )
   where
-    at : Moves (only n) (w .card) (w .state) (stepOf greatest 1 (w .card) (w .state)) → IsFinal (stepOf greatest 1 (w .card) (w .state) .answer) → stepOf greatest 1 (w .card) (w .state) .memory .doing ≡ Idle
+    at : Moves (only n) (w .card) (w .state) (stepOf greatest 1 (w .card) (w .state))
+        → IsFinal (stepOf greatest 1 (w .card) (w .state) .answer) → stepOf greatest 1 (w .card) (w .state) .memory .doing ≡ Idle
     at (was-idle d) g = absurd (idle-not-busy (w .state .doing) d busy)
     at (ends-now d same idle) g = idle
     at (goes-further s d) g = absurd (subst IsFinal (s .told) g)

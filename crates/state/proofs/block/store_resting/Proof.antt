@@ -17,7 +17,10 @@ use Rattle.card_free.specs.NodeSet.{wordCount}
 
 -- the block before its rows are cleared
 long : (c : tie.After-store-doing) → length (c .store-doing .last .0) ≡ stateWords
-long c = let s = c .before .before .before in c .store-doing .kept .0 ∙ numbered-length (set (s .args .block .now) linesAt 0) (s .args .n) (s .args .last) ∙ length-set (s .args .block .now) linesAt 0 ∙ s .pre .0
+long c =
+    let s = c .before .before .before in
+    c .store-doing .kept .0 ∙ numbered-length (set (s .args .block .now) linesAt 0) (s .args .n) (s .args .last)
+    ∙ length-set (s .args .block .now) linesAt 0 ∙ s .pre .0
 
 -- the rows
 span : (c : tie.After-store-doing) → length (take restWords (drop placesAt (c .store-doing .last .0))) ≡ restWords
