@@ -1,4 +1,4 @@
--- The check of a table as it is computed. That it accepts exactly the sound tables is a theorem of the crate soundness_theory.
+-- The check of a table as it is computed. That it accepts exactly the sound tables is a theorem of the crate theory_check.
 use mathlib.Core.Path.{_≡_}
 use mathlib.Core.Bool.{Bool, true, false, _&&_, _||_, not}
 use mathlib.Core.List.{List, [], _∷_}

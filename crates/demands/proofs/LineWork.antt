@@ -39,7 +39,7 @@ use Rattle.demands.specs.Events.{World, happens, step}
 use Rattle.demands.specs.RationTable.{rationTable}
 use Rattle.demands.proofs.BookLaws.{IsFinal}
 use Rattle.demands.proofs.Invariant.{Stage, Inv, Toward, stage-idle, stage-put, stage-remove, stage-first, stage-between, stage-within}
-use Rattle.demands.proofs.Starting.{nodes-same}
+use Rattle.demands.proofs.Starting.{nodes-same, start-checked}
 use Rattle.demands.proofs.Steps.{Busy, job-busy, put-busy, remove-busy, idle-refused as idle-step}
 use Rattle.demands.proofs.Stepping.{Right, Moves, was-idle, ends-now, goes-further, kept-step}
 
@@ -170,12 +170,6 @@ module _ (greatest : ℕ) (own : Line) (line : ℕ) (is : IsLine line) (c : List
         go (one p v o e f) = subst (λ (d : List ℕ). Holds (seen other d) s) (sym e) (other-stands own line is c (long i) p v other is′ apart s among o h)
 
 -- ---- starts
-
-start-checked : (greatest line : ℕ) (c : List ℕ) (m : Memory) (key : ℕ) (doing : Doing) (room : Landing → Bool) → Sized greatest (length c) (m .nodes)
-    → headerRefusal c (m .nodes) ≡ 0 → startOf greatest line c m key doing room ≡ startChecked line c m key doing room
-unfolding startOf
-start-checked greatest line c m key doing room s h =
-    rw (sized-nodes greatest (length c) (m .nodes) s, ne-eqb (m .nodes) 0 (λ z. omega (arith, z, s .least)), eq-eqb (m .nodes) (m .nodes) refl, h)
 
 pub seen-again : (line : ℕ) (c : List ℕ) → seen 1 (seen line c) ≡ seen line c
 unfolding seen

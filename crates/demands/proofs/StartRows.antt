@@ -22,6 +22,7 @@ use Rattle.demands.specs.Table.{inserting, deleting}
 use Rattle.demands.specs.Way.{leadsTo, among}
 use Rattle.demands.specs.Refusals.{Rows, ByRows, Idle, NoRoom, startRows, end, row}
 use Rattle.demands.specs.RationTable.{hasBegun, workOf, handed, rationTable}
+use Rattle.demands.proofs.Starting.{start-checked}
 use Rattle.demands.proofs.Work.{true-false, idle-work, busy-work}
 use Rattle.demands.proofs.CardRows.{none-some}
 use Rattle.demands.proofs.FirstRows.{NoCard, by-card}
@@ -64,8 +65,7 @@ module _ (greatest : ℕ) (c : List ℕ) (m : Memory) (key : ℕ) (doing : Doing
   start-header r s e d = rw (sized-nodes greatest (length c) (m .nodes) s, ne-eqb (m .nodes) 0 (λ z. omega (arith, z, s .least)), eq-eqb (m .nodes) (m .nodes) refl, e, ne-eqb r 0 d)
 
   start-passed : Sized greatest (length c) (m .nodes) → Formatted c (m .nodes) → startOf greatest 1 c m key doing room ≡ startChecked 1 c m key doing room
-  unfolding startOf
-  start-passed s f = rw (sized-nodes greatest (length c) (m .nodes) s, ne-eqb (m .nodes) 0 (λ z. omega (arith, z, s .least)), eq-eqb (m .nodes) (m .nodes) refl, formatted-header c (m .nodes) f)
+  start-passed s f = start-checked greatest 1 c m key doing room s (formatted-header c (m .nodes) f)
 
   pub refused-back : (r : ℕ) → HandsBack (rationTable greatest) m (handed (startRefused r m)) r
   unfolding startRefused startReply

@@ -10,7 +10,7 @@ use borrow.Author.Tests.{ne-eqb, eq-eqb, lt-ltb}
 use Rattle.card.specs.Lines.{hasLine, seen}
 use Rattle.card.proofs.LineLaws.{seen-only}
 use Rattle.call_start.proofs.StartLaws.{room-seen}
-use Rattle.card.specs.Header.{nodesOfLength, Sized, Formatted}
+use Rattle.card.specs.Header.{nodesOfLength, Sized, Formatted, headerRefusal}
 use Rattle.card.proofs.HeaderLaws.{sized-nodes, formatted-header}
 use Rattle.card.specs.Layout.{lowestKey, keyLimit}
 use Rattle.theory_change.proofs.Line.{Line, Partition, only, size, count-only}
@@ -53,12 +53,11 @@ use Rattle.walk.specs.declared.Landing.{Landing}
 use Rattle.walk.specs.declared.Landing.the-variants.{Leaf as LandingAt}
 
 -- the checks 1, 2 and 3 are passed
-start-passed : (greatest : ℕ) (c : List ℕ) (n : ℕ) → Sized greatest (length c) n → Formatted c n → (m : Memory) (key : ℕ) (doing : Doing) (room : Landing → Bool)
-    → m .nodes ≡ n → startOf greatest 1 c m key doing room ≡ startChecked 1 c m key doing room
+pub start-checked : (greatest line : ℕ) (c : List ℕ) (m : Memory) (key : ℕ) (doing : Doing) (room : Landing → Bool) → Sized greatest (length c) (m .nodes)
+    → headerRefusal c (m .nodes) ≡ 0 → startOf greatest line c m key doing room ≡ startChecked line c m key doing room
 unfolding startOf
-start-passed greatest c n s f m key doing room e =
-    let a : nodesOfLength greatest (length c) ≡ n = sized-nodes greatest (length c) n s in
-    rw (a, e, ne-eqb n 0 (omega (arith, s .least)), eq-eqb n n refl, formatted-header c n f)
+start-checked greatest line c m key doing room s h =
+    rw (sized-nodes greatest (length c) (m .nodes) s, ne-eqb (m .nodes) 0 (λ z. omega (arith, z, s .least)), eq-eqb (m .nodes) (m .nodes) refl, h)
 
 start-busy : (c : List ℕ) (m : Memory) (key : ℕ) (doing : Doing) (room : Landing → Bool) → isIdle (m .doing) ≡ false → startChecked 1 c m key doing room ≡ startRefused 7 m
 unfolding startChecked
@@ -223,7 +222,9 @@ module _ (greatest : ℕ) (line : Line) (steps : ℕ) (w : World (rationTable gr
 
   -- the checks 1, 2 and 3 are passed
   passed : (key : ℕ) (doing : Doing) (room : Landing → Bool) → startOf greatest 1 (w .card) (w .state) key doing room ≡ startChecked 1 (w .card) (w .state) key doing room
-  passed key doing room = start-passed greatest (w .card) (line .nodes) (i .table .sized) (i .table .header) (w .state) key doing room nodes-same
+  passed key doing room =
+      start-checked greatest 1 (w .card) (w .state) key doing room (rw nodes-same (i .table .sized))
+      (rw nodes-same (formatted-header (w .card) (line .nodes) (i .table .header)))
 
   -- on an idle state nothing but the room decides
   pub room-decides : (key : ℕ) (doing : Doing) (room : Landing → Bool) → w .state .doing ≡ Idle → lowestKey ≤ key → key < keyLimit

@@ -11,7 +11,7 @@ use lib.Dec.{ltb}
 use borrow.Author.Tests.{lt-ltb, le-ltb}
 use Rattle.card.specs.Lines.{seen}
 use Rattle.call_start.proofs.StartLaws.{room-seen}
-use Rattle.theory_change.proofs.Line.{Partition, only, size, count-only}
+use Rattle.theory_change.proofs.Line.{Line, Partition, only, size, count-only}
 use Rattle.card.specs.Layout.{lowestKey, keyLimit, nodeAt}
 use Rattle.walk.specs.Descent.{slotOf, firstEqual}
 use Rattle.walk.specs.declared.Slot.{Slot}
@@ -105,10 +105,10 @@ leaves n u t = pick (refuses n u t) t (afterShape u t)
 
 -- ---- an idle table of N nodes whose tree, without numbers, is t
 
-pub record Resting (greatest : ℕ) (n : ℕ) (w : World (rationTable greatest)) (t : Tree) : Type 0 where
+pub record Resting (greatest : ℕ) (line : Line) (w : World (rationTable greatest)) (t : Tree) : Type 0 where
   pub steps : ℕ
   pub book : Book
-  pub inv : Inv greatest (only n) steps w book
+  pub inv : Inv greatest line steps w book
   pub idle : w .state .doing ≡ Idle
   pub goal : inv .goal ≡ t
 
@@ -117,31 +117,84 @@ unfolding happens
 after-idle greatest w e = e
 
 -- the work in hand ends with the answer due, and at its goal
-pub ends-at : (greatest : ℕ) {w v : World (rationTable greatest)} {a : Answer} → Ends greatest w v a → (n steps : ℕ) (b : Book) (i : Inv greatest (only n) steps w b) (goal : Tree)
-    → i .goal ≡ goal → isIdle (w .state .doing) ≡ false → (a ≡ i .due) × Resting greatest n v goal
-ends-at greatest {w} {v} {a} (ends-here e f) n steps b i goal eg busy =
-    let q = kept-step greatest (only n) steps w b (loosen greatest (only n) steps (suc steps) w b (omega arith) i) in
+pub ends-at : (greatest : ℕ) {w v : World (rationTable greatest)} {a : Answer} → Ends greatest w v a → (line : Line) (steps : ℕ) (b : Book) (i : Inv greatest line steps w b) (goal : Tree)
+    → i .goal ≡ goal → isIdle (w .state .doing) ≡ false → (a ≡ i .due) × Resting greatest line v goal
+ends-at greatest {w} {v} {a} (ends-here e f) line steps b i goal eg busy =
+    let q = kept-step greatest line steps w b (loosen greatest line steps (suc steps) w b (omega arith) i) in
     let f′ : IsFinal (stepOf greatest 1 (w .card) (w .state) .answer) = subst IsFinal (sym e) f in (
-      sym e ∙ right-final (q .1) f′ ∙ loosen-due greatest (only n) steps (suc steps) w b (omega arith) i,
-      record { steps = steps; book = _; inv = q .0 .0; idle = after-idle greatest w (at (q .2) f′); goal = q .0 .1 ∙ loosen-goal greatest (only n) steps (suc steps) w b (omega arith) i ∙ eg },
+      sym e ∙ right-final (q .1) f′ ∙ loosen-due greatest line steps (suc steps) w b (omega arith) i,
+      record { steps = steps; book = _; inv = q .0 .0; idle = after-idle greatest w (at (q .2) f′); goal = q .0 .1 ∙ loosen-goal greatest line steps (suc steps) w b (omega arith) i ∙ eg },
     )
   where
-    at : Moves (only n) (w .card) (w .state) (stepOf greatest 1 (w .card) (w .state))
+    at : Moves line (w .card) (w .state) (stepOf greatest 1 (w .card) (w .state))
         → IsFinal (stepOf greatest 1 (w .card) (w .state) .answer) → stepOf greatest 1 (w .card) (w .state) .memory .doing ≡ Idle
     at (was-idle d) g = absurd (idle-not-busy (w .state .doing) d busy)
     at (ends-now d same idle) g = idle
     at (goes-further s d) g = absurd (subst IsFinal (s .told) g)
-ends-at greatest {w} {v} {a} (stores-first e rest) n steps b i goal eg busy =
-    let q = kept-step greatest (only n) steps w b (loosen greatest (only n) steps (suc steps) w b (omega arith) i) in
-    let r = ends-at greatest rest n steps _ (q .0 .0) goal (q .0 .1 ∙ loosen-goal greatest (only n) steps (suc steps) w b (omega arith) i ∙ eg) (at (q .2)) in
-    (r .0 ∙ q .0 .2 ∙ loosen-due greatest (only n) steps (suc steps) w b (omega arith) i, r .1)
+ends-at greatest {w} {v} {a} (stores-first e rest) line steps b i goal eg busy =
+    let q = kept-step greatest line steps w b (loosen greatest line steps (suc steps) w b (omega arith) i) in
+    let r = ends-at greatest rest line steps _ (q .0 .0) goal (q .0 .1 ∙ loosen-goal greatest line steps (suc steps) w b (omega arith) i ∙ eg) (at (q .2)) in
+    (r .0 ∙ q .0 .2 ∙ loosen-due greatest line steps (suc steps) w b (omega arith) i, r .1)
   where
-    at : Moves (only n) (w .card) (w .state) (stepOf greatest 1 (w .card) (w .state)) → isIdle (happens (rationTable greatest) step w .state .doing) ≡ false
+    at : Moves line (w .card) (w .state) (stepOf greatest 1 (w .card) (w .state)) → isIdle (happens (rationTable greatest) step w .state .doing) ≡ false
     at (was-idle d) = absurd (idle-not-busy (w .state .doing) d busy)
     at (ends-now d same idle) = absurd (subst IsFinal (e .1) d)
     at (goes-further s d) = after-step greatest w d
 
 -- ---- the start, by the room
+
+-- of a line's table, with as many free nodes as its limit leaves
+module _ (greatest : ℕ) (line : Line) (steps : ℕ) (w : World (rationTable greatest)) (b : Book) (i : Inv greatest line steps w b) (room : ℕ)
+    (exact : room + nodeTotal (λ m. 1) (bare (i .tree)) ≡ line .limit) where
+  abbrev shape : Tree
+  shape = bare (i .tree)
+
+  landed : (key : ℕ) (g : LandedAt (w .card) (line .nodes) key (i .tree)) → landing (w .card) (w .state .nodes) key ≡ LandingAt (g .number) (linkPlace (g .context)) (fullRun (g .context))
+  unfolding landing
+  landed key g = rw (nodes-same greatest line steps w b i) (g .landed)
+
+  row-slot : (key k : ℕ) (g : LandedAt (w .card) (line .nodes) key (i .tree)) → firstEqual (g .keys) k 0 ≡ slotOf (nodeAt (w .card) (g .number)) k
+  unfolding slotOf
+  row-slot key k g = ap (λ (q : List ℕ). firstEqual q k 0) (sym (leaf-keys (w .card) (g .number) (g .keys) (g .values) (g .on-card)))
+
+  pub room-by-tree : (key value : ℕ) → lowestKey ≤ key → key < keyLimit → startRoom (w .card) key room (landing (w .card) (w .state .nodes) key) ≡ not (refuses (line .limit) (put key value) shape)
+  unfolding refuses roomFor insertReason reasonIn emptyReason slotAnswer leafNeed
+  room-by-tree key value low high =
+      go (landing-found (w .card) (line .nodes) key (i .table .sized .words) lowestKey keyLimit (i .tree) (i .table .holds)
+      (i .table .sound .range) low high (omega arith) (table-depth-limited greatest (i .table)))
+    where
+      go : LandedAt (w .card) (line .nodes) key (i .tree) → startRoom (w .card) key room (landing (w .card) (w .state .nodes) key) ≡ not (refuses (line .limit) (put key value) shape)
+      go g =
+          room-at (w .card) (w .state .nodes) key room (g .number) (linkPlace (g .context)) (fullRun (g .context)) (landed key g)
+          ∙ by-key (slotOf (nodeAt (w .card) (g .number)) key) refl
+        where
+          found : (s : Slot) → slotOf (nodeAt (w .card) (g .number)) key ≡ s → lookup key (pairs shape) ≡ slotAnswer (nodeAt (w .card) (g .number)) s
+          found s e = ap (lookup key) (bare-pairs (i .tree)) ∙ sym (g .answers) ∙ ap (slotAnswer (nodeAt (w .card) (g .number))) e
+
+          row : (k : ℕ) → firstEqual (g .keys) k 0 ≡ slotOf (nodeAt (w .card) (g .number)) k
+          row k = row-slot key k g
+
+          need : (s : Slot) → slotOf (nodeAt (w .card) (g .number)) 0 ≡ s → needOf key 0 shape ≡ leafNeed s (fullRun (g .context))
+          need s e =
+              ap (λ (x : Tree). needOf key 0 (bare x)) (sym (g .is-tree))
+              ∙ need-leaf key (g .context) (g .number) (g .keys) (g .values) (leads-reach key (g .context) (g .leads))
+              ∙ ap (λ (x : Slot). leafNeed x (fullRun (g .context))) (row 0 ∙ e)
+
+          by-empty : (s : Slot) → slotOf (nodeAt (w .card) (g .number)) 0 ≡ s → slotOf (nodeAt (w .card) (g .number)) key ≡ NoSlot
+              → roomFor room (fullRun (g .context)) (insertReason (nodeAt (w .card) (g .number)) key)
+              ≡ not (both (isAbsent (lookup key (pairs shape))) (ltb (line .limit) (nodeTotal (λ m. 1) shape + needOf key 0 shape)))
+          by-empty (At j) e₀ e = rw (e, e₀, found NoSlot e, need (At j) e₀, le-ltb (line .limit) (nodeTotal (λ m. 1) shape + 0) (omega (arith, exact)))
+          by-empty NoSlot e₀ e =
+              rw (e, e₀, found NoSlot e, need NoSlot e₀)
+              (ap not (order (room) (splitNeed (fullRun (g .context)))
+              (λ o. lt-ltb (room) (splitNeed (fullRun (g .context))) o ∙ sym (lt-ltb (line .limit) (nodeTotal (λ m. 1) shape + (splitNeed (fullRun (g .context)))) (omega arith)))
+              (λ o. le-ltb (room) (splitNeed (fullRun (g .context))) o ∙ sym (le-ltb (line .limit) (nodeTotal (λ m. 1) shape + (splitNeed (fullRun (g .context)))) (omega arith)))))
+
+          by-key : (s : Slot) → slotOf (nodeAt (w .card) (g .number)) key ≡ s
+              → roomFor room (fullRun (g .context)) (insertReason (nodeAt (w .card) (g .number)) key)
+              ≡ not (both (isAbsent (lookup key (pairs shape))) (ltb (line .limit) (nodeTotal (λ m. 1) shape + needOf key 0 shape)))
+          by-key (At j) e = rw (e, found (At j) e)
+          by-key NoSlot e = by-empty (slotOf (nodeAt (w .card) (g .number)) 0) refl e
 
 module _ (greatest : ℕ) (n steps : ℕ) (w : World (rationTable greatest)) (b : Book) (i : Inv greatest (only n) steps w b) (idle : w .state .doing ≡ Idle) where
   abbrev t : Tree
@@ -158,61 +211,13 @@ module _ (greatest : ℕ) (n steps : ℕ) (w : World (rationTable greatest)) (b 
       at (inr (free, last, em, z, r, x, eg)) =
           (eg, rw em (omega (arith, bare-size (i .tree), count-only n free (i .tree) x (omega (arith, i .table .sized .most)))))
 
-  landed : (key : ℕ) (g : LandedAt (w .card) n key (i .tree)) → landing (w .card) (w .state .nodes) key ≡ LandingAt (g .number) (linkPlace (g .context)) (fullRun (g .context))
-  unfolding landing
-  landed key g = rw (nodes-same greatest (only n) steps w b i) (g .landed)
-
-  row-slot : (key k : ℕ) (g : LandedAt (w .card) n key (i .tree)) → firstEqual (g .keys) k 0 ≡ slotOf (nodeAt (w .card) (g .number)) k
-  unfolding slotOf
-  row-slot key k g = ap (λ (q : List ℕ). firstEqual q k 0) (sym (leaf-keys (w .card) (g .number) (g .keys) (g .values) (g .on-card)))
-
-  pub room-by-tree : (key value : ℕ) → lowestKey ≤ key → key < keyLimit → startRoom (w .card) key (roomOf (w .state)) (landing (w .card) (w .state .nodes) key) ≡ not (refuses n (put key value) t)
-  unfolding refuses roomFor insertReason reasonIn emptyReason slotAnswer leafNeed
-  room-by-tree key value low high =
-      go (landing-found (w .card) n key (i .table .sized .words) lowestKey keyLimit (i .tree) (i .table .holds)
-      (i .table .sound .range) low high (omega arith) (table-depth-limited greatest (i .table)))
-    where
-      go : LandedAt (w .card) n key (i .tree) → startRoom (w .card) key (roomOf (w .state)) (landing (w .card) (w .state .nodes) key) ≡ not (refuses n (put key value) t)
-      go g =
-          room-at (w .card) (w .state .nodes) key (roomOf (w .state)) (g .number) (linkPlace (g .context)) (fullRun (g .context)) (landed key g)
-          ∙ by-key (slotOf (nodeAt (w .card) (g .number)) key) refl
-        where
-          found : (s : Slot) → slotOf (nodeAt (w .card) (g .number)) key ≡ s → lookup key (pairs t) ≡ slotAnswer (nodeAt (w .card) (g .number)) s
-          found s e = ap (lookup key) (bare-pairs (i .tree)) ∙ sym (g .answers) ∙ ap (slotAnswer (nodeAt (w .card) (g .number))) e
-
-          row : (k : ℕ) → firstEqual (g .keys) k 0 ≡ slotOf (nodeAt (w .card) (g .number)) k
-          row k = row-slot key k g
-
-          need : (s : Slot) → slotOf (nodeAt (w .card) (g .number)) 0 ≡ s → needOf key 0 t ≡ leafNeed s (fullRun (g .context))
-          need s e =
-              ap (λ (x : Tree). needOf key 0 (bare x)) (sym (g .is-tree))
-              ∙ need-leaf key (g .context) (g .number) (g .keys) (g .values) (leads-reach key (g .context) (g .leads))
-              ∙ ap (λ (x : Slot). leafNeed x (fullRun (g .context))) (row 0 ∙ e)
-
-          by-empty : (s : Slot) → slotOf (nodeAt (w .card) (g .number)) 0 ≡ s → slotOf (nodeAt (w .card) (g .number)) key ≡ NoSlot
-              → roomFor (roomOf (w .state)) (fullRun (g .context)) (insertReason (nodeAt (w .card) (g .number)) key)
-              ≡ not (both (isAbsent (lookup key (pairs t))) (ltb n (nodeTotal (λ m. 1) t + needOf key 0 t)))
-          by-empty (At j) e₀ e = rw (e, e₀, found NoSlot e, need (At j) e₀, le-ltb n (nodeTotal (λ m. 1) t + 0) (omega (arith, resting-goal .1)))
-          by-empty NoSlot e₀ e =
-              let c = resting-goal .1 in
-              rw (e, e₀, found NoSlot e, need NoSlot e₀)
-              (ap not (order (countTrue (w .state .free)) (splitNeed (fullRun (g .context)))
-              (λ o. lt-ltb (countTrue (w .state .free)) (splitNeed (fullRun (g .context))) o ∙ sym (lt-ltb n (nodeTotal (λ m. 1) t + (splitNeed (fullRun (g .context)))) (omega arith)))
-              (λ o. le-ltb (countTrue (w .state .free)) (splitNeed (fullRun (g .context))) o ∙ sym (le-ltb n (nodeTotal (λ m. 1) t + (splitNeed (fullRun (g .context)))) (omega arith)))))
-
-          by-key : (s : Slot) → slotOf (nodeAt (w .card) (g .number)) key ≡ s
-              → roomFor (roomOf (w .state)) (fullRun (g .context)) (insertReason (nodeAt (w .card) (g .number)) key)
-              ≡ not (both (isAbsent (lookup key (pairs t))) (ltb n (nodeTotal (λ m. 1) t + needOf key 0 t)))
-          by-key (At j) e = rw (e, found (At j) e)
-          by-key NoSlot e = by-empty (slotOf (nodeAt (w .card) (g .number)) 0) refl e
-
   -- an update starts, or is refused 8
   pub start-decided : (u : Update) → lowestKey ≤ keyOf u → keyOf u < keyLimit → (r : Bool) → refuses n u t ≡ r → starts greatest u w ≡ pick r (BegunRefused 8) Started
   unfolding refuses insertOf deleteOf startAccepted startRefused
   start-decided (put key value) low high r e =
       let d = room-decides greatest (only n) steps w b i key (Inserting key value NotBegun) (startRoom (seen 1 (w .card)) key (roomOf (w .state))) idle low high in
       let q : startRoom (seen 1 (w .card)) key (roomOf (w .state)) (landing (w .card) (w .state .nodes) key) ≡ not r =
-      room-seen 1 (w .card) key (roomOf (w .state)) (landing (w .card) (w .state .nodes) key) ∙ room-by-tree key value low high ∙ ap not e in
+      room-seen 1 (w .card) key (roomOf (w .state)) (landing (w .card) (w .state .nodes) key) ∙ room-by-tree greatest (only n) steps w b i (roomOf (w .state)) (resting-goal .1) key value low high ∙ ap not e in
       ap (λ (x : Handed). x .begun) (d ∙ ap (λ (x : Bool). pick x
       (startAccepted (w .state) (Inserting key value NotBegun) (startDepth 1 (w .card) (w .state) key)) (startRefused 8 (w .state))) q) ∙ at r
     where
@@ -247,8 +252,8 @@ unfolding outcome leaves
 outcome-answered n u t e = (rw e, rw e)
 
 -- ONE WHOLE UPDATE: its outcome, and what it leaves, are functions of N and of the tree without numbers
-pub one-whole : (greatest : ℕ) {u : Update} {w v : World (rationTable greatest)} {o : Outcome} → Whole greatest u w v o → (n : ℕ) (t : Tree) → Resting greatest n w t
-    → lowestKey ≤ keyOf u → keyOf u < keyLimit → (o ≡ outcome n u t) × Resting greatest n v (leaves n u t)
+pub one-whole : (greatest : ℕ) {u : Update} {w v : World (rationTable greatest)} {o : Outcome} → Whole greatest u w v o → (n : ℕ) (t : Tree) → Resting greatest (only n) w t
+    → lowestKey ≤ keyOf u → keyOf u < keyLimit → (o ≡ outcome n u t) × Resting greatest (only n) v (leaves n u t)
 one-whole greatest {u} (not-begun {w} r e) n t x low high =
     let i = x .inv in
     let now : bare (i .tree) ≡ t = resting-goal greatest n (x .steps) w (x .book) i (x .idle) .0 ∙ x .goal in
@@ -263,7 +268,7 @@ one-whole greatest {u} (worked {w} {v} {a} e ends) n t x low high =
     (λ d. let s = start-decided greatest n (x .steps) w (x .book) i (x .idle) u low high true (ap (refuses n u) now ∙ d) in absurd (started-no-refusal _ (sym e ∙ s)))
     (λ d. let q = begun-right greatest n (x .steps) w (x .book) i (x .idle) u high e in
     let z = outcome-answered n u t d in
-    let y = ends-at greatest ends n (q .0) (q .1) (q .2) (afterShape u t) (q .3 ∙ ap (afterShape u) (x .goal)) (q .5) in
+    let y = ends-at greatest ends (only n) (q .0) (q .1) (q .2) (afterShape u t) (q .3 ∙ ap (afterShape u) (x .goal)) (q .5) in
     (ap answered (y .0 ∙ q .4 ∙ ap (λ (p : Tree). dictionaryAnswer (lookup (keyOf u) (pairs p))) now) ∙ sym (z .0), rw (z .1) (y .1)))
 
 -- ---- lists of calls
@@ -281,7 +286,7 @@ Keys [] = Unit
 Keys (u ∷ us) = (lowestKey ≤ keyOf u) × (keyOf u < keyLimit) × Keys us
 
 pub whole-runs : (greatest : ℕ) {us : List Update} {w v : World (rationTable greatest)} {os : List Outcome} → Runs greatest us w v os
-    → (n : ℕ) (t : Tree) → Resting greatest n w t → Keys us → (os ≡ outcomes n us t) × Resting greatest n v (shapeLeft n us t)
+    → (n : ℕ) (t : Tree) → Resting greatest (only n) w t → Keys us → (os ≡ outcomes n us t) × Resting greatest (only n) v (shapeLeft n us t)
 whole-runs greatest no-more n t x k = (refl, x)
 whole-runs greatest (one-more {u} {us} c rest) n t x k =
     let p = one-whole greatest c n t x (k .0) (k .1) in
@@ -290,6 +295,6 @@ whole-runs greatest (one-more {u} {us} c rest) n t x k =
 
 -- NODE NUMBERS DO NOT MATTER: two tables of the same N whose trees are alike give the same outcomes to the same calls, and stay alike
 pub same-outcomes : (greatest : ℕ) {us : List Update} {w v w′ v′ : World (rationTable greatest)} {os os′ : List Outcome}
-    → Runs greatest us w v os → Runs greatest us w′ v′ os′ → (n : ℕ) (t : Tree) → Resting greatest n w t → Resting greatest n w′ t → Keys us
-    → (os ≡ os′) × (s : Tree) × Resting greatest n v s × Resting greatest n v′ s
+    → Runs greatest us w v os → Runs greatest us w′ v′ os′ → (n : ℕ) (t : Tree) → Resting greatest (only n) w t → Resting greatest (only n) w′ t → Keys us
+    → (os ≡ os′) × (s : Tree) × Resting greatest (only n) v s × Resting greatest (only n) v′ s
 same-outcomes greatest {us} a b n t x y k = let p = whole-runs greatest a n t x k in let q = whole-runs greatest b n t y k in (p .0 ∙ sym (q .0), shapeLeft n us t, p .1, q .1)

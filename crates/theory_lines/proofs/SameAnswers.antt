@@ -37,13 +37,13 @@ pub record AtRest (greatest : ℕ) (w : World (rationTable greatest)) : Type 0 w
   pub now : run (rationTable greatest) events begin ≡ w
   pub idle : w .state .doing ≡ Idle
 
-pub at-rest-resting : (greatest : ℕ) {w : World (rationTable greatest)} → AtRest greatest w → (t : Tree) → Holds (w .card) t → Resting greatest (w .state .nodes) w (bare t)
+pub at-rest-resting : (greatest : ℕ) {w : World (rationTable greatest)} → AtRest greatest w → (t : Tree) → Holds (w .card) t → Resting greatest (only (w .state .nodes)) w (bare t)
 at-rest-resting greatest {w} a t h = go (rw (a .now) at (kept-from greatest (a .begin) (a .map) (a .begins) (a .events) (a .words)))
   where
-    go : ((n : ℕ) × (k : ℕ) × Inv greatest (only n) k w (kept (rationTable greatest) (a .events) (a .begin) (book (a .map) empty))) → Resting greatest (w .state .nodes) w (bare t)
+    go : ((n : ℕ) × (k : ℕ) × Inv greatest (only n) k w (kept (rationTable greatest) (a .events) (a .begin) (book (a .map) empty))) → Resting greatest (only (w .state .nodes)) w (bare t)
     go (n, k, i) =
         let e = nodes-same greatest (only n) k w _ i in
-        let r : Resting greatest n w (bare t) =
+        let r : Resting greatest (only n) w (bare t) =
         record {
           steps = k;
           book = _;
@@ -51,10 +51,10 @@ at-rest-resting greatest {w} a t h = go (rw (a .now) at (kept-from greatest (a .
           idle = a .idle;
           goal = sym (resting-goal greatest n k w _ i (a .idle) .0) ∙ ap bare (one-held (w .card) (i .tree) t (i .table .holds) h);
         } in
-        subst (λ (x : ℕ). Resting greatest x w (bare t)) (sym e) r
+        subst (λ (x : ℕ). Resting greatest (only x) w (bare t)) (sym e) r
 
 -- what stands on the card then
-resting-held : (greatest : ℕ) {n : ℕ} {w : World (rationTable greatest)} {s : Tree} → Resting greatest n w s → (t : Tree) × Holds (w .card) t × (bare t ≡ s)
+resting-held : (greatest : ℕ) {n : ℕ} {w : World (rationTable greatest)} {s : Tree} → Resting greatest (only n) w s → (t : Tree) × Holds (w .card) t × (bare t ≡ s)
 resting-held greatest {n} {w} x = (x .inv .tree, x .inv .table .holds, resting-goal greatest n (x .steps) w (x .book) (x .inv) (x .idle) .0 ∙ x .goal)
 
 pub same-answers : (greatest : ℕ) {w w′ v v′ : World (rationTable greatest)} {us : List Update} {os os′ : List Outcome} → AtRest greatest w → AtRest greatest w′
@@ -62,8 +62,8 @@ pub same-answers : (greatest : ℕ) {w w′ v v′ : World (rationTable greatest
     → Runs greatest us w v os → Runs greatest us w′ v′ os′ → (os ≡ os′) × (s : Tree) × (s′ : Tree) × Holds (v .card) s × Holds (v′ .card) s′ × Alike s s′
 same-answers greatest {w} {w′} a a′ en t t′ h h′ e k r r′ =
     let q =
-    same-outcomes greatest r r′ (w .state .nodes) (bare t) (at-rest-resting greatest a t h) (subst (λ (x : ℕ). Resting greatest x w′ (bare t)) (sym en)
-    (subst (λ (s : Tree). Resting greatest (w′ .state .nodes) w′ s) (sym e) (at-rest-resting greatest a′ t′ h′))) k in
+    same-outcomes greatest r r′ (w .state .nodes) (bare t) (at-rest-resting greatest a t h) (subst (λ (x : ℕ). Resting greatest (only x) w′ (bare t)) (sym en)
+    (subst (λ (s : Tree). Resting greatest (only (w′ .state .nodes)) w′ s) (sym e) (at-rest-resting greatest a′ t′ h′))) k in
     let x = resting-held greatest (q .2) in
     let y = resting-held greatest (q .3) in
     (q .0, x .0, y .0, x .1, y .1, x .2 ∙ sym (y .2))
@@ -72,8 +72,8 @@ same-answers greatest {w} {w′} a a′ en t t′ h h′ e k r r′ =
 pub repair-alike : (greatest : ℕ) (c : List ℕ) (t : Tree) → Opens (rationTable greatest) c → WellFormed c t
     → {v : World (rationTable greatest)} {a : Answer}
     → Ends greatest (opened (rationTable greatest) c) v a → isIdle (openOf greatest c .memory .doing) ≡ false
-    → (a ≡ Ready) × Resting greatest (nodesOfLength greatest (length c)) v (settledBy depthLimit (bare t))
+    → (a ≡ Ready) × Resting greatest (only (nodesOfLength greatest (length c))) v (settledBy depthLimit (bare t))
 repair-alike greatest c t q k e busy =
     let i = opened-inv greatest c t q k in
-    let r = ends-at greatest e (nodesOfLength greatest (length c)) _ _ (i .0) (settledBy depthLimit (bare t)) (i .1) busy in
+    let r = ends-at greatest e (only (nodesOfLength greatest (length c))) _ _ (i .0) (settledBy depthLimit (bare t)) (i .1) busy in
     (r .0 ∙ i .2, r .1)
