@@ -9,13 +9,12 @@ use native.Mathlib.Omega.{arith}
 use lib.ListN.{length, getD, set, drop, length-append, length-drop}
 use lib.Seq.{getD-set-same}
 use lib.Dec.{eqb}
-use borrow.Author.Tests.{ne-eqb, eq-eqb}
 use Rattle.laws.specs.Cases.{pick}
 use Rattle.laws.proofs.Cases.{impossible}
 use Rattle.laws.specs.Totals.{indicator, total}
 use Rattle.card.specs.Header.{headerRefusal, Sized, Formatted}
 use Rattle.card.specs.Lines.{IsLine, hasLine, headerFor, seen, onLine}
-use Rattle.card.proofs.HeaderLaws.{formatted-header, sized-nodes}
+use Rattle.card.proofs.HeaderLaws.{formatted-header}
 use Rattle.card.proofs.LineLaws.{seen-length, seen-sized, line-one}
 use Rattle.theory_change.proofs.Line.{Line, Own}
 use Rattle.theory_change.proofs.TwoLines.{stored-on, other-stands}

@@ -10,7 +10,7 @@ use borrow.Author.Tests.{ne-eqb, eq-eqb, lt-ltb}
 use Rattle.card.specs.Lines.{hasLine, seen}
 use Rattle.card.proofs.LineLaws.{seen-only}
 use Rattle.call_start.proofs.StartLaws.{room-seen}
-use Rattle.card.specs.Header.{nodesOfLength, Sized, Formatted, headerRefusal}
+use Rattle.card.specs.Header.{Sized, headerRefusal}
 use Rattle.card.proofs.HeaderLaws.{sized-nodes, formatted-header}
 use Rattle.card.specs.Layout.{lowestKey, keyLimit}
 use Rattle.theory_change.proofs.Line.{Line, Partition, only, size, count-only}

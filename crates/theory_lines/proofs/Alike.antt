@@ -217,7 +217,8 @@ module _ (greatest : ℕ) (n steps : ℕ) (w : World (rationTable greatest)) (b 
   start-decided (put key value) low high r e =
       let d = room-decides greatest (only n) steps w b i key (Inserting key value NotBegun) (startRoom (seen 1 (w .card)) key (roomOf (w .state))) idle low high in
       let q : startRoom (seen 1 (w .card)) key (roomOf (w .state)) (landing (w .card) (w .state .nodes) key) ≡ not r =
-      room-seen 1 (w .card) key (roomOf (w .state)) (landing (w .card) (w .state .nodes) key) ∙ room-by-tree greatest (only n) steps w b i (roomOf (w .state)) (resting-goal .1) key value low high ∙ ap not e in
+      room-seen 1 (w .card) key (roomOf (w .state)) (landing (w .card) (w .state .nodes) key)
+      ∙ room-by-tree greatest (only n) steps w b i (roomOf (w .state)) (resting-goal .1) key value low high ∙ ap not e in
       ap (λ (x : Handed). x .begun) (d ∙ ap (λ (x : Bool). pick x
       (startAccepted (w .state) (Inserting key value NotBegun) (startDepth 1 (w .card) (w .state) key)) (startRefused 8 (w .state))) q) ∙ at r
     where
