@@ -16,7 +16,7 @@ use Rattle.card.specs.Layout.{keyLimit}
 use Rattle.card.proofs.LineLaws.{seen-length, seen-formatted, on-root, on-node}
 use Rattle.card_family.proofs.FamilyLaws.{Totals}
 use Rattle.card_free.specs.NodeSet.{capacity, countTrue}
-use Rattle.theory_change.proofs.Line.{Line, Partition, Own, size}
+use Rattle.theory_change.proofs.Line.{Line, Partition, Own, size, partition-apart}
 use Rattle.theory_change.proofs.NumbersIn.{numbersIn, numbers-total}
 use Rattle.theory_change.proofs.ExactOver.{over-count}
 use Rattle.theory_change.proofs.Repaired.{settled}
@@ -178,14 +178,18 @@ module _ (greatest n : ℕ) (l l′ : Side) (c : List ℕ) (atRest : List ℕ) (
                     table = x .table;
                     openable = record { key = 0; deep = 0; ready = settled (x .balanced) (x .room) };
                     same = x .same;
+                    apart = partition-apart (swapped p r);
                     counted = x .counted;
                     goal = bare (x .resting);
                     due = Absent;
-                    stage = stage-idle (x .balanced) (x .room) (partition-swap n (l .limit) (l′ .limit) free t (x .resting) (x .limits) (omega (arith, r)) p) refl;
+                    stage = stage-idle (x .balanced) (x .room) (swapped p r) refl;
                   }
                   );
             }
           where
+            swapped : Partition own free t → size t + 3 ≤ l .limit → Partition (beside n (l′ .limit) t) free (x .resting)
+            swapped p r = partition-swap n (l .limit) (l′ .limit) free t (x .resting) (x .limits) (omega (arith, r)) p
+
             turned : withTotals m atRest ≡ memory n free last (m .depth) atRest Idle [] []
             turned = with-totals m free last em
 

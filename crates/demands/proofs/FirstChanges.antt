@@ -128,6 +128,7 @@ module _ (c : List ℕ) (line : Line) (key : ℕ) (free : List Bool) (C : Contex
                 store-then {t = plug C (leaf m ks vs)} (plug C (leaf m ks (set vs i v))) (storable (12 + i) (omega arith)) (value-stored c C m i v ks vs small (sound .once) holds) (b .sound)
                 (record { key = key; deep = b .level; ready = b .ready })
                 (λ w. omega (arith, pairs-plug w C (leaf m ks vs) (leaf m ks (set vs i v)), value-same w))
+                (λ j. omega (arith, total-plug (indicator j) C (leaf m ks vs), total-plug (indicator j) C (leaf m ks (set vs i v))))
                 (last-store second-place
                 (key-stored (set c (place m (12 + i)) v) C m i key ks (set vs i v) small (b .sound .once) (value-stored c C m i v ks vs small (sound .once) holds)));
             sound = d .sound;

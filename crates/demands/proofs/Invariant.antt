@@ -8,7 +8,7 @@ use lib.ListN.{length}
 use Rattle.card.specs.Layout.{lowestKey, keyLimit}
 use Rattle.card.specs.Header.{Sized, Formatted}
 use Rattle.card.specs.Stores.{Store}
-use Rattle.theory_change.proofs.Line.{Line, Partition, size}
+use Rattle.theory_change.proofs.Line.{Line, Partition, size, Apart}
 use Rattle.theory_change.proofs.Plays.{Openable, Changing}
 use Rattle.theory_change.proofs.Repaired.{Mendable}
 use Rattle.theory_change.proofs.Rewritten.{Sound}
@@ -108,6 +108,8 @@ pub record Inv (greatest : ℕ) (line : Line) (steps : ℕ) (w : World (rationTa
   pub same : Same (pairs tree) (b .held)
   -- document 02, W-204: the totals are those of the tree on the card
   pub counted : Totals (w .state .totals) (pairs tree)
+  -- document 02, W-207: no node is in both trees of a card
+  pub apart : Apart line tree
   -- what the work in hand comes to, without numbers
   pub goal : Tree
   -- the final answer that it gives

@@ -11,7 +11,7 @@ use lib.Seq.{getD-set-other}
 use borrow.Author.Tests.{ne-eqb, eq-eqb}
 use Rattle.card.specs.Header.{Formatted}
 use Rattle.card.specs.Stores.{Store}
-use Rattle.theory_change.proofs.Line.{Line, Own}
+use Rattle.theory_change.proofs.Line.{Line, Own, Apart, partition-apart}
 use Rattle.theory_change.proofs.Plays.{Openable, Storable, Plays, Changing, last-store, store-then}
 use Rattle.theory_change.proofs.Rewritten.{Sound}
 use Rattle.demands.proofs.Invariant.{Toward, Table, Job, Entered, updated, stage-first, stage-between, stage-within}
@@ -29,7 +29,8 @@ use Rattle.theory_shapes.proofs.Whole.{Heads}
 use Rattle.theory_tree.proofs.Cut.{cut}
 use Rattle.theory_tree.specs.Pairs.{pairs}
 use Rattle.theory_tree.specs.Represent.{Holds}
-use Rattle.theory_tree.specs.Tree.{Tree}
+use Rattle.laws.specs.Totals.{indicator}
+use Rattle.theory_tree.specs.Tree.{Tree, nodeTotal}
 use Rattle.theory_tree.specs.Violations.{few}
 
 -- ---- one store of the change in hand
@@ -57,13 +58,13 @@ table-set greatest {c} {line} p v s b h k = record { sized = rw (length-set c p 
 -- the first place to store to is on the card
 pub first-storable : {line : Line} {next : Tree} {c : List ℕ} {t : Tree} {s : Store} {rest : List Store} → Plays line next c t (s ∷ rest) → Storable line c (s .0)
 first-storable (last-store s h) = s
-first-storable (store-then u s h k o e p) = s
+first-storable (store-then u s h k o e a p) = s
 
 -- what one store of a change leaves: the rest of it, on a table with the same pairs, or the next tree
 pub data Left (greatest : ℕ) (line : Line) (key : ℕ) (c : List ℕ) (t : Tree) (free : List Bool) (cut : List ℕ) (next : Tree) (level : ℕ) (s : Store) : List Store → Type 0 where
   all-made : Table greatest (set c (s .0) (s .1)) (line .nodes) next → Left greatest line key c t free cut next level s []
   some-left : {x : Store} {rest : List Store} (u : Tree) → Table greatest (set c (s .0) (s .1)) (line .nodes) u → Openable (line .limit) u → Same (pairs u) (pairs t)
-      → (p : Changing (set c (s .0) (s .1)) line key u (x ∷ rest) free cut) → p .next ≡ next → p .level ≡ level
+      → ((i : ℕ) → nodeTotal (indicator i) u ≡ nodeTotal (indicator i) t) → (p : Changing (set c (s .0) (s .1)) line key u (x ∷ rest) free cut) → p .next ≡ next → p .level ≡ level
       → Left greatest line key c t free cut next level s (x ∷ rest)
 
 one-store : (greatest : ℕ) {c : List ℕ} {line : Line} {key : ℕ} {t : Tree} {s : Store} {rest : List Store} {free : List Bool} {cut : List ℕ} → Table greatest c (line .nodes) t
@@ -72,18 +73,19 @@ one-store greatest {c} {line} {key} {t} {free = free} {cut = cut} b p = at (p .p
   where
     at : {s : Store} {rest : List Store} → Plays line (p .next) c t (s ∷ rest) → Left greatest line key c t free cut (p .next) (p .level) s rest
     at (last-store {p = a} {v = v} s h) = all-made (table-set greatest a v s b h (p .sound))
-    at (store-then {p = a} {v = v} u s h k o e q) =
-        some-left u (table-set greatest a v s b h k) o (record { totals = e }) (record { next = p .next; plays = q; sound = p .sound; exact = p .exact; level = p .level; ready = p .ready }) refl refl
+    at (store-then {p = a} {v = v} u s h k o e same q) =
+        some-left u (table-set greatest a v s b h k) o (record { totals = e }) same
+        (record { next = p .next; plays = q; sound = p .sound; exact = p .exact; level = p .level; ready = p .ready }) refl refl
 
 -- a store of a repair's change
 pub repair-stored : (greatest : ℕ) {c : List ℕ} {line : Line} {key : ℕ} {t : Tree} {s : Store} {rest : List Store} {free : List Bool} {cut : List ℕ} {doing : Doing}
     {due : Answer} {u : Option Update} {h : Hand} {goal : Tree} (last depth steps : ℕ) (totals : List ℕ) (z : List Store) (l : List (ℕ × ℕ)) → Table greatest c (line .nodes) t
-    → Same (pairs t) l → Totals totals (pairs t)
+    → Same (pairs t) l → Totals totals (pairs t) → Apart line t
     → Job Decided doing key due u → Entered u h → (p : Changing c line key t (s ∷ rest) free cut) → Same (pairs (p .next)) (pairs t)
     → length rest + (73 * p .level + 1) ≤ steps → Heads (p .level) (bare (p .next)) goal
     → Toward greatest goal due line steps (record { card = set c (s .0) (s .1); state = advanced (memory (line .nodes) free last depth totals doing z cut) rest }) (book l h)
 unfolding advanced
-repair-stored greatest {c} {line} {key} {t} {s} {rest} {free} {cut} {doing} {due} {h = h} {goal = goal} last depth steps totals z l b same counted j en p e few hd = at rest
+repair-stored greatest {c} {line} {key} {t} {s} {rest} {free} {cut} {doing} {due} {h = h} {goal = goal} last depth steps totals z l b same counted apart j en p e few hd = at rest
     (one-store greatest b p) few
   where
     at : (rest : List Store) → Left greatest line key c t free cut (p .next) (p .level) s rest → length rest + (73 * p .level + 1) ≤ steps
@@ -96,13 +98,14 @@ repair-stored greatest {c} {line} {key} {t} {s} {rest} {free} {cut} {doing} {due
         table = b′;
         openable = record { key = key; deep = p .level; ready = p .ready };
         same = same-over e same;
+        apart = partition-apart (p .exact);
         counted = rw (decided-totals j totals) (totals-same totals (pairs t) (pairs (p .next)) (λ w. sym (e .totals w)) counted);
         stage = stage-between (job-settled j) en (p .level) (p .ready) (p .exact) (omega arith) hd;
       },
       refl,
       refl,
     )
-    at rest (some-left v b′ o e₁ q en₁ el) few = (
+    at rest (some-left v b′ o e₁ nodes q en₁ el) few = (
       record {
         tree = v;
         goal = goal;
@@ -110,6 +113,7 @@ repair-stored greatest {c} {line} {key} {t} {s} {rest} {free} {cut} {doing} {due
         table = b′;
         openable = o;
         same = same-over e₁ same;
+        apart = λ i. omega (arith, nodes i, apart i);
         counted = totals-same totals (pairs t) (pairs v) (λ w. sym (e₁ .totals w)) counted;
         stage = stage-within j en q (same-over (rw en₁ e) (same-back e₁)) (rw el few) (rw (en₁, el) hd);
       },
@@ -120,14 +124,14 @@ repair-stored greatest {c} {line} {key} {t} {s} {rest} {free} {cut} {doing} {due
 -- a store of an update's first change: the last one enters it
 pub update-stored : (greatest : ℕ) {c : List ℕ} {line : Line} {key : ℕ} {t : Tree} {s : Store} {rest : List Store} {free : List Bool} {cut : List ℕ} {doing : Doing}
     {due : Answer} {u : Update} {goal : Tree} (deciding k last depth steps : ℕ) (totals : List ℕ) (z : List Store) (l : List (ℕ × ℕ))
-    → Table greatest c (line .nodes) t → Same (pairs t) l → Totals totals (pairs t)
+    → Table greatest c (line .nodes) t → Same (pairs t) l → Totals totals (pairs t) → Apart line t
     → Job InHand doing key due (some u) → (p : Changing c line key t (s ∷ rest) free cut) → Changes u (pairs t) (pairs (p .next))
     → k + suc (length rest) ≡ deciding → length rest + (73 * p .level + 1) ≤ steps → Heads (p .level) (bare (p .next)) goal
     → Toward greatest goal due line steps (record { card = set c (s .0) (s .1); state = advanced (memory (line .nodes) free last depth totals doing z cut) rest })
     (fedStep goesOn l (holding u deciding k))
 unfolding advanced fedStep
 update-stored greatest {c} {line} {key} {t} {s} {rest} {free} {cut} {doing} {due} {u} {goal}
-    deciding k last depth steps totals z l b same counted j p e count few hd =
+    deciding k last depth steps totals z l b same counted apart j p e count few hd =
     at rest (one-store greatest b p) count few
   where
     at : (rest : List Store) → Left greatest line key c t free cut (p .next) (p .level) s rest → k + suc (length rest) ≡ deciding → length rest + (73 * p .level + 1) ≤ steps
@@ -142,13 +146,14 @@ update-stored greatest {c} {line} {key} {t} {s} {rest} {free} {cut} {doing} {due
             table = b′;
             openable = record { key = key; deep = p .level; ready = p .ready };
             same = e .enters .to l same;
+            apart = partition-apart (p .exact);
             counted = changed-totals j totals (pairs t) (pairs (p .next)) (few-pairs greatest b) (few-pairs greatest b′) e counted;
             stage = stage-between (job-settled j) (updated {deciding = deciding} {count = suc k} (omega arith)) (p .level) (p .ready) (p .exact) (omega arith) hd;
           },
           refl,
           refl,
         )
-    at rest (some-left {rest = r} v b′ o e₁ q en el) count few =
+    at rest (some-left {rest = r} v b′ o e₁ nodes q en el) count few =
         let q′ : suc k + suc (length r) ≡ deciding = omega arith in
         rw (ne-eqb (suc k) deciding (omega arith)) (
           record {
@@ -158,6 +163,7 @@ update-stored greatest {c} {line} {key} {t} {s} {rest} {free} {cut} {doing} {due
             table = b′;
             openable = o;
             same = same-over e₁ same;
+            apart = λ i. omega (arith, nodes i, apart i);
             counted = totals-same totals (pairs t) (pairs v) (λ w. sym (e₁ .totals w)) counted;
             stage = stage-first {count = suc k} j q (changes-from (same-back e₁) (rw en e)) q′ (rw el few) (rw (en, el) hd);
           },

@@ -123,3 +123,5 @@ pub mod Demands
 pub mod LineWork
 -- the invariant of a card with two lines: a step of the one in hand, and a turn
 pub mod BothLines
+-- a card of two lines that is opened, also after a cut at any moment
+pub mod BothOpened

@@ -9,7 +9,7 @@ use native.Mathlib.Decide.{ℕ-discrete}
 use lib.ListN.{length}
 use lib.Dec.{eqb}
 use Rattle.card.specs.Lines.{hasLine, seen}
-use Rattle.theory_change.proofs.Line.{Line, only, size, partition-only}
+use Rattle.theory_change.proofs.Line.{Line, only, size, partition-only, only-apart}
 use Rattle.card.specs.Replies.{refusal, ready, stored, started as startedReply}
 use Rattle.state.specs.Answers.{stepReply, startReply}
 use Rattle.state.specs.Steps.{noBeginning, isIdle, stepRefused, formatStore}
@@ -106,7 +106,18 @@ ask-same greatest question w = refl
 -- ---- more steps than needed are enough; a cut; any events
 
 pub loosen : (greatest : ℕ) (line : Line) (few many : ℕ) (w : World (rationTable greatest)) (b : Book) → few ≤ many → Inv greatest line few w b → Inv greatest line many w b
-loosen greatest line few many w b h i = record { tree = i .tree; goal = i .goal; due = i .due; table = i .table; openable = i .openable; same = i .same; counted = i .counted; stage = at (i .stage) }
+loosen greatest line few many w b h i =
+    record {
+      tree = i .tree;
+      goal = i .goal;
+      due = i .due;
+      table = i .table;
+      openable = i .openable;
+      same = i .same;
+      apart = i .apart;
+      counted = i .counted;
+      stage = at (i .stage);
+    }
   where
     more : UpdateSteps (i .tree) few → UpdateSteps (i .tree) many
     more q = record { height = q .height; level = q .level; enough = omega (arith, q .enough) }
@@ -141,6 +152,7 @@ reopened-inv greatest n c t l b o s =
       table = b;
       openable = o;
       same = s;
+      apart = only-apart n t (b .sound .once);
       counted = rw (r .rebuilt) (table-totals c n t (b .sized .words) (b .sized .most) (table-well-formed greatest b));
       stage = r .stage;
     })
@@ -196,6 +208,7 @@ fresh-inv greatest n c f =
       table = record { sized = f .sized; header = f .formatted; holds = f .holds; sound = f .sound };
       openable = record { key = 0; deep = 0; ready = settled (f .no-violations) room };
       same = record { totals = λ w. ap (total w) (f .no-pairs) };
+      apart = only-apart n freshTree (f .sound .once);
       counted = rw (f .no-pairs) totals-none;
       stage = stage-idle (f .no-violations) room (partition-only c n (freshNodes n) freshTree (f .sized .words) (f .holds .2) (f .exact)) refl;
     }

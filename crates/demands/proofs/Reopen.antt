@@ -8,7 +8,7 @@ use Prim.Native.Nat.{ℕ, _+_, _*_, _≤_}
 use native.Mathlib.Omega.{arith}
 use lib.ListN.{length}
 use borrow.Author.Tests.{le-ltb, ne-eqb}
-use Rattle.theory_change.proofs.Line.{Partition, only, size, partition-only, count-only}
+use Rattle.theory_change.proofs.Line.{Line, Partition, only, size, partition-only, count-only}
 use Rattle.card.specs.Header.{nodesOfLength, headerRefusal, cardRefusal, Sized, Formatted}
 use Rattle.card.proofs.HeaderLaws.{sized-nodes, formatted-header}
 use Rattle.card.specs.Layout.{lowestKey, keyLimit, depthLimit, searchStart}
@@ -30,7 +30,8 @@ use Rattle.theory_check.proofs.Ranges.{well-formed-in-range, range-sound}
 use Rattle.theory_check.proofs.Soundness.{sound-accepted}
 use Rattle.state.specs.Steps.{Handed, isIdle}
 use Rattle.call_open.specs.Opening.{openSound, openChecked, openOf}
-use Rattle.state.specs.Memory.{resting}
+use Rattle.state.specs.Memory.{Memory, resting}
+use Rattle.state.specs.declared.Doing.{Doing}
 use Rattle.state.specs.declared.Doing.the-variants.{Idle, Repairing}
 use Rattle.state.specs.declared.Answer.the-variants.{Ready}
 use Rattle.state.specs.declared.Begun.the-variants.{Idle as OpenedIdle, Started}
@@ -112,8 +113,66 @@ repair-busy n last totals free key = refl
 violation-deep : (t : Tree) (key : ℕ) (v : Violation t key) → depthOf (v .context) ≤ depth t
 violation-deep t key v = rw (v .is-tree) (omega (arith, depth-plug (v .context) (v .part)))
 
-pub reopened : (greatest : ℕ) (c : List ℕ) (n : ℕ) (t : Tree) → Table greatest c n t → Openable n t → Reopened greatest c n t
+-- the stage of a table just opened, for a line whose free nodes these are
+pub record OpenedStage (c : List ℕ) (line : Line) (t : Tree) (m : Memory) : Type 0 where
+  pub steps : ℕ
+  pub few-steps : steps ≤ 73 * depthLimit + 1
+  pub goal : Tree
+  pub goal-is : goal ≡ settledBy depthLimit (bare t)
+  pub stage : Stage c line t goal steps m empty Ready
+
+module _ (greatest : ℕ) (c : List ℕ) (line : Line) (t : Tree) (b : Table greatest c (line .nodes) t) (o : Openable (line .limit) t) where
+  -- the nodes kept are enough, for whichever key leads to the violation
+  pub room-for : (key : ℕ) (v : Violation t key) → tableViolations t ≡ 1 → size t + (3 + reserve (v .context) (v .part)) ≤ line .limit
+  room-for key v w = at (o .deep) (o .ready)
+    where
+      at : (d : ℕ) → Mendable (o .key) (line .limit) t d → size t + (3 + reserve (v .context) (v .part)) ≤ line .limit
+      at d (settled z r) = absurd (omega arith)
+      at d (violated v₀ w₀ r) = omega (arith, reserve-total t (o .key) (b .sound .widths) w v₀, reserve-total t key (b .sound .widths) w v)
+
+  pub room-idle : tableViolations t ≡ 0 → size t + 3 ≤ line .limit
+  room-idle z = at (o .deep) (o .ready)
+    where
+      at : (d : ℕ) → Mendable (o .key) (line .limit) t d → size t + 3 ≤ line .limit
+      at d (settled z r) = r
+      at d (violated v₀ w₀ r) = absurd (omega arith)
+
+  module _ (free : List Bool) (x : Partition line free t) (last : ℕ) (totals : List ℕ) where
+    -- "or one with the repair in progress"
+    pub opened-broken : (key : ℕ) (v : Violation t key) → tableViolations t ≡ 1 → OpenedStage c line t (resting (line .nodes) free last totals (Repairing key))
+    unfolding resting
+    opened-broken key v w =
+        let deep : depthOf (v .context) ≤ depthLimit = omega (arith, violation-deep t key v, table-depth-limited greatest b) in
+        record {
+          steps = 73 * depthOf (v .context) + 1;
+          few-steps = omega (arith, deep);
+          goal = settledBy depthLimit (bare t);
+          goal-is = refl;
+          stage = stage-between job-repair no-update (depthOf (v .context)) (violated v w (room-for key v w)) x (omega arith)
+              (record { repairs = depthLimit; enough = deep; reaches = refl });
+        }
+
+    -- "an idle state"
+    pub opened-whole : tableViolations t ≡ 0 → OpenedStage c line t (resting (line .nodes) free last totals Idle)
+    unfolding resting
+    opened-whole z =
+        record {
+          steps = 0;
+          few-steps = omega arith;
+          goal = bare t;
+          goal-is = heads-done {deep = 0} (record { repairs = depthLimit; enough = omega arith; reaches = refl }) (bare-table-violations t ∙ z);
+          stage = stage-idle z (room-idle z) x refl;
+        }
+
+pub totals-in : (n last : ℕ) (totals : List ℕ) (doing : Doing) (free : List Bool) → resting n free last totals doing .totals ≡ totals
 unfolding resting
+totals-in n last totals doing free = refl
+
+idle-in : (n last : ℕ) (totals : List ℕ) (free : List Bool) → resting n free last totals Idle .doing ≡ Idle
+unfolding resting
+idle-in n last totals free = refl
+
+pub reopened : (greatest : ℕ) (c : List ℕ) (n : ℕ) (t : Tree) → Table greatest c n t → Openable n t → Reopened greatest c n t
 reopened greatest c n t b o = go (sound-accepted c n (b .sized .words) (b .sized .most) t (table-well-formed greatest b))
   where
     -- the free nodes found are those that the limit leaves
@@ -123,21 +182,6 @@ reopened greatest c n t b o = go (sound-accepted c n (b .sized .words) (b .sized
     counted : (f : Findings) (h : ℕ) → Facts c n t h f → countTrue (f .free) + size t ≡ n
     counted f h x = count-only n (f .free) t (part-of f h x) (omega (arith, b .sized .most))
 
-    -- the nodes kept are enough, for whichever key leads to the violation
-    room-for : (key : ℕ) (v : Violation t key) → tableViolations t ≡ 1 → size t + (3 + reserve (v .context) (v .part)) ≤ n
-    room-for key v w = at (o .deep) (o .ready)
-      where
-        at : (d : ℕ) → Mendable (o .key) n t d → size t + (3 + reserve (v .context) (v .part)) ≤ n
-        at d (settled z r) = absurd (omega arith)
-        at d (violated v₀ w₀ r) = omega (arith, reserve-total t (o .key) (b .sound .widths) w v₀, reserve-total t key (b .sound .widths) w v)
-
-    room-idle : tableViolations t ≡ 0 → size t + 3 ≤ n
-    room-idle z = at (o .deep) (o .ready)
-      where
-        at : (d : ℕ) → Mendable (o .key) n t d → size t + 3 ≤ n
-        at d (settled z r) = r
-        at d (violated v₀ w₀ r) = absurd (omega arith)
-
     go : ((h : ℕ) × (f : Findings) × (tableCheck c n ≡ some (h, f)) × Facts c n t h f) → Reopened greatest c n t
     go (h, f, e, x) = bool-cases (f .violated) broken whole
       where
@@ -145,30 +189,31 @@ reopened greatest c n t b o = go (sound-accepted c n (b .sized .words) (b .sized
         broken q =
             let w : tableViolations t ≡ 1 = omega (arith, x .violated, bit-true (f .violated) q) in
             let v = x .violation q in
-            let room = room-for (f .key) (v .0) w in
+            let room = room-for greatest c (only n) t b o (f .key) (v .0) w in
             let is = open-repair greatest c n h f (b .sized) (b .header) e (omega (arith, v .1, room, counted f h x)) q in
+            let work = opened-broken greatest c (only n) t b o (f .free) (part-of f h x) (searchStart c) (tableCounted c) (f .key) (v .0) w in
             record {
-              steps = 73 * depthOf (v .0 .context) + 1;
-              few-steps = omega (arith, violation-deep t (f .key) (v .0), x .deep);
-              stage = rw is (stage-between job-repair no-update (depthOf (v .0 .context)) (violated (v .0) w room) (part-of f h x) (omega arith)
-                  (record { repairs = depthLimit; enough = omega (arith, violation-deep t (f .key) (v .0), x .deep); reaches = refl }));
-              goal = settledBy depthLimit (bare t);
-              goal-is = refl;
+              steps = work .steps;
+              few-steps = work .few-steps;
+              stage = rw is (work .stage);
+              goal = work .goal;
+              goal-is = work .goal-is;
               hands = inr (ap (λ (x : Handed). x .begun) is, ap (λ (x : Handed). isIdle (x .memory .doing)) is ∙ repair-busy n (searchStart c) (tableCounted c) (f .free) (f .key));
-              rebuilt = ap (λ (x : Handed). x .memory .totals) is;
+              rebuilt = ap (λ (x : Handed). x .memory .totals) is ∙ totals-in n (searchStart c) (tableCounted c) (Repairing (f .key)) (f .free);
             }
 
         whole : f .violated ≡ false → Reopened greatest c n t
         whole q =
             let z : tableViolations t ≡ 0 = omega (arith, x .violated, bit-false (f .violated) q) in
             let r : f .run ≡ 0 = x .no-run q in
-            let is = open-idle greatest c n h f (b .sized) (b .header) e (omega (arith, room-idle z, counted f h x)) q in
+            let is = open-idle greatest c n h f (b .sized) (b .header) e (omega (arith, room-idle greatest c (only n) t b o z, counted f h x)) q in
+            let work = opened-whole greatest c (only n) t b o (f .free) (part-of f h x) (searchStart c) (tableCounted c) z in
             record {
-              steps = 0;
-              few-steps = omega arith;
-              stage = rw is (stage-idle z (room-idle z) (part-of f h x) refl);
-              goal = bare t;
-              goal-is = heads-done {deep = 0} (record { repairs = depthLimit; enough = omega arith; reaches = refl }) (bare-table-violations t ∙ z);
-              hands = inl (ap (λ (x : Handed). x .begun) is, ap (λ (x : Handed). x .memory .doing) is);
-              rebuilt = ap (λ (x : Handed). x .memory .totals) is;
+              steps = work .steps;
+              few-steps = work .few-steps;
+              stage = rw is (work .stage);
+              goal = work .goal;
+              goal-is = work .goal-is;
+              hands = inl (ap (λ (x : Handed). x .begun) is, ap (λ (x : Handed). x .memory .doing) is ∙ idle-in n (searchStart c) (tableCounted c) (f .free));
+              rebuilt = ap (λ (x : Handed). x .memory .totals) is ∙ totals-in n (searchStart c) (tableCounted c) Idle (f .free);
             }

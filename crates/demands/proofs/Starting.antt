@@ -171,6 +171,7 @@ put-started greatest {line} w b i free last room key value em z r x eg low high 
         table = i .table;
         openable = i .openable;
         same = i .same;
+        apart = i .apart;
         counted = i .counted;
         stage = rw em (stage-put {free = free} {last = last} room z r x low high q′ below (enough-steps greatest i) (ap (afterShape (put key value)) eg));
       },
@@ -197,6 +198,7 @@ remove-started greatest w b i free last key em z r x eg low high depth = (
     table = i .table;
     openable = i .openable;
     same = i .same;
+    apart = i .apart;
     counted = i .counted;
     stage = rw em (stage-remove {free = free} {last = last} z r x low high (enough-steps greatest i) (ap (afterShape (remove key)) eg));
   },

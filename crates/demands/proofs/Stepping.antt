@@ -13,7 +13,7 @@ use Rattle.change_plan.specs.Planning.{Preparation, takeNumbers, withoutAll, la
 use Rattle.change_plan.proofs.NumberLaws.{giving-some}
 use Rattle.change_layout.specs.Mending.{nextRepair}
 use Rattle.change_layout.proofs.Mending.{repair-balanced}
-use Rattle.theory_change.proofs.Line.{Line, Partition, size, room-in-bits, zero-taken}
+use Rattle.theory_change.proofs.Line.{Line, Partition, size, room-in-bits, zero-taken, Apart}
 use Rattle.theory_change.proofs.LeafSplit.{withPair, splitNodes, split-change}
 use Rattle.theory_change.proofs.Mended.{change-stores, mended}
 use Rattle.theory_change.proofs.Mending.{rewriteAt, giving-same}
@@ -125,7 +125,7 @@ right-final no-answer e = absurd e
 right-final no-call e = absurd e
 right-final final-answer e = refl
 
-module _ (greatest : ℕ) (line : Line) (steps : ℕ) (c : List ℕ) (t : Tree) (b : Table greatest c (line .nodes) t) (o : Openable (line .limit) t) (l : List (ℕ × ℕ))
+module _ (greatest : ℕ) (line : Line) (steps : ℕ) (c : List ℕ) (t : Tree) (b : Table greatest c (line .nodes) t) (o : Openable (line .limit) t) (apart : Apart line t) (l : List (ℕ × ℕ))
     (same : Same (pairs t) l) (goal : Tree) where
   -- what a step must leave
   abbrev Goal : Memory → Hand → Answer → Type 0
@@ -150,7 +150,11 @@ module _ (greatest : ℕ) (line : Line) (steps : ℕ) (c : List ℕ) (t : Tree) 
     idle-inv : (due : Answer) (free : List Bool) (last depth : ℕ) (l′ : List (ℕ × ℕ)) → Same (pairs t) l′
         → tableViolations t ≡ 0 → size t + 3 ≤ line .limit → Partition line free t → bare t ≡ goal
         → Toward greatest goal due line steps (record { card = c; state = memory (line .nodes) free last depth totals Idle [] [] }) (book l′ empty)
-    idle-inv due free last depth l′ s z r x eg = (record { tree = t; goal = goal; due = due; table = b; openable = o; same = s; counted = counted; stage = stage-idle z r x eg }, refl, refl)
+    idle-inv due free last depth l′ s z r x eg = (
+      record { tree = t; goal = goal; due = due; table = b; openable = o; same = s; apart = apart; counted = counted; stage = stage-idle z r x eg },
+      refl,
+      refl,
+    )
 
     -- a repair that has nothing left to do gives its final answer
     ended : {doing : Doing} {key : ℕ} {due : Answer} {u : Option Update} {h : Hand} (free : List Bool) (last depth : ℕ)
@@ -204,7 +208,7 @@ module _ (greatest : ℕ) (line : Line) (steps : ℕ) (c : List ℕ) (t : Tree) 
                 (step-repairs greatest c (line .nodes) (b .sized) (b .header) free last depth totals j ∙ prepared-first c (memory (line .nodes) free last depth totals doing [] []) doing due
                 (nextRepair c (line .nodes) key free last) s rest (q .free-then) (q .last-then) (q .cut) k (first-storable (p .0 .plays) .inside))
                 (busy-after (line .nodes) (q .free-then) (q .last-then) depth totals [] (q .cut) (job-busy j) rest)
-                (rw (g .1) (repair-stored greatest (q .last-then) depth steps totals [] l b same counted j (g .2) (p .0) (record { totals = p .1 }) (omega (arith, p .2))
+                (rw (g .1) (repair-stored greatest (q .last-then) depth steps totals [] l b same counted apart j (g .2) (p .0) (record { totals = p .1 }) (omega (arith, p .2))
                 (heads-on (p .0 .level) (bare (p .0 .next)) hd (bare-table-violations t ∙ w) (p .2) (p .3))))
 
     -- the first store of an update's first change
@@ -216,7 +220,7 @@ module _ (greatest : ℕ) (line : Line) (steps : ℕ) (c : List ℕ) (t : Tree) 
     begins {due = due} {u = u} d m k s rest free last cut j e p en count few hd =
         let q : 0 + suc (length rest) ≡ d = omega arith in
         stored-goal m _ (s .0) (s .1) (holding u d 0) due (first-storable (p .plays)) e (busy-after (line .nodes) free last (m .depth) (m .totals) [] cut (job-busy j) rest)
-        (update-stored greatest d 0 last (m .depth) steps (m .totals) [] l b same k j p en q few hd)
+        (update-stored greatest d 0 last (m .depth) steps (m .totals) [] l b same k apart j p en q few hd)
 
     -- the leaf that a key leads to
     lands : (key : ℕ) → lowestKey ≤ key → key < keyLimit → LandedAt c (line .nodes) key t
@@ -504,18 +508,21 @@ module _ (greatest : ℕ) (line : Line) (steps : ℕ) (c : List ℕ) (t : Tree) 
   stage-steps m h due k (stage-first {free} {last} {depth} {key} {doing} {u = u} {deciding = deciding} {count = i} {cut = cut} {s = s} {rest = rest} {totals = totals} j p en count few hd) =
       stored-goal (memory (line .nodes) free last depth totals doing (s ∷ rest) cut) _ (s .0) (s .1) (holding u deciding i) due (first-storable (p .plays))
       (step-stores greatest c (line .nodes) (b .sized) (b .header) free last depth totals doing (job-busy j) cut s rest (first-storable (p .plays) .inside))
-      (busy-after (line .nodes) free last depth totals (s ∷ rest) cut (job-busy j) rest) (update-stored greatest deciding i last depth steps totals (s ∷ rest) l b same k j p en count (omega arith) hd)
+      (busy-after (line .nodes) free last depth totals (s ∷ rest) cut (job-busy j) rest) (update-stored greatest
+      deciding i last depth steps totals (s ∷ rest) l b same k apart j p en count (omega arith) hd)
   stage-steps m h due k (stage-between {free} {last} {depth} {totals = totals} j en deep r x few hd) = repaired totals k free last depth deep j en r x few hd
   stage-steps m h due k (stage-within {free} {last} {depth} {key} {doing} {cut = cut} {s = s} {rest = rest} {totals = totals} j en p e few hd) =
       let g = entered-on totals k en in
       stored-goal (memory (line .nodes) free last depth totals doing (s ∷ rest) cut) _ (s .0) (s .1) h due (first-storable (p .plays))
       (step-stores greatest c (line .nodes) (b .sized) (b .header) free last depth totals doing (job-busy j) cut s rest (first-storable (p .plays) .inside))
       (busy-after (line .nodes) free last depth totals (s ∷ rest) cut (job-busy j) rest)
-      (rw (g .1) (repair-stored greatest last depth steps totals (s ∷ rest) l b same k j (g .2) p e (omega arith) hd))
+      (rw (g .1) (repair-stored greatest last depth steps totals (s ∷ rest) l b same k apart j (g .2) p e (omega arith) hd))
 
 -- THE STEP: the invariant is kept, and an answer given is the one due
 pub kept-step : (greatest : ℕ) (line : Line) (steps : ℕ) (w : World (rationTable greatest)) (b : Book) (i : Inv greatest line (suc steps) w b)
     → Toward greatest (i .goal) (i .due) line steps (happens (rationTable greatest) step w) (feed (told (rationTable greatest) step w) b)
     × Right (stepOf greatest 1 (w .card) (w .state) .answer) (i .due) × Moves line (w .card) (w .state) (stepOf greatest 1 (w .card) (w .state))
 unfolding happens feed told replyTo
-kept-step greatest line steps w b i = stage-steps greatest line steps (w .card) (i .tree) (i .table) (i .openable) (b .held) (i .same) (i .goal) (w .state) (b .inHand) (i .due) (i .counted) (i .stage)
+kept-step greatest line steps w b i =
+    stage-steps greatest line steps (w .card) (i .tree) (i .table)
+    (i .openable) (i .apart) (b .held) (i .same) (i .goal) (w .state) (b .inHand) (i .due) (i .counted) (i .stage)

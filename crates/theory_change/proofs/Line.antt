@@ -43,6 +43,17 @@ pub record Partition (line : Line) (free : List Bool) (t : Tree) : Type 0 where
   pub exact : ExactOver (line .nodes) free (λ m. nodeTotal (indicator m) t + total (indicator m) (line .others))
   pub fits : line .limit + length (line .others) ≤ line .nodes
 
+-- no node is reached twice, by the line's tree or by both
+abbrev pub Apart : Line → Tree → Type 0
+Apart line t = (i : ℕ) → nodeTotal (indicator i) t + total (indicator i) (line .others) ≤ 1
+
+pub partition-apart : {line : Line} {free : List Bool} {t : Tree} → Partition line free t → Apart line t
+partition-apart {line} {free} {t} x i =
+    let e = over-once (line .nodes) free (λ m. nodeTotal (indicator m) t + total (indicator m) (line .others)) (x .exact) i in omega (arith, e)
+
+pub only-apart : (n : ℕ) (t : Tree) → ((i : ℕ) → nodeTotal (indicator i) t ≤ 1) → Apart (only n) t
+only-apart n t h i = omega (arith, h i)
+
 -- a word of a node that the other line's tree has not
 pub record InNode (line : Line) (p : ℕ) : Type 0 where
   pub number : ℕ

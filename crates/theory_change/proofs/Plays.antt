@@ -38,7 +38,8 @@ pub record Storable (line : Line) (c : List ℕ) (p : ℕ) : Type 0 where
 pub data Plays (line : Line) (next : Tree) : List ℕ → Tree → List Store → Type 0 where
   last-store : {c : List ℕ} {t : Tree} {p v : ℕ} → Storable line c p → Holds (set c p v) next → Plays line next c t ((p, v) ∷ [])
   store-then : {c : List ℕ} {t : Tree} {p v : ℕ} {s : Store} {rest : List Store} (u : Tree) → Storable line c p → Holds (set c p v) u → Sound u
-      → Openable (line .limit) u → ((w : ℕ × ℕ → ℕ) → total w (pairs u) ≡ total w (pairs t)) → Plays line next (set c p v) u (s ∷ rest)
+      → Openable (line .limit) u → ((w : ℕ × ℕ → ℕ) → total w (pairs u) ≡ total w (pairs t))
+      → ((i : ℕ) → nodeTotal (indicator i) u ≡ nodeTotal (indicator i) t) → Plays line next (set c p v) u (s ∷ rest)
       → Plays line next c t ((p, v) ∷ s ∷ rest)
 
 -- stores in nodes that the tree has not, and then the link
@@ -66,8 +67,8 @@ writes-play line next t w link value s o z a f (x ∷ writes) c h b on l e =
 
     first : (P : List Store) → Within w (x ∷ []) × Within w P × Storable line c (x .0) → Plays line next (set c (x .0) (x .1)) t (P ++ (link, value) ∷ [])
         → Plays line next c t (x ∷ P ++ (link, value) ∷ [])
-    first [] q r = store-then t (q .2) kept s o (λ v. refl) r
-    first (y ∷ P) q r = store-then t (q .2) kept s o (λ v. refl) r
+    first [] q r = store-then t (q .2) kept s o (λ v. refl) (λ i. refl) r
+    first (y ∷ P) q r = store-then t (q .2) kept s o (λ v. refl) (λ i. refl) r
 
 -- The change in hand: the stores still to come, and what holds of the tree that the last of them puts there.
 pub record Changing (c : List ℕ) (line : Line) (key : ℕ) (t : Tree) (rest : List Store) (free : List Bool) (cut : List ℕ) : Type 0 where
