@@ -6,5 +6,3 @@ pub mod StepBlocks
 pub mod StepWords
 -- what a step promises of the card and of the block lent to it
 pub mod Contracts
--- document 02, W-207: a step on a card of either form
-pub mod CardSteps

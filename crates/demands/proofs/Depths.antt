@@ -30,7 +30,7 @@ use Rattle.theory_tree.specs.Tree.{Tree}
 use Rattle.theory_tree.specs.WellFormed.{Balanced}
 use Rattle.call_change.specs.Updates.{start_room}
 
-pub tree_levels : (c : List ℕ) (t : Tree) → Balanced c t → (h : ℕ) → Height h t → Levels t h (length (pairs t))
+tree_levels : (c : List ℕ) (t : Tree) → Balanced c t → (h : ℕ) → Height h t → Levels t h (length (pairs t))
 tree_levels c t b h level =
     let ok = b.well-formed.widths in
     record {

@@ -39,7 +39,7 @@ returns-2 : tie.Need-returns-2
 returns-2 c =
     let s = c.before.before.before.before.before.before.before.before.before in
     opened_call s.args.state.now c.before.before.refuse-beginning.new.0 _ _ c.before.before.before.before.before.before.if1.false
-    (subst (λ (due : Handed). Opened c.before.before.refuse-beginning.new.0 c.before.before.refuse-beginning.result due)
+    (subst (λ (due : Handed). Opened s.args.state.now c.before.before.refuse-beginning.new.0 c.before.before.refuse-beginning.result due)
     (ap no_beginning c.before.before.before.before.before.card-refusal.ensures
     ∙ sym (open_refused _ _ (λ z. c.before.before.before.before.if2.true (c.before.before.before.before.before.card-refusal.ensures ∙ z))))
     c.before.before.refuse-beginning.ensures)
@@ -57,7 +57,7 @@ returns-3 : tie.Need-returns-3
 returns-3 c =
     let s = c.before.before.before.before.before.before.before.before.before.before in
     opened_call s.args.state.now c.before.before.open-checked.new.1.1.0 _ _ c.before.before.before.before.before.before.before.if1.false
-    (subst (λ (due : Handed). Opened c.before.before.open-checked.new.1.1.0 c.before.before.open-checked.result due)
+    (subst (λ (due : Handed). Opened s.args.state.now c.before.before.open-checked.new.1.1.0 c.before.before.open-checked.result due)
     (ap (λ (n : ℕ). open_checked n (search_start s.args.card.now) (table_counted s.args.card.now) (table_check s.args.card.now n)) c.before.before.before.before.nodes-of.ensures
     ∙ sym (open_unrefused _ _
     (sym c.before.before.before.before.before.before.card-refusal.ensures ∙ c.before.before.before.before.before.if2.false)))

@@ -11,11 +11,12 @@ use Rattle.card_free.specs.NodeSet.{word_count, nodes_of}
 use Rattle.card_check.specs.Check.{findings_of, checked_of}
 use Rattle.card_check.specs.Counting.{table_counted}
 use Rattle.card_check.specs.declared.Checked.{Checked}
-use Rattle.state.specs.Block.{free_at, totals_at, state_words, part}
+use Rattle.state.specs.Block.{back_at, free_at, totals_at, state_words, part}
 use Rattle.state.specs.Steps.{Handed}
 use Rattle.state.specs.Contracts.{Opened}
 use Rattle.state.proofs.Rows.{placed}
-use Rattle.state.proofs.Blocks.{freed_length, freed_part, stored_part, stored_totals}
+use Rattle.state.proofs.Blocks.{freed_length, freed_part, stored_part, stored_totals, freed_after, stored_after}
+use Rattle.state.proofs.ContractLaws.{opened_from}
 use Rattle.call_open.specs.Opening.{open_sound, open_checked}
 use borrow.Author.Rules.{rules}
 use Rattle.call_open.proofs.open_checked.Statement.{statement}
@@ -74,11 +75,14 @@ unfolding open_checked checked_of
 returns c =
     let s = c.before.before.before.before.before.before.before.before.before.before.before.before.before.before in
     let k = c.before.before.before.before.before.before.before.before.before.check-table in
-    subst (λ (due : Handed). Opened c.before.before.refuse-beginning.new.0 c.before.before.refuse-beginning.result due)
+    let b = s.args.state.now in
+    let block = placed free_at word_count b k.new.1.1.0 in
+    opened_from block b _ _ _ (freed_after b k.new.1.1.0 s.requires.2 k.auto.1.1.0)
+    (subst (λ (due : Handed). Opened block c.before.before.refuse-beginning.new.0 c.before.before.refuse-beginning.result due)
     (ap (open_checked s.args.n (search_start s.args.card.now) (table_counted s.args.card.now))
     (sym (ap (λ (r : Checked). checked_of r (findings_of (nodes_of k.new.1.1.0) k.new.1.1.1.0)) c.before.before.before.before.enum_told.given.1)
     ∙ k.ensures.0))
-    c.before.before.refuse-beginning.ensures
+    c.before.before.refuse-beginning.ensures)
 
 same-length-2 : tie.Need-same-length-2
 same-length-2 c = search rules
@@ -100,11 +104,14 @@ returns-2 c =
     let free = ap (λ (x : List ℕ). part x free_at word_count) put ∙ stored_part block totals long sixteen free_at word_count (omega arith)
     ∙ freed_part b k.new.1.1.0 s.requires.2 k.auto.1.1.0 in
     let counted = ap (λ (x : List ℕ). part x totals_at family_count) put ∙ stored_totals block totals long sixteen ∙ all ∙ k.ensures.1 told.0.0 told.1 in
-    subst (λ (due : Handed). Opened c.before.before.open-sound.new.0 c.before.before.open-sound.result due)
+    let stands = ap (drop back_at) put ∙ stored_after block totals long sixteen ∙ freed_after b k.new.1.1.0 s.requires.2 k.auto.1.1.0 in
+    let stored = c.before.before.before.before.before.before.before.before.store-totals.new.0 in
+    opened_from stored b _ _ _ stands
+    (subst (λ (due : Handed). Opened stored c.before.before.open-sound.new.0 c.before.before.open-sound.result due)
     (ap₂ (λ (row t : List ℕ). open_sound s.args.n (search_start s.args.card.now) t (findings_of (nodes_of row) found)) free counted
     ∙ ap (open_checked s.args.n (search_start s.args.card.now) (table_counted s.args.card.now))
     (sym (ap (λ (r : Checked). checked_of r (findings_of (nodes_of k.new.1.1.0) found)) told.1) ∙ k.ensures.0))
-    c.before.before.open-sound.ensures
+    c.before.before.open-sound.ensures)
 
 pub open_checked_spec : {M : Type 1} → statement M
 open_checked_spec =

@@ -37,7 +37,7 @@ returns : tie.Need-returns
 unfolding findings_of
 returns c =
     let s = c.before.before.before.before.before.before.before.before.before.before in
-    subst (λ (due : Handed). Opened c.before.before.refuse-beginning.new.0 c.before.before.refuse-beginning.result due)
+    subst (λ (due : Handed). Opened s.args.state.now c.before.before.refuse-beginning.new.0 c.before.before.refuse-beginning.result due)
     (sym (open_scarce _ _ _ _ (omega (arith, c.before.before.before.before.before.count.ensures, c.before.before.before.before.if1.true))))
     c.before.before.refuse-beginning.ensures
 
@@ -57,7 +57,7 @@ returns-2 : tie.Need-returns-2
 unfolding findings_of
 returns-2 c =
     let s = c.before.before.before.before.before.before.before.before.before.before.before.before in
-    subst (λ (due : Handed). Opened c.before.before.refuse-beginning2.new.0 c.before.before.refuse-beginning2.result due)
+    subst (λ (due : Handed). Opened s.args.state.now c.before.before.refuse-beginning2.new.0 c.before.before.refuse-beginning2.result due)
     (sym (open_scarce _ _ _ _ (omega (
       arith,
       c.before.before.before.before.before.before.before.count.ensures,
@@ -81,7 +81,7 @@ returns-3 : tie.Need-returns-3
 unfolding findings_of
 returns-3 c =
     let s = c.before.before.before.before.before.before.before.before.before.before.before.before.before.before.before in
-    subst (λ (due : Handed). Opened c.before.before.store-resting.new.0 Started due)
+    subst (λ (due : Handed). Opened s.args.state.now c.before.before.store-resting.new.0 Started due)
     (sym (open_repair _ _ _ (findings_of (nodes_of (part s.args.state.now free_at word_count)) s.args.found.now) (omega (
       arith,
       c.before.before.before.before.before.before.before.before.before.before.count.ensures,
@@ -100,7 +100,7 @@ returns-4 : tie.Need-returns-4
 unfolding findings_of
 returns-4 c =
     let s = c.before.before.before.before.before.before.before.before.before.before.before.before.before.before in
-    subst (λ (due : Handed). Opened c.before.before.store-resting2.new.0 OpenedIdle due)
+    subst (λ (due : Handed). Opened s.args.state.now c.before.before.store-resting2.new.0 OpenedIdle due)
     (sym (open_idle _ _ _ (findings_of (nodes_of (part s.args.state.now free_at word_count)) s.args.found.now) (omega (
       arith,
       c.before.before.before.before.before.before.before.before.before.count.ensures,

@@ -54,19 +54,33 @@ returns-2 c =
     sym (room_slot (node_at s.args.card.now s.args.m) s.args.key _ (room_of (memory_in s.args.state.now))
     (has_key c.before.before.before ∙ c.before.before.if1.false) (has_empty c.before ∙ c.if2.true))
 
-room-left-requires : tie.Need-room-left-requires
-room-left-requires c κs = search rules
+sub-count : tie.Need-overflow-sub-count
+sub-count c = search rules
+
+part-count-start : tie.Need-slice-bounds-count-start
+part-count-start c = search rules
+
+part-count-end : tie.Need-slice-bounds-count-end
+part-count-end c = search rules
+
+count-requires : tie.Need-count-requires
+count-requires c κs = search rules
+
+-- the room
+counted : (c : tie.After-count) → c.count.result ≡ room_of (memory_in c.before.before.before.before.before.before.before.before.before.args.state.now)
+unfolding memory_in
+counted c = c.count.ensures
 
 returns-3 : tie.Need-returns-3
 returns-3 c =
-    let s = c.before.before.before.before.before.before.before.before.before in
+    let s = c.before.before.before.before.before.before.before.before.before.before in
     let m = memory_in s.args.state.now in
     let run = run_over s.args.card.now 0 (line_way s.args.line s.args.card.now m.nodes s.args.key).inner in
     sym
     (room_full (node_at s.args.card.now s.args.m) s.args.key run (room_of m)
-    (has_key c.before.before.before.before.before ∙ c.before.before.before.before.if1.false)
-    (has_empty c.before.before.before ∙ c.before.before.if2.false)
-    ∙ not_scarce (room_of m) run (omega (arith, c.before.room-left.ensures, c.if3.true)))
+    (has_key c.before.before.before.before.before.before ∙ c.before.before.before.before.before.if1.false)
+    (has_empty c.before.before.before.before ∙ c.before.before.before.if2.false)
+    ∙ not_scarce (room_of m) run (omega (arith, counted c.before, c.if3.true)))
 
 shared-slice-read-wide : tie.Need-shared-slice-read-wide
 shared-slice-read-wide c = search rules
@@ -76,31 +90,31 @@ wide-requires c κs = search rules
 
 root-of-requires : tie.Need-root-of-requires
 root-of-requires c κs =
-    let s = c.before.before.before.before.before.before.before.before.before.before.before in
+    let s = c.before.before.before.before.before.before.before.before.before.before.before.before in
     (omega (arith, s.requires.1.words), s.requires.4)
 
 run-above-requires : tie.Need-run-above-requires
 unfolding memory_in
 run-above-requires c κs =
-    let s = c.before.before.before.before.before.before.before.before.before.before.before.before in
+    let s = c.before.before.before.before.before.before.before.before.before.before.before.before.before in
     (omega (arith, s.requires.1.words, c.before.wide.ensures), omega (arith, s.requires.1.most, c.before.wide.ensures))
 
 returns-4 : tie.Need-returns-4
 unfolding memory_in
 returns-4 c =
-    let s = c.before.before.before.before.before.before.before.before.before.before.before.before.before in
+    let s = c.before.before.before.before.before.before.before.before.before.before.before.before.before.before in
     let card = s.args.card.now in
     let m = memory_in s.args.state.now in
     let run = run_over card 0 (line_way s.args.line card m.nodes s.args.key).inner in
     ap₂ (λ (x y : ℕ). leb x (y - split_need 0))
     (c.run-above.ensures
     ∙ ap₂ (λ (n r : ℕ). run_over card 0 (way_from card n s.args.key depth_limit (root_position r)).inner) c.before.before.wide.ensures c.before.root-of.ensures)
-    c.before.before.before.before.before.room-left.ensures
+    (counted c.before.before.before.before.before)
     ∙ sym
     (room_full (node_at card s.args.m) s.args.key run (room_of m)
-    (has_key c.before.before.before.before.before.before.before.before.before ∙ c.before.before.before.before.before.before.before.before.if1.false)
-    (has_empty c.before.before.before.before.before.before.before ∙ c.before.before.before.before.before.before.if2.false)
-    ∙ not_enough (room_of m) run (omega (arith, c.before.before.before.before.before.room-left.ensures, c.before.before.before.before.if3.false)))
+    (has_key c.before.before.before.before.before.before.before.before.before.before ∙ c.before.before.before.before.before.before.before.before.before.if1.false)
+    (has_empty c.before.before.before.before.before.before.before.before ∙ c.before.before.before.before.before.before.before.if2.false)
+    ∙ not_enough (room_of m) run (omega (arith, counted c.before.before.before.before.before, c.before.before.before.before.if3.false)))
 
 pub has_room_spec : {M : Type 1} → statement M
 has_room_spec =
@@ -111,7 +125,10 @@ has_room_spec =
     returns
     has-word-requires-2
     returns-2
-    room-left-requires
+    sub-count
+    part-count-start
+    part-count-end
+    count-requires
     returns-3
     shared-slice-read-wide
     wide-requires

@@ -3,12 +3,12 @@ use mathlib.Core.Path.{◌≡◌, ap, ◌∙◌}
 use mathlib.Core.List.{List}
 use Prim.Native.Nat.{ℕ}
 use native.Mathlib.Omega.{arith}
-use lib.ListN.{length, length-replicate}
+use lib.ListN.{length, drop, length-replicate}
 use Rattle.card_family.specs.Families.{family_count, no_totals}
 use Rattle.card_free.specs.NodeSet.{word_count, nodes_of}
-use Rattle.state.specs.Block.{free_at, totals_at, state_words, part}
+use Rattle.state.specs.Block.{free_at, totals_at, back_at, state_words, part}
 use Rattle.state.proofs.Rows.{placed}
-use Rattle.state.proofs.Blocks.{freed_length, freed_part, stored_part, stored_totals}
+use Rattle.state.proofs.Blocks.{freed_length, freed_after, freed_part, stored_after, stored_part, stored_totals}
 use borrow.Author.Rules.{rules}
 use Rattle.call_start.proofs.hold_empty.Statement.{statement}
 use Rattle.call_start.proofs.hold_empty.Tie as tie
@@ -46,7 +46,10 @@ returns c =
       ap (λ (x : List ℕ). nodes_of (part x free_at word_count)) put
           ∙ ap nodes_of (stored_part block no_totals long sixteen free_at word_count (omega arith) ∙ freed_part b root.new.0 s.requires.0 root.auto.0)
           ∙ root.ensures,
-      ap (λ (x : List ℕ). part x totals_at family_count) put ∙ stored_totals block no_totals long sixteen,
+      (
+        ap (λ (x : List ℕ). part x totals_at family_count) put ∙ stored_totals block no_totals long sixteen,
+        ap (drop back_at) put ∙ stored_after block no_totals long sixteen ∙ freed_after b root.new.0 s.requires.0 root.auto.0,
+      ),
     )
 
 pub hold_empty_spec : {M : Type 1} → statement M

@@ -11,7 +11,7 @@ use Rattle.state.specs.Steps.{Handed}
 use Rattle.state.specs.declared.Doing.TheVariants.{Formatting}
 use Rattle.state.specs.declared.Begun.TheVariants.{Started}
 use Rattle.state.specs.Contracts.{Opened}
-use Rattle.state.proofs.ContractLaws.{open_no_state, opened_call}
+use Rattle.state.proofs.ContractLaws.{open_no_state, opened_call, opened_from}
 use Rattle.call_start.specs.Starts.{format_of}
 use Rattle.call_start.proofs.StartLaws.{format_no_length, format_length}
 use borrow.Author.Rules.{rules}
@@ -34,7 +34,7 @@ returns-2 : tie.Need-returns-2
 returns-2 c =
     let s = c.before.before.before.before.before.before.before.before.before in
     opened_call s.args.state.now c.before.before.refuse-beginning.new.0 _ _ c.before.before.before.before.before.before.if1.false
-    (subst (λ (due : Handed). Opened c.before.before.refuse-beginning.new.0 c.before.before.refuse-beginning.result due)
+    (subst (λ (due : Handed). Opened s.args.state.now c.before.before.refuse-beginning.new.0 c.before.before.refuse-beginning.result due)
     (sym (format_no_length _ _ _ c.before.before.before.before.before.nodes-of.ensures c.before.before.before.before.if2.true))
     c.before.before.refuse-beginning.ensures)
 
@@ -60,10 +60,11 @@ returns-3 c =
     let n = c.before.before.before.before.before.before.before.before.before.nodes-of in
     let held = c.before.before.before.before.before.before.hold-empty.ensures in
     opened_call s.args.state.now c.before.before.store-resting.new.0 _ _ c.before.before.before.before.before.before.before.before.before.before.if1.false
-    (subst (λ (due : Handed). Opened c.before.before.store-resting.new.0 Started due)
-    (ap₂ (λ (x : List Bool) (t : List ℕ). record { begun = Started; memory = resting n.result x formatted_root t (Formatting 0) }) held.0 held.1
+    (opened_from c.before.before.before.before.before.before.hold-empty.new.0 s.args.state.now _ _ _ held.1.1
+    (subst (λ (due : Handed). Opened c.before.before.before.before.before.before.hold-empty.new.0 c.before.before.store-resting.new.0 Started due)
+    (ap₂ (λ (x : List Bool) (t : List ℕ). record { begun = Started; memory = resting n.result x formatted_root t (Formatting 0) }) held.0 held.1.0
     ∙ sym (format_length _ _ _ n.ensures c.before.before.before.before.before.before.before.before.if2.false))
-    (record { answered = refl; handed = c.before.before.store-resting.ensures.1; words = c.before.before.store-resting.ensures.0 }))
+    (record { answered = refl; handed = c.before.before.store-resting.ensures.1; words = c.before.before.store-resting.ensures.0 })))
 
 pub start_format_spec : {M : Type 1} → statement M
 start_format_spec =

@@ -1,15 +1,19 @@
 -- `call_step::formatting::step_format` meets its contract.
-use mathlib.Core.Path.{sym, ap, ap₂, ◌∙◌}
+use mathlib.Core.Path.{◌≡◌, sym, ap, ap₂, ◌∙◌}
+use Prim.Native.Nat.{ℕ, ◌<◌, ◌≤◌}
 use native.Mathlib.Omega.{arith}
 use lib.ListN.{length, set}
+use Rattle.laws.proofs.Cases.{order}
 use Rattle.state.specs.Block.{block_word}
 use Rattle.state.specs.Steps.{formatted_word}
 use Rattle.state.proofs.StepLaws.{format_first, format_middle, format_last, format_end}
 use Rattle.call_step.proofs.ContractLaws.{made_format, made_formatted}
-use Rattle.call_step.proofs.FormLaws.{past}
 use borrow.Author.Rules.{rules}
 use Rattle.call_step.proofs.formatting.step_format.Statement.{statement}
 use Rattle.call_step.proofs.formatting.step_format.Tie as tie
+
+past : (a b : ℕ) → b ≤ a → (a ≡ b → ⊥) → b < a
+past a b h p = order b a (λ l. l) (λ l. absurd (p (omega arith)))
 
 slice-read-count : tie.Need-slice-read-count
 slice-read-count c = search rules
