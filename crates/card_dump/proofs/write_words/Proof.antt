@@ -43,7 +43,7 @@ loop-i-preserved c =
     let l = c.loop-i in (
       omega arith,
       c.write_word.ensures ∙ write_more c.args.card.now c.args.bytes.now l.i (omega arith) l.bytes l.invariant.1,
-      c.write_word.auto.0 ∙ l.invariant.2,
+      c.write_word.auto.bytes ∙ l.invariant.2,
     )
 
 shape_of-bytes : tie.Need-shape_of-bytes invariant-loop-i decreases-loop-i

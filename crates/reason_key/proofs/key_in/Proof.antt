@@ -16,7 +16,7 @@ line_end-end-requires : tie.Need-line_end-end-requires
 line_end-end-requires c κs = search rules
 
 slice_bounds-key_of_text-end : tie.Need-slice_bounds-key_of_text-end
-slice_bounds-key_of_text-end c = sym (length-take-le c.line_end-end.result s.args.file.now c.line_end-end.ensures.0)
+slice_bounds-key_of_text-end c = sym (length-take-le c.line_end-end.result c.args.file.now c.line_end-end.ensures.0)
 
 key_of_text-requires : tie.Need-key_of_text-requires
 key_of_text-requires c κs = search rules
@@ -25,7 +25,7 @@ returns : tie.Need-returns
 returns c =
     c.key_of_text.ensures
     ∙ ap (λ (text : List ℕ). key_of_line (last_line text)) c.line_end-end.ensures.1
-    ∙ key_within s.args.file.now c.if-file-gt-MOST_BYTES.false
+    ∙ key_within c.args.file.now c.if-file-gt-MOST_BYTES.false
 
 pub key_in_spec : {M : Type 1} → statement M
 key_in_spec =
