@@ -115,7 +115,7 @@ fn room_refusal(room: bool) -> u32
 
 // What starting an update is due: a refusal, or 0 and the internal nodes on its key's way ("It is the number .. when the call began":
 // document 02, W-203).
-#[derive(Drop)]
+#[derive(Clone, Copy)]
 pub struct Due {
     pub refusal: u32,
     pub depth: usize,

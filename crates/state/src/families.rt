@@ -5,7 +5,7 @@ use crate::block::{NO_STATE, STATE_WORDS, TOTALS, wide};
 use card_family::FAMILIES;
 
 // How many pairs a family has, or a refusal.
-#[derive(Drop)]
+#[derive(Clone, Copy)]
 pub enum Total {
     Pairs(u32),
     Refused(u32),

@@ -8,7 +8,7 @@ use Rattle.laws.specs.Cases.{pick}
 use Rattle.card.specs.Layout.{root_place, depth_limit, node_at, children, run_below}
 use Rattle.card.specs.Lines.{root_of, seen}
 use Rattle.card.proofs.LineLaws.{seen_node, seen_root}
-use Rattle.walk.specs.Descent.{look_at, root_position, child_position, Way, nowhere, past, by_look, way_from, way, run_over, beside_all, beside_after}
+use Rattle.walk.specs.Descent.{look_at, root_position, child_position, Way, nowhere, past, by_look, way_from, way, run_over, beside_all, beside_after, child_index}
 use Rattle.walk.specs.declared.Position.{Position}
 use Rattle.walk.specs.declared.Look.{Look}
 use Rattle.walk.specs.declared.Look.TheVariants.{Nowhere, Leaf as IsLeaf, Inner as IsInner}

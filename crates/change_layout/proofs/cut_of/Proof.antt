@@ -36,7 +36,7 @@ unfolding Fits
 cut-tagged-requires c κs =
     let s = c.before.before.before.before in
     let w = (subst (Fits s.args.card.now) c.before.decision4.given.1 s.requires).0.within in
-    (omega (arith, w.parent-to, w.few), omega (arith, w.node-to, w.few))
+    (omega (arith, w.parent_to, w.few), omega (arith, w.node_to, w.few))
 
 enum-known-decision-5 : tie.Need-enum-known-decision-5
 enum-known-decision-5 c = search rules
@@ -46,7 +46,7 @@ unfolding Fits
 cut-tagged-requires-2 c κs =
     let s = c.before.before.before.before in
     let w = (subst (Fits s.args.card.now) c.before.decision5.given.1 s.requires).0.within in
-    (omega (arith, w.parent-to, w.few), omega (arith, w.node-to, w.few))
+    (omega (arith, w.parent_to, w.few), omega (arith, w.node_to, w.few))
 
 enum-known-decision-6 : tie.Need-enum-known-decision-6
 enum-known-decision-6 c = search rules

@@ -17,13 +17,13 @@ parent_words : (c : tie.After-node-at) → length c.Node-at.result.now ≡ 24
 parent_words c =
     let s = c.before.before.before.before in
     let w = s.requires.0.within in
-    ap length c.Node-at.ensures ∙ length_node s.args.card.now s.args.p.parent w.parent-from (omega (arith, w.size, w.parent-to))
+    ap length c.Node-at.ensures ∙ length_node s.args.card.now s.args.p.parent w.parent_from (omega (arith, w.size, w.parent_to))
 
 node_words : (c : tie.After-node-at2) → length c.node-at2.result.now ≡ 24
 node_words c =
     let s = c.before.before.before.before.before in
     let w = s.requires.0.within in
-    ap length c.node-at2.ensures ∙ length_node s.args.card.now s.args.p.node w.node-from (omega (arith, w.size, w.node-to))
+    ap length c.node-at2.ensures ∙ length_node s.args.card.now s.args.p.node w.node_from (omega (arith, w.size, w.node_to))
 
 -- the tagged one is a child of the other, and has two
 child : (c : tie.After-node-at2) → c.before.before.before.before.before.args.p.index < length (children c.before.Node-at.result.now)
