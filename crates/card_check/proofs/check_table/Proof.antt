@@ -24,10 +24,10 @@ cleared_length found l = stored_length found 0 0 0 ∙ l
 -- all lent words as the check of the root is given them
 long : (c : tie.After-clear_totals)
     → length (with_totals (cleared c.args.found.now)
-    c.clear_totals.new.0) ≡ 3 + family_count
+    c.clear_totals.new.totals) ≡ 3 + family_count
 long c =
-    with_length (cleared c.args.found.now) c.clear_totals.new.0 (cleared_length c.args.found.now c.requires.3)
-    (c.clear_totals.auto.0 ∙ lent_length (cleared c.args.found.now) (cleared_length c.args.found.now c.requires.3))
+    with_length (cleared c.args.found.now) c.clear_totals.new.totals (cleared_length c.args.found.now c.requires.3)
+    (c.clear_totals.auto.totals ∙ lent_length (cleared c.args.found.now) (cleared_length c.args.found.now c.requires.3))
 
 fill-requires : tie.Need-fill-requires
 fill-requires c κs = search rules
@@ -68,22 +68,22 @@ shape_of-free c = search rules
 
 shape_of-found : tie.Need-shape_of-found
 shape_of-found c =
-    c.check_tree.auto.1.1.1.1.0
-    ∙ long c.before.before.before.before.before.before.before.before.before.before ∙ sym c.pre.3
+    c.check_tree.auto.found
+    ∙ long c.before.before.before.before.before.before.before.before.before.before ∙ sym c.requires.3
 
 returns : tie.Need-returns
 unfolding table_check table_counted
 returns c = (
   c.check_tree.ensures.0 ∙ rw (
     with_findings _ (cleared c.args.found.now)
-        c.clear_totals.new.0
+        c.clear_totals.new.totals
         (cleared_length c.args.found.now c.requires.3),
     found_stored _ c.args.found.now 0 0 0 (omega arith),
     c.fill.ensures,
   ),
   λ h e. c.check_tree.ensures.1 h e ∙ ap (node_counted depth_limit c.args.card.now (get_or c.args.card.now root_place 0))
       (with_totals_lem (cleared c.args.found.now)
-      c.clear_totals.new.0
+      c.clear_totals.new.totals
       (cleared_length c.args.found.now c.requires.3)
       ∙ c.clear_totals.ensures),
 )

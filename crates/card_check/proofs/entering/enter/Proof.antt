@@ -94,7 +94,7 @@ returns c = (
       ∙ c.if-not-contains.false)
       (sym (ap (λ (l : List ℕ). get_or l 23 0) c.node_at-node.ensures)
       ∙ c.if-node-ne0.false))),
-  subst (λ (l : List ℕ). EntryCounts c.enter_kind.result l (drop 3 c.args.found.now) (drop 3 c.enter_kind.new.1.1.1.1.1.0))
+  subst (λ (l : List ℕ). EntryCounts c.enter_kind.result l (drop 3 c.args.found.now) (drop 3 c.enter_kind.new.found))
       c.node_at-node.ensures c.enter_kind.ensures.1,
 )
 

@@ -66,8 +66,7 @@ returns-then-tagged c = (
       c.child_count-c.result
       c.child_count-c.ensures
       c.if-c-eq0.false
-      (sym c.unused_is_zero.ensures ∙ not-false _
-      c.if-not-unused_is_zero.false) c.if-tagged.true
+      (sym c.unused_is_zero.ensures ∙ c.if-not-unused_is_zero.false) c.if-tagged.true
       c.if-root.false c.if-c-ne2.false),
   c.with_violation.ensures.1,
 )
@@ -96,8 +95,7 @@ returns-then-c-lt2 c = (
       c.child_count-c.result
       c.child_count-c.ensures
       c.if-c-eq0.false
-      (sym c.unused_is_zero.ensures ∙ not-false _
-      c.if-not-unused_is_zero.false) c.if-tagged.false
+      (sym c.unused_is_zero.ensures ∙ c.if-not-unused_is_zero.false) c.if-tagged.false
       c.if-c-lt2.true c.if-root-2.false),
   c.with_violation-then-c-lt2.ensures.1,
 )

@@ -28,7 +28,7 @@ returns-in-1 : tie.Need-returns-in-1
 returns-in-1 c = (
   λ free. c.enter_leaf.ensures.0 free ∙ sym (enter_kind_leaf c.args.node.now c.args.low c.args.high c.args.run
       c.args.root (findings_of free c.args.found.now) (omega (arith, c.in-1.is))),
-  counts_leaf c.args.node.now c.args.found.now c.enter_leaf.new.1.1.1.1.0 c.args.low c.args.root c.enter_leaf.result
+  counts_leaf c.args.node.now c.args.found.now c.enter_leaf.new.found c.args.low c.args.root c.enter_leaf.result
       c.args.high (omega (arith, c.in-1.is)) c.enter_leaf.ensures.0 c.enter_leaf.ensures.1,
 )
 
@@ -39,7 +39,7 @@ returns-in-2 : tie.Need-returns-in-2
 returns-in-2 c = (
   λ free. c.enter_inner.ensures.0 free ∙ sym (enter_kind_internal c.args.node.now c.args.low c.args.high
       c.args.run c.args.root (findings_of free c.args.found.now) (omega (arith, c.in-2.is))),
-  counts_inner c.args.node.now c.args.found.now c.enter_inner.new.1.1.1.1.1.0 c.args.low c.args.root c.enter_inner.result
+  counts_inner c.args.node.now c.args.found.now c.enter_inner.new.found c.args.low c.args.root c.enter_inner.result
       false c.args.run (λ e. omega (arith, e, c.in-2.is)) c.enter_inner.ensures.0 c.enter_inner.ensures.1,
 )
 
@@ -50,7 +50,7 @@ returns-in-3 : tie.Need-returns-in-3
 returns-in-3 c = (
   λ free. c.enter_inner-in-3.ensures.0 free ∙ sym (enter_kind_tagged c.args.node.now c.args.low c.args.high
       c.args.run c.args.root (findings_of free c.args.found.now) (omega (arith, c.in-3.is))),
-  counts_inner c.args.node.now c.args.found.now c.enter_inner-in-3.new.1.1.1.1.1.0 c.args.low c.args.root c.enter_inner-in-3.result
+  counts_inner c.args.node.now c.args.found.now c.enter_inner-in-3.new.found c.args.low c.args.root c.enter_inner-in-3.result
       true c.args.run (λ e. omega (arith, e, c.in-3.is)) c.enter_inner-in-3.ensures.0 c.enter_inner-in-3.ensures.1,
 )
 
@@ -58,7 +58,7 @@ returns-in_default : tie.Need-returns-in_default
 unfolding look_of
 returns-in_default c = (
   λ free. sym (enter_kind_none c.args.node.now c.args.low c.args.high c.args.run c.args.root
-      (findings_of free c.args.found.now) c.in_default.rest.0.0.1 c.in_default.rest.0.1 c.in_default.rest.1),
+      (findings_of free c.args.found.now) c.in_default.in_default-own.rest.0.0.1 c.in_default.in_default-own.rest.0.1 c.in_default.in_default-own.rest.1),
   tt,
 )
 

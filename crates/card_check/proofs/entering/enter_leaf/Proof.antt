@@ -24,17 +24,17 @@ counts c =
     (length (leaf_pairs c.args.node.now))) c.in-Pairs.is c.leaf_pairs.ensures
 
 -- the lent words with the leaf counted
-long : (c : tie.After-count_leaf) → length (with_totals c.args.found.now c.count_leaf.new.1.1.1.1.0) ≡ 3 + family_count
+long : (c : tie.After-count_leaf) → length (with_totals c.args.found.now c.count_leaf.new.totals) ≡ 3 + family_count
 long c =
-    with_length c.args.found.now c.count_leaf.new.1.1.1.1.0 c.requires.1
-    (c.count_leaf.auto.1.1.1.1.0 ∙ lent_length c.args.found.now c.requires.1)
+    with_length c.args.found.now c.count_leaf.new.totals c.requires.1
+    (c.count_leaf.auto.totals ∙ lent_length c.args.found.now c.requires.1)
 
 counted : (c : tie.After-count_leaf)
-    → drop 3 (with_totals c.args.found.now c.count_leaf.new.1.1.1.1.0)
+    → drop 3 (with_totals c.args.found.now c.count_leaf.new.totals)
     ≡ keys_counted (key_words c.args.node.now)
     (drop 3 c.args.found.now)
 counted c =
-    with_totals_lem c.args.found.now c.count_leaf.new.1.1.1.1.0 c.requires.1
+    with_totals_lem c.args.found.now c.count_leaf.new.totals c.requires.1
     ∙ c.count_leaf.ensures ∙ ap (keys_counted (key_words c.args.node.now)) (lent_totals c.args.found.now c.requires.1)
 
 leaf_pairs-requires : tie.Need-leaf_pairs-requires
@@ -73,7 +73,7 @@ shape_of-found-then-root c = long c.before.before.before ∙ sym c.requires.1
 returns-then-root : tie.Need-returns-then-root
 unfolding look_of
 returns-then-root c = (
-  λ free. ap leaf (with_findings free c.args.found.now c.count_leaf.new.1.1.1.1.0 c.requires.1)
+  λ free. ap leaf (with_findings free c.args.found.now c.count_leaf.new.totals c.requires.1)
       ∙ sym (enter_leaf_root c.args.node.now c.args.low c.args.high c.args.root (findings_of free c.args.found.now)
       (counts c.before.before.before.before.before).0 c.if-root.true),
   λ p. counted c.before.before.before,
@@ -98,14 +98,14 @@ shape_of-found-then-count-lt2 : tie.Need-shape_of-found-then-count-lt2
 shape_of-found-then-count-lt2 c =
     let s =
     c.before.before.before.before.before.before.before.before.before.before.before.before.before.before.before in
-    c.with_violation.auto.0
-    ∙ long c.before.before.before.before.before.before.before.before.before ∙ sym s.pre.1
+    c.with_violation.auto.found
+    ∙ long c.before.before.before.before.before.before.before.before.before ∙ sym c.requires.1
 
 returns-then-count-lt2 : tie.Need-returns-then-count-lt2
 returns-then-count-lt2 c = (
   λ free. c.with_violation.ensures.0 free
       ∙ ap (λ (f : Findings). noted true Leaf f c.args.low 0) (with_findings free c.args.found.now
-      c.count_leaf.new.1.1.1.1.0 c.requires.1)
+      c.count_leaf.new.totals c.requires.1)
       ∙ sym (enter_leaf_few c.args.node.now c.args.low c.args.high c.args.root (findings_of free c.args.found.now)
       (counts c.before.before.before.before.before.before.before.before.before.before.before).0
       c.if-root.false
@@ -122,7 +122,7 @@ shape_of-found c =
 returns : tie.Need-returns
 unfolding look_of
 returns c = (
-  λ free. ap leaf (with_findings free c.args.found.now c.count_leaf.new.1.1.1.1.0 c.requires.1)
+  λ free. ap leaf (with_findings free c.args.found.now c.count_leaf.new.totals c.requires.1)
       ∙ sym (enter_leaf_enough c.args.node.now c.args.low c.args.high c.args.root (findings_of free c.args.found.now)
       (counts c.before.before.before.before.before.before.before).0 c.if-root.false
       c.in-Pairs.count

@@ -48,7 +48,7 @@ loop-i-preserved-then-key-ne0 c =
       omega arith,
       c.count_in.ensures ∙ ap (counted_in (get_or node (1 + j) 0)) (l.invariant.1 ∙ ap (λ (x : ℕ). keys_counted (drop x (key_words node)) c.args.totals.now) (sym e))
           ∙ sym (keys_more node c.requires.0 j c.args.totals.now (omega arith) c.if-key-ne0.true),
-      c.count_in.auto.0 ∙ l.invariant.2,
+      c.count_in.auto.totals ∙ l.invariant.2,
     )
 
 loop-i-smaller : tie.Need-loop-i-smaller invariant-loop-i decreases-loop-i

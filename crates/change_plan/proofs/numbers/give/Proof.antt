@@ -18,12 +18,6 @@ invariant-loop-i free last count nodes₀ latest₀ i₀ nodes latest i = Taking
 abbrev decreases-loop-i : tie.decreases-loop-i
 decreases-loop-i free last count nodes₀ latest₀ i₀ nodes latest i = count - i
 
--- the node found is one of the set
-found : (c : tie.In-Node-unread invariant-loop-i decreases-loop-i) → (1 ≤ c.in-Node.m) × (c.in-Node.m < capacity)
-found c =
-    found_below c.args.free.now c.loop-i.latest _ c.requires.0
-    (sym c.next_free.ensures ∙ c.in-Node.is)
-
 loop-i-init : tie.Need-loop-i-init invariant-loop-i decreases-loop-i
 loop-i-init c = (taking_start _ _ _ _ refl, refl)
 
@@ -45,7 +39,7 @@ returns-in_default c =
     )
 
 overflow_cast-number : tie.Need-overflow_cast-number invariant-loop-i decreases-loop-i
-overflow_cast-number c = omega (arith, found c)
+overflow_cast-number c = omega (arith, found_below c.args.free.now c.loop-i.latest _ c.requires.0 (sym c.next_free.ensures ∙ c.in-Node.is))
 
 bounds-nodes-0 : tie.Need-bounds-nodes-0 invariant-loop-i decreases-loop-i
 bounds-nodes-0 c = search rules
@@ -54,9 +48,9 @@ returns-then-number-nodes : tie.Need-returns-then-number-nodes invariant-loop-i 
 unfolding given_by left_given
 returns-then-number-nodes c =
     let l = c.loop-i in (
-      taking_round _ _ l.i _ _ _ l.invariant.0 c.m-1.given.0.0
+      taking_round _ _ l.i _ _ _ l.invariant.0 c.in-Node.m
           c.loop-i-test.true
-          (sym c.next_free.ensures ∙ c.m-1.given.1) c.if-number-nodes.true,
+          (sym c.next_free.ensures ∙ c.in-Node.is) c.if-number-nodes.true,
       λ z. refl,
     )
 
@@ -76,8 +70,8 @@ loop-i-preserved : tie.Need-loop-i-preserved invariant-loop-i decreases-loop-i
 loop-i-preserved c =
     let l = c.loop-i in (
       taking_more _ _ l.i _ _ _ l.invariant.0 _ l.invariant.1 c.requires.1 c.loop-i-test.true
-          (sym c.next_free.ensures ∙ c.m-1.given.1) c.if-number-nodes.false,
-      length-set l.nodes l.i c.m-1.given.0.0 ∙ l.invariant.1,
+          (sym c.next_free.ensures ∙ c.in-Node.is) c.if-number-nodes.false,
+      length-set l.nodes l.i c.in-Node.m ∙ l.invariant.1,
     )
 
 bounds-nodes-0-2 : tie.Need-bounds-nodes-0-2 invariant-loop-i decreases-loop-i

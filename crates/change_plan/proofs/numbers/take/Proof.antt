@@ -43,13 +43,13 @@ loop-i-smaller c = search rules
 loop-i-preserved : tie.Need-loop-i-preserved invariant-loop-i decreases-loop-i
 loop-i-preserved c =
     let l = c.loop-i in
-    let len : length c.args.t2 ≡ 3 = search rules in (
+    let len : length c.args.nodes ≡ 3 = search rules in (
       omega arith,
-      c.take_out.ensures ∙ ap (λ (b : List Bool). set b (get_or c.args.t2 l.i 0) false) l.invariant.1
-          ∙ without_next c.args.t2 l.i (nodes_of c.args.free.now) (omega (arith, c.requires.1)),
-      c.take_out.auto.0 ∙ l.invariant.2,
-      ap (λ (k : ℕ). get_or c.args.t2 k 0) (let z : l.i ≡ l.i + 1 - 1 = omega arith in z)
-          ∙ last_some c.args.t2 (l.i + 1) c.args.last (λ z. omega (arith, z)) (omega (arith, c.requires.1)),
+      c.take_out.ensures ∙ ap (λ (b : List Bool). set b (get_or c.args.nodes l.i 0) false) l.invariant.1
+          ∙ without_next c.args.nodes l.i (nodes_of c.args.free.now) (omega (arith, c.requires.1)),
+      c.take_out.auto.words ∙ l.invariant.2,
+      ap (λ (k : ℕ). get_or c.args.nodes k 0) (let z : l.i ≡ l.i + 1 - 1 = omega arith in z)
+          ∙ last_some c.args.nodes (l.i + 1) c.args.last (λ z. omega (arith, z)) (omega (arith, c.requires.1)),
     )
 
 shape_of-free : tie.Need-shape_of-free invariant-loop-i decreases-loop-i
@@ -59,8 +59,8 @@ returns : tie.Need-returns invariant-loop-i decreases-loop-i
 returns c =
     let l = c.loop-i in
     let all : l.i ≡ c.args.count = omega (arith, l.invariant.0) in (
-      l.invariant.1 ∙ ap (λ (k : ℕ). without_all (take k c.args.t2) (nodes_of c.args.free.now)) all,
-      l.invariant.3 ∙ ap (λ (k : ℕ). last_of c.args.last (take k c.args.t2)) all,
+      l.invariant.1 ∙ ap (λ (k : ℕ). without_all (take k c.args.nodes) (nodes_of c.args.free.now)) all,
+      l.invariant.3 ∙ ap (λ (k : ℕ). last_of c.args.last (take k c.args.nodes)) all,
     )
 
 pub take_spec : {M : Type 1} → statement M
