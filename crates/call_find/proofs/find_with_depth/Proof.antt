@@ -4,7 +4,6 @@ use mathlib.Core.Bool.{true, false}
 use Prim.Native.Nat.{ℕ}
 use native.Mathlib.Omega.{arith}
 use lib.ListN.{length}
-use borrow.Author.Tests.{not-true, not-false}
 use Rattle.card.specs.Layout.{depth_limit}
 use Rattle.card.specs.Lines.{has_line}
 use Rattle.card.proofs.LineLaws.{has_is}

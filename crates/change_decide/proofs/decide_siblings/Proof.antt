@@ -2,7 +2,6 @@
 use mathlib.Core.Path.{sym, ap₂, ◌∙◌}
 use Prim.Native.Nat.{ℕ, ◌+◌}
 use native.Mathlib.Omega.{arith}
-use borrow.Author.Tests.{not-true, not-false}
 use Rattle.card.proofs.NodeLaws.{children_le, leaf_few}
 use Rattle.change_decide.specs.Decide.{decide_together}
 use Rattle.change_decide.proofs.DecideLaws.{siblings_leaves, siblings_mixed, siblings_left_bare, siblings_right_bare, siblings_inners}

@@ -5,7 +5,6 @@ use mathlib.Core.Bool.{true}
 use Prim.Native.Nat.{ℕ, suc, ◌+◌, ◌<◌}
 use native.Mathlib.Omega.{arith}
 use lib.ListN.{length, get_or}
-use borrow.Author.Tests.{not-true, not-false}
 use Rattle.card.specs.Layout.{node_at, children}
 use Rattle.card.proofs.NodeLaws.{length_node}
 use Rattle.change_decide.specs.Decide.{is_node, left_sibling, left_number, right_number, decide_siblings}

@@ -1,7 +1,6 @@
 -- `card_check::entering::enter_inner` meets its contract.
 use mathlib.Core.Path.{refl, sym, ◌∙◌}
 use native.Mathlib.Omega.{arith}
-use borrow.Author.Tests.{not-true, not-false}
 use borrow.Author.Rules.{rules}
 use Rattle.card.proofs.NodeLaws.{children_le}
 use Rattle.card_check.proofs.CheckLaws.{enter_inner_none, enter_inner_unused, enter_tagged_root, enter_tagged_count, enter_tagged, enter_single_root, enter_single, enter_several}

@@ -4,7 +4,6 @@ use mathlib.Core.Bool.{true}
 use Prim.Native.Nat.{◌+◌, ◌-◌, ◌≤◌}
 use native.Mathlib.Omega.{arith}
 use lib.ListN.{length, get_or, drop}
-use borrow.Author.Tests.{not-true, not-false}
 use Rattle.card.specs.Layout.{key_words}
 use Rattle.card.proofs.NodeLaws.{is_key_none, is_key_some, leaf_from, leaf_start, leaf_length, leaf_end}
 use Rattle.card_check.specs.Check.{leaf_sound, Least}

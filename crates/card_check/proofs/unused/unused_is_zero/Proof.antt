@@ -1,5 +1,4 @@
 use mathlib.Core.Path.{sym, ◌∙◌}
-use borrow.Author.Tests.{not-true, not-false}
 use borrow.Author.Rules.{rules}
 use Rattle.card_check.proofs.CheckLaws.{unused_keys, unused_values}
 use Rattle.card_check.proofs.unused.unused_is_zero.Statement.{statement}

@@ -2,10 +2,10 @@
 use mathlib.Core.List.{List}
 use mathlib.Core.Path.{◌≡◌, refl, ap, sym, ◌∙◌}
 use mathlib.Core.Option.{some}
-use Prim.Native.Nat.{ℕ, ◌-◌, ◌≤◌, ◌<◌}
+use Prim.Native.Nat.{ℕ, ◌-◌}
 use native.Mathlib.Omega.{arith}
 use lib.ListN.{length, take, length-set}
-use Rattle.card_free.specs.NodeSet.{capacity, nodes_of}
+use Rattle.card_free.specs.NodeSet.{nodes_of}
 use Rattle.change_plan.specs.Plan.{given_by, left_given}
 use Rattle.change_plan.proofs.NumberLaws.{Taking, taking_start, taking_more, taking_none, taking_round, taking_done, first_zero, found_below, three_numbers}
 use borrow.Author.Rules.{rules}
