@@ -1,5 +1,5 @@
 // The question for a family's total (document 02, W-204).
-ghost use Rattle.state.specs.Contracts.{TotalCall};
+ghost use Rattle.state.specs.Clauses.{TotalCall};
 
 use crate::block::{NO_STATE, STATE_WORDS, TOTALS, wide};
 use card_family::FAMILIES;

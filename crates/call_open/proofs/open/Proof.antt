@@ -8,7 +8,7 @@ use Rattle.card.proofs.HeaderLaws.{sized, card_sized}
 use Rattle.card_check.specs.Check.{table_check}
 use Rattle.card_check.specs.Counting.{table_counted}
 use Rattle.state.specs.Steps.{Handed, no_beginning}
-use Rattle.state.specs.Contracts.{Opened}
+use Rattle.state.specs.Clauses.{Opened}
 use Rattle.state.proofs.ContractLaws.{open_no_state, opened_call}
 use Rattle.call_open.specs.Opening.{open_checked, open_of}
 use Rattle.call_open.proofs.OpeningLaws.{open_refused, open_unrefused}

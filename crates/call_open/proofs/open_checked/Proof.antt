@@ -13,7 +13,7 @@ use Rattle.card_check.specs.Counting.{table_counted}
 use Rattle.card_check.specs.declared.Checked.{Checked}
 use Rattle.state.specs.Block.{back_at, free_at, totals_at, state_words, part}
 use Rattle.state.specs.Steps.{Handed}
-use Rattle.state.specs.Contracts.{Opened}
+use Rattle.state.specs.Clauses.{Opened}
 use Rattle.state.proofs.Rows.{placed}
 use Rattle.state.proofs.Blocks.{freed_length, freed_part, stored_part, stored_totals, freed_after, stored_after}
 use Rattle.state.proofs.ContractLaws.{opened_from}

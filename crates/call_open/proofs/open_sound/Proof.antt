@@ -9,7 +9,7 @@ use Rattle.card_check.specs.Check.{findings_of}
 use Rattle.state.specs.Steps.{Handed}
 use Rattle.state.specs.declared.Begun.TheVariants.{Idle as OpenedIdle, Started}
 use Rattle.state.specs.Block.{free_at, part}
-use Rattle.state.specs.Contracts.{Opened}
+use Rattle.state.specs.Clauses.{Opened}
 use Rattle.call_open.proofs.OpeningLaws.{open_scarce, open_repair, open_idle}
 use borrow.Author.Rules.{rules}
 use Rattle.call_open.proofs.open_sound.Statement.{statement}
