@@ -14,59 +14,62 @@ use borrow.Author.Rules.{rules}
 use Rattle.list_pairs.proofs.list_card.Statement.{statement}
 use Rattle.list_pairs.proofs.list_card.Tie as tie
 
-slice_bounds-open_repaired-end : tie.Need-slice_bounds-open_repaired-end
-slice_bounds-open_repaired-end c = search rules
+slice-aggregate-open-repaired : tie.Need-slice-aggregate-open-repaired
+slice-aggregate-open-repaired c = search rules
 
-open_repaired-requires : tie.Need-open_repaired-requires
-open_repaired-requires c κs = search rules
+open-repaired-requires : tie.Need-open-repaired-requires
+open-repaired-requires c κs = search rules
 
-enum_known-refusal : tie.Need-enum_known-refusal
-enum_known-refusal c = search rules
+enum-known-refusal : tie.Need-enum-known-refusal
+enum-known-refusal c = search rules
 
 refusing-requires : tie.Need-refusing-requires
 refusing-requires c κs = search rules
 
-list_table-requires : tie.Need-list_table-requires
-list_table-requires c κs = search rules
+list-table-requires : tie.Need-list-table-requires
+list-table-requires c κs = search rules
 
-shape_of-card-in-Refused : tie.Need-shape_of-card-in-Refused
-shape_of-card-in-Refused c = search rules
+same_length : tie.Need-same-length
+same_length c = search rules
 
-returns-in-Refused : tie.Need-returns-in-Refused
+returns : tie.Need-returns
 unfolding left_by
-returns-in-Refused c =
-    let e = sym c.open_repaired.ensures.0 ∙ c.in-Refused.is in
-    let q = summary_refused c.in-Refused.refusal (list_card c.args.greatest c.args.card.now) c.args.out.now (card_refused _ c.args.card.now c.in-Refused.refusal e) in
-    (c.refusing.ensures ∙ q.0, (q.1, ap (λ (x : Repaired). x.card) c.open_repaired.ensures.1))
+returns c =
+    let s = c.before.before.before.before.before.before.before.before.before.before.before.before in
+    let b = c.before.before.refusal in
+    let e = sym c.before.before.before.before.before.before.before.open-repaired.ensures.0 ∙ b.given.1 in
+    let q = summary_refused b.given.0.0 (list_card s.args.greatest s.args.card.now) s.args.out.now (card_refused _ s.args.card.now b.given.0.0 e) in
+    (c.refusing.ensures ∙ q.0, (q.1, ap (λ (x : Repaired). x.card) c.before.before.before.before.before.before.before.open-repaired.ensures.1))
 
-shape_of-card-in-Idle : tie.Need-shape_of-card-in-Idle
-shape_of-card-in-Idle c = search rules
+same-length-2 : tie.Need-same-length-2
+same-length-2 c = search rules
 
-shape_of-out : tie.Need-shape_of-out
-shape_of-out c = search rules
+same-length-3 : tie.Need-same-length-3
+same-length-3 c = search rules
 
-returns-in-Idle : tie.Need-returns-in-Idle
+returns-2 : tie.Need-returns-2
 unfolding left_by
-returns-in-Idle c =
-    let r = c.open_repaired in
-    let k = c.list_table in
+returns-2 c =
+    let s = c.before.before.before.before.before.before.before.before.before.before.before.before.before.before in
+    let r = c.before.before.before.before.before.before.before.before.before.open-repaired in
+    let k = c.before.before.list-table in
     let left = ap (λ (x : Repaired). x.card) r.ensures.1 in
-    let opens : (number : ℕ) → (open_of c.args.greatest c.args.card.now).begun ≡ Refused number → ⊥ =
-    λ number e. let told = c.in-Idle.in-Idle-own.keys2 in ⊎_elim (λ z. omega (arith, z)) (λ z. omega (arith, z)) (rw (r.ensures.0 ∙ e) at told) in
-    let is = ap₂ (list_table c.args.greatest) left (ap (nodes_of_length _) r.auto.card) ∙ sym (card_listed _ c.args.card.now opens) in
-    (k.ensures.0 ∙ ap (λ (l : Listed). summary_of l c.args.out.now) is, (k.ensures.1 ∙ ap (λ (l : Listed). (lay_listed l c.args.out.now).words) is, left))
+    let opens : (number : ℕ) → (open_of s.args.greatest s.args.card.now).begun ≡ Refused number → ⊥ =
+    λ number e. let told = c.before.before.before.before.before.match.keys2 in ⊎_elim (λ z. omega (arith, z)) (λ z. omega (arith, z)) (rw (r.ensures.0 ∙ e) at told) in
+    let is = ap₂ (list_table s.args.greatest) left (ap (nodes_of_length _) r.auto.0) ∙ sym (card_listed _ s.args.card.now opens) in
+    (k.ensures.0 ∙ ap (λ (l : Listed). summary_of l s.args.out.now) is, (k.ensures.1 ∙ ap (λ (l : Listed). (lay_listed l s.args.out.now).words) is, left))
 
 pub list_card_spec : {M : Type 1} → statement M
 list_card_spec =
     tie.close
     (tie.spec
-    slice_bounds-open_repaired-end
-    open_repaired-requires
-    enum_known-refusal
+    slice-aggregate-open-repaired
+    open-repaired-requires
+    enum-known-refusal
     refusing-requires
-    list_table-requires
-    shape_of-card-in-Refused
-    returns-in-Refused
-    shape_of-card-in-Idle
-    shape_of-out
-    returns-in-Idle)
+    list-table-requires
+    same_length
+    returns
+    same-length-2
+    same-length-3
+    returns-2)

@@ -15,67 +15,73 @@ use Rattle.list_pairs.proofs.list_dump.Statement.{statement}
 use Rattle.list_pairs.proofs.list_dump.Tie as tie
 
 -- the words read fit into the lent slice
-slice_bounds-list_card-end : tie.Need-slice_bounds-list_card-end
-slice_bounds-list_card-end c =
-    let d = c.read_dump in
-    omega (arith, d.auto.1, (read_sized _ c.args.bytes.now (length c.args.card.now) c.in-Length.size (sym d.ensures.0 ∙ c.in-Length.is)).room)
+fits : tie.Need-slice-relend-prefix-list-card
+fits c =
+    let s = c.before.before.before.before.before.before.before.before.before.before in
+    let d = c.before.before.before.before.before.read-dump in
+    let z = c.before.size.given in
+    omega (arith, d.auto.1, (read_sized _ s.args.bytes.now (length s.args.card.now) z.0.0 (sym d.ensures.0 ∙ z.1)).room)
 
-read_dump-requires : tie.Need-read_dump-requires
-read_dump-requires c κs = search rules
+read-dump-requires : tie.Need-read-dump-requires
+read-dump-requires c κs = search rules
 
-enum_known-refusal : tie.Need-enum_known-refusal
-enum_known-refusal c = search rules
+enum-known-refusal : tie.Need-enum-known-refusal
+enum-known-refusal c = search rules
 
 refusing-requires : tie.Need-refusing-requires
 refusing-requires c κs = search rules
 
-enum_known-size : tie.Need-enum_known-size
-enum_known-size c = search rules
+enum-known-size : tie.Need-enum-known-size
+enum-known-size c = search rules
 
 slice-relend-prefix-list-card : tie.Need-slice-relend-prefix-list-card
-slice-relend-prefix-list-card c = slice_bounds-list_card-end c
+slice-relend-prefix-list-card c = fits c
 
-slice_bounds-list_card-end-in-Length : tie.Need-slice_bounds-list_card-end-in-Length
-slice_bounds-list_card-end-in-Length c = sym (length-take-le c.in-Length.size _ (slice_bounds-list_card-end c.before))
+slice-aggregate-list-card : tie.Need-slice-aggregate-list-card
+slice-aggregate-list-card c = sym (length-take-le c.before.before.size.given.0.0 _ (fits c.before))
 
-list_card-requires : tie.Need-list_card-requires
-list_card-requires c κs = search rules
+list-card-requires : tie.Need-list-card-requires
+list-card-requires c κs = search rules
 
-shape_of-card-in-Refused : tie.Need-shape_of-card-in-Refused
-shape_of-card-in-Refused c = search rules
+same_length : tie.Need-same-length
+same_length c = search rules
 
-returns-in-Refused : tie.Need-returns-in-Refused
-returns-in-Refused c =
-    let d = c.read_dump in
-    let e = sym d.ensures.0 ∙ c.in-Refused.is in
-    let lent = length c.args.card.now in
-    let q = summary_refused c.in-Refused.refusal (list_dump c.args.greatest c.args.bytes.now lent) c.args.out.now
-    (dump_refused c.args.greatest c.args.bytes.now lent c.in-Refused.refusal e) in
-    (c.refusing.ensures ∙ q.0, (q.1, d.ensures.1 ∙ over_refused c.args.greatest c.args.bytes.now c.args.card.now c.in-Refused.refusal e))
+returns : tie.Need-returns
+returns c =
+    let s = c.before.before.before.before.before.before.before.before.before.before.before in
+    let b = c.before.before.refusal in
+    let d = c.before.before.before.before.before.before.read-dump in
+    let e = sym d.ensures.0 ∙ b.given.1 in
+    let lent = length s.args.card.now in
+    let q = summary_refused b.given.0.0 (list_dump s.args.greatest s.args.bytes.now lent) s.args.out.now
+    (dump_refused s.args.greatest s.args.bytes.now lent b.given.0.0 e) in
+    (c.refusing.ensures ∙ q.0, (q.1, d.ensures.1 ∙ over_refused s.args.greatest s.args.bytes.now s.args.card.now b.given.0.0 e))
 
-shape_of-card-in-Length : tie.Need-shape_of-card-in-Length
-shape_of-card-in-Length c = search rules
+same-length-2 : tie.Need-same-length-2
+same-length-2 c = search rules
 
-shape_of-out : tie.Need-shape_of-out
-shape_of-out c = search rules
+same-length-3 : tie.Need-same-length-3
+same-length-3 c = search rules
 
-returns-in-Length : tie.Need-returns-in-Length
-returns-in-Length c =
-    let d = c.read_dump in
-    let k = c.list_card in
-    let size = c.in-Length.size in
-    let e = sym d.ensures.0 ∙ c.in-Length.is in
+returns-2 : tie.Need-returns-2
+returns-2 c =
+    let s = c.before.before.before.before.before.before.before.before.before.before.before.before.before.before.before.before.before in
+    let d = c.before.before.before.before.before.before.before.before.before.before.before.before.read-dump in
+    let z = c.before.before.before.before.before.before.before.before.size.given in
+    let k = c.before.before.before.before.list-card in
+    let size = z.0.0 in
+    let e = sym d.ensures.0 ∙ z.1 in
     let is =
-    ap (λ (l : List ℕ). list_card c.args.greatest (take c.in-Length.size l)) d.ensures.1
-    ∙ ap (list_card c.args.greatest) (read_card c.args.greatest c.args.bytes.now c.args.card.now size e)
-    ∙ sym (dump_read c.args.greatest c.args.bytes.now (length c.args.card.now) size e) in
-    let left = k.ensures.1.1 ∙ ap (λ (l : List ℕ). (opened_card c.args.greatest l).card)
-    (ap (take c.in-Length.size) d.ensures.1 ∙ read_card c.args.greatest c.args.bytes.now c.args.card.now size e) in
-    let beyond = ap (drop c.in-Length.size) d.ensures.1 ∙ read_beyond c.args.greatest c.args.bytes.now c.args.card.now size e in (
-      k.ensures.0 ∙ ap (λ (l : Listed). summary_of l c.args.out.now) is,
+    ap (λ (l : List ℕ). list_card s.args.greatest (take z.0.0 l)) d.ensures.1
+    ∙ ap (list_card s.args.greatest) (read_card s.args.greatest s.args.bytes.now s.args.card.now size e)
+    ∙ sym (dump_read s.args.greatest s.args.bytes.now (length s.args.card.now) size e) in
+    let left = k.ensures.1.1 ∙ ap (λ (l : List ℕ). (opened_card s.args.greatest l).card)
+    (ap (take z.0.0) d.ensures.1 ∙ read_card s.args.greatest s.args.bytes.now s.args.card.now size e) in
+    let beyond = ap (drop z.0.0) d.ensures.1 ∙ read_beyond s.args.greatest s.args.bytes.now s.args.card.now size e in (
+      k.ensures.0 ∙ ap (λ (l : Listed). summary_of l s.args.out.now) is,
       (
-        k.ensures.1.0 ∙ ap (λ (l : Listed). (lay_listed l c.args.out.now).words) is,
-        ap₂ (λ (a b : List ℕ). a ++ b) left beyond ∙ sym (over_read c.args.greatest c.args.bytes.now c.args.card.now size e),
+        k.ensures.1.0 ∙ ap (λ (l : Listed). (lay_listed l s.args.out.now).words) is,
+        ap₂ (λ (a b : List ℕ). a ++ b) left beyond ∙ sym (over_read s.args.greatest s.args.bytes.now s.args.card.now size e),
       ),
     )
 
@@ -83,15 +89,15 @@ pub list_dump_spec : {M : Type 1} → statement M
 list_dump_spec =
     tie.close
     (tie.spec
-    read_dump-requires
-    enum_known-refusal
+    read-dump-requires
+    enum-known-refusal
     refusing-requires
-    enum_known-size
+    enum-known-size
     slice-relend-prefix-list-card
-    slice_bounds-list_card-end-in-Length
-    list_card-requires
-    shape_of-card-in-Refused
-    returns-in-Refused
-    shape_of-card-in-Length
-    shape_of-out
-    returns-in-Length)
+    slice-aggregate-list-card
+    list-card-requires
+    same_length
+    returns
+    same-length-2
+    same-length-3
+    returns-2)

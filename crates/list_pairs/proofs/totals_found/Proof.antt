@@ -8,32 +8,33 @@ use borrow.Author.Rules.{rules}
 use Rattle.list_pairs.proofs.totals_found.Statement.{statement}
 use Rattle.list_pairs.proofs.totals_found.Tie as tie
 
-slice_bounds-copy_words-end : tie.Need-slice_bounds-copy_words-end
-slice_bounds-copy_words-end c = search rules
+slice-aggregate-copy-words : tie.Need-slice-aggregate-copy-words
+slice-aggregate-copy-words c = search rules
 
-slice_bounds-copy_words-count : tie.Need-slice_bounds-copy_words-count
-slice_bounds-copy_words-count c = search rules
+sub-copy-words : tie.Need-overflow-sub-copy-words
+sub-copy-words c = search rules
 
-slice_bounds-copy_words-start : tie.Need-slice_bounds-copy_words-start
-slice_bounds-copy_words-start c = search rules
+part-copy-words-start : tie.Need-slice-bounds-copy-words-start
+part-copy-words-start c = search rules
 
-slice_bounds-copy_words-end-2 : tie.Need-slice_bounds-copy_words-end-2
-slice_bounds-copy_words-end-2 c = search rules
+part-copy-words-end : tie.Need-slice-bounds-copy-words-end
+part-copy-words-end c = search rules
 
-copy_words-requires : tie.Need-copy_words-requires
-copy_words-requires c κs = search rules
+copy-words-requires : tie.Need-copy-words-requires
+copy-words-requires c κs = search rules
 
 returns : tie.Need-returns
 returns c =
-    c.copy_words.ensures ∙ take_all family_count (drop 3 c.args.found.now) (omega (arith, c.requires, length-drop 3 c.args.found.now))
+    let s = c.before.before.before.before.before in
+    c.before.copy-words.ensures ∙ take_all family_count (drop 3 s.args.found.now) (omega (arith, s.requires, length-drop 3 s.args.found.now))
 
 pub totals_found_spec : {M : Type 1} → statement M
 totals_found_spec =
     tie.close
     (tie.spec
-    slice_bounds-copy_words-end
-    slice_bounds-copy_words-count
-    slice_bounds-copy_words-start
-    slice_bounds-copy_words-end-2
-    copy_words-requires
+    slice-aggregate-copy-words
+    sub-copy-words
+    part-copy-words-start
+    part-copy-words-end
+    copy-words-requires
     returns)

@@ -7,41 +7,43 @@ use borrow.Author.Rules.{rules}
 use Rattle.reason.proofs.insert_reason.Statement.{statement}
 use Rattle.reason.proofs.insert_reason.Tie as tie
 
-slice_bounds-open_repaired-end : tie.Need-slice_bounds-open_repaired-end
-slice_bounds-open_repaired-end c = search rules
+slice-aggregate-open-repaired : tie.Need-slice-aggregate-open-repaired
+slice-aggregate-open-repaired c = search rules
 
-open_repaired-requires : tie.Need-open_repaired-requires
-open_repaired-requires c κs = search rules
+open-repaired-requires : tie.Need-open-repaired-requires
+open-repaired-requires c κs = search rules
 
-enum_known-refusal : tie.Need-enum_known-refusal
-enum_known-refusal c = search rules
+enum-known-refusal : tie.Need-enum-known-refusal
+enum-known-refusal c = search rules
 
-slice_bounds-reason_with-end : tie.Need-slice_bounds-reason_with-end
-slice_bounds-reason_with-end c = search rules
+slice-aggregate-reason-with : tie.Need-slice-aggregate-reason-with
+slice-aggregate-reason-with c = search rules
 
-reason_with-requires : tie.Need-reason_with-requires
-reason_with-requires c κs = search rules
+reason-with-requires : tie.Need-reason-with-requires
+reason-with-requires c κs = search rules
 
-shape_of-card-in-Refused : tie.Need-shape_of-card-in-Refused
-shape_of-card-in-Refused c = search rules
-
-returns-in-Refused : tie.Need-returns-in-Refused
-unfolding left_by
-returns-in-Refused c = (
-  sym (of_refused _ c.args.card.now c.args.key c.in-Refused.refusal
-      (sym c.open_repaired.ensures.0 ∙ c.in-Refused.is)),
-  ap (λ (x : Repaired). x.card) c.open_repaired.ensures.1,
-)
-
-shape_of-card : tie.Need-shape_of-card
-shape_of-card c = search rules
+same_length : tie.Need-same-length
+same_length c = search rules
 
 returns : tie.Need-returns
 unfolding left_by
 returns c =
-    let opened = c.open_repaired in (
-      c.reason_with.ensures ∙ ap (λ (x : Repaired). reason_on c.args.greatest x.card x.memory.free c.args.key) opened.ensures.1
-          ∙ sym (of_opened _ c.args.card.now c.args.key (λ r e. is_unrefused opened.result c.in_default.in_default-own.keys2 r (opened.ensures.0 ∙ e))),
+    let s = c.before.before.before.before.before.before.before.before.before.before in (
+      sym (of_refused _ s.args.card.now s.args.key c.before.refusal.given.0.0
+          (sym c.before.before.before.before.before.before.open-repaired.ensures.0 ∙ c.before.refusal.given.1)),
+      ap (λ (x : Repaired). x.card) c.before.before.before.before.before.before.open-repaired.ensures.1,
+    )
+
+same-length-2 : tie.Need-same-length-2
+same-length-2 c = search rules
+
+returns-2 : tie.Need-returns-2
+unfolding left_by
+returns-2 c =
+    let s = c.before.before.before.before.before.before.before.before.before.before.before in
+    let opened = c.before.before.before.before.before.before.before.open-repaired in (
+      c.reason-with.ensures ∙ ap (λ (x : Repaired). reason_on s.args.greatest x.card x.memory.free s.args.key) opened.ensures.1
+          ∙ sym (of_opened _ s.args.card.now s.args.key (λ r e. is_unrefused opened.result c.before.before.before.match.keys2 r (opened.ensures.0 ∙ e))),
       ap (λ (x : Repaired). x.card) opened.ensures.1,
     )
 
@@ -49,12 +51,12 @@ pub insert_reason_spec : {M : Type 1} → statement M
 insert_reason_spec =
     tie.close
     (tie.spec
-    slice_bounds-open_repaired-end
-    open_repaired-requires
-    enum_known-refusal
-    shape_of-card-in-Refused
-    returns-in-Refused
-    slice_bounds-reason_with-end
-    reason_with-requires
-    shape_of-card
-    returns)
+    slice-aggregate-open-repaired
+    open-repaired-requires
+    enum-known-refusal
+    same_length
+    returns
+    slice-aggregate-reason-with
+    reason-with-requires
+    same-length-2
+    returns-2)

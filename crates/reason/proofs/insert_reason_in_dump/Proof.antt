@@ -15,67 +15,73 @@ use Rattle.reason.proofs.insert_reason_in_dump.Statement.{statement}
 use Rattle.reason.proofs.insert_reason_in_dump.Tie as tie
 
 -- the words read fit into the lent slice
-slice_bounds-insert_reason-end : tie.Need-slice_bounds-insert_reason-end
-slice_bounds-insert_reason-end c =
-    let d = c.read_dump in
-    omega (arith, d.auto.1, (read_sized _ c.args.bytes.now (length c.args.card.now) c.in-Length.size (sym d.ensures.0 ∙ c.in-Length.is)).room)
+fits : tie.Need-slice-relend-prefix-insert-reason
+fits c =
+    let s = c.before.before.before.before.before.before.before.before.before in
+    let d = c.before.before.before.before.before.read-dump in
+    let z = c.before.size.given in
+    omega (arith, d.auto.1, (read_sized _ s.args.bytes.now (length s.args.card.now) z.0.0 (sym d.ensures.0 ∙ z.1)).room)
 
-read_dump-requires : tie.Need-read_dump-requires
-read_dump-requires c κs = search rules
+read-dump-requires : tie.Need-read-dump-requires
+read-dump-requires c κs = search rules
 
-enum_known-refusal : tie.Need-enum_known-refusal
-enum_known-refusal c = search rules
+enum-known-refusal : tie.Need-enum-known-refusal
+enum-known-refusal c = search rules
 
-enum_known-size : tie.Need-enum_known-size
-enum_known-size c = search rules
+enum-known-size : tie.Need-enum-known-size
+enum-known-size c = search rules
 
 slice-relend-prefix-insert-reason : tie.Need-slice-relend-prefix-insert-reason
-slice-relend-prefix-insert-reason c = slice_bounds-insert_reason-end c
+slice-relend-prefix-insert-reason c = fits c
 
-slice_bounds-insert_reason-end-in-Length : tie.Need-slice_bounds-insert_reason-end-in-Length
-slice_bounds-insert_reason-end-in-Length c = sym (length-take-le c.in-Length.size _ (slice_bounds-insert_reason-end c.before))
+slice-aggregate-insert-reason : tie.Need-slice-aggregate-insert-reason
+slice-aggregate-insert-reason c = sym (length-take-le c.before.before.size.given.0.0 _ (fits c.before))
 
-insert_reason-requires : tie.Need-insert_reason-requires
-insert_reason-requires c κs = search rules
+insert-reason-requires : tie.Need-insert-reason-requires
+insert-reason-requires c κs = search rules
 
-shape_of-card-in-Refused : tie.Need-shape_of-card-in-Refused
-shape_of-card-in-Refused c = search rules
+same_length : tie.Need-same-length
+same_length c = search rules
 
-returns-in-Refused : tie.Need-returns-in-Refused
-returns-in-Refused c =
-    let d = c.read_dump in
-    let e = sym d.ensures.0 ∙ c.in-Refused.is in (
-      sym (dump_refused c.args.greatest c.args.bytes.now (length c.args.card.now) c.args.key c.in-Refused.refusal e),
-      d.ensures.1 ∙ over_refused c.args.greatest c.args.bytes.now c.args.card.now c.in-Refused.refusal e,
+returns : tie.Need-returns
+returns c =
+    let s = c.before.before.before.before.before.before.before.before.before in
+    let b = c.before.refusal in
+    let d = c.before.before.before.before.before.read-dump in
+    let e = sym d.ensures.0 ∙ b.given.1 in (
+      sym (dump_refused s.args.greatest s.args.bytes.now (length s.args.card.now) s.args.key b.given.0.0 e),
+      d.ensures.1 ∙ over_refused s.args.greatest s.args.bytes.now s.args.card.now b.given.0.0 e,
     )
 
-shape_of-card-in-Length : tie.Need-shape_of-card-in-Length
-shape_of-card-in-Length c = search rules
+same-length-2 : tie.Need-same-length-2
+same-length-2 c = search rules
 
-returns-in-Length : tie.Need-returns-in-Length
-returns-in-Length c =
-    let d = c.read_dump in
-    let k = c.insert_reason in
-    let e = sym d.ensures.0 ∙ c.in-Length.is in
-    let card = ap (take c.in-Length.size) d.ensures.1 ∙ read_card c.args.greatest c.args.bytes.now c.args.card.now c.in-Length.size e in
-    let beyond = ap (drop c.in-Length.size) d.ensures.1 ∙ read_beyond c.args.greatest c.args.bytes.now c.args.card.now c.in-Length.size e in (
-      k.ensures.0 ∙ ap (λ (l : List ℕ). reason_of c.args.greatest l c.args.key) card
-          ∙ sym (dump_read c.args.greatest c.args.bytes.now (length c.args.card.now) c.args.key c.in-Length.size e),
-      ap₂ (λ (a b : List ℕ). a ++ b) (k.ensures.1 ∙ ap (λ (l : List ℕ). (opened_card c.args.greatest l).card) card) beyond
-          ∙ sym (over_read c.args.greatest c.args.bytes.now c.args.card.now c.in-Length.size e),
+returns-2 : tie.Need-returns-2
+returns-2 c =
+    let s = c.before.before.before.before.before.before.before.before.before.before.before.before.before in
+    let d = c.before.before.before.before.before.before.before.before.before.read-dump in
+    let z = c.before.before.before.before.before.size.given in
+    let k = c.before.before.insert-reason in
+    let e = sym d.ensures.0 ∙ z.1 in
+    let card = ap (take z.0.0) d.ensures.1 ∙ read_card s.args.greatest s.args.bytes.now s.args.card.now z.0.0 e in
+    let beyond = ap (drop z.0.0) d.ensures.1 ∙ read_beyond s.args.greatest s.args.bytes.now s.args.card.now z.0.0 e in (
+      k.ensures.0 ∙ ap (λ (l : List ℕ). reason_of s.args.greatest l s.args.key) card
+          ∙ sym (dump_read s.args.greatest s.args.bytes.now (length s.args.card.now) s.args.key z.0.0 e),
+      ap₂ (λ (a b : List ℕ). a ++ b) (k.ensures.1 ∙ ap (λ (l : List ℕ). (opened_card s.args.greatest l).card) card) beyond
+          ∙ sym (over_read s.args.greatest s.args.bytes.now s.args.card.now z.0.0 e),
     )
 
 pub insert_reason_in_dump_spec : {M : Type 1} → statement M
 insert_reason_in_dump_spec =
     tie.close
     (tie.spec
-    read_dump-requires
-    enum_known-refusal
-    enum_known-size
+    read-dump-requires
+    enum-known-refusal
+    enum-known-size
     slice-relend-prefix-insert-reason
-    slice_bounds-insert_reason-end-in-Length
-    insert_reason-requires
-    shape_of-card-in-Refused
-    returns-in-Refused
-    shape_of-card-in-Length
-    returns-in-Length)
+    slice-aggregate-insert-reason
+    insert-reason-requires
+    same_length
+    returns
+    same-length-2
+    returns-2)

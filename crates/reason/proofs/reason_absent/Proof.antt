@@ -10,35 +10,37 @@ use borrow.Author.Rules.{rules}
 use Rattle.reason.proofs.reason_absent.Statement.{statement}
 use Rattle.reason.proofs.reason_absent.Tie as tie
 
-find_slot-requires : tie.Need-find_slot-requires
-find_slot-requires c κs = search rules
+find-slot-requires : tie.Need-find-slot-requires
+find-slot-requires c κs = search rules
 
-enum_told-1 : tie.Need-enum_told-1
-enum_told-1 c = search rules
+enum_told : tie.Need-enum-told
+enum_told c = search rules
 
-enum_told-in-Absent : tie.Need-enum_told-in-Absent
-enum_told-in-Absent c = search rules
+enum-told-2 : tie.Need-enum-told-2
+enum-told-2 c = search rules
 
 count-requires : tie.Need-count-requires
 count-requires c κs = search rules
 
-overflow_add-result : tie.Need-overflow_add-result
-overflow_add-result c = search rules
+add-t7 : tie.Need-overflow-add-t7
+add-t7 c = search rules
 
-returns-in-At : tie.Need-returns-in-At
+returns : tie.Need-returns
 unfolding reason_for empty_reason
-returns-in-At c =
-    let found = sym c.find_slot.ensures ∙ c.in-At.is in
-    ap (λ (t : Slot). reason_for (empty_reason t) c.args.run (count_true (nodes_of c.args.free.now))) (sym found)
+returns c =
+    let s = c.before.before.before.before.before in
+    let found = sym c.before.before.find-slot.ensures ∙ c.enum_told.given.1 in
+    ap (λ (t : Slot). reason_for (empty_reason t) s.args.run (count_true (nodes_of s.args.free.now))) (sym found)
 
-returns-in-Absent : tie.Need-returns-in-Absent
+returns-2 : tie.Need-returns-2
 unfolding reason_for empty_reason
-returns-in-Absent c =
-    let found = sym c.find_slot.ensures ∙ c.in-Absent.is in
-    ap (λ (free : ℕ). Split c.args.run free (split_need c.args.run)) c.count.ensures
-    ∙ ap (λ (t : Slot). reason_for (empty_reason t) c.args.run (count_true (nodes_of c.args.free.now))) (sym found)
+returns-2 c =
+    let s = c.before.before.before.before.before.before in
+    let found = sym c.before.before.before.find-slot.ensures ∙ c.before.enum-told2.given.1 in
+    ap (λ (free : ℕ). Split s.args.run free (split_need s.args.run)) c.count.ensures
+    ∙ ap (λ (t : Slot). reason_for (empty_reason t) s.args.run (count_true (nodes_of s.args.free.now))) (sym found)
 
 pub reason_absent_spec : {M : Type 1} → statement M
 reason_absent_spec =
     tie.close
-    (tie.spec find_slot-requires enum_told-1 enum_told-in-Absent count-requires overflow_add-result returns-in-At returns-in-Absent)
+    (tie.spec find-slot-requires enum_told enum-told-2 count-requires add-t7 returns returns-2)

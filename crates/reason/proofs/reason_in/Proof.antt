@@ -11,55 +11,57 @@ use borrow.Author.Rules.{rules}
 use Rattle.reason.proofs.reason_in.Statement.{statement}
 use Rattle.reason.proofs.reason_in.Tie as tie
 
-few : (c : tie.In-At) → c.in-At.i < 11
+few : (c : tie.After-i) → c.i.given.0.0 < 11
 few c =
-    slot-few c.args.leaf.now c.args.key
-    c.in-At.i (search rules) (sym c.find_slot.ensures ∙ c.in-At.is)
+    slot-few c.before.before.before.before.before.args.leaf.now c.before.before.before.before.before.args.key
+    c.i.given.0.0 (search rules) (sym c.before.before.find-slot.ensures ∙ c.i.given.1)
 
-find_slot-requires : tie.Need-find_slot-requires
-find_slot-requires c κs = search rules
+find-slot-requires : tie.Need-find-slot-requires
+find-slot-requires c κs = search rules
 
-enum_known-i : tie.Need-enum_known-i
-enum_known-i c = search rules
+enum-known-i : tie.Need-enum-known-i
+enum-known-i c = search rules
 
-overflow_add-result : tie.Need-overflow_add-result
-overflow_add-result c = omega (arith, few c)
+add-t8 : tie.Need-overflow-add-t8
+add-t8 c = omega (arith, few c.before)
 
-offset_bounds-leaf-i : tie.Need-offset_bounds-leaf-i
-offset_bounds-leaf-i c = omega (arith, few c)
+mul-t9 : tie.Need-overflow-mul-t9
+mul-t9 c = omega (arith, few c.before)
 
-bounds-leaf-i : tie.Need-bounds-leaf-i
-bounds-leaf-i c = omega (arith, few c.before)
+shared-slice-read-t11 : tie.Need-shared-slice-read-t11
+shared-slice-read-t11 c = omega (arith, few c.before.before)
 
-enum_told-1 : tie.Need-enum_told-1
-enum_told-1 c = search rules
+enum_told : tie.Need-enum-told
+enum_told c = search rules
 
-reason_absent-requires : tie.Need-reason_absent-requires
-reason_absent-requires c κs = search rules
+reason-absent-requires : tie.Need-reason-absent-requires
+reason-absent-requires c κs = search rules
 
-returns-in-At : tie.Need-returns-in-At
+returns : tie.Need-returns
 unfolding reason_for reason_in insert_reason
-returns-in-At c =
-    ap (λ (t : Slot). reason_for (reason_in c.args.leaf.now t) c.args.run (count_true (nodes_of c.args.free.now)))
-    (sym (sym c.find_slot.ensures ∙ c.in-At.is))
+returns c =
+    let s = c.before.before.before.before.before.before.before in
+    ap (λ (t : Slot). reason_for (reason_in s.args.leaf.now t) s.args.run (count_true (nodes_of s.args.free.now)))
+    (sym (sym c.before.before.before.before.find-slot.ensures ∙ c.before.before.i.given.1))
 
-returns-in-Absent : tie.Need-returns-in-Absent
+returns-2 : tie.Need-returns-2
 unfolding reason_for reason_in insert_reason
-returns-in-Absent c =
-    c.reason_absent.ensures
-    ∙ ap (λ (t : Slot). reason_for (reason_in c.args.leaf.now t) c.args.run (count_true (nodes_of c.args.free.now)))
-    (sym (sym c.find_slot.ensures ∙ c.in-Absent.is))
+returns-2 c =
+    let s = c.before.before.before.before.before.before in
+    c.reason-absent.ensures
+    ∙ ap (λ (t : Slot). reason_for (reason_in s.args.leaf.now t) s.args.run (count_true (nodes_of s.args.free.now)))
+    (sym (sym c.before.before.before.find-slot.ensures ∙ c.before.enum_told.given.1))
 
 pub reason_in_spec : {M : Type 1} → statement M
 reason_in_spec =
     tie.close
     (tie.spec
-    find_slot-requires
-    enum_known-i
-    overflow_add-result
-    offset_bounds-leaf-i
-    bounds-leaf-i
-    enum_told-1
-    reason_absent-requires
-    returns-in-At
-    returns-in-Absent)
+    find-slot-requires
+    enum-known-i
+    add-t8
+    mul-t9
+    shared-slice-read-t11
+    enum_told
+    reason-absent-requires
+    returns
+    returns-2)

@@ -18,105 +18,111 @@ use borrow.Author.Rules.{rules}
 use Rattle.reason.proofs.reason_on.Statement.{statement}
 use Rattle.reason.proofs.reason_on.Tie as tie
 
-whole : (c : tie.Else-n-eq0) → Sized c.args.greatest (length c.args.card.now) c.nodes_of-n.result
-whole c = sized _ c.args.card.now c.nodes_of-n.result c.nodes_of-n.ensures c.if-n-eq0.false
+whole : (c : tie.Else1) → Sized c.before.before.before.before.args.greatest (length c.before.before.before.before.args.card.now) c.before.nodes-of.result
+whole c = sized _ c.before.before.before.before.args.card.now c.before.nodes-of.result c.before.nodes-of.ensures c.if1.false
 
-leaf : (c : tie.In-Leaf) → Landed c.nodes_of-n.result c.in-Leaf.node c.in-Leaf.link
+leaf : (c : tie.After-node) → Landed c.before.before.before.before.before.before.nodes-of.result c.node.given.0.0 c.node.given.0.1.0
 unfolding landing way
 leaf c =
-    landed _ c.args.card.now
-    c.nodes_of-n.result
-    c.args.key c.in-Leaf.node c.in-Leaf.link
-    c.in-Leaf.run' (whole c.before.before.before.before)
-    (sym c.find_landing.ensures ∙ c.in-Leaf.is)
+    landed _ c.before.before.before.before.before.before.before.before.before.args.card.now
+    c.before.before.before.before.before.before.nodes-of.result
+    c.before.before.before.before.before.before.before.before.before.args.key c.node.given.0.0 c.node.given.0.1.0
+    c.node.given.0.1.1.0 (whole c.before.before.before.before.before)
+    (sym c.before.before.find-landing.ensures ∙ c.node.given.1)
 
 -- the run above the leaf
-few : (c : tie.In-Leaf) → c.in-Leaf.run' ≤ depth_limit
+few : (c : tie.After-node) → c.node.given.0.1.1.0 ≤ depth_limit
 unfolding landing way
 few c =
-    landed_run c.args.card.now c.nodes_of-n.result c.args.key c.in-Leaf.node
-    c.in-Leaf.link c.in-Leaf.run' (sym c.find_landing.ensures ∙ c.in-Leaf.is)
+    let s = c.before.before.before.before.before.before.before.before.before in
+    landed_run s.args.card.now c.before.before.before.before.before.before.nodes-of.result s.args.key c.node.given.0.0
+    c.node.given.0.1.0 c.node.given.0.1.1.0 (sym c.before.before.find-landing.ensures ∙ c.node.given.1)
 
-nodes_of-n-requires : tie.Need-nodes_of-n-requires
-nodes_of-n-requires c κs = search rules
+nodes-of-requires : tie.Need-nodes-of-requires
+nodes-of-requires c κs = search rules
 
-returns-then-n-eq0 : tie.Need-returns-then-n-eq0
-returns-then-n-eq0 c =
-    sym (on_no_length _ c.args.card.now (nodes_of c.args.free.now) c.args.key c.nodes_of-n.result c.nodes_of-n.ensures c.if-n-eq0.true)
+returns : tie.Need-returns
+returns c =
+    let s = c.before.before.before.before in
+    sym (on_no_length _ s.args.card.now (nodes_of s.args.free.now) s.args.key c.before.nodes-of.result c.before.nodes-of.ensures c.if1.true)
 
-returns-then-key-eq0 : tie.Need-returns-then-key-eq0
-returns-then-key-eq0 c =
-    sym (on_no_key _ c.args.card.now (nodes_of c.args.free.now) c.args.key c.nodes_of-n.result
-    c.nodes_of-n.ensures c.if-n-eq0.false c.if-key-eq0.true)
+returns-2 : tie.Need-returns-2
+returns-2 c =
+    let s = c.before.before.before.before.before in
+    sym (on_no_key _ s.args.card.now (nodes_of s.args.free.now) s.args.key c.before.before.nodes-of.result
+    c.before.before.nodes-of.ensures c.before.if1.false c.if2.true)
 
-bounds-card-4 : tie.Need-bounds-card-4
-bounds-card-4 c = let h = whole c.before.before in let l : 4 < length c.args.card.now = omega (arith, h.words, h.least) in l
+shared-slice-read-find-landing : tie.Need-shared-slice-read-find-landing
+shared-slice-read-find-landing c = let h = whole c.before.before in let l : 4 < length c.before.before.before.before.before.before.args.card.now = omega (arith, h.words, h.least) in l
 
-overflow_cast-card : tie.Need-overflow_cast-card
-overflow_cast-card c = omega (arith, c.shared_slice_known-3-1.given 4)
+cast-find-landing : tie.Need-overflow-cast-find-landing
+cast-find-landing c = omega (arith, c.shared-slice-known3.given 4)
 
-find_landing-requires : tie.Need-find_landing-requires
-find_landing-requires c κs = let h = whole c.before.before in (h.words, h.most)
+find-landing-requires : tie.Need-find-landing-requires
+find-landing-requires c κs = let h = whole c.before.before in (h.words, h.most)
 
-enum_told-1 : tie.Need-enum_told-1
-enum_told-1 c = search rules
+enum_told : tie.Need-enum-told
+enum_told c = search rules
 
-enum_known-node : tie.Need-enum_known-node
-enum_known-node c = search rules
+enum-known-node : tie.Need-enum-known-node
+enum-known-node c = search rules
 
-node_at-requires : tie.Need-node_at-requires
-node_at-requires c κs =
-    let k = leaf c in
-    let h = whole c.before.before.before.before in
+node-at-requires : tie.Need-node-at-requires
+node-at-requires c κs =
+    let k = leaf c.before in
+    let h = whole c.before.before.before.before.before.before in
     (k.inside.one, omega (arith, k.inside.most, h.most), omega (arith, k.inside.most, h.words))
 
-reason_in-requires : tie.Need-reason_in-requires
-reason_in-requires c κs =
-    let k = leaf c.before in
-    let h = whole c.before.before.before.before.before in (
-      ap length c.node_at.ensures
-          ∙ length_node c.args.card.now c.in-Leaf.node k.inside.one (omega (arith, k.inside.most, h.words)),
-      c.requires,
-      few c.before,
+reason-in-requires : tie.Need-reason-in-requires
+reason-in-requires c κs =
+    let s = c.before.before.before.before.before.before.before.before.before.before.before in
+    let k = leaf c.before.before in
+    let h = whole c.before.before.before.before.before.before.before in (
+      ap length c.Node-at.ensures
+          ∙ length_node s.args.card.now c.before.before.node.given.0.0 k.inside.one (omega (arith, k.inside.most, h.words)),
+      s.requires,
+      few c.before.before,
     )
 
-returns-in-Refused : tie.Need-returns-in-Refused
+returns-3 : tie.Need-returns-3
 unfolding landing way reason_landed
-returns-in-Refused c =
+returns-3 c =
+    let s = c.before.before.before.before.before.before.before.before.before in
     sym
-    (on_key _ c.args.card.now (nodes_of c.args.free.now) c.args.key
-    c.nodes_of-n.result
-    c.nodes_of-n.ensures
-    c.if-n-eq0.false c.if-key-eq0.false
-    ∙ ap (reason_landed c.args.card.now (nodes_of c.args.free.now) c.args.key) (sym c.find_landing.ensures ∙ c.in-Refused.is))
+    (on_key _ s.args.card.now (nodes_of s.args.free.now) s.args.key
+    c.before.before.before.before.before.before.nodes-of.result
+    c.before.before.before.before.before.before.nodes-of.ensures
+    c.before.before.before.before.before.if1.false c.before.before.before.before.if2.false
+    ∙ ap (reason_landed s.args.card.now (nodes_of s.args.free.now) s.args.key) (sym c.before.before.find-landing.ensures ∙ c.enum_told.given.1))
 
-returns-in-Leaf : tie.Need-returns-in-Leaf
+returns-4 : tie.Need-returns-4
 unfolding landing way reason_landed
-returns-in-Leaf c =
-    c.reason_in.ensures
-    ∙ ap (λ (x : List ℕ). reason_for (insert_reason x c.args.key) c.in-Leaf.run' (count_true (nodes_of c.args.free.now))) c.node_at.ensures
+returns-4 c =
+    let s = c.before.before.before.before.before.before.before.before.before.before.before.before in
+    c.reason-in.ensures
+    ∙ ap (λ (x : List ℕ). reason_for (insert_reason x s.args.key) c.before.before.before.node.given.0.1.1.0 (count_true (nodes_of s.args.free.now))) c.before.Node-at.ensures
     ∙ sym
-    (on_key _ c.args.card.now (nodes_of c.args.free.now) c.args.key
-    c.nodes_of-n.result
-    c.nodes_of-n.ensures
-    c.if-n-eq0.false
-    c.if-key-eq0.false
-    ∙ ap (reason_landed c.args.card.now (nodes_of c.args.free.now) c.args.key)
-    (sym c.find_landing.ensures ∙ c.in-Leaf.is))
+    (on_key _ s.args.card.now (nodes_of s.args.free.now) s.args.key
+    c.before.before.before.before.before.before.before.before.before.nodes-of.result
+    c.before.before.before.before.before.before.before.before.before.nodes-of.ensures
+    c.before.before.before.before.before.before.before.before.if1.false
+    c.before.before.before.before.before.before.before.if2.false
+    ∙ ap (reason_landed s.args.card.now (nodes_of s.args.free.now) s.args.key)
+    (sym c.before.before.before.before.before.find-landing.ensures ∙ c.before.before.before.node.given.1))
 
 pub reason_on_spec : {M : Type 1} → statement M
 reason_on_spec =
     tie.close
     (tie.spec
-    nodes_of-n-requires
-    returns-then-n-eq0
-    returns-then-key-eq0
-    bounds-card-4
-    overflow_cast-card
-    find_landing-requires
-    enum_told-1
-    enum_known-node
-    node_at-requires
-    reason_in-requires
-    returns-in-Refused
-    returns-in-Leaf)
+    nodes-of-requires
+    returns
+    returns-2
+    shared-slice-read-find-landing
+    cast-find-landing
+    find-landing-requires
+    enum_told
+    enum-known-node
+    node-at-requires
+    reason-in-requires
+    returns-3
+    returns-4)

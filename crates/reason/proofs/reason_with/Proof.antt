@@ -4,23 +4,23 @@ use Rattle.state.specs.Block.{memory_in}
 use Rattle.reason.proofs.reason_with.Statement.{statement}
 use Rattle.reason.proofs.reason_with.Tie as tie
 
-slice_bounds-reason_on-count : tie.Need-slice_bounds-reason_on-count
-slice_bounds-reason_on-count c = search rules
+sub-reason-on : tie.Need-overflow-sub-reason-on
+sub-reason-on c = search rules
 
-slice_bounds-reason_on-start : tie.Need-slice_bounds-reason_on-start
-slice_bounds-reason_on-start c = search rules
+part-reason-on-start : tie.Need-slice-bounds-reason-on-start
+part-reason-on-start c = search rules
 
-slice_bounds-reason_on-end : tie.Need-slice_bounds-reason_on-end
-slice_bounds-reason_on-end c = search rules
+part-reason-on-end : tie.Need-slice-bounds-reason-on-end
+part-reason-on-end c = search rules
 
-reason_on-requires : tie.Need-reason_on-requires
-reason_on-requires c κs = search rules
+reason-on-requires : tie.Need-reason-on-requires
+reason-on-requires c κs = search rules
 
 returns : tie.Need-returns
 unfolding memory_in
-returns c = c.reason_on.ensures
+returns c = c.reason-on.ensures
 
 pub reason_with_spec : {M : Type 1} → statement M
 reason_with_spec =
     tie.close
-    (tie.spec slice_bounds-reason_on-count slice_bounds-reason_on-start slice_bounds-reason_on-end reason_on-requires returns)
+    (tie.spec sub-reason-on part-reason-on-start part-reason-on-end reason-on-requires returns)

@@ -6,51 +6,54 @@ use borrow.Author.Rules.{rules}
 use Rattle.list_pairs.proofs.pairs.put_pair.Statement.{statement}
 use Rattle.list_pairs.proofs.pairs.put_pair.Tie as tie
 
-overflow_sub-out : tie.Need-overflow_sub-out
-overflow_sub-out c = search rules
-
-returns-then-out-at-lt2 : tie.Need-returns-then-out-at-lt2
-returns-then-out-at-lt2 c =
-    (pair_short (c.args.key, c.args.value) c.args.at c.args.out.now c.requires c.if-out-at-lt2.true, search rules)
-
-offset_bounds-out-at : tie.Need-offset_bounds-out-at
-offset_bounds-out-at c = search rules
-
-bounds-out-at : tie.Need-bounds-out-at
-bounds-out-at c = search rules
-
-overflow_add-out : tie.Need-overflow_add-out
-overflow_add-out c = search rules
-
-offset_bounds-out-at-2 : tie.Need-offset_bounds-out-at-2
-offset_bounds-out-at-2 c = search rules
-
-bounds-out-at-2 : tie.Need-bounds-out-at-2
-bounds-out-at-2 c =
-    omega (arith, c.if-out-at-lt2.false, length-set c.args.out.now c.args.at c.args.key)
-
-overflow_add-result : tie.Need-overflow_add-result
-overflow_add-result c = search rules
-
-shape_of-out : tie.Need-shape_of-out
-shape_of-out c = search rules
+sub-if1 : tie.Need-overflow-sub-if1
+sub-if1 c = search rules
 
 returns : tie.Need-returns
 returns c =
-    let room : 2 ≤ length c.args.out.now - c.args.at = omega arith in
-    (pair_stored (c.args.key, c.args.value) c.args.at c.args.out.now room, omega arith)
+    let s = c.before in
+    (pair_short (s.args.key, s.args.value) s.args.at s.args.out.now s.requires c.if1.true, search rules)
+
+mul-out : tie.Need-overflow-mul-out
+mul-out c = search rules
+
+slice-write-out : tie.Need-slice-write-out
+slice-write-out c = search rules
+
+add-out : tie.Need-overflow-add-out
+add-out c = search rules
+
+mul-out-2 : tie.Need-overflow-mul-out-2
+mul-out-2 c = search rules
+
+slice-write-out-2 : tie.Need-slice-write-out-2
+slice-write-out-2 c =
+    let s = c.before in
+    omega (arith, c.if1.false, length-set s.args.out.now s.args.at s.args.key)
+
+add-result : tie.Need-overflow-add-result
+add-result c = search rules
+
+same_length : tie.Need-same-length
+same_length c = search rules
+
+returns-2 : tie.Need-returns-2
+returns-2 c =
+    let s = c.before in
+    let room : 2 ≤ length s.args.out.now - s.args.at = omega arith in
+    (pair_stored (s.args.key, s.args.value) s.args.at s.args.out.now room, omega arith)
 
 pub put_pair_spec : {M : Type 1} → statement M
 put_pair_spec =
     tie.close
     (tie.spec
-    overflow_sub-out
-    returns-then-out-at-lt2
-    offset_bounds-out-at
-    bounds-out-at
-    overflow_add-out
-    offset_bounds-out-at-2
-    bounds-out-at-2
-    overflow_add-result
-    shape_of-out
-    returns)
+    sub-if1
+    returns
+    mul-out
+    slice-write-out
+    add-out
+    mul-out-2
+    slice-write-out-2
+    add-result
+    same_length
+    returns-2)

@@ -11,77 +11,81 @@ use borrow.Author.Rules.{rules}
 use Rattle.list_pairs.proofs.pairs.put_pairs.Statement.{statement}
 use Rattle.list_pairs.proofs.pairs.put_pairs.Tie as tie
 
-abbrev invariant-loop-left : tie.invariant-loop-left
-invariant-loop-left card out₀ greatest at₀ after₀ left₀ out at after left =
+abbrev invariant-loop : tie.invariant-loop
+invariant-loop card out₀ greatest at₀ after₀ left₀ out at after left =
     (at ≤ length out) × (length out ≡ length out₀) × (lay_pairs (walk_from greatest 1 most_pairs card 0) (laid 0 out₀) ≡ lay_pairs (walk_from greatest 1 left card after) (laid at out))
 
-abbrev decreases-loop-left : tie.decreases-loop-left
-decreases-loop-left card out₀ greatest at₀ after₀ left₀ out at after left = left
+abbrev decreases-loop : tie.decreases-loop
+decreases-loop card out₀ greatest at₀ after₀ left₀ out at after left = left
 
-loop-left-init : tie.Need-loop-left-init invariant-loop-left decreases-loop-left
-loop-left-init c = (search rules, refl, refl)
+loop-holds : tie.Need-loop-init invariant-loop decreases-loop
+loop-holds c = (search rules, refl, refl)
 
-overflow_sub-left : tie.Need-overflow_sub-left invariant-loop-left decreases-loop-left
-overflow_sub-left c = search rules
+sub-left : tie.Need-overflow-sub-left invariant-loop decreases-loop
+sub-left c = search rules
 
-next_pair-requires : tie.Need-next_pair-requires invariant-loop-left decreases-loop-left
-next_pair-requires c κs = search rules
+next-pair-requires : tie.Need-next-pair-requires invariant-loop decreases-loop
+next-pair-requires c κs = search rules
 
-enum_known-key : tie.Need-enum_known-key invariant-loop-left decreases-loop-left
-enum_known-key c = search rules
+enum-known-key : tie.Need-enum-known-key invariant-loop decreases-loop
+enum-known-key c = search rules
 
-shape_of-out-in_default : tie.Need-shape_of-out-in_default invariant-loop-left decreases-loop-left
-shape_of-out-in_default c = search rules
+same_length : tie.Need-same-length invariant-loop decreases-loop
+same_length c = search rules
 
-returns-in_default : tie.Need-returns-in_default invariant-loop-left decreases-loop-left
-returns-in_default c =
-    let l = c.loop-left in
-    let n = c.next_pair.ensures in
-    let told = c.in_default.in_default-own.keys2 in
-    let ends : (key value : ℕ) → next_of c.args.greatest 1 c.args.card.now l.after ≡ Pair key value → ⊥ =
+returns : tie.Need-returns invariant-loop decreases-loop
+returns c =
+    let s = c.before.before.before.before.before.before in
+    let l = c.before.before.before.loop in
+    let n = c.before.next-pair.ensures in
+    let told = c.match.keys2 in
+    let ends : (key value : ℕ) → next_of s.args.greatest 1 s.args.card.now l.after ≡ Pair key value → ⊥ =
     λ key value e. ⊎_elim (λ z. omega (arith, z)) (λ z. omega (arith, z)) (rw (n ∙ e) at told) in
-    walk_ends _ c.args.card.now l.after (laid l.at l.out) l.left ends ∙ sym l.invariant.2
+    walk_ends _ s.args.card.now l.after (laid l.at l.out) l.left ends ∙ sym l.invariant.2
 
-put_pair-at-requires : tie.Need-put_pair-at-requires invariant-loop-left decreases-loop-left
-put_pair-at-requires c κs = search rules
+put-pair-requires : tie.Need-put-pair-requires invariant-loop decreases-loop
+put-pair-requires c κs = search rules
 
-loop-left-smaller : tie.Need-loop-left-smaller invariant-loop-left decreases-loop-left
-loop-left-smaller c = search rules
+loop-less : tie.Need-loop-smaller invariant-loop decreases-loop
+loop-less c = search rules
 
-loop-left-preserved : tie.Need-loop-left-preserved invariant-loop-left decreases-loop-left
-loop-left-preserved c =
-    let l = c.loop-left in
-    let n = c.next_pair.ensures in
-    let k = c.put_pair-at in
-    let card = c.args.card.now in (
-      omega (arith, k.auto.out, k.ensures.1),
-      omega (arith, k.auto.out, l.invariant.1),
-      l.invariant.2 ∙ walk_goes_on _ card l.after (laid l.at l.out) l.left c.in-Pair.key c.in-Pair.value (search rules) (sym n ∙ c.in-Pair.is)
-          ∙ ap (lay_pairs (walk_from _ 1 (l.left - 1) card c.in-Pair.key)) (sym k.ensures.0),
+loop-again : tie.Need-loop-preserved invariant-loop decreases-loop
+loop-again c =
+    let s = c.before.before.before.before.before.before.before.before.before.before.before.before in
+    let l = c.before.before.before.before.before.before.before.before.before.loop in
+    let n = c.before.before.before.before.before.before.before.next-pair.ensures in
+    let g = c.before.before.before.before.before.key.given in
+    let k = c.before.before.put-pair in
+    let card = s.args.card.now in (
+      omega (arith, k.auto.0, k.ensures.1),
+      omega (arith, k.auto.0, l.invariant.1),
+      l.invariant.2 ∙ walk_goes_on _ card l.after (laid l.at l.out) l.left g.0.0 g.0.1.0 (search rules) (sym n ∙ g.1)
+          ∙ ap (lay_pairs (walk_from _ 1 (l.left - 1) card g.0.0)) (sym k.ensures.0),
     )
 
-shape_of-out : tie.Need-shape_of-out invariant-loop-left decreases-loop-left
-shape_of-out c = search rules
+same-length-2 : tie.Need-same-length-2 invariant-loop decreases-loop
+same-length-2 c = search rules
 
-returns : tie.Need-returns invariant-loop-left decreases-loop-left
-returns c =
-    let l = c.loop-left in
-    walk_out _ c.args.card.now l.after (laid l.at l.out) l.left (search rules) ∙ sym l.invariant.2
+returns-2 : tie.Need-returns-2 invariant-loop decreases-loop
+returns-2 c =
+    let s = c.before.before.before.before in
+    let l = c.before.loop in
+    walk_out _ s.args.card.now l.after (laid l.at l.out) l.left (search rules) ∙ sym l.invariant.2
 
 pub put_pairs_spec : {M : Type 1} → statement M
 put_pairs_spec =
     tie.close
     (tie.spec
-    invariant-loop-left
-    decreases-loop-left
-    loop-left-init
-    overflow_sub-left
-    next_pair-requires
-    enum_known-key
-    shape_of-out-in_default
-    returns-in_default
-    put_pair-at-requires
-    loop-left-smaller
-    loop-left-preserved
-    shape_of-out
-    returns)
+    invariant-loop
+    decreases-loop
+    loop-holds
+    sub-left
+    next-pair-requires
+    enum-known-key
+    same_length
+    returns
+    put-pair-requires
+    loop-less
+    loop-again
+    same-length-2
+    returns-2)
