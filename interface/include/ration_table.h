@@ -49,7 +49,7 @@
  * - There is no checksum. Opening sees damage that leaves no sound table; a value that wore is a value.
  * - The proved archive is for x86-64 Linux. From the folder above interface/:
  *
- *     rt staticlib ration_table
+ *     interface/make-archive
  *     cc -std=c11 -Iinterface/include controller.c target/staticlib/libration_table.a -o controller
  *
  *   For other machines interface/baseline/table.c is the same table in plain C: it takes the archive's place

@@ -1,4 +1,4 @@
-//! Says where the archive is: in the folder that RATION_TABLE_LIB names, else where `rt staticlib ration_table` puts it.
+//! Says where the archive is: in the folder that RATION_TABLE_LIB names, else where `interface/make-archive` puts it.
 
 use std::env;
 use std::path::PathBuf;
@@ -21,7 +21,7 @@ fn main() {
     let archive = folder.join("libration_table.a");
     assert!(
         folder.is_absolute() && archive.is_file(),
-        "no {}: make it by `rt staticlib ration_table`, or set RATION_TABLE_LIB to its folder, from / on",
+        "no {}: make it by `interface/make-archive`, or set RATION_TABLE_LIB to its folder, from / on",
         archive.display()
     );
     println!("cargo:rerun-if-changed={}", archive.display());

@@ -127,7 +127,7 @@
 //! # To build
 //!
 //! No allocation, no dependencies, no `std`; Rust 1.81 or newer, on x86-64 Linux. It links the archive `libration_table.a`, which
-//! `rt staticlib ration_table` makes. As a dependency, `ration_table = { path = ".../interface/rust" }`, it takes it from the
+//! `interface/make-archive` makes. As a dependency, `ration_table = { path = ".../interface/rust" }`, it takes it from the
 //! repository's `target/staticlib`, or from the folder that the environment variable `RATION_TABLE_LIB` names. With plain
 //! `rustc`:
 //!

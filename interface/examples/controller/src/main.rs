@@ -1,6 +1,6 @@
 //! A controller that makes one step a tick, and keeps what is in progress from one tick to the next.
 //!
-//!     rt staticlib ration_table && cargo run --manifest-path interface/examples/controller/Cargo.toml
+//!     interface/make-archive && cargo run --manifest-path interface/examples/controller/Cargo.toml
 
 use std::error::Error;
 use std::num::NonZeroU32;
