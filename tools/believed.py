@@ -4,7 +4,7 @@
     tools/believed.py            a table, for the demands, the requests and the contracts of the calls
     tools/believed.py --modules  the same, with the modules of each row
     tools/believed.py --check    only look that nothing believed stands outside specs/: no file under specs/ and no contract
-                                 names a module of proofs/, and specs/ holds no law; status 1 where one does
+                                 names a module of a proofs/ of this repository, and specs/ holds no law; status 1 where one does
 
 Counted are lines of signatures, clauses, constructors and fields; not comments, blank lines, `use` lines or the libraries of the
 toolchain. A request's file ends in its statement. Types that the tool makes from the code's enums and structs are named apart."""
@@ -14,7 +14,7 @@ import sys
 
 CRATES = pathlib.Path(__file__).resolve().parent.parent / "crates"
 WORD = re.compile(r"[^\s(){}\[\];,|]+")
-MODULE = re.compile(r"^Rattle·(\w+?)(?:·specs\.specs|\.specs|·proofs\.proofs|\.proofs)\.(.+)$")
+MODULE = re.compile(r"^Rattle\.(\w+)\.specs\.(.+)$")
 USE = re.compile(r"^(?:ghost )?use (?P<module>\S+?)\.\{(?P<names>.*)\};?$")
 DECLARATION = re.compile(r"^(?P<marks>(?:(?:abbrev|unfoldable|pub) )*)(?P<kind>data |record )?(?P<name>[^\s(){}:;,.]+)(?: [^=]*?)? ?:")
 
@@ -26,11 +26,11 @@ STATEMENTS = [
     ("all three demands", ["demands/Demand1/Demand1", "demands/Demand2/Demand2", "demands/Demand3/Demand3"]),
 ]
 # the definitions that the calls are proved to meet: the demands are proved of them, so that their text need not be read
-MET = {("call_find", "Find", "findOf"), ("call_open", "Opening", "openOf"), ("call_start", "Starts", "formatOf"),
-       ("call_start", "Starts", "insertOf"), ("call_start", "Starts", "deleteOf"), ("call_step", "Calls", "stepOf"),
-       ("walk_next", "Successor", "nextOf")}
+MET = {("call_find", "Find", "find_of"), ("call_open", "Opening", "open_of"), ("call_start", "Starts", "format_of"),
+       ("call_start", "Starts", "insert_of"), ("call_start", "Starts", "delete_of"), ("call_step", "Calls", "step_of"),
+       ("walk_next", "Successor", "next_of")}
 # the calls, as the crates offer them, and the table that is made of what they meet
-TABLE = "demands/RationTable/rationTable"
+TABLE = "demands/RationTable/ration_table"
 CALLS = {"call_find": ["find"], "walk_next": ["next_pair"], "call_open": ["open"], "call_start": ["start_format", "start_insert", "start_delete"],
          "call_step": ["step"]}
 
@@ -101,7 +101,7 @@ class Belief:
     def visit(self, crate, name, definition):
         module = self.module(crate, name)
         if module is None:
-            if name.startswith("declared."):
+            if name.startswith("declared.") and (CRATES / crate).is_dir():
                 self.made.add(name.split(".")[1])
             return
         if definition not in module.lines:
@@ -123,7 +123,8 @@ class Belief:
 
 
 def words_of(line):
-    return {w.rstrip(".") for w in WORD.findall(line) if not w.startswith(".")}
+    """The words of a line; of `x.f`, a field, the first part."""
+    return {w.split(".")[0] for w in WORD.findall(line) if not w.startswith(".")}
 
 
 def contract_names(crate, functions):
@@ -138,14 +139,20 @@ def contract_names(crate, functions):
     return cited
 
 
+def names_proofs(path, comment):
+    """The lines of a file that name a module of a proofs/ of this repository."""
+    own = "|".join(folder.name for folder in CRATES.iterdir())
+    named = re.compile(r"\b(?:Rattle\.(?:%s)|package)\.proofs\b" % own)
+    return [f"{path}: {line}" for line in path.read_text().split("\n") if named.search(line) and not line.strip().startswith(comment)]
+
+
 def check():
     wrong = []
     for path in sorted(CRATES.glob("*/specs/*.antt")):
-        text = path.read_text()
-        wrong += [f"{path}: {line}" for line in text.split("\n") if line.startswith("use Rattle") and "proofs." in line]
+        wrong += names_proofs(path, "--")
         wrong += [f"{path}: {law} is no definition" for law in Module(path).laws]
     for path in sorted(CRATES.glob("*/src/*.rt")):
-        wrong += [f"{path}: {line}" for line in path.read_text().split("\n") if line.strip().startswith("ghost use Rattle") and "proofs." in line]
+        wrong += names_proofs(path, "//")
     print("\n".join(wrong) or "what is believed stands under specs/")
     return 1 if wrong else 0
 

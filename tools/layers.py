@@ -29,16 +29,18 @@ LAYERS = [
     ("card", "card card_*", "words, header, nodes; one bit a node; the check of a table; dumps"),
     ("laws", "laws", "lists, totals, digits, bits, sorting: nothing of cards"),
 ]
-# the toolchain's own, and crates that declare a type which a crate hands on without naming it
-LIBRARIES = {"io", "libc", "os"}
+# crates that declare a type which a crate hands on without naming it
 HANDED_ON = {"call_find", "state"}
 BEGIN, END = "<!-- made by tools/layers.py --write -->\n", "<!-- end -->\n"
 WIDTH = 118
 
 
 def crates():
-    lines = (HOME / "crates.txt").read_text().split("\n")
-    return {name: deps.split() for name, _, deps in (l.partition(":") for l in lines if ":" in l and not l.startswith("#"))}
+    """The crates of crates.txt, each with those that it stands on; the toolchain's libraries, which have no line, are left out."""
+    lines = [line.partition("#")[0].partition(":") for line in (HOME / "crates.txt").read_text().split("\n")]
+    # behind the name may stand `staticlib`
+    found = {name.split()[0]: deps.split() for name, colon, deps in lines if colon}
+    return {name: [d for d in deps if d in found] for name, deps in found.items()}
 
 
 def layer_of(name):
@@ -52,9 +54,9 @@ def named_by(name, known):
     """The crates that the files of a crate name."""
     named = set()
     for path in (HOME / "crates" / name).rglob("*"):
-        if path.suffix in (".antt", ".rt"):
+        if path.suffix in (".antt", ".rt") and path.relative_to(HOME / "crates" / name).parts[0] != "out":
             text = path.read_text()
-            named |= set(re.findall(r"Rattle·(\w+)", text))
+            named |= set(re.findall(r"Rattle\.(\w+)", text))
             if path.suffix == ".rt":
                 named |= set(re.findall(r"(?<![\w:])([a-z_]+)::", text))
     return (named & known) - {name}
@@ -65,7 +67,7 @@ def picture():
     out = []
     for number, (title, _, words) in enumerate(LAYERS):
         mine = [c for c in known if layer_of(c) == number]
-        below = {layer_of(d) for c in mine for d in known[c] if d not in LIBRARIES} - {number}
+        below = {layer_of(d) for c in mine for d in known[c]} - {number}
         line, rows = f"    {title:<12}", []
         for crate in mine:
             if len(line) + len(crate) + 2 > WIDTH:
@@ -86,10 +88,10 @@ def check():
         if layer_of(crate) is None:
             wrong.append(f"{crate} is of no layer")
             continue
-        wrong += [f"{crate} stands on {d}, a layer above" for d in deps if d not in LIBRARIES and layer_of(d) < layer_of(crate)]
+        wrong += [f"{crate} stands on {d}, a layer above" for d in deps if layer_of(d) < layer_of(crate)]
         named = named_by(crate, set(known))
         wrong += [f"{crate} names {d}, which crates.txt does not list" for d in named - set(deps)]
-        wrong += [f"{crate} lists {d} and does not name it" for d in set(deps) - named - LIBRARIES - HANDED_ON]
+        wrong += [f"{crate} lists {d} and does not name it" for d in set(deps) - named - HANDED_ON]
     if BEGIN + picture() + END not in (HOME / "README.md").read_text():
         wrong.append("README.md does not have the picture of crates.txt")
     print("\n".join(wrong) or "the layers are as drawn")
