@@ -3,8 +3,10 @@
 
     tools/long_lines.py --check [FILES]    list the lines of over 200 characters; the status is 1 if there are any
     tools/long_lines.py --wrap [FILES]     break them, aiming at 140 characters (run `rt fmt` afterwards)
-    tools/long_lines.py --starts [FILES]   before --wrap: `let s = c .before .. in` in proofs that write the chain three times
-    tools/long_lines.py --edits            list the must-fail edits whose `old:` text is not in its file exactly once
+    tools/long_lines.py --starts [FILES]   before --wrap: `let s = c.before .. in` in proofs that write the chain three times; of
+                                           an older Rattle: today a step is a field of `c`, and there are no such chains
+    tools/long_lines.py --edits            list the must-fail edits whose `old:` text is not in its file exactly once; for an edit
+                                           of several pairs, each in what the earlier ones made
 
 `--over N` before FILES puts another number in the place of 200. Without FILES: every file under crates/.
 
@@ -13,7 +15,7 @@ which anything else would change is left alone and named. `rt fmt` keeps line br
 what goes on with a declaration, however deep in brackets, and a tuple or a record with a break in it has a line for each part.
 So breaks are chosen by cost: the fewer and the less deep in brackets, the better; a tuple or a record is laid out in lines
 where that is cheaper. A long `use M.{..}` becomes several `use` lines of one module. No break is made inside a text that a
-must-fail edit of the crate quotes. In .rt files comments and the terms between ⌜ and ⌝ are broken.
+must-fail edit of the crate quotes. In .rt files comments and the clauses that stand on one line, `ensures { .. }`, are broken.
 """
 import functools
 import pathlib
@@ -434,9 +436,9 @@ def wrapped_rt(source, limit, quoted):
             out.append(line)
         elif re.match(r"//[/!]? ", body):
             out += comment_lines(line, body.split(" ")[0])
-        elif "⌜" in body and "⌝" in body:
+        elif re.match(r"(requires|ensures)\b.*? \{ .* \}$", body):
             kept = places_of(quoted, body)
-            a, b = body.index("⌜ ") + 2, body.rindex(" ⌝")
+            a, b = body.index("{ ") + 2, body.rindex(" }")
             kept += [(-1, a), (b, len(body) + 1)]
             code = Line(body, kept)
             inner = [k for k in range(code.count) if a <= code.start[k] < b]
@@ -503,14 +505,27 @@ def quotes(file):
     return [old for edit in sorted(crate.glob("must-fail/*.edit")) for name, old in olds(edit) if name == own]
 
 
-def olds(edit):
-    name, found = None, []
+def pairs(edit):
+    """The file, the old and the new text of each pair of an edit."""
+    name, old, found = None, None, []
     for line in edit.read_text(encoding="utf-8").split("\n"):
         if line.startswith("file: "):
             name = line[6:]
         elif line.startswith("old: "):
-            found.append((name, line[5:]))
+            old = line[5:]
+        elif line.startswith("new:") and old is not None:
+            found.append((name, old, line[5:]))
+            old = None
     return found
+
+
+def olds(edit):
+    return [(name, old) for name, old, _ in pairs(edit)]
+
+
+def is_written(file):
+    """A file of crates/NAME is written by hand, unless it is below out/."""
+    return file.parts[2] != "out"
 
 
 def main():
@@ -523,15 +538,17 @@ def main():
     if words[:1] == ["--edits"]:
         bad = 0
         for edit in sorted(pathlib.Path("crates").glob("*/must-fail/*.edit")):
-            for name, old in olds(edit):
-                file = edit.parent.parent / name
-                count = file.read_text(encoding="utf-8").count(old) if file.exists() else 0
-                if count != 1:
+            texts = {}
+            for name, old, new in pairs(edit):
+                file = edit.parent.parent / str(name)
+                text = texts.get(file) or (file.read_text(encoding="utf-8") if file.is_file() else "")
+                if text.count(old) != 1:
                     bad += 1
-                    print("%s: %d times in %s: %s" % (edit, count, name, old))
+                    print("%s: %d times in %s: %s" % (edit, text.count(old), name, old))
+                texts[file] = text.replace(old, new)
         return 1 if bad else 0
     if words[:1] == ["--starts"]:
-        for file in [pathlib.Path(word) for word in words[1:]] or sorted(pathlib.Path("crates").rglob("Proof.antt")):
+        for file in [pathlib.Path(word) for word in words[1:]] or sorted(filter(is_written, pathlib.Path("crates").rglob("Proof.antt"))):
             text = file.read_text(encoding="utf-8")
             new = named_starts(text, limit)
             if new != text:
@@ -543,7 +560,7 @@ def main():
         return 2
     files = [pathlib.Path(word) for word in words[1:]]
     if not files:
-        files = sorted(f for f in pathlib.Path("crates").rglob("*") if f.suffix in (".antt", ".rt") and f.is_file())
+        files = sorted(f for f in pathlib.Path("crates").rglob("*") if f.suffix in (".antt", ".rt") and f.is_file() and is_written(f))
     status, left = 0, 0
     for file in files:
         text = file.read_text(encoding="utf-8")

@@ -4,7 +4,8 @@
     tools/unused_imports.py            list them, for every file under crates/
     tools/unused_imports.py --drop F.. drop them from the files named
 
-A name is used where it stands outside comments and `use` lines; an operator, where its symbol does.
+A name is used where it stands outside comments and `use` lines; an operator, where its symbol does. `rt tidy` drops them in a whole
+crate, once it is proved, and knows more: this goes by the text alone, and also where a crate is not proved yet.
 """
 import pathlib
 import re
@@ -24,8 +25,8 @@ def words(text):
 def is_used(name, body, found):
     if name == "[]":
         return "[]" in body
-    parts = [part for part in name.split("_") if part]
-    return name in found or ("_" in name and any(part in found for part in parts))
+    parts = [part for part in name.split("◌") if part]
+    return name in found or ("◌" in name and any(part in found for part in parts))
 
 
 def cleaned(text):
@@ -52,7 +53,8 @@ def cleaned(text):
 
 
 drop = sys.argv[1:2] == ["--drop"]
-files = map(pathlib.Path, sys.argv[2:]) if drop else sorted(pathlib.Path("crates").rglob("*.antt"))
+everywhere = (file for folder in ("specs", "proofs") for file in pathlib.Path("crates").glob("*/%s/**/*.antt" % folder))
+files = map(pathlib.Path, sys.argv[2:]) if drop else sorted(everywhere)
 for file in files:
     text = file.read_text(encoding="utf-8")
     new, unused = cleaned(text)
