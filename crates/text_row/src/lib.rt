@@ -1,5 +1,7 @@
 // A row of bytes that is being filled with text: what the texts of `list` and `insert_check` are made of. Each of these functions
 // answers where the next byte goes, and leaves every byte but those it puts as it was.
+#![tactic(auto)]
+
 ghost use Rattle.std.specs.Prelude.{◌≡◌, ◌++◌, ◌+◌, ◌≤◌, length};
 ghost use Rattle.text_row.specs.Lines.{decimal as decimalOf, number_line, refusal_line};
 ghost use Rattle.text_row.specs.Filling.{filled, fill};
