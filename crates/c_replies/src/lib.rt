@@ -1,4 +1,7 @@
 // The answers of the calls in four words, for C: a number for the answer and, where it has them, a value, a key and a depth.
+
+#![tactic(auto)]
+
 ghost use Rattle.std.specs.Prelude.{◌≡◌};
 ghost use Rattle.card.specs.Replies.{plain, valued, next, with_depth};
 ghost use Rattle.call_find.specs.Answers.{found_reply};

@@ -1,5 +1,8 @@
 // "Insert" and "Delete" of document 01, "The changes": what the next step of a task decides. Nothing is laid out here: a decision is a
 // small value, and neither the free nodes nor the rows of a plan are seen.
+
+#![tactic(auto)]
+
 ghost use Rattle.std.specs.Prelude.{◌≡◌, ℕ, length};
 ghost use Rattle.card.specs.Layout.{greatest_nodes};
 ghost use Rattle.card.specs.Header.{Sized};

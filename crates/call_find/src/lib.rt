@@ -1,4 +1,7 @@
 // The look-up of a key, on the card alone (document 01, "The card", "State, steps and free nodes").
+
+#![tactic(auto)]
+
 ghost use Rattle.std.specs.Prelude.{◌≡◌, ◌+◌, ◌*◌, ◌≤◌, length};
 ghost use Rattle.card.specs.Layout.{greatest_nodes, depth_limit};
 ghost use Rattle.walk.specs.Descent.{slot_of, root_position, way_from, leaf_of, depth_of};

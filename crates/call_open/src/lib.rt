@@ -1,4 +1,7 @@
 // Opening: "works out the free nodes, and hands back an idle state, or one with the repair in progress".
+
+#![tactic(auto)]
+
 ghost use Rattle.std.specs.Prelude.{◌≡◌, ◌+◌, ◌*◌, ◌≤◌, length};
 ghost use Rattle.card.specs.Layout.{greatest_nodes, search_start};
 ghost use Rattle.card_family.specs.Families.{family_count};

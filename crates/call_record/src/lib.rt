@@ -1,4 +1,7 @@
 // The record of a ration (document 02, W-213): a value is an offset in a lent block of bytes, where a record stands.
+
+#![tactic(auto)]
+
 ghost use Rattle.std.specs.Prelude.{◌≡◌, [], ◌<◌, eqb};
 ghost use Rattle.laws.specs.Cases.{pick};
 ghost use Rattle.call_record.specs.Records.{record_refusal, record_at, fetched_at, fetch_of, record_of};

@@ -1,4 +1,7 @@
 // A card opened and repaired in one call, in memory (document 01, "State, steps and free nodes", "Dumps and the list program").
+
+#![tactic(auto)]
+
 ghost use Rattle.std.specs.Prelude.{◌≡◌, length};
 ghost use Rattle.call_open.specs.Opening.{open_of};
 ghost use Rattle.call_step.specs.Calls.{repair_steps};

@@ -1,5 +1,8 @@
 // Starting to format, and starting an update: its refusals, the room it needs, and the state it hands back (document 01, "State, steps
 // and free nodes").
+
+#![tactic(auto)]
+
 ghost use Rattle.std.specs.Prelude.{◌≡◌, true, false, ◌≤◌, ◌<◌, length, set, drop};
 ghost use Rattle.card.specs.Header.{Sized};
 ghost use Rattle.card.specs.Layout.{greatest_nodes, depth_limit, node_at, formatted_root};

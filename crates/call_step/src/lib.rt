@@ -1,5 +1,8 @@
 // A step (document 01, "State, steps and free nodes"): "Each step then either stores one word or gives the final answer and makes the
 // state idle." A card is a lent slice of words and a state a lent block of words; a step works on the block's own words.
+
+#![tactic(auto)]
+
 mod formatting;
 mod planning;
 mod playing;

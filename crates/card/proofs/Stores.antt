@@ -1,5 +1,5 @@
 -- Laws of stores played one after the other: what is written is there, and all else is as it was.
-use mathlib.Core.Path.{◌≡◌, refl, ap, ◌∙◌}
+use mathlib.Core.Path.{◌≡◌, refl, sym, ap, ◌∙◌, subst}
 use mathlib.Core.List.{List, [], ◌∷◌, ◌++◌}
 use Prim.Native.Nat.{ℕ, zero, suc, ◌+◌, ◌≤◌, ◌<◌}
 use native.Mathlib.Omega.{arith}
@@ -152,7 +152,7 @@ nodes_written c [] h d = tt
 nodes_written c (X ∷ Xs) h d =
     let P = stores (place X.number 0) (node_image X.kind X.keys X.values) in
     let f = fits_play P c Xs h.1 in
-    rw (play_append P (node_stores Xs) c) (
+    subst (λ (z : List ℕ). AllHaveWords z (X ∷ Xs)) (sym (play_append P (node_stores Xs) c)) (
       keeps_play (within_node_stores (play P c) Xs f) (play P c) X.number X.kind X.keys X.values d.0
           (node_words_new X.kind X.keys X.values h.0.few_keys h.0.few_values X.number c h.0.on),
       nodes_written (play P c) Xs f d.1,

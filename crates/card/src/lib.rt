@@ -8,6 +8,9 @@
 //       4        the number of the root node
 //       5 to 7   0
 //       8 on     nodes 1 to N
+
+#![tactic(auto)]
+
 ghost use Rattle.std.specs.Prelude.{◌≡◌, true, false, ◌+◌, ◌*◌, ◌≤◌, length, get_or};
 ghost use Rattle.card.specs.Layout.{greatest_nodes, limited, node_at, children, is_key, leaf_pairs};
 ghost use Rattle.card.specs.Lines.{IsLine, has_line, root_of, on_line};

@@ -1,5 +1,8 @@
 // The check that a table is sound, and what it learns on the way: the free nodes and the violation
 // (document 01, "A sound table"). Each node is visited once.
+
+#![tactic(auto)]
+
 mod entering;
 mod leaves;
 mod unused;

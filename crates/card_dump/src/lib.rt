@@ -1,4 +1,7 @@
 // Dumps of a card, read and written (document 01, "Dumps and the list program").
+
+#![tactic(auto)]
+
 ghost use Rattle.std.specs.Prelude.{◌≡◌, ◌++◌, ◌+◌, ◌*◌, ◌%◌, ◌≤◌, ◌<◌, length, take, drop, replicate};
 ghost use Rattle.laws.specs.Lists.{all_zero};
 ghost use Rattle.card.specs.Layout.{greatest_nodes};

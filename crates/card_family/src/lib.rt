@@ -1,5 +1,8 @@
 // The feed families (document 02, W-204): "The top 4 bits of a ration number are its family, 0 to 15." The totals are lent by whoever
 // keeps them, a word for each family.
+
+#![tactic(auto)]
+
 ghost use Rattle.std.specs.Prelude.{◌≡◌, ◌+◌, ◌*◌, ◌<◌, length, nat_le};
 ghost use Rattle.card_family.specs.Families.{family_count, family_size, family_of, counted_in, counted_out, several_in};
 

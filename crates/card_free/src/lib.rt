@@ -1,5 +1,8 @@
 // The free nodes, one bit each: put in, taken out, counted, and searched for the next one. Their words are lent by whoever keeps
 // them, so that no set is copied on its way through the calls.
+
+#![tactic(auto)]
+
 ghost use Rattle.std.specs.Prelude.{◌≡◌, true, false, ◌*◌, ◌<◌, length, set, get_or, take, drop};
 ghost use Rattle.laws.specs.Digits.{digits_of};
 ghost use Rattle.card_free.specs.NodeSet.{word_count, capacity, nodes_of, up_to, all_nodes, count_true, first_from, next_free};

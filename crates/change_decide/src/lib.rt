@@ -1,5 +1,8 @@
 // Document 01, "The changes": which change a step is due that has no store left to make, and where. A decision is a small value
 // and plans nothing: what the new nodes hold is on the card, and `change_layout` lays it out.
+
+#![tactic(auto)]
+
 ghost use Rattle.std.specs.Prelude.{◌≡◌, ◌&&◌, ◌+◌, ◌*◌, ◌≤◌, length, eqb};
 ghost use Rattle.card.specs.Layout.{greatest_nodes, root_place, kind_of, children};
 ghost use Rattle.card.specs.Lines.{IsLine, seen};

@@ -1,5 +1,8 @@
 // Document 01, "The changes": a change that is decided, laid out as the stores that a step then makes one by one: how many new nodes
 // it has, its places over the numbers that they are given, the words that go there, and what it cuts out of the tree.
+
+#![tactic(auto)]
+
 ghost use Rattle.std.specs.Prelude.{◌≡◌, ◌++◌, ◌≤◌, ◌<◌, length, drop};
 ghost use Rattle.laws.specs.Lists.{pad};
 ghost use Rattle.card.specs.Layout.{greatest_nodes, place};

@@ -1,5 +1,8 @@
 // "Underfull non-root node": what it has together with a sibling is laid out in one new node or two, under a new copy of the parent.
 // The row of values is lent, and the numbers of the new nodes are given; the places are laid out elsewhere, they go by the numbers alone.
+
+#![tactic(auto)]
+
 mod together;
 
 ghost use Rattle.std.specs.Prelude.{◌≡◌, ◌++◌, ◌+◌, ◌≤◌, ◌<◌, length, get_or, take, drop};

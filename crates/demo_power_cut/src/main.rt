@@ -1,4 +1,7 @@
 // A ration is put on a card, power goes in the middle of it, and the card is opened again: what the card then says.
+
+#![tactic(auto)]
+
 use table::{Found, STATE_WORDS};
 use test_calls::{Block, Words, make_steps};
 

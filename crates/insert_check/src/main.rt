@@ -1,5 +1,8 @@
 // The program that says what stands in the way of a new number (document 02, W-209): it reads a dump from standard input, and a key
 // from the last line of the file `key`. A file that is missing reads as an empty one, which has no key.
+
+#![tactic(auto)]
+
 fn main() {
     let mut dump = io::large_buffer();
     let length = io::read_full(0, &mut dump);

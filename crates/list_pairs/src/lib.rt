@@ -1,4 +1,7 @@
 // What the program `list` prints of a card or a dump (document 01, "Dumps and the list program").
+
+#![tactic(auto)]
+
 mod pairs;
 
 ghost use Rattle.std.specs.Prelude.{◌≡◌, ◌+◌, length, drop};

@@ -1,4 +1,7 @@
 // The table and its dumps, for C and Rust to call: each call is the table's own, with its answer in four words.
+
+#![tactic(auto)]
+
 ghost use Rattle.std.specs.Prelude.{◌≡◌, false, length};
 ghost use Rattle.card.specs.Layout.{greatest_nodes};
 ghost use Rattle.card_dump.specs.Dump.{read_answer, read_over, write_answer, write_over};

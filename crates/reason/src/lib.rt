@@ -1,5 +1,8 @@
 // What stands in the way of a new number: the value that its key holds already, a leaf with an empty slot, or a split and the room
 // for it (document 02, W-209).
+
+#![tactic(auto)]
+
 ghost use Rattle.std.specs.Prelude.{◌≡◌, ◌≤◌, length};
 ghost use Rattle.card.specs.Layout.{depth_limit};
 ghost use Rattle.card_free.specs.NodeSet.{word_count, nodes_of, count_true};

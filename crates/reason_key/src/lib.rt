@@ -1,5 +1,8 @@
 // The key that a file holds (request W-209): "reads a key from the last line of a file named `key` of at most 64 bytes".
 // Opening and reading the file is the program's part; these functions take its bytes.
+
+#![tactic(auto)]
+
 ghost use Rattle.std.specs.Prelude.{◌≡◌, ◌-◌, ◌≤◌, ◌<◌, length, take, drop};
 ghost use Rattle.reason_key.specs.KeyFile.{without_final_feed, last_line, is_digit, key_of_line, key_in};
 

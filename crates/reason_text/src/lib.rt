@@ -1,5 +1,8 @@
 // What the program `insert_check` prints (document 02, W-209): `held V`, `slot`, or `split J free F need M`; before these a refusal,
 // as `list` prints it, or `no key`. The text is made in a row of bytes, and the printing only writes that row.
+
+#![tactic(auto)]
+
 ghost use Rattle.std.specs.Prelude.{◌≡◌, ◌++◌, ◌≤◌, length, drop};
 ghost use Rattle.text_row.specs.Filling.{filled, fill};
 ghost use Rattle.card.specs.Layout.{program_nodes};

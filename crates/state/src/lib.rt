@@ -1,4 +1,7 @@
 // The state (document 01, "State, steps and free nodes"): what is being done, what is answered, and the words that hold a state.
+
+#![tactic(auto)]
+
 pub mod block;
 mod families;
 mod holding;

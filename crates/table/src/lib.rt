@@ -1,6 +1,9 @@
 // The table: its calls (document 01, "State, steps and free nodes"). A card is a lent slice of words; a state is a lent block of
 // words, and any words in it are some state. A block of another length is no state, and nothing is read or written. The calls below
 // are those of the layers under this one for the greatest N that there is.
+
+#![tactic(auto)]
+
 ghost use Rattle.std.specs.Prelude.{◌≡◌, ◌≤◌};
 ghost use Rattle.card.specs.Layout.{greatest_nodes, depth_limit};
 ghost use Rattle.call_find.specs.Find.{find_of, find_depth};

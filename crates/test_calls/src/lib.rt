@@ -1,6 +1,9 @@
 // What the test programs share: a row of words that holds any card, the block of a state, the table's calls on the first words of a
 // row, and random numbers.
 // A row has a fixed length, so a function over it needs no proof of a length.
+
+#![tactic(auto)]
+
 pub mod random;
 
 use table::{Answer, Begun, Found, STATE_WORDS};

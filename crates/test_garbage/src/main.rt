@@ -1,5 +1,8 @@
 // Garbage: words that are no table, cards of any length, and states that no call handed back. Every call returns. Prints how many
 // calls there were.
+
+#![tactic(auto)]
+
 use state::block::{
     COUNT, CUT, DOING, FIRST, FREE, IDLE, LAST, MADE, NODES, PLACES, SECOND, THIRD, VALUES,
 };

@@ -1,5 +1,8 @@
 // The program `insert_check` on cards and key files of every kind. Each case in standard input is a dump, one byte with the length of
 // a key file, and its bytes; all cases have one length. tools/make_insert_checks.py makes them, and works out what is to be printed.
+
+#![tactic(auto)]
+
 const DUMP: usize = 2560;
 
 const CASE: usize = 2688;

@@ -1,4 +1,7 @@
 // Records fetched from a block of bytes by ration number (document 02, W-213), and why there is none.
+
+#![tactic(auto)]
+
 use call_record::Fetched;
 
 // A card of 4 nodes whose one leaf holds rations 1 to 6, their offsets beside them.

@@ -1,5 +1,8 @@
 // Replays traces of document 01: standard input is a stream of calls that tools/make_replay.py wrote from them, and for each
 // trace this prints its number and a hash of all results.
+
+#![tactic(auto)]
+
 mod crc;
 mod dumps;
 mod stream;

@@ -1,6 +1,9 @@
 // Random calls on cards of several sizes, against the book of document 01 ("The book and the cut"), which is kept in a row of
 // words: answers, refusals and finds between steps; then cuts after steps, with repairs that are cut again.
 // Prints one line of counts.
+
+#![tactic(auto)]
+
 mod book;
 mod cuts;
 mod keys;

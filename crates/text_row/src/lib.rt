@@ -1,5 +1,6 @@
 // A row of bytes that is being filled with text: what the texts of `list` and `insert_check` are made of. Each of these functions
 // answers where the next byte goes, and leaves every byte but those it puts as it was.
+
 #![tactic(auto)]
 
 ghost use Rattle.std.specs.Prelude.{◌≡◌, ◌++◌, ◌+◌, ◌≤◌, length};

@@ -1,1 +1,3 @@
 // Theory only: the check of `card_check` accepts exactly the sound tables; see specs/.
+
+#![tactic(auto)]

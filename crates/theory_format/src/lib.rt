@@ -1,1 +1,3 @@
 // Theory only: what formatting leaves at every store; see specs/.
+
+#![tactic(auto)]

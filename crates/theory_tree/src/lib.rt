@@ -1,1 +1,3 @@
 // The tree that a card represents: theory only; see specs/.
+
+#![tactic(auto)]

@@ -1,1 +1,3 @@
 // Theory only: what the walks of `walk` find in a tree that the card represents; see specs/.
+
+#![tactic(auto)]

@@ -1,4 +1,7 @@
 // The way down (document 01, "The card"): routing, the look-up in a leaf, and the walk to a leaf or to the first fault.
+
+#![tactic(auto)]
+
 ghost use Rattle.std.specs.Prelude.{◌≡◌, true, false, ◌&&◌, ◌+◌, ◌*◌, ◌≤◌, ◌<◌, length, get_or};
 ghost use Rattle.card.specs.Layout.{greatest_nodes, depth_limit, run_below};
 ghost use Rattle.walk.specs.Descent.{child_index, slot_of, outside, look_in, down_in, child_at, is_fault, passed_with, root_position, way_from, leaf_of, run_over, beside_after, beside_by};

@@ -1,4 +1,7 @@
 // The next ration number (document 02, W-201): the pair with the smallest key above a number.
+
+#![tactic(auto)]
+
 ghost use Rattle.std.specs.Prelude.{◌≡◌, ◌≤◌, length};
 ghost use Rattle.laws.specs.Cases.{pick};
 ghost use Rattle.card.specs.Layout.{greatest_nodes, depth_limit, key_limit, leaf_pairs};

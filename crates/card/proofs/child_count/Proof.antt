@@ -8,53 +8,53 @@ use Rattle.card.proofs.NodeLaws.{children_count}
 use Rattle.card.proofs.child_count.Statement.{statement}
 use Rattle.card.proofs.child_count.Tie as tie
 
-abbrev invariant-loop : tie.invariant-loop
-invariant-loop node c₀ c = (c ≤ 11) × ((k : ℕ) → k < c → get_or node (12 + k) 0 ≡ 0 → ⊥)
+abbrev invariant-loop-c : tie.invariant-loop-c
+invariant-loop-c node c₀ c = (c ≤ 11) × ((k : ℕ) → k < c → get_or node (12 + k) 0 ≡ 0 → ⊥)
 
-abbrev decreases-loop : tie.decreases-loop
-decreases-loop node c₀ c = 11 - c
+abbrev decreases-loop-c : tie.decreases-loop-c
+decreases-loop-c node c₀ c = 11 - c
 
-loop-holds : tie.Need-loop-init invariant-loop decreases-loop
-loop-holds c = search rules
+loop-c-init : tie.Need-loop-c-init invariant-loop-c decreases-loop-c
+loop-c-init c = search rules
 
-add-if1 : tie.Need-overflow-add-if1 invariant-loop decreases-loop
-add-if1 c = search rules
+overflow_add-c : tie.Need-overflow_add-c invariant-loop-c decreases-loop-c
+overflow_add-c c = search rules
 
-mul-if1 : tie.Need-overflow-mul-if1 invariant-loop decreases-loop
-mul-if1 c = search rules
+offset_bounds-node-c : tie.Need-offset_bounds-node-c invariant-loop-c decreases-loop-c
+offset_bounds-node-c c = search rules
 
-shared-slice-read-if1 : tie.Need-shared-slice-read-if1 invariant-loop decreases-loop
-shared-slice-read-if1 c = search rules
+bounds-node-c : tie.Need-bounds-node-c invariant-loop-c decreases-loop-c
+bounds-node-c c = search rules
 
-returns : tie.Need-returns invariant-loop decreases-loop
-returns c =
+returns-then-node-c-eq0 : tie.Need-returns-then-node-c-eq0 invariant-loop-c decreases-loop-c
+returns-then-node-c-eq0 c =
     sym (children_count c.before.before.before.before.args.node.now
-    c.before.before.before.loop.c (search rules) (omega arith) c.before.before.before.loop.invariant.1 (λ l. c.if1.true))
+    c.before.before.before.loop-c.c (search rules) (omega arith) c.before.before.before.loop-c.invariant.1 (λ l. c.if-node-c-eq0.true))
 
-add-c : tie.Need-overflow-add-c invariant-loop decreases-loop
-add-c c = search rules
+overflow_add-c-in-loop-c : tie.Need-overflow_add-c-in-loop-c invariant-loop-c decreases-loop-c
+overflow_add-c-in-loop-c c = search rules
 
-loop-less : tie.Need-loop-smaller invariant-loop decreases-loop
-loop-less c = search rules
+loop-c-smaller : tie.Need-loop-c-smaller invariant-loop-c decreases-loop-c
+loop-c-smaller c = search rules
 
-loop-again : tie.Need-loop-preserved invariant-loop decreases-loop
-loop-again c = (omega arith, below_more _ _ c.before.before.before.loop.invariant.1 c.if1.false)
+loop-c-preserved : tie.Need-loop-c-preserved invariant-loop-c decreases-loop-c
+loop-c-preserved c = (omega arith, below_more _ _ c.before.before.before.loop-c.invariant.1 c.if-node-c-eq0.false)
 
-returns-2 : tie.Need-returns-2 invariant-loop decreases-loop
-returns-2 c = sym (children_count c.before.before.args.node.now c.before.loop.c (search rules) (omega arith) c.before.loop.invariant.1 (λ l. absurd (omega arith)))
+returns : tie.Need-returns invariant-loop-c decreases-loop-c
+returns c = sym (children_count c.before.before.args.node.now c.before.loop-c.c (search rules) (omega arith) c.before.loop-c.invariant.1 (λ l. absurd (omega arith)))
 
 pub child_count_spec : {M : Type 1} → statement M
 child_count_spec =
     tie.close
     (tie.spec
-    invariant-loop
-    decreases-loop
-    loop-holds
-    add-if1
-    mul-if1
-    shared-slice-read-if1
-    returns
-    add-c
-    loop-less
-    loop-again
-    returns-2)
+    invariant-loop-c
+    decreases-loop-c
+    loop-c-init
+    overflow_add-c
+    offset_bounds-node-c
+    bounds-node-c
+    returns-then-node-c-eq0
+    overflow_add-c-in-loop-c
+    loop-c-smaller
+    loop-c-preserved
+    returns)

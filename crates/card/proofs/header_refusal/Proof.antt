@@ -5,98 +5,98 @@ use Rattle.card.proofs.HeaderLaws.{formatted_header, wrong_word0, wrong_word1, w
 use Rattle.card.proofs.header_refusal.Statement.{statement}
 use Rattle.card.proofs.header_refusal.Tie as tie
 
-shared-slice-read-if1 : tie.Need-shared-slice-read-if1
-shared-slice-read-if1 c = search rules
+bounds-card-0 : tie.Need-bounds-card-0
+bounds-card-0 c = search rules
+
+returns-then-card-ne-MARK : tie.Need-returns-then-card-ne-MARK
+returns-then-card-ne-MARK c = sym (wrong_word0 _ _ c.if-card-ne-MARK.true)
+
+bounds-card-1 : tie.Need-bounds-card-1
+bounds-card-1 c = search rules
+
+overflow_cast-card : tie.Need-overflow_cast-card
+overflow_cast-card c = omega (arith, c.shared_slice_known-2-1.given 1)
+
+returns-then-card-n : tie.Need-returns-then-card-n
+returns-then-card-n c = sym (wrong_word1 _ _ c.before.before.if-card-ne-MARK.false c.if-card-n.true)
+
+bounds-card-2 : tie.Need-bounds-card-2
+bounds-card-2 c = search rules
+
+overflow_cast-t-9 : tie.Need-overflow_cast-t-9
+overflow_cast-t-9 c = omega arith
+
+returns-then-card : tie.Need-returns-then-card
+returns-then-card c = sym (wrong_word2 _ _ c.before.before.before.before.if-card-ne-MARK.false c.before.before.if-card-n.false c.if-card.true)
+
+bounds-card-3 : tie.Need-bounds-card-3
+bounds-card-3 c = search rules
+
+overflow_cast-t-9-2 : tie.Need-overflow_cast-t-9-2
+overflow_cast-t-9-2 c = omega arith
+
+returns-then-card-2 : tie.Need-returns-then-card-2
+returns-then-card-2 c = sym (wrong_word3 _ _ c.before.before.before.before.before.before.if-card-ne-MARK.false c.before.before.before.before.if-card-n.false c.before.before.if-card.false c.if-card-2.true)
+
+bounds-card-5 : tie.Need-bounds-card-5
+bounds-card-5 c = search rules
+
+returns-then-card-ne0 : tie.Need-returns-then-card-ne0
+returns-then-card-ne0 c =
+    sym (wrong_word5 _ _ c.before.before.before.before.before.before.before.before.if-card-ne-MARK.false
+    c.before.before.before.before.before.before.if-card-n.false
+    c.before.before.before.before.if-card.false c.before.before.if-card-2.false c.if-card-ne0.true)
+
+bounds-card-6 : tie.Need-bounds-card-6
+bounds-card-6 c = search rules
+
+returns-then-card-ne0-2 : tie.Need-returns-then-card-ne0-2
+returns-then-card-ne0-2 c =
+    sym (wrong_word6 _ _ c.before.before.before.before.before.before.before.before.before.before.if-card-ne-MARK.false
+    c.before.before.before.before.before.before.before.before.if-card-n.false c.before.before.before.before.before.before.if-card.false
+    c.before.before.before.before.if-card-2.false c.before.before.if-card-ne0.false c.if-card-ne0-2.true)
+
+bounds-card-7 : tie.Need-bounds-card-7
+bounds-card-7 c = search rules
+
+returns-then-card-ne0-3 : tie.Need-returns-then-card-ne0-3
+returns-then-card-ne0-3 c =
+    sym (wrong_word7 _ _ c.before.before.before.before.before.before.before.before.before.before.before.before.if-card-ne-MARK.false
+    c.before.before.before.before.before.before.before.before.before.before.if-card-n.false
+    c.before.before.before.before.before.before.before.before.if-card.false c.before.before.before.before.before.before.if-card-2.false
+    c.before.before.before.before.if-card-ne0.false c.before.before.if-card-ne0-2.false c.if-card-ne0-3.true)
 
 returns : tie.Need-returns
-returns c = sym (wrong_word0 _ _ c.if1.true)
-
-shared-slice-read-if2 : tie.Need-shared-slice-read-if2
-shared-slice-read-if2 c = search rules
-
-cast-if2 : tie.Need-overflow-cast-if2
-cast-if2 c = omega (arith, c.shared-slice-known2.given 1)
-
-returns-2 : tie.Need-returns-2
-returns-2 c = sym (wrong_word1 _ _ c.before.before.if1.false c.if2.true)
-
-shared-slice-read-if3 : tie.Need-shared-slice-read-if3
-shared-slice-read-if3 c = search rules
-
-cast-if3 : tie.Need-overflow-cast-if3
-cast-if3 c = omega arith
-
-returns-3 : tie.Need-returns-3
-returns-3 c = sym (wrong_word2 _ _ c.before.before.before.before.if1.false c.before.before.if2.false c.if3.true)
-
-shared-slice-read-if4 : tie.Need-shared-slice-read-if4
-shared-slice-read-if4 c = search rules
-
-cast-if4 : tie.Need-overflow-cast-if4
-cast-if4 c = omega arith
-
-returns-4 : tie.Need-returns-4
-returns-4 c = sym (wrong_word3 _ _ c.before.before.before.before.before.before.if1.false c.before.before.before.before.if2.false c.before.before.if3.false c.if4.true)
-
-shared-slice-read-if5 : tie.Need-shared-slice-read-if5
-shared-slice-read-if5 c = search rules
-
-returns-5 : tie.Need-returns-5
-returns-5 c =
-    sym (wrong_word5 _ _ c.before.before.before.before.before.before.before.before.if1.false
-    c.before.before.before.before.before.before.if2.false
-    c.before.before.before.before.if3.false c.before.before.if4.false c.if5.true)
-
-shared-slice-read-if6 : tie.Need-shared-slice-read-if6
-shared-slice-read-if6 c = search rules
-
-returns-6 : tie.Need-returns-6
-returns-6 c =
-    sym (wrong_word6 _ _ c.before.before.before.before.before.before.before.before.before.before.if1.false
-    c.before.before.before.before.before.before.before.before.if2.false c.before.before.before.before.before.before.if3.false
-    c.before.before.before.before.if4.false c.before.before.if5.false c.if6.true)
-
-shared-slice-read-if7 : tie.Need-shared-slice-read-if7
-shared-slice-read-if7 c = search rules
-
-returns-7 : tie.Need-returns-7
-returns-7 c =
-    sym (wrong_word7 _ _ c.before.before.before.before.before.before.before.before.before.before.before.before.if1.false
-    c.before.before.before.before.before.before.before.before.before.before.if2.false
-    c.before.before.before.before.before.before.before.before.if3.false c.before.before.before.before.before.before.if4.false
-    c.before.before.before.before.if5.false c.before.before.if6.false c.if7.true)
-
-returns-8 : tie.Need-returns-8
-returns-8 c =
+returns c =
     sym (formatted_header _ _ (record {
-      mark = c.before.before.before.before.before.before.before.before.before.before.before.before.if1.false;
-      nodes = c.before.before.before.before.before.before.before.before.before.before.if2.false;
-      first = c.before.before.before.before.before.before.before.before.if3.false;
-      each = c.before.before.before.before.before.before.if4.false;
-      five = c.before.before.before.before.if5.false;
-      six = c.before.before.if6.false;
-      seven = c.if7.false;
+      mark = c.before.before.before.before.before.before.before.before.before.before.before.before.if-card-ne-MARK.false;
+      nodes = c.before.before.before.before.before.before.before.before.before.before.if-card-n.false;
+      first = c.before.before.before.before.before.before.before.before.if-card.false;
+      each = c.before.before.before.before.before.before.if-card-2.false;
+      five = c.before.before.before.before.if-card-ne0.false;
+      six = c.before.before.if-card-ne0-2.false;
+      seven = c.if-card-ne0-3.false;
     }))
 
 pub header_refusal_spec : {M : Type 1} → statement M
 header_refusal_spec =
     tie.close
     (tie.spec
-    shared-slice-read-if1
-    returns
-    shared-slice-read-if2
-    cast-if2
-    returns-2
-    shared-slice-read-if3
-    cast-if3
-    returns-3
-    shared-slice-read-if4
-    cast-if4
-    returns-4
-    shared-slice-read-if5
-    returns-5
-    shared-slice-read-if6
-    returns-6
-    shared-slice-read-if7
-    returns-7
-    returns-8)
+    bounds-card-0
+    returns-then-card-ne-MARK
+    bounds-card-1
+    overflow_cast-card
+    returns-then-card-n
+    bounds-card-2
+    overflow_cast-t-9
+    returns-then-card
+    bounds-card-3
+    overflow_cast-t-9-2
+    returns-then-card-2
+    bounds-card-5
+    returns-then-card-ne0
+    bounds-card-6
+    returns-then-card-ne0-2
+    bounds-card-7
+    returns-then-card-ne0-3
+    returns)

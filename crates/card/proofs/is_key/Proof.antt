@@ -3,11 +3,11 @@ use Rattle.card.proofs.NodeLaws.{is_key_none, is_key_some}
 use Rattle.card.proofs.is_key.Statement.{statement}
 use Rattle.card.proofs.is_key.Tie as tie
 
-returns : tie.Need-returns
-returns c = sym (is_key_none _ c.if1.true)
+returns-then-word-eq0 : tie.Need-returns-then-word-eq0
+returns-then-word-eq0 c = sym (is_key_none _ c.if-word-eq0.true)
 
-returns-2 : tie.Need-returns-2
-returns-2 c = sym (is_key_some _ c.if1.false)
+returns-else-word-eq0 : tie.Need-returns-else-word-eq0
+returns-else-word-eq0 c = sym (is_key_some _ c.if-word-eq0.false)
 
 pub is_key_spec : {M : Type 1} → statement M
-is_key_spec = tie.close (tie.spec returns returns-2)
+is_key_spec = tie.close (tie.spec returns-then-word-eq0 returns-else-word-eq0)

@@ -5,11 +5,11 @@ use Rattle.card.specs.Layout.{greatest_nodes}
 use Rattle.card.proofs.limit.Statement.{statement}
 use Rattle.card.proofs.limit.Tie as tie
 
-returns : tie.Need-returns
-returns c = (rw (lt-ltb c.before.args.greatest greatest_nodes c.if1.true), omega (arith, c.if1.true))
+returns-then-greatest-lt-GREATEST_NODES : tie.Need-returns-then-greatest-lt-GREATEST_NODES
+returns-then-greatest-lt-GREATEST_NODES c = (rw (lt-ltb c.before.args.greatest greatest_nodes c.if-greatest-lt-GREATEST_NODES.true), omega (arith, c.if-greatest-lt-GREATEST_NODES.true))
 
-returns-2 : tie.Need-returns-2
-returns-2 c = (rw (le-ltb c.before.args.greatest greatest_nodes c.if1.false), omega arith)
+returns-else-greatest-lt-GREATEST_NODES : tie.Need-returns-else-greatest-lt-GREATEST_NODES
+returns-else-greatest-lt-GREATEST_NODES c = (rw (le-ltb c.before.args.greatest greatest_nodes c.if-greatest-lt-GREATEST_NODES.false), omega arith)
 
 pub limit_spec : {M : Type 1} → statement M
-limit_spec = tie.close (tie.spec returns returns-2)
+limit_spec = tie.close (tie.spec returns-then-greatest-lt-GREATEST_NODES returns-else-greatest-lt-GREATEST_NODES)

@@ -4,29 +4,29 @@ use Rattle.card.proofs.NodeLaws.{node_part}
 use Rattle.card.proofs.node_at.Statement.{statement}
 use Rattle.card.proofs.node_at.Tie as tie
 
-sub_at : tie.Need-overflow-sub-at
-sub_at c = search rules
+overflow_sub-at : tie.Need-overflow_sub-at
+overflow_sub-at c = search rules
 
-mul_at : tie.Need-overflow-mul-at
-mul_at c = search rules
+overflow_mul-at : tie.Need-overflow_mul-at
+overflow_mul-at c = search rules
 
-add_at : tie.Need-overflow-add-at
-add_at c = search rules
+overflow_add-at : tie.Need-overflow_add-at
+overflow_add-at c = search rules
 
-add-result : tie.Need-overflow-add-result
-add-result c = search rules
+overflow_add-result : tie.Need-overflow_add-result
+overflow_add-result c = search rules
 
-mul-result : tie.Need-overflow-mul-result
-mul-result c = search rules
+offset_bounds-card-at : tie.Need-offset_bounds-card-at
+offset_bounds-card-at c = search rules
 
-sub-result : tie.Need-overflow-sub-result
-sub-result c = search rules
+slice_bounds-result-count : tie.Need-slice_bounds-result-count
+slice_bounds-result-count c = search rules
 
-part-result-start : tie.Need-slice-bounds-result-start
-part-result-start c = search rules
+slice_bounds-result-start : tie.Need-slice_bounds-result-start
+slice_bounds-result-start c = search rules
 
-part-result-end : tie.Need-slice-bounds-result-end
-part-result-end c = search rules
+slice_bounds-result-end : tie.Need-slice_bounds-result-end
+slice_bounds-result-end c = search rules
 
 returns : tie.Need-returns
 returns c = node_part _ c.before.args.m _ _ refl refl
@@ -35,12 +35,12 @@ pub node_at_spec : {M : Type 1} → statement M
 node_at_spec =
     tie.close
     (tie.spec
-    sub_at
-    mul_at
-    add_at
-    add-result
-    mul-result
-    sub-result
-    part-result-start
-    part-result-end
+    overflow_sub-at
+    overflow_mul-at
+    overflow_add-at
+    overflow_add-result
+    offset_bounds-card-at
+    slice_bounds-result-count
+    slice_bounds-result-start
+    slice_bounds-result-end
     returns)

@@ -5,51 +5,51 @@ use Rattle.card.proofs.HeaderLaws.{nodes_short, nodes_long, nodes_whole, nodes_o
 use Rattle.card.proofs.nodes_of.Statement.{statement}
 use Rattle.card.proofs.nodes_of.Tie as tie
 
-mul-if1 : tie.Need-overflow-mul-if1
-mul-if1 c = search rules
+overflow_mul-t-3 : tie.Need-overflow_mul-t-3
+overflow_mul-t-3 c = search rules
 
-add-if1 : tie.Need-overflow-add-if1
-add-if1 c = search rules
+overflow_add-t-4 : tie.Need-overflow_add-t-4
+overflow_add-t-4 c = search rules
 
-returns : tie.Need-returns
-returns c = sym (nodes_short _ _ c.if1.true)
+returns-then-length : tie.Need-returns-then-length
+returns-then-length c = sym (nodes_short _ _ c.if-length.true)
 
 limit-requires : tie.Need-limit-requires
 limit-requires c κs = search rules
 
-mul-if2 : tie.Need-overflow-mul-if2
-mul-if2 c = search rules
+overflow_mul-limit : tie.Need-overflow_mul-limit
+overflow_mul-limit c = search rules
 
-add-if2 : tie.Need-overflow-add-if2
-add-if2 c = search rules
+overflow_add-limit : tie.Need-overflow_add-limit
+overflow_add-limit c = search rules
 
-returns-2 : tie.Need-returns-2
-returns-2 c = sym (nodes_long _ _ (omega arith) (omega (arith, c.before.limit.ensures.0, c.if2.true)))
+returns-then-limit-length : tie.Need-returns-then-limit-length
+returns-then-limit-length c = sym (nodes_long _ _ (omega arith) (omega (arith, c.before.limit.ensures.0, c.if-limit-length.true)))
 
-sub-if3 : tie.Need-overflow-sub-if3
-sub-if3 c = search rules
+overflow_sub-length : tie.Need-overflow_sub-length
+overflow_sub-length c = search rules
 
-sub-result : tie.Need-overflow-sub-result
-sub-result c = search rules
+overflow_sub-result : tie.Need-overflow_sub-result
+overflow_sub-result c = search rules
 
-returns-3 : tie.Need-returns-3
-returns-3 c = sym (nodes_whole _ _ (omega arith) (omega (arith, c.before.before.limit.ensures.0)) c.if3.true)
+returns-then-length-eq0 : tie.Need-returns-then-length-eq0
+returns-then-length-eq0 c = sym (nodes_whole _ _ (omega arith) (omega (arith, c.before.before.limit.ensures.0)) c.if-length-eq0.true)
 
-returns-4 : tie.Need-returns-4
-returns-4 c = sym (nodes_odd _ _ (omega arith) (omega (arith, c.before.before.limit.ensures.0)) c.if3.false)
+returns-else-length-eq0 : tie.Need-returns-else-length-eq0
+returns-else-length-eq0 c = sym (nodes_odd _ _ (omega arith) (omega (arith, c.before.before.limit.ensures.0)) c.if-length-eq0.false)
 
 pub nodes_of_spec : {M : Type 1} → statement M
 nodes_of_spec =
     tie.close
     (tie.spec
-    mul-if1
-    add-if1
-    returns
+    overflow_mul-t-3
+    overflow_add-t-4
+    returns-then-length
     limit-requires
-    mul-if2
-    add-if2
-    returns-2
-    sub-if3
-    sub-result
-    returns-3
-    returns-4)
+    overflow_mul-limit
+    overflow_add-limit
+    returns-then-limit-length
+    overflow_sub-length
+    overflow_sub-result
+    returns-then-length-eq0
+    returns-else-length-eq0)

@@ -6,18 +6,18 @@ use Rattle.card.proofs.LineLaws.{not_the_second, on_root, on_node, on_first}
 use Rattle.card.proofs.on_line.Statement.{statement}
 use Rattle.card.proofs.on_line.Tie as tie
 
-returns : tie.Need-returns
-returns c =
+returns-then-line-ne-SECOND_LINE : tie.Need-returns-then-line-ne-SECOND_LINE
+returns-then-line-ne-SECOND_LINE c =
     let s = c.before in
-    sym (on_first s.args.place) ∙ ap (λ (l : ℕ). on_line l s.args.place) (sym (not_the_second s.args.line s.requires c.if1.true))
+    sym (on_first s.args.place) ∙ ap (λ (l : ℕ). on_line l s.args.place) (sym (not_the_second s.args.line s.requires c.if-line-ne-SECOND_LINE.true))
 
-returns-2 : tie.Need-returns-2
-returns-2 c =
+returns-then-place-eq-ROOT_LINK : tie.Need-returns-then-place-eq-ROOT_LINK
+returns-then-place-eq-ROOT_LINK c =
     let s = c.before.before in
-    sym (ap (λ (l : ℕ). on_line l s.args.place) c.before.if1.false ∙ on_root 2 s.args.place c.if2.true)
+    sym (ap (λ (l : ℕ). on_line l s.args.place) c.before.if-line-ne-SECOND_LINE.false ∙ on_root 2 s.args.place c.if-place-eq-ROOT_LINK.true)
 
-returns-3 : tie.Need-returns-3
-returns-3 c = let s = c.before.before in sym (on_node s.args.line s.args.place c.if2.false)
+returns : tie.Need-returns
+returns c = let s = c.before.before in sym (on_node s.args.line s.args.place c.if-place-eq-ROOT_LINK.false)
 
 pub on_line_spec : {M : Type 1} → statement M
-on_line_spec = tie.close (tie.spec returns returns-2 returns-3)
+on_line_spec = tie.close (tie.spec returns-then-line-ne-SECOND_LINE returns-then-place-eq-ROOT_LINK returns)

@@ -7,62 +7,62 @@ use Rattle.card.proofs.NodeLaws.{is_key_le, leaf_from, leaf_start, leaf_length, 
 use Rattle.card.proofs.pair_count.Statement.{statement}
 use Rattle.card.proofs.pair_count.Tie as tie
 
-abbrev invariant-loop : tie.invariant-loop
-invariant-loop node count₀ i₀ count i = (i ≤ 11) × (count ≤ i) × (length (leaf_from node 0) ≡ count + length (leaf_from node i))
+abbrev invariant-loop-i : tie.invariant-loop-i
+invariant-loop-i node count₀ i₀ count i = (i ≤ 11) × (count ≤ i) × (length (leaf_from node 0) ≡ count + length (leaf_from node i))
 
-abbrev decreases-loop : tie.decreases-loop
-decreases-loop node count₀ i₀ count i = 11 - i
+abbrev decreases-loop-i : tie.decreases-loop-i
+decreases-loop-i node count₀ i₀ count i = 11 - i
 
-loop-holds : tie.Need-loop-init invariant-loop decreases-loop
-loop-holds c = search rules
+loop-i-init : tie.Need-loop-i-init invariant-loop-i decreases-loop-i
+loop-i-init c = search rules
 
-add-is-key : tie.Need-overflow-add-is-key invariant-loop decreases-loop
-add-is-key c = search rules
+overflow_add-i : tie.Need-overflow_add-i invariant-loop-i decreases-loop-i
+overflow_add-i c = search rules
 
-mul-is-key : tie.Need-overflow-mul-is-key invariant-loop decreases-loop
-mul-is-key c = search rules
+offset_bounds-node-i : tie.Need-offset_bounds-node-i invariant-loop-i decreases-loop-i
+offset_bounds-node-i c = search rules
 
-shared-slice-read-is-key : tie.Need-shared-slice-read-is-key invariant-loop decreases-loop
-shared-slice-read-is-key c = search rules
+bounds-node-i : tie.Need-bounds-node-i invariant-loop-i decreases-loop-i
+bounds-node-i c = search rules
 
-is-key-requires : tie.Need-is-key-requires invariant-loop decreases-loop
-is-key-requires c κs = search rules
+is_key-count-requires : tie.Need-is_key-count-requires invariant-loop-i decreases-loop-i
+is_key-count-requires c κs = search rules
 
-add-count : tie.Need-overflow-add-count invariant-loop decreases-loop
-add-count c = omega (arith, c.is_key.ensures, is_key_le (get_or c.before.before.before.before.before.args.node.now (1 + c.before.before.before.loop.i) 0))
+overflow_add-count : tie.Need-overflow_add-count invariant-loop-i decreases-loop-i
+overflow_add-count c = omega (arith, c.is_key-count.ensures, is_key_le (get_or c.before.before.before.before.before.args.node.now (1 + c.before.before.before.loop-i.i) 0))
 
-add-i : tie.Need-overflow-add-i invariant-loop decreases-loop
-add-i c = search rules
+overflow_add-i-in-loop-i : tie.Need-overflow_add-i-in-loop-i invariant-loop-i decreases-loop-i
+overflow_add-i-in-loop-i c = search rules
 
-loop-less : tie.Need-loop-smaller invariant-loop decreases-loop
-loop-less c = search rules
+loop-i-smaller : tie.Need-loop-i-smaller invariant-loop-i decreases-loop-i
+loop-i-smaller c = search rules
 
-loop-again : tie.Need-loop-preserved invariant-loop decreases-loop
-loop-again c =
-    let l = c.before.before.before.loop in
+loop-i-preserved : tie.Need-loop-i-preserved invariant-loop-i decreases-loop-i
+loop-i-preserved c =
+    let l = c.before.before.before.loop-i in
     let n = c.before.before.before.before.before.args.node.now in
     let len : length c.before.before.before.before.before.args.node.now ≡ 24 = search rules in
-    (omega arith, omega (arith, c.is_key.ensures, is_key_le (get_or n (1 + l.i) 0)), omega (arith, l.invariant.2, c.is_key.ensures, leaf_length n len l.i (omega arith)))
+    (omega arith, omega (arith, c.is_key-count.ensures, is_key_le (get_or n (1 + l.i) 0)), omega (arith, l.invariant.2, c.is_key-count.ensures, leaf_length n len l.i (omega arith)))
 
-returns : tie.Need-returns invariant-loop decreases-loop
+returns : tie.Need-returns invariant-loop-i decreases-loop-i
 returns c =
     let len : length c.before.before.before.args.node.now ≡ 24 = search rules in
     let node = c.before.before.before.args.node.now in
-    omega (arith, c.before.loop.invariant.2, ap length (leaf_start node), ap length (leaf_end node len c.before.loop.i (omega arith)))
+    omega (arith, c.before.loop-i.invariant.2, ap length (leaf_start node), ap length (leaf_end node len c.before.loop-i.i (omega arith)))
 
 pub pair_count_spec : {M : Type 1} → statement M
 pair_count_spec =
     tie.close
     (tie.spec
-    invariant-loop
-    decreases-loop
-    loop-holds
-    add-is-key
-    mul-is-key
-    shared-slice-read-is-key
-    is-key-requires
-    add-count
-    add-i
-    loop-less
-    loop-again
+    invariant-loop-i
+    decreases-loop-i
+    loop-i-init
+    overflow_add-i
+    offset_bounds-node-i
+    bounds-node-i
+    is_key-count-requires
+    overflow_add-count
+    overflow_add-i-in-loop-i
+    loop-i-smaller
+    loop-i-preserved
     returns)
