@@ -12,7 +12,7 @@ import re
 import sys
 
 NAME = r"[^\s(){}.;,@\"«»]+"
-SIGNATURE = re.compile(rf"^(\s*)((?:(?:abbrev|unfoldable|pub|data|record|mutual) )*)({NAME})((?: \{{[^{{}}\n]*\}}| \([^()\n]*\))*) :(?: |$)(.*)", re.M)
+SIGNATURE = re.compile(rf"^([ \t]*)((?:(?:abbrev|unfoldable|pub|data|record|mutual) )*)({NAME})((?: \{{[^{{}}\n]*\}}| \([^()\n]*\))*) :(?: |$)(.*)", re.M)
 LET = re.compile(rf"\blet ({NAME}) (?::|=)")
 BINDERS = re.compile(rf"[({{]((?:{NAME} )+):")
 LAMBDA = re.compile(rf"λ ((?:{NAME} )*{NAME})\.")

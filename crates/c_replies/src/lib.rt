@@ -16,7 +16,7 @@ use state::{Answer, Begun, Total};
 use walk_next::Successor;
 
 #[repr(C)]
-#[derive(Drop)]
+#[derive(Clone, Copy)]
 pub struct Reply {
     pub code: u32,
     pub value: u32,

@@ -32,10 +32,10 @@ module _ (P : Preparation → Type 0) (free : List Bool) (last : ℕ) where
 
   pub laid_by : Preserved → (card : List ℕ) (decision : Decision) → P (lay_out card decision free last)
   unfolding lay_out
-  laid_by h card Refused = h.none-planned
+  laid_by h card Refused = h.none_planned
   laid_by h card Balanced = h.nothing
-  laid_by h card (PutPair m i key value) = h.no-nodes _ _
-  laid_by h card (ClearKey m i) = h.no-nodes _ _
+  laid_by h card (PutPair m i key value) = h.no_nodes _ _
+  laid_by h card (ClearKey m i) = h.no_nodes _ _
   laid_by h card (SplitLeaf m link key value) = h.given 3 _
   laid_by h card (Absorb p) = h.given 1 _
   laid_by h card (SplitParent p) = h.given 3 _

@@ -78,8 +78,8 @@ module _ (greatest : ℕ) (card : List ℕ) (n key m link run : ℕ) (fits : Siz
   landed e =
       let f = leaf_on card (way card n key) m link run e in
       let a = along card n (λ q. q.link < 2 ^ 32) key child_linked depth_limit (root_position (get_or card root_place 0)) (omega arith) in
-      let on = a.leaf f.position f.on-way in
-      record { inside = rw f.node-is at (leaf_inside card n f.position.node on.1); linked = rw f.link-is at on.0 }
+      let on = a.leaf f.position f.on_way in
+      record { inside = rw f.node_is at (leaf_inside card n f.position.node on.1); linked = rw f.link_is at on.0 }
 
 module _ (card : List ℕ) (n key m link run : ℕ) where
   -- the run above a leaf is no longer than the way to it
@@ -88,7 +88,7 @@ module _ (card : List ℕ) (n key m link run : ℕ) where
   landed_run e =
       let f = leaf_on card (way card n key) m link run e in
       let a = along card n (λ q. Unit {0}) key (λ q l z h. tt) depth_limit (root_position (get_or card root_place 0)) tt in
-      omega (arith, f.run_is, run_over_le card 0 (way card n key).inner, a.short f.position f.on-way)
+      omega (arith, f.run_is, run_over_le card 0 (way card n key).inner, a.short f.position f.on_way)
 
 -- what is decided where the key is not held, by the lowest empty slot
 pub answer_empty : (leaf : List ℕ) (key value m link : ℕ)

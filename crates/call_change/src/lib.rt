@@ -21,7 +21,7 @@ use walk::{End, Slot};
 pub const SPLIT_NEED: usize = 5;
 
 // What the next step of a task decides, what is then being done, and the final answer where there is nothing to change.
-#[derive(Drop)]
+#[derive(Clone, Copy)]
 pub struct First {
     pub doing: Doing,
     pub answer: Answer,
@@ -104,7 +104,7 @@ fn delete_in(leaf: &[u32], node: usize, key: u32) -> First
 }
 
 // Where the way of an update's key ends: refusal 9, or its leaf and the word that links to it.
-#[derive(Drop)]
+#[derive(Clone, Copy)]
 pub enum Arrival {
     Refused,
     Leaf { node: usize, link: usize },

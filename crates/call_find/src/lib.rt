@@ -11,7 +11,7 @@ ghost use Rattle.call_find.specs.declared.Found.TheVariants.{Refused as FoundRef
 use walk::{Reached, Slot};
 
 // What a find answers.
-#[derive(Drop)]
+#[derive(Clone, Copy)]
 pub enum Found {
     Value(u32),
     Absent,
@@ -30,7 +30,7 @@ fn found_in(node: &[u32], key: u32) -> Found
 }
 
 // What a find answers, and beside it how many internal nodes its way passed; 0 where it is refused (document 02, W-203).
-#[derive(Drop)]
+#[derive(Clone, Copy)]
 pub struct Lookup {
     pub found: Found,
     pub depth: usize,

@@ -9,7 +9,7 @@ ghost use Rattle.card_free.specs.NodeSet.{word_count, nodes_of};
 ghost use Rattle.card_check.specs.Check.{findings_of, table_check};
 ghost use Rattle.card_check.specs.Counting.{table_counted};
 ghost use Rattle.state.specs.Block.{free_at, totals_at, state_words, part};
-ghost use Rattle.state.specs.Contracts.{Opened, OpenCall};
+ghost use Rattle.state.specs.Clauses.{Opened, OpenCall};
 ghost use Rattle.call_open.specs.Opening.{open_sound, open_checked, open_of};
 
 use card_check::{Checked, FOUND_WORDS, KEY, RUN, TOTALS, VIOLATED};

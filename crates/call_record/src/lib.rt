@@ -9,7 +9,7 @@ ghost use Rattle.call_record.specs.Records.{record_refusal, record_at, fetched_a
 use call_find::Found;
 
 // Whether there is a record: "a second question over the same inputs tells found, absent or the refusal".
-#[derive(Drop)]
+#[derive(Clone, Copy)]
 pub enum Fetched {
     Found,
     Absent,

@@ -32,7 +32,7 @@ use Rattle.walk.specs.declared.Landing.{Landing}
 use Rattle.walk.specs.declared.Landing.TheVariants.{Refused as NoLanding, Leaf as LandingAt}
 use Rattle.state.specs.Block.{depth_at, state_words, memory_in}
 use Rattle.state.specs.Blocks.{begun_block, started_block}
-use Rattle.state.specs.Contracts.{StartCall}
+use Rattle.state.specs.Clauses.{StartCall}
 use Rattle.state.proofs.Blocks.{with_doing, memory_begun, with_depth, memory_deep, begun_length}
 use Rattle.state.specs.declared.Doing.{Doing}
 use Rattle.state.specs.declared.Doing.TheVariants.{Formatting}

@@ -14,7 +14,7 @@ ghost use Rattle.laws.specs.Cases.{pick};
 ghost use Rattle.state.specs.declared.Doing.TheVariants.{Inserting, Deleting};
 ghost use Rattle.state.specs.declared.Phase.TheVariants.{NotBegun};
 ghost use Rattle.state.specs.Block.{free_at, totals_at, back_at, state_words, part, memory_in};
-ghost use Rattle.state.specs.Contracts.{OpenCall, StartCall};
+ghost use Rattle.state.specs.Clauses.{OpenCall, StartCall};
 ghost use Rattle.call_change.specs.Updates.{landing, insert_reason, room_for};
 ghost use Rattle.call_start.specs.Starts.{format_of, room_of, insert_of, delete_of};
 ghost use Rattle.call_start.specs.Refusals.{start_refusal, is_slot, line_way, room_where, landing_refusal, due_refusal, due_depth, begun_by};
@@ -115,7 +115,7 @@ fn room_refusal(room: bool) -> u32
 
 // What starting an update is due: a refusal, or 0 and the internal nodes on its key's way ("It is the number .. when the call began":
 // document 02, W-203).
-#[derive(Drop)]
+#[derive(Clone, Copy)]
 pub struct Due {
     pub refusal: u32,
     pub depth: usize,

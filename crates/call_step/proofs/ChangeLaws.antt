@@ -42,7 +42,7 @@ use Rattle.state.proofs.StepLaws.{store_outside, store_inside}
 use Rattle.state.proofs.Tasks.{task_of}
 use Rattle.call_step.specs.Calls.{planning, step_prepared, step_begin, step_task}
 use Rattle.call_step.specs.StepBlocks.{idled_block, played_block, planned_block, planned_over, first_stored, stored_block, step_block}
-use Rattle.call_step.specs.Contracts.{MadeOn, Changes}
+use Rattle.call_step.specs.Clauses.{MadeOn, Changes}
 use Rattle.call_step.proofs.PlayLaws.{planned, plan_next, part_word}
 use Rattle.call_step.proofs.PlanLaws.{zip_first}
 use Rattle.call_step.proofs.StepBlockLaws.{Plannable, planned_length, planned_stores}

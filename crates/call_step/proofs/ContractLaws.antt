@@ -15,7 +15,7 @@ use Rattle.state.specs.declared.Answer.{Answer}
 use Rattle.state.specs.declared.Answer.TheVariants.{Stored, Ready, Absent, Value, Refused}
 use Rattle.state.proofs.StepLaws.{store_outside, store_inside}
 use Rattle.call_step.specs.StepBlocks.{idled_block, played_block, stored_block, step_block}
-use Rattle.call_step.specs.Contracts.{StepMade, HoldsTask}
+use Rattle.call_step.specs.Clauses.{StepMade, HoldsTask}
 use Rattle.call_step.proofs.PlayLaws.{planned, plan_next, plan_below, part_word}
 
 -- whether the next step makes a store of the change in hand, by whether anything is being done

@@ -28,7 +28,7 @@ use Rattle.state.specs.declared.Doing.{Doing}
 use Rattle.state.specs.declared.Task.{Task}
 use Rattle.call_step.specs.Calls.{planning, step_prepared, step_begin, step_task, placed_on, on_card}
 use Rattle.call_step.specs.StepBlocks.{played_block, step_block}
-use Rattle.call_step.specs.Contracts.{StepMade, MadeOn, HoldsTask}
+use Rattle.call_step.specs.Clauses.{StepMade, MadeOn, HoldsTask}
 use Rattle.call_step.proofs.ContractLaws.{store_refused, store_made}
 use Rattle.call_step.proofs.PlayLaws.{planned}
 

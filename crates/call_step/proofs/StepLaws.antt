@@ -31,7 +31,7 @@ use Rattle.state.specs.declared.Held.{Held}
 use Rattle.state.specs.declared.Held.TheVariants.{Nothing, Formatting as HeldFormatting, Task as HeldTask}
 use Rattle.state.proofs.StepLaws.{more_none}
 use Rattle.call_step.specs.Calls.{step_task, on_card, step_checked, step_held, step_of}
-use Rattle.call_step.specs.Contracts.{StepMade, StepCall, HoldsTask}
+use Rattle.call_step.specs.Clauses.{StepMade, StepCall, HoldsTask}
 use Rattle.call_step.proofs.LineSteps.{first_line_lem}
 use Rattle.call_step.proofs.StepMemory.{held_formatting, formatting_word, step_right}
 

@@ -317,7 +317,7 @@ module _ (greatest line : ℕ) (card b : List ℕ) (l : length b ≡ state_words
       prepared_in balanced w p f =
           absurd (subst Ends f (next_ends greatest table m.nodes m.free m.last m.doing task (task_of m.doing task e)))
       prepared_in (prepared stores free last cut) w p f =
-          store_in (get_or stores 0 (0, 0)) (advanced (planning m next.doing free last cut) (drop 1 stores)) w.in-node p f
+          store_in (get_or stores 0 (0, 0)) (advanced (planning m next.doing free last cut) (drop 1 stores)) w.in_node p f
 
       task_on_card : (rest : List Store) → m.rest ≡ rest → Right (on_card line card (step_task table m task rest))
       unfolding step_task step_begin

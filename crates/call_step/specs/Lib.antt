@@ -5,4 +5,4 @@ pub mod StepBlocks
 -- the same, by the words before it and by what the step is due to leave
 pub mod StepWords
 -- what a step promises of the card and of the block lent to it
-pub mod Contracts
+pub mod Clauses

@@ -10,7 +10,7 @@ mod playing;
 ghost use Rattle.std.specs.Prelude.{◌≡◌, true, false};
 ghost use Rattle.card.specs.Header.{Sized};
 ghost use Rattle.card.specs.Lines.{IsLine};
-ghost use Rattle.call_step.specs.Contracts.{StepCall};
+ghost use Rattle.call_step.specs.Clauses.{StepCall};
 
 use formatting::step_format;
 use planning::step_plan;

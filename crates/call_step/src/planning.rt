@@ -17,7 +17,7 @@ ghost use Rattle.state.specs.declared.Answer.{Answer};
 ghost use Rattle.state.specs.declared.Held.TheVariants.{Task as HeldTask};
 ghost use Rattle.call_step.specs.Calls.{step_prepared, step_task, step_held};
 ghost use Rattle.call_step.specs.StepBlocks.{planned_over};
-ghost use Rattle.call_step.specs.Contracts.{StepMade, MadeOn, Changes};
+ghost use Rattle.call_step.specs.Clauses.{StepMade, MadeOn, Changes};
 
 use crate::playing::{end_change, finish, store_word};
 use call_change::next_change;

@@ -12,7 +12,7 @@ ghost use Rattle.state.specs.Results.{more_to_store};
 ghost use Rattle.state.specs.Block.{free_at, places_at, totals_at, values_at, state_words, block_word, part, doing_in, memory_in};
 ghost use Rattle.state.specs.Blocks.{over, words_of};
 ghost use Rattle.call_step.specs.StepBlocks.{idled_block, totalled, settled_block};
-ghost use Rattle.call_step.specs.Contracts.{MadeOn, HoldsTask};
+ghost use Rattle.call_step.specs.Clauses.{MadeOn, HoldsTask};
 
 use state::Answer;
 use state::block::{

@@ -507,7 +507,7 @@ module _ (card : List ℕ) (n run : ℕ) (root : Bool) (low high m : ℕ) (f : F
     check_deep z =
         let k = enter_children card n m low high run root f c g found in
         rw (z, found) (ap (raised (eqb (kind_of (node_at card m)) 3)) (children_none (λ l h k g. none) (λ l h k g. refl) 0 low high
-        (routing_keys (node_at card m)) (children (node_at card m)) g (omega (arith, k.counted, k.some-child))))
+        (routing_keys (node_at card m)) (children (node_at card m)) g (omega (arith, k.counted, k.some_child))))
 
     pub check_inner : (levels ≡ 0 → ⊥) → node_check levels card n run root low high m f
         ≡ raised (eqb (kind_of (node_at card m)) 3) (children_check (node_check (levels - 1) card n (run_below c run) false) true 0 low high (routing_keys (node_at card m)) (children (node_at card m)) g)

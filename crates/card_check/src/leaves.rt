@@ -51,7 +51,7 @@ fn lesser(a: u32, b: u32) -> u32
 }
 
 // What a look at all slots of a leaf finds.
-#[derive(Drop)]
+#[derive(Clone, Copy)]
 pub enum Counted {
     Unsound,
     Pairs(usize),

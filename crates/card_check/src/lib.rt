@@ -32,7 +32,7 @@ pub const FOUND_WORDS: usize = TOTALS + card_family::FAMILIES;
 
 // The answer of a check: whether the part is sound, and its height (tagged nodes not counted). Where it is not, what the lent
 // words then hold says nothing.
-#[derive(Drop)]
+#[derive(Clone, Copy)]
 pub enum Checked {
     Unsound,
     Sound(usize),
@@ -46,7 +46,7 @@ fn wide(x: u32) -> u64
 }
 
 // What a first look at a node finds.
-#[derive(Drop)]
+#[derive(Clone, Copy)]
 pub enum Entry {
     Refused,
     Leaf,
@@ -79,7 +79,7 @@ fn raise(r: Checked, tagged: bool) -> Checked
 }
 
 // Where the range of a child ends, excluded.
-#[derive(Drop)]
+#[derive(Clone, Copy)]
 enum RangeEnd {
     Wrong,
     At(u64),

@@ -11,7 +11,7 @@ ghost use Rattle.card_dump.specs.Dump.{word_bytes, card_bytes, padded_length, du
 use card::LEAST_NODES;
 
 // "The answer is the result's length in words or bytes", or the refusal's number.
-#[derive(Drop)]
+#[derive(Clone, Copy)]
 pub enum Answer {
     Length(usize),
     Refused(u32),

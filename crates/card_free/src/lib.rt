@@ -13,7 +13,7 @@ pub const WORDS: usize = card::FREE_WORDS;
 // How many bits that makes: a node of the set is below it.
 pub const CAPACITY: usize = WORDS * 32;
 
-#[derive(Drop)]
+#[derive(Clone, Copy)]
 pub enum Next {
     Node(usize),
     Nothing,

@@ -36,10 +36,10 @@ module _ (line : ℕ) (card : List ℕ) (long : length (seen line card) ≡ leng
         record {
           size = sym long ∙ w.size;
           few = w.few;
-          parent_from = w.parent-from;
-          parent_to = w.parent-to;
-          node_from = w.node-from;
-          node_to = w.node-to;
+          parent_from = w.parent_from;
+          parent_to = w.parent_to;
+          node_from = w.node_from;
+          node_to = w.node_to;
           child = subst (λ (x : List ℕ). p.index < length (children x)) parent_is w.child;
           link = w.link;
         }

@@ -56,7 +56,7 @@ module _ (card : List ℕ) (n key : ℕ) (size : length card ≡ 8 + 24 * n) (fe
         size = size;
         few = few;
         parent_from = parent;
-        parent_to = f.holds.parent-to;
+        parent_to = f.holds.parent_to;
         node_from = on.one;
         node_to = on.most;
         child = f.holds.child parent;

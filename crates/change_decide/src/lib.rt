@@ -12,7 +12,7 @@ ghost use Rattle.change_decide.specs.Places.{PositionWithin};
 use walk::{Position, Search};
 
 // What a step that has no store left to make decides.
-#[derive(Drop)]
+#[derive(Clone, Copy)]
 pub enum Decision {
     // refusal 9
     Refused,

@@ -93,8 +93,8 @@ module _ (card : List ℕ) (p : Position) (t : TaggedAt card p) where
 
   tagged_words : (length parent ≡ 24) × (length tagged ≡ 24)
   tagged_words = (
-    length_node card p.parent t.within.parent-from (omega (arith, t.within.size, t.within.parent-to)),
-    length_node card p.node t.within.node-from (omega (arith, t.within.size, t.within.node-to)),
+    length_node card p.parent t.within.parent_from (omega (arith, t.within.size, t.within.parent_to)),
+    length_node card p.node t.within.node_from (omega (arith, t.within.size, t.within.node_to)),
   )
 
   keys_count : length (joined_keys parent p.index tagged) ≡ length (children parent)

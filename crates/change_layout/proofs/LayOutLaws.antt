@@ -262,12 +262,12 @@ cut_two (suc a) zero p q = absurd (omega arith)
 cut_two (suc a) (suc b) p q = refl
 
 cut_tagged : (card : List ℕ) (p : Position) → TaggedAt card p → before_zero (p.parent ∷ p.node ∷ 0 ∷ []) ≡ p.parent ∷ p.node ∷ []
-cut_tagged card p t = cut_two _ _ t.within.parent-from t.within.node-from
+cut_tagged card p t = cut_two _ _ t.within.parent_from t.within.node_from
 
 cut_siblings : (card : List ℕ) (p : Position) → SiblingsAt card p
     → before_zero (siblings_cut p (parent_at card p) (left_sibling p)) ≡ siblings_cut p (parent_at card p) (left_sibling p)
 cut_siblings card p s =
-    cut_three _ _ _ (omega (arith, s.within.parent-from)) (child_positive (parent_at card p) (left_sibling p) (omega (arith, s.beside)))
+    cut_three _ _ _ (omega (arith, s.within.parent_from)) (child_positive (parent_at card p) (left_sibling p) (omega (arith, s.beside)))
     (child_positive (parent_at card p) (suc (left_sibling p)) s.beside)
 
 -- none of them is 0, so that they are read back from the words that hold them

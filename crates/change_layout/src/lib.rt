@@ -33,7 +33,7 @@ const STORES_OF_TWO: u32 = card::TWO_NODES as u32 + 1;
 const STORES_OF_THREE: u32 = card::PLAN_SIZE as u32;
 
 // What a decision comes to: whether there is a change at all, and how many new nodes and stores it has.
-#[derive(Drop)]
+#[derive(Clone, Copy)]
 pub struct Size {
     pub outcome: Outcome,
     pub nodes: usize,

@@ -7,7 +7,7 @@ ghost use Rattle.change_plan.specs.Plan.{given_by, left_given, Among};
 use card_free::{Next, next_free};
 
 // "or too few free nodes", or the numbers in the order given, "left, right, then above", with 0 for those that are not needed.
-#[derive(Drop)]
+#[derive(Clone, Copy)]
 pub enum Given {
     TooFew,
     Nodes { left: u32, right: u32, above: u32 },

@@ -48,7 +48,7 @@ pub record Counts (kind : ℕ) (keys beside : List ℕ) (half taken : ℕ) : Typ
   pub few : half ≤ 6
   pub fewer : length beside - half ≤ 6
   pub within : half ≤ length beside
-  pub keys_left_lem : taken < length keys
+  pub keys_left : taken < length keys
   pub few_keys : taken ≤ 6
   pub keys_within : half ≤ length keys
   pub keys_right : length keys - half ≤ 6
@@ -65,7 +65,7 @@ whole_counts kind keys beside k w e =
       few = omega arith;
       fewer = omega arith;
       within = omega arith;
-      keys_left_lem = omega (arith, s.0);
+      keys_left = omega (arith, s.0);
       few_keys = omega (arith, s.3);
       keys_within = omega (arith, s.1);
       keys_right = omega (arith, s.2);

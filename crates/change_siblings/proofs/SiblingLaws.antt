@@ -92,10 +92,10 @@ held_as r keys beside e h = subst (HoldsTogether r keys beside) e h
 
 module _ (r : Held) (keys beside : List ℕ) (both : Together) (h : HoldsTogether r keys beside both) where
   keys_cut : take (r.keys - 0) keys ≡ both.keys
-  keys_cut = take_start r.keys keys ∙ h.keys-held
+  keys_cut = take_start r.keys keys ∙ h.keys_held
 
   values_cut : take (r.values - 0) beside ≡ both.values
-  values_cut = take_start r.values beside ∙ h.values-held
+  values_cut = take_start r.values beside ∙ h.values_held
 
   pub held_both : together r.kind (take (r.keys - 0) keys) (take (r.values - 0) beside) ≡ both
   held_both = rw (h.kind, keys_cut, values_cut)
@@ -110,10 +110,10 @@ module _ (r : Held) (keys beside : List ℕ) (both : Together) (h : HoldsTogethe
   module _ (lk : length keys ≡ 12) (lv : length beside ≡ 12) where
     -- how many values there are, and keys
     pub held_values : length both.values ≡ r.values
-    held_values = sym (ap length h.values-held) ∙ length-take-le r.values beside (omega (arith, h.few))
+    held_values = sym (ap length h.values_held) ∙ length-take-le r.values beside (omega (arith, h.few))
 
     pub held_keys : length both.keys ≡ r.keys
-    held_keys = sym (ap length h.keys-held) ∙ length-take-le r.keys keys (omega (arith, h.few, few_keys))
+    held_keys = sym (ap length h.keys_held) ∙ length-take-le r.keys keys (omega (arith, h.few, few_keys))
 
     pub held_whole : 4 ≤ length both.values → Whole r.kind (take (r.keys - 0) keys) (take (r.values - 0) beside)
     held_whole enough =
@@ -132,7 +132,7 @@ module _ (r : Held) (keys beside : List ℕ) (both : Together) (h : HoldsTogethe
 module _ (card : List ℕ) (p : Position) where
   -- the words of the parent and of the two
   pub parent_words : SiblingsAt card p → length (parent_at card p) ≡ 24
-  parent_words s = length_node card p.parent s.within.parent-from (omega (arith, s.within.size, s.within.parent-to))
+  parent_words s = length_node card p.parent s.within.parent_from (omega (arith, s.within.size, s.within.parent_to))
 
   pub left_words_lem : SiblingsAt card p → length (left_at card p) ≡ 24
   left_words_lem s = length_node card _ s.left.pos s.left.fits

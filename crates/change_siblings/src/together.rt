@@ -12,7 +12,7 @@ use change_rows::words::{append, push};
 use walk::Position;
 
 // The kind of the two, and how many words of the rows are theirs.
-#[derive(Drop)]
+#[derive(Clone, Copy)]
 pub struct Held {
     pub kind: u32,
     pub keys: usize,

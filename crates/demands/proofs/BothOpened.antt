@@ -114,7 +114,7 @@ module _ (greatest n : ℕ) (l l' : Side) (steps : ℕ) (c : List ℕ) (m : Memo
           room = x.room;
           same = x.same;
           counted = counted_rest;
-          inv = loosen greatest (beside n l.limit s) w.steps repair_steps (alone greatest l c after) (book b.held empty) w.few-steps
+          inv = loosen greatest (beside n l.limit s) w.steps repair_steps (alone greatest l c after) (book b.held empty) w.few_steps
               (record {
                 tree = t;
                 table = x.inv.table;
@@ -200,46 +200,46 @@ module _ (greatest n : ℕ) (l l' : Side) (steps : ℕ) (c : List ℕ) (m : Memo
       go : ((l.number ≡ 1) × (l'.number ≡ 2)) ⊎ ((l.number ≡ 2) × (l'.number ≡ 1)) → Reopens
       go (inl e) =
           let k = lines_accepted c n words few x.inv.tree x.resting (both_sound greatest n l l' steps c m at_rest b others x e) in
-          let exact = learnt_exact n x.inv.tree x.resting k.height k.height-second k.found_first k.found-both (omega (arith, few)) k.learnt-first k.learnt-second in
-          let faults : bit k.found-both.violated ≡ table_violations x.inv.tree = omega (arith, k.learnt-first.violated, k.learnt-second.violated, x.balanced) in
+          let exact = learnt_exact n x.inv.tree x.resting k.height k.height_second k.found_first k.found_both (omega (arith, few)) k.learnt_first k.learnt_second in
+          let faults : bit k.found_both.violated ≡ table_violations x.inv.tree = omega (arith, k.learnt_first.violated, k.learnt_second.violated, x.balanced) in
           record {
             height = k.height;
             first = k.found_first;
-            height_second = k.height-second;
-            found = k.found-both;
+            height_second = k.height_second;
+            found = k.found_both;
             passed_first = k.passed_first;
-            passed_second = k.passed-second;
-            room = room_found k.found_first.key k.found-both.run
-                (λ w. let v = k.learnt-first.violation w in (v.0, (k.learnt-second.unchanged x.balanced).1 ∙ v.1))
-                (λ z. (k.learnt-second.unchanged x.balanced).1 ∙ (k.learnt-first.unchanged z).1);
+            passed_second = k.passed_second;
+            room = room_found k.found_first.key k.found_both.run
+                (λ w. let v = k.learnt_first.violation w in (v.0, (k.learnt_second.unchanged x.balanced).1 ∙ v.1))
+                (λ z. (k.learnt_second.unchanged x.balanced).1 ∙ (k.learnt_first.unchanged z).1);
             room_rest = x.room;
             broken = λ last totals rest ct cr q.
                 let w : table_violations x.inv.tree ≡ 1 = sym faults ∙ ap bit q in
-                cut_broken greatest n l l' steps c m at_rest b others x k.found-both.free exact last totals rest ct cr k.found-both.key
-                (subst (Violation x.inv.tree) (sym (k.learnt-second.unchanged x.balanced).0) (k.learnt-first.violation w).0) w;
+                cut_broken greatest n l l' steps c m at_rest b others x k.found_both.free exact last totals rest ct cr k.found_both.key
+                (subst (Violation x.inv.tree) (sym (k.learnt_second.unchanged x.balanced).0) (k.learnt_first.violation w).0) w;
             whole = λ last totals rest ct cr q.
-                cut_whole greatest n l l' steps c m at_rest b others x k.found-both.free exact last totals rest ct cr (sym faults ∙ ap bit q);
+                cut_whole greatest n l l' steps c m at_rest b others x k.found_both.free exact last totals rest ct cr (sym faults ∙ ap bit q);
           }
       go (inr e) =
           let k = lines_accepted c n words few x.resting x.inv.tree (both_sound_turned greatest n l l' steps c m at_rest b others x e) in
-          let turned = learnt_exact n x.resting x.inv.tree k.height k.height-second k.found_first k.found-both (omega (arith, few)) k.learnt-first k.learnt-second in
+          let turned = learnt_exact n x.resting x.inv.tree k.height k.height_second k.found_first k.found_both (omega (arith, few)) k.learnt_first k.learnt_second in
           let exact = exact_turned turned in
-          let faults : bit k.found-both.violated ≡ table_violations x.inv.tree = omega (arith, k.learnt-first.violated, k.learnt-second.violated, x.balanced) in
+          let faults : bit k.found_both.violated ≡ table_violations x.inv.tree = omega (arith, k.learnt_first.violated, k.learnt_second.violated, x.balanced) in
           record {
             height = k.height;
             first = k.found_first;
-            height_second = k.height-second;
-            found = k.found-both;
+            height_second = k.height_second;
+            found = k.found_both;
             passed_first = k.passed_first;
-            passed_second = k.passed-second;
-            room = room_found k.found-both.key k.found-both.run (λ w. let v = k.learnt-second.violation w in (v.0, v.1))
-                (λ z. (k.learnt-second.unchanged z).1 ∙ (k.learnt-first.unchanged x.balanced).1);
+            passed_second = k.passed_second;
+            room = room_found k.found_both.key k.found_both.run (λ w. let v = k.learnt_second.violation w in (v.0, v.1))
+                (λ z. (k.learnt_second.unchanged z).1 ∙ (k.learnt_first.unchanged x.balanced).1);
             room_rest = x.room;
             broken = λ last totals rest ct cr q.
                 let w : table_violations x.inv.tree ≡ 1 = sym faults ∙ ap bit q in
-                cut_broken greatest n l l' steps c m at_rest b others x k.found-both.free exact last totals rest ct cr k.found-both.key (k.learnt-second.violation w).0 w;
+                cut_broken greatest n l l' steps c m at_rest b others x k.found_both.free exact last totals rest ct cr k.found_both.key (k.learnt_second.violation w).0 w;
             whole = λ last totals rest ct cr q.
-                cut_whole greatest n l l' steps c m at_rest b others x k.found-both.free exact last totals rest ct cr (sym faults ∙ ap bit q);
+                cut_whole greatest n l l' steps c m at_rest b others x k.found_both.free exact last totals rest ct cr (sym faults ∙ ap bit q);
           }
         where
           exact_turned : {free : List Bool} → ExactOver n free (λ i. node_total (indicator i) x.resting + node_total (indicator i) x.inv.tree)

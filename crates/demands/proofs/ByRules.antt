@@ -254,21 +254,21 @@ turns_at greatest {c} {n} {t} {due = due} b o (stage_between {free} {last} {dept
     apply q = split q.stores refl
       where
         split : (ss : List Store) → q.stores ≡ ss → RepairNext greatest c n (memory n free last depth totals doing [] [])
-        split [] e₁ = let z = ap length (sym e₁ ∙ q.pending.is-rest) in absurd (omega (arith, simp length-append at z))
+        split [] e₁ = let z = ap length (sym e₁ ∙ q.pending.is_rest) in absurd (omega (arith, simp length-append at z))
         split (s ∷ rest) e₁ =
-            let planned : next_repair c n key free last ≡ prepared (s ∷ rest) q.free-then q.last_then q.cut = rw e₁ at q.planned in
+            let planned : next_repair c n key free last ≡ prepared (s ∷ rest) q.free_then q.last_then q.cut = rw e₁ at q.planned in
             let p = pending_changing b.holds b.sound o (rw e₁ at q.pending) in
             record {
               key = key;
               first = s;
               rest = rest;
-              then_free = q.free-then;
+              then_free = q.free_then;
               then_last = q.last_then;
               out = q.cut;
               planned = planned;
               short = rw e₁ at q.short;
               first_made = step_repairs greatest c n b.sized b.header free last depth totals j ∙ prepared_first c (memory n free last depth totals doing [] []) doing due
-                  (next_repair c n key free last) s rest q.free-then q.last_then q.cut planned (first_storable p.0.plays).inside;
+                  (next_repair c n key free last) s rest q.free_then q.last_then q.cut planned (first_storable p.0.plays).inside;
             }
 
 -- one turn of a repair, where all that come after it are by the rules
@@ -294,10 +294,10 @@ repair_next greatest final most w x k (exact, turn) later = at turn
     at (inl (z, a)) = done v.inv.tree between z (ap step_reply (a ∙ x.is-due))
     at (inr q) =
         let r = repair_by_rule w.card v.size q.key q.planned in
-        let m = memory v.size q.then-free q.then-last w.state.depth w.state.totals w.state.doing [] q.out in
+        let m = memory v.size q.then_free q.then_last w.state.depth w.state.totals w.state.doing [] q.out in
         mends-by v.inv.tree between r.rule
-        (change_made greatest final most w x m q.first q.rest q.first_made q.short r.given q.out r.in-turn r.left
-        (r.given-last ∙ last_same w.state.last r.given) refl (cut_marked q.out q.then-free))
+        (change_made greatest final most w x m q.first q.rest q.first_made q.short r.given q.out r.in_turn r.left
+        (r.given_last ∙ last_same w.state.last r.given) refl (cut_marked q.out q.then_free))
         (λ qs u n. let l = all_left greatest final most w x m q.first q.rest q.first_made qs u n in
         later l.0 (run (ration_table greatest) qs w) l.1 l.2.nears (ap (λ (y : Memory). y.rest) l.2.is-left ∙ advanced_none m)
         (subst Begun (sym (ap (λ (y : Memory). y.doing) l.2.is-left ∙ advanced_doing m)) (begun_settled k)))
@@ -367,7 +367,7 @@ module _ (greatest : ℕ) (final : Answer) (most : ℕ) (w : World (ration_table
                 let r = rule (s ∷ rest) fewer now out q in
                 changes r.0.rule
                 (change_made greatest final most w x m s rest first (short r.0.given out (s ∷ rest) r.0.rule) r.0.given out
-                r.0.in-turn r.0.left (r.0.given-last ∙ last_same w.state.last r.0.given) refl (cut_marked out fewer))
+                r.0.in_turn r.0.left (r.0.given_last ∙ last_same w.state.last r.0.given) refl (cut_marked out fewer))
                 (λ qs u n. let l = all_left greatest final most w x m s rest first qs u n in
                 repairs_by_rules greatest final (suc l.0) l.0 (run (ration_table greatest) qs w) (omega arith) l.2.nears
                 (ap (λ (y : Memory). y.rest) l.2.is-left ∙ advanced_none m)

@@ -114,7 +114,7 @@ module _ (greatest : ℕ) (w : World (ration_table greatest)) (b : Book) (v : Co
 
   rest_tells : Idle (ration_table greatest) w.state → (l : Line w.card b.held) → (number : ℕ) → number < key_limit → Rested (find_depth greatest 1) (next_depth greatest 1) w.card l number
   rest_tells idle l number high =
-      let k = l.right.balanced.well-formed in
+      let k = l.right.balanced.well_formed in
       let levels = passed_levels number l.depth l.right.table k.widths l.right.balanced.none l.level in
       record {
         found = λ low. find_tells l.right.table k number low high ∙ levels;

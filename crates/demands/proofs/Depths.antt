@@ -32,7 +32,7 @@ use Rattle.call_change.specs.Updates.{start_room}
 
 tree_levels : (c : List ℕ) (t : Tree) → Balanced c t → (h : ℕ) → Height h t → Levels t h (length (pairs t))
 tree_levels c t b h level =
-    let ok = b.well-formed.widths in
+    let ok = b.well_formed.widths in
     record {
       rations = λ one. omega (arith, balanced_pairs h t level ok b.none one, ap (λ (x : ℕ). 2 ^ x) (add-one h));
       depth_bound = λ four. omega (arith, pairs_bound_levels h t level ok b.none four, ap (λ (x : ℕ). 2 ^ x) (add-one h));
@@ -43,14 +43,14 @@ module _ (greatest : ℕ) (w : World (ration_table greatest)) (b : Book) (v : Co
   line : Idle (ration_table greatest) w.state → Line w.card b.held
   line idle =
       let r = ((is_dictionary greatest w b v).rests idle).right in
-      let level = r.balanced.well-formed.level in
+      let level = r.balanced.well_formed.level in
       let s = v.inv.table.sized in
       record {
         right = r;
         depth = level.0;
         level = level.1;
         by_rations = rw (← r.as_many) (tree_levels w.card r.table r.balanced level.0 level.1);
-        one_depth = λ t sound h i. same_height w.card v.size s.words s.most t r.table sound r.balanced.well-formed h level.0 i level.1;
+        one_depth = λ t sound h i. same_height w.card v.size s.words s.most t r.table sound r.balanced.well_formed h level.0 i level.1;
       }
 
 -- ---- the bound by depth

@@ -111,9 +111,9 @@ module _ (greatest : ℕ) (w : World (ration_table greatest)) (b : Book) (v : Co
   unfolding reply_to insert_of start_reply
   insert_works key value high s =
       let e = begun_started (insert_of greatest 1 w.card w.state key value).begun
-      (start_small greatest w.card w.state key (Inserting key value NotBegun) (start_room (seen 1 w.card) key (room_of w.state))) s.reply-given in
+      (start_small greatest w.card w.state key (Inserting key value NotBegun) (start_room (seen 1 w.card) key (room_of w.state))) s.reply_given in
       record {
-        begins = s.reply-given;
+        begins = s.reply_given;
         by_rules = subst (λ (r : Reply). Updates (ration_table greatest) ((a : ℕ) × (lookup key b.held ≡ some a)) (InsertRule w.card key value) r
             (happens (ration_table greatest) (insert key value) w)) (dictionary_same (lookup key b.held)) (insert_by_rules greatest w b v key value high e);
         finishes = finishes_by greatest (lookup key b.held) _ (happens (ration_table greatest) (insert key value) w) (insert_stores greatest i key high value e);
@@ -124,9 +124,9 @@ module _ (greatest : ℕ) (w : World (ration_table greatest)) (b : Book) (v : Co
       → Works (ration_table greatest) greatest (delete key) (lookup key b.held ≡ none) (DeleteRule w.card key) key w b.held
   unfolding reply_to delete_of start_reply
   delete_works key high s =
-      let e = begun_started (delete_of greatest 1 w.card w.state key).begun (start_small greatest w.card w.state key (Deleting key NotBegun 0) (λ l. true)) s.reply-given in
+      let e = begun_started (delete_of greatest 1 w.card w.state key).begun (start_small greatest w.card w.state key (Deleting key NotBegun 0) (λ l. true)) s.reply_given in
       record {
-        begins = s.reply-given;
+        begins = s.reply_given;
         by_rules = subst (λ (r : Reply). Updates (ration_table greatest) (lookup key b.held ≡ none) (DeleteRule w.card key) r
             (happens (ration_table greatest) (delete key) w)) (dictionary_same (lookup key b.held)) (delete_by_rules greatest w b v key high e);
         finishes = finishes_by greatest (lookup key b.held) _ (happens (ration_table greatest) (delete key) w) (delete_stores greatest i key high e);
@@ -150,10 +150,10 @@ module _ (greatest : ℕ) (w : World (ration_table greatest)) (b : Book) (v : Co
           → ByRows (row 7 (Resting (ration_table greatest) w.state → ⊥) (row 6 (key ≡ 0) (row 8 (NoRoom w.card w.state.free key) end)))
           (λ r. reply_to (ration_table greatest) (insert key value) w ≡ refusal r)
           (Works (ration_table greatest) greatest (insert key value) ((a : ℕ) × (lookup key b.held ≡ some a)) (InsertRule w.card key value) key w b.held)
-      go (inl (p, h)) = inl (p, h.number-given)
-      go (inr (a, inl (p, h))) = inr (a, inl (p, h.number-given))
+      go (inl (p, h)) = inl (p, h.number_given)
+      go (inr (a, inl (p, h))) = inr (a, inl (p, h.number_given))
       go (inr (a, inr (d, inl (p, h)))) = absurd (leads_somewhere key d high p)
-      go (inr (a, inr (d, inr (l, inl (p, h))))) = inr (a, inr (d, inl (p, h.number-given)))
+      go (inr (a, inr (d, inr (l, inl (p, h))))) = inr (a, inr (d, inl (p, h.number_given)))
       go (inr (a, inr (d, inr (l, inr (r, s))))) = inr (a, inr (d, inr (r, insert_works key value high s)))
 
   deletes_right : (key : ℕ) → key < key_limit
@@ -171,8 +171,8 @@ module _ (greatest : ℕ) (w : World (ration_table greatest)) (b : Book) (v : Co
           (Starts (ration_table greatest) w.state ((ration_table greatest).delete w.card w.state key) (deleting key false))
           → ByRows (row 7 (Resting (ration_table greatest) w.state → ⊥) (row 6 (key ≡ 0) end)) (λ r. reply_to (ration_table greatest) (delete key) w ≡ refusal r)
           (Works (ration_table greatest) greatest (delete key) (lookup key b.held ≡ none) (DeleteRule w.card key) key w b.held)
-      go (inl (p, h)) = inl (p, h.number-given)
-      go (inr (a, inl (p, h))) = inr (a, inl (p, h.number-given))
+      go (inl (p, h)) = inl (p, h.number_given)
+      go (inr (a, inl (p, h))) = inr (a, inl (p, h.number_given))
       go (inr (a, inr (d, inl (p, h)))) = absurd (leads_somewhere key d high p)
       go (inr (a, inr (d, inr (l, s)))) = inr (a, inr (d, delete_works key high s))
 
@@ -194,7 +194,7 @@ module _ (greatest : ℕ) (w : World (ration_table greatest)) (b : Book) (v : Co
   rests_are : Resting (ration_table greatest) w.state → Rests (ration_table greatest) greatest w b.held
   rests_are q =
       let r = rests_now (is_idle_lem w.state.doing (work_idle w.state.doing q)) in
-      record { right = rests_right greatest r; levels = r.levels; free_exact = r.free-exact; three_kept = r.three-kept }
+      record { right = rests_right greatest r; levels = r.levels; free_exact = r.free_exact; three_kept = r.three-kept }
 
   pub is_dictionary : Dictionary (ration_table greatest) greatest w b
   is_dictionary = record { finds = finds_right; inserts = inserts_right; deletes = deletes_right; repairs = opening_by_rules greatest w b v; steps = steps_right; rests = rests_are }

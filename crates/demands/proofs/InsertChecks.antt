@@ -207,7 +207,7 @@ module _ (greatest : ℕ) (dump file : List ℕ) where
     of_card : OfCard greatest (ration_table greatest) card (key_in file) (check_text greatest dump file)
     of_card =
         rows_map (open_rows greatest card) (omega arith, (omega arith, (omega arith, (omega arith, (omega arith, tt)))))
-        (λ r h z. unopened_text greatest dump file size read r (begun_refused (open_of greatest card).begun r h z.number-given))
+        (λ r h z. unopened_text greatest dump file size read r (begun_refused (open_of greatest card).begun r h z.number_given))
         told (opens greatest card)
 
   of_dump : ByRows (row 11 (Damaged greatest dump) end) (λ r. check_text greatest dump file ≡ refusal_line r)

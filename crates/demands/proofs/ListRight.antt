@@ -64,7 +64,7 @@ module _ (greatest : ℕ) (c : List ℕ) where
         levels = x.level;
         all_families = x.counted.words;
         families = x.counted.each;
-        all_pairs = x.all-pairs;
+        all_pairs = x.all_pairs;
         rising = x.rising;
         alike = λ s v key. rw (one_held c s t v.holds w.holds) (x.alike key);
         as_many = λ s v. rw (one_held c s t v.holds w.holds) x.as_many;
@@ -74,11 +74,11 @@ module _ (greatest : ℕ) (c : List ℕ) where
       ((l : Listing) × (list_card greatest c ≡ listed l) × ListsRight (ration_table greatest) c l)
   of_card =
       rows_map (open_rows greatest c) (omega arith, (omega arith, (omega arith, (omega arith, (omega arith, tt)))))
-      (λ r h z. (z.number-given, card_refused greatest c r (begun_refused (open_of greatest c).begun r h z.number-given)))
+      (λ r h z. (z.number_given, card_refused greatest c r (begun_refused (open_of greatest c).begun r h z.number_given)))
       works (opens greatest c)
     where
       works : OpensTo (ration_table greatest) c (handed (open_of greatest c)) → (l : Listing) × (list_card greatest c ≡ listed l) × ListsRight (ration_table greatest) c l
-      works o = let a = ⊎_map (λ z. z.1) (λ z. z.1) o.hands in let x = listing_right greatest c o.table o.sound a in (x.listing, x.is-listed, lists_right a o.table o.sound x)
+      works o = let a = ⊎_map (λ z. z.1) (λ z. z.1) o.hands in let x = listing_right greatest c o.table o.sound a in (x.listing, x.is_listed, lists_right a o.table o.sound x)
 
 -- ---- dumps
 

@@ -102,7 +102,7 @@ card_fits greatest c few = go (open_of greatest c).begun refl
         let a = opens_unrefused greatest c f in
         let t = accepted_table greatest c a in
         let k = listing_right greatest c t.0 t.1 a in
-        rw k.is-listed (omega (arith, k.few-pairs, few))
+        rw k.is_listed (omega (arith, k.few_pairs, few))
 
     go : (b : Begun) → (open_of greatest c).begun ≡ b → Fits greatest (list_card greatest c)
     go (Refused number) e = rw (card_refused greatest c number e) (open_number greatest c number e)

@@ -59,7 +59,7 @@ pub record ListedRight (greatest : ℕ) (c : List ℕ) (t : Tree) : Type 0 where
   pub unreached : List Bool
   pub exact : Exact (nodes_of_length greatest (length c)) unreached table
   pub free : listing.free ≡ count_true unreached
-  pub few_pairs_lem : length listing.pairs ≤ 11 * nodes_of_length greatest (length c)
+  pub few_pairs : length listing.pairs ≤ 11 * nodes_of_length greatest (length c)
 
 module _ (greatest : ℕ) (c : List ℕ) (t : Tree) where
   pub listing_right : WellFormed c t → Opens (ration_table greatest) c → ListedRight greatest c t
@@ -75,7 +75,7 @@ module _ (greatest : ℕ) (c : List ℕ) (t : Tree) where
           number = nodes_of_length greatest (length c)
 
           sound : WellFormed after x.table
-          sound = x.balanced.well-formed
+          sound = x.balanced.well_formed
 
           held : length (pairs x.table) ≤ 11 * number
           held = omega (arith, pairs_le after x.table sound.holds.2, well_formed_size after number x.sized.words x.table sound)
@@ -112,5 +112,5 @@ module _ (greatest : ℕ) (c : List ℕ) (t : Tree) where
                 unreached = f.free;
                 exact = facts_exact k;
                 free = refl;
-                few_pairs_lem = omega (arith, counted, held);
+                few_pairs = omega (arith, counted, held);
               }

@@ -64,18 +64,18 @@ next_by_rule free last m e = go (first_from free (last + 1)) refl e
     go (Node k) f g =
         let found : first_from free (last + 1) ≡ Node m = f ∙ g in
         record {
-          is_node_lem = (next_found free last m e).1;
+          is_node = (next_found free last m e).1;
           is_free = is_free;
           is_next = inl (omega (arith, (from_found free (last + 1) m found).1), λ x a b. from_before free (last + 1) m found x (omega arith) b);
         }
-    go Nothing f g = record { is_node_lem = (next_found free last m e).1; is_free = is_free; is_next = inr (round f, (λ x a. from_nothing free (last + 1) f x (omega arith)), from_before free 1 m g) }
+    go Nothing f g = record { is_node = (next_found free last m e).1; is_free = is_free; is_next = inr (round f, (λ x a. from_nothing free (last + 1) f x (omega arith)), from_before free 1 m g) }
 
 -- and no other is: a node free before it would be next
 same_next : (free : List Bool) (last m k : ℕ) → NextFree free last m → NextFree free last k → m ≡ k
 same_next free last m k x y = order m k (λ o. absurd (before m k x y o)) (λ o. order k m (λ o₁. absurd (before k m y x o₁)) (λ o₁. omega arith))
   where
     before : (a b : ℕ) → NextFree free last a → NextFree free last b → a < b → ⊥
-    before a b x y o = go x.is-next y.is-next
+    before a b x y o = go x.is_next y.is_next
       where
         never : get_or free a false ≡ false → ⊥
         never z = let t = x.is_free in impossible (cc)
@@ -90,7 +90,7 @@ same_next free last m k x y = order m k (λ o. absurd (before m k x y o)) (λ o.
         go (inl (p, f)) (inl (q, g)) = never (g a p o)
         go (inl (p, f)) (inr (q, g, h)) = never (g a p)
         go (inr (p, f, f₁)) (inl (q, g)) = also (f b q)
-        go (inr (p, f, f₁)) (inr (q, g, h)) = never (h a x.is-node o)
+        go (inr (p, f, f₁)) (inr (q, g, h)) = never (h a x.is_node o)
 
 pub next_only : (free : List Bool) (last m : ℕ) → NextFree free last m → next_free free last ≡ Node m
 unfolding next_free or_else
@@ -98,7 +98,7 @@ next_only free last m x = go (next_free free last) refl
   where
     none_free : (first : Next) → or_else first (first_from free 1) ≡ Nothing → ⊥
     none_free (Node k) f = impossible (cc)
-    none_free Nothing f = let a = x.is_free in let b = from_nothing free 1 f m x.is-node in impossible (cc)
+    none_free Nothing f = let a = x.is_free in let b = from_nothing free 1 f m x.is_node in impossible (cc)
 
     go : (found : Next) → next_free free last ≡ found → next_free free last ≡ Node m
     go Nothing f = absurd (none_free (first_from free (last + 1)) f)

@@ -50,10 +50,10 @@ module _ (c : List ℕ) (free : List Bool) (last : ℕ) (ss : List Store) (fewer
   tagged_mended p b m kp kt e =
       decided (eqb (length (children (node_at c p.node))) 2) _ _ e (λ q e₁.
       let t : TaggedChild c p.above p.parent p.index p.node = record {
-        parent_linked = b.parent-linked;
+        parent_linked = b.parent_linked;
         parent_kind = kp;
-        is_child = b.is-child;
-        child_is = b.child-is;
+        is_child = b.is_child;
+        child_is = b.child_is;
         tagged = kt;
         two = eqb-true (length (children (node_at c p.node))) 2 q;
       } in
@@ -134,18 +134,18 @@ module _ (c : List ℕ) (free : List Bool) (last : ℕ) (ss : List Store) (fewer
       decided (ltb (suc (left_sibling p)) (length (children (parent_at c p)))) _ _ e
       (λ q e₁.
       let u : Underfull c p.above p.parent (left_sibling p) (left_number (parent_at c p) p) (right_number (parent_at c p) p) = record {
-        parent_linked = b.parent-linked;
+        parent_linked = b.parent_linked;
         parent_kind = kp;
         index = p.index;
-        is_child = b.is-child;
-        few = rw b.child-is few;
+        is_child = b.is_child;
+        few = rw b.child_is few;
         first_of_two = refl;
         has_sibling = ltb-true (suc (left_sibling p)) (length (children (parent_at c p))) q;
         left_is = refl;
         right_is = refl;
       } in
       decided (is_node n (left_number (parent_at c p) p) && is_node n (right_number (parent_at c p) p)) _ _ e₁
-      (λ r e₂. siblings_mended p b.parent-there u e₂)
+      (λ r e₂. siblings_mended p b.parent_there u e₂)
       (λ r z. absurd (not_refused z)))
       (λ q z. absurd (not_refused z))
 
@@ -156,8 +156,8 @@ module _ (c : List ℕ) (free : List Bool) (last : ℕ) (ss : List Store) (fewer
       (λ q e₁.
       let kp = eqb-true (kind_of (parent_at c p)) 2 q in
       decided (eqb (kind_of (node_at c p.node)) 3) _ _ e₁
-      (λ r e₂. tagged_mended p f.below f.node-there kp (eqb-true (kind_of (node_at c p.node)) 3 r) e₂)
-      (λ r e₂. underfull_mended n p f.below kp (few (eqb-false (kind_of (node_at c p.node)) 3 r) f.tagged-or-few) e₂))
+      (λ r e₂. tagged_mended p f.below f.node_there kp (eqb-true (kind_of (node_at c p.node)) 3 r) e₂)
+      (λ r e₂. underfull_mended n p f.below kp (few (eqb-false (kind_of (node_at c p.node)) 3 r) f.tagged_or_few) e₂))
       (λ q z. absurd (not_refused z))
     where
       few : (kind_of (node_at c p.node) ≡ 3 → ⊥) → (kind_of (node_at c p.node) ≡ 3) ⊎ (count_of (node_at c p.node) < 2) → count_of (node_at c p.node) < 2

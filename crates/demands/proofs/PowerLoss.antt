@@ -144,7 +144,7 @@ pub reopened_inv : (greatest : ℕ) (n : ℕ) (c : List ℕ) (t : Tree) (l : Lis
     → Inv greatest (only n) repair_steps (opened (ration_table greatest) c) (book l empty)
 reopened_inv greatest n c t l b o s =
     let r = reopened greatest c n t b o in
-    loosen greatest (only n) r.steps repair_steps (opened (ration_table greatest) c) (book l empty) r.few-steps
+    loosen greatest (only n) r.steps repair_steps (opened (ration_table greatest) c) (book l empty) r.few_steps
     (record {
       tree = t;
       goal = r.goal;
@@ -160,7 +160,7 @@ reopened_inv greatest n c t l b o s =
 module _ (greatest : ℕ) (n : ℕ) (c : List ℕ) (t : Tree) (l : List (ℕ × ℕ)) (b : Table greatest c n t) (o : Openable n t) (s : Same (pairs t) l) where
   pub reopened_goal : (reopened_inv greatest n c t l b o s).goal ≡ settled_by depth_limit (bare t)
   unfolding reopened_inv loosen
-  reopened_goal = (reopened greatest c n t b o).goal-is
+  reopened_goal = (reopened greatest c n t b o).goal_is
 
   pub reopened_due : (reopened_inv greatest n c t l b o s).due ≡ Ready
   unfolding reopened_inv loosen

@@ -128,7 +128,7 @@ module _ (greatest : ℕ) (c : List ℕ) (t : Tree) (accepted : Opens (ration_ta
         ≡ lookup key (pairs t)) same_leaf (found.answers ∙ left.map.alike key)
       where
         well_after : WellFormed (opened_card greatest c).card left.table
-        well_after = left.balanced.well-formed
+        well_after = left.balanced.well_formed
 
         found : LandedAt (opened_card greatest c).card (nodes_of_length greatest (length c)) key left.table
         found =

@@ -111,7 +111,7 @@ repair_busy n last totals free key = refl
 
 -- the violation lies above the depth limit
 violation_deep : (t : Tree) (key : ℕ) (v : Violation t key) → depth_of v.context ≤ depth t
-violation_deep t key v = rw v.is-tree (omega (arith, depth_plug v.context v.part))
+violation_deep t key v = rw v.is_tree (omega (arith, depth_plug v.context v.part))
 
 -- the stage of a table just opened, for a line whose free nodes these are
 pub record OpenedStage (c : List ℕ) (line : Line) (t : Tree) (m : Memory) : Type 0 where
@@ -194,10 +194,10 @@ reopened greatest c n t b o = go (sound_accepted c n b.sized.words b.sized.most 
             let work = opened_broken greatest c (only n) t b o f.free (part_of f h x) (search_start c) (table_counted c) f.key v.0 w in
             record {
               steps = work.steps;
-              few_steps = work.few-steps;
+              few_steps = work.few_steps;
               stage = rw is work.stage;
               goal = work.goal;
-              goal_is = work.goal-is;
+              goal_is = work.goal_is;
               hands = inr (ap (λ (x : Handed). x.begun) is, ap (λ (x : Handed). is_idle x.memory.doing) is ∙ repair_busy n (search_start c) (table_counted c) f.free f.key);
               rebuilt = ap (λ (x : Handed). x.memory.totals) is ∙ totals_in n (search_start c) (table_counted c) (Repairing f.key) f.free;
             }
@@ -210,10 +210,10 @@ reopened greatest c n t b o = go (sound_accepted c n b.sized.words b.sized.most 
             let work = opened_whole greatest c (only n) t b o f.free (part_of f h x) (search_start c) (table_counted c) z in
             record {
               steps = work.steps;
-              few_steps = work.few-steps;
+              few_steps = work.few_steps;
               stage = rw is work.stage;
               goal = work.goal;
-              goal_is = work.goal-is;
+              goal_is = work.goal_is;
               hands = inl (ap (λ (x : Handed). x.begun) is, ap (λ (x : Handed). x.memory.doing) is ∙ idle_in n (search_start c) (table_counted c) f.free);
               rebuilt = ap (λ (x : Handed). x.memory.totals) is ∙ totals_in n (search_start c) (table_counted c) Idle f.free;
             }

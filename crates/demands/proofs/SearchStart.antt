@@ -127,13 +127,13 @@ module _ (greatest : ℕ) (c : List ℕ) (m : Memory) where
       → ByRule Rule m.free m.last ss fewer now out → ((given : List ℕ) → Rule given out ss → Several given ss)
       → Holds (advanced (planning m doing fewer now out) (drop 1 ss))
   unfolding advanced planning last_of
-  planned_holds doing ss fewer now out r several e = advanced_last (planning m doing fewer now out) (drop 1 ss) ∙ r.given-last ∙ go (several r.given r.rule) ss refl e
+  planned_holds doing ss fewer now out r several e = advanced_last (planning m doing fewer now out) (drop 1 ss) ∙ r.given_last ∙ go (several r.given r.rule) ss refl e
     where
       go : Several r.given ss → (x : List Store) → ss ≡ x → (advanced (planning m doing fewer now out) (drop 1 x)).free ≡ m.free → last_of m.last r.given ≡ m.last
       go (inl z) x q e = ap (last_of m.last) z
       go (inr long) [] q e = absurd (omega (arith, long, ap length q))
       go (inr long) (s ∷ []) q e = absurd (omega (arith, long, ap length q))
-      go (inr long) (s ∷ s₁ ∷ x) q e = untaken r.in-turn (sym r.left ∙ e)
+      go (inr long) (s ∷ s₁ ∷ x) q e = untaken r.in_turn (sym r.left ∙ e)
 
   -- and whatever is planned
   prepared_holds : (doing : Doing) (final : Answer) (task : Task) (p : Preparation) → nodes_on c ≡ m.nodes

@@ -97,9 +97,9 @@ module _ (c : List ℕ) (n key : ℕ) where
   unfolding landing
   landing_linked leaf spot j e =
       let f = leaf_on c (way c n key) leaf spot j e in
-      let on = stands.leaf f.position f.on-way in
+      let on = stands.leaf f.position f.on_way in
       let there = (leaf_inside c n f.position.node on.1).one in
-      rw (f.node-is, f.link-is) at (let r : LinkedAt c f.position.link f.position.node × (0 < f.position.node) = (on.0.0, omega (arith, there)) in r)
+      rw (f.node_is, f.link_is) at (let r : LinkedAt c f.position.link f.position.node × (0 < f.position.node) = (on.0.0, omega (arith, there)) in r)
 
   -- the search from the root finds faults below it
   pub fault_found : (q : Position) → seek c n key depth_limit (root_position (get_or c root_place 0)) ≡ SearchViolation q → Fault c q

@@ -92,9 +92,9 @@ unfolding is_idle
 idle_or_busy (stage_idle {free} {last} {depth} z r x g) = (refl, inr (free, last, refl, z, r, x, g))
 idle_or_busy (stage_put room z r x low high enough below few g) = (refl, inl refl)
 idle_or_busy (stage_remove z r x low high few g) = (refl, inl refl)
-idle_or_busy (stage_first j p en count few g) = (refl, inl (job_busy j).not-idle)
-idle_or_busy (stage_between j en deep r x few g) = (refl, inl (job_busy j).not-idle)
-idle_or_busy (stage_within j en p e few g) = (refl, inl (job_busy j).not-idle)
+idle_or_busy (stage_first j p en count few g) = (refl, inl (job_busy j).not_idle)
+idle_or_busy (stage_between j en deep r x few g) = (refl, inl (job_busy j).not_idle)
+idle_or_busy (stage_within j en p e few g) = (refl, inl (job_busy j).not_idle)
 
 -- a start that was not refused: the state was idle, and work is in hand, with so many steps left as the table's depth asks for, with the
 -- update's goal, and with the dictionary's answer due

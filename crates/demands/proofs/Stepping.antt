@@ -111,8 +111,8 @@ pub data Moves (line : Line) (c : List ℕ) (m : Memory) (s : Step) : Type 0 whe
 busy_after : {doing : Doing} (n : ℕ) (free : List Bool) (last depth : ℕ) (totals : List ℕ) (z : List Store) (cut : List ℕ) → Busy doing → (rest : List Store)
     → is_idle (advanced (memory n free last depth totals doing z cut) rest).doing ≡ false
 unfolding advanced
-busy_after {doing} n free last depth totals z cut b [] = settled_idle doing ∙ b.not-idle
-busy_after n free last depth totals z cut b (s ∷ rest) = b.not-idle
+busy_after {doing} n free last depth totals z cut b [] = settled_idle doing ∙ b.not_idle
+busy_after n free last depth totals z cut b (s ∷ rest) = b.not_idle
 
 -- the answer is the one due, or none: a store, or the refusal of an idle state
 pub data Right : Answer → Answer → Type 0 where
@@ -198,16 +198,16 @@ module _ (greatest : ℕ) (line : Line) (steps : ℕ) (c : List ℕ) (t : Tree) 
         apply q = split q.stores refl
           where
             split : (s : List Store) → q.stores ≡ s → Goal (memory line.nodes free last depth totals doing [] []) h due
-            split [] e = let z = ap length (sym e ∙ q.pending.is-rest) in absurd (omega (arith, simp length-append at z))
+            split [] e = let z = ap length (sym e ∙ q.pending.is_rest) in absurd (omega (arith, simp length-append at z))
             split (s ∷ rest) e =
-                let k : next_repair c line.nodes key free last ≡ prepared (s ∷ rest) q.free-then q.last_then q.cut = rw e at q.planned in
+                let k : next_repair c line.nodes key free last ≡ prepared (s ∷ rest) q.free_then q.last_then q.cut = rw e at q.planned in
                 let short : suc (length rest) ≤ 73 = rw e at q.short in
                 let p = pending_changing b.holds b.sound o (rw e at q.pending) in
                 let g = entered_on en in
                 stored_goal (memory line.nodes free last depth totals doing [] []) _ s.0 s.1 h due (first_storable p.0.plays)
                 (step_repairs greatest c line.nodes b.sized b.header free last depth totals j ∙ prepared_first c (memory line.nodes free last depth totals doing [] []) doing due
-                (next_repair c line.nodes key free last) s rest q.free-then q.last_then q.cut k (first_storable p.0.plays).inside)
-                (busy_after line.nodes q.free-then q.last_then depth totals [] q.cut (job_busy j) rest)
+                (next_repair c line.nodes key free last) s rest q.free_then q.last_then q.cut k (first_storable p.0.plays).inside)
+                (busy_after line.nodes q.free_then q.last_then depth totals [] q.cut (job_busy j) rest)
                 (rw g.1 (repair_stored greatest q.last_then depth steps totals [] l b same counted apart j g.2 p.0 (record { totals = p.1 }) (omega (arith, p.2))
                 (heads_on p.0.level (bare p.0.next) hd (bare_table_violations t ∙ w) p.2 p.3)))
 
@@ -234,11 +234,11 @@ module _ (greatest : ℕ) (line : Line) (steps : ℕ) (c : List ℕ) (t : Tree) 
     way_short : (key : ℕ) (g : LandedAt c line.nodes key t) → table_violations t ≡ 0 → UpdateSteps t (suc steps) → 73 + 73 * depth_of g.context ≤ steps
     way_short key g z few =
         let d = table_depth few.height t few.level b.sound.widths in
-        let e : depth (plug g.context (leaf g.number g.keys g.values)) ≡ depth t = ap depth g.is-tree in
+        let e : depth (plug g.context (leaf g.number g.keys g.values)) ≡ depth t = ap depth g.is_tree in
         omega (arith, depth_plug g.context (leaf g.number g.keys g.values), few.enough)
 
     way_limited : (key : ℕ) (g : LandedAt c line.nodes key t) → depth_of g.context ≤ depth_limit
-    way_limited key g = omega (arith, ap depth g.is-tree, depth_plug g.context (leaf g.number g.keys g.values), table_depth_limited greatest b)
+    way_limited key g = omega (arith, ap depth g.is_tree, depth_plug g.context (leaf g.number g.keys g.values), table_depth_limited greatest b)
 
     -- the slot that the row of keys has
     row_slot : (key k : ℕ) (g : LandedAt c line.nodes key t) → first_equal g.keys k 0 ≡ slot_of (node_at c g.number) k
@@ -312,7 +312,7 @@ module _ (greatest : ℕ) (line : Line) (steps : ℕ) (c : List ℕ) (t : Tree) 
         let empty_slot : get_or g.keys i 0 ≡ 0 = ap (λ (q : List ℕ). get_or q i 0) (sym (leaf_keys c g.number g.keys g.values g.on_card_lem)) ∙ s.1 in
         let flag = flag_slot greatest c line.nodes key g.number (link_place g.context) (full_run g.context) (landed key g) b.sized i e₀ in
         let none_held = absent_counted key (pairs t) none_there in
-        let is = g.is-tree in
+        let is = g.is_tree in
         let way = way_short key g z few in
         let p : First c line key (plug g.context (leaf g.number g.keys g.values))
         ((place g.number (12 + i), value) ∷ (place g.number (1 + i), key) ∷ []) free [] (put key value) (depth_of g.context) =
@@ -349,7 +349,7 @@ module _ (greatest : ℕ) (line : Line) (steps : ℕ) (c : List ℕ) (t : Tree) 
         let words = read_length c g.number 1 g.keys g.values g.on_card_lem.0 in
         let s = slot_holds (node_at c g.number) key i words e in
         let held_slot : get_or g.keys i 0 ≡ key = ap (λ (q : List ℕ). get_or q i 0) (sym (leaf_keys c g.number g.keys g.values g.on_card_lem)) ∙ s.1 in
-        let is = g.is-tree in
+        let is = g.is_tree in
         let way = way_short key g z few in
         let p : First c line key (plug g.context (leaf g.number g.keys g.values)) ((place g.number (1 + i), 0) ∷ []) free [] (remove key) (depth_of g.context) =
         at_slot g.context g.number g.keys g.values (rw is b.holds) (rw is b.sound) (rw is z) (rw is x) (rw is r) g.leads low high s.0 held_slot (row_slot key key g ∙ e) in
@@ -399,7 +399,7 @@ module _ (greatest : ℕ) (line : Line) (steps : ℕ) (c : List ℕ) (t : Tree) 
         let eleven = slots_full (node_at c g.number) g.keys g.values (leaf_keys c g.number g.keys g.values g.on_card_lem) g.on_card_lem.1 g.on_card_lem.2 e₀ in
         let spare = room_full greatest c line.nodes key g.number (link_place g.context) (full_run g.context) (landed key g) room e e₀ enough in
         let none_held = absent_counted key (pairs t) none_there in
-        let is = g.is-tree in
+        let is = g.is_tree in
         rw (none_there, flag)
         (go (numbers_given 3 free last (zero_taken line free t x) (omega (arith, room_in_bits line free t x (omega (arith, b.sized.most)))))
         (way_short key g z few) eleven (omega (arith, spare)) none_held (goal_put key value none_there eg))
@@ -426,8 +426,8 @@ module _ (greatest : ℕ) (line : Line) (steps : ℕ) (c : List ℕ) (t : Tree) 
           where
             p : First c line key (plug g.context (leaf g.number g.keys g.values)) (stores ms) (without_all ms free) (g.number ∷ []) (put key value) (depth_of g.context)
             p =
-                at g.context g.number g.keys g.values (rw g.is-tree b.holds) (rw g.is-tree b.sound)
-                (rw g.is-tree z) (rw g.is-tree x) (rw g.is-tree r) g.leads eleven (rw g.is-tree none_held) (rw g.is-tree spare) (row_slot key 0 g ∙ e₀)
+                at g.context g.number g.keys g.values (rw g.is_tree b.holds) (rw g.is_tree b.sound)
+                (rw g.is_tree z) (rw g.is_tree x) (rw g.is_tree r) g.leads eleven (rw g.is_tree none_held) (rw g.is_tree spare) (row_slot key 0 g ∙ e₀)
               where
                 at : (C : Context) (m : ℕ) (ks vs : List ℕ) → Holds c (plug C (leaf m ks vs)) → Sound (plug C (leaf m ks vs))
                     → table_violations (plug C (leaf m ks vs)) ≡ 0
@@ -446,15 +446,15 @@ module _ (greatest : ℕ) (line : Line) (steps : ℕ) (c : List ℕ) (t : Tree) 
 
             count : length (stores ms) ≡ 73
             count =
-                split_count c line key free g.context g.number g.keys g.values (rw g.is-tree b.holds)
-                (rw g.is-tree b.sound) (rw g.is-tree z) (rw g.is-tree x) (rw g.is-tree r) g.leads low high value ms three gv b.sized.words
-                (omega (arith, b.sized.most)) eleven (rw g.is-tree none_held) (rw g.is-tree spare)
+                split_count c line key free g.context g.number g.keys g.values (rw g.is_tree b.holds)
+                (rw g.is_tree b.sound) (rw g.is_tree z) (rw g.is_tree x) (rw g.is_tree r) g.leads low high value ms three gv b.sized.words
+                (omega (arith, b.sized.most)) eleven (rw g.is_tree none_held) (rw g.is_tree spare)
 
             split : (q : List Store) → stores ms ≡ q → Goal (memory line.nodes free last depth totals (Inserting key value NotBegun) [] []) (taken_up (an_insert key value goes_on true)) Absent
             split [] q = absurd (omega (arith, count, ap length q))
             split (s ∷ rest) q =
                 let l₁ : suc (length rest) ≡ 73 = sym (ap length q) ∙ count in
-                let p₁ : First c line key t (s ∷ rest) (without_all ms free) (g.number ∷ []) (put key value) (depth_of g.context) = rw (g.is-tree, q) at p in
+                let p₁ : First c line key t (s ∷ rest) (without_all ms free) (g.number ∷ []) (put key value) (depth_of g.context) = rw (g.is_tree, q) at p in
                 first_made _ (memory line.nodes free last depth totals (Inserting key value NotBegun) [] []) counted _ s rest
                 (without_all ms free) (last_of last ms) (g.number ∷ []) (depth_of g.context) refl (job_insert in_hand_lem)
                 (step_puts greatest c line.nodes b.sized b.header free last depth totals key value

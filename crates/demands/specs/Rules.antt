@@ -14,7 +14,7 @@ use Rattle.demands.specs.Way.{leads_to, among}
 
 -- "A change takes the next free node after the one given last, going round from N to 1"
 pub record NextFree (free : List Bool) (last m : ℕ) : Type 0 where
-  pub is_node_lem : 1 ≤ m
+  pub is_node : 1 ≤ m
   pub is_free : get_or free m false ≡ true
   pub is_next : ((last < m) × ((x : ℕ) → last < x → x < m → get_or free x false ≡ false))
       ⊎ ((m ≤ last) × ((x : ℕ) → last < x → get_or free x false ≡ false) × ((x : ℕ) → 1 ≤ x → x < m → get_or free x false ≡ false))

@@ -20,7 +20,7 @@ use state::block::{STATE_WORDS, copy_words};
 
 // "First line: N, free nodes, internal levels, pairs", and what each family holds (document 02, W-204), or the refusal, which is 0 where
 // there is none. Of the lent slice the first `words` words hold the pairs, key and value.
-#[derive(Drop)]
+#[derive(Clone, Copy)]
 pub struct Summary {
     pub refusal: u32,
     pub nodes: usize,

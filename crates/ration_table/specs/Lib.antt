@@ -1,2 +1,2 @@
 -- what the exported calls promise, in the terms of the table's own calls
-pub mod Contracts
+pub mod Clauses

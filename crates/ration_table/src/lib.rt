@@ -15,10 +15,10 @@ ghost use Rattle.call_start.specs.Starts.{format_of, insert_of, delete_of};
 ghost use Rattle.state.specs.Answers.{start_reply, step_reply, told_depth, total_reply};
 ghost use Rattle.state.specs.declared.Doing.TheVariants.{Inserting, Deleting};
 ghost use Rattle.state.specs.declared.Phase.TheVariants.{NotBegun};
-ghost use Rattle.state.specs.Contracts.{OpenCall, StartCall, TotalCall};
-ghost use Rattle.call_step.specs.Contracts.{StepCall};
+ghost use Rattle.state.specs.Clauses.{OpenCall, StartCall, TotalCall};
+ghost use Rattle.call_step.specs.Clauses.{StepCall};
 ghost use Rattle.state.specs.Block.{memory_in};
-ghost use Rattle.ration_table.specs.Contracts.{Replies};
+ghost use Rattle.ration_table.specs.Clauses.{Replies};
 ghost use Rattle.c_replies.specs.ReplyWords.{reply_of};
 
 pub use c_replies::Reply;

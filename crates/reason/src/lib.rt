@@ -19,7 +19,7 @@ use state::block::{FREE, PLACES, STATE_WORDS};
 use walk::{Landing, Slot};
 
 // What is handed over for printing. A refusal comes first; a key of 0 is no key.
-#[derive(Drop)]
+#[derive(Clone, Copy)]
 pub enum Reason {
     Refused(u32),
     NoKey,

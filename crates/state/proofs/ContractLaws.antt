@@ -10,7 +10,7 @@ use Rattle.state.specs.declared.Begun.{Begun}
 use Rattle.state.specs.declared.Begun.TheVariants.{Refused as BegunRefused}
 use Rattle.state.specs.Block.{back_at, state_words}
 use Rattle.state.proofs.Blocks.{resting_same}
-use Rattle.state.specs.Contracts.{Opened, OpenCall, StartCall}
+use Rattle.state.specs.Clauses.{Opened, OpenCall, StartCall}
 
 module _ (block : List ℕ) (n : length block ≡ state_words → ⊥) where
   pub open_no_state : (due : Handed) → OpenCall block block (BegunRefused no_state.code) due

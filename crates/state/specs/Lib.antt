@@ -11,4 +11,4 @@ pub mod Block
 -- the words of a block after a call, by those before it
 pub mod Blocks
 -- what opening and starting promise of the block lent to them
-pub mod Contracts
+pub mod Clauses

@@ -7,7 +7,7 @@ ghost use Rattle.state.specs.Memory.{resting};
 ghost use Rattle.state.specs.Steps.{is_idle, no_beginning};
 ghost use Rattle.state.specs.Block.{free_at, totals_at, state_words, part, phase_in, phase_word, doing_in, head_in, memory_in, doing_words, head_words};
 ghost use Rattle.state.specs.Blocks.{over, begun_block, resting_block};
-ghost use Rattle.state.specs.Contracts.{Opened};
+ghost use Rattle.state.specs.Clauses.{Opened};
 
 use crate::{Begun, Doing, Phase, State};
 

@@ -1,11 +1,11 @@
 // The question for a family's total (document 02, W-204).
-ghost use Rattle.state.specs.Contracts.{TotalCall};
+ghost use Rattle.state.specs.Clauses.{TotalCall};
 
 use crate::block::{NO_STATE, STATE_WORDS, TOTALS, wide};
 use card_family::FAMILIES;
 
 // How many pairs a family has, or a refusal.
-#[derive(Drop)]
+#[derive(Clone, Copy)]
 pub enum Total {
     Pairs(u32),
     Refused(u32),

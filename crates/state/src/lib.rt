@@ -11,7 +11,7 @@ pub use holding::held_by;
 
 // How far an insert or a delete is: its first change is not begun; it is in hand; it is made, which decides the call, so that
 // repairs are left.
-#[derive(Drop)]
+#[derive(Clone, Copy)]
 pub enum Phase {
     NotBegun,
     InHand,
@@ -19,7 +19,7 @@ pub enum Phase {
 }
 
 // What is being done: "either idle or holds one call or repair in progress". Formatting counts as a call.
-#[derive(Drop)]
+#[derive(Clone, Copy)]
 pub enum Doing {
     Idle,
     // how many stores were made
@@ -34,7 +34,7 @@ pub enum Doing {
 
 // What is to be changed next: an insert's or a delete's first change, or what is still to be repaired on a key's way, after which
 // the call or repair answers.
-#[derive(Drop)]
+#[derive(Clone, Copy)]
 pub enum Task {
     PutIn { key: u32, value: u32 },
     TakeOut { key: u32 },
@@ -42,7 +42,7 @@ pub enum Task {
 }
 
 // What a state holds: nothing, a formatting with so many stores made, or a task.
-#[derive(Drop)]
+#[derive(Clone, Copy)]
 pub enum Held {
     Nothing,
     Formatting(u32),
@@ -51,7 +51,7 @@ pub enum Held {
 
 // "The state is held off the card and lost with power: N, the free nodes, the node given last, and what is being done." The free nodes
 // and the two rows of the change in hand are lent beside it; so many of its stores are made, and the last cuts the nodes of `cut` out.
-#[derive(Drop)]
+#[derive(Clone, Copy)]
 pub struct State {
     pub nodes: u32,
     pub last: u32,
@@ -62,7 +62,7 @@ pub struct State {
 }
 
 // What a step answers: a word was stored, in this place, or the final answer of what was being done, or a refusal.
-#[derive(Drop)]
+#[derive(Clone, Copy)]
 pub enum Answer {
     Stored(u32),
     Ready,
@@ -72,7 +72,7 @@ pub enum Answer {
 }
 
 // What opening and starting to format answer.
-#[derive(Drop)]
+#[derive(Clone, Copy)]
 pub enum Begun {
     Idle,
     Started,

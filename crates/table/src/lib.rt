@@ -10,9 +10,9 @@ ghost use Rattle.call_find.specs.Find.{find_of, find_depth};
 ghost use Rattle.walk_next.specs.Successor.{next_of, next_depth};
 ghost use Rattle.call_open.specs.Opening.{open_of};
 ghost use Rattle.call_start.specs.Starts.{format_of, insert_of, delete_of};
-ghost use Rattle.call_step.specs.Contracts.{StepCall};
+ghost use Rattle.call_step.specs.Clauses.{StepCall};
 ghost use Rattle.state.specs.Block.{memory_in};
-ghost use Rattle.state.specs.Contracts.{OpenCall, StartCall};
+ghost use Rattle.state.specs.Clauses.{OpenCall, StartCall};
 ghost use Rattle.state.specs.declared.Doing.TheVariants.{Inserting, Deleting};
 ghost use Rattle.state.specs.declared.Phase.TheVariants.{NotBegun};
 

@@ -53,7 +53,7 @@ freed (m ∷ ms) free h b =
     record {
       now = λ i. omega (arith, q.now i, step i);
       counted = omega (arith, q.counted, count_add free m p.1 (bit_zero (get_or free m false) z));
-      kept_length = q.kept-length ∙ len;
+      kept_length = q.kept_length ∙ len;
     }
 
 -- there is one set of free nodes for a tree

@@ -42,13 +42,13 @@ module _ (n : ℕ) (free : List Bool) (count : ℕ → ℕ) (x : ExactOver n fre
   over_after count' ms cut small g move sub =
       let f : Freed (without_all ms free) cut =
       freed cut (without_all ms free) (λ i. omega (arith, sub i, g.left i, over_once i))
-      (λ i o. let b = over_inside i (omega (arith, sub i)) in (b.0, omega (arith, b.1, x.size, g.kept-length))) in (
+      (λ i o. let b = over_inside i (omega (arith, sub i)) in (b.0, omega (arith, b.1, x.size, g.kept_length))) in (
         record {
-          size = f.kept-length ∙ g.kept-length ∙ x.size;
+          size = f.kept_length ∙ g.kept_length ∙ x.size;
           within = λ m a b. omega (arith, f.now m, g.left m, move m, x.within m a b);
           outside_none = λ m o. let z = x.outside_none m o in (
             bit_zero _ (omega (arith, f.now m, g.left m, sub m, z.1, bit_false (get_or free m false) z.0)),
-            omega (arith, move m, sub m, z.1, g.were-free m, bit_false (get_or free m false) z.0),
+            omega (arith, move m, sub m, z.1, g.were_free m, bit_false (get_or free m false) z.0),
           );
         },
         omega (arith, f.counted, g.counted),
@@ -62,7 +62,7 @@ module _ (n : ℕ) (free : List Bool) (count : ℕ → ℕ) (x : ExactOver n fre
       let out : (i : ℕ) → (i ≡ 0) ⊎ (n < i) → get_or (with_all ms free) i false ≡ false =
       λ i o. let z = x.outside_none i o in bit_zero (get_or (with_all ms free) i false) (f.now i ∙ zero_sum (bit_false (get_or free i false) z.0) (listed i ∙ z.1)) in
       let all : with_all ms free ≡ all_nodes n =
-      ext_get_or false (with_all ms free) (all_nodes n) (f.kept-length ∙ x.size ∙ sym (length_all n small))
+      ext_get_or false (with_all ms free) (all_nodes n) (f.kept_length ∙ x.size ∙ sym (length_all n small))
       (λ i h. order i 1 (λ o. let z : i ≡ 0 = omega arith in out i (inl z) ∙ sym (ap (λ (j : ℕ). get_or (all_nodes n) j false) z ∙ all_zero_lem n))
       (λ o. order n i (λ p. out i (inr p) ∙ sym (all_above n i p))
       (λ p. set_bit (get_or (with_all ms free) i false) (omega (arith, f.now i, x.within i o p, listed i)) ∙ sym (all_get n i o p small)))) in

@@ -65,23 +65,23 @@ module _ (c : List ℕ) (n : ℕ) (pos : Position) (free : List Bool) (last : �
   keys_read : keys_taken_in c pos ≡ routing kids
   unfolding joined_keys
   keys_read =
-      rw (s.parent_is, s.node-is, s.index_is) (routing_with c p l (tagged_child q a k b) r w (more a k (one b))
+      rw (s.parent_is, s.node_is, s.index_is) (routing_with c p l (tagged_child q a k b) r w (more a k (one b))
       (routing_keys (node_at c q)) (length l) (sym (node_routing c q true (more a k (one b)) tagged_represented)) (omega arith))
 
   children_read : children_taken_in c pos ≡ roots kids
   unfolding joined_children
   children_read =
-      rw (s.parent_is, s.node-is, s.index_is) (children_with_lem c p l (tagged_child q a k b) r w (more a k (one b))
+      rw (s.parent_is, s.node_is, s.index_is) (children_with_lem c p l (tagged_child q a k b) r w (more a k (one b))
       (children (node_at c q)) (suc (length l)) (sym (node_children c q true (more a k (one b)) tagged_represented)) (omega arith))
 
   inner_read : kind_of (node_at c pos.parent) ≡ 2
   inner_read = rw s.parent_is (read_kind c p 2 _ _ w.0)
 
   tagged_read : kind_of (node_at c pos.node) ≡ 3
-  tagged_read = rw s.node-is (read_kind c q 3 _ _ tagged_represented.0)
+  tagged_read = rw s.node_is (read_kind c q 3 _ _ tagged_represented.0)
 
   two_read : length (children (node_at c pos.node)) ≡ 2
-  two_read = rw s.node-is (ap length (node_children c q true (more a k (one b)) tagged_represented))
+  two_read = rw s.node_is (ap length (node_children c q true (more a k (one b)) tagged_represented))
 
   count_read : length (children (node_at c pos.parent)) ≡ length (roots (splice l (tagged_child q a k b) r))
   count_read = rw s.parent_is (ap length (node_children c p false (splice l (tagged_child q a k b) r) w))
@@ -91,14 +91,14 @@ module _ (c : List ℕ) (n : ℕ) (pos : Position) (free : List Bool) (last : �
       → mend c n pos free last ≡ giving 1 free last (λ ms. rewrite_at C (new_node (first ms) 2 (routing kids) (roots kids) ∷ []) (first ms) (p ∷ q ∷ []))
   absorb_plan h =
       rw (keys_read, children_read) at (mend_absorbs c n free last pos inner_read tagged_read two_read (omega (arith, count_read, h)))
-      ∙ giving_same 1 free last _ _ (λ ms. absorb_is pos C p q s.above-is s.parent_is s.node-is kids (first ms))
+      ∙ giving_same 1 free last _ _ (λ ms. absorb_is pos C p q s.above_is s.parent_is s.node_is kids (first ms))
 
   -- "Parent with 11: the 12 children go 6 and 6 into two internal nodes, the middle key above them"
   pub split_plan : (L : Forest) (key : ℕ) (R : Forest) → Parts 6 kids L key R → length (roots (splice l (tagged_child q a k b) r)) ≡ 11
       → mend c n pos free last ≡ giving 3 free last (λ ms. rewrite_at C (parted_nodes (kind (tagged_in C)) (first ms) (second ms) (third ms) L key R) (third ms) (p ∷ q ∷ []))
   split_plan L key R u h =
       rw (keys_read, children_read) at (mend_splits c n free last pos inner_read tagged_read two_read (omega (arith, count_read, h)))
-      ∙ giving_same 3 free last _ _ (λ ms. split_is pos C p q s.above-is s.parent_is s.node-is kids L key R u (first ms) (second ms) (third ms))
+      ∙ giving_same 3 free last _ _ (λ ms. split_is pos C p q s.above_is s.parent_is s.node_is kids L key R u (first ms) (second ms) (third ms))
 
 -- what two internal siblings hold together, where K are their children joined
 abbrev inner_together : Forest → Together

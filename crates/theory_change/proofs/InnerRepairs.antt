@@ -232,4 +232,4 @@ pub inner_mended : (c : List ℕ) (n : ℕ) (pos : Position) (free : List Bool) 
     → Represents c (node p false (fill l (node q g f) r)) → (h : ℕ) → Height h (node p false (fill l (node q g f) r)) → OneViolation (fill l (node q g f) r) → own_violation (node q g f) ≡ 1
     → Planned c n pos free last C (node p false (fill l (node q g f) r)) (reserve (down C p false l r) (node q g f)) (mend_at (tagged_in C) (bare_left l) (bare (node q g f)) (bare_right r))
 inner_mended c n pos free last C p l q true f r size s w h i v o = tagged_mended c n pos free last C p l r q f s w v
-inner_mended c n pos free last C p l q false f r size s w h i v o = underfull_mended c n pos free last C p size s.above-is s.parent_is q f s.node-is o l r s.index_is w h i v
+inner_mended c n pos free last C p l q false f r size s w h i v o = underfull_mended c n pos free last C p size s.above_is s.parent_is q f s.node_is o l r s.index_is w h i v

@@ -152,7 +152,7 @@ module _ (c : List ℕ) (n : ℕ) (long : length c ≡ 8 + 24 * n) (C : Context)
         (mend_two (tagged_in C) (bare_left l) (bare (leaf x ks vs)) k (bare t) (bare_right r))) (sym y.same)
         (leaves_planned_as c n long p x ks vs k y.number y.keys y.values (omega arith) q free last spare C l r
         (fill l₀ (leaf x ks vs) r₀) (f ∙ ap (λ (t : Tree). splice l (more (leaf x ks vs) k (one t)) r) y.same) v w
-        (record { above = s.above-is; parent = s.parent_is; index = omega (arith, s.index_is); member = inl s.node-is }))
+        (record { above = s.above_is; parent = s.parent_is; index = omega (arith, s.index_is); member = inl s.node_is }))
 
     with_left : (a : Tree) → IsLeaf a → fill l₀ (leaf x ks vs) r₀ ≡ splice l (more a k (one (leaf x ks vs))) r → Planned c n q free last C
         (node p false (fill l₀ (leaf x ks vs) r₀)) spare (mend_two (tagged_in C) (bare_left l) (bare a) k (bare (leaf x ks vs)) (bare_right r))
@@ -161,7 +161,7 @@ module _ (c : List ℕ) (n : ℕ) (long : length c ≡ 8 + 24 * n) (C : Context)
         (mend_two (tagged_in C) (bare_left l) (bare t) k (bare (leaf x ks vs)) (bare_right r))) (sym y.same)
         (leaves_planned_as c n long p y.number y.keys y.values k x ks vs (omega arith) q free last spare C l r
         (fill l₀ (leaf x ks vs) r₀) (f ∙ ap (λ (t : Tree). splice l (more t k (one (leaf x ks vs))) r) y.same) v w
-        (record { above = s.above-is; parent = s.parent_is; index = omega (arith, s.index_is); member = inr s.node-is }))
+        (record { above = s.above_is; parent = s.parent_is; index = omega (arith, s.index_is); member = inr s.node_is }))
 
     -- of the two children side by side one is x
     with_sibling : (a b : Tree) → fill l₀ (leaf x ks vs) r₀ ≡ splice l (more a k (one b)) r → (a ≡ leaf x ks vs) ⊎ (b ≡ leaf x ks vs)

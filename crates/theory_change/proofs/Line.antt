@@ -98,7 +98,7 @@ module _ (line : Line) (free : List Bool) (t : Tree) (x : Partition line free t)
 
   module _ (ms : List ℕ) (g : Given free ms) where
     given_once : (i : ℕ) → node_total (indicator i) t + total (indicator i) line.others + total (indicator i) ms ≤ 1
-    given_once i = omega (arith, g.were-free i, over_once line.nodes free (λ m. node_total (indicator m) t + total (indicator m) line.others) x.exact i)
+    given_once i = omega (arith, g.were_free i, over_once line.nodes free (λ m. node_total (indicator m) t + total (indicator m) line.others) x.exact i)
 
     -- numbers that were free are not in the tree, nor in the other one, and are on the card
     pub given_fresh : (i : ℕ) → node_total (indicator i) t + total (indicator i) ms ≤ 1
@@ -109,8 +109,8 @@ module _ (line : Line) (free : List Bool) (t : Tree) (x : Partition line free t)
 
     pub given_on_card : (c : List ℕ) → length c ≡ 8 + 24 * line.nodes → (i : ℕ) → 0 < total (indicator i) ms → OnCard c i
     given_on_card c len i q =
-        order i 1 (λ a. absurd (omega (arith, g.were-free i, bit_false (get_or free i false) (x.exact.outside_none i (inl (omega arith))).0)))
-        (λ a. order line.nodes i (λ b. absurd (omega (arith, g.were-free i, bit_false (get_or free i false) (x.exact.outside_none i (inr b)).0)))
+        order i 1 (λ a. absurd (omega (arith, g.were_free i, bit_false (get_or free i false) (x.exact.outside_none i (inl (omega arith))).0)))
+        (λ a. order line.nodes i (λ b. absurd (omega (arith, g.were_free i, bit_false (get_or free i false) (x.exact.outside_none i (inr b)).0)))
         (λ b. record { pos = omega arith; fits = omega (arith, len) }))
 
     -- from the free nodes of one tree to those of the next: ms were given for it, cut are cut out of it

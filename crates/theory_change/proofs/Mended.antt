@@ -108,18 +108,18 @@ module _ (c : List ℕ) (line : Line) (key : ℕ) (free : List Bool) (last : ℕ
       → OnPath key C → depth_of C < deep → Planned c line.nodes pos free last C o spare due → repaired_by false (bare (plug C o))
       ≡ plug (bare_context C) due → next_repair c line.nodes key free last ≡ mend c line.nodes pos free last → Repaired c line key (plug C o) free last deep
   planned_repaired pos h s x v vi room path fall p reached is = go
-      (numbers_given p.given free last (zero_taken line free (plug C o) x) (omega (arith, p.at-most-three, room_in_bits line free (plug C o) x small)))
+      (numbers_given p.given free last (zero_taken line free (plug C o) x) (omega (arith, p.at_most_three, room_in_bits line free (plug C o) x small)))
     where
       go : ((ms : List ℕ) × (take_numbers p.given free last ≡ some ms) × (length ms ≡ p.given) × Given free ms) → Repaired c line key (plug C o) free last deep
       go (ms, e, el, g) =
           record {
             stores = node_stores nodes ++ (link_place C, root part) ∷ [];
-            free_then_lem = without_all ms free;
+            free_then = without_all ms free;
             last_then = last_of last ms;
             cut = p.out;
             planned = is ∙ p.planned ∙ giving_some p.given free last _ ms e
                 ∙ ap (λ (z : List Store). prepared z (without_all ms free) (last_of last ms) p.out) (change_stores_lem C nodes (root part) p.out);
-            short = simp length-append (omega (arith, length_node_stores nodes R.few, ap length in_order, p.at-most-three));
+            short = simp length-append (omega (arith, length_node_stores nodes R.few, ap length in_order, p.at_most_three));
             pending = record {
               next = plug C part;
               weight = numbered nodes;
@@ -181,7 +181,7 @@ module _ (c : List ℕ) (line : Line) (key : ℕ) (free : List Bool) (last : ℕ
               (λ i. omega (arith, out_inside p i, total_plug (indicator i) C o))
 
           ready : (d : ℕ) × Mendable key line.limit (plug C part) d × (d < deep)
-          ready = at C after.violations-left path R.at_most_one fall (room_kept p ms line.limit el room)
+          ready = at C after.violations_left path R.at_most_one fall (room_kept p ms line.limit el room)
             where
               at : (D : Context) → table_violations (plug D part) ≡ own_in D part → OnPath key D → own_in D part ≤ 1 → depth_of D < deep
                   → size (plug D part) + (3 + reserve D part) ≤ line.limit → (d : ℕ) × Mendable key line.limit (plug D part) d × (d < deep)
@@ -197,7 +197,7 @@ pub mended : (c : List ℕ) (line : Line) (key : ℕ) (t : Tree) (free : List Bo
     → Holds c t → Sound t → depth t ≤ depth_limit → Partition line free t
     → (v : Violation t key) → table_violations t ≡ 1 → size t + (3 + reserve v.context v.part) ≤ line.limit → Repaired c line key t free last (depth_of v.context)
 mended c line key t free last len small h s deep x v single room =
-    go v.context v.part v.is-tree v.inside v.own v.on-path room
+    go v.context v.part v.is_tree v.inside v.own v.on_path room
     (violation_found c line.nodes key len depth_limit t h s.widths single deep v)
   where
     go : (D : Context) (q : Tree) → t ≡ plug D q → below D → own_violation q ≡ 1 → OnPath key D → size t + (3 + reserve D q) ≤ line.limit

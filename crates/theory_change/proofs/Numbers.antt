@@ -68,10 +68,10 @@ numbers_given (suc k) free last z h = go (next_exists free last z (omega arith))
           numbers_step k free last m e ∙ rw q.1,
           ap suc q.2,
           record {
-            were_free = λ i. omega (arith, q.3.were-free i, b i);
+            were_free = λ i. omega (arith, q.3.were_free i, b i);
             positive = omega (arith, q.3.positive, indicator_other 0 m d);
             left = λ i. omega (arith, q.3.left i, b i);
             counted = omega (arith, q.3.counted, r);
-            kept_length = q.3.kept-length ∙ simp length-set;
+            kept_length = q.3.kept_length ∙ simp length-set;
           },
         )

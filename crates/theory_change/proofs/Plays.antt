@@ -86,7 +86,7 @@ pub pending_changing : {c : List ℕ} {line : Line} {key : ℕ} {t : Tree} {rest
 pending_changing {c} {line} {key} {t} h s o p = (
   record {
     next = p.next;
-    plays = rw p.is-rest (writes_play line p.next t p.weight p.link p.value s o p.fresh p.link-own p.own p.writes c p.inside h p.on_card_lem p.link-inside p.holds);
+    plays = rw p.is_rest (writes_play line p.next t p.weight p.link p.value s o p.fresh p.link_own p.own p.writes c p.inside h p.on_card_lem p.link_inside p.holds);
     sound = p.sound;
     exact = p.exact;
     level = p.level;

@@ -56,9 +56,9 @@ pub record Pending (c : List ℕ) (line : Line) (key : ℕ) (t : Tree) (rest : L
 -- the next change of a repair, planned on a card whose violation is so deep
 pub record Repaired (c : List ℕ) (line : Line) (key : ℕ) (t : Tree) (free : List Bool) (last deep : ℕ) : Type 0 where
   pub stores : List Store
-  pub free_then_lem : List Bool
+  pub free_then : List Bool
   pub last_then : ℕ
   pub cut : List ℕ
-  pub planned : next_repair c line.nodes key free last ≡ prepared stores free_then_lem last_then cut
+  pub planned : next_repair c line.nodes key free last ≡ prepared stores free_then last_then cut
   pub short : length stores ≤ 73
-  pub pending : Pending c line key t stores free_then_lem cut deep
+  pub pending : Pending c line key t stores free_then cut deep

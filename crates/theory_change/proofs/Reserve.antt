@@ -60,7 +60,7 @@ reserves_own C (node m false f) v o = omega (arith, all_reserves_none (run_below
 
 -- so the reserve of a table's violation is the same for every key that leads to it
 pub reserve_total : (t : Tree) (key : ℕ) → RootOk t → table_violations t ≡ 1 → (v : Violation t key) → reserve v.context v.part ≡ reserves 0 t
-reserve_total t key w single v = sym (rw v.is-tree (go v.context v.part v.inside v.own (rw v.is-tree at w) (rw v.is-tree at single)))
+reserve_total t key w single v = sym (rw v.is_tree (go v.context v.part v.inside v.own (rw v.is_tree at w) (rw v.is_tree at single)))
   where
     go : (C : Context) (s : Tree) → below C → own_violation s ≡ 1 → RootOk (plug C s) → table_violations (plug C s) ≡ 1 → reserves 0 (plug C s) ≡ reserve C s
     go C s b o w single =

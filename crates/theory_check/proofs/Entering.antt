@@ -189,8 +189,8 @@ kind_inner words false low high run is_root f k = rw k
 
 pub enter_accepts : (c : List ℕ) (n m low high run : ℕ) (is_root : Bool) (f : Findings) (L : Look) → Enters c n m low high run is_root f L → enter_node c n m low high run is_root f ≡ L
 enter_accepts c n m low high run is_root f L (as_leaf h e) =
-    present_enters c n m low high run is_root f h ∙ enter_kind_leaf (node_at c m) low high run is_root (taken m f) e.kind-is
+    present_enters c n m low high run is_root f h ∙ enter_kind_leaf (node_at c m) low high run is_root (taken m f) e.kind_is
     ∙ leaf_accepted (node_at c m) low high is_root (taken m f) e
 enter_accepts c n m low high run is_root f L (as_inner tagged h e) =
-    present_enters c n m low high run is_root f h ∙ kind_inner (node_at c m) tagged low high run is_root (taken m f) e.kind-is
+    present_enters c n m low high run is_root f h ∙ kind_inner (node_at c m) tagged low high run is_root (taken m f) e.kind_is
     ∙ inner_accepted (node_at c m) tagged low run is_root (taken m f) e

@@ -35,10 +35,10 @@ told_same low high t f g s p =
           record {
             context = p.violation.context;
             part = p.violation.part;
-            is_tree = p.violation.is-tree;
+            is_tree = p.violation.is_tree;
             inside = p.violation.inside;
             own = p.violation.own;
-            on_path = rw s.key p.violation.on-path;
+            on_path = rw s.key p.violation.on_path;
           };
       run = s.run ∙ p.run;
       above = omega (arith, p.above, s.key);

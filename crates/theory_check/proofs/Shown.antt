@@ -113,7 +113,7 @@ module _ (c : List ℕ) (n : ℕ) (len : length c ≡ 8 + 24 * n) where
         is_root_lem = refl;
         part =
             record {
-              represents = (present_words m f 1 (key_words words) (value_words words) p e.kind-is (λ j h. refl) (λ j h. refl), length_key_words words size, length_value_words words size);
+              represents = (present_words m f 1 (key_words words) (value_words words) p e.kind_is (λ j h. refl) (λ j h. refl), length_key_words words size, length_value_words words size);
               range = leaf_range low high (key_words words) (value_words words) e.sound;
               widths = w;
               height = refl;
@@ -137,7 +137,7 @@ module _ (c : List ℕ) (n : ℕ) (len : length c ≡ 8 + 24 * n) where
       let s = ih low high m f r (b.1 ∙ g.1) in
       record {
         forest = one s.tree;
-        are_roots = ap (λ (x : ℕ). x ∷ []) s.is-root;
+        are_roots = ap (λ (x : ℕ). x ∷ []) s.is_root_lem;
         are_keys = refl;
         parts = part_one s.part;
         same = λ q. ap (λ (x : Option (ℕ × Findings)). height_in x) (sym g.1) ∙ same_height first b.0.0 height g.0 q;
@@ -164,7 +164,7 @@ module _ (c : List ℕ) (n : ℕ) (len : length c ≡ 8 + 24 * n) where
           let e : r.0 ≡ q.0 = t.same refl in
           record {
             forest = more s.tree k t.forest;
-            are_roots = ap₂ (λ (x : ℕ) (y : List ℕ). x ∷ y) s.is-root t.are_roots;
+            are_roots = ap₂ (λ (x : ℕ) (y : List ℕ). x ∷ y) s.is_root_lem t.are_roots;
             are_keys = ap (λ (y : List ℕ). k ∷ y) t.are_keys;
             parts = part_more run (rw e s.part) a b (rw s.after at t.parts);
             same = λ z. e ∙ h z;
@@ -190,7 +190,7 @@ module _ (c : List ℕ) (n : ℕ) (len : length c ≡ 8 + 24 * n) where
         is_root_lem = refl;
         part =
             part_node is_root run m g
-            (present_words m f (kind g) (routing k) (roots k) p e.kind-is
+            (present_words m f (kind g) (routing k) (roots k) p e.kind_is
             (λ j h. get_d_zero_after (width words - 1) (key_words words) j u.0 ∙ ap (λ (l : List ℕ). get_or l j 0) (sym s.are_keys))
             (λ j h. get_d_zero_after (width words) (value_words words) j u.1 ∙ ap (λ (l : List ℕ). get_or l j 0) (before_zero_take (value_words words) ∙ sym s.are_roots)))
             (omega (arith, children_le words)) w (λ z. e.first (sym v ∙ z)) (present_free m f p) (rw a s.parts);
@@ -222,7 +222,7 @@ module _ (c : List ℕ) (n : ℕ) (len : length c ≡ 8 + 24 * n) where
       entered L (as_leaf p h) e =
           subst (λ (q : ℕ × Findings). Shown c is_root run low high m (suc bound) f q)
           (some-injective (0, note (few_pairs is_root (node_at c m)) low 0 (taken m f)) r e) (leaf_shown is_root run low high m bound f p h)
-      entered L (as_inner g p h) e = let q = raised_some g (below_check g) r (rw (kind_tagged (node_at c m) g h.kind-is) at e) in inside g p h q.0 q.1 q.2
+      entered L (as_inner g p h) e = let q = raised_some g (below_check g) r (rw (kind_tagged (node_at c m) g h.kind_is) at e) in inside g p h q.0 q.1 q.2
 
       look : (L : Look) → enter_node c n m low high run is_root f ≡ L → on_look (node_at c m) low high child run L ≡ some r → Shown c is_root run low high m (suc bound) f r
       look bad q e = absurd (none-ne-some r e)

@@ -24,7 +24,7 @@ module _ (c : List ℕ) (n : ℕ) (len : length c ≡ 8 + 24 * n) (small : n ≤
   pub accepts_sound : (h : ℕ) (f : Findings) → table_check c n ≡ some (h, f) → (t : Tree) × WellFormed c t × Facts c n t h f
   accepts_sound h f e =
       let s = check_shown c n len depth_limit 0 true lowest_key key_limit (get_or c root_place 0) (start n) (h, f) (sym (table_step c n) ∙ e) in
-      shown s.tree s.is-root s.part s.after
+      shown s.tree s.is_root_lem s.part s.after
     where
       shown : (t : Tree) → root t ≡ get_or c root_place 0 → SoundTable c n h t → f ≡ found true 0 lowest_key t (start n) → (t : Tree) × WellFormed c t × Facts c n t h f
       shown t r p a = (t, part_well_formed c n h t len (sym r) p, rw a (sound_facts c n h t small p))

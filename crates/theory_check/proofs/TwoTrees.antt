@@ -110,9 +110,9 @@ module _ (c : List ℕ) (n : ℕ) (len : length c ≡ 8 + 24 * n) (small : n ≤
         x.tree,
         y.tree,
         record {
-          first = part_well_formed (seen 1 c) n h x.tree (long 1) (sym x.is-root) x.part;
+          first = part_well_formed (seen 1 c) n h x.tree (long 1) (sym x.is_root_lem) x.part;
           second = record {
-            holds = (sym y.is-root, omega (arith, long 2), y.part.represents);
+            holds = (sym y.is_root_lem, omega (arith, long 2), y.part.represents);
             once = λ i. omega (arith, y.part.free i, bit_le (get_or f.free i false));
             sound = range_sound lowest_key key_limit y.tree y.part.range;
             widths = y.part.widths;

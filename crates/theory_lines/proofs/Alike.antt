@@ -176,7 +176,7 @@ module _ (greatest : ℕ) (line : Line) (steps : ℕ) (w : World (ration_table g
 
           need : (s : Slot) → slot_of (node_at w.card g.number) 0 ≡ s → need_of key 0 shape ≡ leaf_need s (full_run g.context)
           need s e =
-              ap (λ (x : Tree). need_of key 0 (bare x)) (sym g.is-tree)
+              ap (λ (x : Tree). need_of key 0 (bare x)) (sym g.is_tree)
               ∙ need_leaf key g.context g.number g.keys g.values (leads_reach key g.context g.leads)
               ∙ ap (λ (x : Slot). leaf_need x (full_run g.context)) (row 0 ∙ e)
 

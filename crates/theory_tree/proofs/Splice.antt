@@ -5,7 +5,6 @@ use mathlib.Core.Bool.{true, false}
 use Prim.Native.Nat.{ℕ, zero, suc, ◌+◌, ◌≤◌, ◌<◌}
 use native.Mathlib.Omega.{arith}
 use lib.ListN.{length}
-use Rattle.card.specs.Layout.{place}
 use Rattle.laws.specs.Totals.{total}
 use Rattle.laws.proofs.Totals.{total_append}
 use Rattle.theory_tree.specs.Pairs.{pairs, forest_pairs}

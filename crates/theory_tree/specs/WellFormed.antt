@@ -1,7 +1,6 @@
 -- Document 01, "A sound table": a sound table is here a well-formed one, a fault a violation.
 -- A range runs from its low end, included, to its high end, excluded.
 use Rattle.std.specs.Prelude.{◌≡◌, List, [], ◌∷◌, ℕ, ◌≤◌, ◌<◌}
-use Rattle.std.proofs.Math.Option.{none}
 use Rattle.card.specs.Layout.{lowest_key, key_limit, slot_pairs}
 use Rattle.laws.specs.Totals.{indicator}
 use Rattle.theory_tree.specs.Pairs.{LeafRange}

@@ -92,7 +92,7 @@ module _ (c : List ℕ) (key : ℕ) (pos : 0 < key) where
         context = s.context;
         keys = s.keys;
         values = s.values;
-        is_tree = s.is-tree ∙ ap (λ (e : Forest). plug C (node m g e)) p.whole;
+        is_tree = s.is_tree ∙ ap (λ (e : Forest). plug C (node m g e)) p.whole;
         leads = λ q. s.leads (p.past, p.short, q);
         on_card_lem = s.on_card_lem;
         answers = s.answers ∙ sym (lookup_child lo hi key f i);

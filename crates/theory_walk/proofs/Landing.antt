@@ -54,16 +54,16 @@ module _ (c : List ℕ) (C : Context) (m : ℕ) (ks vs : List ℕ) where
 pub landing_found : (c : List ℕ) (n key : ℕ) → length c ≡ 8 + 24 * n → (lo hi : ℕ) (t : Tree) → Holds c t → InRange lo hi t → lo ≤ key → key < hi → 0 < key → depth t ≤ depth_limit → LandedAt c n key t
 landing_found c n key len lo hi t w i l h pos d =
     let f = find_map c key pos lo hi t w.2 i l h in
-    let there : Holds c (plug f.context (leaf f.number f.keys f.values)) = subst (Holds c) (sym f.is-tree) w in
+    let there : Holds c (plug f.context (leaf f.number f.keys f.values)) = subst (Holds c) (sym f.is_tree) w in
     let leads = f.leads tt in
     let led = way_to_leaf c n key len f.context f.number f.keys f.values there leads
-    (omega (arith, depth_plug f.context (leaf f.number f.keys f.values), ap depth f.is-tree)) in
+    (omega (arith, depth_plug f.context (leaf f.number f.keys f.values), ap depth f.is_tree)) in
     record {
       number = f.number;
       keys = f.keys;
       values = f.values;
       context = f.context;
-      is_tree = f.is-tree;
+      is_tree = f.is_tree;
       landed = ap (landing_of c) led ∙ read_landing c f.context f.number f.keys f.values there;
       reached = ap leaf_of led ∙ read_leaf c f.context f.number f.keys f.values;
       leads = leads;

@@ -146,10 +146,10 @@ module _ (c : List ℕ) (n key : ℕ) (len : length c ≡ 8 + 24 * n) where
   pub violation_found : (levels : ℕ) (t : Tree) → Holds c t → RootOk t → table_violations t ≡ 1 → depth t ≤ levels → (v : Violation t key)
       → seek c n key levels (root_position (get_or c 4 0)) ≡ SearchViolation (position_of v.context v.part)
   violation_found levels t w ok count d v =
-      seek_violation levels v.context v.part (subst (Holds c) v.is-tree w) v.inside v.on-path
-      (sound_above v.context v.part (subst RootOk v.is-tree ok) (omega (arith, ap table_violations v.is-tree)) (omega (arith, own_violation_le v.part, v.own))).1
+      seek_violation levels v.context v.part (subst (Holds c) v.is_tree w) v.inside v.on_path
+      (sound_above v.context v.part (subst RootOk v.is_tree ok) (omega (arith, ap table_violations v.is_tree)) (omega (arith, own_violation_le v.part, v.own))).1
       v.own
-      (omega (arith, depth_plug v.context v.part, ap depth v.is-tree))
+      (omega (arith, depth_plug v.context v.part, ap depth v.is_tree))
 
   -- ---- nothing is found
 

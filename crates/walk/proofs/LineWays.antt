@@ -5,10 +5,10 @@ use Prim.Native.Nat.{ℕ, zero, suc}
 use lib.ListN.{length, get_or}
 use lib.Dec.{eqb}
 use Rattle.laws.specs.Cases.{pick}
-use Rattle.card.specs.Layout.{root_place, depth_limit, node_at, children}
+use Rattle.card.specs.Layout.{root_place, depth_limit, node_at, children, run_below}
 use Rattle.card.specs.Lines.{root_of, seen}
 use Rattle.card.proofs.LineLaws.{seen_node, seen_root}
-use Rattle.walk.specs.Descent.{look_at, root_position, child_position, Way, nowhere, past, by_look, way_from, way, run_over, beside_all}
+use Rattle.walk.specs.Descent.{look_at, root_position, child_position, Way, nowhere, past, by_look, way_from, way, run_over, beside_all, beside_after, child_index}
 use Rattle.walk.specs.declared.Position.{Position}
 use Rattle.walk.specs.declared.Look.{Look}
 use Rattle.walk.specs.declared.Look.TheVariants.{Nowhere, Leaf as IsLeaf, Inner as IsInner}
@@ -38,9 +38,9 @@ module _ (line : ℕ) (card : List ℕ) (n : ℕ) where
   pub run_seen : (run : ℕ) (ps : List Position) → run_over (seen line card) run ps ≡ run_over card run ps
   unfolding run_over
   run_seen run [] = refl
-  run_seen run (p ∷ ps) = rw (seen_node line card p.node) (run_seen _ ps)
+  run_seen run (p ∷ ps) = rw (seen_node line card p.node) (run_seen (run_below (length (children (node_at card p.node))) run) ps)
 
   pub beside_seen : (key beside : ℕ) (ps : List Position) → beside_all (seen line card) key beside ps ≡ beside_all card key beside ps
   unfolding beside_all
   beside_seen key beside [] = refl
-  beside_seen key beside (p ∷ ps) = rw (seen_node line card p.node) (beside_seen key _ ps)
+  beside_seen key beside (p ∷ ps) = rw (seen_node line card p.node) (beside_seen key (beside_after (node_at card p.node) (child_index (node_at card p.node) key) beside) ps)

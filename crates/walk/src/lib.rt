@@ -8,7 +8,7 @@ ghost use Rattle.walk.specs.Descent.{child_index, slot_of, outside, look_in, dow
 ghost use Rattle.walk.specs.Descent.{landing_of, end_of, seek};
 
 // The slot of a key in a leaf.
-#[derive(Drop)]
+#[derive(Clone, Copy)]
 pub enum Slot {
     At(usize),
     Absent,
@@ -61,7 +61,7 @@ fn is_outside(n: usize, m: usize) -> bool
 }
 
 // What a node is.
-#[derive(Drop)]
+#[derive(Clone, Copy)]
 pub enum Look {
     Nowhere,
     Leaf,
@@ -86,7 +86,7 @@ fn look_in(node: &[u32]) -> Look
 }
 
 // One node of a way: what it is and, of an internal node with children, which of them the key takes and its number.
-#[derive(Drop)]
+#[derive(Clone, Copy)]
 pub enum Down {
     Nowhere,
     Leaf,
@@ -137,7 +137,7 @@ fn passed_with(node: &[u32], depth: usize) -> usize
 }
 
 // The leaf that a key leads to, and how many internal nodes stand above it; or refusal 9.
-#[derive(Drop)]
+#[derive(Clone, Copy)]
 pub enum Reached {
     Refused,
     Leaf { node: usize, depth: usize },
@@ -191,7 +191,7 @@ fn beside_after(node: &[u32], index: usize, beside: usize) -> usize
 
 // The leaf that a key leads to, the number of the deepest node that stands right after the way there, 0 where there is none, and how many
 // internal nodes stand above the leaf; or refusal 9.
-#[derive(Drop)]
+#[derive(Clone, Copy)]
 pub enum Beside {
     Refused,
     Leaf {
@@ -241,7 +241,7 @@ pub fn find_beside(card: &[u32], n: usize, key: u32, root: usize) -> Beside
 
 // A node on a key's way: its number, the word that links to it, its parent (0 for the root), which child of its parent
 // it is, and the word that links to its parent.
-#[derive(Drop)]
+#[derive(Clone, Copy)]
 pub struct Position {
     pub node: usize,
     pub link: usize,
@@ -297,7 +297,7 @@ fn stops(node: &[u32], parent: usize, seeks: bool) -> bool
 }
 
 // Where a way ends: at refusal 9, at its leaf, below so many internal nodes, or at the first fault.
-#[derive(Drop)]
+#[derive(Clone, Copy)]
 pub enum End {
     Refused,
     Leaf { position: Position, depth: usize },
@@ -353,7 +353,7 @@ pub fn descend(card: &[u32], n: usize, key: u32, root: usize, seeks: bool) -> En
 }
 
 // The first violation on a key's way, if there is one.
-#[derive(Drop)]
+#[derive(Clone, Copy)]
 pub enum Search {
     Refused,
     Balanced,
@@ -420,7 +420,7 @@ pub fn run_above(card: &[u32], n: usize, key: u32, root: usize) -> usize
 
 // The leaf that an update's key leads to, the word that links to it, and how many 11-child nodes stand without a break
 // straight above it; or refusal 9.
-#[derive(Drop)]
+#[derive(Clone, Copy)]
 pub enum Landing {
     Refused,
     Leaf {

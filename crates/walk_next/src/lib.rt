@@ -13,7 +13,7 @@ ghost use Rattle.walk_next.specs.declared.Successor.TheVariants.{Refused};
 use walk::{Beside, Slot};
 
 // What the call answers.
-#[derive(Drop)]
+#[derive(Clone, Copy)]
 pub enum Successor {
     Pair { key: u32, value: u32 },
     Nothing,
@@ -50,7 +50,7 @@ fn least_key(node: &[u32], after: u32) -> u64
 
 // The pair with that key, and its value: of the first slot that has it, looked for only now, since a value carried along took 100
 // instructions more.
-#[derive(Drop)]
+#[derive(Clone, Copy)]
 pub struct Least {
     pub key: u64,
     pub value: u32,
@@ -77,7 +77,7 @@ fn least_above(node: &[u32], after: u32) -> Least
 
 // What the call answers, and beside it how many internal nodes the given number's own way passed, also where the answer is in the next
 // leaf; 0 where it is refused (document 02, W-203).
-#[derive(Drop)]
+#[derive(Clone, Copy)]
 pub struct NextPair {
     pub successor: Successor,
     pub depth: usize,

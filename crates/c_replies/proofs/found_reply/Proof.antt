@@ -5,46 +5,46 @@ use Rattle.call_find.specs.Answers.{found_reply}
 use Rattle.c_replies.proofs.found_reply.Statement.{statement}
 use Rattle.c_replies.proofs.found_reply.Tie as tie
 
-enum-known-found : tie.Need-enum-known-found
-enum-known-found c = search rules
+enum_known-found : tie.Need-enum_known-found
+enum_known-found c = search rules
 
 valued-requires : tie.Need-valued-requires
 valued-requires c κs = search rules
 
-enum_told : tie.Need-enum-told
-enum_told c = search rules
+enum_told-1 : tie.Need-enum_told-1
+enum_told-1 c = search rules
 
 plain-requires : tie.Need-plain-requires
 plain-requires c κs = search rules
 
-enum-known-found-2 : tie.Need-enum-known-found-2
-enum-known-found-2 c = search rules
+enum_known-found-in-Refused-1 : tie.Need-enum_known-found-in-Refused-1
+enum_known-found-in-Refused-1 c = search rules
 
-plain-requires-2 : tie.Need-plain-requires-2
-plain-requires-2 c κs = search rules
+plain-requires-in-Refused : tie.Need-plain-requires-in-Refused
+plain-requires-in-Refused c κs = search rules
 
-returns : tie.Need-returns
+returns-in-Value : tie.Need-returns-in-Value
 unfolding found_reply
-returns c = c.valued.ensures ∙ ap found_reply (sym c.before.before.found.given.1)
+returns-in-Value c = c.valued.ensures ∙ ap found_reply (sym c.in-Value.is)
 
-returns-2 : tie.Need-returns-2
+returns-in-Absent : tie.Need-returns-in-Absent
 unfolding found_reply
-returns-2 c = c.plain.ensures ∙ ap found_reply (sym c.before.enum_told.given.1)
+returns-in-Absent c = c.plain.ensures ∙ ap found_reply (sym c.in-Absent.is)
 
-returns-3 : tie.Need-returns-3
+returns-in-Refused : tie.Need-returns-in-Refused
 unfolding found_reply
-returns-3 c = c.plain2.ensures ∙ ap found_reply (sym c.before.before.found2.given.1)
+returns-in-Refused c = c.plain-in-Refused.ensures ∙ ap found_reply (sym c.in-Refused.is)
 
 pub found_reply_spec : {M : Type 1} → statement M
 found_reply_spec =
     tie.close
     (tie.spec
-    enum-known-found
+    enum_known-found
     valued-requires
-    enum_told
+    enum_told-1
     plain-requires
-    enum-known-found-2
-    plain-requires-2
-    returns
-    returns-2
-    returns-3)
+    enum_known-found-in-Refused-1
+    plain-requires-in-Refused
+    returns-in-Value
+    returns-in-Absent
+    returns-in-Refused)

@@ -5,46 +5,46 @@ use Rattle.walk_next.specs.Successor.{next_reply}
 use Rattle.c_replies.proofs.next_reply.Statement.{statement}
 use Rattle.c_replies.proofs.next_reply.Tie as tie
 
-enum-known-successor : tie.Need-enum-known-successor
-enum-known-successor c = search rules
+enum_known-successor : tie.Need-enum_known-successor
+enum_known-successor c = search rules
 
 next-requires : tie.Need-next-requires
 next-requires c κs = search rules
 
-enum_told : tie.Need-enum-told
-enum_told c = search rules
+enum_told-1 : tie.Need-enum_told-1
+enum_told-1 c = search rules
 
 plain-requires : tie.Need-plain-requires
 plain-requires c κs = search rules
 
-enum-known-successor-2 : tie.Need-enum-known-successor-2
-enum-known-successor-2 c = search rules
+enum_known-successor-in-Refused-1 : tie.Need-enum_known-successor-in-Refused-1
+enum_known-successor-in-Refused-1 c = search rules
 
-plain-requires-2 : tie.Need-plain-requires-2
-plain-requires-2 c κs = search rules
+plain-requires-in-Refused : tie.Need-plain-requires-in-Refused
+plain-requires-in-Refused c κs = search rules
 
-returns : tie.Need-returns
+returns-in-Pair : tie.Need-returns-in-Pair
 unfolding next_reply
-returns c = c.next.ensures ∙ ap next_reply (sym c.before.before.successor.given.1)
+returns-in-Pair c = c.next.ensures ∙ ap next_reply (sym c.in-Pair.is)
 
-returns-2 : tie.Need-returns-2
+returns-in-Nothing : tie.Need-returns-in-Nothing
 unfolding next_reply
-returns-2 c = c.plain.ensures ∙ ap next_reply (sym c.before.enum_told.given.1)
+returns-in-Nothing c = c.plain.ensures ∙ ap next_reply (sym c.in-Nothing.is)
 
-returns-3 : tie.Need-returns-3
+returns-in-Refused : tie.Need-returns-in-Refused
 unfolding next_reply
-returns-3 c = c.plain2.ensures ∙ ap next_reply (sym c.before.before.successor2.given.1)
+returns-in-Refused c = c.plain-in-Refused.ensures ∙ ap next_reply (sym c.in-Refused.is)
 
 pub next_reply_spec : {M : Type 1} → statement M
 next_reply_spec =
     tie.close
     (tie.spec
-    enum-known-successor
+    enum_known-successor
     next-requires
-    enum_told
+    enum_told-1
     plain-requires
-    enum-known-successor-2
-    plain-requires-2
-    returns
-    returns-2
-    returns-3)
+    enum_known-successor-in-Refused-1
+    plain-requires-in-Refused
+    returns-in-Pair
+    returns-in-Nothing
+    returns-in-Refused)

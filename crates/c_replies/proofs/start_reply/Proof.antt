@@ -5,46 +5,46 @@ use Rattle.state.specs.Answers.{start_reply}
 use Rattle.c_replies.proofs.start_reply.Statement.{statement}
 use Rattle.c_replies.proofs.start_reply.Tie as tie
 
-enum_told : tie.Need-enum-told
-enum_told c = search rules
+enum_told-1 : tie.Need-enum_told-1
+enum_told-1 c = search rules
 
 plain-requires : tie.Need-plain-requires
 plain-requires c κs = search rules
 
-enum-told-2 : tie.Need-enum-told-2
-enum-told-2 c = search rules
+enum_told-in-Started : tie.Need-enum_told-in-Started
+enum_told-in-Started c = search rules
 
-plain-requires-2 : tie.Need-plain-requires-2
-plain-requires-2 c κs = search rules
+plain-requires-in-Started : tie.Need-plain-requires-in-Started
+plain-requires-in-Started c κs = search rules
 
-enum-known-begun : tie.Need-enum-known-begun
-enum-known-begun c = search rules
+enum_known-begun : tie.Need-enum_known-begun
+enum_known-begun c = search rules
 
-plain-requires-3 : tie.Need-plain-requires-3
-plain-requires-3 c κs = search rules
+plain-requires-in-Refused : tie.Need-plain-requires-in-Refused
+plain-requires-in-Refused c κs = search rules
 
-returns : tie.Need-returns
+returns-in-Idle : tie.Need-returns-in-Idle
 unfolding start_reply
-returns c = c.plain.ensures ∙ ap start_reply (sym c.before.enum_told.given.1)
+returns-in-Idle c = c.plain.ensures ∙ ap start_reply (sym c.in-Idle.is)
 
-returns-2 : tie.Need-returns-2
+returns-in-Started : tie.Need-returns-in-Started
 unfolding start_reply
-returns-2 c = c.plain2.ensures ∙ ap start_reply (sym c.before.enum-told2.given.1)
+returns-in-Started c = c.plain-in-Started.ensures ∙ ap start_reply (sym c.in-Started.is)
 
-returns-3 : tie.Need-returns-3
+returns-in-Refused : tie.Need-returns-in-Refused
 unfolding start_reply
-returns-3 c = c.plain3.ensures ∙ ap start_reply (sym c.before.before.begun.given.1)
+returns-in-Refused c = c.plain-in-Refused.ensures ∙ ap start_reply (sym c.in-Refused.is)
 
 pub start_reply_spec : {M : Type 1} → statement M
 start_reply_spec =
     tie.close
     (tie.spec
-    enum_told
+    enum_told-1
     plain-requires
-    enum-told-2
-    plain-requires-2
-    enum-known-begun
-    plain-requires-3
-    returns
-    returns-2
-    returns-3)
+    enum_told-in-Started
+    plain-requires-in-Started
+    enum_known-begun
+    plain-requires-in-Refused
+    returns-in-Idle
+    returns-in-Started
+    returns-in-Refused)

@@ -24,96 +24,96 @@ kept : (block : List ℕ) (depth : ℕ) → (length block ≡ state_words → de
 kept block depth state none =
     by_cases (ℕ_discrete (length block) state_words) (λ l. rw (eq-eqb (length block) state_words l) (state l)) (λ n. rw (ne_eqb (length block) state_words n) (none n))
 
-enum-known-answer : tie.Need-enum-known-answer
-enum-known-answer c = search rules
+enum_known-answer : tie.Need-enum_known-answer
+enum_known-answer c = search rules
 
 valued-requires : tie.Need-valued-requires
 valued-requires c κs = search rules
 
-enum_told : tie.Need-enum-told
-enum_told c = search rules
+enum_told-1 : tie.Need-enum_told-1
+enum_told-1 c = search rules
 
 plain-requires : tie.Need-plain-requires
 plain-requires c κs = search rules
 
-enum-told-2 : tie.Need-enum-told-2
-enum-told-2 c = search rules
+enum_told-in-Absent : tie.Need-enum_told-in-Absent
+enum_told-in-Absent c = search rules
 
-plain-requires-2 : tie.Need-plain-requires-2
-plain-requires-2 c κs = search rules
+plain-requires-in-Absent : tie.Need-plain-requires-in-Absent
+plain-requires-in-Absent c κs = search rules
 
-depth-kept-requires : tie.Need-depth-kept-requires
-depth-kept-requires c κs = search rules
+depth_kept-requires : tie.Need-depth_kept-requires
+depth_kept-requires c κs = search rules
 
-with-depth-requires : tie.Need-with-depth-requires
-with-depth-requires c κs = search rules
+with_depth-requires : tie.Need-with_depth-requires
+with_depth-requires c κs = search rules
 
-enum-known-answer-2 : tie.Need-enum-known-answer-2
-enum-known-answer-2 c = search rules
+enum_known-answer-in-Value-1 : tie.Need-enum_known-answer-in-Value-1
+enum_known-answer-in-Value-1 c = search rules
 
-valued-requires-2 : tie.Need-valued-requires-2
-valued-requires-2 c κs = search rules
+valued-requires-in-Value : tie.Need-valued-requires-in-Value
+valued-requires-in-Value c κs = search rules
 
-depth-kept-requires-2 : tie.Need-depth-kept-requires-2
-depth-kept-requires-2 c κs = search rules
+depth_kept-requires-in-Value : tie.Need-depth_kept-requires-in-Value
+depth_kept-requires-in-Value c κs = search rules
 
-with-depth-requires-2 : tie.Need-with-depth-requires-2
-with-depth-requires-2 c κs = search rules
+with_depth-requires-in-Value : tie.Need-with_depth-requires-in-Value
+with_depth-requires-in-Value c κs = search rules
 
-enum-known-answer-3 : tie.Need-enum-known-answer-3
-enum-known-answer-3 c = search rules
+enum_known-answer-in-Refused-1 : tie.Need-enum_known-answer-in-Refused-1
+enum_known-answer-in-Refused-1 c = search rules
 
-plain-requires-3 : tie.Need-plain-requires-3
-plain-requires-3 c κs = search rules
+plain-requires-in-Refused : tie.Need-plain-requires-in-Refused
+plain-requires-in-Refused c κs = search rules
 
-returns : tie.Need-returns
+returns-in-Stored : tie.Need-returns-in-Stored
 unfolding step_reply told_depth
-returns c = c.valued.ensures ∙ ap (said c.before.before.before.before.before.args.state.now) (sym c.before.before.answer.given.1)
+returns-in-Stored c = c.valued.ensures ∙ ap (said c.args.state.now) (sym c.in-Stored.is)
 
-returns-2 : tie.Need-returns-2
+returns-in-Ready : tie.Need-returns-in-Ready
 unfolding step_reply told_depth
-returns-2 c = c.plain.ensures ∙ ap (said c.before.before.before.before.args.state.now) (sym c.before.enum_told.given.1)
+returns-in-Ready c = c.plain.ensures ∙ ap (said c.args.state.now) (sym c.in-Ready.is)
 
-returns-3 : tie.Need-returns-3
+returns-in-Absent : tie.Need-returns-in-Absent
 unfolding step_reply told_depth
-returns-3 c =
-    c.with-depth.ensures
-    ∙ ap₂ with_depth (kept c.before.before.before.before.before.before.args.state.now c.before.depth-kept.result
-    c.before.depth-kept.ensures.0 c.before.depth-kept.ensures.1) c.before.before.plain2.ensures
-    ∙ ap (said c.before.before.before.before.before.before.args.state.now) (sym c.before.before.before.enum-told2.given.1)
+returns-in-Absent c =
+    c.with_depth.ensures
+    ∙ ap₂ with_depth (kept c.args.state.now c.depth_kept.result
+    c.depth_kept.ensures.0 c.depth_kept.ensures.1) c.plain-in-Absent.ensures
+    ∙ ap (said c.args.state.now) (sym c.in-Absent.is)
 
-returns-4 : tie.Need-returns-4
+returns-in-Value : tie.Need-returns-in-Value
 unfolding step_reply told_depth
-returns-4 c =
-    c.with-depth2.ensures
-    ∙ ap₂ with_depth (kept c.before.before.before.before.before.before.before.args.state.now c.before.depth-kept2.result
-    c.before.depth-kept2.ensures.0 c.before.depth-kept2.ensures.1) c.before.before.valued2.ensures
-    ∙ ap (said c.before.before.before.before.before.before.before.args.state.now) (sym c.before.before.before.before.answer2.given.1)
+returns-in-Value c =
+    c.with_depth-in-Value.ensures
+    ∙ ap₂ with_depth (kept c.args.state.now c.depth_kept-in-Value.result
+    c.depth_kept-in-Value.ensures.0 c.depth_kept-in-Value.ensures.1) c.valued-in-Value.ensures
+    ∙ ap (said c.args.state.now) (sym c.in-Value.is)
 
-returns-5 : tie.Need-returns-5
+returns-in-Refused : tie.Need-returns-in-Refused
 unfolding step_reply told_depth
-returns-5 c = c.plain3.ensures ∙ ap (said c.before.before.before.before.before.args.state.now) (sym c.before.before.answer3.given.1)
+returns-in-Refused c = c.plain-in-Refused.ensures ∙ ap (said c.args.state.now) (sym c.in-Refused.is)
 
 pub step_reply_spec : {M : Type 1} → statement M
 step_reply_spec =
     tie.close
     (tie.spec
-    enum-known-answer
+    enum_known-answer
     valued-requires
-    enum_told
+    enum_told-1
     plain-requires
-    enum-told-2
-    plain-requires-2
-    depth-kept-requires
-    with-depth-requires
-    enum-known-answer-2
-    valued-requires-2
-    depth-kept-requires-2
-    with-depth-requires-2
-    enum-known-answer-3
-    plain-requires-3
-    returns
-    returns-2
-    returns-3
-    returns-4
-    returns-5)
+    enum_told-in-Absent
+    plain-requires-in-Absent
+    depth_kept-requires
+    with_depth-requires
+    enum_known-answer-in-Value-1
+    valued-requires-in-Value
+    depth_kept-requires-in-Value
+    with_depth-requires-in-Value
+    enum_known-answer-in-Refused-1
+    plain-requires-in-Refused
+    returns-in-Stored
+    returns-in-Ready
+    returns-in-Absent
+    returns-in-Value
+    returns-in-Refused)

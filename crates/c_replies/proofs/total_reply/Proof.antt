@@ -5,27 +5,27 @@ use borrow.Author.Rules.{rules}
 use Rattle.c_replies.proofs.total_reply.Statement.{statement}
 use Rattle.c_replies.proofs.total_reply.Tie as tie
 
-enum-known-total : tie.Need-enum-known-total
-enum-known-total c = search rules
+enum_known-total : tie.Need-enum_known-total
+enum_known-total c = search rules
 
 valued-requires : tie.Need-valued-requires
 valued-requires c κs = search rules
 
-enum-known-total-2 : tie.Need-enum-known-total-2
-enum-known-total-2 c = search rules
+enum_known-total-in-Refused-1 : tie.Need-enum_known-total-in-Refused-1
+enum_known-total-in-Refused-1 c = search rules
 
 plain-requires : tie.Need-plain-requires
 plain-requires c κs = search rules
 
-returns : tie.Need-returns
+returns-in-Pairs : tie.Need-returns-in-Pairs
 unfolding total_reply
-returns c = c.valued.ensures ∙ ap total_reply (sym c.before.before.total.given.1)
+returns-in-Pairs c = c.valued.ensures ∙ ap total_reply (sym c.in-Pairs.is)
 
-returns-2 : tie.Need-returns-2
+returns-in-Refused : tie.Need-returns-in-Refused
 unfolding total_reply
-returns-2 c = c.plain.ensures ∙ ap total_reply (sym c.before.before.total2.given.1)
+returns-in-Refused c = c.plain.ensures ∙ ap total_reply (sym c.in-Refused.is)
 
 pub total_reply_spec : {M : Type 1} → statement M
 total_reply_spec =
     tie.close
-    (tie.spec enum-known-total valued-requires enum-known-total-2 plain-requires returns returns-2)
+    (tie.spec enum_known-total valued-requires enum_known-total-in-Refused-1 plain-requires returns-in-Pairs returns-in-Refused)

@@ -14,49 +14,46 @@ use borrow.Author.Rules.{rules}
 use Rattle.call_find.proofs.found_at.Statement.{statement}
 use Rattle.call_find.proofs.found_at.Tie as tie
 
-leaf : (c : tie.After-node) → Inside c.before.before.before.before.args.n c.node.given.0.0
+leaf : (c : tie.In-Leaf) → Inside c.args.n c.in-Leaf.node
 leaf c =
-    let s = c.before.before.before.before in
-    reached_inside s.args.card.now s.args.n s.args.key depth_limit (root_position s.args.root)
-    c.node.given.0.0 c.node.given.0.1.0 (sym c.before.before.find-leaf.ensures ∙ c.node.given.1)
+    reached_inside c.args.card.now c.args.n c.args.key depth_limit (root_position c.args.root)
+    c.in-Leaf.node c.in-Leaf.depth (sym c.find_leaf.ensures ∙ c.in-Leaf.is)
 
-find-leaf-requires : tie.Need-find-leaf-requires
-find-leaf-requires c κs = search rules
+find_leaf-requires : tie.Need-find_leaf-requires
+find_leaf-requires c κs = search rules
 
-enum_told : tie.Need-enum-told
-enum_told c = search rules
+enum_told-1 : tie.Need-enum_told-1
+enum_told-1 c = search rules
 
-enum-known-node : tie.Need-enum-known-node
-enum-known-node c = search rules
+enum_known-node : tie.Need-enum_known-node
+enum_known-node c = search rules
 
-node-at-requires : tie.Need-node-at-requires
-node-at-requires c κs = let k = leaf c.before in (k.one, omega (arith, k.most), omega (arith, k.most))
+node_at-requires : tie.Need-node_at-requires
+node_at-requires c κs = let k = leaf c in (k.one, omega (arith, k.most), omega (arith, k.most))
 
-found-in-requires : tie.Need-found-in-requires
-found-in-requires c κs =
-    let k = leaf c.before.before in
-    ap length c.Node-at.ensures ∙ length_node c.before.before.before.before.before.before.args.card.now
-    c.before.before.node.given.0.0 k.one (omega (arith, k.most))
+found_in-requires : tie.Need-found_in-requires
+found_in-requires c κs =
+    let k = leaf c.before in
+    ap length c.node_at.ensures ∙ length_node c.args.card.now
+    c.in-Leaf.node k.one (omega (arith, k.most))
 
 refused-requires : tie.Need-refused-requires
 refused-requires c κs = search rules
 
-returns : tie.Need-returns
+returns-in-Refused : tie.Need-returns-in-Refused
 unfolding found_at depth_of
-returns c =
-    let s = c.before.before.before.before.before in
-    let e = sym c.before.before.before.find-leaf.ensures ∙ c.before.enum_told.given.1 in (
-      c.refused.ensures.0 ∙ ap (found_at s.args.card.now s.args.key) (sym e),
+returns-in-Refused c =
+    let e = sym c.find_leaf.ensures ∙ c.in-Refused.is in (
+      c.refused.ensures.0 ∙ ap (found_at c.args.card.now c.args.key) (sym e),
       c.refused.ensures.1 ∙ ap depth_of (sym e),
     )
 
-returns-2 : tie.Need-returns-2
+returns-in-Leaf : tie.Need-returns-in-Leaf
 unfolding found_at depth_of
-returns-2 c =
-    let s = c.before.before.before.before.before.before.before in
-    let e = sym c.before.before.before.before.before.find-leaf.ensures ∙ c.before.before.before.node.given.1 in (
-      c.found_in.ensures ∙ ap (λ (x : List ℕ). found_in x (slot_of x s.args.key)) c.before.Node-at.ensures
-          ∙ ap (found_at s.args.card.now s.args.key) (sym e),
+returns-in-Leaf c =
+    let e = sym c.find_leaf.ensures ∙ c.in-Leaf.is in (
+      c.found_in.ensures ∙ ap (λ (x : List ℕ). found_in x (slot_of x c.args.key)) c.node_at.ensures
+          ∙ ap (found_at c.args.card.now c.args.key) (sym e),
       ap depth_of (sym e),
     )
 
@@ -64,11 +61,11 @@ pub found_at_spec : {M : Type 1} → statement M
 found_at_spec =
     tie.close
     (tie.spec
-    find-leaf-requires
-    enum_told
+    find_leaf-requires
+    enum_told-1
     refused-requires
-    enum-known-node
-    node-at-requires
-    found-in-requires
-    returns
-    returns-2)
+    enum_known-node
+    node_at-requires
+    found_in-requires
+    returns-in-Refused
+    returns-in-Leaf)

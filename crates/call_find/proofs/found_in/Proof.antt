@@ -8,46 +8,46 @@ use borrow.Author.Rules.{rules}
 use Rattle.call_find.proofs.found_in.Statement.{statement}
 use Rattle.call_find.proofs.found_in.Tie as tie
 
-few : (c : tie.After-i) → c.i.given.0.0 < 11
+few : (c : tie.In-At) → c.in-At.i < 11
 few c =
-    slot-few c.before.before.before.before.args.node.now c.before.before.before.before.args.key
-    c.i.given.0.0 (search rules) (sym c.before.before.find-slot.ensures ∙ c.i.given.1)
+    slot-few c.args.node.now c.args.key
+    c.in-At.i (search rules) (sym c.find_slot.ensures ∙ c.in-At.is)
 
-find-slot-requires : tie.Need-find-slot-requires
-find-slot-requires c κs = search rules
+find_slot-requires : tie.Need-find_slot-requires
+find_slot-requires c κs = search rules
 
-enum_told : tie.Need-enum-told
-enum_told c = search rules
+enum_told-1 : tie.Need-enum_told-1
+enum_told-1 c = search rules
 
-enum-known-i : tie.Need-enum-known-i
-enum-known-i c = search rules
+enum_known-i : tie.Need-enum_known-i
+enum_known-i c = search rules
 
-add-t6 : tie.Need-overflow-add-t6
-add-t6 c = omega (arith, few c.before)
+overflow_add-result : tie.Need-overflow_add-result
+overflow_add-result c = omega (arith, few c)
 
-mul-t7 : tie.Need-overflow-mul-t7
-mul-t7 c = omega (arith, few c.before)
+offset_bounds-node-i : tie.Need-offset_bounds-node-i
+offset_bounds-node-i c = omega (arith, few c)
 
-shared-slice-read-t9 : tie.Need-shared-slice-read-t9
-shared-slice-read-t9 c = omega (arith, few c.before.before)
+bounds-node-i : tie.Need-bounds-node-i
+bounds-node-i c = omega (arith, few c.before)
 
-returns : tie.Need-returns
+returns-in-Absent : tie.Need-returns-in-Absent
 unfolding found_in
-returns c = ap (found_in c.before.before.before.before.args.node.now) (sym (sym c.before.before.find-slot.ensures ∙ c.enum_told.given.1))
+returns-in-Absent c = ap (found_in c.args.node.now) (sym (sym c.find_slot.ensures ∙ c.in-Absent.is))
 
-returns-2 : tie.Need-returns-2
+returns-in-At : tie.Need-returns-in-At
 unfolding found_in
-returns-2 c = ap (found_in c.before.before.before.before.before.before.args.node.now) (sym (sym c.before.before.before.before.find-slot.ensures ∙ c.before.before.i.given.1))
+returns-in-At c = ap (found_in c.args.node.now) (sym (sym c.find_slot.ensures ∙ c.in-At.is))
 
 pub found_in_spec : {M : Type 1} → statement M
 found_in_spec =
     tie.close
     (tie.spec
-    find-slot-requires
-    enum_told
-    enum-known-i
-    add-t6
-    mul-t7
-    shared-slice-read-t9
-    returns
-    returns-2)
+    find_slot-requires
+    enum_told-1
+    enum_known-i
+    overflow_add-result
+    offset_bounds-node-i
+    bounds-node-i
+    returns-in-Absent
+    returns-in-At)

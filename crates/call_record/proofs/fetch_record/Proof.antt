@@ -8,54 +8,54 @@ use Rattle.call_record.proofs.fetch_record.Tie as tie
 find-requires : tie.Need-find-requires
 find-requires c κs = search rules
 
-enum-known-value : tie.Need-enum-known-value
-enum-known-value c = search rules
+enum_known-value : tie.Need-enum_known-value
+enum_known-value c = search rules
 
-cast-record-at : tie.Need-overflow-cast-record-at
-cast-record-at c = search rules
+overflow_cast-value : tie.Need-overflow_cast-value
+overflow_cast-value c = search rules
 
-record-at-requires : tie.Need-record-at-requires
-record-at-requires c κs = search rules
+record_at-requires : tie.Need-record_at-requires
+record_at-requires c κs = search rules
 
-enum_told : tie.Need-enum-told
-enum_told c = search rules
+enum_told-1 : tie.Need-enum_told-1
+enum_told-1 c = search rules
 
-sub-result : tie.Need-overflow-sub-result
-sub-result c = search rules
+slice_bounds-result-count : tie.Need-slice_bounds-result-count
+slice_bounds-result-count c = search rules
 
-part-result-start : tie.Need-slice-bounds-result-start
-part-result-start c = search rules
+slice_bounds-result-start : tie.Need-slice_bounds-result-start
+slice_bounds-result-start c = search rules
 
-part-result-end : tie.Need-slice-bounds-result-end
-part-result-end c = search rules
+slice_bounds-result-end : tie.Need-slice_bounds-result-end
+slice_bounds-result-end c = search rules
 
-enum-told-2 : tie.Need-enum-told-2
-enum-told-2 c = search rules
+enum_told-in-Refused : tie.Need-enum_told-in-Refused
+enum_told-in-Refused c = search rules
 
-sub-result-2 : tie.Need-overflow-sub-result-2
-sub-result-2 c = search rules
+slice_bounds-result-count-in-Refused : tie.Need-slice_bounds-result-count-in-Refused
+slice_bounds-result-count-in-Refused c = search rules
 
-part-result-start-2 : tie.Need-slice-bounds-result-start-2
-part-result-start-2 c = search rules
+slice_bounds-result-start-in-Refused : tie.Need-slice_bounds-result-start-in-Refused
+slice_bounds-result-start-in-Refused c = search rules
 
-part-result-end-2 : tie.Need-slice-bounds-result-end-2
-part-result-end-2 c = search rules
+slice_bounds-result-end-in-Refused : tie.Need-slice_bounds-result-end-in-Refused
+slice_bounds-result-end-in-Refused c = search rules
 
-returns : tie.Need-returns
+returns-in-Value : tie.Need-returns-in-Value
 unfolding record_of record_for
-returns c =
-    c.record-at.ensures ∙ ap (record_for c.before.before.before.before.before.before.before.args.block.now)
-    (sym (sym c.before.before.before.before.find.ensures ∙ c.before.before.value.given.1))
+returns-in-Value c =
+    c.record_at.ensures ∙ ap (record_for c.args.block.now)
+    (sym (sym c.find.ensures ∙ c.in-Value.is))
 
-returns-2 : tie.Need-returns-2
+returns-in-Absent : tie.Need-returns-in-Absent
 unfolding record_of record_for
-returns-2 c = ap (record_for c.before.before.before.before.before.before.args.block.now) (sym (sym c.before.before.before.find.ensures ∙ c.before.enum_told.given.1))
+returns-in-Absent c = ap (record_for c.args.block.now) (sym (sym c.find.ensures ∙ c.in-Absent.is))
 
-returns-3 : tie.Need-returns-3
+returns-in-Refused : tie.Need-returns-in-Refused
 unfolding record_of record_for
-returns-3 c = ap (record_for c.before.before.before.before.before.before.args.block.now) (sym (sym c.before.before.before.find.ensures ∙ c.before.enum-told2.given.1))
+returns-in-Refused c = ap (record_for c.args.block.now) (sym (sym c.find.ensures ∙ c.in-Refused.is))
 
 pub fetch_record_spec : {M : Type 1} → statement M
 fetch_record_spec =
-    tie.close (tie.spec find-requires enum-known-value cast-record-at record-at-requires enum_told sub-result
-    part-result-start part-result-end enum-told-2 sub-result-2 part-result-start-2 part-result-end-2 returns returns-2 returns-3)
+    tie.close (tie.spec find-requires enum_known-value overflow_cast-value record_at-requires enum_told-1 slice_bounds-result-count
+    slice_bounds-result-start slice_bounds-result-end enum_told-in-Refused slice_bounds-result-count-in-Refused slice_bounds-result-start-in-Refused slice_bounds-result-end-in-Refused returns-in-Value returns-in-Absent returns-in-Refused)

@@ -6,14 +6,14 @@ use borrow.Author.Rules.{rules}
 use Rattle.call_record.proofs.fetched_at.Statement.{statement}
 use Rattle.call_record.proofs.fetched_at.Tie as tie
 
-record-refusal-requires : tie.Need-record-refusal-requires
-record-refusal-requires c κs = search rules
+record_refusal-refusal-requires : tie.Need-record_refusal-refusal-requires
+record_refusal-refusal-requires c κs = search rules
+
+returns-then-refusal-ne0 : tie.Need-returns-then-refusal-ne0
+returns-then-refusal-ne0 c = ap Refused c.record_refusal-refusal.ensures ∙ sym (fetched_refused _ _ (λ z. c.if-refusal-ne0.true (c.record_refusal-refusal.ensures ∙ z)))
 
 returns : tie.Need-returns
-returns c = ap Refused c.before.record-refusal.ensures ∙ sym (fetched_refused _ _ (λ z. c.if1.true (c.before.record-refusal.ensures ∙ z)))
-
-returns-2 : tie.Need-returns-2
-returns-2 c = sym (fetched_found _ _ (sym c.before.record-refusal.ensures ∙ c.if1.false))
+returns c = sym (fetched_found _ _ (sym c.record_refusal-refusal.ensures ∙ c.if-refusal-ne0.false))
 
 pub fetched_at_spec : {M : Type 1} → statement M
-fetched_at_spec = tie.close (tie.spec record-refusal-requires returns returns-2)
+fetched_at_spec = tie.close (tie.spec record_refusal-refusal-requires returns-then-refusal-ne0 returns)

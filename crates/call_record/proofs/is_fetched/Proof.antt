@@ -8,34 +8,34 @@ use Rattle.call_record.proofs.is_fetched.Tie as tie
 find-requires : tie.Need-find-requires
 find-requires c κs = search rules
 
-enum-known-value : tie.Need-enum-known-value
-enum-known-value c = search rules
+enum_known-value : tie.Need-enum_known-value
+enum_known-value c = search rules
 
-cast-fetched-at : tie.Need-overflow-cast-fetched-at
-cast-fetched-at c = search rules
+overflow_cast-value : tie.Need-overflow_cast-value
+overflow_cast-value c = search rules
 
-fetched-at-requires : tie.Need-fetched-at-requires
-fetched-at-requires c κs = search rules
+fetched_at-requires : tie.Need-fetched_at-requires
+fetched_at-requires c κs = search rules
 
-enum_told : tie.Need-enum-told
-enum_told c = search rules
+enum_told-1 : tie.Need-enum_told-1
+enum_told-1 c = search rules
 
-enum-known-refusal : tie.Need-enum-known-refusal
-enum-known-refusal c = search rules
+enum_known-refusal : tie.Need-enum_known-refusal
+enum_known-refusal c = search rules
 
-returns : tie.Need-returns
+returns-in-Value : tie.Need-returns-in-Value
 unfolding fetch_of fetched_for
-returns c =
-    c.fetched-at.ensures ∙ ap (fetched_for c.before.before.before.before.before.before.before.args.block.now)
-    (sym (sym c.before.before.before.before.find.ensures ∙ c.before.before.value.given.1))
+returns-in-Value c =
+    c.fetched_at.ensures ∙ ap (fetched_for c.args.block.now)
+    (sym (sym c.find.ensures ∙ c.in-Value.is))
 
-returns-2 : tie.Need-returns-2
+returns-in-Absent : tie.Need-returns-in-Absent
 unfolding fetch_of fetched_for
-returns-2 c = ap (fetched_for c.before.before.before.before.before.args.block.now) (sym (sym c.before.before.find.ensures ∙ c.enum_told.given.1))
+returns-in-Absent c = ap (fetched_for c.args.block.now) (sym (sym c.find.ensures ∙ c.in-Absent.is))
 
-returns-3 : tie.Need-returns-3
+returns-in-Refused : tie.Need-returns-in-Refused
 unfolding fetch_of fetched_for
-returns-3 c = ap (fetched_for c.before.before.before.before.before.before.args.block.now) (sym (sym c.before.before.before.find.ensures ∙ c.before.refusal.given.1))
+returns-in-Refused c = ap (fetched_for c.args.block.now) (sym (sym c.find.ensures ∙ c.in-Refused.is))
 
 pub is_fetched_spec : {M : Type 1} → statement M
-is_fetched_spec = tie.close (tie.spec find-requires enum-known-value cast-fetched-at fetched-at-requires enum_told enum-known-refusal returns returns-2 returns-3)
+is_fetched_spec = tie.close (tie.spec find-requires enum_known-value overflow_cast-value fetched_at-requires enum_told-1 enum_known-refusal returns-in-Value returns-in-Absent returns-in-Refused)

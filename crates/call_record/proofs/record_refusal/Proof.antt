@@ -6,34 +6,34 @@ use borrow.Author.Rules.{rules}
 use Rattle.call_record.proofs.record_refusal.Statement.{statement}
 use Rattle.call_record.proofs.record_refusal.Tie as tie
 
+returns-then-block-at : tie.Need-returns-then-block-at
+returns-then-block-at c = sym (refusal_past c.args.block.now c.args.at (omega arith))
+
+bounds-block-at : tie.Need-bounds-block-at
+bounds-block-at c = search rules
+
+wide-size-requires : tie.Need-wide-size-requires
+wide-size-requires c κs = search rules
+
+returns-then-size-eq0 : tie.Need-returns-then-size-eq0
+returns-then-size-eq0 c =
+    sym (refusal_empty c.args.block.now c.args.at
+    (omega arith) c.wide-size.result c.wide-size.ensures.0 c.if-size-eq0.true)
+
+overflow_sub-block : tie.Need-overflow_sub-block
+overflow_sub-block c = search rules
+
+returns-then-block-at-2 : tie.Need-returns-then-block-at-2
+returns-then-block-at-2 c =
+    sym (refusal_long c.args.block.now
+    c.args.at (omega arith) c.wide-size.result
+    c.wide-size.ensures.0 c.if-size-eq0.false c.if-block-at-2.true)
+
 returns : tie.Need-returns
-returns c = sym (refusal_past c.before.before.args.block.now c.before.before.args.at (omega arith))
-
-shared-slice-read-wide : tie.Need-shared-slice-read-wide
-shared-slice-read-wide c = search rules
-
-wide-requires : tie.Need-wide-requires
-wide-requires c κs = search rules
-
-returns-2 : tie.Need-returns-2
-returns-2 c =
-    sym (refusal_empty c.before.before.before.before.before.args.block.now c.before.before.before.before.before.args.at
-    (omega arith) c.before.wide.result c.before.wide.ensures.0 c.if2.true)
-
-sub-if3 : tie.Need-overflow-sub-if3
-sub-if3 c = search rules
-
-returns-3 : tie.Need-returns-3
-returns-3 c =
-    sym (refusal_long c.before.before.before.before.before.before.args.block.now
-    c.before.before.before.before.before.before.args.at (omega arith) c.before.before.wide.result
-    c.before.before.wide.ensures.0 c.before.if2.false c.if3.true)
-
-returns-4 : tie.Need-returns-4
-returns-4 c =
-    sym (refusal_none c.before.before.before.before.before.before.args.block.now
-    c.before.before.before.before.before.before.args.at (omega arith) c.before.before.wide.result
-    c.before.before.wide.ensures.0 c.before.if2.false (omega arith))
+returns c =
+    sym (refusal_none c.args.block.now
+    c.args.at (omega arith) c.wide-size.result
+    c.wide-size.ensures.0 c.if-size-eq0.false (omega arith))
 
 pub record_refusal_spec : {M : Type 1} → statement M
-record_refusal_spec = tie.close (tie.spec returns shared-slice-read-wide wide-requires returns-2 sub-if3 returns-3 returns-4)
+record_refusal_spec = tie.close (tie.spec returns-then-block-at bounds-block-at wide-size-requires returns-then-size-eq0 overflow_sub-block returns-then-block-at-2 returns)

@@ -5,7 +5,7 @@ use Rattle.state.specs.Steps.{Handed}
 use Rattle.state.specs.declared.Doing.TheVariants.{Deleting}
 use Rattle.state.specs.declared.Phase.TheVariants.{NotBegun}
 use Rattle.state.specs.Block.{memory_in}
-use Rattle.state.specs.Contracts.{StartCall}
+use Rattle.state.specs.Clauses.{StartCall}
 use Rattle.state.proofs.ContractLaws.{start_no_state}
 use Rattle.call_start.specs.Refusals.{begun_by}
 use Rattle.call_start.specs.Starts.{delete_of}

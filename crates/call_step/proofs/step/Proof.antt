@@ -10,7 +10,7 @@ use Rattle.card.proofs.HeaderLaws.{sized_any}
 use Rattle.state.specs.Results.{more_to_store}
 use Rattle.state.specs.Steps.{held_by}
 use Rattle.state.specs.Block.{block_word, memory_in}
-use Rattle.call_step.specs.Contracts.{HoldsTask}
+use Rattle.call_step.specs.Clauses.{HoldsTask}
 use Rattle.call_step.proofs.ContractLaws.{refused_on_lem, format_any}
 use Rattle.call_step.proofs.LineSteps.{as_made}
 use Rattle.call_step.proofs.StepLaws.{call_no_state, call_made, step_sized, step_unsized, task_stores, held_unchecked, not_formatting, doing_format, stores_held}

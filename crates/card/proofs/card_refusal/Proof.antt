@@ -10,16 +10,16 @@ nodes_of-n-requires : tie.Need-nodes_of-n-requires
 nodes_of-n-requires c κs = search rules
 
 returns-then-n-eq0 : tie.Need-returns-then-n-eq0
-returns-then-n-eq0 c = sym (card_no_length _ _ _ c.before.nodes_of-n.ensures c.if-n-eq0.true)
+returns-then-n-eq0 c = sym (card_no_length _ _ _ c.nodes_of-n.ensures c.if-n-eq0.true)
 
 header_refusal-requires : tie.Need-header_refusal-requires
 header_refusal-requires c κs =
-    let k = sized c.before.before.before.args.greatest
-    c.before.before.before.args.card.now _ c.before.nodes_of-n.ensures c.if-n-eq0.false in
+    let k = sized c.args.greatest
+    c.args.card.now _ c.nodes_of-n.ensures c.if-n-eq0.false in
     omega (arith, k.words)
 
 returns : tie.Need-returns
-returns c = c.header_refusal.ensures ∙ sym (card_header _ _ _ c.before.before.nodes_of-n.ensures c.before.if-n-eq0.false)
+returns c = c.header_refusal.ensures ∙ sym (card_header _ _ _ c.nodes_of-n.ensures c.if-n-eq0.false)
 
 pub card_refusal_spec : {M : Type 1} → statement M
 card_refusal_spec =

@@ -28,8 +28,8 @@ bounds-node-c c = search rules
 
 returns-then-node-c-eq0 : tie.Need-returns-then-node-c-eq0 invariant-loop-c decreases-loop-c
 returns-then-node-c-eq0 c =
-    sym (children_count c.before.before.before.before.args.node.now
-    c.before.before.before.loop-c.c (search rules) (omega arith) c.before.before.before.loop-c.invariant.1 (λ l. c.if-node-c-eq0.true))
+    sym (children_count c.args.node.now
+    c.loop-c.c (search rules) (omega arith) c.loop-c.invariant.1 (λ l. c.if-node-c-eq0.true))
 
 overflow_add-c-in-loop-c : tie.Need-overflow_add-c-in-loop-c invariant-loop-c decreases-loop-c
 overflow_add-c-in-loop-c c = search rules
@@ -38,10 +38,10 @@ loop-c-smaller : tie.Need-loop-c-smaller invariant-loop-c decreases-loop-c
 loop-c-smaller c = search rules
 
 loop-c-preserved : tie.Need-loop-c-preserved invariant-loop-c decreases-loop-c
-loop-c-preserved c = (omega arith, below_more _ _ c.before.before.before.loop-c.invariant.1 c.if-node-c-eq0.false)
+loop-c-preserved c = (omega arith, below_more _ _ c.loop-c.invariant.1 c.if-node-c-eq0.false)
 
 returns : tie.Need-returns invariant-loop-c decreases-loop-c
-returns c = sym (children_count c.before.before.args.node.now c.before.loop-c.c (search rules) (omega arith) c.before.loop-c.invariant.1 (λ l. absurd (omega arith)))
+returns c = sym (children_count c.args.node.now c.loop-c.c (search rules) (omega arith) c.loop-c.invariant.1 (λ l. absurd (omega arith)))
 
 pub child_count_spec : {M : Type 1} → statement M
 child_count_spec =

@@ -18,7 +18,7 @@ overflow_cast-card : tie.Need-overflow_cast-card
 overflow_cast-card c = omega (arith, c.shared_slice_known-2-1.given 1)
 
 returns-then-card-n : tie.Need-returns-then-card-n
-returns-then-card-n c = sym (wrong_word1 _ _ c.before.before.if-card-ne-MARK.false c.if-card-n.true)
+returns-then-card-n c = sym (wrong_word1 _ _ c.if-card-ne-MARK.false c.if-card-n.true)
 
 bounds-card-2 : tie.Need-bounds-card-2
 bounds-card-2 c = search rules
@@ -27,7 +27,7 @@ overflow_cast-t-9 : tie.Need-overflow_cast-t-9
 overflow_cast-t-9 c = omega arith
 
 returns-then-card : tie.Need-returns-then-card
-returns-then-card c = sym (wrong_word2 _ _ c.before.before.before.before.if-card-ne-MARK.false c.before.before.if-card-n.false c.if-card.true)
+returns-then-card c = sym (wrong_word2 _ _ c.if-card-ne-MARK.false c.if-card-n.false c.if-card.true)
 
 bounds-card-3 : tie.Need-bounds-card-3
 bounds-card-3 c = search rules
@@ -36,45 +36,45 @@ overflow_cast-t-9-2 : tie.Need-overflow_cast-t-9-2
 overflow_cast-t-9-2 c = omega arith
 
 returns-then-card-2 : tie.Need-returns-then-card-2
-returns-then-card-2 c = sym (wrong_word3 _ _ c.before.before.before.before.before.before.if-card-ne-MARK.false c.before.before.before.before.if-card-n.false c.before.before.if-card.false c.if-card-2.true)
+returns-then-card-2 c = sym (wrong_word3 _ _ c.if-card-ne-MARK.false c.if-card-n.false c.if-card.false c.if-card-2.true)
 
 bounds-card-5 : tie.Need-bounds-card-5
 bounds-card-5 c = search rules
 
 returns-then-card-ne0 : tie.Need-returns-then-card-ne0
 returns-then-card-ne0 c =
-    sym (wrong_word5 _ _ c.before.before.before.before.before.before.before.before.if-card-ne-MARK.false
-    c.before.before.before.before.before.before.if-card-n.false
-    c.before.before.before.before.if-card.false c.before.before.if-card-2.false c.if-card-ne0.true)
+    sym (wrong_word5 _ _ c.if-card-ne-MARK.false
+    c.if-card-n.false
+    c.if-card.false c.if-card-2.false c.if-card-ne0.true)
 
 bounds-card-6 : tie.Need-bounds-card-6
 bounds-card-6 c = search rules
 
 returns-then-card-ne0-2 : tie.Need-returns-then-card-ne0-2
 returns-then-card-ne0-2 c =
-    sym (wrong_word6 _ _ c.before.before.before.before.before.before.before.before.before.before.if-card-ne-MARK.false
-    c.before.before.before.before.before.before.before.before.if-card-n.false c.before.before.before.before.before.before.if-card.false
-    c.before.before.before.before.if-card-2.false c.before.before.if-card-ne0.false c.if-card-ne0-2.true)
+    sym (wrong_word6 _ _ c.if-card-ne-MARK.false
+    c.if-card-n.false c.if-card.false
+    c.if-card-2.false c.if-card-ne0.false c.if-card-ne0-2.true)
 
 bounds-card-7 : tie.Need-bounds-card-7
 bounds-card-7 c = search rules
 
 returns-then-card-ne0-3 : tie.Need-returns-then-card-ne0-3
 returns-then-card-ne0-3 c =
-    sym (wrong_word7 _ _ c.before.before.before.before.before.before.before.before.before.before.before.before.if-card-ne-MARK.false
-    c.before.before.before.before.before.before.before.before.before.before.if-card-n.false
-    c.before.before.before.before.before.before.before.before.if-card.false c.before.before.before.before.before.before.if-card-2.false
-    c.before.before.before.before.if-card-ne0.false c.before.before.if-card-ne0-2.false c.if-card-ne0-3.true)
+    sym (wrong_word7 _ _ c.if-card-ne-MARK.false
+    c.if-card-n.false
+    c.if-card.false c.if-card-2.false
+    c.if-card-ne0.false c.if-card-ne0-2.false c.if-card-ne0-3.true)
 
 returns : tie.Need-returns
 returns c =
     sym (formatted_header _ _ (record {
-      mark = c.before.before.before.before.before.before.before.before.before.before.before.before.if-card-ne-MARK.false;
-      nodes = c.before.before.before.before.before.before.before.before.before.before.if-card-n.false;
-      first = c.before.before.before.before.before.before.before.before.if-card.false;
-      each = c.before.before.before.before.before.before.if-card-2.false;
-      five = c.before.before.before.before.if-card-ne0.false;
-      six = c.before.before.if-card-ne0-2.false;
+      mark = c.if-card-ne-MARK.false;
+      nodes = c.if-card-n.false;
+      first = c.if-card.false;
+      each = c.if-card-2.false;
+      five = c.if-card-ne0.false;
+      six = c.if-card-ne0-2.false;
       seven = c.if-card-ne0-3.false;
     }))
 

@@ -29,7 +29,7 @@ slice_bounds-result-end : tie.Need-slice_bounds-result-end
 slice_bounds-result-end c = search rules
 
 returns : tie.Need-returns
-returns c = node_part _ c.before.args.m _ _ refl refl
+returns c = node_part _ c.args.m _ _ refl refl
 
 pub node_at_spec : {M : Type 1} → statement M
 node_at_spec =

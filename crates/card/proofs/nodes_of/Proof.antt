@@ -24,7 +24,7 @@ overflow_add-limit : tie.Need-overflow_add-limit
 overflow_add-limit c = search rules
 
 returns-then-limit-length : tie.Need-returns-then-limit-length
-returns-then-limit-length c = sym (nodes_long _ _ (omega arith) (omega (arith, c.before.limit.ensures.0, c.if-limit-length.true)))
+returns-then-limit-length c = sym (nodes_long _ _ (omega arith) (omega (arith, c.limit.ensures.0, c.if-limit-length.true)))
 
 overflow_sub-length : tie.Need-overflow_sub-length
 overflow_sub-length c = search rules
@@ -33,10 +33,10 @@ overflow_sub-result : tie.Need-overflow_sub-result
 overflow_sub-result c = search rules
 
 returns-then-length-eq0 : tie.Need-returns-then-length-eq0
-returns-then-length-eq0 c = sym (nodes_whole _ _ (omega arith) (omega (arith, c.before.before.limit.ensures.0)) c.if-length-eq0.true)
+returns-then-length-eq0 c = sym (nodes_whole _ _ (omega arith) (omega (arith, c.limit.ensures.0)) c.if-length-eq0.true)
 
 returns-else-length-eq0 : tie.Need-returns-else-length-eq0
-returns-else-length-eq0 c = sym (nodes_odd _ _ (omega arith) (omega (arith, c.before.before.limit.ensures.0)) c.if-length-eq0.false)
+returns-else-length-eq0 c = sym (nodes_odd _ _ (omega arith) (omega (arith, c.limit.ensures.0)) c.if-length-eq0.false)
 
 pub nodes_of_spec : {M : Type 1} → statement M
 nodes_of_spec =

@@ -8,16 +8,14 @@ use Rattle.card.proofs.on_line.Tie as tie
 
 returns-then-line-ne-SECOND_LINE : tie.Need-returns-then-line-ne-SECOND_LINE
 returns-then-line-ne-SECOND_LINE c =
-    let s = c.before in
-    sym (on_first s.args.place) ∙ ap (λ (l : ℕ). on_line l s.args.place) (sym (not_the_second s.args.line s.requires c.if-line-ne-SECOND_LINE.true))
+    sym (on_first c.args.place) ∙ ap (λ (l : ℕ). on_line l c.args.place) (sym (not_the_second c.args.line c.requires c.if-line-ne-SECOND_LINE.true))
 
 returns-then-place-eq-ROOT_LINK : tie.Need-returns-then-place-eq-ROOT_LINK
 returns-then-place-eq-ROOT_LINK c =
-    let s = c.before.before in
-    sym (ap (λ (l : ℕ). on_line l s.args.place) c.before.if-line-ne-SECOND_LINE.false ∙ on_root 2 s.args.place c.if-place-eq-ROOT_LINK.true)
+    sym (ap (λ (l : ℕ). on_line l c.args.place) c.if-line-ne-SECOND_LINE.false ∙ on_root 2 c.args.place c.if-place-eq-ROOT_LINK.true)
 
 returns : tie.Need-returns
-returns c = let s = c.before.before in sym (on_node s.args.line s.args.place c.if-place-eq-ROOT_LINK.false)
+returns c = sym (on_node c.args.line c.args.place c.if-place-eq-ROOT_LINK.false)
 
 pub on_line_spec : {M : Type 1} → statement M
 on_line_spec = tie.close (tie.spec returns-then-line-ne-SECOND_LINE returns-then-place-eq-ROOT_LINK returns)

@@ -29,7 +29,7 @@ is_key-count-requires : tie.Need-is_key-count-requires invariant-loop-i decrease
 is_key-count-requires c κs = search rules
 
 overflow_add-count : tie.Need-overflow_add-count invariant-loop-i decreases-loop-i
-overflow_add-count c = omega (arith, c.is_key-count.ensures, is_key_le (get_or c.before.before.before.before.before.args.node.now (1 + c.before.before.before.loop-i.i) 0))
+overflow_add-count c = omega (arith, c.is_key-count.ensures, is_key_le (get_or c.args.node.now (1 + c.loop-i.i) 0))
 
 overflow_add-i-in-loop-i : tie.Need-overflow_add-i-in-loop-i invariant-loop-i decreases-loop-i
 overflow_add-i-in-loop-i c = search rules
@@ -39,16 +39,16 @@ loop-i-smaller c = search rules
 
 loop-i-preserved : tie.Need-loop-i-preserved invariant-loop-i decreases-loop-i
 loop-i-preserved c =
-    let l = c.before.before.before.loop-i in
-    let n = c.before.before.before.before.before.args.node.now in
-    let len : length c.before.before.before.before.before.args.node.now ≡ 24 = search rules in
+    let l = c.loop-i in
+    let n = c.args.node.now in
+    let len : length c.args.node.now ≡ 24 = search rules in
     (omega arith, omega (arith, c.is_key-count.ensures, is_key_le (get_or n (1 + l.i) 0)), omega (arith, l.invariant.2, c.is_key-count.ensures, leaf_length n len l.i (omega arith)))
 
 returns : tie.Need-returns invariant-loop-i decreases-loop-i
 returns c =
-    let len : length c.before.before.before.args.node.now ≡ 24 = search rules in
-    let node = c.before.before.before.args.node.now in
-    omega (arith, c.before.loop-i.invariant.2, ap length (leaf_start node), ap length (leaf_end node len c.before.loop-i.i (omega arith)))
+    let len : length c.args.node.now ≡ 24 = search rules in
+    let node = c.args.node.now in
+    omega (arith, c.loop-i.invariant.2, ap length (leaf_start node), ap length (leaf_end node len c.loop-i.i (omega arith)))
 
 pub pair_count_spec : {M : Type 1} → statement M
 pair_count_spec =

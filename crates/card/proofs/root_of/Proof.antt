@@ -17,8 +17,7 @@ overflow_cast-result c = omega (arith, c.shared_slice_known-1.given 5)
 
 returns-then-line-eq-SECOND_LINE : tie.Need-returns-then-line-eq-SECOND_LINE
 returns-then-line-eq-SECOND_LINE c =
-    let s = c.before.before in
-    ap (λ (l : ℕ). get_or s.args.card.now (root_of l) 0) (sym c.before.if-line-eq-SECOND_LINE.true)
+    ap (λ (l : ℕ). get_or c.args.card.now (root_of l) 0) (sym c.if-line-eq-SECOND_LINE.true)
 
 bounds-card-4 : tie.Need-bounds-card-4
 bounds-card-4 c = search rules
@@ -28,8 +27,7 @@ overflow_cast-result-2 c = omega (arith, c.shared_slice_known-2-1.given 4)
 
 returns : tie.Need-returns
 returns c =
-    let s = c.before.before in
-    ap (λ (l : ℕ). get_or s.args.card.now (root_of l) 0) (sym (not_the_second s.args.line s.requires.1 c.before.if-line-eq-SECOND_LINE.false))
+    ap (λ (l : ℕ). get_or c.args.card.now (root_of l) 0) (sym (not_the_second c.args.line c.requires.1 c.if-line-eq-SECOND_LINE.false))
 
 pub root_of_spec : {M : Type 1} → statement M
 root_of_spec =

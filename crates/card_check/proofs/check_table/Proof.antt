@@ -22,91 +22,87 @@ cleared_length : (found : List ℕ) → length found ≡ 3 + family_count → le
 cleared_length found l = stored_length found 0 0 0 ∙ l
 
 -- all lent words as the check of the root is given them
-long : (c : tie.After-clear-totals)
-    → length (with_totals (cleared c.before.before.before.before.before.before.before.before.before.args.found.now)
-    c.clear-totals.new.0) ≡ 3 + family_count
+long : (c : tie.After-clear_totals)
+    → length (with_totals (cleared c.args.found.now)
+    c.clear_totals.new.totals) ≡ 3 + family_count
 long c =
-    let s = c.before.before.before.before.before.before.before.before.before in
-    with_length (cleared s.args.found.now) c.clear-totals.new.0 (cleared_length s.args.found.now s.requires.3)
-    (c.clear-totals.auto.0 ∙ lent_length (cleared s.args.found.now) (cleared_length s.args.found.now s.requires.3))
+    with_length (cleared c.args.found.now) c.clear_totals.new.totals (cleared_length c.args.found.now c.requires.3)
+    (c.clear_totals.auto.totals ∙ lent_length (cleared c.args.found.now) (cleared_length c.args.found.now c.requires.3))
 
 fill-requires : tie.Need-fill-requires
 fill-requires c κs = search rules
 
-slice-write-found : tie.Need-slice-write-found
-slice-write-found c = search rules
+bounds-found-0 : tie.Need-bounds-found-0
+bounds-found-0 c = search rules
 
-slice-write-found-2 : tie.Need-slice-write-found-2
-slice-write-found-2 c = search rules
+bounds-found-1 : tie.Need-bounds-found-1
+bounds-found-1 c = search rules
 
-slice-write-found-3 : tie.Need-slice-write-found-3
-slice-write-found-3 c =
-    let s = c.before.before.before.before.before.before.before in
-    omega (arith, length-set (set s.args.found.now 0 0) 1 0, length-set s.args.found.now 0 0)
+bounds-found-2 : tie.Need-bounds-found-2
+bounds-found-2 c =
+    omega (arith, length-set (set c.args.found.now 0 0) 1 0, length-set c.args.found.now 0 0)
 
-sub-clear-totals : tie.Need-overflow-sub-clear-totals
-sub-clear-totals c = search rules
+slice_bounds-clear_totals-count : tie.Need-slice_bounds-clear_totals-count
+slice_bounds-clear_totals-count c = search rules
 
-part-clear-totals-start : tie.Need-slice-bounds-clear-totals-start
-part-clear-totals-start c = let s = c.before.before.before.before.before.before.before in omega (arith, cleared_length s.args.found.now s.requires.3)
+slice_bounds-clear_totals-start : tie.Need-slice_bounds-clear_totals-start
+slice_bounds-clear_totals-start c = omega (arith, cleared_length c.args.found.now c.requires.3)
 
-part-clear-totals-end : tie.Need-slice-bounds-clear-totals-end
-part-clear-totals-end c = let s = c.before.before.before.before.before.before.before in omega (arith, cleared_length s.args.found.now s.requires.3)
+slice_bounds-clear_totals-end : tie.Need-slice_bounds-clear_totals-end
+slice_bounds-clear_totals-end c = omega (arith, cleared_length c.args.found.now c.requires.3)
 
-clear-totals-requires : tie.Need-clear-totals-requires
-clear-totals-requires c κs = let s = c.before.before.before.before.before.before.before.before in lent_length (cleared s.args.found.now) (cleared_length s.args.found.now s.requires.3)
+clear_totals-requires : tie.Need-clear_totals-requires
+clear_totals-requires c κs = lent_length (cleared c.args.found.now) (cleared_length c.args.found.now c.requires.3)
 
-shared-slice-read-check-tree : tie.Need-shared-slice-read-check-tree
-shared-slice-read-check-tree c = search rules
+bounds-card-4 : tie.Need-bounds-card-4
+bounds-card-4 c = search rules
 
-cast-check-tree : tie.Need-overflow-cast-check-tree
-cast-check-tree c = omega (arith, c.shared-slice-known2.given 4)
+overflow_cast-card : tie.Need-overflow_cast-card
+overflow_cast-card c = omega (arith, c.shared_slice_known-2-1.given 4)
 
-check-tree-requires : tie.Need-check-tree-requires
-check-tree-requires c κs = (search rules, search rules, search rules, long c.before.before.before.before.before)
+check_tree-requires : tie.Need-check_tree-requires
+check_tree-requires c κs = (search rules, search rules, search rules, long c.before.before.before.before.before)
 
-same_length : tie.Need-same-length
-same_length c = search rules
+shape_of-free : tie.Need-shape_of-free
+shape_of-free c = search rules
 
-same-length-2 : tie.Need-same-length-2
-same-length-2 c =
-    let s = c.before.before.before.before.before.before.before.before.before.before.before.before.before.before.before.before.before.before.before in
-    c.before.before.before.before.check-tree.auto.1.1.1.1.0
-    ∙ long c.before.before.before.before.before.before.before.before.before.before ∙ sym s.pre.3
+shape_of-found : tie.Need-shape_of-found
+shape_of-found c =
+    c.check_tree.auto.found
+    ∙ long c.before.before.before.before.before.before.before.before.before.before ∙ sym c.requires.3
 
 returns : tie.Need-returns
 unfolding table_check table_counted
-returns c =
-    let s = c.before.before.before.before.before.before.before.before.before.before.before.before.before.before.before.before.before.before.before in (
-      c.before.before.before.before.check-tree.ensures.0 ∙ rw (
-        with_findings _ (cleared s.args.found.now)
-            c.before.before.before.before.before.before.before.before.before.before.clear-totals.new.0
-            (cleared_length s.args.found.now s.requires.3),
-        found_stored _ s.args.found.now 0 0 0 (omega arith),
-        c.before.before.before.before.before.before.before.before.before.before.before.before.before.before.fill.ensures,
-      ),
-      λ h e. c.before.before.before.before.check-tree.ensures.1 h e ∙ ap (node_counted depth_limit s.args.card.now (get_or s.args.card.now root_place 0))
-          (with_totals_lem (cleared s.args.found.now)
-          c.before.before.before.before.before.before.before.before.before.before.clear-totals.new.0
-          (cleared_length s.args.found.now s.requires.3)
-          ∙ c.before.before.before.before.before.before.before.before.before.before.clear-totals.ensures),
-    )
+returns c = (
+  c.check_tree.ensures.0 ∙ rw (
+    with_findings _ (cleared c.args.found.now)
+        c.clear_totals.new.totals
+        (cleared_length c.args.found.now c.requires.3),
+    found_stored _ c.args.found.now 0 0 0 (omega arith),
+    c.fill.ensures,
+  ),
+  λ h e. c.check_tree.ensures.1 h e ∙ ap (node_counted depth_limit c.args.card.now (get_or c.args.card.now root_place 0))
+      (with_totals_lem (cleared c.args.found.now)
+      c.clear_totals.new.totals
+      (cleared_length c.args.found.now c.requires.3)
+      ∙ c.clear_totals.ensures),
+)
 
 pub check_table_spec : {M : Type 1} → statement M
 check_table_spec =
     tie.close
     (tie.spec
     fill-requires
-    slice-write-found
-    slice-write-found-2
-    slice-write-found-3
-    sub-clear-totals
-    part-clear-totals-start
-    part-clear-totals-end
-    clear-totals-requires
-    shared-slice-read-check-tree
-    cast-check-tree
-    check-tree-requires
-    same_length
-    same-length-2
+    bounds-found-0
+    bounds-found-1
+    bounds-found-2
+    slice_bounds-clear_totals-count
+    slice_bounds-clear_totals-start
+    slice_bounds-clear_totals-end
+    clear_totals-requires
+    bounds-card-4
+    overflow_cast-card
+    check_tree-requires
+    shape_of-free
+    shape_of-found
     returns)

@@ -4,18 +4,18 @@ use Rattle.card_check.specs.Check.{tree_check}
 use Rattle.card_check.proofs.check_tree.Statement.{statement}
 use Rattle.card_check.proofs.check_tree.Tie as tie
 
-node-check-requires : tie.Need-node-check-requires
-node-check-requires c κs = search rules
+node_check-requires : tie.Need-node_check-requires
+node_check-requires c κs = search rules
 
-same_length : tie.Need-same-length
-same_length c = search rules
+shape_of-free : tie.Need-shape_of-free
+shape_of-free c = search rules
 
-same-length-2 : tie.Need-same-length-2
-same-length-2 c = search rules
+shape_of-found : tie.Need-shape_of-found
+shape_of-found c = search rules
 
 returns : tie.Need-returns
 unfolding tree_check
-returns c = let k = c.before.before.before.before.node-check.ensures in (k.0, k.1.1)
+returns c = let k = c.node_check.ensures in (k.0, k.1.1)
 
 pub check_tree_spec : {M : Type 1} → statement M
-check_tree_spec = tie.close (tie.spec node-check-requires same_length same-length-2 returns)
+check_tree_spec = tie.close (tie.spec node_check-requires shape_of-free shape_of-found returns)

@@ -4,14 +4,14 @@ use Rattle.card.proofs.NodeLaws.{run_more, run_none}
 use Rattle.card_check.proofs.child_run.Statement.{statement}
 use Rattle.card_check.proofs.child_run.Tie as tie
 
-add-result : tie.Need-overflow-add-result
-add-result c = search rules
+overflow_add-result : tie.Need-overflow_add-result
+overflow_add-result c = search rules
 
-returns : tie.Need-returns
-returns c = sym (run_more c.before.args.c c.before.args.run c.if1.true)
+returns-then-c-eq-SLOTS : tie.Need-returns-then-c-eq-SLOTS
+returns-then-c-eq-SLOTS c = sym (run_more c.args.c c.args.run c.if-c-eq-SLOTS.true)
 
-returns-2 : tie.Need-returns-2
-returns-2 c = sym (run_none c.before.args.c c.before.args.run c.if1.false)
+returns-else-c-eq-SLOTS : tie.Need-returns-else-c-eq-SLOTS
+returns-else-c-eq-SLOTS c = sym (run_none c.args.c c.args.run c.if-c-eq-SLOTS.false)
 
 pub child_run_spec : {M : Type 1} → statement M
-child_run_spec = tie.close (tie.spec add-result returns returns-2)
+child_run_spec = tie.close (tie.spec overflow_add-result returns-then-c-eq-SLOTS returns-else-c-eq-SLOTS)

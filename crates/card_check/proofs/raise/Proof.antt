@@ -5,23 +5,23 @@ use Rattle.card_check.proofs.CheckLaws.{raise_unsound, sound_height, raise_tagge
 use Rattle.card_check.proofs.raise.Statement.{statement}
 use Rattle.card_check.proofs.raise.Tie as tie
 
-enum_told : tie.Need-enum-told
-enum_told c = search rules
+enum_told-1 : tie.Need-enum_told-1
+enum_told-1 c = search rules
 
-enum-known-r : tie.Need-enum-known-r
-enum-known-r c = search rules
+enum_known-r : tie.Need-enum_known-r
+enum_known-r c = search rules
 
-returns : tie.Need-returns
-returns c = let s = c.before.before.before.before.args in raise_tagged s.tagged s.r _ c.before.before.r.given.1 c.if1.true
+returns-then-tagged : tie.Need-returns-then-tagged
+returns-then-tagged c = let s = c.args in raise_tagged s.tagged s.r _ c.in-Sound.is c.if-tagged.true
 
-add-t6 : tie.Need-overflow-add-t6
-add-t6 c = let s = c.before.before.before.before.args in omega (arith, sound_height s.r _ c.before.before.r.given.1)
+overflow_add-result : tie.Need-overflow_add-result
+overflow_add-result c = let s = c.args in omega (arith, sound_height s.r _ c.in-Sound.is)
 
-returns-2 : tie.Need-returns-2
-returns-2 c = let s = c.before.before.args in raise_unsound s.tagged s.r c.enum_told.given.1
+returns-in-Unsound : tie.Need-returns-in-Unsound
+returns-in-Unsound c = let s = c.args in raise_unsound s.tagged s.r c.in-Unsound.is
 
-returns-3 : tie.Need-returns-3
-returns-3 c = let s = c.before.before.before.before.args in raise_more s.tagged s.r _ c.before.before.r.given.1 c.if1.false
+returns-else-tagged : tie.Need-returns-else-tagged
+returns-else-tagged c = let s = c.args in raise_more s.tagged s.r _ c.in-Sound.is c.if-tagged.false
 
 pub raise_spec : {M : Type 1} → statement M
-raise_spec = tie.close (tie.spec enum_told enum-known-r returns add-t6 returns-2 returns-3)
+raise_spec = tie.close (tie.spec enum_told-1 enum_known-r returns-then-tagged overflow_add-result returns-in-Unsound returns-else-tagged)

@@ -8,56 +8,52 @@ use Rattle.card_check.proofs.CheckLaws.{end_last, end_fallen, end_above, end_wit
 use Rattle.card_check.proofs.range_end.Statement.{statement}
 use Rattle.card_check.proofs.range_end.Tie as tie
 
-add-if1 : tie.Need-overflow-add-if1
-add-if1 c = search rules
+overflow_add-i : tie.Need-overflow_add-i
+overflow_add-i c = search rules
+
+returns-then-c-i : tie.Need-returns-then-c-i
+unfolding range_end_of
+returns-then-c-i c =
+    sym (end_last c.args.node.now (search rules) c.args.c c.args.i (search rules) c.args.from c.args.high (omega arith))
+
+overflow_add-key : tie.Need-overflow_add-key
+overflow_add-key c = search rules
+
+offset_bounds-node-i : tie.Need-offset_bounds-node-i
+offset_bounds-node-i c = omega (arith, children_le c.args.node.now)
+
+bounds-node-i : tie.Need-bounds-node-i
+bounds-node-i c = omega (arith, children_le c.args.node.now)
+
+returns-then-key-from : tie.Need-returns-then-key-from
+unfolding range_end_of
+returns-then-key-from c =
+    sym (end_fallen c.args.node.now (search rules) c.args.c c.args.i (search rules) c.args.from c.args.high (omega arith) (omega arith))
+
+wide-end-requires : tie.Need-wide-end-requires
+wide-end-requires c κs = search rules
+
+returns-then-high-end : tie.Need-returns-then-high-end
+unfolding range_end_of
+returns-then-high-end c =
+    sym (end_above c.args.node.now (search rules) c.args.c c.args.i (search rules) c.args.from c.args.high (omega arith) (omega arith) (omega (arith, c.wide-end.ensures)))
 
 returns : tie.Need-returns
 unfolding range_end_of
 returns c =
-    let s = c.before.before in
-    sym (end_last s.args.node.now (search rules) s.args.c s.args.i (search rules) s.args.from s.args.high (omega arith))
-
-add-key : tie.Need-overflow-add-key
-add-key c = search rules
-
-mul-key : tie.Need-overflow-mul-key
-mul-key c = omega (arith, children_le c.before.before.args.node.now)
-
-shared-slice-read-key : tie.Need-shared-slice-read-key
-shared-slice-read-key c = omega (arith, children_le c.before.before.before.args.node.now)
-
-returns-2 : tie.Need-returns-2
-unfolding range_end_of
-returns-2 c =
-    let s = c.before.before.before.before in
-    sym (end_fallen s.args.node.now (search rules) s.args.c s.args.i (search rules) s.args.from s.args.high (omega arith) (omega arith))
-
-wide-requires : tie.Need-wide-requires
-wide-requires c κs = search rules
-
-returns-3 : tie.Need-returns-3
-unfolding range_end_of
-returns-3 c =
-    let s = c.before.before.before.before.before.before in
-    sym (end_above s.args.node.now (search rules) s.args.c s.args.i (search rules) s.args.from s.args.high (omega arith) (omega arith) (omega (arith, c.before.wide.ensures)))
-
-returns-4 : tie.Need-returns-4
-unfolding range_end_of
-returns-4 c =
-    let s = c.before.before.before.before.before.before in
-    ap some c.before.wide.ensures ∙ sym (end_within s.args.node.now (search rules) s.args.c s.args.i (search rules)
-    s.args.from s.args.high (omega arith) (omega arith) (omega (arith, c.before.wide.ensures)))
+    ap some c.wide-end.ensures ∙ sym (end_within c.args.node.now (search rules) c.args.c c.args.i (search rules)
+    c.args.from c.args.high (omega arith) (omega arith) (omega (arith, c.wide-end.ensures)))
 
 pub range_end_spec : {M : Type 1} → statement M
 range_end_spec =
     tie.close
     (tie.spec
-    add-if1
-    returns
-    add-key
-    mul-key
-    shared-slice-read-key
-    returns-2
-    wide-requires
-    returns-3
-    returns-4)
+    overflow_add-i
+    returns-then-c-i
+    overflow_add-key
+    offset_bounds-node-i
+    bounds-node-i
+    returns-then-key-from
+    wide-end-requires
+    returns-then-high-end
+    returns)

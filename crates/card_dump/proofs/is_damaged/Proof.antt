@@ -12,107 +12,107 @@ use Rattle.card_dump.proofs.is_damaged.Statement.{statement}
 use Rattle.card_dump.proofs.is_damaged.Tie as tie
 
 -- the two calls answer for N as word 1 says it
-padded : (c : tie.After-padded-length2)
-    → padded_length (words_for (dump_nodes c.before.before.before.before.before.before.before.before.before.before.args.dump.now))
-    ≡ c.padded-length2.result
-padded c = ap (λ (k : ℕ). padded_length (words_for k)) (sym c.before.before.before.word_at.ensures) ∙ sym c.padded-length2.ensures
+padded : (c : tie.After-padded_length-2)
+    → padded_length (words_for (dump_nodes c.args.dump.now))
+    ≡ c.padded_length-2.result
+padded c = ap (λ (k : ℕ). padded_length (words_for k)) (sym c.word_at-n.ensures) ∙ sym c.padded_length-2.ensures
 
-zeros : (c : tie.After-padding-is-zero)
-    → all_zero (drop (4 * words_for (dump_nodes c.before.before.before.before.before.before.before.before.before.before.before.before.args.dump.now))
-    c.before.before.before.before.before.before.before.before.before.before.before.before.args.dump.now) ≡ c.padding-is-zero.result
+zeros : (c : tie.After-padding_is_zero)
+    → all_zero (drop (4 * words_for (dump_nodes c.args.dump.now))
+    c.args.dump.now) ≡ c.padding_is_zero.result
 zeros c =
     ap (λ (k : ℕ). all_zero (drop (4 * words_for k)
-    c.before.before.before.before.before.before.before.before.before.before.before.before.args.dump.now))
-    (sym c.before.before.before.before.before.word_at.ensures)
-    ∙ ap (λ (i : ℕ). all_zero (drop i c.before.before.before.before.before.before.before.before.before.before.before.before.args.dump.now))
-    (sym (padding_start c.before.before.before.before.before.word_at.result))
-    ∙ sym c.padding-is-zero.ensures
+    c.args.dump.now))
+    (sym c.word_at-n.ensures)
+    ∙ ap (λ (i : ℕ). all_zero (drop i c.args.dump.now))
+    (sym (padding_start c.word_at-n.result))
+    ∙ sym c.padding_is_zero.ensures
 
-returns : tie.Need-returns
-returns c = sym (damaged_empty _ _ c.if1.true)
+returns-then-dump-eq0 : tie.Need-returns-then-dump-eq0
+returns-then-dump-eq0 c = sym (damaged_empty _ _ c.if-dump-eq0.true)
 
-returns-2 : tie.Need-returns-2
-returns-2 c = sym (damaged_odd _ _ c.if2.true)
+returns-then-dump-ne0 : tie.Need-returns-then-dump-ne0
+returns-then-dump-ne0 c = sym (damaged_odd _ _ c.if-dump-ne0.true)
 
-limit-requires : tie.Need-limit-requires
-limit-requires c κs = search rules
+limit-most-requires : tie.Need-limit-most-requires
+limit-most-requires c κs = search rules
 
-mul-padded-length : tie.Need-overflow-mul-padded-length
-mul-padded-length c = search rules
+overflow_mul-most : tie.Need-overflow_mul-most
+overflow_mul-most c = search rules
 
-add-padded-length : tie.Need-overflow-add-padded-length
-add-padded-length c = search rules
+overflow_add-most : tie.Need-overflow_add-most
+overflow_add-most c = search rules
 
-padded-length-requires : tie.Need-padded-length-requires
-padded-length-requires c κs = search rules
+padded_length-requires : tie.Need-padded_length-requires
+padded_length-requires c κs = search rules
 
-returns-3 : tie.Need-returns-3
-returns-3 c =
-    sym (damaged_long _ _ (rw (sym (ap (λ (k : ℕ). padded_length (words_for k)) c.before.before.limit.ensures.0)) (omega (arith, c.before.padded-length.ensures))))
+returns-then-padded_length-dump : tie.Need-returns-then-padded_length-dump
+returns-then-padded_length-dump c =
+    sym (damaged_long _ _ (rw (sym (ap (λ (k : ℕ). padded_length (words_for k)) c.limit-most.ensures.0)) (omega (arith, c.padded_length.ensures))))
 
-word-at-requires : tie.Need-word-at-requires
-word-at-requires c κs = search rules
+word_at-n-requires : tie.Need-word_at-n-requires
+word_at-n-requires c κs = search rules
 
-cast-n : tie.Need-overflow-cast-n
-cast-n c = search rules
+overflow_cast-n : tie.Need-overflow_cast-n
+overflow_cast-n c = search rules
 
-returns-4 : tie.Need-returns-4
-returns-4 c = sym (damaged_few _ _ (omega arith))
+returns-then-n-lt-LEAST_NODES : tie.Need-returns-then-n-lt-LEAST_NODES
+returns-then-n-lt-LEAST_NODES c = sym (damaged_few _ _ (omega arith))
 
-returns-5 : tie.Need-returns-5
-returns-5 c = sym (damaged_many _ _ (omega arith))
+returns-then-most-n : tie.Need-returns-then-most-n
+returns-then-most-n c = sym (damaged_many _ _ (omega arith))
 
-mul_words : tie.Need-overflow-mul-words
-mul_words c = search rules
+overflow_mul-words : tie.Need-overflow_mul-words
+overflow_mul-words c = search rules
 
-add_words : tie.Need-overflow-add-words
-add_words c = search rules
+overflow_add-words : tie.Need-overflow_add-words
+overflow_add-words c = search rules
 
-padded-length-requires-2 : tie.Need-padded-length-requires-2
-padded-length-requires-2 c κs = search rules
+padded_length-requires-2 : tie.Need-padded_length-requires-2
+padded_length-requires-2 c κs = search rules
 
-returns-6 : tie.Need-returns-6
-returns-6 c = sym (damaged_length _ _ (λ e. c.if6.true (sym (padded c.before) ∙ e)))
+returns-then-padded_length-dump-2 : tie.Need-returns-then-padded_length-dump-2
+returns-then-padded_length-dump-2 c = sym (damaged_length _ _ (λ e. c.if-padded_length-dump-2.true (sym (padded c.before) ∙ e)))
 
-padding-is-zero-requires : tie.Need-padding-is-zero-requires
-padding-is-zero-requires c κs = omega (arith, c.before.before.before.before.before.before.before.before.if2.false)
+padding_is_zero-requires : tie.Need-padding_is_zero-requires
+padding_is_zero-requires c κs = omega (arith, c.if-dump-ne0.false)
 
-returns-7 : tie.Need-returns-7
-returns-7 c =
+returns-then-padding_is_zero : tie.Need-returns-then-padding_is_zero
+returns-then-padding_is_zero c =
     sym (whole_undamaged _ _ (record {
       least = omega arith;
-      most = omega (arith, c.before.before.before.before.before.before.before.before.before.limit.ensures.1);
+      most = omega (arith, c.limit-most.ensures.1);
       within = omega (
         arith,
-        limited_within c.before.before.before.before.before.before.before.before.before.before.before.before.before.args.greatest,
-        c.before.before.before.before.before.before.before.before.before.limit.ensures.0,
+        limited_within c.args.greatest,
+        c.limit-most.ensures.0,
       );
-      padded = padded c.before.before.before ∙ c.before.before.if6.false;
-      zeros = zeros c.before ∙ c.if7.true;
+      padded = padded c.before.before.before ∙ c.if-padded_length-dump-2.false;
+      zeros = zeros c.before ∙ c.if-padding_is_zero.true;
     }))
 
-returns-8 : tie.Need-returns-8
-returns-8 c = sym (damaged_padding _ _ (zeros c.before ∙ c.if7.false))
+returns : tie.Need-returns
+returns c = sym (damaged_padding _ _ (zeros c.before ∙ c.if-padding_is_zero.false))
 
 pub is_damaged_spec : {M : Type 1} → statement M
 is_damaged_spec =
     tie.close
     (tie.spec
-    returns
-    returns-2
-    limit-requires
-    mul-padded-length
-    add-padded-length
-    padded-length-requires
-    returns-3
-    word-at-requires
-    cast-n
-    returns-4
-    returns-5
-    mul_words
-    add_words
-    padded-length-requires-2
-    returns-6
-    padding-is-zero-requires
-    returns-7
-    returns-8)
+    returns-then-dump-eq0
+    returns-then-dump-ne0
+    limit-most-requires
+    overflow_mul-most
+    overflow_add-most
+    padded_length-requires
+    returns-then-padded_length-dump
+    word_at-n-requires
+    overflow_cast-n
+    returns-then-n-lt-LEAST_NODES
+    returns-then-most-n
+    overflow_mul-words
+    overflow_add-words
+    padded_length-requires-2
+    returns-then-padded_length-dump-2
+    padding_is_zero-requires
+    returns-then-padding_is_zero
+    returns)

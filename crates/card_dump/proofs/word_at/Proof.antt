@@ -4,59 +4,59 @@ use Rattle.card_dump.specs.Dump.{word_at}
 use Rattle.card_dump.proofs.word_at.Statement.{statement}
 use Rattle.card_dump.proofs.word_at.Tie as tie
 
-mul_at : tie.Need-overflow-mul-at
-mul_at c = search rules
+overflow_mul-at : tie.Need-overflow_mul-at
+overflow_mul-at c = search rules
 
-shared-slice-read-wide : tie.Need-shared-slice-read-wide
-shared-slice-read-wide c = search rules
+bounds-dump-at : tie.Need-bounds-dump-at
+bounds-dump-at c = search rules
 
 wide-requires : tie.Need-wide-requires
 wide-requires c κs = search rules
 
-add_wide : tie.Need-overflow-add-wide
-add_wide c = search rules
+overflow_add-at : tie.Need-overflow_add-at
+overflow_add-at c = search rules
 
-shared-slice-read-wide-2 : tie.Need-shared-slice-read-wide-2
-shared-slice-read-wide-2 c = search rules
+bounds-dump-at-2 : tie.Need-bounds-dump-at-2
+bounds-dump-at-2 c = search rules
 
 wide-requires-2 : tie.Need-wide-requires-2
 wide-requires-2 c κs = search rules
 
-mul-result : tie.Need-overflow-mul-result
-mul-result c = omega arith
+overflow_mul-result : tie.Need-overflow_mul-result
+overflow_mul-result c = omega arith
 
-add-result : tie.Need-overflow-add-result
-add-result c = omega arith
+overflow_add-result : tie.Need-overflow_add-result
+overflow_add-result c = omega arith
 
-add-wide-2 : tie.Need-overflow-add-wide-2
-add-wide-2 c = search rules
+overflow_add-at-2 : tie.Need-overflow_add-at-2
+overflow_add-at-2 c = search rules
 
-shared-slice-read-wide-3 : tie.Need-shared-slice-read-wide-3
-shared-slice-read-wide-3 c = search rules
+bounds-dump-at-3 : tie.Need-bounds-dump-at-3
+bounds-dump-at-3 c = search rules
 
 wide-requires-3 : tie.Need-wide-requires-3
 wide-requires-3 c κs = search rules
 
-mul-result-2 : tie.Need-overflow-mul-result-2
-mul-result-2 c = omega arith
+overflow_mul-result-2 : tie.Need-overflow_mul-result-2
+overflow_mul-result-2 c = omega arith
 
-add-result-2 : tie.Need-overflow-add-result-2
-add-result-2 c = omega arith
+overflow_add-result-2 : tie.Need-overflow_add-result-2
+overflow_add-result-2 c = omega arith
 
-add-wide-3 : tie.Need-overflow-add-wide-3
-add-wide-3 c = search rules
+overflow_add-at-3 : tie.Need-overflow_add-at-3
+overflow_add-at-3 c = search rules
 
-shared-slice-read-wide-4 : tie.Need-shared-slice-read-wide-4
-shared-slice-read-wide-4 c = search rules
+bounds-dump-at-4 : tie.Need-bounds-dump-at-4
+bounds-dump-at-4 c = search rules
 
 wide-requires-4 : tie.Need-wide-requires-4
 wide-requires-4 c κs = search rules
 
-mul-result-3 : tie.Need-overflow-mul-result-3
-mul-result-3 c = omega arith
+overflow_mul-result-3 : tie.Need-overflow_mul-result-3
+overflow_mul-result-3 c = omega arith
 
-add-result-3 : tie.Need-overflow-add-result-3
-add-result-3 c = omega arith
+overflow_add-result-3 : tie.Need-overflow_add-result-3
+overflow_add-result-3 c = omega arith
 
 returns : tie.Need-returns
 unfolding word_at
@@ -66,22 +66,22 @@ pub word_at_spec : {M : Type 1} → statement M
 word_at_spec =
     tie.close
     (tie.spec
-    mul_at
-    shared-slice-read-wide
+    overflow_mul-at
+    bounds-dump-at
     wide-requires
-    add_wide
-    shared-slice-read-wide-2
+    overflow_add-at
+    bounds-dump-at-2
     wide-requires-2
-    mul-result
-    add-result
-    add-wide-2
-    shared-slice-read-wide-3
+    overflow_mul-result
+    overflow_add-result
+    overflow_add-at-2
+    bounds-dump-at-3
     wide-requires-3
-    mul-result-2
-    add-result-2
-    add-wide-3
-    shared-slice-read-wide-4
+    overflow_mul-result-2
+    overflow_add-result-2
+    overflow_add-at-3
+    bounds-dump-at-4
     wide-requires-4
-    mul-result-3
-    add-result-3
+    overflow_mul-result-3
+    overflow_add-result-3
     returns)

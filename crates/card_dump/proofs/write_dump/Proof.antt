@@ -9,54 +9,54 @@ use Rattle.card_dump.proofs.write_dump.Statement.{statement}
 use Rattle.card_dump.proofs.write_dump.Tie as tie
 
 -- the card's refusal is none
-good : (c : tie.Else1) → Good c.before.before.before.before.args.greatest c.before.before.before.before.args.card.now
-good c = good_card _ _ (sym c.before.card-refusal.ensures ∙ c.if1.false)
+good : (c : tie.Else-refusal-ne0) → Good c.args.greatest c.args.card.now
+good c = good_card _ _ (sym c.card_refusal-refusal.ensures ∙ c.if-refusal-ne0.false)
 
 -- and past that test the answer is as the lent slice's room says
-answer : (c : tie.After-padded-length)
-    → write_answer c.before.before.before.before.before.args.greatest c.before.before.before.before.before.args.card.now
-    (length c.before.before.before.before.before.args.bytes.now)
-    ≡ fitting_length c.padded-length.result (length c.before.before.before.before.before.args.bytes.now)
+answer : (c : tie.After-padded_length-size)
+    → write_answer c.args.greatest c.args.card.now
+    (length c.args.bytes.now)
+    ≡ fitting_length c.padded_length-size.result (length c.args.bytes.now)
 answer c =
-    write_good _ _ _ (sym c.before.before.card-refusal.ensures ∙ c.before.if1.false)
-    ∙ ap (λ (k : ℕ). fitting_length k (length c.before.before.before.before.before.args.bytes.now)) (sym c.padded-length.ensures)
+    write_good _ _ _ (sym c.card_refusal-refusal.ensures ∙ c.if-refusal-ne0.false)
+    ∙ ap (λ (k : ℕ). fitting_length k (length c.args.bytes.now)) (sym c.padded_length-size.ensures)
 
-card-refusal-requires : tie.Need-card-refusal-requires
-card-refusal-requires c κs = search rules
+card_refusal-refusal-requires : tie.Need-card_refusal-refusal-requires
+card_refusal-refusal-requires c κs = search rules
+
+returns-then-refusal-ne0 : tie.Need-returns-then-refusal-ne0
+returns-then-refusal-ne0 c =
+    let e = write_refuses _ c.args.card.now
+    (length c.args.bytes.now) _ (sym c.card_refusal-refusal.ensures) c.if-refusal-ne0.true in
+    (sym e, sym (write_refused _ _ _ _ e))
+
+padded_length-size-requires : tie.Need-padded_length-size-requires
+padded_length-size-requires c κs = omega (arith, (good c).sized.words, (good c).sized.most)
+
+returns-then-bytes-size : tie.Need-returns-then-bytes-size
+returns-then-bytes-size c =
+    let e = answer c.before ∙ room_short _ _ c.if-bytes-size.true in
+    (sym e, sym (write_refused _ _ _ 12 e))
+
+write_padded-requires : tie.Need-write_padded-requires
+write_padded-requires c κs = (c.padded_length-size.ensures, omega arith)
+
+shape_of-bytes : tie.Need-shape_of-bytes
+shape_of-bytes c = search rules
 
 returns : tie.Need-returns
 returns c =
-    let e = write_refuses _ c.before.before.before.before.args.card.now
-    (length c.before.before.before.before.args.bytes.now) _ (sym c.before.card-refusal.ensures) c.if1.true in
-    (sym e, sym (write_refused _ _ _ _ e))
-
-padded-length-requires : tie.Need-padded-length-requires
-padded-length-requires c κs = omega (arith, (good c).sized.words, (good c).sized.most)
-
-returns-2 : tie.Need-returns-2
-returns-2 c =
-    let e = answer c.before ∙ room_short _ _ c.if2.true in
-    (sym e, sym (write_refused _ _ _ 12 e))
-
-write-padded-requires : tie.Need-write-padded-requires
-write-padded-requires c κs = (c.before.before.padded-length.ensures, omega arith)
-
-same_length : tie.Need-same-length
-same_length c = search rules
-
-returns-3 : tie.Need-returns-3
-returns-3 c =
-    let e = answer c.before.before.before.before.before ∙ room_long c.before.before.before.before.before.padded-length.result _ (omega arith) in
-    (sym e, c.before.before.write-padded.ensures ∙ sym (write_bytes _ _ _ _ e))
+    let e = answer c.before.before.before.before.before ∙ room_long c.padded_length-size.result _ (omega arith) in
+    (sym e, c.write_padded.ensures ∙ sym (write_bytes _ _ _ _ e))
 
 pub write_dump_spec : {M : Type 1} → statement M
 write_dump_spec =
     tie.close
     (tie.spec
-    card-refusal-requires
-    returns
-    padded-length-requires
-    returns-2
-    write-padded-requires
-    same_length
-    returns-3)
+    card_refusal-refusal-requires
+    returns-then-refusal-ne0
+    padded_length-size-requires
+    returns-then-bytes-size
+    write_padded-requires
+    shape_of-bytes
+    returns)

@@ -15,45 +15,44 @@ use Rattle.card_dump.proofs.write_padded.Tie as tie
 covers : (c : tie.Start) → 4 * length c.args.card.now ≤ c.args.size
 covers c = omega (arith, padded_covers (length c.args.card.now))
 
-mul-used : tie.Need-overflow-mul-used
-mul-used c = search rules
+overflow_mul-used : tie.Need-overflow_mul-used
+overflow_mul-used c = search rules
 
-write-words-requires : tie.Need-write-words-requires
-write-words-requires c κs = omega (arith, covers c.before.before.before)
+write_words-requires : tie.Need-write_words-requires
+write_words-requires c κs = omega (arith, covers c.before.before.before)
 
-sub-write-zeros : tie.Need-overflow-sub-write-zeros
-sub-write-zeros c = omega (arith, covers c.before.before.before.before.before.before)
+slice_bounds-write_zeros-count : tie.Need-slice_bounds-write_zeros-count
+slice_bounds-write_zeros-count c = omega (arith, covers c.before.before.before.before.before.before)
 
-part-write-zeros-start : tie.Need-slice-bounds-write-zeros-start
-part-write-zeros-start c = let used = covers c.before.before.before.before.before.before in search rules
+slice_bounds-write_zeros-start : tie.Need-slice_bounds-write_zeros-start
+slice_bounds-write_zeros-start c = let used = covers c.before.before.before.before.before.before in search rules
 
-part-write-zeros-end : tie.Need-slice-bounds-write-zeros-end
-part-write-zeros-end c = search rules
+slice_bounds-write_zeros-end : tie.Need-slice_bounds-write_zeros-end
+slice_bounds-write_zeros-end c = search rules
 
-write-zeros-requires : tie.Need-write-zeros-requires
-write-zeros-requires c κs = search rules
+write_zeros-requires : tie.Need-write_zeros-requires
+write_zeros-requires c κs = search rules
 
-same_length : tie.Need-same-length
-same_length c = search rules
+shape_of-bytes : tie.Need-shape_of-bytes
+shape_of-bytes c = search rules
 
 returns : tie.Need-returns
 unfolding dump_of
 returns c =
-    let s = c.before.before.before.before.before.before.before.before.before.before in
-    pad_after (card_bytes s.args.card.now) s.args.bytes.now _ _ (4 * length s.args.card.now) s.args.size
-    (length_card_bytes s.args.card.now) (covers s) s.requires.1
-    c.before.before.before.before.before.before.write-words.ensures c.before.before.write-zeros.ensures
-    ∙ ap (λ (k : ℕ). pad k (card_bytes s.args.card.now) ++ drop s.args.size s.args.bytes.now) s.requires.0
+    pad_after (card_bytes c.args.card.now) c.args.bytes.now _ _ (4 * length c.args.card.now) c.args.size
+    (length_card_bytes c.args.card.now) (covers c.before.before.before.before.before.before.before.before.before.before) c.requires.1
+    c.write_words.ensures c.write_zeros.ensures
+    ∙ ap (λ (k : ℕ). pad k (card_bytes c.args.card.now) ++ drop c.args.size c.args.bytes.now) c.requires.0
 
 pub write_padded_spec : {M : Type 1} → statement M
 write_padded_spec =
     tie.close
     (tie.spec
-    mul-used
-    write-words-requires
-    sub-write-zeros
-    part-write-zeros-start
-    part-write-zeros-end
-    write-zeros-requires
-    same_length
+    overflow_mul-used
+    write_words-requires
+    slice_bounds-write_zeros-count
+    slice_bounds-write_zeros-start
+    slice_bounds-write_zeros-end
+    write_zeros-requires
+    shape_of-bytes
     returns)

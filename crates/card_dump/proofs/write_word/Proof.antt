@@ -6,41 +6,41 @@ use Rattle.card_dump.proofs.ByteLaws.{four_stores}
 use Rattle.card_dump.proofs.write_word.Statement.{statement}
 use Rattle.card_dump.proofs.write_word.Tie as tie
 
-cast-bytes : tie.Need-overflow-cast-bytes
-cast-bytes c = search rules
+overflow_cast-bytes : tie.Need-overflow_cast-bytes
+overflow_cast-bytes c = search rules
 
-slice-write-bytes : tie.Need-slice-write-bytes
-slice-write-bytes c = search rules
+bounds-bytes-at : tie.Need-bounds-bytes-at
+bounds-bytes-at c = search rules
 
-cast-bytes-2 : tie.Need-overflow-cast-bytes-2
-cast-bytes-2 c = search rules
+overflow_cast-bytes-2 : tie.Need-overflow_cast-bytes-2
+overflow_cast-bytes-2 c = search rules
 
-add-bytes : tie.Need-overflow-add-bytes
-add-bytes c = search rules
+overflow_add-bytes : tie.Need-overflow_add-bytes
+overflow_add-bytes c = search rules
 
-slice-write-bytes-2 : tie.Need-slice-write-bytes-2
-slice-write-bytes-2 c = simp length-set (omega arith)
+bounds-bytes-at-2 : tie.Need-bounds-bytes-at-2
+bounds-bytes-at-2 c = simp length-set (omega arith)
 
-cast-bytes-3 : tie.Need-overflow-cast-bytes-3
-cast-bytes-3 c = search rules
+overflow_cast-bytes-3 : tie.Need-overflow_cast-bytes-3
+overflow_cast-bytes-3 c = search rules
 
-add-bytes-2 : tie.Need-overflow-add-bytes-2
-add-bytes-2 c = search rules
+overflow_add-bytes-2 : tie.Need-overflow_add-bytes-2
+overflow_add-bytes-2 c = search rules
 
-slice-write-bytes-3 : tie.Need-slice-write-bytes-3
-slice-write-bytes-3 c = simp length-set (omega arith)
+bounds-bytes-at-3 : tie.Need-bounds-bytes-at-3
+bounds-bytes-at-3 c = simp length-set (omega arith)
 
-cast-bytes-4 : tie.Need-overflow-cast-bytes-4
-cast-bytes-4 c = search rules
+overflow_cast-bytes-4 : tie.Need-overflow_cast-bytes-4
+overflow_cast-bytes-4 c = search rules
 
-add-bytes-3 : tie.Need-overflow-add-bytes-3
-add-bytes-3 c = search rules
+overflow_add-bytes-3 : tie.Need-overflow_add-bytes-3
+overflow_add-bytes-3 c = search rules
 
-slice-write-bytes-4 : tie.Need-slice-write-bytes-4
-slice-write-bytes-4 c = simp length-set (omega arith)
+bounds-bytes-at-4 : tie.Need-bounds-bytes-at-4
+bounds-bytes-at-4 c = simp length-set (omega arith)
 
-same_length : tie.Need-same-length
-same_length c = search rules
+shape_of-bytes : tie.Need-shape_of-bytes
+shape_of-bytes c = search rules
 
 returns : tie.Need-returns
 unfolding word_bytes
@@ -50,16 +50,16 @@ pub write_word_spec : {M : Type 1} → statement M
 write_word_spec =
     tie.close
     (tie.spec
-    cast-bytes
-    slice-write-bytes
-    cast-bytes-2
-    add-bytes
-    slice-write-bytes-2
-    cast-bytes-3
-    add-bytes-2
-    slice-write-bytes-3
-    cast-bytes-4
-    add-bytes-3
-    slice-write-bytes-4
-    same_length
+    overflow_cast-bytes
+    bounds-bytes-at
+    overflow_cast-bytes-2
+    overflow_add-bytes
+    bounds-bytes-at-2
+    overflow_cast-bytes-3
+    overflow_add-bytes-2
+    bounds-bytes-at-3
+    overflow_cast-bytes-4
+    overflow_add-bytes-3
+    bounds-bytes-at-4
+    shape_of-bytes
     returns)

@@ -10,64 +10,62 @@ use Rattle.card_dump.proofs.write_words.Statement.{statement}
 use Rattle.card_dump.proofs.write_words.Tie as tie
 
 -- the bytes of the first i words are written, the others as they were
-abbrev invariant-loop : tie.invariant-loop
-invariant-loop card bytes₀ i₀ bytes i = (i ≤ length card) × (bytes ≡ card_bytes (take i card) ++ drop (4 * i) bytes₀) × (length bytes ≡ length bytes₀)
+abbrev invariant-loop-i : tie.invariant-loop-i
+invariant-loop-i card bytes₀ i₀ bytes i = (i ≤ length card) × (bytes ≡ card_bytes (take i card) ++ drop (4 * i) bytes₀) × (length bytes ≡ length bytes₀)
 
-abbrev decreases-loop : tie.decreases-loop
-decreases-loop card bytes₀ i₀ bytes i = length card - i
+abbrev decreases-loop-i : tie.decreases-loop-i
+decreases-loop-i card bytes₀ i₀ bytes i = length card - i
 
-loop-holds : tie.Need-loop-init invariant-loop decreases-loop
+loop-i-init : tie.Need-loop-i-init invariant-loop-i decreases-loop-i
 unfolding card_bytes
-loop-holds c = (omega arith, refl, refl)
+loop-i-init c = (omega arith, refl, refl)
 
-mul-write-word : tie.Need-overflow-mul-write-word invariant-loop decreases-loop
-mul-write-word c = search rules
+overflow_mul-i : tie.Need-overflow_mul-i invariant-loop-i decreases-loop-i
+overflow_mul-i c = search rules
 
-mul-write-word-2 : tie.Need-overflow-mul-write-word-2 invariant-loop decreases-loop
-mul-write-word-2 c = search rules
+offset_bounds-card-i : tie.Need-offset_bounds-card-i invariant-loop-i decreases-loop-i
+offset_bounds-card-i c = search rules
 
-shared-slice-read-write-word : tie.Need-shared-slice-read-write-word invariant-loop decreases-loop
-shared-slice-read-write-word c = search rules
+bounds-card-i : tie.Need-bounds-card-i invariant-loop-i decreases-loop-i
+bounds-card-i c = search rules
 
-write-word-requires : tie.Need-write-word-requires invariant-loop decreases-loop
-write-word-requires c κs = search rules
+write_word-requires : tie.Need-write_word-requires invariant-loop-i decreases-loop-i
+write_word-requires c κs = search rules
 
-add-i : tie.Need-overflow-add-i invariant-loop decreases-loop
-add-i c = search rules
+overflow_add-i : tie.Need-overflow_add-i invariant-loop-i decreases-loop-i
+overflow_add-i c = search rules
 
-loop-less : tie.Need-loop-smaller invariant-loop decreases-loop
-loop-less c = search rules
+loop-i-smaller : tie.Need-loop-i-smaller invariant-loop-i decreases-loop-i
+loop-i-smaller c = search rules
 
-loop-again : tie.Need-loop-preserved invariant-loop decreases-loop
-loop-again c =
-    let l = c.before.before.before.before.before.before.loop in
-    let s = c.before.before.before.before.before.before.before.before.before in (
+loop-i-preserved : tie.Need-loop-i-preserved invariant-loop-i decreases-loop-i
+loop-i-preserved c =
+    let l = c.loop-i in (
       omega arith,
-      c.before.before.write_word.ensures ∙ write_more s.args.card.now s.args.bytes.now l.i (omega arith) l.bytes l.invariant.1,
-      c.before.before.write_word.auto.0 ∙ l.invariant.2,
+      c.write_word.ensures ∙ write_more c.args.card.now c.args.bytes.now l.i (omega arith) l.bytes l.invariant.1,
+      c.write_word.auto.bytes ∙ l.invariant.2,
     )
 
-same_length : tie.Need-same-length invariant-loop decreases-loop
-same_length c = search rules
+shape_of-bytes : tie.Need-shape_of-bytes invariant-loop-i decreases-loop-i
+shape_of-bytes c = search rules
 
-returns : tie.Need-returns invariant-loop decreases-loop
+returns : tie.Need-returns invariant-loop-i decreases-loop-i
 returns c =
-    let s = c.before.before.before.before in
-    c.before.loop.invariant.1 ∙ write_all s.args.card.now s.args.bytes.now c.before.loop.i (omega arith) (omega arith)
+    c.loop-i.invariant.1 ∙ write_all c.args.card.now c.args.bytes.now c.loop-i.i (omega arith) (omega arith)
 
 pub write_words_spec : {M : Type 1} → statement M
 write_words_spec =
     tie.close
     (tie.spec
-    invariant-loop
-    decreases-loop
-    loop-holds
-    mul-write-word
-    mul-write-word-2
-    shared-slice-read-write-word
-    write-word-requires
-    add-i
-    loop-less
-    loop-again
-    same_length
+    invariant-loop-i
+    decreases-loop-i
+    loop-i-init
+    overflow_mul-i
+    offset_bounds-card-i
+    bounds-card-i
+    write_word-requires
+    overflow_add-i
+    loop-i-smaller
+    loop-i-preserved
+    shape_of-bytes
     returns)

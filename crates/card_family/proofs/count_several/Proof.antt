@@ -4,45 +4,44 @@ use Rattle.card_family.specs.Families.{several_in}
 use Rattle.card_family.proofs.count_several.Statement.{statement}
 use Rattle.card_family.proofs.count_several.Tie as tie
 
-family-of-requires : tie.Need-family-of-requires
-family-of-requires c κs = search rules
+family_of-family-requires : tie.Need-family_of-family-requires
+family_of-family-requires c κs = search rules
 
-mul-wrapping-add-u32 : tie.Need-overflow-mul-wrapping-add-u32
-mul-wrapping-add-u32 c = search rules
+offset_bounds-totals-family : tie.Need-offset_bounds-totals-family
+offset_bounds-totals-family c = search rules
 
-slice-read-wrapping-add-u32 : tie.Need-slice-read-wrapping-add-u32
-slice-read-wrapping-add-u32 c = search rules
+bounds-totals-family : tie.Need-bounds-totals-family
+bounds-totals-family c = search rules
 
-wrapping-add-u32-requires : tie.Need-wrapping-add-u32-requires
-wrapping-add-u32-requires c κs = search rules
+wrapping_add_u32-requires : tie.Need-wrapping_add_u32-requires
+wrapping_add_u32-requires c κs = search rules
 
-mul-totals : tie.Need-overflow-mul-totals
-mul-totals c = search rules
+offset_bounds-totals-family-2 : tie.Need-offset_bounds-totals-family-2
+offset_bounds-totals-family-2 c = search rules
 
-slice-write-totals : tie.Need-slice-write-totals
-slice-write-totals c = search rules
+bounds-totals-family-2 : tie.Need-bounds-totals-family-2
+bounds-totals-family-2 c = search rules
 
-same_length : tie.Need-same-length
-same_length c = search rules
+shape_of-totals : tie.Need-shape_of-totals
+shape_of-totals c = search rules
 
 returns : tie.Need-returns
 unfolding several_in
 returns c =
-    let s = c.before.before.before.before in
-    let totals = s.args.totals.now in
-    let family = c.before.before.family-of.ensures.0 in
-    let word = c.wrapping-add-u32.ensures in
-    ap₂ (set totals) family (word ∙ ap (λ (f : ℕ). (get_or totals f 0 + s.args.count) % 2 ^ 32) family)
+    let totals = c.args.totals.now in
+    let family = c.family_of-family.ensures.0 in
+    let word = c.wrapping_add_u32.ensures in
+    ap₂ (set totals) family (word ∙ ap (λ (f : ℕ). (get_or totals f 0 + c.args.count) % 2 ^ 32) family)
 
 pub count_several_spec : {M : Type 1} → statement M
 count_several_spec =
     tie.close
     (tie.spec
-    family-of-requires
-    mul-wrapping-add-u32
-    slice-read-wrapping-add-u32
-    wrapping-add-u32-requires
-    mul-totals
-    slice-write-totals
-    same_length
+    family_of-family-requires
+    offset_bounds-totals-family
+    bounds-totals-family
+    wrapping_add_u32-requires
+    offset_bounds-totals-family-2
+    bounds-totals-family-2
+    shape_of-totals
     returns)

@@ -4,12 +4,12 @@ use Rattle.card_family.specs.Families.{family_of}
 use Rattle.card_family.proofs.family_of.Statement.{statement}
 use Rattle.card_family.proofs.family_of.Tie as tie
 
-cast-result : tie.Need-overflow-cast-result
-cast-result c = search rules
+overflow_cast-result : tie.Need-overflow_cast-result
+overflow_cast-result c = search rules
 
 returns : tie.Need-returns
 unfolding family_of
 returns c = (refl, omega arith)
 
 pub family_of_spec : {M : Type 1} → statement M
-family_of_spec = tie.close (tie.spec cast-result returns)
+family_of_spec = tie.close (tie.spec overflow_cast-result returns)

@@ -5,20 +5,20 @@ use borrow.Author.Rules.{rules}
 use Rattle.card_free.proofs.contains.Statement.{statement}
 use Rattle.card_free.proofs.contains.Tie as tie
 
-mul-word : tie.Need-overflow-mul-word
-mul-word c = search rules
+offset_bounds-words-m : tie.Need-offset_bounds-words-m
+offset_bounds-words-m c = search rules
 
-shared-slice-read-word : tie.Need-shared-slice-read-word
-shared-slice-read-word c = search rules
+bounds-words-m : tie.Need-bounds-words-m
+bounds-words-m c = search rules
 
-cast-result : tie.Need-overflow-cast-result
-cast-result c = search rules
+overflow_cast-result : tie.Need-overflow_cast-result
+overflow_cast-result c = search rules
 
-shr-result : tie.Need-overflow-shr-result
-shr-result c = search rules
+overflow_shr-result : tie.Need-overflow_shr-result
+overflow_shr-result c = search rules
 
 returns : tie.Need-returns
-returns c = node_tested c.before.args.words.now c.before.args.m (omega arith)
+returns c = node_tested c.args.words.now c.args.m (omega arith)
 
 pub contains_spec : {M : Type 1} → statement M
-contains_spec = tie.close (tie.spec mul-word shared-slice-read-word cast-result shr-result returns)
+contains_spec = tie.close (tie.spec offset_bounds-words-m bounds-words-m overflow_cast-result overflow_shr-result returns)

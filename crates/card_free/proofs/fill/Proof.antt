@@ -9,64 +9,64 @@ use borrow.Author.Rules.{rules}
 use Rattle.card_free.proofs.fill.Statement.{statement}
 use Rattle.card_free.proofs.fill.Tie as tie
 
-abbrev invariant-loop : tie.invariant-loop
-invariant-loop words₀ n q₀ words q = (q ≤ word_count) × (length words ≡ word_count) × (nodes_of (take q words) ≡ take (32 * q) (up_to n))
+abbrev invariant-loop-q : tie.invariant-loop-q
+invariant-loop-q words₀ n q₀ words q = (q ≤ word_count) × (length words ≡ word_count) × (nodes_of (take q words) ≡ take (32 * q) (up_to n))
 
-abbrev decreases-loop : tie.decreases-loop
-decreases-loop words₀ n q₀ words q = word_count - q
+abbrev decreases-loop-q : tie.decreases-loop-q
+decreases-loop-q words₀ n q₀ words q = word_count - q
 
-loop-holds : tie.Need-loop-init invariant-loop decreases-loop
+loop-q-init : tie.Need-loop-q-init invariant-loop-q decreases-loop-q
 unfolding nodes_of
-loop-holds c = (search rules, search rules, refl)
+loop-q-init c = (search rules, search rules, refl)
 
-full-word-requires : tie.Need-full-word-requires invariant-loop decreases-loop
-full-word-requires c κs = search rules
+full_word-requires : tie.Need-full_word-requires invariant-loop-q decreases-loop-q
+full_word-requires c κs = search rules
 
-mul_words : tie.Need-overflow-mul-words invariant-loop decreases-loop
-mul_words c = search rules
+offset_bounds-words-q : tie.Need-offset_bounds-words-q invariant-loop-q decreases-loop-q
+offset_bounds-words-q c = search rules
 
-slice-write-words : tie.Need-slice-write-words invariant-loop decreases-loop
-slice-write-words c = search rules
+bounds-words-q : tie.Need-bounds-words-q invariant-loop-q decreases-loop-q
+bounds-words-q c = search rules
 
-add-q : tie.Need-overflow-add-q invariant-loop decreases-loop
-add-q c = search rules
+overflow_add-q : tie.Need-overflow_add-q invariant-loop-q decreases-loop-q
+overflow_add-q c = search rules
 
-loop-less : tie.Need-loop-smaller invariant-loop decreases-loop
-loop-less c = search rules
+loop-q-smaller : tie.Need-loop-q-smaller invariant-loop-q decreases-loop-q
+loop-q-smaller c = search rules
 
-loop-again : tie.Need-loop-preserved invariant-loop decreases-loop
-loop-again c =
-    let l = c.before.before.loop in (
+loop-q-preserved : tie.Need-loop-q-preserved invariant-loop-q decreases-loop-q
+loop-q-preserved c =
+    let l = c.loop-q in (
       search rules,
       rw length-set l.invariant.1,
-      filled_next l.words c.before.before.before.before.args.n l.q c.full-word.result (omega arith) c.full-word.ensures l.invariant.2,
+      filled_next l.words c.args.n l.q c.full_word.result (omega arith) c.full_word.ensures l.invariant.2,
     )
 
-take-out-requires : tie.Need-take-out-requires invariant-loop decreases-loop
-take-out-requires c κs = search rules
+take_out-requires : tie.Need-take_out-requires invariant-loop-q decreases-loop-q
+take_out-requires c κs = search rules
 
-same_length : tie.Need-same-length invariant-loop decreases-loop
-same_length c = search rules
+shape_of-words : tie.Need-shape_of-words invariant-loop-q decreases-loop-q
+shape_of-words c = search rules
 
-returns : tie.Need-returns invariant-loop decreases-loop
+returns : tie.Need-returns invariant-loop-q decreases-loop-q
 returns c =
-    let l = c.before.before.before.before.before.loop in
-    c.before.before.take_out.ensures ∙ filled_all l.words c.before.before.before.before.before.before.before.args.n l.q
-    c.before.before.before.before.before.before.before.requires.1 l.invariant.1 (omega arith) l.invariant.2
+    let l = c.loop-q in
+    c.take_out.ensures ∙ filled_all l.words c.args.n l.q
+    c.requires.1 l.invariant.1 (omega arith) l.invariant.2
 
 pub fill_spec : {M : Type 1} → statement M
 fill_spec =
     tie.close
     (tie.spec
-    invariant-loop
-    decreases-loop
-    loop-holds
-    full-word-requires
-    mul_words
-    slice-write-words
-    add-q
-    loop-less
-    loop-again
-    take-out-requires
-    same_length
+    invariant-loop-q
+    decreases-loop-q
+    loop-q-init
+    full_word-requires
+    offset_bounds-words-q
+    bounds-words-q
+    overflow_add-q
+    loop-q-smaller
+    loop-q-preserved
+    take_out-requires
+    shape_of-words
     returns)

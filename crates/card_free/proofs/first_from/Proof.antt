@@ -13,86 +13,86 @@ use borrow.Author.Rules.{rules}
 use Rattle.card_free.proofs.first_from.Statement.{statement}
 use Rattle.card_free.proofs.first_from.Tie as tie
 
-abbrev invariant-loop : tie.invariant-loop
-invariant-loop words a q₀ word₀ q word = (q < word_count) × (a < 32 * (q + 1)) × (word < 2 ^ 32) × Masked words a q word × Passed words a q
+abbrev invariant-loop-word : tie.invariant-loop-word
+invariant-loop-word words a q₀ word₀ q word = (q < word_count) × (a < 32 * (q + 1)) × (word < 2 ^ 32) × Masked words a q word × Passed words a q
 
-abbrev decreases-loop : tie.decreases-loop
-decreases-loop words a q₀ word₀ q word = word_count - q
+abbrev decreases-loop-word : tie.decreases-loop-word
+decreases-loop-word words a q₀ word₀ q word = word_count - q
 
-mul-word : tie.Need-overflow-mul-word invariant-loop decreases-loop
-mul-word c = search rules
+offset_bounds-words-q : tie.Need-offset_bounds-words-q invariant-loop-word decreases-loop-word
+offset_bounds-words-q c = search rules
 
-shared-slice-read-word : tie.Need-shared-slice-read-word invariant-loop decreases-loop
-shared-slice-read-word c = search rules
+bounds-words-q : tie.Need-bounds-words-q invariant-loop-word decreases-loop-word
+bounds-words-q c = search rules
 
-cast-word : tie.Need-overflow-cast-word invariant-loop decreases-loop
-cast-word c = search rules
+overflow_cast-word : tie.Need-overflow_cast-word invariant-loop-word decreases-loop-word
+overflow_cast-word c = search rules
 
-shl-word : tie.Need-overflow-shl-word invariant-loop decreases-loop
-shl-word c = search rules
+overflow_shl-word : tie.Need-overflow_shl-word invariant-loop-word decreases-loop-word
+overflow_shl-word c = search rules
 
-loop-holds : tie.Need-loop-init invariant-loop decreases-loop
-loop-holds c =
-    let fits : get_or c.before.args.words.now (c.before.args.a / 32) 0 < 2 ^ 32 = omega (arith, c.shared-slice-known.given (c.before.args.a / 32)) in
+loop-word-init : tie.Need-loop-word-init invariant-loop-word decreases-loop-word
+loop-word-init c =
+    let fits : get_or c.args.words.now (c.args.a / 32) 0 < 2 ^ 32 = omega (arith, c.shared_slice_known-1.given (c.args.a / 32)) in
     (omega arith, omega arith, lt_of_le_of_lt (and_le_l _ _) fits, masked_start _ _, passed_start _ _)
 
-add-q : tie.Need-overflow-add-q invariant-loop decreases-loop
-add-q c = search rules
+overflow_add-q : tie.Need-overflow_add-q invariant-loop-word decreases-loop-word
+overflow_add-q c = search rules
 
-returns : tie.Need-returns invariant-loop decreases-loop
+returns-then-q-ge-WORDS : tie.Need-returns-then-q-ge-WORDS invariant-loop-word decreases-loop-word
+returns-then-q-ge-WORDS c =
+    let l = c.loop-word in
+    sym (search_none c.args.words.now c.args.a (l.q + 1)
+    (omega arith) (passed_next _ _ _ _ l.invariant.3 c.loop-word-test.true l.invariant.4))
+
+offset_bounds-words-q-in-loop-word : tie.Need-offset_bounds-words-q-in-loop-word invariant-loop-word decreases-loop-word
+offset_bounds-words-q-in-loop-word c = search rules
+
+bounds-words-q-in-loop-word : tie.Need-bounds-words-q-in-loop-word invariant-loop-word decreases-loop-word
+bounds-words-q-in-loop-word c = search rules
+
+loop-word-smaller : tie.Need-loop-word-smaller invariant-loop-word decreases-loop-word
+loop-word-smaller c = omega arith
+
+loop-word-preserved : tie.Need-loop-word-preserved invariant-loop-word decreases-loop-word
+loop-word-preserved c =
+    let l = c.loop-word in
+    let fits = c.shared_slice_known-in-loop-word-1.given (c.loop-word.q + 1) in
+    (omega arith, omega arith, omega (arith, fits), masked_next _ _ _ (omega arith), passed_next _ _ _ _ l.invariant.3 c.loop-word-test.true l.invariant.4)
+
+overflow_mul-result : tie.Need-overflow_mul-result invariant-loop-word decreases-loop-word
+overflow_mul-result c = search rules
+
+overflow_cast-result : tie.Need-overflow_cast-result invariant-loop-word decreases-loop-word
+overflow_cast-result c = omega (arith, trailing_le 32 c.loop-word.word)
+
+overflow_add-result : tie.Need-overflow_add-result invariant-loop-word decreases-loop-word
+overflow_add-result c = omega (arith, trailing_le 32 c.loop-word.word)
+
+returns : tie.Need-returns invariant-loop-word decreases-loop-word
 returns c =
-    let l = c.before.before.loop in
-    sym (search_none c.before.before.before.before.args.words.now c.before.before.before.before.args.a (l.q + 1)
-    (omega arith) (passed_next _ _ _ _ l.invariant.3 c.before.loop-test.true l.invariant.4))
-
-mul-word-2 : tie.Need-overflow-mul-word-2 invariant-loop decreases-loop
-mul-word-2 c = search rules
-
-shared-slice-read-word-2 : tie.Need-shared-slice-read-word-2 invariant-loop decreases-loop
-shared-slice-read-word-2 c = search rules
-
-loop-less : tie.Need-loop-smaller invariant-loop decreases-loop
-loop-less c = omega arith
-
-loop-again : tie.Need-loop-preserved invariant-loop decreases-loop
-loop-again c =
-    let l = c.before.before.before.loop in
-    let fits = c.shared-slice-known2.given (c.before.before.before.loop.q + 1) in
-    (omega arith, omega arith, omega (arith, fits), masked_next _ _ _ (omega arith), passed_next _ _ _ _ l.invariant.3 c.before.before.loop-test.true l.invariant.4)
-
-mul-t5 : tie.Need-overflow-mul-t5 invariant-loop decreases-loop
-mul-t5 c = search rules
-
-cast-t8 : tie.Need-overflow-cast-t8 invariant-loop decreases-loop
-cast-t8 c = omega (arith, trailing_le 32 c.before.loop.word)
-
-add-t15 : tie.Need-overflow-add-t15 invariant-loop decreases-loop
-add-t15 c = omega (arith, trailing_le 32 c.before.loop.word)
-
-returns-2 : tie.Need-returns-2 invariant-loop decreases-loop
-returns-2 c =
-    let l = c.before.loop in
-    sym (search_found c.before.before.before.args.words.now c.before.before.before.args.a l.q l.word
-    (omega arith) l.invariant.1 l.invariant.2 c.loop-test.false l.invariant.3 l.invariant.4)
+    let l = c.loop-word in
+    sym (search_found c.args.words.now c.args.a l.q l.word
+    (omega arith) l.invariant.1 l.invariant.2 c.loop-word-test.false l.invariant.3 l.invariant.4)
 
 pub first_from_spec : {M : Type 1} → statement M
 first_from_spec =
     tie.close
     (tie.spec
-    invariant-loop
-    decreases-loop
-    mul-word
-    shared-slice-read-word
-    cast-word
-    shl-word
-    loop-holds
-    add-q
-    returns
-    mul-word-2
-    shared-slice-read-word-2
-    loop-less
-    loop-again
-    mul-t5
-    cast-t8
-    add-t15
-    returns-2)
+    invariant-loop-word
+    decreases-loop-word
+    offset_bounds-words-q
+    bounds-words-q
+    overflow_cast-word
+    overflow_shl-word
+    loop-word-init
+    overflow_add-q
+    returns-then-q-ge-WORDS
+    offset_bounds-words-q-in-loop-word
+    bounds-words-q-in-loop-word
+    loop-word-smaller
+    loop-word-preserved
+    overflow_mul-result
+    overflow_cast-result
+    overflow_add-result
+    returns)

@@ -7,46 +7,45 @@ use borrow.Author.Rules.{rules}
 use Rattle.card_free.proofs.full_word.Statement.{statement}
 use Rattle.card_free.proofs.full_word.Tie as tie
 
-mul-if1 : tie.Need-overflow-mul-if1
-mul-if1 c = search rules
+overflow_mul-q : tie.Need-overflow_mul-q
+overflow_mul-q c = search rules
 
-returns : tie.Need-returns
-returns c = word_none c.before.args.q c.before.args.n c.before.requires.0 c.before.requires.1 c.if1.true
+returns-then-n-q : tie.Need-returns-then-n-q
+returns-then-n-q c = word_none c.args.q c.args.n c.requires.0 c.requires.1 c.if-n-q.true
 
-mul-last : tie.Need-overflow-mul-last
-mul-last c = search rules
+overflow_mul-last : tie.Need-overflow_mul-last
+overflow_mul-last c = search rules
 
-sub-last : tie.Need-overflow-sub-last
-sub-last c = search rules
+overflow_sub-last : tie.Need-overflow_sub-last
+overflow_sub-last c = search rules
 
-returns-2 : tie.Need-returns-2
-returns-2 c = word_whole _ _ c.before.before.requires.0 c.before.before.requires.1 (omega arith) c.if2.true
+returns-then-last-ge31 : tie.Need-returns-then-last-ge31
+returns-then-last-ge31 c = word_whole _ _ c.requires.0 c.requires.1 (omega arith) c.if-last-ge31.true
 
-cast-result : tie.Need-overflow-cast-result
-cast-result c = search rules
+overflow_cast-result : tie.Need-overflow_cast-result
+overflow_cast-result c = search rules
 
-shl-result : tie.Need-overflow-shl-result
-shl-result c = search rules
+overflow_shl-result : tie.Need-overflow_shl-result
+overflow_shl-result c = search rules
 
-sub-result : tie.Need-overflow-sub-result
-sub-result c =
-    let s = c.before.before in
-    let last = s.args.n - 32 * s.args.q in
+overflow_sub-result : tie.Need-overflow_sub-result
+overflow_sub-result c =
+    let last = c.args.n - 32 * c.args.q in
     omega (arith, two_shl last (omega arith), pow_pos (suc last))
 
-returns-3 : tie.Need-returns-3
-returns-3 c = word_part _ _ c.before.before.requires.0 c.before.before.requires.1 (omega arith) (omega arith)
+returns : tie.Need-returns
+returns c = word_part _ _ c.requires.0 c.requires.1 (omega arith) (omega arith)
 
 pub full_word_spec : {M : Type 1} → statement M
 full_word_spec =
     tie.close
     (tie.spec
-    mul-if1
-    returns
-    mul-last
-    sub-last
-    returns-2
-    cast-result
-    shl-result
-    sub-result
-    returns-3)
+    overflow_mul-q
+    returns-then-n-q
+    overflow_mul-last
+    overflow_sub-last
+    returns-then-last-ge31
+    overflow_cast-result
+    overflow_shl-result
+    overflow_sub-result
+    returns)

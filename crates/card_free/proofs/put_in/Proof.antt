@@ -5,39 +5,39 @@ use borrow.Author.Rules.{rules}
 use Rattle.card_free.proofs.put_in.Statement.{statement}
 use Rattle.card_free.proofs.put_in.Tie as tie
 
-mul-word : tie.Need-overflow-mul-word
-mul-word c = search rules
+offset_bounds-words-q : tie.Need-offset_bounds-words-q
+offset_bounds-words-q c = search rules
 
-slice-read-word : tie.Need-slice-read-word
-slice-read-word c = search rules
+bounds-words-q : tie.Need-bounds-words-q
+bounds-words-q c = search rules
 
-cast-words : tie.Need-overflow-cast-words
-cast-words c = search rules
+overflow_cast-words : tie.Need-overflow_cast-words
+overflow_cast-words c = search rules
 
-shl-words : tie.Need-overflow-shl-words
-shl-words c = search rules
+overflow_shl-words : tie.Need-overflow_shl-words
+overflow_shl-words c = search rules
 
-mul_words : tie.Need-overflow-mul-words
-mul_words c = search rules
+offset_bounds-words-q-2 : tie.Need-offset_bounds-words-q-2
+offset_bounds-words-q-2 c = search rules
 
-slice-write-words : tie.Need-slice-write-words
-slice-write-words c = search rules
+bounds-words-q-2 : tie.Need-bounds-words-q-2
+bounds-words-q-2 c = search rules
 
-same_length : tie.Need-same-length
-same_length c = search rules
+shape_of-words : tie.Need-shape_of-words
+shape_of-words c = search rules
 
 returns : tie.Need-returns
-returns c = node_added c.before.args.words.now c.before.args.m (omega arith)
+returns c = node_added c.args.words.now c.args.m (omega arith)
 
 pub put_in_spec : {M : Type 1} → statement M
 put_in_spec =
     tie.close
     (tie.spec
-    mul-word
-    slice-read-word
-    cast-words
-    shl-words
-    mul_words
-    slice-write-words
-    same_length
+    offset_bounds-words-q
+    bounds-words-q
+    overflow_cast-words
+    overflow_shl-words
+    offset_bounds-words-q-2
+    bounds-words-q-2
+    shape_of-words
     returns)

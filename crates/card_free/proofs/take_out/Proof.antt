@@ -6,41 +6,41 @@ use borrow.Author.Rules.{rules}
 use Rattle.card_free.proofs.take_out.Statement.{statement}
 use Rattle.card_free.proofs.take_out.Tie as tie
 
-mul-word : tie.Need-overflow-mul-word
-mul-word c = search rules
+offset_bounds-words-q : tie.Need-offset_bounds-words-q
+offset_bounds-words-q c = search rules
 
-slice-read-word : tie.Need-slice-read-word
-slice-read-word c = search rules
+bounds-words-q : tie.Need-bounds-words-q
+bounds-words-q c = search rules
 
-cast-words : tie.Need-overflow-cast-words
-cast-words c = search rules
+overflow_cast-words : tie.Need-overflow_cast-words
+overflow_cast-words c = search rules
 
-shl-words : tie.Need-overflow-shl-words
-shl-words c = search rules
+overflow_shl-words : tie.Need-overflow_shl-words
+overflow_shl-words c = search rules
 
-mul_words : tie.Need-overflow-mul-words
-mul_words c = search rules
+offset_bounds-words-q-2 : tie.Need-offset_bounds-words-q-2
+offset_bounds-words-q-2 c = search rules
 
-slice-write-words : tie.Need-slice-write-words
-slice-write-words c = search rules
+bounds-words-q-2 : tie.Need-bounds-words-q-2
+bounds-words-q-2 c = search rules
 
-same_length : tie.Need-same-length
-same_length c = search rules
+shape_of-words : tie.Need-shape_of-words
+shape_of-words c = search rules
 
 returns : tie.Need-returns
 returns c =
-    let m = c.before.args.m in
-    node_removed c.before.args.words.now m (omega arith) (omega (arith, c.slice-known.given (m / 32)))
+    let m = c.args.m in
+    node_removed c.args.words.now m (omega arith) (omega (arith, c.slice_known-1.given (m / 32)))
 
 pub take_out_spec : {M : Type 1} → statement M
 take_out_spec =
     tie.close
     (tie.spec
-    mul-word
-    slice-read-word
-    cast-words
-    shl-words
-    mul_words
-    slice-write-words
-    same_length
+    offset_bounds-words-q
+    bounds-words-q
+    overflow_cast-words
+    overflow_shl-words
+    offset_bounds-words-q-2
+    bounds-words-q-2
+    shape_of-words
     returns)

@@ -5,18 +5,18 @@ use Rattle.change_decide.proofs.DecideLaws.{and_second, and_first}
 use Rattle.change_decide.proofs.both_are.Statement.{statement}
 use Rattle.change_decide.proofs.both_are.Tie as tie
 
-shared-slice-read-if1 : tie.Need-shared-slice-read-if1
-shared-slice-read-if1 c = search rules
+bounds-x-0 : tie.Need-bounds-x-0
+bounds-x-0 c = search rules
 
-shared-slice-read-result : tie.Need-shared-slice-read-result
-shared-slice-read-result c = search rules
+bounds-y-0 : tie.Need-bounds-y-0
+bounds-y-0 c = search rules
 
-returns : tie.Need-returns
-returns c = and_second _ _ (eq-eqb _ _ c.before.if1.true)
+returns-then-x-kind : tie.Need-returns-then-x-kind
+returns-then-x-kind c = and_second _ _ (eq-eqb _ _ c.if-x-kind.true)
 
-returns-2 : tie.Need-returns-2
-returns-2 c = and_first _ _ (ne_eqb _ _ c.if1.false)
+returns-else-x-kind : tie.Need-returns-else-x-kind
+returns-else-x-kind c = and_first _ _ (ne_eqb _ _ c.if-x-kind.false)
 
 pub both_are_spec : {M : Type 1} → statement M
 both_are_spec =
-    tie.close (tie.spec shared-slice-read-if1 shared-slice-read-result returns returns-2)
+    tie.close (tie.spec bounds-x-0 bounds-y-0 returns-then-x-kind returns-else-x-kind)

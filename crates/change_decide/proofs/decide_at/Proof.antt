@@ -13,66 +13,61 @@ use Rattle.change_decide.proofs.decide_at.Statement.{statement}
 use Rattle.change_decide.proofs.decide_at.Tie as tie
 
 -- the words of the two nodes
-parent_words : (c : tie.After-node-at) → length c.Node-at.result.now ≡ 24
+parent_words : (c : tie.After-node_at-parent) → length c.node_at-parent.result.now ≡ 24
 parent_words c =
-    let s = c.before.before in
-    ap length c.Node-at.ensures ∙ length_node s.args.card.now s.args.p.parent s.requires.parent-from (omega (arith, s.requires.size, s.requires.parent-to))
+    ap length c.node_at-parent.ensures ∙ length_node c.args.card.now c.args.p.parent c.requires.parent_from (omega (arith, c.requires.size, c.requires.parent_to))
 
-node_words : (c : tie.After-node-at2) → length c.node-at2.result.now ≡ 24
+node_words : (c : tie.After-node_at-node) → length c.node_at-node.result.now ≡ 24
 node_words c =
-    let s = c.before.before.before.before.before in
-    ap length c.node-at2.ensures ∙ length_node s.args.card.now s.args.p.node s.requires.node-from (omega (arith, s.requires.size, s.requires.node-to))
+    ap length c.node_at-node.ensures ∙ length_node c.args.card.now c.args.p.node c.requires.node_from (omega (arith, c.requires.size, c.requires.node_to))
 
-node-at-requires : tie.Need-node-at-requires
-node-at-requires c κs = search rules
+node_at-parent-requires : tie.Need-node_at-parent-requires
+node_at-parent-requires c κs = search rules
 
-shared-slice-read-if1 : tie.Need-shared-slice-read-if1
-shared-slice-read-if1 c = omega (arith, parent_words c.before)
+bounds-parent-0 : tie.Need-bounds-parent-0
+bounds-parent-0 c = omega (arith, parent_words c.before)
 
-returns : tie.Need-returns
-returns c = sym (decided_refused _ _ _ (λ e. c.if1.true (ap kind_of c.before.before.Node-at.ensures ∙ e)))
+returns-then-parent-ne2 : tie.Need-returns-then-parent-ne2
+returns-then-parent-ne2 c = sym (decided_refused _ _ _ (λ e. c.if-parent-ne2.true (ap kind_of c.node_at-parent.ensures ∙ e)))
 
-node-at-requires-2 : tie.Need-node-at-requires-2
-node-at-requires-2 c κs = search rules
+node_at-node-requires : tie.Need-node_at-node-requires
+node_at-node-requires c κs = search rules
 
-shared-slice-read-if2 : tie.Need-shared-slice-read-if2
-shared-slice-read-if2 c = omega (arith, node_words c.before)
+bounds-node-0 : tie.Need-bounds-node-0
+bounds-node-0 c = omega (arith, node_words c.before)
 
-decide-tagged-requires : tie.Need-decide-tagged-requires
-decide-tagged-requires c κs = (parent_words c.before.before.before.before.before, node_words c.before.before)
+decide_tagged-requires : tie.Need-decide_tagged-requires
+decide_tagged-requires c κs = (parent_words c.before.before.before.before.before, node_words c.before.before)
 
-decide-underfull-requires : tie.Need-decide-underfull-requires
-decide-underfull-requires c κs =
-    let s = c.before.before.before.before.before.before.before in
-    (s.requires.size, s.requires.few, parent_words c.before.before.before.before.before, omega (arith, s.requires.child, children_le (node_at s.args.card.now s.args.p.parent)))
+decide_underfull-requires : tie.Need-decide_underfull-requires
+decide_underfull-requires c κs =
+    (c.requires.size, c.requires.few, parent_words c.before.before.before.before.before, omega (arith, c.requires.child, children_le (node_at c.args.card.now c.args.p.parent)))
 
-returns-2 : tie.Need-returns-2
-returns-2 c =
-    let s = c.before.before.before.before.before.before.before.before in
-    c.decide-tagged.ensures ∙ ap₂ (λ (x y : List ℕ). decide_tagged s.args.p x y)
-    c.before.before.before.before.before.before.Node-at.ensures c.before.before.before.node-at2.ensures
+returns-then-node-eq-TAGGED : tie.Need-returns-then-node-eq-TAGGED
+returns-then-node-eq-TAGGED c =
+    c.decide_tagged.ensures ∙ ap₂ (λ (x y : List ℕ). decide_tagged c.args.p x y)
+    c.node_at-parent.ensures c.node_at-node.ensures
     ∙ sym (decided_tagged _ _ _
-    (sym (ap kind_of c.before.before.before.before.before.before.Node-at.ensures) ∙ c.before.before.before.before.if1.false)
-    (sym (ap kind_of c.before.before.before.node-at2.ensures) ∙ c.before.if2.true))
+    (sym (ap kind_of c.node_at-parent.ensures) ∙ c.if-parent-ne2.false)
+    (sym (ap kind_of c.node_at-node.ensures) ∙ c.if-node-eq-TAGGED.true))
 
-returns-3 : tie.Need-returns-3
-returns-3 c =
-    let s = c.before.before.before.before.before.before.before.before in
-    c.decide-underfull.ensures ∙ ap (decide_underfull s.args.card.now s.args.n s.args.p) c.before.before.before.before.before.before.Node-at.ensures
+returns-else-node-eq-TAGGED : tie.Need-returns-else-node-eq-TAGGED
+returns-else-node-eq-TAGGED c =
+    c.decide_underfull.ensures ∙ ap (decide_underfull c.args.card.now c.args.n c.args.p) c.node_at-parent.ensures
     ∙ sym (decided_underfull _ _ _
-    (sym (ap kind_of c.before.before.before.before.before.before.Node-at.ensures) ∙ c.before.before.before.before.if1.false)
-    (λ e. c.before.if2.false (ap kind_of c.before.before.before.node-at2.ensures ∙ e)))
+    (sym (ap kind_of c.node_at-parent.ensures) ∙ c.if-parent-ne2.false)
+    (λ e. c.if-node-eq-TAGGED.false (ap kind_of c.node_at-node.ensures ∙ e)))
 
 pub decide_at_spec : {M : Type 1} → statement M
 decide_at_spec =
     tie.close
     (tie.spec
-    node-at-requires
-    shared-slice-read-if1
-    returns
-    node-at-requires-2
-    shared-slice-read-if2
-    decide-tagged-requires
-    decide-underfull-requires
-    returns-2
-    returns-3)
+    node_at-parent-requires
+    bounds-parent-0
+    returns-then-parent-ne2
+    node_at-node-requires
+    bounds-node-0
+    decide_tagged-requires
+    decide_underfull-requires
+    returns-then-node-eq-TAGGED
+    returns-else-node-eq-TAGGED)

@@ -5,21 +5,21 @@ use borrow.Author.Rules.{rules}
 use Rattle.change_decide.proofs.decide_together.Statement.{statement}
 use Rattle.change_decide.proofs.decide_together.Tie as tie
 
-returns : tie.Need-returns
-returns c = sym (together_many _ _ _ c.if1.true)
+returns-then-count-gt-MOST_TOGETHER : tie.Need-returns-then-count-gt-MOST_TOGETHER
+returns-then-count-gt-MOST_TOGETHER c = sym (together_many _ _ _ c.if-count-gt-MOST_TOGETHER.true)
 
-returns-2 : tie.Need-returns-2
-returns-2 c = sym (together_shared _ _ _ c.before.if1.false c.if2.true)
+returns-then-count-ge4 : tie.Need-returns-then-count-ge4
+returns-then-count-ge4 c = sym (together_shared _ _ _ c.if-count-gt-MOST_TOGETHER.false c.if-count-ge4.true)
 
-is-root-of-two-requires : tie.Need-is-root-of-two-requires
-is-root-of-two-requires c κs = search rules
+is_root_of_two-requires : tie.Need-is_root_of_two-requires
+is_root_of_two-requires c κs = search rules
 
-returns-3 : tie.Need-returns-3
-returns-3 c = sym (together_root _ _ _ c.before.before.if2.false (sym c.before.is-root-of-two.ensures ∙ c.if3.true))
+returns-then-is_root_of_two : tie.Need-returns-then-is_root_of_two
+returns-then-is_root_of_two c = sym (together_root _ _ _ c.if-count-ge4.false (sym c.is_root_of_two.ensures ∙ c.if-is_root_of_two.true))
 
-returns-4 : tie.Need-returns-4
-returns-4 c = sym (together_merged _ _ _ c.before.before.if2.false (sym c.before.is-root-of-two.ensures ∙ c.if3.false))
+returns-else-is_root_of_two : tie.Need-returns-else-is_root_of_two
+returns-else-is_root_of_two c = sym (together_merged _ _ _ c.if-count-ge4.false (sym c.is_root_of_two.ensures ∙ c.if-is_root_of_two.false))
 
 pub decide_together_spec : {M : Type 1} → statement M
 decide_together_spec =
-    tie.close (tie.spec returns returns-2 is-root-of-two-requires returns-3 returns-4)
+    tie.close (tie.spec returns-then-count-gt-MOST_TOGETHER returns-then-count-ge4 is_root_of_two-requires returns-then-is_root_of_two returns-else-is_root_of_two)

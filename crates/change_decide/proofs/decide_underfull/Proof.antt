@@ -5,7 +5,6 @@ use mathlib.Core.Bool.{true}
 use Prim.Native.Nat.{ℕ, suc, ◌+◌, ◌<◌}
 use native.Mathlib.Omega.{arith}
 use lib.ListN.{length, get_or}
-use borrow.Author.Tests.{not-true, not-false}
 use Rattle.card.specs.Layout.{node_at, children}
 use Rattle.card.proofs.NodeLaws.{length_node}
 use Rattle.change_decide.specs.Decide.{is_node, left_sibling, left_number, right_number, decide_siblings}
@@ -15,141 +14,135 @@ use Rattle.change_decide.proofs.decide_underfull.Statement.{statement}
 use Rattle.change_decide.proofs.decide_underfull.Tie as tie
 
 -- there are two siblings, and the words read are their numbers
-beside : (c : tie.Else1) → suc (left_sibling c.before.before.before.before.before.args.p) < length (children c.before.before.before.before.before.args.parent.now)
-beside c = omega (arith, c.if1.false, c.before.child-count.ensures, c.before.before.left-sibling.ensures)
+beside : (c : tie.Else-child_count-j) → suc (left_sibling c.args.p) < length (children c.args.parent.now)
+beside c = omega (arith, c.if-child_count-j.false, c.child_count.ensures, c.left_sibling-j.ensures)
 
-left_read : (c : tie.Else1)
-    → get_or c.before.before.before.before.before.args.parent.now (12 + c.before.before.left-sibling.result) 0
-    ≡ left_number c.before.before.before.before.before.args.parent.now c.before.before.before.before.before.args.p
-left_read c = child_read _ _ _ (ap (λ (i : ℕ). 12 + i) c.before.before.left-sibling.ensures) (omega (arith, beside c))
+left_read : (c : tie.Else-child_count-j)
+    → get_or c.args.parent.now (12 + c.left_sibling-j.result) 0
+    ≡ left_number c.args.parent.now c.args.p
+left_read c = child_read _ _ _ (ap (λ (i : ℕ). 12 + i) c.left_sibling-j.ensures) (omega (arith, beside c))
 
-right_read : (c : tie.Else1)
-    → get_or c.before.before.before.before.before.args.parent.now (13 + c.before.before.left-sibling.result) 0
-    ≡ right_number c.before.before.before.before.before.args.parent.now c.before.before.before.before.before.args.p
-right_read c = child_read _ _ _ (omega (arith, c.before.before.left-sibling.ensures)) (beside c)
+right_read : (c : tie.Else-child_count-j)
+    → get_or c.args.parent.now (13 + c.left_sibling-j.result) 0
+    ≡ right_number c.args.parent.now c.args.p
+right_read c = child_read _ _ _ (omega (arith, c.left_sibling-j.ensures)) (beside c)
 
 -- which are on the card
-left_node : (c : tie.Else2) → is_node c.before.before.before.before.before.before.before.before.before.args.n
-    (get_or c.before.before.before.before.before.before.before.before.before.args.parent.now
-    (12 + c.before.before.before.before.before.before.left-sibling.result) 0) ≡ true
-left_node c = sym c.before.is-node.ensures ∙ not-false _ c.if2.false
+left_node : (c : tie.Else-not-is_node) → is_node c.args.n
+    (get_or c.args.parent.now
+    (12 + c.left_sibling-j.result) 0) ≡ true
+left_node c = sym c.is_node.ensures ∙ c.if-not-is_node.false
 
-right_node : (c : tie.Else3) → is_node c.before.before.before.before.before.before.before.before.before.before.before.args.n
-    (get_or c.before.before.before.before.before.before.before.before.before.before.before.args.parent.now
-    (13 + c.before.before.before.before.before.before.before.before.left-sibling.result) 0) ≡ true
-right_node c = sym c.before.is-node2.ensures ∙ not-false _ c.if3.false
+right_node : (c : tie.Else-not-is_node-2) → is_node c.args.n
+    (get_or c.args.parent.now
+    (13 + c.left_sibling-j.result) 0) ≡ true
+right_node c = sym c.is_node-2.ensures ∙ c.if-not-is_node-2.false
 
-left-sibling-requires : tie.Need-left-sibling-requires
-left-sibling-requires c κs = search rules
+left_sibling-j-requires : tie.Need-left_sibling-j-requires
+left_sibling-j-requires c κs = search rules
 
-child-count-requires : tie.Need-child-count-requires
-child-count-requires c κs = search rules
+child_count-requires : tie.Need-child_count-requires
+child_count-requires c κs = search rules
 
-add-if1 : tie.Need-overflow-add-if1
-add-if1 c = search rules
+overflow_add-j : tie.Need-overflow_add-j
+overflow_add-j c = search rules
 
-returns : tie.Need-returns
-returns c = sym (underfull_alone _ _ _ _ (omega (arith, c.if1.true, c.before.child-count.ensures, c.before.before.left-sibling.ensures)))
+returns-then-child_count-j : tie.Need-returns-then-child_count-j
+returns-then-child_count-j c = sym (underfull_alone _ _ _ _ (omega (arith, c.if-child_count-j.true, c.child_count.ensures, c.left_sibling-j.ensures)))
 
-add-x : tie.Need-overflow-add-x
-add-x c = search rules
+overflow_add-x : tie.Need-overflow_add-x
+overflow_add-x c = search rules
 
-mul-x : tie.Need-overflow-mul-x
-mul-x c = search rules
+offset_bounds-parent-j : tie.Need-offset_bounds-parent-j
+offset_bounds-parent-j c = search rules
 
-shared-slice-read-x : tie.Need-shared-slice-read-x
-shared-slice-read-x c = search rules
+bounds-parent-j : tie.Need-bounds-parent-j
+bounds-parent-j c = search rules
 
-cast-x : tie.Need-overflow-cast-x
-cast-x c = omega (arith, c.shared-slice-known3.given (12 + c.before.before.before.left-sibling.result))
+overflow_cast-x : tie.Need-overflow_cast-x
+overflow_cast-x c = omega (arith, c.shared_slice_known-3-1.given (12 + c.left_sibling-j.result))
 
-add-y : tie.Need-overflow-add-y
-add-y c = search rules
+overflow_add-y : tie.Need-overflow_add-y
+overflow_add-y c = search rules
 
-mul-y : tie.Need-overflow-mul-y
-mul-y c = search rules
+offset_bounds-parent-j-2 : tie.Need-offset_bounds-parent-j-2
+offset_bounds-parent-j-2 c = search rules
 
-shared-slice-read-y : tie.Need-shared-slice-read-y
-shared-slice-read-y c = search rules
+bounds-parent-j-2 : tie.Need-bounds-parent-j-2
+bounds-parent-j-2 c = search rules
 
-cast-y : tie.Need-overflow-cast-y
-cast-y c = omega (arith, c.shared-slice-known4.given (13 + c.before.before.before.before.left-sibling.result))
+overflow_cast-y : tie.Need-overflow_cast-y
+overflow_cast-y c = omega (arith, c.shared_slice_known-4-1.given (13 + c.left_sibling-j.result))
 
-is-node-requires : tie.Need-is-node-requires
-is-node-requires c κs = search rules
+is_node-requires : tie.Need-is_node-requires
+is_node-requires c κs = search rules
 
-returns-2 : tie.Need-returns-2
-returns-2 c =
-    let s = c.before.before.before.before.before.before.before.before.before in
+returns-then-not-is_node : tie.Need-returns-then-not-is_node
+returns-then-not-is_node c =
     sym (underfull_left_off _ _ _ _ (beside c.before.before.before.before)
-    (ap (is_node s.args.n) (sym (left_read c.before.before.before.before)) ∙ sym c.before.is-node.ensures ∙ not-true _ c.if2.true))
+    (ap (is_node c.args.n) (sym (left_read c.before.before.before.before)) ∙ sym c.is_node.ensures ∙ c.if-not-is_node.true))
 
-is-node-requires-2 : tie.Need-is-node-requires-2
-is-node-requires-2 c κs = search rules
+is_node-requires-2 : tie.Need-is_node-requires-2
+is_node-requires-2 c κs = search rules
 
-returns-3 : tie.Need-returns-3
-returns-3 c =
-    let s = c.before.before.before.before.before.before.before.before.before.before.before in
+returns-then-not-is_node-2 : tie.Need-returns-then-not-is_node-2
+returns-then-not-is_node-2 c =
     sym
     (underfull_right_off _ _ _ _ (beside c.before.before.before.before.before.before)
-    (ap (is_node s.args.n) (sym (left_read c.before.before.before.before.before.before)) ∙ left_node c.before.before)
-    (ap (is_node s.args.n) (sym (right_read c.before.before.before.before.before.before)) ∙ sym c.before.is-node2.ensures ∙ not-true _ c.if3.true))
+    (ap (is_node c.args.n) (sym (left_read c.before.before.before.before.before.before)) ∙ left_node c.before.before)
+    (ap (is_node c.args.n) (sym (right_read c.before.before.before.before.before.before)) ∙ sym c.is_node-2.ensures ∙ c.if-not-is_node-2.true))
 
-node-at-requires : tie.Need-node-at-requires
-node-at-requires c κs =
-    let s = c.before.before.before.before.before.before.before.before.before.before.before in
-    let g = node_numbered _ _ (left_node c.before.before) in (g.0, omega (arith, g.1, s.requires.1), omega (arith, g.1, s.requires.0))
+node_at-requires : tie.Need-node_at-requires
+node_at-requires c κs =
+    let g = node_numbered _ _ (left_node c.before.before) in (g.0, omega (arith, g.1, c.requires.1), omega (arith, g.1, c.requires.0))
 
-node-at-requires-2 : tie.Need-node-at-requires-2
-node-at-requires-2 c κs =
-    let s = c.before.before.before.before.before.before.before.before.before.before.before.before in
-    let g = node_numbered _ _ (right_node c.before) in (g.0, omega (arith, g.1, s.requires.1), omega (arith, g.1, s.requires.0))
+node_at-requires-2 : tie.Need-node_at-requires-2
+node_at-requires-2 c κs =
+    let g = node_numbered _ _ (right_node c.before) in (g.0, omega (arith, g.1, c.requires.1), omega (arith, g.1, c.requires.0))
 
-decide-siblings-requires : tie.Need-decide-siblings-requires
-decide-siblings-requires c κs =
-    let s = c.before.before.before.before.before.before.before.before.before.before.before.before.before in
+decide_siblings-requires : tie.Need-decide_siblings-requires
+decide_siblings-requires c κs =
     let left = node_numbered _ _ (left_node c.before.before.before.before) in
     let right = node_numbered _ _ (right_node c.before.before) in (
-      s.requires.2,
-      ap length c.before.Node-at.ensures ∙ length_node s.args.card.now _ left.0 (omega (arith, left.1, s.requires.0)),
-      ap length c.node-at2.ensures ∙ length_node s.args.card.now _ right.0 (omega (arith, right.1, s.requires.0)),
+      c.requires.2,
+      ap length c.node_at.ensures ∙ length_node c.args.card.now _ left.0 (omega (arith, left.1, c.requires.0)),
+      ap length c.node_at-2.ensures ∙ length_node c.args.card.now _ right.0 (omega (arith, right.1, c.requires.0)),
     )
 
-returns-4 : tie.Need-returns-4
-returns-4 c =
-    let s = c.before.before.before.before.before.before.before.before.before.before.before.before.before.before in
-    c.decide-siblings.ensures
-    ∙ ap₂ (λ (x y : List ℕ). decide_siblings s.args.p s.args.parent.now x y)
-    (c.before.before.Node-at.ensures ∙ ap (node_at s.args.card.now)
-    (left_read c.before.before.before.before.before.before.before.before.before)) (c.before.node-at2.ensures
-    ∙ ap (node_at s.args.card.now) (right_read c.before.before.before.before.before.before.before.before.before))
+returns : tie.Need-returns
+returns c =
+    c.decide_siblings.ensures
+    ∙ ap₂ (λ (x y : List ℕ). decide_siblings c.args.p c.args.parent.now x y)
+    (c.node_at.ensures ∙ ap (node_at c.args.card.now)
+    (left_read c.before.before.before.before.before.before.before.before.before)) (c.node_at-2.ensures
+    ∙ ap (node_at c.args.card.now) (right_read c.before.before.before.before.before.before.before.before.before))
     ∙ sym
     (underfull_both _ _ _ _ (beside c.before.before.before.before.before.before.before.before.before)
-    (ap (is_node s.args.n) (sym (left_read c.before.before.before.before.before.before.before.before.before))
-    ∙ left_node c.before.before.before.before.before) (ap (is_node s.args.n)
+    (ap (is_node c.args.n) (sym (left_read c.before.before.before.before.before.before.before.before.before))
+    ∙ left_node c.before.before.before.before.before) (ap (is_node c.args.n)
     (sym (right_read c.before.before.before.before.before.before.before.before.before)) ∙ right_node c.before.before.before))
 
 pub decide_underfull_spec : {M : Type 1} → statement M
 decide_underfull_spec =
     tie.close
     (tie.spec
-    left-sibling-requires
-    child-count-requires
-    add-if1
-    returns
-    add-x
-    mul-x
-    shared-slice-read-x
-    cast-x
-    add-y
-    mul-y
-    shared-slice-read-y
-    cast-y
-    is-node-requires
-    returns-2
-    is-node-requires-2
-    returns-3
-    node-at-requires
-    node-at-requires-2
-    decide-siblings-requires
-    returns-4)
+    left_sibling-j-requires
+    child_count-requires
+    overflow_add-j
+    returns-then-child_count-j
+    overflow_add-x
+    offset_bounds-parent-j
+    bounds-parent-j
+    overflow_cast-x
+    overflow_add-y
+    offset_bounds-parent-j-2
+    bounds-parent-j-2
+    overflow_cast-y
+    is_node-requires
+    returns-then-not-is_node
+    is_node-requires-2
+    returns-then-not-is_node-2
+    node_at-requires
+    node_at-requires-2
+    decide_siblings-requires
+    returns)

@@ -5,13 +5,13 @@ use Rattle.change_decide.specs.Decide.{is_node}
 use Rattle.change_decide.proofs.is_node.Statement.{statement}
 use Rattle.change_decide.proofs.is_node.Tie as tie
 
-returns : tie.Need-returns
+returns-then-m-gt0 : tie.Need-returns-then-m-gt0
 unfolding is_node
-returns c = and_second _ _ (lt-ltb _ _ c.if1.true)
+returns-then-m-gt0 c = and_second _ _ (lt-ltb _ _ c.if-m-gt0.true)
 
-returns-2 : tie.Need-returns-2
+returns-else-m-gt0 : tie.Need-returns-else-m-gt0
 unfolding is_node
-returns-2 c = and_first _ _ (le-ltb _ _ c.if1.false)
+returns-else-m-gt0 c = and_first _ _ (le-ltb _ _ c.if-m-gt0.false)
 
 pub is_node_spec : {M : Type 1} → statement M
-is_node_spec = tie.close (tie.spec returns returns-2)
+is_node_spec = tie.close (tie.spec returns-then-m-gt0 returns-else-m-gt0)

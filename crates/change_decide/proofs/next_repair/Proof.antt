@@ -14,59 +14,56 @@ use Rattle.change_decide.proofs.next_repair.Statement.{statement}
 use Rattle.change_decide.proofs.next_repair.Tie as tie
 
 -- the repair follows from what the search found
-repair : (c : tie.After-find-violation) (found : Search) → c.find-violation.result ≡ found
+repair : (c : tie.After-find_violation) (found : Search) → c.find_violation.result ≡ found
     →
-    let s = c.before.before.before in
-    on_search s.args.card.now s.args.n found ≡ decided_repair (seen s.args.line s.args.card.now) s.args.n s.args.key
+    on_search c.args.card.now c.args.n found ≡ decided_repair (seen c.args.line c.args.card.now) c.args.n c.args.key
 repair c found e =
-    let s = c.before.before.before in
-    let card = s.args.card.now in
-    ap (on_search card s.args.n)
-    (sym e ∙ c.find-violation.ensures ∙ ap (λ (r : ℕ). seek card s.args.n s.args.key depth_limit (root_position r)) c.before.root-of.ensures)
-    ∙ sym (repair_seen s.args.line card s.args.n s.args.key)
+    let card = c.args.card.now in
+    ap (on_search card c.args.n)
+    (sym e ∙ c.find_violation.ensures ∙ ap (λ (r : ℕ). seek card c.args.n c.args.key depth_limit (root_position r)) c.root_of.ensures)
+    ∙ sym (repair_seen c.args.line card c.args.n c.args.key)
 
-root-of-requires : tie.Need-root-of-requires
-root-of-requires c κs = let s = c.before in (omega (arith, s.requires.0), s.requires.2)
+root_of-requires : tie.Need-root_of-requires
+root_of-requires c κs = (omega (arith, c.requires.0), c.requires.2)
 
-find-violation-requires : tie.Need-find-violation-requires
-find-violation-requires c κs = search rules
+find_violation-requires : tie.Need-find_violation-requires
+find_violation-requires c κs = search rules
 
-enum_told : tie.Need-enum-told
-enum_told c = search rules
+enum_told-1 : tie.Need-enum_told-1
+enum_told-1 c = search rules
 
-enum-told-2 : tie.Need-enum-told-2
-enum-told-2 c = search rules
+enum_told-in-Balanced : tie.Need-enum_told-in-Balanced
+enum_told-in-Balanced c = search rules
 
-enum-known-p : tie.Need-enum-known-p
-enum-known-p c = search rules
+enum_known-p : tie.Need-enum_known-p
+enum_known-p c = search rules
 
-decide-at-requires : tie.Need-decide-at-requires
-decide-at-requires c κs =
-    let s = c.before.before.before.before.before.before in
-    position_within s.args.card.now s.args.n s.args.key s.requires.0 s.requires.1 _ _ _ (sym c.before.before.before.find-violation.ensures ∙ c.before.p.given.1)
+decide_at-requires : tie.Need-decide_at-requires
+decide_at-requires c κs =
+    position_within c.args.card.now c.args.n c.args.key c.requires.0 c.requires.1 _ _ _ (sym c.find_violation.ensures ∙ c.in-Violation.is)
 
-returns : tie.Need-returns
+returns-in-Refused : tie.Need-returns-in-Refused
 unfolding on_search
-returns c = repair c.before.before _ c.enum_told.given.1
+returns-in-Refused c = repair c.before _ c.in-Refused.is
 
-returns-2 : tie.Need-returns-2
+returns-in-Balanced : tie.Need-returns-in-Balanced
 unfolding on_search
-returns-2 c = repair c.before.before _ c.enum-told2.given.1
+returns-in-Balanced c = repair c.before _ c.in-Balanced.is
 
-returns-3 : tie.Need-returns-3
+returns-in-Violation : tie.Need-returns-in-Violation
 unfolding on_search
-returns-3 c = c.decide-at.ensures ∙ repair c.before.before.before.before _ c.before.before.p.given.1
+returns-in-Violation c = c.decide_at.ensures ∙ repair c.before.before _ c.in-Violation.is
 
 pub next_repair_spec : {M : Type 1} → statement M
 next_repair_spec =
     tie.close
     (tie.spec
-    root-of-requires
-    find-violation-requires
-    enum_told
-    enum-told-2
-    enum-known-p
-    decide-at-requires
-    returns
-    returns-2
-    returns-3)
+    root_of-requires
+    find_violation-requires
+    enum_told-1
+    enum_told-in-Balanced
+    enum_known-p
+    decide_at-requires
+    returns-in-Refused
+    returns-in-Balanced
+    returns-in-Violation)

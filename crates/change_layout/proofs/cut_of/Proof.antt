@@ -9,133 +9,131 @@ use borrow.Author.Rules.{rules}
 use Rattle.change_layout.proofs.cut_of.Statement.{statement}
 use Rattle.change_layout.proofs.cut_of.Tie as tie
 
-enum_told : tie.Need-enum-told
-enum_told c = search rules
+enum_told-1 : tie.Need-enum_told-1
+enum_told-1 c = search rules
 
-enum-told-2 : tie.Need-enum-told-2
-enum-told-2 c = search rules
+enum_told-in-Balanced : tie.Need-enum_told-in-Balanced
+enum_told-in-Balanced c = search rules
 
-enum-known-decision : tie.Need-enum-known-decision
-enum-known-decision c = search rules
+enum_known-decision : tie.Need-enum_known-decision
+enum_known-decision c = search rules
 
-enum-known-decision-2 : tie.Need-enum-known-decision-2
-enum-known-decision-2 c = search rules
+enum_known-decision-in-ClearKey-1 : tie.Need-enum_known-decision-in-ClearKey-1
+enum_known-decision-in-ClearKey-1 c = search rules
 
-enum-known-decision-3 : tie.Need-enum-known-decision-3
-enum-known-decision-3 c = search rules
+enum_known-decision-in-SplitLeaf-1 : tie.Need-enum_known-decision-in-SplitLeaf-1
+enum_known-decision-in-SplitLeaf-1 c = search rules
 
-cast-t19 : tie.Need-overflow-cast-t19
+overflow_cast-result : tie.Need-overflow_cast-result
 unfolding Fits
-cast-t19 c = let s = c.before.before.before.before in omega (arith, (subst (Fits s.args.card.now) c.before.decision3.given.1 s.requires).0.most)
+overflow_cast-result c = omega (arith, (subst (Fits c.args.card.now) c.in-SplitLeaf.is c.requires).0.most)
 
-enum-known-decision-4 : tie.Need-enum-known-decision-4
-enum-known-decision-4 c = search rules
+enum_known-decision-in-Absorb-1 : tie.Need-enum_known-decision-in-Absorb-1
+enum_known-decision-in-Absorb-1 c = search rules
 
-cut-tagged-requires : tie.Need-cut-tagged-requires
+cut_tagged-requires : tie.Need-cut_tagged-requires
 unfolding Fits
-cut-tagged-requires c κs =
-    let s = c.before.before.before.before in
-    let w = (subst (Fits s.args.card.now) c.before.decision4.given.1 s.requires).0.within in
-    (omega (arith, w.parent-to, w.few), omega (arith, w.node-to, w.few))
+cut_tagged-requires c κs =
+    let w = (subst (Fits c.args.card.now) c.in-Absorb.is c.requires).0.within in
+    (omega (arith, w.parent_to, w.few), omega (arith, w.node_to, w.few))
 
-enum-known-decision-5 : tie.Need-enum-known-decision-5
-enum-known-decision-5 c = search rules
+enum_known-decision-in-SplitParent-1 : tie.Need-enum_known-decision-in-SplitParent-1
+enum_known-decision-in-SplitParent-1 c = search rules
 
-cut-tagged-requires-2 : tie.Need-cut-tagged-requires-2
+cut_tagged-requires-in-SplitParent : tie.Need-cut_tagged-requires-in-SplitParent
 unfolding Fits
-cut-tagged-requires-2 c κs =
-    let s = c.before.before.before.before in
-    let w = (subst (Fits s.args.card.now) c.before.decision5.given.1 s.requires).0.within in
-    (omega (arith, w.parent-to, w.few), omega (arith, w.node-to, w.few))
+cut_tagged-requires-in-SplitParent c κs =
+    let w = (subst (Fits c.args.card.now) c.in-SplitParent.is c.requires).0.within in
+    (omega (arith, w.parent_to, w.few), omega (arith, w.node_to, w.few))
 
-enum-known-decision-6 : tie.Need-enum-known-decision-6
-enum-known-decision-6 c = search rules
+enum_known-decision-in-Share-1 : tie.Need-enum_known-decision-in-Share-1
+enum_known-decision-in-Share-1 c = search rules
 
-cut-siblings-requires : tie.Need-cut-siblings-requires
+cut_siblings-requires : tie.Need-cut_siblings-requires
 unfolding Fits
-cut-siblings-requires c κs = let s = c.before.before.before.before in (subst (Fits s.args.card.now) c.before.decision6.given.1 s.requires).0
+cut_siblings-requires c κs = (subst (Fits c.args.card.now) c.in-Share.is c.requires).0
 
-enum-known-decision-7 : tie.Need-enum-known-decision-7
-enum-known-decision-7 c = search rules
+enum_known-decision-in-Merge-1 : tie.Need-enum_known-decision-in-Merge-1
+enum_known-decision-in-Merge-1 c = search rules
 
-cut-siblings-requires-2 : tie.Need-cut-siblings-requires-2
+cut_siblings-requires-in-Merge : tie.Need-cut_siblings-requires-in-Merge
 unfolding Fits
-cut-siblings-requires-2 c κs = let s = c.before.before.before.before in (subst (Fits s.args.card.now) c.before.decision7.given.1 s.requires).0
+cut_siblings-requires-in-Merge c κs = (subst (Fits c.args.card.now) c.in-Merge.is c.requires).0
 
-enum-known-decision-8 : tie.Need-enum-known-decision-8
-enum-known-decision-8 c = search rules
+enum_known-decision-in-MergeRoot-1 : tie.Need-enum_known-decision-in-MergeRoot-1
+enum_known-decision-in-MergeRoot-1 c = search rules
 
-cut-siblings-requires-3 : tie.Need-cut-siblings-requires-3
+cut_siblings-requires-in-MergeRoot : tie.Need-cut_siblings-requires-in-MergeRoot
 unfolding Fits
-cut-siblings-requires-3 c κs = let s = c.before.before.before.before in (subst (Fits s.args.card.now) c.before.decision8.given.1 s.requires).0
+cut_siblings-requires-in-MergeRoot c κs = (subst (Fits c.args.card.now) c.in-MergeRoot.is c.requires).0
 
-returns : tie.Need-returns
+returns-in-Refused : tie.Need-returns-in-Refused
 unfolding cut_by
-returns c = sym (ap (λ (d : Decision). pad 3 (cut_by c.before.before.before.args.card.now d)) c.enum_told.given.1)
+returns-in-Refused c = sym (ap (λ (d : Decision). pad 3 (cut_by c.args.card.now d)) c.in-Refused.is)
 
-returns-2 : tie.Need-returns-2
+returns-in-Balanced : tie.Need-returns-in-Balanced
 unfolding cut_by
-returns-2 c = sym (ap (λ (d : Decision). pad 3 (cut_by c.before.before.before.args.card.now d)) c.enum-told2.given.1)
+returns-in-Balanced c = sym (ap (λ (d : Decision). pad 3 (cut_by c.args.card.now d)) c.in-Balanced.is)
 
-returns-3 : tie.Need-returns-3
+returns-in-PutPair : tie.Need-returns-in-PutPair
 unfolding cut_by
-returns-3 c = sym (ap (λ (d : Decision). pad 3 (cut_by c.before.before.before.before.args.card.now d)) c.before.decision.given.1)
+returns-in-PutPair c = sym (ap (λ (d : Decision). pad 3 (cut_by c.args.card.now d)) c.in-PutPair.is)
 
-returns-4 : tie.Need-returns-4
+returns-in-ClearKey : tie.Need-returns-in-ClearKey
 unfolding cut_by
-returns-4 c = sym (ap (λ (d : Decision). pad 3 (cut_by c.before.before.before.before.args.card.now d)) c.before.decision2.given.1)
+returns-in-ClearKey c = sym (ap (λ (d : Decision). pad 3 (cut_by c.args.card.now d)) c.in-ClearKey.is)
 
-returns-5 : tie.Need-returns-5
+returns-in-SplitLeaf : tie.Need-returns-in-SplitLeaf
 unfolding cut_by
-returns-5 c = sym (ap (λ (d : Decision). pad 3 (cut_by c.before.before.before.before.args.card.now d)) c.before.decision3.given.1)
+returns-in-SplitLeaf c = sym (ap (λ (d : Decision). pad 3 (cut_by c.args.card.now d)) c.in-SplitLeaf.is)
 
-returns-6 : tie.Need-returns-6
+returns-in-Absorb : tie.Need-returns-in-Absorb
 unfolding cut_by
-returns-6 c = c.cut-tagged.ensures ∙ sym (ap (λ (d : Decision). pad 3 (cut_by c.before.before.before.before.before.args.card.now d)) c.before.before.decision4.given.1)
+returns-in-Absorb c = c.cut_tagged.ensures ∙ sym (ap (λ (d : Decision). pad 3 (cut_by c.args.card.now d)) c.in-Absorb.is)
 
-returns-7 : tie.Need-returns-7
+returns-in-SplitParent : tie.Need-returns-in-SplitParent
 unfolding cut_by
-returns-7 c = c.cut-tagged2.ensures ∙ sym (ap (λ (d : Decision). pad 3 (cut_by c.before.before.before.before.before.args.card.now d)) c.before.before.decision5.given.1)
+returns-in-SplitParent c = c.cut_tagged-in-SplitParent.ensures ∙ sym (ap (λ (d : Decision). pad 3 (cut_by c.args.card.now d)) c.in-SplitParent.is)
 
-returns-8 : tie.Need-returns-8
+returns-in-Share : tie.Need-returns-in-Share
 unfolding cut_by
-returns-8 c = c.cut-siblings.ensures ∙ sym (ap (λ (d : Decision). pad 3 (cut_by c.before.before.before.before.before.args.card.now d)) c.before.before.decision6.given.1)
+returns-in-Share c = c.cut_siblings.ensures ∙ sym (ap (λ (d : Decision). pad 3 (cut_by c.args.card.now d)) c.in-Share.is)
 
-returns-9 : tie.Need-returns-9
+returns-in-Merge : tie.Need-returns-in-Merge
 unfolding cut_by
-returns-9 c = c.cut-siblings2.ensures ∙ sym (ap (λ (d : Decision). pad 3 (cut_by c.before.before.before.before.before.args.card.now d)) c.before.before.decision7.given.1)
+returns-in-Merge c = c.cut_siblings-in-Merge.ensures ∙ sym (ap (λ (d : Decision). pad 3 (cut_by c.args.card.now d)) c.in-Merge.is)
 
-returns-10 : tie.Need-returns-10
+returns-in-MergeRoot : tie.Need-returns-in-MergeRoot
 unfolding cut_by
-returns-10 c = c.cut-siblings3.ensures ∙ sym (ap (λ (d : Decision). pad 3 (cut_by c.before.before.before.before.before.args.card.now d)) c.before.before.decision8.given.1)
+returns-in-MergeRoot c = c.cut_siblings-in-MergeRoot.ensures ∙ sym (ap (λ (d : Decision). pad 3 (cut_by c.args.card.now d)) c.in-MergeRoot.is)
 
 pub cut_of_spec : {M : Type 1} → statement M
 cut_of_spec =
     tie.close
     (tie.spec
-    enum_told
-    enum-told-2
-    enum-known-decision
-    enum-known-decision-2
-    enum-known-decision-3
-    cast-t19
-    enum-known-decision-4
-    cut-tagged-requires
-    enum-known-decision-5
-    cut-tagged-requires-2
-    enum-known-decision-6
-    cut-siblings-requires
-    enum-known-decision-7
-    cut-siblings-requires-2
-    enum-known-decision-8
-    cut-siblings-requires-3
-    returns
-    returns-2
-    returns-3
-    returns-4
-    returns-5
-    returns-6
-    returns-7
-    returns-8
-    returns-9
-    returns-10)
+    enum_told-1
+    enum_told-in-Balanced
+    enum_known-decision
+    enum_known-decision-in-ClearKey-1
+    enum_known-decision-in-SplitLeaf-1
+    overflow_cast-result
+    enum_known-decision-in-Absorb-1
+    cut_tagged-requires
+    enum_known-decision-in-SplitParent-1
+    cut_tagged-requires-in-SplitParent
+    enum_known-decision-in-Share-1
+    cut_siblings-requires
+    enum_known-decision-in-Merge-1
+    cut_siblings-requires-in-Merge
+    enum_known-decision-in-MergeRoot-1
+    cut_siblings-requires-in-MergeRoot
+    returns-in-Refused
+    returns-in-Balanced
+    returns-in-PutPair
+    returns-in-ClearKey
+    returns-in-SplitLeaf
+    returns-in-Absorb
+    returns-in-SplitParent
+    returns-in-Share
+    returns-in-Merge
+    returns-in-MergeRoot)

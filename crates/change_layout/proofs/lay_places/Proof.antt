@@ -22,236 +22,227 @@ module _ (nodes row : List ℕ) {d e : Decision} (is : d ≡ e) (pre : FitsSome 
   laid_by : (link : ℕ) → needed e ≤ 3 → (FitsSome e → link < 2 ^ 32) → (length row ≡ 73) × (needed e ≤ 3) × Numbered (needed e) nodes × (link < 2 ^ 32)
   laid_by link few fits = (pre.2, few, subst (λ (d : Decision). Numbered (needed d) nodes) is pre.1, fits (subst FitsSome is pre.0))
 
-enum_told : tie.Need-enum-told
-enum_told c = search rules
+enum_told-1 : tie.Need-enum_told-1
+enum_told-1 c = search rules
 
-enum-told-2 : tie.Need-enum-told-2
-enum-told-2 c = search rules
+enum_told-in-Balanced : tie.Need-enum_told-in-Balanced
+enum_told-in-Balanced c = search rules
 
-enum-known-decision : tie.Need-enum-known-decision
-enum-known-decision c = search rules
+enum_known-decision : tie.Need-enum_known-decision
+enum_known-decision c = search rules
 
-add-word-place : tie.Need-overflow-add-word-place
+overflow_add-slot : tie.Need-overflow_add-slot
 unfolding Fits
-add-word-place c = let s = c.before.before.before.before in omega (arith, (subst FitsSome c.before.decision.given.1 s.requires.0).1.1)
+overflow_add-slot c = omega (arith, (subst FitsSome c.in-PutPair.is c.requires.0).1.1)
 
-word-place-requires : tie.Need-word-place-requires
+word_place-requires : tie.Need-word_place-requires
 unfolding Fits
-word-place-requires c κs = let s = c.before.before.before.before in let f = (subst FitsSome c.before.decision.given.1 s.requires.0).1 in (f.0.on.pos, f.0.most, omega (arith, f.1))
+word_place-requires c κs = let f = (subst FitsSome c.in-PutPair.is c.requires.0).1 in (f.0.on.pos, f.0.most, omega (arith, f.1))
 
-slice-write-places : tie.Need-slice-write-places
-slice-write-places c = search rules
+bounds-places-0 : tie.Need-bounds-places-0
+bounds-places-0 c = search rules
 
-add-word-place-2 : tie.Need-overflow-add-word-place-2
+overflow_add-slot-in-PutPair : tie.Need-overflow_add-slot-in-PutPair
 unfolding Fits
-add-word-place-2 c = let s = c.before.before.before.before.before in omega (arith, (subst FitsSome c.before.before.decision.given.1 s.requires.0).1.1)
+overflow_add-slot-in-PutPair c = omega (arith, (subst FitsSome c.in-PutPair.is c.requires.0).1.1)
 
-word-place-requires-2 : tie.Need-word-place-requires-2
+word_place-requires-in-PutPair : tie.Need-word_place-requires-in-PutPair
 unfolding Fits
-word-place-requires-2 c κs =
-    let s = c.before.before.before.before.before in
-    let f = (subst FitsSome c.before.before.decision.given.1 s.requires.0).1 in
+word_place-requires-in-PutPair c κs =
+    let f = (subst FitsSome c.in-PutPair.is c.requires.0).1 in
     (f.0.on.pos, f.0.most, omega (arith, f.1))
 
-slice-write-places-2 : tie.Need-slice-write-places-2
-slice-write-places-2 c = search rules
+bounds-places-1 : tie.Need-bounds-places-1
+bounds-places-1 c = search rules
 
-enum-known-decision-2 : tie.Need-enum-known-decision-2
-enum-known-decision-2 c = search rules
+enum_known-decision-in-ClearKey-1 : tie.Need-enum_known-decision-in-ClearKey-1
+enum_known-decision-in-ClearKey-1 c = search rules
 
-add-word-place-3 : tie.Need-overflow-add-word-place-3
+overflow_add-slot-in-ClearKey : tie.Need-overflow_add-slot-in-ClearKey
 unfolding Fits
-add-word-place-3 c = let s = c.before.before.before.before in omega (arith, (subst FitsSome c.before.decision2.given.1 s.requires.0).1.1)
+overflow_add-slot-in-ClearKey c = omega (arith, (subst FitsSome c.in-ClearKey.is c.requires.0).1.1)
 
-word-place-requires-3 : tie.Need-word-place-requires-3
+word_place-requires-in-ClearKey : tie.Need-word_place-requires-in-ClearKey
 unfolding Fits
-word-place-requires-3 c κs = let s = c.before.before.before.before in let f = (subst FitsSome c.before.decision2.given.1 s.requires.0).1 in (f.0.on.pos, f.0.most, omega (arith, f.1))
+word_place-requires-in-ClearKey c κs = let f = (subst FitsSome c.in-ClearKey.is c.requires.0).1 in (f.0.on.pos, f.0.most, omega (arith, f.1))
 
-slice-write-places-3 : tie.Need-slice-write-places-3
-slice-write-places-3 c = search rules
+bounds-places-0-in-ClearKey : tie.Need-bounds-places-0-in-ClearKey
+bounds-places-0-in-ClearKey c = search rules
 
-enum-known-decision-3 : tie.Need-enum-known-decision-3
-enum-known-decision-3 c = search rules
+enum_known-decision-in-SplitLeaf-1 : tie.Need-enum_known-decision-in-SplitLeaf-1
+enum_known-decision-in-SplitLeaf-1 c = search rules
 
-lay-places-requires : tie.Need-lay-places-requires
+lay_places-requires : tie.Need-lay_places-requires
 unfolding Fits needed
-lay-places-requires c κs =
-    let s = c.before.before.before.before.before in laid_by s.args.nodes s.args.places.now c.before.before.decision3.given.1 s.requires _ (omega arith) (λ f. f.1.1)
+lay_places-requires c κs =
+    laid_by c.args.nodes c.args.places.now c.in-SplitLeaf.is c.requires _ (omega arith) (λ f. f.1.1)
 
-enum-known-decision-4 : tie.Need-enum-known-decision-4
-enum-known-decision-4 c = search rules
+enum_known-decision-in-Absorb-1 : tie.Need-enum_known-decision-in-Absorb-1
+enum_known-decision-in-Absorb-1 c = search rules
 
-lay-places-requires-2 : tie.Need-lay-places-requires-2
+lay_places-requires-in-Absorb : tie.Need-lay_places-requires-in-Absorb
 unfolding Fits needed
-lay-places-requires-2 c κs =
-    let s = c.before.before.before.before.before in laid_by s.args.nodes s.args.places.now c.before.before.decision4.given.1 s.requires _ (omega arith) (λ f. f.1.0.within.link)
+lay_places-requires-in-Absorb c κs =
+    laid_by c.args.nodes c.args.places.now c.in-Absorb.is c.requires _ (omega arith) (λ f. f.1.0.within.link)
 
-enum-known-decision-5 : tie.Need-enum-known-decision-5
-enum-known-decision-5 c = search rules
+enum_known-decision-in-SplitParent-1 : tie.Need-enum_known-decision-in-SplitParent-1
+enum_known-decision-in-SplitParent-1 c = search rules
 
-lay-places-requires-3 : tie.Need-lay-places-requires-3
+lay_places-requires-in-SplitParent : tie.Need-lay_places-requires-in-SplitParent
 unfolding Fits needed
-lay-places-requires-3 c κs =
-    let s = c.before.before.before.before.before in laid_by s.args.nodes s.args.places.now c.before.before.decision5.given.1 s.requires _ (omega arith) (λ f. f.1.0.within.link)
+lay_places-requires-in-SplitParent c κs =
+    laid_by c.args.nodes c.args.places.now c.in-SplitParent.is c.requires _ (omega arith) (λ f. f.1.0.within.link)
 
-enum-known-decision-6 : tie.Need-enum-known-decision-6
-enum-known-decision-6 c = search rules
+enum_known-decision-in-Share-1 : tie.Need-enum_known-decision-in-Share-1
+enum_known-decision-in-Share-1 c = search rules
 
-lay-places-requires-4 : tie.Need-lay-places-requires-4
+lay_places-requires-in-Share : tie.Need-lay_places-requires-in-Share
 unfolding Fits needed
-lay-places-requires-4 c κs =
-    let s = c.before.before.before.before.before in laid_by s.args.nodes s.args.places.now c.before.before.decision6.given.1 s.requires _ (omega arith) (λ f. f.1.0.within.link)
+lay_places-requires-in-Share c κs =
+    laid_by c.args.nodes c.args.places.now c.in-Share.is c.requires _ (omega arith) (λ f. f.1.0.within.link)
 
-enum-known-decision-7 : tie.Need-enum-known-decision-7
-enum-known-decision-7 c = search rules
+enum_known-decision-in-Merge-1 : tie.Need-enum_known-decision-in-Merge-1
+enum_known-decision-in-Merge-1 c = search rules
 
-lay-places-requires-5 : tie.Need-lay-places-requires-5
+lay_places-requires-in-Merge : tie.Need-lay_places-requires-in-Merge
 unfolding Fits needed
-lay-places-requires-5 c κs =
-    let s = c.before.before.before.before.before in laid_by s.args.nodes s.args.places.now c.before.before.decision7.given.1 s.requires _ (omega arith) (λ f. f.1.0.within.link)
+lay_places-requires-in-Merge c κs =
+    laid_by c.args.nodes c.args.places.now c.in-Merge.is c.requires _ (omega arith) (λ f. f.1.0.within.link)
 
-enum-known-decision-8 : tie.Need-enum-known-decision-8
-enum-known-decision-8 c = search rules
+enum_known-decision-in-MergeRoot-1 : tie.Need-enum_known-decision-in-MergeRoot-1
+enum_known-decision-in-MergeRoot-1 c = search rules
 
-lay-places-requires-6 : tie.Need-lay-places-requires-6
+lay_places-requires-in-MergeRoot : tie.Need-lay_places-requires-in-MergeRoot
 unfolding Fits needed
-lay-places-requires-6 c κs =
-    let s = c.before.before.before.before.before in laid_by s.args.nodes s.args.places.now c.before.before.decision8.given.1 s.requires _ (omega arith) (λ f. f.1.0.within.link)
+lay_places-requires-in-MergeRoot c κs =
+    laid_by c.args.nodes c.args.places.now c.in-MergeRoot.is c.requires _ (omega arith) (λ f. f.1.0.within.link)
 
-returns : tie.Need-returns
+returns-in-Refused : tie.Need-returns-in-Refused
 unfolding places_by store_count
-returns c = let s = c.before.before.before in turned s.args.nodes s.args.places.now c.enum_told.given.1
+returns-in-Refused c = turned c.args.nodes c.args.places.now c.in-Refused.is
 
-returns-2 : tie.Need-returns-2
+returns-in-Balanced : tie.Need-returns-in-Balanced
 unfolding places_by store_count
-returns-2 c = let s = c.before.before.before in turned s.args.nodes s.args.places.now c.enum-told2.given.1
+returns-in-Balanced c = turned c.args.nodes c.args.places.now c.in-Balanced.is
 
-same_length : tie.Need-same-length
-same_length c = search rules
+shape_of-places-in-PutPair : tie.Need-shape_of-places-in-PutPair
+shape_of-places-in-PutPair c = search rules
 
-returns-3 : tie.Need-returns-3
+returns-in-PutPair : tie.Need-returns-in-PutPair
 unfolding places_by store_count
-returns-3 c =
-    let s = c.before.before.before.before.before.before in
-    two_set s.args.places.now c.before.word-place.result c.word-place2.result (omega (arith, s.requires.2))
-    ∙ ap₂ (λ (x y : ℕ). (x ∷ y ∷ []) ++ drop 2 s.args.places.now) c.before.word-place.ensures c.word-place2.ensures
-    ∙ turned s.args.nodes s.args.places.now c.before.before.before.decision.given.1
+returns-in-PutPair c =
+    two_set c.args.places.now c.word_place.result c.word_place-in-PutPair.result (omega (arith, c.requires.2))
+    ∙ ap₂ (λ (x y : ℕ). (x ∷ y ∷ []) ++ drop 2 c.args.places.now) c.word_place.ensures c.word_place-in-PutPair.ensures
+    ∙ turned c.args.nodes c.args.places.now c.in-PutPair.is
 
-same-length-2 : tie.Need-same-length-2
-same-length-2 c = search rules
+shape_of-places-in-ClearKey : tie.Need-shape_of-places-in-ClearKey
+shape_of-places-in-ClearKey c = search rules
 
-returns-4 : tie.Need-returns-4
+returns-in-ClearKey : tie.Need-returns-in-ClearKey
 unfolding places_by store_count
-returns-4 c =
-    let s = c.before.before.before.before.before in
-    one_set s.args.places.now c.word-place3.result (omega (arith, s.requires.2))
-    ∙ ap (λ (x : ℕ). (x ∷ []) ++ drop 1 s.args.places.now) c.word-place3.ensures
-    ∙ turned s.args.nodes s.args.places.now c.before.before.decision2.given.1
+returns-in-ClearKey c =
+    one_set c.args.places.now c.word_place-in-ClearKey.result (omega (arith, c.requires.2))
+    ∙ ap (λ (x : ℕ). (x ∷ []) ++ drop 1 c.args.places.now) c.word_place-in-ClearKey.ensures
+    ∙ turned c.args.nodes c.args.places.now c.in-ClearKey.is
 
-same-length-3 : tie.Need-same-length-3
-same-length-3 c = search rules
+shape_of-places-in-SplitLeaf : tie.Need-shape_of-places-in-SplitLeaf
+shape_of-places-in-SplitLeaf c = search rules
 
-returns-5 : tie.Need-returns-5
+returns-in-SplitLeaf : tie.Need-returns-in-SplitLeaf
 unfolding places_by store_count
-returns-5 c =
-    let s = c.before.before.before.before.before.before.before.before in
-    c.before.before.lay-places.ensures
-    ∙ turned s.args.nodes s.args.places.now c.before.before.before.before.before.decision3.given.1
+returns-in-SplitLeaf c =
+    c.lay_places.ensures
+    ∙ turned c.args.nodes c.args.places.now c.in-SplitLeaf.is
 
-same-length-4 : tie.Need-same-length-4
-same-length-4 c = search rules
+shape_of-places-in-Absorb : tie.Need-shape_of-places-in-Absorb
+shape_of-places-in-Absorb c = search rules
 
-returns-6 : tie.Need-returns-6
+returns-in-Absorb : tie.Need-returns-in-Absorb
 unfolding places_by store_count
-returns-6 c =
-    let s = c.before.before.before.before.before.before.before.before in
-    c.before.before.lay-places2.ensures
-    ∙ turned s.args.nodes s.args.places.now c.before.before.before.before.before.decision4.given.1
+returns-in-Absorb c =
+    c.lay_places-in-Absorb.ensures
+    ∙ turned c.args.nodes c.args.places.now c.in-Absorb.is
 
-same-length-5 : tie.Need-same-length-5
-same-length-5 c = search rules
+shape_of-places-in-SplitParent : tie.Need-shape_of-places-in-SplitParent
+shape_of-places-in-SplitParent c = search rules
 
-returns-7 : tie.Need-returns-7
+returns-in-SplitParent : tie.Need-returns-in-SplitParent
 unfolding places_by store_count
-returns-7 c =
-    let s = c.before.before.before.before.before.before.before.before in
-    c.before.before.lay-places3.ensures
-    ∙ turned s.args.nodes s.args.places.now c.before.before.before.before.before.decision5.given.1
+returns-in-SplitParent c =
+    c.lay_places-in-SplitParent.ensures
+    ∙ turned c.args.nodes c.args.places.now c.in-SplitParent.is
 
-same-length-6 : tie.Need-same-length-6
-same-length-6 c = search rules
+shape_of-places-in-Share : tie.Need-shape_of-places-in-Share
+shape_of-places-in-Share c = search rules
 
-returns-8 : tie.Need-returns-8
+returns-in-Share : tie.Need-returns-in-Share
 unfolding places_by store_count
-returns-8 c =
-    let s = c.before.before.before.before.before.before.before.before in
-    c.before.before.lay-places4.ensures
-    ∙ turned s.args.nodes s.args.places.now c.before.before.before.before.before.decision6.given.1
+returns-in-Share c =
+    c.lay_places-in-Share.ensures
+    ∙ turned c.args.nodes c.args.places.now c.in-Share.is
 
-same-length-7 : tie.Need-same-length-7
-same-length-7 c = search rules
+shape_of-places-in-Merge : tie.Need-shape_of-places-in-Merge
+shape_of-places-in-Merge c = search rules
 
-returns-9 : tie.Need-returns-9
+returns-in-Merge : tie.Need-returns-in-Merge
 unfolding places_by store_count
-returns-9 c =
-    let s = c.before.before.before.before.before.before.before.before in
-    c.before.before.lay-places5.ensures
-    ∙ turned s.args.nodes s.args.places.now c.before.before.before.before.before.decision7.given.1
+returns-in-Merge c =
+    c.lay_places-in-Merge.ensures
+    ∙ turned c.args.nodes c.args.places.now c.in-Merge.is
 
-same-length-8 : tie.Need-same-length-8
-same-length-8 c = search rules
+shape_of-places-in-MergeRoot : tie.Need-shape_of-places-in-MergeRoot
+shape_of-places-in-MergeRoot c = search rules
 
-returns-10 : tie.Need-returns-10
+returns-in-MergeRoot : tie.Need-returns-in-MergeRoot
 unfolding places_by store_count
-returns-10 c =
-    let s = c.before.before.before.before.before.before.before.before in
-    c.before.before.lay-places6.ensures
-    ∙ turned s.args.nodes s.args.places.now c.before.before.before.before.before.decision8.given.1
+returns-in-MergeRoot c =
+    c.lay_places-in-MergeRoot.ensures
+    ∙ turned c.args.nodes c.args.places.now c.in-MergeRoot.is
 
 pub lay_places_spec : {M : Type 1} → statement M
 lay_places_spec =
     tie.close
     (tie.spec
-    enum_told
-    enum-told-2
-    enum-known-decision
-    add-word-place
-    word-place-requires
-    slice-write-places
-    add-word-place-2
-    word-place-requires-2
-    slice-write-places-2
-    enum-known-decision-2
-    add-word-place-3
-    word-place-requires-3
-    slice-write-places-3
-    enum-known-decision-3
-    lay-places-requires
-    enum-known-decision-4
-    lay-places-requires-2
-    enum-known-decision-5
-    lay-places-requires-3
-    enum-known-decision-6
-    lay-places-requires-4
-    enum-known-decision-7
-    lay-places-requires-5
-    enum-known-decision-8
-    lay-places-requires-6
-    returns
-    returns-2
-    same_length
-    returns-3
-    same-length-2
-    returns-4
-    same-length-3
-    returns-5
-    same-length-4
-    returns-6
-    same-length-5
-    returns-7
-    same-length-6
-    returns-8
-    same-length-7
-    returns-9
-    same-length-8
-    returns-10)
+    enum_told-1
+    enum_told-in-Balanced
+    enum_known-decision
+    overflow_add-slot
+    word_place-requires
+    bounds-places-0
+    overflow_add-slot-in-PutPair
+    word_place-requires-in-PutPair
+    bounds-places-1
+    enum_known-decision-in-ClearKey-1
+    overflow_add-slot-in-ClearKey
+    word_place-requires-in-ClearKey
+    bounds-places-0-in-ClearKey
+    enum_known-decision-in-SplitLeaf-1
+    lay_places-requires
+    enum_known-decision-in-Absorb-1
+    lay_places-requires-in-Absorb
+    enum_known-decision-in-SplitParent-1
+    lay_places-requires-in-SplitParent
+    enum_known-decision-in-Share-1
+    lay_places-requires-in-Share
+    enum_known-decision-in-Merge-1
+    lay_places-requires-in-Merge
+    enum_known-decision-in-MergeRoot-1
+    lay_places-requires-in-MergeRoot
+    returns-in-Refused
+    returns-in-Balanced
+    shape_of-places-in-PutPair
+    returns-in-PutPair
+    shape_of-places-in-ClearKey
+    returns-in-ClearKey
+    shape_of-places-in-SplitLeaf
+    returns-in-SplitLeaf
+    shape_of-places-in-Absorb
+    returns-in-Absorb
+    shape_of-places-in-SplitParent
+    returns-in-SplitParent
+    shape_of-places-in-Share
+    returns-in-Share
+    shape_of-places-in-Merge
+    returns-in-Merge
+    shape_of-places-in-MergeRoot
+    returns-in-MergeRoot)

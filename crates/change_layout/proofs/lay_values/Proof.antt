@@ -21,227 +21,211 @@ use Rattle.change_layout.proofs.lay_values.Tie as tie
 turned : (card nodes row : List ℕ) {d e : Decision} → d ≡ e → words_by card e nodes ++ drop (store_count e) row ≡ words_by card d nodes ++ drop (store_count d) row
 turned card nodes row e = ap (λ (d : Decision). words_by card d nodes ++ drop (store_count d) row) (sym e)
 
-enum_told : tie.Need-enum-told
-enum_told c = search rules
+enum_told-1 : tie.Need-enum_told-1
+enum_told-1 c = search rules
 
-enum-told-2 : tie.Need-enum-told-2
-enum-told-2 c = search rules
+enum_told-in-Balanced : tie.Need-enum_told-in-Balanced
+enum_told-in-Balanced c = search rules
 
-enum-known-decision : tie.Need-enum-known-decision
-enum-known-decision c = search rules
+enum_known-decision : tie.Need-enum_known-decision
+enum_known-decision c = search rules
 
-slice-write-values : tie.Need-slice-write-values
-slice-write-values c = search rules
+bounds-values-0 : tie.Need-bounds-values-0
+bounds-values-0 c = search rules
 
-slice-write-values-2 : tie.Need-slice-write-values-2
-slice-write-values-2 c = search rules
+bounds-values-1 : tie.Need-bounds-values-1
+bounds-values-1 c = search rules
 
-enum-known-decision-2 : tie.Need-enum-known-decision-2
-enum-known-decision-2 c = search rules
+enum_known-decision-in-ClearKey-1 : tie.Need-enum_known-decision-in-ClearKey-1
+enum_known-decision-in-ClearKey-1 c = search rules
 
-slice-write-values-3 : tie.Need-slice-write-values-3
-slice-write-values-3 c = search rules
+bounds-values-0-in-ClearKey : tie.Need-bounds-values-0-in-ClearKey
+bounds-values-0-in-ClearKey c = search rules
 
-enum-known-decision-3 : tie.Need-enum-known-decision-3
-enum-known-decision-3 c = search rules
+enum_known-decision-in-SplitLeaf-1 : tie.Need-enum_known-decision-in-SplitLeaf-1
+enum_known-decision-in-SplitLeaf-1 c = search rules
 
-node-at-requires : tie.Need-node-at-requires
+node_at-requires : tie.Need-node_at-requires
 unfolding Fits
-node-at-requires c κs =
-    let s = c.before.before.before.before.before in
-    let f = subst (Fits s.args.card.now) c.before.decision3.given.1 s.requires.0 in
+node_at-requires c κs =
+    let f = subst (Fits c.args.card.now) c.in-SplitLeaf.is c.requires.0 in
     (f.0.on.pos, f.0.most, f.0.on.fits)
 
-lay-split-leaf-requires : tie.Need-lay-split-leaf-requires
+lay_split_leaf-requires : tie.Need-lay_split_leaf-requires
 unfolding Fits
-lay-split-leaf-requires c κs =
-    let s = c.before.before.before.before.before.before.before in
-    let f = subst (Fits s.args.card.now) c.before.before.before.decision3.given.1 s.requires.0 in
-    let m = c.before.before.before.decision3.given.0.0 in (
-      ap length c.before.Node-at.ensures ∙ length_node s.args.card.now m f.0.on.pos f.0.on.fits,
-      ap (λ (l : List ℕ). length (leaf_pairs l)) c.before.Node-at.ensures ∙ f.2,
-      s.requires.1,
+lay_split_leaf-requires c κs =
+    let f = subst (Fits c.args.card.now) c.in-SplitLeaf.is c.requires.0 in
+    let m = c.in-SplitLeaf.node in (
+      ap length c.node_at.ensures ∙ length_node c.args.card.now m f.0.on.pos f.0.on.fits,
+      ap (λ (l : List ℕ). length (leaf_pairs l)) c.node_at.ensures ∙ f.2,
+      c.requires.1,
     )
 
-enum-known-decision-4 : tie.Need-enum-known-decision-4
-enum-known-decision-4 c = search rules
+enum_known-decision-in-Absorb-1 : tie.Need-enum_known-decision-in-Absorb-1
+enum_known-decision-in-Absorb-1 c = search rules
 
-lay-absorb-requires : tie.Need-lay-absorb-requires
+lay_absorb-requires : tie.Need-lay_absorb-requires
 unfolding Fits
-lay-absorb-requires c κs =
-    let s = c.before.before.before.before.before.before in
-    let f = subst (Fits s.args.card.now) c.before.before.decision4.given.1 s.requires.0 in
-    (f.0, f.1, s.requires.1)
+lay_absorb-requires c κs =
+    let f = subst (Fits c.args.card.now) c.in-Absorb.is c.requires.0 in
+    (f.0, f.1, c.requires.1)
 
-enum-known-decision-5 : tie.Need-enum-known-decision-5
-enum-known-decision-5 c = search rules
+enum_known-decision-in-SplitParent-1 : tie.Need-enum_known-decision-in-SplitParent-1
+enum_known-decision-in-SplitParent-1 c = search rules
 
-lay-split-parent-requires : tie.Need-lay-split-parent-requires
+lay_split_parent-requires : tie.Need-lay_split_parent-requires
 unfolding Fits
-lay-split-parent-requires c κs =
-    let s = c.before.before.before.before.before.before in
-    let f = subst (Fits s.args.card.now) c.before.before.decision5.given.1 s.requires.0 in
-    (f.0, f.1, s.requires.1)
+lay_split_parent-requires c κs =
+    let f = subst (Fits c.args.card.now) c.in-SplitParent.is c.requires.0 in
+    (f.0, f.1, c.requires.1)
 
-enum-known-decision-6 : tie.Need-enum-known-decision-6
-enum-known-decision-6 c = search rules
+enum_known-decision-in-Share-1 : tie.Need-enum_known-decision-in-Share-1
+enum_known-decision-in-Share-1 c = search rules
 
-lay-share-requires : tie.Need-lay-share-requires
+lay_share-requires : tie.Need-lay_share-requires
 unfolding Fits
-lay-share-requires c κs =
-    let s = c.before.before.before.before.before.before in
-    let f = subst (Fits s.args.card.now) c.before.before.decision6.given.1 s.requires.0 in
-    (f.0, f.1, s.requires.1)
+lay_share-requires c κs =
+    let f = subst (Fits c.args.card.now) c.in-Share.is c.requires.0 in
+    (f.0, f.1, c.requires.1)
 
-enum-known-decision-7 : tie.Need-enum-known-decision-7
-enum-known-decision-7 c = search rules
+enum_known-decision-in-Merge-1 : tie.Need-enum_known-decision-in-Merge-1
+enum_known-decision-in-Merge-1 c = search rules
 
-lay-merge-requires : tie.Need-lay-merge-requires
+lay_merge-requires : tie.Need-lay_merge-requires
 unfolding Fits
-lay-merge-requires c κs =
-    let s = c.before.before.before.before.before.before in
-    let f = subst (Fits s.args.card.now) c.before.before.decision7.given.1 s.requires.0 in
-    (f.0, f.1, s.requires.1)
+lay_merge-requires c κs =
+    let f = subst (Fits c.args.card.now) c.in-Merge.is c.requires.0 in
+    (f.0, f.1, c.requires.1)
 
-enum-known-decision-8 : tie.Need-enum-known-decision-8
-enum-known-decision-8 c = search rules
+enum_known-decision-in-MergeRoot-1 : tie.Need-enum_known-decision-in-MergeRoot-1
+enum_known-decision-in-MergeRoot-1 c = search rules
 
-lay-merge-root-requires : tie.Need-lay-merge-root-requires
+lay_merge_root-requires : tie.Need-lay_merge_root-requires
 unfolding Fits
-lay-merge-root-requires c κs =
-    let s = c.before.before.before.before.before.before in
-    let f = subst (Fits s.args.card.now) c.before.before.decision8.given.1 s.requires.0 in
-    (f.0, f.1, s.requires.1)
+lay_merge_root-requires c κs =
+    let f = subst (Fits c.args.card.now) c.in-MergeRoot.is c.requires.0 in
+    (f.0, f.1, c.requires.1)
 
-returns : tie.Need-returns
+returns-in-Refused : tie.Need-returns-in-Refused
 unfolding words_by store_count
-returns c = let s = c.before.before.before.before in turned s.args.card.now s.args.nodes s.args.values.now c.enum_told.given.1
+returns-in-Refused c = turned c.args.card.now c.args.nodes c.args.values.now c.in-Refused.is
 
-returns-2 : tie.Need-returns-2
+returns-in-Balanced : tie.Need-returns-in-Balanced
 unfolding words_by store_count
-returns-2 c = let s = c.before.before.before.before in turned s.args.card.now s.args.nodes s.args.values.now c.enum-told2.given.1
+returns-in-Balanced c = turned c.args.card.now c.args.nodes c.args.values.now c.in-Balanced.is
 
-same_length : tie.Need-same-length
-same_length c = search rules
+shape_of-values-in-PutPair : tie.Need-shape_of-values-in-PutPair
+shape_of-values-in-PutPair c = search rules
 
-returns-3 : tie.Need-returns-3
+returns-in-PutPair : tie.Need-returns-in-PutPair
 unfolding words_by store_count
-returns-3 c =
-    let s = c.before.before.before.before.before in
-    two_set s.args.values.now _ _ (omega (arith, s.requires.1))
-    ∙ turned s.args.card.now s.args.nodes s.args.values.now c.before.decision.given.1
+returns-in-PutPair c =
+    two_set c.args.values.now _ _ (omega (arith, c.requires.1))
+    ∙ turned c.args.card.now c.args.nodes c.args.values.now c.in-PutPair.is
 
-same-length-2 : tie.Need-same-length-2
-same-length-2 c = search rules
+shape_of-values-in-ClearKey : tie.Need-shape_of-values-in-ClearKey
+shape_of-values-in-ClearKey c = search rules
 
-returns-4 : tie.Need-returns-4
+returns-in-ClearKey : tie.Need-returns-in-ClearKey
 unfolding words_by store_count
-returns-4 c =
-    let s = c.before.before.before.before.before in
-    one_set s.args.values.now _ (omega (arith, s.requires.1))
-    ∙ turned s.args.card.now s.args.nodes s.args.values.now c.before.decision2.given.1
+returns-in-ClearKey c =
+    one_set c.args.values.now _ (omega (arith, c.requires.1))
+    ∙ turned c.args.card.now c.args.nodes c.args.values.now c.in-ClearKey.is
 
-same-length-3 : tie.Need-same-length-3
-same-length-3 c = search rules
+shape_of-values-in-SplitLeaf : tie.Need-shape_of-values-in-SplitLeaf
+shape_of-values-in-SplitLeaf c = search rules
 
-returns-5 : tie.Need-returns-5
+returns-in-SplitLeaf : tie.Need-returns-in-SplitLeaf
 unfolding words_by store_count change_length split_leaf
-returns-5 c =
-    let s = c.before.before.before.before.before.before.before.before.before.before in
-    let g = c.before.before.before.before.before.before.decision3.given.0 in
-    c.before.before.lay-split-leaf.ensures g.0
-    ∙ ap (λ (l : List ℕ). words_laid (split_leaf_of g.0 g.1.0 g.1.1.0 g.1.1.1.0 l s.args.nodes) s.args.values.now) c.before.before.before.before.Node-at.ensures
-    ∙ turned s.args.card.now s.args.nodes s.args.values.now c.before.before.before.before.before.before.decision3.given.1
+returns-in-SplitLeaf c =
+    c.lay_split_leaf.ensures c.in-SplitLeaf.node
+    ∙ ap (λ (l : List ℕ). words_laid (split_leaf_of c.in-SplitLeaf.node c.in-SplitLeaf.link c.in-SplitLeaf.key c.in-SplitLeaf.value l c.args.nodes) c.args.values.now) c.node_at.ensures
+    ∙ turned c.args.card.now c.args.nodes c.args.values.now c.in-SplitLeaf.is
 
-same-length-4 : tie.Need-same-length-4
-same-length-4 c = search rules
+shape_of-values-in-Absorb : tie.Need-shape_of-values-in-Absorb
+shape_of-values-in-Absorb c = search rules
 
-returns-6 : tie.Need-returns-6
+returns-in-Absorb : tie.Need-returns-in-Absorb
 unfolding words_by store_count change_length absorb
-returns-6 c =
-    let s = c.before.before.before.before.before.before.before.before.before in
-    c.before.before.lay-absorb.ensures
-    ∙ turned s.args.card.now s.args.nodes s.args.values.now c.before.before.before.before.before.decision4.given.1
+returns-in-Absorb c =
+    c.lay_absorb.ensures
+    ∙ turned c.args.card.now c.args.nodes c.args.values.now c.in-Absorb.is
 
-same-length-5 : tie.Need-same-length-5
-same-length-5 c = search rules
+shape_of-values-in-SplitParent : tie.Need-shape_of-values-in-SplitParent
+shape_of-values-in-SplitParent c = search rules
 
-returns-7 : tie.Need-returns-7
+returns-in-SplitParent : tie.Need-returns-in-SplitParent
 unfolding words_by store_count change_length split_parent
-returns-7 c =
-    let s = c.before.before.before.before.before.before.before.before.before in
-    c.before.before.lay-split-parent.ensures
-    ∙ turned s.args.card.now s.args.nodes s.args.values.now c.before.before.before.before.before.decision5.given.1
+returns-in-SplitParent c =
+    c.lay_split_parent.ensures
+    ∙ turned c.args.card.now c.args.nodes c.args.values.now c.in-SplitParent.is
 
-same-length-6 : tie.Need-same-length-6
-same-length-6 c = search rules
+shape_of-values-in-Share : tie.Need-shape_of-values-in-Share
+shape_of-values-in-Share c = search rules
 
-returns-8 : tie.Need-returns-8
+returns-in-Share : tie.Need-returns-in-Share
 unfolding words_by store_count change_length share halves
-returns-8 c =
-    let s = c.before.before.before.before.before.before.before.before.before in
-    c.before.before.lay-share.ensures
-    ∙ turned s.args.card.now s.args.nodes s.args.values.now c.before.before.before.before.before.decision6.given.1
+returns-in-Share c =
+    c.lay_share.ensures
+    ∙ turned c.args.card.now c.args.nodes c.args.values.now c.in-Share.is
 
-same-length-7 : tie.Need-same-length-7
-same-length-7 c = search rules
+shape_of-values-in-Merge : tie.Need-shape_of-values-in-Merge
+shape_of-values-in-Merge c = search rules
 
-returns-9 : tie.Need-returns-9
+returns-in-Merge : tie.Need-returns-in-Merge
 unfolding words_by store_count change_length merge
-returns-9 c =
-    let s = c.before.before.before.before.before.before.before.before.before in
-    c.before.before.lay-merge.ensures
-    ∙ turned s.args.card.now s.args.nodes s.args.values.now c.before.before.before.before.before.decision7.given.1
+returns-in-Merge c =
+    c.lay_merge.ensures
+    ∙ turned c.args.card.now c.args.nodes c.args.values.now c.in-Merge.is
 
-same-length-8 : tie.Need-same-length-8
-same-length-8 c = search rules
+shape_of-values-in-MergeRoot : tie.Need-shape_of-values-in-MergeRoot
+shape_of-values-in-MergeRoot c = search rules
 
-returns-10 : tie.Need-returns-10
+returns-in-MergeRoot : tie.Need-returns-in-MergeRoot
 unfolding words_by store_count change_length merge_root
-returns-10 c =
-    let s = c.before.before.before.before.before.before.before.before.before in
-    c.before.before.lay-merge-root.ensures
-    ∙ turned s.args.card.now s.args.nodes s.args.values.now c.before.before.before.before.before.decision8.given.1
+returns-in-MergeRoot c =
+    c.lay_merge_root.ensures
+    ∙ turned c.args.card.now c.args.nodes c.args.values.now c.in-MergeRoot.is
 
 pub lay_values_spec : {M : Type 1} → statement M
 lay_values_spec =
     tie.close
     (tie.spec
-    enum_told
-    enum-told-2
-    enum-known-decision
-    slice-write-values
-    slice-write-values-2
-    enum-known-decision-2
-    slice-write-values-3
-    enum-known-decision-3
-    node-at-requires
-    lay-split-leaf-requires
-    enum-known-decision-4
-    lay-absorb-requires
-    enum-known-decision-5
-    lay-split-parent-requires
-    enum-known-decision-6
-    lay-share-requires
-    enum-known-decision-7
-    lay-merge-requires
-    enum-known-decision-8
-    lay-merge-root-requires
-    returns
-    returns-2
-    same_length
-    returns-3
-    same-length-2
-    returns-4
-    same-length-3
-    returns-5
-    same-length-4
-    returns-6
-    same-length-5
-    returns-7
-    same-length-6
-    returns-8
-    same-length-7
-    returns-9
-    same-length-8
-    returns-10)
+    enum_told-1
+    enum_told-in-Balanced
+    enum_known-decision
+    bounds-values-0
+    bounds-values-1
+    enum_known-decision-in-ClearKey-1
+    bounds-values-0-in-ClearKey
+    enum_known-decision-in-SplitLeaf-1
+    node_at-requires
+    lay_split_leaf-requires
+    enum_known-decision-in-Absorb-1
+    lay_absorb-requires
+    enum_known-decision-in-SplitParent-1
+    lay_split_parent-requires
+    enum_known-decision-in-Share-1
+    lay_share-requires
+    enum_known-decision-in-Merge-1
+    lay_merge-requires
+    enum_known-decision-in-MergeRoot-1
+    lay_merge_root-requires
+    returns-in-Refused
+    returns-in-Balanced
+    shape_of-values-in-PutPair
+    returns-in-PutPair
+    shape_of-values-in-ClearKey
+    returns-in-ClearKey
+    shape_of-values-in-SplitLeaf
+    returns-in-SplitLeaf
+    shape_of-values-in-Absorb
+    returns-in-Absorb
+    shape_of-values-in-SplitParent
+    returns-in-SplitParent
+    shape_of-values-in-Share
+    returns-in-Share
+    shape_of-values-in-Merge
+    returns-in-Merge
+    shape_of-values-in-MergeRoot
+    returns-in-MergeRoot)

@@ -5,137 +5,137 @@ use borrow.Author.Rules.{rules}
 use Rattle.change_layout.proofs.size_of.Statement.{statement}
 use Rattle.change_layout.proofs.size_of.Tie as tie
 
-enum_told : tie.Need-enum-told
-enum_told c = search rules
+enum_told-1 : tie.Need-enum_told-1
+enum_told-1 c = search rules
 
-no-change-requires : tie.Need-no-change-requires
-no-change-requires c κs = search rules
+no_change-requires : tie.Need-no_change-requires
+no_change-requires c κs = search rules
 
-enum-told-2 : tie.Need-enum-told-2
-enum-told-2 c = search rules
+enum_told-in-Balanced : tie.Need-enum_told-in-Balanced
+enum_told-in-Balanced c = search rules
 
-no-change-requires-2 : tie.Need-no-change-requires-2
-no-change-requires-2 c κs = search rules
+no_change-requires-in-Balanced : tie.Need-no_change-requires-in-Balanced
+no_change-requires-in-Balanced c κs = search rules
 
-enum-known-decision : tie.Need-enum-known-decision
-enum-known-decision c = search rules
+enum_known-decision : tie.Need-enum_known-decision
+enum_known-decision c = search rules
 
-change-of-requires : tie.Need-change-of-requires
-change-of-requires c κs = search rules
+change_of-requires : tie.Need-change_of-requires
+change_of-requires c κs = search rules
 
-enum-known-decision-2 : tie.Need-enum-known-decision-2
-enum-known-decision-2 c = search rules
+enum_known-decision-in-ClearKey-1 : tie.Need-enum_known-decision-in-ClearKey-1
+enum_known-decision-in-ClearKey-1 c = search rules
 
-change-of-requires-2 : tie.Need-change-of-requires-2
-change-of-requires-2 c κs = search rules
+change_of-requires-in-ClearKey : tie.Need-change_of-requires-in-ClearKey
+change_of-requires-in-ClearKey c κs = search rules
 
-enum-known-decision-3 : tie.Need-enum-known-decision-3
-enum-known-decision-3 c = search rules
+enum_known-decision-in-SplitLeaf-1 : tie.Need-enum_known-decision-in-SplitLeaf-1
+enum_known-decision-in-SplitLeaf-1 c = search rules
 
-change-of-requires-3 : tie.Need-change-of-requires-3
-change-of-requires-3 c κs = search rules
+change_of-requires-in-SplitLeaf : tie.Need-change_of-requires-in-SplitLeaf
+change_of-requires-in-SplitLeaf c κs = search rules
 
-enum-known-decision-4 : tie.Need-enum-known-decision-4
-enum-known-decision-4 c = search rules
+enum_known-decision-in-Absorb-1 : tie.Need-enum_known-decision-in-Absorb-1
+enum_known-decision-in-Absorb-1 c = search rules
 
-change-of-requires-4 : tie.Need-change-of-requires-4
-change-of-requires-4 c κs = search rules
+change_of-requires-in-Absorb : tie.Need-change_of-requires-in-Absorb
+change_of-requires-in-Absorb c κs = search rules
 
-enum-known-decision-5 : tie.Need-enum-known-decision-5
-enum-known-decision-5 c = search rules
+enum_known-decision-in-SplitParent-1 : tie.Need-enum_known-decision-in-SplitParent-1
+enum_known-decision-in-SplitParent-1 c = search rules
 
-change-of-requires-5 : tie.Need-change-of-requires-5
-change-of-requires-5 c κs = search rules
+change_of-requires-in-SplitParent : tie.Need-change_of-requires-in-SplitParent
+change_of-requires-in-SplitParent c κs = search rules
 
-enum-known-decision-6 : tie.Need-enum-known-decision-6
-enum-known-decision-6 c = search rules
+enum_known-decision-in-Share-1 : tie.Need-enum_known-decision-in-Share-1
+enum_known-decision-in-Share-1 c = search rules
 
-change-of-requires-6 : tie.Need-change-of-requires-6
-change-of-requires-6 c κs = search rules
+change_of-requires-in-Share : tie.Need-change_of-requires-in-Share
+change_of-requires-in-Share c κs = search rules
 
-enum-known-decision-7 : tie.Need-enum-known-decision-7
-enum-known-decision-7 c = search rules
+enum_known-decision-in-Merge-1 : tie.Need-enum_known-decision-in-Merge-1
+enum_known-decision-in-Merge-1 c = search rules
 
-change-of-requires-7 : tie.Need-change-of-requires-7
-change-of-requires-7 c κs = search rules
+change_of-requires-in-Merge : tie.Need-change_of-requires-in-Merge
+change_of-requires-in-Merge c κs = search rules
 
-enum-known-decision-8 : tie.Need-enum-known-decision-8
-enum-known-decision-8 c = search rules
+enum_known-decision-in-MergeRoot-1 : tie.Need-enum_known-decision-in-MergeRoot-1
+enum_known-decision-in-MergeRoot-1 c = search rules
 
-change-of-requires-8 : tie.Need-change-of-requires-8
-change-of-requires-8 c κs = search rules
+change_of-requires-in-MergeRoot : tie.Need-change_of-requires-in-MergeRoot
+change_of-requires-in-MergeRoot c κs = search rules
 
-returns : tie.Need-returns
+returns-in-Refused : tie.Need-returns-in-Refused
 unfolding size_of outcome_of needed store_count change_of no_change
-returns c = c.no_change.ensures ∙ sym (ap size_of c.before.enum_told.given.1)
+returns-in-Refused c = c.no_change.ensures ∙ sym (ap size_of c.in-Refused.is)
 
-returns-2 : tie.Need-returns-2
+returns-in-Balanced : tie.Need-returns-in-Balanced
 unfolding size_of outcome_of needed store_count change_of no_change
-returns-2 c = c.no-change2.ensures ∙ sym (ap size_of c.before.enum-told2.given.1)
+returns-in-Balanced c = c.no_change-in-Balanced.ensures ∙ sym (ap size_of c.in-Balanced.is)
 
-returns-3 : tie.Need-returns-3
+returns-in-PutPair : tie.Need-returns-in-PutPair
 unfolding size_of outcome_of needed store_count change_of no_change
-returns-3 c = c.change-of.ensures ∙ sym (ap size_of c.before.before.decision.given.1)
+returns-in-PutPair c = c.change_of.ensures ∙ sym (ap size_of c.in-PutPair.is)
 
-returns-4 : tie.Need-returns-4
+returns-in-ClearKey : tie.Need-returns-in-ClearKey
 unfolding size_of outcome_of needed store_count change_of no_change
-returns-4 c = c.change-of2.ensures ∙ sym (ap size_of c.before.before.decision2.given.1)
+returns-in-ClearKey c = c.change_of-in-ClearKey.ensures ∙ sym (ap size_of c.in-ClearKey.is)
 
-returns-5 : tie.Need-returns-5
+returns-in-SplitLeaf : tie.Need-returns-in-SplitLeaf
 unfolding size_of outcome_of needed store_count change_of no_change
-returns-5 c = c.change-of3.ensures ∙ sym (ap size_of c.before.before.decision3.given.1)
+returns-in-SplitLeaf c = c.change_of-in-SplitLeaf.ensures ∙ sym (ap size_of c.in-SplitLeaf.is)
 
-returns-6 : tie.Need-returns-6
+returns-in-Absorb : tie.Need-returns-in-Absorb
 unfolding size_of outcome_of needed store_count change_of no_change
-returns-6 c = c.change-of4.ensures ∙ sym (ap size_of c.before.before.decision4.given.1)
+returns-in-Absorb c = c.change_of-in-Absorb.ensures ∙ sym (ap size_of c.in-Absorb.is)
 
-returns-7 : tie.Need-returns-7
+returns-in-SplitParent : tie.Need-returns-in-SplitParent
 unfolding size_of outcome_of needed store_count change_of no_change
-returns-7 c = c.change-of5.ensures ∙ sym (ap size_of c.before.before.decision5.given.1)
+returns-in-SplitParent c = c.change_of-in-SplitParent.ensures ∙ sym (ap size_of c.in-SplitParent.is)
 
-returns-8 : tie.Need-returns-8
+returns-in-Share : tie.Need-returns-in-Share
 unfolding size_of outcome_of needed store_count change_of no_change
-returns-8 c = c.change-of6.ensures ∙ sym (ap size_of c.before.before.decision6.given.1)
+returns-in-Share c = c.change_of-in-Share.ensures ∙ sym (ap size_of c.in-Share.is)
 
-returns-9 : tie.Need-returns-9
+returns-in-Merge : tie.Need-returns-in-Merge
 unfolding size_of outcome_of needed store_count change_of no_change
-returns-9 c = c.change-of7.ensures ∙ sym (ap size_of c.before.before.decision7.given.1)
+returns-in-Merge c = c.change_of-in-Merge.ensures ∙ sym (ap size_of c.in-Merge.is)
 
-returns-10 : tie.Need-returns-10
+returns-in-MergeRoot : tie.Need-returns-in-MergeRoot
 unfolding size_of outcome_of needed store_count change_of no_change
-returns-10 c = c.change-of8.ensures ∙ sym (ap size_of c.before.before.decision8.given.1)
+returns-in-MergeRoot c = c.change_of-in-MergeRoot.ensures ∙ sym (ap size_of c.in-MergeRoot.is)
 
 pub size_of_spec : {M : Type 1} → statement M
 size_of_spec =
     tie.close
     (tie.spec
-    enum_told
-    no-change-requires
-    enum-told-2
-    no-change-requires-2
-    enum-known-decision
-    change-of-requires
-    enum-known-decision-2
-    change-of-requires-2
-    enum-known-decision-3
-    change-of-requires-3
-    enum-known-decision-4
-    change-of-requires-4
-    enum-known-decision-5
-    change-of-requires-5
-    enum-known-decision-6
-    change-of-requires-6
-    enum-known-decision-7
-    change-of-requires-7
-    enum-known-decision-8
-    change-of-requires-8
-    returns
-    returns-2
-    returns-3
-    returns-4
-    returns-5
-    returns-6
-    returns-7
-    returns-8
-    returns-9
-    returns-10)
+    enum_told-1
+    no_change-requires
+    enum_told-in-Balanced
+    no_change-requires-in-Balanced
+    enum_known-decision
+    change_of-requires
+    enum_known-decision-in-ClearKey-1
+    change_of-requires-in-ClearKey
+    enum_known-decision-in-SplitLeaf-1
+    change_of-requires-in-SplitLeaf
+    enum_known-decision-in-Absorb-1
+    change_of-requires-in-Absorb
+    enum_known-decision-in-SplitParent-1
+    change_of-requires-in-SplitParent
+    enum_known-decision-in-Share-1
+    change_of-requires-in-Share
+    enum_known-decision-in-Merge-1
+    change_of-requires-in-Merge
+    enum_known-decision-in-MergeRoot-1
+    change_of-requires-in-MergeRoot
+    returns-in-Refused
+    returns-in-Balanced
+    returns-in-PutPair
+    returns-in-ClearKey
+    returns-in-SplitLeaf
+    returns-in-Absorb
+    returns-in-SplitParent
+    returns-in-Share
+    returns-in-Merge
+    returns-in-MergeRoot)

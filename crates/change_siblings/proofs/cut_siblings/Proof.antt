@@ -13,63 +13,62 @@ use Rattle.change_siblings.proofs.cut_siblings.Statement.{statement}
 use Rattle.change_siblings.proofs.cut_siblings.Tie as tie
 
 -- child and sibling are among the parent's children
-beside : (c : tie.After-left-sibling) → suc c.left-sibling.result < length (children c.before.Node-at.result.now)
-beside c = let s = c.before.before.before in omega (arith, c.left-sibling.ensures, ap (λ (l : List ℕ). length (children l)) c.before.Node-at.ensures, s.requires.beside)
+beside : (c : tie.After-left_sibling-j) → suc c.left_sibling-j.result < length (children c.node_at-parent.result.now)
+beside c = omega (arith, c.left_sibling-j.ensures, ap (λ (l : List ℕ). length (children l)) c.node_at-parent.ensures, c.requires.beside)
 
-few : (c : tie.After-left-sibling) → c.left-sibling.result < 10
-few c = omega (arith, beside (c), children_le c.before.Node-at.result.now)
+few : (c : tie.After-left_sibling-j) → c.left_sibling-j.result < 10
+few c = omega (arith, beside (c), children_le c.node_at-parent.result.now)
 
-words : (c : tie.After-left-sibling) → length c.before.Node-at.result.now ≡ 24
-words c = let s = c.before.before.before in ap length c.before.Node-at.ensures ∙ parent_words s.args.card.now s.args.p s.requires
+words : (c : tie.After-left_sibling-j) → length c.node_at-parent.result.now ≡ 24
+words c = ap length c.node_at-parent.ensures ∙ parent_words c.args.card.now c.args.p c.requires
 
-node-at-requires : tie.Need-node-at-requires
-node-at-requires c κs = search rules
+node_at-parent-requires : tie.Need-node_at-parent-requires
+node_at-parent-requires c κs = search rules
 
-left-sibling-requires : tie.Need-left-sibling-requires
-left-sibling-requires c κs = search rules
+left_sibling-j-requires : tie.Need-left_sibling-j-requires
+left_sibling-j-requires c κs = search rules
 
-cast-t5 : tie.Need-overflow-cast-t5
-cast-t5 c = search rules
+overflow_cast-result : tie.Need-overflow_cast-result
+overflow_cast-result c = search rules
 
-add-t6 : tie.Need-overflow-add-t6
-add-t6 c = omega (arith, few c.before)
+overflow_add-result : tie.Need-overflow_add-result
+overflow_add-result c = omega (arith, few c.before)
 
-mul-t7 : tie.Need-overflow-mul-t7
-mul-t7 c = omega (arith, few c.before)
+offset_bounds-parent-j : tie.Need-offset_bounds-parent-j
+offset_bounds-parent-j c = omega (arith, few c.before)
 
-shared-slice-read-t9 : tie.Need-shared-slice-read-t9
-shared-slice-read-t9 c = omega (arith, few c.before.before, words c.before.before)
+bounds-parent-j : tie.Need-bounds-parent-j
+bounds-parent-j c = omega (arith, few c.before.before, words c.before.before)
 
-add-t10 : tie.Need-overflow-add-t10
-add-t10 c = omega (arith, few c.before.before)
+overflow_add-result-2 : tie.Need-overflow_add-result-2
+overflow_add-result-2 c = omega (arith, few c.before.before)
 
-mul-t11 : tie.Need-overflow-mul-t11
-mul-t11 c = omega (arith, few c.before.before)
+offset_bounds-parent-j-2 : tie.Need-offset_bounds-parent-j-2
+offset_bounds-parent-j-2 c = omega (arith, few c.before.before)
 
-shared-slice-read-t13 : tie.Need-shared-slice-read-t13
-shared-slice-read-t13 c = omega (arith, few c.before.before.before, words c.before.before.before)
+bounds-parent-j-2 : tie.Need-bounds-parent-j-2
+bounds-parent-j-2 c = omega (arith, few c.before.before.before, words c.before.before.before)
 
 returns : tie.Need-returns
 returns c =
-    let s = c.before.before.before.before.before.before in
-    let j = c.before.before.before.left-sibling.result in
-    let parent = c.before.before.before.before.Node-at.result.now in
-    ap₂ (λ (a b : ℕ). s.args.p.parent ∷ a ∷ b ∷ []) (child_read parent j (12 + j) refl (omega (arith, beside c.before.before.before)))
+    let j = c.left_sibling-j.result in
+    let parent = c.node_at-parent.result.now in
+    ap₂ (λ (a b : ℕ). c.args.p.parent ∷ a ∷ b ∷ []) (child_read parent j (12 + j) refl (omega (arith, beside c.before.before.before)))
     (child_read parent (suc j) (13 + j) (omega arith) (beside c.before.before.before))
-    ∙ ap₂ (λ (l : List ℕ) (i : ℕ). s.args.p.parent ∷ get_or (children l) i 0 ∷ get_or (children l) (suc i) 0 ∷ [])
-    c.before.before.before.before.Node-at.ensures c.before.before.before.left-sibling.ensures
+    ∙ ap₂ (λ (l : List ℕ) (i : ℕ). c.args.p.parent ∷ get_or (children l) i 0 ∷ get_or (children l) (suc i) 0 ∷ [])
+    c.node_at-parent.ensures c.left_sibling-j.ensures
 
 pub cut_siblings_spec : {M : Type 1} → statement M
 cut_siblings_spec =
     tie.close
     (tie.spec
-    node-at-requires
-    left-sibling-requires
-    cast-t5
-    add-t6
-    mul-t7
-    shared-slice-read-t9
-    add-t10
-    mul-t11
-    shared-slice-read-t13
+    node_at-parent-requires
+    left_sibling-j-requires
+    overflow_cast-result
+    overflow_add-result
+    offset_bounds-parent-j
+    bounds-parent-j
+    overflow_add-result-2
+    offset_bounds-parent-j-2
+    bounds-parent-j-2
     returns)

@@ -9,26 +9,25 @@ use Rattle.reason_key.proofs.KeyFileLaws.{key_longer, key_within}
 use Rattle.reason_key.proofs.key_in.Statement.{statement}
 use Rattle.reason_key.proofs.key_in.Tie as tie
 
+returns-then-file-gt-MOST_BYTES : tie.Need-returns-then-file-gt-MOST_BYTES
+returns-then-file-gt-MOST_BYTES c = key_longer c.args.file.now c.if-file-gt-MOST_BYTES.true
+
+line_end-end-requires : tie.Need-line_end-end-requires
+line_end-end-requires c κs = search rules
+
+slice_bounds-key_of_text-end : tie.Need-slice_bounds-key_of_text-end
+slice_bounds-key_of_text-end c = sym (length-take-le c.line_end-end.result c.args.file.now c.line_end-end.ensures.0)
+
+key_of_text-requires : tie.Need-key_of_text-requires
+key_of_text-requires c κs = search rules
+
 returns : tie.Need-returns
-returns c = let s = c.before.before in key_longer s.args.file.now c.if1.true
-
-line-end-requires : tie.Need-line-end-requires
-line-end-requires c κs = search rules
-
-slice-aggregate-key-of-text : tie.Need-slice-aggregate-key-of-text
-slice-aggregate-key-of-text c = let s = c.before.before.before.before in sym (length-take-le c.before.line-end.result s.args.file.now c.before.line-end.ensures.0)
-
-key-of-text-requires : tie.Need-key-of-text-requires
-key-of-text-requires c κs = search rules
-
-returns-2 : tie.Need-returns-2
-returns-2 c =
-    let s = c.before.before.before.before.before in
-    c.key-of-text.ensures
-    ∙ ap (λ (text : List ℕ). key_of_line (last_line text)) c.before.before.line-end.ensures.1
-    ∙ key_within s.args.file.now c.before.before.before.if1.false
+returns c =
+    c.key_of_text.ensures
+    ∙ ap (λ (text : List ℕ). key_of_line (last_line text)) c.line_end-end.ensures.1
+    ∙ key_within c.args.file.now c.if-file-gt-MOST_BYTES.false
 
 pub key_in_spec : {M : Type 1} → statement M
 key_in_spec =
     tie.close
-    (tie.spec returns line-end-requires slice-aggregate-key-of-text key-of-text-requires returns-2)
+    (tie.spec returns-then-file-gt-MOST_BYTES line_end-end-requires slice_bounds-key_of_text-end key_of_text-requires returns)

@@ -12,109 +12,103 @@ use Rattle.reason_key.proofs.key_of_line.Statement.{statement}
 use Rattle.reason_key.proofs.key_of_line.Tie as tie
 
 -- the bytes read are digits, and the line is worth what their value and those left make
-abbrev invariant-loop : tie.invariant-loop
-invariant-loop line value₀ i₀ value i =
+abbrev invariant-loop-i : tie.invariant-loop-i
+invariant-loop-i line value₀ i₀ value i =
     (i ≤ length line) × (value < key_limit) × (all_digits line ≡ all_digits (drop i line)) × (decimal_value line ≡ continued value (drop i line))
 
-abbrev decreases-loop : tie.decreases-loop
-decreases-loop line value₀ i₀ value i = length line - i
+abbrev decreases-loop-i : tie.decreases-loop-i
+decreases-loop-i line value₀ i₀ value i = length line - i
 
 -- the value with the digit that was read
-continued_more : (c : tie.After-worth invariant-loop decreases-loop)
-    → decimal_value c.before.before.before.before.before.before.before.before.args.line.now
-    ≡ continued (10 * c.before.before.before.before.before.before.loop.value + c.worth.result)
-    (drop (c.before.before.before.before.before.before.loop.i + 1)
-    c.before.before.before.before.before.before.before.before.args.line.now)
+continued_more : (c : tie.After-worth invariant-loop-i decreases-loop-i)
+    → decimal_value c.args.line.now
+    ≡ continued (10 * c.loop-i.value + c.worth.result)
+    (drop (c.loop-i.i + 1)
+    c.args.line.now)
 continued_more c =
-    let l = c.before.before.before.before.before.before.loop in
-    let s = c.before.before.before.before.before.before.before.before in
-    l.invariant.3 ∙ continued_next s.args.line.now l.i l.value c.worth.result (omega arith) c.worth.ensures.0
+    let l = c.loop-i in
+    l.invariant.3 ∙ continued_next c.args.line.now l.i l.value c.worth.result (omega arith) c.worth.ensures.0
 
-loop-holds : tie.Need-loop-init invariant-loop decreases-loop
-loop-holds c = let s = c.before in (omega arith, omega arith, refl, continued_start s.args.line.now)
+loop-i-init : tie.Need-loop-i-init invariant-loop-i decreases-loop-i
+loop-i-init c = (omega arith, omega arith, refl, continued_start c.args.line.now)
 
-shared-slice-read-is-digit : tie.Need-shared-slice-read-is-digit invariant-loop decreases-loop
-shared-slice-read-is-digit c = search rules
+bounds-line-i : tie.Need-bounds-line-i invariant-loop-i decreases-loop-i
+bounds-line-i c = search rules
 
-is-digit-requires : tie.Need-is-digit-requires invariant-loop decreases-loop
-is-digit-requires c κs = search rules
+is_digit-requires : tie.Need-is_digit-requires invariant-loop-i decreases-loop-i
+is_digit-requires c κs = search rules
 
-mul-value : tie.Need-overflow-mul-value invariant-loop decreases-loop
-mul-value c = search rules
+overflow_mul-value : tie.Need-overflow_mul-value invariant-loop-i decreases-loop-i
+overflow_mul-value c = search rules
 
-shared-slice-read-worth : tie.Need-shared-slice-read-worth invariant-loop decreases-loop
-shared-slice-read-worth c = search rules
+bounds-line-i-then-is_digit : tie.Need-bounds-line-i-then-is_digit invariant-loop-i decreases-loop-i
+bounds-line-i-then-is_digit c = search rules
 
-worth-requires : tie.Need-worth-requires invariant-loop decreases-loop
+worth-requires : tie.Need-worth-requires invariant-loop-i decreases-loop-i
 worth-requires c κs =
-    let s = c.before.before.before.before.before.before.before in
-    digit_range (get_or s.args.line.now c.before.before.before.before.before.loop.i 0)
-    (sym c.before.before.is_digit.ensures ∙ c.before.if1.true)
+    digit_range (get_or c.args.line.now c.loop-i.i 0)
+    (sym c.is_digit.ensures ∙ c.if-is_digit.true)
 
-add-value : tie.Need-overflow-add-value invariant-loop decreases-loop
-add-value c = search rules
+overflow_add-value : tie.Need-overflow_add-value invariant-loop-i decreases-loop-i
+overflow_add-value c = search rules
 
-returns : tie.Need-returns invariant-loop decreases-loop
-returns c =
-    let s = c.before.before.before.before.before.before.before.before.before in
-    key_great s.args.line.now (omega (
+returns-then-value-ge-KEY_LIMIT : tie.Need-returns-then-value-ge-KEY_LIMIT invariant-loop-i decreases-loop-i
+returns-then-value-ge-KEY_LIMIT c =
+    key_great c.args.line.now (omega (
       arith,
       continued_more c.before,
-      continued_least (10 * c.before.before.before.before.before.before.before.loop.value + c.before.worth.result)
-          (drop (c.before.before.before.before.before.before.before.loop.i + 1) s.args.line.now),
+      continued_least (10 * c.loop-i.value + c.worth.result)
+          (drop (c.loop-i.i + 1) c.args.line.now),
     ))
 
-returns-2 : tie.Need-returns-2 invariant-loop decreases-loop
-returns-2 c =
-    let s = c.before.before.before.before.before.before in
-    key_other s.args.line.now (c.before.before.before.before.loop.invariant.2 ∙ digits_stop s.args.line.now
-    c.before.before.before.before.loop.i (omega arith) (sym c.before.is_digit.ensures ∙ c.if1.false))
+returns-else-is_digit : tie.Need-returns-else-is_digit invariant-loop-i decreases-loop-i
+returns-else-is_digit c =
+    key_other c.args.line.now (c.loop-i.invariant.2 ∙ digits_stop c.args.line.now
+    c.loop-i.i (omega arith) (sym c.is_digit.ensures ∙ c.if-is_digit.false))
 
-add-i : tie.Need-overflow-add-i invariant-loop decreases-loop
-add-i c = search rules
+overflow_add-i : tie.Need-overflow_add-i invariant-loop-i decreases-loop-i
+overflow_add-i c = search rules
 
-loop-less : tie.Need-loop-smaller invariant-loop decreases-loop
-loop-less c = search rules
+loop-i-smaller : tie.Need-loop-i-smaller invariant-loop-i decreases-loop-i
+loop-i-smaller c = search rules
 
-loop-again : tie.Need-loop-preserved invariant-loop decreases-loop
-loop-again c =
-    let s = c.before.before.before.before.before.before.before.before.before in (
-      omega arith,
-      omega arith,
-      c.before.before.before.before.before.before.before.loop.invariant.2
-          ∙ digits_next s.args.line.now c.before.before.before.before.before.before.before.loop.i (omega arith)
-          (sym c.before.before.before.before.is_digit.ensures ∙ c.before.before.before.if1.true),
-      continued_more c.before,
-    )
+loop-i-preserved : tie.Need-loop-i-preserved invariant-loop-i decreases-loop-i
+loop-i-preserved c = (
+  omega arith,
+  omega arith,
+  c.loop-i.invariant.2
+      ∙ digits_next c.args.line.now c.loop-i.i (omega arith)
+      (sym c.is_digit.ensures ∙ c.if-is_digit.true),
+  continued_more c.before,
+)
 
-cast-result : tie.Need-overflow-cast-result invariant-loop decreases-loop
-cast-result c = search rules
+overflow_cast-result : tie.Need-overflow_cast-result invariant-loop-i decreases-loop-i
+overflow_cast-result c = search rules
 
-returns-3 : tie.Need-returns-3 invariant-loop decreases-loop
-returns-3 c =
-    let s = c.before.before.before in
-    key_found s.args.line.now c.before.loop.value
-    (c.before.loop.invariant.2 ∙ digits_end s.args.line.now c.before.loop.i (omega arith))
-    (c.before.loop.invariant.3 ∙ continued_end s.args.line.now c.before.loop.i c.before.loop.value (omega arith))
-    c.before.loop.invariant.1
+returns : tie.Need-returns invariant-loop-i decreases-loop-i
+returns c =
+    key_found c.args.line.now c.loop-i.value
+    (c.loop-i.invariant.2 ∙ digits_end c.args.line.now c.loop-i.i (omega arith))
+    (c.loop-i.invariant.3 ∙ continued_end c.args.line.now c.loop-i.i c.loop-i.value (omega arith))
+    c.loop-i.invariant.1
 
 pub key_of_line_spec : {M : Type 1} → statement M
 key_of_line_spec =
     tie.close
     (tie.spec
-    invariant-loop
-    decreases-loop
-    loop-holds
-    shared-slice-read-is-digit
-    is-digit-requires
-    mul-value
-    shared-slice-read-worth
+    invariant-loop-i
+    decreases-loop-i
+    loop-i-init
+    bounds-line-i
+    is_digit-requires
+    overflow_mul-value
+    bounds-line-i-then-is_digit
     worth-requires
-    add-value
-    returns
-    returns-2
-    add-i
-    loop-less
-    loop-again
-    cast-result
-    returns-3)
+    overflow_add-value
+    returns-then-value-ge-KEY_LIMIT
+    returns-else-is_digit
+    overflow_add-i
+    loop-i-smaller
+    loop-i-preserved
+    overflow_cast-result
+    returns)

@@ -11,54 +11,53 @@ use Rattle.reason_key.proofs.line_start.Statement.{statement}
 use Rattle.reason_key.proofs.line_start.Tie as tie
 
 -- no line feed stands from `at` on
-abbrev invariant-loop : tie.invariant-loop
-invariant-loop text at₀ at = (at ≤ length text) × (has_feed (drop at text) ≡ false)
+abbrev invariant-loop-at : tie.invariant-loop-at
+invariant-loop-at text at₀ at = (at ≤ length text) × (has_feed (drop at text) ≡ false)
 
-abbrev decreases-loop : tie.decreases-loop
-decreases-loop text at₀ at = at
+abbrev decreases-loop-at : tie.decreases-loop-at
+decreases-loop-at text at₀ at = at
 
-loop-holds : tie.Need-loop-init invariant-loop decreases-loop
-loop-holds c = let s = c in (omega arith, feed_none s.args.text.now (length s.args.text.now) (omega arith))
+loop-at-init : tie.Need-loop-at-init invariant-loop-at decreases-loop-at
+loop-at-init c = (omega arith, feed_none c.args.text.now (length c.args.text.now) (omega arith))
 
-sub-if1 : tie.Need-overflow-sub-if1 invariant-loop decreases-loop
-sub-if1 c = search rules
+overflow_sub-at : tie.Need-overflow_sub-at invariant-loop-at decreases-loop-at
+overflow_sub-at c = search rules
 
-shared-slice-read-if1 : tie.Need-shared-slice-read-if1 invariant-loop decreases-loop
-shared-slice-read-if1 c = search rules
+bounds-text-at : tie.Need-bounds-text-at invariant-loop-at decreases-loop-at
+bounds-text-at c = search rules
 
-returns : tie.Need-returns invariant-loop decreases-loop
+returns-then-text-at-eq10 : tie.Need-returns-then-text-at-eq10 invariant-loop-at decreases-loop-at
+returns-then-text-at-eq10 c =
+    let l = c.loop-at in
+    (omega arith, line_starts c.args.text.now (l.at - 1) l.at (omega arith) l.invariant.0 c.if-text-at-eq10.true l.invariant.1)
+
+overflow_sub-at-in-loop-at : tie.Need-overflow_sub-at-in-loop-at invariant-loop-at decreases-loop-at
+overflow_sub-at-in-loop-at c = search rules
+
+loop-at-smaller : tie.Need-loop-at-smaller invariant-loop-at decreases-loop-at
+loop-at-smaller c = search rules
+
+loop-at-preserved : tie.Need-loop-at-preserved invariant-loop-at decreases-loop-at
+loop-at-preserved c =
+    let l = c.loop-at in
+    (omega arith, feed_not_here c.args.text.now (l.at - 1) l.at (omega arith) l.invariant.0 c.if-text-at-eq10.false l.invariant.1)
+
+returns : tie.Need-returns invariant-loop-at decreases-loop-at
 returns c =
-    let l = c.before.before.before.loop in
-    let s = c.before.before.before.before in (omega arith, line_starts s.args.text.now (l.at - 1) l.at (omega arith) l.invariant.0 c.if1.true l.invariant.1)
-
-sub_at : tie.Need-overflow-sub-at invariant-loop decreases-loop
-sub_at c = search rules
-
-loop-less : tie.Need-loop-smaller invariant-loop decreases-loop
-loop-less c = search rules
-
-loop-again : tie.Need-loop-preserved invariant-loop decreases-loop
-loop-again c =
-    let l = c.before.before.before.loop in
-    let s = c.before.before.before.before in (omega arith, feed_not_here s.args.text.now (l.at - 1) l.at (omega arith) l.invariant.0 c.if1.false l.invariant.1)
-
-returns-2 : tie.Need-returns-2 invariant-loop decreases-loop
-returns-2 c =
-    let s = c.before.before in
-    let all : c.before.loop.at ≡ 0 = omega arith in
-    (omega arith, line_whole s.args.text.now (rw all at c.before.loop.invariant.1))
+    let all : c.loop-at.at ≡ 0 = omega arith in
+    (omega arith, line_whole c.args.text.now (rw all at c.loop-at.invariant.1))
 
 pub line_start_spec : {M : Type 1} → statement M
 line_start_spec =
     tie.close
     (tie.spec
-    invariant-loop
-    decreases-loop
-    loop-holds
-    sub-if1
-    shared-slice-read-if1
-    returns
-    sub_at
-    loop-less
-    loop-again
-    returns-2)
+    invariant-loop-at
+    decreases-loop-at
+    loop-at-init
+    overflow_sub-at
+    bounds-text-at
+    returns-then-text-at-eq10
+    overflow_sub-at-in-loop-at
+    loop-at-smaller
+    loop-at-preserved
+    returns)

@@ -7,23 +7,23 @@ use borrow.Author.Rules.{rules}
 use Rattle.walk.proofs.beside_after.Statement.{statement}
 use Rattle.walk.proofs.beside_after.Tie as tie
 
-add-next : tie.Need-overflow-add-next
-add-next c = search rules
+overflow_add-next : tie.Need-overflow_add-next
+overflow_add-next c = search rules
 
-mul_next : tie.Need-overflow-mul-next
-mul_next c = search rules
+offset_bounds-node-index : tie.Need-offset_bounds-node-index
+offset_bounds-node-index c = search rules
 
-shared-slice-read-next : tie.Need-shared-slice-read-next
-shared-slice-read-next c = search rules
+bounds-node-index : tie.Need-bounds-node-index
+bounds-node-index c = search rules
 
-cast-next : tie.Need-overflow-cast-next
-cast-next c = omega (arith, c.shared-slice-known.given (13 + c.before.args.index))
+overflow_cast-next : tie.Need-overflow_cast-next
+overflow_cast-next c = omega (arith, c.shared_slice_known-1.given (13 + c.args.index))
+
+returns-then-next-eq0 : tie.Need-returns-then-next-eq0
+returns-then-next-eq0 c = sym (after_none c.args.node.now c.args.index c.args.beside c.if-next-eq0.true)
 
 returns : tie.Need-returns
-returns c = sym (after_none c.before.before.args.node.now c.before.before.args.index c.before.before.args.beside c.if1.true)
-
-returns-2 : tie.Need-returns-2
-returns-2 c = sym (after_child c.before.before.args.node.now c.before.before.args.index c.before.before.args.beside c.if1.false)
+returns c = sym (after_child c.args.node.now c.args.index c.args.beside c.if-next-eq0.false)
 
 pub beside_after_spec : {M : Type 1} → statement M
-beside_after_spec = tie.close (tie.spec add-next mul_next shared-slice-read-next cast-next returns returns-2)
+beside_after_spec = tie.close (tie.spec overflow_add-next offset_bounds-node-index bounds-node-index overflow_cast-next returns-then-next-eq0 returns)

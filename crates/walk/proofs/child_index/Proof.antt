@@ -12,78 +12,78 @@ use Rattle.walk.proofs.DescentLaws.{children_more, last_child, next_child, index
 use Rattle.walk.proofs.child_index.Statement.{statement}
 use Rattle.walk.proofs.child_index.Tie as tie
 
-abbrev invariant-loop : tie.invariant-loop
-invariant-loop node key i₀ i = (i ≤ 10) × (i < length (children node)) × (child_index node key ≡ index_from node key i)
+abbrev invariant-loop-i : tie.invariant-loop-i
+invariant-loop-i node key i₀ i = (i ≤ 10) × (i < length (children node)) × (child_index node key ≡ index_from node key i)
 
-abbrev decreases-loop : tie.decreases-loop
-decreases-loop node key i₀ i = 10 - i
+abbrev decreases-loop-i : tie.decreases-loop-i
+decreases-loop-i node key i₀ i = 10 - i
 
-loop-holds : tie.Need-loop-init invariant-loop decreases-loop
-loop-holds c = (search rules, children_more _ 0 (omega arith) (omega arith) (search rules), index_start _ _)
+loop-i-init : tie.Need-loop-i-init invariant-loop-i decreases-loop-i
+loop-i-init c = (search rules, children_more _ 0 (omega arith) (omega arith) (search rules), index_start _ _)
 
-add-loop : tie.Need-overflow-add-loop invariant-loop decreases-loop
-add-loop c = search rules
+overflow_add-i : tie.Need-overflow_add-i invariant-loop-i decreases-loop-i
+overflow_add-i c = search rules
 
 -- a key below the word beside child i, which may be the last
 stops : (node : List ℕ) (key i : ℕ) → length node ≡ 24 → key < get_or node (1 + i) 0 → index_from node key i ≡ i
 stops node key i len h =
     order (i + 1) (length (children node)) (λ more. index_stop node len key i more h) (λ last. index_last node len key i last)
 
-add-if1 : tie.Need-overflow-add-if1 invariant-loop decreases-loop
-add-if1 c = search rules
+overflow_add-i-in-loop-i : tie.Need-overflow_add-i-in-loop-i invariant-loop-i decreases-loop-i
+overflow_add-i-in-loop-i c = search rules
 
-mul-if1 : tie.Need-overflow-mul-if1 invariant-loop decreases-loop
-mul-if1 c = search rules
+offset_bounds-node-i : tie.Need-offset_bounds-node-i invariant-loop-i decreases-loop-i
+offset_bounds-node-i c = search rules
 
-shared-slice-read-if1 : tie.Need-shared-slice-read-if1 invariant-loop decreases-loop
-shared-slice-read-if1 c = search rules
+bounds-node-i : tie.Need-bounds-node-i invariant-loop-i decreases-loop-i
+bounds-node-i c = search rules
 
-returns : tie.Need-returns invariant-loop decreases-loop
-returns c = let l = c.before.before.before.loop in sym (l.invariant.2 ∙ stops _ _ _ (search rules) c.if1.true)
+returns-then-key-node : tie.Need-returns-then-key-node invariant-loop-i decreases-loop-i
+returns-then-key-node c = let l = c.loop-i in sym (l.invariant.2 ∙ stops _ _ _ (search rules) c.if-key-node.true)
 
-add-if2 : tie.Need-overflow-add-if2 invariant-loop decreases-loop
-add-if2 c = search rules
+overflow_add-i-in-loop-i-2 : tie.Need-overflow_add-i-in-loop-i-2 invariant-loop-i decreases-loop-i
+overflow_add-i-in-loop-i-2 c = search rules
 
-mul-if2 : tie.Need-overflow-mul-if2 invariant-loop decreases-loop
-mul-if2 c = search rules
+offset_bounds-node-i-in-loop-i : tie.Need-offset_bounds-node-i-in-loop-i invariant-loop-i decreases-loop-i
+offset_bounds-node-i-in-loop-i c = search rules
 
-shared-slice-read-if2 : tie.Need-shared-slice-read-if2 invariant-loop decreases-loop
-shared-slice-read-if2 c = search rules
+bounds-node-i-in-loop-i : tie.Need-bounds-node-i-in-loop-i invariant-loop-i decreases-loop-i
+bounds-node-i-in-loop-i c = search rules
 
-returns-2 : tie.Need-returns-2 invariant-loop decreases-loop
-returns-2 c = let l = c.before.before.before.before.before.loop in sym (l.invariant.2 ∙ index_last _ (search rules) _ _ (last_child _ _ (omega arith) c.if2.true))
+returns-then-node-i-eq0 : tie.Need-returns-then-node-i-eq0 invariant-loop-i decreases-loop-i
+returns-then-node-i-eq0 c = let l = c.loop-i in sym (l.invariant.2 ∙ index_last _ (search rules) _ _ (last_child _ _ (omega arith) c.if-node-i-eq0.true))
 
-add-i : tie.Need-overflow-add-i invariant-loop decreases-loop
-add-i c = search rules
+overflow_add-i-in-loop-i-3 : tie.Need-overflow_add-i-in-loop-i-3 invariant-loop-i decreases-loop-i
+overflow_add-i-in-loop-i-3 c = search rules
 
-loop-less : tie.Need-loop-smaller invariant-loop decreases-loop
-loop-less c = search rules
+loop-i-smaller : tie.Need-loop-i-smaller invariant-loop-i decreases-loop-i
+loop-i-smaller c = search rules
 
-loop-again : tie.Need-loop-preserved invariant-loop decreases-loop
-loop-again c =
-    let l = c.before.before.before.before.before.loop in
-    let more = next_child _ _ (omega arith) l.invariant.1 c.if2.false in (omega arith, more, l.invariant.2 ∙ index_next _ (search rules) _ _ more c.before.before.if1.false)
+loop-i-preserved : tie.Need-loop-i-preserved invariant-loop-i decreases-loop-i
+loop-i-preserved c =
+    let l = c.loop-i in
+    let more = next_child _ _ (omega arith) l.invariant.1 c.if-node-i-eq0.false in (omega arith, more, l.invariant.2 ∙ index_next _ (search rules) _ _ more c.if-key-node.false)
 
-returns-3 : tie.Need-returns-3 invariant-loop decreases-loop
-returns-3 c = let l = c.before.loop in sym (l.invariant.2 ∙ index_last _ (search rules) _ _ (omega (arith, children_le c.before.before.args.node.now)))
+returns : tie.Need-returns invariant-loop-i decreases-loop-i
+returns c = let l = c.loop-i in sym (l.invariant.2 ∙ index_last _ (search rules) _ _ (omega (arith, children_le c.args.node.now)))
 
 pub child_index_spec : {M : Type 1} → statement M
 child_index_spec =
     tie.close
     (tie.spec
-    invariant-loop
-    decreases-loop
-    loop-holds
-    add-loop
-    add-if1
-    mul-if1
-    shared-slice-read-if1
-    returns
-    add-if2
-    mul-if2
-    shared-slice-read-if2
-    returns-2
-    add-i
-    loop-less
-    loop-again
-    returns-3)
+    invariant-loop-i
+    decreases-loop-i
+    loop-i-init
+    overflow_add-i
+    overflow_add-i-in-loop-i
+    offset_bounds-node-i
+    bounds-node-i
+    returns-then-key-node
+    overflow_add-i-in-loop-i-2
+    offset_bounds-node-i-in-loop-i
+    bounds-node-i-in-loop-i
+    returns-then-node-i-eq0
+    overflow_add-i-in-loop-i-3
+    loop-i-smaller
+    loop-i-preserved
+    returns)

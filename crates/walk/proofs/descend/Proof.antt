@@ -13,201 +13,191 @@ use Rattle.walk.proofs.descend.Statement.{statement}
 use Rattle.walk.proofs.descend.Tie as tie
 
 -- the rest of the way ends as the whole does
-abbrev invariant-loop : tie.invariant-loop
-invariant-loop card n key root seeks p₀ depth₀ p depth =
+abbrev invariant-loop-p : tie.invariant-loop-p
+invariant-loop-p card n key root seeks p₀ depth₀ p depth =
     (depth ≤ depth_limit)
     × (end_of card seeks (way_from card n key depth_limit (root_position root)) ≡ end_below depth card seeks (way_from card n key (depth_limit - depth) p))
 
-abbrev decreases-loop : tie.decreases-loop
-decreases-loop card n key root seeks p₀ depth₀ p depth = depth_limit - depth
+abbrev decreases-loop-p : tie.decreases-loop-p
+decreases-loop-p card n key root seeks p₀ depth₀ p depth = depth_limit - depth
 
 -- where it ends, by what the node is to the key
-rest : (c : tie.After-go-down invariant-loop decreases-loop) (d : Down) → c.go-down.result ≡ d
-    → let s = c.before.before.before.before.before.before in
-    let l = c.before.before.before.before.loop in
-    end_of s.args.card.now s.args.seeks (way_from s.args.card.now s.args.n s.args.key depth_limit (root_position s.args.root))
-    ≡ end_below l.depth s.args.card.now s.args.seeks
-    (by_down l.p (onward s.args.card.now s.args.n s.args.key (depth_limit - l.depth)) d)
+rest : (c : tie.After-go_down invariant-loop-p decreases-loop-p) (d : Down) → c.go_down.result ≡ d
+    → let l = c.loop-p in
+    end_of c.args.card.now c.args.seeks (way_from c.args.card.now c.args.n c.args.key depth_limit (root_position c.args.root))
+    ≡ end_below l.depth c.args.card.now c.args.seeks
+    (by_down l.p (onward c.args.card.now c.args.n c.args.key (depth_limit - l.depth)) d)
 rest c d g =
-    let s = c.before.before.before.before.before.before in
-    let l = c.before.before.before.before.loop in
-    l.invariant.1 ∙ ap (end_below l.depth s.args.card.now s.args.seeks) (way_at _ _ _ _ _ _ refl
-    (sym c.before.before.before.is-outside.ensures ∙ c.before.before.if1.false) _ c.before.Node-at.ensures d (sym c.go-down.ensures ∙ g))
+    let l = c.loop-p in
+    l.invariant.1 ∙ ap (end_below l.depth c.args.card.now c.args.seeks) (way_at _ _ _ _ _ _ refl
+    (sym c.is_outside.ensures ∙ c.if-is_outside.false) _ c.node_at-node.ensures d (sym c.go_down.ensures ∙ g))
 
-loop-holds : tie.Need-loop-init invariant-loop decreases-loop
+loop-p-init : tie.Need-loop-p-init invariant-loop-p decreases-loop-p
 unfolding root_position
-loop-holds c = (search rules, end_start _ _ _)
+loop-p-init c = (search rules, end_start _ _ _)
 
-is-outside-requires : tie.Need-is-outside-requires invariant-loop decreases-loop
-is-outside-requires c κs = search rules
+is_outside-requires : tie.Need-is_outside-requires invariant-loop-p decreases-loop-p
+is_outside-requires c κs = search rules
 
-returns : tie.Need-returns invariant-loop decreases-loop
-returns c =
-    let s = c.before.before.before.before in
-    let l = c.before.before.loop in
-    sym (l.invariant.1 ∙ ap (end_below l.depth s.args.card.now s.args.seeks)
-    (way_outside _ _ _ _ _ _ refl (sym c.before.is-outside.ensures ∙ c.if1.true)) ∙ end_nowhere _ _ _)
+returns-then-is_outside : tie.Need-returns-then-is_outside invariant-loop-p decreases-loop-p
+returns-then-is_outside c =
+    let l = c.loop-p in
+    sym (l.invariant.1 ∙ ap (end_below l.depth c.args.card.now c.args.seeks)
+    (way_outside _ _ _ _ _ _ refl (sym c.is_outside.ensures ∙ c.if-is_outside.true)) ∙ end_nowhere _ _ _)
 
-node-at-requires : tie.Need-node-at-requires invariant-loop decreases-loop
-node-at-requires c κs = let k = inside _ _ (sym c.before.is-outside.ensures ∙ c.if1.false) in (k.one, omega (arith, k.most), omega (arith, k.most))
+node_at-node-requires : tie.Need-node_at-node-requires invariant-loop-p decreases-loop-p
+node_at-node-requires c κs = let k = inside _ _ (sym c.is_outside.ensures ∙ c.if-is_outside.false) in (k.one, omega (arith, k.most), omega (arith, k.most))
 
-words : (c : tie.After-node-at invariant-loop decreases-loop) → length c.Node-at.result.now ≡ 24
+words : (c : tie.After-node_at-node invariant-loop-p decreases-loop-p) → length c.node_at-node.result.now ≡ 24
 words c =
-    node_words c.before.before.before.before.before.args.card.now _ _ c.before.before.before.before.before.requires.0
-    (sym c.before.before.is-outside.ensures ∙ c.before.if1.false) _ c.Node-at.ensures
+    node_words c.args.card.now _ _ c.requires.0
+    (sym c.is_outside.ensures ∙ c.if-is_outside.false) _ c.node_at-node.ensures
 
-go-down-requires : tie.Need-go-down-requires invariant-loop decreases-loop
-go-down-requires c κs = words c
+go_down-requires : tie.Need-go_down-requires invariant-loop-p decreases-loop-p
+go_down-requires c κs = words c
 
-enum_told : tie.Need-enum-told invariant-loop decreases-loop
-enum_told c = search rules
+enum_told-1 : tie.Need-enum_told-1 invariant-loop-p decreases-loop-p
+enum_told-1 c = search rules
 
-returns-2 : tie.Need-returns-2 invariant-loop decreases-loop
-returns-2 c = sym (rest c.before.before _ c.enum_told.given.1 ∙ end_nowhere _ _ _)
+returns-in-Nowhere : tie.Need-returns-in-Nowhere invariant-loop-p decreases-loop-p
+returns-in-Nowhere c = sym (rest c.before _ c.in-Nowhere.is ∙ end_nowhere _ _ _)
 
-enum-told-2 : tie.Need-enum-told-2 invariant-loop decreases-loop
-enum-told-2 c = search rules
+enum_told-in-Leaf : tie.Need-enum_told-in-Leaf invariant-loop-p decreases-loop-p
+enum_told-in-Leaf c = search rules
 
-stops-requires : tie.Need-stops-requires invariant-loop decreases-loop
-stops-requires c κs = words c.before.before.before
+stops-requires : tie.Need-stops-requires invariant-loop-p decreases-loop-p
+stops-requires c κs = words c.before.before
 
-returns-3 : tie.Need-returns-3 invariant-loop decreases-loop
-returns-3 c =
-    let s = c.before.before.before.before.before.before.before.before.before.before in
-    sym (rest c.before.before.before.before _ c.before.before.enum-told2.given.1
-    ∙ end_leaf_fault _ _ _ _ (stopped _ s.args.seeks c.before.before.before.before.before.before.before.before.loop.p _ _
-    c.before.before.before.before.before.Node-at.ensures c.before.stops.ensures ∙ c.if2.true))
+returns-then-stops : tie.Need-returns-then-stops invariant-loop-p decreases-loop-p
+returns-then-stops c =
+    sym (rest c.before.before.before _ c.in-Leaf.is
+    ∙ end_leaf_fault _ _ _ _ (stopped _ c.args.seeks c.loop-p.p _ _
+    c.node_at-node.ensures c.stops.ensures ∙ c.if-stops.true))
 
-returns-4 : tie.Need-returns-4 invariant-loop decreases-loop
-returns-4 c =
-    let s = c.before.before.before.before.before.before.before.before.before.before in
-    sym (rest c.before.before.before.before _ c.before.before.enum-told2.given.1
-    ∙ end_leaf _ _ _ _ (stopped _ s.args.seeks c.before.before.before.before.before.before.before.before.loop.p _ _
-    c.before.before.before.before.before.Node-at.ensures c.before.stops.ensures ∙ c.if2.false))
+returns-in-Leaf : tie.Need-returns-in-Leaf invariant-loop-p decreases-loop-p
+returns-in-Leaf c =
+    sym (rest c.before.before.before _ c.in-Leaf.is
+    ∙ end_leaf _ _ _ _ (stopped _ c.args.seeks c.loop-p.p _ _
+    c.node_at-node.ensures c.stops.ensures ∙ c.if-stops.false))
 
-enum-told-3 : tie.Need-enum-told-3 invariant-loop decreases-loop
-enum-told-3 c = search rules
+enum_told-in-Childless : tie.Need-enum_told-in-Childless invariant-loop-p decreases-loop-p
+enum_told-in-Childless c = search rules
 
-stops-requires-2 : tie.Need-stops-requires-2 invariant-loop decreases-loop
-stops-requires-2 c κs = words c.before.before.before
+stops-requires-in-Childless : tie.Need-stops-requires-in-Childless invariant-loop-p decreases-loop-p
+stops-requires-in-Childless c κs = words c.before.before
 
-returns-5 : tie.Need-returns-5 invariant-loop decreases-loop
-returns-5 c =
-    let s = c.before.before.before.before.before.before.before.before.before.before in
-    sym (rest c.before.before.before.before _ c.before.before.enum-told3.given.1
-    ∙ end_fault _ _ _ _ _ (stopped _ s.args.seeks c.before.before.before.before.before.before.before.before.loop.p _ _
-    c.before.before.before.before.before.Node-at.ensures c.before.stops2.ensures ∙ c.if3.true))
+returns-then-stops-2 : tie.Need-returns-then-stops-2 invariant-loop-p decreases-loop-p
+returns-then-stops-2 c =
+    sym (rest c.before.before.before _ c.in-Childless.is
+    ∙ end_fault _ _ _ _ _ (stopped _ c.args.seeks c.loop-p.p _ _
+    c.node_at-node.ensures c.stops-in-Childless.ensures ∙ c.if-stops-2.true))
 
-returns-6 : tie.Need-returns-6 invariant-loop decreases-loop
-returns-6 c =
-    let s = c.before.before.before.before.before.before.before.before.before.before in
-    sym (rest c.before.before.before.before _ c.before.before.enum-told3.given.1
-    ∙ end_past _ _ _ _ _ (stopped _ s.args.seeks c.before.before.before.before.before.before.before.before.loop.p _ _
-    c.before.before.before.before.before.Node-at.ensures c.before.stops2.ensures ∙ c.if3.false) ∙ end_nowhere _ _ _)
+returns-in-Childless : tie.Need-returns-in-Childless invariant-loop-p decreases-loop-p
+returns-in-Childless c =
+    sym (rest c.before.before.before _ c.in-Childless.is
+    ∙ end_past _ _ _ _ _ (stopped _ c.args.seeks c.loop-p.p _ _
+    c.node_at-node.ensures c.stops-in-Childless.ensures ∙ c.if-stops-2.false) ∙ end_nowhere _ _ _)
 
-enum-known-index : tie.Need-enum-known-index invariant-loop decreases-loop
-enum-known-index c = search rules
+enum_known-index : tie.Need-enum_known-index invariant-loop-p decreases-loop-p
+enum_known-index c = search rules
 
-stops-requires-3 : tie.Need-stops-requires-3 invariant-loop decreases-loop
-stops-requires-3 c κs = words c.before.before.before.before
+stops-requires-in-Inner : tie.Need-stops-requires-in-Inner invariant-loop-p decreases-loop-p
+stops-requires-in-Inner c κs = words c.before.before
 
-returns-7 : tie.Need-returns-7 invariant-loop decreases-loop
-returns-7 c =
-    let s = c.before.before.before.before.before.before.before.before.before.before.before in
-    sym (rest c.before.before.before.before.before _ c.before.before.before.index.given.1
-    ∙ end_fault _ _ _ _ _ (stopped _ s.args.seeks c.before.before.before.before.before.before.before.before.before.loop.p _
-    _ c.before.before.before.before.before.before.Node-at.ensures c.before.stops3.ensures ∙ c.if4.true))
+returns-then-stops-3 : tie.Need-returns-then-stops-3 invariant-loop-p decreases-loop-p
+returns-then-stops-3 c =
+    sym (rest c.before.before.before _ c.in-Inner.is
+    ∙ end_fault _ _ _ _ _ (stopped _ c.args.seeks c.loop-p.p _
+    _ c.node_at-node.ensures c.stops-in-Inner.ensures ∙ c.if-stops-3.true))
 
-is-too-deep-requires : tie.Need-is-too-deep-requires invariant-loop decreases-loop
-is-too-deep-requires c κs = search rules
+is_too_deep-requires : tie.Need-is_too_deep-requires invariant-loop-p decreases-loop-p
+is_too_deep-requires c κs = search rules
 
-returns-8 : tie.Need-returns-8 invariant-loop decreases-loop
-returns-8 c =
-    let s = c.before.before.before.before.before.before.before.before.before.before.before.before.before in
-    let l = c.before.before.before.before.before.before.before.before.before.before.before.loop in
-    sym (rest c.before.before.before.before.before.before.before _ c.before.before.before.before.before.index.given.1
+returns-then-is_too_deep : tie.Need-returns-then-is_too_deep invariant-loop-p decreases-loop-p
+returns-then-is_too_deep c =
+    let l = c.loop-p in
+    sym (rest c.before.before.before.before.before _ c.in-Inner.is
     ∙ end_past _ _ _ _ _
-    (stopped _ s.args.seeks l.p _ _ c.before.before.before.before.before.before.before.before.Node-at.ensures
-    c.before.before.before.stops3.ensures ∙ c.before.before.if4.false)
-    ∙ ap (end_below (l.depth + 1) s.args.card.now s.args.seeks)
-    (onward_none _ _ _ (depth_limit - l.depth) _ (omega (arith, c.before.is-too-deep.ensures.0 c.if5.true)))
+    (stopped _ c.args.seeks l.p _ _ c.node_at-node.ensures
+    c.stops-in-Inner.ensures ∙ c.if-stops-3.false)
+    ∙ ap (end_below (l.depth + 1) c.args.card.now c.args.seeks)
+    (onward_none _ _ _ (depth_limit - l.depth) _ (omega (arith, c.is_too_deep.ensures.0 c.if-is_too_deep.true)))
     ∙ end_nowhere _ _ _)
 
-passed-with-requires : tie.Need-passed-with-requires invariant-loop decreases-loop
-passed-with-requires c κs = (
-  words c.before.before.before.before.before.before.before.before,
-  c.before.before.before.before.before.before.before.before.before.before.before.loop.invariant.0,
+passed_with-depth-requires : tie.Need-passed_with-depth-requires invariant-loop-p decreases-loop-p
+passed_with-depth-requires c κs = (
+  words c.before.before.before.before.before.before,
+  c.loop-p.invariant.0,
 )
 
 -- the node passed is counted
-passed : (c : tie.After-passed-with invariant-loop decreases-loop) → c.passed-with.result ≡ c.before.before.before.before.before.before.before.before.before.before.before.before.loop.depth + 1
+passed : (c : tie.After-passed_with-depth invariant-loop-p decreases-loop-p) → c.passed_with-depth.result ≡ c.loop-p.depth + 1
 passed c =
-    c.passed-with.ensures
-    ∙ passed_inner _ _ _ _ _ (sym c.before.before.before.before.before.before.before.before.go-down.ensures
-    ∙ c.before.before.before.before.before.before.index.given.1)
+    c.passed_with-depth.ensures
+    ∙ passed_inner _ _ _ _ _ (sym c.go_down.ensures
+    ∙ c.in-Inner.is)
 
-child-of-requires : tie.Need-child-of-requires invariant-loop decreases-loop
-child-of-requires c κs =
-    let k = inside _ _ (sym c.before.before.before.before.before.before.before.before.before.before.before.is-outside.ensures
-    ∙ c.before.before.before.before.before.before.before.before.before.before.if1.false) in (
+child_of-p-requires : tie.Need-child_of-p-requires invariant-loop-p decreases-loop-p
+child_of-p-requires c κs =
+    let k = inside _ _ (sym c.is_outside.ensures
+    ∙ c.if-is_outside.false) in (
       k.one,
       omega (arith, k.most),
-      taken_le _ _ _ _ (words c.before.before.before.before.before.before.before.before.before)
-          (sym c.before.before.before.before.before.before.before.before.go-down.ensures ∙ c.before.before.before.before.before.before.index.given.1),
+      taken_le _ _ _ _ (words c.before.before.before.before.before.before.before)
+          (sym c.go_down.ensures ∙ c.in-Inner.is),
     )
 
-loop-less : tie.Need-loop-smaller invariant-loop decreases-loop
-loop-less c =
+loop-p-smaller : tie.Need-loop-p-smaller invariant-loop-p decreases-loop-p
+loop-p-smaller c =
     omega (
       arith,
       passed c.before,
-      c.before.before.before.before.before.before.before.before.before.before.before.before.before.loop.invariant.0,
-      c.before.before.before.is-too-deep.ensures.1 c.before.before.if5.false,
+      c.loop-p.invariant.0,
+      c.is_too_deep.ensures.1 c.if-is_too_deep.false,
     )
 
-loop-again : tie.Need-loop-preserved invariant-loop decreases-loop
-loop-again c =
-    let s = c.before.before.before.before.before.before.before.before.before.before.before.before.before.before.before in
-    let l = c.before.before.before.before.before.before.before.before.before.before.before.before.before.loop in
-    let more = c.before.before.before.is-too-deep.ensures.1 c.before.before.if5.false in
+loop-p-preserved : tie.Need-loop-p-preserved invariant-loop-p decreases-loop-p
+loop-p-preserved c =
+    let l = c.loop-p in
+    let more = c.is_too_deep.ensures.1 c.if-is_too_deep.false in
     rw (passed c.before) (
       omega (arith, l.invariant.0, more),
-      rest c.before.before.before.before.before.before.before.before.before _ c.before.before.before.before.before.before.before.index.given.1
+      rest c.before.before.before.before.before.before.before _ c.in-Inner.is
           ∙ end_past _ _ _ _ _
-          (stopped _ s.args.seeks l.p _ _ c.before.before.before.before.before.before.before.before.before.before.Node-at.ensures
-          c.before.before.before.before.before.stops3.ensures ∙ c.before.before.before.before.if4.false)
-          ∙ ap (end_below (l.depth + 1) s.args.card.now s.args.seeks)
+          (stopped _ c.args.seeks l.p _ _ c.node_at-node.ensures
+          c.stops-in-Inner.ensures ∙ c.if-stops-3.false)
+          ∙ ap (end_below (l.depth + 1) c.args.card.now c.args.seeks)
           (onward_deeper _ _ _ l.depth _ l.invariant.0 more
-          ∙ ap (way_from s.args.card.now s.args.n s.args.key (depth_limit - (l.depth + 1))) (sym c.child-of.ensures)),
+          ∙ ap (way_from c.args.card.now c.args.n c.args.key (depth_limit - (l.depth + 1))) (sym c.child_of-p.ensures)),
     )
 
 pub descend_spec : {M : Type 1} → statement M
 descend_spec =
     tie.close
     (tie.spec
-    invariant-loop
-    decreases-loop
-    loop-holds
-    is-outside-requires
-    returns
-    node-at-requires
-    go-down-requires
-    enum_told
-    returns-2
-    enum-told-2
+    invariant-loop-p
+    decreases-loop-p
+    loop-p-init
+    is_outside-requires
+    returns-then-is_outside
+    node_at-node-requires
+    go_down-requires
+    enum_told-1
+    returns-in-Nowhere
+    enum_told-in-Leaf
     stops-requires
-    returns-3
-    returns-4
-    enum-told-3
-    stops-requires-2
-    returns-5
-    returns-6
-    enum-known-index
-    stops-requires-3
-    returns-7
-    is-too-deep-requires
-    returns-8
-    passed-with-requires
-    child-of-requires
-    loop-less
-    loop-again)
+    returns-then-stops
+    returns-in-Leaf
+    enum_told-in-Childless
+    stops-requires-in-Childless
+    returns-then-stops-2
+    returns-in-Childless
+    enum_known-index
+    stops-requires-in-Inner
+    returns-then-stops-3
+    is_too_deep-requires
+    returns-then-is_too_deep
+    passed_with-depth-requires
+    child_of-p-requires
+    loop-p-smaller
+    loop-p-preserved)

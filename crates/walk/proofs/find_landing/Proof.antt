@@ -10,40 +10,40 @@ use Rattle.walk.proofs.find_landing.Tie as tie
 descend-requires : tie.Need-descend-requires
 descend-requires c κs = search rules
 
-enum_told : tie.Need-enum-told
-enum_told c = search rules
+enum_told-1 : tie.Need-enum_told-1
+enum_told-1 c = search rules
 
-returns : tie.Need-returns
+returns-in-Refused : tie.Need-returns-in-Refused
 unfolding landing_of landed_at
-returns c = sym (ap (landed_at _) (unsought_refused _ _ (sym c.before.before.descend.ensures ∙ c.enum_told.given.1)))
+returns-in-Refused c = sym (ap (landed_at _) (unsought_refused _ _ (sym c.descend.ensures ∙ c.in-Refused.is)))
 
-enum-told-2 : tie.Need-enum-told-2
-enum-told-2 c = search rules
+enum_told-in-Fault : tie.Need-enum_told-in-Fault
+enum_told-in-Fault c = search rules
 
-returns-2 : tie.Need-returns-2
-returns-2 c = absurd (unsought_fault _ _ _ (sym c.before.before.descend.ensures ∙ c.enum-told2.given.1))
+returns-in-Fault : tie.Need-returns-in-Fault
+returns-in-Fault c = absurd (unsought_fault _ _ _ (sym c.descend.ensures ∙ c.in-Fault.is))
 
-enum-known-position : tie.Need-enum-known-position
-enum-known-position c = search rules
+enum_known-position : tie.Need-enum_known-position
+enum_known-position c = search rules
 
-run-above-requires : tie.Need-run-above-requires
-run-above-requires c κs = search rules
+run_above-requires : tie.Need-run_above-requires
+run_above-requires c κs = search rules
 
-returns-3 : tie.Need-returns-3
+returns-in-Leaf : tie.Need-returns-in-Leaf
 unfolding landing_of landed_at
-returns-3 c =
-    ap (LandingAt c.before.before.position.given.0.0.node c.before.before.position.given.0.0.link) c.run-above.ensures
-    ∙ sym (ap (landed_at _) (unsought_leaf _ _ _ _ (sym c.before.before.before.before.descend.ensures ∙ c.before.before.position.given.1)))
+returns-in-Leaf c =
+    ap (LandingAt c.in-Leaf.position.node c.in-Leaf.position.link) c.run_above.ensures
+    ∙ sym (ap (landed_at _) (unsought_leaf _ _ _ _ (sym c.descend.ensures ∙ c.in-Leaf.is)))
 
 pub find_landing_spec : {M : Type 1} → statement M
 find_landing_spec =
     tie.close
     (tie.spec
     descend-requires
-    enum_told
-    enum-told-2
-    enum-known-position
-    run-above-requires
-    returns
-    returns-2
-    returns-3)
+    enum_told-1
+    enum_told-in-Fault
+    enum_known-position
+    run_above-requires
+    returns-in-Refused
+    returns-in-Fault
+    returns-in-Leaf)

@@ -14,110 +14,108 @@ use Rattle.walk.proofs.find_leaf.Statement.{statement}
 use Rattle.walk.proofs.find_leaf.Tie as tie
 
 -- the node stands at some position, and the rest of the way goes on from there
-abbrev invariant-loop : tie.invariant-loop
-invariant-loop card n key root m₀ depth₀ m depth =
+abbrev invariant-loop-n : tie.invariant-loop-n
+invariant-loop-n card n key root m₀ depth₀ m depth =
     (depth ≤ depth_limit) × (p : Position) × (p.node ≡ m) × (leaf_of (way_from card n key depth_limit (root_position root)) ≡ deeper depth (leaf_of (way_from card n key (depth_limit - depth) p)))
 
-abbrev decreases-loop : tie.decreases-loop
-decreases-loop card n key root m₀ depth₀ m depth = depth_limit - depth
+abbrev decreases-loop-n : tie.decreases-loop-n
+decreases-loop-n card n key root m₀ depth₀ m depth = depth_limit - depth
 
 -- the rest of the way, by what the node is to the key
-rest : (c : tie.After-go-down invariant-loop decreases-loop) (d : Down) → c.go-down.result ≡ d
-    → let s = c.before.before.before.before.before.before in
-    let l = c.before.before.before.before.loop in
-    leaf_of (way_from s.args.card.now s.args.n s.args.key depth_limit (root_position s.args.root))
-    ≡ deeper l.depth (leaf_of (by_down l.invariant.1 (onward s.args.card.now s.args.n s.args.key (depth_limit - l.depth)) d))
+rest : (c : tie.After-go_down invariant-loop-n decreases-loop-n) (d : Down) → c.go_down.result ≡ d
+    → let l = c.loop-n in
+    leaf_of (way_from c.args.card.now c.args.n c.args.key depth_limit (root_position c.args.root))
+    ≡ deeper l.depth (leaf_of (by_down l.invariant.1 (onward c.args.card.now c.args.n c.args.key (depth_limit - l.depth)) d))
 rest c d g =
-    let l = c.before.before.before.before.loop in
+    let l = c.loop-n in
     l.invariant.3 ∙ ap (λ (w : Way). deeper l.depth (leaf_of w)) (way_at _ _ _ _ _ _ l.invariant.2
-    (sym c.before.before.before.is-outside.ensures ∙ c.before.before.if1.false) _ c.before.Node-at.ensures d (sym c.go-down.ensures ∙ g))
+    (sym c.is_outside.ensures ∙ c.if-is_outside.false) _ c.node_at-node.ensures d (sym c.go_down.ensures ∙ g))
 
-loop-holds : tie.Need-loop-init invariant-loop decreases-loop
-loop-holds c = (search rules, root_position _, root_node _, deeper_none _)
+loop-n-init : tie.Need-loop-n-init invariant-loop-n decreases-loop-n
+loop-n-init c = (search rules, root_position _, root_node _, deeper_none _)
 
-is-outside-requires : tie.Need-is-outside-requires invariant-loop decreases-loop
-is-outside-requires c κs = search rules
+is_outside-requires : tie.Need-is_outside-requires invariant-loop-n decreases-loop-n
+is_outside-requires c κs = search rules
 
-returns : tie.Need-returns invariant-loop decreases-loop
+returns-then-is_outside : tie.Need-returns-then-is_outside invariant-loop-n decreases-loop-n
 unfolding leaf_of reached_at deeper past
-returns c =
-    sym (c.before.before.loop.invariant.3
-    ∙ ap (λ (w : Way). deeper c.before.before.loop.depth (leaf_of w)) (way_outside _ _ _ _ _ _ c.before.before.loop.invariant.2 (sym c.before.is-outside.ensures ∙ c.if1.true)))
+returns-then-is_outside c =
+    sym (c.loop-n.invariant.3
+    ∙ ap (λ (w : Way). deeper c.loop-n.depth (leaf_of w)) (way_outside _ _ _ _ _ _ c.loop-n.invariant.2 (sym c.is_outside.ensures ∙ c.if-is_outside.true)))
 
-node-at-requires : tie.Need-node-at-requires invariant-loop decreases-loop
-node-at-requires c κs = let k = inside _ _ (sym c.before.is-outside.ensures ∙ c.if1.false) in (k.one, omega (arith, k.most), omega (arith, k.most))
+node_at-node-requires : tie.Need-node_at-node-requires invariant-loop-n decreases-loop-n
+node_at-node-requires c κs = let k = inside _ _ (sym c.is_outside.ensures ∙ c.if-is_outside.false) in (k.one, omega (arith, k.most), omega (arith, k.most))
 
 -- a node inside the card has all its words
-words : (c : tie.After-node-at invariant-loop decreases-loop) → length c.Node-at.result.now ≡ 24
+words : (c : tie.After-node_at-node invariant-loop-n decreases-loop-n) → length c.node_at-node.result.now ≡ 24
 words c =
-    let s = c.before.before.before.before.before in
-    node_words s.args.card.now _ _ s.requires.0
-    (sym c.before.before.is-outside.ensures ∙ c.before.if1.false) _ c.Node-at.ensures
+    node_words c.args.card.now _ _ c.requires.0
+    (sym c.is_outside.ensures ∙ c.if-is_outside.false) _ c.node_at-node.ensures
 
-go-down-requires : tie.Need-go-down-requires invariant-loop decreases-loop
-go-down-requires c κs = words (c)
+go_down-requires : tie.Need-go_down-requires invariant-loop-n decreases-loop-n
+go_down-requires c κs = words (c)
 
-enum_told : tie.Need-enum-told invariant-loop decreases-loop
-enum_told c = search rules
+enum_told-1 : tie.Need-enum_told-1 invariant-loop-n decreases-loop-n
+enum_told-1 c = search rules
 
-returns-2 : tie.Need-returns-2 invariant-loop decreases-loop
+returns-in-Nowhere : tie.Need-returns-in-Nowhere invariant-loop-n decreases-loop-n
 unfolding leaf_of reached_at deeper past
-returns-2 c = sym (rest c.before.before _ c.enum_told.given.1)
+returns-in-Nowhere c = sym (rest c.before _ c.in-Nowhere.is)
 
-enum-told-2 : tie.Need-enum-told-2 invariant-loop decreases-loop
-enum-told-2 c = search rules
+enum_told-in-Leaf : tie.Need-enum_told-in-Leaf invariant-loop-n decreases-loop-n
+enum_told-in-Leaf c = search rules
 
-returns-3 : tie.Need-returns-3 invariant-loop decreases-loop
+returns-in-Leaf : tie.Need-returns-in-Leaf invariant-loop-n decreases-loop-n
 unfolding leaf_of reached_at deeper past
-returns-3 c = sym (rest c.before.before _ c.enum-told2.given.1 ∙ ap₂ (λ (x d : ℕ). ReachedLeaf x d) c.before.before.before.before.before.before.loop.invariant.2 (omega arith))
+returns-in-Leaf c = sym (rest c.before _ c.in-Leaf.is ∙ ap₂ (λ (x d : ℕ). ReachedLeaf x d) c.loop-n.invariant.2 (omega arith))
 
-enum-told-3 : tie.Need-enum-told-3 invariant-loop decreases-loop
-enum-told-3 c = search rules
+enum_told-in-Childless : tie.Need-enum_told-in-Childless invariant-loop-n decreases-loop-n
+enum_told-in-Childless c = search rules
 
-returns-4 : tie.Need-returns-4 invariant-loop decreases-loop
+returns-in-Childless : tie.Need-returns-in-Childless invariant-loop-n decreases-loop-n
 unfolding leaf_of reached_at deeper past
-returns-4 c = sym (rest c.before.before _ c.enum-told3.given.1)
+returns-in-Childless c = sym (rest c.before _ c.in-Childless.is)
 
-enum-known-child : tie.Need-enum-known-child invariant-loop decreases-loop
-enum-known-child c = search rules
+enum_known-child : tie.Need-enum_known-child invariant-loop-n decreases-loop-n
+enum_known-child c = search rules
 
-is-too-deep-requires : tie.Need-is-too-deep-requires invariant-loop decreases-loop
-is-too-deep-requires c κs = search rules
+is_too_deep-requires : tie.Need-is_too_deep-requires invariant-loop-n decreases-loop-n
+is_too_deep-requires c κs = search rules
 
-returns-5 : tie.Need-returns-5 invariant-loop decreases-loop
+returns-then-is_too_deep : tie.Need-returns-then-is_too_deep invariant-loop-n decreases-loop-n
 unfolding leaf_of reached_at deeper past
-returns-5 c =
-    let l = c.before.before.before.before.before.before.before.before.before.loop in
-    sym (rest c.before.before.before.before.before _ c.before.before.before.child.given.1
-    ∙ ap (λ (w : Way). deeper l.depth (leaf_of (past l.invariant.1 w))) (onward_none _ _ _ (depth_limit - l.depth) _ (omega (arith, c.before.is-too-deep.ensures.0 c.if2.true))))
+returns-then-is_too_deep c =
+    let l = c.loop-n in
+    sym (rest c.before.before.before _ c.in-Inner.is
+    ∙ ap (λ (w : Way). deeper l.depth (leaf_of (past l.invariant.1 w))) (onward_none _ _ _ (depth_limit - l.depth) _ (omega (arith, c.is_too_deep.ensures.0 c.if-is_too_deep.true))))
 
-passed-with-requires : tie.Need-passed-with-requires invariant-loop decreases-loop
-passed-with-requires c κs = (words c.before.before.before.before.before.before, c.before.before.before.before.before.before.before.before.before.loop.invariant.0)
+passed_with-depth-requires : tie.Need-passed_with-depth-requires invariant-loop-n decreases-loop-n
+passed_with-depth-requires c κs = (words c.before.before.before.before, c.loop-n.invariant.0)
 
 -- the node passed is counted
-passed : (c : tie.After-passed-with invariant-loop decreases-loop) → c.passed-with.result ≡ c.before.before.before.before.before.before.before.before.before.before.loop.depth + 1
+passed : (c : tie.After-passed_with-depth invariant-loop-n decreases-loop-n) → c.passed_with-depth.result ≡ c.loop-n.depth + 1
 passed c =
-    c.passed-with.ensures
-    ∙ passed_inner _ _ _ _ _ (sym c.before.before.before.before.before.before.go-down.ensures ∙ c.before.before.before.before.child.given.1)
+    c.passed_with-depth.ensures
+    ∙ passed_inner _ _ _ _ _ (sym c.go_down.ensures ∙ c.in-Inner.is)
 
-loop-less : tie.Need-loop-smaller invariant-loop decreases-loop
-loop-less c =
+loop-n-smaller : tie.Need-loop-n-smaller invariant-loop-n decreases-loop-n
+loop-n-smaller c =
     omega (
       arith,
       passed c,
-      c.before.before.before.before.before.before.before.before.before.before.loop.invariant.0,
-      c.before.before.is-too-deep.ensures.1 c.before.if2.false,
+      c.loop-n.invariant.0,
+      c.is_too_deep.ensures.1 c.if-is_too_deep.false,
     )
 
-loop-again : tie.Need-loop-preserved invariant-loop decreases-loop
-loop-again c =
-    let l = c.before.before.before.before.before.before.before.before.before.before.loop in
-    let more = c.before.before.is-too-deep.ensures.1 c.before.if2.false in
+loop-n-preserved : tie.Need-loop-n-preserved invariant-loop-n decreases-loop-n
+loop-n-preserved c =
+    let l = c.loop-n in
+    let more = c.is_too_deep.ensures.1 c.if-is_too_deep.false in
     rw (passed c) (
       omega (arith, l.invariant.0, more),
-      child_at l.invariant.1 c.before.before.before.before.child.given.0.0 c.before.before.before.before.child.given.0.1.0,
+      child_at l.invariant.1 c.in-Inner.index c.in-Inner.child,
       refl,
-      rest c.before.before.before.before.before.before _ c.before.before.before.before.child.given.1
+      rest c.before.before.before.before _ c.in-Inner.is
           ∙ leaf_on _ _ _ _ _ l.depth l.invariant.0 more,
     )
 
@@ -125,22 +123,22 @@ pub find_leaf_spec : {M : Type 1} → statement M
 find_leaf_spec =
     tie.close
     (tie.spec
-    invariant-loop
-    decreases-loop
-    loop-holds
-    is-outside-requires
-    returns
-    node-at-requires
-    go-down-requires
-    enum_told
-    returns-2
-    enum-told-2
-    returns-3
-    enum-told-3
-    returns-4
-    enum-known-child
-    is-too-deep-requires
-    returns-5
-    passed-with-requires
-    loop-less
-    loop-again)
+    invariant-loop-n
+    decreases-loop-n
+    loop-n-init
+    is_outside-requires
+    returns-then-is_outside
+    node_at-node-requires
+    go_down-requires
+    enum_told-1
+    returns-in-Nowhere
+    enum_told-in-Leaf
+    returns-in-Leaf
+    enum_told-in-Childless
+    returns-in-Childless
+    enum_known-child
+    is_too_deep-requires
+    returns-then-is_too_deep
+    passed_with-depth-requires
+    loop-n-smaller
+    loop-n-preserved)

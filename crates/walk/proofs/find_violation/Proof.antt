@@ -8,35 +8,35 @@ use Rattle.walk.proofs.find_violation.Tie as tie
 descend-requires : tie.Need-descend-requires
 descend-requires c κs = search rules
 
-enum_told : tie.Need-enum-told
-enum_told c = search rules
+enum_told-1 : tie.Need-enum_told-1
+enum_told-1 c = search rules
 
-returns : tie.Need-returns
+returns-in-Refused : tie.Need-returns-in-Refused
 unfolding seek search_of
-returns c = ap search_of (sym c.enum_told.given.1 ∙ c.before.before.descend.ensures)
+returns-in-Refused c = ap search_of (sym c.in-Refused.is ∙ c.descend.ensures)
 
-enum-told-2 : tie.Need-enum-told-2
-enum-told-2 c = search rules
+enum_told-in-Leaf : tie.Need-enum_told-in-Leaf
+enum_told-in-Leaf c = search rules
 
-returns-2 : tie.Need-returns-2
+returns-in-Leaf : tie.Need-returns-in-Leaf
 unfolding seek search_of
-returns-2 c = ap search_of (sym c.enum-told2.given.1 ∙ c.before.before.descend.ensures)
+returns-in-Leaf c = ap search_of (sym c.in-Leaf.is ∙ c.descend.ensures)
 
-enum-known-p : tie.Need-enum-known-p
-enum-known-p c = search rules
+enum_known-p : tie.Need-enum_known-p
+enum_known-p c = search rules
 
-returns-3 : tie.Need-returns-3
+returns-in-Fault : tie.Need-returns-in-Fault
 unfolding seek search_of
-returns-3 c = ap search_of (sym c.before.p.given.1 ∙ c.before.before.before.descend.ensures)
+returns-in-Fault c = ap search_of (sym c.in-Fault.is ∙ c.descend.ensures)
 
 pub find_violation_spec : {M : Type 1} → statement M
 find_violation_spec =
     tie.close
     (tie.spec
     descend-requires
-    enum_told
-    enum-told-2
-    enum-known-p
-    returns
-    returns-2
-    returns-3)
+    enum_told-1
+    enum_told-in-Leaf
+    enum_known-p
+    returns-in-Refused
+    returns-in-Leaf
+    returns-in-Fault)

@@ -8,70 +8,70 @@ use Rattle.walk.proofs.DescentLaws.{index_le, down_childless, down_inner}
 use Rattle.walk.proofs.go_down.Statement.{statement}
 use Rattle.walk.proofs.go_down.Tie as tie
 
-less : (c : tie.After-child-index) → c.child-index.result ≤ 10
-less c = let s = c.before.before.before.before.before.before.before in omega (arith, c.child-index.ensures, index_le s.args.node.now s.args.key s.requires)
+less : (c : tie.After-child_index-index) → c.child_index-index.result ≤ 10
+less c = omega (arith, c.child_index-index.ensures, index_le c.args.node.now c.args.key c.requires)
 
-look-in-requires : tie.Need-look-in-requires
-look-in-requires c κs = search rules
+look_in-requires : tie.Need-look_in-requires
+look_in-requires c κs = search rules
 
-enum_told : tie.Need-enum-told
-enum_told c = search rules
+enum_told-1 : tie.Need-enum_told-1
+enum_told-1 c = search rules
 
-enum-told-2 : tie.Need-enum-told-2
-enum-told-2 c = search rules
+enum_told-in-Leaf : tie.Need-enum_told-in-Leaf
+enum_told-in-Leaf c = search rules
 
-enum-told-3 : tie.Need-enum-told-3
-enum-told-3 c = search rules
+enum_told-in-Inner : tie.Need-enum_told-in-Inner
+enum_told-in-Inner c = search rules
 
-shared-slice-read-if1 : tie.Need-shared-slice-read-if1
-shared-slice-read-if1 c = search rules
+bounds-node-12 : tie.Need-bounds-node-12
+bounds-node-12 c = search rules
 
-returns : tie.Need-returns
-returns c = sym (down_childless _ _ (sym c.before.before.before.before.look_in.ensures ∙ c.before.before.enum-told3.given.1) c.if1.true)
+returns-then-node-eq0 : tie.Need-returns-then-node-eq0
+returns-then-node-eq0 c = sym (down_childless _ _ (sym c.look_in.ensures ∙ c.in-Inner.is) c.if-node-eq0.true)
 
-child-index-requires : tie.Need-child-index-requires
-child-index-requires c κs = search rules
+child_index-index-requires : tie.Need-child_index-index-requires
+child_index-index-requires c κs = search rules
 
-add-t9 : tie.Need-overflow-add-t9
-add-t9 c = omega (arith, less c)
+overflow_add-result : tie.Need-overflow_add-result
+overflow_add-result c = omega (arith, less c)
 
-mul-t10 : tie.Need-overflow-mul-t10
-mul-t10 c = omega (arith, less c)
+offset_bounds-node-index : tie.Need-offset_bounds-node-index
+offset_bounds-node-index c = omega (arith, less c)
 
-shared-slice-read-t7 : tie.Need-shared-slice-read-t7
-shared-slice-read-t7 c = omega (arith, less c.before, c.before.before.before.before.before.before.before.before.requires)
+bounds-node-index : tie.Need-bounds-node-index
+bounds-node-index c = omega (arith, less c.before, c.requires)
 
-cast-t12 : tie.Need-overflow-cast-t12
-cast-t12 c = omega (arith, c.shared-slice-known3.given (12 + c.before.child-index.result))
+overflow_cast-result : tie.Need-overflow_cast-result
+overflow_cast-result c = omega (arith, c.shared_slice_known-in-Inner-2-1.given (12 + c.child_index-index.result))
 
-returns-2 : tie.Need-returns-2
+returns-in-Nowhere : tie.Need-returns-in-Nowhere
 unfolding down_in down_by
-returns-2 c = let s = c.before.before.before.before in ap (down_by s.args.node.now s.args.key) (sym (sym c.before.before.look_in.ensures ∙ c.enum_told.given.1))
+returns-in-Nowhere c = ap (down_by c.args.node.now c.args.key) (sym (sym c.look_in.ensures ∙ c.in-Nowhere.is))
 
-returns-3 : tie.Need-returns-3
+returns-in-Leaf : tie.Need-returns-in-Leaf
 unfolding down_in down_by
-returns-3 c = let s = c.before.before.before.before in ap (down_by s.args.node.now s.args.key) (sym (sym c.before.before.look_in.ensures ∙ c.enum-told2.given.1))
+returns-in-Leaf c = ap (down_by c.args.node.now c.args.key) (sym (sym c.look_in.ensures ∙ c.in-Leaf.is))
 
-returns-4 : tie.Need-returns-4
-returns-4 c =
-    sym (down_inner _ _ (sym c.before.before.before.before.before.before.look_in.ensures
-    ∙ c.before.before.before.before.enum-told3.given.1) c.before.before.if1.false _ c.before.child-index.ensures)
+returns-else-node-eq0 : tie.Need-returns-else-node-eq0
+returns-else-node-eq0 c =
+    sym (down_inner _ _ (sym c.look_in.ensures
+    ∙ c.in-Inner.is) c.if-node-eq0.false _ c.child_index-index.ensures)
 
 pub go_down_spec : {M : Type 1} → statement M
 go_down_spec =
     tie.close
     (tie.spec
-    look-in-requires
-    enum_told
-    enum-told-2
-    enum-told-3
-    shared-slice-read-if1
-    returns
-    child-index-requires
-    add-t9
-    mul-t10
-    shared-slice-read-t7
-    cast-t12
-    returns-2
-    returns-3
-    returns-4)
+    look_in-requires
+    enum_told-1
+    enum_told-in-Leaf
+    enum_told-in-Inner
+    bounds-node-12
+    returns-then-node-eq0
+    child_index-index-requires
+    overflow_add-result
+    offset_bounds-node-index
+    bounds-node-index
+    overflow_cast-result
+    returns-in-Nowhere
+    returns-in-Leaf
+    returns-else-node-eq0)

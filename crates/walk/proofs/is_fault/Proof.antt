@@ -11,48 +11,48 @@ use Rattle.walk.proofs.DescentLaws.{children_stop, fault_root, fault_tagged, fau
 use Rattle.walk.proofs.is_fault.Statement.{statement}
 use Rattle.walk.proofs.is_fault.Tie as tie
 
+returns-then-parent-eq0 : tie.Need-returns-then-parent-eq0
+returns-then-parent-eq0 c = sym (fault_root _ _ c.if-parent-eq0.true)
+
+bounds-node-0 : tie.Need-bounds-node-0
+bounds-node-0 c = search rules
+
+returns-then-kind-eq-TAGGED : tie.Need-returns-then-kind-eq-TAGGED
+returns-then-kind-eq-TAGGED c = sym (fault_tagged _ _ c.if-parent-eq0.false c.if-kind-eq-TAGGED.true)
+
+pair_count-requires : tie.Need-pair_count-requires
+pair_count-requires c κs = search rules
+
+returns-then-kind-eq-LEAF : tie.Need-returns-then-kind-eq-LEAF
+returns-then-kind-eq-LEAF c = ap (λ (x : ℕ). ltb x 2) c.pair_count.ensures ∙ sym (fault_leaf _ _ c.if-parent-eq0.false c.if-kind-eq-LEAF.true)
+
+bounds-node-12 : tie.Need-bounds-node-12
+bounds-node-12 c = search rules
+
+returns-then-node-eq0 : tie.Need-returns-then-node-eq0
+returns-then-node-eq0 c =
+    sym (fault_inner _ _ c.if-parent-eq0.false c.if-kind-eq-TAGGED.false c.if-kind-eq-LEAF.false
+    ∙ lt-ltb (length (children c.args.node.now)) 2
+    (omega (arith, children_stop c.args.node.now 0 (omega arith) c.if-node-eq0.true)))
+
+bounds-node-13 : tie.Need-bounds-node-13
+bounds-node-13 c = search rules
+
 returns : tie.Need-returns
-returns c = sym (fault_root _ _ c.if1.true)
-
-shared-slice-read-kind : tie.Need-shared-slice-read-kind
-shared-slice-read-kind c = search rules
-
-returns-2 : tie.Need-returns-2
-returns-2 c = sym (fault_tagged _ _ c.before.before.if1.false c.if2.true)
-
-pair-count-requires : tie.Need-pair-count-requires
-pair-count-requires c κs = search rules
-
-returns-3 : tie.Need-returns-3
-returns-3 c = ap (λ (x : ℕ). ltb x 2) c.pair-count.ensures ∙ sym (fault_leaf _ _ c.before.before.before.before.if1.false c.before.if3.true)
-
-shared-slice-read-if4 : tie.Need-shared-slice-read-if4
-shared-slice-read-if4 c = search rules
-
-returns-4 : tie.Need-returns-4
-returns-4 c =
-    sym (fault_inner _ _ c.before.before.before.before.before.if1.false c.before.before.before.if2.false c.before.before.if3.false
-    ∙ lt-ltb (length (children c.before.before.before.before.before.before.before.args.node.now)) 2
-    (omega (arith, children_stop c.before.before.before.before.before.before.before.args.node.now 0 (omega arith) c.if4.true)))
-
-shared-slice-read-result : tie.Need-shared-slice-read-result
-shared-slice-read-result c = search rules
-
-returns-5 : tie.Need-returns-5
-returns-5 c =
-    second_child _ c.before.if4.false ∙ sym (fault_inner _ _ c.before.before.before.before.before.before.if1.false
-    c.before.before.before.before.if2.false c.before.before.before.if3.false)
+returns c =
+    second_child _ c.if-node-eq0.false ∙ sym (fault_inner _ _ c.if-parent-eq0.false
+    c.if-kind-eq-TAGGED.false c.if-kind-eq-LEAF.false)
 
 pub is_fault_spec : {M : Type 1} → statement M
 is_fault_spec =
     tie.close
     (tie.spec
-    returns
-    shared-slice-read-kind
-    returns-2
-    pair-count-requires
-    returns-3
-    shared-slice-read-if4
-    returns-4
-    shared-slice-read-result
-    returns-5)
+    returns-then-parent-eq0
+    bounds-node-0
+    returns-then-kind-eq-TAGGED
+    pair_count-requires
+    returns-then-kind-eq-LEAF
+    bounds-node-12
+    returns-then-node-eq0
+    bounds-node-13
+    returns)

@@ -4,11 +4,11 @@ use Rattle.walk.proofs.DescentLaws.{outside_zero, outside_above}
 use Rattle.walk.proofs.is_outside.Statement.{statement}
 use Rattle.walk.proofs.is_outside.Tie as tie
 
-returns : tie.Need-returns
-returns c = sym (outside_zero _ _ c.if1.true)
+returns-then-m-eq0 : tie.Need-returns-then-m-eq0
+returns-then-m-eq0 c = sym (outside_zero _ _ c.if-m-eq0.true)
 
-returns-2 : tie.Need-returns-2
-returns-2 c = sym (outside_above _ _ c.if1.false)
+returns : tie.Need-returns
+returns c = sym (outside_above _ _ c.if-m-eq0.false)
 
 pub is_outside_spec : {M : Type 1} → statement M
-is_outside_spec = tie.close (tie.spec returns returns-2)
+is_outside_spec = tie.close (tie.spec returns-then-m-eq0 returns)

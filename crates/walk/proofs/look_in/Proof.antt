@@ -6,20 +6,20 @@ use Rattle.walk.proofs.DescentLaws.{kind_leaf, kind_inner, kind_unknown}
 use Rattle.walk.proofs.look_in.Statement.{statement}
 use Rattle.walk.proofs.look_in.Tie as tie
 
-shared-slice-read-kind : tie.Need-shared-slice-read-kind
-shared-slice-read-kind c = search rules
+bounds-node-0 : tie.Need-bounds-node-0
+bounds-node-0 c = search rules
 
-returns : tie.Need-returns
-returns c = sym (kind_leaf _ c.if1.true)
+returns-then-kind-eq-LEAF : tie.Need-returns-then-kind-eq-LEAF
+returns-then-kind-eq-LEAF c = sym (kind_leaf _ c.if-kind-eq-LEAF.true)
 
-returns-2 : tie.Need-returns-2
-returns-2 c = sym (kind_unknown _ c.before.before.if1.false c.before.if2.true c.if3.true)
+returns-then-kind-ne-TAGGED : tie.Need-returns-then-kind-ne-TAGGED
+returns-then-kind-ne-TAGGED c = sym (kind_unknown _ c.if-kind-eq-LEAF.false c.if-kind-ne-INTERNAL.true c.if-kind-ne-TAGGED.true)
 
-returns-3 : tie.Need-returns-3
-returns-3 c = sym (kind_inner _ (inr c.if3.false))
+returns-else-kind-ne-TAGGED : tie.Need-returns-else-kind-ne-TAGGED
+returns-else-kind-ne-TAGGED c = sym (kind_inner _ (inr c.if-kind-ne-TAGGED.false))
 
-returns-4 : tie.Need-returns-4
-returns-4 c = sym (kind_inner _ (inl c.if2.false))
+returns-else-kind-ne-INTERNAL : tie.Need-returns-else-kind-ne-INTERNAL
+returns-else-kind-ne-INTERNAL c = sym (kind_inner _ (inl c.if-kind-ne-INTERNAL.false))
 
 pub look_in_spec : {M : Type 1} → statement M
-look_in_spec = tie.close (tie.spec shared-slice-read-kind returns returns-2 returns-3 returns-4)
+look_in_spec = tie.close (tie.spec bounds-node-0 returns-then-kind-eq-LEAF returns-then-kind-ne-TAGGED returns-else-kind-ne-TAGGED returns-else-kind-ne-INTERNAL)

@@ -6,19 +6,19 @@ use Rattle.walk.specs.Descent.{passed_with}
 use Rattle.walk.proofs.passed_with.Statement.{statement}
 use Rattle.walk.proofs.passed_with.Tie as tie
 
-shared-slice-read-if1 : tie.Need-shared-slice-read-if1
-shared-slice-read-if1 c = search rules
+bounds-node-0 : tie.Need-bounds-node-0
+bounds-node-0 c = search rules
 
-add-result : tie.Need-overflow-add-result
-add-result c = search rules
+overflow_add-result : tie.Need-overflow_add-result
+overflow_add-result c = search rules
 
-returns : tie.Need-returns
+returns-then-node-eq-LEAF : tie.Need-returns-then-node-eq-LEAF
 unfolding passed_with
-returns c = rw (eq-eqb (kind_of c.before.before.args.node.now) 1 c.if1.true)
+returns-then-node-eq-LEAF c = rw (eq-eqb (kind_of c.args.node.now) 1 c.if-node-eq-LEAF.true)
 
-returns-2 : tie.Need-returns-2
+returns-else-node-eq-LEAF : tie.Need-returns-else-node-eq-LEAF
 unfolding passed_with
-returns-2 c = rw (ne_eqb (kind_of c.before.before.args.node.now) 1 c.if1.false)
+returns-else-node-eq-LEAF c = rw (ne_eqb (kind_of c.args.node.now) 1 c.if-node-eq-LEAF.false)
 
 pub passed_with_spec : {M : Type 1} → statement M
-passed_with_spec = tie.close (tie.spec shared-slice-read-if1 add-result returns returns-2)
+passed_with_spec = tie.close (tie.spec bounds-node-0 overflow_add-result returns-then-node-eq-LEAF returns-else-node-eq-LEAF)

@@ -14,141 +14,141 @@ use Rattle.walk.proofs.run_above.Statement.{statement}
 use Rattle.walk.proofs.run_above.Tie as tie
 
 -- the node stands at some position, and the rest of the way goes on from there; the run is no longer than the way so far
-abbrev invariant-loop : tie.invariant-loop
-invariant-loop card n key root m₀ run₀ left₀ m run left =
+abbrev invariant-loop-n : tie.invariant-loop-n
+invariant-loop-n card n key root m₀ run₀ left₀ m run left =
     (run + left ≤ depth_limit) × (p : Position) × (p.node ≡ m)
     × (run_over card 0 (way_from card n key depth_limit (root_position root)).inner ≡ run_over card run (way_from card n key left p).inner)
 
-abbrev decreases-loop : tie.decreases-loop
-decreases-loop card n key root m₀ run₀ left₀ m run left = left
+abbrev decreases-loop-n : tie.decreases-loop-n
+decreases-loop-n card n key root m₀ run₀ left₀ m run left = left
 
 -- the rest of the way, by what the node is to the key
-rest : (c : tie.After-go-down invariant-loop decreases-loop) (d : Down) → c.go-down.result ≡ d
-    → run_over c.before.before.before.before.before.before.args.card.now 0
-    (way_from c.before.before.before.before.before.before.args.card.now
-    c.before.before.before.before.before.before.args.n c.before.before.before.before.before.before.args.key depth_limit
-    (root_position c.before.before.before.before.before.before.args.root)).inner
-    ≡ run_over c.before.before.before.before.before.before.args.card.now c.before.before.before.before.loop.run
-    (by_down c.before.before.before.before.loop.invariant.1
-    (onward c.before.before.before.before.before.before.args.card.now c.before.before.before.before.before.before.args.n
-    c.before.before.before.before.before.before.args.key c.before.before.before.before.loop.left) d).inner
+rest : (c : tie.After-go_down invariant-loop-n decreases-loop-n) (d : Down) → c.go_down.result ≡ d
+    → run_over c.args.card.now 0
+    (way_from c.args.card.now
+    c.args.n c.args.key depth_limit
+    (root_position c.args.root)).inner
+    ≡ run_over c.args.card.now c.loop-n.run
+    (by_down c.loop-n.invariant.1
+    (onward c.args.card.now c.args.n
+    c.args.key c.loop-n.left) d).inner
 rest c d g =
-    let l = c.before.before.before.before.loop in
-    l.invariant.3 ∙ ap (λ (w : Way). run_over c.before.before.before.before.before.before.args.card.now l.run w.inner) (way_at _ _ _ _ _ _ l.invariant.2
-    (sym c.before.before.before.is-outside.ensures ∙ c.before.before.if1.false) _ c.before.Node-at.ensures d (sym c.go-down.ensures ∙ g))
+    let l = c.loop-n in
+    l.invariant.3 ∙ ap (λ (w : Way). run_over c.args.card.now l.run w.inner) (way_at _ _ _ _ _ _ l.invariant.2
+    (sym c.is_outside.ensures ∙ c.if-is_outside.false) _ c.node_at-node.ensures d (sym c.go_down.ensures ∙ g))
 
-loop-holds : tie.Need-loop-init invariant-loop decreases-loop
-loop-holds c = (omega arith, root_position _, root_node _, refl)
+loop-n-init : tie.Need-loop-n-init invariant-loop-n decreases-loop-n
+loop-n-init c = (omega arith, root_position _, root_node _, refl)
 
-is-outside-requires : tie.Need-is-outside-requires invariant-loop decreases-loop
-is-outside-requires c κs = search rules
+is_outside-requires : tie.Need-is_outside-requires invariant-loop-n decreases-loop-n
+is_outside-requires c κs = search rules
 
-returns : tie.Need-returns invariant-loop decreases-loop
+returns-then-is_outside : tie.Need-returns-then-is_outside invariant-loop-n decreases-loop-n
 unfolding run_over
-returns c =
-    sym (c.before.before.loop.invariant.3 ∙ ap (λ (w : Way). run_over c.before.before.before.before.args.card.now c.before.before.loop.run w.inner)
-    (way_outside _ _ _ _ _ _ c.before.before.loop.invariant.2 (sym c.before.is-outside.ensures ∙ c.if1.true)))
+returns-then-is_outside c =
+    sym (c.loop-n.invariant.3 ∙ ap (λ (w : Way). run_over c.args.card.now c.loop-n.run w.inner)
+    (way_outside _ _ _ _ _ _ c.loop-n.invariant.2 (sym c.is_outside.ensures ∙ c.if-is_outside.true)))
 
-node-at-requires : tie.Need-node-at-requires invariant-loop decreases-loop
-node-at-requires c κs = let k = inside _ _ (sym c.before.is-outside.ensures ∙ c.if1.false) in (k.one, omega (arith, k.most), omega (arith, k.most))
+node_at-node-requires : tie.Need-node_at-node-requires invariant-loop-n decreases-loop-n
+node_at-node-requires c κs = let k = inside _ _ (sym c.is_outside.ensures ∙ c.if-is_outside.false) in (k.one, omega (arith, k.most), omega (arith, k.most))
 
-words : (c : tie.After-node-at invariant-loop decreases-loop) → length c.Node-at.result.now ≡ 24
+words : (c : tie.After-node_at-node invariant-loop-n decreases-loop-n) → length c.node_at-node.result.now ≡ 24
 words c =
-    node_words c.before.before.before.before.before.args.card.now _ _ c.before.before.before.before.before.requires.0
-    (sym c.before.before.is-outside.ensures ∙ c.before.if1.false) _ c.Node-at.ensures
+    node_words c.args.card.now _ _ c.requires.0
+    (sym c.is_outside.ensures ∙ c.if-is_outside.false) _ c.node_at-node.ensures
 
-go-down-requires : tie.Need-go-down-requires invariant-loop decreases-loop
-go-down-requires c κs = words (c)
+go_down-requires : tie.Need-go_down-requires invariant-loop-n decreases-loop-n
+go_down-requires c κs = words (c)
 
-enum_told : tie.Need-enum-told invariant-loop decreases-loop
-enum_told c = search rules
+enum_told-1 : tie.Need-enum_told-1 invariant-loop-n decreases-loop-n
+enum_told-1 c = search rules
 
-returns-2 : tie.Need-returns-2 invariant-loop decreases-loop
+returns-in-Nowhere : tie.Need-returns-in-Nowhere invariant-loop-n decreases-loop-n
 unfolding run_over
-returns-2 c = sym (rest c.before.before _ c.enum_told.given.1)
+returns-in-Nowhere c = sym (rest c.before _ c.in-Nowhere.is)
 
-enum-told-2 : tie.Need-enum-told-2 invariant-loop decreases-loop
-enum-told-2 c = search rules
+enum_told-in-Leaf : tie.Need-enum_told-in-Leaf invariant-loop-n decreases-loop-n
+enum_told-in-Leaf c = search rules
 
-returns-3 : tie.Need-returns-3 invariant-loop decreases-loop
+returns-in-Leaf : tie.Need-returns-in-Leaf invariant-loop-n decreases-loop-n
 unfolding run_over
-returns-3 c = sym (rest c.before.before _ c.enum-told2.given.1)
+returns-in-Leaf c = sym (rest c.before _ c.in-Leaf.is)
 
-enum-told-3 : tie.Need-enum-told-3 invariant-loop decreases-loop
-enum-told-3 c = search rules
+enum_told-in-Childless : tie.Need-enum_told-in-Childless invariant-loop-n decreases-loop-n
+enum_told-in-Childless c = search rules
 
-returns-4 : tie.Need-returns-4 invariant-loop decreases-loop
-returns-4 c =
-    sym (rest c.before.before _ c.enum-told3.given.1
-    ∙ run_childless _ _ _ _ c.before.before.before.before.before.before.loop.invariant.2
-    c.before.before.before.Node-at.ensures _ (told _ _ _ (sym c.before.before.go-down.ensures ∙ c.enum-told3.given.1)))
+returns-in-Childless : tie.Need-returns-in-Childless invariant-loop-n decreases-loop-n
+returns-in-Childless c =
+    sym (rest c.before _ c.in-Childless.is
+    ∙ run_childless _ _ _ _ c.loop-n.invariant.2
+    c.node_at-node.ensures _ (told _ _ _ (sym c.go_down.ensures ∙ c.in-Childless.is)))
 
-enum-known-child : tie.Need-enum-known-child invariant-loop decreases-loop
-enum-known-child c = search rules
+enum_known-child : tie.Need-enum_known-child invariant-loop-n decreases-loop-n
+enum_known-child c = search rules
 
-child-count-requires : tie.Need-child-count-requires invariant-loop decreases-loop
-child-count-requires c κs = words c.before.before.before.before
+child_count-requires : tie.Need-child_count-requires invariant-loop-n decreases-loop-n
+child_count-requires c κs = words c.before.before
 
-run-below-requires : tie.Need-run-below-requires invariant-loop decreases-loop
-run-below-requires c κs = omega (arith, c.before.before.before.before.before.before.before.before.loop.invariant.0)
+run_below-run-requires : tie.Need-run_below-run-requires invariant-loop-n decreases-loop-n
+run_below-run-requires c κs = omega (arith, c.loop-n.invariant.0)
 
 -- past the node
-further : (c : tie.After-run-below invariant-loop decreases-loop) (w : Way)
-    → run_over c.before.before.before.before.before.before.before.before.before.before.before.args.card.now
-    c.before.before.before.before.before.before.before.before.before.loop.run
-    (past c.before.before.before.before.before.before.before.before.before.loop.invariant.1 w).inner
-    ≡ run_over c.before.before.before.before.before.before.before.before.before.before.before.args.card.now
-    c.run-below.result w.inner
+further : (c : tie.After-run_below-run invariant-loop-n decreases-loop-n) (w : Way)
+    → run_over c.args.card.now
+    c.loop-n.run
+    (past c.loop-n.invariant.1 w).inner
+    ≡ run_over c.args.card.now
+    c.run_below-run.result w.inner
 further c w =
-    run_past _ _ _ _ c.before.before.before.before.before.before.before.before.before.loop.invariant.2
-    c.before.before.before.before.before.before.Node-at.ensures _ w _ c.before.child-count.ensures
-    ∙ ap (λ (r : ℕ). run_over c.before.before.before.before.before.before.before.before.before.before.before.args.card.now r w.inner) (sym c.run-below.ensures)
+    run_past _ _ _ _ c.loop-n.invariant.2
+    c.node_at-node.ensures _ w _ c.child_count.ensures
+    ∙ ap (λ (r : ℕ). run_over c.args.card.now r w.inner) (sym c.run_below-run.ensures)
 
-returns-5 : tie.Need-returns-5 invariant-loop decreases-loop
+returns-then-left-eq0 : tie.Need-returns-then-left-eq0 invariant-loop-n decreases-loop-n
 unfolding run_over
-returns-5 c =
-    sym (rest c.before.before.before.before.before.before _ c.before.before.before.before.child.given.1 ∙ further c.before _
-    ∙ ap (λ (w : Way). run_over c.before.before.before.before.before.before.before.before.before.before.before.before.args.card.now
-    c.before.run-below.result w.inner) (onward_none _ _ _ _ _ c.if2.true))
+returns-then-left-eq0 c =
+    sym (rest c.before.before.before.before _ c.in-Inner.is ∙ further c.before _
+    ∙ ap (λ (w : Way). run_over c.args.card.now
+    c.run_below-run.result w.inner) (onward_none _ _ _ _ _ c.if-left-eq0.true))
 
-sub-left : tie.Need-overflow-sub-left invariant-loop decreases-loop
-sub-left c = search rules
+overflow_sub-left : tie.Need-overflow_sub-left invariant-loop-n decreases-loop-n
+overflow_sub-left c = search rules
 
-loop-less : tie.Need-loop-smaller invariant-loop decreases-loop
-loop-less c = search rules
+loop-n-smaller : tie.Need-loop-n-smaller invariant-loop-n decreases-loop-n
+loop-n-smaller c = search rules
 
-loop-again : tie.Need-loop-preserved invariant-loop decreases-loop
-loop-again c = (
-  omega (arith, c.before.run-below.ensures, run_below_le c.before.before.child-count.result c.before.before.before.before.before.before.before.before.before.before.loop.run),
-  child_at c.before.before.before.before.before.before.before.before.before.before.loop.invariant.1
-      c.before.before.before.before.child.given.0.0 c.before.before.before.before.child.given.0.1.0,
+loop-n-preserved : tie.Need-loop-n-preserved invariant-loop-n decreases-loop-n
+loop-n-preserved c = (
+  omega (arith, c.run_below-run.ensures, run_below_le c.child_count.result c.loop-n.run),
+  child_at c.loop-n.invariant.1
+      c.in-Inner.index c.in-Inner.child,
   refl,
-  rest c.before.before.before.before.before.before _ c.before.before.before.before.child.given.1 ∙ further c.before _
-      ∙ ap (λ (w : Way). run_over c.before.before.before.before.before.before.before.before.before.before.before.before.args.card.now
-      c.before.run-below.result w.inner) (onward_on _ _ _ _ _ c.if2.false),
+  rest c.before.before.before.before _ c.in-Inner.is ∙ further c.before _
+      ∙ ap (λ (w : Way). run_over c.args.card.now
+      c.run_below-run.result w.inner) (onward_on _ _ _ _ _ c.if-left-eq0.false),
 )
 
 pub run_above_spec : {M : Type 1} → statement M
 run_above_spec =
     tie.close
     (tie.spec
-    invariant-loop
-    decreases-loop
-    loop-holds
-    is-outside-requires
-    returns
-    node-at-requires
-    go-down-requires
-    enum_told
-    returns-2
-    enum-told-2
-    returns-3
-    enum-told-3
-    returns-4
-    enum-known-child
-    child-count-requires
-    run-below-requires
-    returns-5
-    sub-left
-    loop-less
-    loop-again)
+    invariant-loop-n
+    decreases-loop-n
+    loop-n-init
+    is_outside-requires
+    returns-then-is_outside
+    node_at-node-requires
+    go_down-requires
+    enum_told-1
+    returns-in-Nowhere
+    enum_told-in-Leaf
+    returns-in-Leaf
+    enum_told-in-Childless
+    returns-in-Childless
+    enum_known-child
+    child_count-requires
+    run_below-run-requires
+    returns-then-left-eq0
+    overflow_sub-left
+    loop-n-smaller
+    loop-n-preserved)

@@ -6,14 +6,14 @@ use Rattle.walk.specs.Descent.{is_fault}
 use Rattle.walk.proofs.stops.Statement.{statement}
 use Rattle.walk.proofs.stops.Tie as tie
 
-is-fault-requires : tie.Need-is-fault-requires
-is-fault-requires c κs = search rules
+is_fault-requires : tie.Need-is_fault-requires
+is_fault-requires c κs = search rules
+
+returns-then-seeks : tie.Need-returns-then-seeks
+returns-then-seeks c = c.is_fault.ensures ∙ ap (λ (b : Bool). b && is_fault c.args.node.now c.args.parent) (sym c.if-seeks.true)
 
 returns : tie.Need-returns
-returns c = c.is-fault.ensures ∙ ap (λ (b : Bool). b && is_fault c.before.before.before.args.node.now c.before.before.before.args.parent) (sym c.before.if1.true)
-
-returns-2 : tie.Need-returns-2
-returns-2 c = ap (λ (b : Bool). b && is_fault c.before.before.args.node.now c.before.before.args.parent) (sym c.if1.false)
+returns c = ap (λ (b : Bool). b && is_fault c.args.node.now c.args.parent) (sym c.if-seeks.false)
 
 pub stops_spec : {M : Type 1} → statement M
-stops_spec = tie.close (tie.spec is-fault-requires returns returns-2)
+stops_spec = tie.close (tie.spec is_fault-requires returns-then-seeks returns)

@@ -13,73 +13,71 @@ use Rattle.walk_next.proofs.least_above.Statement.{statement}
 use Rattle.walk_next.proofs.least_above.Tie as tie
 
 -- the pair that has the key
-pair : (c : tie.After-least-key) → (c.least-key.result ≡ 4294967296 → ⊥) → (v : ℕ)
-    × (least_above c.before.before.args.after (leaf_pairs c.before.before.args.node.now) ≡ some (c.least-key.result, v))
-pair c p = key_some _ _ c.least-key.ensures p
+pair : (c : tie.After-least_key-key) → (c.least_key-key.result ≡ 4294967296 → ⊥) → (v : ℕ)
+    × (least_above c.args.after (leaf_pairs c.args.node.now) ≡ some (c.least_key-key.result, v))
+pair c p = key_some _ _ c.least_key-key.ensures p
 
 -- its slot is one of the eleven
-slot : (c : tie.After-i) → c.i.given.0.0 < 11
+slot : (c : tie.In-At) → c.in-At.i < 11
 slot c =
-    let len : length c.before.before.before.before.before.before.args.node.now ≡ 24 = search rules in
-    slot_below c.before.before.before.before.before.before.args.node.now c.before.before.before.before.least-key.result
-    c.i.given.0.0 len (sym c.before.before.find-slot.ensures ∙ c.i.given.1)
+    let len : length c.args.node.now ≡ 24 = search rules in
+    slot_below c.args.node.now c.least_key-key.result
+    c.in-At.i len (sym c.find_slot.ensures ∙ c.in-At.is)
 
-least-key-requires : tie.Need-least-key-requires
-least-key-requires c κs = search rules
+least_key-key-requires : tie.Need-least_key-key-requires
+least_key-key-requires c κs = search rules
 
-cast-find-slot : tie.Need-overflow-cast-find-slot
-cast-find-slot c = omega (arith, key_le (least_above c.before.before.before.args.after (leaf_pairs c.before.before.before.args.node.now)) _ c.before.least-key.ensures, c.if1.true)
+overflow_cast-key : tie.Need-overflow_cast-key
+overflow_cast-key c = omega (arith, key_le (least_above c.args.after (leaf_pairs c.args.node.now)) _ c.least_key-key.ensures, c.if-key-ne-KEY_LIMIT.true)
 
-find-slot-requires : tie.Need-find-slot-requires
-find-slot-requires c κs = search rules
+find_slot-requires : tie.Need-find_slot-requires
+find_slot-requires c κs = search rules
 
-enum-known-i : tie.Need-enum-known-i
-enum-known-i c = search rules
+enum_known-i : tie.Need-enum_known-i
+enum_known-i c = search rules
 
-add-t8 : tie.Need-overflow-add-t8
-add-t8 c = omega (arith, slot c.before)
+overflow_add-result : tie.Need-overflow_add-result
+overflow_add-result c = omega (arith, slot c)
 
-mul-t9 : tie.Need-overflow-mul-t9
-mul-t9 c = omega (arith, slot c.before)
+offset_bounds-node-i : tie.Need-offset_bounds-node-i
+offset_bounds-node-i c = omega (arith, slot c)
 
-shared-slice-read-t11 : tie.Need-shared-slice-read-t11
-shared-slice-read-t11 c = let len : length c.before.before.before.before.before.before.before.before.args.node.now ≡ 24 = search rules in omega (arith, len, slot c.before.before)
+bounds-node-i : tie.Need-bounds-node-i
+bounds-node-i c = let len : length c.args.node.now ≡ 24 = search rules in omega (arith, len, slot c.before)
 
-returns : tie.Need-returns
-returns c =
-    let s = c.before.before.before.before.before.before.before.before in
-    let len : length s.args.node.now ≡ 24 = search rules in
-    let q = pair c.before.before.before.before.before.before c.before.before.before.before.before.if1.true in (
-      least_some _ c.before.before.before.before.before.if1.true ∙ sym (q.1 ∙ ap (λ (x : ℕ). some (c.before.before.before.before.before.before.least-key.result, x))
-          (least_at s.args.node.now len s.args.after _ _ _ q.1 (sym c.before.before.before.before.find-slot.ensures ∙ c.before.before.i.given.1))),
-      key_le (least_above s.args.after (leaf_pairs s.args.node.now)) _ c.before.before.before.before.before.before.least-key.ensures,
+returns-in-At : tie.Need-returns-in-At
+returns-in-At c =
+    let len : length c.args.node.now ≡ 24 = search rules in
+    let q = pair c.before.before.before.before c.if-key-ne-KEY_LIMIT.true in (
+      least_some _ c.if-key-ne-KEY_LIMIT.true ∙ sym (q.1 ∙ ap (λ (x : ℕ). some (c.least_key-key.result, x))
+          (least_at c.args.node.now len c.args.after _ _ _ q.1 (sym c.find_slot.ensures ∙ c.in-At.is))),
+      key_le (least_above c.args.after (leaf_pairs c.args.node.now)) _ c.least_key-key.ensures,
     )
 
-enum_told : tie.Need-enum-told
-enum_told c = search rules
+enum_told-1 : tie.Need-enum_told-1
+enum_told-1 c = search rules
 
-returns-2 : tie.Need-returns-2
-returns-2 c =
-    let s = c.before.before.before.before.before.before in
-    let len : length s.args.node.now ≡ 24 = search rules in
-    let q = pair c.before.before.before.before c.before.before.before.if1.true in
-    absurd (least_found s.args.node.now len s.args.after _ _ q.1 (sym c.before.before.find-slot.ensures ∙ c.enum_told.given.1))
+returns-in_default : tie.Need-returns-in_default
+returns-in_default c =
+    let len : length c.args.node.now ≡ 24 = search rules in
+    let q = pair c.before.before.before c.if-key-ne-KEY_LIMIT.true in
+    absurd (least_found c.args.node.now len c.args.after _ _ q.1 (sym c.find_slot.ensures ∙ c.in_default.is))
 
-returns-3 : tie.Need-returns-3
-returns-3 c = (least_none _ refl ∙ sym (key_none _ _ c.before.least-key.ensures c.if1.false), omega arith)
+returns-else-key-ne-KEY_LIMIT : tie.Need-returns-else-key-ne-KEY_LIMIT
+returns-else-key-ne-KEY_LIMIT c = (least_none _ refl ∙ sym (key_none _ _ c.least_key-key.ensures c.if-key-ne-KEY_LIMIT.false), omega arith)
 
 pub least_above_spec : {M : Type 1} → statement M
 least_above_spec =
     tie.close
     (tie.spec
-    least-key-requires
-    cast-find-slot
-    find-slot-requires
-    enum-known-i
-    add-t8
-    mul-t9
-    shared-slice-read-t11
-    returns
-    enum_told
-    returns-2
-    returns-3)
+    least_key-key-requires
+    overflow_cast-key
+    find_slot-requires
+    enum_known-i
+    overflow_add-result
+    offset_bounds-node-i
+    bounds-node-i
+    returns-in-At
+    enum_told-1
+    returns-in_default
+    returns-else-key-ne-KEY_LIMIT)

@@ -5,14 +5,14 @@ use Rattle.walk_next.proofs.SuccessorLaws.{key_below, key_other, key_now}
 use Rattle.walk_next.proofs.nearer.Statement.{statement}
 use Rattle.walk_next.proofs.nearer.Tie as tie
 
+returns-then-key-after : tie.Need-returns-then-key-after
+returns-then-key-after c = sym (key_below c.args.after c.args.key c.args.least c.if-key-after.true)
+
+returns-then-least-key : tie.Need-returns-then-least-key
+returns-then-least-key c = sym (key_other c.args.after c.args.key c.args.least (omega (arith, c.if-key-after.false)) c.if-least-key.true)
+
 returns : tie.Need-returns
-returns c = sym (key_below c.before.args.after c.before.args.key c.before.args.least c.if1.true)
-
-returns-2 : tie.Need-returns-2
-returns-2 c = sym (key_other c.before.before.args.after c.before.before.args.key c.before.before.args.least (omega (arith, c.before.if1.false)) c.if2.true)
-
-returns-3 : tie.Need-returns-3
-returns-3 c = sym (key_now c.before.before.args.after c.before.before.args.key c.before.before.args.least (omega (arith, c.before.if1.false)) (omega (arith, c.if2.false)))
+returns c = sym (key_now c.args.after c.args.key c.args.least (omega (arith, c.if-key-after.false)) (omega (arith, c.if-least-key.false)))
 
 pub nearer_spec : {M : Type 1} → statement M
-nearer_spec = tie.close (tie.spec returns returns-2 returns-3)
+nearer_spec = tie.close (tie.spec returns-then-key-after returns-then-least-key returns)

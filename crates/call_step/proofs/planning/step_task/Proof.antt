@@ -10,7 +10,7 @@ use Rattle.change_layout.specs.declared.Size.{Size}
 use Rattle.call_change.specs.Decided.{decided}
 use Rattle.state.specs.Block.{memory_in}
 use Rattle.state.specs.declared.Doing.{Doing}
-use Rattle.call_step.specs.Contracts.{MadeOn}
+use Rattle.call_step.specs.Clauses.{MadeOn}
 use Rattle.call_step.proofs.ChangeLaws.{task_prepares, task_refused, task_ended, task_changes}
 use borrow.Author.Rules.{rules}
 use Rattle.call_step.proofs.planning.step_task.Statement.{statement}

@@ -4,7 +4,6 @@ use mathlib.Core.Path.{◌≡◌, sym, ap, subst, ◌∙◌}
 use Prim.Native.Nat.{ℕ}
 use native.Mathlib.Omega.{arith}
 use lib.ListN.{length, get_or, drop}
-use borrow.Author.Tests.{not-true, not-false}
 use borrow.Author.Rules.{rules}
 use Rattle.card.proofs.NodeLaws.{length_node}
 use Rattle.card_free.specs.NodeSet.{nodes_of}
@@ -15,110 +14,104 @@ use Rattle.card_check.proofs.entering.enter.Statement.{statement}
 use Rattle.card_check.proofs.entering.enter.Tie as tie
 
 -- the part that `node_at` handed back has 24 words
-words : (c : tie.After-node-at) → length c.Node-at.result.now ≡ 24
+words : (c : tie.After-node_at-node) → length c.node_at-node.result.now ≡ 24
 words c =
-    let s = c.before.before.before.before.before.before.before.before.before in
-    ap length c.Node-at.ensures ∙ length_node s.args.card.now s.args.m (omega arith) (omega arith)
+    ap length c.node_at-node.ensures ∙ length_node c.args.card.now c.args.m (omega arith) (omega arith)
 
-returns : tie.Need-returns
+returns-then-m-eq0 : tie.Need-returns-then-m-eq0
 unfolding look_of
-returns c =
-    let s = c.before.before.before.before in (
-      sym (enter_zero s.args.card.now s.args.n s.args.m s.args.low s.args.high s.args.run s.args.root
-          (findings_of (nodes_of s.args.free.now) s.args.found.now) c.if1.true),
-      tt,
-    )
+returns-then-m-eq0 c = (
+  sym (enter_zero c.args.card.now c.args.n c.args.m c.args.low c.args.high c.args.run c.args.root
+      (findings_of (nodes_of c.args.free.now) c.args.found.now) c.if-m-eq0.true),
+  tt,
+)
 
-returns-2 : tie.Need-returns-2
+returns-then-n-m : tie.Need-returns-then-n-m
 unfolding look_of
-returns-2 c =
-    let s = c.before.before.before.before.before in (
-      sym (enter_beyond s.args.card.now s.args.n s.args.m s.args.low s.args.high s.args.run s.args.root
-          (findings_of (nodes_of s.args.free.now) s.args.found.now) c.before.if1.false (omega arith)),
-      tt,
-    )
+returns-then-n-m c = (
+  sym (enter_beyond c.args.card.now c.args.n c.args.m c.args.low c.args.high c.args.run c.args.root
+      (findings_of (nodes_of c.args.free.now) c.args.found.now) c.if-m-eq0.false (omega arith)),
+  tt,
+)
 
 contains-requires : tie.Need-contains-requires
 contains-requires c κs = search rules
 
-same_length : tie.Need-same-length
-same_length c = search rules
+shape_of-free-then-not-contains : tie.Need-shape_of-free-then-not-contains
+shape_of-free-then-not-contains c = search rules
 
-returns-3 : tie.Need-returns-3
+returns-then-not-contains : tie.Need-returns-then-not-contains
 unfolding look_of findings_of
-returns-3 c =
-    let s = c.before.before.before.before.before.before.before.before in (
-      sym (enter_again s.args.card.now s.args.n s.args.m s.args.low s.args.high s.args.run s.args.root
-          (findings_of (nodes_of s.args.free.now) s.args.found.now) c.before.before.before.before.if1.false (omega arith)
-          (sym c.before.contains.ensures ∙ not-true _ c.if3.true)),
-      tt,
-    )
+returns-then-not-contains c = (
+  sym (enter_again c.args.card.now c.args.n c.args.m c.args.low c.args.high c.args.run c.args.root
+      (findings_of (nodes_of c.args.free.now) c.args.found.now) c.if-m-eq0.false (omega arith)
+      (sym c.contains.ensures ∙ c.if-not-contains.true)),
+  tt,
+)
 
-node-at-requires : tie.Need-node-at-requires
-node-at-requires c κs = search rules
+node_at-node-requires : tie.Need-node_at-node-requires
+node_at-node-requires c κs = search rules
 
-shared-slice-read-if4 : tie.Need-shared-slice-read-if4
-shared-slice-read-if4 c = omega (arith, words c.before)
+bounds-node-23 : tie.Need-bounds-node-23
+bounds-node-23 c = omega (arith, words c.before)
 
-same-length-2 : tie.Need-same-length-2
-same-length-2 c = search rules
+shape_of-free-then-node-ne0 : tie.Need-shape_of-free-then-node-ne0
+shape_of-free-then-node-ne0 c = search rules
 
-returns-4 : tie.Need-returns-4
+returns-then-node-ne0 : tie.Need-returns-then-node-ne0
 unfolding look_of findings_of
-returns-4 c =
-    let s = c.before.before.before.before.before.before.before.before.before.before.before in (
-      sym (enter_last_word s.args.card.now s.args.n s.args.m s.args.low s.args.high s.args.run s.args.root
-          (findings_of (nodes_of s.args.free.now) s.args.found.now) c.before.before.before.before.before.before.before.if1.false
-          (omega arith) (sym c.before.before.before.before.contains.ensures ∙ not-false _ c.before.before.before.if3.false)
-          (λ e. c.if4.true (ap (λ (l : List ℕ). get_or l 23 0) c.before.before.Node-at.ensures ∙ e))),
-      tt,
-    )
+returns-then-node-ne0 c = (
+  sym (enter_last_word c.args.card.now c.args.n c.args.m c.args.low c.args.high c.args.run c.args.root
+      (findings_of (nodes_of c.args.free.now) c.args.found.now) c.if-m-eq0.false
+      (omega arith) (sym c.contains.ensures ∙ c.if-not-contains.false)
+      (λ e. c.if-node-ne0.true (ap (λ (l : List ℕ). get_or l 23 0) c.node_at-node.ensures ∙ e))),
+  tt,
+)
 
-take-out-requires : tie.Need-take-out-requires
-take-out-requires c κs = search rules
+take_out-requires : tie.Need-take_out-requires
+take_out-requires c κs = search rules
 
-enter-kind-requires : tie.Need-enter-kind-requires
-enter-kind-requires c κs = (words c.before.before.before.before.before.before.before, search rules)
+enter_kind-requires : tie.Need-enter_kind-requires
+enter_kind-requires c κs = (words c.before.before.before.before.before.before.before, search rules)
 
-same-length-3 : tie.Need-same-length-3
-same-length-3 c = search rules
+shape_of-free : tie.Need-shape_of-free
+shape_of-free c = search rules
 
-same-length-4 : tie.Need-same-length-4
-same-length-4 c = search rules
+shape_of-found : tie.Need-shape_of-found
+shape_of-found c = search rules
 
-returns-5 : tie.Need-returns-5
+returns : tie.Need-returns
 unfolding findings_of reached
-returns-5 c =
-    let s = c.before.before.before.before.before.before.before.before.before.before.before.before.before.before.before.before.before.before.before in (
-      c.before.before.enter-kind.ensures.0 _ ∙ rw (
-        c.before.before.before.before.before.before.before.before.before.before.Node-at.ensures,
-        c.before.before.before.before.before.before.take_out.ensures,
-      ) (sym (enter_new s.args.card.now s.args.n s.args.m s.args.low s.args.high s.args.run s.args.root
-          (findings_of (nodes_of s.args.free.now) s.args.found.now)
-          c.before.before.before.before.before.before.before.before.before.before.before.before.before.before.before.if1.false
-          (omega arith) (sym c.before.before.before.before.before.before.before.before.before.before.before.before.contains.ensures
-          ∙ not-false _ c.before.before.before.before.before.before.before.before.before.before.before.if3.false)
-          (sym (ap (λ (l : List ℕ). get_or l 23 0) c.before.before.before.before.before.before.before.before.before.before.Node-at.ensures)
-          ∙ c.before.before.before.before.before.before.before.before.if4.false))),
-      subst (λ (l : List ℕ). EntryCounts c.before.before.enter-kind.result l (drop 3 s.args.found.now) (drop 3 c.before.before.enter-kind.new.1.1.1.1.1.0))
-          c.before.before.before.before.before.before.before.before.before.before.Node-at.ensures c.before.before.enter-kind.ensures.1,
-    )
+returns c = (
+  c.enter_kind.ensures.0 _ ∙ rw (
+    c.node_at-node.ensures,
+    c.take_out.ensures,
+  ) (sym (enter_new c.args.card.now c.args.n c.args.m c.args.low c.args.high c.args.run c.args.root
+      (findings_of (nodes_of c.args.free.now) c.args.found.now)
+      c.if-m-eq0.false
+      (omega arith) (sym c.contains.ensures
+      ∙ c.if-not-contains.false)
+      (sym (ap (λ (l : List ℕ). get_or l 23 0) c.node_at-node.ensures)
+      ∙ c.if-node-ne0.false))),
+  subst (λ (l : List ℕ). EntryCounts c.enter_kind.result l (drop 3 c.args.found.now) (drop 3 c.enter_kind.new.found))
+      c.node_at-node.ensures c.enter_kind.ensures.1,
+)
 
 pub enter_spec : {M : Type 1} → statement M
 enter_spec =
     tie.close
     (tie.spec
-    returns
-    returns-2
+    returns-then-m-eq0
+    returns-then-n-m
     contains-requires
-    same_length
-    returns-3
-    node-at-requires
-    shared-slice-read-if4
-    same-length-2
-    returns-4
-    take-out-requires
-    enter-kind-requires
-    same-length-3
-    same-length-4
-    returns-5)
+    shape_of-free-then-not-contains
+    returns-then-not-contains
+    node_at-node-requires
+    bounds-node-23
+    shape_of-free-then-node-ne0
+    returns-then-node-ne0
+    take_out-requires
+    enter_kind-requires
+    shape_of-free
+    shape_of-found
+    returns)

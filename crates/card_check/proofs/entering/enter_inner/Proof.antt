@@ -1,7 +1,6 @@
 -- `card_check::entering::enter_inner` meets its contract.
 use mathlib.Core.Path.{refl, sym, ◌∙◌}
 use native.Mathlib.Omega.{arith}
-use borrow.Author.Tests.{not-true, not-false}
 use borrow.Author.Rules.{rules}
 use Rattle.card.proofs.NodeLaws.{children_le}
 use Rattle.card_check.proofs.CheckLaws.{enter_inner_none, enter_inner_unused, enter_tagged_root, enter_tagged_count, enter_tagged, enter_single_root, enter_single, enter_several}
@@ -9,132 +8,122 @@ use Rattle.card_check.specs.Check.{look_of, findings_of}
 use Rattle.card_check.proofs.entering.enter_inner.Statement.{statement}
 use Rattle.card_check.proofs.entering.enter_inner.Tie as tie
 
-child-count-requires : tie.Need-child-count-requires
-child-count-requires c κs = search rules
+child_count-c-requires : tie.Need-child_count-c-requires
+child_count-c-requires c κs = search rules
+
+returns-then-c-eq0 : tie.Need-returns-then-c-eq0
+unfolding look_of
+returns-then-c-eq0 c = (
+  λ free. sym (enter_inner_none c.args.node.now c.args.tagged c.args.low c.args.run c.args.root
+      (findings_of free c.args.found.now) c.child_count-c.result c.child_count-c.ensures c.if-c-eq0.true),
+  refl,
+)
+
+unused_is_zero-requires : tie.Need-unused_is_zero-requires
+unused_is_zero-requires c κs = (search rules, omega arith, omega (arith, children_le c.args.node.now, c.child_count-c.ensures))
+
+returns-then-not-unused_is_zero : tie.Need-returns-then-not-unused_is_zero
+unfolding look_of
+returns-then-not-unused_is_zero c = (
+  λ free. sym (enter_inner_unused c.args.node.now c.args.tagged c.args.low c.args.run c.args.root
+      (findings_of free c.args.found.now) c.child_count-c.result c.child_count-c.ensures
+      c.if-c-eq0.false (sym c.unused_is_zero.ensures ∙ c.if-not-unused_is_zero.true)),
+  refl,
+)
+
+returns-then-root : tie.Need-returns-then-root
+unfolding look_of
+returns-then-root c = (
+  λ free. sym (enter_tagged_root c.args.node.now c.args.tagged c.args.low c.args.run c.args.root
+      (findings_of free c.args.found.now) c.child_count-c.result
+      c.child_count-c.ensures c.if-c-eq0.false
+      (sym c.unused_is_zero.ensures ∙ c.if-not-unused_is_zero.false) c.if-tagged.true c.if-root.true),
+  refl,
+)
+
+returns-then-c-ne2 : tie.Need-returns-then-c-ne2
+unfolding look_of
+returns-then-c-ne2 c = (
+  λ free. sym (enter_tagged_count c.args.node.now c.args.tagged c.args.low c.args.run c.args.root
+      (findings_of free c.args.found.now) c.child_count-c.result
+      c.child_count-c.ensures c.if-c-eq0.false
+      (sym c.unused_is_zero.ensures ∙ c.if-not-unused_is_zero.false)
+      c.if-tagged.true c.if-c-ne2.true),
+  refl,
+)
+
+with_violation-requires : tie.Need-with_violation-requires
+with_violation-requires c κs = search rules
+
+shape_of-found-then-tagged : tie.Need-shape_of-found-then-tagged
+shape_of-found-then-tagged c = search rules
+
+returns-then-tagged : tie.Need-returns-then-tagged
+returns-then-tagged c = (
+  λ free. c.with_violation.ensures.0 free
+      ∙ sym (enter_tagged c.args.node.now c.args.tagged c.args.low c.args.run c.args.root (findings_of free c.args.found.now)
+      c.child_count-c.result
+      c.child_count-c.ensures
+      c.if-c-eq0.false
+      (sym c.unused_is_zero.ensures ∙ c.if-not-unused_is_zero.false) c.if-tagged.true
+      c.if-root.false c.if-c-ne2.false),
+  c.with_violation.ensures.1,
+)
+
+returns-then-root-2 : tie.Need-returns-then-root-2
+unfolding look_of
+returns-then-root-2 c = (
+  λ free. sym (enter_single_root c.args.node.now c.args.tagged c.args.low c.args.run c.args.root
+      (findings_of free c.args.found.now) c.child_count-c.result
+      c.child_count-c.ensures c.if-c-eq0.false
+      (sym c.unused_is_zero.ensures ∙ c.if-not-unused_is_zero.false)
+      c.if-tagged.false c.if-c-lt2.true c.if-root-2.true),
+  refl,
+)
+
+with_violation-requires-then-c-lt2 : tie.Need-with_violation-requires-then-c-lt2
+with_violation-requires-then-c-lt2 c κs = search rules
+
+shape_of-found-then-c-lt2 : tie.Need-shape_of-found-then-c-lt2
+shape_of-found-then-c-lt2 c = search rules
+
+returns-then-c-lt2 : tie.Need-returns-then-c-lt2
+returns-then-c-lt2 c = (
+  λ free. c.with_violation-then-c-lt2.ensures.0 free
+      ∙ sym (enter_single c.args.node.now c.args.tagged c.args.low c.args.run c.args.root (findings_of free c.args.found.now)
+      c.child_count-c.result
+      c.child_count-c.ensures
+      c.if-c-eq0.false
+      (sym c.unused_is_zero.ensures ∙ c.if-not-unused_is_zero.false) c.if-tagged.false
+      c.if-c-lt2.true c.if-root-2.false),
+  c.with_violation-then-c-lt2.ensures.1,
+)
 
 returns : tie.Need-returns
 unfolding look_of
-returns c =
-    let s = c.before.before.before.before in (
-      λ free. sym (enter_inner_none s.args.node.now s.args.tagged s.args.low s.args.run s.args.root
-          (findings_of free s.args.found.now) c.before.child-count.result c.before.child-count.ensures c.if1.true),
-      refl,
-    )
-
-unused-is-zero-requires : tie.Need-unused-is-zero-requires
-unused-is-zero-requires c κs = (search rules, omega arith, omega (arith, children_le c.before.before.before.before.args.node.now, c.before.child-count.ensures))
-
-returns-2 : tie.Need-returns-2
-unfolding look_of
-returns-2 c =
-    let s = c.before.before.before.before.before.before in (
-      λ free. sym (enter_inner_unused s.args.node.now s.args.tagged s.args.low s.args.run s.args.root
-          (findings_of free s.args.found.now) c.before.before.before.child-count.result c.before.before.before.child-count.ensures
-          c.before.before.if1.false (sym c.before.unused-is-zero.ensures ∙ not-true _ c.if2.true)),
-      refl,
-    )
-
-returns-3 : tie.Need-returns-3
-unfolding look_of
-returns-3 c =
-    let s = c.before.before.before.before.before.before.before.before in (
-      λ free. sym (enter_tagged_root s.args.node.now s.args.tagged s.args.low s.args.run s.args.root
-          (findings_of free s.args.found.now) c.before.before.before.before.before.child-count.result
-          c.before.before.before.before.before.child-count.ensures c.before.before.before.before.if1.false
-          (sym c.before.before.before.unused-is-zero.ensures ∙ not-false _ c.before.before.if2.false) c.before.if3.true c.if4.true),
-      refl,
-    )
-
-returns-4 : tie.Need-returns-4
-unfolding look_of
-returns-4 c =
-    let s = c.before.before.before.before.before.before.before.before.before in (
-      λ free. sym (enter_tagged_count s.args.node.now s.args.tagged s.args.low s.args.run s.args.root
-          (findings_of free s.args.found.now) c.before.before.before.before.before.before.child-count.result
-          c.before.before.before.before.before.before.child-count.ensures c.before.before.before.before.before.if1.false
-          (sym c.before.before.before.before.unused-is-zero.ensures ∙ not-false _ c.before.before.before.if2.false)
-          c.before.before.if3.true c.if5.true),
-      refl,
-    )
-
-with-violation-requires : tie.Need-with-violation-requires
-with-violation-requires c κs = search rules
-
-same_length : tie.Need-same-length
-same_length c = search rules
-
-returns-5 : tie.Need-returns-5
-returns-5 c =
-    let s = c.before.before.before.before.before.before.before.before.before.before.before.before.before in (
-      λ free. c.before.before.with-violation.ensures.0 free
-          ∙ sym (enter_tagged s.args.node.now s.args.tagged s.args.low s.args.run s.args.root (findings_of free s.args.found.now)
-          c.before.before.before.before.before.before.before.before.before.before.child-count.result
-          c.before.before.before.before.before.before.before.before.before.before.child-count.ensures
-          c.before.before.before.before.before.before.before.before.before.if1.false
-          (sym c.before.before.before.before.before.before.before.before.unused-is-zero.ensures ∙ not-false _
-          c.before.before.before.before.before.before.before.if2.false) c.before.before.before.before.before.before.if3.true
-          c.before.before.before.before.before.if4.false c.before.before.before.before.if5.false),
-      c.before.before.with-violation.ensures.1,
-    )
-
-returns-6 : tie.Need-returns-6
-unfolding look_of
-returns-6 c =
-    let s = c.before.before.before.before.before.before.before.before.before in (
-      λ free. sym (enter_single_root s.args.node.now s.args.tagged s.args.low s.args.run s.args.root
-          (findings_of free s.args.found.now) c.before.before.before.before.before.before.child-count.result
-          c.before.before.before.before.before.before.child-count.ensures c.before.before.before.before.before.if1.false
-          (sym c.before.before.before.before.unused-is-zero.ensures ∙ not-false _ c.before.before.before.if2.false)
-          c.before.before.if3.false c.before.if6.true c.if7.true),
-      refl,
-    )
-
-with-violation-requires-2 : tie.Need-with-violation-requires-2
-with-violation-requires-2 c κs = search rules
-
-same-length-2 : tie.Need-same-length-2
-same-length-2 c = search rules
-
-returns-7 : tie.Need-returns-7
-returns-7 c =
-    let s = c.before.before.before.before.before.before.before.before.before.before.before.before.before in (
-      λ free. c.before.before.with-violation2.ensures.0 free
-          ∙ sym (enter_single s.args.node.now s.args.tagged s.args.low s.args.run s.args.root (findings_of free s.args.found.now)
-          c.before.before.before.before.before.before.before.before.before.before.child-count.result
-          c.before.before.before.before.before.before.before.before.before.before.child-count.ensures
-          c.before.before.before.before.before.before.before.before.before.if1.false
-          (sym c.before.before.before.before.before.before.before.before.unused-is-zero.ensures ∙ not-false _
-          c.before.before.before.before.before.before.before.if2.false) c.before.before.before.before.before.before.if3.false
-          c.before.before.before.before.before.if6.true c.before.before.before.before.if7.false),
-      c.before.before.with-violation2.ensures.1,
-    )
-
-returns-8 : tie.Need-returns-8
-unfolding look_of
-returns-8 c =
-    let s = c.before.before.before.before.before.before.before.before in (
-      λ free. sym (enter_several s.args.node.now s.args.tagged s.args.low s.args.run s.args.root
-          (findings_of free s.args.found.now) c.before.before.before.before.before.child-count.result
-          c.before.before.before.before.before.child-count.ensures c.before.before.before.before.if1.false
-          (sym c.before.before.before.unused-is-zero.ensures ∙ not-false _ c.before.before.if2.false) c.before.if3.false c.if6.false),
-      refl,
-    )
+returns c = (
+  λ free. sym (enter_several c.args.node.now c.args.tagged c.args.low c.args.run c.args.root
+      (findings_of free c.args.found.now) c.child_count-c.result
+      c.child_count-c.ensures c.if-c-eq0.false
+      (sym c.unused_is_zero.ensures ∙ c.if-not-unused_is_zero.false) c.if-tagged.false c.if-c-lt2.false),
+  refl,
+)
 
 pub enter_inner_spec : {M : Type 1} → statement M
 enter_inner_spec =
     tie.close
     (tie.spec
-    child-count-requires
-    returns
-    unused-is-zero-requires
-    returns-2
-    returns-3
-    returns-4
-    with-violation-requires
-    same_length
-    returns-5
-    returns-6
-    with-violation-requires-2
-    same-length-2
-    returns-7
-    returns-8)
+    child_count-c-requires
+    returns-then-c-eq0
+    unused_is_zero-requires
+    returns-then-not-unused_is_zero
+    returns-then-root
+    returns-then-c-ne2
+    with_violation-requires
+    shape_of-found-then-tagged
+    returns-then-tagged
+    returns-then-root-2
+    with_violation-requires-then-c-lt2
+    shape_of-found-then-c-lt2
+    returns-then-c-lt2
+    returns)

@@ -9,75 +9,71 @@ use Rattle.card_check.specs.Check.{look_of, findings_of}
 use Rattle.card_check.proofs.entering.enter_kind.Statement.{statement}
 use Rattle.card_check.proofs.entering.enter_kind.Tie as tie
 
-shared-slice-read-kind : tie.Need-shared-slice-read-kind
-shared-slice-read-kind c = search rules
+bounds-node-0 : tie.Need-bounds-node-0
+bounds-node-0 c = search rules
 
-enter-leaf-requires : tie.Need-enter-leaf-requires
-enter-leaf-requires c κs = search rules
+enter_leaf-requires : tie.Need-enter_leaf-requires
+enter_leaf-requires c κs = search rules
 
-enter-inner-requires : tie.Need-enter-inner-requires
-enter-inner-requires c κs = search rules
+enter_inner-requires : tie.Need-enter_inner-requires
+enter_inner-requires c κs = search rules
 
-enter-inner-requires-2 : tie.Need-enter-inner-requires-2
-enter-inner-requires-2 c κs = search rules
+enter_inner-requires-in-3 : tie.Need-enter_inner-requires-in-3
+enter_inner-requires-in-3 c κs = search rules
 
-same_length : tie.Need-same-length
-same_length c = search rules
+shape_of-found-in-1 : tie.Need-shape_of-found-in-1
+shape_of-found-in-1 c = search rules
 
-returns : tie.Need-returns
-returns c =
-    let s = c.before.before.before.before.before.before.before.before in (
-      λ free. c.before.before.enter-leaf.ensures.0 free ∙ sym (enter_kind_leaf s.args.node.now s.args.low s.args.high s.args.run
-          s.args.root (findings_of free s.args.found.now) (omega (arith, c.before.before.before.before.match.keys1))),
-      counts_leaf s.args.node.now s.args.found.now c.before.before.enter-leaf.new.1.1.1.1.0 s.args.low s.args.root c.before.before.enter-leaf.result
-          s.args.high (omega (arith, c.before.before.before.before.match.keys1)) c.before.before.enter-leaf.ensures.0 c.before.before.enter-leaf.ensures.1,
-    )
+returns-in-1 : tie.Need-returns-in-1
+returns-in-1 c = (
+  λ free. c.enter_leaf.ensures.0 free ∙ sym (enter_kind_leaf c.args.node.now c.args.low c.args.high c.args.run
+      c.args.root (findings_of free c.args.found.now) (omega (arith, c.in-1.is))),
+  counts_leaf c.args.node.now c.args.found.now c.enter_leaf.new.found c.args.low c.args.root c.enter_leaf.result
+      c.args.high (omega (arith, c.in-1.is)) c.enter_leaf.ensures.0 c.enter_leaf.ensures.1,
+)
 
-same-length-2 : tie.Need-same-length-2
-same-length-2 c = search rules
+shape_of-found-in-2 : tie.Need-shape_of-found-in-2
+shape_of-found-in-2 c = search rules
 
-returns-2 : tie.Need-returns-2
-returns-2 c =
-    let s = c.before.before.before.before.before.before.before.before in (
-      λ free. c.before.before.enter-inner.ensures.0 free ∙ sym (enter_kind_internal s.args.node.now s.args.low s.args.high
-          s.args.run s.args.root (findings_of free s.args.found.now) (omega (arith, c.before.before.before.before.match.keys2))),
-      counts_inner s.args.node.now s.args.found.now c.before.before.enter-inner.new.1.1.1.1.1.0 s.args.low s.args.root c.before.before.enter-inner.result
-          false s.args.run (λ e. omega (arith, e, c.before.before.before.before.match.keys2)) c.before.before.enter-inner.ensures.0 c.before.before.enter-inner.ensures.1,
-    )
+returns-in-2 : tie.Need-returns-in-2
+returns-in-2 c = (
+  λ free. c.enter_inner.ensures.0 free ∙ sym (enter_kind_internal c.args.node.now c.args.low c.args.high
+      c.args.run c.args.root (findings_of free c.args.found.now) (omega (arith, c.in-2.is))),
+  counts_inner c.args.node.now c.args.found.now c.enter_inner.new.found c.args.low c.args.root c.enter_inner.result
+      false c.args.run (λ e. omega (arith, e, c.in-2.is)) c.enter_inner.ensures.0 c.enter_inner.ensures.1,
+)
 
-same-length-3 : tie.Need-same-length-3
-same-length-3 c = search rules
+shape_of-found-in-3 : tie.Need-shape_of-found-in-3
+shape_of-found-in-3 c = search rules
 
-returns-3 : tie.Need-returns-3
-returns-3 c =
-    let s = c.before.before.before.before.before.before.before.before in (
-      λ free. c.before.before.enter-inner2.ensures.0 free ∙ sym (enter_kind_tagged s.args.node.now s.args.low s.args.high
-          s.args.run s.args.root (findings_of free s.args.found.now) (omega (arith, c.before.before.before.before.match.keys3))),
-      counts_inner s.args.node.now s.args.found.now c.before.before.enter-inner2.new.1.1.1.1.1.0 s.args.low s.args.root c.before.before.enter-inner2.result
-          true s.args.run (λ e. omega (arith, e, c.before.before.before.before.match.keys3)) c.before.before.enter-inner2.ensures.0 c.before.before.enter-inner2.ensures.1,
-    )
+returns-in-3 : tie.Need-returns-in-3
+returns-in-3 c = (
+  λ free. c.enter_inner-in-3.ensures.0 free ∙ sym (enter_kind_tagged c.args.node.now c.args.low c.args.high
+      c.args.run c.args.root (findings_of free c.args.found.now) (omega (arith, c.in-3.is))),
+  counts_inner c.args.node.now c.args.found.now c.enter_inner-in-3.new.found c.args.low c.args.root c.enter_inner-in-3.result
+      true c.args.run (λ e. omega (arith, e, c.in-3.is)) c.enter_inner-in-3.ensures.0 c.enter_inner-in-3.ensures.1,
+)
 
-returns-4 : tie.Need-returns-4
+returns-in_default : tie.Need-returns-in_default
 unfolding look_of
-returns-4 c =
-    let s = c.before.before.before.before in (
-      λ free. sym (enter_kind_none s.args.node.now s.args.low s.args.high s.args.run s.args.root
-          (findings_of free s.args.found.now) c.match.rest.0.0.1 c.match.rest.0.1 c.match.rest.1),
-      tt,
-    )
+returns-in_default c = (
+  λ free. sym (enter_kind_none c.args.node.now c.args.low c.args.high c.args.run c.args.root
+      (findings_of free c.args.found.now) c.in_default.in_default-own.rest.0.0.1 c.in_default.in_default-own.rest.0.1 c.in_default.in_default-own.rest.1),
+  tt,
+)
 
 pub enter_kind_spec : {M : Type 1} → statement M
 enter_kind_spec =
     tie.close
     (tie.spec
-    shared-slice-read-kind
-    enter-leaf-requires
-    enter-inner-requires
-    enter-inner-requires-2
-    same_length
-    returns
-    same-length-2
-    returns-2
-    same-length-3
-    returns-3
-    returns-4)
+    bounds-node-0
+    enter_leaf-requires
+    enter_inner-requires
+    enter_inner-requires-in-3
+    shape_of-found-in-1
+    returns-in-1
+    shape_of-found-in-2
+    returns-in-2
+    shape_of-found-in-3
+    returns-in-3
+    returns-in_default)

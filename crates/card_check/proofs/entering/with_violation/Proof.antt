@@ -8,42 +8,40 @@ use Rattle.card_check.proofs.CountingLaws.{stored_totals}
 use Rattle.card_check.proofs.entering.with_violation.Statement.{statement}
 use Rattle.card_check.proofs.entering.with_violation.Tie as tie
 
-slice-read-if1 : tie.Need-slice-read-if1
-slice-read-if1 c = search rules
+bounds-found-0 : tie.Need-bounds-found-0
+bounds-found-0 c = search rules
+
+returns-then-found-ne0 : tie.Need-returns-then-found-ne0
+unfolding look_of
+returns-then-found-ne0 c =
+    (λ free. noted_again free c.args.found.now c.args.entry c.args.key c.args.run c.if-found-ne0.true, refl)
+
+bounds-found-0-2 : tie.Need-bounds-found-0-2
+bounds-found-0-2 c = search rules
+
+bounds-found-1 : tie.Need-bounds-found-1
+bounds-found-1 c = search rules
+
+bounds-found-2 : tie.Need-bounds-found-2
+bounds-found-2 c = search rules
+
+shape_of-found : tie.Need-shape_of-found
+shape_of-found c = search rules
 
 returns : tie.Need-returns
-unfolding look_of
-returns c =
-    let s = c.before.before in
-    (λ free. noted_again free s.args.found.now s.args.entry s.args.key s.args.run c.if1.true, refl)
-
-slice-write-found : tie.Need-slice-write-found
-slice-write-found c = search rules
-
-slice-write-found-2 : tie.Need-slice-write-found-2
-slice-write-found-2 c = search rules
-
-slice-write-found-3 : tie.Need-slice-write-found-3
-slice-write-found-3 c = search rules
-
-same_length : tie.Need-same-length
-same_length c = search rules
-
-returns-2 : tie.Need-returns-2
-returns-2 c =
-    let s = c.before.before in (
-      λ free. noted_first free s.args.found.now s.args.entry s.args.key s.args.run (omega arith) c.if1.false,
-      stored_totals s.args.found.now 1 s.args.key s.args.run,
-    )
+returns c = (
+  λ free. noted_first free c.args.found.now c.args.entry c.args.key c.args.run (omega arith) c.if-found-ne0.false,
+  stored_totals c.args.found.now 1 c.args.key c.args.run,
+)
 
 pub with_violation_spec : {M : Type 1} → statement M
 with_violation_spec =
     tie.close
     (tie.spec
-    slice-read-if1
-    returns
-    slice-write-found
-    slice-write-found-2
-    slice-write-found-3
-    same_length
-    returns-2)
+    bounds-found-0
+    returns-then-found-ne0
+    bounds-found-0-2
+    bounds-found-1
+    bounds-found-2
+    shape_of-found
+    returns)

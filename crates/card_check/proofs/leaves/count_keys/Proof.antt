@@ -11,88 +11,85 @@ use Rattle.card_check.proofs.CountingLaws.{keys_empty, keys_more, keys_end}
 use Rattle.card_check.proofs.leaves.count_keys.Statement.{statement}
 use Rattle.card_check.proofs.leaves.count_keys.Tie as tie
 
-abbrev invariant-loop : tie.invariant-loop
-invariant-loop node totals₀ i₀ totals i = (i ≤ 11) × (totals ≡ keys_counted (drop i (key_words node)) totals₀) × (length totals ≡ family_count)
+abbrev invariant-loop-i : tie.invariant-loop-i
+invariant-loop-i node totals₀ i₀ totals i = (i ≤ 11) × (totals ≡ keys_counted (drop i (key_words node)) totals₀) × (length totals ≡ family_count)
 
-abbrev decreases-loop : tie.decreases-loop
-decreases-loop node totals₀ i₀ totals i = i
+abbrev decreases-loop-i : tie.decreases-loop-i
+decreases-loop-i node totals₀ i₀ totals i = i
 
-loop-holds : tie.Need-loop-init invariant-loop decreases-loop
-loop-holds c =
-    let s = c.before.before in
-    (omega arith, sym (keys_end s.args.node.now s.requires.0 11 s.args.totals.now (omega arith)), s.requires.1)
+loop-i-init : tie.Need-loop-i-init invariant-loop-i decreases-loop-i
+loop-i-init c =
+    (omega arith, sym (keys_end c.args.node.now c.requires.0 11 c.args.totals.now (omega arith)), c.requires.1)
 
-sub-i : tie.Need-overflow-sub-i invariant-loop decreases-loop
-sub-i c = search rules
+overflow_sub-i : tie.Need-overflow_sub-i invariant-loop-i decreases-loop-i
+overflow_sub-i c = search rules
 
-add-key : tie.Need-overflow-add-key invariant-loop decreases-loop
-add-key c = search rules
+overflow_add-key : tie.Need-overflow_add-key invariant-loop-i decreases-loop-i
+overflow_add-key c = search rules
 
-mul-key : tie.Need-overflow-mul-key invariant-loop decreases-loop
-mul-key c = search rules
+offset_bounds-node-i : tie.Need-offset_bounds-node-i invariant-loop-i decreases-loop-i
+offset_bounds-node-i c = search rules
 
-shared-slice-read-key : tie.Need-shared-slice-read-key invariant-loop decreases-loop
-shared-slice-read-key c = search rules
+bounds-node-i : tie.Need-bounds-node-i invariant-loop-i decreases-loop-i
+bounds-node-i c = search rules
 
-count-in-requires : tie.Need-count-in-requires invariant-loop decreases-loop
-count-in-requires c κs = search rules
+count_in-requires : tie.Need-count_in-requires invariant-loop-i decreases-loop-i
+count_in-requires c κs = search rules
 
-loop-less : tie.Need-loop-smaller invariant-loop decreases-loop
-loop-less c = search rules
+loop-i-smaller-then-key-ne0 : tie.Need-loop-i-smaller-then-key-ne0 invariant-loop-i decreases-loop-i
+loop-i-smaller-then-key-ne0 c = search rules
 
-loop-again : tie.Need-loop-preserved invariant-loop decreases-loop
-loop-again c =
-    let s = c.before.before.before.before.before.before.before.before.before.before in
-    let l = c.before.before.before.before.before.before.before.loop in
-    let node = s.args.node.now in
+loop-i-preserved-then-key-ne0 : tie.Need-loop-i-preserved-then-key-ne0 invariant-loop-i decreases-loop-i
+loop-i-preserved-then-key-ne0 c =
+    let l = c.loop-i in
+    let node = c.args.node.now in
     let j = l.i - 1 in
-    let e : (c.before.before.before.before.before.before.before.loop.i - 1) + 1 ≡ c.before.before.before.before.before.before.before.loop.i = omega arith in (
+    let e : (c.loop-i.i - 1) + 1 ≡ c.loop-i.i = omega arith in (
       omega arith,
-      c.before.before.count-in.ensures ∙ ap (counted_in (get_or node (1 + j) 0)) (l.invariant.1 ∙ ap (λ (x : ℕ). keys_counted (drop x (key_words node)) s.args.totals.now) (sym e))
-          ∙ sym (keys_more node s.requires.0 j s.args.totals.now (omega arith) c.before.before.before.before.if1.true),
-      c.before.before.count-in.auto.0 ∙ l.invariant.2,
+      c.count_in.ensures ∙ ap (counted_in (get_or node (1 + j) 0)) (l.invariant.1 ∙ ap (λ (x : ℕ). keys_counted (drop x (key_words node)) c.args.totals.now) (sym e))
+          ∙ sym (keys_more node c.requires.0 j c.args.totals.now (omega arith) c.if-key-ne0.true),
+      c.count_in.auto.totals ∙ l.invariant.2,
     )
 
-loop-less-2 : tie.Need-loop-smaller-2 invariant-loop decreases-loop
-loop-less-2 c = search rules
+loop-i-smaller : tie.Need-loop-i-smaller invariant-loop-i decreases-loop-i
+loop-i-smaller c = search rules
 
-loop-again-2 : tie.Need-loop-preserved-2 invariant-loop decreases-loop
-loop-again-2 c =
-    let s = c.before.before.before.before.before.before in
-    let l = c.before.before.before.loop in
-    let node = s.args.node.now in
+loop-i-preserved : tie.Need-loop-i-preserved invariant-loop-i decreases-loop-i
+loop-i-preserved c =
+    let l = c.loop-i in
+    let node = c.args.node.now in
     let j = l.i - 1 in
-    let e : (c.before.before.before.loop.i - 1) + 1 ≡ c.before.before.before.loop.i = omega arith in (
+    let e : (c.loop-i.i - 1) + 1 ≡ c.loop-i.i = omega arith in (
       omega arith,
-      l.invariant.1 ∙ ap (λ (x : ℕ). keys_counted (drop x (key_words node)) s.args.totals.now) (sym e)
-          ∙ sym (keys_empty node s.requires.0 j s.args.totals.now (omega arith) c.if1.false),
+      l.invariant.1 ∙ ap (λ (x : ℕ). keys_counted (drop x (key_words node)) c.args.totals.now) (sym e)
+          ∙ sym (keys_empty node c.requires.0 j c.args.totals.now (omega arith) c.if-key-ne0.false),
       l.invariant.2,
     )
 
-same_length : tie.Need-same-length invariant-loop decreases-loop
-same_length c = search rules
+shape_of-totals : tie.Need-shape_of-totals invariant-loop-i decreases-loop-i
+shape_of-totals c = search rules
 
-returns : tie.Need-returns invariant-loop decreases-loop
+returns : tie.Need-returns invariant-loop-i decreases-loop-i
 returns c =
-    let l = c.before.loop in
-    let e : c.before.loop.i ≡ 0 = omega arith in
+    let l = c.loop-i in
+    let e : c.loop-i.i ≡ 0 = omega arith in
     rw e at l.invariant.1
 
 pub count_keys_spec : {M : Type 1} → statement M
 count_keys_spec =
     tie.close
     (tie.spec
-    invariant-loop
-    decreases-loop
-    loop-holds
-    sub-i
-    add-key
-    mul-key
-    shared-slice-read-key
-    count-in-requires
-    loop-less
-    loop-again
-    loop-less-2
-    loop-again-2
-    same_length
+    invariant-loop-i
+    decreases-loop-i
+    loop-i-init
+    overflow_sub-i
+    overflow_add-key
+    offset_bounds-node-i
+    bounds-node-i
+    count_in-requires
+    loop-i-smaller-then-key-ne0
+    loop-i-preserved-then-key-ne0
+    loop-i-smaller
+    loop-i-preserved
+    shape_of-totals
     returns)

@@ -18,46 +18,45 @@ few : (node : List ℕ) → length node ≡ 24 → length (leaf_pairs node) ≤ 
 unfolding leaf_pairs
 few node len = omega (arith, slot_pairs_le (key_words node) (value_words node), length_key_words node len)
 
-is-one-family-requires : tie.Need-is-one-family-requires
-is-one-family-requires c κs = search rules
+is_one_family-requires : tie.Need-is_one_family-requires
+is_one_family-requires c κs = search rules
 
-cast-count-several : tie.Need-overflow-cast-count-several
-cast-count-several c = let s = c.before.before.before.before.before in omega (arith, few s.args.node.now s.requires.0, s.requires.3)
+overflow_cast-pairs : tie.Need-overflow_cast-pairs
+overflow_cast-pairs c = omega (arith, few c.args.node.now c.requires.0, c.requires.3)
 
-count-several-requires : tie.Need-count-several-requires
-count-several-requires c κs = search rules
+count_several-requires : tie.Need-count_several-requires
+count_several-requires c κs = search rules
 
-same_length : tie.Need-same-length
-same_length c = search rules
+shape_of-totals-then-is_one_family : tie.Need-shape_of-totals-then-is_one_family
+shape_of-totals-then-is_one_family c = search rules
+
+returns-then-is_one_family : tie.Need-returns-then-is_one_family
+returns-then-is_one_family c =
+    c.count_several.ensures ∙ ap (λ (n : ℕ). several_in c.args.low n c.args.totals.now) c.requires.3
+    ∙ sym (leaf_several c.args.low c.args.high
+    (leb-true _ _ (sym c.is_one_family.ensures ∙ c.if-is_one_family.true))
+    c.args.totals.now
+    (omega (arith, c.requires.1, family_below c.args.low (omega arith))) (omega (arith, c.slice_known-1.given (family_of c.args.low)))
+    c.args.node.now c.requires.0 c.requires.2)
+
+count_keys-requires : tie.Need-count_keys-requires
+count_keys-requires c κs = search rules
+
+shape_of-totals : tie.Need-shape_of-totals
+shape_of-totals c = search rules
 
 returns : tie.Need-returns
-returns c =
-    let s = c.before.before.before.before.before.before.before.before in
-    c.before.before.count-several.ensures ∙ ap (λ (n : ℕ). several_in s.args.low n s.args.totals.now) s.requires.3
-    ∙ sym (leaf_several s.args.low s.args.high
-    (leb-true _ _ (sym c.before.before.before.before.before.is-one-family.ensures ∙ c.before.before.before.before.if1.true))
-    s.args.totals.now
-    (omega (arith, s.requires.1, family_below s.args.low (omega arith))) (omega (arith, c.before.before.before.before.before.before.slice-known.given (family_of s.args.low)))
-    s.args.node.now s.requires.0 s.requires.2)
-
-count-keys-requires : tie.Need-count-keys-requires
-count-keys-requires c κs = search rules
-
-same-length-2 : tie.Need-same-length-2
-same-length-2 c = search rules
-
-returns-2 : tie.Need-returns-2
-returns-2 c = c.before.before.count-keys.ensures
+returns c = c.count_keys.ensures
 
 pub count_leaf_spec : {M : Type 1} → statement M
 count_leaf_spec =
     tie.close
     (tie.spec
-    is-one-family-requires
-    cast-count-several
-    count-several-requires
-    same_length
-    returns
-    count-keys-requires
-    same-length-2
-    returns-2)
+    is_one_family-requires
+    overflow_cast-pairs
+    count_several-requires
+    shape_of-totals-then-is_one_family
+    returns-then-is_one_family
+    count_keys-requires
+    shape_of-totals
+    returns)

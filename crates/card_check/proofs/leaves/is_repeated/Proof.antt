@@ -10,74 +10,74 @@ use Rattle.card_check.proofs.leaves.is_repeated.Statement.{statement}
 use Rattle.card_check.proofs.leaves.is_repeated.Tie as tie
 
 -- the whole of the definition equals what is left of it
-abbrev invariant-loop : tie.invariant-loop
-invariant-loop node i key j₀ j = (j ≤ 11) × (key ≡ get_or node (1 + i) 0) × (member key (drop (i + 1) (key_words node)) ≡ member key (drop j (key_words node)))
+abbrev invariant-loop-j : tie.invariant-loop-j
+invariant-loop-j node i key j₀ j = (j ≤ 11) × (key ≡ get_or node (1 + i) 0) × (member key (drop (i + 1) (key_words node)) ≡ member key (drop j (key_words node)))
 
-abbrev decreases-loop : tie.decreases-loop
-decreases-loop node i key j₀ j = 11 - j
+abbrev decreases-loop-j : tie.decreases-loop-j
+decreases-loop-j node i key j₀ j = 11 - j
 
-add-key : tie.Need-overflow-add-key invariant-loop decreases-loop
-add-key c = search rules
+overflow_add-key : tie.Need-overflow_add-key invariant-loop-j decreases-loop-j
+overflow_add-key c = search rules
 
-mul-key : tie.Need-overflow-mul-key invariant-loop decreases-loop
-mul-key c = search rules
+offset_bounds-node-i : tie.Need-offset_bounds-node-i invariant-loop-j decreases-loop-j
+offset_bounds-node-i c = search rules
 
-shared-slice-read-key : tie.Need-shared-slice-read-key invariant-loop decreases-loop
-shared-slice-read-key c = search rules
+bounds-node-i : tie.Need-bounds-node-i invariant-loop-j decreases-loop-j
+bounds-node-i c = search rules
 
-add-j : tie.Need-overflow-add-j invariant-loop decreases-loop
-add-j c = search rules
+overflow_add-j : tie.Need-overflow_add-j invariant-loop-j decreases-loop-j
+overflow_add-j c = search rules
 
-loop-holds : tie.Need-loop-init invariant-loop decreases-loop
-loop-holds c = (search rules, refl, refl)
+loop-j-init : tie.Need-loop-j-init invariant-loop-j decreases-loop-j
+loop-j-init c = (search rules, refl, refl)
 
-add-if1 : tie.Need-overflow-add-if1 invariant-loop decreases-loop
-add-if1 c = search rules
+overflow_add-j-in-loop-j : tie.Need-overflow_add-j-in-loop-j invariant-loop-j decreases-loop-j
+overflow_add-j-in-loop-j c = search rules
 
-mul-if1 : tie.Need-overflow-mul-if1 invariant-loop decreases-loop
-mul-if1 c = search rules
+offset_bounds-node-j : tie.Need-offset_bounds-node-j invariant-loop-j decreases-loop-j
+offset_bounds-node-j c = search rules
 
-shared-slice-read-if1 : tie.Need-shared-slice-read-if1 invariant-loop decreases-loop
-shared-slice-read-if1 c = search rules
+bounds-node-j : tie.Need-bounds-node-j invariant-loop-j decreases-loop-j
+bounds-node-j c = search rules
 
-returns : tie.Need-returns invariant-loop decreases-loop
-returns c =
-    sym (c.before.before.before.loop.invariant.2 ∙ member_here c.before.before.before.before.before.args.node.now (search rules) _
-    c.before.before.before.loop.j (omega arith) c.if1.true)
+returns-then-node-j : tie.Need-returns-then-node-j invariant-loop-j decreases-loop-j
+returns-then-node-j c =
+    sym (c.loop-j.invariant.2 ∙ member_here c.args.node.now (search rules) _
+    c.loop-j.j (omega arith) c.if-node-j.true)
 
-add-j-2 : tie.Need-overflow-add-j-2 invariant-loop decreases-loop
-add-j-2 c = search rules
+overflow_add-j-in-loop-j-2 : tie.Need-overflow_add-j-in-loop-j-2 invariant-loop-j decreases-loop-j
+overflow_add-j-in-loop-j-2 c = search rules
 
-loop-less : tie.Need-loop-smaller invariant-loop decreases-loop
-loop-less c = search rules
+loop-j-smaller : tie.Need-loop-j-smaller invariant-loop-j decreases-loop-j
+loop-j-smaller c = search rules
 
-loop-again : tie.Need-loop-preserved invariant-loop decreases-loop
-loop-again c = (
+loop-j-preserved : tie.Need-loop-j-preserved invariant-loop-j decreases-loop-j
+loop-j-preserved c = (
   omega arith,
   refl,
-  c.before.before.before.loop.invariant.2 ∙ member_next c.before.before.before.before.before.args.node.now (search rules) _
-      c.before.before.before.loop.j (omega arith) c.if1.false,
+  c.loop-j.invariant.2 ∙ member_next c.args.node.now (search rules) _
+      c.loop-j.j (omega arith) c.if-node-j.false,
 )
 
-returns-2 : tie.Need-returns-2 invariant-loop decreases-loop
-returns-2 c = sym (c.before.loop.invariant.2 ∙ member_end c.before.before.before.args.node.now (search rules) _ c.before.loop.j (omega arith))
+returns : tie.Need-returns invariant-loop-j decreases-loop-j
+returns c = sym (c.loop-j.invariant.2 ∙ member_end c.args.node.now (search rules) _ c.loop-j.j (omega arith))
 
 pub is_repeated_spec : {M : Type 1} → statement M
 is_repeated_spec =
     tie.close
     (tie.spec
-    invariant-loop
-    decreases-loop
-    add-key
-    mul-key
-    shared-slice-read-key
-    add-j
-    loop-holds
-    add-if1
-    mul-if1
-    shared-slice-read-if1
-    returns
-    add-j-2
-    loop-less
-    loop-again
-    returns-2)
+    invariant-loop-j
+    decreases-loop-j
+    overflow_add-key
+    offset_bounds-node-i
+    bounds-node-i
+    overflow_add-j
+    loop-j-init
+    overflow_add-j-in-loop-j
+    offset_bounds-node-j
+    bounds-node-j
+    returns-then-node-j
+    overflow_add-j-in-loop-j-2
+    loop-j-smaller
+    loop-j-preserved
+    returns)

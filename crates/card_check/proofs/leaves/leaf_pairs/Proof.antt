@@ -4,7 +4,6 @@ use mathlib.Core.Bool.{true}
 use Prim.Native.Nat.{◌+◌, ◌-◌, ◌≤◌}
 use native.Mathlib.Omega.{arith}
 use lib.ListN.{length, get_or, drop}
-use borrow.Author.Tests.{not-true, not-false}
 use Rattle.card.specs.Layout.{key_words}
 use Rattle.card.proofs.NodeLaws.{is_key_none, is_key_some, leaf_from, leaf_start, leaf_length, leaf_end}
 use Rattle.card_check.specs.Check.{leaf_sound, Least}
@@ -13,138 +12,133 @@ use borrow.Author.Rules.{rules}
 use Rattle.card_check.proofs.leaves.leaf_pairs.Statement.{statement}
 use Rattle.card_check.proofs.leaves.leaf_pairs.Tie as tie
 
-abbrev invariant-loop : tie.invariant-loop
-invariant-loop node low high least₀ pairs₀ i₀ least pairs i =
+abbrev invariant-loop-i : tie.invariant-loop-i
+invariant-loop-i node low high least₀ pairs₀ i₀ least pairs i =
     (pairs + i ≤ 11) × (pairs ≡ length (leaf_from node i))
     × (leaf_sound low high (drop i (key_words node)) ≡ true) × Least least (drop i (key_words node))
 
-abbrev decreases-loop : tie.decreases-loop
-decreases-loop node low high least₀ pairs₀ i₀ least pairs i = i
+abbrev decreases-loop-i : tie.decreases-loop-i
+decreases-loop-i node low high least₀ pairs₀ i₀ least pairs i = i
 
-loop-holds : tie.Need-loop-init invariant-loop decreases-loop
-loop-holds c =
-    let node = c.before.args.node.now in (
+loop-i-init : tie.Need-loop-i-init invariant-loop-i decreases-loop-i
+loop-i-init c =
+    let node = c.args.node.now in (
       search rules,
-      sym (ap length (leaf_end node c.before.requires 11 (omega arith))),
-      leaf_none node c.before.requires c.before.args.low c.before.args.high 11 (omega arith),
-      least_none node c.before.requires _ 11 (omega arith),
+      sym (ap length (leaf_end node c.requires 11 (omega arith))),
+      leaf_none node c.requires c.args.low c.args.high 11 (omega arith),
+      least_none node c.requires _ 11 (omega arith),
     )
 
-sub-i : tie.Need-overflow-sub-i invariant-loop decreases-loop
-sub-i c = search rules
+overflow_sub-i : tie.Need-overflow_sub-i invariant-loop-i decreases-loop-i
+overflow_sub-i c = search rules
 
-add-key : tie.Need-overflow-add-key invariant-loop decreases-loop
-add-key c = search rules
+overflow_add-key : tie.Need-overflow_add-key invariant-loop-i decreases-loop-i
+overflow_add-key c = search rules
 
-mul-key : tie.Need-overflow-mul-key invariant-loop decreases-loop
-mul-key c = search rules
+offset_bounds-node-i : tie.Need-offset_bounds-node-i invariant-loop-i decreases-loop-i
+offset_bounds-node-i c = search rules
 
-shared-slice-read-key : tie.Need-shared-slice-read-key invariant-loop decreases-loop
-shared-slice-read-key c = search rules
+bounds-node-i : tie.Need-bounds-node-i invariant-loop-i decreases-loop-i
+bounds-node-i c = search rules
 
-is-in-range-requires : tie.Need-is-in-range-requires invariant-loop decreases-loop
-is-in-range-requires c κs = search rules
+is_in_range-requires : tie.Need-is_in_range-requires invariant-loop-i decreases-loop-i
+is_in_range-requires c κs = search rules
 
-returns : tie.Need-returns invariant-loop decreases-loop
-returns c =
-    let s = c.before.before.before.before.before.before.before in
-    let l = c.before.before.before.before.before.loop in
-    let node = s.args.node.now in
+returns-then-not-is_in_range : tie.Need-returns-then-not-is_in_range invariant-loop-i decreases-loop-i
+returns-then-not-is_in_range c =
+    let l = c.loop-i in
+    let node = c.args.node.now in
     let j = l.i - 1 in
-    leaf_outside node s.requires s.args.low s.args.high j (omega arith) c.before.before.if1.true (sym c.before.is_in_range.ensures ∙ not-true _ c.if2.true)
+    leaf_outside node c.requires c.args.low c.args.high j (omega arith) c.if-key-ne0.true (sym c.is_in_range.ensures ∙ c.if-not-is_in_range.true)
 
-is-new-requires : tie.Need-is-new-requires invariant-loop decreases-loop
-is-new-requires c κs =
-    let e : (c.before.before.before.before.before.loop.i - 1) + 1 ≡ c.before.before.before.before.before.loop.i = omega arith in
-    (search rules, omega arith, c.before.before.if1.true, rw e c.before.before.before.before.before.loop.invariant.3)
+is_new-requires : tie.Need-is_new-requires invariant-loop-i decreases-loop-i
+is_new-requires c κs =
+    let e : (c.loop-i.i - 1) + 1 ≡ c.loop-i.i = omega arith in
+    (search rules, omega arith, c.if-key-ne0.true, rw e c.loop-i.invariant.3)
 
-returns-2 : tie.Need-returns-2 invariant-loop decreases-loop
-returns-2 c =
-    let s = c.before.before.before.before.before.before.before.before.before in
-    let l = c.before.before.before.before.before.before.before.loop in
-    let node = s.args.node.now in
+returns-then-not-is_new : tie.Need-returns-then-not-is_new invariant-loop-i decreases-loop-i
+returns-then-not-is_new c =
+    let l = c.loop-i in
+    let node = c.args.node.now in
     let j = l.i - 1 in
-    leaf_repeated node s.requires s.args.low s.args.high j (omega arith) c.before.before.before.before.if1.true (sym c.before.is-new.ensures ∙ not-true _ c.if3.true)
+    leaf_repeated node c.requires c.args.low c.args.high j (omega arith) c.if-key-ne0.true (sym c.is_new.ensures ∙ c.if-not-is_new.true)
 
-lesser-requires : tie.Need-lesser-requires invariant-loop decreases-loop
-lesser-requires c κs = search rules
+lesser-least-requires : tie.Need-lesser-least-requires invariant-loop-i decreases-loop-i
+lesser-least-requires c κs = search rules
 
-add-pairs : tie.Need-overflow-add-pairs invariant-loop decreases-loop
-add-pairs c = omega (arith, c.before.before.before.before.before.before.before.before.loop.invariant.0)
+overflow_add-pairs : tie.Need-overflow_add-pairs invariant-loop-i decreases-loop-i
+overflow_add-pairs c = omega (arith, c.loop-i.invariant.0)
 
-loop-less : tie.Need-loop-smaller invariant-loop decreases-loop
-loop-less c = search rules
+loop-i-smaller-then-key-ne0 : tie.Need-loop-i-smaller-then-key-ne0 invariant-loop-i decreases-loop-i
+loop-i-smaller-then-key-ne0 c = search rules
 
-loop-again : tie.Need-loop-preserved invariant-loop decreases-loop
-loop-again c =
-    let s = c.before.before.before.before.before.before.before.before.before.before in
-    let l = c.before.before.before.before.before.before.before.before.loop in
-    let node = s.args.node.now in
+loop-i-preserved-then-key-ne0 : tie.Need-loop-i-preserved-then-key-ne0 invariant-loop-i decreases-loop-i
+loop-i-preserved-then-key-ne0 c =
+    let l = c.loop-i in
+    let node = c.args.node.now in
     let j = l.i - 1 in
-    let e : (c.before.before.before.before.before.before.before.before.loop.i - 1) + 1 ≡ c.before.before.before.before.before.before.before.before.loop.i = omega arith in
-    let more : length (leaf_from c.before.before.before.before.before.before.before.before.before.before.args.node.now
-    ((c.before.before.before.before.before.before.before.before.loop.i - 1) + 1))
-    ≡ c.before.before.before.before.before.before.before.before.loop.pairs = rw e (sym l.invariant.1) in
-    let rest : Least c.before.before.before.before.before.before.before.before.loop.least
-    (drop ((c.before.before.before.before.before.before.before.before.loop.i - 1) + 1)
-    (key_words c.before.before.before.before.before.before.before.before.before.before.args.node.now)) = rw e l.invariant.3 in (
+    let e : (c.loop-i.i - 1) + 1 ≡ c.loop-i.i = omega arith in
+    let more : length (leaf_from c.args.node.now
+    ((c.loop-i.i - 1) + 1))
+    ≡ c.loop-i.pairs = rw e (sym l.invariant.1) in
+    let rest : Least c.loop-i.least
+    (drop ((c.loop-i.i - 1) + 1)
+    (key_words c.args.node.now)) = rw e l.invariant.3 in (
       omega arith,
-      omega (arith, leaf_length node s.requires j (omega arith), is_key_some (get_or node (1 + j) 0) c.before.before.before.before.before.if1.true),
-      leaf_key node s.requires s.args.low s.args.high j (omega arith) c.before.before.before.before.before.if1.true
-          (sym c.before.before.before.before.is_in_range.ensures ∙ not-false _ c.before.before.before.if2.false)
-          (sym c.before.before.is-new.ensures ∙ not-false _ c.before.if3.false)
+      omega (arith, leaf_length node c.requires j (omega arith), is_key_some (get_or node (1 + j) 0) c.if-key-ne0.true),
+      leaf_key node c.requires c.args.low c.args.high j (omega arith) c.if-key-ne0.true
+          (sym c.is_in_range.ensures ∙ c.if-not-is_in_range.false)
+          (sym c.is_new.ensures ∙ c.if-not-is_new.false)
           ∙ rw e l.invariant.2,
-      least_more node s.requires l.least j (omega arith) rest _ c.lesser.ensures.0 c.lesser.ensures.1,
+      least_more node c.requires l.least j (omega arith) rest _ c.lesser-least.ensures.0 c.lesser-least.ensures.1,
     )
 
-loop-less-2 : tie.Need-loop-smaller-2 invariant-loop decreases-loop
-loop-less-2 c = search rules
+loop-i-smaller : tie.Need-loop-i-smaller invariant-loop-i decreases-loop-i
+loop-i-smaller c = search rules
 
-loop-again-2 : tie.Need-loop-preserved-2 invariant-loop decreases-loop
-loop-again-2 c =
-    let s = c.before.before.before.before.before in
-    let l = c.before.before.before.loop in
-    let node = s.args.node.now in
+loop-i-preserved : tie.Need-loop-i-preserved invariant-loop-i decreases-loop-i
+loop-i-preserved c =
+    let l = c.loop-i in
+    let node = c.args.node.now in
     let j = l.i - 1 in
-    let e : (c.before.before.before.loop.i - 1) + 1 ≡ c.before.before.before.loop.i = omega arith in
-    let more : length (leaf_from c.before.before.before.before.before.args.node.now ((c.before.before.before.loop.i - 1) + 1))
-    ≡ c.before.before.before.loop.pairs = rw e (sym l.invariant.1) in
-    let rest : Least c.before.before.before.loop.least
-    (drop ((c.before.before.before.loop.i - 1) + 1) (key_words c.before.before.before.before.before.args.node.now)) =
+    let e : (c.loop-i.i - 1) + 1 ≡ c.loop-i.i = omega arith in
+    let more : length (leaf_from c.args.node.now ((c.loop-i.i - 1) + 1))
+    ≡ c.loop-i.pairs = rw e (sym l.invariant.1) in
+    let rest : Least c.loop-i.least
+    (drop ((c.loop-i.i - 1) + 1) (key_words c.args.node.now)) =
     rw e l.invariant.3 in (
       omega arith,
-      omega (arith, leaf_length node s.requires j (omega arith), is_key_none (get_or node (1 + j) 0) c.if1.false),
-      leaf_empty node s.requires s.args.low s.args.high j (omega arith) c.if1.false ∙ rw e l.invariant.2,
-      least_empty node s.requires l.least j (omega arith) rest c.if1.false,
+      omega (arith, leaf_length node c.requires j (omega arith), is_key_none (get_or node (1 + j) 0) c.if-key-ne0.false),
+      leaf_empty node c.requires c.args.low c.args.high j (omega arith) c.if-key-ne0.false ∙ rw e l.invariant.2,
+      least_empty node c.requires l.least j (omega arith) rest c.if-key-ne0.false,
     )
 
-returns-3 : tie.Need-returns-3 invariant-loop decreases-loop
-returns-3 c =
-    let s = c.before.before.before in
-    let l = c.before.loop in
-    let node = s.args.node.now in
-    let e : c.before.loop.i ≡ 0 = omega arith in
+returns : tie.Need-returns invariant-loop-i decreases-loop-i
+returns c =
+    let l = c.loop-i in
+    let node = c.args.node.now in
+    let e : c.loop-i.i ≡ 0 = omega arith in
     (rw e at l.invariant.2, rw e at l.invariant.1 ∙ ap length (leaf_start node))
 
 pub leaf_pairs_spec : {M : Type 1} → statement M
 leaf_pairs_spec =
     tie.close
     (tie.spec
-    invariant-loop
-    decreases-loop
-    loop-holds
-    sub-i
-    add-key
-    mul-key
-    shared-slice-read-key
-    is-in-range-requires
-    returns
-    is-new-requires
-    returns-2
-    lesser-requires
-    add-pairs
-    loop-less
-    loop-again
-    loop-less-2
-    loop-again-2
-    returns-3)
+    invariant-loop-i
+    decreases-loop-i
+    loop-i-init
+    overflow_sub-i
+    overflow_add-key
+    offset_bounds-node-i
+    bounds-node-i
+    is_in_range-requires
+    returns-then-not-is_in_range
+    is_new-requires
+    returns-then-not-is_new
+    lesser-least-requires
+    overflow_add-pairs
+    loop-i-smaller-then-key-ne0
+    loop-i-preserved-then-key-ne0
+    loop-i-smaller
+    loop-i-preserved
+    returns)

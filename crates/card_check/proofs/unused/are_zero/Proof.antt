@@ -10,55 +10,55 @@ use Rattle.card_check.proofs.unused.are_zero.Statement.{statement}
 use Rattle.card_check.proofs.unused.are_zero.Tie as tie
 
 -- the whole of the definition equals what is left of it
-abbrev invariant-loop : tie.invariant-loop
-invariant-loop node from to i₀ i = (from ≤ i) × (i ≤ to) × (to ≤ length node) × (all_zero (slice from to node) ≡ all_zero (slice i to node))
+abbrev invariant-loop-i : tie.invariant-loop-i
+invariant-loop-i node from to i₀ i = (from ≤ i) × (i ≤ to) × (to ≤ length node) × (all_zero (slice from to node) ≡ all_zero (slice i to node))
 
-abbrev decreases-loop : tie.decreases-loop
-decreases-loop node from to i₀ i = to - i
+abbrev decreases-loop-i : tie.decreases-loop-i
+decreases-loop-i node from to i₀ i = to - i
 
-loop-holds : tie.Need-loop-init invariant-loop decreases-loop
-loop-holds c = (search rules, search rules, search rules, refl)
+loop-i-init : tie.Need-loop-i-init invariant-loop-i decreases-loop-i
+loop-i-init c = (search rules, search rules, search rules, refl)
 
-mul-if1 : tie.Need-overflow-mul-if1 invariant-loop decreases-loop
-mul-if1 c = search rules
+offset_bounds-node-i : tie.Need-offset_bounds-node-i invariant-loop-i decreases-loop-i
+offset_bounds-node-i c = search rules
 
-shared-slice-read-if1 : tie.Need-shared-slice-read-if1 invariant-loop decreases-loop
-shared-slice-read-if1 c = search rules
+bounds-node-i : tie.Need-bounds-node-i invariant-loop-i decreases-loop-i
+bounds-node-i c = search rules
 
-returns : tie.Need-returns invariant-loop decreases-loop
-returns c =
-    sym (c.before.before.before.loop.invariant.3 ∙ zero_stop c.before.before.before.before.args.node.now
-    c.before.before.before.loop.i c.before.before.before.before.args.to (omega arith) (omega arith) c.if1.true)
+returns-then-node-i-ne0 : tie.Need-returns-then-node-i-ne0 invariant-loop-i decreases-loop-i
+returns-then-node-i-ne0 c =
+    sym (c.loop-i.invariant.3 ∙ zero_stop c.args.node.now
+    c.loop-i.i c.args.to (omega arith) (omega arith) c.if-node-i-ne0.true)
 
-add-i : tie.Need-overflow-add-i invariant-loop decreases-loop
-add-i c = search rules
+overflow_add-i : tie.Need-overflow_add-i invariant-loop-i decreases-loop-i
+overflow_add-i c = search rules
 
-loop-less : tie.Need-loop-smaller invariant-loop decreases-loop
-loop-less c = search rules
+loop-i-smaller : tie.Need-loop-i-smaller invariant-loop-i decreases-loop-i
+loop-i-smaller c = search rules
 
-loop-again : tie.Need-loop-preserved invariant-loop decreases-loop
-loop-again c = (
+loop-i-preserved : tie.Need-loop-i-preserved invariant-loop-i decreases-loop-i
+loop-i-preserved c = (
   omega arith,
   omega arith,
   omega arith,
-  c.before.before.before.loop.invariant.3 ∙ zero_next c.before.before.before.before.args.node.now
-      c.before.before.before.loop.i c.before.before.before.before.args.to (omega arith) (omega arith) c.if1.false,
+  c.loop-i.invariant.3 ∙ zero_next c.args.node.now
+      c.loop-i.i c.args.to (omega arith) (omega arith) c.if-node-i-ne0.false,
 )
 
-returns-2 : tie.Need-returns-2 invariant-loop decreases-loop
-returns-2 c = sym (c.before.loop.invariant.3 ∙ zero_end c.before.before.args.node.now c.before.loop.i c.before.before.args.to (omega arith))
+returns : tie.Need-returns invariant-loop-i decreases-loop-i
+returns c = sym (c.loop-i.invariant.3 ∙ zero_end c.args.node.now c.loop-i.i c.args.to (omega arith))
 
 pub are_zero_spec : {M : Type 1} → statement M
 are_zero_spec =
     tie.close
     (tie.spec
-    invariant-loop
-    decreases-loop
-    loop-holds
-    mul-if1
-    shared-slice-read-if1
-    returns
-    add-i
-    loop-less
-    loop-again
-    returns-2)
+    invariant-loop-i
+    decreases-loop-i
+    loop-i-init
+    offset_bounds-node-i
+    bounds-node-i
+    returns-then-node-i-ne0
+    overflow_add-i
+    loop-i-smaller
+    loop-i-preserved
+    returns)

@@ -2,101 +2,92 @@
 use mathlib.Core.List.{List}
 use mathlib.Core.Path.{◌≡◌, refl, ap, sym, ◌∙◌}
 use mathlib.Core.Option.{some}
-use Prim.Native.Nat.{ℕ, ◌-◌, ◌≤◌, ◌<◌}
+use Prim.Native.Nat.{ℕ, ◌-◌}
 use native.Mathlib.Omega.{arith}
 use lib.ListN.{length, take, length-set}
-use Rattle.card_free.specs.NodeSet.{capacity, nodes_of}
+use Rattle.card_free.specs.NodeSet.{nodes_of}
 use Rattle.change_plan.specs.Plan.{given_by, left_given}
 use Rattle.change_plan.proofs.NumberLaws.{Taking, taking_start, taking_more, taking_none, taking_round, taking_done, first_zero, found_below, three_numbers}
 use borrow.Author.Rules.{rules}
 use Rattle.change_plan.proofs.numbers.give.Statement.{statement}
 use Rattle.change_plan.proofs.numbers.give.Tie as tie
 
-abbrev invariant-loop : tie.invariant-loop
-invariant-loop free last count nodes₀ latest₀ i₀ nodes latest i = Taking nodes latest i count (nodes_of free) last × (length nodes ≡ 3)
+abbrev invariant-loop-i : tie.invariant-loop-i
+invariant-loop-i free last count nodes₀ latest₀ i₀ nodes latest i = Taking nodes latest i count (nodes_of free) last × (length nodes ≡ 3)
 
-abbrev decreases-loop : tie.decreases-loop
-decreases-loop free last count nodes₀ latest₀ i₀ nodes latest i = count - i
+abbrev decreases-loop-i : tie.decreases-loop-i
+decreases-loop-i free last count nodes₀ latest₀ i₀ nodes latest i = count - i
 
--- the node found is one of the set
-found : (c : tie.After-m invariant-loop decreases-loop) → (1 ≤ c.m.given.0.0) × (c.m.given.0.0 < capacity)
-found c =
-    let s = c.before.before.before.before.before.before in
-    found_below s.args.free.now c.before.before.before.before.loop.latest _ s.requires.0
-    (sym c.before.before.next-free.ensures ∙ c.m.given.1)
+loop-i-init : tie.Need-loop-i-init invariant-loop-i decreases-loop-i
+loop-i-init c = (taking_start _ _ _ _ refl, refl)
 
-loop-holds : tie.Need-loop-init invariant-loop decreases-loop
-loop-holds c = (taking_start _ _ _ _ refl, refl)
+next_free-requires : tie.Need-next_free-requires invariant-loop-i decreases-loop-i
+next_free-requires c κs = search rules
 
-next-free-requires : tie.Need-next-free-requires invariant-loop decreases-loop
-next-free-requires c κs = search rules
+enum_known-m : tie.Need-enum_known-m invariant-loop-i decreases-loop-i
+enum_known-m c = search rules
 
-enum-known-m : tie.Need-enum-known-m invariant-loop decreases-loop
-enum-known-m c = search rules
+enum_told-1 : tie.Need-enum_told-1 invariant-loop-i decreases-loop-i
+enum_told-1 c = search rules
 
-enum_told : tie.Need-enum-told invariant-loop decreases-loop
-enum_told c = search rules
+returns-in_default : tie.Need-returns-in_default invariant-loop-i decreases-loop-i
+unfolding given_by left_given
+returns-in_default c =
+    let l = c.loop-i in (
+      taking_none _ _ l.i _ _ _ l.invariant.0 c.loop-i-test.true (sym c.next_free.ensures ∙ c.in_default.is),
+      λ z. refl,
+    )
 
-returns : tie.Need-returns invariant-loop decreases-loop
+overflow_cast-number : tie.Need-overflow_cast-number invariant-loop-i decreases-loop-i
+overflow_cast-number c = omega (arith, found_below c.args.free.now c.loop-i.latest _ c.requires.0 (sym c.next_free.ensures ∙ c.in-Node.is))
+
+bounds-nodes-0 : tie.Need-bounds-nodes-0 invariant-loop-i decreases-loop-i
+bounds-nodes-0 c = search rules
+
+returns-then-number-nodes : tie.Need-returns-then-number-nodes invariant-loop-i decreases-loop-i
+unfolding given_by left_given
+returns-then-number-nodes c =
+    let l = c.loop-i in (
+      taking_round _ _ l.i _ _ _ l.invariant.0 c.in-Node.m
+          c.loop-i-test.true
+          (sym c.next_free.ensures ∙ c.in-Node.is) c.if-number-nodes.true,
+      λ z. refl,
+    )
+
+offset_bounds-nodes-i : tie.Need-offset_bounds-nodes-i invariant-loop-i decreases-loop-i
+offset_bounds-nodes-i c = search rules
+
+bounds-nodes-i : tie.Need-bounds-nodes-i invariant-loop-i decreases-loop-i
+bounds-nodes-i c = search rules
+
+overflow_add-i : tie.Need-overflow_add-i invariant-loop-i decreases-loop-i
+overflow_add-i c = search rules
+
+loop-i-smaller : tie.Need-loop-i-smaller invariant-loop-i decreases-loop-i
+loop-i-smaller c = search rules
+
+loop-i-preserved : tie.Need-loop-i-preserved invariant-loop-i decreases-loop-i
+loop-i-preserved c =
+    let l = c.loop-i in (
+      taking_more _ _ l.i _ _ _ l.invariant.0 _ l.invariant.1 c.requires.1 c.loop-i-test.true
+          (sym c.next_free.ensures ∙ c.in-Node.is) c.if-number-nodes.false,
+      length-set l.nodes l.i c.in-Node.m ∙ l.invariant.1,
+    )
+
+bounds-nodes-0-2 : tie.Need-bounds-nodes-0-2 invariant-loop-i decreases-loop-i
+bounds-nodes-0-2 c = search rules
+
+bounds-nodes-1 : tie.Need-bounds-nodes-1 invariant-loop-i decreases-loop-i
+bounds-nodes-1 c = search rules
+
+bounds-nodes-2 : tie.Need-bounds-nodes-2 invariant-loop-i decreases-loop-i
+bounds-nodes-2 c = search rules
+
+returns : tie.Need-returns invariant-loop-i decreases-loop-i
 unfolding given_by left_given
 returns c =
-    let l = c.before.before.before.before.loop in (
-      taking_none _ _ l.i _ _ _ l.invariant.0 c.before.before.before.loop-test.true (sym c.before.before.next-free.ensures ∙ c.enum_told.given.1),
-      λ z. refl,
-    )
-
-cast-number : tie.Need-overflow-cast-number invariant-loop decreases-loop
-cast-number c = omega (arith, found c.before)
-
-array-read-if1 : tie.Need-array-read-if1 invariant-loop decreases-loop
-array-read-if1 c = search rules
-
-returns-2 : tie.Need-returns-2 invariant-loop decreases-loop
-unfolding given_by left_given
-returns-2 c =
-    let l = c.before.before.before.before.before.before.loop in (
-      taking_round _ _ l.i _ _ _ l.invariant.0 c.before.before.m.given.0.0
-          c.before.before.before.before.before.loop-test.true
-          (sym c.before.before.before.before.next-free.ensures ∙ c.before.before.m.given.1) c.if1.true,
-      λ z. refl,
-    )
-
-mul-nodes : tie.Need-overflow-mul-nodes invariant-loop decreases-loop
-mul-nodes c = search rules
-
-array-write-nodes : tie.Need-array-write-nodes invariant-loop decreases-loop
-array-write-nodes c = search rules
-
-add-i : tie.Need-overflow-add-i invariant-loop decreases-loop
-add-i c = search rules
-
-loop-less : tie.Need-loop-smaller invariant-loop decreases-loop
-loop-less c = search rules
-
-loop-again : tie.Need-loop-preserved invariant-loop decreases-loop
-loop-again c =
-    let s = c.before.before.before.before.before.before.before.before in
-    let l = c.before.before.before.before.before.before.loop in (
-      taking_more _ _ l.i _ _ _ l.invariant.0 _ l.invariant.1 s.requires.1 c.before.before.before.before.before.loop-test.true
-          (sym c.before.before.before.before.next-free.ensures ∙ c.before.before.m.given.1) c.if1.false,
-      length-set l.nodes l.i c.before.before.m.given.0.0 ∙ l.invariant.1,
-    )
-
-array-read-t19 : tie.Need-array-read-t19 invariant-loop decreases-loop
-array-read-t19 c = search rules
-
-array-read-t22 : tie.Need-array-read-t22 invariant-loop decreases-loop
-array-read-t22 c = search rules
-
-array-read-t25 : tie.Need-array-read-t25 invariant-loop decreases-loop
-array-read-t25 c = search rules
-
-returns-3 : tie.Need-returns-3 invariant-loop decreases-loop
-unfolding given_by left_given
-returns-3 c =
-    let s = c.before.before.before in
-    let l = c.before.loop in (
-      taking_done _ _ l.i _ _ _ l.invariant.0 (omega arith) ∙ ap (λ (x : List ℕ). some (take s.args.count x)) (three_numbers l.nodes l.invariant.1),
+    let l = c.loop-i in (
+      taking_done _ _ l.i _ _ _ l.invariant.0 (omega arith) ∙ ap (λ (x : List ℕ). some (take c.args.count x)) (three_numbers l.nodes l.invariant.1),
       λ z. first_zero _ _ l.i _ _ _ l.invariant.0 l.invariant.0.within z,
     )
 
@@ -104,22 +95,22 @@ pub give_spec : {M : Type 1} → statement M
 give_spec =
     tie.close
     (tie.spec
-    invariant-loop
-    decreases-loop
-    loop-holds
-    next-free-requires
-    enum-known-m
-    enum_told
-    returns
-    cast-number
-    array-read-if1
-    returns-2
-    mul-nodes
-    array-write-nodes
-    add-i
-    loop-less
-    loop-again
-    array-read-t19
-    array-read-t22
-    array-read-t25
-    returns-3)
+    invariant-loop-i
+    decreases-loop-i
+    loop-i-init
+    next_free-requires
+    enum_known-m
+    enum_told-1
+    returns-in_default
+    overflow_cast-number
+    bounds-nodes-0
+    returns-then-number-nodes
+    offset_bounds-nodes-i
+    bounds-nodes-i
+    overflow_add-i
+    loop-i-smaller
+    loop-i-preserved
+    bounds-nodes-0-2
+    bounds-nodes-1
+    bounds-nodes-2
+    returns)

@@ -5,33 +5,31 @@ use borrow.Author.Rules.{rules}
 use Rattle.change_rows.proofs.halves.key_between.Statement.{statement}
 use Rattle.change_rows.proofs.halves.key_between.Tie as tie
 
-add-keys-for : tie.Need-overflow-add-keys-for
-add-keys-for c = search rules
+overflow_add-beside : tie.Need-overflow_add-beside
+overflow_add-beside c = search rules
 
-keys-for-requires : tie.Need-keys-for-requires
-keys-for-requires c κs = omega arith
+keys_for-requires : tie.Need-keys_for-requires
+keys_for-requires c κs = omega arith
 
-mul-result : tie.Need-overflow-mul-result
-mul-result c =
-    let s = c.before.before.before in
-    let n = whole_counts s.args.kind s.args.keys.now s.args.beside.now c.keys-for.result s.requires c.keys-for.ensures in
+offset_bounds-keys-keys_for : tie.Need-offset_bounds-keys-keys_for
+offset_bounds-keys-keys_for c =
+    let n = whole_counts c.args.kind c.args.keys.now c.args.beside.now c.keys_for.result c.requires c.keys_for.ensures in
     search rules
 
-shared-slice-read-result : tie.Need-shared-slice-read-result
-shared-slice-read-result c =
-    let s = c.before.before.before.before in
-    let n = whole_counts s.args.kind s.args.keys.now s.args.beside.now c.before.keys-for.result s.requires c.before.keys-for.ensures in
+bounds-keys-keys_for : tie.Need-bounds-keys-keys_for
+bounds-keys-keys_for c =
+    let n = whole_counts c.args.kind c.args.keys.now c.args.beside.now c.keys_for.result c.requires c.keys_for.ensures in
     search rules
 
 returns : tie.Need-returns
-returns c = key_read _ _ _ _ c.before.keys-for.ensures
+returns c = key_read _ _ _ _ c.keys_for.ensures
 
 pub key_between_spec : {M : Type 1} → statement M
 key_between_spec =
     tie.close
     (tie.spec
-    add-keys-for
-    keys-for-requires
-    mul-result
-    shared-slice-read-result
+    overflow_add-beside
+    keys_for-requires
+    offset_bounds-keys-keys_for
+    bounds-keys-keys_for
     returns)

@@ -4,14 +4,14 @@ use borrow.Author.Rules.{rules}
 use Rattle.change_rows.proofs.halves.keys_for.Statement.{statement}
 use Rattle.change_rows.proofs.halves.keys_for.Tie as tie
 
-sub-result : tie.Need-overflow-sub-result
-sub-result c = search rules
+overflow_sub-result : tie.Need-overflow_sub-result
+overflow_sub-result c = search rules
 
-returns : tie.Need-returns
-returns c = keys_leaf c.before.args.kind c.before.args.values c.if1.true
+returns-then-kind-eq-LEAF : tie.Need-returns-then-kind-eq-LEAF
+returns-then-kind-eq-LEAF c = keys_leaf c.args.kind c.args.values c.if-kind-eq-LEAF.true
 
-returns-2 : tie.Need-returns-2
-returns-2 c = keys_inner c.before.args.kind c.before.args.values c.if1.false
+returns-else-kind-eq-LEAF : tie.Need-returns-else-kind-eq-LEAF
+returns-else-kind-eq-LEAF c = keys_inner c.args.kind c.args.values c.if-kind-eq-LEAF.false
 
 pub keys_for_spec : {M : Type 1} → statement M
-keys_for_spec = tie.close (tie.spec sub-result returns returns-2)
+keys_for_spec = tie.close (tie.spec overflow_sub-result returns-then-kind-eq-LEAF returns-else-kind-eq-LEAF)

@@ -8,65 +8,62 @@ use borrow.Author.Rules.{rules}
 use Rattle.change_rows.proofs.halves.write_left.Statement.{statement}
 use Rattle.change_rows.proofs.halves.write_left.Tie as tie
 
-add_half : tie.Need-overflow-add-half
-add_half c = search rules
+overflow_add-half : tie.Need-overflow_add-half
+overflow_add-half c = search rules
 
-keys-for-requires : tie.Need-keys-for-requires
-keys-for-requires c κs = search rules
+keys_for-taken-requires : tie.Need-keys_for-taken-requires
+keys_for-taken-requires c κs = search rules
 
-sub-write-node : tie.Need-overflow-sub-write-node
-sub-write-node c = search rules
+slice_bounds-write_node-count : tie.Need-slice_bounds-write_node-count
+slice_bounds-write_node-count c = search rules
 
-part-write-node-start : tie.Need-slice-bounds-write-node-start
-part-write-node-start c = search rules
+slice_bounds-write_node-start : tie.Need-slice_bounds-write_node-start
+slice_bounds-write_node-start c = search rules
 
-part-write-node-end : tie.Need-slice-bounds-write-node-end
-part-write-node-end c =
-    let s = c.before.before.before.before.before in
-    let k = c.before.keys-for in
-    let n = whole_counts s.args.kind s.args.keys.now s.args.beside.now k.result s.requires.1 k.ensures in
+slice_bounds-write_node-end : tie.Need-slice_bounds-write_node-end
+slice_bounds-write_node-end c =
+    let k = c.keys_for-taken in
+    let n = whole_counts c.args.kind c.args.keys.now c.args.beside.now k.result c.requires.1 k.ensures in
     search rules
 
-sub-write-node-2 : tie.Need-overflow-sub-write-node-2
-sub-write-node-2 c = search rules
+slice_bounds-write_node-count-2 : tie.Need-slice_bounds-write_node-count-2
+slice_bounds-write_node-count-2 c = search rules
 
-part-write-node-start-2 : tie.Need-slice-bounds-write-node-start-2
-part-write-node-start-2 c = search rules
+slice_bounds-write_node-start-2 : tie.Need-slice_bounds-write_node-start-2
+slice_bounds-write_node-start-2 c = search rules
 
-part-write-node-end-2 : tie.Need-slice-bounds-write-node-end-2
-part-write-node-end-2 c = search rules
+slice_bounds-write_node-end-2 : tie.Need-slice_bounds-write_node-end-2
+slice_bounds-write_node-end-2 c = search rules
 
-write-node-requires : tie.Need-write-node-requires
-write-node-requires c κs =
-    let s = c.before.before.before.before.before.before.before in
-    let k = c.before.before.before.keys-for in
-    let n = whole_counts s.args.kind s.args.keys.now s.args.beside.now k.result s.requires.1 k.ensures in (
-      s.requires.0,
-      omega (arith, length-take (k.result - 0) s.args.keys.now),
-      omega (arith, length-take ((length s.args.beside.now + 1) / 2 - 0) s.args.beside.now),
+write_node-requires : tie.Need-write_node-requires
+write_node-requires c κs =
+    let k = c.keys_for-taken in
+    let n = whole_counts c.args.kind c.args.keys.now c.args.beside.now k.result c.requires.1 k.ensures in (
+      c.requires.0,
+      omega (arith, length-take (k.result - 0) c.args.keys.now),
+      omega (arith, length-take ((length c.args.beside.now + 1) / 2 - 0) c.args.beside.now),
     )
 
-same_length : tie.Need-same-length
-same_length c = search rules
+shape_of-words : tie.Need-shape_of-words
+shape_of-words c = search rules
 
 returns : tie.Need-returns
 returns c =
-    let s = c.before.before.before.before.before.before.before.before.before.before in
-    let k = c.before.before.before.before.before.before.keys-for in
-    c.before.before.write-node.ensures ∙ left_cut s.args.kind s.args.keys.now s.args.beside.now k.result k.ensures
+    let k = c.keys_for-taken in
+    c.write_node.ensures ∙ left_cut c.args.kind c.args.keys.now c.args.beside.now k.result k.ensures
 
 pub write_left_spec : {M : Type 1} → statement M
 write_left_spec =
     tie.close
     (tie.spec
-    add_half
-    keys-for-requires
-    sub-write-node
-    part-write-node-start
-    part-write-node-end
-    sub-write-node-2
-    part-write-node-start-2
-    part-write-node-end-2
-    write-node-requires
-    same_length
+    overflow_add-half
+    keys_for-taken-requires
+    slice_bounds-write_node-count
+    slice_bounds-write_node-start
+    slice_bounds-write_node-end
+    slice_bounds-write_node-count-2
+    slice_bounds-write_node-start-2
+    slice_bounds-write_node-end-2
+    write_node-requires
+    shape_of-words
     returns)

@@ -12,116 +12,113 @@ use borrow.Author.Rules.{rules}
 use Rattle.change_rows.proofs.nodes.lay_places.Statement.{statement}
 use Rattle.change_rows.proofs.nodes.lay_places.Tie as tie
 
-abbrev invariant-loop : tie.invariant-loop
-invariant-loop places₀ count link nodes i₀ places i = (i ≤ count) × (places ≡ places_of (take i nodes) ++ drop (24 * i) places₀) × (length places ≡ 73)
+abbrev invariant-loop-i : tie.invariant-loop-i
+invariant-loop-i places₀ count link nodes i₀ places i = (i ≤ count) × (places ≡ places_of (take i nodes) ++ drop (24 * i) places₀) × (length places ≡ 73)
 
-abbrev decreases-loop : tie.decreases-loop
-decreases-loop places₀ count link nodes i₀ places i = count - i
+abbrev decreases-loop-i : tie.decreases-loop-i
+decreases-loop-i places₀ count link nodes i₀ places i = count - i
 
-loop-holds : tie.Need-loop-init invariant-loop decreases-loop
+loop-i-init : tie.Need-loop-i-init invariant-loop-i decreases-loop-i
 unfolding places_of
-loop-holds c = let s = c.before in (omega arith, refl, s.requires.0)
+loop-i-init c = (omega arith, refl, c.requires.0)
 
-mul_at : tie.Need-overflow-mul-at invariant-loop decreases-loop
-mul_at c = search rules
+overflow_mul-at : tie.Need-overflow_mul-at invariant-loop-i decreases-loop-i
+overflow_mul-at c = search rules
 
-add-write-places : tie.Need-overflow-add-write-places invariant-loop decreases-loop
-add-write-places c = search rules
+overflow_add-at : tie.Need-overflow_add-at invariant-loop-i decreases-loop-i
+overflow_add-at c = search rules
 
-mul-write-places : tie.Need-overflow-mul-write-places invariant-loop decreases-loop
-mul-write-places c = search rules
+offset_bounds-places-at : tie.Need-offset_bounds-places-at invariant-loop-i decreases-loop-i
+offset_bounds-places-at c = search rules
 
-sub-write-places : tie.Need-overflow-sub-write-places invariant-loop decreases-loop
-sub-write-places c = search rules
+slice_bounds-write_places-count : tie.Need-slice_bounds-write_places-count invariant-loop-i decreases-loop-i
+slice_bounds-write_places-count c = search rules
 
-part-write-places-start : tie.Need-slice-bounds-write-places-start invariant-loop decreases-loop
-part-write-places-start c = search rules
+slice_bounds-write_places-start : tie.Need-slice_bounds-write_places-start invariant-loop-i decreases-loop-i
+slice_bounds-write_places-start c = search rules
 
-part-write-places-end : tie.Need-slice-bounds-write-places-end invariant-loop decreases-loop
-part-write-places-end c = search rules
+slice_bounds-write_places-end : tie.Need-slice_bounds-write_places-end invariant-loop-i decreases-loop-i
+slice_bounds-write_places-end c = search rules
 
-mul-write-places-2 : tie.Need-overflow-mul-write-places-2 invariant-loop decreases-loop
-mul-write-places-2 c = search rules
+offset_bounds-nodes-i : tie.Need-offset_bounds-nodes-i invariant-loop-i decreases-loop-i
+offset_bounds-nodes-i c = search rules
 
-array-read-write-places : tie.Need-array-read-write-places invariant-loop decreases-loop
-array-read-write-places c = search rules
+bounds-nodes-i : tie.Need-bounds-nodes-i invariant-loop-i decreases-loop-i
+bounds-nodes-i c = search rules
 
-cast-write-places : tie.Need-overflow-cast-write-places invariant-loop decreases-loop
-cast-write-places c = search rules
+overflow_cast-nodes : tie.Need-overflow_cast-nodes invariant-loop-i decreases-loop-i
+overflow_cast-nodes c = search rules
 
-write-places-requires : tie.Need-write-places-requires invariant-loop decreases-loop
-write-places-requires c κs =
-    let s = c.before.before.before.before in
-    let l = c.before.before.loop in
-    (omega (arith, length-take (24 * l.i + 24 - 24 * l.i) (drop (24 * l.i) l.places), length-drop (24 * l.i) l.places, l.invariant.2, s.requires.1), s.requires.2 l.i (omega arith))
+write_places-requires : tie.Need-write_places-requires invariant-loop-i decreases-loop-i
+write_places-requires c κs =
+    let l = c.loop-i in
+    (omega (arith, length-take (24 * l.i + 24 - 24 * l.i) (drop (24 * l.i) l.places), length-drop (24 * l.i) l.places, l.invariant.2, c.requires.1), c.requires.2 l.i (omega arith))
 
-add-i : tie.Need-overflow-add-i invariant-loop decreases-loop
-add-i c = search rules
+overflow_add-i : tie.Need-overflow_add-i invariant-loop-i decreases-loop-i
+overflow_add-i c = search rules
 
-loop-less : tie.Need-loop-smaller invariant-loop decreases-loop
-loop-less c = search rules
+loop-i-smaller : tie.Need-loop-i-smaller invariant-loop-i decreases-loop-i
+loop-i-smaller c = search rules
 
-loop-again : tie.Need-loop-preserved invariant-loop decreases-loop
-loop-again c =
-    let s = c.before.before.before.before.before.before.before in
-    let l = c.before.before.before.before.before.loop in
-    let w = c.before.before.write-places in
-    let len : length s.args.t2 ≡ 3 = search rules in (
+loop-i-preserved : tie.Need-loop-i-preserved invariant-loop-i decreases-loop-i
+loop-i-preserved c =
+    let l = c.loop-i in
+    let w = c.write_places in
+    let len : length c.args.nodes ≡ 3 = search rules in (
       omega arith,
-      places_next s.args.places.now l.places w.new.0 s.args.t2 l.i (24 * l.i + 24 - 24 * l.i) (omega (arith, s.requires.1)) l.invariant.1 (omega arith) w.ensures,
-      same_len_mid (24 * l.i) (24 * l.i + 24 - 24 * l.i) l.places w.new.0 w.auto.0 ∙ l.invariant.2,
+      places_next c.args.places.now l.places w.new.places c.args.nodes l.i (24 * l.i + 24 - 24 * l.i) (omega (arith, c.requires.1)) l.invariant.1 (omega arith) w.ensures,
+      same_len_mid (24 * l.i) (24 * l.i + 24 - 24 * l.i) l.places w.new.places w.auto.places ∙ l.invariant.2,
     )
 
-cast-places : tie.Need-overflow-cast-places invariant-loop decreases-loop
-cast-places c = search rules
+overflow_cast-places : tie.Need-overflow_cast-places invariant-loop-i decreases-loop-i
+overflow_cast-places c = search rules
 
-mul-places : tie.Need-overflow-mul-places invariant-loop decreases-loop
-mul-places c = search rules
+overflow_mul-places : tie.Need-overflow_mul-places invariant-loop-i decreases-loop-i
+overflow_mul-places c = search rules
 
-mul-places-2 : tie.Need-overflow-mul-places-2 invariant-loop decreases-loop
-mul-places-2 c = search rules
+offset_bounds-places-count : tie.Need-offset_bounds-places-count invariant-loop-i decreases-loop-i
+offset_bounds-places-count c = search rules
 
-slice-write-places : tie.Need-slice-write-places invariant-loop decreases-loop
-slice-write-places c = search rules
+bounds-places-count : tie.Need-bounds-places-count invariant-loop-i decreases-loop-i
+bounds-places-count c = search rules
 
-same_length : tie.Need-same-length invariant-loop decreases-loop
-same_length c = let s = c.before.before.before in let l = c.before.loop in length-set l.places (24 * s.args.count) s.args.link ∙ l.invariant.2 ∙ search rules
+shape_of-places : tie.Need-shape_of-places invariant-loop-i decreases-loop-i
+shape_of-places c = let l = c.loop-i in length-set l.places (24 * c.args.count) c.args.link ∙ l.invariant.2 ∙ search rules
 
-returns : tie.Need-returns invariant-loop decreases-loop
+returns : tie.Need-returns invariant-loop-i decreases-loop-i
 returns c =
-    let s = c.before.before.before in
-    let l = c.before.loop in
-    let len : length s.args.t2 ≡ 3 = search rules in
-    let all : l.i ≡ s.args.count = omega (arith, l.invariant.0) in
-    let front : length (places_of (take s.args.count s.args.t2)) ≡ 24 * s.args.count =
-    length_places_of (take s.args.count s.args.t2) ∙ ap (λ (k : ℕ). 24 * k) (length-take-le s.args.count s.args.t2 (omega (arith, s.requires.1))) in
-    ap (λ (r : List ℕ). set r (24 * s.args.count) s.args.link)
-    (l.invariant.1 ∙ ap (λ (k : ℕ). places_of (take k s.args.t2) ++ drop (24 * k) s.args.places.now) all)
-    ∙ row_linked s.args.places.now (places_of (take s.args.count s.args.t2)) (24 * s.args.count) s.args.link front (omega (arith, s.requires.0, s.requires.1))
+    let l = c.loop-i in
+    let len : length c.args.nodes ≡ 3 = search rules in
+    let all : l.i ≡ c.args.count = omega (arith, l.invariant.0) in
+    let front : length (places_of (take c.args.count c.args.nodes)) ≡ 24 * c.args.count =
+    length_places_of (take c.args.count c.args.nodes) ∙ ap (λ (k : ℕ). 24 * k) (length-take-le c.args.count c.args.nodes (omega (arith, c.requires.1))) in
+    ap (λ (r : List ℕ). set r (24 * c.args.count) c.args.link)
+    (l.invariant.1 ∙ ap (λ (k : ℕ). places_of (take k c.args.nodes) ++ drop (24 * k) c.args.places.now) all)
+    ∙ row_linked c.args.places.now (places_of (take c.args.count c.args.nodes)) (24 * c.args.count) c.args.link front (omega (arith, c.requires.0, c.requires.1))
 
 pub lay_places_spec : {M : Type 1} → statement M
 lay_places_spec =
     tie.close
     (tie.spec
-    invariant-loop
-    decreases-loop
-    loop-holds
-    mul_at
-    add-write-places
-    mul-write-places
-    sub-write-places
-    part-write-places-start
-    part-write-places-end
-    mul-write-places-2
-    array-read-write-places
-    cast-write-places
-    write-places-requires
-    add-i
-    loop-less
-    loop-again
-    cast-places
-    mul-places
-    mul-places-2
-    slice-write-places
-    same_length
+    invariant-loop-i
+    decreases-loop-i
+    loop-i-init
+    overflow_mul-at
+    overflow_add-at
+    offset_bounds-places-at
+    slice_bounds-write_places-count
+    slice_bounds-write_places-start
+    slice_bounds-write_places-end
+    offset_bounds-nodes-i
+    bounds-nodes-i
+    overflow_cast-nodes
+    write_places-requires
+    overflow_add-i
+    loop-i-smaller
+    loop-i-preserved
+    overflow_cast-places
+    overflow_mul-places
+    offset_bounds-places-count
+    bounds-places-count
+    shape_of-places
     returns)

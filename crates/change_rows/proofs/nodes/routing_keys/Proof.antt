@@ -7,21 +7,21 @@ use Rattle.card.proofs.NodeLaws.{children_le, routing_words}
 use Rattle.change_rows.proofs.nodes.routing_keys.Statement.{statement}
 use Rattle.change_rows.proofs.nodes.routing_keys.Tie as tie
 
-child-count-requires : tie.Need-child-count-requires
-child-count-requires c κs = search rules
+child_count-count-requires : tie.Need-child_count-count-requires
+child_count-count-requires c κs = search rules
 
-sub-result : tie.Need-overflow-sub-result
-sub-result c = search rules
+slice_bounds-result-count : tie.Need-slice_bounds-result-count
+slice_bounds-result-count c = search rules
 
-part-result-start : tie.Need-slice-bounds-result-start
-part-result-start c = search rules
+slice_bounds-result-start : tie.Need-slice_bounds-result-start
+slice_bounds-result-start c = search rules
 
-part-result-end : tie.Need-slice-bounds-result-end
-part-result-end c = let h : c.child-count.result ≤ 11 = omega (arith, c.child-count.ensures, children_le c.before.before.args.node.now) in search rules
+slice_bounds-result-end : tie.Need-slice_bounds-result-end
+slice_bounds-result-end c = let h : c.child_count-count.result ≤ 11 = omega (arith, c.child_count-count.ensures, children_le c.args.node.now) in search rules
 
 returns : tie.Need-returns
-returns c = sym (routing_words _ _ c.before.child-count.ensures)
+returns c = sym (routing_words _ _ c.child_count-count.ensures)
 
 pub routing_keys_spec : {M : Type 1} → statement M
 routing_keys_spec =
-    tie.close (tie.spec child-count-requires sub-result part-result-start part-result-end returns)
+    tie.close (tie.spec child_count-count-requires slice_bounds-result-count slice_bounds-result-start slice_bounds-result-end returns)

@@ -7,40 +7,39 @@ use Rattle.change_rows.proofs.nodes.write_row.Tie as tie
 copy-requires : tie.Need-copy-requires
 copy-requires c κs = search rules
 
-mul-clear : tie.Need-overflow-mul-clear
-mul-clear c = search rules
+offset_bounds-row-used : tie.Need-offset_bounds-row-used
+offset_bounds-row-used c = search rules
 
-sub-clear : tie.Need-overflow-sub-clear
-sub-clear c = search rules
+slice_bounds-clear-count : tie.Need-slice_bounds-clear-count
+slice_bounds-clear-count c = search rules
 
-part-clear-start : tie.Need-slice-bounds-clear-start
-part-clear-start c = search rules
+slice_bounds-clear-start : tie.Need-slice_bounds-clear-start
+slice_bounds-clear-start c = search rules
 
-part-clear-end : tie.Need-slice-bounds-clear-end
-part-clear-end c = search rules
+slice_bounds-clear-end : tie.Need-slice_bounds-clear-end
+slice_bounds-clear-end c = search rules
 
 clear-requires : tie.Need-clear-requires
 clear-requires c κs = search rules
 
-same_length : tie.Need-same-length
-same_length c = search rules
+shape_of-row : tie.Need-shape_of-row
+shape_of-row c = search rules
 
 returns : tie.Need-returns
 returns c =
-    let s = c.before.before.before.before.before.before.before.before.before.before in
-    padded 11 s.args.row.now s.args.part.now c.before.before.before.before.before.before.copy.new.0
-    c.before.before.clear.new.0 s.requires.0 s.requires.1 c.before.before.before.before.before.before.copy.ensures
-    c.before.before.clear.ensures
+    padded 11 c.args.row.now c.args.part.now c.copy.new.row
+    c.clear.new.row c.requires.0 c.requires.1 c.copy.ensures
+    c.clear.ensures
 
 pub write_row_spec : {M : Type 1} → statement M
 write_row_spec =
     tie.close
     (tie.spec
     copy-requires
-    mul-clear
-    sub-clear
-    part-clear-start
-    part-clear-end
+    offset_bounds-row-used
+    slice_bounds-clear-count
+    slice_bounds-clear-start
+    slice_bounds-clear-end
     clear-requires
-    same_length
+    shape_of-row
     returns)

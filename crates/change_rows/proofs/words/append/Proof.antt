@@ -9,16 +9,15 @@ use Rattle.change_rows.proofs.words.append.Tie as tie
 copy-requires : tie.Need-copy-requires
 copy-requires c κs = search rules
 
-add-result : tie.Need-overflow-add-result
-add-result c = search rules
+overflow_add-result : tie.Need-overflow_add-result
+overflow_add-result c = search rules
 
-same_length : tie.Need-same-length
-same_length c = search rules
+shape_of-row : tie.Need-shape_of-row
+shape_of-row c = search rules
 
 returns : tie.Need-returns
 returns c =
-    let s = c.before.before.before.before.before.before in
-    (refl, copy_held s.args.row.now c.before.before.copy.new.0 s.args.part.now s.args.count (omega arith) c.before.before.copy.ensures)
+    (refl, copy_held c.args.row.now c.copy.new.row c.args.part.now c.args.count (omega arith) c.copy.ensures)
 
 pub append_spec : {M : Type 1} → statement M
-append_spec = tie.close (tie.spec copy-requires add-result same_length returns)
+append_spec = tie.close (tie.spec copy-requires overflow_add-result shape_of-row returns)

@@ -10,60 +10,58 @@ use borrow.Author.Rules.{rules}
 use Rattle.change_rows.proofs.words.clear.Statement.{statement}
 use Rattle.change_rows.proofs.words.clear.Tie as tie
 
-abbrev invariant-loop : tie.invariant-loop
-invariant-loop row₀ i₀ row i = (i ≤ length row₀) × (row ≡ replicate i 0 ++ drop i row₀) × (length row ≡ length row₀)
+abbrev invariant-loop-i : tie.invariant-loop-i
+invariant-loop-i row₀ i₀ row i = (i ≤ length row₀) × (row ≡ replicate i 0 ++ drop i row₀) × (length row ≡ length row₀)
 
-abbrev decreases-loop : tie.decreases-loop
-decreases-loop row₀ i₀ row i = length row₀ - i
+abbrev decreases-loop-i : tie.decreases-loop-i
+decreases-loop-i row₀ i₀ row i = length row₀ - i
 
-loop-holds : tie.Need-loop-init invariant-loop decreases-loop
-loop-holds c = search rules
+loop-i-init : tie.Need-loop-i-init invariant-loop-i decreases-loop-i
+loop-i-init c = search rules
 
-mul-row : tie.Need-overflow-mul-row invariant-loop decreases-loop
-mul-row c = search rules
+offset_bounds-row-i : tie.Need-offset_bounds-row-i invariant-loop-i decreases-loop-i
+offset_bounds-row-i c = search rules
 
-slice-write-row : tie.Need-slice-write-row invariant-loop decreases-loop
-slice-write-row c = search rules
+bounds-row-i : tie.Need-bounds-row-i invariant-loop-i decreases-loop-i
+bounds-row-i c = search rules
 
-add-i : tie.Need-overflow-add-i invariant-loop decreases-loop
-add-i c = search rules
+overflow_add-i : tie.Need-overflow_add-i invariant-loop-i decreases-loop-i
+overflow_add-i c = search rules
 
-loop-less : tie.Need-loop-smaller invariant-loop decreases-loop
-loop-less c = search rules
+loop-i-smaller : tie.Need-loop-i-smaller invariant-loop-i decreases-loop-i
+loop-i-smaller c = search rules
 
-loop-again : tie.Need-loop-preserved invariant-loop decreases-loop
-loop-again c =
-    let l = c.before.loop in
-    let s = c.before.before in (
+loop-i-preserved : tie.Need-loop-i-preserved invariant-loop-i decreases-loop-i
+loop-i-preserved c =
+    let l = c.loop-i in (
       omega arith,
-      ap (λ (x : List ℕ). set x l.i 0) l.invariant.1 ∙ fill_more l.i 0 s.args.row.now (omega arith),
+      ap (λ (x : List ℕ). set x l.i 0) l.invariant.1 ∙ fill_more l.i 0 c.args.row.now (omega arith),
       length-set l.row l.i 0 ∙ l.invariant.2,
     )
 
-same_length : tie.Need-same-length invariant-loop decreases-loop
-same_length c = search rules
+shape_of-row : tie.Need-shape_of-row invariant-loop-i decreases-loop-i
+shape_of-row c = search rules
 
-returns : tie.Need-returns invariant-loop decreases-loop
+returns : tie.Need-returns invariant-loop-i decreases-loop-i
 returns c =
-    let l = c.before.loop in
-    let s = c.before.before in
-    let whole : l.i ≡ length s.args.row.now = omega arith in
+    let l = c.loop-i in
+    let whole : l.i ≡ length c.args.row.now = omega arith in
     l.invariant.1
-    ∙ ap (λ (k : ℕ). replicate k 0 ++ drop k s.args.row.now) whole
-    ∙ ap (λ (x : List ℕ). replicate (length s.args.row.now) 0 ++ x) (drop-length s.args.row.now)
-    ∙ append-nil (replicate (length s.args.row.now) 0)
+    ∙ ap (λ (k : ℕ). replicate k 0 ++ drop k c.args.row.now) whole
+    ∙ ap (λ (x : List ℕ). replicate (length c.args.row.now) 0 ++ x) (drop-length c.args.row.now)
+    ∙ append-nil (replicate (length c.args.row.now) 0)
 
 pub clear_spec : {M : Type 1} → statement M
 clear_spec =
     tie.close
     (tie.spec
-    invariant-loop
-    decreases-loop
-    loop-holds
-    mul-row
-    slice-write-row
-    add-i
-    loop-less
-    loop-again
-    same_length
+    invariant-loop-i
+    decreases-loop-i
+    loop-i-init
+    offset_bounds-row-i
+    bounds-row-i
+    overflow_add-i
+    loop-i-smaller
+    loop-i-preserved
+    shape_of-row
     returns)

@@ -4,61 +4,60 @@ use borrow.Author.Rules.{rules}
 use Rattle.change_rows.proofs.words.replaced.Statement.{statement}
 use Rattle.change_rows.proofs.words.replaced.Tie as tie
 
-sub-append : tie.Need-overflow-sub-append
-sub-append c = search rules
+slice_bounds-append-count : tie.Need-slice_bounds-append-count
+slice_bounds-append-count c = search rules
 
-part-append-start : tie.Need-slice-bounds-append-start
-part-append-start c = search rules
+slice_bounds-append-start : tie.Need-slice_bounds-append-start
+slice_bounds-append-start c = search rules
 
-part-append-end : tie.Need-slice-bounds-append-end
-part-append-end c = search rules
+slice_bounds-append-end : tie.Need-slice_bounds-append-end
+slice_bounds-append-end c = search rules
+
+append-before-requires : tie.Need-append-before-requires
+append-before-requires c κs = search rules
+
+append-middle-requires : tie.Need-append-middle-requires
+append-middle-requires c κs = search rules
+
+offset_bounds-part-to : tie.Need-offset_bounds-part-to
+offset_bounds-part-to c = search rules
+
+slice_bounds-append-count-2 : tie.Need-slice_bounds-append-count-2
+slice_bounds-append-count-2 c = search rules
+
+slice_bounds-append-start-2 : tie.Need-slice_bounds-append-start-2
+slice_bounds-append-start-2 c = search rules
+
+slice_bounds-append-end-2 : tie.Need-slice_bounds-append-end-2
+slice_bounds-append-end-2 c = search rules
 
 append-requires : tie.Need-append-requires
 append-requires c κs = search rules
 
-append-requires-2 : tie.Need-append-requires-2
-append-requires-2 c κs = search rules
-
-mul-append : tie.Need-overflow-mul-append
-mul-append c = search rules
-
-sub-append-2 : tie.Need-overflow-sub-append-2
-sub-append-2 c = search rules
-
-part-append-start-2 : tie.Need-slice-bounds-append-start-2
-part-append-start-2 c = search rules
-
-part-append-end-2 : tie.Need-slice-bounds-append-end-2
-part-append-end-2 c = search rules
-
-append-requires-3 : tie.Need-append-requires-3
-append-requires-3 c κs = search rules
-
-same_length : tie.Need-same-length
-same_length c = search rules
+shape_of-row : tie.Need-shape_of-row
+shape_of-row c = search rules
 
 returns : tie.Need-returns
 returns c =
-    let s = c.before.before.before.before.before.before.before.before.before.before.before.before.before.before.before.before.before in
-    let one = c.before.before.before.before.before.before.before.before.before.before.before.append in
-    let two = c.before.before.before.before.before.before.before.append2 in
-    let three = c.before.before.append3 in
-    replaced_held s.args.part.now s.args.others.now one.new.0 two.new.0 three.new.0 s.args.from s.args.to one.result
-    two.result three.result s.requires.1 s.requires.2 one.ensures two.ensures three.ensures
+    let one = c.append-before in
+    let two = c.append-middle in
+    let three = c.append in
+    replaced_held c.args.part.now c.args.others.now one.new.row two.new.row three.new.row c.args.from c.args.to one.result
+    two.result three.result c.requires.1 c.requires.2 one.ensures two.ensures three.ensures
 
 pub replaced_spec : {M : Type 1} → statement M
 replaced_spec =
     tie.close
     (tie.spec
-    sub-append
-    part-append-start
-    part-append-end
+    slice_bounds-append-count
+    slice_bounds-append-start
+    slice_bounds-append-end
+    append-before-requires
+    append-middle-requires
+    offset_bounds-part-to
+    slice_bounds-append-count-2
+    slice_bounds-append-start-2
+    slice_bounds-append-end-2
     append-requires
-    append-requires-2
-    mul-append
-    sub-append-2
-    part-append-start-2
-    part-append-end-2
-    append-requires-3
-    same_length
+    shape_of-row
     returns)

@@ -7,35 +7,32 @@ use borrow.Author.Rules.{rules}
 use Rattle.change_siblings.proofs.together.gather_leaves.Statement.{statement}
 use Rattle.change_siblings.proofs.together.gather_leaves.Tie as tie
 
-insert-leaf-requires : tie.Need-insert-leaf-requires
-insert-leaf-requires c κs =
-    let s = c.before.before.before.before.before.before in
-    (none_rows _ _ s.requires.3 s.requires.4, s.requires.1, omega (arith, s.requires.2))
+insert_leaf-right-requires : tie.Need-insert_leaf-right-requires
+insert_leaf-right-requires c κs =
+    (none_rows _ _ c.requires.3 c.requires.4, c.requires.1, omega (arith, c.requires.2))
 
-insert-leaf-requires-2 : tie.Need-insert-leaf-requires-2
-insert-leaf-requires-2 c κs =
-    let s = c.before.before.before.before.before.before.before.before.before.before.before.before.before in
-    let g = c.before.before.before.before.before.before.insert-leaf in (
-      gathered_rows g.new.0 g.new.1.0 g.result _ _ (g.auto.0 ∙ s.requires.3) (g.auto.1.0 ∙ s.requires.4) g.ensures,
-      s.requires.0,
-      omega (arith, g.ensures.counted, s.requires.2),
+insert_leaf-all-requires : tie.Need-insert_leaf-all-requires
+insert_leaf-all-requires c κs =
+    let g = c.insert_leaf-right in (
+      gathered_rows g.new.keys g.new.values g.result _ _ (g.auto.keys ∙ c.requires.3) (g.auto.values ∙ c.requires.4) g.ensures,
+      c.requires.0,
+      omega (arith, g.ensures.counted, c.requires.2),
     )
 
-same_length : tie.Need-same-length
-same_length c = search rules
+shape_of-keys : tie.Need-shape_of-keys
+shape_of-keys c = search rules
 
-same-length-2 : tie.Need-same-length-2
-same-length-2 c = search rules
+shape_of-beside : tie.Need-shape_of-beside
+shape_of-beside c = search rules
 
 returns : tie.Need-returns
 returns c =
-    let s = c.before.before.before.before.before.before.before.before.before.before.before.before.before.before.before.before.before.before in
-    let g = c.before.before.before.before.before.before.before.before.before.before.before.insert-leaf in
-    let h = c.before.before.before.before.insert-leaf2 in
-    leaves_held s.args.x.now s.args.y.now s.args.keys.now s.args.beside.now g.new.0 g.new.1.0 h.new.0 h.new.1.0
-    g.result h.result (h.auto.0 ∙ g.auto.0 ∙ s.requires.3) (h.auto.1.0 ∙ g.auto.1.0 ∙ s.requires.4) s.requires.2 g.ensures h.ensures
+    let g = c.insert_leaf-right in
+    let h = c.insert_leaf-all in
+    leaves_held c.args.x.now c.args.y.now c.args.keys.now c.args.beside.now g.new.keys g.new.values h.new.keys h.new.values
+    g.result h.result (h.auto.keys ∙ g.auto.keys ∙ c.requires.3) (h.auto.values ∙ g.auto.values ∙ c.requires.4) c.requires.2 g.ensures h.ensures
 
 pub gather_leaves_spec : {M : Type 1} → statement M
 gather_leaves_spec =
     tie.close
-    (tie.spec insert-leaf-requires insert-leaf-requires-2 same_length same-length-2 returns)
+    (tie.spec insert_leaf-right-requires insert_leaf-all-requires shape_of-keys shape_of-beside returns)

@@ -17,202 +17,194 @@ use Rattle.change_siblings.proofs.together.gather_siblings.Statement.{statement}
 use Rattle.change_siblings.proofs.together.gather_siblings.Tie as tie
 
 -- child and sibling are among the parent's children
-beside : (c : tie.After-left-sibling) → suc c.left-sibling.result < length (children c.before.Node-at.result.now)
-beside c = let s = c.before.before.before.before.before in omega (arith, c.left-sibling.ensures, ap (λ (l : List ℕ). length (children l)) c.before.Node-at.ensures, s.requires.0.beside)
+beside : (c : tie.After-left_sibling-j) → suc c.left_sibling-j.result < length (children c.node_at-parent.result.now)
+beside c = omega (arith, c.left_sibling-j.ensures, ap (λ (l : List ℕ). length (children l)) c.node_at-parent.ensures, c.requires.0.beside)
 
-few : (c : tie.After-left-sibling) → c.left-sibling.result < 10
-few c = omega (arith, beside (c), children_le c.before.Node-at.result.now)
+few : (c : tie.After-left_sibling-j) → c.left_sibling-j.result < 10
+few c = omega (arith, beside (c), children_le c.node_at-parent.result.now)
 
-words : (c : tie.After-left-sibling) → length c.before.Node-at.result.now ≡ 24
-words c = let s = c.before.before.before.before.before in ap length c.before.Node-at.ensures ∙ parent_words s.args.card.now s.args.p s.requires.0
+words : (c : tie.After-left_sibling-j) → length c.node_at-parent.result.now ≡ 24
+words c = ap length c.node_at-parent.ensures ∙ parent_words c.args.card.now c.args.p c.requires.0
 
 -- the words read are the numbers of the two
-left_read : (c : tie.After-left-sibling) → get_or c.before.Node-at.result.now (12 + c.left-sibling.result) 0
-    ≡ left_number (parent_at c.before.before.before.before.before.args.card.now c.before.before.before.before.before.args.p)
-    c.before.before.before.before.before.args.p
+left_read : (c : tie.After-left_sibling-j) → get_or c.node_at-parent.result.now (12 + c.left_sibling-j.result) 0
+    ≡ left_number (parent_at c.args.card.now c.args.p)
+    c.args.p
 left_read c =
-    child_read _ c.left-sibling.result _ refl (omega (arith, beside (c)))
-    ∙ ap₂ (λ (l : List ℕ) (i : ℕ). get_or (children l) i 0) c.before.Node-at.ensures c.left-sibling.ensures
+    child_read _ c.left_sibling-j.result _ refl (omega (arith, beside (c)))
+    ∙ ap₂ (λ (l : List ℕ) (i : ℕ). get_or (children l) i 0) c.node_at-parent.ensures c.left_sibling-j.ensures
 
-right_read : (c : tie.After-left-sibling) → get_or c.before.Node-at.result.now (13 + c.left-sibling.result) 0
-    ≡ right_number (parent_at c.before.before.before.before.before.args.card.now c.before.before.before.before.before.args.p)
-    c.before.before.before.before.before.args.p
+right_read : (c : tie.After-left_sibling-j) → get_or c.node_at-parent.result.now (13 + c.left_sibling-j.result) 0
+    ≡ right_number (parent_at c.args.card.now c.args.p)
+    c.args.p
 right_read c =
-    child_read _ (suc c.left-sibling.result) _ (omega arith) (beside (c))
-    ∙ ap₂ (λ (l : List ℕ) (i : ℕ). get_or (children l) (suc i) 0) c.before.Node-at.ensures c.left-sibling.ensures
+    child_read _ (suc c.left_sibling-j.result) _ (omega arith) (beside (c))
+    ∙ ap₂ (λ (l : List ℕ) (i : ℕ). get_or (children l) (suc i) 0) c.node_at-parent.ensures c.left_sibling-j.ensures
 
-key_read : (c : tie.After-left-sibling) → get_or c.before.Node-at.result.now (1 + c.left-sibling.result) 0
-    ≡ get_or (routing_keys (parent_at c.before.before.before.before.before.args.card.now c.before.before.before.before.before.args.p))
-    (left_sibling c.before.before.before.before.before.args.p) 0
+key_read : (c : tie.After-left_sibling-j) → get_or c.node_at-parent.result.now (1 + c.left_sibling-j.result) 0
+    ≡ get_or (routing_keys (parent_at c.args.card.now c.args.p))
+    (left_sibling c.args.p) 0
 key_read c =
-    routing_read _ c.left-sibling.result _ (words (c)) refl (beside (c))
-    ∙ ap₂ (λ (l : List ℕ) (i : ℕ). get_or (routing_keys l) i 0) c.before.Node-at.ensures c.left-sibling.ensures
+    routing_read _ c.left_sibling-j.result _ (words (c)) refl (beside (c))
+    ∙ ap₂ (λ (l : List ℕ) (i : ℕ). get_or (routing_keys l) i 0) c.node_at-parent.ensures c.left_sibling-j.ensures
 
 -- and so are the words of the two
-left_is : (c : tie.After-node-at2)
-    → c.node-at2.result.now ≡ left_at c.before.before.before.before.before.before.before.args.card.now
-    c.before.before.before.before.before.before.before.args.p
-left_is c = let s = c.before.before.before.before.before.before.before in c.node-at2.ensures ∙ ap (node_at s.args.card.now) (left_read c.before.before)
+left_is : (c : tie.After-node_at-x)
+    → c.node_at-x.result.now ≡ left_at c.args.card.now
+    c.args.p
+left_is c = c.node_at-x.ensures ∙ ap (node_at c.args.card.now) (left_read c.before.before)
 
-right_is : (c : tie.After-node-at3)
-    → c.node-at3.result.now ≡ right_at c.before.before.before.before.before.before.before.before.before.args.card.now
-    c.before.before.before.before.before.before.before.before.before.args.p
+right_is : (c : tie.After-node_at-y)
+    → c.node_at-y.result.now ≡ right_at c.args.card.now
+    c.args.p
 right_is c =
-    let s = c.before.before.before.before.before.before.before.before.before in
-    c.node-at3.ensures ∙ ap (node_at s.args.card.now) (right_read c.before.before.before.before)
+    c.node_at-y.ensures ∙ ap (node_at c.args.card.now) (right_read c.before.before.before.before)
 
 -- internal nodes
-not_leaves : (c : tie.Else1)
-    → kind_of (left_at c.before.before.before.before.before.before.before.before.before.before.before.args.card.now
-    c.before.before.before.before.before.before.before.before.before.before.before.args.p) ≡ 1 → ⊥
-not_leaves c e = c.if1.false (ap kind_of (left_is c.before.before.before.before) ∙ e)
+not_leaves : (c : tie.Else-x-eq1)
+    → kind_of (left_at c.args.card.now
+    c.args.p) ≡ 1 → ⊥
+not_leaves c e = c.if-x-eq1.false (ap kind_of (left_is c.before.before.before.before) ∙ e)
 
-node-at-requires : tie.Need-node-at-requires
-node-at-requires c κs = search rules
+node_at-parent-requires : tie.Need-node_at-parent-requires
+node_at-parent-requires c κs = search rules
 
-left-sibling-requires : tie.Need-left-sibling-requires
-left-sibling-requires c κs = search rules
+left_sibling-j-requires : tie.Need-left_sibling-j-requires
+left_sibling-j-requires c κs = search rules
 
-add-node-at : tie.Need-overflow-add-node-at
-add-node-at c = omega (arith, few (c))
+overflow_add-j : tie.Need-overflow_add-j
+overflow_add-j c = omega (arith, few (c))
 
-mul-node-at : tie.Need-overflow-mul-node-at
-mul-node-at c = omega (arith, few (c))
+offset_bounds-parent-j : tie.Need-offset_bounds-parent-j
+offset_bounds-parent-j c = omega (arith, few (c))
 
-shared-slice-read-node-at : tie.Need-shared-slice-read-node-at
-shared-slice-read-node-at c = omega (arith, few c.before, words c.before)
+bounds-parent-j : tie.Need-bounds-parent-j
+bounds-parent-j c = omega (arith, few c.before, words c.before)
 
-cast-node-at : tie.Need-overflow-cast-node-at
-cast-node-at c = omega (arith, c.shared-slice-known2.given (12 + c.before.left-sibling.result))
+overflow_cast-parent : tie.Need-overflow_cast-parent
+overflow_cast-parent c = omega (arith, c.shared_slice_known-2-1.given (12 + c.left_sibling-j.result))
 
-node-at-requires-2 : tie.Need-node-at-requires-2
-node-at-requires-2 c κs =
-    let s = c.before.before.before.before.before.before in
+node_at-x-requires : tie.Need-node_at-x-requires
+node_at-x-requires c κs =
     let l = left_read c.before in
-    (omega (arith, l, s.requires.0.left.pos), omega (arith, l, s.requires.0.left.fits, s.requires.0.within.size, s.requires.0.within.few), omega (arith, l, s.requires.0.left.fits))
+    (omega (arith, l, c.requires.0.left.pos), omega (arith, l, c.requires.0.left.fits, c.requires.0.within.size, c.requires.0.within.few), omega (arith, l, c.requires.0.left.fits))
 
-add-node-at-2 : tie.Need-overflow-add-node-at-2
-add-node-at-2 c = omega (arith, few c.before.before)
+overflow_add-j-2 : tie.Need-overflow_add-j-2
+overflow_add-j-2 c = omega (arith, few c.before.before)
 
-mul-node-at-2 : tie.Need-overflow-mul-node-at-2
-mul-node-at-2 c = omega (arith, few c.before.before)
+offset_bounds-parent-j-2 : tie.Need-offset_bounds-parent-j-2
+offset_bounds-parent-j-2 c = omega (arith, few c.before.before)
 
-shared-slice-read-node-at-2 : tie.Need-shared-slice-read-node-at-2
-shared-slice-read-node-at-2 c = omega (arith, few c.before.before.before, words c.before.before.before)
+bounds-parent-j-2 : tie.Need-bounds-parent-j-2
+bounds-parent-j-2 c = omega (arith, few c.before.before.before, words c.before.before.before)
 
-cast-node-at-2 : tie.Need-overflow-cast-node-at-2
-cast-node-at-2 c = omega (arith, c.shared-slice-known3.given (13 + c.before.before.before.left-sibling.result))
+overflow_cast-parent-2 : tie.Need-overflow_cast-parent-2
+overflow_cast-parent-2 c = omega (arith, c.shared_slice_known-3-1.given (13 + c.left_sibling-j.result))
 
-node-at-requires-3 : tie.Need-node-at-requires-3
-node-at-requires-3 c κs =
-    let s = c.before.before.before.before.before.before.before.before in
+node_at-y-requires : tie.Need-node_at-y-requires
+node_at-y-requires c κs =
     let l = right_read c.before.before.before in
-    (omega (arith, l, s.requires.0.right.pos), omega (arith, l, s.requires.0.right.fits, s.requires.0.within.size, s.requires.0.within.few), omega (arith, l, s.requires.0.right.fits))
+    (omega (arith, l, c.requires.0.right.pos), omega (arith, l, c.requires.0.right.fits, c.requires.0.within.size, c.requires.0.within.few), omega (arith, l, c.requires.0.right.fits))
 
-shared-slice-read-if1 : tie.Need-shared-slice-read-if1
-shared-slice-read-if1 c =
-    let s = c.before.before.before.before.before.before.before.before.before.before in
-    omega (arith, ap length (left_is c.before.before.before) ∙ left_words_lem s.args.card.now s.args.p s.requires.0)
+bounds-x-0 : tie.Need-bounds-x-0
+bounds-x-0 c =
+    omega (arith, ap length (left_is c.before.before.before) ∙ left_words_lem c.args.card.now c.args.p c.requires.0)
 
-gather-leaves-requires : tie.Need-gather-leaves-requires
-gather-leaves-requires c κs =
-    let s = c.before.before.before.before.before.before.before.before.before.before.before.before.before in
-    let k = sym (ap kind_of (left_is c.before.before.before.before.before.before)) ∙ c.before.before.if1.true in (
-      ap length (left_is c.before.before.before.before.before.before) ∙ left_words_lem s.args.card.now s.args.p s.requires.0,
-      ap length (right_is c.before.before.before.before) ∙ right_words_lem s.args.card.now s.args.p s.requires.0,
+gather_leaves-requires : tie.Need-gather_leaves-requires
+gather_leaves-requires c κs =
+    let k = sym (ap kind_of (left_is c.before.before.before.before.before.before)) ∙ c.if-x-eq1.true in (
+      ap length (left_is c.before.before.before.before.before.before) ∙ left_words_lem c.args.card.now c.args.p c.requires.0,
+      ap length (right_is c.before.before.before.before) ∙ right_words_lem c.args.card.now c.args.p c.requires.0,
       omega (
         arith,
         ap (λ (l : List ℕ). length (leaf_pairs l)) (left_is c.before.before.before.before.before.before),
         ap (λ (l : List ℕ). length (leaf_pairs l)) (right_is c.before.before.before.before),
-        leaves_counted (left_at s.args.card.now s.args.p) (right_at s.args.card.now s.args.p) k,
-        s.requires.0.few,
+        leaves_counted (left_at c.args.card.now c.args.p) (right_at c.args.card.now c.args.p) k,
+        c.requires.0.few,
       ),
-      s.requires.1,
-      s.requires.2,
+      c.requires.1,
+      c.requires.2,
     )
 
-add-gather-inners : tie.Need-overflow-add-gather-inners
-add-gather-inners c = search rules
+overflow_add-j-else-x-eq1 : tie.Need-overflow_add-j-else-x-eq1
+overflow_add-j-else-x-eq1 c = search rules
 
-mul-gather-inners : tie.Need-overflow-mul-gather-inners
-mul-gather-inners c = omega (arith, few c.before.before.before.before.before.before)
+offset_bounds-parent-j-else-x-eq1 : tie.Need-offset_bounds-parent-j-else-x-eq1
+offset_bounds-parent-j-else-x-eq1 c = omega (arith, few c.before.before.before.before.before.before)
 
-shared-slice-read-gather-inners : tie.Need-shared-slice-read-gather-inners
-shared-slice-read-gather-inners c = omega (arith, few c.before.before.before.before.before.before.before, words c.before.before.before.before.before.before.before)
+bounds-parent-j-else-x-eq1 : tie.Need-bounds-parent-j-else-x-eq1
+bounds-parent-j-else-x-eq1 c = omega (arith, few c.before.before.before.before.before.before.before, words c.before.before.before.before.before.before.before)
 
-gather-inners-requires : tie.Need-gather-inners-requires
-gather-inners-requires c κs =
-    let s = c.before.before.before.before.before.before.before.before.before.before.before.before.before.before in
+gather_inners-requires : tie.Need-gather_inners-requires
+gather_inners-requires c κs =
     let k = not_leaves c.before.before.before in
-    let some = s.requires.0.inner k in
+    let some = c.requires.0.inner k in
     let l = ap (λ (x : List ℕ). length (children x)) (left_is c.before.before.before.before.before.before.before) in
     let r = ap (λ (x : List ℕ). length (children x)) (right_is c.before.before.before.before.before) in (
-      ap length (left_is c.before.before.before.before.before.before.before) ∙ left_words_lem s.args.card.now s.args.p s.requires.0,
-      ap length (right_is c.before.before.before.before.before) ∙ right_words_lem s.args.card.now s.args.p s.requires.0,
+      ap length (left_is c.before.before.before.before.before.before.before) ∙ left_words_lem c.args.card.now c.args.p c.requires.0,
+      ap length (right_is c.before.before.before.before.before) ∙ right_words_lem c.args.card.now c.args.p c.requires.0,
       omega (arith, l, some.0),
       omega (arith, r, some.1),
-      omega (arith, l, r, inners_counted (left_at s.args.card.now s.args.p) (right_at s.args.card.now s.args.p) k, s.requires.0.few),
-      s.requires.1,
-      s.requires.2,
+      omega (arith, l, r, inners_counted (left_at c.args.card.now c.args.p) (right_at c.args.card.now c.args.p) k, c.requires.0.few),
+      c.requires.1,
+      c.requires.2,
     )
 
-same_length : tie.Need-same-length
-same_length c = search rules
+shape_of-keys-then-x-eq1 : tie.Need-shape_of-keys-then-x-eq1
+shape_of-keys-then-x-eq1 c = search rules
 
-same-length-2 : tie.Need-same-length-2
-same-length-2 c = search rules
+shape_of-beside-then-x-eq1 : tie.Need-shape_of-beside-then-x-eq1
+shape_of-beside-then-x-eq1 c = search rules
 
-returns : tie.Need-returns
-returns c =
-    let s = c.before.before.before.before.before.before.before.before.before.before.before.before.before.before.before.before.before.before in
+returns-then-x-eq1 : tie.Need-returns-then-x-eq1
+returns-then-x-eq1 c =
     let k = sym (ap kind_of (left_is c.before.before.before.before.before.before.before.before.before.before.before))
-    ∙ c.before.before.before.before.before.before.before.if1.true in
+    ∙ c.if-x-eq1.true in
     held_as _ _ _
     (ap₂ leaves_together (left_is c.before.before.before.before.before.before.before.before.before.before.before)
     (right_is c.before.before.before.before.before.before.before.before.before)
-    ∙ sym (leaves_together_lem s.args.card.now s.args.p k)) c.before.before.before.before.gather-leaves.ensures
+    ∙ sym (leaves_together_lem c.args.card.now c.args.p k)) c.gather_leaves.ensures
 
-same-length-3 : tie.Need-same-length-3
-same-length-3 c = search rules
+shape_of-keys-else-x-eq1 : tie.Need-shape_of-keys-else-x-eq1
+shape_of-keys-else-x-eq1 c = search rules
 
-same-length-4 : tie.Need-same-length-4
-same-length-4 c = search rules
+shape_of-beside-else-x-eq1 : tie.Need-shape_of-beside-else-x-eq1
+shape_of-beside-else-x-eq1 c = search rules
 
-returns-2 : tie.Need-returns-2
-returns-2 c =
-    let s = c.before.before.before.before.before.before.before.before.before.before.before.before.before.before.before.before.before.before.before in
+returns-else-x-eq1 : tie.Need-returns-else-x-eq1
+returns-else-x-eq1 c =
     let k = not_leaves c.before.before.before.before.before.before.before.before in
     held_as _ _ _
     (inners_read (left_is c.before.before.before.before.before.before.before.before.before.before.before.before)
     (key_read c.before.before.before.before.before.before.before.before.before.before.before.before.before.before)
     (right_is c.before.before.before.before.before.before.before.before.before.before)
-    ∙ sym (inners_together_lem s.args.card.now s.args.p k)) c.before.before.before.before.gather-inners.ensures
+    ∙ sym (inners_together_lem c.args.card.now c.args.p k)) c.gather_inners.ensures
 
 pub gather_siblings_spec : {M : Type 1} → statement M
 gather_siblings_spec =
     tie.close
     (tie.spec
-    node-at-requires
-    left-sibling-requires
-    add-node-at
-    mul-node-at
-    shared-slice-read-node-at
-    cast-node-at
-    node-at-requires-2
-    add-node-at-2
-    mul-node-at-2
-    shared-slice-read-node-at-2
-    cast-node-at-2
-    node-at-requires-3
-    shared-slice-read-if1
-    gather-leaves-requires
-    add-gather-inners
-    mul-gather-inners
-    shared-slice-read-gather-inners
-    gather-inners-requires
-    same_length
-    same-length-2
-    returns
-    same-length-3
-    same-length-4
-    returns-2)
+    node_at-parent-requires
+    left_sibling-j-requires
+    overflow_add-j
+    offset_bounds-parent-j
+    bounds-parent-j
+    overflow_cast-parent
+    node_at-x-requires
+    overflow_add-j-2
+    offset_bounds-parent-j-2
+    bounds-parent-j-2
+    overflow_cast-parent-2
+    node_at-y-requires
+    bounds-x-0
+    gather_leaves-requires
+    overflow_add-j-else-x-eq1
+    offset_bounds-parent-j-else-x-eq1
+    bounds-parent-j-else-x-eq1
+    gather_inners-requires
+    shape_of-keys-then-x-eq1
+    shape_of-beside-then-x-eq1
+    returns-then-x-eq1
+    shape_of-keys-else-x-eq1
+    shape_of-beside-else-x-eq1
+    returns-else-x-eq1)

@@ -18,86 +18,85 @@ use borrow.Author.Rules.{rules}
 use Rattle.change_split.proofs.split.lay_under.Statement.{statement}
 use Rattle.change_split.proofs.split.lay_under.Tie as tie
 
-write-halves-requires : tie.Need-write-halves-requires
-write-halves-requires c κs = search rules
+write_halves-requires : tie.Need-write_halves-requires
+write_halves-requires c κs = search rules
 
-key-between-requires : tie.Need-key-between-requires
-key-between-requires c κs = search rules
+key_between-requires : tie.Need-key_between-requires
+key_between-requires c κs = search rules
 
-sub-write-node : tie.Need-overflow-sub-write-node
-sub-write-node c = search rules
+slice_bounds-write_node-count : tie.Need-slice_bounds-write_node-count
+slice_bounds-write_node-count c = search rules
 
-part-write-node-start : tie.Need-slice-bounds-write-node-start
-part-write-node-start c = search rules
+slice_bounds-write_node-start : tie.Need-slice_bounds-write_node-start
+slice_bounds-write_node-start c = search rules
 
-part-write-node-end : tie.Need-slice-bounds-write-node-end
-part-write-node-end c = search rules
+slice_bounds-write_node-end : tie.Need-slice_bounds-write_node-end
+slice_bounds-write_node-end c = search rules
 
-kind-above-requires : tie.Need-kind-above-requires
-kind-above-requires c κs = search rules
+kind_above-requires : tie.Need-kind_above-requires
+kind_above-requires c κs = search rules
 
-slice-aggregate-write-node : tie.Need-slice-aggregate-write-node
-slice-aggregate-write-node c = search rules
+slice_bounds-write_node-end-2 : tie.Need-slice_bounds-write_node-end-2
+slice_bounds-write_node-end-2 c = search rules
 
-sub-write-node-2 : tie.Need-overflow-sub-write-node-2
-sub-write-node-2 c = search rules
+slice_bounds-write_node-count-2 : tie.Need-slice_bounds-write_node-count-2
+slice_bounds-write_node-count-2 c = search rules
 
-part-write-node-start-2 : tie.Need-slice-bounds-write-node-start-2
-part-write-node-start-2 c = search rules
+slice_bounds-write_node-start-2 : tie.Need-slice_bounds-write_node-start-2
+slice_bounds-write_node-start-2 c = search rules
 
-part-write-node-end-2 : tie.Need-slice-bounds-write-node-end-2
-part-write-node-end-2 c = search rules
+slice_bounds-write_node-end-3 : tie.Need-slice_bounds-write_node-end-3
+slice_bounds-write_node-end-3 c = search rules
 
-write-node-requires : tie.Need-write-node-requires
-write-node-requires c κs = search rules
+write_node-requires : tie.Need-write_node-requires
+write_node-requires c κs = search rules
 
-array-read-values : tie.Need-array-read-values
-array-read-values c = search rules
+bounds-nodes-2 : tie.Need-bounds-nodes-2
+bounds-nodes-2 c = search rules
 
-slice-write-values : tie.Need-slice-write-values
-slice-write-values c = search rules
+bounds-values-72 : tie.Need-bounds-values-72
+bounds-values-72 c = search rules
 
-same_length : tie.Need-same-length
-same_length c =
-    let w = c.before.before.before.before.before.before.before.before.before.before.before.write-halves in
-    let n = c.before.before.write-node in
-    lent_kept w.new.0 n.new.0 48 24 _ _ n.auto.0 ∙ w.auto.0
+shape_of-values : tie.Need-shape_of-values
+shape_of-values c =
+    let w = c.write_halves in
+    let n = c.write_node in
+    lent_kept w.new.words n.new.words 48 24 _ _ n.auto.words ∙ w.auto.words
 
 returns : tie.Need-returns
 unfolding under change_words change_length halves
 returns c =
-    let s = c.before.before.before.before.before.before.before.before.before.before.before.before.before.before.before.before in
-    let w = c.before.before.before.before.before.before.before.before.before.before.before.write-halves in
-    let n = c.before.before.write-node in
-    let nodes = s.args.t5 in
-    let len : length s.args.t5 ≡ 3 = search rules in
-    let link = s.args.link in
-    let both = together s.args.kind s.args.keys.now s.args.beside.now in
+    let w = c.write_halves in
+    let n = c.write_node in
+    let nodes = c.args.nodes in
+    let len : length c.args.nodes ≡ 3 = search rules in
+    let link = c.args.link in
+    let both = together c.args.kind c.args.keys.now c.args.beside.now in
     words_laid (halves both (get_or nodes 0 0) (get_or nodes 1 0)) (new_node (get_or nodes 2 0) (kind_above link) (key_between both ∷ []) (get_or nodes 0 0 ∷ get_or nodes 1 0 ∷ []))
-    s.args.values.now w.new.0 n.new.0 48 72 (get_or nodes 2 0) refl refl
-    (w.ensures ∙ ap (λ (l : List ℕ). l ++ drop 48 s.args.values.now) (halves_words_lem both (get_or nodes 0 0) (get_or nodes 1 0)))
-    w.auto.0 n.auto.0 (omega (arith, s.requires.1))
+    c.args.values.now w.new.words n.new.words 48 72 (get_or nodes 2 0) refl refl
+    (w.ensures ∙ ap (λ (l : List ℕ). l ++ drop 48 c.args.values.now) (halves_words_lem both (get_or nodes 0 0) (get_or nodes 1 0)))
+    w.auto.words n.auto.words (omega (arith, c.requires.1))
     (n.ensures
-    ∙ ap (λ (k : ℕ). node_image k (c.before.before.before.before.before.before.before.before.key-between.result ∷ []) (take 2 nodes))
-    c.before.before.before.before.before.before.kind-above.ensures
-    ∙ ap₂ (λ (k : ℕ) (l : List ℕ). node_image (kind_above link) (k ∷ []) l) c.before.before.before.before.before.before.before.before.key-between.ensures (take_two nodes len))
+    ∙ ap (λ (k : ℕ). node_image k (c.key_between.result ∷ []) (take 2 nodes))
+    c.kind_above.ensures
+    ∙ ap₂ (λ (k : ℕ) (l : List ℕ). node_image (kind_above link) (k ∷ []) l) c.key_between.ensures (take_two nodes len))
 
 pub lay_under_spec : {M : Type 1} → statement M
 lay_under_spec =
     tie.close
     (tie.spec
-    write-halves-requires
-    key-between-requires
-    sub-write-node
-    part-write-node-start
-    part-write-node-end
-    kind-above-requires
-    slice-aggregate-write-node
-    sub-write-node-2
-    part-write-node-start-2
-    part-write-node-end-2
-    write-node-requires
-    array-read-values
-    slice-write-values
-    same_length
+    write_halves-requires
+    key_between-requires
+    slice_bounds-write_node-count
+    slice_bounds-write_node-start
+    slice_bounds-write_node-end
+    kind_above-requires
+    slice_bounds-write_node-end-2
+    slice_bounds-write_node-count-2
+    slice_bounds-write_node-start-2
+    slice_bounds-write_node-end-3
+    write_node-requires
+    bounds-nodes-2
+    bounds-values-72
+    shape_of-values
     returns)

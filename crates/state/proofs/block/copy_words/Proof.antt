@@ -8,67 +8,65 @@ use Rattle.state.proofs.Rows.{copy_more, copy_all}
 use Rattle.state.proofs.block.copy_words.Statement.{statement}
 use Rattle.state.proofs.block.copy_words.Tie as tie
 
-abbrev invariant-loop : tie.invariant-loop
-invariant-loop to₀ from i₀ to i = (i ≤ length to) × (length to ≡ length to₀) × (take i to ≡ take i from)
+abbrev invariant-loop-i : tie.invariant-loop-i
+invariant-loop-i to₀ from i₀ to i = (i ≤ length to) × (length to ≡ length to₀) × (take i to ≡ take i from)
 
-abbrev decreases-loop : tie.decreases-loop
-decreases-loop to₀ from i₀ to i = length to₀ - i
+abbrev decreases-loop-i : tie.decreases-loop-i
+decreases-loop-i to₀ from i₀ to i = length to₀ - i
 
-loop-holds : tie.Need-loop-init invariant-loop decreases-loop
-loop-holds c = (search rules, refl, refl)
+loop-i-init : tie.Need-loop-i-init invariant-loop-i decreases-loop-i
+loop-i-init c = (search rules, refl, refl)
 
-mul-to : tie.Need-overflow-mul-to invariant-loop decreases-loop
-mul-to c = search rules
+offset_bounds-from-i : tie.Need-offset_bounds-from-i invariant-loop-i decreases-loop-i
+offset_bounds-from-i c = search rules
 
-shared-slice-read-to : tie.Need-shared-slice-read-to invariant-loop decreases-loop
-shared-slice-read-to c = search rules
+bounds-from-i : tie.Need-bounds-from-i invariant-loop-i decreases-loop-i
+bounds-from-i c = search rules
 
-mul-to-2 : tie.Need-overflow-mul-to-2 invariant-loop decreases-loop
-mul-to-2 c = search rules
+offset_bounds-to-i : tie.Need-offset_bounds-to-i invariant-loop-i decreases-loop-i
+offset_bounds-to-i c = search rules
 
-slice-write-to : tie.Need-slice-write-to invariant-loop decreases-loop
-slice-write-to c = search rules
+bounds-to-i : tie.Need-bounds-to-i invariant-loop-i decreases-loop-i
+bounds-to-i c = search rules
 
-add-i : tie.Need-overflow-add-i invariant-loop decreases-loop
-add-i c = search rules
+overflow_add-i : tie.Need-overflow_add-i invariant-loop-i decreases-loop-i
+overflow_add-i c = search rules
 
-loop-less : tie.Need-loop-smaller invariant-loop decreases-loop
-loop-less c = search rules
+loop-i-smaller : tie.Need-loop-i-smaller invariant-loop-i decreases-loop-i
+loop-i-smaller c = search rules
 
-loop-again : tie.Need-loop-preserved invariant-loop decreases-loop
-loop-again c =
-    let s = c.before.before.before in
-    let l = c.before.before.loop in
-    let long = length-set l.to l.i (get_or s.args.from.now l.i 0) in (
-      omega (arith, long, c.before.loop-test.true),
+loop-i-preserved : tie.Need-loop-i-preserved invariant-loop-i decreases-loop-i
+loop-i-preserved c =
+    let l = c.loop-i in
+    let long = length-set l.to l.i (get_or c.args.from.now l.i 0) in (
+      omega (arith, long, c.loop-i-test.true),
       long ∙ l.invariant.1,
-      copy_more l.to s.args.from.now l.i (omega (arith, c.before.loop-test.true)) (omega (arith, c.before.loop-test.true, l.invariant.1, s.requires)) l.invariant.2,
+      copy_more l.to c.args.from.now l.i (omega (arith, c.loop-i-test.true)) (omega (arith, c.loop-i-test.true, l.invariant.1, c.requires)) l.invariant.2,
     )
 
-same_length : tie.Need-same-length invariant-loop decreases-loop
-same_length c = search rules
+shape_of-to : tie.Need-shape_of-to invariant-loop-i decreases-loop-i
+shape_of-to c = search rules
 
-returns : tie.Need-returns invariant-loop decreases-loop
+returns : tie.Need-returns invariant-loop-i decreases-loop-i
 returns c =
-    let s = c.before.before in
-    let l = c.before.loop in
-    let n : ℕ = length s.args.to.now in
-    let e : l.i ≡ n = omega (arith, l.invariant.0, l.invariant.1, c.loop-test.false) in
-    copy_all n l.to s.args.from.now l.invariant.1 (sym s.requires) (rw e at l.invariant.2)
+    let l = c.loop-i in
+    let n : ℕ = length c.args.to.now in
+    let e : l.i ≡ n = omega (arith, l.invariant.0, l.invariant.1, c.loop-i-test.false) in
+    copy_all n l.to c.args.from.now l.invariant.1 (sym c.requires) (rw e at l.invariant.2)
 
 pub copy_words_spec : {M : Type 1} → statement M
 copy_words_spec =
     tie.close
     (tie.spec
-    invariant-loop
-    decreases-loop
-    loop-holds
-    mul-to
-    shared-slice-read-to
-    mul-to-2
-    slice-write-to
-    add-i
-    loop-less
-    loop-again
-    same_length
+    invariant-loop-i
+    decreases-loop-i
+    loop-i-init
+    offset_bounds-from-i
+    bounds-from-i
+    offset_bounds-to-i
+    bounds-to-i
+    overflow_add-i
+    loop-i-smaller
+    loop-i-preserved
+    shape_of-to
     returns)

@@ -9,35 +9,35 @@ use Rattle.state.specs.Block.{doing_in}
 use Rattle.state.proofs.block.doing_in.Statement.{statement}
 use Rattle.state.proofs.block.doing_in.Tie as tie
 
-phase-in-requires : tie.Need-phase-in-requires
-phase-in-requires c κs = search rules
+phase_in-requires : tie.Need-phase_in-requires
+phase_in-requires c κs = search rules
 
-phase-in-requires-2 : tie.Need-phase-in-requires-2
-phase-in-requires-2 c κs = search rules
+phase_in-requires-in-3 : tie.Need-phase_in-requires-in-3
+phase_in-requires-in-3 c κs = search rules
 
-returns : tie.Need-returns
+returns-in-1 : tie.Need-returns-in-1
 unfolding doing_in
-returns c = simp (eq-eqb _ 1 c.match.keys1)
+returns-in-1 c = simp (eq-eqb _ 1 c.in-1.is)
 
-returns-2 : tie.Need-returns-2
+returns-in-2 : tie.Need-returns-in-2
 unfolding doing_in
-returns-2 c =
-    ap (Inserting c.before.before.args.a c.before.before.args.b) c.phase-in.ensures
-    ∙ ap (λ (w : ℕ). doing_in w c.before.before.args.a c.before.before.args.b c.before.before.args.c) (sym c.before.match.keys2)
+returns-in-2 c =
+    ap (Inserting c.args.a c.args.b) c.phase_in.ensures
+    ∙ ap (λ (w : ℕ). doing_in w c.args.a c.args.b c.args.c) (sym c.in-2.is)
 
-returns-3 : tie.Need-returns-3
+returns-in-3 : tie.Need-returns-in-3
 unfolding doing_in
-returns-3 c =
-    ap (λ (p : Phase). Deleting c.before.before.args.a p c.before.before.args.b) c.phase-in2.ensures
-    ∙ ap (λ (w : ℕ). doing_in w c.before.before.args.a c.before.before.args.b c.before.before.args.c) (sym c.before.match.keys3)
+returns-in-3 c =
+    ap (λ (p : Phase). Deleting c.args.a p c.args.b) c.phase_in-in-3.ensures
+    ∙ ap (λ (w : ℕ). doing_in w c.args.a c.args.b c.args.c) (sym c.in-3.is)
 
-returns-4 : tie.Need-returns-4
+returns-in-4 : tie.Need-returns-in-4
 unfolding doing_in
-returns-4 c = ap (λ (w : ℕ). doing_in w c.before.args.a c.before.args.b c.before.args.c) (sym c.match.keys4)
+returns-in-4 c = ap (λ (w : ℕ). doing_in w c.args.a c.args.b c.args.c) (sym c.in-4.is)
 
-returns-5 : tie.Need-returns-5
+returns-in_default : tie.Need-returns-in_default
 unfolding doing_in
-returns-5 c = simp (ne_eqb _ 4 c.match.rest.1, ne_eqb _ 3 c.match.rest.0.1, ne_eqb _ 2 c.match.rest.0.0.1, ne_eqb _ 1 c.match.rest.0.0.0.1)
+returns-in_default c = simp (ne_eqb _ 4 c.in_default.in_default-own.rest.1, ne_eqb _ 3 c.in_default.in_default-own.rest.0.1, ne_eqb _ 2 c.in_default.in_default-own.rest.0.0.1, ne_eqb _ 1 c.in_default.in_default-own.rest.0.0.0.1)
 
 pub doing_in_spec : {M : Type 1} → statement M
-doing_in_spec = tie.close (tie.spec phase-in-requires phase-in-requires-2 returns returns-2 returns-3 returns-4 returns-5)
+doing_in_spec = tie.close (tie.spec phase_in-requires phase_in-requires-in-3 returns-in-1 returns-in-2 returns-in-3 returns-in-4 returns-in_default)

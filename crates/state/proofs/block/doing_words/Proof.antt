@@ -7,64 +7,64 @@ use Rattle.state.specs.Block.{doing_words}
 use Rattle.state.proofs.block.doing_words.Statement.{statement}
 use Rattle.state.proofs.block.doing_words.Tie as tie
 
-enum_told : tie.Need-enum-told
-enum_told c = search rules
+enum_told-1 : tie.Need-enum_told-1
+enum_told-1 c = search rules
 
-enum-known-doing : tie.Need-enum-known-doing
-enum-known-doing c = search rules
+enum_known-doing : tie.Need-enum_known-doing
+enum_known-doing c = search rules
 
-enum-known-doing-2 : tie.Need-enum-known-doing-2
-enum-known-doing-2 c = search rules
+enum_known-doing-in-Inserting-1 : tie.Need-enum_known-doing-in-Inserting-1
+enum_known-doing-in-Inserting-1 c = search rules
 
-phase-word-requires : tie.Need-phase-word-requires
-phase-word-requires c κs = search rules
+phase_word-requires : tie.Need-phase_word-requires
+phase_word-requires c κs = search rules
 
-enum-known-doing-3 : tie.Need-enum-known-doing-3
-enum-known-doing-3 c = search rules
+enum_known-doing-in-Deleting-1 : tie.Need-enum_known-doing-in-Deleting-1
+enum_known-doing-in-Deleting-1 c = search rules
 
-phase-word-requires-2 : tie.Need-phase-word-requires-2
-phase-word-requires-2 c κs = search rules
+phase_word-requires-in-Deleting : tie.Need-phase_word-requires-in-Deleting
+phase_word-requires-in-Deleting c κs = search rules
 
-enum-known-doing-4 : tie.Need-enum-known-doing-4
-enum-known-doing-4 c = search rules
+enum_known-doing-in-Repairing-1 : tie.Need-enum_known-doing-in-Repairing-1
+enum_known-doing-in-Repairing-1 c = search rules
 
-returns : tie.Need-returns
+returns-in-Idle : tie.Need-returns-in-Idle
 unfolding doing_words
-returns c = ap doing_words (sym c.enum_told.given.1)
+returns-in-Idle c = ap doing_words (sym c.in-Idle.is)
 
-returns-2 : tie.Need-returns-2
+returns-in-Formatting : tie.Need-returns-in-Formatting
 unfolding doing_words
-returns-2 c = ap doing_words (sym c.before.doing.given.1)
+returns-in-Formatting c = ap doing_words (sym c.in-Formatting.is)
 
-returns-3 : tie.Need-returns-3
+returns-in-Inserting : tie.Need-returns-in-Inserting
 unfolding doing_words
-returns-3 c =
-    ap (λ (x : ℕ). 2 ∷ c.before.before.doing2.given.0.0 ∷ c.before.before.doing2.given.0.1.0 ∷ x ∷ []) c.phase-word.ensures
-    ∙ ap doing_words (sym c.before.before.doing2.given.1)
+returns-in-Inserting c =
+    ap (λ (x : ℕ). 2 ∷ c.in-Inserting.key ∷ c.in-Inserting.value ∷ x ∷ []) c.phase_word.ensures
+    ∙ ap doing_words (sym c.in-Inserting.is)
 
-returns-4 : tie.Need-returns-4
+returns-in-Deleting : tie.Need-returns-in-Deleting
 unfolding doing_words
-returns-4 c =
-    ap (λ (x : ℕ). 3 ∷ c.before.before.doing3.given.0.0 ∷ c.before.before.doing3.given.0.1.1.0 ∷ x ∷ []) c.phase-word2.ensures
-    ∙ ap doing_words (sym c.before.before.doing3.given.1)
+returns-in-Deleting c =
+    ap (λ (x : ℕ). 3 ∷ c.in-Deleting.key ∷ c.in-Deleting.value ∷ x ∷ []) c.phase_word-in-Deleting.ensures
+    ∙ ap doing_words (sym c.in-Deleting.is)
 
-returns-5 : tie.Need-returns-5
+returns-in-Repairing : tie.Need-returns-in-Repairing
 unfolding doing_words
-returns-5 c = ap doing_words (sym c.before.doing4.given.1)
+returns-in-Repairing c = ap doing_words (sym c.in-Repairing.is)
 
 pub doing_words_spec : {M : Type 1} → statement M
 doing_words_spec =
     tie.close
     (tie.spec
-    enum_told
-    enum-known-doing
-    enum-known-doing-2
-    phase-word-requires
-    enum-known-doing-3
-    phase-word-requires-2
-    enum-known-doing-4
-    returns
-    returns-2
-    returns-3
-    returns-4
-    returns-5)
+    enum_told-1
+    enum_known-doing
+    enum_known-doing-in-Inserting-1
+    phase_word-requires
+    enum_known-doing-in-Deleting-1
+    phase_word-requires-in-Deleting
+    enum_known-doing-in-Repairing-1
+    returns-in-Idle
+    returns-in-Formatting
+    returns-in-Inserting
+    returns-in-Deleting
+    returns-in-Repairing)

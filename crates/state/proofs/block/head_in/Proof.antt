@@ -5,78 +5,76 @@ use borrow.Author.Rules.{rules}
 use Rattle.state.proofs.block.head_in.Statement.{statement}
 use Rattle.state.proofs.block.head_in.Tie as tie
 
-shared-slice-read-t3 : tie.Need-shared-slice-read-t3
-shared-slice-read-t3 c = search rules
+bounds-block-0 : tie.Need-bounds-block-0
+bounds-block-0 c = search rules
 
-shared-slice-read-t5 : tie.Need-shared-slice-read-t5
-shared-slice-read-t5 c = search rules
+bounds-block-1 : tie.Need-bounds-block-1
+bounds-block-1 c = search rules
 
-shared-slice-read-doing-in : tie.Need-shared-slice-read-doing-in
-shared-slice-read-doing-in c = search rules
+bounds-block-2 : tie.Need-bounds-block-2
+bounds-block-2 c = search rules
 
-shared-slice-read-doing-in-2 : tie.Need-shared-slice-read-doing-in-2
-shared-slice-read-doing-in-2 c = search rules
+bounds-block-3 : tie.Need-bounds-block-3
+bounds-block-3 c = search rules
 
-shared-slice-read-doing-in-3 : tie.Need-shared-slice-read-doing-in-3
-shared-slice-read-doing-in-3 c = search rules
+bounds-block-4 : tie.Need-bounds-block-4
+bounds-block-4 c = search rules
 
-shared-slice-read-doing-in-4 : tie.Need-shared-slice-read-doing-in-4
-shared-slice-read-doing-in-4 c = search rules
+bounds-block-5 : tie.Need-bounds-block-5
+bounds-block-5 c = search rules
 
-doing-in-requires : tie.Need-doing-in-requires
-doing-in-requires c κs = search rules
+doing_in-requires : tie.Need-doing_in-requires
+doing_in-requires c κs = search rules
 
-shared-slice-read-t16 : tie.Need-shared-slice-read-t16
-shared-slice-read-t16 c = search rules
+bounds-block-6 : tie.Need-bounds-block-6
+bounds-block-6 c = search rules
 
-shared-slice-read-t18 : tie.Need-shared-slice-read-t18
-shared-slice-read-t18 c = search rules
+bounds-block-7 : tie.Need-bounds-block-7
+bounds-block-7 c = search rules
 
-shared-slice-read-t20 : tie.Need-shared-slice-read-t20
-shared-slice-read-t20 c = search rules
+bounds-block-8 : tie.Need-bounds-block-8
+bounds-block-8 c = search rules
 
-add-t21 : tie.Need-overflow-add-t21
-add-t21 c = search rules
+overflow_add-result : tie.Need-overflow_add-result
+overflow_add-result c = search rules
 
-mul-t22 : tie.Need-overflow-mul-t22
-mul-t22 c = search rules
+offset_bounds-block : tie.Need-offset_bounds-block
+offset_bounds-block c = search rules
 
-shared-slice-read-t24 : tie.Need-shared-slice-read-t24
-shared-slice-read-t24 c = search rules
+bounds-block : tie.Need-bounds-block
+bounds-block c = search rules
 
-add-t25 : tie.Need-overflow-add-t25
-add-t25 c = search rules
+overflow_add-result-2 : tie.Need-overflow_add-result-2
+overflow_add-result-2 c = search rules
 
-mul-t26 : tie.Need-overflow-mul-t26
-mul-t26 c = search rules
+offset_bounds-block-2 : tie.Need-offset_bounds-block-2
+offset_bounds-block-2 c = search rules
 
-shared-slice-read-t28 : tie.Need-shared-slice-read-t28
-shared-slice-read-t28 c = search rules
+bounds-block-9 : tie.Need-bounds-block-9
+bounds-block-9 c = search rules
 
 returns : tie.Need-returns
 returns c =
-    let s = c.before.before.before.before.before.before.before.before.before.before.before.before.before in
-    let d = c.before.before.before.before.before in
-    head_read s.args.block.now d.doing-in.result (omega (arith, s.requires)) d.doing-in.ensures
+    head_read c.args.block.now c.doing_in.result (omega (arith, c.requires)) c.doing_in.ensures
 
 pub head_in_spec : {M : Type 1} → statement M
 head_in_spec =
     tie.close
     (tie.spec
-    shared-slice-read-t3
-    shared-slice-read-t5
-    shared-slice-read-doing-in
-    shared-slice-read-doing-in-2
-    shared-slice-read-doing-in-3
-    shared-slice-read-doing-in-4
-    doing-in-requires
-    shared-slice-read-t16
-    shared-slice-read-t18
-    shared-slice-read-t20
-    add-t21
-    mul-t22
-    shared-slice-read-t24
-    add-t25
-    mul-t26
-    shared-slice-read-t28
+    bounds-block-0
+    bounds-block-1
+    bounds-block-2
+    bounds-block-3
+    bounds-block-4
+    bounds-block-5
+    doing_in-requires
+    bounds-block-6
+    bounds-block-7
+    bounds-block-8
+    overflow_add-result
+    offset_bounds-block
+    bounds-block
+    overflow_add-result-2
+    offset_bounds-block-2
+    bounds-block-9
     returns)

@@ -5,17 +5,17 @@ use Rattle.state.specs.Block.{phase_in}
 use Rattle.state.proofs.block.phase_in.Statement.{statement}
 use Rattle.state.proofs.block.phase_in.Tie as tie
 
-returns : tie.Need-returns
+returns-in-0 : tie.Need-returns-in-0
 unfolding phase_in
-returns c = ap phase_in (sym c.match.keys1)
+returns-in-0 c = ap phase_in (sym c.in-0.is)
 
-returns-2 : tie.Need-returns-2
+returns-in-1 : tie.Need-returns-in-1
 unfolding phase_in
-returns-2 c = ap phase_in (sym c.match.keys2)
+returns-in-1 c = ap phase_in (sym c.in-1.is)
 
-returns-3 : tie.Need-returns-3
+returns-in_default : tie.Need-returns-in_default
 unfolding phase_in
-returns-3 c = simp (ne_eqb _ 1 c.match.rest.1, ne_eqb _ 0 c.match.rest.0.1)
+returns-in_default c = simp (ne_eqb _ 1 c.in_default.in_default-own.rest.1, ne_eqb _ 0 c.in_default.in_default-own.rest.0.1)
 
 pub phase_in_spec : {M : Type 1} → statement M
-phase_in_spec = tie.close (tie.spec returns returns-2 returns-3)
+phase_in_spec = tie.close (tie.spec returns-in-0 returns-in-1 returns-in_default)

@@ -5,26 +5,26 @@ use Rattle.state.specs.Block.{phase_word}
 use Rattle.state.proofs.block.phase_word.Statement.{statement}
 use Rattle.state.proofs.block.phase_word.Tie as tie
 
-enum_told : tie.Need-enum-told
-enum_told c = search rules
+enum_told-1 : tie.Need-enum_told-1
+enum_told-1 c = search rules
 
-enum-told-2 : tie.Need-enum-told-2
-enum-told-2 c = search rules
+enum_told-in-InHand : tie.Need-enum_told-in-InHand
+enum_told-in-InHand c = search rules
 
-enum-told-3 : tie.Need-enum-told-3
-enum-told-3 c = search rules
+enum_told-in-Decided : tie.Need-enum_told-in-Decided
+enum_told-in-Decided c = search rules
 
-returns : tie.Need-returns
+returns-in-NotBegun : tie.Need-returns-in-NotBegun
 unfolding phase_word
-returns c = ap phase_word (sym c.enum_told.given.1)
+returns-in-NotBegun c = ap phase_word (sym c.in-NotBegun.is)
 
-returns-2 : tie.Need-returns-2
+returns-in-InHand : tie.Need-returns-in-InHand
 unfolding phase_word
-returns-2 c = ap phase_word (sym c.enum-told2.given.1)
+returns-in-InHand c = ap phase_word (sym c.in-InHand.is)
 
-returns-3 : tie.Need-returns-3
+returns-in-Decided : tie.Need-returns-in-Decided
 unfolding phase_word
-returns-3 c = ap phase_word (sym c.enum-told3.given.1)
+returns-in-Decided c = ap phase_word (sym c.in-Decided.is)
 
 pub phase_word_spec : {M : Type 1} → statement M
-phase_word_spec = tie.close (tie.spec enum_told enum-told-2 enum-told-3 returns returns-2 returns-3)
+phase_word_spec = tie.close (tie.spec enum_told-1 enum_told-in-InHand enum_told-in-Decided returns-in-NotBegun returns-in-InHand returns-in-Decided)

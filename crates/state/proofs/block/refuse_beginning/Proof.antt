@@ -11,28 +11,27 @@ use borrow.Author.Rules.{rules}
 use Rattle.state.proofs.block.refuse_beginning.Statement.{statement}
 use Rattle.state.proofs.block.refuse_beginning.Tie as tie
 
-sub-clear-words : tie.Need-overflow-sub-clear-words
-sub-clear-words c = search rules
+slice_bounds-clear_words-count : tie.Need-slice_bounds-clear_words-count
+slice_bounds-clear_words-count c = search rules
 
-part-clear-words-start : tie.Need-slice-bounds-clear-words-start
-part-clear-words-start c = search rules
+slice_bounds-clear_words-start : tie.Need-slice_bounds-clear_words-start
+slice_bounds-clear_words-start c = search rules
 
-part-clear-words-end : tie.Need-slice-bounds-clear-words-end
-part-clear-words-end c = search rules
+slice_bounds-clear_words-end : tie.Need-slice_bounds-clear_words-end
+slice_bounds-clear_words-end c = search rules
 
-clear-words-requires : tie.Need-clear-words-requires
-clear-words-requires c κs = search rules
+clear_words-requires : tie.Need-clear_words-requires
+clear_words-requires c κs = search rules
 
-same_length : tie.Need-same-length
-same_length c = search rules
+shape_of-block : tie.Need-shape_of-block
+shape_of-block c = search rules
 
 returns : tie.Need-returns
 unfolding no_beginning
 returns c =
-    let s = c.before.before.before.before.before in
-    let block = s.args.block.now in
-    let long : length (take back_at block) ≡ back_at = omega (arith, length-take back_at block, s.requires) in
-    let zeros : c.before.before.clear-words.new.0 ≡ replicate back_at 0 = c.before.before.clear-words.ensures ∙ ap (λ (k : ℕ). replicate k 0) long in
+    let block = c.args.block.now in
+    let long : length (take back_at block) ≡ back_at = omega (arith, length-take back_at block, c.requires) in
+    let zeros : c.clear_words.new.words ≡ replicate back_at 0 = c.clear_words.ensures ∙ ap (λ (k : ℕ). replicate k 0) long in
     let whole = ap (λ (l : List ℕ). l ++ drop back_at block) zeros in
     record { answered = refl; handed = ap memory_in whole ∙ memory_none (drop back_at block); words = whole ∙ none_block block }
 
@@ -40,9 +39,9 @@ pub refuse_beginning_spec : {M : Type 1} → statement M
 refuse_beginning_spec =
     tie.close
     (tie.spec
-    sub-clear-words
-    part-clear-words-start
-    part-clear-words-end
-    clear-words-requires
-    same_length
+    slice_bounds-clear_words-count
+    slice_bounds-clear_words-start
+    slice_bounds-clear_words-end
+    clear_words-requires
+    shape_of-block
     returns)

@@ -12,109 +12,106 @@ use Rattle.state.proofs.block.store_head.Tie as tie
 use Rattle.state.specs.Block.{state_words}
 
 -- the block after what is being done was stored
-long : (c : tie.After-store-doing) → length c.store-doing.new.0 ≡ state_words
+long : (c : tie.After-store_doing) → length c.store_doing.new.block ≡ state_words
 long c =
-    let s = c.before.before.before.before in
-    c.store-doing.auto.0
-    ∙ length-set (set s.args.block.now 0 s.args.state.nodes) 1 s.args.state.last
-    ∙ length-set s.args.block.now 0 s.args.state.nodes
-    ∙ s.requires
+    c.store_doing.auto.block
+    ∙ length-set (set c.args.block.now 0 c.args.state.nodes) 1 c.args.state.last
+    ∙ length-set c.args.block.now 0 c.args.state.nodes
+    ∙ c.requires
 
-slice-write-block : tie.Need-slice-write-block
-slice-write-block c = search rules
+bounds-block-0 : tie.Need-bounds-block-0
+bounds-block-0 c = search rules
 
-slice-write-block-2 : tie.Need-slice-write-block-2
-slice-write-block-2 c = search rules
+bounds-block-1 : tie.Need-bounds-block-1
+bounds-block-1 c = search rules
 
-store-doing-requires : tie.Need-store-doing-requires
-store-doing-requires c κs = search rules
+store_doing-requires : tie.Need-store_doing-requires
+store_doing-requires c κs = search rules
 
-slice-write-block-3 : tie.Need-slice-write-block-3
-slice-write-block-3 c =
-    let block : List ℕ = c.before.before.store-doing.new.0 in
-    let s : State = c.before.before.before.before.before.before.args.state in
+bounds-block-6 : tie.Need-bounds-block-6
+bounds-block-6 c =
+    let block : List ℕ = c.store_doing.new.block in
+    let s : State = c.args.state in
     let l : 6 < length block = (omega (arith, long c.before.before)) in
     l
 
-slice-write-block-4 : tie.Need-slice-write-block-4
-slice-write-block-4 c =
-    let block : List ℕ = c.before.before.store-doing.new.0 in
-    let s : State = c.before.before.before.before.before.before.args.state in
+bounds-block-7 : tie.Need-bounds-block-7
+bounds-block-7 c =
+    let block : List ℕ = c.store_doing.new.block in
+    let s : State = c.args.state in
     let l : 7 < length (set block 6 s.made) = simp length-set (omega (arith, long c.before.before)) in
     l
 
-array-read-block : tie.Need-array-read-block
-array-read-block c = search rules
+bounds-cut-0 : tie.Need-bounds-cut-0
+bounds-cut-0 c = search rules
 
-slice-write-block-5 : tie.Need-slice-write-block-5
-slice-write-block-5 c =
-    let block : List ℕ = c.before.before.store-doing.new.0 in
-    let s : State = c.before.before.before.before.before.before.args.state in
+bounds-block-8 : tie.Need-bounds-block-8
+bounds-block-8 c =
+    let block : List ℕ = c.store_doing.new.block in
+    let s : State = c.args.state in
     let l : 8 < length (set (set block 6 s.made) 7 s.count) = simp length-set (omega (arith, long c.before.before)) in
     l
 
-array-read-block-2 : tie.Need-array-read-block-2
-array-read-block-2 c = search rules
+bounds-cut-1 : tie.Need-bounds-cut-1
+bounds-cut-1 c = search rules
 
-add-block : tie.Need-overflow-add-block
-add-block c = search rules
+overflow_add-block : tie.Need-overflow_add-block
+overflow_add-block c = search rules
 
-mul-block : tie.Need-overflow-mul-block
-mul-block c = search rules
+offset_bounds-block : tie.Need-offset_bounds-block
+offset_bounds-block c = search rules
 
-slice-write-block-6 : tie.Need-slice-write-block-6
-slice-write-block-6 c =
-    let block : List ℕ = c.before.before.store-doing.new.0 in
-    let s : State = c.before.before.before.before.before.before.args.state in
+bounds-block : tie.Need-bounds-block
+bounds-block c =
+    let block : List ℕ = c.store_doing.new.block in
+    let s : State = c.args.state in
     let l : 9 < length (set (set (set block 6 s.made) 7 s.count) 8 (get_or s.cut 0 0)) = simp length-set (omega (arith, long c.before.before)) in
     l
 
-array-read-block-3 : tie.Need-array-read-block-3
-array-read-block-3 c = search rules
+bounds-cut-2 : tie.Need-bounds-cut-2
+bounds-cut-2 c = search rules
 
-add-block-2 : tie.Need-overflow-add-block-2
-add-block-2 c = search rules
+overflow_add-block-2 : tie.Need-overflow_add-block-2
+overflow_add-block-2 c = search rules
 
-mul-block-2 : tie.Need-overflow-mul-block-2
-mul-block-2 c = search rules
+offset_bounds-block-2 : tie.Need-offset_bounds-block-2
+offset_bounds-block-2 c = search rules
 
-slice-write-block-7 : tie.Need-slice-write-block-7
-slice-write-block-7 c =
-    let block : List ℕ = c.before.before.store-doing.new.0 in
-    let s : State = c.before.before.before.before.before.before.args.state in
+bounds-block-2 : tie.Need-bounds-block-2
+bounds-block-2 c =
+    let block : List ℕ = c.store_doing.new.block in
+    let s : State = c.args.state in
     let l : 10 < length (set (set (set (set block 6 s.made) 7 s.count) 8 (get_or s.cut 0 0)) 9 (get_or s.cut 1 0)) = simp length-set (omega (arith, long c.before.before)) in
     l
 
-same_length : tie.Need-same-length
-same_length c =
-    let s = c.before.before.before.before.before.before in
-    headed_length c.before.before.store-doing.new.0 s.args.state ∙ long c.before.before ∙ sym s.requires
+shape_of-block : tie.Need-shape_of-block
+shape_of-block c =
+    headed_length c.store_doing.new.block c.args.state ∙ long c.before.before ∙ sym c.requires
 
 returns : tie.Need-returns
 returns c =
-    let s = c.before.before.before.before.before.before in
-    let three : length s.args.state.cut ≡ 3 = search rules in
-    ap (λ (b : List ℕ). headed b s.args.state) c.before.before.store-doing.ensures
-    ∙ head_stored s.args.block.now s.args.state (omega (arith, s.requires)) three
+    let three : length c.args.state.cut ≡ 3 = search rules in
+    ap (λ (b : List ℕ). headed b c.args.state) c.store_doing.ensures
+    ∙ head_stored c.args.block.now c.args.state (omega (arith, c.requires)) three
 
 pub store_head_spec : {M : Type 1} → statement M
 store_head_spec =
     tie.close
     (tie.spec
-    slice-write-block
-    slice-write-block-2
-    store-doing-requires
-    slice-write-block-3
-    slice-write-block-4
-    array-read-block
-    slice-write-block-5
-    array-read-block-2
-    add-block
-    mul-block
-    slice-write-block-6
-    array-read-block-3
-    add-block-2
-    mul-block-2
-    slice-write-block-7
-    same_length
+    bounds-block-0
+    bounds-block-1
+    store_doing-requires
+    bounds-block-6
+    bounds-block-7
+    bounds-cut-0
+    bounds-block-8
+    bounds-cut-1
+    overflow_add-block
+    offset_bounds-block
+    bounds-block
+    bounds-cut-2
+    overflow_add-block-2
+    offset_bounds-block-2
+    bounds-block-2
+    shape_of-block
     returns)

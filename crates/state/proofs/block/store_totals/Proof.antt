@@ -8,34 +8,33 @@ use borrow.Author.Rules.{rules}
 use Rattle.state.proofs.block.store_totals.Statement.{statement}
 use Rattle.state.proofs.block.store_totals.Tie as tie
 
-sub-copy-words : tie.Need-overflow-sub-copy-words
-sub-copy-words c = search rules
+slice_bounds-copy_words-count : tie.Need-slice_bounds-copy_words-count
+slice_bounds-copy_words-count c = search rules
 
-part-copy-words-start : tie.Need-slice-bounds-copy-words-start
-part-copy-words-start c = search rules
+slice_bounds-copy_words-start : tie.Need-slice_bounds-copy_words-start
+slice_bounds-copy_words-start c = search rules
 
-part-copy-words-end : tie.Need-slice-bounds-copy-words-end
-part-copy-words-end c = search rules
+slice_bounds-copy_words-end : tie.Need-slice_bounds-copy_words-end
+slice_bounds-copy_words-end c = search rules
 
-copy-words-requires : tie.Need-copy-words-requires
-copy-words-requires c κs = search rules
+copy_words-requires : tie.Need-copy_words-requires
+copy_words-requires c κs = search rules
 
-same_length : tie.Need-same-length
-same_length c = search rules
+shape_of-block : tie.Need-shape_of-block
+shape_of-block c = search rules
 
 returns : tie.Need-returns
 returns c =
-    let s = c.before.before.before.before.before.before in
-    ap (placed totals_at family_count s.args.block.now) c.before.before.copy-words.ensures
-    ∙ sym (over_placed s.args.block.now s.args.totals.now totals_at family_count s.requires.1)
+    ap (placed totals_at family_count c.args.block.now) c.copy_words.ensures
+    ∙ sym (over_placed c.args.block.now c.args.totals.now totals_at family_count c.requires.1)
 
 pub store_totals_spec : {M : Type 1} → statement M
 store_totals_spec =
     tie.close
     (tie.spec
-    sub-copy-words
-    part-copy-words-start
-    part-copy-words-end
-    copy-words-requires
-    same_length
+    slice_bounds-copy_words-count
+    slice_bounds-copy_words-start
+    slice_bounds-copy_words-end
+    copy_words-requires
+    shape_of-block
     returns)

@@ -5,60 +5,60 @@ use borrow.Author.Rules.{rules}
 use Rattle.state.proofs.holding.held_by.Statement.{statement}
 use Rattle.state.proofs.holding.held_by.Tie as tie
 
-enum_told : tie.Need-enum-told
-enum_told c = search rules
+enum_told-1 : tie.Need-enum_told-1
+enum_told-1 c = search rules
 
-enum-known-doing : tie.Need-enum-known-doing
-enum-known-doing c = search rules
+enum_known-doing : tie.Need-enum_known-doing
+enum_known-doing c = search rules
 
-enum-known-doing-2 : tie.Need-enum-known-doing-2
-enum-known-doing-2 c = search rules
+enum_known-doing-in-Inserting-1 : tie.Need-enum_known-doing-in-Inserting-1
+enum_known-doing-in-Inserting-1 c = search rules
 
-held-insert-requires : tie.Need-held-insert-requires
-held-insert-requires c κs = search rules
+held_insert-requires : tie.Need-held_insert-requires
+held_insert-requires c κs = search rules
 
-enum-known-doing-3 : tie.Need-enum-known-doing-3
-enum-known-doing-3 c = search rules
+enum_known-doing-in-Deleting-1 : tie.Need-enum_known-doing-in-Deleting-1
+enum_known-doing-in-Deleting-1 c = search rules
 
-held-delete-requires : tie.Need-held-delete-requires
-held-delete-requires c κs = search rules
+held_delete-requires : tie.Need-held_delete-requires
+held_delete-requires c κs = search rules
 
-enum-known-doing-4 : tie.Need-enum-known-doing-4
-enum-known-doing-4 c = search rules
+enum_known-doing-in-Repairing-1 : tie.Need-enum_known-doing-in-Repairing-1
+enum_known-doing-in-Repairing-1 c = search rules
 
-returns : tie.Need-returns
+returns-in-Idle : tie.Need-returns-in-Idle
 unfolding held_by
-returns c = sym (ap held_by c.enum_told.given.1)
+returns-in-Idle c = sym (ap held_by c.in-Idle.is)
 
-returns-2 : tie.Need-returns-2
+returns-in-Formatting : tie.Need-returns-in-Formatting
 unfolding held_by
-returns-2 c = sym (ap held_by c.before.doing.given.1)
+returns-in-Formatting c = sym (ap held_by c.in-Formatting.is)
 
-returns-3 : tie.Need-returns-3
+returns-in-Inserting : tie.Need-returns-in-Inserting
 unfolding held_by
-returns-3 c = c.held-insert.ensures ∙ sym (ap held_by c.before.before.doing2.given.1)
+returns-in-Inserting c = c.held_insert.ensures ∙ sym (ap held_by c.in-Inserting.is)
 
-returns-4 : tie.Need-returns-4
+returns-in-Deleting : tie.Need-returns-in-Deleting
 unfolding held_by
-returns-4 c = c.held-delete.ensures ∙ sym (ap held_by c.before.before.doing3.given.1)
+returns-in-Deleting c = c.held_delete.ensures ∙ sym (ap held_by c.in-Deleting.is)
 
-returns-5 : tie.Need-returns-5
+returns-in-Repairing : tie.Need-returns-in-Repairing
 unfolding held_by
-returns-5 c = sym (ap held_by c.before.doing4.given.1)
+returns-in-Repairing c = sym (ap held_by c.in-Repairing.is)
 
 pub held_by_spec : {M : Type 1} → statement M
 held_by_spec =
     tie.close
     (tie.spec
-    enum_told
-    enum-known-doing
-    enum-known-doing-2
-    held-insert-requires
-    enum-known-doing-3
-    held-delete-requires
-    enum-known-doing-4
-    returns
-    returns-2
-    returns-3
-    returns-4
-    returns-5)
+    enum_told-1
+    enum_known-doing
+    enum_known-doing-in-Inserting-1
+    held_insert-requires
+    enum_known-doing-in-Deleting-1
+    held_delete-requires
+    enum_known-doing-in-Repairing-1
+    returns-in-Idle
+    returns-in-Formatting
+    returns-in-Inserting
+    returns-in-Deleting
+    returns-in-Repairing)

@@ -7,26 +7,26 @@ use borrow.Author.Rules.{rules}
 use Rattle.state.proofs.holding.held_insert.Statement.{statement}
 use Rattle.state.proofs.holding.held_insert.Tie as tie
 
-enum_told : tie.Need-enum-told
-enum_told c = search rules
+enum_told-1 : tie.Need-enum_told-1
+enum_told-1 c = search rules
 
-enum-told-2 : tie.Need-enum-told-2
-enum-told-2 c = search rules
+enum_told-in-InHand : tie.Need-enum_told-in-InHand
+enum_told-in-InHand c = search rules
 
-enum-told-3 : tie.Need-enum-told-3
-enum-told-3 c = search rules
+enum_told-in-Decided : tie.Need-enum_told-in-Decided
+enum_told-in-Decided c = search rules
 
-returns : tie.Need-returns
+returns-in-NotBegun : tie.Need-returns-in-NotBegun
 unfolding held_by
-returns c = sym (ap (λ (p : Phase). held_by (Inserting c.before.before.args.key c.before.before.args.value p)) c.enum_told.given.1)
+returns-in-NotBegun c = sym (ap (λ (p : Phase). held_by (Inserting c.args.key c.args.value p)) c.in-NotBegun.is)
 
-returns-2 : tie.Need-returns-2
+returns-in-InHand : tie.Need-returns-in-InHand
 unfolding held_by
-returns-2 c = sym (ap (λ (p : Phase). held_by (Inserting c.before.before.args.key c.before.before.args.value p)) c.enum-told2.given.1)
+returns-in-InHand c = sym (ap (λ (p : Phase). held_by (Inserting c.args.key c.args.value p)) c.in-InHand.is)
 
-returns-3 : tie.Need-returns-3
+returns-in-Decided : tie.Need-returns-in-Decided
 unfolding held_by
-returns-3 c = sym (ap (λ (p : Phase). held_by (Inserting c.before.before.args.key c.before.before.args.value p)) c.enum-told3.given.1)
+returns-in-Decided c = sym (ap (λ (p : Phase). held_by (Inserting c.args.key c.args.value p)) c.in-Decided.is)
 
 pub held_insert_spec : {M : Type 1} → statement M
-held_insert_spec = tie.close (tie.spec enum_told enum-told-2 enum-told-3 returns returns-2 returns-3)
+held_insert_spec = tie.close (tie.spec enum_told-1 enum_told-in-InHand enum_told-in-Decided returns-in-NotBegun returns-in-InHand returns-in-Decided)
